@@ -1,0 +1,83 @@
+-- What a parsing function answers, and when its answer is exact.
+-- `T` is the type of tokens; a grammar `D tokens tree rest` says that the tokens in front of the rest derive the tree.
+use Rattle.std.specs.Prelude.{◌≡◌, List, [], ◌∷◌, ◌++◌, Option, Some, None}
+
+pub data Answer (T A : Type 0) : Type 0 where
+  -- what was read, and the tokens behind it
+  Got : A → List T → Answer T A
+  -- the first wrong token and those behind it
+  Wrong : List T → Answer T A
+  NoMemory : Answer T A
+
+-- the tokens in front of q derive x, whatever follows
+pub record Reads {T A : Type 0} (D : List T → A → List T → Type 0) (s : List T) (x : A) (q : List T) : Type 0 where
+  pub front : List T
+  pub cut : s ≡ front ++ q
+  pub reads : (r : List T) → D (front ++ r) x r
+
+-- the tokens in front of q begin something that the grammar derives
+pub record Viable {T A : Type 0} (D : List T → A → List T → Type 0) (s : List T) (q : List T) : Type 0 where
+  pub front : List T
+  pub more : List T
+  pub tree : A
+  pub cut : s ≡ front ++ q
+  pub reads : (r : List T) → D (front ++ (more ++ r)) tree r
+
+abbrev pub Meets : {T A : Type 0} → (List T → A → List T → Type 0) → List T → Answer T A → Type 0
+Meets D s (Got x q) = Reads D s x q
+Meets D s (Wrong q) = Viable D s q
+Meets D s NoMemory = Unit {0}
+
+-- both begin with one token, or both are empty
+abbrev pub SameHead : {T : Type 0} → List T → List T → Type 0
+SameHead [] [] = Unit {0}
+SameHead [] (u ∷ r) = ⊥
+SameHead (t ∷ s) [] = ⊥
+SameHead (t ∷ s) (u ∷ r) = t ≡ u
+
+-- Tokens s' that agree with s up to the answer, and in the token that stands there, are derived no other way:
+-- C is the grammar, with what may follow a tree.
+abbrev pub Along : {T A : Type 0} → (List T → A → List T → Type 0) → List T → Answer T A → Type 0
+Along {T} {A} C s (Got x q) = (w s' q' r : List T) (y : A) → s ≡ w ++ q → s' ≡ w ++ q' → SameHead q q' → C s' y r → (y ≡ x) × (r ≡ q')
+Along {T} {A} C s (Wrong q) = (w s' q' r : List T) (y : A) → s ≡ w ++ q → s' ≡ w ++ q' → SameHead q q' → C s' y r → ⊥
+Along C s NoMemory = Unit {0}
+
+-- The answer on s is exact for the grammar D, where C is D with what may follow.
+pub record Exact {T A : Type 0} (D C : List T → A → List T → Type 0) (s : List T) (o : Answer T A) : Type 0 where
+  pub meets : Meets D s o
+  pub along : Along C s o
+
+-- A terminal: a test of one token, which gives what the token carries.
+pub data Sees {T A : Type 0} (want : T → Option A) : List T → A → List T → Type 0 where
+  sees : {t : T} {a : A} {r : List T} → want t ≡ Some a → Sees want (t ∷ r) a r
+
+-- what the first token carries, if it is one that is wanted
+abbrev pub head_of : {T A : Type 0} → (T → Option A) → List T → Option A
+head_of want [] = None
+head_of want (t ∷ s) = want t
+
+-- derivations of tokens that begin with a wanted token, which carries a
+pub record Seen {T A B : Type 0} (want : T → Option A) (a : A) (C : List T → B → List T → Type 0) (s : List T) (x : B) (r : List T) : Type 0 where
+  pub it : C s x r
+  pub seen : head_of want s ≡ Some a
+
+-- derivations of tokens that do not
+pub record Unseen {T A B : Type 0} (want : T → Option A) (C : List T → B → List T → Type 0) (s : List T) (x : B) (r : List T) : Type 0 where
+  pub it : C s x r
+  pub unseen : head_of want s ≡ None
+
+-- derivations behind which no such token stands
+pub record Before {T A B : Type 0} (want : T → Option A) (C : List T → B → List T → Type 0) (s : List T) (x : B) (r : List T) : Type 0 where
+  pub it : C s x r
+  pub stop : head_of want r ≡ None
+
+-- any number of them, one behind the other
+pub data Many {T A : Type 0} (D : List T → A → List T → Type 0) : List T → List A → List T → Type 0 where
+  many_end : {s : List T} → Many D s [] s
+  many_and : {s mid r : List T} {x : A} {xs : List A} → D s x mid → Many D mid xs r → Many D s (x ∷ xs) r
+
+-- the answer, with what was read before
+abbrev pub prefixed : {T A : Type 0} → List A → Answer T (List A) → Answer T (List A)
+prefixed xs (Got ys q) = Got (xs ++ ys) q
+prefixed xs (Wrong q) = Wrong q
+prefixed xs NoMemory = NoMemory

@@ -1,0 +1,8 @@
+//! The laws of recursive descent with one token of lookahead, for any tokens and any grammar.
+//!
+//! There is no code here. `specs/Exact.antt` says what it means that the answer of a parsing
+//! function is exact: what it read derives the tree, what it refused begins something and no
+//! longer, and tokens that agree up to there are answered alike. The lemmas of `proofs/` take this
+//! from the parts of a rule to the rule, one lemma for each kind of step that a parser takes, and
+//! to a whole text.
+#![tactic(auto)]
