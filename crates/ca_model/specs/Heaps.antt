@@ -1,0 +1,41 @@
+-- Heaps: the objects in the order of their creation, each found by its place.
+use Rattle.std.specs.Prelude.{ℕ, zero, suc, ◌≡◌, ◌+◌, ◌<◌, ◌≤◌, List, [], ◌∷◌, ◌++◌, length, Option, Some, None, slice_get, ◌⊎◌}
+use Rattle.ca_program.specs.declared.program.ClassId.{ClassId}
+use Rattle.ca_program.specs.declared.program.FieldInfo.{FieldInfo}
+use Rattle.ca_program.specs.Plain.{PlainProgram, PlainClass}
+use Rattle.ca_model.specs.declared.value.Value.{Value as Datum}
+use Rattle.ca_model.specs.declared.value.Slot.{Slot}
+use Rattle.ca_model.specs.declared.value.Object.{Object}
+use Rattle.ca_model.specs.Slots.{slots_len, HasItem, put_slot, start_slots}
+
+-- how many values the objects have together
+abbrev pub values_in : List Object → ℕ
+values_in [] = 0
+values_in (o ∷ os) = slots_len o.slots + values_in os
+
+-- there is such an object, and it has such an item
+abbrev pub HasSlot : Option Object → ℕ → ℕ → Type 0
+HasSlot None f i = ⊥
+HasSlot (Some o) f i = HasItem (slice_get o.slots f) i
+
+-- the heap with the value put into an item of a field of object n
+abbrev pub stored : List Object → ℕ → ℕ → ℕ → Datum → List Object
+stored [] n f i v = []
+stored (o ∷ os) zero f i v = record { class = o.class; slots = put_slot o.slots f i v } ∷ os
+stored (o ∷ os) (suc n) f i v = o ∷ stored os n f i v
+
+abbrev pub fields_of : Option PlainClass → List FieldInfo
+fields_of None = []
+fields_of (Some c) = c.fields
+
+-- what an object of the class starts with
+abbrev pub starts_of : PlainProgram → ClassId → List Slot
+starts_of p c = start_slots (fields_of (slice_get p.classes c.0))
+
+-- there is no room for one object more, or not for one with these slots
+abbrev pub IsFull : List Object → List Slot → Type 0
+IsFull h new = (1000000 ≤ length h) ⊎ (4000000 < values_in h + slots_len new)
+
+-- the heap with one object more, of starting values
+abbrev pub created : PlainProgram → ClassId → List Object → List Object
+created p c h = h ++ record { class = c; slots = starts_of p c } ∷ []
