@@ -81,3 +81,39 @@ abbrev pub prefixed : {T A : Type 0} → List A → Answer T (List A) → Answer
 prefixed xs (Got ys q) = Got (xs ++ ys) q
 prefixed xs (Wrong q) = Wrong q
 prefixed xs NoMemory = NoMemory
+
+-- the answer, with the tree changed by g
+abbrev pub image : {T A B : Type 0} → (A → B) → Answer T A → Answer T B
+image g (Got x q) = Got (g x) q
+image g (Wrong q) = Wrong q
+image g NoMemory = NoMemory
+
+-- what a grammar derives behind the token t
+abbrev pub Past : {T A : Type 0} → T → (List T → A → List T → Type 0) → List T → A → List T → Type 0
+Past t D s x r = D (t ∷ s) x r
+
+-- a terminal that ends a rule whose tree is y: what it carries does not count
+pub record Closing {T A B : Type 0} (want : T → Option A) (y : B) (s : List T) (z : B) (r : List T) : Type 0 where
+  pub carried : A
+  pub tree : z ≡ y
+  pub sees : Sees want s carried r
+
+-- A loop has read xs, and the rest is left of all the tokens:
+-- an exact answer of D2 on the rest, with xs in front, is an exact answer of D on all.
+pub record Gathers {T A : Type 0} (D C D2 C2 : List T → List A → List T → Type 0)
+    (all : List T) (xs : List A) (rest : List T) : Type 0 where
+  pub go : (o : Answer T (List A)) → Exact D2 C2 rest o → Exact D C all (prefixed xs o)
+
+-- { comma item } close
+pub data Following {T A E F : Type 0} (D : List T → A → List T → Type 0) (comma : T → Option E) (close : T → Option F)
+    : List T → List A → List T → Type 0 where
+  following_end : {s r : List T} {c : F} → Sees close s c r → Following D comma close s [] r
+  following : {s mid q r : List T} {e : E} {x : A} {xs : List A} → Sees comma s e mid → D mid x q
+      → Following D comma close q xs r → Following D comma close s (x ∷ xs) r
+
+-- [ item { comma item } ] close
+pub data Separated {T A E F : Type 0} (D : List T → A → List T → Type 0) (comma : T → Option E) (close : T → Option F)
+    : List T → List A → List T → Type 0 where
+  separated_none : {s r : List T} {c : F} → Sees close s c r → Separated D comma close s [] r
+  separated : {s q r : List T} {x : A} {xs : List A} → D s x q → Following D comma close q xs r
+      → Separated D comma close s (x ∷ xs) r

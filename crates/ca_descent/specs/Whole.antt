@@ -1,5 +1,5 @@
 -- What a parser of whole texts promises.
-use Rattle.std.specs.Prelude.{◌≡◌, ℕ, ◌+◌, ◌<◌, ◌≤◌, List, [], ◌++◌, length, take}
+use Rattle.std.specs.Prelude.{◌≡◌, ℕ, ◌+◌, ◌<◌, ◌≤◌, List, ◌++◌, length, take}
 
 -- some further tokens continue these to a list that derives a tree
 pub record Begins {T A : Type 0} (Derives : List T → A → Type 0) (ts : List T) : Type 0 where

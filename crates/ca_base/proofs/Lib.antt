@@ -1,0 +1,3 @@
+mod Examples
+pub mod Reading
+pub mod Writing

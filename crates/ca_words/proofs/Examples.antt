@@ -1,0 +1,23 @@
+-- Worked examples of the words of a command and of the usage line.
+use Rattle.std.proofs.Common.{◌≡◌, [], ◌∷◌, take, drop, codes, refl, arith}
+use Rattle.std.specs.Fmt.{digits}
+use Rattle.ca_words.specs.declared.Command.TheVariants.{Run}
+use Rattle.ca_words.specs.Words.{words_of, Names, usage_text}
+
+run_with_budget_100 : words_of (Run 1 100) ≡ codes "run" ∷ codes "1" ∷ codes "100" ∷ []
+unfolding digits
+run_with_budget_100 = refl
+
+least_names : Names (codes "run" ∷ codes "1" ∷ codes "1" ∷ []) (Run 1 1)
+unfolding digits
+least_names = record { spells = record { spelled = refl; in_range = ((omega arith, omega arith), (omega arith, omega arith)) }; built = refl }
+
+greatest_names : Names (codes "run" ∷ codes "1" ∷ codes "1000000000" ∷ []) (Run 1 1000000000)
+unfolding digits
+greatest_names = record { spells = record { spelled = refl; in_range = ((omega arith, omega arith), (omega arith, omega arith)) }; built = refl }
+
+usage_begins : take 14 usage_text ≡ codes "usage: commute"
+usage_begins = refl
+
+usage_ends : drop 89 usage_text ≡ codes "WORKERS\n"
+usage_ends = refl

@@ -1,0 +1,9 @@
+-- A list of three items is these.
+use Rattle.std.proofs.Common.{◌≡◌, List, [], ◌∷◌, length, get_or, arith}
+
+pub three_items : {X : Type 0} (xs : List X) (x y z : X) → length xs ≡ 3 → x ≡ get_or xs 0 x → y ≡ get_or xs 1 y → z ≡ get_or xs 2 z → xs ≡ x ∷ y ∷ z ∷ []
+three_items [] x y z three first second third = absurd (omega arith)
+three_items (a ∷ []) x y z three first second third = absurd (omega arith)
+three_items (a ∷ b ∷ []) x y z three first second third = absurd (omega arith)
+three_items (a ∷ b ∷ d ∷ []) x y z three first second third = cc
+three_items (a ∷ b ∷ d ∷ e ∷ more) x y z three first second third = absurd (omega arith)

@@ -1,0 +1,4 @@
+mod Examples
+pub mod Items
+pub mod Numbers
+pub mod OneCommand

@@ -1,0 +1,40 @@
+-- What the words of the command line name, and the usage line.
+use Rattle.std.specs.Prelude.{◌≡◌, ℕ, ◌≤◌, List, [], ◌∷◌, map, codes, decimal, String, string_bytes}
+use Rattle.std.specs.declared.alloc.Global.{Global}
+use Rattle.ca_words.specs.declared.Command.{Command}
+use Rattle.ca_words.specs.declared.Command.TheVariants.{Run}
+
+-- each word as its bytes
+abbrev pub texts : List (String Global) → List (List ℕ)
+texts words = map string_bytes words
+
+-- The words of a command. A number is its decimal digits, with no sign and no leading zero.
+abbrev pub words_of : Command → List (List ℕ)
+words_of (Run workers budget) = codes "run" ∷ decimal workers ∷ decimal budget ∷ []
+
+abbrev pub IsWorkers : ℕ → Type 0
+IsWorkers n = (1 ≤ n) × (n ≤ 64)
+
+abbrev pub IsBudget : ℕ → Type 0
+IsBudget n = (1 ≤ n) × (n ≤ 1000000000)
+
+-- each number of the command is in its range
+abbrev pub IsInRange : Command → Type 0
+IsInRange (Run workers budget) = IsWorkers workers × IsBudget budget
+
+-- what this program does so far: a run by one worker
+abbrev pub IsBuilt : Command → Type 0
+IsBuilt (Run workers budget) = workers ≡ 1
+
+-- the words are those of the command, and its numbers are in their ranges
+pub record Spells (words : List (List ℕ)) (command : Command) : Type 0 where
+  pub spelled : words ≡ words_of command
+  pub in_range : IsInRange command
+
+-- and this program does it
+pub record Names (words : List (List ℕ)) (command : Command) : Type 0 where
+  pub spells : Spells words command
+  pub built : IsBuilt command
+
+abbrev pub usage_text : List ℕ
+usage_text = codes "usage: commute run WORKERS BUDGET | pairs | plan | emit | gen SEED SIZE | load SEED SIZE WORKERS\n"

@@ -1,0 +1,140 @@
+//! What the words of the command line name: a command, or nothing.
+//!
+//! `command_of` answers the command exactly where the words name one. The caller answers every
+//! other list of words, `--help` too, with the usage line. The words of a command are a function
+//! of it, `words_of` of `specs/Words.antt`, so each command has one list of words, and
+//! `names_one_command` says that a list of words names one command at most. A command that isn't
+//! built yet is no command: `IsBuilt` says which are. Nothing here takes memory, so a faulty
+//! command line is told from want of memory whatever is left.
+#![tactic(auto)]
+
+ghost use Rattle.std.specs.Prelude.{◌≡◌, ℕ, ◌≤◌, ◌↔◌, List, IsTrue, IfSome, IfNone, decimal};
+ghost use Rattle.ca_words.specs.declared.Command.{Command};
+ghost use Rattle.ca_words.specs.Words.{texts, IsBuilt, Spells, Names, usage_text};
+
+/// What the words name.
+#[derive(Clone, Copy, PartialEq, Eq, Debug)]
+pub enum Command {
+    /// `run WORKERS BUDGET`: runs the source with 1 to 64 workers, of which 1 is built, for a budget
+    /// of 1 to 1,000,000,000 steps.
+    Run { workers: u32, budget: u32 },
+}
+
+impl Command {
+    const MOST_WORKERS: u32 = 64;
+
+    const MOST_BUDGET: u32 = 1_000_000_000;
+
+    // Whether this program does it so far.
+    fn is_built(self) -> bool
+        ensures { IsTrue result ↔ IsBuilt self }
+    {
+        match self {
+            Command::Run { workers, .. } => workers == 1,
+        }
+    }
+}
+
+/// The command that the words, without the program's name, name; `None` where they name none.
+pub fn command_of(words: &[String]) -> Option<Command>
+    ensures named { IfSome result (Names (texts words.now)) }
+    ensures only { IfNone result ((c : Command) → Names (texts words.now) c → ⊥) }
+{
+    let command = spelled(words)?;
+    if command.is_built() {
+        Some(command)
+    } else {
+        None
+    }
+}
+
+/// Words name one command at most.
+pub fn names_one_command()
+    ensures { (words : List (List ℕ)) (c d : Command) → Names words c → Names words d → c ≡ d }
+{}
+
+/// The line that answers words which name no command, with its line feed.
+pub fn usage_line() -> &'static [u8]
+    ensures { result.now ≡ usage_text }
+{
+    b"usage: commute run WORKERS BUDGET | pairs | plan | emit | gen SEED SIZE | load SEED SIZE WORKERS\n"
+}
+
+// The command that the words spell, whether it is built or not.
+fn spelled(words: &[String]) -> Option<Command>
+    ensures some { IfSome result (Spells (texts words.now)) }
+    ensures none { IfNone result ((c : Command) → Spells (texts words.now) c → ⊥) }
+{
+    match words {
+        [name, workers, budget] if name.as_str() == "run" => Some(Command::Run {
+            workers: number_of(workers.as_str(), Command::MOST_WORKERS)?,
+            budget: number_of(budget.as_str(), Command::MOST_BUDGET)?,
+        }),
+        _ => None,
+    }
+}
+
+// The number from 1 to `most` that the word is.
+fn number_of(word: &str, most: u32) -> Option<u32>
+    ensures some { IfSome result (λ n. (word.now ≡ decimal n) × (1 ≤ n) × (n ≤ most)) }
+    ensures none { IfNone result ((n : ℕ) → 1 ≤ n → n ≤ most → word.now ≡ decimal n → ⊥) }
+{
+    match word.as_bytes() {
+        // `parse` alone would take a plus and leading zeros, which no number has.
+        [b'1'..=b'9', ..] => match word.parse::<u32>() {
+            Ok(number) if number <= most => Some(number),
+            _ => None,
+        },
+        _ => None,
+    }
+}
+
+#[cfg(test)]
+mod tests {
+    use super::*;
+    use std::alloc::{AllocError, Global};
+    use std::test::Fail;
+
+    // The words of no command, a number out of its range, no number, and what isn't built yet.
+    static REFUSED: [&str; 5] = [
+        "|--help|run|run 2|run 1 5 5|Run 1 5|pairs x",
+        "run 0 5|run 65 5|run 1 0|run 2 0|run 1 1000000001|run 2 1000000001",
+        "run 1 4294967301|gen 0 0|gen 0 20001|gen 18446744073709551616 1",
+        "run 01 5|run 1 05|run 1 +5|run +1 5|run 1 -5|run 1 5x|run 1 0x5",
+        "run 2 5|run 64 5|pairs|plan|emit|gen 7 3|load 7 3 4",
+    ];
+
+    // The words between the spaces of a line.
+    fn words_of_line(alloc: Global, line: &str) -> Result<Vec<String>, AllocError> {
+        let mut words = Vec::new(alloc);
+        for word in line.split_whitespace() {
+            words.push(String::from_str(alloc, word)?)?;
+        }
+        Ok(words)
+    }
+
+    #[test]
+    fn names_a_run(rt: HostRuntime) -> Result<(), Fail> {
+        for (line, budget) in [
+            ("run 1 1", 1),
+            ("run 1 100", 100),
+            ("run 1 1000000000", 1_000_000_000),
+        ] {
+            let words = words_of_line(rt.alloc(), line)?;
+            let want = Some(Command::Run { workers: 1, budget });
+            assert_eq!(rt; command_of(words.as_slice()), want, "of `{line}`");
+        }
+        Ok(())
+    }
+
+    #[test]
+    fn refuses_faulty_words(rt: HostRuntime) -> Result<(), Fail> {
+        for lines in REFUSED {
+            for line in lines.split('|') {
+                let words = words_of_line(rt.alloc(), line)?;
+                assert_eq!(rt; command_of(words.as_slice()), None, "of `{line}`");
+            }
+        }
+        Ok(())
+    }
+}
