@@ -1,0 +1,75 @@
+-- Pieces, places and tokens of short texts.
+use Rattle.std.proofs.Common.{◌≡◌, [], ◌∷◌, refl}
+use Rattle.std.specs.Prelude.{codes, pos}
+use Rattle.ca_tree.specs.declared.token.Kind.TheVariants as kind
+use Rattle.ca_tree.specs.declared.token.Keyword.TheVariants as key
+use Rattle.ca_tree.specs.declared.token.Sign.TheVariants as sign
+use Rattle.ca_lex.specs.Places.{advance, start}
+use Rattle.ca_lex.specs.Pieces.{piece_of, comment_of, token_of, refused}
+use Rattle.ca_lex.specs.Tokens.{Uncommented, at_end, blank, token}
+
+key_word : piece_of (codes "class{") ≡ token_of 5 (kind.Key key.Class)
+unfolding piece_of
+key_word = refl
+
+longer_than_key_word : piece_of (codes "classes ") ≡ token_of 7 (kind.Word (codes "classes"))
+unfolding piece_of
+longer_than_key_word = refl
+
+arrow : piece_of (codes "->next") ≡ token_of 2 (kind.Sign sign.Arrow)
+unfolding piece_of
+arrow = refl
+
+minus : piece_of (codes "- >") ≡ token_of 1 (kind.Sign sign.Minus)
+unfolding piece_of
+minus = refl
+
+equal : piece_of (codes "===") ≡ token_of 2 (kind.Sign sign.Equal)
+unfolding piece_of
+equal = refl
+
+lone_ampersand : piece_of (codes "& &") ≡ refused
+unfolding piece_of
+lone_ampersand = refl
+
+zero_alone : piece_of (codes "0;") ≡ token_of 1 (kind.Number (pos 0))
+unfolding piece_of
+zero_alone = refl
+
+needless_zeros : piece_of (codes "007") ≡ refused
+unfolding piece_of
+needless_zeros = refl
+
+letter_behind_digits : piece_of (codes "12a") ≡ refused
+unfolding piece_of
+letter_behind_digits = refl
+
+greatest_number : piece_of (codes "9223372036854775807") ≡ token_of 19 (kind.Number (pos 9223372036854775807))
+unfolding piece_of
+greatest_number = refl
+
+too_great_number : piece_of (codes "9223372036854775808") ≡ refused
+unfolding piece_of
+too_great_number = refl
+
+line_comment : piece_of (codes "// a\nb") ≡ comment_of 4
+unfolding piece_of
+line_comment = refl
+
+closed : piece_of (codes "/* * /**/b") ≡ comment_of 9
+unfolding piece_of
+closed = refl
+
+closes_behind_its_start : piece_of (codes "/*/") ≡ refused
+unfolding piece_of
+closes_behind_its_start = refl
+
+second_line : advance start (codes "a\nbc") ≡ record { line = 2; column = 3 }
+second_line = refl
+
+two_tokens : Uncommented (codes "x\n +")
+    (record { kind = kind.Word (codes "x"); at = record { line = 1; column = 1 }; start = 0; len = 1 }
+    ∷ record { kind = kind.Sign sign.Plus; at = record { line = 2; column = 2 }; start = 3; len = 1 }
+    ∷ [])
+unfolding piece_of
+two_tokens = token refl (blank refl (blank refl (token refl at_end)))

@@ -1,0 +1,6 @@
+pub mod Places
+pub mod Bytes
+pub mod Spellings
+pub mod Pieces
+pub mod Fronts
+pub mod Tokens

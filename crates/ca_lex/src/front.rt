@@ -1,0 +1,142 @@
+//! What stands in front of a text.
+
+ghost use Rattle.std.specs.Prelude.{◌≡◌, ◌<◌, ◌≤◌, ◌^◌, ℕ, length, IfOk, IfSome, IfNone, true, slice_index};
+ghost use Rattle.std.specs.Char.{is_ascii_digit};
+ghost use Rattle.ca_lex.specs.Bytes.{value_of};
+ghost use Rattle.ca_lex.specs.Pieces.{close_len, closes, number_piece, piece_of, sign_piece, slash_piece, word_piece};
+ghost use Rattle.ca_lex.specs.Fronts.{piece_at};
+
+use crate::bytes::{digits_len, is_blank, is_letter, line_len, name_len};
+use crate::spellings::{double_sign, keyword_of, single_sign};
+use ca_tree::{Kind, Name};
+use std::alloc::{AllocError, Global};
+
+/// What stands in front, with the number of its bytes: a blank, a comment or a token, or else
+/// nothing that may stand there.
+#[derive(Drop)]
+pub(crate) enum Front {
+    Blank(usize),
+    Comment(usize),
+    Token(usize, Kind),
+    Refused,
+}
+
+/// What stands in front. A comment or a sign is told by its first byte and the bytes behind it.
+#[tactic(auto, unfolding(crate::specs::Pieces::piece_of))]
+pub(crate) fn front_of(alloc: Global, s: &[u8]) -> Result<Front, AllocError>
+    requires { 0 < length s.now }
+    ensures { IfOk result (λ front. piece_at front ≡ piece_of s.now) }
+{
+    let first = s[0];
+    if is_blank(first) {
+        Ok(Front::Blank(1))
+    } else if is_letter(first) {
+        word(alloc, s)
+    } else if first.is_ascii_digit() {
+        Ok(number(s))
+    } else if first == b'/' {
+        Ok(slash(&s[1..]))
+    } else {
+        Ok(sign(first, &s[1..]))
+    }
+}
+
+/// The key word or the name in front, where a letter is first.
+fn word(alloc: Global, s: &[u8]) -> Result<Front, AllocError>
+    ensures { IfOk result (λ front. piece_at front ≡ word_piece s.now) }
+{
+    let (bytes, _rest) = s.split_at(name_len(s));
+    match keyword_of(bytes) {
+        Some(keyword) => Ok(Front::Token(bytes.len(), Kind::Key(keyword))),
+        None => Ok(Front::Token(bytes.len(), Kind::Word(Name::new(alloc, bytes)?))),
+    }
+}
+
+/// The number in front, where a digit is first.
+fn number(s: &[u8]) -> Front
+    ensures { piece_at result ≡ number_piece s.now }
+{
+    let (digits, rest) = s.split_at(digits_len(s));
+    if digits.len() > 1 && digits[0] == b'0' {
+        return Front::Refused;
+    }
+    let Some(value) = value_of(digits) else {
+        return Front::Refused;
+    };
+    if !rest.is_empty() && is_letter(rest[0]) {
+        return Front::Refused;
+    }
+    Front::Token(digits.len(), Kind::Number(value as i64))
+}
+
+/// The greatest number that a text may spell.
+const GREATEST_NUMBER: u64 = 9_223_372_036_854_775_807;
+
+/// The number that digits spell, unless it is above `GREATEST_NUMBER`.
+fn value_of(digits: &[u8]) -> Option<u64>
+    requires { (i : ℕ) → i < length digits.now → is_ascii_digit (slice_index digits.now i) ≡ true }
+    ensures some { IfSome result (λ n. n ≡ value_of digits.now) }
+    ensures small { IfSome result (λ n. n < 2 ^ 63) }
+    ensures none { IfNone result (2 ^ 63 ≤ value_of digits.now) }
+{
+    let mut n: u64 = 0;
+    for b in digits {
+        let d = u64::from(*b - b'0');
+        if n > (GREATEST_NUMBER - d) / 10 {
+            return None;
+        }
+        n = n * 10 + d;
+    }
+    Some(n)
+}
+
+/// The comment or the sign that begins with `/`, where `s` follows it.
+fn slash(s: &[u8]) -> Front
+    ensures { piece_at result ≡ slash_piece s.now }
+{
+    match s {
+        [b'/', ..] => Front::Comment(line_len(s) + 1),
+        [b'*', rest @ ..] => match close_of(rest) {
+            Some(n) => Front::Comment(n + 2),
+            None => Front::Refused,
+        },
+        _ => sign(b'/', s),
+    }
+}
+
+/// How many bytes there are through the first `*/`.
+fn close_of(s: &[u8]) -> Option<usize>
+    ensures length { result ≡ close_len s.now }
+    ensures within { IfSome result (λ n. n ≤ length s.now) }
+{
+    let mut n: usize = 0;
+    while n + 1 < s.len() {
+        if closes(s[n], s[n + 1]) {
+            return Some(n + 2);
+        }
+        n += 1;
+    }
+    None
+}
+
+/// Whether the two bytes are `*/`.
+fn closes(first: u8, second: u8) -> bool
+    ensures { result ≡ closes first second }
+{
+    first == b'*' && second == b'/'
+}
+
+/// The longest sign that begins with the byte, where `rest` follows it.
+fn sign(first: u8, rest: &[u8]) -> Front
+    ensures { piece_at result ≡ sign_piece first rest.now }
+{
+    if let [second, ..] = rest {
+        if let Some(sign) = double_sign(first, *second) {
+            return Front::Token(2, Kind::Sign(sign));
+        }
+    }
+    match single_sign(first) {
+        Some(sign) => Front::Token(1, Kind::Sign(sign)),
+        None => Front::Refused,
+    }
+}
