@@ -1,6 +1,6 @@
 -- The values of expressions. Those of the small form neither trap nor take a step.
 -- Forms that are not built yet have the value null.
-use Rattle.std.specs.Prelude.{ℕ, List, [], ◌∷◌, Option, Some, None, slice_get, ◌+ℤ◌, ◌-ℤ◌}
+use Rattle.std.specs.Prelude.{ℤ, List, [], ◌∷◌, Option, Some, None, slice_get, ◌+ℤ◌, ◌-ℤ◌}
 use Rattle.std.specs.Int.{int_wrap, w64}
 use Rattle.ca_tree.specs.declared.tree.BinaryOp.{BinaryOp}
 use Rattle.ca_tree.specs.declared.tree.BinaryOp.TheVariants.{Plus, Minus}
@@ -25,9 +25,13 @@ one_of (Some (Many vs)) = Null
 one_of None = Null
 
 -- numbers wrap round at 64 bits
+abbrev pub operate_longs : BinaryOp → ℤ → ℤ → Datum
+operate_longs Plus a b = Long (int_wrap w64 (a +ℤ b))
+operate_longs Minus a b = Long (int_wrap w64 (a -ℤ b))
+operate_longs other a b = Null
+
 abbrev pub operate : BinaryOp → Datum → Datum → Datum
-operate Plus (Long a) (Long b) = Long (int_wrap w64 (a +ℤ b))
-operate Minus (Long a) (Long b) = Long (int_wrap w64 (a -ℤ b))
+operate op (Long a) (Long b) = operate_longs op a b
 operate op a b = Null
 
 abbrev pub eval : Place → Expression → Datum

@@ -1,7 +1,9 @@
 pub mod Slots
 pub mod Heaps
+pub mod Counted
 pub mod Typed
 pub mod Expressions
 pub mod Serial
 pub mod Texts
+pub mod Lines
 pub mod Output

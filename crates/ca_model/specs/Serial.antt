@@ -1,12 +1,10 @@
 -- The depth-first serial meaning of a program of the small form, in which operations call nothing.
 -- Statements that are not built yet do nothing.
-use Rattle.std.specs.Prelude.{ℕ, zero, suc, ◌+◌, List, [], ◌∷◌, ◌++◌, length, map, Option, Some, None, slice_get, slice_set, nat_lt, nat_le, ◌||◌, if◌then◌else◌}
-use Rattle.ca_tree.specs.declared.tree.AssignOp.{AssignOp}
+use Rattle.std.specs.Prelude.{ℕ, zero, suc, ◌+◌, List, [], length, map, Option, Some, None, slice_get, slice_set, nat_lt, nat_le, ◌||◌, if◌then◌else◌}
 use Rattle.ca_program.specs.declared.program.ClassId.{ClassId}
 use Rattle.ca_program.specs.declared.program.LocalId.{LocalId}
 use Rattle.ca_program.specs.declared.program.OpId.{OpId}
-use Rattle.ca_program.specs.declared.program.FieldId.{FieldId}
-use Rattle.ca_program.specs.Plain.{PlainProgram, PlainMethod, Expression, Expressions, Statement, Statements, put_local, put_field, new_local, invoke, no_statements, statement_and}
+use Rattle.ca_program.specs.Plain.{PlainProgram, PlainMethod, Statement, Statements, put_local, put_field, new_local, invoke, no_statements, statement_and}
 use Rattle.ca_model.specs.declared.value.Value.{Value as Datum}
 use Rattle.ca_model.specs.declared.value.Value.TheVariants.{Long, Bool as Truth, Null, Ref}
 use Rattle.ca_model.specs.declared.value.Slot.{Slot}

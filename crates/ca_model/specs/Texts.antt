@@ -29,10 +29,13 @@ abbrev pub slot_text : Slot → List ℕ
 slot_text (One v) = value_text v
 slot_text (Many vs) = codes "[" ++ values_text vs ++ codes "]"
 
+abbrev pub field_text : FieldInfo → Slot → List ℕ
+field_text f slot = codes " " ++ f.name ++ codes "=" ++ slot_text slot
+
 abbrev pub fields_text : List FieldInfo → List Slot → List ℕ
 fields_text [] slots = []
 fields_text (f ∷ fs) [] = []
-fields_text (f ∷ fs) (slot ∷ slots) = codes " " ++ f.name ++ codes "=" ++ slot_text slot ++ fields_text fs slots
+fields_text (f ∷ fs) (slot ∷ slots) = field_text f slot ++ fields_text fs slots
 
 abbrev pub class_text : Option PlainClass → List Slot → List ℕ
 class_text None slots = []

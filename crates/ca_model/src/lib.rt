@@ -7,6 +7,13 @@
 //! (`ca_program`) and plain lists of objects alone.
 #![tactic(auto)]
 
+pub mod heap;
+pub mod line;
+pub mod print;
+#[cfg(test)]
+mod tests;
 pub mod value;
 
-pub use value::{Object, Slot, Slots, Trap, TrapKind, Value, Values};
+pub use heap::{CreateError, Heap};
+pub use print::print_heap;
+pub use value::{Object, Slot, Slots, Trap, TrapKind, Value, Values, start_of};

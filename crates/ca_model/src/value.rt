@@ -1,8 +1,9 @@
 //! Values, slots, objects and traps.
 
-ghost use Rattle.std.specs.Prelude.{◌≡◌, ◌<◌, [], ◌∷◌, ◌++◌, length, slice_get, slice_set, IfOk, replicate};
+ghost use Rattle.std.specs.Prelude.{◌≡◌, ◌<◌, ◌≤◌, ◌↔◌, [], ◌∷◌, ◌++◌, length, slice_get, slice_set, IsTrue, IfOk, MatchOption, option_copied, replicate};
+ghost use Rattle.ca_model.specs.Slots.{slot_len, slots_len, HasItem, put_item, start_of, start_slot, start_slots};
 
-use ca_program::ClassId;
+use ca_program::{ClassId, FieldInfo, ValueType};
 use std::alloc::{AllocError, Global};
 use std::marker::Model;
 
@@ -90,6 +91,41 @@ pub enum Slot {
     Many(Values),
 }
 
+impl Slot {
+    ghost use Rattle.ca_model.specs.Expressions.{one_of};
+
+    /// Whether it holds such an item. A single value is item 0.
+    pub fn has(&self, item: u32) -> bool
+        ensures { IsTrue result ↔ (item < slot_len self.now) }
+    {
+        match self {
+            Slot::One(_) => item == 0,
+            Slot::Many(values) => (item as usize) < values.len(),
+        }
+    }
+
+    /// Its single value, and null for an array.
+    pub fn one(&self) -> Value
+        ensures { result ≡ one_of (Some self.now) }
+    {
+        match self {
+            Slot::One(value) => *value,
+            Slot::Many(_) => Value::Null,
+        }
+    }
+
+    /// Puts the value into an item.
+    pub fn put(&mut self, item: u32, value: Value)
+        requires { item < slot_len self.old }
+        ensures { self.new ≡ put_item self.old item value }
+    {
+        match self {
+            Slot::One(old) => *old = value,
+            Slot::Many(values) => values.set(item as usize, value),
+        }
+    }
+}
+
 /// The slots of an object, in the order of its fields.
 #[derive(Drop, Debug)]
 pub struct Slots {
@@ -103,6 +139,117 @@ impl Model for Slots {
     ghost Value = { List Slot };
 
     ghost view = { λ s. s.items.items };
+}
+
+impl Slots {
+    ghost use Rattle.ca_model.specs.Expressions.{one_of};
+    ghost use Rattle.ca_model.specs.Slots.{put_slot};
+
+    /// No slots. It takes no memory.
+    pub fn new(alloc: Global) -> Slots
+        ensures { result ≡ [] }
+    {
+        Slots {
+            items: Vec::new(alloc),
+        }
+    }
+
+    /// What the fields of an object start with.
+    pub fn start(alloc: Global, fields: &[FieldInfo]) -> Result<Slots, AllocError>
+        ensures { IfOk result (λ slots. slots ≡ start_slots fields.now) }
+    {
+        let mut items = Vec::with_capacity(alloc, fields.len())?;
+        for field in fields {
+            items.push(start_slot(alloc, field)?)?;
+        }
+        Ok(Slots { items })
+    }
+
+    /// How many slots there are.
+    pub fn len(&self) -> usize
+        ensures { result ≡ length self.now }
+    {
+        self.items.len()
+    }
+
+    pub fn as_slice(&self) -> &[Slot]
+        ensures { result.now ≡ self.now }
+    {
+        self.items.as_slice()
+    }
+
+    /// The slot of a field.
+    pub fn get(&self, field: u32) -> Option<&Slot>
+        ensures { option_copied result ≡ slice_get self.now field }
+    {
+        self.items.get(field as usize)
+    }
+
+    /// The single value of a field, and null for an array and where there is no such field.
+    pub fn one(&self, field: u32) -> Value
+        ensures { result ≡ one_of (slice_get self.now field) }
+    {
+        match self.get(field) {
+            Some(slot) => slot.one(),
+            None => Value::Null,
+        }
+    }
+
+    /// Whether there is such a field, and it has such an item.
+    pub fn has(&self, field: u32, item: u32) -> bool
+        ensures { IsTrue result ↔ HasItem (slice_get self.now field) item }
+    {
+        match self.get(field) {
+            Some(slot) => slot.has(item),
+            None => false,
+        }
+    }
+
+    /// Puts the value into an item of a field.
+    pub fn put(&mut self, field: u32, item: u32, value: Value)
+        requires { HasItem (slice_get self.old field) item }
+        ensures { self.new ≡ put_slot self.old field item value }
+    {
+        let slot = &mut self.items[field as usize];
+        slot.put(item, value);
+    }
+}
+
+/// What a field starts with.
+fn start_slot(alloc: Global, field: &FieldInfo) -> Result<Slot, AllocError>
+    ensures { IfOk result (λ slot. slot ≡ start_slot field.now.ty field.now.length) }
+{
+    let value = start_of(field.ty);
+    match field.length {
+        None => Ok(Slot::One(value)),
+        Some(count) => Ok(Slot::Many(Values::filled(alloc, value, count as usize)?)),
+    }
+}
+
+/// What a field or a local of the type starts with.
+pub fn start_of(ty: ValueType) -> Value
+    ensures { result ≡ start_of ty }
+{
+    match ty {
+        ValueType::Long => Value::Long(0),
+        ValueType::Bool => Value::Bool(false),
+        ValueType::Pointer(_) => Value::Null,
+    }
+}
+
+/// How many values an object of these fields holds, if no more than there is room for.
+pub fn size_within(fields: &[FieldInfo], room: u32) -> Option<u32>
+    ensures { MatchOption result (room < slots_len (start_slots fields.now)) (λ size. (size ≡ slots_len (start_slots fields.now)) × (size ≤ room)) }
+{
+    let mut total: u32 = 0;
+    for field in fields {
+        let more = field.length.unwrap_or(1);
+        if more > room - total {
+            return None;
+        }
+        total += more;
+    }
+    Some(total)
 }
 
 /// An object of a class.

@@ -1,0 +1,5 @@
+pub mod Stores
+pub mod Creation
+pub mod Lines
+pub mod Texts
+mod Examples

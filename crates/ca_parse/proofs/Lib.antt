@@ -1,0 +1,10 @@
+pub mod Terminals
+pub mod Parts
+pub mod TypeRules
+pub mod ExpressionRules
+pub mod StatementRules
+pub mod ClassRules
+pub mod Lists
+pub mod Fronts
+pub mod OneTree
+pub mod Examples

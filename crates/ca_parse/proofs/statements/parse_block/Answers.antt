@@ -1,0 +1,32 @@
+use Rattle.std.proofs.lemmas.Result.{err_from_is_err_and}
+use Rattle.ca_parse.proofs.Parts.{and_ok, and_err, and_done}
+use Rattle.ca_parse.proofs.StatementRules.{block_answer}
+use Rattle.ca_parse.proofs.statements.parse_block.Goals as goal
+
+pub returns-in_err-rest : goal.returns-in_err-rest
+returns-in_err-rest c =
+    let p = err_from_is_err_and c.from_residual.result c.from_residual.ensures.1 in
+    record { answer = rw (p.1, p.2) (block_answer (and_err _ c.in_err-rest.ensures.answer)) }
+
+pub returns-in_err-statements : goal.returns-in_err-statements
+returns-in_err-statements c =
+    let p = err_from_is_err_and c.from_residual-in_err-statements.result c.from_residual-in_err-statements.ensures.1 in
+    record {
+      answer = rw (p.1, p.2) (block_answer (and_ok c.in_ok-rest.ensures.answer
+          (and_err _ c.in_err-statements.ensures.answer)));
+    }
+
+pub returns-in_err-rest-2 : goal.returns-in_err-rest-2
+returns-in_err-rest-2 c =
+    let p = err_from_is_err_and c.from_residual-in_err-rest-2.result c.from_residual-in_err-rest-2.ensures.1 in
+    record {
+      answer = rw (p.1, p.2) (block_answer (and_ok c.in_ok-rest.ensures.answer
+          (and_ok c.in_ok-statements.ensures.answer (and_err _ c.in_err-rest-2.ensures.answer))));
+    }
+
+pub returns : goal.returns
+returns c =
+    record {
+      answer = block_answer (and_ok c.in_ok-rest.ensures.answer
+          (and_ok c.in_ok-statements.ensures.answer (and_ok c.in_ok-rest-2.ensures.answer and_done)));
+    }
