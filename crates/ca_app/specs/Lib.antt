@@ -1,0 +1,6 @@
+pub mod SmallForm
+pub mod Reply
+pub mod Ends
+pub mod Causes
+pub mod Lines
+pub mod Means

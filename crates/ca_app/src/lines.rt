@@ -1,0 +1,89 @@
+//! The lines that stand alone: refusals, traps and the spent budget.
+
+ghost use Rattle.std.specs.Prelude.{◌≡◌};
+ghost use Rattle.ca_base.specs.Devices.{HasCause, Writes};
+ghost use Rattle.ca_model.specs.Output.{trap_text, spent_text, kind_text};
+ghost use Rattle.ca_app.specs.Reply.{not_built_reply};
+ghost use Rattle.ca_app.specs.Lines.{joined};
+
+use ca_base::{Failed, Sink};
+use ca_model::line::Line;
+use ca_model::{Trap, TrapKind};
+use ca_tree::Place;
+use itoa::Buffer;
+
+/// Writes the line that refuses a text which is not of the small form.
+pub fn write_not_built<K: Sink>(at: Place, sink: &mut K) -> Result<(), Failed>
+    ensures bytes { Writes (K.written sink.old) (K.written sink.new) result (not_built_reply at).bytes }
+    ensures cause { HasCause (K.faults sink.old) (K.faults sink.new) result }
+{
+    let mut line = Buffer::new();
+    let line = line.format(at.line);
+    let mut column = Buffer::new();
+    let column = column.format(at.column);
+    write_line(
+        &[
+            b"error ",
+            line.as_bytes(),
+            b":",
+            column.as_bytes(),
+            b" E00\n",
+        ],
+        sink,
+    )
+}
+
+/// Writes the line of a trap.
+pub fn write_trap<K: Sink>(trap: Trap, sink: &mut K) -> Result<(), Failed>
+    ensures bytes { Writes (K.written sink.old) (K.written sink.new) result (trap_text trap) }
+    ensures cause { HasCause (K.faults sink.old) (K.faults sink.new) result }
+{
+    let mut line = Buffer::new();
+    let line = line.format(trap.line);
+    write_line(
+        &[
+            b"trap ",
+            line.as_bytes(),
+            b" ",
+            kind_name(trap.kind).as_bytes(),
+            b"\n",
+        ],
+        sink,
+    )
+}
+
+/// Writes the line of a spent budget.
+pub fn write_spent<K: Sink>(budget: u32, sink: &mut K) -> Result<(), Failed>
+    ensures bytes { Writes (K.written sink.old) (K.written sink.new) result (spent_text budget) }
+    ensures cause { HasCause (K.faults sink.old) (K.faults sink.new) result }
+{
+    let mut number = Buffer::new();
+    let number = number.format(budget);
+    write_line(&[b"spent ", number.as_bytes(), b"\n"], sink)
+}
+
+/// The name of a kind of trap, as it is written.
+fn kind_name(kind: TrapKind) -> &'static str
+    ensures { result.now ≡ kind_text kind }
+{
+    match kind {
+        TrapKind::NullPointer => "NullPointer",
+        TrapKind::OutOfRange => "OutOfRange",
+        TrapKind::ZeroDivisor => "ZeroDivisor",
+        TrapKind::HeapFull => "HeapFull",
+    }
+}
+
+/// Writes the parts of a line, one behind the other.
+fn write_line<K: Sink>(parts: &[&[u8]], sink: &mut K) -> Result<(), Failed>
+    ensures bytes { Writes (K.written sink.old) (K.written sink.new) result (joined parts.now) }
+    ensures cause { HasCause (K.faults sink.old) (K.faults sink.new) result }
+{
+    let mut line = Line::new();
+    for part in parts {
+        if let Err(failed) = line.add(sink, part) {
+            return Err(failed);
+        }
+    }
+    line.flush(sink)
+}

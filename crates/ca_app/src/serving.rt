@@ -1,0 +1,134 @@
+//! All that the program does.
+
+ghost use Rattle.std.specs.Prelude.{◌≡◌, ℕ, ◌<◌, ◌≤◌, ◌⊎◌, List, length, Some};
+ghost use Rattle.ca_base.specs.Devices.{Rose, at_end};
+ghost use Rattle.ca_program.specs.View.{program_view};
+ghost use Rattle.ca_model.specs.Output.{Reply, output};
+ghost use Rattle.ca_words.specs.Words.{texts};
+ghost use Rattle.ca_app.specs.Causes.{IsUsageFault, RunEnds, IsDone, IsTrapped, IsSpent};
+ghost use Rattle.ca_app.specs.Ends.{Ends, EndsWith, SinkCause, IsReadToEnd, status_after};
+ghost use Rattle.ca_app.specs.Reply.{reply_to, CommandReplies, Replies, usage_reply};
+
+use crate::interpreter::{Outcome, run};
+use crate::lines::{write_not_built, write_spent, write_trap};
+use crate::reading::{Refused, program_of};
+use ca_base::{Failed, Gate, ReadError, Sink, Source, read_all, write_all};
+use ca_lex::first_place;
+use ca_model::print_heap;
+use ca_program::Program;
+use ca_words::{Command, command_of, usage_line};
+use std::alloc::Global;
+
+/// The most bytes of a source.
+const MOST_BYTES: u64 = 1_048_576;
+
+/// Serves the words, which stand behind the program's name, over a source and a sink, and answers
+/// the exit status.
+///
+/// The whole source is read before anything is written. Status 5 is want of memory, 6 a failed
+/// read, 7 a failed write; every other status is that of the reply.
+pub fn top<R: AllocGlobal, S: Source, K: Sink, G: Gate>(
+    rt: &R,
+    words: &[String],
+    source: &mut S,
+    sink: &mut K,
+    _gate: &G,
+) -> u8
+    // Where the source tells its bytes, and unless the text was refused as not built or a write
+    // failed: what was written is the reply of the words and the text, or a beginning of it before
+    // memory was wanting.
+    ensures headline { (text : List ℕ) → S.left source.old ≡ Some text → (result ≡ 1 → ⊥) → (result ≡ 7 → ⊥) → EndsWith (Replies (texts words.now) text) result (K.written sink.old) (K.written sink.new) }
+
+    // What each of its statuses says of the text and its serial run.
+    ensures done { (text : List ℕ) → S.left source.old ≡ Some text → result ≡ 0 → RunEnds (texts words.now) text IsDone }
+    ensures trapped { (text : List ℕ) → S.left source.old ≡ Some text → result ≡ 3 → RunEnds (texts words.now) text IsTrapped }
+    ensures spent { (text : List ℕ) → S.left source.old ≡ Some text → result ≡ 4 → RunEnds (texts words.now) text IsSpent }
+    ensures limit { (text : List ℕ) → S.left source.old ≡ Some text → result ≡ 8 → 1048576 < length text }
+
+    // Status 2 comes exactly where the words name no command. Then nothing is read, and memory is
+    // never wanting.
+    ensures usage { IsUsageFault (texts words.now) → Ends usage_reply result (K.written sink.old) (K.written sink.new) }
+    ensures usage_status { IsUsageFault (texts words.now) → (result ≡ 2) ⊎ (result ≡ 7) }
+    ensures usage_unread { IsUsageFault (texts words.now) → source.new ≡ source.old }
+    ensures usage_only { result ≡ 2 → IsUsageFault (texts words.now) }
+
+    // Statuses 6 and 7 come only where the device failed in this call.
+    ensures read_fault { result ≡ 6 → Rose (S.faults source.old) (S.faults source.new) }
+    ensures write_fault { SinkCause result (K.faults sink.old) (K.faults sink.new) }
+    ensures source_later { S.faults source.old ≤ S.faults source.new }
+    ensures read_to_end { IsReadToEnd result → S.left source.new ≡ at_end (S.left source.old) }
+{
+    let Some(command) = command_of(words) else {
+        return finish(write_all(sink, usage_line()), 2);
+    };
+    serve(rt.alloc(), command, source, sink)
+}
+
+/// Serves a command on the text that the source has.
+fn serve<S: Source, K: Sink>(alloc: Global, command: Command, source: &mut S, sink: &mut K) -> u8
+    ensures headline { (text : List ℕ) → S.left source.old ≡ Some text → (result ≡ 1 → ⊥) → (result ≡ 7 → ⊥) → EndsWith (CommandReplies command text) result (K.written sink.old) (K.written sink.new) }
+    ensures read_fault { result ≡ 6 → Rose (S.faults source.old) (S.faults source.new) }
+    ensures write_fault { SinkCause result (K.faults sink.old) (K.faults sink.new) }
+    ensures source_later { S.faults source.old ≤ S.faults source.new }
+    ensures read_to_end { IsReadToEnd result → S.left source.new ≡ at_end (S.left source.old) }
+    ensures no_usage { result ≡ 2 → ⊥ }
+{
+    match read_all(alloc, source, MOST_BYTES) {
+        Ok(text) => serve_text(alloc, command, &text, sink),
+        Err(ReadError::Limit) => finish(write_all(sink, b"limit 0:0 E04\n"), 8),
+        Err(ReadError::Fault) => 6,
+        Err(ReadError::Memory) => 5,
+    }
+}
+
+/// Serves a command on a text.
+fn serve_text<K: Sink>(alloc: Global, command: Command, text: &[u8], sink: &mut K) -> u8
+    requires { length text.now ≤ 1048576 }
+    ensures ends { (result ≡ 1 → ⊥) → (result ≡ 7 → ⊥) → EndsWith (CommandReplies command text.now) result (K.written sink.old) (K.written sink.new) }
+    ensures write_fault { SinkCause result (K.faults sink.old) (K.faults sink.new) }
+    ensures no_read_fault { result ≡ 6 → ⊥ }
+    ensures no_usage { result ≡ 2 → ⊥ }
+{
+    match program_of(alloc, text) {
+        Ok(program) => serve_program(alloc, command, &program, sink),
+        Err(Refused::NotBuilt) => finish(write_not_built(first_place(text), sink), 1),
+        Err(Refused::Memory) => 5,
+    }
+}
+
+/// Serves a command on a program.
+fn serve_program<K: Sink>(alloc: Global, command: Command, program: &Program, sink: &mut K) -> u8
+    ensures ends { Ends (reply_to command (program_view program.now)) result (K.written sink.old) (K.written sink.new) }
+    ensures write_fault { SinkCause result (K.faults sink.old) (K.faults sink.new) }
+    ensures no_read_fault { result ≡ 6 → ⊥ }
+    ensures no_usage { result ≡ 2 → ⊥ }
+{
+    match command {
+        Command::Run { budget, .. } => run_program(alloc, program, budget, sink),
+    }
+}
+
+/// Runs a program.
+fn run_program<K: Sink>(alloc: Global, program: &Program, budget: u32, sink: &mut K) -> u8
+    ensures ends { Ends (output (program_view program.now) budget) result (K.written sink.old) (K.written sink.new) }
+    ensures write_fault { SinkCause result (K.faults sink.old) (K.faults sink.new) }
+    ensures no_read_fault { result ≡ 6 → ⊥ }
+    ensures no_usage { result ≡ 2 → ⊥ }
+{
+    match run(alloc, program, budget) {
+        Ok(Outcome::Done(heap)) => finish(print_heap(program, &heap, sink), 0),
+        Ok(Outcome::Trapped(trap)) => finish(write_trap(trap, sink), 3),
+        Ok(Outcome::Spent) => finish(write_spent(budget, sink), 4),
+        Err(_) => 5,
+    }
+}
+
+/// The status where the reply was written, and 7 where a write failed.
+fn finish(written: Result<(), Failed>, status: u8) -> u8
+    ensures { result ≡ status_after written status }
+{
+    match written {
+        Ok(()) => status,
+        Err(_) => 7,
+    }
+}

@@ -1,0 +1,7 @@
+pub mod Each
+pub mod Invocation
+pub mod Members
+pub mod MainWalk
+pub mod ClassWalk
+pub mod Small
+mod Examples
