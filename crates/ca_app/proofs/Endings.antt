@@ -1,6 +1,6 @@
 -- What was given is the one reply that there is.
 use Rattle.std.proofs.Common.{◌≡◌, ℕ, ◌<◌, ◌≤◌, List, length, Option, Result, Ok, Err, sym, ◌∙◌, subst, arith}
-use Rattle.ca_base.specs.Devices.{Writes}
+use Rattle.ca_base.specs.Devices.{Rose, HasCause, Writes}
 use Rattle.ca_program.specs.Plain.{PlainProgram}
 use Rattle.ca_model.specs.Output.{Reply}
 use Rattle.ca_words.specs.declared.Command.{Command}
@@ -16,7 +16,25 @@ pub ends_written : {T E : Type 0} (r : Result T E) (status ended : ℕ) (bytes :
 ends_written (Ok x) status ended bytes old now w e = whole e w.whole
 ends_written (Err x) status ended bytes old now w e = write_fault e w.part
 
+-- writing a reply never ends as a failed read
+pub after_six : {T E : Type 0} (r : Result T E) (status ended : ℕ) → ended ≡ status_after r status → (status ≡ 6 → ⊥) → ended ≡ 6 → ⊥
+after_six (Ok x) status ended e other six = other (sym e ∙ six)
+after_six (Err x) status ended e other six = absurd (omega arith)
+
+-- it ends as a failed write only where the count of faults rose
+pub after_seven : {T E : Type 0} (before now : ℕ) (r : Result T E) (status ended : ℕ) → HasCause before now r → ended ≡ status_after r status → (status ≡ 7 → ⊥) → ended ≡ 7 → Rose before now
+after_seven before now (Ok x) status ended cause e other seven = absurd (other (sym e ∙ seven))
+after_seven before now (Err x) status ended cause e other seven = cause.failed
+
 module _ {command : Command} {text : List ℕ} {status : ℕ} {old now : Option (List ℕ)} where
+  pub ends_not_built : length text ≤ 1048576 → ((p : PlainProgram) → SmallForm text p → ⊥) → Ends (not_built_reply (first_place text)) status old now → EndsWith (CommandReplies command text) status old now
+  ends_not_built le refused ends = record { some = λ a b. (not_built_reply (first_place text), not_built le refused); each = each }
+    where
+      each : (reply : Reply) → CommandReplies command text reply → Ends reply status old now
+      each reply (too_long more) = absurd (omega arith)
+      each reply (not_built le' refused') = ends
+      each reply (serves {p = p} le' small) = absurd (refused p small)
+
   pub ends_too_long : 1048576 < length text → Ends too_long_reply status old now → EndsWith (CommandReplies command text) status old now
   ends_too_long more ends = record { some = λ a b. (too_long_reply, too_long more); each = each }
     where

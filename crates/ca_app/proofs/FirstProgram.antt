@@ -1,5 +1,5 @@
 -- The first program, from its bytes to what its run writes.
-use Rattle.std.proofs.Common.{◌≡◌, ℕ, List, [], ◌∷◌, ◌++◌, Option, Some, None, refl, codes, drop}
+use Rattle.std.proofs.Common.{◌≡◌, ℕ, List, [], ◌∷◌, Some, None, refl, codes, drop}
 use Rattle.std.specs.Prelude.{pos}
 use Rattle.std.specs.Fmt.{digits}
 use Rattle.std.specs.Int.{int_wrap}
@@ -10,7 +10,7 @@ use Rattle.ca_tree.specs.declared.token.Sign.TheVariants.{OpenBrace}
 use Rattle.ca_tree.specs.declared.tree.TypeNode.TheVariants.{Long, Pointer}
 use Rattle.ca_tree.specs.declared.tree.AssignOp.TheVariants.{Put}
 use Rattle.ca_tree.specs.declared.tree.BinaryOp.TheVariants.{Plus}
-use Rattle.ca_tree.specs.Plain.{Expression, Statement, TextTree, number, named, method, binary, no_expressions, expression_and, value, new, local, assign, call_statement, no_statements, statement_and, field_member, method_member}
+use Rattle.ca_tree.specs.Plain.{TextTree, number, named, method, binary, no_expressions, expression_and, value, new, local, assign, call_statement, no_statements, statement_and, field_member, method_member}
 use Rattle.ca_program.specs.declared.program.ClassId.{ClassId}
 use Rattle.ca_program.specs.declared.program.FieldId.{FieldId}
 use Rattle.ca_program.specs.declared.program.OpId.{OpId}
@@ -20,7 +20,6 @@ use Rattle.ca_program.specs.Plain as program
 use Rattle.ca_lex.specs.Pieces.{piece_of, token_of, blank_of}
 use Rattle.ca_types.specs.Judged.{fine}
 use Rattle.ca_types.specs.Resolve.{judge}
-use Rattle.ca_model.specs.declared.value.TrapKind.TheVariants.{NullPointer}
 use Rattle.ca_model.specs.Output.{output}
 
 text : List ℕ

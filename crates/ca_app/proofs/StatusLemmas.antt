@@ -1,15 +1,12 @@
 -- What each status says of the reply that was given.
-use Rattle.std.proofs.Common.{◌≡◌, ℕ, ◌<◌, ◌≤◌, List, length, Option, refl, sym, ◌∙◌, arith}
+use Rattle.std.proofs.Common.{◌≡◌, ℕ, ◌<◌, List, length, Option, refl, sym, ◌∙◌, arith, inl, inr}
 use Rattle.ca_program.specs.Plain.{PlainProgram}
-use Rattle.ca_model.specs.Output.{Reply, output, reply_of}
+use Rattle.ca_model.specs.Output.{Reply, reply_of}
 use Rattle.ca_model.specs.Serial.{Ended, goes_on, trapped, spent, serial}
-use Rattle.ca_words.specs.declared.Command.{Command}
 use Rattle.ca_words.specs.declared.Command.TheVariants.{Run}
-use Rattle.ca_words.specs.Words.{Names}
-use Rattle.ca_app.specs.SmallForm.{SmallForm}
-use Rattle.ca_app.specs.Reply.{reply_to, CommandReplies, too_long, not_built, serves, Replies, usage, named}
-use Rattle.ca_app.specs.Ends.{Ends, whole, no_memory, read_fault, write_fault, EndsWith}
-use Rattle.ca_app.specs.Causes.{RunEnds, IsDone, IsTrapped, IsSpent}
+use Rattle.ca_app.specs.Reply.{too_long, not_built, serves, Replies, usage, named}
+use Rattle.ca_app.specs.Ends.{Ends, whole, no_memory, read_fault, write_fault, EndsWith, Complete}
+use Rattle.ca_app.specs.Causes.{IsNotBuilt, RunEnds, IsDone, IsTrapped, IsSpent}
 
 -- but for the statuses of memory and devices, the status is that of the reply
 status_of : {replies : Reply → Type 0} {status : ℕ} {old now : Option (List ℕ)} → EndsWith replies status old now
@@ -24,6 +21,18 @@ status_of {replies = replies} {status = status} {old = old} {now = now} ends a b
     at (write_fault e w) = absurd (c e)
 
 module _ {words : List (List ℕ)} {text : List ℕ} where
+  -- a reply with this status comes of the run
+  not_built_status : {reply : Reply} → Replies words text reply → 1 ≡ reply.status → IsNotBuilt text
+  not_built_status (usage fault) e = absurd (omega arith)
+  not_built_status (named names (too_long more)) e = absurd (omega arith)
+  not_built_status (named names (not_built le refused)) e = (le, refused)
+  not_built_status (named {command = Run w b} names (serves {p = p} le small)) e = at (serial p b) e
+    where
+      at : (end : Ended) → 1 ≡ (reply_of p b end).status → IsNotBuilt text
+      at (goes_on s) e = absurd (omega arith)
+      at (trapped t) e = absurd (omega arith)
+      at spent e = absurd (omega arith)
+
   too_long_status : {reply : Reply} → Replies words text reply → 8 ≡ reply.status → 1048576 < length text
   too_long_status (usage fault) e = absurd (omega arith)
   too_long_status (named names (too_long more)) e = more
@@ -65,6 +74,9 @@ module _ {words : List (List ℕ)} {text : List ℕ} {status : ℕ} {old now : O
   when_0 is = let s = status_of headline (λ e. omega arith) (λ e. omega arith) (λ e. omega arith) in
       run_status 0 IsDone (λ e. omega arith) (λ e. omega arith) (λ e. omega arith) done_end s.1 (sym is ∙ s.2)
 
+  pub when_1 : status ≡ 1 → IsNotBuilt text
+  when_1 is = let s = status_of headline (λ e. omega arith) (λ e. omega arith) (λ e. omega arith) in not_built_status s.1 (sym is ∙ s.2)
+
   pub when_3 : status ≡ 3 → RunEnds words text IsTrapped
   when_3 is = let s = status_of headline (λ e. omega arith) (λ e. omega arith) (λ e. omega arith) in
       run_status 3 IsTrapped (λ e. omega arith) (λ e. omega arith) (λ e. omega arith) trapped_end s.1 (sym is ∙ s.2)
@@ -75,3 +87,13 @@ module _ {words : List (List ℕ)} {text : List ℕ} {status : ℕ} {old now : O
 
   pub when_8 : status ≡ 8 → 1048576 < length text
   when_8 is = let s = status_of headline (λ e. omega arith) (λ e. omega arith) (λ e. omega arith) in too_long_status s.1 (sym is ∙ s.2)
+
+  -- where no device failed, only memory can have been wanting
+  pub completely : (status ≡ 6 → ⊥) → (status ≡ 7 → ⊥) → (reply : Reply) → Replies words text reply → Complete reply status old now
+  completely six seven reply replies = at (headline.each reply replies)
+    where
+      at : Ends reply status old now → Complete reply status old now
+      at (whole e w) = inr (e, w)
+      at (no_memory e w) = inl e
+      at (read_fault e w) = absurd (six e)
+      at (write_fault e w) = absurd (seven e)

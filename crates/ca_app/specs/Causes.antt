@@ -1,5 +1,5 @@
 -- What each status says of the words and the text.
-use Rattle.std.specs.Prelude.{ℕ, ◌≡◌, ◌<◌, ◌≤◌, List, length}
+use Rattle.std.specs.Prelude.{ℕ, ◌≡◌, ◌≤◌, List, length}
 use Rattle.ca_program.specs.Plain.{PlainProgram}
 use Rattle.ca_model.specs.declared.value.Trap.{Trap}
 use Rattle.ca_model.specs.Serial.{State, Ended, goes_on, trapped, spent, serial}

@@ -1,5 +1,5 @@
 -- How a call ends. `old` and `now` are the bytes that the sink tells before and after it.
-use Rattle.std.specs.Prelude.{ℕ, ◌≡◌, ◌≤◌, ◌⊎◌, List, [], Option, Some, None, Result, Ok, Err}
+use Rattle.std.specs.Prelude.{ℕ, ◌≡◌, ◌≤◌, ◌⊎◌, List, Option, Result, Ok, Err}
 use Rattle.ca_base.specs.Devices.{Rose, grown, Began}
 use Rattle.ca_model.specs.Output.{Reply}
 

@@ -1,5 +1,5 @@
 -- What the interpreter holds and gives, as plain values.
-use Rattle.std.specs.Prelude.{ℕ, ◌≡◌}
+use Rattle.std.specs.Prelude.{◌≡◌}
 use Rattle.ca_model.specs.Serial.{State, Ended, goes_on, trapped, spent}
 use Rattle.ca_app.specs.declared.interpreter.Machine.{Machine}
 use Rattle.ca_app.specs.declared.interpreter.Step.{Step}

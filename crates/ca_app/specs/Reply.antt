@@ -1,5 +1,5 @@
 -- What a command on a text replies: a status and the bytes that are written.
-use Rattle.std.specs.Prelude.{ℕ, ◌≡◌, ◌<◌, ◌≤◌, List, ◌++◌, length, codes, decimal}
+use Rattle.std.specs.Prelude.{ℕ, ◌<◌, ◌≤◌, List, ◌++◌, length, codes, decimal}
 use Rattle.std.specs.List.{take_while}
 use Rattle.ca_tree.specs.declared.name.Place.{Place}
 use Rattle.ca_program.specs.Plain.{PlainProgram}

@@ -1,6 +1,6 @@
 //! From a text to its program.
 
-ghost use Rattle.std.specs.Prelude.{◌≡◌, ◌≤◌, ◌^◌, length, IfOk};
+ghost use Rattle.std.specs.Prelude.{◌≡◌, ◌≤◌, ◌^◌, length, IfOk, Err};
 ghost use Rattle.ca_program.specs.View.{program_view};
 ghost use Rattle.ca_program.specs.Plain.{PlainProgram};
 ghost use Rattle.ca_app.specs.SmallForm.{SmallForm};
@@ -23,6 +23,7 @@ pub fn program_of(alloc: Global, text: &[u8]) -> Result<Program, Refused>
     requires { length text.now ≤ 2 ^ 30 }
     ensures program { IfOk result (λ p. SmallForm text.now (program_view p)) }
     ensures only { IfOk result (λ p. (q : PlainProgram) → SmallForm text.now q → q ≡ program_view p) }
+    ensures not_built { result ≡ Err Refused.NotBuilt → (p : PlainProgram) → SmallForm text.now p → ⊥ }
 {
     let tokens = match lex(alloc, text) {
         Ok(tokens) => tokens,

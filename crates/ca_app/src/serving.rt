@@ -5,8 +5,8 @@ ghost use Rattle.ca_base.specs.Devices.{Rose, at_end};
 ghost use Rattle.ca_program.specs.View.{program_view};
 ghost use Rattle.ca_model.specs.Output.{Reply, output};
 ghost use Rattle.ca_words.specs.Words.{texts};
-ghost use Rattle.ca_app.specs.Causes.{IsUsageFault, RunEnds, IsDone, IsTrapped, IsSpent};
-ghost use Rattle.ca_app.specs.Ends.{Ends, EndsWith, SinkCause, IsReadToEnd, status_after};
+ghost use Rattle.ca_app.specs.Causes.{IsUsageFault, IsNotBuilt, RunEnds, IsDone, IsTrapped, IsSpent};
+ghost use Rattle.ca_app.specs.Ends.{Ends, EndsWith, SinkCause, Complete, IsReadToEnd, status_after};
 ghost use Rattle.ca_app.specs.Reply.{reply_to, CommandReplies, Replies, usage_reply};
 
 use crate::interpreter::{Outcome, run};
@@ -34,16 +34,20 @@ pub fn top<R: AllocGlobal, S: Source, K: Sink, G: Gate>(
     sink: &mut K,
     _gate: &G,
 ) -> u8
-    // Where the source tells its bytes, and unless the text was refused as not built or a write
-    // failed: what was written is the reply of the words and the text, or a beginning of it before
-    // memory was wanting.
-    ensures headline { (text : List ℕ) → S.left source.old ≡ Some text → (result ≡ 1 → ⊥) → (result ≡ 7 → ⊥) → EndsWith (Replies (texts words.now) text) result (K.written sink.old) (K.written sink.new) }
+    // Where the source tells its bytes: what was written is the reply of the words and the text,
+    // or a beginning of it before memory was wanting or a device failed.
+    ensures headline { (text : List ℕ) → S.left source.old ≡ Some text → EndsWith (Replies (texts words.now) text) result (K.written sink.old) (K.written sink.new) }
 
     // What each of its statuses says of the text and its serial run.
     ensures done { (text : List ℕ) → S.left source.old ≡ Some text → result ≡ 0 → RunEnds (texts words.now) text IsDone }
+    ensures refused { (text : List ℕ) → S.left source.old ≡ Some text → result ≡ 1 → IsNotBuilt text }
     ensures trapped { (text : List ℕ) → S.left source.old ≡ Some text → result ≡ 3 → RunEnds (texts words.now) text IsTrapped }
     ensures spent { (text : List ℕ) → S.left source.old ≡ Some text → result ≡ 4 → RunEnds (texts words.now) text IsSpent }
     ensures limit { (text : List ℕ) → S.left source.old ≡ Some text → result ≡ 8 → 1048576 < length text }
+
+    // Where neither device failed, the reply was given whole, or memory was wanting.
+    ensures complete { (text : List ℕ) → S.left source.old ≡ Some text → (Rose (S.faults source.old) (S.faults source.new) → ⊥) → (Rose (K.faults sink.old) (K.faults sink.new) → ⊥)
+        → (reply : Reply) → Replies (texts words.now) text reply → Complete reply result (K.written sink.old) (K.written sink.new) }
 
     // Status 2 comes exactly where the words name no command. Then nothing is read, and memory is
     // never wanting.
@@ -66,7 +70,7 @@ pub fn top<R: AllocGlobal, S: Source, K: Sink, G: Gate>(
 
 /// Serves a command on the text that the source has.
 fn serve<S: Source, K: Sink>(alloc: Global, command: Command, source: &mut S, sink: &mut K) -> u8
-    ensures headline { (text : List ℕ) → S.left source.old ≡ Some text → (result ≡ 1 → ⊥) → (result ≡ 7 → ⊥) → EndsWith (CommandReplies command text) result (K.written sink.old) (K.written sink.new) }
+    ensures headline { (text : List ℕ) → S.left source.old ≡ Some text → EndsWith (CommandReplies command text) result (K.written sink.old) (K.written sink.new) }
     ensures read_fault { result ≡ 6 → Rose (S.faults source.old) (S.faults source.new) }
     ensures write_fault { SinkCause result (K.faults sink.old) (K.faults sink.new) }
     ensures source_later { S.faults source.old ≤ S.faults source.new }
@@ -84,7 +88,7 @@ fn serve<S: Source, K: Sink>(alloc: Global, command: Command, source: &mut S, si
 /// Serves a command on a text.
 fn serve_text<K: Sink>(alloc: Global, command: Command, text: &[u8], sink: &mut K) -> u8
     requires { length text.now ≤ 1048576 }
-    ensures ends { (result ≡ 1 → ⊥) → (result ≡ 7 → ⊥) → EndsWith (CommandReplies command text.now) result (K.written sink.old) (K.written sink.new) }
+    ensures ends { EndsWith (CommandReplies command text.now) result (K.written sink.old) (K.written sink.new) }
     ensures write_fault { SinkCause result (K.faults sink.old) (K.faults sink.new) }
     ensures no_read_fault { result ≡ 6 → ⊥ }
     ensures no_usage { result ≡ 2 → ⊥ }

@@ -7,3 +7,6 @@ pub mod Serial
 pub mod Texts
 pub mod Lines
 pub mod Output
+pub mod Sections
+pub mod Commuting
+pub mod TypedPuts

@@ -1,9 +1,9 @@
 -- Steps of the walk over classes, and the whole.
-use Rattle.std.proofs.Common.{◌≡◌, ℕ, ◌+◌, ◌<◌, ◌≤◌, false, List, [], ◌∷◌, ◌++◌, map, take, length, nat_eq, get_or, refl, sym, ◌∙◌, ap, arith}
+use Rattle.std.proofs.Common.{◌≡◌, ℕ, ◌+◌, ◌<◌, ◌≤◌, false, List, [], ◌∷◌, ◌++◌, map, take, length, nat_eq, get_or, refl, sym, subst, ◌∙◌, ap, arith}
 use Rattle.std.proofs.lemmas.List.{append_assoc, append-nil, length-map, length-take-le, map-append, take-map}
 use Rattle.ca_tree.specs.declared.tree.ClassNode.{ClassNode}
 use Rattle.ca_tree.specs.declared.tree.Tree.{Tree}
-use Rattle.ca_tree.specs.Plain.{ClassTree}
+use Rattle.ca_tree.specs.Plain.{ClassTree, Statement}
 use Rattle.ca_tree.specs.View.{class_view, member_view, statement_view, statements_view, tree_view}
 use Rattle.ca_program.specs.declared.program.FieldInfo.{FieldInfo}
 use Rattle.ca_program.specs.declared.program.Class.{Class}
@@ -13,11 +13,15 @@ use Rattle.ca_program.specs.Plain.{PlainClass, PlainMethod, PlainProgram}
 use Rattle.ca_program.specs.Plain as program
 use Rattle.ca_program.specs.View as resolved
 use Rattle.ca_types.specs.declared.names.Operation.{Operation as WalkOperation}
-use Rattle.ca_types.specs.Judged.{Judged, fine, within, both, each}
-use Rattle.ca_types.specs.Scopes.{class_operations, has_class, operations, declared, statements, in_order}
+use Rattle.ca_types.specs.declared.CheckError.{CheckError}
+use Rattle.ca_types.specs.declared.CheckError.TheVariants.{NotBuilt}
+use Rattle.ca_types.specs.Judged.{Judged, fine, within, both, each, IsRefused, Refuses}
+use Rattle.ca_types.specs.Scopes.{Operation, class_operations, has_class, operations, declared, statements, in_order}
 use Rattle.ca_types.specs.Resolve.{judge, judge_field_member, judge_method_member, judge_class, judge_line, class_of, operations_of, types_of, whole}
 use Rattle.ca_types.specs.View.{operation_view}
 use Rattle.ca_types.proofs.Each.{Walked, view_at, walk_step}
+use Rattle.ca_types.proofs.Refused.{within_refused, left_refused, right_refused, item_refused}
+use Rattle.ca_types.proofs.Limits.{members_too_many, classes_too_many}
 use Rattle.ca_types.proofs.Members.{listed, in_order_is, not_equal}
 
 -- the classes before i give these classes and operations, and these are named
@@ -108,3 +112,32 @@ whole_is t p named d n lines locals functions =
     ap (λ (j : Judged (List (PlainClass × List PlainMethod))). within (both j (each (judge_line all (operations 0 all)) [] main)) (λ q. fine (whole (tree_view t) q))) d.1
     ∙ (ap (λ (j : Judged (List program.Statement)). within (both (fine d.0) j) (λ q. fine (whole (tree_view t) q))) main_lines
     ∙ ap (λ (q : PlainProgram). fine q) (whole_view t p d.0 stmts (sym d.2) (sym d.3) bare types o))
+
+-- a class of too many members
+pub class_refused : (classes : List ClassNode) (i : ℕ) (c : ClassNode) (ks : List Class) (ops : List Method) (named : List WalkOperation)
+    → i < length classes → c ≡ get_or classes i c → 512 < length c.members.items → ClassesWalked classes i ks ops named → IsRefused (each (judge_class (map class_view classes)) [] (map class_view classes))
+class_refused classes i c ks ops named h is many w =
+    let all = map class_view classes in
+    let e : operations 0 (take i all) ≡ map operation_view named = ap (operations 0) (take-map class_view i classes) ∙ sym w.4 in
+    let few : length (operations 0 (take i all)) ≤ 256 = rw e (rw length-map w.5) in
+    let more : 512 < length (map member_view c.members.items) = rw length-map many in
+    item_refused NotBuilt (judge_class all) all i (class_view c) w.0 (view_at class_view classes i c h is) (members_too_many all (take i all) (class_view c) few more) w.1
+
+pub too_many_classes : (t : Tree) → 256 < length t.classes.items → IsRefused (judge (tree_view t))
+too_many_classes t h =
+    let all = map class_view t.classes.items in
+    let classes = each (judge_class all) [] all in
+    let lines = each (judge_line all (operations 0 all)) [] (statements (statements_view t.main.items)) in
+    let many : 256 < length all = rw length-map h in
+    within_refused NotBuilt (both classes lines) (λ q. fine (whole (tree_view t) q)) (left_refused NotBuilt classes lines (classes_too_many all many))
+
+pub main_refused : (err : CheckError) (t : Tree) (named : List WalkOperation) → map operation_view named ≡ operations 0 (map class_view t.classes.items)
+    → Refuses err (each (judge_line (map class_view t.classes.items) (map operation_view named)) [] (map statement_view t.main.items)) → Refuses err (judge (tree_view t))
+main_refused err t named n h =
+    let all = map class_view t.classes.items in
+    let classes = each (judge_class all) [] all in
+    let lines = each (judge_line all (operations 0 all)) [] (statements (statements_view t.main.items)) in
+    let main : Refuses err lines =
+    subst (λ (xs : List Statement). Refuses err (each (judge_line all (operations 0 all)) [] xs)) (sym (listed t.main.items))
+    (subst (λ (os : List Operation). Refuses err (each (judge_line all os) [] (map statement_view t.main.items))) n h) in
+    within_refused err (both classes lines) (λ q. fine (whole (tree_view t) q)) (right_refused err classes lines main)

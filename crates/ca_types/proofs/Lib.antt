@@ -4,4 +4,6 @@ pub mod Members
 pub mod MainWalk
 pub mod ClassWalk
 pub mod Small
+pub mod Refused
+pub mod Limits
 mod Examples

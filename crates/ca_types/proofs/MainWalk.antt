@@ -1,16 +1,23 @@
 -- Steps of the walk over the statements of `main`.
-use Rattle.std.proofs.Common.{◌≡◌, ℕ, ◌+◌, ◌<◌, ◌≤◌, List, [], ◌∷◌, ◌++◌, Option, map, take, length, get_or, refl, sym, ◌∙◌, ap, arith}
+use Rattle.std.proofs.Common.{◌≡◌, ℕ, ◌+◌, ◌<◌, ◌≤◌, List, [], ◌∷◌, ◌++◌, Option, map, take, length, get_or, refl, sym, subst, ◌∙◌, ap, arith}
 use Rattle.std.proofs.lemmas.List.{append_assoc, length-append, map-append, take-map}
 use Rattle.ca_tree.specs.declared.name.Place.{Place}
+use Rattle.ca_tree.specs.declared.name.Name.{Name}
 use Rattle.ca_tree.specs.declared.tree.TypeNode.{TypeNode}
 use Rattle.ca_tree.specs.declared.tree.StmtNode.{StmtNode}
 use Rattle.ca_tree.specs.Plain.{ClassTree, Expression, RightSide, Statement, local, call_statement}
-use Rattle.ca_tree.specs.View.{statement_view}
+use Rattle.ca_tree.specs.declared.tree.ExprNode.{ExprNode}
+use Rattle.ca_tree.specs.declared.tree.Right.{Right}
+use Rattle.ca_tree.specs.declared.tree.StmtKind.{StmtKind, Empty, Block', Local, Assign, Call, If', While', For', Return, Print, None', Some'}
+use Rattle.ca_tree.specs.View.{statement_view, form_view}
 use Rattle.ca_program.specs.declared.program.Stmt.{Stmt}
 use Rattle.ca_program.specs.declared.program.ValueType.{ValueType}
+use Rattle.ca_program.specs.Plain as program
 use Rattle.ca_program.specs.View as resolved
 use Rattle.ca_types.specs.declared.names.VisibleLocal.{VisibleLocal as WalkLocal}
-use Rattle.ca_types.specs.Judged.{fine}
+use Rattle.ca_types.specs.declared.CheckError.{CheckError}
+use Rattle.ca_types.specs.Judged.{Judged, fine, unbuilt, each, Refuses}
+use Rattle.ca_types.proofs.Refused.{item_refused}
 use Rattle.ca_types.specs.Scopes.{VisibleLocal, Operation, declared}
 use Rattle.ca_types.specs.Resolve.{judge_type, judge_line, judge_local, judge_call, main_scope, types_of, fine_values}
 use Rattle.ca_types.specs.View.{local_view}
@@ -81,3 +88,29 @@ call_step classes operations main i s at e seen seen' types types' stmts stmts' 
       types_is ∙ (w.2 ∙ ap (λ ls. types_of classes (map local_view ls)) (sym seen_is)),
       rw seen_is w.3,
     )
+
+-- a statement that is refused at i
+pub line_refused : (err : CheckError) (classes : List ClassTree) (operations : List Operation) (main : List StmtNode) (i : ℕ) (s : StmtNode) (seen : List WalkLocal) (types : List ValueType) (stmts : List Stmt) (j : Judged (List program.Statement))
+    → i < length main → s ≡ get_or main i s → ((before : List Statement) → declared before ≡ map local_view seen → judge_line classes operations before (statement_view s) ≡ j) → Refuses err j
+    → MainWalked classes operations main i seen types stmts → Refuses err (each (judge_line classes operations) [] (map statement_view main))
+line_refused err classes operations main i s seen types stmts j h is line refused w =
+    let before = take i (map statement_view main) in
+    let known : declared before ≡ map local_view seen = ap declared (take-map statement_view i main) ∙ sym w.1 in
+    item_refused err (judge_line classes operations) (map statement_view main) i (statement_view s) (map resolved.statement_view stmts) (view_at statement_view main i s h is)
+    (subst (λ (k : Judged (List program.Statement)). Refuses err k) (sym (line before known)) refused) w.0
+
+-- the other statements aren't built
+pub other_is : (classes : List ClassTree) (operations : List Operation) (before : List Statement) (k : StmtKind) (at : Place)
+    → ((ty : TypeNode) (name : Name) (name_at : Place) (v : Option Right) → k ≡ Local ty name name_at v → ⊥) → ((e : ExprNode) → k ≡ Call e → ⊥)
+    → judge_line classes operations before (form_view k at) ≡ unbuilt
+other_is classes operations before Empty at l c = refl
+other_is classes operations before (Block' shape all) at l c = refl
+other_is classes operations before (Local ty name name_at v) at l c = absurd (l ty name name_at v refl)
+other_is classes operations before (Assign target op r) at l c = refl
+other_is classes operations before (Call e) at l c = absurd (c e refl)
+other_is classes operations before (If' e p at1 s None') at l c = refl
+other_is classes operations before (If' e p at1 s (Some' q at2 t)) at l c = refl
+other_is classes operations before (While' e p at1 s) at l c = refl
+other_is classes operations before (For' p at1 first e q at2 next r at3 s) at l c = refl
+other_is classes operations before (Return e) at l c = refl
+other_is classes operations before (Print e) at l c = refl

@@ -59,12 +59,12 @@ operation_is class m r k n p f = let o = in_order_is r.body.stmts.items in cc
 
 -- steps of the walks over members
 
-count_field : (xs : List MemberTree) (f : FieldNode) → count_fields (xs ++ field_member f ∷ []) ≡ count_fields xs + 1
+pub count_field : (xs : List MemberTree) (f : FieldNode) → count_fields (xs ++ field_member f ∷ []) ≡ count_fields xs + 1
 count_field [] f = refl
 count_field (field_member g ∷ xs) f = ap (λ n. n + 1) (count_field xs f)
 count_field (method_member m ∷ xs) f = count_field xs f
 
-count_method : (xs : List MemberTree) (m : MethodTree) → count_fields (xs ++ method_member m ∷ []) ≡ count_fields xs
+pub count_method : (xs : List MemberTree) (m : MethodTree) → count_fields (xs ++ method_member m ∷ []) ≡ count_fields xs
 count_method [] m = refl
 count_method (field_member g ∷ xs) m = ap (λ n. n + 1) (count_method xs m)
 count_method (method_member n ∷ xs) m = count_method xs m
@@ -101,12 +101,12 @@ method_over classes members i m fs fs' p h is w count =
           ∙ ap count_fields (sym (sym (take-map member_view (i + 1) members) ∙ (at.front ∙ ap (λ xs. xs ++ method_member (method_view m) ∷ []) (take-map member_view i members)))))),
     )
 
-operations_field : (class : ℕ) (xs : List MemberTree) (f : FieldNode) → class_operations class (xs ++ field_member f ∷ []) ≡ class_operations class xs
+pub operations_field : (class : ℕ) (xs : List MemberTree) (f : FieldNode) → class_operations class (xs ++ field_member f ∷ []) ≡ class_operations class xs
 operations_field class [] f = refl
 operations_field class (field_member g ∷ xs) f = operations_field class xs f
 operations_field class (method_member m ∷ xs) f = ap (λ os. record { class = class; name = m.name; params = m.params } ∷ os) (operations_field class xs f)
 
-operations_method : (class : ℕ) (xs : List MemberTree) (m : MethodTree) → class_operations class (xs ++ method_member m ∷ []) ≡ class_operations class xs ++ record { class = class; name = m.name; params = m.params } ∷ []
+pub operations_method : (class : ℕ) (xs : List MemberTree) (m : MethodTree) → class_operations class (xs ++ method_member m ∷ []) ≡ class_operations class xs ++ record { class = class; name = m.name; params = m.params } ∷ []
 operations_method class [] m = refl
 operations_method class (field_member g ∷ xs) m = operations_method class xs m
 operations_method class (method_member n ∷ xs) m = ap (λ os. record { class = class; name = n.name; params = n.params } ∷ os) (operations_method class xs m)

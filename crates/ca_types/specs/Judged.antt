@@ -1,6 +1,8 @@
 -- What a part of a text resolves to, or the violations in it.
 use Rattle.std.specs.Prelude.{ℕ, Bool, true, false, List, [], ◌∷◌, ◌++◌, Option, Some, None, nat_eq}
 use Rattle.ca_tree.specs.declared.name.Place.{Place}
+use Rattle.ca_types.specs.declared.CheckError.{CheckError}
+use Rattle.ca_types.specs.declared.CheckError.TheVariants.{NotBuilt, Memory}
 
 -- a broken rule by its code, and where it is broken
 pub record Violation : Type 0 where
@@ -59,3 +61,14 @@ limit most before at code = broken_if (nat_eq before most) at code
 abbrev pub each : {A B : Type 0} → (List A → A → Judged (List B)) → List A → List A → Judged (List B)
 each judge before [] = fine []
 each judge before (x ∷ xs) = within (both (judge before x) (each judge (before ++ x ∷ []) xs)) (λ p. fine (p.0 ++ p.1))
+
+-- no value is resolved to: there is a violation, or a form that isn't built
+abbrev pub IsRefused : {A : Type 0} → Judged A → Type 0
+IsRefused (fine a) = ⊥
+IsRefused (faulty vs) = Unit {0}
+IsRefused unbuilt = Unit {0}
+
+-- an error other than want of memory says that the part is refused
+abbrev pub Refuses : {A : Type 0} → CheckError → Judged A → Type 0
+Refuses NotBuilt j = IsRefused j
+Refuses Memory j = Unit {0}

@@ -36,6 +36,11 @@ place_of (index at e i) = at
 place_of (unary at op e) = at
 place_of (binary at op a b) = at
 
+-- the name that an expression is, if it is one
+abbrev pub bare_name : Expression → Option (List ℕ)
+bare_name (named at name) = Some name
+bare_name e = None
+
 -- types
 
 abbrev pub judge_type : List ClassTree → TypeNode → Judged ValueType
@@ -88,9 +93,12 @@ abbrev pub own_field : program.Expression × Sort → Judged (FieldId × Sort)
 own_field (program.own f, t) = fine (f, t)
 own_field (e, t) = unbuilt
 
+abbrev pub judge_named_target : Scope → Option (List ℕ) → Place → Judged (FieldId × Sort)
+judge_named_target s (Some name) at = within (name_known s name at) own_field
+judge_named_target s None at = unbuilt
+
 abbrev pub judge_target : Scope → Expression → Judged (FieldId × Sort)
-judge_target s (named at name) = within (name_known s name at) own_field
-judge_target s e = unbuilt
+judge_target s e = judge_named_target s (bare_name e) (place_of e)
 
 abbrev pub target_sort : Judged (FieldId × Sort) → Option Sort
 target_sort (fine f) = Some f.1
@@ -111,9 +119,12 @@ judge_put s other = unbuilt
 
 -- calls
 
+abbrev pub judge_named_receiver : Scope → Option (List ℕ) → Place → Judged (LocalId × Sort)
+judge_named_receiver s (Some name) at = found (find_local 0 s.locals name) at 24
+judge_named_receiver s None at = unbuilt
+
 abbrev pub judge_receiver : Scope → Expression → Judged (LocalId × Sort)
-judge_receiver s (named at name) = found (find_local 0 s.locals name) at 24
-judge_receiver s e = unbuilt
+judge_receiver s e = judge_named_receiver s (bare_name e) (place_of e)
 
 abbrev pub judge_callee : List ClassTree → List Operation → Judged (LocalId × Sort) → List ℕ → Place → Judged (OpId × List ParamNode)
 judge_callee classes ops receiver name at = within receiver (λ r. within (receiver_class classes r.1 at) (λ c. found (find_operation 0 ops c name) at 24))

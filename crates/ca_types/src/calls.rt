@@ -1,16 +1,16 @@
 //! Calls in `main`.
 
-ghost use Rattle.std.specs.Prelude.{◌≡◌, ◌≤◌, length, map, IfOk, [], ◌∷◌};
+ghost use Rattle.std.specs.Prelude.{◌≡◌, ◌≤◌, length, map, IfOk, IfErr, [], ◌∷◌};
 ghost use Rattle.ca_tree.specs.View.{class_view, expression_view};
 ghost use Rattle.ca_program.specs.View as program;
 ghost use Rattle.ca_tree.specs.declared.name.Place.{Place};
 ghost use Rattle.ca_program.specs.declared.program.LocalId.{LocalId};
-ghost use Rattle.ca_types.specs.Judged.{fine};
+ghost use Rattle.ca_types.specs.Judged.{fine, Refuses};
 ghost use Rattle.ca_types.specs.Resolve.{judge_receiver, judge_callee, judge_arguments, judge_call};
 ghost use Rattle.ca_types.specs.View.{scope_view, sort_view, operation_view, found_local_view, callee_view};
 
 use crate::CheckError;
-use crate::names::{Operation, Scope, class_number, find_local, find_operation};
+use crate::names::{Operation, Scope, bare_name, class_number, find_local, find_operation};
 use crate::sorts::{Sort, sort_of};
 use crate::values::check_for;
 use ca_program::{Expr, LocalId, OpId, Stmt, StmtForm};
@@ -23,14 +23,15 @@ fn check_receiver<'a>(
     receiver: &ExprNode,
 ) -> Result<(LocalId, Sort<'a>), CheckError>
     requires { length scope.now.locals.now ≤ 256 }
-    ensures { IfOk result (λ p. judge_receiver (scope_view scope.now) (expression_view receiver.now) ≡ fine (found_local_view p)) }
+    ensures resolved { IfOk result (λ p. judge_receiver (scope_view scope.now) (expression_view receiver.now) ≡ fine (found_local_view p)) }
+    ensures refused { IfErr result (λ err. Refuses err (judge_receiver (scope_view scope.now) (expression_view receiver.now))) }
 {
-    match &receiver.kind {
-        ExprKind::Named(name) => match find_local(scope.locals, name) {
-            Some(found) => Ok(found),
-            None => Err(CheckError::NotBuilt),
-        },
-        _ => Err(CheckError::NotBuilt),
+    let Some(name) = bare_name(receiver) else {
+        return Err(CheckError::NotBuilt);
+    };
+    match find_local(scope.locals, name) {
+        Some(found) => Ok(found),
+        None => Err(CheckError::NotBuilt),
     }
 }
 
@@ -43,7 +44,8 @@ fn check_callee<'a>(
 ) -> Result<(OpId, &'a [ParamNode]), CheckError>
     requires classes { length classes.now ≤ 256 }
     requires operations { length operations.now ≤ 256 }
-    ensures { IfOk result (λ p. (l : LocalId) (at : Place) → judge_callee (map class_view classes.now) (map operation_view operations.now) (fine (l, sort_view receiver.now)) name.now at ≡ fine (callee_view p)) }
+    ensures resolved { IfOk result (λ p. (l : LocalId) (at : Place) → judge_callee (map class_view classes.now) (map operation_view operations.now) (fine (l, sort_view receiver.now)) name.now at ≡ fine (callee_view p)) }
+    ensures refused { IfErr result (λ err. (l : LocalId) (at : Place) → Refuses err (judge_callee (map class_view classes.now) (map operation_view operations.now) (fine (l, sort_view receiver.now)) name.now at)) }
 {
     let Sort::Pointer(class_name) = receiver else {
         return Err(CheckError::NotBuilt);
@@ -67,7 +69,8 @@ fn check_arguments(
     requires locals { length scope.now.locals.now ≤ 256 }
     requires members { length scope.now.members.now ≤ 512 }
     requires as_many { length args.now ≡ length params.now }
-    ensures { IfOk result (λ v. judge_arguments (scope_view scope.now) params.now (map expression_view args.now) ≡ fine (map program.expression_view v.items)) }
+    ensures resolved { IfOk result (λ v. judge_arguments (scope_view scope.now) params.now (map expression_view args.now) ≡ fine (map program.expression_view v.items)) }
+    ensures refused { IfErr result (λ err. Refuses err (judge_arguments (scope_view scope.now) params.now (map expression_view args.now))) }
 {
     let mut values = Vec::new(alloc);
     for (i, arg) in args.iter().enumerate() {
@@ -90,7 +93,8 @@ pub(crate) fn check_call(
     requires operations { length operations.now ≤ 256 }
     requires locals { length scope.now.locals.now ≤ 256 }
     requires members { length scope.now.members.now ≤ 512 }
-    ensures { IfOk result (λ s. (at : Place) → at.line ≡ line → judge_call (map class_view classes.now) (map operation_view operations.now) (scope_view scope.now) at (expression_view call.now) ≡ fine (program.statement_view s ∷ [])) }
+    ensures resolved { IfOk result (λ s. (at : Place) → at.line ≡ line → judge_call (map class_view classes.now) (map operation_view operations.now) (scope_view scope.now) at (expression_view call.now) ≡ fine (program.statement_view s ∷ [])) }
+    ensures refused { IfErr result (λ err. (at : Place) → Refuses err (judge_call (map class_view classes.now) (map operation_view operations.now) (scope_view scope.now) at (expression_view call.now))) }
 {
     let ExprKind::Method(receiver, name, args) = &call.kind else {
         return Err(CheckError::NotBuilt);

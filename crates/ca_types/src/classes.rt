@@ -1,11 +1,12 @@
 //! Classes and their fields.
 
-ghost use Rattle.std.specs.Prelude.{◌≡◌, ◌≤◌, length, map, List, IfOk, [], None};
+ghost use Rattle.std.specs.Prelude.{◌≡◌, ◌≤◌, length, map, List, IfOk, IfErr, [], None};
 ghost use Rattle.ca_tree.specs.View.{class_view, member_view};
+ghost use Rattle.ca_tree.specs.Plain.{MemberTree};
 ghost use Rattle.ca_program.specs.Plain.{PlainClass, PlainMethod};
 ghost use Rattle.ca_program.specs.View as program;
-ghost use Rattle.ca_types.specs.Judged.{fine, each};
-ghost use Rattle.ca_types.specs.Resolve.{judge_type, judge_field_member, judge_class, class_of, operations_of};
+ghost use Rattle.ca_types.specs.Judged.{fine, each, Refuses};
+ghost use Rattle.ca_types.specs.Resolve.{judge_type, judge_field, judge_field_member, judge_class, class_of, operations_of};
 ghost use Rattle.ca_types.specs.Scopes.{operations};
 ghost use Rattle.ca_types.specs.View.{operation_view};
 
@@ -40,6 +41,7 @@ fn check_field(
     ensures scalar { IfOk result (λ f. field.now.length ≡ None) }
     ensures ty { IfOk result (λ f. judge_type (map class_view classes.now) field.now.ty ≡ fine f.ty) }
     ensures info { IfOk result (λ f. f ≡ record { name = field.now.name; ty = f.ty; length = None }) }
+    ensures refused { IfErr result (λ err. (before : List MemberTree) → Refuses err (judge_field (map class_view classes.now) before field.now field.now.length)) }
 {
     if field.length.is_some() {
         return Err(CheckError::NotBuilt);
@@ -59,7 +61,8 @@ fn check_fields(
     members: &[Member],
 ) -> Result<Vec<FieldInfo>, CheckError>
     requires { length classes.now ≤ 256 }
-    ensures { IfOk result (λ v. each (judge_field_member (map class_view classes.now)) [] (map member_view members.now) ≡ fine v.items) }
+    ensures resolved { IfOk result (λ v. each (judge_field_member (map class_view classes.now)) [] (map member_view members.now) ≡ fine v.items) }
+    ensures refused { IfErr result (λ err. Refuses err (each (judge_field_member (map class_view classes.now)) [] (map member_view members.now))) }
 {
     let mut fields = Vec::new(alloc);
     for (i, member) in members.iter().enumerate() {
@@ -86,6 +89,7 @@ pub(crate) fn check_classes<'a>(
     ensures few { IfOk result (λ d. length d.operations.items ≤ 256) }
     ensures operations { IfOk result (λ d. map operation_view d.operations.items ≡ operations 0 (map class_view classes.now)) }
     ensures classes { IfOk result (λ d. (rs : List (PlainClass × List PlainMethod)) × (each (judge_class (map class_view classes.now)) [] (map class_view classes.now) ≡ fine rs) × (map program.class_view d.classes.items ≡ map class_of rs) × (map program.method_view d.ops.items ≡ operations_of rs)) }
+    ensures refused { IfErr result (λ err. Refuses err (each (judge_class (map class_view classes.now)) [] (map class_view classes.now))) }
 {
     let mut all = Declared {
         classes: Vec::new(alloc),
@@ -94,7 +98,10 @@ pub(crate) fn check_classes<'a>(
     };
     for (i, class) in classes.iter().enumerate() {
         let (before, _) = classes.split_at(i);
-        if class.members.len() > MOST_MEMBERS || has_class(before, &class.name) {
+        if class.members.len() > MOST_MEMBERS {
+            return Err(CheckError::NotBuilt);
+        }
+        if has_class(before, &class.name) {
             return Err(CheckError::NotBuilt);
         }
         let fields = check_fields(alloc, classes, &class.members)?;

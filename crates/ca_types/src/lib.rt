@@ -1,9 +1,9 @@
 //! From a tree to the program that it means.
 //!
-//! `check` promises its callers that what it gives is the program of a tree without violations. The
-//! rules are told in `specs/Rules.antt`, one for each code, with the places of their violations;
-//! `specs/Resolve.antt` says what each part of a tree resolves to, and `judge` there what a whole
-//! tree does, with all its violations. No clause says yet that each such tree is accepted.
+//! `check` promises its callers that what it gives is the program of a tree without violations, and
+//! that it refuses no such tree, unless memory runs out. The rules are told in `specs/Rules.antt`, one
+//! for each code, with the places of their violations; `specs/Resolve.antt` says what each part of a
+//! tree resolves to, and `judge` there what a whole tree does, with all its violations.
 //!
 //! Built are the forms of the small form: fields of numbers and pointers, operations that put
 //! fields, and a `main` of locals and calls. Each other form is refused, as a violation is.

@@ -1,11 +1,12 @@
 //! The operations of a class.
 
-ghost use Rattle.std.specs.Prelude.{◌≡◌, ◌≤◌, ◌++◌, length, map, IfOk, OnOk, [], None};
+ghost use Rattle.std.specs.Prelude.{◌≡◌, ◌≤◌, ◌++◌, length, map, List, IfOk, IfErr, OnOk, [], None};
 ghost use Rattle.ca_tree.specs.View.{class_view, member_view, method_view as method_tree};
 ghost use Rattle.ca_program.specs.View as program;
-ghost use Rattle.ca_types.specs.Judged.{fine, each};
-ghost use Rattle.ca_types.specs.Resolve.{judge_type, judge_parameter, judge_parts, operation_of, judge_method_member};
-ghost use Rattle.ca_types.specs.Scopes.{class_operations, parameter_local};
+ghost use Rattle.ca_types.specs.Judged.{fine, each, Refuses};
+ghost use Rattle.ca_types.specs.Resolve.{judge_type, judge_parameter, judge_parts, operation_of, judge_method, judge_method_member};
+ghost use Rattle.ca_tree.specs.Plain.{MemberTree};
+ghost use Rattle.ca_types.specs.Scopes.{Operation as NamedOperation, class_operations, parameter_local};
 ghost use Rattle.ca_types.specs.View.{local_view, operation_view};
 
 use crate::CheckError;
@@ -25,7 +26,8 @@ const MOST_PARAMETERS: usize = 32;
 /// The type that is written so.
 pub(crate) fn check_type(classes: &[ClassNode], ty: &TypeNode) -> Result<ValueType, CheckError>
     requires { length classes.now ≤ 256 }
-    ensures { IfOk result (λ t. judge_type (map class_view classes.now) ty.now ≡ fine t) }
+    ensures resolved { IfOk result (λ t. judge_type (map class_view classes.now) ty.now ≡ fine t) }
+    ensures refused { IfErr result (λ err. Refuses err (judge_type (map class_view classes.now) ty.now)) }
 {
     match ty {
         TypeNode::Long => Ok(ValueType::Long),
@@ -44,6 +46,7 @@ fn check_params<'a>(
     ensures few { IfOk result (λ p. length params.now ≤ 32) }
     ensures locals { IfOk result (λ p. map local_view p.0.items ≡ map parameter_local params.now) }
     ensures types { IfOk result (λ p. each (judge_parameter (map class_view classes.now)) [] params.now ≡ fine p.1.items) }
+    ensures refused { IfErr result (λ err. Refuses err (each (judge_parameter (map class_view classes.now)) [] params.now)) }
 {
     if params.len() > MOST_PARAMETERS {
         return Err(CheckError::NotBuilt);
@@ -76,6 +79,7 @@ fn check_method(
     ensures none { IfOk result (λ m. method.now.result ≡ None) }
     ensures parts { IfOk result (λ m. judge_parts (map class_view classes.now) class (map member_view members.now) (method_tree method.now) ≡ fine (m.body.locals.items, map program.statement_view m.body.stmts.items)) }
     ensures method { IfOk result (λ m. program.method_view m ≡ operation_of class (method_tree method.now) (m.body.locals.items, map program.statement_view m.body.stmts.items)) }
+    ensures refused { IfErr result (λ err. (all : List NamedOperation) (before : List MemberTree) → Refuses err (judge_method (map class_view classes.now) all class (map member_view members.now) before (method_tree method.now) method.now.result)) }
 {
     if method.result.is_some() {
         return Err(CheckError::NotBuilt);
@@ -110,6 +114,7 @@ pub(crate) fn check_methods<'a>(
     ensures few { OnOk result (length operations.new.items ≤ 256) }
     ensures operations { OnOk result (map operation_view operations.new.items ≡ map operation_view operations.old.items ++ class_operations class (map member_view members.now)) }
     ensures methods { IfOk result (λ v. each (judge_method_member (map class_view classes.now) (map operation_view operations.old.items) class (map member_view members.now)) [] (map member_view members.now) ≡ fine (map program.method_view v.items)) }
+    ensures refused { IfErr result (λ err. Refuses err (each (judge_method_member (map class_view classes.now) (map operation_view operations.old.items) class (map member_view members.now)) [] (map member_view members.now))) }
 {
     let mut methods = Vec::new(alloc);
     for (i, member) in members.iter().enumerate() {

@@ -1,14 +1,15 @@
 //! What the names of a text mean.
 
 ghost use Rattle.std.specs.Prelude.{◌≡◌, ◌≤◌, length, map};
-ghost use Rattle.std.specs.Option.{option_map};
-ghost use Rattle.ca_tree.specs.View.{class_view, member_view};
+ghost use Rattle.std.specs.Option.{option_copied, option_map};
+ghost use Rattle.ca_types.specs.Resolve.{bare_name};
+ghost use Rattle.ca_tree.specs.View.{class_view, expression_view, member_view};
 ghost use Rattle.ca_types.specs.Scopes.{same_name, class_number, has_class, has_member, has_local, find_local, find_field, find_operation};
 ghost use Rattle.ca_types.specs.View.{local_view, operation_view, found_local_view, found_field_view, callee_view};
 
 use crate::sorts::{Sort, sort_of};
 use ca_program::{ClassId, FieldId, LocalId, OpId};
-use ca_tree::{ClassNode, Member, Name, ParamNode, TypeNode};
+use ca_tree::{ClassNode, ExprKind, ExprNode, Member, Name, ParamNode, TypeNode};
 
 /// A local that is visible.
 #[derive(Clone, Copy)]
@@ -153,4 +154,23 @@ pub(crate) fn find_operation<'a>(
         }
     }
     None
+}
+
+/// The name that the expression is, if it is one.
+pub(crate) fn bare_name(e: &ExprNode) -> Option<&Name>
+    ensures { option_copied result ≡ bare_name (expression_view e.now) }
+{
+    match &e.kind {
+        ExprKind::Named(name) => Some(name),
+        ExprKind::Number(_)
+        | ExprKind::Truth(_)
+        | ExprKind::Null
+        | ExprKind::This
+        | ExprKind::Call(..)
+        | ExprKind::Field(..)
+        | ExprKind::Method(..)
+        | ExprKind::Index(..)
+        | ExprKind::Unary(..)
+        | ExprKind::Binary(..) => None,
+    }
 }

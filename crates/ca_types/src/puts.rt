@@ -1,14 +1,14 @@
 //! Statements of operations.
 
-ghost use Rattle.std.specs.Prelude.{◌≡◌, ◌≤◌, length, map, IfOk, [], ◌∷◌};
+ghost use Rattle.std.specs.Prelude.{◌≡◌, ◌≤◌, length, map, IfOk, IfErr, [], ◌∷◌};
 ghost use Rattle.ca_tree.specs.View.{expression_view, statement_view};
 ghost use Rattle.ca_program.specs.View as program;
-ghost use Rattle.ca_types.specs.Judged.{fine, each};
+ghost use Rattle.ca_types.specs.Judged.{fine, each, Refuses};
 ghost use Rattle.ca_types.specs.Resolve.{judge_target, judge_put};
 ghost use Rattle.ca_types.specs.View.{scope_view, found_field_view};
 
 use crate::CheckError;
-use crate::names::Scope;
+use crate::names::{Scope, bare_name};
 use crate::sorts::Sort;
 use crate::values::{check_for, meaning};
 use ca_program::{Expr, FieldId, Stmt, StmtForm};
@@ -19,13 +19,14 @@ use std::alloc::Global;
 fn check_target<'a>(scope: &Scope<'a>, target: &ExprNode) -> Result<(FieldId, Sort<'a>), CheckError>
     requires locals { length scope.now.locals.now ≤ 256 }
     requires members { length scope.now.members.now ≤ 512 }
-    ensures { IfOk result (λ p. judge_target (scope_view scope.now) (expression_view target.now) ≡ fine (found_field_view p)) }
+    ensures resolved { IfOk result (λ p. judge_target (scope_view scope.now) (expression_view target.now) ≡ fine (found_field_view p)) }
+    ensures refused { IfErr result (λ err. Refuses err (judge_target (scope_view scope.now) (expression_view target.now))) }
 {
-    match &target.kind {
-        ExprKind::Named(name) => match meaning(scope, name) {
-            Some((Expr::Own(field), sort)) => Ok((field, sort)),
-            _ => Err(CheckError::NotBuilt),
-        },
+    let Some(name) = bare_name(target) else {
+        return Err(CheckError::NotBuilt);
+    };
+    match meaning(scope, name) {
+        Some((Expr::Own(field), sort)) => Ok((field, sort)),
         _ => Err(CheckError::NotBuilt),
     }
 }
@@ -34,7 +35,8 @@ fn check_target<'a>(scope: &Scope<'a>, target: &ExprNode) -> Result<(FieldId, So
 fn check_put(alloc: Global, scope: &Scope, stmt: &StmtNode) -> Result<Stmt, CheckError>
     requires locals { length scope.now.locals.now ≤ 256 }
     requires members { length scope.now.members.now ≤ 512 }
-    ensures { IfOk result (λ s. judge_put (scope_view scope.now) (statement_view stmt.now) ≡ fine (program.statement_view s ∷ [])) }
+    ensures resolved { IfOk result (λ s. judge_put (scope_view scope.now) (statement_view stmt.now) ≡ fine (program.statement_view s ∷ [])) }
+    ensures refused { IfErr result (λ err. Refuses err (judge_put (scope_view scope.now) (statement_view stmt.now))) }
 {
     match &stmt.kind {
         StmtKind::Assign {
@@ -61,7 +63,8 @@ pub(crate) fn check_puts(
 ) -> Result<Vec<Stmt>, CheckError>
     requires locals { length scope.now.locals.now ≤ 256 }
     requires members { length scope.now.members.now ≤ 512 }
-    ensures { IfOk result (λ v. each (λ _. judge_put (scope_view scope.now)) [] (map statement_view body.now) ≡ fine (map program.statement_view v.items)) }
+    ensures resolved { IfOk result (λ v. each (λ _. judge_put (scope_view scope.now)) [] (map statement_view body.now) ≡ fine (map program.statement_view v.items)) }
+    ensures refused { IfErr result (λ err. Refuses err (each (λ _. judge_put (scope_view scope.now)) [] (map statement_view body.now))) }
 {
     let mut stmts = Vec::new(alloc);
     for stmt in body {

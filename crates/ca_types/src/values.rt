@@ -1,11 +1,11 @@
 //! Expressions.
 
-ghost use Rattle.std.specs.Prelude.{◌≡◌, ◌≤◌, length, IfOk, Some};
+ghost use Rattle.std.specs.Prelude.{◌≡◌, ◌≤◌, length, IfOk, IfErr, Some};
 ghost use Rattle.std.specs.Option.{option_map};
 ghost use Rattle.ca_tree.specs.View.{expression_view};
 ghost use Rattle.ca_program.specs.View.{expression_view as program_expression_view};
 ghost use Rattle.ca_program.specs.Plain.{binary};
-ghost use Rattle.ca_types.specs.Judged.{fine};
+ghost use Rattle.ca_types.specs.Judged.{fine, Refuses};
 ghost use Rattle.ca_types.specs.Scopes.{meaning};
 ghost use Rattle.ca_types.specs.Resolve.{judge_value, judge_for, is_sum};
 ghost use Rattle.ca_types.specs.View.{scope_view, sort_view, value_view};
@@ -40,7 +40,8 @@ pub(crate) fn check_value<'a>(
 ) -> Result<(Expr, Sort<'a>), CheckError>
     requires locals { length scope.now.locals.now ≤ 256 }
     requires members { length scope.now.members.now ≤ 512 }
-    ensures { IfOk result (λ p. judge_value (scope_view scope.now) (expression_view e.now) ≡ fine (value_view p)) }
+    ensures resolved { IfOk result (λ p. judge_value (scope_view scope.now) (expression_view e.now) ≡ fine (value_view p)) }
+    ensures refused { IfErr result (λ err. Refuses err (judge_value (scope_view scope.now) (expression_view e.now))) }
 {
     match &e.kind {
         ExprKind::Number(n) => Ok((Expr::Number(*n), Sort::Long)),
@@ -49,7 +50,10 @@ pub(crate) fn check_value<'a>(
             Some(value) => Ok(value),
             None => Err(CheckError::NotBuilt),
         },
-        ExprKind::Binary(op, a, b) if is_sum(*op) => {
+        ExprKind::Binary(op, a, b) => {
+            if !is_sum(*op) {
+                return Err(CheckError::NotBuilt);
+            }
             let (left, left_sort) = check_value(alloc, scope, a)?;
             let (right, right_sort) = check_value(alloc, scope, b)?;
             if left_sort.is_long() && right_sort.is_long() {
@@ -58,7 +62,13 @@ pub(crate) fn check_value<'a>(
                 Err(CheckError::NotBuilt)
             }
         }
-        _ => Err(CheckError::NotBuilt),
+        ExprKind::Truth(_)
+        | ExprKind::This
+        | ExprKind::Call(..)
+        | ExprKind::Field(..)
+        | ExprKind::Method(..)
+        | ExprKind::Index(..)
+        | ExprKind::Unary(..) => Err(CheckError::NotBuilt),
     }
 }
 
@@ -71,7 +81,8 @@ fn is_sum(op: BinaryOp) -> bool
 
 /// The operation on two expressions.
 fn sum(alloc: Global, op: BinaryOp, left: Expr, right: Expr) -> Result<Expr, CheckError>
-    ensures { IfOk result (λ e. program_expression_view e ≡ binary op (program_expression_view left) (program_expression_view right)) }
+    ensures resolved { IfOk result (λ e. program_expression_view e ≡ binary op (program_expression_view left) (program_expression_view right)) }
+    ensures refused { IfErr result (λ err. err ≡ CheckError.Memory) }
 {
     let left = Box::new(alloc, left)?;
     let right = Box::new(alloc, right)?;
@@ -87,7 +98,8 @@ pub(crate) fn check_for(
 ) -> Result<Expr, CheckError>
     requires locals { length scope.now.locals.now ≤ 256 }
     requires members { length scope.now.members.now ≤ 512 }
-    ensures { IfOk result (λ x. judge_for (scope_view scope.now) (Some (sort_view target.now)) (expression_view e.now) ≡ fine (program_expression_view x)) }
+    ensures resolved { IfOk result (λ x. judge_for (scope_view scope.now) (Some (sort_view target.now)) (expression_view e.now) ≡ fine (program_expression_view x)) }
+    ensures refused { IfErr result (λ err. Refuses err (judge_for (scope_view scope.now) (Some (sort_view target.now)) (expression_view e.now))) }
 {
     let (value, sort) = check_value(alloc, scope, e)?;
     if can_hold(target, &sort) {

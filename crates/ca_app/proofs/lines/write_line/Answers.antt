@@ -1,6 +1,4 @@
-use Rattle.std.proofs.Common.{arith, length, take_all, subst, ap}
-use Rattle.ca_app.specs.Lines.{joined}
-use Rattle.ca_base.specs.Devices.{Writes}
+use Rattle.std.proofs.Common.{arith, take_all}
 use Rattle.ca_model.proofs.Lines.{flushed}
 use Rattle.ca_app.proofs.LineLemmas.{part_went, part_began}
 use Rattle.ca_app.proofs.lines.write_line.Goals as goal

@@ -1,36 +1,52 @@
 use Rattle.std.proofs.Common.{arith}
-use Rattle.ca_app.proofs.Endings.{ends_usage, ends_named, ends_written}
-use Rattle.ca_app.proofs.StatusLemmas.{when_0, when_3, when_4, when_8}
+use Rattle.ca_app.proofs.Endings.{ends_usage, ends_named, ends_written, after_six, after_seven}
+use Rattle.ca_app.proofs.StatusLemmas.{when_0, when_1, when_3, when_4, when_8, completely}
 use Rattle.ca_app.proofs.serving.top.Goals as goal
 
 pub returns-in_default-clause-headline : goal.returns-in_default-clause-headline
-returns-in_default-clause-headline g c = λ text told one seven.
+returns-in_default-clause-headline g c = λ text told.
     let written = rw c.usage_line.ensures at c.write_all.ensures.bytes in
     ends_usage c.in_default.ensures.only (ends_written _ _ _ _ _ _ written c.finish.ensures)
 
 pub returns-clause-headline : goal.returns-clause-headline
-returns-clause-headline g c = λ text told one seven. ends_named _ c.in-Some.ensures.named (c.serve.ensures.headline text told one seven)
+returns-clause-headline g c = λ text told. ends_named _ c.in-Some.ensures.named (c.serve.ensures.headline text told)
 
 pub returns-in_default-clause-done : goal.returns-in_default-clause-done
-returns-in_default-clause-done g c = λ text told is. when_0 (returns-in_default-clause-headline g c text told (λ one. omega arith) (λ seven. omega arith)) is
+returns-in_default-clause-done g c = λ text told. when_0 (returns-in_default-clause-headline g c text told)
+
+pub returns-in_default-clause-refused : goal.returns-in_default-clause-refused
+returns-in_default-clause-refused g c = λ text told. when_1 (returns-in_default-clause-headline g c text told)
 
 pub returns-in_default-clause-trapped : goal.returns-in_default-clause-trapped
-returns-in_default-clause-trapped g c = λ text told is. when_3 (returns-in_default-clause-headline g c text told (λ one. omega arith) (λ seven. omega arith)) is
+returns-in_default-clause-trapped g c = λ text told. when_3 (returns-in_default-clause-headline g c text told)
 
 pub returns-in_default-clause-spent : goal.returns-in_default-clause-spent
-returns-in_default-clause-spent g c = λ text told is. when_4 (returns-in_default-clause-headline g c text told (λ one. omega arith) (λ seven. omega arith)) is
+returns-in_default-clause-spent g c = λ text told. when_4 (returns-in_default-clause-headline g c text told)
 
 pub returns-in_default-clause-limit : goal.returns-in_default-clause-limit
-returns-in_default-clause-limit g c = λ text told is. when_8 (returns-in_default-clause-headline g c text told (λ one. omega arith) (λ seven. omega arith)) is
+returns-in_default-clause-limit g c = λ text told. when_8 (returns-in_default-clause-headline g c text told)
 
 pub returns-clause-done : goal.returns-clause-done
-returns-clause-done g c = λ text told is. when_0 (returns-clause-headline g c text told (λ one. omega arith) (λ seven. omega arith)) is
+returns-clause-done g c = λ text told. when_0 (returns-clause-headline g c text told)
+
+pub returns-clause-refused : goal.returns-clause-refused
+returns-clause-refused g c = λ text told. when_1 (returns-clause-headline g c text told)
 
 pub returns-clause-trapped : goal.returns-clause-trapped
-returns-clause-trapped g c = λ text told is. when_3 (returns-clause-headline g c text told (λ one. omega arith) (λ seven. omega arith)) is
+returns-clause-trapped g c = λ text told. when_3 (returns-clause-headline g c text told)
 
 pub returns-clause-spent : goal.returns-clause-spent
-returns-clause-spent g c = λ text told is. when_4 (returns-clause-headline g c text told (λ one. omega arith) (λ seven. omega arith)) is
+returns-clause-spent g c = λ text told. when_4 (returns-clause-headline g c text told)
 
 pub returns-clause-limit : goal.returns-clause-limit
-returns-clause-limit g c = λ text told is. when_8 (returns-clause-headline g c text told (λ one. omega arith) (λ seven. omega arith)) is
+returns-clause-limit g c = λ text told. when_8 (returns-clause-headline g c text told)
+
+pub returns-clause-complete : goal.returns-clause-complete
+returns-clause-complete g c = λ text told unread unwritten.
+    completely (returns-clause-headline g c text told) (λ six. unread (c.serve.ensures.read_fault six)) (λ seven. unwritten (c.serve.ensures.write_fault.rose seven))
+
+pub returns-in_default-clause-complete : goal.returns-in_default-clause-complete
+returns-in_default-clause-complete g c = λ text told unread unwritten.
+    completely (returns-in_default-clause-headline g c text told)
+    (after_six c.write_all.result 2 _ c.finish.ensures (λ e. omega arith))
+    (λ seven. unwritten (after_seven _ _ c.write_all.result 2 _ c.write_all.ensures.cause c.finish.ensures (λ e. omega arith) seven))

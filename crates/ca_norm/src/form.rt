@@ -1,0 +1,88 @@
+//! Normal forms.
+
+ghost use Rattle.std.specs.Prelude.{◌≡◌, ◌↔◌, IfOk, IsTrue};
+ghost use Rattle.ca_norm.specs.contracts.form.MonomialOrd.TheImpl.{ghosts};
+ghost use Rattle.ca_norm.specs.Sums.{collect};
+ghost use Rattle.ca_norm.specs.Terms.{shape};
+ghost use Rattle.ca_norm.specs.Forms.{expand};
+
+use crate::gather::add_term;
+use crate::term::{Sort, Term};
+use std::alloc::{AllocError, Global};
+use std::collections::BTreeMap;
+use std::marker::Model;
+
+/// A product of atoms: nothing, which is 1, or one atom of sort Long by its group and number.
+#[derive(Clone, Copy, PartialEq, Eq, PartialOrd, Ord, Debug)]
+pub enum Monomial {
+    One,
+    Atom(u32, u32),
+}
+
+/// A formal polynomial modulo 2^64: the monomials in rising order, each with its coefficient, which
+/// is not zero.
+#[derive(Drop, Debug)]
+pub struct Polynomial {
+    products: Vec<(Monomial, u64)>,
+}
+
+impl Model for Polynomial {
+    ghost use Rattle.std.specs.Prelude.{ℕ, List};
+    ghost use Rattle.ca_norm.specs.declared.form.Monomial.{Monomial};
+
+    ghost Value = { List (Monomial × ℕ) };
+
+    ghost view = { λ p. p.products.items };
+}
+
+impl Polynomial {
+    /// The polynomial of a number.
+    #[inline(never)]
+    pub fn of(alloc: Global, term: &Term) -> Result<Polynomial, AllocError>
+        ensures { IfOk result (λ p. p ≡ collect ghosts.cmp (expand (shape term.now))) }
+    {
+        let mut form = BTreeMap::new(alloc);
+        add_term(&mut form, term, 1)?;
+        let _count = form.len();
+        let products = form.into_iter().collect(alloc)?;
+        Ok(Polynomial { products })
+    }
+
+    /// The same polynomial once more.
+    pub fn copy(&self, alloc: Global) -> Result<Polynomial, AllocError>
+        ensures { IfOk result (λ p. p ≡ self.now) }
+    {
+        Ok(Polynomial {
+            products: self.products.clone()?,
+        })
+    }
+
+    /// Whether two polynomials are equal. It takes no memory.
+    pub fn same(&self, other: &Polynomial) -> bool
+        ensures { IsTrue result ↔ (self.now ≡ other.now) }
+    {
+        self.products == other.products
+    }
+}
+
+/// A normal form: of a number a polynomial, of a pointer null or an atom. Arrays and truth values
+/// have their atom.
+#[derive(Drop, Debug)]
+pub enum Normal {
+    Polynomial(Polynomial),
+    Null,
+    Atom(Sort, u32, u32),
+}
+
+impl Normal {
+    /// The same normal form once more.
+    pub fn copy(&self, alloc: Global) -> Result<Normal, AllocError>
+        ensures { IfOk result (λ n. n ≡ self.now) }
+    {
+        match self {
+            Normal::Polynomial(polynomial) => Ok(Normal::Polynomial(polynomial.copy(alloc)?)),
+            Normal::Null => Ok(Normal::Null),
+            Normal::Atom(sort, group, number) => Ok(Normal::Atom(*sort, *group, *number)),
+        }
+    }
+}

@@ -1,0 +1,5 @@
+pub mod Symbolic
+pub mod Verdicts
+pub mod Laws
+pub mod Weighing
+pub mod Codes

@@ -1,0 +1,70 @@
+//! Symbolic execution of operations, and the verdict on two operations of one class.
+//!
+//! `verdict` runs both operations symbolically in both orders and compares the normal forms that the
+//! fields have then. Its first clause says which verdict comes (`specs/Verdicts.antt`), its second
+//! that a pair with the verdict `Commutes` does commute, for every receiver and all arguments, in the
+//! sense of ca_model. `Unproved` claims nothing of the pair. Nothing but want of memory keeps a
+//! verdict from its caller.
+//!
+//! Built for operations of the small form, whose bodies are lists of puts: their extents are the
+//! operation alone.
+#![tactic(auto)]
+
+mod compare;
+mod execute;
+mod extent;
+pub mod laws;
+#[cfg(test)]
+mod tests;
+mod verdicts;
+mod weighed;
+
+ghost use Rattle.std.specs.Prelude.{◌≡◌, ◌<◌, length, slice_get, IfOk};
+ghost use Rattle.ca_program.specs.View.{program_view};
+ghost use Rattle.ca_model.specs.Heaps.{fields_of};
+ghost use Rattle.ca_model.specs.Commuting.{Commutes as DoCommute};
+ghost use Rattle.ca_model.specs.TypedPuts.{TypedPuts};
+ghost use Rattle.ca_symbolic.specs.Verdicts.{VerdictOf};
+
+use crate::compare::compared;
+pub use crate::extent::Extent;
+pub use crate::verdicts::{Reason, Verdict};
+use crate::weighed::SymError;
+use ca_base::Memory;
+use ca_program::{ClassId, FieldInfo, OpId, Program};
+use std::alloc::Global;
+
+/// The fields of a class; none where the program has no such class.
+fn fields_of(program: &Program, class: ClassId) -> &[FieldInfo]
+    ensures { result.now ≡ fields_of (slice_get (program_view program.now).classes class.0) }
+{
+    if (class.0 as usize) < program.classes.len() {
+        program.class(class).fields.as_slice()
+    } else {
+        &[]
+    }
+}
+
+/// The verdict on two operations of one class in an extent. What the second clause promises needs a
+/// program that is well typed, and so has each one that the checker made.
+pub fn verdict(
+    alloc: Global,
+    program: &Program,
+    extent: &Extent,
+    a: OpId,
+    b: OpId,
+) -> Result<Verdict, Memory>
+    requires first { a.0 < length program.now.ops.items }
+    requires second { b.0 < length program.now.ops.items }
+    ensures exact { IfOk result (λ v. VerdictOf (program_view program.now) a b v) }
+    ensures sound { TypedPuts (program_view program.now) → IfOk result (λ v. v ≡ Verdict.Commutes → DoCommute (program_view program.now) extent.now.written.items a b) }
+{
+    let first = program.op(a);
+    let second = program.op(b);
+    let fields = fields_of(program, first.class);
+    match compared(alloc, first.class, fields, &first.body, &second.body) {
+        Ok(verdict) => Ok(verdict),
+        Err(SymError::Large) => Ok(Verdict::Unproved(Reason::Large)),
+        Err(SymError::Memory) => Err(Memory),
+    }
+}
