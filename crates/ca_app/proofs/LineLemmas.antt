@@ -21,17 +21,19 @@ joined_rest [] (suc i) = refl
 joined_rest (p ∷ ps) zero = refl
 joined_rest (p ∷ ps) (suc i) = ap (λ t. p.now ++ t) (joined_rest ps i) ∙ sym (append_assoc p.now _ _)
 
--- one part more went to the line
-pub part_went : (old mid now : Option (List ℕ)) (ps : List (Bor (List ℕ))) (i : ℕ) (d : Bor (List ℕ)) (left last : List ℕ) → i < length ps
-    → Went old mid (joined (take i ps)) left → Went mid now (left ++ (get_or ps i d).now) last → Went old now (joined (take (i + 1) ps)) last
-part_went old mid now ps i d left last lt v w =
-    let P : List ℕ → Type 0 = λ t. Went old now t last in
-    rw add-one (subst P (sym (joined_through ps i d lt)) (went_after old mid now [] (joined (take i ps)) left _ last v w))
+-- one part more went to what is to be written
+pub part_went : (old mid now : Option (List ℕ)) (pending : List ℕ) (ps : List (Bor (List ℕ))) (i : ℕ) (d : Bor (List ℕ)) (left last : List ℕ) → i < length ps
+    → Went old mid (pending ++ joined (take i ps)) left → Went mid now (left ++ (get_or ps i d).now) last → Went old now (pending ++ joined (take (i + 1) ps)) last
+part_went old mid now pending ps i d left last lt v w =
+    let P : List ℕ → Type 0 = λ t. Went old now (pending ++ t) last in
+    rw add-one (subst P (sym (joined_through ps i d lt)) (went_after old mid now pending (joined (take i ps)) left _ last v w))
 
--- one part more did not, so the line has begun at most
-pub part_began : (old mid now : Option (List ℕ)) (ps : List (Bor (List ℕ))) (i : ℕ) (d : Bor (List ℕ)) (left : List ℕ) → i < length ps
-    → Went old mid (joined (take i ps)) left → Began mid now (left ++ (get_or ps i d).now) → Began old now (joined ps)
-part_began old mid now ps i d left lt v b =
+-- one part more did not, so the text has begun at most
+pub part_began : (old mid now : Option (List ℕ)) (pending : List ℕ) (ps : List (Bor (List ℕ))) (i : ℕ) (d : Bor (List ℕ)) (left : List ℕ) → i < length ps
+    → Went old mid (pending ++ joined (take i ps)) left → Began mid now (left ++ (get_or ps i d).now) → Began old now (pending ++ joined ps)
+part_began old mid now pending ps i d left lt v b =
     let P : List ℕ → Type 0 = λ t. Began old now t in
-    let through : Began old now (joined (take i ps) ++ (get_or ps i d).now) = began_in old mid now [] (joined (take i ps)) left _ v b in
-    subst P (sym (joined_rest ps (suc i) ∙ ap (λ t. t ++ joined (drop (suc i) ps)) (joined_through ps i d lt))) (began_more old now _ (joined (drop (suc i) ps)) through)
+    let through : Began old now (pending ++ (joined (take i ps) ++ (get_or ps i d).now)) = began_in old mid now pending (joined (take i ps)) left _ v b in
+    let all : (pending ++ (joined (take i ps) ++ (get_or ps i d).now)) ++ joined (drop (suc i) ps) ≡ pending ++ joined ps =
+    append_assoc pending _ _ ∙ ap (λ t. pending ++ t) (sym (joined_rest ps (suc i) ∙ ap (λ t. t ++ joined (drop (suc i) ps)) (joined_through ps i d lt))) in
+    subst P all (began_more old now _ (joined (drop (suc i) ps)) through)

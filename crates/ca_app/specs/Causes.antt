@@ -4,9 +4,11 @@ use Rattle.ca_program.specs.Plain.{PlainProgram}
 use Rattle.ca_model.specs.declared.value.Trap.{Trap}
 use Rattle.ca_model.specs.Serial.{State, Ended, goes_on, trapped, spent, serial}
 use Rattle.ca_words.specs.declared.Command.{Command}
-use Rattle.ca_words.specs.declared.Command.TheVariants.{Run}
+use Rattle.ca_words.specs.declared.Command.TheVariants.{Run, Pairs}
 use Rattle.ca_words.specs.Words.{Names}
+use Rattle.ca_symbolic.specs.declared.verdicts.Verdict.{Verdict}
 use Rattle.ca_app.specs.SmallForm.{SmallForm}
+use Rattle.ca_app.specs.Pairs.{AreVerdicts}
 use Rattle.ca_app.specs.Reply.{most_bytes}
 
 -- the words name no command
@@ -25,6 +27,14 @@ pub record RunEnds (words : List (List ℕ)) (text : List ℕ) (end : Ended → 
   pub named : Names words (Run workers budget)
   pub accepted : SmallForm text program
   pub ends : end (serial program budget)
+
+-- The words name `pairs`, and these are the verdicts of the text's program.
+pub record PairsEnd (words : List (List ℕ)) (text : List ℕ) : Type 0 where
+  pub program : PlainProgram
+  pub verdicts : List Verdict
+  pub named : Names words Pairs
+  pub accepted : SmallForm text program
+  pub verdicts_are : AreVerdicts program verdicts
 
 abbrev pub IsDone : Ended → Type 0
 IsDone e = (s : State) × (e ≡ goes_on s)

@@ -1,4 +1,5 @@
 pub mod SmallForm
+pub mod Pairs
 pub mod Reply
 pub mod Ends
 pub mod Causes

@@ -7,9 +7,11 @@ use Rattle.ca_model.specs.Output.{Reply, output}
 use Rattle.ca_lex.specs.Bytes.{is_blank}
 use Rattle.ca_lex.specs.Places.{advance, start}
 use Rattle.ca_words.specs.declared.Command.{Command}
-use Rattle.ca_words.specs.declared.Command.TheVariants.{Run}
+use Rattle.ca_words.specs.declared.Command.TheVariants.{Run, Pairs}
 use Rattle.ca_words.specs.Words.{Names, usage_text}
+use Rattle.ca_symbolic.specs.declared.verdicts.Verdict.{Verdict}
 use Rattle.ca_app.specs.SmallForm.{SmallForm}
+use Rattle.ca_app.specs.Pairs.{AreVerdicts, pairs_text}
 
 -- the most bytes of a source
 abbrev pub most_bytes : ℕ
@@ -29,8 +31,9 @@ abbrev pub first_place : List ℕ → Place
 first_place text = advance start (take_while is_blank text)
 
 -- what a command replies to the text of this program
-abbrev pub reply_to : Command → PlainProgram → Reply
-reply_to (Run workers budget) p = output p budget
+pub data ProgramReplies (p : PlainProgram) : Command → Reply → Type 0 where
+  runs : {workers budget : ℕ} → ProgramReplies p (Run workers budget) (output p budget)
+  pairs : {vs : List Verdict} → AreVerdicts p vs → ProgramReplies p Pairs (record { status = 0; bytes = pairs_text p vs })
 
 -- what a command replies to a text
 pub data CommandReplies (command : Command) (text : List ℕ) : Reply → Type 0 where
@@ -39,7 +42,7 @@ pub data CommandReplies (command : Command) (text : List ℕ) : Reply → Type 0
   -- the text is not of the small form
   not_built : length text ≤ most_bytes → ((p : PlainProgram) → SmallForm text p → ⊥) → CommandReplies command text (not_built_reply (first_place text))
   -- the text has a program
-  serves : {p : PlainProgram} → length text ≤ most_bytes → SmallForm text p → CommandReplies command text (reply_to command p)
+  serves : {p : PlainProgram} {reply : Reply} → length text ≤ most_bytes → SmallForm text p → ProgramReplies p command reply → CommandReplies command text reply
 
 -- what words on a text reply: they name no command, or one
 pub data Replies (words : List (List ℕ)) (text : List ℕ) : Reply → Type 0 where

@@ -5,12 +5,13 @@ ghost use Rattle.ca_base.specs.Devices.{Rose, at_end};
 ghost use Rattle.ca_program.specs.View.{program_view};
 ghost use Rattle.ca_model.specs.Output.{Reply, output};
 ghost use Rattle.ca_words.specs.Words.{texts};
-ghost use Rattle.ca_app.specs.Causes.{IsUsageFault, IsNotBuilt, RunEnds, IsDone, IsTrapped, IsSpent};
+ghost use Rattle.ca_app.specs.Causes.{IsUsageFault, IsNotBuilt, RunEnds, PairsEnd, IsDone, IsTrapped, IsSpent};
 ghost use Rattle.ca_app.specs.Ends.{Ends, EndsWith, SinkCause, Complete, IsReadToEnd, status_after};
-ghost use Rattle.ca_app.specs.Reply.{reply_to, CommandReplies, Replies, usage_reply};
+ghost use Rattle.ca_app.specs.Reply.{ProgramReplies, CommandReplies, Replies, usage_reply};
 
 use crate::interpreter::{Outcome, run};
 use crate::lines::{write_not_built, write_spent, write_trap};
+use crate::pairs::{verdicts_of, write_pairs};
 use crate::reading::{Refused, program_of};
 use ca_base::{Failed, Gate, ReadError, Sink, Source, read_all, write_all};
 use ca_lex::first_place;
@@ -39,7 +40,7 @@ pub fn top<R: AllocGlobal, S: Source, K: Sink, G: Gate>(
     ensures headline { (text : List ℕ) → S.left source.old ≡ Some text → EndsWith (Replies (texts words.now) text) result (K.written sink.old) (K.written sink.new) }
 
     // What each of its statuses says of the text and its serial run.
-    ensures done { (text : List ℕ) → S.left source.old ≡ Some text → result ≡ 0 → RunEnds (texts words.now) text IsDone }
+    ensures done { (text : List ℕ) → S.left source.old ≡ Some text → result ≡ 0 → RunEnds (texts words.now) text IsDone ⊎ PairsEnd (texts words.now) text }
     ensures refused { (text : List ℕ) → S.left source.old ≡ Some text → result ≡ 1 → IsNotBuilt text }
     ensures trapped { (text : List ℕ) → S.left source.old ≡ Some text → result ≡ 3 → RunEnds (texts words.now) text IsTrapped }
     ensures spent { (text : List ℕ) → S.left source.old ≡ Some text → result ≡ 4 → RunEnds (texts words.now) text IsSpent }
@@ -102,13 +103,27 @@ fn serve_text<K: Sink>(alloc: Global, command: Command, text: &[u8], sink: &mut 
 
 /// Serves a command on a program.
 fn serve_program<K: Sink>(alloc: Global, command: Command, program: &Program, sink: &mut K) -> u8
-    ensures ends { Ends (reply_to command (program_view program.now)) result (K.written sink.old) (K.written sink.new) }
+    ensures ends { EndsWith (ProgramReplies (program_view program.now) command) result (K.written sink.old) (K.written sink.new) }
     ensures write_fault { SinkCause result (K.faults sink.old) (K.faults sink.new) }
     ensures no_read_fault { result ≡ 6 → ⊥ }
     ensures no_usage { result ≡ 2 → ⊥ }
 {
     match command {
         Command::Run { budget, .. } => run_program(alloc, program, budget, sink),
+        Command::Pairs => pair_program(alloc, program, sink),
+    }
+}
+
+/// Writes the verdicts of a program.
+fn pair_program<K: Sink>(alloc: Global, program: &Program, sink: &mut K) -> u8
+    ensures ends { EndsWith (ProgramReplies (program_view program.now) Command.Pairs) result (K.written sink.old) (K.written sink.new) }
+    ensures write_fault { SinkCause result (K.faults sink.old) (K.faults sink.new) }
+    ensures no_read_fault { result ≡ 6 → ⊥ }
+    ensures no_usage { result ≡ 2 → ⊥ }
+{
+    match verdicts_of(alloc, program) {
+        Ok(verdicts) => finish(write_pairs(program, &verdicts, sink), 0),
+        Err(_) => 5,
     }
 }
 

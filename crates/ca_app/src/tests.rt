@@ -81,6 +81,51 @@ fn runs_the_first_program(rt: HostRuntime) -> Result<(), AllocError> {
     Ok(())
 }
 
+/// A class with two operations, one of which has this body.
+fn doubling(alloc: Global, times: usize) -> Result<Vec<u8>, AllocError> {
+    let mut text = Vec::new(alloc);
+    text.extend_from_slice(b"class D { public: long s; void dbl() {")?;
+    for _ in 0..times {
+        text.extend_from_slice(b" s = s + s;")?;
+    }
+    text.extend_from_slice(b" } void aff(long p) { s = s + s + p; } }; int main() { }")?;
+    Ok(text)
+}
+
+/// Verdicts on the operations of a class.
+#[test]
+fn tells_which_pairs_commute(rt: HostRuntime) -> Result<(), AllocError> {
+    let first = program(rt.alloc(), FIRST)?;
+    assert_eq!(rt;
+        ends(
+            &rt,
+            "pairs",
+            first,
+            (0, 0),
+            "extent Acc::add\nAcc::add Acc::add commutes\nextent Acc::tie\nAcc::tie Acc::tie unproved FieldDiffers peer\n"
+        )?,
+        (0, true)
+    );
+    for (times, written) in [
+        (
+            1,
+            "extent D::dbl\nD::dbl D::dbl commutes\nextent D::aff\nD::aff D::aff unproved FieldDiffers s\n",
+        ),
+        (
+            20,
+            "extent D::dbl\nD::dbl D::dbl unproved Large\nextent D::aff\nD::aff D::aff unproved FieldDiffers s\n",
+        ),
+    ] {
+        let text = doubling(rt.alloc(), times)?;
+        assert_eq!(rt;
+            ends(&rt, "pairs", text, (0, 0), written)?,
+            (0, true),
+            "of {times}"
+        );
+    }
+    Ok(())
+}
+
 /// Texts that are refused, and one that does nothing.
 #[test]
 fn refuses_what_is_not_built(rt: HostRuntime) -> Result<(), AllocError> {

@@ -1,4 +1,4 @@
--- A list of three items is these.
+-- A list of one item or of three is these.
 use Rattle.std.proofs.Common.{◌≡◌, List, [], ◌∷◌, length, get_or, arith}
 
 pub three_items : {X : Type 0} (xs : List X) (x y z : X) → length xs ≡ 3 → x ≡ get_or xs 0 x → y ≡ get_or xs 1 y → z ≡ get_or xs 2 z → xs ≡ x ∷ y ∷ z ∷ []
@@ -7,3 +7,8 @@ three_items (a ∷ []) x y z three first second third = absurd (omega arith)
 three_items (a ∷ b ∷ []) x y z three first second third = absurd (omega arith)
 three_items (a ∷ b ∷ d ∷ []) x y z three first second third = cc
 three_items (a ∷ b ∷ d ∷ e ∷ more) x y z three first second third = absurd (omega arith)
+
+pub one_item : {X : Type 0} (xs : List X) (x : X) → length xs ≡ 1 → x ≡ get_or xs 0 x → xs ≡ x ∷ []
+one_item [] x one is = absurd (omega arith)
+one_item (a ∷ []) x one is = cc
+one_item (a ∷ b ∷ more) x one is = absurd (omega arith)

@@ -2,7 +2,7 @@
 use Rattle.std.specs.Prelude.{◌≡◌, ℕ, ◌≤◌, List, [], ◌∷◌, map, codes, decimal, String, string_bytes}
 use Rattle.std.specs.declared.alloc.Global.{Global}
 use Rattle.ca_words.specs.declared.Command.{Command}
-use Rattle.ca_words.specs.declared.Command.TheVariants.{Run}
+use Rattle.ca_words.specs.declared.Command.TheVariants.{Run, Pairs}
 
 -- each word as its bytes
 abbrev pub texts : List (String Global) → List (List ℕ)
@@ -11,6 +11,7 @@ texts words = map string_bytes words
 -- The words of a command. A number is its decimal digits, with no sign and no leading zero.
 abbrev pub words_of : Command → List (List ℕ)
 words_of (Run workers budget) = codes "run" ∷ decimal workers ∷ decimal budget ∷ []
+words_of Pairs = codes "pairs" ∷ []
 
 abbrev pub IsWorkers : ℕ → Type 0
 IsWorkers n = (1 ≤ n) × (n ≤ 64)
@@ -21,10 +22,12 @@ IsBudget n = (1 ≤ n) × (n ≤ 1000000000)
 -- each number of the command is in its range
 abbrev pub IsInRange : Command → Type 0
 IsInRange (Run workers budget) = IsWorkers workers × IsBudget budget
+IsInRange Pairs = Unit {0}
 
--- what this program does so far: a run by one worker
+-- what this program does so far: of runs, those by one worker
 abbrev pub IsBuilt : Command → Type 0
 IsBuilt (Run workers budget) = workers ≡ 1
+IsBuilt Pairs = Unit {0}
 
 -- the words are those of the command, and its numbers are in their ranges
 pub record Spells (words : List (List ℕ)) (command : Command) : Type 0 where

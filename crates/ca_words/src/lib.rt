@@ -18,6 +18,8 @@ pub enum Command {
     /// `run WORKERS BUDGET`: runs the source with 1 to 64 workers, of which 1 is built, for a budget
     /// of 1 to 1,000,000,000 steps.
     Run { workers: u32, budget: u32 },
+    /// `pairs`.
+    Pairs,
 }
 
 impl Command {
@@ -31,6 +33,7 @@ impl Command {
     {
         match self {
             Command::Run { workers, .. } => workers == 1,
+            Command::Pairs => true,
         }
     }
 }
@@ -70,6 +73,7 @@ fn spelled(words: &[String]) -> Option<Command>
             workers: number_of(workers.as_str(), Command::MOST_WORKERS)?,
             budget: number_of(budget.as_str(), Command::MOST_BUDGET)?,
         }),
+        [name] if name.as_str() == "pairs" => Some(Command::Pairs),
         _ => None,
     }
 }
@@ -101,7 +105,7 @@ mod tests {
         "run 0 5|run 65 5|run 1 0|run 2 0|run 1 1000000001|run 2 1000000001",
         "run 1 4294967301|gen 0 0|gen 0 20001|gen 18446744073709551616 1",
         "run 01 5|run 1 05|run 1 +5|run +1 5|run 1 -5|run 1 5x|run 1 0x5",
-        "run 2 5|run 64 5|pairs|plan|emit|gen 7 3|load 7 3 4",
+        "run 2 5|run 64 5|plan|emit|gen 7 3|load 7 3 4",
     ];
 
     // The words between the spaces of a line.
@@ -114,7 +118,9 @@ mod tests {
     }
 
     #[test]
-    fn names_a_run(rt: HostRuntime) -> Result<(), Fail> {
+    fn names_a_command(rt: HostRuntime) -> Result<(), Fail> {
+        let words = words_of_line(rt.alloc(), "pairs")?;
+        assert_eq!(rt; command_of(words.as_slice()), Some(Command::Pairs));
         for (line, budget) in [
             ("run 1 1", 1),
             ("run 1 100", 100),
