@@ -1,18 +1,27 @@
 -- What was given is the one reply that there is.
-use Rattle.std.proofs.Common.{◌≡◌, ℕ, ◌<◌, ◌≤◌, List, length, Option, Result, Ok, Err, sym, ◌∙◌, subst, arith}
-use Rattle.ca_base.specs.Devices.{Rose, HasCause, Writes}
+use Rattle.std.proofs.Common.{◌≡◌, ℕ, true, false, List, ◌++◌, Option, Result, Ok, Err, refl, ap, sym, ◌∙◌, subst, arith}
+use Rattle.ca_tree.specs.declared.name.Place.{Place}
+use Rattle.ca_base.specs.Devices.{Rose, HasCause, Writes, Began, grown}
+use Rattle.ca_base.proofs.Writing.{began_more, writes_after}
 use Rattle.ca_program.specs.Plain.{PlainProgram}
-use Rattle.ca_model.specs.Output.{Reply, output}
+use Rattle.ca_model.specs.Texts.{heap_text}
+use Rattle.ca_meaning.specs.Serial.{Ended, done, trapped, spent, serial}
+use Rattle.ca_meaning.specs.Output.{Reply, output, reply_of, prints_text, trap_text, spent_text}
+use Rattle.ca_serial.specs.Runs.{prints_of}
 use Rattle.ca_symbolic.specs.declared.verdicts.Verdict.{Verdict}
 use Rattle.ca_words.specs.declared.Command.{Command}
 use Rattle.ca_words.specs.declared.Command.TheVariants.{Run, Pairs}
 use Rattle.ca_words.specs.Words.{Names}
 use Rattle.ca_words.proofs.OneCommand.{one_command}
-use Rattle.ca_app.specs.SmallForm.{SmallForm}
-use Rattle.ca_app.specs.Reply.{ProgramReplies, runs, pairs, CommandReplies, too_long, not_built, serves, Replies, usage, named, usage_reply, too_long_reply, not_built_reply, first_place}
+use Rattle.ca_small.specs.SmallForm.{is_small}
+use Rattle.ca_app.specs.Accepted.{BeginsAt}
+use Rattle.ca_app.specs.Refusals.{refusal_reply}
+use Rattle.ca_app.specs.Reading.{IsProgramOf, IsRefusalOf}
+use Rattle.ca_app.specs.Reply.{ProgramReplies, runs, pairs, not_built, CommandReplies, refuses, serves, Replies, usage, named, usage_reply, not_built_reply}
 use Rattle.ca_app.specs.Ends.{Ends, whole, write_fault, EndsWith, status_after}
 use Rattle.ca_app.specs.Pairs.{AreVerdicts, pairs_text}
 use Rattle.ca_app.proofs.OneVerdict.{one_list}
+use Rattle.ca_app.proofs.OneProgram.{one_start}
 use Rattle.ca_app.specs.Causes.{IsUsageFault}
 
 -- what came of writing a reply
@@ -31,42 +40,80 @@ after_seven before now (Ok x) status ended cause e other seven = absurd (other (
 after_seven before now (Err x) status ended cause e other seven = cause.failed
 
 module _ {command : Command} {text : List ℕ} {status : ℕ} {old now : Option (List ℕ)} where
-  pub ends_not_built : length text ≤ 1048576 → ((p : PlainProgram) → SmallForm text p → ⊥) → Ends (not_built_reply (first_place text)) status old now → EndsWith (CommandReplies command text) status old now
-  ends_not_built le refused ends = record { some = λ a b. (not_built_reply (first_place text), not_built le refused); each = each }
+  pub ends_refused : {at : Place} {code : ℕ} → IsRefusalOf text at code → Ends (refusal_reply at code) status old now → EndsWith (CommandReplies command text) status old now
+  ends_refused {at = p} {code = c} is ends = record { some = λ a b. (refusal_reply p c, refuses is.refused); each = each }
     where
       each : (reply : Reply) → CommandReplies command text reply → Ends reply status old now
-      each reply (too_long more) = absurd (omega arith)
-      each reply (not_built le' refused') = ends
-      each reply (serves {p = p} le' small replies) = absurd (refused p small)
+      each reply (refuses {at = q} {code = d} other) =
+          let P : Reply → Type 0 = λ r. Ends r status old now in
+          let reply_is : refusal_reply p c ≡ refusal_reply q d = sym (ap (λ x. refusal_reply x d) (is.place q d other) ∙ ap (λ x. refusal_reply p x) (is.number q d other)) in
+          subst P reply_is ends
+      each reply (serves accepted begins replies) = absurd (is.unaccepted _ accepted)
 
-  pub ends_too_long : 1048576 < length text → Ends too_long_reply status old now → EndsWith (CommandReplies command text) status old now
-  ends_too_long more ends = record { some = λ a b. (too_long_reply, too_long more); each = each }
+  pub ends_program : (p : PlainProgram) (at : Place) → IsProgramOf text p → BeginsAt text at → EndsWith (ProgramReplies at p command) status old now → EndsWith (CommandReplies command text) status old now
+  ends_program p at is begins ends = record { some = λ a b. let s = ends.some a b in (s.0, serves is.accepted begins s.1); each = each }
     where
       each : (reply : Reply) → CommandReplies command text reply → Ends reply status old now
-      each reply (too_long more') = ends
-      each reply (not_built le refused) = absurd (omega arith)
-      each reply (serves le small replies) = absurd (omega arith)
+      each reply (refuses {at = q} {code = d} refused) = absurd (is.unrefused q d refused)
+      each reply (serves {p = q} {at = other} accepted' begins' replies) =
+          let P : PlainProgram → Type 0 = λ x. ProgramReplies at x command reply in
+          let Q : Place → Type 0 = λ x. ProgramReplies x q command reply in
+          ends.each reply (subst P (is.only q accepted') (subst Q (one_start begins' begins) replies))
 
-  pub ends_program : (p : PlainProgram) → length text ≤ 1048576 → SmallForm text p → ((q : PlainProgram) → SmallForm text q → q ≡ p) → EndsWith (ProgramReplies p command) status old now → EndsWith (CommandReplies command text) status old now
-  ends_program p le small only ends = record { some = λ a b. let s = ends.some a b in (s.0, serves le small s.1); each = each }
-    where
-      each : (reply : Reply) → CommandReplies command text reply → Ends reply status old now
-      each reply (too_long more) = absurd (omega arith)
-      each reply (not_built le' refused) = absurd (refused p small)
-      each reply (serves {p = q} le' small' replies) = let P : PlainProgram → Type 0 = λ z. ProgramReplies z command reply in ends.each reply (subst P (only q small') replies)
+-- what a run replies begins with its prints
+abbrev rest_of_reply : PlainProgram → ℕ → Ended → List ℕ
+rest_of_reply p b (done prints heap steps) = heap_text p heap
+rest_of_reply p b (trapped prints t) = trap_text t
+rest_of_reply p b (spent prints) = spent_text b
 
-module _ {p : PlainProgram} {status : ℕ} {old now : Option (List ℕ)} where
-  pub ends_run : (workers budget : ℕ) → Ends (output p budget) status old now → EndsWith (ProgramReplies p (Run workers budget)) status old now
-  ends_run workers budget ends = record { some = λ a b. (output p budget, runs); each = each }
-    where
-      each : (reply : Reply) → ProgramReplies p (Run workers budget) reply → Ends reply status old now
-      each reply runs = ends
+prints_first : (p : PlainProgram) (b : ℕ) (e : Ended) → (reply_of p b e).bytes ≡ prints_text (prints_of e) ++ rest_of_reply p b e
+prints_first p b (done prints heap steps) = refl
+prints_first p b (trapped prints t) = refl
+prints_first p b (spent prints) = refl
 
-  pub ends_pairs : (vs : List Verdict) → AreVerdicts p vs → Ends (record { status = 0; bytes = pairs_text p vs }) status old now → EndsWith (ProgramReplies p Pairs) status old now
-  ends_pairs vs are ends = record { some = λ a b. (record { status = 0; bytes = pairs_text p vs }, pairs are); each = each }
-    where
-      each : (reply : Reply) → ProgramReplies p Pairs reply → Ends reply status old now
-      each reply (pairs {vs = ws} others) = let P : List Verdict → Type 0 = λ z. Ends (record { status = 0; bytes = pairs_text p z }) status old now in subst P (one_list p vs ws are others) ends
+-- a run whose prints, or a beginning of them, were written, has begun its reply
+pub begun_run : (p : PlainProgram) (b : ℕ) (old now : Option (List ℕ)) → Began old now (prints_text (prints_of (serial p b))) → Began old now (output p b).bytes
+begun_run p b old now begun =
+    let P : List ℕ → Type 0 = λ bytes. Began old now bytes in
+    subst P (sym (prints_first p b (serial p b))) (began_more old now (prints_text (prints_of (serial p b))) (rest_of_reply p b (serial p b)) begun)
+
+-- what came of writing what a run that ends so replies behind its prints
+pub ends_run_written : {T E : Type 0} (p : PlainProgram) (b : ℕ) (e : Ended) (r : Result T E) (status ended : ℕ) (rest : List ℕ) (old mid now : Option (List ℕ))
+    → serial p b ≡ e → reply_of p b e ≡ record { status = status; bytes = prints_text (prints_of e) ++ rest }
+    → mid ≡ grown old (prints_text (prints_of e)) → Writes mid now r rest → ended ≡ status_after r status → Ends (output p b) ended old now
+ends_run_written p b e r status ended rest old mid now is reply told written status_is =
+    let P : Reply → Type 0 = λ reply. Ends reply ended old now in
+    let output_is : output p b ≡ reply_of p b e = ap (reply_of p b) is in
+    subst P (sym (output_is ∙ reply))
+    (ends_written r status ended (prints_text (prints_of e) ++ rest) old now (writes_after old mid now r (prints_text (prints_of e)) rest told written) status_is)
+
+-- what each command replies to a program, as what it has to be
+run_is : (at : Place) (p : PlainProgram) (workers budget : ℕ) (reply : Reply) → ProgramReplies at p (Run workers budget) reply → reply ≡ output p budget
+run_is at p workers budget reply runs = refl
+
+pairs_are : (at : Place) (p : PlainProgram) (vs : List Verdict) (reply : Reply) → is_small p ≡ true → AreVerdicts p vs → ProgramReplies at p Pairs reply → reply ≡ record { status = 0; bytes = pairs_text p vs }
+pairs_are at p vs reply small are (pairs {vs = ws} small' others) = let P : List Verdict → Reply = λ z. record { status = 0; bytes = pairs_text p z } in sym (ap P (one_list p vs ws are others))
+pairs_are at p vs reply small are (not_built large) = absurd cc
+
+not_built_is : (at : Place) (p : PlainProgram) (reply : Reply) → is_small p ≡ false → ProgramReplies at p Pairs reply → reply ≡ not_built_reply at
+not_built_is at p reply large (pairs small are) = absurd cc
+not_built_is at p reply large (not_built large') = refl
+
+module _ {status : ℕ} {old now : Option (List ℕ)} where
+  only_reply : (replies : Reply → Type 0) (is : Reply) → replies is → ((reply : Reply) → replies reply → reply ≡ is) → Ends is status old now → EndsWith replies status old now
+  only_reply replies is one only ends = record {
+    some = λ a b. (is, one);
+    each = λ reply this. let P : Reply → Type 0 = λ r. Ends r status old now in subst P (sym (only reply this)) ends;
+  }
+
+  pub ends_not_built : (at : Place) (p : PlainProgram) → is_small p ≡ false → Ends (not_built_reply at) status old now → EndsWith (ProgramReplies at p Pairs) status old now
+  ends_not_built at p large = only_reply _ _ (not_built large) (λ reply this. not_built_is at p reply large this)
+
+  pub ends_run : (at : Place) (p : PlainProgram) (workers budget : ℕ) → Ends (output p budget) status old now → EndsWith (ProgramReplies at p (Run workers budget)) status old now
+  ends_run at p workers budget = only_reply _ _ runs (λ reply this. run_is at p workers budget reply this)
+
+  pub ends_pairs : (at : Place) (p : PlainProgram) (vs : List Verdict) → is_small p ≡ true → AreVerdicts p vs → Ends (record { status = 0; bytes = pairs_text p vs }) status old now → EndsWith (ProgramReplies at p Pairs) status old now
+  ends_pairs at p vs small are = only_reply _ _ (pairs small are) (λ reply this. pairs_are at p vs reply small are this)
 
 module _ {words : List (List ℕ)} {text : List ℕ} {status : ℕ} {old now : Option (List ℕ)} where
   pub ends_usage : IsUsageFault words → Ends usage_reply status old now → EndsWith (Replies words text) status old now

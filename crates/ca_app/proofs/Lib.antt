@@ -1,7 +1,8 @@
 pub mod Endings
+mod Examples
 pub mod ExtentTexts
-mod FirstProgram
 pub mod LineLemmas
 pub mod OneProgram
+pub mod OneRefusal
 pub mod OneVerdict
 pub mod StatusLemmas

@@ -1,30 +1,29 @@
--- A text has one program at most.
-use Rattle.std.proofs.Common.{◌≡◌, ℕ, List, subst, ap, ◌∙◌}
+-- A text has one list of tokens, and one program where it has one tree, and it begins at one place.
+use Rattle.std.proofs.Common.{◌≡◌, ℕ, List, subst, ap, sym, ◌∙◌}
+use Rattle.ca_tree.specs.declared.name.Place.{Place}
 use Rattle.ca_tree.specs.declared.token.Token.{Token}
 use Rattle.ca_tree.specs.Plain.{TextTree}
 use Rattle.ca_program.specs.Plain.{PlainProgram}
-use Rattle.ca_lex.specs.Tokens.{Uncommented}
 use Rattle.ca_lex.proofs.Derivations.{one_list}
-use Rattle.ca_parse.specs.Grammar.{Derives}
-use Rattle.ca_types.specs.Judged.{fine}
-use Rattle.ca_types.specs.Resolve.{judge, PutsFields}
-use Rattle.ca_app.specs.SmallForm.{SmallForm}
+use Rattle.ca_parse.specs.Grammar.{DerivesWithin}
+use Rattle.ca_resolve.specs.Judged.{fine}
+use Rattle.ca_types.specs.Classes.{judge}
+use Rattle.ca_app.specs.Accepted.{HasTokens, HasTree, Accepted, BeginsAt, token_place}
+use Rattle.ca_app.specs.Reading.{HasOneTree}
 
-module _ {text : List ℕ} {tokens : List Token} (lexed : Uncommented text tokens) where
-  -- these tokens derive its tree
-  derived : (q : PlainProgram) → (s : SmallForm text q) → Derives tokens s.tree
-  derived q s = let P : List Token → Type 0 = λ ts. Derives ts s.tree in subst P (one_list s.lexed tokens lexed) s.derived
+pub one_tokens : {text : List ℕ} {a b : List Token} → HasTokens text a → HasTokens text b → a ≡ b
+one_tokens {b = b} s t = one_list s.lexed b t.lexed
 
-  -- where the tokens derive no tree, it has none
-  pub no_tree : ((x : TextTree) → Derives tokens x → ⊥) → (q : PlainProgram) → SmallForm text q → ⊥
-  no_tree none q s = none s.tree (derived q s)
+-- the tree, derived by the other tokens
+pub derived_by : {text : List ℕ} {tokens : List Token} {tree : TextTree} → HasTokens text tokens → HasTree text tree → DerivesWithin tokens tree
+derived_by {tree = tree} s t = let P : List Token → Type 0 = λ ts. DerivesWithin ts tree in subst P (one_tokens t.has_tokens s) t.derived
 
-  -- where this is the only tree, its program is that of the tree
-  pub of_tree : (tree : TextTree) → ((x : TextTree) → Derives tokens x → tree ≡ x) → (q : PlainProgram) → SmallForm text q → judge tree ≡ fine q
-  of_tree tree only q s = ap judge (only s.tree (derived q s)) ∙ s.resolved
+-- where this is the only tree, its program is the only one
+pub one_program : {text : List ℕ} {tree : TextTree} {p : PlainProgram} → HasOneTree text tree → judge tree ≡ fine p → (q : PlainProgram) → Accepted text q → q ≡ p
+one_program {tree = tree} {p = p} t is q s =
+    let same : judge s.tree ≡ judge tree = ap judge (t.only s.tree s.has_tree) in
+    let both : fine q ≡ fine p = sym s.resolved ∙ (same ∙ is) in
+    cc
 
-  pub one_program : (tree : TextTree) → ((x : TextTree) → Derives tokens x → tree ≡ x) → (p q : PlainProgram) → judge tree ≡ fine p → SmallForm text q → q ≡ p
-  one_program tree only p q is s = let other : judge tree ≡ fine q = of_tree tree only q s in cc
-
-  pub no_program : (tree : TextTree) → ((x : TextTree) → Derives tokens x → tree ≡ x) → ((p : PlainProgram) → judge tree ≡ fine p → PutsFields p → ⊥) → (q : PlainProgram) → SmallForm text q → ⊥
-  no_program tree only none q s = none q (of_tree tree only q s) s.puts
+pub one_start : {text : List ℕ} {p q : Place} → BeginsAt text p → BeginsAt text q → p ≡ q
+one_start {text = text} s t = s.first ∙ (ap (λ ts. token_place text ts 0) (one_list s.lexed t.tokens t.lexed) ∙ sym t.first)

@@ -1,105 +1,201 @@
 -- What each status says of the reply that was given.
-use Rattle.std.proofs.Common.{◌≡◌, ℕ, ◌<◌, ◌⊎◌, List, length, Option, refl, sym, ◌∙◌, arith, inl, inr}
+use Rattle.std.proofs.Common.{◌≡◌, ℕ, ◌⊎◌, Bool, true, false, List, Option, Some, refl, sym, ◌∙◌, subst, arith, inl, inr}
+use Rattle.ca_tree.specs.declared.name.Place.{Place}
+use Rattle.std.specs.Prelude.{slice_get}
+use Rattle.ca_base.specs.Devices.{grown}
+use Rattle.ca_program.specs.declared.program.FieldId.{FieldId}
 use Rattle.ca_program.specs.Plain.{PlainProgram}
-use Rattle.ca_model.specs.Output.{Reply, reply_of}
-use Rattle.ca_model.specs.Serial.{Ended, goes_on, trapped, spent, serial}
-use Rattle.ca_app.specs.Reply.{runs, pairs, too_long, not_built, serves, Replies, usage, named}
+use Rattle.ca_small.specs.SmallForm.{is_small}
+use Rattle.ca_small.proofs.Typed.{small_is_typed}
+use Rattle.ca_meaning.specs.Output.{Reply, reply_of}
+use Rattle.ca_meaning.specs.Serial.{Ended, done, trapped, spent, serial}
+use Rattle.ca_meaning.specs.Commuting.{Commutes as DoCommute}
+use Rattle.ca_symbolic.specs.declared.verdicts.Verdict.{Verdict}
+use Rattle.ca_symbolic.specs.declared.verdicts.Verdict.TheVariants.{Commutes}
+use Rattle.ca_symbolic.proofs.Pairs.{commutes_from_verdict}
+use Rattle.ca_app.specs.Refusals.{is_limit_code, refusal_status}
+use Rattle.ca_words.specs.declared.Command.{Command}
+use Rattle.ca_words.specs.declared.Command.TheVariants.{Run, Pairs}
+use Rattle.ca_words.specs.Words.{Names}
+use Rattle.ca_app.specs.Accepted.{Accepted}
+use Rattle.ca_app.specs.Reply.{ProgramReplies, runs, pairs, not_built, refuses, serves, Replies, usage, named}
+use Rattle.ca_app.specs.Pairs.{AreVerdicts, pairs_text}
 use Rattle.ca_app.specs.Ends.{Ends, whole, no_memory, read_fault, write_fault, EndsWith, Complete}
-use Rattle.ca_app.specs.Causes.{IsNotBuilt, RunEnds, PairsEnd, IsDone, IsTrapped, IsSpent}
+use Rattle.ca_app.specs.Causes.{IsRefused, IsNotBuilt, RunEnds, PairsEnd, IsDone, IsTrapped, IsSpent}
 
--- but for the statuses of memory and devices, the status is that of the reply
-status_of : {replies : Reply → Type 0} {status : ℕ} {old now : Option (List ℕ)} → EndsWith replies status old now
-    → (status ≡ 5 → ⊥) → (status ≡ 6 → ⊥) → (status ≡ 7 → ⊥) → (reply : Reply) × replies reply × (status ≡ reply.status)
-status_of {replies = replies} {status = status} {old = old} {now = now} ends a b c =
-    let s = ends.some a b in (s.0, s.1, at (ends.each s.0 s.1))
+-- A reply that was given whole.
+record Given (replies : Reply → Type 0) (status : ℕ) (old now : Option (List ℕ)) : Type 0 where
+  pub reply : Reply
+  pub is_one : replies reply
+  pub same : status ≡ reply.status
+  pub bytes : now ≡ grown old reply.bytes
+
+-- but for the statuses of memory and devices, the reply was given whole
+given : {replies : Reply → Type 0} {status : ℕ} {old now : Option (List ℕ)} → EndsWith replies status old now
+    → (status ≡ 5 → ⊥) → (status ≡ 6 → ⊥) → (status ≡ 7 → ⊥) → Given replies status old now
+given {replies = replies} {status = status} {old = old} {now = now} ends a b c =
+    let s = ends.some a b in at s.1 (ends.each s.0 s.1)
   where
-    at : {reply : Reply} → Ends reply status old now → status ≡ reply.status
-    at (whole e w) = e
-    at (no_memory e w) = absurd (a e)
-    at (read_fault e w) = absurd (b e)
-    at (write_fault e w) = absurd (c e)
+    at : {reply : Reply} → replies reply → Ends reply status old now → Given replies status old now
+    at {reply} is (whole e w) = record { reply = reply; is_one = is; same = e; bytes = w }
+    at is (no_memory e w) = absurd (a e)
+    at is (read_fault e w) = absurd (b e)
+    at is (write_fault e w) = absurd (c e)
+
+-- the status of a refusal says whether its code is that of a limit
+kind_of : (limit b : Bool) → refusal_status limit ≡ refusal_status b → b ≡ limit
+kind_of true true e = refl
+kind_of true false e = absurd (omega arith)
+kind_of false true e = absurd (omega arith)
+kind_of false false e = refl
+
+-- operations of which the verdict says that they commute do so
+do_commute : (p : PlainProgram) (vs : List Verdict) → is_small p ≡ true → AreVerdicts p vs → (n : ℕ) → slice_get vs n ≡ Some Commutes
+    → (written : List FieldId) → DoCommute p written (record { 0 = n }) (record { 0 = n })
+do_commute p vs small are n here written = commutes_from_verdict p (small_is_typed p small) written (record { 0 = n }) (record { 0 = n }) Commutes (are.each n Commutes here) refl
+
+-- how a run ends, by its status
+done_end : (p : PlainProgram) (b : ℕ) (end : Ended) → 0 ≡ (reply_of p b end).status → IsDone end
+done_end p b (done prints heap steps) e = (prints, heap, steps, refl)
+done_end p b (trapped prints t) e = absurd (omega arith)
+done_end p b (spent prints) e = absurd (omega arith)
+
+trapped_end : (p : PlainProgram) (b : ℕ) (end : Ended) → 3 ≡ (reply_of p b end).status → IsTrapped end
+trapped_end p b (done prints heap steps) e = absurd (omega arith)
+trapped_end p b (trapped prints t) e = (prints, t, refl)
+trapped_end p b (spent prints) e = absurd (omega arith)
+
+spent_end : (p : PlainProgram) (b : ℕ) (end : Ended) → 4 ≡ (reply_of p b end).status → IsSpent end
+spent_end p b (done prints heap steps) e = absurd (omega arith)
+spent_end p b (trapped prints t) e = absurd (omega arith)
+spent_end p b (spent prints) e = (prints, refl)
+
+refusals_end : (p : PlainProgram) (b : ℕ) (end : Ended) → ((reply_of p b end).status ≡ 1 → ⊥) × ((reply_of p b end).status ≡ 8 → ⊥)
+refusals_end p b (done prints heap steps) = (λ e. omega arith, λ e. omega arith)
+refusals_end p b (trapped prints t) = (λ e. omega arith, λ e. omega arith)
+refusals_end p b (spent prints) = (λ e. omega arith, λ e. omega arith)
+
+-- The command is a run, which replies with this status.
+record IsRun (p : PlainProgram) (command : Command) (status : ℕ) : Type 0 where
+  pub workers : ℕ
+  pub budget : ℕ
+  pub is : command ≡ Run workers budget
+  pub same : status ≡ (reply_of p budget (serial p budget)).status
+
+-- The command is `pairs`, and these are the verdicts and what was written of them.
+record IsPairs (p : PlainProgram) (command : Command) (old now : Option (List ℕ)) : Type 0 where
+  pub verdicts : List Verdict
+  pub is : command ≡ Pairs
+  pub small : is_small p ≡ true
+  pub are : AreVerdicts p verdicts
+  pub bytes : now ≡ grown old (pairs_text p verdicts)
+
+-- what a command replied to a program, by its status
+not_built_at : (at : Place) (p : PlainProgram) (command : Command) (reply : Reply) → ProgramReplies at p command reply → 1 ≡ reply.status → (command ≡ Pairs) × (is_small p ≡ false)
+not_built_at at p command reply (runs {budget = b}) e = absurd ((refusals_end p b (serial p b)).0 (sym e))
+not_built_at at p command reply (pairs small are) e = absurd (omega arith)
+not_built_at at p command reply (not_built large) e = (refl, large)
+
+no_limit_at : (at : Place) (p : PlainProgram) (command : Command) (reply : Reply) → ProgramReplies at p command reply → 8 ≡ reply.status → ⊥
+no_limit_at at p command reply (runs {budget = b}) e = (refusals_end p b (serial p b)).1 (sym e)
+no_limit_at at p command reply (pairs small are) e = omega arith
+no_limit_at at p command reply (not_built large) e = omega arith
+
+run_at : (at : Place) (p : PlainProgram) (command : Command) (reply : Reply) (status : ℕ) → (status ≡ 0 → ⊥) → (status ≡ 1 → ⊥)
+    → ProgramReplies at p command reply → status ≡ reply.status → IsRun p command status
+run_at at p command reply status zero one (runs {workers = w} {budget = b}) e = record { workers = w; budget = b; is = refl; same = e }
+run_at at p command reply status zero one (pairs small are) e = absurd (zero e)
+run_at at p command reply status zero one (not_built large) e = absurd (one e)
+
+done_at : (at : Place) (p : PlainProgram) (command : Command) (reply : Reply) (old now : Option (List ℕ))
+    → ProgramReplies at p command reply → 0 ≡ reply.status → now ≡ grown old reply.bytes → IsRun p command 0 ⊎ IsPairs p command old now
+done_at at p command reply old now (runs {workers = w} {budget = b}) e told = inl (record { workers = w; budget = b; is = refl; same = e })
+done_at at p command reply old now (pairs {vs = vs} small are) e told = inr (record { verdicts = vs; is = refl; small = small; are = are; bytes = told })
+done_at at p command reply old now (not_built large) e told = absurd (omega arith)
 
 module _ {words : List (List ℕ)} {text : List ℕ} where
-  -- a reply with this status comes of the run
-  not_built_status : {reply : Reply} → Replies words text reply → 1 ≡ reply.status → IsNotBuilt text
-  not_built_status (usage fault) e = absurd (omega arith)
-  not_built_status (named names (too_long more)) e = absurd (omega arith)
-  not_built_status (named names (not_built le refused)) e = (le, refused)
-  not_built_status (named names (serves le small (pairs are))) e = absurd (omega arith)
-  not_built_status (named names (serves {p = p} le small (runs {budget = b}))) e = at (serial p b) e
-    where
-      at : (end : Ended) → 1 ≡ (reply_of p b end).status → IsNotBuilt text
-      at (goes_on s) e = absurd (omega arith)
-      at (trapped t) e = absurd (omega arith)
-      at spent e = absurd (omega arith)
+  run_ends : (status : ℕ) (End : Ended → Type 0) {p : PlainProgram} {command : Command}
+      → ((p : PlainProgram) (b : ℕ) (end : Ended) → status ≡ (reply_of p b end).status → End end)
+      → Names words command → Accepted text p → IsRun p command status → RunEnds words text End
+  run_ends status End {p} ends names accepted run = record {
+    workers = run.workers;
+    budget = run.budget;
+    program = p;
+    named = let P : Command → Type 0 = λ c. Names words c in subst P run.is names;
+    accepted = accepted;
+    ends = ends p run.budget (serial p run.budget) run.same;
+  }
 
-  too_long_status : {reply : Reply} → Replies words text reply → 8 ≡ reply.status → 1048576 < length text
-  too_long_status (usage fault) e = absurd (omega arith)
-  too_long_status (named names (too_long more)) e = more
-  too_long_status (named names (not_built le refused)) e = absurd (omega arith)
-  too_long_status (named names (serves le small (pairs are))) e = absurd (omega arith)
-  too_long_status (named names (serves {p = p} le small (runs {budget = b}))) e = at (serial p b) e
-    where
-      at : (end : Ended) → 8 ≡ (reply_of p b end).status → 1048576 < length text
-      at (goes_on s) e = absurd (omega arith)
-      at (trapped t) e = absurd (omega arith)
-      at spent e = absurd (omega arith)
+  error_status : {reply : Reply} → Replies words text reply → 1 ≡ reply.status → IsRefused false text ⊎ IsNotBuilt words text
+  error_status (usage fault) e = absurd (omega arith)
+  error_status (named names (refuses {at = at} {code = code} refused)) e =
+      inl (record { at = at; code = code; refused = refused; kind = kind_of false (is_limit_code code) e })
+  error_status (named {command = command} {reply = reply} names (serves {p = p} {at = at} accepted begins replies)) e =
+      let is = not_built_at at p command reply replies e in
+      inr (record { named = let P : Command → Type 0 = λ c. Names words c in subst P is.0 names; program = p; accepted = accepted; large = is.1 })
+
+  limit_status : {reply : Reply} → Replies words text reply → 8 ≡ reply.status → IsRefused true text
+  limit_status (usage fault) e = absurd (omega arith)
+  limit_status (named names (refuses {at = at} {code = code} refused)) e =
+      record { at = at; code = code; refused = refused; kind = kind_of true (is_limit_code code) e }
+  limit_status (named {command = command} {reply = reply} names (serves {p = p} {at = at} accepted begins replies)) e =
+      absurd (no_limit_at at p command reply replies e)
 
   -- the end of the run is the one with this status
   run_status : (status : ℕ) (End : Ended → Type 0) → (status ≡ 0 → ⊥) → (status ≡ 1 → ⊥) → (status ≡ 2 → ⊥) → (status ≡ 8 → ⊥)
       → ((p : PlainProgram) (b : ℕ) (end : Ended) → status ≡ (reply_of p b end).status → End end)
       → {reply : Reply} → Replies words text reply → status ≡ reply.status → RunEnds words text End
   run_status status End zero one two eight ends (usage fault) e = absurd (two e)
-  run_status status End zero one two eight ends (named names (too_long more)) e = absurd (eight e)
-  run_status status End zero one two eight ends (named names (not_built le refused)) e = absurd (one e)
-  run_status status End zero one two eight ends (named names (serves le small (pairs are))) e = absurd (zero e)
-  run_status status End zero one two eight ends (named names (serves {p = p} le small (runs {workers = w} {budget = b}))) e =
-      record { workers = w; budget = b; program = p; named = names; accepted = small; ends = ends p b (serial p b) e }
+  run_status status End zero one two eight ends (named names (refuses {code = code} refused)) e = absurd (at (is_limit_code code) e)
+    where
+      at : (b : Bool) → status ≡ refusal_status b → ⊥
+      at true e = eight e
+      at false e = one e
+  run_status status End zero one two eight ends (named {command = command} {reply = reply} names (serves {p = p} {at = at} accepted begins replies)) e =
+      run_ends status End ends names accepted (run_at at p command reply status zero one replies e)
 
   -- the end of status 0 is that of a run, or of pairs
-  done_status : ((p : PlainProgram) (b : ℕ) (end : Ended) → 0 ≡ (reply_of p b end).status → IsDone end)
-      → {reply : Reply} → Replies words text reply → 0 ≡ reply.status → RunEnds words text IsDone ⊎ PairsEnd words text
-  done_status ends (usage fault) e = absurd (omega arith)
-  done_status ends (named names (too_long more)) e = absurd (omega arith)
-  done_status ends (named names (not_built le refused)) e = absurd (omega arith)
-  done_status ends (named names (serves {p = p} le small (pairs {vs = vs} are))) e =
-      inr (record { program = p; verdicts = vs; named = names; accepted = small; verdicts_are = are })
-  done_status ends (named names (serves {p = p} le small (runs {workers = w} {budget = b}))) e =
-      inl (record { workers = w; budget = b; program = p; named = names; accepted = small; ends = ends p b (serial p b) e })
-
-done_end : (p : PlainProgram) (b : ℕ) (end : Ended) → 0 ≡ (reply_of p b end).status → IsDone end
-done_end p b (goes_on s) e = (s, refl)
-done_end p b (trapped t) e = absurd (omega arith)
-done_end p b spent e = absurd (omega arith)
-
-trapped_end : (p : PlainProgram) (b : ℕ) (end : Ended) → 3 ≡ (reply_of p b end).status → IsTrapped end
-trapped_end p b (goes_on s) e = absurd (omega arith)
-trapped_end p b (trapped t) e = (t, refl)
-trapped_end p b spent e = absurd (omega arith)
-
-spent_end : (p : PlainProgram) (b : ℕ) (end : Ended) → 4 ≡ (reply_of p b end).status → IsSpent end
-spent_end p b (goes_on s) e = absurd (omega arith)
-spent_end p b (trapped t) e = absurd (omega arith)
-spent_end p b spent e = refl
+  done_status : {old now : Option (List ℕ)} {reply : Reply} → Replies words text reply → 0 ≡ reply.status → now ≡ grown old reply.bytes
+      → RunEnds words text IsDone ⊎ PairsEnd words text old now
+  done_status (usage fault) e told = absurd (omega arith)
+  done_status (named names (refuses {code = code} refused)) e told = absurd (at (is_limit_code code) e)
+    where
+      at : (b : Bool) → 0 ≡ refusal_status b → ⊥
+      at true e = omega arith
+      at false e = omega arith
+  done_status {old} {now} (named {command = command} {reply = reply} names (serves {p = p} {at = at} accepted begins replies)) e told =
+      ends (done_at at p command reply old now replies e told)
+    where
+      ends : IsRun p command 0 ⊎ IsPairs p command old now → RunEnds words text IsDone ⊎ PairsEnd words text old now
+      ends (inl run) = inl (run_ends 0 IsDone done_end names accepted run)
+      ends (inr is) = inr (record {
+        program = p;
+        verdicts = is.verdicts;
+        named = let P : Command → Type 0 = λ c. Names words c in subst P is.is names;
+        accepted = accepted;
+        verdicts_are = is.are;
+        bytes = is.bytes;
+        commute = do_commute p is.verdicts is.small is.are;
+      })
 
 module _ {words : List (List ℕ)} {text : List ℕ} {status : ℕ} {old now : Option (List ℕ)} (headline : EndsWith (Replies words text) status old now) where
-  pub when_0 : status ≡ 0 → RunEnds words text IsDone ⊎ PairsEnd words text
-  when_0 is = let s = status_of headline (λ e. omega arith) (λ e. omega arith) (λ e. omega arith) in
-      done_status done_end s.1 (sym is ∙ s.2)
+  pub when_0 : status ≡ 0 → RunEnds words text IsDone ⊎ PairsEnd words text old now
+  when_0 is = let s = given headline (λ e. omega arith) (λ e. omega arith) (λ e. omega arith) in
+      done_status s.is_one (sym is ∙ s.same) s.bytes
 
-  pub when_1 : status ≡ 1 → IsNotBuilt text
-  when_1 is = let s = status_of headline (λ e. omega arith) (λ e. omega arith) (λ e. omega arith) in not_built_status s.1 (sym is ∙ s.2)
+  pub when_1 : status ≡ 1 → IsRefused false text ⊎ IsNotBuilt words text
+  when_1 is = let s = given headline (λ e. omega arith) (λ e. omega arith) (λ e. omega arith) in error_status s.is_one (sym is ∙ s.same)
 
   pub when_3 : status ≡ 3 → RunEnds words text IsTrapped
-  when_3 is = let s = status_of headline (λ e. omega arith) (λ e. omega arith) (λ e. omega arith) in
-      run_status 3 IsTrapped (λ e. omega arith) (λ e. omega arith) (λ e. omega arith) (λ e. omega arith) trapped_end s.1 (sym is ∙ s.2)
+  when_3 is = let s = given headline (λ e. omega arith) (λ e. omega arith) (λ e. omega arith) in
+      run_status 3 IsTrapped (λ e. omega arith) (λ e. omega arith) (λ e. omega arith) (λ e. omega arith) trapped_end s.is_one (sym is ∙ s.same)
 
   pub when_4 : status ≡ 4 → RunEnds words text IsSpent
-  when_4 is = let s = status_of headline (λ e. omega arith) (λ e. omega arith) (λ e. omega arith) in
-      run_status 4 IsSpent (λ e. omega arith) (λ e. omega arith) (λ e. omega arith) (λ e. omega arith) spent_end s.1 (sym is ∙ s.2)
+  when_4 is = let s = given headline (λ e. omega arith) (λ e. omega arith) (λ e. omega arith) in
+      run_status 4 IsSpent (λ e. omega arith) (λ e. omega arith) (λ e. omega arith) (λ e. omega arith) spent_end s.is_one (sym is ∙ s.same)
 
-  pub when_8 : status ≡ 8 → 1048576 < length text
-  when_8 is = let s = status_of headline (λ e. omega arith) (λ e. omega arith) (λ e. omega arith) in too_long_status s.1 (sym is ∙ s.2)
+  pub when_8 : status ≡ 8 → IsRefused true text
+  when_8 is = let s = given headline (λ e. omega arith) (λ e. omega arith) (λ e. omega arith) in limit_status s.is_one (sym is ∙ s.same)
 
   -- where no device failed, only memory can have been wanting
   pub completely : (status ≡ 6 → ⊥) → (status ≡ 7 → ⊥) → (reply : Reply) → Replies words text reply → Complete reply status old now

@@ -1,7 +1,7 @@
 -- How a call ends. `old` and `now` are the bytes that the sink tells before and after it.
 use Rattle.std.specs.Prelude.{ℕ, ◌≡◌, ◌≤◌, ◌⊎◌, List, Option, Result, Ok, Err}
 use Rattle.ca_base.specs.Devices.{Rose, grown, Began}
-use Rattle.ca_model.specs.Output.{Reply}
+use Rattle.ca_meaning.specs.Output.{Reply}
 
 -- The reply was given whole; or memory was wanting, a read failed or a write failed, and the status says which.
 pub data Ends (reply : Reply) (status : ℕ) (old now : Option (List ℕ)) : Type 0 where

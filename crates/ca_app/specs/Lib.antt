@@ -1,7 +1,8 @@
-pub mod SmallForm
+pub mod Accepted
+pub mod Lines
+pub mod Refusals
 pub mod Pairs
 pub mod Reply
 pub mod Ends
 pub mod Causes
-pub mod Lines
-pub mod Means
+pub mod Reading

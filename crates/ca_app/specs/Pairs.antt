@@ -1,6 +1,5 @@
 -- What `pairs` writes: for each operation its extent, which is the operation itself, and the verdict on its one pair.
 use Rattle.std.specs.Prelude.{ℕ, ◌≡◌, List, [], ◌∷◌, ◌++◌, length, Option, Some, None, slice_get, codes}
-use Rattle.std.specs.List.{flat_map}
 use Rattle.ca_program.specs.declared.program.FieldInfo.{FieldInfo}
 use Rattle.ca_program.specs.Plain.{PlainProgram, PlainMethod, PlainClass}
 use Rattle.ca_model.specs.Heaps.{fields_of}
@@ -8,6 +7,7 @@ use Rattle.ca_symbolic.specs.declared.verdicts.Verdict.{Verdict}
 use Rattle.ca_symbolic.specs.declared.verdicts.Verdict.TheVariants.{Commutes, Unproved}
 use Rattle.ca_symbolic.specs.declared.verdicts.Reason.TheVariants.{Large, FieldDiffers}
 use Rattle.ca_symbolic.specs.Verdicts.{VerdictOf}
+use Rattle.ca_app.specs.Lines.{in_a_row}
 
 abbrev pub class_name : Option PlainClass → List ℕ
 class_name None = []
@@ -27,10 +27,6 @@ abbrev pub verdict_field : PlainProgram → Verdict → List ℕ
 verdict_field p Commutes = []
 verdict_field p (Unproved Large) = []
 verdict_field p (Unproved (FieldDiffers f x y)) = field_name (slice_get (fields_of (slice_get p.classes f.class.0)) f.field)
-
--- texts, one behind the other
-abbrev pub in_a_row : List (List ℕ) → List ℕ
-in_a_row texts = flat_map (λ text. text) texts
 
 -- the line of an extent, and that of its pair; an operation is written C::m
 abbrev pub extent_text : PlainProgram → PlainMethod → Verdict → List ℕ

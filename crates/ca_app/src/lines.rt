@@ -1,38 +1,15 @@
-//! The lines that stand alone: refusals, traps and the spent budget.
+//! The lines that stand alone.
 
 ghost use Rattle.std.specs.Prelude.{◌≡◌};
 ghost use Rattle.ca_base.specs.Devices.{HasCause, Writes};
 ghost use Rattle.ca_model.specs.Lines.{Adds};
-ghost use Rattle.ca_model.specs.Output.{trap_text, spent_text, kind_text};
-ghost use Rattle.ca_app.specs.Reply.{not_built_reply};
+ghost use Rattle.ca_meaning.specs.Output.{trap_text, spent_text, kind_text};
 ghost use Rattle.ca_app.specs.Lines.{joined};
 
 use ca_base::{Failed, Sink};
 use ca_model::line::Line;
 use ca_model::{Trap, TrapKind};
-use ca_tree::Place;
 use itoa::Buffer;
-
-/// Writes the line that refuses a text which is not of the small form.
-pub fn write_not_built<K: Sink>(at: Place, sink: &mut K) -> Result<(), Failed>
-    ensures bytes { Writes (K.written sink.old) (K.written sink.new) result (not_built_reply at).bytes }
-    ensures cause { HasCause (K.faults sink.old) (K.faults sink.new) result }
-{
-    let mut line = Buffer::new();
-    let line = line.format(at.line);
-    let mut column = Buffer::new();
-    let column = column.format(at.column);
-    write_line(
-        &[
-            b"error ",
-            line.as_bytes(),
-            b":",
-            column.as_bytes(),
-            b" E00\n",
-        ],
-        sink,
-    )
-}
 
 /// Writes the line of a trap.
 pub fn write_trap<K: Sink>(trap: Trap, sink: &mut K) -> Result<(), Failed>
@@ -76,7 +53,7 @@ fn kind_name(kind: TrapKind) -> &'static str
 }
 
 /// Writes the parts of a line, one behind the other.
-fn write_line<K: Sink>(parts: &[&[u8]], sink: &mut K) -> Result<(), Failed>
+pub fn write_line<K: Sink>(parts: &[&[u8]], sink: &mut K) -> Result<(), Failed>
     ensures bytes { Writes (K.written sink.old) (K.written sink.new) result (joined parts.now) }
     ensures cause { HasCause (K.faults sink.old) (K.faults sink.new) result }
 {

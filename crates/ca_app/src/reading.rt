@@ -1,43 +1,109 @@
 //! From a text to its program.
 
-ghost use Rattle.std.specs.Prelude.{◌≡◌, ◌≤◌, ◌^◌, length, IfOk, Err};
+ghost use Rattle.std.specs.Prelude.{◌≡◌, ◌≤◌, length, IfOk};
+ghost use Rattle.std.specs.Result.{IfErr};
+ghost use Rattle.ca_tree.specs.View.{tree_view};
 ghost use Rattle.ca_program.specs.View.{program_view};
-ghost use Rattle.ca_program.specs.Plain.{PlainProgram};
-ghost use Rattle.ca_app.specs.SmallForm.{SmallForm};
+ghost use Rattle.ca_app.specs.Accepted.{HasTokens, BeginsAt, token_place};
+ghost use Rattle.ca_app.specs.Reading.{HasOneTree, IsProgramOf, IsCauseFor};
 
-use ca_lex::{LexError, lex};
+use crate::refusals::Refusal;
+use ca_lex::{LexError, end_place, lex};
 use ca_parse::{ParseError, parse};
 use ca_program::Program;
-use ca_types::{CheckError, check};
+use ca_resolve::{CheckError, Code};
+use ca_tree::{Place, Token, Tree};
+use ca_types::check;
 use std::alloc::Global;
 
-/// Why a text has no program: it is not of the small form, or memory is wanting.
+/// A byte that is part of no token.
+const NO_TOKEN: Code = Code(1);
+/// A number that is too great.
+const TOO_GREAT: Code = Code(2);
+/// A token too many.
+const TOO_MANY: Code = Code(3);
+/// A token that the grammar doesn't allow.
+const WRONG_TOKEN: Code = Code(10);
+/// A token that is nested too deeply.
+const TOO_DEEP: Code = Code(11);
+
+/// Why a text has no program: it is refused, or memory is wanting.
 #[derive(Clone, Copy, PartialEq, Eq, Debug)]
-pub enum Refused {
-    NotBuilt,
+pub enum NoProgram {
+    Refused(Refusal),
     Memory,
 }
 
-/// The program of a text of the small form.
-pub fn program_of(alloc: Global, text: &[u8]) -> Result<Program, Refused>
-    requires { length text.now ≤ 2 ^ 30 }
-    ensures program { IfOk result (λ p. SmallForm text.now (program_view p)) }
-    ensures only { IfOk result (λ p. (q : PlainProgram) → SmallForm text.now q → q ≡ program_view p) }
-    ensures not_built { result ≡ Err Refused.NotBuilt → (p : PlainProgram) → SmallForm text.now p → ⊥ }
+/// The program of a text, and the place of the text's first token.
+#[derive(Drop)]
+pub struct Reading {
+    pub program: Program,
+    pub start: Place,
+}
+
+/// Reads a text that isn't too long.
+pub fn read_program(alloc: Global, text: &[u8]) -> Result<Reading, NoProgram>
+    requires { length text.now ≤ 1048576 }
+    ensures program { IfOk result (λ r. IsProgramOf text.now (program_view r.program)) }
+    ensures begins { IfOk result (λ r. BeginsAt text.now r.start) }
+    ensures cause { IfErr result (IsCauseFor text.now) }
 {
-    let tokens = match lex(alloc, text) {
-        Ok(tokens) => tokens,
-        Err(LexError::NotBuilt) => return Err(Refused::NotBuilt),
-        Err(LexError::Memory) => return Err(Refused::Memory),
-    };
-    let tree = match parse(alloc, &tokens) {
-        Ok(tree) => tree,
-        Err(ParseError::NotBuilt) => return Err(Refused::NotBuilt),
-        Err(ParseError::Memory) => return Err(Refused::Memory),
-    };
+    let tokens = tokens_of(alloc, text)?;
+    let tree = tree_of(alloc, text, &tokens)?;
+    let start = token_place(text, &tokens, 0);
     match check(alloc, &tree) {
-        Ok(program) => Ok(program),
-        Err(CheckError::NotBuilt) => Err(Refused::NotBuilt),
-        Err(CheckError::Memory) => Err(Refused::Memory),
+        Ok(program) => Ok(Reading { program, start }),
+        Err(CheckError::Violation(at, code)) => Err(NoProgram::Refused(Refusal { at, code })),
+        Err(CheckError::Limit(at, code)) => Err(NoProgram::Refused(Refusal { at, code })),
+        Err(CheckError::Memory) => Err(NoProgram::Memory),
+    }
+}
+
+/// The tokens of a text.
+fn tokens_of(alloc: Global, text: &[u8]) -> Result<Vec<Token>, NoProgram>
+    requires { length text.now ≤ 1048576 }
+    ensures tokens { IfOk result (λ tokens. HasTokens text.now tokens.items) }
+    ensures cause { IfErr result (IsCauseFor text.now) }
+{
+    match lex(alloc, text) {
+        Ok(tokens) => Ok(tokens),
+        Err(LexError::BadByte(at)) => Err(NoProgram::Refused(Refusal { at, code: NO_TOKEN })),
+        Err(LexError::WideNumber(at)) => Err(NoProgram::Refused(Refusal {
+            at,
+            code: TOO_GREAT,
+        })),
+        Err(LexError::Limit(at)) => Err(NoProgram::Refused(Refusal { at, code: TOO_MANY })),
+        Err(LexError::Memory) => Err(NoProgram::Memory),
+    }
+}
+
+/// The tree of a text that has these tokens.
+fn tree_of(alloc: Global, text: &[u8], tokens: &[Token]) -> Result<Tree, NoProgram>
+    requires { HasTokens text.now tokens.now }
+    ensures tree { IfOk result (λ tree. HasOneTree text.now (tree_view tree)) }
+    ensures cause { IfErr result (IsCauseFor text.now) }
+{
+    match parse(alloc, tokens) {
+        Ok(tree) => Ok(tree),
+        Err(ParseError::Syntax(k)) => Err(NoProgram::Refused(Refusal {
+            at: token_place(text, tokens, k),
+            code: WRONG_TOKEN,
+        })),
+        Err(ParseError::Deep(k)) => Err(NoProgram::Refused(Refusal {
+            at: token_place(text, tokens, k),
+            code: TOO_DEEP,
+        })),
+        Err(ParseError::Memory) => Err(NoProgram::Memory),
+    }
+}
+
+/// The place of a token, or the place behind the last byte where there is no such token.
+fn token_place(text: &[u8], tokens: &[Token], k: usize) -> Place
+    requires { length text.now ≤ 1048576 }
+    ensures { result ≡ token_place text.now tokens.now k }
+{
+    match tokens.get(k) {
+        Some(token) => token.at,
+        None => end_place(text),
     }
 }

@@ -1,24 +1,27 @@
 //! All that the program does.
 
-ghost use Rattle.std.specs.Prelude.{◌≡◌, ℕ, ◌<◌, ◌≤◌, ◌⊎◌, List, length, Some};
+ghost use Rattle.std.specs.Prelude.{◌≡◌, ℕ, ◌≤◌, ◌⊎◌, true, false, List, length, Some};
 ghost use Rattle.ca_base.specs.Devices.{Rose, at_end};
 ghost use Rattle.ca_program.specs.View.{program_view};
-ghost use Rattle.ca_model.specs.Output.{Reply, output};
+ghost use Rattle.ca_meaning.specs.Output.{Reply, output};
 ghost use Rattle.ca_words.specs.Words.{texts};
-ghost use Rattle.ca_app.specs.Causes.{IsUsageFault, IsNotBuilt, RunEnds, PairsEnd, IsDone, IsTrapped, IsSpent};
+ghost use Rattle.ca_app.specs.Causes.{IsUsageFault, IsRefused, IsNotBuilt, RunEnds, PairsEnd, IsDone, IsTrapped, IsSpent};
 ghost use Rattle.ca_app.specs.Ends.{Ends, EndsWith, SinkCause, Complete, IsReadToEnd, status_after};
+ghost use Rattle.ca_app.specs.Refusals.{refusal_reply};
 ghost use Rattle.ca_app.specs.Reply.{ProgramReplies, CommandReplies, Replies, usage_reply};
 
-use crate::interpreter::{Outcome, run};
-use crate::lines::{write_not_built, write_spent, write_trap};
+use crate::lines::{write_spent, write_trap};
 use crate::pairs::{verdicts_of, write_pairs};
-use crate::reading::{Refused, program_of};
+use crate::reading::{NoProgram, Reading, read_program};
+use crate::refusals::Refusal;
 use ca_base::{Failed, Gate, ReadError, Sink, Source, read_all, write_all};
-use ca_lex::first_place;
 use ca_model::print_heap;
 use ca_program::Program;
+use ca_serial::{Outcome, RunError, drive};
+use ca_small::is_small;
 use ca_words::{Command, command_of, usage_line};
 use std::alloc::Global;
+use std::sync::Wait;
 
 /// The most bytes of a source.
 const MOST_BYTES: u64 = 1_048_576;
@@ -28,7 +31,7 @@ const MOST_BYTES: u64 = 1_048_576;
 ///
 /// The whole source is read before anything is written. Status 5 is want of memory, 6 a failed
 /// read, 7 a failed write; every other status is that of the reply.
-pub fn top<R: AllocGlobal, S: Source, K: Sink, G: Gate>(
+pub fn top<R: AllocGlobal + Wait, S: Source, K: Sink, G: Gate>(
     rt: &R,
     words: &[String],
     source: &mut S,
@@ -40,11 +43,11 @@ pub fn top<R: AllocGlobal, S: Source, K: Sink, G: Gate>(
     ensures headline { (text : List ℕ) → S.left source.old ≡ Some text → EndsWith (Replies (texts words.now) text) result (K.written sink.old) (K.written sink.new) }
 
     // What each of its statuses says of the text and its serial run.
-    ensures done { (text : List ℕ) → S.left source.old ≡ Some text → result ≡ 0 → RunEnds (texts words.now) text IsDone ⊎ PairsEnd (texts words.now) text }
-    ensures refused { (text : List ℕ) → S.left source.old ≡ Some text → result ≡ 1 → IsNotBuilt text }
+    ensures done { (text : List ℕ) → S.left source.old ≡ Some text → result ≡ 0 → RunEnds (texts words.now) text IsDone ⊎ PairsEnd (texts words.now) text (K.written sink.old) (K.written sink.new) }
+    ensures refused { (text : List ℕ) → S.left source.old ≡ Some text → result ≡ 1 → IsRefused false text ⊎ IsNotBuilt (texts words.now) text }
     ensures trapped { (text : List ℕ) → S.left source.old ≡ Some text → result ≡ 3 → RunEnds (texts words.now) text IsTrapped }
     ensures spent { (text : List ℕ) → S.left source.old ≡ Some text → result ≡ 4 → RunEnds (texts words.now) text IsSpent }
-    ensures limit { (text : List ℕ) → S.left source.old ≡ Some text → result ≡ 8 → 1048576 < length text }
+    ensures limit { (text : List ℕ) → S.left source.old ≡ Some text → result ≡ 8 → IsRefused true text }
 
     // Where neither device failed, the reply was given whole, or memory was wanting.
     ensures complete { (text : List ℕ) → S.left source.old ≡ Some text → (Rose (S.faults source.old) (S.faults source.new) → ⊥) → (Rose (K.faults sink.old) (K.faults sink.new) → ⊥)
@@ -62,83 +65,124 @@ pub fn top<R: AllocGlobal, S: Source, K: Sink, G: Gate>(
     ensures write_fault { SinkCause result (K.faults sink.old) (K.faults sink.new) }
     ensures source_later { S.faults source.old ≤ S.faults source.new }
     ensures read_to_end { IsReadToEnd result → S.left source.new ≡ at_end (S.left source.old) }
+    ensures limit_read_to_end { (text : List ℕ) → S.left source.old ≡ Some text → length text ≤ 1048576 → result ≡ 8 → S.left source.new ≡ at_end (S.left source.old) }
 {
     let Some(command) = command_of(words) else {
         return finish(write_all(sink, usage_line()), 2);
     };
-    serve(rt.alloc(), command, source, sink)
+    serve(rt, rt.alloc(), command, source, sink)
 }
 
 /// Serves a command on the text that the source has.
-fn serve<S: Source, K: Sink>(alloc: Global, command: Command, source: &mut S, sink: &mut K) -> u8
+fn serve<R: Wait, S: Source, K: Sink>(
+    rt: &R,
+    alloc: Global,
+    command: Command,
+    source: &mut S,
+    sink: &mut K,
+) -> u8
     ensures headline { (text : List ℕ) → S.left source.old ≡ Some text → EndsWith (CommandReplies command text) result (K.written sink.old) (K.written sink.new) }
     ensures read_fault { result ≡ 6 → Rose (S.faults source.old) (S.faults source.new) }
     ensures write_fault { SinkCause result (K.faults sink.old) (K.faults sink.new) }
     ensures source_later { S.faults source.old ≤ S.faults source.new }
     ensures read_to_end { IsReadToEnd result → S.left source.new ≡ at_end (S.left source.old) }
+    ensures limit_read_to_end { (text : List ℕ) → S.left source.old ≡ Some text → length text ≤ 1048576 → result ≡ 8 → S.left source.new ≡ at_end (S.left source.old) }
     ensures no_usage { result ≡ 2 → ⊥ }
 {
     match read_all(alloc, source, MOST_BYTES) {
-        Ok(text) => serve_text(alloc, command, &text, sink),
-        Err(ReadError::Limit) => finish(write_all(sink, b"limit 0:0 E04\n"), 8),
+        Ok(text) => serve_text(rt, alloc, command, &text, sink),
+        Err(ReadError::Limit) => refuse(Refusal::OVERLONG, sink),
         Err(ReadError::Fault) => 6,
         Err(ReadError::Memory) => 5,
     }
 }
 
 /// Serves a command on a text.
-fn serve_text<K: Sink>(alloc: Global, command: Command, text: &[u8], sink: &mut K) -> u8
+fn serve_text<R: Wait, K: Sink>(
+    rt: &R,
+    alloc: Global,
+    command: Command,
+    text: &[u8],
+    sink: &mut K,
+) -> u8
     requires { length text.now ≤ 1048576 }
     ensures ends { EndsWith (CommandReplies command text.now) result (K.written sink.old) (K.written sink.new) }
     ensures write_fault { SinkCause result (K.faults sink.old) (K.faults sink.new) }
     ensures no_read_fault { result ≡ 6 → ⊥ }
     ensures no_usage { result ≡ 2 → ⊥ }
 {
-    match program_of(alloc, text) {
-        Ok(program) => serve_program(alloc, command, &program, sink),
-        Err(Refused::NotBuilt) => finish(write_not_built(first_place(text), sink), 1),
-        Err(Refused::Memory) => 5,
+    match read_program(alloc, text) {
+        Ok(reading) => serve_program(rt, alloc, command, &reading, sink),
+        Err(NoProgram::Refused(refusal)) => refuse(refusal, sink),
+        Err(NoProgram::Memory) => 5,
     }
 }
 
-/// Serves a command on a program.
-fn serve_program<K: Sink>(alloc: Global, command: Command, program: &Program, sink: &mut K) -> u8
-    ensures ends { EndsWith (ProgramReplies (program_view program.now) command) result (K.written sink.old) (K.written sink.new) }
+/// Serves a command on the program that was read.
+fn serve_program<R: Wait, K: Sink>(
+    rt: &R,
+    alloc: Global,
+    command: Command,
+    reading: &Reading,
+    sink: &mut K,
+) -> u8
+    ensures ends { EndsWith (ProgramReplies reading.now.start (program_view reading.now.program) command) result (K.written sink.old) (K.written sink.new) }
     ensures write_fault { SinkCause result (K.faults sink.old) (K.faults sink.new) }
     ensures no_read_fault { result ≡ 6 → ⊥ }
     ensures no_usage { result ≡ 2 → ⊥ }
 {
     match command {
-        Command::Run { budget, .. } => run_program(alloc, program, budget, sink),
-        Command::Pairs => pair_program(alloc, program, sink),
+        Command::Run { budget, .. } => run_program(rt, alloc, &reading.program, budget, sink),
+        Command::Pairs => pair_program(alloc, reading, sink),
     }
 }
 
-/// Writes the verdicts of a program.
-fn pair_program<K: Sink>(alloc: Global, program: &Program, sink: &mut K) -> u8
-    ensures ends { EndsWith (ProgramReplies (program_view program.now) Command.Pairs) result (K.written sink.old) (K.written sink.new) }
+/// Tells a refusal.
+fn refuse<K: Sink>(refusal: Refusal, sink: &mut K) -> u8
+    ensures ends { Ends (refusal_reply refusal.at refusal.code.0) result (K.written sink.old) (K.written sink.new) }
     ensures write_fault { SinkCause result (K.faults sink.old) (K.faults sink.new) }
     ensures no_read_fault { result ≡ 6 → ⊥ }
     ensures no_usage { result ≡ 2 → ⊥ }
 {
+    finish(refusal.write(sink), refusal.status())
+}
+
+/// Writes the verdicts of a program, for which they are built where it is of the small form.
+fn pair_program<K: Sink>(alloc: Global, reading: &Reading, sink: &mut K) -> u8
+    ensures ends { EndsWith (ProgramReplies reading.now.start (program_view reading.now.program) Command.Pairs) result (K.written sink.old) (K.written sink.new) }
+    ensures write_fault { SinkCause result (K.faults sink.old) (K.faults sink.new) }
+    ensures no_read_fault { result ≡ 6 → ⊥ }
+    ensures no_usage { result ≡ 2 → ⊥ }
+{
+    let program = &reading.program;
+    if !is_small(program) {
+        return refuse(Refusal::not_built(reading.start), sink);
+    }
     match verdicts_of(alloc, program) {
         Ok(verdicts) => finish(write_pairs(program, &verdicts, sink), 0),
         Err(_) => 5,
     }
 }
 
-/// Runs a program.
-fn run_program<K: Sink>(alloc: Global, program: &Program, budget: u32, sink: &mut K) -> u8
+/// Runs a program. What it prints is written as it comes.
+fn run_program<R: Wait, K: Sink>(
+    rt: &R,
+    alloc: Global,
+    program: &Program,
+    budget: u32,
+    sink: &mut K,
+) -> u8
     ensures ends { Ends (output (program_view program.now) budget) result (K.written sink.old) (K.written sink.new) }
     ensures write_fault { SinkCause result (K.faults sink.old) (K.faults sink.new) }
     ensures no_read_fault { result ≡ 6 → ⊥ }
     ensures no_usage { result ≡ 2 → ⊥ }
 {
-    match run(alloc, program, budget) {
-        Ok(Outcome::Done(heap)) => finish(print_heap(program, &heap, sink), 0),
+    match drive(rt, alloc, program, u64::from(budget), sink) {
+        Ok(Outcome::Done { heap, .. }) => finish(print_heap(program, &heap, sink), 0),
         Ok(Outcome::Trapped(trap)) => finish(write_trap(trap, sink), 3),
         Ok(Outcome::Spent) => finish(write_spent(budget, sink), 4),
-        Err(_) => 5,
+        Err(RunError::Write) => 7,
+        Err(RunError::Memory) => 5,
     }
 }
 

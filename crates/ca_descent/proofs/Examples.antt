@@ -1,10 +1,11 @@
 -- A small grammar, digits with commas between up to a closing sign, read by the lemmas as a parser would.
-use Rattle.std.proofs.Common.{◌≡◌, ℕ, List, [], ◌∷◌, Option, Some, None, refl}
-use Rattle.ca_descent.specs.Exact.{Got, Exact, Sees, sees, head_of, prefixed, image, Separated}
+use Rattle.std.proofs.Common.{◌≡◌, ℕ, List, [], ◌∷◌, Option, Some, None, refl, arith}
+use Rattle.ca_descent.specs.Exact.{Unlimited, TooDeep, Got, Failed, Exact, Sees, sees, head_of, prefixed, image, Separated, Before, Short}
 use Rattle.ca_descent.specs.Whole.{FirstWrong}
-use Rattle.ca_descent.proofs.Exact.{sees_ok}
+use Rattle.ca_descent.proofs.Exact.{sees_ok, exact_map}
 use Rattle.ca_descent.proofs.Separated.{Punctuated, separated_more, following_more, following_stop, following_missing}
-use Rattle.ca_descent.proofs.Whole.{whole_got, whole_wrong}
+use Rattle.ca_descent.proofs.Short.{short_got, past_got}
+use Rattle.ca_descent.proofs.Whole.{All, whole_got, whole_wrong}
 
 data Token : Type 0 where
   Comma Close : Token
@@ -25,8 +26,8 @@ digit Comma = None
 digit Close = None
 digit (Digit n) = Some n
 
-abbrev Digits : List Token → List ℕ → List Token → Type 0
-Digits = Separated (Sees digit) comma close
+abbrev Digits : ℕ → List Token → List ℕ → List Token → Type 0
+Digits = Separated (Unlimited (Sees digit)) comma close
 
 first_token : head_of digit (Digit 3 ∷ Comma ∷ []) ≡ Some 3
 first_token = refl
@@ -47,11 +48,11 @@ no_digit_closes s r n (sees {t = Comma} e) = refl
 no_digit_closes s r n (sees {t = Close} e) = absurd cc
 no_digit_closes s r n (sees {t = Digit k} e) = refl
 
-digits : Punctuated (Sees digit) (Sees digit) comma close
+digits : Punctuated (Unlimited (Sees digit)) (Unlimited (Sees digit)) comma close
 digits = record {
-  before_comma = λ s q n e d h. d;
-  before_close = λ s q n e d h. d;
-  begins = no_digit_closes;
+  before_comma = λ free s q n e d h. d;
+  before_close = λ free s q n e d h. d;
+  begins = λ free s r n d. no_digit_closes s r n d;
   apart = not_both;
   token = Close;
   carried = 0;
@@ -64,11 +65,20 @@ two_read = separated_more digits refl (sees_ok digit refl refl)
     (following_more digits refl refl (sees_ok digit refl refl) (following_stop digits refl refl))
 
 -- and derives that list alone
-two_alone : Digits (Digit 2 ∷ Comma ∷ Digit 3 ∷ Close ∷ []) (2 ∷ 3 ∷ []) []
-    × ((ns : List ℕ) → Digits (Digit 2 ∷ Comma ∷ Digit 3 ∷ Close ∷ []) ns [] → ns ≡ 2 ∷ 3 ∷ [])
-two_alone = whole_got two_read refl (λ s ns d. d)
+two_alone : Digits 0 (Digit 2 ∷ Comma ∷ Digit 3 ∷ Close ∷ []) (2 ∷ 3 ∷ []) []
+    × ((free : ℕ) (ns : List ℕ) → Digits free (Digit 2 ∷ Comma ∷ Digit 3 ∷ Close ∷ []) ns [] → ns ≡ 2 ∷ 3 ∷ [])
+two_alone = whole_got two_read refl (λ free s ns d. d)
 
 -- in `2 3` the second token is the first wrong one
-second_wrong : FirstWrong (λ s ns. Digits s ns []) (Digit 2 ∷ Digit 3 ∷ []) 1
+second_wrong : FirstWrong (All Digits) (Digit 2 ∷ Digit 3 ∷ []) 1
 second_wrong = whole_wrong (separated_more digits refl (sees_ok digit refl refl) (following_missing digits refl refl))
-    (λ s ns d. d)
+    (λ free s ns d. d)
+
+-- where a digit may have no token, the token of one passes the limit
+digit_passes : Exact (Short 0 (Sees digit)) (Before comma (Short 0 (Sees digit))) (Digit 3 ∷ Close ∷ [])
+    (Failed (TooDeep (Digit 3 ∷ Close ∷ [])))
+digit_passes = past_got {q = []} (exact_map (λ free s r n d. d) (λ free s r n c. c.it) (sees_ok digit refl refl)) (omega arith)
+
+-- where it may have one, it is read
+digit_read : Exact (Short 1 (Sees digit)) (Before comma (Short 1 (Sees digit))) (Digit 3 ∷ Close ∷ []) (Got 3 (Close ∷ []))
+digit_read = short_got {q = Close ∷ []} (exact_map (λ free s r n d. d) (λ free s r n c. c.it) (sees_ok digit refl refl)) (omega arith)

@@ -12,7 +12,7 @@ use Rattle.ca_tree.specs.declared.token.Kind.TheVariants.{Number}
 use Rattle.ca_tree.specs.declared.token.Sign.{Sign}
 use Rattle.ca_lex.specs.Bytes.{is_blank, is_letter, is_name_byte, value_of}
 use Rattle.ca_lex.specs.Spellings.{keyword_of, double_sign, single_sign}
-use Rattle.ca_lex.specs.Pieces.{Piece, blank_of, comment_of, token_of, refused, piece_of, begins, kind_of_word, word_piece, digits_piece, number_piece, slash_piece, sign_piece, longer_sign, closed_comment, close_len}
+use Rattle.ca_lex.specs.Pieces.{Piece, blank_of, comment_of, token_of, too_great, letter_behind, refused, piece_of, begins, kind_of_word, word_piece, digits_piece, number_piece, slash_piece, sign_piece, longer_sign, closed_comment, close_len}
 use Rattle.ca_lex.proofs.Sizes.{token_size}
 
 -- where the first is the piece r, so is the second
@@ -62,7 +62,7 @@ word b m s x e =
     ∙ ap (λ w. token_of (prefix_len is_name_byte l) (kind_of_word w (keyword_of w))) (front_again is_name_byte l) in
     ap word_piece (sym cut) ∙ same ∙ e
 
-of_digits : (t u v : Bool) (n k : ℕ) (x y : Kind) → (if t then refused else if u then refused else if v then refused else token_of k y) ≡ token_of n x → ((if t then refused else if u then refused else token_of k y) ≡ token_of n x) × (k ≡ n)
+of_digits : (t u v : Bool) (n k : ℕ) (x y : Kind) → (if t then refused else if u then too_great else if v then letter_behind k else token_of k y) ≡ token_of n x → ((if t then refused else if u then too_great else token_of k y) ≡ token_of n x) × (k ≡ n)
 of_digits true u v n k x y e = (cc, cc)
 of_digits false true v n k x y e = (cc, cc)
 of_digits false false true n k x y e = (cc, cc)

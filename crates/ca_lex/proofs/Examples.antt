@@ -1,12 +1,14 @@
 -- Pieces, places and tokens of short texts.
-use Rattle.std.proofs.Common.{◌≡◌, [], ◌∷◌, refl}
+use Rattle.std.proofs.Common.{◌≡◌, [], ◌∷◌, refl, arith}
 use Rattle.std.specs.Prelude.{codes, pos}
 use Rattle.ca_tree.specs.declared.token.Kind.TheVariants as kind
 use Rattle.ca_tree.specs.declared.token.Keyword.TheVariants as key
 use Rattle.ca_tree.specs.declared.token.Sign.TheVariants as sign
 use Rattle.ca_lex.specs.Places.{advance, start}
-use Rattle.ca_lex.specs.Pieces.{piece_of, comment_of, token_of, refused}
-use Rattle.ca_lex.specs.Tokens.{Uncommented, at_end, blank, token}
+use Rattle.ca_lex.specs.Pieces.{piece_of, comment_of, token_of, too_great, letter_behind, refused}
+use Rattle.ca_lex.specs.Tokens.{Tokens, at_end, blank, comment, token}
+use Rattle.ca_lex.specs.Faults as fault
+use Rattle.ca_lex.specs.Faults.{LexFault, bad_byte, wide_number}
 
 key_word : piece_of (codes "class{") ≡ token_of 5 (kind.Key key.Class)
 unfolding piece_of
@@ -40,7 +42,7 @@ needless_zeros : piece_of (codes "007") ≡ refused
 unfolding piece_of
 needless_zeros = refl
 
-letter_behind_digits : piece_of (codes "12a") ≡ refused
+letter_behind_digits : piece_of (codes "12a") ≡ letter_behind 2
 unfolding piece_of
 letter_behind_digits = refl
 
@@ -48,7 +50,7 @@ greatest_number : piece_of (codes "9223372036854775807") ≡ token_of 19 (kind.N
 unfolding piece_of
 greatest_number = refl
 
-too_great_number : piece_of (codes "9223372036854775808") ≡ refused
+too_great_number : piece_of (codes "9223372036854775808a") ≡ too_great
 unfolding piece_of
 too_great_number = refl
 
@@ -67,9 +69,21 @@ closes_behind_its_start = refl
 second_line : advance start (codes "a\nbc") ≡ record { line = 2; column = 3 }
 second_line = refl
 
-two_tokens : Uncommented (codes "x\n +")
+two_tokens : Tokens (codes "x//\n/**/ +")
     (record { kind = kind.Word (codes "x"); at = record { line = 1; column = 1 }; start = 0; len = 1 }
-    ∷ record { kind = kind.Sign sign.Plus; at = record { line = 2; column = 2 }; start = 3; len = 1 }
+    ∷ record { kind = kind.Sign sign.Plus; at = record { line = 2; column = 6 }; start = 9; len = 1 }
     ∷ [])
 unfolding piece_of
-two_tokens = token refl (blank refl (blank refl (token refl at_end)))
+two_tokens = token refl (comment refl (blank refl (comment refl (blank refl (token refl at_end)))))
+
+letter_refused : LexFault (codes ";\n 12a") (record { line = 2; column = 4 }) bad_byte
+unfolding piece_of
+letter_refused = fault.token refl (omega arith) (fault.blank refl (fault.blank refl (fault.letter refl (omega arith))))
+
+number_refused : LexFault (codes "\t9223372036854775808a") (record { line = 1; column = 2 }) wide_number
+unfolding piece_of
+number_refused = fault.blank refl (fault.wide refl)
+
+open_comment_refused : LexFault (codes "/*/") (record { line = 1; column = 1 }) bad_byte
+unfolding piece_of
+open_comment_refused = fault.bad refl

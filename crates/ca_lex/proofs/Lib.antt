@@ -3,6 +3,7 @@ pub mod Comments
 pub mod Sizes
 pub mod Derivations
 pub mod Readings
+pub mod Outcomes
 pub mod Alone
 pub mod Longest
 pub mod Examples

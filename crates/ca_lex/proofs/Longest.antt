@@ -10,7 +10,7 @@ use Rattle.ca_tree.specs.declared.token.Kind.TheVariants.{Number}
 use Rattle.ca_tree.specs.declared.token.Sign.{Sign}
 use Rattle.ca_lex.specs.Bytes.{is_blank, is_letter, is_name_byte, value_of}
 use Rattle.ca_lex.specs.Spellings.{double_sign, single_sign}
-use Rattle.ca_lex.specs.Pieces.{Piece, blank_of, comment_of, token_of, refused, piece_of, begins, number_piece, slash_piece, sign_piece, longer_sign, closed_comment, close_len}
+use Rattle.ca_lex.specs.Pieces.{Piece, blank_of, comment_of, token_of, too_great, letter_behind, refused, piece_of, begins, number_piece, slash_piece, sign_piece, longer_sign, closed_comment, close_len}
 
 -- where both are tokens, the second takes no more bytes than the first
 data NoLonger : Piece → Piece → Type 0 where
@@ -18,7 +18,11 @@ data NoLonger : Piece → Piece → Type 0 where
   behind_blank : {n : ℕ} {q : Piece} → NoLonger (blank_of n) q
   behind_comment : {n : ℕ} {q : Piece} → NoLonger (comment_of n) q
   behind_refused : {q : Piece} → NoLonger refused q
+  behind_too_great : {q : Piece} → NoLonger too_great q
+  behind_letter : {n : ℕ} {q : Piece} → NoLonger (letter_behind n) q
   then_refused : {p : Piece} → NoLonger p refused
+  then_too_great : {p : Piece} → NoLonger p too_great
+  then_letter : {p : Piece} {n : ℕ} → NoLonger p (letter_behind n)
 
 both : (t : Bool) (p p' q q' : Piece) → NoLonger p p' → NoLonger q q' → NoLonger (if t then p else q) (if t then p' else q')
 both true p p' q q' f g = f
@@ -38,13 +42,13 @@ prefix_len-take p [] (suc m) = omega arith
 prefix_len-take p (b ∷ s) zero = omega arith
 prefix_len-take p (b ∷ s) (suc m) = counts (p b) _ _ (prefix_len-take p s m)
 
-digits : (t u v t' u' v' : Bool) (n k : ℕ) (x y : Kind) → k ≤ n → NoLonger (if t then refused else if u then refused else if v then refused else token_of n x) (if t' then refused else if u' then refused else if v' then refused else token_of k y)
+digits : (t u v t' u' v' : Bool) (n k : ℕ) (x y : Kind) → k ≤ n → NoLonger (if t then refused else if u then too_great else if v then letter_behind n else token_of n x) (if t' then refused else if u' then too_great else if v' then letter_behind k else token_of k y)
 digits true u v t' u' v' n k x y h = behind_refused
-digits false true v t' u' v' n k x y h = behind_refused
-digits false false true t' u' v' n k x y h = behind_refused
+digits false true v t' u' v' n k x y h = behind_too_great
+digits false false true t' u' v' n k x y h = behind_letter
 digits false false false true u' v' n k x y h = then_refused
-digits false false false false true v' n k x y h = then_refused
-digits false false false false false true n k x y h = then_refused
+digits false false false false true v' n k x y h = then_too_great
+digits false false false false false true n k x y h = then_letter
 digits false false false false false false n k x y h = both_tokens h
 
 number : (s : List ℕ) (m : ℕ) → NoLonger (number_piece s) (number_piece (take m s))

@@ -11,7 +11,7 @@ use Rattle.ca_tree.specs.declared.token.Kind.TheVariants.{Number}
 use Rattle.ca_tree.specs.declared.token.Sign.{Sign}
 use Rattle.ca_lex.specs.Bytes.{is_blank, is_letter, is_name_byte, is_no_line_feed, value_of}
 use Rattle.ca_lex.specs.Spellings.{double_sign, single_sign}
-use Rattle.ca_lex.specs.Pieces.{Piece, blank_of, comment_of, token_of, refused, piece_of, begins, word_piece, number_piece, slash_piece, sign_piece, longer_sign, closed_comment, close_len}
+use Rattle.ca_lex.specs.Pieces.{Piece, blank_of, comment_of, token_of, too_great, letter_behind, refused, piece_of, begins, word_piece, number_piece, slash_piece, sign_piece, longer_sign, closed_comment, close_len}
 use Rattle.ca_lex.proofs.Comments.{close_len-le}
 
 -- takes at least one byte, and at most so many
@@ -19,6 +19,8 @@ data Within (most : ℕ) : Piece → Type 0 where
   blank_within : {n : ℕ} → 0 < n → n ≤ most → Within most (blank_of n)
   comment_within : {n : ℕ} → 0 < n → n ≤ most → Within most (comment_of n)
   token_within : {n : ℕ} {kind : Kind} → 0 < n → n ≤ most → Within most (token_of n kind)
+  great_within : Within most too_great
+  letter_within : {n : ℕ} → 0 < n → n ≤ most → Within most (letter_behind n)
   none_within : Within most refused
 
 choice : (m : ℕ) (b : Bool) (x y : Piece) → (b ≡ true → Within m x) → (b ≡ false → Within m y) → Within m (if b then x else y)
@@ -32,10 +34,10 @@ some_pass p b s e = subst (λ t. 0 < cond t (1 + prefix_len p s) 0) (sym e) (ome
 word_within : (b : ℕ) (s : List ℕ) → is_letter b ≡ true → Within (length (b ∷ s)) (word_piece (b ∷ s))
 word_within b s e = token_within (some_pass is_name_byte b s (ap (λ t. t || is_ascii_digit b) e)) (prefix_len-le-length is_name_byte (b ∷ s))
 
-one_of_digits : (t u v : Bool) (n most : ℕ) (kind : Kind) → 0 < n → n ≤ most → Within most (if t then refused else if u then refused else if v then refused else token_of n kind)
+one_of_digits : (t u v : Bool) (n most : ℕ) (kind : Kind) → 0 < n → n ≤ most → Within most (if t then refused else if u then too_great else if v then letter_behind n else token_of n kind)
 one_of_digits true u v n most kind h l = none_within
-one_of_digits false true v n most kind h l = none_within
-one_of_digits false false true n most kind h l = none_within
+one_of_digits false true v n most kind h l = great_within
+one_of_digits false false true n most kind h l = letter_within h l
 one_of_digits false false false n most kind h l = token_within h l
 
 number_within : (b : ℕ) (s : List ℕ) → is_ascii_digit b ≡ true → Within (length (b ∷ s)) (number_piece (b ∷ s))
@@ -82,6 +84,9 @@ piece_within (b ∷ s) =
 of_blanks : {most n : ℕ} → Within most (blank_of n) → (0 < n) × (n ≤ most)
 of_blanks (blank_within h l) = (h, l)
 
+of_comment : {most n : ℕ} → Within most (comment_of n) → (0 < n) × (n ≤ most)
+of_comment (comment_within h l) = (h, l)
+
 of_token : {most n : ℕ} {kind : Kind} → Within most (token_of n kind) → (0 < n) × (n ≤ most)
 of_token (token_within h l) = (h, l)
 
@@ -90,3 +95,12 @@ blank_size s e = of_blanks (subst (Within (length s)) e (piece_within s))
 
 pub token_size : (s : List ℕ) {n : ℕ} {kind : Kind} → piece_of s ≡ token_of n kind → (0 < n) × (n ≤ length s)
 token_size s e = of_token (subst (Within (length s)) e (piece_within s))
+
+of_digits : {most n : ℕ} → Within most (letter_behind n) → (0 < n) × (n ≤ most)
+of_digits (letter_within h l) = (h, l)
+
+pub comment_size : (s : List ℕ) {n : ℕ} → piece_of s ≡ comment_of n → (0 < n) × (n ≤ length s)
+comment_size s e = of_comment (subst (Within (length s)) e (piece_within s))
+
+pub digits_size : (s : List ℕ) {n : ℕ} → piece_of s ≡ letter_behind n → (0 < n) × (n ≤ length s)
+digits_size s e = of_digits (subst (Within (length s)) e (piece_within s))

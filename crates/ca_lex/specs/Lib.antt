@@ -4,3 +4,4 @@ pub mod Spellings
 pub mod Pieces
 pub mod Fronts
 pub mod Tokens
+pub mod Faults

@@ -10,11 +10,14 @@ use Rattle.ca_tree.specs.declared.token.Kind.TheVariants.{Word, Number, Key, Sig
 use Rattle.ca_lex.specs.Bytes.{is_blank, is_letter, is_name_byte, is_no_line_feed, value_of}
 use Rattle.ca_lex.specs.Spellings.{keyword_of, double_sign, single_sign}
 
--- a blank, a comment or a token, with the number of its bytes, or nothing that may stand there
+-- A blank, a comment or a token, with the number of its bytes, or else what may not stand there: a number that is too
+-- great, so many digits with a letter directly behind them, or anything else.
 pub data Piece : Type 0 where
   blank_of : ℕ → Piece
   comment_of : ℕ → Piece
   token_of : ℕ → Kind → Piece
+  too_great : Piece
+  letter_behind : ℕ → Piece
   refused : Piece
 
 -- whether there is a first byte, and it passes
@@ -35,8 +38,8 @@ word_piece s = token_of (prefix_len is_name_byte s) (kind_of_word (take_while is
 abbrev pub digits_piece : List ℕ → List ℕ → Piece
 digits_piece digits rest =
     if nat_lt 1 (length digits) && begins (λ b. b == code "0") digits then refused
-    else if nat_le (2 ^ 63) (value_of digits) then refused
-    else if begins is_letter rest then refused
+    else if nat_le (2 ^ 63) (value_of digits) then too_great
+    else if begins is_letter rest then letter_behind (length digits)
     else token_of (length digits) (Number (pos (value_of digits)))
 
 -- digits, as many as there are
@@ -80,7 +83,7 @@ slash_piece s =
     else if begins (λ b. b == code "*") s then closed_comment (close_len (drop 1 s))
     else sign_piece (code "/") s
 
--- what stands in front: a blank, a comment, the longest token, or nothing that may
+-- what stands in front: a blank, a comment, the longest token, or what may not
 unfoldable pub piece_of : List ℕ → Piece
 piece_of [] = refused
 piece_of (b ∷ s) =

@@ -26,14 +26,6 @@ pub(crate) fn is_name_byte(b: u8) -> bool
     is_letter(b) || b.is_ascii_digit()
 }
 
-/// How many blanks stand in front.
-pub(crate) fn blanks_len(s: &[u8]) -> usize
-    ensures length { result ≡ prefix_len is_blank s.now }
-    ensures within { result ≤ length s.now }
-{
-    s.iter().take_while(|b| is_blank(**b)).count()
-}
-
 /// How many bytes of a name or a key word stand in front.
 pub(crate) fn name_len(s: &[u8]) -> usize
     ensures length { result ≡ prefix_len is_name_byte s.now }

@@ -11,13 +11,17 @@ use crate::spellings::{double_sign, keyword_of, single_sign};
 use ca_tree::{Kind, Name};
 use std::alloc::{AllocError, Global};
 
-/// What stands in front, with the number of its bytes: a blank, a comment or a token, or else
-/// nothing that may stand there.
+/// What stands in front: a blank, a comment or a token, with the number of its bytes, or else what
+/// may not stand there.
 #[derive(Drop)]
 pub(crate) enum Front {
     Blank(usize),
     Comment(usize),
     Token(usize, Kind),
+    /// A number above `GREATEST_NUMBER`.
+    TooGreat,
+    /// So many digits with a letter directly behind them.
+    LetterBehind(usize),
     Refused,
 }
 
@@ -61,10 +65,10 @@ fn number(s: &[u8]) -> Front
         return Front::Refused;
     }
     let Some(value) = value_of(digits) else {
-        return Front::Refused;
+        return Front::TooGreat;
     };
     if !rest.is_empty() && is_letter(rest[0]) {
-        return Front::Refused;
+        return Front::LetterBehind(digits.len());
     }
     Front::Token(digits.len(), Kind::Number(value as i64))
 }

@@ -1,19 +1,29 @@
 //! Laws of tokens.
 
-ghost use Rattle.std.specs.Prelude.{◌≡◌, ◌≤◌, ℕ, List, take};
+ghost use Rattle.std.specs.Prelude.{◌≡◌, ◌≤◌, ℕ, List, length, take};
+ghost use Rattle.ca_tree.specs.declared.name.Place.{Place};
 ghost use Rattle.ca_tree.specs.declared.token.Kind.{Kind};
 ghost use Rattle.ca_tree.specs.declared.token.Token.{Token};
 ghost use Rattle.ca_lex.specs.Pieces.{piece_of, token_of};
-ghost use Rattle.ca_lex.specs.Tokens.{Tokens, Uncommented};
+ghost use Rattle.ca_lex.specs.Tokens.{Tokens};
+ghost use Rattle.ca_lex.specs.Faults.{LexFault, Refusal, most_tokens};
 
 /// A text has one list of tokens.
 pub fn one_list_of_tokens()
     ensures { (text : List ℕ) (a b : List Token) → Tokens text a → Tokens text b → a ≡ b }
 {}
 
-/// The tokens of a text without a comment are its tokens.
-pub fn uncommented_tokens()
-    ensures { (text : List ℕ) (ts : List Token) → Uncommented text ts → Tokens text ts }
+/// A text has one first refused place, and what is refused there is one kind.
+pub fn one_refusal()
+    ensures place { (text : List ℕ) (p q : Place) (f g : Refusal) → LexFault text p f → LexFault text q g → p ≡ q }
+    ensures kind { (text : List ℕ) (p q : Place) (f g : Refusal) → LexFault text p f → LexFault text q g → f ≡ g }
+{}
+
+/// A text in which something is refused has no tokens within the limit. So `lex` gives tokens
+/// exactly where there are some within the limit, and a refusal exactly where it stands, unless
+/// memory runs out.
+pub fn refused_texts_have_no_tokens()
+    ensures { (text : List ℕ) (p : Place) (f : Refusal) (ts : List Token) → LexFault text p f → Tokens text ts → length ts ≤ most_tokens → ⊥ }
 {}
 
 /// At each place the longest token is taken: its bytes are that token by themselves, and no front

@@ -1,13 +1,13 @@
 //! From the bytes of a text to its tokens, for the parser and for whoever tells a refusal's place.
 //!
-//! What the tokens of a text are stands in `specs/Tokens.antt`, comments included: each byte lies in
-//! exactly one blank, comment or token, and each token has its place and its bytes. `lex` promises
-//! that what it gives are the tokens of a text without a comment, and that each such text of at most
-//! `MOST_TOKENS` tokens is read, unless memory runs out. It reads no comment, since the small form
-//! has none.
+//! What the tokens of a text are stands in `specs/Tokens.antt`: each byte lies in exactly one blank,
+//! comment or token, and each token has its place and its bytes. What is refused first in a text, and
+//! where, stands in `specs/Faults.antt`. `lex` promises the tokens of each text that has some within
+//! the limit, and else the one refusal at its place, unless memory runs out. It takes time linear in
+//! the bytes.
 //!
-//! `end_place` and `first_place` are where the refusal of a whole text is told. The laws say that a
-//! text has one list of tokens, and that each of them is the longest that may stand there.
+//! `end_place` is where a text is refused that ends too early. The laws say that a text has one list
+//! of tokens or one refusal and not both, and that each token is the longest that may stand there.
 #![tactic(auto)]
 
 mod bytes;
@@ -16,15 +16,14 @@ pub mod laws;
 mod place;
 mod spellings;
 
-ghost use Rattle.std.specs.Prelude.{◌≡◌, ◌<◌, ◌≤◌, ◌^◌, List, length, Err, IfOk};
-ghost use Rattle.std.specs.List.{take_while};
+ghost use Rattle.std.specs.Prelude.{◌≡◌, ◌≤◌, ◌^◌, length, Err, IfOk};
+ghost use Rattle.ca_tree.specs.declared.name.Place.{Place};
 ghost use Rattle.ca_tree.specs.declared.token.Token.{Token};
-ghost use Rattle.ca_lex.specs.declared.LexError.TheVariants.{NotBuilt, Memory};
-ghost use Rattle.ca_lex.specs.Bytes.{is_blank};
+ghost use Rattle.ca_lex.specs.declared.LexError.TheVariants.{BadByte, WideNumber, Limit, Memory};
 ghost use Rattle.ca_lex.specs.Places.{advance, start};
-ghost use Rattle.ca_lex.specs.Tokens.{Uncommented};
+ghost use Rattle.ca_lex.specs.Tokens.{Tokens};
+ghost use Rattle.ca_lex.specs.Faults.{LexFault, bad_byte, most_tokens, token_limit, wide_number};
 
-use crate::bytes::blanks_len;
 use crate::front::{Front, front_of};
 use crate::place::{START, place_behind};
 use ca_tree::{Place, Token};
@@ -34,12 +33,19 @@ use thiserror::Error;
 /// The most tokens that a text may have.
 pub const MOST_TOKENS: usize = 262_144;
 
-/// Why a text has not been read.
+/// Why a text has not been read, with the first refused place.
 #[derive(Debug, Drop, Error)]
 pub enum LexError {
-    /// The text has a comment, bytes that are no token, or more than `MOST_TOKENS` tokens.
-    #[error("not built yet")]
-    NotBuilt,
+    /// The byte begins no token, is the first of digits that begin with a needless 0, is a letter
+    /// directly behind digits, or is the `/` of an unclosed comment.
+    #[error("no token")]
+    BadByte(Place),
+    /// A number above 9223372036854775807.
+    #[error("a number above 9223372036854775807")]
+    WideNumber(Place),
+    /// The first byte of the token behind `MOST_TOKENS` tokens.
+    #[error("too many tokens")]
+    Limit(Place),
     #[error("out of memory")]
     Memory,
 }
@@ -60,13 +66,15 @@ impl<T: Drop> From<AllocFailed<T>> for LexError {
     }
 }
 
-/// The tokens of a text that has no comment and at most `MOST_TOKENS` tokens. Each such text is
-/// read, unless memory runs out.
+/// The tokens of a text. It is refused where it has more than `MOST_TOKENS` tokens or a byte that
+/// lies in no token, blank or comment. The first refused place decides.
 pub fn lex(alloc: Global, text: &[u8]) -> Result<Vec<Token>, LexError>
     requires { length text.now ≤ 2 ^ 30 }
-    ensures tokens { IfOk result (λ v. Uncommented text.now v.items) }
-    ensures few { IfOk result (λ v. length v.items ≤ 262144) }
-    ensures not_built { result ≡ Err NotBuilt → (ts : List Token) → Uncommented text.now ts → length ts ≤ 262144 → ⊥ }
+    ensures tokens { IfOk result (λ v. Tokens text.now v.items) }
+    ensures few { IfOk result (λ v. length v.items ≤ most_tokens) }
+    ensures bad_byte { (p : Place) → result ≡ Err (BadByte p) → LexFault text.now p bad_byte }
+    ensures wide_number { (p : Place) → result ≡ Err (WideNumber p) → LexFault text.now p wide_number }
+    ensures limit { (p : Place) → result ≡ Err (Limit p) → LexFault text.now p token_limit }
 {
     let mut tokens = Vec::new(alloc);
     let mut rest = text;
@@ -76,9 +84,10 @@ pub fn lex(alloc: Global, text: &[u8]) -> Result<Vec<Token>, LexError>
         let front = front_of(alloc, rest)?;
         let len = match front {
             Front::Blank(len) => len,
+            Front::Comment(len) => len,
             Front::Token(len, kind) => {
                 if tokens.len() == MOST_TOKENS {
-                    return Err(LexError::NotBuilt);
+                    return Err(LexError::Limit(at));
                 }
                 tokens.push(Token {
                     kind,
@@ -88,7 +97,15 @@ pub fn lex(alloc: Global, text: &[u8]) -> Result<Vec<Token>, LexError>
                 })?;
                 len
             }
-            Front::Comment(_) | Front::Refused => return Err(LexError::NotBuilt),
+            Front::LetterBehind(len) => {
+                if tokens.len() == MOST_TOKENS {
+                    return Err(LexError::Limit(at));
+                }
+                let (digits, _letter) = rest.split_at(len);
+                return Err(LexError::BadByte(place_behind(at, digits)));
+            }
+            Front::TooGreat => return Err(LexError::WideNumber(at)),
+            Front::Refused => return Err(LexError::BadByte(at)),
         };
         let (here, after) = rest.split_at(len);
         at = place_behind(at, here);
@@ -106,26 +123,22 @@ pub fn end_place(text: &[u8]) -> Place
     place_behind(START, text)
 }
 
-/// The place of the first byte that is no blank, or the place behind the last byte where there is
-/// none.
-pub fn first_place(text: &[u8]) -> Place
-    requires { length text.now ≤ 2 ^ 30 }
-    ensures { result ≡ advance start (take_while is_blank text.now) }
-{
-    let (blanks, _rest) = text.split_at(blanks_len(text));
-    place_behind(START, blanks)
-}
-
 #[cfg(test)]
 mod tests {
     use super::*;
     use std::test::Fail;
 
-    /// Whether the text is refused, and not for want of memory.
-    fn is_refused(alloc: Global, text: &[u8]) -> bool
+    /// The number of tokens, or else the code and the place of the refusal.
+    fn outcome(alloc: Global, text: &[u8]) -> (usize, u32, u32)
         requires { length text.now ≤ 2 ^ 30 }
     {
-        matches!(lex(alloc, text), Err(LexError::NotBuilt))
+        match lex(alloc, text) {
+            Ok(tokens) => (tokens.len(), 0, 0),
+            Err(LexError::BadByte(at)) => (1, at.line, at.column),
+            Err(LexError::WideNumber(at)) => (2, at.line, at.column),
+            Err(LexError::Limit(at)) => (3, at.line, at.column),
+            Err(LexError::Memory) => (4, 0, 0),
+        }
     }
 
     #[test]
@@ -159,13 +172,23 @@ mod tests {
                 column: 15
             }
         );
-        assert_eq!(rt; first_place(b" \n\t;"), Place { line: 2, column: 2 });
-        assert!(rt; is_refused(alloc, b"x // y"));
-        assert!(rt; is_refused(alloc, b"x & y"));
-        assert!(rt; is_refused(alloc, b"007"));
-        assert!(rt; is_refused(alloc, b"12a"));
-        assert!(rt; is_refused(alloc, b"9223372036854775808"));
-        assert_eq!(rt; lex(alloc, b"9223372036854775807")?.len(), 1);
+        let outcomes: [(&str, (usize, u32, u32)); 12] = [
+            ("x // y\n/* */ z /", (3, 0, 0)),
+            ("9223372036854775807", (1, 0, 0)),
+            ("x\n\t& y", (1, 2, 2)),
+            ("a|| |", (1, 1, 5)),
+            ("1 007", (1, 1, 3)),
+            (" 12a", (1, 1, 4)),
+            (" 12_", (1, 1, 4)),
+            ("9223372036854775808", (2, 1, 1)),
+            ("\n9223372036854775808a", (2, 2, 1)),
+            ("09223372036854775808", (1, 1, 1)),
+            ("x /*/", (1, 1, 3)),
+            ("x /* y", (1, 1, 3)),
+        ];
+        for (text, expected) in outcomes {
+            assert!(rt; outcome(alloc, text.as_bytes()) == expected, "{text}");
+        }
         Ok(())
     }
 }

@@ -1,17 +1,11 @@
--- How a creation ends, by whether there is room.
+-- Whether there is room for an object, as a test.
 use Rattle.std.proofs.Common.{◌≡◌, ℕ, ◌+◌, List, length, Bool, true, false, refl, inl, inr}
-use Rattle.std.specs.Prelude.{nat_le, nat_lt, ◌||◌, slice_set}
+use Rattle.std.specs.Prelude.{nat_le, nat_lt, ◌||◌}
 use Rattle.std.proofs.lemmas.Bool.{le-leb, lt-ltb, leb-true, ltb-true}
-use Rattle.ca_program.specs.declared.program.ClassId.{ClassId}
-use Rattle.ca_program.specs.declared.program.LocalId.{LocalId}
-use Rattle.ca_program.specs.Plain.{PlainProgram}
-use Rattle.ca_model.specs.declared.value.Value.TheVariants.{Ref}
 use Rattle.ca_model.specs.declared.value.Slot.{Slot}
 use Rattle.ca_model.specs.declared.value.Object.{Object}
-use Rattle.ca_model.specs.declared.value.TrapKind.TheVariants.{HeapFull}
 use Rattle.ca_model.specs.Slots.{slots_len}
-use Rattle.ca_model.specs.Heaps.{values_in, starts_of, created, IsFull}
-use Rattle.ca_model.specs.Serial.{State, goes_on, trapped, create}
+use Rattle.ca_model.specs.Heaps.{values_in, IsFull}
 
 or_true : (b : Bool) → (b || true) ≡ true
 or_true true = refl
@@ -21,18 +15,12 @@ not_true : (b : Bool) → (b ≡ true → ⊥) → b ≡ false
 not_true true h = absurd (h refl)
 not_true false h = refl
 
-full_test : (h : List Object) (new : List Slot) → IsFull h new → (nat_le 1000000 (length h) || nat_lt 4000000 (values_in h + slots_len new)) ≡ true
+pub full_test : (h : List Object) (new : List Slot) → IsFull h new → (nat_le 1000000 (length h) || nat_lt 4000000 (values_in h + slots_len new)) ≡ true
 full_test h new (inl many) = rw (le-leb 1000000 (length h) many) refl
 full_test h new (inr large) = rw (lt-ltb 4000000 (values_in h + slots_len new) large) (or_true (nat_le 1000000 (length h)))
 
-room_test : (h : List Object) (new : List Slot) → (IsFull h new → ⊥) → (nat_le 1000000 (length h) || nat_lt 4000000 (values_in h + slots_len new)) ≡ false
+pub room_test : (h : List Object) (new : List Slot) → (IsFull h new → ⊥) → (nat_le 1000000 (length h) || nat_lt 4000000 (values_in h + slots_len new)) ≡ false
 room_test h new room =
     let few : nat_le 1000000 (length h) ≡ false = not_true _ (λ e. room (inl (leb-true _ _ e))) in
     let small : nat_lt 4000000 (values_in h + slots_len new) ≡ false = not_true _ (λ e. room (inr (ltb-true _ _ e))) in
     rw (few, small) refl
-
-pub full_traps : (p : PlainProgram) (line : ℕ) (l : LocalId) (c : ClassId) (s : State) → IsFull s.heap (starts_of p c) → create p line l c s ≡ trapped (record { line = line; kind = HeapFull })
-full_traps p line l c s full = rw (full_test s.heap (starts_of p c) full) refl
-
-pub room_creates : (p : PlainProgram) (line : ℕ) (l : LocalId) (c : ClassId) (s : State) → (IsFull s.heap (starts_of p c) → ⊥) → create p line l c s ≡ goes_on (record { locals = slice_set s.locals l.0 (Ref (length s.heap)); heap = created p c s.heap; left = s.left })
-room_creates p line l c s room = rw (room_test s.heap (starts_of p c) room) refl

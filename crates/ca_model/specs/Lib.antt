@@ -2,11 +2,5 @@ pub mod Slots
 pub mod Heaps
 pub mod Counted
 pub mod Typed
-pub mod Expressions
-pub mod Serial
 pub mod Texts
 pub mod Lines
-pub mod Output
-pub mod Sections
-pub mod Commuting
-pub mod TypedPuts

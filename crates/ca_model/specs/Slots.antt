@@ -22,6 +22,12 @@ abbrev pub HasItem : Option Slot → ℕ → Type 0
 HasItem None i = ⊥
 HasItem (Some s) i = i < slot_len s
 
+-- the value of a field that is no array, and null where there is none
+abbrev pub one_in : Option Slot → Datum
+one_in None = Null
+one_in (Some (One v)) = v
+one_in (Some (Many vs)) = Null
+
 -- a single value is item 0
 abbrev pub put_item : Slot → ℕ → Datum → Slot
 put_item (One old) i v = One v

@@ -1,10 +1,11 @@
-//! Values, objects and the heap, and what a program means.
+//! Values, objects and the heap.
 //!
-//! The code here is the heap: it makes objects of starting values, reads and changes one item, and
-//! writes the heap's text to a sink. The definitions in `specs/` are what every other crate cites:
-//! `Values`, `Heaps`, `Typed` for the heap, `Expressions` and `Serial` for the depth-first meaning
-//! of a program, `Texts` and `Output` for the bytes that a run writes. They speak of plain programs
-//! (`ca_program`) and plain lists of objects alone.
+//! The code makes objects of starting values, reads and changes one item, and writes the heap's text
+//! to a sink. Each change of the heap promises the definition's heap exactly, and says what an error
+//! leaves as it was. The definitions in `specs/` are what every other crate cites: `Slots` and `Heaps`
+//! for what a heap holds and how it changes, `Typed` for heaps in which each slot has its field's
+//! type, `Texts` for the bytes that are written. They speak of plain programs (`ca_program`) and plain
+//! lists of objects alone. What a program does with a heap is told by the crates above.
 #![tactic(auto)]
 
 pub mod heap;

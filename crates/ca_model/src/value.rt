@@ -92,7 +92,7 @@ pub enum Slot {
 }
 
 impl Slot {
-    ghost use Rattle.ca_model.specs.Expressions.{one_of};
+    ghost use Rattle.ca_model.specs.Slots.{one_in};
 
     /// Whether it holds such an item. A single value is item 0.
     pub fn has(&self, item: u32) -> bool
@@ -106,7 +106,7 @@ impl Slot {
 
     /// Its single value, and null for an array.
     pub fn one(&self) -> Value
-        ensures { result ≡ one_of (Some self.now) }
+        ensures { result ≡ one_in (Some self.now) }
     {
         match self {
             Slot::One(value) => *value,
@@ -142,8 +142,7 @@ impl Model for Slots {
 }
 
 impl Slots {
-    ghost use Rattle.ca_model.specs.Expressions.{one_of};
-    ghost use Rattle.ca_model.specs.Slots.{put_slot};
+    ghost use Rattle.ca_model.specs.Slots.{one_in, put_slot};
 
     /// No slots. It takes no memory.
     pub fn new(alloc: Global) -> Slots
@@ -187,7 +186,7 @@ impl Slots {
 
     /// The single value of a field, and null for an array and where there is no such field.
     pub fn one(&self, field: u32) -> Value
-        ensures { result ≡ one_of (slice_get self.now field) }
+        ensures { result ≡ one_in (slice_get self.now field) }
     {
         match self.get(field) {
             Some(slot) => slot.one(),

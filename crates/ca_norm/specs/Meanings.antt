@@ -1,10 +1,12 @@
 -- What a term and a normal form mean, once it is said what the atoms stand for.
-use Rattle.std.specs.Prelude.{ℕ, [], ◌∷◌, ℤ, pos, ◌+ℤ◌, ◌*ℤ◌, FitsSigned}
+use Rattle.std.specs.Prelude.{ℕ, [], ◌∷◌, ℤ, pos, ◌+ℤ◌, ◌*ℤ◌, FitsSigned, Result, Ok, Err}
 use Rattle.std.specs.Int.{int_wrap, w64}
+use Rattle.ca_tree.specs.declared.tree.BinaryOp.{BinaryOp}
 use Rattle.ca_tree.specs.declared.tree.BinaryOp.TheVariants.{Plus, Minus}
 use Rattle.ca_model.specs.declared.value.Value.{Value as Datum}
 use Rattle.ca_model.specs.declared.value.Value.TheVariants as datum
-use Rattle.ca_model.specs.Expressions.{operate}
+use Rattle.ca_model.specs.declared.value.TrapKind.{TrapKind}
+use Rattle.ca_meaning.specs.Operators.{operated}
 use Rattle.ca_norm.specs.declared.term.Sort.{Sort}
 use Rattle.ca_norm.specs.declared.term.Sort.TheVariants.{Long, Bool, Pointer, LongArray, BoolArray, PointerArray}
 use Rattle.ca_norm.specs.declared.form.Monomial.{Monomial}
@@ -29,6 +31,14 @@ IsOfSort sort v = ⊥
 pub record Valuation : Type 0 where
   pub value : Sort → ℕ → ℕ → Datum
   pub sorted : (sort : Sort) (group n : ℕ) → IsOfSort sort (value sort group n)
+
+-- the value that an operator gives, and null where it gives none
+abbrev pub value_or_null : Result Datum TrapKind → Datum
+value_or_null (Ok v) = v
+value_or_null (Err kind) = datum.Null
+
+abbrev pub operate : BinaryOp → Datum → Datum → Datum
+operate op a b = value_or_null (operated op a b)
 
 -- numbers wrap round at 64 bits
 abbrev pub mean : Valuation → PlainTerm → Datum

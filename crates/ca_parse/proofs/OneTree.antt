@@ -1,132 +1,355 @@
--- Every derivation is what an exact answer says, so tokens derive one tree.
-use Rattle.std.proofs.Common.{◌≡◌, ℕ, List, Option, None, refl, sym}
-use Rattle.ca_descent.specs.Exact.{Got, Exact, Sees, head_of, Before, Many, many_end, many_and, separated_none, separated, following_end, following}
-use Rattle.ca_descent.proofs.Exact.{sees_got, sees_head}
-use Rattle.ca_descent.proofs.Many.{many_stop, many_more}
-use Rattle.ca_descent.proofs.Separated.{Punctuated, following_more, following_stop, separated_stop, separated_more}
-use Rattle.ca_descent.proofs.Whole.{whole_got}
+-- Every derivation of tokens is the only one, so they derive one tree.
+use Rattle.std.proofs.Common.{◌≡◌, ◌+◌, ℕ, ℤ, List, [], ◌∷◌, ◌++◌, Bool, true, false, Option, Some, None, is_some, refl, sym, ◌∙◌, ap, subst}
+use Rattle.ca_descent.specs.Exact.{Got, Sees, sees, head_of, Separated, separated_none, separated, Following, following_end, following}
+use Rattle.ca_descent.proofs.Exact.{sees_head}
+use Rattle.ca_descent.proofs.Separated.{Punctuated}
 use Rattle.ca_tree.specs.declared.name.Place.{Place}
 use Rattle.ca_tree.specs.declared.token.Token.{Token}
-use Rattle.ca_tree.specs.declared.token.Keyword.TheVariants.{Class as ClassKey, Long as LongKey, Void, Return, New, Nullptr}
-use Rattle.ca_tree.specs.declared.token.Sign.TheVariants.{CloseBrace, CloseParenthesis, Semicolon, Comma, Times, Arrow}
-use Rattle.ca_tree.specs.Plain.{Expression, MemberTree, TextTree}
-use Rattle.ca_parse.specs.Terminals.{key, sign, name, number, operator}
-use Rattle.ca_parse.specs.Grammar.{Deriving, TypeName, long, pointer, field, Param, param, Item, name_item, number_item, Sum, sum_end, sum_more, Value, null_value, sum_value, Put, put, Block, block, op, FieldMember, a_field, OpMember, an_op, Members, members, Class, a_class, Start, new_start, null_start, Arg, null_arg, item_arg, Line, declares, calls, End, brace_end, return_end, Main, main, Program, program, Listed, Derives}
-use Rattle.ca_parse.specs.Readers.{UptoBrace}
-use Rattle.ca_parse.proofs.Terminals.{name_not_key, name_not_number, sign_not_key, sign_not_name, sign_not_sign, key_not_key, sign_not_operator, sees_parts}
-use Rattle.ca_parse.proofs.Parts.{and_ok, and_done}
-use Rattle.ca_parse.proofs.TypeRules.{long_answer, pointer_answer, field_answer, param_answer}
-use Rattle.ca_parse.proofs.ExpressionRules.{item_not_key, number_item_answer, name_item_answer, sum_stop, more_answer, null_value_answer, sum_answer, null_arg_answer, item_arg_answer}
-use Rattle.ca_parse.proofs.StatementRules.{put_answer, block_answer, null_start_answer, new_start_answer, local_answer, call_answer, declares_answer, calls_answer, line_answer, return_end_answer, brace_end_answer, end_not_name, main_answer}
-use Rattle.ca_parse.proofs.ClassRules.{op_answer, ops_not_type, members_answer, class_answer, main_not_class, program_answer}
-use Rattle.ca_parse.proofs.Lists.{Begins, field_begins, op_begins, put_begins, line_begins, class_begins, as_field, as_op, behind_start, Further, param_rule, arg_rule}
+use Rattle.ca_tree.specs.declared.token.Kind.TheVariants.{Key as KeyKind}
+use Rattle.ca_tree.specs.declared.token.Keyword.{Keyword}
+use Rattle.ca_tree.specs.declared.token.Keyword.TheVariants.{This, Class as ClassKey, Long as LongKey, Bool as BoolKey, Int, Void, If, Else, While, For, Return, New, Print}
+use Rattle.ca_tree.specs.declared.token.Sign.{Sign}
+use Rattle.ca_tree.specs.declared.token.Sign.TheVariants.{OpenBrace, CloseBrace, OpenParenthesis, CloseParenthesis, OpenBracket, Semicolon, Comma, Times, Assign as AssignSign, PlusAssign, MinusAssign, TimesAssign, Increment, Decrement}
+use Rattle.ca_tree.specs.declared.tree.TypeNode.{TypeNode}
+use Rattle.ca_tree.specs.declared.tree.AssignOp.{AssignOp}
+use Rattle.ca_tree.specs.declared.tree.ParamNode.{ParamNode}
+use Rattle.ca_tree.specs.Plain.{Expression, RightSide, Statement, MemberTree, ClassTree, TextTree, call_statement, if_only, if_else}
+use Rattle.ca_expressions.specs.Terminals.{key, key_of, sign, sign_of, name, name_of, goes_on, goes_on_of}
+use Rattle.ca_expressions.specs.Grammar.{OuterExpression, OuterChain}
+use Rattle.ca_expressions.proofs.Terminals.{key_gives, sign_gives, name_gives}
+use Rattle.ca_parse.specs.Grammar.{Deriving, TypeName, long, bool, pointer, Right, expression, creation, creation_call, Local, declares, begins, Compound, plus_assign, minus_assign, times_assign, Change, puts, changes, increments, decrements, Assign, assigns, AssignLine, assign_line, First, first_local, first_assign, Stmt, nothing, a_block, an_assign, a_call, an_if, an_if_else, a_while, a_for, a_return, a_print, Item, a_local, a_statement, Items, items_end, items_and, Lines, lines_end, lines_and, One, one, Listed, Param, param, Signature, signature, Length, scalar, array, Further, further_plain, further_pointer, Member, fields, operation, value_method, Declaration, forward, a_class, read, is_return_zero, MainItem, main_item, kept, Program, program, is_pointer, is_open, first_place, DerivesFree}
+use Rattle.ca_parse.specs.Closed.{RightClosed, ChangeClosed, AssignClosed, StmtClosed, ItemClosed, Shut, LengthClosed, Condition, condition, Otherwise, with_else, without, OtherwiseClosed, IfRest, if_rest, IfRestClosed, WhileRestClosed, ForRestClosed, Simple, simple_call, simple_put, Use, calling, putting, Used, called, put, AssignToClosed, Named, NamedClosed, named_field, FurtherClosed, method_of, MemberRest, method_rest, field_rest, MainItemClosed, main_closed, MainBody, main_body}
+use Rattle.ca_parse.proofs.Alone.{Alone, exact_alone, sees_alone, then_alone, done_alone, fewer_alone, picked_alone, lines_alone, one_alone}
+use Rattle.ca_parse.proofs.OneExpression.{expression_alone as value_alone, chain_alone as target_alone}
+use Rattle.ca_parse.proofs.Locals.{TypeFront, front_long, front_bool, front_name, local_front, LocalOr, a_local as or_local, another, Other}
+use Rattle.ca_parse.proofs.AssignRules.{long_alone, bool_alone, pointer_alone, expression_alone, expression_not_new, creation_alone, created_alone, created_call_alone, no_bracket, bare_alone, valued_alone, local_alone, plus_alone, minus_alone, times_alone, puts_alone, increments_alone, decrements_alone, changes_alone, compound_not, assign_to_alone, change_ended, ended_sign, is_targeted, assign_alone, assign_line_alone}
+use Rattle.ca_parse.proofs.StatementRules.{nothing_alone, block_alone, if_alone, while_alone, for_alone, return_alone, print_alone, return_rest_alone, print_rest_alone, condition_split, if_rest_split, while_rest_split, for_rest_split, branch_shut, else_split, else_parts}
+use Rattle.ca_parse.proofs.ChainStatements.{simple_split, chain_split, call_use, put_use, other_line, other_statement, first_split, item_split}
+use Rattle.ca_parse.proofs.StatementFronts.{chain_front, assign_front, item_not_else, item_not_close, no_else, type_front}
+use Rattle.ca_parse.proofs.MemberRules.{param_alone, param_rule, signature_alone, array_alone, named_split, further_rule, following_not, following_not_bracket, length_not_bracket, method_of_alone, method_rest_alone, field_rest_alone, operation_alone, typed_alone, member_lines, forward_rest_alone, class_rest_alone, declaration_alone, declaration_lines, scalar_answer}
+use Rattle.ca_parse.proofs.TextRules.{main_lines, main_item_of, main_body_split, program_alone}
 
--- a derivation of each of them is an exact answer
-abbrev Tells : {A : Type 0} → Deriving A → Type 0
-Tells {A} D = (s r : List Token) (x : A) → D s x r → Exact D D s (Got x r)
+type_tells : (free : ℕ) (s r : List Token) (ty : TypeNode × Place) → TypeName free s ty r → Alone TypeName s ty r
+type_tells free s r ty (long d) = long_alone (sees_head (key LongKey) d) (then_alone (sees_alone d) done_alone)
+type_tells free s r ty (bool d) = bool_alone (sees_head (key BoolKey) d) (then_alone (sees_alone d) done_alone)
+type_tells free s r ty (pointer n t) = pointer_alone (name_gives (key_of LongKey) n) (name_gives (key_of BoolKey) n)
+    (then_alone (sees_alone n) (then_alone (sees_alone t) done_alone))
 
-module _ {A E : Type 0} (D : Deriving A) (want : Token → Option E) (begins : Begins D want) (tells : Tells D) where
-  list_tells : (s r : List Token) (xs : List A) → Many D s xs r → head_of want r ≡ None
-      → Exact (Many D) (Before want (Many D)) s (Got xs r)
-  list_tells s r xs many_end h = many_stop h begins
-  list_tells s r xs (many_and d m) h = let b = begins _ _ _ d in many_more b.1 (tells _ _ _ d) (list_tells _ _ _ m h)
+right_tells : (free : ℕ) (s r : List Token) (x : RightSide) → Right free s x r → head_of (goes_on 0) r ≡ None → Alone RightClosed s x r
+right_tells free s r x (expression e) h = expression_alone (expression_not_new _ _ _ _ e) (then_alone (value_alone _ _ _ _ e h) done_alone)
+right_tells free s r x (creation w n) h = creation_alone (sees_head (key New) w) (then_alone (sees_alone w) (then_alone (sees_alone n)
+    (created_alone _ (no_bracket r h) done_alone)))
+right_tells free s r x (creation_call w n o c) h = creation_alone (sees_head (key New) w) (then_alone (sees_alone w) (then_alone (sees_alone n)
+    (created_call_alone _ (sees_head (sign OpenParenthesis) o) (then_alone (sees_alone o) (then_alone (sees_alone c) done_alone)))))
 
-module _ {A : Type 0} {D : Deriving A} (rule : Punctuated D D (sign Comma) (sign CloseParenthesis)) (tells : Tells D) where
-  further_tells : (s r : List Token) (xs : List A) → Further D s xs r → Exact (Further D) (Further D) s (Got xs r)
-  further_tells s r xs (following_end c) = let p = sees_parts c in following_stop rule p.1 p.2
-  further_tells s r xs (following c d f) = let p = sees_parts c in following_more rule p.1 p.2 (tells _ _ _ d) (further_tells _ _ _ f)
+local_tells : (free : ℕ) (s r : List Token) (x : Statement) → Local free s x r → Alone Local s x r
+local_tells free s r x (declares t n e) = local_alone (then_alone (type_tells _ _ _ _ t) (then_alone (sees_alone n)
+    (bare_alone _ _ (sign_gives (sign_of AssignSign) Semicolon e) (then_alone (sees_alone e) done_alone))))
+local_tells free s r x (begins t n a v e) = local_alone (then_alone (type_tells _ _ _ _ t) (then_alone (sees_alone n)
+    (valued_alone _ _ (sees_head (sign AssignSign) a) (then_alone (sees_alone a)
+    (then_alone (right_tells _ _ _ _ v (ended_sign Semicolon e (λ at. refl))) (then_alone (sees_alone e) done_alone))))))
 
-  listed_tells : (s r : List Token) (xs : List A) → Listed D s xs r → Exact (Listed D) (Listed D) s (Got xs r)
-  listed_tells s r xs (separated_none c) = let p = sees_parts c in separated_stop rule p.1 p.2
-  listed_tells s r xs (separated d f) = separated_more rule (rule.begins _ _ _ d) (tells _ _ _ d) (further_tells _ _ _ f)
+compound_tells : (s r : List Token) (o : AssignOp) → Compound s o r → Alone (λ free. Compound) s o r
+compound_tells s r o (plus_assign d) = plus_alone (sees_head (sign PlusAssign) d) (then_alone (sees_alone d) done_alone)
+compound_tells s r o (minus_assign d) = minus_alone (sees_head (sign MinusAssign) d) (then_alone (sees_alone d) done_alone)
+compound_tells s r o (times_assign d) = times_alone (sign_gives (sign_of PlusAssign) TimesAssign d) (sign_gives (sign_of MinusAssign) TimesAssign d)
+    (then_alone (sees_alone d) done_alone)
 
-type_tells : Tells TypeName
-type_tells s r x (long l) = long_answer (sees_head (key LongKey) l) (and_ok (sees_got l) and_done)
-type_tells s r x (pointer n t) = pointer_answer (name_not_key LongKey n) (and_ok (sees_got n)
-    (and_ok (sees_got t) and_done))
+change_tells : (free : ℕ) (s r : List Token) (c : AssignOp × RightSide) → Change free s c r → head_of (goes_on 0) r ≡ None → Alone ChangeClosed s c r
+change_tells free s r c (puts a v) h = puts_alone (sees_head (sign AssignSign) a) (then_alone (sees_alone a) (then_alone (right_tells _ _ _ _ v h) done_alone))
+change_tells free s r c (increments d) h = increments_alone (sees_head (sign Increment) d) (then_alone (sees_alone d) done_alone)
+change_tells free s r c (decrements d) h = decrements_alone (sees_head (sign Decrement) d) (then_alone (sees_alone d) done_alone)
+change_tells free s r c (changes o e) h = changes_alone (compound_not AssignSign (λ p. refl) (λ p. refl) (λ p. refl) _ _ _ o)
+    (compound_not Increment (λ p. refl) (λ p. refl) (λ p. refl) _ _ _ o) (compound_not Decrement (λ p. refl) (λ p. refl) (λ p. refl) _ _ _ o)
+    (then_alone (compound_tells _ _ _ o) (then_alone (value_alone _ _ _ _ e h) done_alone))
 
-field_tells : Tells FieldMember
-field_tells s r x (a_field (field t n e)) = as_field (field_answer (and_ok (type_tells _ _ _ t)
-    (and_ok (sees_got n) (and_ok (sees_got e) and_done))))
+assign_tells : (free : ℕ) (s r : List Token) (x : Statement) → Assign free s x r → head_of (goes_on 0) r ≡ None → Alone AssignClosed s x r
+assign_tells free s r x (assigns c t d) h = assign_alone (then_alone (picked_alone (is_targeted _ t) (target_alone _ _ _ _ c (change_ended _ _ _ _ d)))
+    (assign_to_alone _ (then_alone (change_tells _ _ _ _ d h) done_alone)))
 
-param_tells : Tells Param
-param_tells s r x (param t n) = param_answer (and_ok (type_tells _ _ _ t) (and_ok (sees_got n) and_done))
+line_tells : (free : ℕ) (s r : List Token) (x : Statement) → AssignLine free s x r → Alone AssignLine s x r
+line_tells free s r x (assign_line a e) = assign_line_alone (then_alone (assign_tells _ _ _ _ a (ended_sign Semicolon e (λ at. refl)))
+    (then_alone (sees_alone e) done_alone))
 
-item_tells : Tells Item
-item_tells s r x (number_item d) = number_item_answer (sees_head number d) (and_ok (sees_got d) and_done)
-item_tells s r x (name_item d) = name_item_answer (name_not_number d) (and_ok (sees_got d) and_done)
+-- a local is nothing else
+module _ {D C : Deriving Statement} (other : Other D C) where
+  not_other : (free : ℕ) (s r : List Token) (x : Statement) → TypeFront s → C free s x r → ⊥
+  not_other free s r x (front_long d) c = let f = other.not_long free s r x c in let g = sees_head (key LongKey) d in absurd cc
+  not_other free s r x (front_bool d) c = let f = other.not_bool free s r x c in let g = sees_head (key BoolKey) d in absurd cc
+  not_other free s r x (front_name (sees {t = t} {a = n} {r = q} h) e) c =
+      let f = other.not_star free t q r n x h c in let g = sees_head (sign Times) e in absurd cc
 
-sum_tells : (n : ℕ) (a : Expression) (s r : List Token) (x : Expression) → Sum n a s x r
-    → head_of operator r ≡ None → Exact (Sum n a) (Before operator (Sum n a)) s (Got x r)
-sum_tells n a s r x sum_end h = sum_stop n a h
-sum_tells n a s r x (sum_more k o i m) h = more_answer n a k (sees_head operator o) (and_ok (sees_got o)
-    (and_ok (item_tells _ _ _ i) (sum_tells _ _ _ _ _ m h)))
+  local_or_tells : (free : ℕ) (s r : List Token) (x : Statement) → Local free s x r → Alone (LocalOr C) s x r
+  local_or_tells free s r x l = record { only = λ free' q y d. at free' s q y (local_front _ _ _ _ l) (local_tells _ _ _ _ l) d }
+    where
+      at : (free' : ℕ) (s' q : List Token) (y : Statement) → TypeFront s' → Alone Local s' x r → LocalOr C free' s' y q → (y ≡ x) × (q ≡ r)
+      at free' s' q y t a (or_local d) = a.only free' q y d
+      at free' s' q y t a (another d) = absurd (not_other free' s' q y t d)
 
-value_tells : (s r : List Token) (x : Expression) → Value s x r → head_of operator r ≡ None
-    → Exact Value (Before operator Value) s (Got x r)
-value_tells s r x (null_value d) h = null_value_answer (sees_head (key Nullptr) d) (and_ok (sees_got d) and_done)
-value_tells s r x (sum_value i m) h = sum_answer (item_not_key Nullptr _ _ _ i)
-    (and_ok (item_tells _ _ _ i) (sum_tells _ _ _ _ _ m h))
+  other_tells : (free : ℕ) (s r : List Token) (x : Statement) → C free s x r → Alone C s x r → Alone (LocalOr C) s x r
+  other_tells free s r x c a = record { only = λ free' q y d. at free' s q y c a d }
+    where
+      at : (free' : ℕ) (s' q : List Token) (y : Statement) → C free s' x r → Alone C s' x r → LocalOr C free' s' y q → (y ≡ x) × (q ≡ r)
+      at free' s' q y c a (or_local d) = absurd (not_other free s' r x (local_front _ _ _ _ d) c)
+      at free' s' q y c a (another d) = a.only free' q y d
 
-arg_tells : Tells Arg
-arg_tells s r x (null_arg d) = null_arg_answer (sees_head (key Nullptr) d) (and_ok (sees_got d) and_done)
-arg_tells s r x (item_arg i) = item_arg_answer (item_not_key Nullptr _ _ _ i) (item_tells _ _ _ i)
+first_tells : (free : ℕ) (s r : List Token) (x : Statement) → First free s x r → Alone First s x r
+first_tells free s r x (first_local l) = fewer_alone (λ free q y c. first_split free s q y c) (local_or_tells other_line _ _ _ _ l)
+first_tells free s r x (first_assign d) = fewer_alone (λ free q y c. first_split free s q y c) (other_tells other_line _ _ _ _ d (line_tells _ _ _ _ d))
 
-put_tells : Tells Put
-put_tells s r x (put n a v e) = put_answer (and_ok (sees_got n) (and_ok (sees_got a)
-    (and_ok (value_tells _ _ _ v (sign_not_operator Semicolon refl refl e)) (and_ok (sees_got e) and_done))))
+condition_tells : (free : ℕ) (s r : List Token) (x : Expression) → Condition free s x r → Alone Condition s x r
+condition_tells free s r x (condition o e c) = fewer_alone (λ free q y d. condition_split free s q y d)
+    (then_alone (sees_alone o) (then_alone (value_alone _ _ _ _ e (ended_sign CloseParenthesis c (λ at. refl))) (then_alone (sees_alone c) done_alone)))
 
-block_tells : Tells Block
-block_tells s r x (block o xs c) = block_answer (and_ok (sees_got o)
-    (and_ok (list_tells Put name put_begins put_tells _ _ _ xs (sign_not_name CloseBrace c))
-    (and_ok (sees_got c) and_done)))
+-- statements that begin with a chain
+used_call : (x : Expression) (s r : List Token) (e : Place) → Sees (sign Semicolon) s e r → Alone (Used (calling x)) s (call_statement (first_place x) x) r
+used_call x s r e d = record { only = λ free q y c. at free s q y (sees_alone d) c }
+  where
+    at : (free : ℕ) (s' q : List Token) (y : Statement) → Alone (λ free. Sees (sign Semicolon)) s' e r → Used (calling x) free s' y q
+        → (y ≡ call_statement (first_place x) x) × (q ≡ r)
+    at free s' q y a (called d) = (refl, (a.only free q _ d).1)
 
-op_tells : Tells OpMember
-op_tells s r x (an_op (op v n o ps b)) = as_op (op_answer (and_ok (sees_got v) (and_ok (sees_got n)
-    (and_ok (sees_got o) (and_ok (listed_tells param_rule param_tells _ _ _ ps)
-    (and_ok (block_tells _ _ _ b) and_done))))))
+used_put : (x : Expression) (s m r : List Token) (y : Statement) (e : Place) → Alone (AssignToClosed x) s y m → Sees (sign Semicolon) m e r
+    → Alone (Used (putting x)) s y r
+used_put x s m r y e a d = record { only = λ free q z c. at free s q z a c }
+  where
+    at : (free : ℕ) (s' q : List Token) (z : Statement) → Alone (AssignToClosed x) s' y m → Used (putting x) free s' z q → (z ≡ y) × (q ≡ r)
+    at free s' q z a (put {s1 = m'} {e = e'} c k) =
+        let g = a.only free m' z (record { it = c; stop = ended_sign Semicolon k (λ at. refl) }) in
+        (g.0, ((sees_alone d).only free q e' (subst (λ w. Sees (sign Semicolon) w e' q) g.1 k)).1)
 
-members_tells : (s q r : List Token) (ms : List MemberTree) (b : Place) → Members s ms q
-    → Sees (sign CloseBrace) q b r → Exact Members UptoBrace s (Got ms q)
-members_tells s q r ms b (members {fs = fs} f m) c = members_answer
-    (and_ok (list_tells FieldMember _ field_begins field_tells _ _ _ f (ops_not_type _ _ _ _ _ m c))
-    ((behind_start fs (Many OpMember) (Before (key Void) (Many OpMember)) _).go (Got _ q) (list_tells OpMember (key Void) op_begins op_tells _ _ _ m (sign_not_key CloseBrace Void c))))
+simple_tells : (free : ℕ) (s r : List Token) (x : Statement) → Simple free s x r → Alone Simple s x r
+simple_tells free s r x (simple_call c h e) = fewer_alone (λ free q y d. simple_split free s q y d)
+    (then_alone (picked_alone (call_use _ h) (target_alone _ _ _ _ c (sign_gives (goes_on_of 6) Semicolon e))) (used_call _ _ _ _ e))
+simple_tells free s r x (simple_put (assign_line (assigns c h d) e)) = fewer_alone (λ free q y k. simple_split free s q y k)
+    (then_alone (picked_alone (put_use _ h) (target_alone _ _ _ _ c (change_ended _ _ _ _ d)))
+    (used_put _ _ _ _ _ _ (assign_to_alone _ (then_alone (change_tells _ _ _ _ d (ended_sign Semicolon e (λ at. refl))) done_alone)) e))
 
-class_tells : Tells Class
-class_tells s r x (a_class c n o p d ms b e) = class_answer (and_ok (sees_got c) (and_ok (sees_got n)
-    (and_ok (sees_got o) (and_ok (sees_got p) (and_ok (sees_got d)
-    (and_ok (members_tells _ _ _ _ _ ms b) (and_ok (sees_got b) (and_ok (sees_got e) and_done))))))))
+-- a first token that no other statement has
+plain_tells : (depth free : ℕ) (s r : List Token) (x : Statement) → head_of (sign Semicolon) s ≡ None → head_of (sign OpenBrace) s ≡ None
+    → head_of (key If) s ≡ None → head_of (key While) s ≡ None → head_of (key For) s ≡ None → head_of (key Return) s ≡ None
+    → head_of (key Print) s ≡ None → Simple free s x r → Alone (StmtClosed depth) s x r
+plain_tells depth free s r x m b i w f t p d = fewer_alone (λ free q y c. chain_split depth free s q y
+    (record { it = record { it = record { it = record { it = record { it = record { it = record { it = c; unseen = m }; unseen = b }; unseen = i }; unseen = w }; unseen = f }; unseen = t }; unseen = p }))
+    (simple_tells _ _ _ _ d)
 
-start_tells : Tells Start
-start_tells s r x (null_start d) = null_start_answer (sees_head (key Nullptr) d) (and_ok (sees_got d) and_done)
-start_tells s r x (new_start w n o c) = new_start_answer (key_not_key New Nullptr refl w)
-    (and_ok (sees_got w) (and_ok (sees_got n) (and_ok (sees_got o) (and_ok (sees_got c) and_done))))
+without_tells : (depth : ℕ) (at : Place) (x : Expression) (y : Statement) (s : List Token)
+    → (is_some (head_of (key Else) s) ≡ true → is_open (if_only at x y) ≡ false) → Alone (OtherwiseClosed depth at x y) s (if_only at x y) s
+without_tells depth at x y s h = record { only = λ free q z c. by_else (head_of (key Else) s) refl free q z c.it }
+  where
+    by_else : (o : Option Place) → head_of (key Else) s ≡ o → (free : ℕ) (q : List Token) (z : Statement) → Otherwise depth at x y free s z q
+        → (z ≡ if_only at x y) × (q ≡ s)
+    by_else (Some a) e free q z c = let f = h (ap is_some e) in absurd cc
+    by_else None e free q z without = (refl, refl)
+    by_else None e free q z (with_else k d l) = let f = sees_head (key Else) d in absurd cc
 
-line_tells : Tells Line
-line_tells s r x (declares c t n a v e) = line_answer
-    (and_ok (sees_got c) (declares_answer _ _ (sees_head (sign Times) t) (and_ok (sees_got t)
-    (local_answer _ _ (and_ok (sees_got n) (and_ok (sees_got a) (and_ok (start_tells _ _ _ v)
-    (and_ok (sees_got e) and_done))))))))
-line_tells s r x (calls o a n p xs e) = line_answer
-    (and_ok (sees_got o) (calls_answer _ _ (sign_not_sign Arrow Times refl a)
-    (call_answer _ _ (and_ok (sees_got a) (and_ok (sees_got n) (and_ok (sees_got p)
-    (and_ok (listed_tells arg_rule arg_tells _ _ _ xs) (and_ok (sees_got e) and_done))))))))
+no_sign : (k : Sign) {free : ℕ} {s r : List Token} {x : Statement} → AssignLine free s x r → head_of (sign k) s ≡ None
+no_sign k a = assign_front (sign_of k) (λ p. refl) (λ n p. refl) _ _ _ _ a
 
-end_tells : Tells End
-end_tells s r x (brace_end c) = brace_end_answer (sign_not_key CloseBrace Return c) (sees_got c)
-end_tells s r x (return_end w z e c) = return_end_answer (sees_head (key Return) w) (and_ok (sees_got w)
-    (and_ok (sees_got z) (and_ok (sees_got e) (sees_got c))))
+no_key : (k : Keyword) → ((p : Place) → key_of k (KeyKind This) p ≡ None) → {free : ℕ} {s r : List Token} {x : Statement} → AssignLine free s x r
+    → head_of (key k) s ≡ None
+no_key k f a = assign_front (key_of k) f (λ n p. refl) _ _ _ _ a
 
-main_tells : Tells Main
-main_tells s r x (main i m o c b xs e) = main_answer (and_ok (sees_got i) (and_ok (sees_got m)
-    (and_ok (sees_got o) (and_ok (sees_got c) (and_ok (sees_got b)
-    (and_ok (list_tells Line name line_begins line_tells _ _ _ xs (end_not_name _ _ _ e))
-    (and_ok (end_tells _ _ _ e) and_done)))))))
+no_chain_sign : (k : Sign) {free : ℕ} {s r : List Token} {x : Expression} → OuterChain free s x r → head_of (sign k) s ≡ None
+no_chain_sign k c = chain_front (sign_of k) (λ p. refl) (λ n p. refl) _ _ _ _ c
 
-program_tells : Tells Program
-program_tells s r x (program cs m) = program_answer
-    (and_ok (list_tells Class (key ClassKey) class_begins class_tells _ _ _ cs (main_not_class _ _ _ m))
-    (and_ok (main_tells _ _ _ m) and_done))
+no_chain_key : (k : Keyword) → ((p : Place) → key_of k (KeyKind This) p ≡ None) → {free : ℕ} {s r : List Token} {x : Expression} → OuterChain free s x r
+    → head_of (key k) s ≡ None
+no_chain_key k f c = chain_front (key_of k) f (λ n p. refl) _ _ _ _ c
 
-pub tree_is_one : (ts : List Token) (x y : TextTree) → Derives ts x → Derives ts y → x ≡ y
-tree_is_one ts x y d e = sym ((whole_got (program_tells _ _ _ d) refl (λ s z c. c)).1 y e)
+items_not_else : (depth free : ℕ) (s r : List Token) (xs : List Statement) → Items depth free s xs r → head_of (key Else) s ≡ None
+items_not_else depth free s r xs (items_end c) = sign_gives (key_of Else) CloseBrace c
+items_not_else depth free s r xs (items_and i m) = item_not_else _ _ _ _ _ i
+
+items_none : (depth free : ℕ) (s q r : List Token) (ys : List Statement) {b : Place} → Alone (λ free. Sees (sign CloseBrace)) s b r
+    → head_of (sign CloseBrace) s ≡ Some b → Items depth free s ys q → (ys ≡ []) × (q ≡ r)
+items_none depth free s q r ys a h (items_end c) = (refl, (a.only free q _ c).1)
+items_none depth free s q r ys a h (items_and i m) = let f = item_not_close _ _ _ _ _ i in absurd cc
+
+items_more : (depth free : ℕ) (s m q r : List Token) (x : Statement) (us ys : List Statement) → head_of (sign CloseBrace) s ≡ None
+    → Alone (ItemClosed depth) s x m → Alone (Items depth) m us r → Items depth free s ys q → (ys ≡ x ∷ us) × (q ≡ r)
+items_more depth free s m q r x us ys h a b (items_end c) = let f = sees_head (sign CloseBrace) c in absurd cc
+items_more depth free s m q r x us ys h a b (items_and {q = n} {x = y} {xs = vs} i l) =
+    let g = a.only free n y (record { it = i; shut = no_else n (items_not_else depth free n q vs l) y }) in
+    let k = b.only free q vs (subst (λ z. Items depth free z vs q) g.1 l) in
+    (ap (λ z. z ∷ vs) g.0 ∙ ap (λ z. x ∷ z) k.0, k.1)
+
+mutual
+  stmt_tells : (depth free : ℕ) (s r : List Token) (x : Statement) → Stmt depth free s x r
+      → (is_some (head_of (key Else) r) ≡ true → is_open x ≡ false) → Alone (StmtClosed depth) s x r
+  stmt_tells depth free s r x (nothing d) h = nothing_alone depth (sees_head (sign Semicolon) d) (then_alone (sees_alone d) done_alone)
+  stmt_tells depth free s r x (a_block n d i) h = block_alone depth (sees_head (sign OpenBrace) d) (then_alone (sees_alone d)
+      (then_alone (items_tells (depth + 1) _ _ _ _ i) done_alone))
+  stmt_tells depth free s r x (an_assign a) h = plain_tells depth free s r x (no_sign Semicolon a) (no_sign OpenBrace a) (no_key If (λ p. refl) a)
+      (no_key While (λ p. refl) a) (no_key For (λ p. refl) a) (no_key Return (λ p. refl) a) (no_key Print (λ p. refl) a) (simple_put a)
+  stmt_tells depth free s r x (a_call c t e) h = plain_tells depth free s r x (no_chain_sign Semicolon c) (no_chain_sign OpenBrace c)
+      (no_chain_key If (λ p. refl) c) (no_chain_key While (λ p. refl) c) (no_chain_key For (λ p. refl) c) (no_chain_key Return (λ p. refl) c)
+      (no_chain_key Print (λ p. refl) c) (simple_call c t e)
+  stmt_tells depth free s r x (an_if {p = p} {x = c} {y = y} n d o e k b) h = if_alone depth (sees_head (key If) d) (then_alone (sees_alone d)
+      (fewer_alone (λ free q z w. if_rest_split depth p free _ q z w) (then_alone (condition_tells _ _ _ _ (condition o e k))
+      (then_alone (stmt_tells (depth + 1) _ _ _ _ b (branch_shut depth p free r r c y (if_only p c y) without h)) (without_tells depth p c y r h)))))
+  stmt_tells depth free s r x (an_if_else {p = p} {x = c} {y = y} n d o e k b i l z) h = if_alone depth (sees_head (key If) d) (then_alone (sees_alone d)
+      (fewer_alone (λ free q z w. if_rest_split depth p free _ q z w) (then_alone (condition_tells _ _ _ _ (condition o e k))
+      (then_alone (stmt_tells (depth + 1) _ _ _ _ b (λ f. i))
+      (fewer_alone (λ free q z w. else_split depth p c y _ free _ q z (record { it = w; seen = sees_head (key Else) l }))
+      (then_alone (sees_alone l) (then_alone (stmt_tells (depth + 1) _ _ _ _ z h) done_alone)))))))
+  stmt_tells depth free s r x (a_while {p = p} n d o e k b) h = while_alone depth (sees_head (key While) d) (then_alone (sees_alone d)
+      (fewer_alone (λ free q z w. while_rest_split depth p free _ q z w) (then_alone (condition_tells _ _ _ _ (condition o e k))
+      (then_alone (stmt_tells (depth + 1) _ _ _ _ b h) done_alone))))
+  stmt_tells depth free s r x (a_for {p = p} n d o i e m a c b) h = for_alone depth (sees_head (key For) d) (then_alone (sees_alone d)
+      (fewer_alone (λ free q z w. for_rest_split depth p free _ q z w) (then_alone (sees_alone o) (then_alone (first_tells _ _ _ _ i)
+      (then_alone (value_alone _ _ _ _ e (ended_sign Semicolon m (λ at. refl))) (then_alone (sees_alone m)
+      (then_alone (assign_tells _ _ _ _ a (ended_sign CloseParenthesis c (λ at. refl))) (then_alone (sees_alone c)
+      (then_alone (stmt_tells (depth + 1) _ _ _ _ b h) done_alone)))))))))
+  stmt_tells depth free s r x (a_return d e m) h = return_alone depth (sees_head (key Return) d) (then_alone (sees_alone d)
+      (return_rest_alone _ (then_alone (value_alone _ _ _ _ e (ended_sign Semicolon m (λ at. refl))) (then_alone (sees_alone m) done_alone))))
+  stmt_tells depth free s r x (a_print d o e c m) h = print_alone depth (sees_head (key Print) d) (then_alone (sees_alone d)
+      (print_rest_alone _ (then_alone (condition_tells _ _ _ _ (condition o e c)) (then_alone (sees_alone m) done_alone))))
+
+  item_tells : (depth free : ℕ) (s r : List Token) (x : Statement) → Item depth free s x r
+      → (is_some (head_of (key Else) r) ≡ true → is_open x ≡ false) → Alone (ItemClosed depth) s x r
+  item_tells depth free s r x (a_local l) h = fewer_alone (λ free q y c. item_split depth free s q y c) (local_or_tells (other_statement depth) _ _ _ _ l)
+  item_tells depth free s r x (a_statement d) h = fewer_alone (λ free q y c. item_split depth free s q y c)
+      (other_tells (other_statement depth) free s r x (record { it = d; shut = h }) (stmt_tells depth free s r x d h))
+
+  items_tells : (depth free : ℕ) (s r : List Token) (xs : List Statement) → Items depth free s xs r → Alone (Items depth) s xs r
+  items_tells depth free s r xs (items_end c) = record { only = λ free' q ys d. items_none depth free' s q r ys (sees_alone c) (sees_head (sign CloseBrace) c) d }
+  items_tells depth free s r xs (items_and {q = m} {x = x} {xs = us} i l) =
+      let g = item_tells depth free s m x i (no_else m (items_not_else depth free m r us l) x) in
+      let k = items_tells depth free m r us l in
+      record { only = λ free' q ys d. items_more depth free' s m q r x us ys (item_not_close depth free s m x i) g k d }
+
+-- lists with commas between
+module _ {A : Type 0} {D C : Deriving A} (close_of : Sign) (rule : Punctuated D C (sign Comma) (sign close_of))
+    (tells : (free : ℕ) (s r : List Token) (x : A) → C free s x r → Alone C s x r) where
+  after : (free : ℕ) (s q r : List Token) (x : A) (xs : List A) → D free s x q → Following D (sign Comma) (sign close_of) free q xs r → C free s x q
+  after free s q r x xs d (following_end c) = rule.before_close free s q x _ d (sees_head (sign close_of) c)
+  after free s q r x xs d (following c e f) = rule.before_comma free s q x _ d (sees_head (sign Comma) c)
+
+  following_none : (free : ℕ) (s q r : List Token) (ys : List A) {b : Place} → Alone (λ free. Sees (sign close_of)) s b r → head_of (sign close_of) s ≡ Some b
+      → Following D (sign Comma) (sign close_of) free s ys q → (ys ≡ []) × (q ≡ r)
+  following_none free s q r ys a h (following_end d) = (refl, (a.only free q _ d).1)
+  following_none free s q r ys a h (following (sees {t = t} {a = e} k) d f) = let n = rule.apart t e k in absurd cc
+
+  not_closed : (z : List Token) {c b : Place} → head_of (sign Comma) z ≡ Some c → head_of (sign close_of) z ≡ Some b → ⊥
+  not_closed [] e i = absurd cc
+  not_closed (t ∷ z) {c} e i = let n = rule.apart t c e in cc
+
+  following_some : (free : ℕ) (s m n q r : List Token) (c : Place) (x : A) (us ys : List A) → Alone (λ free. Sees (sign Comma)) s c m
+      → head_of (sign Comma) s ≡ Some c → Alone C m x n → Alone (Following D (sign Comma) (sign close_of)) n us r
+      → Following D (sign Comma) (sign close_of) free s ys q → (ys ≡ x ∷ us) × (q ≡ r)
+  following_some free s m n q r c x us ys a h t b (following_end g) = absurd (not_closed s h (sees_head (sign close_of) g))
+  following_some free s m n q r c x us ys a h t b (following {mid = m'} {q = n'} {e = c'} {x = y} {xs = vs} g d f) =
+      let i = a.only free m' c' g in
+      let j = t.only free n' y (subst (λ z. C free z y n') i.1 (after free m' n' q y vs d f)) in
+      let l = b.only free q vs (subst (λ z. Following D (sign Comma) (sign close_of) free z vs q) j.1 f) in
+      (ap (λ z. z ∷ vs) j.0 ∙ ap (λ z. x ∷ z) l.0, l.1)
+
+  following_tells : (free : ℕ) (s r : List Token) (xs : List A) → Following D (sign Comma) (sign close_of) free s xs r
+      → Alone (Following D (sign Comma) (sign close_of)) s xs r
+  following_tells free s r xs (following_end c) =
+      record { only = λ free' q ys d. following_none free' s q r ys (sees_alone c) (sees_head (sign close_of) c) d }
+  following_tells free s r xs (following {mid = m} {q = n} {e = c} {x = x} {xs = us} k d f) =
+      let l = following_tells free n r us f in
+      let t = tells free m n x (after free m n r x us d f) in
+      record { only = λ free' q ys g. following_some free' s m n q r c x us ys (sees_alone k) (sees_head (sign Comma) k) t l g }
+
+  separated_empty : (free : ℕ) (s q r : List Token) (ys : List A) {b : Place} → Alone (λ free. Sees (sign close_of)) s b r → head_of (sign close_of) s ≡ Some b
+      → Separated D (sign Comma) (sign close_of) free s ys q → (ys ≡ []) × (q ≡ r)
+  separated_empty free s q r ys a h (separated_none d) = (refl, (a.only free q _ d).1)
+  separated_empty free s q r ys a h (separated d f) = let n = rule.begins free s _ _ d in absurd cc
+
+  separated_some : (free : ℕ) (s n q r : List Token) (x : A) (us ys : List A) → head_of (sign close_of) s ≡ None → Alone C s x n
+      → Alone (Following D (sign Comma) (sign close_of)) n us r → Separated D (sign Comma) (sign close_of) free s ys q → (ys ≡ x ∷ us) × (q ≡ r)
+  separated_some free s n q r x us ys h t b (separated_none g) = let k = sees_head (sign close_of) g in absurd cc
+  separated_some free s n q r x us ys h t b (separated {q = n'} {x = y} {xs = vs} d f) =
+      let j = t.only free n' y (after free s n' q y vs d f) in
+      let l = b.only free q vs (subst (λ z. Following D (sign Comma) (sign close_of) free z vs q) j.1 f) in
+      (ap (λ z. z ∷ vs) j.0 ∙ ap (λ z. x ∷ z) l.0, l.1)
+
+  separated_tells : (free : ℕ) (s r : List Token) (xs : List A) → Separated D (sign Comma) (sign close_of) free s xs r
+      → Alone (Separated D (sign Comma) (sign close_of)) s xs r
+  separated_tells free s r xs (separated_none c) =
+      record { only = λ free' q ys d. separated_empty free' s q r ys (sees_alone c) (sees_head (sign close_of) c) d }
+  separated_tells free s r xs (separated {q = n} {x = x} {xs = us} d f) =
+      let l = following_tells free n r us f in
+      let t = tells free s n x (after free s n r x us d f) in
+      record { only = λ free' q ys g. separated_some free' s n q r x us ys (rule.begins free s n x d) t l g }
+
+param_tells : (free : ℕ) (s r : List Token) (x : ParamNode) → Param free s x r → Alone Param s x r
+param_tells free s r x (param t n) = param_alone (then_alone (type_tells _ _ _ _ t) (then_alone (sees_alone n) done_alone))
+
+signature_tells : (free : ℕ) (s r : List Token) (m : List ParamNode × List Statement) → Signature free s m r → Alone Signature s m r
+signature_tells free s r m (signature o p b i) = signature_alone (then_alone (sees_alone o)
+    (then_alone (separated_tells CloseParenthesis param_rule param_tells _ _ _ _ p) (then_alone (sees_alone b)
+    (then_alone (items_tells 1 _ _ _ _ i) done_alone))))
+
+length_tells : (free : ℕ) (s r : List Token) (l : Option ℤ) → Length free s l r → head_of (sign OpenBracket) r ≡ None → Alone LengthClosed s l r
+length_tells free s r l (array o n c) h = array_alone (sees_head (sign OpenBracket) o) (then_alone (sees_alone o) (then_alone (sees_alone n)
+    (then_alone (sees_alone c) done_alone)))
+length_tells free s r l scalar h = exact_alone (scalar_answer h)
+
+named_tells : (ty : TypeNode) (free : ℕ) (s r : List Token) (x : MemberTree) → Named ty free s x r → head_of (sign OpenBracket) r ≡ None
+    → Alone (NamedClosed ty) s x r
+named_tells ty free s r x (named_field n l) h = fewer_alone (λ free q y c. named_split ty free s q y c.it c.stop)
+    (then_alone (sees_alone n) (then_alone (length_tells _ _ _ _ l h) done_alone))
+
+further_tells : (ty : TypeNode) (free : ℕ) (s r : List Token) (x : MemberTree) → FurtherClosed ty free s x r → Alone (FurtherClosed ty) s x r
+further_tells ty free s r x c = record { only = λ free' q y d. at free free' s q x y r c.it c.stop d.it d.stop }
+  where
+    at : (free free' : ℕ) (s q : List Token) (x y : MemberTree) (r : List Token) → Further ty free s x r → head_of (sign OpenBracket) r ≡ None
+        → Further ty free' s y q → head_of (sign OpenBracket) q ≡ None → (y ≡ x) × (q ≡ r)
+    at free free' s q x y r (further_plain h n l) e (further_plain k m j) f =
+        (named_tells ty free s r x (named_field n l) e).only free' q y (record { it = named_field m j; stop = f })
+    at free free' s q x y r (further_plain h n l) e (further_pointer k t m j) f = absurd cc
+    at free free' s q x y r (further_pointer h t n l) e (further_plain k m j) f = absurd cc
+    at free free' s q x y r (further_pointer h t n l) e (further_pointer {s1 = u} {t = b} k w m j) f =
+        let g = (sees_alone t).only free' u b w in
+        (named_tells ty free _ r x (named_field n l) e).only free' q y (record { it = subst (λ z. Named ty free' z y q) g.1 (named_field m j); stop = f })
+
+member_tells : (free : ℕ) (s r : List Token) (xs : List MemberTree) → Member free s xs r → Alone Member s xs r
+member_tells free s r xs (operation v n m) = operation_alone (sees_head (key Void) v) (then_alone (sees_alone v) (then_alone (sees_alone n)
+    (then_alone (method_of_alone _ _ (then_alone (signature_tells _ _ _ _ m) done_alone)) done_alone)))
+member_tells free s r xs (value_method t n (signature o p b i)) = typed_alone (type_front (key_of Void) (λ p. refl) (λ p. refl) (λ n p. refl) _ _ _ _ t)
+    (then_alone (type_tells _ _ _ _ t) (then_alone (sees_alone n) (method_rest_alone _ _ (sees_head (sign OpenParenthesis) o)
+    (then_alone (method_of_alone _ _ (then_alone (signature_tells _ _ _ _ (signature o p b i)) done_alone)) done_alone))))
+member_tells free s r xs (fields {ty = ty} t n l f) = typed_alone (type_front (key_of Void) (λ p. refl) (λ p. refl) (λ n p. refl) _ _ _ _ t)
+    (then_alone (type_tells _ _ _ _ t) (then_alone (sees_alone n) (field_rest_alone _ _ (length_not_bracket _ _ _ _ _ l f)
+    (then_alone (length_tells _ _ _ _ l (following_not_bracket _ _ _ _ f))
+    (then_alone (following_tells Semicolon (further_rule ty.0) (further_tells ty.0) _ _ _ _ f) done_alone)))))
+
+declaration_tells : (free : ℕ) (s r : List Token) (xs : List ClassTree) → Declaration free s xs r → Alone Declaration s xs r
+declaration_tells free s r xs (forward c n e) = declaration_alone (then_alone (sees_alone c) (then_alone (sees_alone n)
+    (forward_rest_alone _ (sees_head (sign Semicolon) e) (then_alone (sees_alone e) done_alone))))
+declaration_tells free s r xs (a_class c n o p d m e) = declaration_alone (then_alone (sees_alone c) (then_alone (sees_alone n)
+    (class_rest_alone _ (sign_gives (sign_of Semicolon) OpenBrace o) (then_alone (sees_alone o) (then_alone (sees_alone p) (then_alone (sees_alone d)
+    (then_alone (lines_alone member_lines member_tells _ _ _ _ m) (then_alone (sees_alone e) done_alone))))))))
+
+main_item_tells : (free : ℕ) (s r : List Token) (x : Statement × Bool) → MainItemClosed free s x r → Alone MainItemClosed s x r
+main_item_tells free s r x (main_closed {x = y} i) = record {
+  only = λ free' q z c.
+      let k = main_item_of free' s q z c in
+      let g = (item_tells 1 free s r y i.it i.shut).only free' q z.0 k.0 in
+      (pair g.0 (k.1 ∙ ap (λ w. is_return_zero (read s w)) g.1), g.1);
+}
+  where
+    pair : {z : Statement × Bool} {y : Statement} {b : Bool} → z.0 ≡ y → z.1 ≡ b → z ≡ (y, b)
+    pair {z} {y} {b} e f = subst (λ w. z ≡ (w, b)) e (subst (λ w. z ≡ (z.0, w)) f refl)
+
+main_items_tells : (free : ℕ) (s r : List Token) (xs : List (Statement × Bool)) → One MainItemClosed free s xs r → Alone (One MainItemClosed) s xs r
+main_items_tells free s r xs (one d) = one_alone (main_item_tells _ _ _ _ d)
+
+body_tells : (free : ℕ) (s r : List Token) (xs : List (Statement × Bool)) → Lines (One MainItem) (sign CloseBrace) free s xs r
+    → Alone MainBody s (kept xs) r
+body_tells free s r xs d = record {
+  only = λ free' q ys c. let k = main_body_split free' s q ys c in
+      let g = (lines_alone main_lines main_items_tells free s r xs d).only free' q k.0 k.2 in (k.1 ∙ ap kept g.0, g.1);
+}
+
+program_tells : (free : ℕ) (s r : List Token) (x : TextTree) → Program free s x r → Alone Program s x r
+program_tells free s r x (program d m o c b i) = program_alone (then_alone (lines_alone declaration_lines declaration_tells _ _ _ _ d)
+    (then_alone (sees_alone m) (then_alone (sees_alone o) (then_alone (sees_alone c) (then_alone (sees_alone b)
+    (then_alone (body_tells _ _ _ _ i) done_alone))))))
+
+pub tree_is_one : (ts : List Token) (free other : ℕ) (x y : TextTree) → DerivesFree free ts x → DerivesFree other ts y → x ≡ y
+tree_is_one ts free other x y d e = sym ((program_tells free ts [] x d).only other [] y e).0

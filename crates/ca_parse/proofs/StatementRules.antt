@@ -1,247 +1,460 @@
--- The rules of statements and of `main` as their parts.
-use Rattle.std.proofs.Common.{◌≡◌, ℕ, List, Some, None, refl}
-use Rattle.ca_descent.specs.Exact.{Answer, Exact, Sees, head_of, Seen, Unseen}
-use Rattle.ca_descent.proofs.Exact.{seen, unseen, exact_map, sees_head}
+-- The rules of statements as their parts.
+use Rattle.std.proofs.Common.{◌≡◌, ◌<◌, ◌≤◌, ◌+◌, ◌||◌, ℕ, pos, List, [], ◌∷◌, ◌++◌, Bool, true, false, cond, length, map, Option, Some, None, is_some, refl, sym, ◌∙◌, ap, subst, arith, ◌⊎◌, inl, inr}
+use Rattle.ca_descent.specs.Exact.{Unlimited, Answer, Got, Failed, TooDeep, Exact, Sees, sees, head_of, Seen, Unseen, Before, Asked, Limited}
+use Rattle.ca_descent.proofs.Exact.{Default, DefaultFrom, seen, unseen, exact_map, sees_head, got_nothing, limited_ok, limited_deep, shrinks}
+use Rattle.ca_descent.proofs.Parts.{Then, then, Upto, upto, done, Part, ◌⨾◌, finish, default_of, default_from}
 use Rattle.ca_tree.specs.declared.name.Place.{Place}
 use Rattle.ca_tree.specs.declared.token.Token.{Token}
-use Rattle.ca_tree.specs.declared.token.Keyword.TheVariants.{Int, Return, New, Nullptr, Main as MainKey}
-use Rattle.ca_tree.specs.declared.token.Sign.TheVariants.{OpenBrace, CloseBrace, OpenParenthesis, CloseParenthesis, Semicolon, Assign, Times, Arrow}
-use Rattle.ca_tree.specs.declared.tree.TypeNode.TheVariants.{Pointer}
-use Rattle.ca_tree.specs.declared.tree.AssignOp.TheVariants.{Put as PutOp}
-use Rattle.ca_tree.specs.Plain.{RightSide, Statement, null, named, method, value, new, local, assign, call_statement}
-use Rattle.ca_parse.specs.Terminals.{key, sign, name, zero}
-use Rattle.ca_parse.specs.Grammar.{Put, put, Arg, Block, block, Start, null_start, new_start, Line, declares, calls, End, brace_end, return_end, Main, main, expressions}
-use Rattle.ca_parse.specs.Readers.{LocalRest, local_rest, CallRest, call_rest, LineRest, declares_rest, calls_rest}
-use Rattle.ca_parse.proofs.Terminals.{zero_default, key_not_name, sign_not_key, sign_not_name, key_not_key, sign_not_sign, sign_not_operator}
-use Rattle.ca_parse.proofs.Parts.{then, upto, done, Part, ◌⨾◌, finish}
-use Rattle.ca_parse.proofs.TypeRules.{word, mark, a_name, list_of, in_brackets, default_of}
-use Rattle.ca_parse.proofs.ExpressionRules.{a_value}
+use Rattle.ca_tree.specs.declared.token.Kind.{Kind}
+use Rattle.ca_tree.specs.declared.token.Kind.TheVariants.{Word}
+use Rattle.ca_tree.specs.declared.token.Kind.TheVariants.{Key as KeyKind, Sign as SignKind}
+use Rattle.ca_tree.specs.declared.token.Keyword.{Keyword}
+use Rattle.ca_tree.specs.declared.token.Keyword.TheVariants.{Long as LongKey, Bool as BoolKey, If, Else, While, For, Return, Print, This}
+use Rattle.ca_tree.specs.declared.token.Sign.{Sign}
+use Rattle.ca_tree.specs.declared.token.Sign.TheVariants.{OpenBrace, CloseBrace, OpenParenthesis, CloseParenthesis, OpenBracket, Semicolon, Times, Arrow, Assign as AssignSign, PlusAssign, MinusAssign, TimesAssign, Increment, Decrement}
+use Rattle.ca_tree.specs.declared.tree.AssignOp.{AssignOp}
+use Rattle.ca_tree.specs.declared.tree.AssignOp.TheVariants.{Add}
+use Rattle.ca_tree.specs.declared.tree.StmtNode.{StmtNode}
+use Rattle.ca_tree.specs.View.{statement_view, statements_view}
+use Rattle.ca_tree.specs.declared.tree.TypeNode.{TypeNode}
+use Rattle.ca_tree.specs.Plain.{Expression, RightSide, Statement, number as number_tree, truth, null, this, named, call, field, method, index, unary, binary, value, assign, statement_and, empty, block, call_statement, if_only, if_else, while_loop, for_loop, return_value, print_value}
+use Rattle.ca_expressions.specs.Terminals.{key, key_of, sign, sign_of, name, name_of, goes_on, goes_on_of}
+use Rattle.ca_expressions.specs.Grammar.{Chain, this_chain, name_chain, call_chain, args, Tails, tails_end, tails_more, Tail, field_tail, method_tail, index_tail, OuterExpression, ExpressionEnded, OuterChain, ChainEnded, is_call, is_target}
+use Rattle.ca_expressions.proofs.Terminals.{test, token, start, key_gives, sign_gives, name_gives, word, mark, key_sees, sign_sees}
+use Rattle.ca_expressions.specs.Readers.{answer}
+use Rattle.ca_expressions.specs.declared.tokens.Fault.{Fault}
+use Rattle.std.specs.Borrow.{Bor}
+use Rattle.std.specs.Prelude.{Result, Ok, Err, IfOk}
+use Rattle.ca_parse.specs.Grammar.{Deriving, TypeName, long, bool, pointer, Local, declares, begins, Change, puts, changes, increments, decrements, Compound, plus_assign, minus_assign, times_assign, Assign, assigns, AssignLine, assign_line, First, first_local, first_assign, Nested, Stmt, nothing, a_block, an_assign, a_call, an_if, an_if_else, a_while, a_for, a_return, a_print, Item, a_local, a_statement, Items, items_end, items_and, Lines, lines_end, lines_and, One, one, is_open, statements, first_place}
+use Rattle.ca_parse.specs.Closed.{AssignTo, assign_to, AssignToClosed, AssignClosed, Use, calling, putting, use_by, use_of, Picked, Used, called, put, Shut, StmtClosed, ItemClosed, Otherwise, with_else, without, OtherwiseClosed, Condition, condition, ReturnRest, return_rest, PrintRest, print_rest, Simple, simple_call, simple_put, IfRest, if_rest, IfRestClosed, WhileRest, while_rest, WhileRestClosed, ForRest, for_rest, ForRestClosed, is_nested}
+use Rattle.ca_parse.proofs.Lines.{Closing}
+use Rattle.ca_parse.proofs.Alone.{Alone, fewer_alone}
+use Rattle.ca_parse.proofs.Locals.{From, LocalOr, a_local as or_local, another, Other}
+use Rattle.ca_expressions.proofs.Outer.{an_expression, outer_chain_begins}
+use Rattle.ca_parse.proofs.AssignRules.{put_to, an_assign as assign_part, ended_sign, change_ended, assign_line_parts, assign_line_join}
+use Rattle.ca_parse.proofs.StatementFronts.{a_stmt, chain_front, assign_front}
 
-abbrev pub put_parts : Part Statement
-put_parts = a_name ⨾ λ n. mark Assign ⨾ λ a. a_value ⨾ λ x. mark Semicolon
-    ⨾ λ e. finish (assign n.1 (named n.1 n.0) PutOp (value x))
+-- `;`
+abbrev pub nothing_parts : (depth : ℕ) → Part Token Statement
+nothing_parts depth = mark Semicolon ⨾ λ p. finish (empty p)
 
-pub put_join : (s r : List Token) (x : Statement) → put_parts.D s x r → Put s x r
-put_join s r x (then n (then a (then v (then e done)))) = put n a v e
+pub nothing_join : (depth : ℕ) (free : ℕ) (s r : List Token) (x : Statement) → (nothing_parts depth).D free s x r → (Stmt depth) free s x r
+nothing_join depth free s r x (then d done) = nothing d
 
-put_split : (s r : List Token) (x : Statement) → Put s x r → put_parts.C s x r
-put_split s r x (put n a v e) = upto n (upto a
-    (upto (record { it = v; stop = sign_not_operator Semicolon refl refl e }) (upto e done)))
-
-pub put_answer : {s : List Token} {o : Answer Token Statement} → Exact put_parts.D put_parts.C s o → Exact Put Put s o
-put_answer d = exact_map (put_join) (put_split) d
-
-abbrev pub block_parts : Part (List Statement)
-block_parts = mark OpenBrace ⨾ λ o. list_of Put name ⨾ λ xs. mark CloseBrace ⨾ λ c. finish xs
-
-pub block_join : (s r : List Token) (x : (List Statement)) → block_parts.D s x r → Block s x r
-block_join s r x (then o (then xs (then c done))) = block o xs c
-
-block_split : (s r : List Token) (x : (List Statement)) → Block s x r → block_parts.C s x r
-block_split s r x (block o xs c) = upto o (upto (record { it = xs; stop = sign_not_name CloseBrace c }) (upto c done))
-
-pub block_answer : {s : List Token} {o : Answer Token ((List Statement))}
-    → Exact block_parts.D block_parts.C s o → Exact Block Block s o
-block_answer d = exact_map (block_join) (block_split) d
-
-abbrev pub null_start_parts : Part RightSide
-null_start_parts = word Nullptr ⨾ λ p. finish (value (null p))
-
-pub null_start_join : (s r : List Token) (x : RightSide) → null_start_parts.D s x r → Start s x r
-null_start_join s r x (then d done) = null_start d
-
-null_start_split : (a : Place) (s r : List Token) (x : RightSide) → Seen (key Nullptr) a Start s x r
-    → null_start_parts.C s x r
-null_start_split a s r x c = at s r x c.it c.seen
+pub nothing_split : (depth : ℕ) (a0 : Place) (free : ℕ) (s r : List Token) (x : Statement) → Seen (sign Semicolon) a0 (StmtClosed depth) free s x r → (nothing_parts depth).C free s x r
+nothing_split depth a0 free s r x c = at free s r x c.it.it c.it.shut c.seen
   where
-    at : (s r : List Token) (x : RightSide) → Start s x r → head_of (key Nullptr) s ≡ Some a
-        → null_start_parts.C s x r
-    at s r x (null_start d) g = upto d done
-    at s r x (new_start w n o c) g = let f = key_not_key New Nullptr refl w in absurd cc
+    at : (free : ℕ) (s r : List Token) (x : Statement) → (Stmt depth) free s x r → (is_some (head_of (key Else) r) ≡ true → is_open x ≡ false) → head_of (sign Semicolon) s ≡ Some a0 → (nothing_parts depth).C free s x r
+    at free s r x (nothing d) h g0 = upto d done
+    at free s r x (a_block n d i) h g0 = let f = sign_gives (sign_of Semicolon) OpenBrace d in absurd cc
+    at free s r x (an_if n d o e c y) h g0 = let f = key_gives (sign_of Semicolon) If d in absurd cc
+    at free s r x (an_if_else n d o e c y k l z) h g0 = let f = key_gives (sign_of Semicolon) If d in absurd cc
+    at free s r x (a_while n d o e c y) h g0 = let f = key_gives (sign_of Semicolon) While d in absurd cc
+    at free s r x (a_for n d o i e m a c y) h g0 = let f = key_gives (sign_of Semicolon) For d in absurd cc
+    at free s r x (a_return d e m) h g0 = let f = key_gives (sign_of Semicolon) Return d in absurd cc
+    at free s r x (a_print d o e c m) h g0 = let f = key_gives (sign_of Semicolon) Print d in absurd cc
+    at free s r x (an_assign a) h g0 = let f = assign_front (sign_of Semicolon) (λ p. refl) (λ n p. refl) _ _ _ _ a in absurd cc
+    at free s r x (a_call c t e) h g0 = let f = chain_front (sign_of Semicolon) (λ p. refl) (λ n p. refl) _ _ _ _ c in absurd cc
 
-pub null_start_answer : {a : Place} {s : List Token} {o : Answer Token RightSide}
-    → head_of (key Nullptr) s ≡ Some a → Exact null_start_parts.D null_start_parts.C s o → Exact Start Start s o
-null_start_answer {a} h d = seen h (exact_map (null_start_join) (null_start_split a) d)
+pub nothing_answer : (depth : ℕ) {a0 : Place} {s : List Token} {o : Answer Token Statement} → head_of (sign Semicolon) s ≡ Some a0 → Exact (nothing_parts depth).D (nothing_parts depth).C s o → Exact (Stmt depth) (StmtClosed depth) s o
+nothing_answer depth {a0} h0 d = seen {want = sign Semicolon} h0 (exact_map (nothing_join depth) (nothing_split depth a0) d)
 
-abbrev pub new_start_parts : Part RightSide
-new_start_parts = word New ⨾ λ w. a_name ⨾ λ n. mark OpenParenthesis ⨾ λ o. mark CloseParenthesis
-    ⨾ λ c. finish (new n.0 n.1)
+pub nothing_alone : (depth : ℕ) {a0 : Place} {s r : List Token} {x : Statement} → head_of (sign Semicolon) s ≡ Some a0 → Alone (nothing_parts depth).C s x r → Alone (StmtClosed depth) s x r
+nothing_alone depth {a0} {s = s} h0 d = fewer_alone (λ free q w c. nothing_split depth a0 free s q w (record { it = c; seen = h0 })) d
 
-pub new_start_join : (s r : List Token) (x : RightSide) → new_start_parts.D s x r → Start s x r
-new_start_join s r x (then w (then n (then o (then c done)))) = new_start w n o c
+-- blocks, ifs and loops, whose first token may pass the limit
+abbrev pub items_part : ℕ → Part Token (List Statement)
+items_part depth = record {
+  D = Items depth;
+  C = Items depth;
+  some = record { more = token (SignKind CloseBrace) ∷ []; tree = []; reads = λ free r h. items_end (sees refl) };
+}
 
-new_start_split : (s r : List Token) (x : RightSide) → Unseen (key Nullptr) Start s x r → new_start_parts.C s x r
-new_start_split s r x c = at s r x c.it c.unseen
+abbrev pub otherwise_part : (depth : ℕ) (at : Place) (x : Expression) (y : Statement) → Part Token Statement
+otherwise_part depth at x y = record {
+  D = Otherwise depth at x y;
+  C = OtherwiseClosed depth at x y;
+  some = record { more = []; tree = if_only at x y; reads = λ free r h. without };
+}
+
+abbrev pub condition_parts : Part Token Expression
+condition_parts = mark OpenParenthesis ⨾ λ o. an_expression ⨾ λ x. mark CloseParenthesis ⨾ λ c. finish x
+
+pub condition_join : (free : ℕ) (s r : List Token) (x : Expression) → condition_parts.D free s x r → Condition free s x r
+condition_join free s r x (then o (then e (then c done))) = condition o e c
+
+pub condition_split : (free : ℕ) (s r : List Token) (x : Expression) → Condition free s x r → condition_parts.C free s x r
+condition_split free s r x (condition o e c) = upto o (upto (record { it = e; stop = ended_sign CloseParenthesis c (λ at. refl) }) (upto c done))
+
+pub condition_answer : {s : List Token} {o : Answer Token Expression} → Exact condition_parts.D condition_parts.C s o → Exact Condition Condition s o
+condition_answer d = exact_map condition_join condition_split d
+
+abbrev pub a_condition : Part Token Expression
+a_condition = record { D = Condition; C = Condition; some = default_of condition_parts.D Condition condition_join condition_parts.some }
+
+abbrev pub if_rest_parts : (depth : ℕ) (at : Place) → Part Token Statement
+if_rest_parts depth at = a_condition ⨾ λ x. a_stmt (depth + 1) ⨾ λ y. otherwise_part depth at x y
+
+pub if_rest_join : (depth : ℕ) (at : Place) (free : ℕ) (s r : List Token) (z : Statement) → (if_rest_parts depth at).D free s z r → IfRest depth at free s z r
+if_rest_join depth at free s r z (then c (then y w)) = if_rest c y w
+
+-- where an `else` follows the whole, the branch before it is not open
+pub branch_shut : (depth : ℕ) (at : Place) (free : ℕ) (q r : List Token) (x : Expression) (y z : Statement) → Otherwise depth at x y free q z r
+    → (is_some (head_of (key Else) r) ≡ true → is_open z ≡ false) → is_some (head_of (key Else) q) ≡ true → is_open y ≡ false
+branch_shut depth at free q r x y z (with_else h k d) f e = h
+branch_shut depth at free q r x y z without f e = let g = f e in absurd cc
+
+pub if_rest_split : (depth : ℕ) (at : Place) (free : ℕ) (s r : List Token) (z : Statement) → IfRestClosed depth at free s z r → (if_rest_parts depth at).C free s z r
+if_rest_split depth at free s r z c = go s r z c.it c.shut
   where
-    at : (s r : List Token) (x : RightSide) → Start s x r → head_of (key Nullptr) s ≡ None → new_start_parts.C s x r
-    at s r x (new_start w n o c) g = upto w (upto n (upto o (upto c done)))
-    at s r x (null_start d) g = let f = sees_head (key Nullptr) d in absurd cc
+    go : (s r : List Token) (z : Statement) → IfRest depth at free s z r → (is_some (head_of (key Else) r) ≡ true → is_open z ≡ false)
+        → (if_rest_parts depth at).C free s z r
+    go s r z (if_rest c y w) f = upto c (upto (record { it = y; shut = branch_shut depth at _ _ _ _ _ _ w f }) (record { it = w; shut = f }))
 
-pub new_start_answer : {s : List Token} {o : Answer Token RightSide} → head_of (key Nullptr) s ≡ None
-    → Exact new_start_parts.D new_start_parts.C s o → Exact Start Start s o
-new_start_answer h d = unseen h (exact_map (new_start_join) (new_start_split) d)
+pub if_rest_answer : (depth : ℕ) (at : Place) {s : List Token} {o : Answer Token Statement} → Exact (if_rest_parts depth at).D (if_rest_parts depth at).C s o
+    → Exact (IfRest depth at) (IfRestClosed depth at) s o
+if_rest_answer depth at d = exact_map (if_rest_join depth at) (if_rest_split depth at) d
 
-abbrev pub a_start : Part RightSide
-a_start = record { D = Start; C = Start; some = default_of null_start_parts.D Start null_start_join null_start_parts.some }
+abbrev pub if_part : (depth : ℕ) (at : Place) → Part Token Statement
+if_part depth at = record { D = IfRest depth at; C = IfRestClosed depth at; some = default_of (if_rest_parts depth at).D (IfRest depth at) (if_rest_join depth at) (if_rest_parts depth at).some }
 
-abbrev pub local_parts : (class : List ℕ) (at : Place) → Part Statement
-local_parts class at = a_name ⨾ λ n. mark Assign ⨾ λ a. a_start ⨾ λ x. mark Semicolon
-    ⨾ λ e. finish (local at (Pointer class at) n.0 n.1 (Some x))
+-- behind a branch: an `else`, which belongs to this `if`, or none
+abbrev pub else_parts : (depth : ℕ) (at : Place) (x : Expression) (y : Statement) → Part Token Statement
+else_parts depth at x y = word Else ⨾ λ e. a_stmt (depth + 1) ⨾ λ z. finish (if_else at x y z)
 
-pub local_join : (class : List ℕ) (at : Place) (s r : List Token) (x : Statement)
-    → (local_parts class at).D s x r → LocalRest class at s x r
-local_join class at s r x (then n (then a (then v (then e done)))) = local_rest n a v e
+else_join : (depth : ℕ) (at : Place) (x : Expression) (y : Statement) → is_open y ≡ false → (free : ℕ) (s r : List Token) (z : Statement)
+    → (else_parts depth at x y).D free s z r → Otherwise depth at x y free s z r
+else_join depth at x y h free s r z (then e (then d done)) = with_else h e d
 
-local_split : (class : List ℕ) (at : Place) (s r : List Token) (x : Statement) → LocalRest class at s x r
-    → (local_parts class at).C s x r
-local_split class at s r x (local_rest n a v e) = upto n (upto a (upto v (upto e done)))
-
-pub local_answer : (class : List ℕ) (at : Place) {s : List Token} {o : Answer Token Statement}
-    → Exact (local_parts class at).D (local_parts class at).C s o
-    → Exact (LocalRest class at) (LocalRest class at) s o
-local_answer class at d = exact_map (local_join class at) (local_split class at) d
-
-abbrev pub call_parts : (object : List ℕ) (at : Place) → Part Statement
-call_parts object at = mark Arrow ⨾ λ a. a_name ⨾ λ n. mark OpenParenthesis ⨾ λ p. in_brackets Arg
-    ⨾ λ xs. mark Semicolon ⨾ λ e. finish (call_statement at (method a (named at object) n.0 (expressions xs)))
-
-pub call_join : (object : List ℕ) (at : Place) (s r : List Token) (x : Statement)
-    → (call_parts object at).D s x r → CallRest object at s x r
-call_join object at s r x (then a (then n (then p (then xs (then e done))))) = call_rest a n p xs e
-
-call_split : (object : List ℕ) (at : Place) (s r : List Token) (x : Statement) → CallRest object at s x r
-    → (call_parts object at).C s x r
-call_split object at s r x (call_rest a n p xs e) = upto a (upto n (upto p (upto xs (upto e done))))
-
-pub call_answer : (object : List ℕ) (at : Place) {s : List Token} {o : Answer Token Statement}
-    → Exact (call_parts object at).D (call_parts object at).C s o
-    → Exact (CallRest object at) (CallRest object at) s o
-call_answer object at d = exact_map (call_join object at) (call_split object at) d
-
-abbrev pub a_local : List ℕ → Place → Part Statement
-a_local class at = record { D = LocalRest class at; C = LocalRest class at; some = default_of (local_parts class at).D (LocalRest class at) (local_join class at) (local_parts class at).some }
-
-abbrev pub a_call : List ℕ → Place → Part Statement
-a_call object at = record { D = CallRest object at; C = CallRest object at; some = default_of (call_parts object at).D (CallRest object at) (call_join object at) (call_parts object at).some }
-
-call_not_times : (object : List ℕ) (at : Place) (s r : List Token) (x : Statement) → CallRest object at s x r
-    → head_of (sign Times) s ≡ None
-call_not_times object at s r x (call_rest a n p xs e) = sign_not_sign Arrow Times refl a
-
-abbrev pub declares_parts : (first : List ℕ) (at : Place) → Part Statement
-declares_parts first at = mark Times ⨾ λ t. a_local first at
-
-pub declares_join : (first : List ℕ) (at : Place) (s r : List Token) (x : Statement)
-    → (declares_parts first at).D s x r → LineRest first at s x r
-declares_join first at s r x (then t l) = declares_rest t l
-
-declares_split : (first : List ℕ) (at : Place) (a : Place) (s r : List Token) (x : Statement)
-    → Seen (sign Times) a (LineRest first at) s x r → (declares_parts first at).C s x r
-declares_split first at a s r x c = go s r x c.it c.seen
+pub else_split : (depth : ℕ) (at : Place) (x : Expression) (y : Statement) (a : Place) (free : ℕ) (s r : List Token) (z : Statement)
+    → Seen (key Else) a (OtherwiseClosed depth at x y) free s z r → (else_parts depth at x y).C free s z r
+else_split depth at x y a free s r z c = go s r z c.it.it c.it.shut c.seen
   where
-    go : (s r : List Token) (x : Statement) → LineRest first at s x r → head_of (sign Times) s ≡ Some a
-        → (declares_parts first at).C s x r
-    go s r x (declares_rest t l) g = upto t l
-    go s r x (calls_rest c) g = let f = call_not_times first at _ _ _ c in absurd cc
+    go : (s r : List Token) (z : Statement) → Otherwise depth at x y free s z r → (is_some (head_of (key Else) r) ≡ true → is_open z ≡ false)
+        → head_of (key Else) s ≡ Some a → (else_parts depth at x y).C free s z r
+    go s r z (with_else h e d) f g = upto e (upto (record { it = d; shut = f }) done)
+    go s r z without f g = let k = f (ap is_some g) in absurd cc
 
-pub declares_answer : (first : List ℕ) (at : Place) {a : Place} {s : List Token} {o : Answer Token Statement}
-    → head_of (sign Times) s ≡ Some a → Exact (declares_parts first at).D (declares_parts first at).C s o
-    → Exact (LineRest first at) (LineRest first at) s o
-declares_answer first at {a} h d = seen h (exact_map (declares_join first at) (declares_split first at a) d)
+pub else_answer : (depth : ℕ) (at : Place) (x : Expression) (y : Statement) {a : Place} {s : List Token} {o : Answer Token Statement}
+    → is_open y ≡ false → head_of (key Else) s ≡ Some a → Exact (else_parts depth at x y).D (else_parts depth at x y).C s o
+    → Exact (Otherwise depth at x y) (OtherwiseClosed depth at x y) s o
+else_answer depth at x y {a} h k d = seen {want = key Else} k (exact_map (else_join depth at x y h) (else_split depth at x y a) d)
 
-abbrev pub calls_parts : (first : List ℕ) (at : Place) → Part Statement
-calls_parts first at = a_call first at
-
-pub calls_join : (first : List ℕ) (at : Place) (s r : List Token) (x : Statement)
-    → (calls_parts first at).D s x r → LineRest first at s x r
-calls_join first at s r x c = calls_rest c
-
-calls_split : (first : List ℕ) (at : Place) (s r : List Token) (x : Statement)
-    → Unseen (sign Times) (LineRest first at) s x r → (calls_parts first at).C s x r
-calls_split first at s r x c = go s r x c.it c.unseen
+pub without_answer : (depth : ℕ) (at : Place) (x : Expression) (y : Statement) {s : List Token} → head_of (key Else) s ≡ None
+    → Exact (Otherwise depth at x y) (OtherwiseClosed depth at x y) s (Got (if_only at x y) s)
+without_answer depth at x y h = unseen {want = key Else} h (got_nothing (λ free r. without) (λ free s' r z c. go s' r z c.it.it c.unseen))
   where
-    go : (s r : List Token) (x : Statement) → LineRest first at s x r → head_of (sign Times) s ≡ None
-        → (calls_parts first at).C s x r
-    go s r x (calls_rest c) g = c
-    go s r x (declares_rest t l) g = let f = sees_head (sign Times) t in absurd cc
+    go : {free : ℕ} (s r : List Token) (z : Statement) → Otherwise depth at x y free s z r → head_of (key Else) s ≡ None → (z ≡ if_only at x y) × (r ≡ s)
+    go s r z without g = (refl, refl)
+    go s r z (with_else k e d) g = let f = sees_head (key Else) e in absurd cc
 
-pub calls_answer : (first : List ℕ) (at : Place) {s : List Token} {o : Answer Token Statement}
-    → head_of (sign Times) s ≡ None → Exact (calls_parts first at).D (calls_parts first at).C s o
-    → Exact (LineRest first at) (LineRest first at) s o
-calls_answer first at h d = unseen h (exact_map (calls_join first at) (calls_split first at) d)
+abbrev pub while_rest_parts : (depth : ℕ) (at : Place) → Part Token Statement
+while_rest_parts depth at = a_condition ⨾ λ x. a_stmt (depth + 1) ⨾ λ y. finish (while_loop at x y)
 
-abbrev pub line_rest : List ℕ → Place → Part Statement
-line_rest first at = record { D = LineRest first at; C = LineRest first at; some = default_of (calls_parts first at).D (LineRest first at) (calls_join first at) (calls_parts first at).some }
+pub while_rest_join : (depth : ℕ) (at : Place) (free : ℕ) (s r : List Token) (z : Statement) → (while_rest_parts depth at).D free s z r → WhileRest depth at free s z r
+while_rest_join depth at free s r z (then c (then y done)) = while_rest c y
 
-abbrev pub line_parts : Part Statement
-line_parts = a_name ⨾ λ n. line_rest n.0 n.1
-
-pub line_join : (s r : List Token) (x : Statement) → line_parts.D s x r → Line s x r
-line_join s r x (then c (declares_rest t (local_rest n a v e))) = declares c t n a v e
-line_join s r x (then o (calls_rest (call_rest a n p xs e))) = calls o a n p xs e
-
-line_split : (s r : List Token) (x : Statement) → Line s x r → line_parts.C s x r
-line_split s r x (declares c t n a v e) = upto c (declares_rest t (local_rest n a v e))
-line_split s r x (calls o a n p xs e) = upto o (calls_rest (call_rest a n p xs e))
-
-pub line_answer : {s : List Token} {o : Answer Token Statement} → Exact line_parts.D line_parts.C s o
-    → Exact Line Line s o
-line_answer d = exact_map (line_join) (line_split) d
-
-abbrev pub return_end_parts : Part Place
-return_end_parts = word Return ⨾ λ w. record { D = Sees zero; C = Sees zero; some = zero_default }
-    ⨾ λ z. mark Semicolon ⨾ λ e. mark CloseBrace
-
-pub return_end_join : (s r : List Token) (x : Place) → return_end_parts.D s x r → End s x r
-return_end_join s r x (then w (then z (then e c))) = return_end w z e c
-
-return_end_split : (a : Place) (s r : List Token) (x : Place) → Seen (key Return) a End s x r
-    → return_end_parts.C s x r
-return_end_split a s r x c = at s r x c.it c.seen
+pub while_rest_split : (depth : ℕ) (at : Place) (free : ℕ) (s r : List Token) (z : Statement) → WhileRestClosed depth at free s z r → (while_rest_parts depth at).C free s z r
+while_rest_split depth at free s r z c = go s r z c.it c.shut
   where
-    at : (s r : List Token) (x : Place) → End s x r → head_of (key Return) s ≡ Some a → return_end_parts.C s x r
-    at s r x (return_end w z e c) g = upto w (upto z (upto e c))
-    at s r x (brace_end c) g = let f = sign_not_key CloseBrace Return c in absurd cc
+    go : (s r : List Token) (z : Statement) → WhileRest depth at free s z r → (is_some (head_of (key Else) r) ≡ true → is_open z ≡ false)
+        → (while_rest_parts depth at).C free s z r
+    go s r z (while_rest c y) f = upto c (upto (record { it = y; shut = f }) done)
 
-pub return_end_answer : {a : Place} {s : List Token} {o : Answer Token Place} → head_of (key Return) s ≡ Some a
-    → Exact return_end_parts.D return_end_parts.C s o → Exact End End s o
-return_end_answer {a} h d = seen h (exact_map (return_end_join) (return_end_split a) d)
+pub while_rest_answer : (depth : ℕ) (at : Place) {s : List Token} {o : Answer Token Statement} → Exact (while_rest_parts depth at).D (while_rest_parts depth at).C s o
+    → Exact (WhileRest depth at) (WhileRestClosed depth at) s o
+while_rest_answer depth at d = exact_map (while_rest_join depth at) (while_rest_split depth at) d
 
-abbrev pub brace_end_parts : Part Place
-brace_end_parts = mark CloseBrace
+abbrev pub while_part : (depth : ℕ) (at : Place) → Part Token Statement
+while_part depth at = record { D = WhileRest depth at; C = WhileRestClosed depth at; some = default_of (while_rest_parts depth at).D (WhileRest depth at) (while_rest_join depth at) (while_rest_parts depth at).some }
 
-pub brace_end_join : (s r : List Token) (x : Place) → brace_end_parts.D s x r → End s x r
-brace_end_join s r x c = brace_end c
+-- the first part of a `for`
+abbrev pub a_first : Part Token Statement
+a_first = record { D = First; C = First; some = default_of assign_line_parts.D First (λ free s r x d. first_assign (assign_line_join free s r x d)) assign_line_parts.some }
 
-brace_end_split : (s r : List Token) (x : Place) → Unseen (key Return) End s x r → brace_end_parts.C s x r
-brace_end_split s r x c = at s r x c.it c.unseen
+abbrev pub for_rest_parts : (depth : ℕ) (at : Place) → Part Token Statement
+for_rest_parts depth at = mark OpenParenthesis ⨾ λ o. a_first ⨾ λ i. an_expression ⨾ λ x. mark Semicolon ⨾ λ e. assign_part ⨾ λ n.
+    mark CloseParenthesis ⨾ λ c. a_stmt (depth + 1) ⨾ λ y. finish (for_loop at i x n y)
+
+pub for_rest_join : (depth : ℕ) (at : Place) (free : ℕ) (s r : List Token) (z : Statement) → (for_rest_parts depth at).D free s z r → ForRest depth at free s z r
+for_rest_join depth at free s r z (then o (then i (then x (then e (then n (then c (then y done))))))) = for_rest o i x e n c y
+
+pub for_rest_split : (depth : ℕ) (at : Place) (free : ℕ) (s r : List Token) (z : Statement) → ForRestClosed depth at free s z r → (for_rest_parts depth at).C free s z r
+for_rest_split depth at free s r z c = go s r z c.it c.shut
   where
-    at : (s r : List Token) (x : Place) → End s x r → head_of (key Return) s ≡ None → brace_end_parts.C s x r
-    at s r x (brace_end c) g = c
-    at s r x (return_end w z e c) g = let f = sees_head (key Return) w in absurd cc
+    go : (s r : List Token) (z : Statement) → ForRest depth at free s z r → (is_some (head_of (key Else) r) ≡ true → is_open z ≡ false)
+        → (for_rest_parts depth at).C free s z r
+    go s r z (for_rest o i x e n c y) f = upto o (upto i (upto (record { it = x; stop = ended_sign Semicolon e (λ at. refl) }) (upto e
+        (upto (record { it = n; stop = ended_sign CloseParenthesis c (λ at. refl) }) (upto c (upto (record { it = y; shut = f }) done))))))
 
-pub brace_end_answer : {s : List Token} {o : Answer Token Place} → head_of (key Return) s ≡ None
-    → Exact brace_end_parts.D brace_end_parts.C s o → Exact End End s o
-brace_end_answer h d = unseen h (exact_map (brace_end_join) (brace_end_split) d)
+pub for_rest_answer : (depth : ℕ) (at : Place) {s : List Token} {o : Answer Token Statement} → Exact (for_rest_parts depth at).D (for_rest_parts depth at).C s o
+    → Exact (ForRest depth at) (ForRestClosed depth at) s o
+for_rest_answer depth at d = exact_map (for_rest_join depth at) (for_rest_split depth at) d
 
-abbrev pub an_end : Part Place
-an_end = record { D = End; C = End; some = default_of brace_end_parts.D End brace_end_join brace_end_parts.some }
+abbrev pub for_part : (depth : ℕ) (at : Place) → Part Token Statement
+for_part depth at = record { D = ForRest depth at; C = ForRestClosed depth at; some = default_of (for_rest_parts depth at).D (ForRest depth at) (for_rest_join depth at) (for_rest_parts depth at).some }
 
-pub end_not_name : (s r : List Token) (x : Place) → End s x r → head_of name s ≡ None
-end_not_name s r x (brace_end c) = sign_not_name CloseBrace c
-end_not_name s r x (return_end w z e c) = key_not_name Return w
+abbrev pub block_parts : (depth : ℕ) → Part Token Statement
+block_parts depth = mark OpenBrace ⨾ λ p. items_part (depth + 1) ⨾ λ xs. finish (block p (statements xs))
 
-abbrev pub main_parts : Part (List Statement)
-main_parts = word Int ⨾ λ i. word MainKey ⨾ λ m. mark OpenParenthesis ⨾ λ o. mark CloseParenthesis
-    ⨾ λ c. mark OpenBrace ⨾ λ b. list_of Line name ⨾ λ xs. an_end ⨾ λ e. finish xs
+block_join : (depth free : ℕ) (s r : List Token) (x : Statement) → Limited (depth < 200) (block_parts depth).D free s x r → Stmt depth free s x r
+block_join depth free s r x m = at s r x m.it m.asked
+  where
+    at : (s r : List Token) (x : Statement) → (block_parts depth).D free s x r → Nested depth free s → Stmt depth free s x r
+    at s r x (then d (then i done)) n = a_block n d i
 
-pub main_join : (s r : List Token) (x : (List Statement)) → main_parts.D s x r → Main s x r
-main_join s r x (then i (then m (then o (then c (then b (then xs (then e done))))))) = main i m o c b xs e
+pub block_split : (depth : ℕ) (a : Place) (free : ℕ) (s r : List Token) (x : Statement) → Seen (sign OpenBrace) a (StmtClosed depth) free s x r → Limited (depth < 200) (block_parts depth).C free s x r
+block_split depth a free s r x c = at free s r x c.it.it c.it.shut c.seen
+  where
+    at : (free : ℕ) (s r : List Token) (x : Statement) → Stmt depth free s x r → (is_some (head_of (key Else) r) ≡ true → is_open x ≡ false) → head_of (sign OpenBrace) s ≡ Some a → Limited (depth < 200) (block_parts depth).C free s x r
+    at free s r x (a_block n d i) h g = record { it = upto d (upto i done); asked = n }
+    at free s r x (nothing d) h g = let f = sign_gives (sign_of OpenBrace) Semicolon d in absurd cc
+    at free s r x (an_if n d o e c y) h g = let f = key_gives (sign_of OpenBrace) If d in absurd cc
+    at free s r x (an_if_else n d o e c y k l z) h g = let f = key_gives (sign_of OpenBrace) If d in absurd cc
+    at free s r x (a_while n d o e c y) h g = let f = key_gives (sign_of OpenBrace) While d in absurd cc
+    at free s r x (a_for n d o i e m a c y) h g = let f = key_gives (sign_of OpenBrace) For d in absurd cc
+    at free s r x (a_return d e m) h g = let f = key_gives (sign_of OpenBrace) Return d in absurd cc
+    at free s r x (a_print d o e c m) h g = let f = key_gives (sign_of OpenBrace) Print d in absurd cc
+    at free s r x (an_assign a) h g = let f = assign_front (sign_of OpenBrace) (λ p. refl) (λ n p. refl) _ _ _ _ a in absurd cc
+    at free s r x (a_call c t e) h g = let f = chain_front (sign_of OpenBrace) (λ p. refl) (λ n p. refl) _ _ _ _ c in absurd cc
 
-main_split : (s r : List Token) (x : (List Statement)) → Main s x r → main_parts.C s x r
-main_split s r x (main i m o c b xs e) = upto i (upto m (upto o (upto c (upto b
-    (upto (record { it = xs; stop = end_not_name _ _ _ e }) (upto e done))))))
+pub block_answer : (depth : ℕ) {a : Place} {s : List Token} {o : Answer Token Statement} → depth < 200 → head_of (sign OpenBrace) s ≡ Some a → Exact (block_parts depth).D (block_parts depth).C s o → Exact (Stmt depth) (StmtClosed depth) s o
+block_answer depth {a} k h d = seen {want = sign OpenBrace} h (exact_map (block_join depth) (block_split depth a) (limited_ok k d))
 
-pub main_answer : {s : List Token} {o : Answer Token ((List Statement))} → Exact main_parts.D main_parts.C s o
-    → Exact Main Main s o
-main_answer d = exact_map (main_join) (main_split) d
+pub block_alone : (depth : ℕ) {a : Place} {s r : List Token} {x : Statement} → head_of (sign OpenBrace) s ≡ Some a → Alone (block_parts depth).C s x r → Alone (StmtClosed depth) s x r
+block_alone depth {a} {s = s} h d = fewer_alone (λ free q y c. (block_split depth a free s q y (record { it = c; seen = h })).it) d
+
+pub block_deep : (depth : ℕ) {a : Place} (s : List Token) → (depth < 200 → ⊥) → head_of (sign OpenBrace) s ≡ Some a → Exact (Stmt depth) (StmtClosed depth) s (Failed (TooDeep s))
+block_deep depth {a} [] k h = absurd cc
+block_deep depth {a} (t ∷ q) k h = seen {want = sign OpenBrace} h (exact_map (block_join depth) (block_split depth a)
+    (limited_deep k refl (default_from {want = sign OpenBrace} (block_parts depth).D h (λ free s r y d. d))))
+
+abbrev pub if_parts : (depth : ℕ) → Part Token Statement
+if_parts depth = word If ⨾ λ p. if_part depth p
+
+if_join : (depth free : ℕ) (s r : List Token) (x : Statement) → Limited (depth < 200) (if_parts depth).D free s x r → Stmt depth free s x r
+if_join depth free s r x m = at s r x m.it m.asked
+  where
+    at : (s r : List Token) (x : Statement) → (if_parts depth).D free s x r → Nested depth free s → Stmt depth free s x r
+    at s r x (then d (if_rest (condition o e c) y without)) n = an_if n d o e c y
+    at s r x (then d (if_rest (condition o e c) y (with_else h k z))) n = an_if_else n d o e c y h k z
+
+pub if_split : (depth : ℕ) (a : Place) (free : ℕ) (s r : List Token) (x : Statement) → Seen (key If) a (StmtClosed depth) free s x r → Limited (depth < 200) (if_parts depth).C free s x r
+if_split depth a free s r x c = at free s r x c.it.it c.it.shut c.seen
+  where
+    at : (free : ℕ) (s r : List Token) (x : Statement) → Stmt depth free s x r → (is_some (head_of (key Else) r) ≡ true → is_open x ≡ false) → head_of (key If) s ≡ Some a → Limited (depth < 200) (if_parts depth).C free s x r
+    at free s r x (an_if n d o e c y) h g = record { it = upto d (record { it = if_rest (condition o e c) y without; shut = h }); asked = n }
+    at free s r x (an_if_else n d o e c y k l z) h g = record { it = upto d (record { it = if_rest (condition o e c) y (with_else k l z); shut = h }); asked = n }
+    at free s r x (nothing d) h g = let f = sign_gives (key_of If) Semicolon d in absurd cc
+    at free s r x (a_block n d i) h g = let f = sign_gives (key_of If) OpenBrace d in absurd cc
+    at free s r x (a_while n d o e c y) h g = let f = key_gives (key_of If) While d in absurd cc
+    at free s r x (a_for n d o i e m a c y) h g = let f = key_gives (key_of If) For d in absurd cc
+    at free s r x (a_return d e m) h g = let f = key_gives (key_of If) Return d in absurd cc
+    at free s r x (a_print d o e c m) h g = let f = key_gives (key_of If) Print d in absurd cc
+    at free s r x (an_assign a) h g = let f = assign_front (key_of If) (λ p. refl) (λ n p. refl) _ _ _ _ a in absurd cc
+    at free s r x (a_call c t e) h g = let f = chain_front (key_of If) (λ p. refl) (λ n p. refl) _ _ _ _ c in absurd cc
+
+pub if_answer : (depth : ℕ) {a : Place} {s : List Token} {o : Answer Token Statement} → depth < 200 → head_of (key If) s ≡ Some a → Exact (if_parts depth).D (if_parts depth).C s o → Exact (Stmt depth) (StmtClosed depth) s o
+if_answer depth {a} k h d = seen {want = key If} h (exact_map (if_join depth) (if_split depth a) (limited_ok k d))
+
+pub if_alone : (depth : ℕ) {a : Place} {s r : List Token} {x : Statement} → head_of (key If) s ≡ Some a → Alone (if_parts depth).C s x r → Alone (StmtClosed depth) s x r
+if_alone depth {a} {s = s} h d = fewer_alone (λ free q y c. (if_split depth a free s q y (record { it = c; seen = h })).it) d
+
+pub if_deep : (depth : ℕ) {a : Place} (s : List Token) → (depth < 200 → ⊥) → head_of (key If) s ≡ Some a → Exact (Stmt depth) (StmtClosed depth) s (Failed (TooDeep s))
+if_deep depth {a} [] k h = absurd cc
+if_deep depth {a} (t ∷ q) k h = seen {want = key If} h (exact_map (if_join depth) (if_split depth a)
+    (limited_deep k refl (default_from {want = key If} (if_parts depth).D h (λ free s r y d. d))))
+
+abbrev pub while_parts : (depth : ℕ) → Part Token Statement
+while_parts depth = word While ⨾ λ p. while_part depth p
+
+while_join : (depth free : ℕ) (s r : List Token) (x : Statement) → Limited (depth < 200) (while_parts depth).D free s x r → Stmt depth free s x r
+while_join depth free s r x m = at s r x m.it m.asked
+  where
+    at : (s r : List Token) (x : Statement) → (while_parts depth).D free s x r → Nested depth free s → Stmt depth free s x r
+    at s r x (then d (while_rest (condition o e c) y)) n = a_while n d o e c y
+
+pub while_split : (depth : ℕ) (a : Place) (free : ℕ) (s r : List Token) (x : Statement) → Seen (key While) a (StmtClosed depth) free s x r → Limited (depth < 200) (while_parts depth).C free s x r
+while_split depth a free s r x c = at free s r x c.it.it c.it.shut c.seen
+  where
+    at : (free : ℕ) (s r : List Token) (x : Statement) → Stmt depth free s x r → (is_some (head_of (key Else) r) ≡ true → is_open x ≡ false) → head_of (key While) s ≡ Some a → Limited (depth < 200) (while_parts depth).C free s x r
+    at free s r x (a_while n d o e c y) h g = record { it = upto d (record { it = while_rest (condition o e c) y; shut = h }); asked = n }
+    at free s r x (nothing d) h g = let f = sign_gives (key_of While) Semicolon d in absurd cc
+    at free s r x (a_block n d i) h g = let f = sign_gives (key_of While) OpenBrace d in absurd cc
+    at free s r x (an_if n d o e c y) h g = let f = key_gives (key_of While) If d in absurd cc
+    at free s r x (an_if_else n d o e c y k l z) h g = let f = key_gives (key_of While) If d in absurd cc
+    at free s r x (a_for n d o i e m a c y) h g = let f = key_gives (key_of While) For d in absurd cc
+    at free s r x (a_return d e m) h g = let f = key_gives (key_of While) Return d in absurd cc
+    at free s r x (a_print d o e c m) h g = let f = key_gives (key_of While) Print d in absurd cc
+    at free s r x (an_assign a) h g = let f = assign_front (key_of While) (λ p. refl) (λ n p. refl) _ _ _ _ a in absurd cc
+    at free s r x (a_call c t e) h g = let f = chain_front (key_of While) (λ p. refl) (λ n p. refl) _ _ _ _ c in absurd cc
+
+pub while_answer : (depth : ℕ) {a : Place} {s : List Token} {o : Answer Token Statement} → depth < 200 → head_of (key While) s ≡ Some a → Exact (while_parts depth).D (while_parts depth).C s o → Exact (Stmt depth) (StmtClosed depth) s o
+while_answer depth {a} k h d = seen {want = key While} h (exact_map (while_join depth) (while_split depth a) (limited_ok k d))
+
+pub while_alone : (depth : ℕ) {a : Place} {s r : List Token} {x : Statement} → head_of (key While) s ≡ Some a → Alone (while_parts depth).C s x r → Alone (StmtClosed depth) s x r
+while_alone depth {a} {s = s} h d = fewer_alone (λ free q y c. (while_split depth a free s q y (record { it = c; seen = h })).it) d
+
+pub while_deep : (depth : ℕ) {a : Place} (s : List Token) → (depth < 200 → ⊥) → head_of (key While) s ≡ Some a → Exact (Stmt depth) (StmtClosed depth) s (Failed (TooDeep s))
+while_deep depth {a} [] k h = absurd cc
+while_deep depth {a} (t ∷ q) k h = seen {want = key While} h (exact_map (while_join depth) (while_split depth a)
+    (limited_deep k refl (default_from {want = key While} (while_parts depth).D h (λ free s r y d. d))))
+
+abbrev pub for_parts : (depth : ℕ) → Part Token Statement
+for_parts depth = word For ⨾ λ p. for_part depth p
+
+for_join : (depth free : ℕ) (s r : List Token) (x : Statement) → Limited (depth < 200) (for_parts depth).D free s x r → Stmt depth free s x r
+for_join depth free s r x m = at s r x m.it m.asked
+  where
+    at : (s r : List Token) (x : Statement) → (for_parts depth).D free s x r → Nested depth free s → Stmt depth free s x r
+    at s r x (then d (for_rest o i e m a c y)) n = a_for n d o i e m a c y
+
+pub for_split : (depth : ℕ) (a : Place) (free : ℕ) (s r : List Token) (x : Statement) → Seen (key For) a (StmtClosed depth) free s x r → Limited (depth < 200) (for_parts depth).C free s x r
+for_split depth a free s r x c = at free s r x c.it.it c.it.shut c.seen
+  where
+    at : (free : ℕ) (s r : List Token) (x : Statement) → Stmt depth free s x r → (is_some (head_of (key Else) r) ≡ true → is_open x ≡ false) → head_of (key For) s ≡ Some a → Limited (depth < 200) (for_parts depth).C free s x r
+    at free s r x (a_for n d o i e m a c y) h g = record { it = upto d (record { it = for_rest o i e m a c y; shut = h }); asked = n }
+    at free s r x (nothing d) h g = let f = sign_gives (key_of For) Semicolon d in absurd cc
+    at free s r x (a_block n d i) h g = let f = sign_gives (key_of For) OpenBrace d in absurd cc
+    at free s r x (an_if n d o e c y) h g = let f = key_gives (key_of For) If d in absurd cc
+    at free s r x (an_if_else n d o e c y k l z) h g = let f = key_gives (key_of For) If d in absurd cc
+    at free s r x (a_while n d o e c y) h g = let f = key_gives (key_of For) While d in absurd cc
+    at free s r x (a_return d e m) h g = let f = key_gives (key_of For) Return d in absurd cc
+    at free s r x (a_print d o e c m) h g = let f = key_gives (key_of For) Print d in absurd cc
+    at free s r x (an_assign a) h g = let f = assign_front (key_of For) (λ p. refl) (λ n p. refl) _ _ _ _ a in absurd cc
+    at free s r x (a_call c t e) h g = let f = chain_front (key_of For) (λ p. refl) (λ n p. refl) _ _ _ _ c in absurd cc
+
+pub for_answer : (depth : ℕ) {a : Place} {s : List Token} {o : Answer Token Statement} → depth < 200 → head_of (key For) s ≡ Some a → Exact (for_parts depth).D (for_parts depth).C s o → Exact (Stmt depth) (StmtClosed depth) s o
+for_answer depth {a} k h d = seen {want = key For} h (exact_map (for_join depth) (for_split depth a) (limited_ok k d))
+
+pub for_alone : (depth : ℕ) {a : Place} {s r : List Token} {x : Statement} → head_of (key For) s ≡ Some a → Alone (for_parts depth).C s x r → Alone (StmtClosed depth) s x r
+for_alone depth {a} {s = s} h d = fewer_alone (λ free q y c. (for_split depth a free s q y (record { it = c; seen = h })).it) d
+
+pub for_deep : (depth : ℕ) {a : Place} (s : List Token) → (depth < 200 → ⊥) → head_of (key For) s ≡ Some a → Exact (Stmt depth) (StmtClosed depth) s (Failed (TooDeep s))
+for_deep depth {a} [] k h = absurd cc
+for_deep depth {a} (t ∷ q) k h = seen {want = key For} h (exact_map (for_join depth) (for_split depth a)
+    (limited_deep k refl (default_from {want = key For} (for_parts depth).D h (λ free s r y d. d))))
+
+-- a statement that would pass the limit
+pub nested_deep : (depth : ℕ) (s : List Token) → (depth < 200 → ⊥) → is_nested s ≡ true → Exact (Stmt depth) (StmtClosed depth) s (Failed (TooDeep s))
+nested_deep depth s k h = at (head_of (sign OpenBrace) s) (head_of (key If) s) (head_of (key While) s) (head_of (key For) s) refl refl refl refl h
+  where
+    at : (a b c d : Option Place) → head_of (sign OpenBrace) s ≡ a → head_of (key If) s ≡ b → head_of (key While) s ≡ c → head_of (key For) s ≡ d
+        → (is_some a || (is_some b || (is_some c || is_some d))) ≡ true → Exact (Stmt depth) (StmtClosed depth) s (Failed (TooDeep s))
+    at (Some a) b c d e f g i h = block_deep depth s k e
+    at None (Some b) c d e f g i h = if_deep depth s k f
+    at None None (Some c) d e f g i h = while_deep depth s k g
+    at None None None (Some d) e f g i h = for_deep depth s k i
+    at None None None None e f g i h = absurd cc
+
+-- what the test of the first token tells
+pub record NotNested (s : List Token) : Type 0 where
+  pub no_brace : head_of (sign OpenBrace) s ≡ None
+  pub no_if : head_of (key If) s ≡ None
+  pub no_while : head_of (key While) s ≡ None
+  pub no_for : head_of (key For) s ≡ None
+
+pub not_nested : (s : List Token) → is_nested s ≡ false → NotNested s
+not_nested s h = at (head_of (sign OpenBrace) s) (head_of (key If) s) (head_of (key While) s) (head_of (key For) s) refl refl refl refl h
+  where
+    at : (a b c d : Option Place) → head_of (sign OpenBrace) s ≡ a → head_of (key If) s ≡ b → head_of (key While) s ≡ c → head_of (key For) s ≡ d
+        → (is_some a || (is_some b || (is_some c || is_some d))) ≡ false → NotNested s
+    at (Some a) b c d e f g i h = absurd cc
+    at None (Some b) c d e f g i h = absurd cc
+    at None None (Some c) d e f g i h = absurd cc
+    at None None None (Some d) e f g i h = absurd cc
+    at None None None None e f g i h = record { no_brace = e; no_if = f; no_while = g; no_for = i }
+
+pub none_nested : (s : List Token) → is_nested s ≡ true → head_of (sign OpenBrace) s ≡ None → head_of (key If) s ≡ None
+    → head_of (key While) s ≡ None → head_of (key For) s ≡ None → ⊥
+none_nested s h a b c d = let e : is_nested s ≡ false = rw (a, b, c, d) refl in absurd cc
+
+abbrev pub return_rest_parts : (at : Place) → Part Token Statement
+return_rest_parts at = an_expression ⨾ λ x. mark Semicolon ⨾ λ e. finish (return_value at x)
+
+pub return_rest_join : (at : Place) (free : ℕ) (s r : List Token) (x : Statement) → (return_rest_parts at).D free s x r → (ReturnRest at) free s x r
+return_rest_join at free s r x (then e (then m done)) = return_rest e m
+
+pub return_rest_split : (at : Place) (free : ℕ) (s r : List Token) (x : Statement) → (ReturnRest at) free s x r → (return_rest_parts at).C free s x r
+return_rest_split at free s r x (return_rest e m) = upto (record { it = e; stop = ended_sign Semicolon m (λ at. refl) }) (upto m done)
+
+pub return_rest_answer : (at : Place) {s : List Token} {o : Answer Token Statement} → Exact (return_rest_parts at).D (return_rest_parts at).C s o → Exact (ReturnRest at) (ReturnRest at) s o
+return_rest_answer at d = exact_map (return_rest_join at) (return_rest_split at) d
+
+pub return_rest_alone : (at : Place) {s r : List Token} {x : Statement} → Alone (return_rest_parts at).C s x r → Alone (ReturnRest at) s x r
+return_rest_alone at {s = s} d = fewer_alone (λ free q w c. return_rest_split at free s q w c) d
+
+abbrev pub print_rest_parts : (at : Place) → Part Token Statement
+print_rest_parts at = a_condition ⨾ λ x. mark Semicolon ⨾ λ e. finish (print_value at x)
+
+pub print_rest_join : (at : Place) (free : ℕ) (s r : List Token) (x : Statement) → (print_rest_parts at).D free s x r → (PrintRest at) free s x r
+print_rest_join at free s r x (then c (then m done)) = print_rest c m
+
+pub print_rest_split : (at : Place) (free : ℕ) (s r : List Token) (x : Statement) → (PrintRest at) free s x r → (print_rest_parts at).C free s x r
+print_rest_split at free s r x (print_rest c m) = upto c (upto m done)
+
+pub print_rest_answer : (at : Place) {s : List Token} {o : Answer Token Statement} → Exact (print_rest_parts at).D (print_rest_parts at).C s o → Exact (PrintRest at) (PrintRest at) s o
+print_rest_answer at d = exact_map (print_rest_join at) (print_rest_split at) d
+
+pub print_rest_alone : (at : Place) {s r : List Token} {x : Statement} → Alone (print_rest_parts at).C s x r → Alone (PrintRest at) s x r
+print_rest_alone at {s = s} d = fewer_alone (λ free q w c. print_rest_split at free s q w c) d
+
+abbrev pub return_part : Place → Part Token Statement
+return_part at = record { D = ReturnRest at; C = ReturnRest at; some = default_of (return_rest_parts at).D (ReturnRest at) (return_rest_join at) (return_rest_parts at).some }
+
+abbrev pub print_part : Place → Part Token Statement
+print_part at = record { D = PrintRest at; C = PrintRest at; some = default_of (print_rest_parts at).D (PrintRest at) (print_rest_join at) (print_rest_parts at).some }
+
+abbrev pub return_parts : (depth : ℕ) → Part Token Statement
+return_parts depth = word Return ⨾ λ p. return_part p
+
+pub return_join : (depth : ℕ) (free : ℕ) (s r : List Token) (x : Statement) → (return_parts depth).D free s x r → (Stmt depth) free s x r
+return_join depth free s r x (then d (return_rest e m)) = a_return d e m
+
+pub return_split : (depth : ℕ) (a0 : Place) (free : ℕ) (s r : List Token) (x : Statement) → Seen (key Return) a0 (StmtClosed depth) free s x r → (return_parts depth).C free s x r
+return_split depth a0 free s r x c = at free s r x c.it.it c.it.shut c.seen
+  where
+    at : (free : ℕ) (s r : List Token) (x : Statement) → (Stmt depth) free s x r → (is_some (head_of (key Else) r) ≡ true → is_open x ≡ false) → head_of (key Return) s ≡ Some a0 → (return_parts depth).C free s x r
+    at free s r x (a_return d e m) h g0 = upto d (return_rest e m)
+    at free s r x (nothing d) h g0 = let f = sign_gives (key_of Return) Semicolon d in absurd cc
+    at free s r x (a_block n d i) h g0 = let f = sign_gives (key_of Return) OpenBrace d in absurd cc
+    at free s r x (an_if n d o e c y) h g0 = let f = key_gives (key_of Return) If d in absurd cc
+    at free s r x (an_if_else n d o e c y k l z) h g0 = let f = key_gives (key_of Return) If d in absurd cc
+    at free s r x (a_while n d o e c y) h g0 = let f = key_gives (key_of Return) While d in absurd cc
+    at free s r x (a_for n d o i e m a c y) h g0 = let f = key_gives (key_of Return) For d in absurd cc
+    at free s r x (a_print d o e c m) h g0 = let f = key_gives (key_of Return) Print d in absurd cc
+    at free s r x (an_assign a) h g0 = let f = assign_front (key_of Return) (λ p. refl) (λ n p. refl) _ _ _ _ a in absurd cc
+    at free s r x (a_call c t e) h g0 = let f = chain_front (key_of Return) (λ p. refl) (λ n p. refl) _ _ _ _ c in absurd cc
+
+pub return_answer : (depth : ℕ) {a0 : Place} {s : List Token} {o : Answer Token Statement} → head_of (key Return) s ≡ Some a0 → Exact (return_parts depth).D (return_parts depth).C s o → Exact (Stmt depth) (StmtClosed depth) s o
+return_answer depth {a0} h0 d = seen {want = key Return} h0 (exact_map (return_join depth) (return_split depth a0) d)
+
+pub return_alone : (depth : ℕ) {a0 : Place} {s r : List Token} {x : Statement} → head_of (key Return) s ≡ Some a0 → Alone (return_parts depth).C s x r → Alone (StmtClosed depth) s x r
+return_alone depth {a0} {s = s} h0 d = fewer_alone (λ free q w c. return_split depth a0 free s q w (record { it = c; seen = h0 })) d
+
+abbrev pub print_parts : (depth : ℕ) → Part Token Statement
+print_parts depth = word Print ⨾ λ p. print_part p
+
+pub print_join : (depth : ℕ) (free : ℕ) (s r : List Token) (x : Statement) → (print_parts depth).D free s x r → (Stmt depth) free s x r
+print_join depth free s r x (then d (print_rest (condition o e c) m)) = a_print d o e c m
+
+pub print_split : (depth : ℕ) (a0 : Place) (free : ℕ) (s r : List Token) (x : Statement) → Seen (key Print) a0 (StmtClosed depth) free s x r → (print_parts depth).C free s x r
+print_split depth a0 free s r x c = at free s r x c.it.it c.it.shut c.seen
+  where
+    at : (free : ℕ) (s r : List Token) (x : Statement) → (Stmt depth) free s x r → (is_some (head_of (key Else) r) ≡ true → is_open x ≡ false) → head_of (key Print) s ≡ Some a0 → (print_parts depth).C free s x r
+    at free s r x (a_print d o e c m) h g0 = upto d (print_rest (condition o e c) m)
+    at free s r x (nothing d) h g0 = let f = sign_gives (key_of Print) Semicolon d in absurd cc
+    at free s r x (a_block n d i) h g0 = let f = sign_gives (key_of Print) OpenBrace d in absurd cc
+    at free s r x (an_if n d o e c y) h g0 = let f = key_gives (key_of Print) If d in absurd cc
+    at free s r x (an_if_else n d o e c y k l z) h g0 = let f = key_gives (key_of Print) If d in absurd cc
+    at free s r x (a_while n d o e c y) h g0 = let f = key_gives (key_of Print) While d in absurd cc
+    at free s r x (a_for n d o i e m a c y) h g0 = let f = key_gives (key_of Print) For d in absurd cc
+    at free s r x (a_return d e m) h g0 = let f = key_gives (key_of Print) Return d in absurd cc
+    at free s r x (an_assign a) h g0 = let f = assign_front (key_of Print) (λ p. refl) (λ n p. refl) _ _ _ _ a in absurd cc
+    at free s r x (a_call c t e) h g0 = let f = chain_front (key_of Print) (λ p. refl) (λ n p. refl) _ _ _ _ c in absurd cc
+
+pub print_answer : (depth : ℕ) {a0 : Place} {s : List Token} {o : Answer Token Statement} → head_of (key Print) s ≡ Some a0 → Exact (print_parts depth).D (print_parts depth).C s o → Exact (Stmt depth) (StmtClosed depth) s o
+print_answer depth {a0} h0 d = seen {want = key Print} h0 (exact_map (print_join depth) (print_split depth a0) d)
+
+pub print_alone : (depth : ℕ) {a0 : Place} {s r : List Token} {x : Statement} → head_of (key Print) s ≡ Some a0 → Alone (print_parts depth).C s x r → Alone (StmtClosed depth) s x r
+print_alone depth {a0} {s = s} h0 d = fewer_alone (λ free q w c. print_split depth a0 free s q w (record { it = c; seen = h0 })) d

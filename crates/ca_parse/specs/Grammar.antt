@@ -1,158 +1,285 @@
--- The grammar of the small form. `D tokens tree rest` says that the tokens in front of the rest derive the tree.
--- `{ x }` is any number of x, `[ x ]` is x or nothing, and signs stand in quotes:
+-- The grammar of texts, statements and classes. `D free tokens tree rest` says that the tokens in front of the rest
+-- derive the tree, where limits on nesting are asked of all tokens but the last `free` ones.
+-- `{ x }` is any number of x, `[ x ]` is x or nothing, and signs stand in quotes; Expr and Chain are those of expressions:
 --
---   Program = { Class } Main
---   Class   = "class" name "{" "public" ":" { Field } { Op } "}" ";"
---   Field   = Type name ";"
---   Op      = "void" name "(" [ Param { "," Param } ] ")" Block
---   Param   = Type name
---   Type    = "long" | name "*"
---   Block   = "{" { Put } "}"
---   Put     = name "=" Value ";"
---   Value   = "nullptr" | Item { ( "+" | "-" ) Item }
---   Item    = name | number
---   Main    = "int" "main" "(" ")" "{" { Line } End
---   End     = "}" | "return" "0" ";" "}"
---   Line    = name "*" name "=" Start ";" | name "->" name "(" [ Arg { "," Arg } ] ")" ";"
---   Start   = "new" name "(" ")" | "nullptr"
---   Arg     = Item | "nullptr"
+--   Program   = { Class | Forward } "int" "main" "(" ")" "{" { Item } [ "return" "0" ";" ] "}"
+--   Forward   = "class" name ";"
+--   Class     = "class" name "{" "public" ":" { Member } "}" ";"
+--   Member    = FieldLine | Method
+--   FieldLine = "long" Decl { "," Decl } ";" | "bool" Decl { "," Decl } ";" | name "*" Decl { "," "*" Decl } ";"
+--   Decl      = name [ "[" number "]" ]
+--   Method    = ( "void" | Type ) name "(" [ Param { "," Param } ] ")" "{" { Item } "}"
+--   Param     = Type name
+--   Type      = "long" | "bool" | name "*"
+--   Item      = Local | Stmt
+--   Local     = Type name [ "=" Right ] ";"
+--   Stmt      = "{" { Item } "}" | ";" | Assign ";" | Chain ";"
+--             | "if" "(" Expr ")" Stmt [ "else" Stmt ]
+--             | "while" "(" Expr ")" Stmt
+--             | "for" "(" First Expr ";" Assign ")" Stmt
+--             | "return" Expr ";" | "print" "(" Expr ")" ";"
+--   First     = Local | Assign ";"
+--   Assign    = Chain Change
+--   Change    = "=" Right | ( "+=" | "-=" | "*=" ) Expr | "++" | "--"
+--   Right     = Expr | "new" name [ "(" ")" ]
 --
+-- A chain that is a statement ends in a call, and one that is a target in a name or an index. An `else` belongs to the nearest `if`
+-- that has none. `return 0 ;` directly before the brace that ends the text leaves no trace.
 -- Each family has a constructor for each of its alternatives. A class, field, method or parameter has the place of its
--- name, a statement that of its first token, a sum that of its operator, a call that of its `->`.
-use Rattle.std.specs.Prelude.{ℕ, ℤ, ◌<◌, ◌-◌, List, [], ◌∷◌, ◌++◌, Some, None}
-use Rattle.ca_descent.specs.Exact.{Sees, Many, Separated}
+-- name, a statement that of its first token.
+use Rattle.std.specs.Prelude.{◌≡◌, ℕ, ℤ, pos, ◌+◌, ◌-◌, ◌<◌, Bool, true, false, cond, ◌&&◌, List, [], ◌∷◌, ◌++◌, length, take, Option, Some, None, is_some}
+use Rattle.ca_descent.specs.Exact.{Grammar, Unlimited, Sees, Asked, Separated, Following}
 use Rattle.ca_tree.specs.declared.name.Place.{Place}
 use Rattle.ca_tree.specs.declared.token.Token.{Token}
-use Rattle.ca_tree.specs.declared.token.Keyword.TheVariants.{Class as ClassKey, Public, Long as LongKey, Int, Void, Return, New, Nullptr, Main as MainKey}
-use Rattle.ca_tree.specs.declared.token.Sign.TheVariants.{OpenBrace, CloseBrace, OpenParenthesis, CloseParenthesis, Semicolon, Comma, Colon, Assign, Times, Arrow}
+use Rattle.ca_tree.specs.declared.token.Keyword.TheVariants.{Class as ClassKey, Public, Long as LongKey, Bool as BoolKey, Int, Void, If, Else, While, For, Return, New, Print, Main}
+use Rattle.ca_tree.specs.declared.token.Sign.TheVariants.{OpenBrace, CloseBrace, OpenParenthesis, CloseParenthesis, OpenBracket, CloseBracket, Semicolon, Comma, Colon, Assign as AssignSign, Times, PlusAssign, MinusAssign, TimesAssign, Increment, Decrement}
 use Rattle.ca_tree.specs.declared.tree.TypeNode.{TypeNode}
-use Rattle.ca_tree.specs.declared.tree.TypeNode.TheVariants.{Long, Pointer}
-use Rattle.ca_tree.specs.declared.tree.FieldNode.{FieldNode}
+use Rattle.ca_tree.specs.declared.tree.TypeNode.TheVariants.{Long, Bool as BoolType, Pointer}
 use Rattle.ca_tree.specs.declared.tree.ParamNode.{ParamNode}
-use Rattle.ca_tree.specs.declared.tree.AssignOp.TheVariants.{Put as PutOp}
-use Rattle.ca_tree.specs.declared.tree.BinaryOp.{BinaryOp}
-use Rattle.ca_tree.specs.Plain.{Expression, Expressions, RightSide, Statement, Statements, MethodTree, MemberTree, ClassTree, TextTree, null, named, method, binary, no_expressions, expression_and, value, new, local, assign, call_statement, no_statements, statement_and, field_member, method_member}
-use Rattle.ca_tree.specs.Plain.{number as number_tree}
-use Rattle.ca_parse.specs.Terminals.{key, sign, name, number, zero, operator}
+use Rattle.ca_tree.specs.declared.tree.AssignOp.{AssignOp}
+use Rattle.ca_tree.specs.declared.tree.AssignOp.TheVariants.{Put, Add, Sub, Mul}
+use Rattle.ca_tree.specs.Plain.{Expression, RightSide, Statement, Statements, MethodTree, MemberTree, ClassTree, TextTree, number as number_tree, truth, null, this, named, call, field, method, index, unary, binary, value, new, empty, block, local, assign, call_statement, if_only, if_else, while_loop, for_loop, return_value, print_value, no_statements, statement_and, field_member, method_member}
+use Rattle.ca_expressions.specs.Terminals.{key, sign, name, number, zero}
+use Rattle.ca_expressions.specs.Grammar.{OuterExpression, OuterChain, is_call, is_target}
 
--- a grammar of tokens: which tokens derive which tree, and what stands behind them
 abbrev pub Deriving : Type 0 → Type 1
-Deriving A = List Token → A → List Token → Type 0
+Deriving A = Grammar Token A
 
--- lists as the tree has them
+-- a list of statements as the tree has it
 abbrev pub statements : List Statement → Statements
 statements [] = no_statements
 statements (s ∷ ss) = statement_and s (statements ss)
 
-abbrev pub expressions : List Expression → Expressions
-expressions [] = no_expressions
-expressions (e ∷ es) = expression_and e (expressions es)
+-- a chain's first token has this place
+abbrev pub first_place : Expression → Place
+first_place (number_tree at n) = at
+first_place (truth at b) = at
+first_place (null at) = at
+first_place (this at) = at
+first_place (named at n) = at
+first_place (call at n es) = at
+first_place (field at e n) = first_place e
+first_place (method at e n es) = first_place e
+first_place (index at e i) = first_place e
+first_place (unary at o e) = at
+first_place (binary at o a b) = first_place a
 
--- Type, whose name is a word of antt
-pub data TypeName : List Token → TypeNode → List Token → Type 0 where
-  long : {s r : List Token} {l : Place} → Sees (key LongKey) s l r → TypeName s Long r
-  pointer : {s s1 r : List Token} {n : List ℕ × Place} {t : Place} → Sees name s n s1 → Sees (sign Times) s1 t r
-      → TypeName s (Pointer n.0 n.1) r
+-- Type, whose name is a word of antt: the type, and the place of its first token
+pub data TypeName : ℕ → List Token → TypeNode × Place → List Token → Type 0 where
+  long : {free : ℕ} {s r : List Token} {p : Place} → Sees (key LongKey) s p r → TypeName free s (Long, p) r
+  bool : {free : ℕ} {s r : List Token} {p : Place} → Sees (key BoolKey) s p r → TypeName free s (BoolType, p) r
+  pointer : {free : ℕ} {s s1 r : List Token} {n : List ℕ × Place} {t : Place} → Sees name s n s1
+      → Sees (sign Times) s1 t r → TypeName free s (Pointer n.0 n.1, n.1) r
+
+pub data Right : ℕ → List Token → RightSide → List Token → Type 0 where
+  expression : {free : ℕ} {s r : List Token} {x : Expression} → OuterExpression free s x r → Right free s (value x) r
+  creation : {free : ℕ} {s s1 r : List Token} {w : Place} {n : List ℕ × Place} → Sees (key New) s w s1
+      → Sees name s1 n r → Right free s (new n.0 n.1) r
+  creation_call : {free : ℕ} {s s1 s2 s3 r : List Token} {w o c : Place} {n : List ℕ × Place} → Sees (key New) s w s1
+      → Sees name s1 n s2 → Sees (sign OpenParenthesis) s2 o s3 → Sees (sign CloseParenthesis) s3 c r
+      → Right free s (new n.0 n.1) r
+
+-- Local, with the `;` behind it
+pub data Local : ℕ → List Token → Statement → List Token → Type 0 where
+  declares : {free : ℕ} {s s1 s2 r : List Token} {ty : TypeNode × Place} {n : List ℕ × Place} {e : Place}
+      → TypeName free s ty s1 → Sees name s1 n s2 → Sees (sign Semicolon) s2 e r
+      → Local free s (local ty.1 ty.0 n.0 n.1 None) r
+  begins : {free : ℕ} {s s1 s2 s3 s4 r : List Token} {ty : TypeNode × Place} {n : List ℕ × Place} {a e : Place} {x : RightSide}
+      → TypeName free s ty s1 → Sees name s1 n s2 → Sees (sign AssignSign) s2 a s3 → Right free s3 x s4
+      → Sees (sign Semicolon) s4 e r → Local free s (local ty.1 ty.0 n.0 n.1 (Some x)) r
+
+pub data Compound : List Token → AssignOp → List Token → Type 0 where
+  plus_assign : {s r : List Token} {p : Place} → Sees (sign PlusAssign) s p r → Compound s Add r
+  minus_assign : {s r : List Token} {p : Place} → Sees (sign MinusAssign) s p r → Compound s Sub r
+  times_assign : {s r : List Token} {p : Place} → Sees (sign TimesAssign) s p r → Compound s Mul r
+
+-- `++` is `+= 1` and `--` is `-= 1`, where the 1 has the place of the sign
+pub data Change : ℕ → List Token → AssignOp × RightSide → List Token → Type 0 where
+  puts : {free : ℕ} {s s1 r : List Token} {a : Place} {x : RightSide} → Sees (sign AssignSign) s a s1
+      → Right free s1 x r → Change free s (Put, x) r
+  changes : {free : ℕ} {s s1 r : List Token} {op : AssignOp} {x : Expression} → Compound s op s1
+      → OuterExpression free s1 x r → Change free s (op, value x) r
+  increments : {free : ℕ} {s r : List Token} {p : Place} → Sees (sign Increment) s p r
+      → Change free s (Add, value (number_tree p (pos 1))) r
+  decrements : {free : ℕ} {s r : List Token} {p : Place} → Sees (sign Decrement) s p r
+      → Change free s (Sub, value (number_tree p (pos 1))) r
+
+pub data Assign : ℕ → List Token → Statement → List Token → Type 0 where
+  assigns : {free : ℕ} {s s1 r : List Token} {x : Expression} {c : AssignOp × RightSide} → OuterChain free s x s1
+      → is_target x ≡ true → Change free s1 c r → Assign free s (assign (first_place x) x c.0 c.1) r
+
+-- Assign ";"
+pub data AssignLine : ℕ → List Token → Statement → List Token → Type 0 where
+  assign_line : {free : ℕ} {s s1 r : List Token} {e : Place} {x : Statement} → Assign free s x s1
+      → Sees (sign Semicolon) s1 e r → AssignLine free s x r
+
+pub data First : ℕ → List Token → Statement → List Token → Type 0 where
+  first_local : {free : ℕ} {s r : List Token} {x : Statement} → Local free s x r → First free s x r
+  first_assign : {free : ℕ} {s r : List Token} {x : Statement} → AssignLine free s x r → First free s x r
+
+-- whether an `else` behind the statement would belong to one of its ifs
+abbrev pub is_open : Statement → Bool
+is_open (empty at) = false
+is_open (block at ss) = false
+is_open (local at ty n p r) = false
+is_open (assign at e op r) = false
+is_open (call_statement at e) = false
+is_open (if_only at e s) = true
+is_open (if_else at e s other) = is_open other
+is_open (while_loop at e s) = is_open s
+is_open (for_loop at first e next s) = is_open s
+is_open (return_value at e) = false
+is_open (print_value at e) = false
+
+-- A block, `if`, `while` or `for` that begins here in so many others makes at most 200 with them, or no limit is asked.
+-- The first token that passes the limit is the first token of one of these, so it is asked nowhere else.
+abbrev pub Nested : ℕ → ℕ → List Token → Type 0
+Nested depth free s = Asked (depth < 200) free s
+
+-- statements in so many blocks, ifs and loops, the body of a method or of `main` included
+mutual
+  pub data Stmt : ℕ → ℕ → List Token → Statement → List Token → Type 0 where
+    nothing : {depth free : ℕ} {s r : List Token} {p : Place} → Sees (sign Semicolon) s p r → Stmt depth free s (empty p) r
+    a_block : {depth free : ℕ} {s s1 r : List Token} {p : Place} {xs : List Statement} → Nested depth free s
+        → Sees (sign OpenBrace) s p s1 → Items (depth + 1) free s1 xs r → Stmt depth free s (block p (statements xs)) r
+    an_assign : {depth free : ℕ} {s r : List Token} {x : Statement} → AssignLine free s x r → Stmt depth free s x r
+    a_call : {depth free : ℕ} {s s1 r : List Token} {e : Place} {x : Expression} → OuterChain free s x s1
+        → is_call x ≡ true → Sees (sign Semicolon) s1 e r → Stmt depth free s (call_statement (first_place x) x) r
+    an_if : {depth free : ℕ} {s s1 s2 s3 s4 r : List Token} {p o c : Place} {x : Expression} {y : Statement}
+        → Nested depth free s → Sees (key If) s p s1 → Sees (sign OpenParenthesis) s1 o s2 → OuterExpression free s2 x s3
+        → Sees (sign CloseParenthesis) s3 c s4 → Stmt (depth + 1) free s4 y r → Stmt depth free s (if_only p x y) r
+    an_if_else : {depth free : ℕ} {s s1 s2 s3 s4 s5 s6 r : List Token} {p o c e : Place} {x : Expression} {y z : Statement}
+        → Nested depth free s → Sees (key If) s p s1 → Sees (sign OpenParenthesis) s1 o s2 → OuterExpression free s2 x s3
+        → Sees (sign CloseParenthesis) s3 c s4 → Stmt (depth + 1) free s4 y s5 → is_open y ≡ false
+        → Sees (key Else) s5 e s6 → Stmt (depth + 1) free s6 z r → Stmt depth free s (if_else p x y z) r
+    a_while : {depth free : ℕ} {s s1 s2 s3 s4 r : List Token} {p o c : Place} {x : Expression} {y : Statement}
+        → Nested depth free s → Sees (key While) s p s1 → Sees (sign OpenParenthesis) s1 o s2 → OuterExpression free s2 x s3
+        → Sees (sign CloseParenthesis) s3 c s4 → Stmt (depth + 1) free s4 y r → Stmt depth free s (while_loop p x y) r
+    a_for : {depth free : ℕ} {s s1 s2 s3 s4 s5 s6 s7 r : List Token} {p o e c : Place} {x : Expression}
+        {first next y : Statement} → Nested depth free s → Sees (key For) s p s1 → Sees (sign OpenParenthesis) s1 o s2
+        → First free s2 first s3 → OuterExpression free s3 x s4 → Sees (sign Semicolon) s4 e s5 → Assign free s5 next s6
+        → Sees (sign CloseParenthesis) s6 c s7 → Stmt (depth + 1) free s7 y r → Stmt depth free s (for_loop p first x next y) r
+    a_return : {depth free : ℕ} {s s1 s2 r : List Token} {p e : Place} {x : Expression} → Sees (key Return) s p s1
+        → OuterExpression free s1 x s2 → Sees (sign Semicolon) s2 e r → Stmt depth free s (return_value p x) r
+    a_print : {depth free : ℕ} {s s1 s2 s3 s4 r : List Token} {p o c e : Place} {x : Expression} → Sees (key Print) s p s1
+        → Sees (sign OpenParenthesis) s1 o s2 → OuterExpression free s2 x s3 → Sees (sign CloseParenthesis) s3 c s4
+        → Sees (sign Semicolon) s4 e r → Stmt depth free s (print_value p x) r
+
+  pub data Item : ℕ → ℕ → List Token → Statement → List Token → Type 0 where
+    a_local : {depth free : ℕ} {s r : List Token} {x : Statement} → Local free s x r → Item depth free s x r
+    a_statement : {depth free : ℕ} {s r : List Token} {x : Statement} → Stmt depth free s x r → Item depth free s x r
+
+  -- { Item } "}"
+  pub data Items : ℕ → ℕ → List Token → List Statement → List Token → Type 0 where
+    items_end : {depth free : ℕ} {s r : List Token} {c : Place} → Sees (sign CloseBrace) s c r → Items depth free s [] r
+    items_and : {depth free : ℕ} {s q r : List Token} {x : Statement} {xs : List Statement} → Item depth free s x q
+        → Items depth free q xs r → Items depth free s (x ∷ xs) r
+
+-- { line } close, where each line gives some items
+pub data Lines {A B : Type 0} (D : Deriving (List A)) (close : Token → Option B)
+    : ℕ → List Token → List A → List Token → Type 0 where
+  lines_end : {free : ℕ} {s r : List Token} {c : B} → Sees close s c r → Lines D close free s [] r
+  lines_and : {free : ℕ} {s q r : List Token} {xs ys : List A} → D free s xs q → Lines D close free q ys r
+      → Lines D close free s (xs ++ ys) r
+
+-- a line that gives one item
+pub data One {A : Type 0} (D : Deriving A) : ℕ → List Token → List A → List Token → Type 0 where
+  one : {free : ℕ} {s r : List Token} {x : A} → D free s x r → One D free s (x ∷ []) r
 
 -- [ D { "," D } ] ")"
 abbrev pub Listed : {A : Type 0} → Deriving A → Deriving (List A)
 Listed D = Separated D (sign Comma) (sign CloseParenthesis)
 
-pub data Field : List Token → FieldNode → List Token → Type 0 where
-  field : {s s1 s2 r : List Token} {ty : TypeNode} {n : List ℕ × Place} {e : Place} → TypeName s ty s1
-      → Sees name s1 n s2 → Sees (sign Semicolon) s2 e r
-      → Field s (record { ty = ty; name = n.0; at = n.1; length = None }) r
+pub data Param : ℕ → List Token → ParamNode → List Token → Type 0 where
+  param : {free : ℕ} {s s1 r : List Token} {ty : TypeNode × Place} {n : List ℕ × Place} → TypeName free s ty s1
+      → Sees name s1 n r → Param free s (record { ty = ty.0; name = n.0; at = n.1 }) r
 
-pub data Param : List Token → ParamNode → List Token → Type 0 where
-  param : {s s1 r : List Token} {ty : TypeNode} {n : List ℕ × Place} → TypeName s ty s1 → Sees name s1 n r
-      → Param s (record { ty = ty; name = n.0; at = n.1 }) r
+-- "(" [ Param { "," Param } ] ")" "{" { Item } "}"
+pub data Signature : ℕ → List Token → List ParamNode × List Statement → List Token → Type 0 where
+  signature : {free : ℕ} {s s1 s2 s3 r : List Token} {o b : Place} {ps : List ParamNode} {xs : List Statement}
+      → Sees (sign OpenParenthesis) s o s1 → Listed Param free s1 ps s2 → Sees (sign OpenBrace) s2 b s3
+      → Items 1 free s3 xs r → Signature free s (ps, xs) r
 
-pub data Item : List Token → Expression → List Token → Type 0 where
-  name_item : {s r : List Token} {n : List ℕ × Place} → Sees name s n r → Item s (named n.1 n.0) r
-  number_item : {s r : List Token} {n : ℤ × Place} → Sees number s n r → Item s (number_tree n.1 n.0) r
+-- [ "[" number "]" ]
+pub data Length : ℕ → List Token → Option ℤ → List Token → Type 0 where
+  scalar : {free : ℕ} {s : List Token} → Length free s None s
+  array : {free : ℕ} {s s1 s2 r : List Token} {o c : Place} {n : ℤ × Place} → Sees (sign OpenBracket) s o s1
+      → Sees number s1 n s2 → Sees (sign CloseBracket) s2 c r → Length free s (Some n.0) r
 
--- { ( "+" | "-" ) Item } behind the expression a, to the left, at most n times
-pub data Sum : ℕ → Expression → List Token → Expression → List Token → Type 0 where
-  sum_end : {n : ℕ} {a : Expression} {s : List Token} → Sum n a s a s
-  sum_more : {n : ℕ} {a b x : Expression} {s s1 s2 r : List Token} {o : BinaryOp × Place} → 0 < n
-      → Sees operator s o s1 → Item s1 b s2
-      → Sum (n - 1) (binary o.1 o.0 a b) s2 x r → Sum n a s x r
+abbrev pub is_pointer : TypeNode → Bool
+is_pointer Long = false
+is_pointer BoolType = false
+is_pointer (Pointer n at) = true
 
--- A sum has at most 500 items, which is at most 1,000 tokens.
-pub data Value : List Token → Expression → List Token → Type 0 where
-  null_value : {s r : List Token} {p : Place} → Sees (key Nullptr) s p r → Value s (null p) r
-  sum_value : {s s1 r : List Token} {a x : Expression} → Item s a s1 → Sum 499 a s1 x r → Value s x r
+-- what stands behind a comma in a line of fields of the type
+pub data Further (ty : TypeNode) : ℕ → List Token → MemberTree → List Token → Type 0 where
+  further_plain : {free : ℕ} {s s1 r : List Token} {n : List ℕ × Place} {l : Option ℤ} → is_pointer ty ≡ false
+      → Sees name s n s1 → Length free s1 l r
+      → Further ty free s (field_member (record { ty = ty; name = n.0; at = n.1; length = l })) r
+  further_pointer : {free : ℕ} {s s1 s2 r : List Token} {t : Place} {n : List ℕ × Place} {l : Option ℤ} → is_pointer ty ≡ true
+      → Sees (sign Times) s t s1 → Sees name s1 n s2 → Length free s2 l r
+      → Further ty free s (field_member (record { ty = ty; name = n.0; at = n.1; length = l })) r
 
-pub data Put : List Token → Statement → List Token → Type 0 where
-  put : {s s1 s2 s3 r : List Token} {n : List ℕ × Place} {a e : Place} {x : Expression} → Sees name s n s1
-      → Sees (sign Assign) s1 a s2 → Value s2 x s3 → Sees (sign Semicolon) s3 e r
-      → Put s (assign n.1 (named n.1 n.0) PutOp (value x)) r
+-- a member line gives its fields, or its method
+pub data Member : ℕ → List Token → List MemberTree → List Token → Type 0 where
+  fields : {free : ℕ} {s s1 s2 s3 r : List Token} {ty : TypeNode × Place} {n : List ℕ × Place} {l : Option ℤ} {fs : List MemberTree}
+      → TypeName free s ty s1 → Sees name s1 n s2 → Length free s2 l s3
+      → Following (Further ty.0) (sign Comma) (sign Semicolon) free s3 fs r
+      → Member free s (field_member (record { ty = ty.0; name = n.0; at = n.1; length = l }) ∷ fs) r
+  operation : {free : ℕ} {s s1 s2 r : List Token} {v : Place} {n : List ℕ × Place} {m : List ParamNode × List Statement}
+      → Sees (key Void) s v s1 → Sees name s1 n s2 → Signature free s2 m r
+      → Member free s (method_member (record { result = None; name = n.0; at = n.1; params = m.0; body = statements m.1 }) ∷ []) r
+  value_method : {free : ℕ} {s s1 s2 r : List Token} {ty : TypeNode × Place} {n : List ℕ × Place} {m : List ParamNode × List Statement}
+      → TypeName free s ty s1 → Sees name s1 n s2 → Signature free s2 m r
+      → Member free s (method_member (record { result = Some ty.0; name = n.0; at = n.1; params = m.0; body = statements m.1 }) ∷ []) r
 
--- "{" { Put } "}"
-pub data Block : List Token → List Statement → List Token → Type 0 where
-  block : {s s1 s2 r : List Token} {o c : Place} {xs : List Statement} → Sees (sign OpenBrace) s o s1
-      → Many Put s1 xs s2 → Sees (sign CloseBrace) s2 c r → Block s xs r
+-- Class or Forward, which leaves no trace
+pub data Declaration : ℕ → List Token → List ClassTree → List Token → Type 0 where
+  forward : {free : ℕ} {s s1 s2 r : List Token} {c e : Place} {n : List ℕ × Place} → Sees (key ClassKey) s c s1
+      → Sees name s1 n s2 → Sees (sign Semicolon) s2 e r → Declaration free s [] r
+  a_class : {free : ℕ} {s s1 s2 s3 s4 s5 s6 r : List Token} {c o p d e : Place} {n : List ℕ × Place} {ms : List MemberTree}
+      → Sees (key ClassKey) s c s1 → Sees name s1 n s2 → Sees (sign OpenBrace) s2 o s3 → Sees (key Public) s3 p s4
+      → Sees (sign Colon) s4 d s5 → Lines Member (sign CloseBrace) free s5 ms s6 → Sees (sign Semicolon) s6 e r
+      → Declaration free s (record { name = n.0; at = n.1; members = ms } ∷ []) r
 
-pub data Op : List Token → MethodTree → List Token → Type 0 where
-  op : {s s1 s2 s3 s4 r : List Token} {v o : Place} {n : List ℕ × Place} {ps : List ParamNode} {xs : List Statement}
-      → Sees (key Void) s v s1 → Sees name s1 n s2
-      → Sees (sign OpenParenthesis) s2 o s3 → Listed Param s3 ps s4 → Block s4 xs r
-      → Op s (record { result = None; name = n.0; at = n.1; params = ps; body = statements xs }) r
+-- the tokens in front of the rest
+abbrev pub read : List Token → List Token → List Token
+read s r = take (length s - length r) s
 
--- fields and operations as the members that they are
-pub data FieldMember : List Token → MemberTree → List Token → Type 0 where
-  a_field : {s r : List Token} {f : FieldNode} → Field s f r → FieldMember s (field_member f) r
+-- `return 0 ;`
+abbrev pub is_return_zero : List Token → Bool
+is_return_zero [] = false
+is_return_zero (t ∷ []) = false
+is_return_zero (t ∷ u ∷ []) = false
+is_return_zero (t ∷ u ∷ v ∷ []) = is_some (key Return t) && is_some (zero u) && is_some (sign Semicolon v)
+is_return_zero (t ∷ u ∷ v ∷ w ∷ s) = false
 
-pub data OpMember : List Token → MemberTree → List Token → Type 0 where
-  an_op : {s r : List Token} {m : MethodTree} → Op s m r → OpMember s (method_member m) r
+-- an item of `main`, and whether it is `return 0 ;`
+pub data MainItem : ℕ → List Token → Statement × Bool → List Token → Type 0 where
+  main_item : {free : ℕ} {s r : List Token} {x : Statement} → Item 1 free s x r
+      → MainItem free s (x, is_return_zero (read s r)) r
 
--- { Field } { Op }
-pub data Members : List Token → List MemberTree → List Token → Type 0 where
-  members : {s s1 r : List Token} {fs ms : List MemberTree} → Many FieldMember s fs s1 → Many OpMember s1 ms r
-      → Members s (fs ++ ms) r
+-- the items of `main` but for a last one that is `return 0 ;`
+abbrev pub kept : List (Statement × Bool) → List Statement
+kept [] = []
+kept (x ∷ []) = cond x.1 [] (x.0 ∷ [])
+kept (x ∷ y ∷ xs) = x.0 ∷ kept (y ∷ xs)
 
-pub data Class : List Token → ClassTree → List Token → Type 0 where
-  a_class : {s s1 s2 s3 s4 s5 s6 s7 r : List Token} {c o p d b e : Place} {n : List ℕ × Place} {ms : List MemberTree}
-      → Sees (key ClassKey) s c s1 → Sees name s1 n s2 → Sees (sign OpenBrace) s2 o s3
-      → Sees (key Public) s3 p s4 → Sees (sign Colon) s4 d s5 → Members s5 ms s6
-      → Sees (sign CloseBrace) s6 b s7 → Sees (sign Semicolon) s7 e r
-      → Class s (record { name = n.0; at = n.1; members = ms }) r
+pub data Program : ℕ → List Token → TextTree → List Token → Type 0 where
+  program : {free : ℕ} {s s1 s2 s3 s4 s5 r : List Token} {m o c b : Place} {cs : List ClassTree} {xs : List (Statement × Bool)}
+      → Lines Declaration (key Int) free s cs s1 → Sees (key Main) s1 m s2 → Sees (sign OpenParenthesis) s2 o s3
+      → Sees (sign CloseParenthesis) s3 c s4 → Sees (sign OpenBrace) s4 b s5
+      → Lines (One MainItem) (sign CloseBrace) free s5 xs r
+      → Program free s (record { classes = cs; main = statements (kept xs) }) r
 
-pub data Start : List Token → RightSide → List Token → Type 0 where
-  new_start : {s s1 s2 s3 r : List Token} {w o c : Place} {n : List ℕ × Place} → Sees (key New) s w s1
-      → Sees name s1 n s2 → Sees (sign OpenParenthesis) s2 o s3
-      → Sees (sign CloseParenthesis) s3 c r → Start s (new n.0 n.1) r
-  null_start : {s r : List Token} {p : Place} → Sees (key Nullptr) s p r → Start s (value (null p)) r
+-- All of the tokens derive the tree. No limit is asked of the last `free` of them.
+abbrev pub DerivesFree : ℕ → List Token → TextTree → Type 0
+DerivesFree free ts x = Program free ts x []
 
-pub data Arg : List Token → Expression → List Token → Type 0 where
-  null_arg : {s r : List Token} {p : Place} → Sees (key Nullptr) s p r → Arg s (null p) r
-  item_arg : {s r : List Token} {x : Expression} → Item s x r → Arg s x r
-
-pub data Line : List Token → Statement → List Token → Type 0 where
-  declares : {s s1 s2 s3 s4 s5 r : List Token} {c n : List ℕ × Place} {t a e : Place} {x : RightSide}
-      → Sees name s c s1 → Sees (sign Times) s1 t s2 → Sees name s2 n s3 → Sees (sign Assign) s3 a s4
-      → Start s4 x s5 → Sees (sign Semicolon) s5 e r → Line s (local c.1 (Pointer c.0 c.1) n.0 n.1 (Some x)) r
-  calls : {s s1 s2 s3 s4 s5 r : List Token} {o n : List ℕ × Place} {a p e : Place} {xs : List Expression}
-      → Sees name s o s1 → Sees (sign Arrow) s1 a s2 → Sees name s2 n s3
-      → Sees (sign OpenParenthesis) s3 p s4 → Listed Arg s4 xs s5 → Sees (sign Semicolon) s5 e r
-      → Line s (call_statement o.1 (method a (named o.1 o.0) n.0 (expressions xs))) r
-
--- A `return 0 ;` that stands last leaves no trace.
-pub data End : List Token → Place → List Token → Type 0 where
-  brace_end : {s r : List Token} {c : Place} → Sees (sign CloseBrace) s c r → End s c r
-  return_end : {s s1 s2 s3 r : List Token} {w z e c : Place} → Sees (key Return) s w s1 → Sees zero s1 z s2
-      → Sees (sign Semicolon) s2 e s3 → Sees (sign CloseBrace) s3 c r → End s c r
-
-pub data Main : List Token → List Statement → List Token → Type 0 where
-  main : {s s1 s2 s3 s4 s5 s6 r : List Token} {i m o c b e : Place} {xs : List Statement}
-      → Sees (key Int) s i s1 → Sees (key MainKey) s1 m s2 → Sees (sign OpenParenthesis) s2 o s3
-      → Sees (sign CloseParenthesis) s3 c s4 → Sees (sign OpenBrace) s4 b s5 → Many Line s5 xs s6 → End s6 e r
-      → Main s xs r
-
-pub data Program : List Token → TextTree → List Token → Type 0 where
-  program : {s s1 r : List Token} {cs : List ClassTree} {xs : List Statement} → Many Class s cs s1
-      → Main s1 xs r → Program s (record { classes = cs; main = statements xs }) r
-
--- all of the tokens derive the tree
+-- the tokens derive the tree
 abbrev pub Derives : List Token → TextTree → Type 0
-Derives ts x = Program ts x []
+Derives ts x = DerivesFree (length ts) ts x
+
+-- they derive it, and none of them passes a limit on nesting
+abbrev pub DerivesWithin : List Token → TextTree → Type 0
+DerivesWithin ts x = DerivesFree 0 ts x

@@ -1,3 +1,2 @@
-pub mod Terminals
 pub mod Grammar
-pub mod Readers
+pub mod Closed

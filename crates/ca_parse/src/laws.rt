@@ -1,11 +1,22 @@
-//! Laws of the grammar.
+//! Laws of the grammar: tokens have one answer.
 
-ghost use Rattle.std.specs.Prelude.{◌≡◌, List};
+ghost use Rattle.std.specs.Prelude.{◌≡◌, ℕ, List};
+ghost use Rattle.ca_descent.specs.Whole.{FirstWrong, FirstDeep};
 ghost use Rattle.ca_tree.specs.declared.token.Token.{Token};
 ghost use Rattle.ca_tree.specs.Plain.{TextTree};
-ghost use Rattle.ca_parse.specs.Grammar.{Derives};
+ghost use Rattle.ca_parse.specs.Grammar.{DerivesFree, DerivesWithin};
 
-/// Tokens derive one tree.
+/// Tokens derive one tree, whatever limits are asked.
 pub fn one_tree()
-    ensures { (ts : List Token) (x y : TextTree) → Derives ts x → Derives ts y → x ≡ y }
+    ensures { (ts : List Token) (free other : ℕ) (x y : TextTree) → DerivesFree free ts x → DerivesFree other ts y → x ≡ y }
+{}
+
+/// Tokens have one first wrong token, or one first past a limit, or a tree within the limits, and no
+/// two of these.
+pub fn one_answer()
+    ensures one_wrong { (ts : List Token) (k j : ℕ) → FirstWrong DerivesFree ts k → FirstWrong DerivesFree ts j → k ≡ j }
+    ensures one_deep { (ts : List Token) (k j : ℕ) → FirstDeep DerivesFree ts k → FirstDeep DerivesFree ts j → k ≡ j }
+    ensures wrong_or_deep { (ts : List Token) (k j : ℕ) → FirstWrong DerivesFree ts k → FirstDeep DerivesFree ts j → ⊥ }
+    ensures wrong_or_derived { (ts : List Token) (k : ℕ) (x : TextTree) → FirstWrong DerivesFree ts k → DerivesWithin ts x → ⊥ }
+    ensures deep_or_derived { (ts : List Token) (k : ℕ) (x : TextTree) → FirstDeep DerivesFree ts k → DerivesWithin ts x → ⊥ }
 {}

@@ -1,19 +1,20 @@
-//! The parser of the small form: from the tokens of a text to its tree.
+//! The parser of the language: from the tokens of a text to its tree.
 //!
-//! `specs/Grammar.antt` has the grammar, a rule for each case, and `parse` promises to the front
-//! end that it gives the one tree which the tokens derive, and a tree for all tokens that derive
-//! one, unless memory runs out. It goes over the tokens once, and copies the names.
+//! `specs/Grammar.antt` has the grammar of statements, classes and texts, a rule for each case, over
+//! that of expressions. `parse` promises to the front end the one tree that the tokens derive, or
+//! the first wrong token, or the first that passes a limit on nesting, unless memory runs out. It
+//! goes over the tokens once, and copies the names.
 //! A parsing function reads at the front of the tokens and gives what stands behind; its clause
-//! says that its answer is exact, at a wrong token too.
+//! says that its answer is exact, at a wrong token and past a limit too.
 #![tactic(auto)]
 
-mod classes;
-mod expressions;
+mod assigns;
 pub mod laws;
+mod members;
 mod statements;
 #[cfg(test)]
 mod tests;
-mod tokens;
+mod types;
 mod whole;
 
 pub use whole::{ParseError, parse};

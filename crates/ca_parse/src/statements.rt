@@ -1,196 +1,340 @@
-//! The statements of an operation and of `main`.
+//! Statements.
 
-ghost use Rattle.std.specs.Prelude.{◌≡◌, IfOk, map};
-ghost use Rattle.ca_descent.specs.Exact.{Exact, Before, Many};
-ghost use Rattle.ca_tree.specs.Plain.{call_statement, method as method_tree, named};
-ghost use Rattle.ca_tree.specs.View.{expression_view, statement_view, right_view};
-ghost use Rattle.ca_parse.specs.Terminals.{name as name_token};
-ghost use Rattle.ca_parse.specs.Grammar.{Put, Block, Start, Line, End, Main, expressions};
-ghost use Rattle.ca_parse.specs.Readers.{answer, LocalRest, CallRest};
+ghost use Rattle.std.specs.Prelude.{◌≡◌, ◌≤◌, ◌<◌, IfOk, map, is_some, length, false, true, box_value};
+ghost use Rattle.ca_descent.specs.Exact.{Exact, head_of};
+ghost use Rattle.ca_tree.specs.declared.token.Keyword.TheVariants.{Else};
+ghost use Rattle.ca_tree.specs.Plain.{if_only as if_only_tree, if_else as if_else_tree, while_loop as while_tree, for_loop as for_tree};
+ghost use Rattle.ca_tree.specs.View.{expression_view, statement_view};
+ghost use Rattle.ca_expressions.specs.Terminals.{key};
+ghost use Rattle.ca_expressions.specs.Readers.{answer};
+ghost use Rattle.ca_parse.specs.Grammar.{Stmt, Item, Items, is_open};
+ghost use Rattle.ca_parse.specs.Closed.{StmtClosed, ItemClosed, Condition, IfRest, IfRestClosed, WhileRest, WhileRestClosed, ForRest, ForRestClosed, ReturnRest, PrintRest, Simple, is_nested};
 
-use crate::expressions::{parse_args, parse_value};
-use crate::tokens::{Fault, is_name, key_at, sign_at, take_key, take_name, take_sign, take_zero};
-use ca_tree::{
-    AssignOp, ExprKind, ExprNode, Keyword, Name, Place, Right, Sign, StmtKind, StmtNode, Token,
-    TypeNode,
+use crate::assigns::{first_place, parse_assign, parse_assign_to, parse_first, parse_local};
+use crate::types::begins_local;
+use ca_expressions::{
+    Fault, is_call, is_key, is_sign, is_target, key_at, parse_chain, parse_expression, sign_at,
+    take_sign,
 };
+use ca_tree::{ExprNode, Keyword, Place, Sign, StmtKind, StmtNode, Token};
 use std::alloc::{AllocError, Global};
 
-/// An assignment.
-fn parse_assign<'a>(
-    alloc: Global,
-    tokens: &'a [Token],
-) -> Result<(StmtNode, &'a [Token]), Fault<'a>>
-    ensures answer { Exact Put Put tokens.now (answer statement_view result) }
+/// How many blocks, ifs and loops a token may stand in.
+const DEEPEST: usize = 200;
+
+/// An `if` without `else`.
+fn if_only(alloc: Global, at: Place, cond: ExprNode, yes: StmtNode) -> Result<StmtNode, AllocError>
+    ensures { IfOk result (λ s. statement_view s ≡ if_only_tree at (expression_view cond) (statement_view yes)) }
 {
-    let ((name, at), rest) = take_name(alloc, tokens)?;
-    let (_, rest) = take_sign(rest, Sign::Assign)?;
-    let (value, rest) = parse_value(alloc, rest)?;
-    let (_, rest) = take_sign(rest, Sign::Semicolon)?;
-    let kind = ExprKind::Named(name);
-    let kind = StmtKind::Assign {
-        target: ExprNode { at, kind },
-        op: AssignOp::Put,
-        right: Right::Value(value),
+    let yes = Box::new(alloc, yes)?;
+    let kind = StmtKind::If {
+        cond,
+        yes,
+        no: None,
     };
-    Ok((StmtNode { at, kind }, rest))
-}
-
-fn parse_assigns<'a>(
-    alloc: Global,
-    tokens: &'a [Token],
-) -> Result<(Vec<StmtNode>, &'a [Token]), Fault<'a>>
-    ensures answer { Exact (Many Put) (Before name_token (Many Put)) tokens.now (answer (λ v. map statement_view v.items) result) }
-{
-    let mut out = Vec::new(alloc);
-    let mut rest = tokens;
-    'assigns: while is_name(rest) {
-        let (statement, more) = parse_assign(alloc, rest)?;
-        out.push(statement)?;
-        rest = more;
-    }
-    Ok((out, rest))
-}
-
-/// The body of an operation, with its braces.
-pub fn parse_block<'a>(
-    alloc: Global,
-    tokens: &'a [Token],
-) -> Result<(Vec<StmtNode>, &'a [Token]), Fault<'a>>
-    ensures answer { Exact Block Block tokens.now (answer (λ v. map statement_view v.items) result) }
-{
-    let (_, rest) = take_sign(tokens, Sign::OpenBrace)?;
-    let (statements, rest) = parse_assigns(alloc, rest)?;
-    let (_, rest) = take_sign(rest, Sign::CloseBrace)?;
-    Ok((statements, rest))
-}
-
-/// What a local begins with: a new object or `nullptr`.
-fn parse_start<'a>(alloc: Global, tokens: &'a [Token]) -> Result<(Right, &'a [Token]), Fault<'a>>
-    ensures answer { Exact Start Start tokens.now (answer right_view result) }
-{
-    if let Some((at, rest)) = key_at(tokens, Keyword::Nullptr) {
-        let kind = ExprKind::Null;
-        return Ok((Right::Value(ExprNode { at, kind }), rest));
-    }
-    let (_, rest) = take_key(tokens, Keyword::New)?;
-    let ((class, at), rest) = take_name(alloc, rest)?;
-    let (_, rest) = take_sign(rest, Sign::OpenParenthesis)?;
-    let (_, rest) = take_sign(rest, Sign::CloseParenthesis)?;
-    Ok((Right::New(class, at), rest))
-}
-
-/// What stands behind `C *`, where C is the class of a local and stands at the place.
-fn parse_local<'a>(
-    alloc: Global,
-    class: Name,
-    at: Place,
-    tokens: &'a [Token],
-) -> Result<(StmtNode, &'a [Token]), Fault<'a>>
-    ensures answer { Exact (LocalRest class at) (LocalRest class at) tokens.now (answer statement_view result) }
-{
-    let ((name, name_at), rest) = take_name(alloc, tokens)?;
-    let (_, rest) = take_sign(rest, Sign::Assign)?;
-    let (value, rest) = parse_start(alloc, rest)?;
-    let (_, rest) = take_sign(rest, Sign::Semicolon)?;
-    let kind = StmtKind::Local {
-        ty: TypeNode::Pointer(class, at),
-        name,
-        name_at,
-        value: Some(value),
-    };
-    Ok((StmtNode { at, kind }, rest))
-}
-
-/// A call of an object's method.
-fn call(
-    alloc: Global,
-    receiver: Name,
-    at: Place,
-    arrow: Place,
-    name: Name,
-    args: Vec<ExprNode>,
-) -> Result<StmtNode, AllocError>
-    ensures { IfOk result (λ s. statement_view s
-        ≡ call_statement at (method_tree arrow (named at receiver) name (expressions (map expression_view args.items)))) }
-{
-    let kind = ExprKind::Named(receiver);
-    let receiver = Box::new(alloc, ExprNode { at, kind })?;
-    let kind = ExprKind::Method(receiver, name, args);
-    let kind = StmtKind::Call(ExprNode { at: arrow, kind });
     Ok(StmtNode { at, kind })
 }
 
-/// What stands behind the name of the object whose method is called, which stands at the place.
-fn parse_call<'a>(
+/// An `if` with its `else`.
+fn if_else(
     alloc: Global,
-    receiver: Name,
+    at: Place,
+    cond: ExprNode,
+    yes: StmtNode,
+    other: StmtNode,
+) -> Result<StmtNode, AllocError>
+    ensures { IfOk result (λ s. statement_view s
+        ≡ if_else_tree at (expression_view cond) (statement_view yes) (statement_view other)) }
+{
+    let yes = Box::new(alloc, yes)?;
+    let other = Box::new(alloc, other)?;
+    let kind = StmtKind::If {
+        cond,
+        yes,
+        no: Some(other),
+    };
+    Ok(StmtNode { at, kind })
+}
+
+fn while_loop(
+    alloc: Global,
+    at: Place,
+    cond: ExprNode,
+    body: StmtNode,
+) -> Result<StmtNode, AllocError>
+    ensures { IfOk result (λ s. statement_view s ≡ while_tree at (expression_view cond) (statement_view body)) }
+{
+    let body = Box::new(alloc, body)?;
+    let kind = StmtKind::While { cond, body };
+    Ok(StmtNode { at, kind })
+}
+
+/// Two statements, each in a box.
+fn boxes(
+    alloc: Global,
+    first: StmtNode,
+    second: StmtNode,
+) -> Result<(Box<StmtNode>, Box<StmtNode>), AllocError>
+    ensures first { IfOk result (λ p. box_value p.0 ≡ first) }
+    ensures second { IfOk result (λ p. box_value p.1 ≡ second) }
+{
+    let first = Box::new(alloc, first)?;
+    let second = Box::new(alloc, second)?;
+    Ok((first, second))
+}
+
+fn for_loop(
+    alloc: Global,
+    at: Place,
+    first: StmtNode,
+    cond: ExprNode,
+    next: StmtNode,
+    body: StmtNode,
+) -> Result<StmtNode, AllocError>
+    ensures { IfOk result (λ s. statement_view s
+        ≡ for_tree at (statement_view first) (expression_view cond) (statement_view next) (statement_view body)) }
+{
+    let (first, next) = boxes(alloc, first, next)?;
+    let body = Box::new(alloc, body)?;
+    let kind = StmtKind::For {
+        first,
+        cond,
+        next,
+        body,
+    };
+    Ok(StmtNode { at, kind })
+}
+
+/// A statement that begins with a chain: a call, or an assignment.
+fn parse_simple<'a>(
+    alloc: Global,
+    tokens: &'a [Token],
+) -> Result<(StmtNode, &'a [Token]), Fault<'a>>
+    ensures answer { Exact Simple Simple tokens.now (answer statement_view result) }
+{
+    let (chain, rest) = parse_chain(alloc, tokens)?;
+    if is_call(&chain) {
+        let (_, rest) = take_sign(rest, Sign::Semicolon)?;
+        let at = first_place(&chain);
+        let kind = StmtKind::Call(chain);
+        return Ok((StmtNode { at, kind }, rest));
+    }
+    if !is_target(&chain) {
+        return Err(Fault::Wrong(rest));
+    }
+    let (assign, rest) = parse_assign_to(alloc, chain, rest)?;
+    let (_, rest) = take_sign(rest, Sign::Semicolon)?;
+    Ok((assign, rest))
+}
+
+/// What stands behind the word `return`, which stands at the place.
+fn parse_return<'a>(
+    alloc: Global,
     at: Place,
     tokens: &'a [Token],
 ) -> Result<(StmtNode, &'a [Token]), Fault<'a>>
-    ensures answer { Exact (CallRest receiver at) (CallRest receiver at) tokens.now (answer statement_view result) }
+    ensures answer { Exact (ReturnRest at) (ReturnRest at) tokens.now (answer statement_view result) }
 {
-    let (arrow, rest) = take_sign(tokens, Sign::Arrow)?;
-    let ((name, _), rest) = take_name(alloc, rest)?;
-    let (_, rest) = take_sign(rest, Sign::OpenParenthesis)?;
-    let (args, rest) = parse_args(alloc, rest)?;
+    let (value, rest) = parse_expression(alloc, tokens)?;
     let (_, rest) = take_sign(rest, Sign::Semicolon)?;
-    let statement = call(alloc, receiver, at, arrow, name, args)?;
-    Ok((statement, rest))
+    let kind = StmtKind::Return(value);
+    Ok((StmtNode { at, kind }, rest))
 }
 
-/// A statement of `main`.
-fn parse_line<'a>(alloc: Global, tokens: &'a [Token]) -> Result<(StmtNode, &'a [Token]), Fault<'a>>
-    ensures answer { Exact Line Line tokens.now (answer statement_view result) }
+/// What stands behind the word `print`, which stands at the place.
+fn parse_print<'a>(
+    alloc: Global,
+    at: Place,
+    tokens: &'a [Token],
+) -> Result<(StmtNode, &'a [Token]), Fault<'a>>
+    ensures answer { Exact (PrintRest at) (PrintRest at) tokens.now (answer statement_view result) }
 {
-    let ((name, at), rest) = take_name(alloc, tokens)?;
-    if let Some((_, rest)) = sign_at(rest, Sign::Times) {
-        return parse_local(alloc, name, at, rest);
-    }
-    parse_call(alloc, name, at, rest)
+    let (value, rest) = parse_condition(alloc, tokens)?;
+    let (_, rest) = take_sign(rest, Sign::Semicolon)?;
+    let kind = StmtKind::Print(value);
+    Ok((StmtNode { at, kind }, rest))
 }
 
-fn parse_lines<'a>(
+/// An expression between round brackets.
+fn parse_condition<'a>(
     alloc: Global,
     tokens: &'a [Token],
+) -> Result<(ExprNode, &'a [Token]), Fault<'a>>
+    ensures answer { Exact Condition Condition tokens.now (answer expression_view result) }
+    ensures shorter { IfOk result (λ p. length p.1.now < length tokens.now) }
+{
+    let (_, rest) = take_sign(tokens, Sign::OpenParenthesis)?;
+    let (value, rest) = parse_expression(alloc, rest)?;
+    let (_, rest) = take_sign(rest, Sign::CloseParenthesis)?;
+    Ok((value, rest))
+}
+
+/// Whether a block, `if`, `while` or `for` begins.
+fn begins_nested(tokens: &[Token]) -> bool
+    ensures { result ≡ is_nested tokens.now }
+{
+    is_sign(tokens, Sign::OpenBrace)
+        || is_key(tokens, Keyword::If)
+        || is_key(tokens, Keyword::While)
+        || is_key(tokens, Keyword::For)
+}
+
+/// A block, `if`, `while` or `for`.
+#[cycle(statement)]
+fn parse_nested<'a>(
+    alloc: Global,
+    depth: usize,
+    tokens: &'a [Token],
+) -> Result<(StmtNode, &'a [Token]), Fault<'a>>
+    requires room { depth < 200 }
+    requires nested { is_nested tokens.now ≡ true }
+    ensures answer { Exact (Stmt depth) (StmtClosed depth) tokens.now (answer statement_view result) }
+    ensures shut { IfOk result (λ p. is_some (head_of (key Else) p.1.now) ≡ true → is_open (statement_view p.0) ≡ false) }
+{
+    if let Some((at, rest)) = sign_at(tokens, Sign::OpenBrace) {
+        let (items, rest) = parse_items(alloc, depth + 1, rest)?;
+        let kind = StmtKind::Block(items);
+        return Ok((StmtNode { at, kind }, rest));
+    }
+    if let Some((at, rest)) = key_at(tokens, Keyword::If) {
+        return parse_if(alloc, depth, at, rest);
+    }
+    if let Some((at, rest)) = key_at(tokens, Keyword::While) {
+        return parse_while(alloc, depth, at, rest);
+    }
+    let Some((at, rest)) = key_at(tokens, Keyword::For) else {
+        return Err(Fault::Wrong(tokens));
+    };
+    parse_for(alloc, depth, at, rest)
+}
+
+/// A statement in so many blocks, ifs and loops.
+#[cycle(statement)]
+fn parse_statement<'a>(
+    alloc: Global,
+    depth: usize,
+    tokens: &'a [Token],
+) -> Result<(StmtNode, &'a [Token]), Fault<'a>>
+    requires { depth ≤ 200 }
+    ensures answer { Exact (Stmt depth) (StmtClosed depth) tokens.now (answer statement_view result) }
+    ensures shut { IfOk result (λ p. is_some (head_of (key Else) p.1.now) ≡ true → is_open (statement_view p.0) ≡ false) }
+{
+    if begins_nested(tokens) {
+        if depth == DEEPEST {
+            return Err(Fault::TooDeep(tokens));
+        }
+        return parse_nested(alloc, depth, tokens);
+    }
+    if let Some((at, rest)) = sign_at(tokens, Sign::Semicolon) {
+        let kind = StmtKind::Empty;
+        return Ok((StmtNode { at, kind }, rest));
+    }
+    if let Some((at, rest)) = key_at(tokens, Keyword::Return) {
+        return parse_return(alloc, at, rest);
+    }
+    if let Some((at, rest)) = key_at(tokens, Keyword::Print) {
+        return parse_print(alloc, at, rest);
+    }
+    parse_simple(alloc, tokens)
+}
+
+/// A local or a statement.
+#[cycle(statement)]
+pub fn parse_item<'a>(
+    alloc: Global,
+    depth: usize,
+    tokens: &'a [Token],
+) -> Result<(StmtNode, &'a [Token]), Fault<'a>>
+    requires { depth ≤ 200 }
+    ensures answer { Exact (Item depth) (ItemClosed depth) tokens.now (answer statement_view result) }
+{
+    if begins_local(tokens) {
+        return parse_local(alloc, tokens);
+    }
+    parse_statement(alloc, depth, tokens)
+}
+
+/// Items, and the brace behind them.
+#[cycle(statement)]
+pub fn parse_items<'a>(
+    alloc: Global,
+    depth: usize,
+    tokens: &'a [Token],
 ) -> Result<(Vec<StmtNode>, &'a [Token]), Fault<'a>>
-    ensures answer { Exact (Many Line) (Before name_token (Many Line)) tokens.now (answer (λ v. map statement_view v.items) result) }
+    requires { depth ≤ 200 }
+    ensures answer { Exact (Items depth) (Items depth) tokens.now (answer (λ v. map statement_view v.items) result) }
 {
     let mut out = Vec::new(alloc);
     let mut rest = tokens;
-    'lines: while is_name(rest) {
-        let (statement, more) = parse_line(alloc, rest)?;
-        out.push(statement)?;
+    'items: while !is_sign(rest, Sign::CloseBrace) {
+        let (item, more) = parse_item(alloc, depth, rest)?;
+        out.push(item)?;
         rest = more;
     }
+    let (_, rest) = take_sign(rest, Sign::CloseBrace)?;
     Ok((out, rest))
 }
 
-/// The last brace, and its place, or `return 0 ;` in front of it.
-fn parse_end<'a>(tokens: &'a [Token]) -> Result<(Place, &'a [Token]), Fault<'a>>
-    ensures answer { Exact End End tokens.now (answer (λ p. p) result) }
+/// What stands behind the word `if`, which stands at the place.
+#[cycle(statement)]
+fn parse_if<'a>(
+    alloc: Global,
+    depth: usize,
+    at: Place,
+    tokens: &'a [Token],
+) -> Result<(StmtNode, &'a [Token]), Fault<'a>>
+    requires { depth < 200 }
+    ensures answer { Exact (IfRest depth at) (IfRestClosed depth at) tokens.now (answer statement_view result) }
+    ensures shut { IfOk result (λ p. is_some (head_of (key Else) p.1.now) ≡ true → is_open (statement_view p.0) ≡ false) }
 {
-    let Some((_, rest)) = key_at(tokens, Keyword::Return) else {
-        return take_sign(tokens, Sign::CloseBrace);
+    let (cond, rest) = parse_condition(alloc, tokens)?;
+    let (yes, rest) = parse_statement(alloc, depth + 1, rest)?;
+    let Some((_, more)) = key_at(rest, Keyword::Else) else {
+        let statement = if_only(alloc, at, cond, yes)?;
+        return Ok((statement, rest));
     };
-    let (_, rest) = take_zero(rest)?;
-    let (_, rest) = take_sign(rest, Sign::Semicolon)?;
-    take_sign(rest, Sign::CloseBrace)
+    let (other, rest) = parse_statement(alloc, depth + 1, more)?;
+    let statement = if_else(alloc, at, cond, yes, other)?;
+    Ok((statement, rest))
 }
 
-/// `main`, and its statements.
-pub fn parse_main<'a>(
+/// What stands behind the word `while`, which stands at the place.
+#[cycle(statement)]
+fn parse_while<'a>(
     alloc: Global,
+    depth: usize,
+    at: Place,
     tokens: &'a [Token],
-) -> Result<(Vec<StmtNode>, &'a [Token]), Fault<'a>>
-    ensures answer { Exact Main Main tokens.now (answer (λ v. map statement_view v.items) result) }
+) -> Result<(StmtNode, &'a [Token]), Fault<'a>>
+    requires { depth < 200 }
+    ensures answer { Exact (WhileRest depth at) (WhileRestClosed depth at) tokens.now (answer statement_view result) }
+    ensures shut { IfOk result (λ p. is_some (head_of (key Else) p.1.now) ≡ true → is_open (statement_view p.0) ≡ false) }
 {
-    let (_, rest) = take_key(tokens, Keyword::Int)?;
-    let (_, rest) = take_key(rest, Keyword::Main)?;
-    let (_, rest) = take_sign(rest, Sign::OpenParenthesis)?;
+    let (cond, rest) = parse_condition(alloc, tokens)?;
+    let (body, rest) = parse_statement(alloc, depth + 1, rest)?;
+    let statement = while_loop(alloc, at, cond, body)?;
+    Ok((statement, rest))
+}
+
+/// What stands behind the word `for`, which stands at the place.
+#[cycle(statement)]
+fn parse_for<'a>(
+    alloc: Global,
+    depth: usize,
+    at: Place,
+    tokens: &'a [Token],
+) -> Result<(StmtNode, &'a [Token]), Fault<'a>>
+    requires { depth < 200 }
+    ensures answer { Exact (ForRest depth at) (ForRestClosed depth at) tokens.now (answer statement_view result) }
+    ensures shut { IfOk result (λ p. is_some (head_of (key Else) p.1.now) ≡ true → is_open (statement_view p.0) ≡ false) }
+{
+    let (_, rest) = take_sign(tokens, Sign::OpenParenthesis)?;
+    let (first, rest) = parse_first(alloc, rest)?;
+    let (cond, rest) = parse_expression(alloc, rest)?;
+    let (_, rest) = take_sign(rest, Sign::Semicolon)?;
+    let (next, rest) = parse_assign(alloc, rest)?;
     let (_, rest) = take_sign(rest, Sign::CloseParenthesis)?;
-    let (_, rest) = take_sign(rest, Sign::OpenBrace)?;
-    let (statements, rest) = parse_lines(alloc, rest)?;
-    let (_, rest) = parse_end(rest)?;
-    Ok((statements, rest))
+    let (body, rest) = parse_statement(alloc, depth + 1, rest)?;
+    let statement = for_loop(alloc, at, first, cond, next, body)?;
+    Ok((statement, rest))
 }

@@ -1,42 +1,58 @@
 //! `parse` on the tokens of small texts.
 
 use crate::{ParseError, parse};
-use ca_tree::{
-    BinaryOp, ExprKind, Keyword, Kind, Member, Name, Place, Right, Sign, StmtKind, Token,
-};
+use ca_tree::{AssignOp, Keyword, Kind, Member, Name, Place, Sign, StmtKind, Token};
 use std::alloc::{AllocError, Global};
 use std::test::Fail;
 
-const PROGRAM: &str =
-    "class A { public : long s ; void add ( long p , B * q ) { s = s + p - 1 ; } } ; \
-    int main ( ) { A * a = new A ( ) ; a -> add ( 3 , nullptr ) ; return 0 ; }";
+fn key(word: &str) -> Option<Keyword> {
+    Some(match word {
+        "class" => Keyword::Class,
+        "public" => Keyword::Public,
+        "long" => Keyword::Long,
+        "bool" => Keyword::Bool,
+        "int" => Keyword::Int,
+        "void" => Keyword::Void,
+        "if" => Keyword::If,
+        "else" => Keyword::Else,
+        "while" => Keyword::While,
+        "for" => Keyword::For,
+        "return" => Keyword::Return,
+        "new" => Keyword::New,
+        "main" => Keyword::Main,
+        _ => return None,
+    })
+}
+
+fn sign(word: &str) -> Option<Sign> {
+    Some(match word {
+        "{" => Sign::OpenBrace,
+        "}" => Sign::CloseBrace,
+        "(" => Sign::OpenParenthesis,
+        ")" => Sign::CloseParenthesis,
+        "[" => Sign::OpenBracket,
+        "]" => Sign::CloseBracket,
+        ";" => Sign::Semicolon,
+        "," => Sign::Comma,
+        ":" => Sign::Colon,
+        "=" => Sign::Assign,
+        "*" => Sign::Times,
+        "->" => Sign::Arrow,
+        "--" => Sign::Decrement,
+        _ => return None,
+    })
+}
 
 fn kind(alloc: Global, word: &str) -> Result<Kind, AllocError> {
+    if let Some(key) = key(word) {
+        return Ok(Kind::Key(key));
+    }
+    if let Some(sign) = sign(word) {
+        return Ok(Kind::Sign(sign));
+    }
     Ok(match word {
-        "class" => Kind::Key(Keyword::Class),
-        "public" => Kind::Key(Keyword::Public),
-        "long" => Kind::Key(Keyword::Long),
-        "void" => Kind::Key(Keyword::Void),
-        "int" => Kind::Key(Keyword::Int),
-        "main" => Kind::Key(Keyword::Main),
-        "new" => Kind::Key(Keyword::New),
-        "nullptr" => Kind::Key(Keyword::Nullptr),
-        "return" => Kind::Key(Keyword::Return),
-        "{" => Kind::Sign(Sign::OpenBrace),
-        "}" => Kind::Sign(Sign::CloseBrace),
-        "(" => Kind::Sign(Sign::OpenParenthesis),
-        ")" => Kind::Sign(Sign::CloseParenthesis),
-        ":" => Kind::Sign(Sign::Colon),
-        ";" => Kind::Sign(Sign::Semicolon),
-        "," => Kind::Sign(Sign::Comma),
-        "=" => Kind::Sign(Sign::Assign),
-        "+" => Kind::Sign(Sign::Plus),
-        "-" => Kind::Sign(Sign::Minus),
-        "*" => Kind::Sign(Sign::Times),
-        "->" => Kind::Sign(Sign::Arrow),
         "0" => Kind::Number(0),
         "1" => Kind::Number(1),
-        "3" => Kind::Number(3),
         _ => Kind::Word(Name::new(alloc, word.as_bytes())?),
     })
 }
@@ -61,68 +77,123 @@ fn tokens(alloc: Global, text: &str) -> Result<Vec<Token>, AllocError> {
 }
 
 #[test]
-fn reads_the_small_form_alone(rt: HostRuntime) -> Result<(), Fail> {
+fn names_the_first_wrong_token(rt: HostRuntime) -> Result<(), Fail> {
     let alloc = rt.alloc();
-    for (text, is_read) in [
-        (PROGRAM, true),
-        ("int main ( ) { }", true),
-        ("int main ( ) { return 0 ; }", true),
-        (
-            "class A { public : } ; int main ( ) { A * a = nullptr ; }",
-            true,
-        ),
-        ("", false),
-        ("int main ( ) {", false),
-        ("int main ( ) { } ;", false),
-        ("int main ( ) { return 1 ; }", false),
-        ("int main ( ) { return 0 ; return 0 ; }", false),
-        ("int main ( ) { a -> f ( 1 , ) ; }", false),
-        (
-            "class A { public : void f ( ) { } long s ; } ; int main ( ) { }",
-            false,
-        ),
+    for (text, wrong) in [
+        ("", 0),
+        ("int main ( ) {", 5),
+        ("int main ( ) { } ;", 6),
+        ("int main ( ) { a * b = 1 ; if ( a ) a * b ; }", 16),
+        ("int main ( ) { f ( ) = 1 ; }", 8),
+        ("int main ( ) { if ( a ) f ( ) ; else else", 14),
+        ("class A { public : long a , * b ; } ; int main ( ) { }", 8),
+        ("int main ( ) { for ( f ( ) ; a ; a -- ) ; }", 10),
     ] {
         let tokens = tokens(alloc, text)?;
         match parse(alloc, tokens.as_slice()) {
-            Ok(_) => assert!(rt; is_read, "{text}"),
-            Err(ParseError::NotBuilt) => assert!(rt; !is_read, "{text}"),
-            Err(ParseError::Memory) => assert!(rt; false, "{text}"),
+            Err(ParseError::Syntax(k)) => assert!(rt; k == wrong, "{text}"),
+            _ => assert!(rt; false, "{text}"),
         }
     }
     Ok(())
 }
 
 #[test]
-fn gives_each_node_its_place(rt: HostRuntime) -> Result<(), Fail> {
+fn names_the_first_token_past_a_limit(rt: HostRuntime) -> Result<(), Fail> {
     let alloc = rt.alloc();
-    let tokens = tokens(alloc, PROGRAM)?;
+    for (braces, deep) in [(200_usize, None), (201, Some(204_usize))] {
+        let mut tokens = tokens(alloc, "int main ( )")?;
+        for sign in [Sign::OpenBrace, Sign::CloseBrace] {
+            for i in 0..braces {
+                let at = Place { line: 1, column: 1 };
+                let kind = Kind::Sign(sign);
+                tokens.push(Token {
+                    kind,
+                    at,
+                    start: i,
+                    len: 1,
+                })?;
+            }
+        }
+        match parse(alloc, tokens.as_slice()) {
+            Ok(_) => assert!(rt; deep == None),
+            Err(ParseError::Deep(k)) => assert!(rt; deep == Some(k)),
+            _ => assert!(rt; false),
+        }
+    }
+    Ok(())
+}
+
+#[test]
+fn leaves_the_end_of_main_out(rt: HostRuntime) -> Result<(), Fail> {
+    let alloc = rt.alloc();
+    for (text, count) in [
+        ("int main ( ) { }", 0),
+        ("class A ; int main ( ) { return 0 ; }", 0),
+        ("int main ( ) { return ( 0 ) ; }", 1),
+        ("int main ( ) { return 0 ; return 0 ; }", 1),
+        ("int main ( ) { return 1 ; }", 1),
+        ("int main ( ) { if ( a ) return 0 ; }", 1),
+    ] {
+        let tokens = tokens(alloc, text)?;
+        let tree = parse(alloc, tokens.as_slice())?;
+        assert!(rt; tree.main.len() == count, "{text}");
+    }
+    Ok(())
+}
+
+#[test]
+fn gives_each_part_its_place(rt: HostRuntime) -> Result<(), Fail> {
+    let alloc = rt.alloc();
+    let text = "class A { public : B * b , * c [ 1 ] ; void f ( long n ) \
+        { if ( n ) b -> n -- ; else new_one = new A ; } } ; int main ( ) { A * a ; }";
+    let tokens = tokens(alloc, text)?;
     let tree = parse(alloc, tokens.as_slice())?;
     let [class] = tree.classes.as_slice() else {
         return Err(Fail::from("one class"));
     };
-    let [Member::Field(field), Member::Method(method)] = class.members.as_slice() else {
-        return Err(Fail::from("a field and a method"));
+    let [
+        Member::Field(first),
+        Member::Field(second),
+        Member::Method(method),
+    ] = class.members.as_slice()
+    else {
+        return Err(Fail::from("two fields and a method"));
     };
-    let ([_, param], [assign]) = (method.params.as_slice(), method.body.as_slice()) else {
-        return Err(Fail::from("two parameters and one statement"));
+    let [statement] = method.body.as_slice() else {
+        return Err(Fail::from("one statement"));
+    };
+    let StmtKind::If {
+        yes,
+        no: Some(other),
+        ..
+    } = &statement.kind
+    else {
+        return Err(Fail::from("an if with an else"));
     };
     let StmtKind::Assign {
-        right: Right::Value(value),
+        target,
+        op: AssignOp::Sub,
         ..
-    } = &assign.kind
+    } = &yes.kind
     else {
-        return Err(Fail::from("an assignment"));
+        return Err(Fail::from("a step down"));
     };
-    let ExprKind::Binary(BinaryOp::Minus, left, _) = &value.kind else {
-        return Err(Fail::from("a difference"));
-    };
-    let [local, call] = tree.main.as_slice() else {
-        return Err(Fail::from("two statements"));
+    let [local] = tree.main.as_slice() else {
+        return Err(Fail::from("one local"));
     };
     let places = [
-        class.at, field.at, method.at, param.at, assign.at, value.at, left.at, local.at, call.at,
+        class.at,
+        first.at,
+        second.at,
+        method.at,
+        statement.at,
+        yes.at,
+        target.at,
+        other.at,
+        local.at,
     ];
-    for (place, column) in places.iter().zip([1, 6, 9, 16, 19, 24, 22, 35, 44]) {
+    for (place, column) in places.iter().zip([1, 7, 10, 16, 22, 26, 27, 32, 45]) {
         assert_eq!(rt; place.column, column);
     }
     Ok(())

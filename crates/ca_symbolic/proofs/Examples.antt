@@ -12,7 +12,7 @@ use Rattle.ca_program.specs.Plain.{PlainProgram, PlainMethod, Expression, local,
 use Rattle.ca_model.specs.declared.value.Value.TheVariants as datum
 use Rattle.ca_model.specs.declared.value.Slot.TheVariants.{One}
 use Rattle.ca_model.specs.declared.value.Object.{Object}
-use Rattle.ca_model.specs.Sections.{done, over, section}
+use Rattle.ca_meaning.specs.Sections.{done, over, section}
 use Rattle.ca_norm.specs.declared.term.Sort.TheVariants.{Long, Pointer}
 use Rattle.ca_norm.specs.declared.form.Normal.TheVariants.{Atom}
 use Rattle.ca_norm.specs.Terms.{atom, add, sub}

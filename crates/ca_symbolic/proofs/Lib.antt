@@ -1,5 +1,6 @@
 pub mod Slots
 pub mod Sorts
+pub mod Puts
 pub mod Values
 pub mod Orders
 pub mod Sections

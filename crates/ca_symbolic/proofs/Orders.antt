@@ -9,17 +9,17 @@ use Rattle.ca_model.specs.declared.value.Value.{Value as Datum}
 use Rattle.ca_model.specs.declared.value.Value.TheVariants as datum
 use Rattle.ca_model.specs.declared.value.Object.{Object}
 use Rattle.ca_model.specs.declared.value.Slot.{Slot}
-use Rattle.ca_model.specs.Expressions.{one_of, or_null}
+use Rattle.ca_meaning.specs.Expressions.{one_in, or_null}
 use Rattle.ca_model.specs.Typed.{SlotsTyped}
-use Rattle.ca_model.specs.Sections.{own_puts}
-use Rattle.ca_model.specs.Commuting.{ArgumentsTyped}
-use Rattle.ca_model.specs.TypedPuts.{PutsTyped}
+use Rattle.ca_small.specs.TypedPuts.{PutsTyped}
+use Rattle.ca_meaning.specs.WellTyped.{ValuesTyped}
 use Rattle.ca_norm.specs.Terms.{PlainTerm, IsSorted, LiteralsFit}
 use Rattle.ca_norm.specs.Forms.{norm}
 use Rattle.ca_norm.specs.Meanings.{Valuation, mean, form_mean}
 use Rattle.ca_norm.proofs.Values.{means}
 use Rattle.ca_symbolic.specs.Symbolic.{starts, fields_after, after}
 use Rattle.ca_symbolic.specs.Verdicts.{after_both}
+use Rattle.ca_symbolic.proofs.Puts.{own_puts}
 use Rattle.ca_symbolic.proofs.Slots.{write}
 use Rattle.ca_symbolic.proofs.Sorts.{AllGood, starts_good, after_good}
 use Rattle.ca_symbolic.proofs.Values.{fit, fit_sorted, parameter_means, starts_mean, after_means}
@@ -59,7 +59,7 @@ abbrev picked : List Slot → List Datum → List Datum → ℕ → ℕ → Datu
 picked ss xs ys zero n = datum.Null
 picked ss xs ys (suc zero) n = or_null (slice_get xs n)
 picked ss xs ys (suc (suc zero)) n = or_null (slice_get ys n)
-picked ss xs ys (suc (suc (suc g))) n = one_of (slice_get ss n)
+picked ss xs ys (suc (suc (suc g))) n = one_in (slice_get ss n)
 
 abbrev valuation : List Slot → List Datum → List Datum → Valuation
 valuation ss xs ys = record {
@@ -72,7 +72,7 @@ module _ (c : ClassId) (fs : List FieldInfo) (a b : PlainBody) (first : PutsType
   both_good =
       (after_good c fs 2 b.locals b.statements _ (after_good c fs 1 a.locals a.statements _ (starts_good 0 fs) first) second, after_good c fs 1 a.locals a.statements _ (after_good c fs 2 b.locals b.statements _ (starts_good 0 fs) second) first)
 
-  pub slots_commute : (h : List Object) (ss : List Slot) (xs ys : List Datum) → SlotsTyped h ss fs → ArgumentsTyped h xs a.locals → ArgumentsTyped h ys b.locals → map norm (after_both 1 a 2 b (starts 0 fs)) ≡ map norm (after_both 2 b 1 a (starts 0 fs)) → own_puts (own_puts ss xs a.statements) ys b.statements ≡ own_puts (own_puts ss ys b.statements) xs a.statements
+  pub slots_commute : (h : List Object) (ss : List Slot) (xs ys : List Datum) → SlotsTyped h ss fs → ValuesTyped h xs a.locals → ValuesTyped h ys b.locals → map norm (after_both 1 a 2 b (starts 0 fs)) ≡ map norm (after_both 2 b 1 a (starts 0 fs)) → own_puts (own_puts ss xs a.statements) ys b.statements ≡ own_puts (own_puts ss ys b.statements) xs a.statements
   slots_commute h ss xs ys typed tx ty e =
       let v : Valuation = valuation ss xs ys in
       let p : (l : ℕ) → _ = λ l. parameter_means v 1 l h xs a.locals l (λ s. refl) tx in

@@ -1,17 +1,59 @@
--- Sections of the small form: each is complete, and puts its object back into the heap.
+-- Sections of the small form: each is complete, lists nothing, and puts its object back into the heap.
 use Rattle.std.proofs.Common.{◌≡◌, ℕ, zero, suc, ◌-◌, List, [], ◌∷◌, Some, refl, ap, sym, ◌∙◌, arith, slice_set}
 use Rattle.std.specs.Prelude.{slice_get}
+use Rattle.ca_tree.specs.declared.tree.AssignOp.TheVariants.{Put}
+use Rattle.ca_program.specs.declared.program.ClassId.{ClassId}
+use Rattle.ca_program.specs.declared.program.FieldInfo.{FieldInfo}
+use Rattle.ca_program.specs.declared.program.ValueType.{ValueType}
 use Rattle.ca_program.specs.declared.program.OpId.{OpId}
 use Rattle.ca_program.specs.Plain.{PlainProgram, Statements, put_field, no_statements, statement_and}
 use Rattle.ca_model.specs.declared.value.Value.{Value as Datum}
 use Rattle.ca_model.specs.declared.value.Value.TheVariants.{Ref}
 use Rattle.ca_model.specs.declared.value.Object.{Object}
+use Rattle.ca_model.specs.declared.value.Slot.{Slot}
 use Rattle.ca_model.specs.Slots.{put_slot}
-use Rattle.ca_model.specs.Heaps.{stored}
-use Rattle.ca_model.specs.Expressions.{eval}
-use Rattle.ca_model.specs.Serial.{State, goes_on, enter, body_of, puts, call, slots_at}
-use Rattle.ca_model.specs.Sections.{own_puts, section, then_listed}
 use Rattle.ca_model.proofs.Stores.{stored_is}
+use Rattle.ca_small.specs.TypedPuts.{PutsTyped, TypedPuts}
+use Rattle.ca_meaning.specs.Operators.{assigned}
+use Rattle.ca_meaning.specs.Expressions.{gives, one_in, slots_in, invocation}
+use Rattle.ca_meaning.specs.Flows.{goes_on, and_on, with, exec_all}
+use Rattle.ca_meaning.specs.Functions.{place, own_of, body_of, functions_of, value_in}
+use Rattle.ca_meaning.specs.Serial.{World, Operations, operations, operations_of, operation_parts, operation_act, own_value, put_own, came_back, run_call}
+use Rattle.ca_meaning.specs.Sections.{Section, Outcome, done, with_own, section_place, section_value, section_act, section_parts, section_start, sectioned, section, then_listed}
+use Rattle.ca_symbolic.proofs.Puts.{put_value, own_puts, after_body, put_runs, put_is, put_body}
+
+module _ (p : PlainProgram) (h : List Object) (this : Datum) (c : ClassId) (fs : List FieldInfo) (tys : List ValueType) (ls : List Datum) (k : ℕ) where
+  -- puts on an object: what they put is told by `own_puts`
+  pub section_puts : (body : Statements) (s : Section) → PutsTyped c fs tys body
+      → exec_all (section_parts p h this) ls s body k ≡ goes_on ls (with_own s (own_puts s.own ls body)) k
+  section_puts no_statements s t = refl
+  section_puts (statement_and (put_field line f Put e) rest) s t =
+      let value : section_value p h this line ls s e k ≡ gives (put_value ls s.own e) k =
+      put_runs c fs tys (functions_of p.functions h).call (section_place h this s.own line ls) k (slice_get fs f.field) e t.1 in
+      let put : section_act p h this line ls s (put_field line f Put e) k ≡ goes_on ls (with_own s (put_slot s.own f.field 0 (put_value ls s.own e))) k =
+      ap (λ o. with o s (λ v k. goes_on ls (with_own s (put_slot s.own f.field 0 (assigned Put (one_in (slice_get s.own f.field)) v))) k)) value
+      ∙ ap (λ v. goes_on ls (with_own s (put_slot s.own f.field 0 v)) k) (put_is (one_in (slice_get s.own f.field)) (put_value ls s.own e)) in
+      ap (λ o. and_on o (λ ls s k. exec_all (section_parts p h this) ls s rest k)) put
+      ∙ section_puts rest (with_own s (put_slot s.own f.field 0 (put_value ls s.own e))) t.2
+  section_puts (statement_and s rest) q t = absurd t
+
+-- what a section leaves
+abbrev pub left_by : PlainProgram → Object → OpId → List Datum → Outcome
+left_by p o op xs = record { object = after_body p o op xs; listed = []; steps = 1 }
+
+one_step : (k : ℕ) → suc k - k ≡ 1
+one_step k = omega arith
+
+-- with a step for itself a section is complete
+pub section_is : (p : PlainProgram) → TypedPuts p → (h : List Object) (r : ℕ) (o : Object) (op : OpId) (xs : List Datum) (k : ℕ) → section p h r o op xs (suc k) ≡ done (left_by p o op xs)
+section_is p typed h r o op xs k =
+    let b = put_body p typed op in
+    let body : Statements = body_of (slice_get p.ops op.0) in
+    let run : exec_all (section_parts p h (Ref r)) xs (section_start o.slots) body k ≡ goes_on xs (section_start (own_puts o.slots xs body)) k =
+    section_puts p h (Ref r) b.class b.fields b.types xs k body (section_start o.slots) b.puts in
+    ap (λ ls. sectioned o.class (suc k) (exec_all (section_parts p h (Ref r)) ls (section_start o.slots) body k)) (b.locals xs)
+    ∙ ap (sectioned o.class (suc k)) run
+    ∙ ap (λ n. done record { object = after_body p o op xs; listed = []; steps = n }) (one_step k)
 
 set_self : (h : List Object) (r : ℕ) (o : Object) → slice_get h r ≡ Some o → slice_set h r o ≡ h
 set_self [] r o e = refl
@@ -28,21 +70,45 @@ get_set [] r o q e = cc
 get_set (x ∷ h) zero o q e = refl
 get_set (x ∷ h) (suc r) o q e = get_set h r o q e
 
--- puts on object r of a heap are puts on the object alone, put back
-pub puts_put_back : (body : Statements) (h : List Object) (r : ℕ) (o : Object) (xs : List Datum) → slice_get h r ≡ Some o → puts h r xs body ≡ slice_set h r record { class = o.class; slots = own_puts o.slots xs body }
-puts_put_back no_statements h r o xs e = sym (set_self h r o e)
-puts_put_back (statement_and (put_field line f op v) rest) h r o xs e =
-    let value : Datum = eval (record { locals = xs; own = o.slots }) v in
-    let new : Object = record { class = o.class; slots = put_slot o.slots f.field 0 value } in
-    let store : stored h r f.field 0 (eval (record { locals = xs; own = slots_at (slice_get h r) }) v) ≡ slice_set h r new = ap (λ z. stored h r f.field 0 (eval (record { locals = xs; own = slots_at z }) v)) e ∙ sym (stored_is h r f.field 0 value o e) in
-    ap (λ z. puts z r xs rest) store ∙ puts_put_back rest (slice_set h r new) r new xs (get_set h r o new e) ∙ set_again h r new _
-puts_put_back (statement_and s rest) h r o xs e = puts_put_back rest h r o xs e
+abbrev world : List Datum → List Object → World
+world prints h = record { heap = h; prints = prints }
 
-entered : (p : PlainProgram) (line : ℕ) (op : OpId) (r : ℕ) (xs : List Datum) (s : State) (o : Object) (k : ℕ) → slice_get s.heap r ≡ Some o → s.left ≡ k → enter r xs (body_of (slice_get p.ops op.0)) s k ≡ then_listed p line r s (section p s.heap r o op xs k)
-entered p line op r xs s o zero e l = refl
-entered p line op r xs s o (suc k) e l =
-    let left : k ≡ s.left - 1 = omega arith in
-    ap (λ z. goes_on record { locals = s.locals; heap = z; left = k }) (puts_put_back (body_of (slice_get p.ops op.0)) s.heap r o xs e) ∙ ap (λ z. goes_on record { locals = s.locals; heap = slice_set s.heap r record { class = o.class; slots = own_puts o.slots xs (body_of (slice_get p.ops op.0)) }; left = z }) left
+abbrev with_slots : Object → List Slot → Object
+with_slots o slots = record { class = o.class; slots = slots }
 
-pub section_then_list : (p : PlainProgram) (line : ℕ) (op : OpId) (r : ℕ) (xs : List Datum) (s : State) (o : Object) → slice_get s.heap r ≡ Some o → call p line op (Ref r) xs s ≡ then_listed p line r s (section p s.heap r o op xs s.left)
-section_then_list p line op r xs s o e = entered p line op r xs s o s.left e refl
+module _ (p : PlainProgram) (ops : Operations) (prints : List Datum) (r : ℕ) (c : ClassId) (fs : List FieldInfo) (tys : List ValueType) (ls : List Datum) (k : ℕ) where
+  -- puts on object r of a heap are puts on the object alone, put back
+  pub serial_puts : (body : Statements) (h : List Object) (o : Object) → slice_get h r ≡ Some o → PutsTyped c fs tys body
+      → exec_all (operation_parts p ops (Ref r)) ls (world prints h) body k ≡ goes_on ls (world prints (slice_set h r (with_slots o (own_puts o.slots ls body)))) k
+  serial_puts no_statements h o e t = ap (λ z. goes_on ls (world prints z) k) (sym (set_self h r o e))
+  serial_puts (statement_and (put_field line f Put v) rest) h o e t =
+      let old : Datum = own_value (world prints h) (Ref r) f in
+      let value : value_in p.functions h (Ref r) line ls v k ≡ gives (put_value ls (own_of h (Ref r)) v) k =
+      put_runs c fs tys (functions_of p.functions h).call (place h (Ref r) line ls) k (slice_get fs f.field) v t.1 in
+      let new : Datum = put_value ls o.slots v in
+      let slots : own_of h (Ref r) ≡ o.slots = ap slots_in e in
+      let put : operation_act p (Ref r) line ls (world prints h) (put_field line f Put v) k ≡ goes_on ls (world prints (slice_set h r (with_slots o (put_slot o.slots f.field 0 new)))) k =
+      ap (λ x. with x (world prints h) (λ v k. goes_on ls (world prints (put_own h (Ref r) f 0 (assigned Put old v))) k)) value
+      ∙ ap (λ x. goes_on ls (world prints (put_own h (Ref r) f 0 x)) k) (put_is old (put_value ls (own_of h (Ref r)) v) ∙ ap (λ x. put_value ls x v) slots)
+      ∙ ap (λ x. goes_on ls (world prints x) k) (sym (stored_is h r f.field 0 new o e)) in
+      let next : Object = with_slots o (put_slot o.slots f.field 0 new) in
+      ap (λ x. and_on x (λ ls s k. exec_all (operation_parts p ops (Ref r)) ls s rest k)) put
+      ∙ serial_puts rest (slice_set h r next) next (get_set h r o next e) t.2
+      ∙ ap (λ x. goes_on ls (world prints x) k) (set_again h r next (with_slots o (own_puts next.slots ls rest)))
+  serial_puts (statement_and s rest) h o e t = absurd t
+
+less_one : (k : ℕ) → k ≡ suc k - 1
+less_one k = omega arith
+
+pub section_then_list : (p : PlainProgram) → TypedPuts p → (op : OpId) (r : ℕ) (xs : List Datum) (h : List Object) (prints : List Datum) (o : Object) (k : ℕ) → slice_get h r ≡ Some o
+    → run_call (operations_of p) [] (invocation r op xs) (world prints h) k ≡ then_listed p r (world prints h) k (section p h r o op xs k)
+section_then_list p typed op r xs h prints o zero e = refl
+section_then_list p typed op r xs h prints o (suc k) e =
+    let b = put_body p typed op in
+    let body : Statements = body_of (slice_get p.ops op.0) in
+    let run : exec_all (operation_parts p (operations k p) (Ref r)) xs (world prints h) body k ≡ goes_on xs (world prints (slice_set h r (after_body p o op xs))) k =
+    serial_puts p (operations k p) prints r b.class b.fields b.types xs k body h o e b.puts in
+    ap (λ ls. came_back [] (exec_all (operation_parts p (operations k p) (Ref r)) ls (world prints h) body k)) (b.locals xs)
+    ∙ ap (came_back []) run
+    ∙ ap (λ n. goes_on [] (world prints (slice_set h r (after_body p o op xs))) n) (less_one k)
+    ∙ ap (then_listed p r (world prints h) (suc k)) (sym (section_is p typed h r o op xs k))

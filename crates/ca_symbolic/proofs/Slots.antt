@@ -8,9 +8,9 @@ use Rattle.ca_model.specs.declared.value.Object.{Object}
 use Rattle.ca_model.specs.declared.value.Slot.{Slot}
 use Rattle.ca_model.specs.declared.value.Slot.TheVariants.{One, Many}
 use Rattle.ca_model.specs.Slots.{put_slot}
-use Rattle.ca_model.specs.Expressions.{one_of, or_null}
+use Rattle.ca_meaning.specs.Expressions.{one_in, or_null}
 use Rattle.ca_model.specs.Typed.{SlotTyped, SlotsTyped}
-use Rattle.ca_model.specs.TypedPuts.{IsScalar}
+use Rattle.ca_small.specs.TypedPuts.{IsScalar}
 
 abbrev pub write : List Datum → List Slot → List Slot
 write [] ss = []
@@ -45,7 +45,7 @@ put_write (x ∷ vs) (Many ws ∷ ss) zero v i = absurd i
 put_write (x ∷ vs) (One w ∷ ss) (suc f) v i = ap (λ l. One x ∷ l) (put_write vs ss f v i)
 put_write (x ∷ vs) (Many ws ∷ ss) (suc f) v i = ap (λ l. Many ws ∷ l) (put_write vs ss f v i)
 
-pub read_write : (vs : List Datum) (ss : List Slot) (f : ℕ) → IsOne (slice_get ss f) → one_of (slice_get (write vs ss) f) ≡ or_null (slice_get vs f)
+pub read_write : (vs : List Datum) (ss : List Slot) (f : ℕ) → IsOne (slice_get ss f) → one_in (slice_get (write vs ss) f) ≡ or_null (slice_get vs f)
 read_write [] ss f i = refl
 read_write (x ∷ vs) [] f i = absurd i
 read_write (x ∷ vs) (One w ∷ ss) zero i = refl

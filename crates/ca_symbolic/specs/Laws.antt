@@ -1,22 +1,24 @@
 -- Laws of sections and of verdicts.
-use Rattle.std.specs.Prelude.{◌≡◌, ℕ, List, Some, slice_get}
+use Rattle.std.specs.Prelude.{◌≡◌, ℕ, List, [], Some, slice_get}
 use Rattle.ca_program.specs.declared.program.OpId.{OpId}
 use Rattle.ca_program.specs.Plain.{PlainProgram}
 use Rattle.ca_model.specs.declared.value.Value.{Value as Datum}
-use Rattle.ca_model.specs.declared.value.Value.TheVariants.{Ref}
 use Rattle.ca_model.specs.declared.value.Object.{Object}
-use Rattle.ca_model.specs.Serial.{State, call}
-use Rattle.ca_model.specs.Sections.{section, then_listed}
+use Rattle.ca_small.specs.TypedPuts.{TypedPuts}
+use Rattle.ca_meaning.specs.Expressions.{invocation}
+use Rattle.ca_meaning.specs.Serial.{operations_of, run_call}
+use Rattle.ca_meaning.specs.Sections.{section, then_listed}
 use Rattle.ca_symbolic.specs.declared.verdicts.Verdict.{Verdict}
 use Rattle.ca_symbolic.specs.Verdicts.{VerdictOf}
 
--- The serial run of an operation is its section on the receiver's object, which is put back, and then
--- the run of the listed operations.
+-- In a program whose operations are lists of puts, the serial run of an operation is its section on the
+-- receiver's object, which is put back, and then the run of the listed operations.
 abbrev pub SectionThenList : Type 0
 SectionThenList =
-    (p : PlainProgram) (line : ℕ) (op : OpId) (r : ℕ) (arguments : List Datum) (s : State) (o : Object) →
-    slice_get s.heap r ≡ Some o →
-    call p line op (Ref r) arguments s ≡ then_listed p line r s (section p s.heap r o op arguments s.left)
+    (p : PlainProgram) → TypedPuts p → (op : OpId) (r : ℕ) (arguments : List Datum) (h : List Object) (prints : List Datum) (o : Object) (left : ℕ) →
+    slice_get h r ≡ Some o →
+    run_call (operations_of p) [] (invocation r op arguments) (record { heap = h; prints = prints }) left
+    ≡ then_listed p r (record { heap = h; prints = prints }) left (section p h r o op arguments left)
 
 -- A pair has one verdict.
 abbrev pub OneVerdict : Type 0

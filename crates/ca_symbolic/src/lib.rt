@@ -3,7 +3,7 @@
 //! `verdict` runs both operations symbolically in both orders and compares the normal forms that the
 //! fields have then. Its first clause says which verdict comes (`specs/Verdicts.antt`), its second
 //! that a pair with the verdict `Commutes` does commute, for every receiver and all arguments, in the
-//! sense of ca_model. `Unproved` claims nothing of the pair. Nothing but want of memory keeps a
+//! sense of ca_meaning. `Unproved` claims nothing of the pair. Nothing but want of memory keeps a
 //! verdict from its caller.
 //!
 //! Built for operations of the small form, whose bodies are lists of puts: their extents are the
@@ -22,8 +22,8 @@ mod weighed;
 ghost use Rattle.std.specs.Prelude.{◌≡◌, ◌<◌, length, slice_get, IfOk};
 ghost use Rattle.ca_program.specs.View.{program_view};
 ghost use Rattle.ca_model.specs.Heaps.{fields_of};
-ghost use Rattle.ca_model.specs.Commuting.{Commutes as DoCommute};
-ghost use Rattle.ca_model.specs.TypedPuts.{TypedPuts};
+ghost use Rattle.ca_meaning.specs.Commuting.{Commutes as DoCommute};
+ghost use Rattle.ca_small.specs.TypedPuts.{TypedPuts};
 ghost use Rattle.ca_symbolic.specs.Verdicts.{VerdictOf};
 
 use crate::compare::compared;

@@ -11,16 +11,18 @@
 --     9   A *a = new A();
 --    10   a->add(3);
 --    11 }
-use Rattle.std.proofs.Common.{◌≡◌, ℕ, List, [], ◌∷◌, Some, None, pos, refl}
+use Rattle.std.proofs.Common.{◌≡◌, ℕ, true, false, List, [], ◌∷◌, Some, None, pos, refl}
 use Rattle.ca_tree.specs.declared.name.Place.{Place}
 use Rattle.ca_tree.specs.declared.tree.TypeNode.TheVariants.{Long, Pointer}
-use Rattle.ca_tree.specs.declared.tree.AssignOp.TheVariants.{Put}
-use Rattle.ca_tree.specs.declared.tree.BinaryOp.TheVariants.{Plus}
-use Rattle.ca_tree.specs.Plain.{TextTree, MemberTree, Expression, Expressions, number, null, named, method, binary, no_expressions, expression_and, value, new, local, assign, call_statement, no_statements, statement_and, field_member, method_member}
+use Rattle.ca_tree.specs.declared.tree.AssignOp.TheVariants.{Put, Add}
+use Rattle.ca_tree.specs.declared.tree.BinaryOp.TheVariants.{Plus, Less}
+use Rattle.ca_tree.specs.Plain.{TextTree, MemberTree, Statement, Expression, Expressions, number, truth, null, named, method, binary, no_expressions, expression_and, value, new, empty, block, local, assign, call_statement, if_else, for_loop, return_value, no_statements, statement_and, field_member, method_member}
 use Rattle.ca_program.specs.declared.program.ValueType.TheVariants.{Long as LongValue, Pointer as PointerTo}
+use Rattle.ca_program.specs.declared.program.FirstPart.TheVariants.{Declares}
 use Rattle.ca_program.specs.Plain as program
-use Rattle.ca_types.specs.Judged.{fine}
-use Rattle.ca_types.specs.Resolve.{judge, Violations}
+use Rattle.ca_resolve.specs.Judged.{fine}
+use Rattle.ca_types.specs.Rules.{last_returns}
+use Rattle.ca_types.specs.Classes.{judge, Violations}
 
 abbrev place : ℕ → ℕ → Place
 place line column = record { line = line; column = column }
@@ -91,3 +93,47 @@ argument_missing = refl
 two_violations : Violations (text (null (place 5 9)) (65 ∷ []) (expression_and (named (place 10 10) (98 ∷ [])) no_expressions))
     ≡ record { at = place 5 9; code = 25 } ∷ record { at = place 10 10; code = 24 } ∷ []
 two_violations = refl
+
+-- a `main` of statements alone
+abbrev main_of : Statement → Statement → TextTree
+main_of s t = record { classes = []; main = statement_and s (statement_and t no_statements) }
+
+abbrev x : List ℕ
+x = 120 ∷ []
+
+-- `{ long x; } x = 1;`: the local isn't seen behind its block
+behind_its_block : Violations (main_of (block (place 1 1) (statement_and (local (place 1 3) Long x (place 1 8) None) no_statements)) (assign (place 1 13) (named (place 1 13) x) Put (value (number (place 1 17) (pos 1)))))
+    ≡ record { at = place 1 13; code = 24 } ∷ []
+behind_its_block = refl
+
+-- `long x; long x = x;`: the second stands in the block of the first, whose value it sees
+declared_twice : Violations (main_of (local (place 1 1) Long x (place 1 6) None) (local (place 1 9) Long x (place 1 14) (Some (value (named (place 1 18) x)))))
+    ≡ record { at = place 1 14; code = 23 } ∷ []
+declared_twice = refl
+
+-- `;` and `for (long x; x < 3; x += 1) ;`: the loop is the first, and declares its local, which begins at 0
+loop : judge (main_of (empty (place 1 1))
+    (for_loop (place 1 3) (local (place 1 8) Long x (place 1 13) None) (binary (place 1 18) Less (named (place 1 16) x) (number (place 1 20) (pos 3))) (assign (place 1 23) (named (place 1 23) x) Add (value (number (place 1 28) (pos 1)))) (empty (place 1 31))))
+    ≡ fine (record {
+      classes = [];
+      ops = [];
+      functions = [];
+      main = record {
+        locals = LongValue ∷ [];
+        statements =
+            program.statement_and (program.block 1 program.no_statements)
+            (program.statement_and (program.for_loop 1 (record { 0 = 0 }) Declares (program.put_local 1 (record { 0 = 0 }) Put (program.number (pos 0))) (program.binary Less (program.local (record { 0 = 0 })) (program.number (pos 3)))
+            (program.put_local 1 (record { 0 = 0 }) Add (program.number (pos 1))) (program.block 1 program.no_statements)) program.no_statements);
+      };
+    })
+loop = refl
+
+-- `if (true) return 1; else { return 1; }` returns, and `{ return 1; ; }` doesn't
+abbrev return_one : Statement
+return_one = return_value (place 1 1) (number (place 1 8) (pos 1))
+
+both_branches_return : last_returns false (statement_and (if_else (place 1 1) (truth (place 1 5) true) return_one (block (place 1 20) (statement_and return_one no_statements))) no_statements) ≡ true
+both_branches_return = refl
+
+empty_at_the_end : last_returns false (statement_and return_one (statement_and (empty (place 1 11)) no_statements)) ≡ false
+empty_at_the_end = refl

@@ -1,9 +1,6 @@
-pub mod Each
-pub mod Invocation
-pub mod Members
-pub mod MainWalk
-pub mod ClassWalk
-pub mod Small
-pub mod Refused
-pub mod Limits
-mod Examples
+pub mod Answering
+pub mod Blocks
+pub mod Nodes
+pub mod Walks
+pub mod Lists
+pub mod Examples

@@ -1,5 +1,4 @@
-pub mod Judged
-pub mod Scopes
 pub mod Rules
-pub mod Resolve
+pub mod Statements
+pub mod Classes
 pub mod View

@@ -1,68 +1,123 @@
--- The rules, one for each code. Each gives the violation where it is broken.
-use Rattle.std.specs.Prelude.{ℕ, Bool, true, false, not, List, [], ◌∷◌, Option, cond, nat_eq}
+-- The rules of declarations and statements, one for each code, and the limits. Each gives the violation where it is broken.
+use Rattle.std.specs.Prelude.{ℕ, ℤ, pos, int_le, int_lt, Bool, true, false, not, ◌&&◌, ◌||◌, List, [], ◌∷◌, Option, Some, None, is_some, nat_eq, nat_le}
 use Rattle.ca_tree.specs.declared.name.Place.{Place}
-use Rattle.ca_tree.specs.Plain.{ClassTree, MemberTree}
-use Rattle.ca_program.specs.declared.program.ClassId.{ClassId}
-use Rattle.ca_program.specs.Plain as program
-use Rattle.ca_types.specs.Judged.{Violation, Judged, fine, faulty, within, broken_if, found, limit}
-use Rattle.ca_types.specs.Scopes.{Sort, long, truth, pointer, no_object, VisibleLocal, Scope, class_number, has_class, has_member, has_local, meaning, same_name}
+use Rattle.ca_tree.specs.declared.tree.AssignOp.{AssignOp}
+use Rattle.ca_tree.specs.declared.tree.AssignOp.TheVariants.{Put, Add, Sub, Mul}
+use Rattle.ca_tree.specs.Plain.{Statement, Statements, empty, block, local, assign, call_statement, if_only, if_else, while_loop, for_loop, return_value, print_value, no_statements, statement_and}
+use Rattle.ca_program.specs.declared.program.OpId.{OpId}
+use Rattle.ca_resolve.specs.Judged.{Violation, Judged, unless, broken, broken_if}
+use Rattle.ca_resolve.specs.Scopes.{Sort, VisibleLocal, Target, to_local, to_field, to_item, Callee, operation, function, number_of}
+use Rattle.ca_resolve.specs.Rules.{is_long, is_truth}
 
--- 20, at the second name: a class name is defined once
-abbrev pub class_once : List ClassTree → ClassTree → Option Violation
-class_once before c = broken_if (has_class before c.name) c.at 20
+-- the violation, if there is one
+abbrev pub listed : Option Violation → List Violation
+listed None = []
+listed (Some v) = v ∷ []
 
--- 21, at the name: a class that is named in a type or after `new` is defined
-abbrev pub class_defined : List ClassTree → List ℕ → Place → Judged ClassId
-class_defined classes name at = within (found (class_number classes name) at 21) (λ n. fine (record { 0 = n }))
+-- names that are declared once
 
--- 22, at the later name: the fields and methods of a class have different names
-abbrev pub member_once : List MemberTree → List ℕ → Place → Option Violation
-member_once before name at = broken_if (has_member before name) at 22
+abbrev pub is_number : ℕ → Option ℕ → Bool
+is_number n None = false
+is_number n (Some m) = nat_eq m n
 
--- 23, at the later name: a local is declared once in its block
-abbrev pub local_once : List VisibleLocal → List ℕ → Place → Option Violation
-local_once before name at = broken_if (has_local before name) at 23
+-- 20, at the second name: a class name is defined once, so the first class of the name is the one of this number
+abbrev pub class_once : List (List ℕ) → ℕ → List ℕ → Place → Option Violation
+class_once names number name at = broken_if (not (is_number number (number_of names name))) at 20
 
--- 24, at the node: a name is a visible local, or a field of the class
-abbrev pub name_known : Scope → List ℕ → Place → Judged (program.Expression × Sort)
-name_known s name at = found (meaning s name) at 24
+-- 22, at the later name: the fields and methods of a class have different names, so the first member of the name is this one
+abbrev pub member_once : List (List ℕ) → ℕ → List ℕ → Place → Option Violation
+member_once names number name at = broken_if (not (is_number number (number_of names name))) at 22
 
-abbrev pub is_long : Sort → Bool
-is_long long = true
-is_long truth = false
-is_long (pointer n) = false
-is_long no_object = false
+-- 23, at the later name: a local is declared once in its block, so the visible local of the name has a number before the block's first
+abbrev pub local_once : ℕ → Option VisibleLocal → Place → Option Violation
+local_once first None at = None
+local_once first (Some l) at = broken_if (nat_le first l.id.0) at 23
 
--- a target of the first type can hold a value of the second; `nullptr` is a value of each pointer type
-abbrev pub can_hold : Sort → Sort → Bool
-can_hold long s = is_long s
-can_hold truth s = false
-can_hold (pointer n) long = false
-can_hold (pointer n) truth = false
-can_hold (pointer n) (pointer m) = same_name n m
-can_hold (pointer n) no_object = true
-can_hold no_object s = false
+-- types
 
--- 25, at the operator: both operands are numbers
-abbrev pub operands_agree : Sort → Sort → Place → Option Violation
-operands_agree a b at = broken_if (not (cond (is_long a) (is_long b) false)) at 25
+-- 25, at the expression: a condition is a truth value
+abbrev pub condition_agrees : Sort → Place → Option Violation
+condition_agrees t at = broken_if (not (is_truth t)) at 25
 
--- 25, at the expression: the target can hold the value
-abbrev pub value_agrees : Sort → Sort → Place → Option Violation
-value_agrees target value at = broken_if (not (can_hold target value)) at 25
+-- 25, at the expression: a number or a truth value is printed
+abbrev pub has_text : Sort → Bool
+has_text t = is_long t || is_truth t
 
--- 25, at the `->`: a receiver is a pointer; 24: and its class is defined
-abbrev pub receiver_class : List ClassTree → Sort → Place → Judged ℕ
-receiver_class classes long at = faulty (record { at = at; code = 25 } ∷ [])
-receiver_class classes truth at = faulty (record { at = at; code = 25 } ∷ [])
-receiver_class classes (pointer n) at = found (class_number classes n) at 24
-receiver_class classes no_object at = faulty (record { at = at; code = 25 } ∷ [])
+abbrev pub printed_agrees : Sort → Place → Option Violation
+printed_agrees t at = broken_if (not (has_text t)) at 25
 
--- 26, at the call's node: as many arguments as parameters
-abbrev pub as_many : ℕ → ℕ → Place → Option Violation
-as_many arguments parameters at = broken_if (not (nat_eq arguments parameters)) at 26
+abbrev pub is_put : AssignOp → Bool
+is_put Put = true
+is_put Add = false
+is_put Sub = false
+is_put Mul = false
+
+-- 25, at the target's node: a compound assignment is to a number
+abbrev pub compound_agrees : AssignOp → Sort → Place → Option Violation
+compound_agrees op t at = broken_if (not (is_put op) && not (is_long t)) at 25
+
+-- value methods, whose bodies know the type of their result
+
+abbrev pub is_own : Target → Bool
+is_own (to_local l) = false
+is_own (to_field f) = true
+is_own (to_item f i) = true
+
+-- 29, at the target's node: a value method writes no field
+abbrev pub writes_no_field : Option Sort → Target → Place → Option Violation
+writes_no_field result t at = broken_if (is_some result && is_own t) at 29
+
+-- 28, at the call's node: a value method's call isn't a statement; 29: a statement of a value method calls no operation
+abbrev pub called_operation : Option Sort → Callee → Place → Judged OpId
+called_operation result (operation o) at = unless (broken_if (is_some result) at 29) o
+called_operation result (function f t) at = broken at 28
+
+-- 29, at the statement: a value method creates nothing
+abbrev pub creates_nothing : Option Sort → Bool → Place → Option Violation
+creates_nothing result creates at = broken_if (is_some result && creates) at 29
+
+-- 29, at the statement: a value method prints nothing
+abbrev pub prints_nothing : Option Sort → Place → Option Violation
+prints_nothing result at = broken_if (is_some result) at 29
+
+-- 30, at the statement: `return` stands only in value methods
+abbrev pub return_stands : Option Sort → Place → Option Violation
+return_stands result at = broken_if (not (is_some result)) at 30
+
+abbrev mutual
+  -- a statement returns if it is a `return`, a block whose last statement returns, or an `if` with both branches returning
+  pub returns : Statement → Bool
+  returns (empty at) = false
+  returns (block at ss) = last_returns false ss
+  returns (local at ty name name_at right) = false
+  returns (assign at target op right) = false
+  returns (call_statement at e) = false
+  returns (if_only at e s) = false
+  returns (if_else at e a b) = returns a && returns b
+  returns (while_loop at e s) = false
+  returns (for_loop at first e next s) = false
+  returns (return_value at e) = true
+  returns (print_value at e) = false
+
+  -- whether the last of the statements returns, or with none whether the one before did
+  pub last_returns : Bool → Statements → Bool
+  last_returns before no_statements = before
+  last_returns before (statement_and s ss) = last_returns (returns s) ss
+
+-- 30, at the method's name: a value method can't end without a `return`
+abbrev pub ends_with_return : Bool → Statements → Place → Option Violation
+ends_with_return has_result body at = broken_if (has_result && not (last_returns false body)) at 30
+
+-- 33, at the field's name: an array has at least one item
+abbrev pub length_stands : Option ℤ → Place → Option Violation
+length_stands None at = None
+length_stands (Some n) at = broken_if (int_le n (pos 0)) at 33
 
 -- the limits, each at the name of the first that is too many
+
+abbrev pub limit : ℕ → ℕ → Place → ℕ → Option Violation
+limit most before at code = broken_if (nat_eq before most) at code
+
 abbrev pub class_limit : ℕ → Place → Option Violation
 class_limit before at = limit 256 before at 50
 
@@ -72,8 +127,20 @@ field_limit before at = limit 256 before at 51
 abbrev pub operation_limit : ℕ → Place → Option Violation
 operation_limit before at = limit 256 before at 52
 
+abbrev pub function_limit : ℕ → Place → Option Violation
+function_limit before at = limit 256 before at 53
+
 abbrev pub parameter_limit : ℕ → Place → Option Violation
 parameter_limit before at = limit 32 before at 54
 
 abbrev pub local_limit : ℕ → Place → Option Violation
 local_limit before at = limit 256 before at 55
+
+-- at the field's name
+abbrev pub length_limit : Option ℤ → Place → Option Violation
+length_limit None at = None
+length_limit (Some n) at = broken_if (int_lt (pos 1000000) n) at 56
+
+-- at the word `for`
+abbrev pub loop_limit : ℕ → Place → Option Violation
+loop_limit before at = limit 256 before at 57

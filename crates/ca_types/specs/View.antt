@@ -1,44 +1,80 @@
--- What the walk keeps of the tree, as the definitions see it.
+-- What the walk keeps, as the definitions see it.
 use Rattle.std.specs.Prelude.{List, map}
-use Rattle.ca_tree.specs.View.{member_view}
-use Rattle.std.specs.Borrow.{Bor}
-use Rattle.ca_tree.specs.declared.tree.ParamNode.{ParamNode}
-use Rattle.ca_program.specs.declared.program.LocalId.{LocalId}
-use Rattle.ca_program.specs.declared.program.FieldId.{FieldId}
-use Rattle.ca_program.specs.declared.program.OpId.{OpId}
-use Rattle.ca_program.specs.declared.program.Expr.{Expr}
-use Rattle.ca_program.specs.Plain as program
-use Rattle.ca_program.specs.View.{expression_view}
-use Rattle.ca_types.specs.Scopes.{Sort, long, truth, pointer, no_object, Scope, VisibleLocal, Operation}
-use Rattle.ca_types.specs.declared.sorts.Sort.{Sort as WalkSort}
-use Rattle.ca_types.specs.declared.sorts.Sort.TheVariants.{Long, Truth, Pointer, NoObject}
-use Rattle.ca_types.specs.declared.names.VisibleLocal.{VisibleLocal as WalkLocal}
-use Rattle.ca_types.specs.declared.names.Scope.{Scope as WalkScope}
-use Rattle.ca_types.specs.declared.names.Operation.{Operation as WalkOperation}
+use Rattle.std.specs.Option.{option_map}
+use Rattle.ca_resolve.specs.LocalView.{sort_view}
+use Rattle.ca_resolve.specs.View.{classes_view}
+use Rattle.std.specs.Prelude.{Result, Ok, Err, Option}
+use Rattle.ca_resolve.specs.declared.errors.CheckError.{CheckError}
+use Rattle.ca_resolve.specs.declared.errors.CheckError.TheVariants.{Violation as Tells_violation, Limit as Tells_limit, Memory}
+use Rattle.std.specs.declared.vec.Vec.{Vec}
+use Rattle.std.specs.Global.{Global}
+use Rattle.ca_program.specs.declared.program.Stmt.{Stmt}
+use Rattle.ca_program.specs.declared.program.ValueType.{ValueType}
+use Rattle.ca_program.specs.Plain.{Statement}
+use Rattle.ca_program.specs.View.{expression_view, statement_view}
+use Rattle.ca_types.specs.declared.puts.Source.{Source as CodeSource}
+use Rattle.ca_types.specs.declared.puts.Source.TheVariants.{Value, New}
+use Rattle.ca_types.specs.declared.members.Counts.{Counts}
+use Rattle.ca_types.specs.declared.members.MemberWalk.{MemberWalk}
+use Rattle.ca_resolve.specs.Scopes.{Numbers}
+use Rattle.ca_types.specs.declared.classes.Members.{Members as CodeMembers}
+use Rattle.ca_types.specs.declared.classes.Parts.{Parts as CodeParts}
+use Rattle.ca_types.specs.declared.classes.ClassWalk.{ClassWalk}
+use Rattle.ca_program.specs.View.{class_view, method_view}
+use Rattle.ca_types.specs.Classes.{MemberStanding, ClassStanding, Members, Parts}
+use Rattle.ca_types.specs.Statements.{Standing, Source, of_value, of_new}
+use Rattle.ca_types.specs.declared.walk.Walk.{Walk}
 
-abbrev pub sort_view : WalkSort → Sort
-sort_view Long = long
-sort_view Truth = truth
-sort_view (Pointer name) = pointer name.now
-sort_view NoObject = no_object
+abbrev pub standing_view : Walk → Standing
+standing_view w = record {
+  scope = record { classes = classes_view w.classes.now; class = w.class; locals = w.visible };
+  in_block = w.in_block;
+  first = w.first;
+  locals = w.locals.items;
+  loops = w.loops;
+  result = option_map sort_view w.result;
+}
 
-abbrev pub local_view : WalkLocal → VisibleLocal
-local_view l = record { name = l.name.now; ty = l.ty.now }
+abbrev pub source_view : CodeSource → Source
+source_view (Value e) = of_value (expression_view e)
+source_view (New c) = of_new c
 
-abbrev pub scope_view : WalkScope → Scope
-scope_view s = record { locals = map local_view s.locals.now; class = s.class; members = map member_view s.members.now }
+-- a result other than want of memory
+abbrev pub Tells_something : {T : Type 0} → Result T CheckError → Type 0
+Tells_something (Ok t) = Unit {0}
+Tells_something (Err (Tells_violation at code)) = Unit {0}
+Tells_something (Err (Tells_limit at code)) = Unit {0}
+Tells_something (Err Memory) = ⊥
 
-abbrev pub operation_view : WalkOperation → Operation
-operation_view o = record { class = o.class; name = o.name.now; params = o.params.now }
+abbrev pub all_view : Vec Stmt Global → List Statement
+all_view v = map statement_view v.items
 
-abbrev pub found_local_view : LocalId × WalkSort → LocalId × Sort
-found_local_view p = (p.0, sort_view p.1)
+abbrev pub counts_view : Counts → Numbers
+counts_view n = record { field = n.fields; operation = n.operations; function = n.functions }
 
-abbrev pub found_field_view : FieldId × WalkSort → FieldId × Sort
-found_field_view p = (p.0, sort_view p.1)
+abbrev pub member_standing : MemberWalk → MemberStanding
+member_standing w = record {
+  classes = classes_view w.classes.now;
+  class = w.class;
+  names = w.names;
+  number = w.number;
+  numbers = counts_view w.counts;
+  loops = w.loops;
+}
 
-abbrev pub callee_view : OpId × Bor (List ParamNode) → OpId × List ParamNode
-callee_view p = (p.0, p.1.now)
+abbrev pub class_standing : ClassWalk → ClassStanding
+class_standing w = record {
+  classes = classes_view w.classes.now;
+  number = w.number;
+  numbers = counts_view w.counts;
+  loops = w.loops;
+}
 
-abbrev pub value_view : Expr × WalkSort → program.Expression × Sort
-value_view p = (expression_view p.0, sort_view p.1)
+abbrev pub members_view : CodeMembers → Members
+members_view m = record { fields = m.fields.items; ops = map method_view m.ops.items; functions = map method_view m.functions.items }
+
+abbrev pub parts_view : CodeParts → Parts
+parts_view p = record { classes = map class_view p.classes.items; ops = map method_view p.ops.items; functions = map method_view p.functions.items }
+
+abbrev pub method_parts_view : Option ValueType × (Unit {0} × Vec Stmt Global) → Option ValueType × (Unit {0} × List Statement)
+method_parts_view p = (p.0, (p.1.0, all_view p.1.1))

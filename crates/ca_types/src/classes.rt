@@ -1,123 +1,254 @@
-//! Classes and their fields.
+//! Classes and the whole program.
 
-ghost use Rattle.std.specs.Prelude.{◌≡◌, ◌≤◌, length, map, List, IfOk, IfErr, [], None};
+ghost use Rattle.std.specs.Prelude.{◌≡◌, ◌+◌, ℕ, List, Option, IfOk, OnOk, map};
 ghost use Rattle.ca_tree.specs.View.{class_view, member_view};
-ghost use Rattle.ca_tree.specs.Plain.{MemberTree};
-ghost use Rattle.ca_program.specs.Plain.{PlainClass, PlainMethod};
-ghost use Rattle.ca_program.specs.View as program;
-ghost use Rattle.ca_types.specs.Judged.{fine, each, Refuses};
-ghost use Rattle.ca_types.specs.Resolve.{judge_type, judge_field, judge_field_member, judge_class, class_of, operations_of};
-ghost use Rattle.ca_types.specs.Scopes.{operations};
-ghost use Rattle.ca_types.specs.View.{operation_view};
+ghost use Rattle.ca_program.specs.View.{method_view};
+ghost use Rattle.ca_program.specs.Plain.{PlainMethod};
+ghost use Rattle.ca_program.specs.declared.program.FieldInfo.{FieldInfo as PlainField};
+ghost use Rattle.ca_resolve.specs.View.{classes_view};
+ghost use Rattle.ca_resolve.specs.Judged.{Answers, Finds, Judged, Violation, fine, both, within, beside, unless};
+ghost use Rattle.ca_resolve.specs.Scopes.{member_name, after_method};
+ghost use Rattle.ca_types.specs.Rules.{listed, class_once};
+ghost use Rattle.ca_types.specs.Classes.{behind_member, behind_members, add_member, judge_members, class_begin, behind_class, behind_classes, judge_class, judge_classes, first_class, with_field, with_method, with_class, Members as PlainMembers, Parts as PlainParts};
+ghost use Rattle.ca_types.specs.View.{member_standing, class_standing, counts_view, members_view, parts_view};
 
-use crate::CheckError;
-use crate::methods::{check_methods, check_type};
-use crate::names::{Operation, has_class, has_member};
-use ca_program::{Class, FieldInfo, Method};
-use ca_tree::{ClassNode, FieldNode, Member};
-use std::alloc::Global;
+use crate::members::{Counts, MemberWalk, check_field, check_method};
+use crate::rules::{bound, rule};
+use crate::statements::Answer;
+use ca_program::{Class, ClassId, FieldInfo, Method};
+use ca_resolve::{CheckError, ClassTable, Names, both};
+use ca_tree::{ClassNode, Member, Name, TypeNode};
+use std::alloc::{AllocError, Global};
 
-/// The most fields of a class.
-const MOST_FIELDS: usize = 256;
+/// The most classes of a program.
+const MOST_CLASSES: u32 = 256;
 
-/// More members than this are too many fields or too many operations.
-const MOST_MEMBERS: usize = 512;
-
-/// The classes and operations of a program, and what calls name.
+/// What the members of a class resolve to.
 #[derive(Drop)]
-pub(crate) struct Declared<'a> {
+pub(crate) struct Members {
+    pub(crate) fields: Vec<FieldInfo>,
+    pub(crate) ops: Vec<Method>,
+    pub(crate) functions: Vec<Method>,
+}
+
+/// What classes resolve to.
+#[derive(Drop)]
+pub(crate) struct Parts {
     pub(crate) classes: Vec<Class>,
     pub(crate) ops: Vec<Method>,
-    pub(crate) operations: Vec<Operation<'a>>,
+    pub(crate) functions: Vec<Method>,
 }
 
-/// A field that is no array.
-fn check_field(
-    alloc: Global,
-    classes: &[ClassNode],
-    field: &FieldNode,
-) -> Result<FieldInfo, CheckError>
-    requires { length classes.now ≤ 256 }
-    ensures scalar { IfOk result (λ f. field.now.length ≡ None) }
-    ensures ty { IfOk result (λ f. judge_type (map class_view classes.now) field.now.ty ≡ fine f.ty) }
-    ensures info { IfOk result (λ f. f ≡ record { name = field.now.name; ty = f.ty; length = None }) }
-    ensures refused { IfErr result (λ err. (before : List MemberTree) → Refuses err (judge_field (map class_view classes.now) before field.now field.now.length)) }
+/// Where a class stands.
+#[derive(Drop)]
+pub(crate) struct ClassWalk<'s, 'a> {
+    pub(crate) classes: &'s ClassTable<'a>,
+    pub(crate) number: u32,
+    pub(crate) counts: Counts,
+    pub(crate) loops: u32,
+}
+
+/// One more; what has no number is larger than any memory.
+fn one_more(n: u32) -> Result<u32, AllocError>
+    ensures { IfOk result (λ m. m ≡ n + 1) }
 {
-    if field.length.is_some() {
-        return Err(CheckError::NotBuilt);
+    n.checked_add(1).ok_or(AllocError)
+}
+
+fn name_of(member: &Member) -> &Name
+    ensures { result.now ≡ member_name (member_view member.now) }
+{
+    match member {
+        Member::Field(field) => &field.name,
+        Member::Method(method) => &method.name,
     }
-    let ty = check_type(classes, &field.ty)?;
-    Ok(FieldInfo {
-        name: field.name.copy(alloc)?,
-        ty,
-        length: None,
-    })
 }
 
-/// The fields of a class.
-fn check_fields(
-    alloc: Global,
-    classes: &[ClassNode],
-    members: &[Member],
-) -> Result<Vec<FieldInfo>, CheckError>
-    requires { length classes.now ≤ 256 }
-    ensures resolved { IfOk result (λ v. each (judge_field_member (map class_view classes.now)) [] (map member_view members.now) ≡ fine v.items) }
-    ensures refused { IfErr result (λ err. Refuses err (each (judge_field_member (map class_view classes.now)) [] (map member_view members.now))) }
+/// The names of the members of a class in order.
+fn names_of<'a>(alloc: Global, members: &'a [Member]) -> Result<Names<'a>, AllocError>
+    ensures { IfOk result (λ names. names ≡ map member_name (map member_view members.now)) }
 {
-    let mut fields = Vec::new(alloc);
-    for (i, member) in members.iter().enumerate() {
-        match member {
-            Member::Field(field) => {
-                let (before, _) = members.split_at(i);
-                if fields.len() == MOST_FIELDS || has_member(before, &field.name) {
-                    return Err(CheckError::NotBuilt);
-                }
-                fields.push(check_field(alloc, classes, field)?)?;
-            }
-            Member::Method(_) => {}
+    let mut all = Vec::new(alloc);
+    for member in members {
+        all.push(name_of(member))?;
+    }
+    Names::new(alloc, all)
+}
+
+/// The members so far and a field.
+fn with_field(front: Answer<Members>, field: Answer<FieldInfo>) -> Answer<Members>
+    ensures { (j : Judged PlainMembers) (k : Judged PlainField) → Answers members_view front j → Answers (λ f. f) field k → Answers members_view result (within (both j k) (λ p. fine (with_field p.0 p.1))) }
+{
+    let (mut members, field) = both(front, field)?;
+    members.fields.push(field)?;
+    Ok(members)
+}
+
+/// The members so far and a method.
+fn with_method(front: Answer<Members>, method: Answer<Method>) -> Answer<Members>
+    ensures { (j : Judged PlainMembers) (k : Judged PlainMethod) → Answers members_view front j → Answers method_view method k → Answers members_view result (within (both j k) (λ p. fine (with_method p.0 p.1.result p.1))) }
+{
+    let (mut members, method) = both(front, method)?;
+    if method.result.is_some() {
+        members.functions.push(method)?;
+    } else {
+        members.ops.push(method)?;
+    }
+    Ok(members)
+}
+
+/// The counts behind a method of this result.
+fn behind_method(counts: Counts, returned: &Option<TypeNode>) -> Result<Counts, AllocError>
+    ensures { IfOk result (λ n. counts_view n ≡ after_method (counts_view counts) returned.now) }
+{
+    let mut behind = counts;
+    match returned {
+        None => behind.operations = one_more(counts.operations)?,
+        Some(_) => behind.functions = one_more(counts.functions)?,
+    }
+    Ok(behind)
+}
+
+/// A member behind others.
+fn check_member<'a>(
+    alloc: Global,
+    standing: &mut MemberWalk<'_, 'a>,
+    front: Answer<Members>,
+    member: &'a Member,
+) -> Result<Answer<Members>, AllocError>
+    ensures judged { (j : Judged PlainMembers) → Answers members_view front j → IfOk result (λ a. Answers members_view a (add_member (member_standing standing.old) j (member_view member.now))) }
+    ensures behind { OnOk result (member_standing standing.new ≡ behind_member (member_standing standing.old) (member_view member.now)) }
+{
+    match member {
+        Member::Field(field) => {
+            let answer = check_field(alloc, standing, field);
+            standing.number = one_more(standing.number)?;
+            standing.counts.fields = one_more(standing.counts.fields)?;
+            Ok(with_field(front, answer))
+        }
+        Member::Method(method) => {
+            let (answer, loops) = check_method(alloc, standing, method)?;
+            standing.number = one_more(standing.number)?;
+            standing.counts = behind_method(standing.counts, &method.result)?;
+            standing.loops = loops;
+            Ok(with_method(front, answer))
         }
     }
-    Ok(fields)
 }
 
-/// All classes and their operations.
+/// The members of a class.
+fn check_members<'a>(
+    alloc: Global,
+    standing: &mut MemberWalk<'_, 'a>,
+    members: &'a [Member],
+) -> Result<Answer<Members>, AllocError>
+    ensures judged { IfOk result (λ a. Answers members_view a (judge_members (member_standing standing.old) (map member_view members.now))) }
+    ensures behind { OnOk result (member_standing standing.new ≡ behind_members (member_standing standing.old) (map member_view members.now)) }
+{
+    let mut answers = Ok(Members {
+        fields: Vec::new(alloc),
+        ops: Vec::new(alloc),
+        functions: Vec::new(alloc),
+    });
+    for member in members {
+        answers = check_member(alloc, standing, answers, member)?;
+    }
+    Ok(answers)
+}
+
+/// Whether the class of this number is the first of its name.
+fn class_once(walk: &ClassWalk, class: &ClassNode) -> Answer<()>
+    ensures { Finds result (listed (class_once (class_standing walk.now).classes.names (class_standing walk.now).number class.now.name class.now.at)) }
+{
+    let first = walk.classes.names().number(&class.name);
+    rule(first != Some(walk.number), class.at, 20)
+}
+
+/// A class.
+fn check_class<'a>(
+    alloc: Global,
+    walk: &mut ClassWalk<'_, 'a>,
+    class: &'a ClassNode,
+) -> Result<Answer<Members>, AllocError>
+    ensures judged { IfOk result (λ a. Answers members_view a (judge_class (class_standing walk.old) (class_view class.now))) }
+    ensures behind { OnOk result (class_standing walk.new ≡ behind_class (class_standing walk.old) (class_view class.now)) }
+{
+    let passed = bound(walk.number == MOST_CLASSES, class.at, 50);
+    let again = class_once(walk, class);
+    let mut standing = MemberWalk {
+        classes: walk.classes,
+        class: ClassId(walk.number),
+        names: names_of(alloc, &class.members)?,
+        number: 0,
+        counts: Counts {
+            fields: 0,
+            ..walk.counts
+        },
+        loops: walk.loops,
+    };
+    let members = check_members(alloc, &mut standing, &class.members)?;
+    walk.number = one_more(walk.number)?;
+    walk.counts = standing.counts;
+    walk.loops = standing.loops;
+    Ok(class_of(passed, members, again))
+}
+
+/// The members of a class, where no limit is passed and the name is new.
+fn class_of(passed: Answer<()>, members: Answer<Members>, again: Answer<()>) -> Answer<Members>
+    ensures { (v w : Option Violation) (j : Judged PlainMembers) → Finds passed (listed v) → Answers members_view members j → Finds again (listed w) → Answers members_view result (within (beside v j) (λ p. unless w p)) }
+{
+    let (_, members) = both(passed, members)?;
+    again?;
+    Ok(members)
+}
+
+/// The classes so far and one more.
+fn with_class(
+    alloc: Global,
+    front: Answer<Parts>,
+    name: &Name,
+    members: Answer<Members>,
+) -> Answer<Parts>
+    ensures { (j : Judged PlainParts) (k : Judged PlainMembers) → Answers parts_view front j → Answers members_view members k → Answers parts_view result (within (both j k) (λ p. fine (with_class p.0 name.now p.1))) }
+{
+    let (mut parts, mut members) = both(front, members)?;
+    let class = Class {
+        name: name.copy(alloc)?,
+        fields: members.fields,
+    };
+    parts.classes.push(class)?;
+    parts.ops.append(&mut members.ops)?;
+    parts.functions.append(&mut members.functions)?;
+    Ok(parts)
+}
+
+/// All classes, and how many `for` statements they have.
 pub(crate) fn check_classes<'a>(
     alloc: Global,
+    table: &ClassTable<'a>,
     classes: &'a [ClassNode],
-) -> Result<Declared<'a>, CheckError>
-    requires { length classes.now ≤ 256 }
-    ensures few { IfOk result (λ d. length d.operations.items ≤ 256) }
-    ensures operations { IfOk result (λ d. map operation_view d.operations.items ≡ operations 0 (map class_view classes.now)) }
-    ensures classes { IfOk result (λ d. (rs : List (PlainClass × List PlainMethod)) × (each (judge_class (map class_view classes.now)) [] (map class_view classes.now) ≡ fine rs) × (map program.class_view d.classes.items ≡ map class_of rs) × (map program.method_view d.ops.items ≡ operations_of rs)) }
-    ensures refused { IfErr result (λ err. Refuses err (each (judge_class (map class_view classes.now)) [] (map class_view classes.now))) }
+) -> Result<(Answer<Parts>, u32), AllocError>
+    ensures judged { IfOk result (λ p. Answers parts_view p.0 (judge_classes (first_class (classes_view table.now)) (map class_view classes.now))) }
+    ensures loops { IfOk result (λ p. p.1 ≡ (behind_classes (first_class (classes_view table.now)) (map class_view classes.now)).loops) }
 {
-    let mut all = Declared {
+    let mut walk = ClassWalk {
+        classes: table,
+        number: 0,
+        counts: Counts {
+            fields: 0,
+            operations: 0,
+            functions: 0,
+        },
+        loops: 0,
+    };
+    let mut answers = Ok(Parts {
         classes: Vec::new(alloc),
         ops: Vec::new(alloc),
-        operations: Vec::new(alloc),
-    };
-    for (i, class) in classes.iter().enumerate() {
-        let (before, _) = classes.split_at(i);
-        if class.members.len() > MOST_MEMBERS {
-            return Err(CheckError::NotBuilt);
-        }
-        if has_class(before, &class.name) {
-            return Err(CheckError::NotBuilt);
-        }
-        let fields = check_fields(alloc, classes, &class.members)?;
-        let number = i as u32;
-        let mut methods = check_methods(
-            alloc,
-            classes,
-            number,
-            &class.members,
-            &mut all.operations,
-        )?;
-        all.ops.append(&mut methods)?;
-        all.classes.push(Class {
-            name: class.name.copy(alloc)?,
-            fields,
-        })?;
+        functions: Vec::new(alloc),
+    });
+    for class in classes {
+        let answer = check_class(alloc, &mut walk, class)?;
+        answers = with_class(alloc, answers, &class.name, answer);
     }
-    Ok(all)
+    Ok((answers, walk.loops))
 }

@@ -1,147 +1,121 @@
-//! The statements of `main`.
+//! Calls, conditions, `return` and `print`.
 
-ghost use Rattle.std.specs.Prelude.{◌≡◌, ◌≤◌, ◌<◌, length, map, IfOk, IfErr, [], ◌∷◌};
-ghost use Rattle.ca_tree.specs.View.{class_view, option_right_view, statement_view};
+ghost use Rattle.std.specs.Prelude.{◌≡◌, map};
+ghost use Rattle.std.specs.Option.{option_map};
+ghost use Rattle.ca_tree.specs.View.{expression_view};
 ghost use Rattle.ca_program.specs.View as program;
-ghost use Rattle.ca_tree.specs.declared.name.Place.{Place};
-ghost use Rattle.ca_types.specs.Judged.{fine, each, Refuses};
-ghost use Rattle.ca_types.specs.Resolve.{judge_type, judge_pointer, judge_start, judge_local, judge_line, types_of};
-ghost use Rattle.ca_types.specs.Scopes.{declared, sort_of};
-ghost use Rattle.ca_types.specs.Rules.{class_defined};
-ghost use Rattle.ca_types.specs.View.{local_view, operation_view};
+ghost use Rattle.ca_resolve.specs.Judged.{Answers, Finds};
+ghost use Rattle.ca_resolve.specs.LocalView.{sort_view};
+ghost use Rattle.ca_resolve.specs.View.{scope_view, callee_view};
+ghost use Rattle.ca_types.specs.Rules.{listed, called_operation, printed_agrees, prints_nothing};
+ghost use Rattle.ca_types.specs.Statements.{judge_condition, judge_call_statement, judge_return, judge_print};
+ghost use Rattle.ca_types.specs.View.{standing_view};
 
-use crate::CheckError;
-use crate::calls::check_call;
-use crate::names::{Operation, Scope, VisibleLocal, class_number, has_local};
-use crate::sorts::{Sort, can_hold, sort_of};
-use ca_program::{Body, ClassId, Expr, LocalId, Stmt, StmtForm, ValueType};
-use ca_tree::{AssignOp, ClassNode, ExprKind, Name, Right, StmtKind, StmtNode, TypeNode};
+use crate::puts::check_wanted;
+use crate::rules::rule;
+use crate::walk::Walk;
+use ca_program::{Expr, OpId, Stmt, StmtForm};
+use ca_resolve::{Callee, CheckError, Scope, Sort, both, check_call, check_value, violation};
+use ca_tree::{ExprNode, Place};
 use std::alloc::Global;
 
-/// The most locals of a body.
-const MOST_LOCALS: usize = 256;
-
-/// The class that is named.
-pub(crate) fn class_defined(classes: &[ClassNode], name: &Name) -> Result<ClassId, CheckError>
-    requires { length classes.now ≤ 256 }
-    ensures resolved { IfOk result (λ c. (at : Place) → class_defined (map class_view classes.now) name.now at ≡ fine c) }
-    ensures refused { IfErr result (λ err. (at : Place) → Refuses err (class_defined (map class_view classes.now) name.now at)) }
+/// The operation that a statement calls.
+fn called_operation(returned: &Option<Sort>, callee: &Callee, at: Place) -> Result<OpId, CheckError>
+    ensures { Answers (λ o. o) result (called_operation (option_map sort_view returned.now) (callee_view callee.now) at) }
 {
-    match class_number(classes, name) {
-        Some(class) => Ok(ClassId(class)),
-        None => Err(CheckError::NotBuilt),
-    }
-}
-
-/// The class of a pointer.
-fn check_pointer(classes: &[ClassNode], ty: &TypeNode) -> Result<ClassId, CheckError>
-    requires { length classes.now ≤ 256 }
-    ensures resolved { IfOk result (λ c. judge_pointer (map class_view classes.now) ty.now ≡ fine c) }
-    ensures refused { IfErr result (λ err. Refuses err (judge_pointer (map class_view classes.now) ty.now)) }
-{
-    match ty {
-        TypeNode::Pointer(name, _) => class_defined(classes, name),
-        _ => Err(CheckError::NotBuilt),
-    }
-}
-
-/// What the local is put to where it is declared.
-fn check_start(
-    classes: &[ClassNode],
-    local: LocalId,
-    ty: &TypeNode,
-    value: &Option<Right>,
-) -> Result<StmtForm, CheckError>
-    requires { length classes.now ≤ 256 }
-    ensures resolved { IfOk result (λ f. (at : Place) → judge_start (map class_view classes.now) at local (sort_of ty.now) (option_right_view value.now) ≡ fine (program.form_view f at.line)) }
-    ensures refused { IfErr result (λ err. (at : Place) → Refuses err (judge_start (map class_view classes.now) at local (sort_of ty.now) (option_right_view value.now))) }
-{
-    let sort = sort_of(ty);
-    match value {
-        Some(Right::New(name, _)) => {
-            let class = class_defined(classes, name)?;
-            if can_hold(&sort, &Sort::Pointer(name)) {
-                Ok(StmtForm::NewLocal(local, class))
+    match callee {
+        Callee::Operation(op) => {
+            if returned.is_some() {
+                Err(violation(at, 29))
             } else {
-                Err(CheckError::NotBuilt)
+                Ok(*op)
             }
         }
-        Some(Right::Value(e)) => match &e.kind {
-            ExprKind::Null if can_hold(&sort, &Sort::NoObject) => {
-                Ok(StmtForm::PutLocal(local, AssignOp::Put, Expr::Null))
-            }
-            _ => Err(CheckError::NotBuilt),
-        },
-        None => Err(CheckError::NotBuilt),
+        Callee::Function(..) => Err(violation(at, 28)),
     }
 }
 
-/// A local of `main`: the class of its type, and what it is put to.
-fn check_local(
-    classes: &[ClassNode],
-    before: &[VisibleLocal],
-    ty: &TypeNode,
-    name: &Name,
-    value: &Option<Right>,
-) -> Result<(ClassId, StmtForm), CheckError>
-    requires classes { length classes.now ≤ 256 }
-    requires before { length before.now ≤ 256 }
-    ensures few { IfOk result (λ p. length before.now < 256) }
-    ensures class { IfOk result (λ p. judge_type (map class_view classes.now) ty.now ≡ fine (ValueType.Pointer p.0)) }
-    ensures stmt { IfOk result (λ p. (at name_at : Place) → judge_local (map class_view classes.now) (map local_view before.now) at ty.now name.now name_at (option_right_view value.now) ≡ fine (program.form_view p.1 at.line ∷ [])) }
-    ensures refused { IfErr result (λ err. (at name_at : Place) → Refuses err (judge_local (map class_view classes.now) (map local_view before.now) at ty.now name.now name_at (option_right_view value.now))) }
-{
-    if before.len() >= MOST_LOCALS {
-        return Err(CheckError::NotBuilt);
-    }
-    if has_local(before, name) {
-        return Err(CheckError::NotBuilt);
-    }
-    let class = check_pointer(classes, ty)?;
-    let start = check_start(classes, LocalId(before.len() as u32), ty, value)?;
-    Ok((class, start))
-}
-
-/// `main`: its locals and its statements.
-pub(crate) fn check_main(
+/// A call as a statement.
+pub(crate) fn check_call_statement(
     alloc: Global,
-    classes: &[ClassNode],
-    operations: &[Operation],
-    main: &[StmtNode],
-) -> Result<Body, CheckError>
-    requires classes { length classes.now ≤ 256 }
-    requires operations { length operations.now ≤ 256 }
-    ensures stmts { IfOk result (λ b. each (judge_line (map class_view classes.now) (map operation_view operations.now)) [] (map statement_view main.now) ≡ fine (map program.statement_view b.stmts.items)) }
-    ensures locals { IfOk result (λ b. b.locals.items ≡ types_of (map class_view classes.now) (declared (map statement_view main.now))) }
-    ensures refused { IfErr result (λ err. Refuses err (each (judge_line (map class_view classes.now) (map operation_view operations.now)) [] (map statement_view main.now))) }
+    walk: &Walk,
+    at: Place,
+    e: &ExprNode,
+) -> Result<Stmt, CheckError>
+    ensures { Answers program.statement_view result (judge_call_statement (standing_view walk.now) at (expression_view e.now)) }
 {
-    let mut seen = Vec::new(alloc);
-    let mut locals = Vec::new(alloc);
-    let mut stmts = Vec::new(alloc);
-    for stmt in main {
-        let line = stmt.at.line;
-        match &stmt.kind {
-            StmtKind::Local {
-                ty,
-                name,
-                value,
-                ..
-            } => {
-                let (class, kind) = check_local(classes, &seen, ty, name, value)?;
-                seen.push(VisibleLocal { name, ty })?;
-                locals.push(ValueType::Pointer(class))?;
-                stmts.push(Stmt { line, kind })?;
-            }
-            StmtKind::Call(call) => {
-                let scope = Scope {
-                    locals: &seen,
-                    class: 0,
-                    members: &[],
-                };
-                stmts.push(check_call(alloc, classes, operations, &scope, line, call)?)?;
-            }
-            _ => return Err(CheckError::NotBuilt),
-        }
+    let call = check_call(alloc, &walk.scope(), e)?;
+    let op = called_operation(&walk.result, &call.callee, e.at)?;
+    Ok(Stmt {
+        line: at.line,
+        kind: StmtForm::Invoke(call.receiver, op, call.arguments),
+    })
+}
+
+/// The condition of an `if` or a loop.
+pub(crate) fn check_condition(
+    alloc: Global,
+    scope: &Scope,
+    e: &ExprNode,
+) -> Result<Expr, CheckError>
+    ensures { Answers program.expression_view result (judge_condition (scope_view scope.now) (expression_view e.now)) }
+{
+    let (value, sort) = check_value(alloc, scope, e)?;
+    if sort.is_truth() {
+        Ok(value)
+    } else {
+        Err(violation(e.at, 25))
     }
-    Ok(Body { locals, stmts })
+}
+
+/// A `return`.
+pub(crate) fn check_return(
+    alloc: Global,
+    walk: &Walk,
+    at: Place,
+    e: &ExprNode,
+) -> Result<Stmt, CheckError>
+    ensures { Answers program.statement_view result (judge_return (standing_view walk.now) at (expression_view e.now)) }
+{
+    let value = check_wanted(alloc, &walk.scope(), walk.result, e)?;
+    if walk.result.is_none() {
+        return Err(violation(at, 30));
+    }
+    Ok(Stmt {
+        line: at.line,
+        kind: StmtForm::Return(value),
+    })
+}
+
+/// A number or a truth value is printed.
+fn printed_agrees(sort: &Sort, at: Place) -> Result<(), CheckError>
+    ensures { Finds result (listed (printed_agrees (sort_view sort.now) at)) }
+{
+    rule(!(sort.is_long() || sort.is_truth()), at, 25)
+}
+
+/// A value method prints nothing.
+fn prints_nothing(returned: &Option<Sort>, at: Place) -> Result<(), CheckError>
+    ensures { Finds result (listed (prints_nothing (option_map sort_view returned.now) at)) }
+{
+    rule(returned.is_some(), at, 29)
+}
+
+/// A `print`.
+pub(crate) fn check_print(
+    alloc: Global,
+    walk: &Walk,
+    at: Place,
+    e: &ExprNode,
+) -> Result<Stmt, CheckError>
+    ensures { Answers program.statement_view result (judge_print (standing_view walk.now) at (expression_view e.now)) }
+{
+    let (value, sort) = check_value(alloc, &walk.scope(), e)?;
+    let has_text = printed_agrees(&sort, e.at);
+    let printed = prints_nothing(&walk.result, at);
+    both(has_text, printed)?;
+    Ok(Stmt {
+        line: at.line,
+        kind: StmtForm::Print(value),
+    })
 }

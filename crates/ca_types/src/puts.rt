@@ -1,74 +1,271 @@
-//! Statements of operations.
+//! Assignments and declarations of locals.
 
-ghost use Rattle.std.specs.Prelude.{◌≡◌, ◌≤◌, length, map, IfOk, IfErr, [], ◌∷◌};
-ghost use Rattle.ca_tree.specs.View.{expression_view, statement_view};
+ghost use Rattle.std.specs.Prelude.{◌≡◌, IfOk, pos, length};
+ghost use Rattle.std.specs.Option.{option_map};
+ghost use Rattle.ca_tree.specs.View.{expression_view, right_view, option_right_view};
 ghost use Rattle.ca_program.specs.View as program;
-ghost use Rattle.ca_types.specs.Judged.{fine, each, Refuses};
-ghost use Rattle.ca_types.specs.Resolve.{judge_target, judge_put};
-ghost use Rattle.ca_types.specs.View.{scope_view, found_field_view};
+ghost use Rattle.ca_resolve.specs.Judged.{Answers, Finds, Judged};
+ghost use Rattle.ca_resolve.specs.Scopes.{Target as PlainTarget, Sort as PlainSort};
+ghost use Rattle.ca_resolve.specs.LocalView.{sort_view};
+ghost use Rattle.ca_resolve.specs.View.{scope_view, target_view};
+ghost use Rattle.ca_types.specs.Rules.{listed, is_own, is_put, compound_agrees, writes_no_field, creates_nothing};
+ghost use Rattle.ca_types.specs.Statements.{creates, start_creates, start_value, put, judge_wanted, judge_right, judge_put_target, judge_assign, judge_start, judge_local, right_sort};
+ghost use Rattle.ca_types.specs.View.{standing_view, source_view, Tells_something};
 
-use crate::CheckError;
-use crate::names::{Scope, bare_name};
-use crate::sorts::Sort;
-use crate::values::{check_for, meaning};
-use ca_program::{Expr, FieldId, Stmt, StmtForm};
-use ca_tree::{AssignOp, ExprKind, ExprNode, Right, StmtKind, StmtNode};
-use std::alloc::Global;
+use crate::rules::{bound, check_type, class_defined, rule};
+use crate::walk::Walk;
+use ca_program::{AssignOp, ClassId, Expr, Stmt, StmtForm};
+use ca_resolve::{
+    CheckError, Scope, Sort, Target, both, check_for, check_target, check_value, violation,
+};
+use ca_tree::{ExprNode, Name, Place, Right, TypeNode};
+use std::alloc::{AllocError, Global};
 
-/// The field that is put to, and its type.
-fn check_target<'a>(scope: &Scope<'a>, target: &ExprNode) -> Result<(FieldId, Sort<'a>), CheckError>
-    requires locals { length scope.now.locals.now ≤ 256 }
-    requires members { length scope.now.members.now ≤ 512 }
-    ensures resolved { IfOk result (λ p. judge_target (scope_view scope.now) (expression_view target.now) ≡ fine (found_field_view p)) }
-    ensures refused { IfErr result (λ err. Refuses err (judge_target (scope_view scope.now) (expression_view target.now))) }
-{
-    let Some(name) = bare_name(target) else {
-        return Err(CheckError::NotBuilt);
-    };
-    match meaning(scope, name) {
-        Some((Expr::Own(field), sort)) => Ok((field, sort)),
-        _ => Err(CheckError::NotBuilt),
-    }
+/// The most locals of a body.
+const MOST_LOCALS: usize = 256;
+
+/// What a target is put to: a value, or a new object of a class.
+#[derive(Drop)]
+pub(crate) enum Source {
+    Value(Expr),
+    New(ClassId),
 }
 
-/// A put of a field.
-fn check_put(alloc: Global, scope: &Scope, stmt: &StmtNode) -> Result<Stmt, CheckError>
-    requires locals { length scope.now.locals.now ≤ 256 }
-    requires members { length scope.now.members.now ≤ 512 }
-    ensures resolved { IfOk result (λ s. judge_put (scope_view scope.now) (statement_view stmt.now) ≡ fine (program.statement_view s ∷ [])) }
-    ensures refused { IfErr result (λ err. Refuses err (judge_put (scope_view scope.now) (statement_view stmt.now))) }
-{
-    match &stmt.kind {
-        StmtKind::Assign {
-            target,
-            op: AssignOp::Put,
-            right: Right::Value(value),
-        } => {
-            let (field, sort) = check_target(scope, target)?;
-            let value = check_for(alloc, scope, &sort, value)?;
-            Ok(Stmt {
-                line: stmt.at.line,
-                kind: StmtForm::PutField(field, AssignOp::Put, value),
-            })
-        }
-        _ => Err(CheckError::NotBuilt),
-    }
-}
-
-/// The statements of an operation.
-pub(crate) fn check_puts(
+/// A value of the type that is wanted, where it is known.
+pub(crate) fn check_wanted(
     alloc: Global,
     scope: &Scope,
-    body: &[StmtNode],
-) -> Result<Vec<Stmt>, CheckError>
-    requires locals { length scope.now.locals.now ≤ 256 }
-    requires members { length scope.now.members.now ≤ 512 }
-    ensures resolved { IfOk result (λ v. each (λ _. judge_put (scope_view scope.now)) [] (map statement_view body.now) ≡ fine (map program.statement_view v.items)) }
-    ensures refused { IfErr result (λ err. Refuses err (each (λ _. judge_put (scope_view scope.now)) [] (map statement_view body.now))) }
+    wanted: Option<Sort>,
+    e: &ExprNode,
+) -> Result<Expr, CheckError>
+    ensures { Answers program.expression_view result (judge_wanted (scope_view scope.now) (option_map sort_view wanted.entry) (expression_view e.now)) }
 {
-    let mut stmts = Vec::new(alloc);
-    for stmt in body {
-        stmts.push(check_put(alloc, scope, stmt)?)?;
+    match wanted {
+        Some(wanted) => check_for(alloc, scope, wanted, e),
+        None => {
+            let (value, _) = check_value(alloc, scope, e)?;
+            Ok(value)
+        }
     }
-    Ok(stmts)
+}
+
+/// The right side of a target, whose type may be known.
+fn check_right(
+    alloc: Global,
+    scope: &Scope,
+    wanted: Option<Sort>,
+    right: &Right,
+) -> Result<Source, CheckError>
+    ensures { Answers source_view result (judge_right (scope_view scope.now) (option_map sort_view wanted.entry) (right_view right.now)) }
+{
+    match right {
+        Right::Value(e) => {
+            let value = check_wanted(alloc, scope, wanted, e)?;
+            Ok(Source::Value(value))
+        }
+        Right::New(name, at) => {
+            let class = class_defined(scope.classes, name, *at)?;
+            match wanted {
+                Some(wanted) => {
+                    if wanted.can_hold(&Sort::Pointer(class)) {
+                        Ok(Source::New(class))
+                    } else {
+                        Err(violation(*at, 25))
+                    }
+                }
+                None => Ok(Source::New(class)),
+            }
+        }
+    }
+}
+
+/// Whether the right side is a new object.
+fn creates(right: &Right) -> bool
+    ensures { result ≡ creates (right_view right.now) }
+{
+    match right {
+        Right::Value(_) => false,
+        Right::New(..) => true,
+    }
+}
+
+/// Whether the target is the receiver's.
+fn is_own(target: &(Target, Sort)) -> bool
+    ensures { result ≡ is_own (target_view target.now).0 }
+{
+    match target.0 {
+        Target::Local(_) => false,
+        Target::Field(_) | Target::Item(..) => true,
+    }
+}
+
+fn is_put(op: AssignOp) -> bool
+    ensures { result ≡ is_put op }
+{
+    match op {
+        AssignOp::Put => true,
+        AssignOp::Add | AssignOp::Sub | AssignOp::Mul => false,
+    }
+}
+
+/// The statement that puts.
+fn put(line: u32, target: (Target, Sort), op: AssignOp, source: Source) -> Stmt
+    ensures { program.statement_view result ≡ put line (target_view target.entry).0 op (source_view source) }
+{
+    let (target, _) = target;
+    let kind = match source {
+        Source::Value(e) => match target {
+            Target::Local(local) => StmtForm::PutLocal(local, op, e),
+            Target::Field(field) => StmtForm::PutField(field, op, e),
+            Target::Item(field, index) => StmtForm::PutItem(field, index, op, e),
+        },
+        Source::New(class) => match target {
+            Target::Local(local) => StmtForm::NewLocal(local, class),
+            Target::Field(field) => StmtForm::NewField(field, class),
+            Target::Item(field, index) => StmtForm::NewItem(field, index, class),
+        },
+    };
+    Stmt { line, kind }
+}
+
+/// A compound assignment is to a number.
+fn compound_agrees(op: AssignOp, target: &(Target, Sort), at: Place) -> Result<(), CheckError>
+    ensures { Finds result (listed (compound_agrees op (target_view target.now).1 at)) }
+{
+    rule(!is_put(op) && !target.1.is_long(), at, 25)
+}
+
+/// A value method writes no field.
+fn writes_no_field(
+    returned: &Option<Sort>,
+    target: &(Target, Sort),
+    at: Place,
+) -> Result<(), CheckError>
+    ensures { Finds result (listed (writes_no_field (option_map sort_view returned.now) (target_view target.now).0 at)) }
+{
+    rule(returned.is_some() && is_own(target), at, 29)
+}
+
+/// A value method creates nothing.
+fn creates_nothing(returned: &Option<Sort>, creates: bool, at: Place) -> Result<(), CheckError>
+    ensures { Finds result (listed (creates_nothing (option_map sort_view returned.now) creates at)) }
+{
+    rule(returned.is_some() && creates, at, 29)
+}
+
+/// The target of an assignment, and the type of its values.
+fn check_put_target<'a>(
+    alloc: Global,
+    walk: &Walk<'_, 'a>,
+    op: AssignOp,
+    e: &ExprNode,
+) -> Result<(Target, Sort<'a>), CheckError>
+    ensures { Answers target_view result (judge_put_target (standing_view walk.now) op (expression_view e.now)) }
+{
+    let target = check_target(alloc, &walk.scope(), e)?;
+    let compound = compound_agrees(op, &target, e.at);
+    let written = writes_no_field(&walk.result, &target, e.at);
+    both(compound, written)?;
+    Ok(target)
+}
+
+/// The result, unless memory ran out.
+fn told<T: Drop>(answer: Result<T, CheckError>) -> Result<Result<T, CheckError>, AllocError>
+    ensures { IfOk result (λ r. (r ≡ answer) × Tells_something r) }
+{
+    match answer {
+        Err(CheckError::Memory) => Err(AllocError),
+        _ => Ok(answer),
+    }
+}
+
+/// The type that the right side is to have, where it is known.
+fn right_sort<'a>(op: AssignOp, target: &Result<(Target, Sort<'a>), CheckError>) -> Option<Sort<'a>>
+    ensures { (j : Judged (PlainTarget × PlainSort)) → Tells_something target.now → Answers target_view target.now j → option_map sort_view result ≡ right_sort op j }
+{
+    match op {
+        AssignOp::Add | AssignOp::Sub | AssignOp::Mul => Some(Sort::Long),
+        AssignOp::Put => match target {
+            Ok((_, sort)) => Some(*sort),
+            Err(_) => None,
+        },
+    }
+}
+
+/// An assignment.
+pub(crate) fn check_assign(
+    alloc: Global,
+    walk: &Walk,
+    at: Place,
+    target: &ExprNode,
+    op: AssignOp,
+    right: &Right,
+) -> Result<Stmt, CheckError>
+    ensures { Answers program.statement_view result (judge_assign (standing_view walk.now) at (judge_put_target (standing_view walk.now) op (expression_view target.now)) op (right_view right.now)) }
+{
+    let target = told(check_put_target(alloc, walk, op, target))?;
+    let wanted = right_sort(op, &target);
+    let source = check_right(alloc, &walk.scope(), wanted, right);
+    let (target, source) = both(target, source)?;
+    creates_nothing(&walk.result, creates(right), at)?;
+    Ok(put(at.line, target, op, source))
+}
+
+/// What a local that is declared without a value is put to.
+fn start_value(sort: &Sort) -> Expr
+    ensures { program.expression_view result ≡ start_value (sort_view sort.now) }
+{
+    match sort {
+        Sort::Long => Expr::Number(0),
+        Sort::Truth => Expr::Truth(false),
+        Sort::Pointer(_) | Sort::Undefined(_) | Sort::NoObject => Expr::Null,
+    }
+}
+
+/// The initial value of a local.
+fn check_start(
+    alloc: Global,
+    scope: &Scope,
+    sort: Sort,
+    value: &Option<Right>,
+) -> Result<Source, CheckError>
+    ensures { Answers source_view result (judge_start (scope_view scope.now) (sort_view sort.entry) (option_right_view value.now)) }
+{
+    match value {
+        None => Ok(Source::Value(start_value(&sort))),
+        Some(right) => check_right(alloc, scope, Some(sort), right),
+    }
+}
+
+fn start_creates(value: &Option<Right>) -> bool
+    ensures { result ≡ start_creates (option_right_view value.now) }
+{
+    match value {
+        None => false,
+        Some(right) => creates(right),
+    }
+}
+
+/// A local, before it is declared.
+pub(crate) fn check_local<'a>(
+    alloc: Global,
+    walk: &Walk<'_, 'a>,
+    at: Place,
+    ty: &'a TypeNode,
+    name: &Name,
+    name_at: Place,
+    value: &Option<Right>,
+) -> Result<Stmt, CheckError>
+    ensures { Answers program.statement_view result (judge_local (standing_view walk.now) at ty.now name.now name_at (option_right_view value.now)) }
+{
+    let id = walk.next_local()?;
+    let passed = bound(walk.count() == MOST_LOCALS, name_at, 55);
+    let written = check_type(walk.classes, ty);
+    let sort = walk.classes.sort_of(ty);
+    let start = check_start(alloc, &walk.scope(), sort, value);
+    let (_, (_, source)) = both(passed, both(written, start))?;
+    let created = creates_nothing(&walk.result, start_creates(value), at);
+    let again = walk.local_once(name, name_at);
+    both(created, again)?;
+    Ok(put(at.line, (Target::Local(id), sort), AssignOp::Put, source))
 }

@@ -1,38 +1,65 @@
 -- What holds of the parts of a judgement that is fine.
-use Rattle.std.proofs.Common.{◌≡◌, ℕ, List, [], ◌∷◌, ◌++◌, Bool, true, false, cond, refl, subst}
+use Rattle.std.proofs.Common.{◌≡◌, ℕ, List, [], ◌∷◌, Bool, true, false, refl, sym, ap, ◌∙◌}
 use Rattle.std.specs.Prelude.{not, Option, Some, None}
-use Rattle.std.specs.List.{AllByRecursion}
 use Rattle.ca_tree.specs.declared.name.Place.{Place}
-use Rattle.ca_types.specs.Judged.{Judged, fine, unbuilt, both, unless, found, broken_if, each}
-use Rattle.ca_types.proofs.Small.{within_fine, both_fine}
-use Rattle.ca_typing.proofs.Lists.{all_append}
+use Rattle.ca_resolve.specs.Judged.{Violation, Judged, fine, faulty, both, within, unless, found, broken_if, beside}
+use Rattle.ca_types.specs.Classes.{gathered}
 
--- the parts of a list's judgement: of the first, and of the rest behind it
-pub each_fine : {A B : Type 0} (judge : List A → A → Judged (List B)) (before : List A) (x : A) (xs : List A) (ys : List B) → each judge before (x ∷ xs) ≡ fine ys
-    → (zs : List B) × (us : List B) × (judge before x ≡ fine zs) × (each judge (before ++ x ∷ []) xs ≡ fine us) × (zs ++ us ≡ ys)
-each_fine judge before x xs ys h =
-    let rest = each judge (before ++ x ∷ []) xs in
-    let w = within_fine (both (judge before x) rest) (λ p. fine (p.0 ++ p.1)) ys h in
-    let b = both_fine (judge before x) rest w.0 w.1 in
-    (w.0.0, w.0.1, b.0, b.1, cc (w.2))
+pub same_fine : {A : Type 0} (a b : A) → fine a ≡ fine b → a ≡ b
+same_fine a b h = cc
 
--- what each item that is fine gives, where something is known of the items
-pub all_each : {A B : Type 0} (K : A → Type 0) (P : B → Type 0) (judge : List A → A → Judged (List B)) → ((before : List A) (x : A) (ys : List B) → K x → judge before x ≡ fine ys → AllByRecursion P ys)
-    → (before xs : List A) (ys : List B) → AllByRecursion K xs → each judge before xs ≡ fine ys → AllByRecursion P ys
-all_each K P judge f before [] ys k h = let e : [] ≡ ys = cc in subst (AllByRecursion P) e tt
-all_each K P judge f before (x ∷ xs) ys k h =
-    let w = each_fine judge before x xs ys h in
-    subst (AllByRecursion P) w.4 (all_append P w.0 w.1 (f before x w.0 k.0 w.2) (all_each K P judge f (before ++ x ∷ []) xs w.1 k.1 w.3))
+-- the part, and what is made of it
+pub within_fine : {A B : Type 0} (j : Judged A) (rule : A → Judged B) (b : B) → within j rule ≡ fine b → (a : A) × (j ≡ fine a) × (rule a ≡ fine b)
+within_fine (fine a) rule b h = (a, refl, h)
+within_fine (faulty v vs) rule b h = absurd (cc)
+
+-- a node that only passes on what is made of its part
+pub made_fine : {A B : Type 0} (j : Judged A) (f : A → B) (b : B) → within j (λ a. fine (f a)) ≡ fine b → (a : A) × (j ≡ fine a) × (f a ≡ b)
+made_fine (fine a) f b h = (a, refl, same_fine (f a) b h)
+made_fine (faulty v vs) f b h = absurd (cc)
+
+pub both_fine : {A B : Type 0} (j : Judged A) (k : Judged B) (p : A × B) → both j k ≡ fine p → (j ≡ fine p.0) × (k ≡ fine p.1)
+both_fine (fine a) (fine b) p h = let e = same_fine (a, b) p h in (ap (λ (q : _ × _). fine q.0) e, ap (λ (q : _ × _). fine q.1) e)
+both_fine (fine a) (faulty u us) p h = absurd (cc)
+both_fine (faulty v vs) k p h = absurd (cc)
+
+pub unless_fine : {A : Type 0} (v : Option Violation) (a b : A) → unless v a ≡ fine b → a ≡ b
+unless_fine None a b h = same_fine a b h
+unless_fine (Some v) a b h = absurd (cc)
+
+pub none_broken : {A : Type 0} (v : Option Violation) (a b : A) → unless v a ≡ fine b → v ≡ None
+none_broken None a b h = refl
+none_broken (Some v) a b h = absurd (cc)
+
+pub beside_fine : {A : Type 0} (v : Option Violation) (j : Judged A) (b : A) → beside v j ≡ fine b → (v ≡ None) × (j ≡ fine b)
+beside_fine None j b h = (refl, h)
+beside_fine (Some v) j b h = absurd (cc)
 
 pub found_fine : {A : Type 0} (o : Option A) (at : Place) (code : ℕ) (a : A) → found o at code ≡ fine a → o ≡ Some a
 found_fine None at code a h = absurd (cc)
-found_fine (Some x) at code a h = cc
+found_fine (Some x) at code a h = ap (λ y. Some y) (same_fine x a h)
 
--- the rule is kept
-pub kept : {A : Type 0} (broken : Bool) (at : Place) (code : ℕ) (a b : A) → unless (broken_if (not broken) at code) a ≡ fine b → (broken ≡ true) × (a ≡ b)
-kept true at code a b h = (refl, cc)
-kept false at code a b h = absurd (cc)
+-- a rule that gives no violation is kept
+pub not_broken : (b : Bool) (at : Place) (code : ℕ) → broken_if b at code ≡ None → b ≡ false
+not_broken true at code h = absurd (cc)
+not_broken false at code h = refl
 
-pub built : {A : Type 0} (b : Bool) (j : Judged A) (a : A) → cond b j unbuilt ≡ fine a → (b ≡ true) × (j ≡ fine a)
-built true j a h = (refl, h)
-built false j a h = absurd (cc)
+pub not_not : (b : Bool) → not b ≡ false → b ≡ true
+not_not true h = refl
+not_not false h = absurd (cc)
+
+pub kept : {A : Type 0} (agrees : Bool) (at : Place) (code : ℕ) (a b : A) → unless (broken_if (not agrees) at code) a ≡ fine b → (agrees ≡ true) × (a ≡ b)
+kept agrees at code a b h = (not_not agrees (not_broken (not agrees) at code (none_broken (broken_if (not agrees) at code) a b h)), unless_fine (broken_if (not agrees) at code) a b h)
+
+-- a walk over a list that asks what comes in front to be fine
+module _ {S T A : Type 0} (next : S → T → S) (add : S → Judged A → T → Judged A) (strict : (s : S) (j : Judged A) (x : T) (b : A) → add s j x ≡ fine b → (a : A) × (j ≡ fine a)) where
+  pub front_fine : (s : S) (j : Judged A) (xs : List T) (c : A) → gathered next add s j xs ≡ fine c → (a : A) × (j ≡ fine a)
+  front_fine s j [] c h = (c, h)
+  front_fine s j (x ∷ xs) c h = let f = front_fine (next s x) (add s j x) xs c h in strict s j x f.0 f.1
+
+  -- what the first item makes, and the rest behind it
+  pub gathered_fine : (s : S) (a : A) (x : T) (xs : List T) (c : A) → gathered next add s (fine a) (x ∷ xs) ≡ fine c
+      → (b : A) × (add s (fine a) x ≡ fine b) × (gathered next add (next s x) (fine b) xs ≡ fine c)
+  gathered_fine s a x xs c h =
+      let f = front_fine (next s x) (add s (fine a) x) xs c h in
+      (f.0, f.1, ap (λ j. gathered next add (next s x) j xs) (sym f.1) ∙ h)

@@ -1,9 +1,9 @@
 mod Lists
-mod Literals
-mod LiteralTrees
 mod Judging
 mod Sorts
-mod Scopes
 mod Values
-mod Puts
+mod Statements
+mod Returning
+mod Methods
+mod Members
 mod Typing

@@ -1,102 +1,190 @@
--- The program of a tree whose numbers fit is well typed.
-use Rattle.std.proofs.Common.{◌≡◌, ℕ, suc, ◌+◌, List, [], ◌∷◌, ◌++◌, map, length, refl, subst, ap, ◌∙◌, arith}
-use Rattle.std.specs.Prelude.{Option, Some, None, slice_get}
-use Rattle.std.specs.List.{AllByRecursion}
-use Rattle.std.proofs.lemmas.List.{length-append}
-use Rattle.ca_tree.specs.declared.tree.TypeNode.{TypeNode}
-use Rattle.ca_tree.specs.Plain.{MethodTree, MemberTree, ClassTree, TextTree, field_member, method_member}
-use Rattle.ca_program.specs.declared.program.FieldInfo.{FieldInfo}
+-- The program of a tree whose numbers fit, and in which no rule is broken, is well typed.
+use Rattle.std.proofs.Common.{◌≡◌, ℕ, zero, suc, ◌+◌, List, [], ◌∷◌, ◌++◌, Bool, true, false, cond, length, refl, sym, subst, ap, ◌∙◌, arith}
+use Rattle.std.specs.Prelude.{Some, slice_get}
+use Rattle.std.specs.List.{AllByRecursion, position_from}
+use Rattle.std.proofs.lemmas.List.{append-nil}
+use Rattle.std.proofs.lemmas.Option.{same_Some}
+use Rattle.ca_tree.specs.Plain.{ClassTree, TextTree}
+use Rattle.ca_program.specs.declared.program.ClassId.{ClassId}
 use Rattle.ca_program.specs.Plain as program
-use Rattle.ca_model.specs.TypedPuts.{PutsTyped, MethodTyped, TypedPuts}
-use Rattle.ca_types.specs.Judged.{fine, both, unless, beside, each}
-use Rattle.ca_types.specs.Scopes.{Operation, class_operations, operations, statements}
-use Rattle.ca_types.specs.Rules.{class_once, member_once, class_limit, operation_limit}
-use Rattle.ca_types.specs.Resolve.{judge, judge_put, judge_parameter, judge_parts, method_scope, operation_of, judge_method, judge_method_member, judge_field_member, judge_class, judge_line, class_of, operations_of, whole}
-use Rattle.ca_types.proofs.Small.{within_fine, both_fine, unless_fine, beside_fine}
-use Rattle.ca_typing.specs.Fits.{StatementFits, MemberFits, ClassFits, LiteralsFit}
-use Rattle.ca_typing.proofs.Lists.{all_append, all_weaker, all_at}
-use Rattle.ca_typing.proofs.Judging.{each_fine, all_each}
-use Rattle.ca_typing.proofs.Scopes.{FieldsTyped, parameters_typed, fields_typed}
-use Rattle.ca_typing.proofs.Puts.{OnePutTyped, puts_typed, put_typed}
+use Rattle.ca_program.specs.Plain.{PlainProgram, PlainClass}
+use Rattle.ca_model.specs.Heaps.{fields_of}
+use Rattle.ca_meaning.specs.ProgramTyped.{IsClass, OperationTyped, FunctionTyped, main_scope, ProgramTyped}
+use Rattle.ca_resolve.specs.Judged.{Judged, fine, both, unless, beside}
+use Rattle.ca_resolve.specs.Scopes.{Meaning, Numbers, classes_of, class_names, members_from, meanings, find_among, same_name}
+use Rattle.ca_types.specs.Rules.{class_once, class_limit}
+use Rattle.ca_types.specs.Statements.{judge_statements, behind_all}
+use Rattle.ca_types.specs.Classes.{gathered, Members, no_members, behind_members, judge_members, ClassStanding, class_begin, behind_class, judge_class, Parts, with_class, add_class, no_parts, judge_classes, first_class, main_begin, program_of, judge}
+use Rattle.ca_typing.specs.Fits.{ClassFits, LiteralsFit}
+use Rattle.ca_typing.proofs.Lists.{Begins, begins_itself, begins_through, item_there, one_longer, all_append, all_at}
+use Rattle.ca_typing.proofs.Judging.{same_fine, within_fine, made_fine, both_fine, unless_fine, beside_fine, gathered_fine}
+use Rattle.ca_typing.proofs.Values.{MeaningTyped, ClassesTyped}
+use Rattle.ca_typing.proofs.Statements.{Stands, in_order_typed, statements_typed}
+use Rattle.ca_typing.proofs.Members.{RowTyped, row_at, Numbered, numbers_behind, row_typed, MembersTyped, members_typed}
 
--- the method is one of the class of the number, and its puts are typed
-abbrev TypedIn : ℕ → List FieldInfo → program.PlainMethod → Type 0
-TypedIn class fields m = (m.class.0 ≡ class) × (m.params ≡ length m.body.locals) × PutsTyped m.class fields m.body.locals m.body.statements
+classes_strict : (s : ClassStanding) (j : Judged Parts) (t : ClassTree) (b : Parts) → add_class s j t ≡ fine b → (a : Parts) × (j ≡ fine a)
+classes_strict s j t b h =
+    let w = made_fine (both j (judge_class s t)) (λ (r : Parts × Members). with_class r.0 t.name r.1) b h in
+    (w.0.0, (both_fine j (judge_class s t) w.0 w.1).0)
 
-module _ (classes : List ClassTree) (all : List Operation) (class : ℕ) (members : List MemberTree) (fields : List FieldInfo) (typed : FieldsTyped classes members fields) where
-  method_typed : (before : List MemberTree) (m : MethodTree) (result : Option TypeNode) (ys : List program.PlainMethod) → MemberFits (method_member m)
-      → judge_method classes all class members before m result ≡ fine ys → AllByRecursion (TypedIn class fields) ys
-  method_typed before m None ys fits h =
-      let scope = method_scope class members m in
-      let params = each (judge_parameter classes) [] m.params in
-      let puts = each (λ _. judge_put scope) [] (statements m.body) in
-      let limit = operation_limit (length (all ++ class_operations class before)) m.at in
-      let once = member_once before m.name m.at in
-      let w = within_fine (beside limit (judge_parts classes class members m)) (λ p. unless once (operation_of class m p ∷ [])) ys h in
-      let parts = both_fine params puts w.0 (beside_fine limit (judge_parts classes class members m) w.0 w.1) in
-      let locals = parameters_typed classes [] m.params w.0.0 parts.0 in
-      let all_puts = all_each StatementFits (OnePutTyped (record { 0 = class }) fields w.0.0) (λ _. judge_put scope)
-      (λ b x zs f k. put_typed classes fields w.0.0 scope (record { locals = locals.0; members = typed }) x zs f k) [] (statements m.body) w.0.1 fits parts.1 in
-      subst (AllByRecursion (TypedIn class fields)) (unless_fine once (operation_of class m w.0 ∷ []) ys w.2)
-      ((refl, locals.1, puts_typed (record { 0 = class }) fields w.0.0 w.0.1 all_puts), tt)
-  method_typed before m (Some ty) ys fits h = absurd (cc)
+class_added : (c : ClassStanding) (a b : Parts) (t : ClassTree) → add_class c (fine a) t ≡ fine b → (m : Members) × (judge_members (class_begin c t.members) t.members ≡ fine m) × (with_class a t.name m ≡ b)
+class_added c a b t h =
+    let w = made_fine (both (fine a) (judge_class c t)) (λ (r : Parts × Members). with_class r.0 t.name r.1) b h in
+    let d = both_fine (fine a) (judge_class c t) w.0 w.1 in
+    let limit = class_limit c.number t.at in
+    let members = judge_members (class_begin c t.members) t.members in
+    let once = class_once c.classes.names c.number t.name t.at in
+    let u = within_fine (beside limit members) (λ m. unless once m) w.0.1 d.1 in
+    let same = unless_fine once u.0 w.0.1 u.2 in
+    (u.0, (beside_fine limit members u.0 u.1).1, ap (λ m. with_class a t.name m) same ∙ (ap (λ x. with_class x t.name w.0.1) (same_fine a w.0.0 d.0) ∙ w.2))
 
-  member_typed : (before : List MemberTree) (m : MemberTree) (ys : List program.PlainMethod) → MemberFits m
-      → judge_method_member classes all class members before m ≡ fine ys → AllByRecursion (TypedIn class fields) ys
-  member_typed before (field_member f) ys fits h = let e : [] ≡ ys = cc in subst (AllByRecursion (TypedIn class fields)) e tt
-  member_typed before (method_member m) ys fits h = method_typed before m m.result ys fits h
+-- each list of the second begins with that of the first
+record PartsBegin (a b : Parts) : Type 0 where
+  classes : Begins a.classes b.classes
+  ops : Begins a.ops b.ops
+  functions : Begins a.functions b.functions
 
-class_typed : (classes before : List ClassTree) (c : ClassTree) (ys : List (program.PlainClass × List program.PlainMethod)) → ClassFits c → judge_class classes before c ≡ fine ys
-    → (q : program.PlainClass × List program.PlainMethod) × (q ∷ [] ≡ ys) × AllByRecursion (TypedIn (length before) q.0.fields) q.1
-class_typed classes before c ys fits h =
-    let fields = each (judge_field_member classes) [] c.members in
-    let judge_one = judge_method_member classes (operations 0 before) (length before) c.members in
-    let limit = class_limit (length before) c.at in
-    let w = within_fine (beside limit (both fields (each judge_one [] c.members))) (λ p. unless (class_once before c) ((record { name = c.name; fields = p.0 }, p.1) ∷ [])) ys h in
-    let parts = both_fine fields (each judge_one [] c.members) w.0 (beside_fine limit (both fields (each judge_one [] c.members)) w.0 w.1) in
-    let q : program.PlainClass × List program.PlainMethod = (record { name = c.name; fields = w.0.0 }, w.0.1) in
-    let typed = fields_typed classes [] c.members w.0.0 parts.0 in (
-      q,
-      unless_fine (class_once before c) (q ∷ []) ys w.2,
-      all_each MemberFits (TypedIn (length before) w.0.0) judge_one (λ b x zs f k. member_typed classes (operations 0 before) (length before) c.members w.0.0 typed b x zs f k) [] c.members w.0.1 fits parts.1,
-    )
+class_begins : (a : Parts) (name : List ℕ) (m : Members) → PartsBegin a (with_class a name m)
+class_begins a name m = record { classes = (record { name = name; fields = m.fields } ∷ [], refl); ops = (m.ops, refl); functions = (m.functions, refl) }
 
--- the methods of each class are typed in it, where the first has the number n
-abbrev ClassesTyped : ℕ → List (program.PlainClass × List program.PlainMethod) → Type 0
-ClassesTyped n [] = Unit {0}
-ClassesTyped n (q ∷ qs) = AllByRecursion (TypedIn n q.0.fields) q.1 × ClassesTyped (n + 1) qs
+begin_through : (a b c : Parts) → PartsBegin a b → PartsBegin b c → PartsBegin a c
+begin_through a b c h k = record {
+  classes = begins_through a.classes b.classes c.classes h.classes k.classes;
+  ops = begins_through a.ops b.ops c.ops h.ops k.ops;
+  functions = begins_through a.functions b.functions c.functions h.functions k.functions;
+}
 
-classes_typed : (classes before cs : List ClassTree) (qs : List (program.PlainClass × List program.PlainMethod)) → AllByRecursion ClassFits cs → each (judge_class classes) before cs ≡ fine qs → ClassesTyped (length before) qs
-classes_typed classes before [] qs fits h = let e : [] ≡ qs = cc in subst (ClassesTyped (length before)) e tt
-classes_typed classes before (c ∷ cs) qs fits h =
-    let w = each_fine (judge_class classes) before c cs qs h in
-    let one = class_typed classes before c w.0 fits.0 w.2 in
-    let rest = classes_typed classes (before ++ c ∷ []) cs w.1 fits.1 w.3 in
-    let e : one.0 ∷ w.1 ≡ qs = ap (λ (zs : List (program.PlainClass × List program.PlainMethod)). zs ++ w.1) one.1 ∙ w.4 in
-    subst (ClassesTyped (length before)) e (one.2, subst (λ (n : ℕ). ClassesTyped n w.1) (length-append before (c ∷ [])) rest)
+classes_begin : (c : ClassStanding) (a all : Parts) (ts : List ClassTree) → gathered behind_class add_class c (fine a) ts ≡ fine all → PartsBegin a all
+classes_begin c a all [] h =
+    let itself : PartsBegin a a = record { classes = begins_itself a.classes; ops = begins_itself a.ops; functions = begins_itself a.functions } in
+    subst (PartsBegin a) (same_fine a all h) itself
+classes_begin c a all (t ∷ ts) h =
+    let w = gathered_fine behind_class add_class classes_strict c a t ts all h in
+    let d = class_added c a w.0 t w.1 in
+    begin_through a w.0 all (subst (PartsBegin a) d.2 (class_begins a t.name d.0)) (classes_begin (behind_class c t) w.0 all ts w.2)
 
--- the method's class is among these, of which the first has the number n, and the method is typed in it
-record TypedAmong (n : ℕ) (classes : List program.PlainClass) (m : program.PlainMethod) : Type 0 where
-  index : ℕ
-  at : m.class.0 ≡ n + index
-  typed : MethodTyped (slice_get classes index) m
+-- the numbers of a standing are those of the next class, operation and value method
+record Counted (c : ClassStanding) (a : Parts) : Type 0 where
+  classes : length a.classes ≡ c.number
+  ops : length a.ops ≡ c.numbers.operation
+  functions : length a.functions ≡ c.numbers.function
 
-operations_typed : (n : ℕ) (qs : List (program.PlainClass × List program.PlainMethod)) → ClassesTyped n qs → AllByRecursion (TypedAmong n (map class_of qs)) (operations_of qs)
-operations_typed n [] h = tt
-operations_typed n (q ∷ qs) h =
-    all_append (TypedAmong n (map class_of (q ∷ qs))) q.1 (operations_of qs)
-    (all_weaker (TypedIn n q.0.fields) (TypedAmong n (map class_of (q ∷ qs))) (λ m t. record { index = 0; at = let a = t.0 in omega arith; typed = (t.1, t.2) }) q.1 h.0)
-    (all_weaker (TypedAmong (n + 1) (map class_of qs)) (TypedAmong n (map class_of (q ∷ qs))) (λ m t. record { index = suc t.index; at = let a = t.at in omega arith; typed = t.typed }) (operations_of qs) (operations_typed (n + 1) qs h.1))
+-- the lists of the program begin with those of the parts
+record Holding (p : PlainProgram) (all : Parts) : Type 0 where
+  classes : Begins all.classes p.classes
+  ops : Begins all.ops p.ops
+  functions : Begins all.functions p.functions
 
-pub resolved_is_typed : (t : TextTree) (p : program.PlainProgram) → LiteralsFit t → judge t ≡ fine p → TypedPuts p
+abbrev RowsTyped : PlainProgram → ℕ → List (List (List ℕ × Meaning)) → Type 0
+RowsTyped p n [] = Unit {0}
+RowsTyped p n (r ∷ rs) = RowTyped p (record { 0 = n }) r × RowsTyped p (n + 1) rs
+
+member_at : (p : PlainProgram) (n : ℕ) (rows : List (List (List ℕ × Meaning))) (i : ℕ) (name : List ℕ) (m : Meaning) → RowsTyped p n rows → find_among (slice_get rows i) name ≡ Some m → MeaningTyped p (record { 0 = n + i }) m
+member_at p n [] i name m t h = absurd (cc)
+member_at p n (r ∷ rs) zero name m t h =
+    let e : n ≡ n + 0 = omega arith in
+    subst (λ (k : ℕ). MeaningTyped p (record { 0 = k }) m) e (row_at p (record { 0 = n }) r name m t.0 h)
+member_at p n (r ∷ rs) (suc i) name m t h =
+    let e : (n + 1) + i ≡ n + suc i = omega arith in
+    subst (λ (k : ℕ). MeaningTyped p (record { 0 = k }) m) e (member_at p (n + 1) rs i name m t.1 h)
+
+member_found : (p : PlainProgram) (rows : List (List (List ℕ × Meaning))) (c : ClassId) (name : List ℕ) (m : Meaning) → RowsTyped p 0 rows → find_among (slice_get rows c.0) name ≡ Some m → MeaningTyped p c m
+member_found p rows c name m t h =
+    let e : 0 + c.0 ≡ c.0 = omega arith in
+    subst (λ (k : ℕ). MeaningTyped p (record { 0 = k }) m) e (member_at p 0 rows c.0 name m t h)
+
+-- each class that is found by a name is there, where the first of the list has the number n
+abbrev NamesThere : PlainProgram → ℕ → List ClassTree → Type 0
+NamesThere p n ts = (name : List ℕ) (k : ℕ) → position_from (λ x. same_name x name) n (class_names ts) ≡ Some k → IsClass p (record { 0 = k })
+
+module _ (p : PlainProgram) where
+  names_next : (n : ℕ) (t : ClassTree) (ts : List ClassTree) → IsClass p (record { 0 = n }) → NamesThere p (n + 1) ts → NamesThere p n (t ∷ ts)
+  names_next n t ts here rest name k h = one (same_name t.name name) h
+    where
+      one : (b : Bool) → cond b (Some n) (position_from (λ x. same_name x name) (n + 1) (class_names ts)) ≡ Some k → IsClass p (record { 0 = k })
+      one true h = subst (λ (j : ℕ). IsClass p (record { 0 = j })) (same_Some n k h) here
+      one false h = rest name k h
+
+  -- the class that is added stands in the program with its number
+  class_there : (c : ClassStanding) (a b all : Parts) (t : ClassTree) (m : Members) → Counted c a → Holding p all → with_class a t.name m ≡ b → PartsBegin b all
+      → slice_get p.classes c.number ≡ Some (record { name = t.name; fields = m.fields })
+  class_there c a b all t m n holds e g =
+      let k : PlainClass = record { name = t.name; fields = m.fields } in
+      let longer = begins_through (a.classes ++ k ∷ []) all.classes p.classes (subst (λ (x : Parts). Begins x.classes all.classes) (sym e) g.classes) holds.classes in
+      ap (slice_get p.classes) (sym n.classes) ∙ item_there a.classes p.classes k longer
+
+  class_row : (c : ClassStanding) (a b all : Parts) (t : ClassTree) (m : Members) → Counted c a → Holding p all → judge_members (class_begin c t.members) t.members ≡ fine m → with_class a t.name m ≡ b → PartsBegin b all
+      → RowTyped p (record { 0 = c.number }) (meanings c.classes.names c.number (class_begin c t.members).numbers t.members) × Numbered a.ops a.functions (behind_members (class_begin c t.members) t.members).numbers m
+  class_row c a b all t m n holds h e g =
+      let there = class_there c a b all t m n holds e g in
+      let ops = begins_through (a.ops ++ m.ops) all.ops p.ops (subst (λ (x : Parts). Begins x.ops all.ops) (sym e) g.ops) holds.ops in
+      let functions = begins_through (a.functions ++ m.functions) all.functions p.functions (subst (λ (x : Parts). Begins x.functions all.functions) (sym e) g.functions) holds.functions in
+      let numbered : Numbered a.ops a.functions (class_begin c t.members).numbers no_members =
+      record { fields = refl; ops = ap length (append-nil a.ops) ∙ n.ops; functions = ap length (append-nil a.functions) ∙ n.functions } in
+      row_typed p a.ops a.functions (class_begin c t.members) no_members m t.members (ap fields_of there) (ops, functions) numbered h
+
+  counted_next : (c : ClassStanding) (a b : Parts) (t : ClassTree) (m : Members) → Counted c a → with_class a t.name m ≡ b → Numbered a.ops a.functions (behind_members (class_begin c t.members) t.members).numbers m
+      → Counted (behind_class c t) b
+  counted_next c a b t m n e k =
+      let next : Counted (behind_class c t) (with_class a t.name m) =
+      record { classes = one_longer a.classes (record { name = t.name; fields = m.fields }) ∙ ap (λ i. i + 1) n.classes; ops = k.ops; functions = k.functions } in
+      subst (Counted (behind_class c t)) e next
+
+  -- what names mean is typed, from a class on
+  names_typed : (c : ClassStanding) (a all : Parts) (ts : List ClassTree) → Counted c a → Holding p all → gathered behind_class add_class c (fine a) ts ≡ fine all
+      → RowsTyped p c.number (members_from c.classes.names c.number (record { field = 0; operation = c.numbers.operation; function = c.numbers.function }) ts) × NamesThere p c.number ts
+  names_typed c a all [] n holds h = (tt, λ name k e. absurd (cc))
+  names_typed c a all (t ∷ ts) n holds h =
+      let next = behind_class c t in
+      let w = gathered_fine behind_class add_class classes_strict c a t ts all h in
+      let d = class_added c a w.0 t w.1 in
+      let g = classes_begin next w.0 all ts w.2 in
+      let row = class_row c a w.0 all t d.0 n holds d.1 d.2 g in
+      let rest = names_typed next w.0 all ts (counted_next c a w.0 t d.0 n d.2 row.1) holds w.2 in
+      let numbers = numbers_behind (class_begin c t.members) t.members in
+      let rows = subst (λ (k : Numbers). RowsTyped p (c.number + 1) (members_from c.classes.names (c.number + 1) (record { field = 0; operation = k.operation; function = k.function }) ts)) numbers rest.0 in
+      ((row.0, rows), names_next c.number t ts (_, class_there c a w.0 all t d.0 n holds d.2 g) rest.1)
+
+  record BodiesTyped (a : Parts) : Type 0 where
+    ops : AllByRecursion (OperationTyped p) a.ops
+    functions : AllByRecursion (FunctionTyped p) a.functions
+
+  bodies_typed : (c : ClassStanding) (a all : Parts) (ts : List ClassTree) → ClassesTyped p c.classes → Counted c a → Holding p all → AllByRecursion ClassFits ts → BodiesTyped a
+      → gathered behind_class add_class c (fine a) ts ≡ fine all → BodiesTyped all
+  bodies_typed c a all [] classes n holds fits typed h = subst BodiesTyped (same_fine a all h) typed
+  bodies_typed c a all (t ∷ ts) classes n holds fits typed h =
+      let next = behind_class c t in
+      let w = gathered_fine behind_class add_class classes_strict c a t ts all h in
+      let d = class_added c a w.0 t w.1 in
+      let g = classes_begin next w.0 all ts w.2 in
+      let row = class_row c a w.0 all t d.0 n holds d.1 d.2 g in
+      let there = class_there c a w.0 all t d.0 n holds d.2 g in
+      let none : MembersTyped p no_members = record { ops = tt; functions = tt } in
+      let m = members_typed p (class_begin c t.members) no_members d.0 t.members classes (_, there) fits.0 none d.1 in
+      let one : BodiesTyped (with_class a t.name d.0) =
+      record { ops = all_append (OperationTyped p) a.ops d.0.ops typed.ops m.ops; functions = all_append (FunctionTyped p) a.functions d.0.functions typed.functions m.functions } in
+      bodies_typed next w.0 all ts classes (counted_next c a w.0 t d.0 n d.2 row.1) holds fits.1 (subst BodiesTyped d.2 one) w.2
+
+pub resolved_is_typed : (t : TextTree) (p : PlainProgram) → LiteralsFit t → judge t ≡ fine p → ProgramTyped p
 resolved_is_typed t p fits h =
-    let classes = each (judge_class t.classes) [] t.classes in
-    let lines = each (judge_line t.classes (operations 0 t.classes)) [] (statements t.main) in
-    let w = within_fine (both classes lines) (λ q. fine (whole t q)) p h in
-    let parts = both_fine classes lines w.0 w.1 in
-    let all = operations_typed 0 w.0.0 (classes_typed t.classes [] t.classes w.0.0 fits parts.0) in
-    let e : whole t w.0 ≡ p = cc (w.2) in
-    subst TypedPuts e (λ op m here.
-    let a = all_at (TypedAmong 0 (map class_of w.0.0)) (operations_of w.0.0) op m all here in
-    let i : a.index ≡ m.class.0 = let b = a.at in omega arith in
-    subst (λ (k : ℕ). MethodTyped (slice_get (map class_of w.0.0) k) m) i a.typed)
+    let cs = classes_of t.classes in
+    let classes = judge_classes (first_class cs) t.classes in
+    let lines = judge_statements (main_begin t) (fine []) t.main in
+    let locals = (behind_all (main_begin t) t.main).locals in
+    let w = made_fine (both classes lines) (λ (r : Parts × List program.Statement). program_of locals r) p h in
+    let b = both_fine classes lines w.0 w.1 in
+    let it = program_of locals w.0 in
+    let n : Counted (first_class cs) no_parts = record { classes = refl; ops = refl; functions = refl } in
+    let holds : Holding it w.0.0 = record { classes = begins_itself w.0.0.classes; ops = begins_itself w.0.0.ops; functions = begins_itself w.0.0.functions } in
+    let names = names_typed it (first_class cs) no_parts w.0.0 t.classes n holds b.0 in
+    let typed : ClassesTyped it cs = record { members = λ c name m e. member_found it cs.members c name m names.0 e; names = λ name k e. names.1 name k e } in
+    let none : BodiesTyped it no_parts = record { ops = tt; functions = tt } in
+    let bodies = bodies_typed it (first_class cs) no_parts w.0.0 t.classes typed n holds fits.classes none b.0 in
+    let start : Stands it (main_scope it) (main_begin t) = record { scope = record { classes = typed; class = refl; locals = tt }; result = tt } in
+    let main = (statements_typed it (main_scope it) (main_begin t) t.main [] w.0.1 start fits.main (begins_itself locals) tt b.1).0 in
+    let whole : ProgramTyped it = record {
+      ops = λ i m e. all_at (OperationTyped it) it.ops i m bodies.ops e;
+      functions = λ i m e. all_at (FunctionTyped it) it.functions i m bodies.functions e;
+      main = in_order_typed it (main_scope it) w.0.1 main;
+    } in
+    subst ProgramTyped w.2 whole

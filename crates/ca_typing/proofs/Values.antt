@@ -1,103 +1,312 @@
--- A value that is judged fine has each type that can hold its sort.
-use Rattle.std.proofs.Common.{◌≡◌, ℕ, List, true, false, cond, refl, sym, subst, ap, ◌∙◌, arith}
-use Rattle.std.specs.Prelude.{ℤ, Option, Some, None, slice_get, FitsSigned}
-use Rattle.std.specs.Int.{w64}
-use Rattle.ca_tree.specs.declared.tree.BinaryOp.{BinaryOp}
-use Rattle.ca_tree.specs.declared.tree.BinaryOp.TheVariants.{Plus, Minus}
-use Rattle.ca_tree.specs.Plain.{Expression, ClassTree, number, null, named, binary}
+-- An expression that is judged fine has each type that its sort stands for.
+use Rattle.std.proofs.Common.{◌≡◌, ℕ, suc, List, [], ◌∷◌, Bool, true, false, cond, length, map, refl, sym, subst, ap, ◌∙◌, arith}
+use Rattle.std.specs.Prelude.{Option, Some, None, slice_get, nat_eq}
+use Rattle.std.proofs.lemmas.Bool.{eqb-true}
+use Rattle.std.proofs.lemmas.Option.{same_Some}
+use Rattle.ca_tree.specs.declared.name.Place.{Place}
+use Rattle.ca_tree.specs.Plain.{Expression, Expressions, number, truth, null, this, named, call, field, method, index, unary, binary, no_expressions, expression_and}
 use Rattle.ca_program.specs.declared.program.ClassId.{ClassId}
-use Rattle.ca_program.specs.declared.program.LocalId.{LocalId}
 use Rattle.ca_program.specs.declared.program.FieldId.{FieldId}
-use Rattle.ca_program.specs.declared.program.FieldInfo.{FieldInfo}
+use Rattle.ca_program.specs.declared.program.FunctionId.{FunctionId}
 use Rattle.ca_program.specs.declared.program.ValueType.{ValueType}
 use Rattle.ca_program.specs.declared.program.ValueType.TheVariants.{Long as LongValue, Pointer as PointerTo}
 use Rattle.ca_program.specs.Plain as program
-use Rattle.ca_model.specs.TypedPuts.{IsScalar, ValueTyped}
-use Rattle.ca_types.specs.Judged.{fine, both, within}
-use Rattle.ca_types.specs.Scopes.{Sort, long, truth as truth_sort, pointer, no_object, Scope, find_local, find_field, local_or, as_field, meaning}
-use Rattle.ca_types.specs.Rules.{can_hold, is_long}
-use Rattle.ca_types.specs.Resolve.{is_sum, judge_sum, judge_value}
-use Rattle.ca_types.proofs.Small.{within_fine, both_fine}
-use Rattle.ca_typing.specs.Fits.{NumbersFit}
-use Rattle.ca_typing.proofs.Judging.{found_fine, kept, built}
-use Rattle.ca_typing.proofs.Sorts.{Names, one_type, long_type}
-use Rattle.ca_typing.proofs.Scopes.{LocalsTyped, FieldsTyped, FoundLocal, local_found, FoundField, field_found}
+use Rattle.ca_program.specs.Plain.{PlainProgram}
+use Rattle.ca_meaning.specs.ProgramTyped.{Scope as TypesOf, ExpressionTyped, ExpressionsTyped, IsScalar, IsArray, IsFunction, IsOperation, IsClass, field_info}
+use Rattle.ca_resolve.specs.Judged.{Judged, fine, both, within, unless, broken, each}
+use Rattle.ca_resolve.specs.Scopes.{Sort, long, pointer, no_object, Callee, operation, function, Meaning, scalar, items, Classes, VisibleLocal, Scope, Found, a_value, an_array, Invocation, number_of, find_member, find_local, member_in, own_member, same_name}
+use Rattle.ca_resolve.specs.Scopes as scopes
+use Rattle.ca_resolve.specs.Rules.{member_known, is_method, receiver_member, operand_agrees, operands_agree, value_agrees, as_many, unary_sort, binary_sort, is_value_method, has_index, is_array, this_known, takes_unary, takes_binary, can_hold}
+use Rattle.ca_resolve.specs.Values.{place_of, field_of, item_of, in_order, member_read, judge_named, judge_this, as_value, judge_field, own_method, method_through, count_of, parameters_of, rest_of, value_for, judge_invocation, call_value, object_of, value_of, judge_found, judge_arguments, judge_value, judge_call}
+use Rattle.ca_types.specs.Statements.{type_of}
+use Rattle.ca_typing.specs.Fits.{NumbersFit, AllNumbersFit}
+use Rattle.ca_typing.proofs.Judging.{same_fine, within_fine, made_fine, both_fine, found_fine, kept}
+use Rattle.ca_typing.proofs.Sorts.{Holds, Declared, declared_holds, one_type, sides_typed, signed_typed, unary_declared, binary_declared}
 
--- the scope's locals have the types, and its members are the fields
-pub record ScopeTyped (classes : List ClassTree) (fields : List FieldInfo) (types : List ValueType) (s : Scope) : Type 0 where
-  pub locals : LocalsTyped classes s.locals types
-  pub members : FieldsTyped classes s.members fields
+abbrev pub AllDeclared : List Sort → Type 0
+AllDeclared [] = Unit {0}
+AllDeclared (t ∷ ts) = Declared t × AllDeclared ts
 
-sum_typed : (c : ClassId) (fields : List FieldInfo) (types : List ValueType) (op : BinaryOp) (a b : program.Expression) → is_sum op ≡ true
-    → ValueTyped c fields types a LongValue → ValueTyped c fields types b LongValue → ValueTyped c fields types (program.binary op a b) LongValue
-sum_typed c fields types Plus a b h x y = (x, y)
-sum_typed c fields types Minus a b h x y = (x, y)
-sum_typed c fields types op a b h x y = absurd (cc)
+-- what the name of a member of the class means is there in the program, and has its types
+abbrev pub MeaningTyped : PlainProgram → ClassId → Meaning → Type 0
+MeaningTyped p c (scalar f t) = (f.class ≡ c) × Declared t × IsScalar (field_info p f) (type_of t)
+MeaningTyped p c (items f t) = (f.class ≡ c) × Declared t × IsArray (field_info p f) (type_of t)
+MeaningTyped p c (scopes.method (operation o) params) = AllDeclared params × IsOperation (slice_get p.ops o.0) c (map type_of params)
+MeaningTyped p c (scopes.method (function f t) params) = AllDeclared params × Declared t × IsFunction (slice_get p.functions f.0) c (map type_of params) (type_of t)
 
-both_long : (a b : Sort) → cond (is_long a) (is_long b) false ≡ true → (is_long a ≡ true) × (is_long b ≡ true)
-both_long long b h = (refl, h)
-both_long truth_sort b h = absurd (cc)
-both_long (pointer n) b h = absurd (cc)
-both_long no_object b h = absurd (cc)
+pub record ClassesTyped (p : PlainProgram) (cs : Classes) : Type 0 where
+  pub members : (c : ClassId) (name : List ℕ) (m : Meaning) → find_member cs c name ≡ Some m → MeaningTyped p c m
+  pub names : (name : List ℕ) (n : ℕ) → number_of cs.names name ≡ Some n → IsClass p (record { 0 = n })
 
-module _ (classes : List ClassTree) (fields : List FieldInfo) (types : List ValueType) where
-  -- in an operation of the class, the expression has each type that can hold its sort
-  abbrev pub Has : ℕ → program.Expression × Sort → Type 0
-  Has class v = (t : Sort) (ty : ValueType) → Names classes t ty → can_hold t v.1 ≡ true → ValueTyped (record { 0 = class }) fields types v.0 ty
+abbrev pub LocalTyped : List ValueType → VisibleLocal → Type 0
+LocalTyped types l = Declared l.sort × (slice_get types l.id.0 ≡ Some (type_of l.sort))
 
-  null_has : (class : ℕ) → Has class (program.null, no_object)
-  null_has class (pointer n) (PointerTo d) h c = tt
-  null_has class t ty h c = absurd (first_of (assumption, cc))
+abbrev pub LocalsTyped : List ValueType → List VisibleLocal → Type 0
+LocalsTyped types [] = Unit {0}
+LocalsTyped types (l ∷ ls) = LocalTyped types l × LocalsTyped types ls
 
-  number_has : (class : ℕ) (n : ℤ) → FitsSigned w64 n → Has class (program.number n, long)
-  number_has class n f t ty h c = subst (ValueTyped (record { 0 = class }) fields types (program.number n)) (long_type classes t ty h c) f
+-- the names of a scope have their types in a method or in `main`
+pub record ScopeTyped (p : PlainProgram) (q : TypesOf) (s : Scope) : Type 0 where
+  pub classes : ClassesTyped p s.classes
+  pub class : s.class ≡ q.class
+  pub locals : LocalsTyped q.locals s.locals
 
-  local_has : (class : ℕ) (l : LocalId × Sort) → FoundLocal classes types 0 l → Has class (program.local l.0, l.1)
-  local_has class l f t ty h c =
-      let e : ty ≡ f.ty = one_type classes t l.1 ty f.ty h f.named c in
-      let i : l.0.0 ≡ f.index = let a = f.at in omega arith in
-      ap (slice_get types) i ∙ (f.there ∙ ap (λ (u : ValueType). Some u) (sym e))
+params_declared : (p : PlainProgram) (k : ClassId) (c : Callee) (params : List Sort) → MeaningTyped p k (scopes.method c params) → AllDeclared params
+params_declared p k (operation o) params h = h.0
+params_declared p k (function f t) params h = h.0
 
-  own_has : (class : ℕ) (g : FieldId × Sort) → FoundField classes class fields 0 g → Has class (program.own g.0, g.1)
-  own_has class g f t ty h c =
-      let e : ty ≡ f.info.ty = one_type classes t g.1 ty f.info.ty h f.named c in
-      let i : g.0.field ≡ f.index = let a = f.at in omega arith in
-      (f.own, subst (λ (o : Option FieldInfo). IsScalar o ty) (sym (ap (slice_get fields) i ∙ f.there)) (sym e, f.scalar))
+is_method_fine : (m : Meaning) (at : Place) (c : Callee × List Sort) → is_method m at ≡ fine c → m ≡ scopes.method c.0 c.1
+is_method_fine (scopes.method callee params) at c h =
+    let e : (callee, params) ≡ c = same_fine (callee, params) c h in
+    ap (λ (d : Callee × List Sort). scopes.method d.0 d.1) e
+is_method_fine (scalar f t) at c h = absurd (cc)
+is_method_fine (items f t) at c h = absurd (cc)
 
-  module _ (s : Scope) (scope : ScopeTyped classes fields types s) where
-    named_has : (name : List ℕ) (v : program.Expression × Sort) (l : Option (LocalId × Sort)) (f : Option (FieldId × Sort)) → find_local 0 s.locals name ≡ l → find_field s.class 0 s.members name ≡ f
-        → local_or l (as_field f) ≡ Some v → Has s.class v
-    named_has name v (Some l) f p q e =
-        let it : program.Expression × Sort = (program.local l.0, l.1) in
-        let is : it ≡ v = cc (e) in
-        subst (Has s.class) is (local_has s.class l (local_found classes 0 s.locals types name l scope.locals p))
-    named_has name v None (Some g) p q e =
-        let it : program.Expression × Sort = (program.own g.0, g.1) in
-        let is : it ≡ v = cc (e) in
-        subst (Has s.class) is (own_has s.class g (field_found classes s.class 0 s.members fields name g scope.members q))
-    named_has name v None None p q e = absurd (cc)
+is_function_fine : (c : Callee) (at : Place) (g : FunctionId × Sort) → is_value_method c at ≡ fine g → c ≡ function g.0 g.1
+is_function_fine (function f t) at g h =
+    let e : (f, t) ≡ g = same_fine (f, t) g h in
+    ap (λ (d : FunctionId × Sort). function d.0 d.1) e
+is_function_fine (operation o) at g h = absurd (cc)
 
-    pub value_has : (e : Expression) (v : program.Expression × Sort) → judge_value s e ≡ fine v → NumbersFit e → Has s.class v
-    value_has (number at n) v h f =
-        let it : program.Expression × Sort = (program.number n, long) in
-        let is : it ≡ v = cc (h) in
-        subst (Has s.class) is (number_has s.class n f)
-    value_has (null at) v h f =
-        let it : program.Expression × Sort = (program.null, no_object) in
-        let is : it ≡ v = cc (h) in
-        subst (Has s.class) is (null_has s.class)
-    value_has (named at name) v h f =
-        named_has name v (find_local 0 s.locals name) (find_field s.class 0 s.members name) refl refl (found_fine (meaning s name) at 24 v h)
-    value_has (binary at op a b) v h f =
-        let o = built (is_sum op) (within (both (judge_value s a) (judge_value s b)) (judge_sum at op)) v h in
-        let w = within_fine (both (judge_value s a) (judge_value s b)) (judge_sum at op) v o.1 in
-        let parts = both_fine (judge_value s a) (judge_value s b) w.0 w.1 in
-        let sum : program.Expression × Sort = (program.binary op w.0.0.0 w.0.1.0, long) in
-        let k = kept (cond (is_long w.0.0.1) (is_long w.0.1.1) false) at 25 sum v w.2 in
-        let longs = both_long w.0.0.1 w.0.1.1 k.0 in
-        let x = value_has a w.0.0 parts.0 f.0 long LongValue tt longs.0 in
-        let y = value_has b w.0.1 parts.1 f.1 long LongValue tt longs.1 in
-        let class : ClassId = record { 0 = s.class } in
-        subst (Has s.class) k.1
-        (λ t ty n c. subst (ValueTyped class fields types sum.0) (long_type classes t ty n c) (sum_typed class fields types op w.0.0.0 w.0.1.0 o.0 x y))
-    value_has other v h f = absurd (cc)
+-- a value for a target of a type
+pub value_fits : (t : Sort) (ts : List Sort) (j : Judged (program.Expression × Sort)) (at : Place) (x : program.Expression) → value_for (t ∷ ts) j at ≡ fine x
+    → (v : program.Expression × Sort) × (j ≡ fine v) × (can_hold t v.1 ≡ true) × (v.0 ≡ x)
+value_fits t ts j at x h =
+    let w = within_fine j (λ (r : program.Expression × Sort). unless (value_agrees t r.1 at) r.0) x h in
+    let k = kept (can_hold t w.0.1) at 25 w.0.0 x w.2 in
+    (w.0, w.1, k.0, k.1)
+
+count_kept : (s : Scope) (params : List Sort) (args : Expressions) (es : List program.Expression) → each (judge_arguments s params args) ≡ fine es → length es ≡ count_of args
+count_kept s params no_expressions es h = ap length (sym (same_fine [] es h))
+count_kept s params (expression_and e rest) es h =
+    let first = value_for params (value_of e (judge_found s e)) (place_of e) in
+    let w = made_fine (both first (each (judge_arguments s (rest_of params) rest))) (λ (r : program.Expression × List program.Expression). r.0 ∷ r.1) es h in
+    let b = both_fine first (each (judge_arguments s (rest_of params) rest)) w.0 w.1 in
+    let n = count_kept s (rest_of params) rest w.0.1 b.1 in
+    let l : length es ≡ suc (length w.0.1) = ap length (sym w.2) in
+    omega (arith, n, l)
+
+module _ (p : PlainProgram) (q : TypesOf) where
+  abbrev pub ValueTyped : program.Expression × Sort → Type 0
+  ValueTyped v = Holds v.1 (ExpressionTyped p q v.0)
+
+  abbrev pub FoundTyped : Found → Type 0
+  FoundTyped (a_value e t) = Holds t (ExpressionTyped p q e)
+  FoundTyped (an_array o f t) = Declared t × ExpressionTyped p q o (PointerTo f.class) × IsArray (field_info p f) (type_of t)
+
+  abbrev pub InvocationTyped : Invocation → Type 0
+  InvocationTyped i = (k : ClassId) × (params : List Sort) × MeaningTyped p k (scopes.method i.callee params) × ExpressionTyped p q i.receiver (PointerTo k) × ExpressionsTyped p q (in_order i.arguments) (map type_of params)
+
+  pub own_class : (c d : ClassId) → PointerTo c ≡ PointerTo d → q.class ≡ Some d → q.class ≡ Some c
+  own_class c d e h = let f : d ≡ c = cc (e) in h ∙ ap (λ (k : ClassId). Some k) f
+
+  field_typed : (o : program.Expression) (f : FieldId) (ty : ValueType) → ExpressionTyped p q o (PointerTo f.class) → IsScalar (field_info p f) ty → ExpressionTyped p q (field_of o f) ty
+  field_typed program.this f ty h k = (own_class f.class h.0 h.1 h.2, k)
+  field_typed other f ty h k = (h, k)
+
+  item_typed : (o : program.Expression) (f : FieldId) (i : program.Expression) (ty : ValueType) → ExpressionTyped p q o (PointerTo f.class) → IsArray (field_info p f) ty → ExpressionTyped p q i LongValue
+      → ExpressionTyped p q (item_of o f i) ty
+  item_typed program.this f i ty h k l = (own_class f.class h.0 h.1 h.2, k, l)
+  item_typed other f i ty h k l = (h, k, l)
+
+  read_typed : (o : program.Expression) (c : ClassId) (m : Meaning) (at : Place) (f : Found) → ExpressionTyped p q o (PointerTo c) → MeaningTyped p c m → member_read o m at ≡ fine f → FoundTyped f
+  read_typed o c (scalar g t) at f h k e =
+      let o_typed = subst (λ (d : ClassId). ExpressionTyped p q o (PointerTo d)) (sym k.0) h in
+      subst FoundTyped (same_fine (a_value (field_of o g) t) f e) (declared_holds t (ExpressionTyped p q (field_of o g)) k.1 (field_typed o g (type_of t) o_typed k.2))
+  read_typed o c (items g t) at f h k e =
+      let o_typed = subst (λ (d : ClassId). ExpressionTyped p q o (PointerTo d)) (sym k.0) h in
+      subst FoundTyped (same_fine (an_array o g t) f e) (k.1, o_typed, k.2)
+  read_typed o c (scopes.method callee params) at f h k e = absurd (cc)
+
+  pub index_typed : (f : Found) (at : Place) (v : program.Expression × Sort) → FoundTyped f → has_index f at ≡ fine v → ValueTyped v
+  index_typed (a_value e t) at v h k = subst ValueTyped (same_fine (e, t) v k) h
+  index_typed (an_array o f t) at v h k = absurd (cc)
+
+  -- the value of an expression, whose parts are typed
+  pub value_from : (e : Expression) (j : Judged Found) (v : program.Expression × Sort) → ((f : Found) → j ≡ fine f → FoundTyped f) → value_of e j ≡ fine v → ValueTyped v
+  value_from e j v typed h =
+      let w = within_fine j (λ f. has_index f (place_of e)) v h in
+      index_typed w.0 (place_of e) v (typed w.0 w.1) w.2
+
+  pub held_typed : (t : Sort) (v : program.Expression × Sort) → Declared t → ValueTyped v → can_hold t v.1 ≡ true → ExpressionTyped p q v.0 (type_of t)
+  held_typed t v d h k =
+      let w = one_type t v.1 (λ ty. ty ≡ type_of t) (ExpressionTyped p q v.0) (declared_holds t (λ ty. ty ≡ type_of t) d refl) h k in
+      subst (ExpressionTyped p q v.0) w.1 w.2
+
+  pub for_typed : (t : Sort) (ts : List Sort) (j : Judged (program.Expression × Sort)) (at : Place) (x : program.Expression) → Declared t → ((v : program.Expression × Sort) → j ≡ fine v → ValueTyped v)
+      → value_for (t ∷ ts) j at ≡ fine x → ExpressionTyped p q x (type_of t)
+  for_typed t ts j at x d typed h =
+      let w = value_fits t ts j at x h in
+      subst (λ y. ExpressionTyped p q y (type_of t)) w.3 (held_typed t w.0 d (typed w.0 w.1) w.2)
+
+  item_found : (a : Found) (i : program.Expression) (at : Place) (f : Found) → FoundTyped a → ExpressionTyped p q i LongValue
+      → within (is_array a at) (λ (b : program.Expression × FieldId × Sort). fine (a_value (item_of b.0 b.1 i) b.2)) ≡ fine f → FoundTyped f
+  item_found (a_value e t) i at f h k l = absurd (cc)
+  item_found (an_array o g t) i at f h k l =
+      subst FoundTyped (same_fine (a_value (item_of o g i) t) f l) (declared_holds t (ExpressionTyped p q (item_of o g i)) h.0 (item_typed o g i (type_of t) h.1 h.2 k))
+
+  called_typed : (at : Place) (c : Judged Invocation) (f : Found) → ((i : Invocation) → c ≡ fine i → InvocationTyped i) → call_value at c ≡ fine f → FoundTyped f
+  called_typed at c f typed h =
+      let w = within_fine c (λ (v : Invocation). within (is_value_method v.callee at) (λ (g : FunctionId × Sort). fine (a_value (program.value_call v.receiver g.0 (in_order v.arguments)) g.1))) f h in
+      let i = w.0 in
+      let u = made_fine (is_value_method i.callee at) (λ (g : FunctionId × Sort). a_value (program.value_call i.receiver g.0 (in_order i.arguments)) g.1) f w.2 in
+      let g = u.0 in
+      let t = typed i w.1 in
+      let m : MeaningTyped p t.0 (scopes.method (function g.0 g.1) t.1) = subst (λ (d : Callee). MeaningTyped p t.0 (scopes.method d t.1)) (is_function_fine i.callee at g u.1) t.2 in
+      subst FoundTyped u.2 (declared_holds g.1 (ExpressionTyped p q (program.value_call i.receiver g.0 (in_order i.arguments))) m.1 (t.0, map type_of t.1, m.2, t.3, t.4))
+
+  module _ (s : Scope) (scope : ScopeTyped p q s) where
+    local_found : (ls : List VisibleLocal) (name : List ℕ) (l : VisibleLocal) → LocalsTyped q.locals ls → find_local ls name ≡ Some l → LocalTyped q.locals l
+    local_found [] name l t h = absurd (cc)
+    local_found (v ∷ ls) name l t h = one (λ k. local_found ls name l t.1 k) (same_name v.name name) h
+      where
+        one : (find_local ls name ≡ Some l → LocalTyped q.locals l) → (b : Bool) → cond b (Some v) (find_local ls name) ≡ Some l → LocalTyped q.locals l
+        one rest true h = subst (LocalTyped q.locals) (same_Some v l h) t.0
+        one rest false h = rest h
+
+    own_member_in : (o : Option ClassId) (name : List ℕ) (m : Meaning) → o ≡ q.class → member_in s.classes o name ≡ Some m → (k : ClassId) × (q.class ≡ Some k) × MeaningTyped p k m
+    own_member_in None name m e h = absurd (cc)
+    own_member_in (Some k) name m e h = (k, sym e, scope.classes.members k name m h)
+
+    own_member_typed : (name : List ℕ) (m : Meaning) → own_member s name ≡ Some m → (k : ClassId) × (q.class ≡ Some k) × MeaningTyped p k m
+    own_member_typed name m h = own_member_in s.class name m scope.class h
+
+    named_typed : (l : Option VisibleLocal) (name : List ℕ) (at : Place) (f : Found) → find_local s.locals name ≡ l → judge_named s l name at ≡ fine f → FoundTyped f
+    named_typed (Some l) name at f e h =
+        let t = local_found s.locals name l scope.locals e in
+        subst FoundTyped (same_fine (a_value (program.local l.id) l.sort) f h) (declared_holds l.sort (ExpressionTyped p q (program.local l.id)) t.0 t.1)
+    named_typed None name at f e h =
+        let w = within_fine (member_known (own_member s name) at) (λ m. member_read program.this m at) f h in
+        let m = own_member_typed name w.0 (found_fine (own_member s name) at 24 w.0 w.1) in
+        read_typed program.this m.0 w.0 at f (m.0, refl, m.1) m.2 w.2
+
+    this_typed : (at : Place) (f : Found) → within (judge_this s at) as_value ≡ fine f → FoundTyped f
+    this_typed at f h =
+        let w = within_fine (judge_this s at) as_value f h in
+        let u = made_fine (this_known s.class at) (λ (c : ClassId). (program.this, pointer c)) w.0 w.1 in
+        let k : q.class ≡ Some u.0 = sym scope.class ∙ found_fine s.class at 32 u.0 u.1 in
+        let e : a_value program.this (pointer u.0) ≡ f = ap (λ (v : program.Expression × Sort). a_value v.0 v.1) u.2 ∙ same_fine (a_value w.0.0 w.0.1) f w.2 in
+        subst FoundTyped e (u.0, refl, k)
+
+    receiver_typed : (e : program.Expression) (t : Sort) (name : List ℕ) (at : Place) (m : Meaning) → Holds t (ExpressionTyped p q e) → receiver_member s.classes t name at ≡ fine m
+        → (k : ClassId) × ExpressionTyped p q e (PointerTo k) × MeaningTyped p k m
+    receiver_typed e (pointer c) name at m h k = (c, h, scope.classes.members c name m (found_fine (find_member s.classes c name) at 24 m k))
+    receiver_typed e t name at m h k = absurd (cc)
+
+    field_found : (j : Judged (program.Expression × Sort)) (name : List ℕ) (at : Place) (f : Found) → ((v : program.Expression × Sort) → j ≡ fine v → ValueTyped v) → judge_field s j name at ≡ fine f → FoundTyped f
+    field_found j name at f typed h =
+        let w = within_fine j (λ (r : program.Expression × Sort). within (receiver_member s.classes r.1 name at) (λ m. member_read r.0 m at)) f h in
+        let u = within_fine (receiver_member s.classes w.0.1 name at) (λ m. member_read w.0.0 m at) f w.2 in
+        let r = receiver_typed w.0.0 w.0.1 name at u.0 (typed w.0 w.1) u.1 in
+        read_typed w.0.0 r.0 u.0 at f r.1 r.2 u.2
+
+    -- what is known of the receiver and the method of a call
+    abbrev Known : Judged program.Expression → Judged (Callee × List Sort) → Type 0
+    Known receiver callee = (r : program.Expression) (c : Callee × List Sort) → receiver ≡ fine r → callee ≡ fine c → (k : ClassId) × ExpressionTyped p q r (PointerTo k) × MeaningTyped p k (scopes.method c.0 c.1)
+
+    own_known : (name : List ℕ) (at : Place) → Known (fine program.this) (own_method s name at)
+    own_known name at r c e h =
+        let w = within_fine (member_known (own_member s name) at) (λ m. is_method m at) c h in
+        let m = own_member_typed name w.0 (found_fine (own_member s name) at 24 w.0 w.1) in
+        (m.0, subst (λ x. ExpressionTyped p q x (PointerTo m.0)) (same_fine program.this r e) (m.0, refl, m.1), subst (MeaningTyped p m.0) (is_method_fine w.0 at c w.2) m.2)
+
+    through_known : (j : Judged (program.Expression × Sort)) (name : List ℕ) (at : Place) → ((v : program.Expression × Sort) → j ≡ fine v → ValueTyped v) → Known (object_of j) (method_through s j name at)
+    through_known j name at typed r c e h =
+        let o = made_fine j (λ (v : program.Expression × Sort). v.0) r e in
+        let w = within_fine j (λ (v : program.Expression × Sort). within (receiver_member s.classes v.1 name at) (λ m. is_method m at)) c h in
+        let same : w.0 ≡ o.0 = same_fine w.0 o.0 (sym w.1 ∙ o.1) in
+        let u = within_fine (receiver_member s.classes w.0.1 name at) (λ m. is_method m at) c w.2 in
+        let m = receiver_typed w.0.0 w.0.1 name at u.0 (typed w.0 w.1) u.1 in
+        let is : w.0.0 ≡ r = ap (λ (v : program.Expression × Sort). v.0) same ∙ o.2 in
+        (m.0, subst (λ x. ExpressionTyped p q x (PointerTo m.0)) is m.1, subst (MeaningTyped p m.0) (is_method_fine u.0 at c u.2) m.2)
+
+    -- arguments for as many parameters are typed
+    abbrev ArgumentsTyped : Expressions → Type 0
+    ArgumentsTyped args = (params : List Sort) (es : List program.Expression) → AllDeclared params → length es ≡ length params → each (judge_arguments s params args) ≡ fine es
+        → ExpressionsTyped p q (in_order es) (map type_of params)
+
+    invocation_typed : (receiver : Judged program.Expression) (callee : Judged (Callee × List Sort)) (args : Expressions) (at : Place) (i : Invocation) → Known receiver callee → ArgumentsTyped args
+        → judge_invocation receiver callee (judge_arguments s (parameters_of callee (count_of args)) args) at ≡ fine i → InvocationTyped i
+    invocation_typed receiver callee args at i known typed h =
+        let all = each (judge_arguments s (parameters_of callee (count_of args)) args) in
+        let w = within_fine (both receiver all) (λ (r : program.Expression × List program.Expression).
+        within callee (λ (c : Callee × List Sort). unless (as_many (length r.1) (length c.1) at) (record { receiver = r.0; callee = c.0; arguments = r.1 }))) i h in
+        let b = both_fine receiver all w.0 w.1 in
+        let u = within_fine callee (λ (c : Callee × List Sort). unless (as_many (length w.0.1) (length c.1) at) (record { receiver = w.0.0; callee = c.0; arguments = w.0.1 })) i w.2 in
+        let c = u.0 in
+        let it : Invocation = record { receiver = w.0.0; callee = c.0; arguments = w.0.1 } in
+        let k = kept (nat_eq (length w.0.1) (length c.1)) at 26 it i u.2 in
+        let n = count_kept s (parameters_of callee (count_of args)) args w.0.1 b.1 in
+        let same : nat_eq (count_of args) (length c.1) ≡ true = subst (λ (m : ℕ). nat_eq m (length c.1) ≡ true) n k.0 in
+        let params : parameters_of callee (count_of args) ≡ c.1 = ap (λ j. parameters_of j (count_of args)) u.1 ∙ ap (λ (b : Bool). cond b c.1 []) same in
+        let m = known w.0.0 c b.0 u.1 in
+        let es = typed c.1 w.0.1 (params_declared p m.0 c.0 c.1 m.2) (eqb-true (length w.0.1) (length c.1) k.0) (subst (λ ts. each (judge_arguments s ts args) ≡ fine w.0.1) params b.1) in
+        subst InvocationTyped k.1 (m.0, c.1, m.2, m.1, es)
+
+    mutual
+      pub found_typed : (e : Expression) (f : Found) → NumbersFit e → judge_found s e ≡ fine f → FoundTyped f
+      found_typed (number at n) f fits h = subst FoundTyped (same_fine (a_value (program.number n) long) f h) (refl, fits)
+      found_typed (truth at b) f fits h = subst FoundTyped (same_fine (a_value (program.truth b) scopes.truth) f h) refl
+      found_typed (null at) f fits h = subst FoundTyped (same_fine (a_value program.null no_object) f h) (λ c. (c, refl))
+      found_typed (this at) f fits h = this_typed at f h
+      found_typed (named at name) f fits h = named_typed (find_local s.locals name) name at f refl h
+      found_typed (call at name args) f fits h =
+          called_typed at (judge_invocation (fine program.this) (own_method s name at) (judge_arguments s (parameters_of (own_method s name at) (count_of args)) args) at) f
+          (λ i k. invocation_typed (fine program.this) (own_method s name at) args at i (own_known name at) (λ params es d n l. arguments_typed args params es fits d n l) k) h
+      found_typed (field at e name) f fits h =
+          field_found (value_of e (judge_found s e)) name at f (λ v k. value_from e (judge_found s e) v (λ g l. found_typed e g fits l) k) h
+      found_typed (method at e name args) f fits h =
+          let object = value_of e (judge_found s e) in
+          called_typed at (judge_invocation (object_of object) (method_through s object name at) (judge_arguments s (parameters_of (method_through s object name at) (count_of args)) args) at) f
+          (λ i k. invocation_typed (object_of object) (method_through s object name at) args at i
+          (through_known object name at (λ v l. value_from e (judge_found s e) v (λ g m. found_typed e g fits.0 m) l)) (λ params es d n l. arguments_typed args params es fits.1 d n l) k) h
+      found_typed (index at e i) f fits h =
+          let item = value_for (long ∷ []) (value_of i (judge_found s i)) (place_of i) in
+          let w = within_fine (both (judge_found s e) item) (λ (r : Found × program.Expression). within (is_array r.0 at) (λ (a : program.Expression × FieldId × Sort). fine (a_value (item_of a.0 a.1 r.1) a.2))) f h in
+          let b = both_fine (judge_found s e) item w.0 w.1 in
+          item_found w.0.0 w.0.1 at f (found_typed e w.0.0 fits.0 b.0)
+          (for_typed long [] (value_of i (judge_found s i)) (place_of i) w.0.1 tt (λ v k. value_from i (judge_found s i) v (λ g l. found_typed i g fits.1 l) k) b.1) w.2
+      found_typed (unary at op e) f fits h =
+          let w = within_fine (value_of e (judge_found s e)) (λ (v : program.Expression × Sort). unless (operand_agrees op v.1 at) (a_value (program.unary op v.0) (unary_sort op))) f h in
+          let k = kept (takes_unary op w.0.1) at 25 (a_value (program.unary op w.0.0) (unary_sort op)) f w.2 in
+          let v = value_from e (judge_found s e) w.0 (λ g l. found_typed e g fits l) w.1 in
+          let d = unary_declared op in
+          subst FoundTyped k.1 (declared_holds (unary_sort op) (ExpressionTyped p q (program.unary op w.0.0)) d.0 (d.1, signed_typed op w.0.1 (ExpressionTyped p q w.0.0) v k.0))
+      found_typed (binary at op a b) f fits h =
+          let left = value_of a (judge_found s a) in
+          let right = value_of b (judge_found s b) in
+          let w = within_fine (both left right) (λ (r : (program.Expression × Sort) × (program.Expression × Sort)). unless (operands_agree op r.0.1 r.1.1 at) (a_value (program.binary op r.0.0 r.1.0) (binary_sort op))) f h in
+          let parts = both_fine left right w.0 w.1 in
+          let k = kept (takes_binary op w.0.0.1 w.0.1.1) at 25 (a_value (program.binary op w.0.0.0 w.0.1.0) (binary_sort op)) f w.2 in
+          let x = value_from a (judge_found s a) w.0.0 (λ g l. found_typed a g fits.0 l) parts.0 in
+          let y = value_from b (judge_found s b) w.0.1 (λ g l. found_typed b g fits.1 l) parts.1 in
+          subst FoundTyped k.1 (declared_holds (binary_sort op) (ExpressionTyped p q (program.binary op w.0.0.0 w.0.1.0)) (binary_declared op)
+          (sides_typed op w.0.0.1 w.0.1.1 (ExpressionTyped p q w.0.0.0) (ExpressionTyped p q w.0.1.0) x y k.0))
+
+      pub arguments_typed : (args : Expressions) (params : List Sort) (es : List program.Expression) → AllNumbersFit args → AllDeclared params → length es ≡ length params
+          → each (judge_arguments s params args) ≡ fine es → ExpressionsTyped p q (in_order es) (map type_of params)
+      arguments_typed no_expressions [] es fits d n h = subst (λ xs. ExpressionsTyped p q (in_order xs) []) (same_fine [] es h) refl
+      arguments_typed no_expressions (t ∷ ts) es fits d n h = let l : length es ≡ 0 = ap length (sym (same_fine [] es h)) in absurd (cc)
+      arguments_typed (expression_and e rest) [] es fits d n h =
+          let l = count_kept s [] (expression_and e rest) es h in absurd (omega (arith, l, n))
+      arguments_typed (expression_and e rest) (t ∷ ts) es fits d n h =
+          let first = value_for (t ∷ ts) (value_of e (judge_found s e)) (place_of e) in
+          let w = made_fine (both first (each (judge_arguments s ts rest))) (λ (r : program.Expression × List program.Expression). r.0 ∷ r.1) es h in
+          let b = both_fine first (each (judge_arguments s ts rest)) w.0 w.1 in
+          let l : suc (length w.0.1) ≡ suc (length ts) = ap length w.2 ∙ n in
+          let m : length w.0.1 ≡ length ts = omega (arith, l) in
+          let x = for_typed t ts (value_of e (judge_found s e)) (place_of e) w.0.0 d.0 (λ v k. value_from e (judge_found s e) v (λ g u. found_typed e g fits.0 u) k) b.0 in
+          let xs = arguments_typed rest ts w.0.1 fits.1 d.1 m b.1 in
+          subst (λ ys. ExpressionsTyped p q (in_order ys) (map type_of (t ∷ ts))) w.2 (type_of t, map type_of ts, refl, x, xs)
+
+    pub value_typed : (e : Expression) (v : program.Expression × Sort) → NumbersFit e → judge_value s e ≡ fine v → ValueTyped v
+    value_typed e v fits h = value_from e (judge_found s e) v (λ g l. found_typed e g fits l) h
+
+    -- a call, whether it is a statement or a value
+    pub call_typed : (e : Expression) (i : Invocation) → NumbersFit e → judge_call s e ≡ fine i → InvocationTyped i
+    call_typed (call at name args) i fits h =
+        invocation_typed (fine program.this) (own_method s name at) args at i (own_known name at) (λ params es d n l. arguments_typed args params es fits d n l) h
+    call_typed (method at e name args) i fits h =
+        let object = judge_value s e in
+        invocation_typed (object_of object) (method_through s object name at) args at i (through_known object name at (λ v l. value_typed e v fits.0 l)) (λ params es d n l. arguments_typed args params es fits.1 d n l) h
+    call_typed e i fits h = let w = within_fine (judge_value s e) (λ v. broken (place_of e) 28) i h in absurd (cc (w.2))

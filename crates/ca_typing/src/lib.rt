@@ -1,29 +1,12 @@
-//! The law that the program of a text of the small form is well typed, for whoever runs programs.
+//! The law that the programs which the checker makes are well typed, for whoever runs programs.
 //!
-//! What running a program takes for granted of its operations is `TypedPuts`: each is a list of puts
-//! into fields of its own class, none of them an array, and each value has its field's type. The
-//! checker promises the program of the tree, and says nothing of types or of how large a number is;
-//! that numbers fit `long` is the lexer's. So the law begins at the text: where its tokens derive a
-//! tree, and the tree is judged to resolve to a program, this program is well typed.
+//! What the laws of running take for granted of a program is `ProgramTyped` of ca_meaning: every
+//! expression has its type, every name is there, arguments match their parameters, value methods
+//! change nothing and give a value back. The checker of ca_types promises that its answer is what
+//! its rules make of the tree, `judge`. `resolved_programs_are_typed` closes the gap: a tree whose
+//! numbers fit 64 bits, and in which no rule is broken, resolves to a well typed program.
 //!
-//! The crate has no code: a caller calls `programs_are_typed` for its clause. In `proofs/` the
-//! numbers of the tokens fit (`Literals`), so do those of the tree (`LiteralTrees`), and a tree whose
-//! numbers fit resolves to a typed program (`Typing`, which stands on `Sorts` to `Puts`).
+//! The crate has no code: a caller calls a function for its clause. The lemmas are in `proofs/`.
 #![tactic(auto)]
 
-ghost use Rattle.std.specs.Prelude.{◌≡◌, ℕ, List};
-ghost use Rattle.ca_tree.specs.declared.token.Token.{Token};
-ghost use Rattle.ca_tree.specs.Plain.{TextTree};
-ghost use Rattle.ca_program.specs.Plain.{PlainProgram};
-ghost use Rattle.ca_lex.specs.Tokens.{Uncommented};
-ghost use Rattle.ca_parse.specs.Grammar.{Derives};
-ghost use Rattle.ca_types.specs.Judged.{fine};
-ghost use Rattle.ca_types.specs.Resolve.{judge};
-ghost use Rattle.ca_model.specs.TypedPuts.{TypedPuts};
-
-/// The program of a text of the small form is well typed: each operation puts into fields of its
-/// own class values of their types.
-pub fn programs_are_typed()
-    ensures { (text : List ℕ) (tokens : List Token) (tree : TextTree) (p : PlainProgram)
-        → Uncommented text tokens → Derives tokens tree → judge tree ≡ fine p → TypedPuts p }
-{}
+pub mod laws;

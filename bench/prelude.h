@@ -1,0 +1,4 @@
+// What a source of the language needs before it is C++.
+#include <cstdio>
+static void print(long v) { std::printf("%ld\n", v); }
+static void print(bool v) { std::printf("%s\n", v ? "true" : "false"); }

@@ -1,0 +1,101 @@
+//! Refusals of a text: the codes, their statuses and their lines.
+
+ghost use Rattle.std.specs.Prelude.{◌≡◌};
+ghost use Rattle.ca_base.specs.Devices.{HasCause, Writes};
+ghost use Rattle.ca_app.specs.Refusals.{is_limit_code, leading_zero, refusal_word, refusal_status, refusal_text};
+
+use crate::lines::write_line;
+use ca_base::{Failed, Sink};
+use ca_resolve::Code;
+use ca_tree::Place;
+use itoa::Buffer;
+
+/// The number of bytes of the source passes the limit. Such a refusal has no place in the source.
+const TOO_LONG: Code = Code(4);
+
+/// The command isn't built for the source's program.
+const NOT_BUILT: Code = Code(0);
+
+/// Where a text is refused, and by which code.
+#[derive(Clone, Copy, PartialEq, Eq, Debug)]
+pub struct Refusal {
+    pub at: Place,
+    pub code: Code,
+}
+
+impl Refusal {
+    /// The refusal of a source that is too long.
+    pub const OVERLONG: Refusal = Refusal {
+        at: Place { line: 0, column: 0 },
+        code: TOO_LONG,
+    };
+
+    /// The refusal of a program, of a text that begins at `start`, for which the command isn't built.
+    pub fn not_built(start: Place) -> Refusal
+        ensures at { result.at ≡ start }
+        ensures code { result.code.0 ≡ 0 }
+    {
+        Refusal {
+            at: start,
+            code: NOT_BUILT,
+        }
+    }
+
+    /// The status with which a call ends that tells this refusal.
+    pub fn status(self) -> u8
+        ensures { result ≡ refusal_status (is_limit_code self.code.0) }
+    {
+        if self.is_limit() { 8 } else { 1 }
+    }
+
+    /// Whether the code is that of a limit.
+    fn is_limit(self) -> bool
+        ensures { result ≡ is_limit_code self.code.0 }
+    {
+        let code = self.code.0;
+        code == 3 || code == 4 || code == 11 || (50 <= code && code <= 57)
+    }
+
+    fn word(self) -> &'static [u8]
+        ensures { result.now ≡ refusal_word (is_limit_code self.code.0) }
+    {
+        if self.is_limit() {
+            b"limit "
+        } else {
+            b"error "
+        }
+    }
+
+    /// Writes the line of the refusal.
+    pub fn write<K: Sink>(self, sink: &mut K) -> Result<(), Failed>
+        ensures bytes { Writes (K.written sink.old) (K.written sink.new) result (refusal_text self.at self.code.0) }
+        ensures cause { HasCause (K.faults sink.old) (K.faults sink.new) result }
+    {
+        let mut line = Buffer::new();
+        let line = line.format(self.at.line);
+        let mut column = Buffer::new();
+        let column = column.format(self.at.column);
+        let mut digits = Buffer::new();
+        let digits = digits.format(self.code.0);
+        write_line(
+            &[
+                self.word(),
+                line.as_bytes(),
+                b":",
+                column.as_bytes(),
+                b" E",
+                leading_zero(self.code.0 < 10),
+                digits.as_bytes(),
+                b"\n",
+            ],
+            sink,
+        )
+    }
+}
+
+/// What stands in front of the digits of a code, of which there are two at least.
+fn leading_zero(one_digit: bool) -> &'static [u8]
+    ensures { result.now ≡ leading_zero one_digit }
+{
+    if one_digit { b"0" } else { b"" }
+}

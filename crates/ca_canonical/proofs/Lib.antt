@@ -1,0 +1,15 @@
+pub mod Writing
+pub mod Lists
+pub mod Rows
+pub mod ReadBack
+pub mod Texts
+pub mod Fronts
+pub mod Terminals
+pub mod Levels
+pub mod Operands
+pub mod Lines
+pub mod Members
+pub mod Ends
+pub mod Inputs
+pub mod Program
+pub mod Examples

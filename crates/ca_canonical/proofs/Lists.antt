@@ -1,0 +1,104 @@
+-- Lists that are written item by item.
+use Rattle.std.proofs.Common.{map, ◌≡◌, ℕ, suc, ◌+◌, ◌<◌, ◌≤◌, List, [], ◌∷◌, ◌++◌, Bool, true, false, length, drop, get_or, refl, sym, ap, ◌∙◌, subst, arith}
+use Rattle.std.proofs.Math.Seq.{drop-cons}
+use Rattle.std.proofs.lemmas.List.{drop_all}
+use Rattle.ca_tree.specs.declared.token.Kind.{Kind}
+use Rattle.ca_tree.specs.declared.token.Kind.TheVariants.{Sign}
+use Rattle.ca_tree.specs.declared.token.Sign.TheVariants.{Comma}
+use Rattle.ca_tree.specs.declared.tree.ExprNode.{ExprNode}
+use Rattle.ca_tree.specs.declared.tree.ParamNode.{ParamNode}
+use Rattle.ca_tree.specs.declared.tree.StmtNode.{StmtNode}
+use Rattle.ca_tree.specs.declared.tree.Member.{Member}
+use Rattle.ca_tree.specs.declared.tree.ClassNode.{ClassNode}
+use Rattle.ca_tree.specs.Plain.{Expressions}
+use Rattle.ca_tree.specs.View.{expression_view, expressions_view, statement_view, statements_view, member_view, class_view}
+use Rattle.ca_canonical.specs.Spell.{spell_expression, spell_list, spell_others, spell_param, spell_params, spell_other_params, spell_statement, spell_statements, spell_member, spell_members, spell_class, spell_classes, returns_zero, ends_in_zero}
+use Rattle.ca_canonical.specs.Pens.{Written, Writes}
+use Rattle.ca_canonical.proofs.Writing.{Leaves, fewer_left}
+
+-- the items from i on
+pub item_and_rest : {A : Type 0} (xs : List A) (i : ℕ) (x : A) → i < length xs → x ≡ get_or xs i x → drop i xs ≡ x ∷ drop (i + 1) xs
+item_and_rest xs i x h e =
+    let n : i + 1 ≡ suc i = omega arith in
+    drop-cons xs i x h ∙ (ap (λ y. y ∷ drop (suc i) xs) (sym e) ∙ ap (λ m. x ∷ drop m xs) (sym n))
+
+-- the comma before an item that is not the first
+abbrev pub comma : Bool → List Kind
+comma true = Sign Comma ∷ []
+comma false = []
+
+-- what is left of arguments, where some have been written or none
+abbrev pub arguments_left : Bool → Expressions → List Kind
+arguments_left true es = spell_others es
+arguments_left false es = spell_list es
+
+first_argument : (begun : Bool) (x : ExprNode) (xs : List ExprNode) → arguments_left begun (expressions_view (x ∷ xs)) ≡ comma begun ++ (spell_expression (expression_view x) ++ arguments_left true (expressions_view xs))
+first_argument true x xs = refl
+first_argument false x xs = refl
+
+pub argument_written : {old now mid next : Written} {all : List Kind} (begun : Bool) (xs : List ExprNode) (i : ℕ) (x : ExprNode) → i < length xs → x ≡ get_or xs i x
+    → Leaves old all now (arguments_left begun (expressions_view (drop i xs))) → Writes now mid (comma begun) → Writes mid next (spell_expression (expression_view x))
+    → Leaves old all next (arguments_left true (expressions_view (drop (i + 1) xs)))
+argument_written {old = old} {now = now} {all = all} begun xs i x h e l c w =
+    let rest = ap (λ z. arguments_left begun (expressions_view z)) (item_and_rest xs i x h e) ∙ first_argument begun x (drop (i + 1) xs) in
+    fewer_left (fewer_left (subst (λ ks. Leaves old all now ks) rest l) c) w
+
+-- what is left of parameters
+abbrev pub params_left : Bool → List ParamNode → List Kind
+params_left true ps = spell_other_params ps
+params_left false ps = spell_params ps
+
+first_param : (begun : Bool) (p : ParamNode) (ps : List ParamNode) → params_left begun (p ∷ ps) ≡ comma begun ++ (spell_param p ++ params_left true ps)
+first_param true p ps = refl
+first_param false p ps = refl
+
+pub param_written : {old now mid next : Written} {all : List Kind} (begun : Bool) (ps : List ParamNode) (i : ℕ) (p : ParamNode) → i < length ps → p ≡ get_or ps i p
+    → Leaves old all now (params_left begun (drop i ps)) → Writes now mid (comma begun) → Writes mid next (spell_param p)
+    → Leaves old all next (params_left true (drop (i + 1) ps))
+param_written {old = old} {now = now} {all = all} begun ps i p h e l c w =
+    let rest = ap (params_left begun) (item_and_rest ps i p h e) ∙ first_param begun p (drop (i + 1) ps) in
+    fewer_left (fewer_left (subst (λ ks. Leaves old all now ks) rest l) c) w
+
+pub no_argument_left : (begun : Bool) (xs : List ExprNode) (i : ℕ) → length xs ≤ i → arguments_left begun (expressions_view (drop i xs)) ≡ []
+no_argument_left true xs i h = ap (λ z. spell_others (expressions_view z)) (drop_all i xs h)
+no_argument_left false xs i h = ap (λ z. spell_list (expressions_view z)) (drop_all i xs h)
+
+pub no_param_left : (begun : Bool) (ps : List ParamNode) (i : ℕ) → length ps ≤ i → params_left begun (drop i ps) ≡ []
+no_param_left true ps i h = ap spell_other_params (drop_all i ps h)
+no_param_left false ps i h = ap spell_params (drop_all i ps h)
+
+-- statements, members and classes stand one behind the other
+pub statement_written : {old now next : Written} {all : List Kind} (ss : List StmtNode) (i : ℕ) (s : StmtNode) → i < length ss → s ≡ get_or ss i s
+    → Leaves old all now (spell_statements (statements_view (drop i ss))) → Writes now next (spell_statement (statement_view s))
+    → Leaves old all next (spell_statements (statements_view (drop (i + 1) ss)))
+statement_written {old = old} {now = now} {all = all} ss i s h e l w =
+    fewer_left (subst (λ ks. Leaves old all now ks) (ap (λ z. spell_statements (statements_view z)) (item_and_rest ss i s h e)) l) w
+
+pub no_statement_left : (ss : List StmtNode) (i : ℕ) → length ss ≤ i → spell_statements (statements_view (drop i ss)) ≡ []
+no_statement_left ss i h = ap (λ z. spell_statements (statements_view z)) (drop_all i ss h)
+
+pub member_written : {old now next : Written} {all : List Kind} (ms : List Member) (i : ℕ) (m : Member) → i < length ms → m ≡ get_or ms i m
+    → Leaves old all now (spell_members (map member_view (drop i ms))) → Writes now next (spell_member (member_view m))
+    → Leaves old all next (spell_members (map member_view (drop (i + 1) ms)))
+member_written {old = old} {now = now} {all = all} ms i m h e l w =
+    fewer_left (subst (λ ks. Leaves old all now ks) (ap (λ z. spell_members (map member_view z)) (item_and_rest ms i m h e)) l) w
+
+pub no_member_left : (ms : List Member) (i : ℕ) → length ms ≤ i → spell_members (map member_view (drop i ms)) ≡ []
+no_member_left ms i h = ap (λ z. spell_members (map member_view z)) (drop_all i ms h)
+
+pub class_written : {old now next : Written} {all : List Kind} (cs : List ClassNode) (i : ℕ) (c : ClassNode) → i < length cs → c ≡ get_or cs i c
+    → Leaves old all now (spell_classes (map class_view (drop i cs))) → Writes now next (spell_class (class_view c))
+    → Leaves old all next (spell_classes (map class_view (drop (i + 1) cs)))
+class_written {old = old} {now = now} {all = all} cs i c h e l w =
+    fewer_left (subst (λ ks. Leaves old all now ks) (ap (λ z. spell_classes (map class_view z)) (item_and_rest cs i c h e)) l) w
+
+pub no_class_left : (cs : List ClassNode) (i : ℕ) → length cs ≤ i → spell_classes (map class_view (drop i cs)) ≡ []
+no_class_left cs i h = ap (λ z. spell_classes (map class_view z)) (drop_all i cs h)
+
+-- one statement further
+pub zero_seen : (all : Bool) (last : Bool) (ss : List StmtNode) (i : ℕ) (s : StmtNode) → i < length ss → s ≡ get_or ss i s
+    → all ≡ ends_in_zero last (statements_view (drop i ss)) → all ≡ ends_in_zero (returns_zero (statement_view s)) (statements_view (drop (i + 1) ss))
+zero_seen all last ss i s h e a = a ∙ ap (λ z. ends_in_zero last (statements_view z)) (item_and_rest ss i s h e)
+
+pub all_seen : (all : Bool) (last : Bool) (ss : List StmtNode) (i : ℕ) → length ss ≤ i → all ≡ ends_in_zero last (statements_view (drop i ss)) → last ≡ all
+all_seen all last ss i h a = sym (a ∙ ap (λ z. ends_in_zero last (statements_view z)) (drop_all i ss h))

@@ -1,0 +1,44 @@
+-- What has been written of a text.
+use Rattle.std.specs.Prelude.{◌≡◌, ℕ, List, [], ◌∷◌, ◌++◌, Bool, true, false, Option, Some, None}
+use Rattle.ca_tree.specs.declared.token.Kind.{Kind}
+use Rattle.ca_tree.specs.declared.token.Sign.{Sign}
+use Rattle.ca_canonical.specs.Spellings.{sign_text}
+use Rattle.ca_canonical.specs.Texts.{is_semicolon, semicolon_first, behind_brace, gap_behind, depth_behind_sign, text_from}
+
+-- The text of some tokens, within how many round brackets it ends, and whether the byte behind its last token, a `}`,
+-- waits for the next one.
+pub record Written : Type 0 where
+  pub text : List ℕ
+  pub depth : ℕ
+  pub brace : Bool
+
+-- the byte behind a waiting `}`, where a `;` follows or not
+abbrev pub waiting : Bool → Bool → List ℕ
+waiting true semicolon = behind_brace semicolon ∷ []
+waiting false semicolon = []
+
+-- the whole text, where these tokens are still to be written
+abbrev pub whole : Written → List Kind → List ℕ
+whole p ks = p.text ++ waiting p.brace (semicolon_first ks) ++ text_from p.depth ks
+
+-- the tokens have been written
+pub record Writes (old now : Written) (ks : List Kind) : Type 0 where
+  pub says : (more : List Kind) → whole now more ≡ whole old (ks ++ more)
+
+-- the byte behind a token, which may wait
+abbrev pub gap_text : Option ℕ → List ℕ
+gap_text (Some b) = b ∷ []
+gap_text None = []
+
+abbrev pub waits : Option ℕ → Bool
+waits (Some b) = false
+waits None = true
+
+-- a token of this text has been written, a `;` or not, and the byte behind it
+abbrev pub put : Bool → List ℕ → Option ℕ → Written → Written
+put semicolon text gap p = record { text = p.text ++ waiting p.brace semicolon ++ text ++ gap_text gap; depth = p.depth; brace = waits gap }
+
+abbrev pub put_sign : Sign → Written → Written
+put_sign s p =
+    let q = put (is_semicolon s) (sign_text s) (gap_behind p.depth s) p in
+    record { text = q.text; depth = depth_behind_sign p.depth s; brace = q.brace }

@@ -1,0 +1,176 @@
+//! Classes and `main`.
+
+ghost use Rattle.std.specs.Prelude.{◌≡◌, map, false, IfOk};
+ghost use Rattle.ca_tree.specs.View.{class_view, member_view, method_view, statement_view, statements_view};
+ghost use Rattle.ca_canonical.specs.Spell.{ends_in_zero, in_parentheses, returns_zero, spell_class, spell_classes, spell_end, spell_field, spell_length, spell_main, spell_member, spell_members, spell_method, spell_params, spell_result};
+ghost use Rattle.ca_canonical.specs.Pens.{Writes};
+
+use crate::pen::Pen;
+use crate::statements::{write_statements, write_type};
+use ca_tree::{
+    ClassNode, ExprKind, FieldNode, Keyword, Member, MethodNode, ParamNode, Sign, StmtKind,
+    StmtNode, TypeNode,
+};
+use std::alloc::AllocError;
+
+/// Writes a field.
+fn write_field(pen: &mut Pen, field: &FieldNode) -> Result<(), AllocError>
+    ensures { IfOk result (λ _. Writes pen.old pen.new (spell_field field.now)) }
+{
+    write_type(pen, &field.ty)?;
+    pen.name(&field.name)?;
+    write_length(pen, field.length)?;
+    pen.sign(Sign::Semicolon)?;
+    Ok(())
+}
+
+/// Writes the length of an array field.
+fn write_length(pen: &mut Pen, length: Option<i64>) -> Result<(), AllocError>
+    ensures { IfOk result (λ _. Writes pen.old pen.new (spell_length length)) }
+{
+    if let Some(n) = length {
+        pen.sign(Sign::OpenBracket)?;
+        pen.number(n)?;
+        pen.sign(Sign::CloseBracket)?;
+    }
+    Ok(())
+}
+
+/// Writes parameters in round brackets, with commas between them.
+fn write_params(pen: &mut Pen, params: &[ParamNode]) -> Result<(), AllocError>
+    ensures { IfOk result (λ _. Writes pen.old pen.new (in_parentheses (spell_params params.now))) }
+{
+    pen.sign(Sign::OpenParenthesis)?;
+    let mut begun = false;
+    'params: for param in params {
+        if begun {
+            pen.sign(Sign::Comma)?;
+        }
+        write_type(pen, &param.ty)?;
+        pen.name(&param.name)?;
+        begun = true;
+    }
+    pen.sign(Sign::CloseParenthesis)?;
+    Ok(())
+}
+
+/// Writes the type of a result, or `void`.
+fn write_result(pen: &mut Pen, ty: &Option<TypeNode>) -> Result<(), AllocError>
+    ensures { IfOk result (λ _. Writes pen.old pen.new (spell_result ty.now)) }
+{
+    match ty {
+        None => pen.key(Keyword::Void)?,
+        Some(ty) => write_type(pen, ty)?,
+    }
+    Ok(())
+}
+
+/// Writes a method.
+fn write_method(pen: &mut Pen, method: &MethodNode) -> Result<(), AllocError>
+    ensures { IfOk result (λ _. Writes pen.old pen.new (spell_method (method_view method.now))) }
+{
+    write_result(pen, &method.result)?;
+    pen.name(&method.name)?;
+    write_params(pen, &method.params)?;
+    pen.sign(Sign::OpenBrace)?;
+    write_statements(pen, &method.body)?;
+    pen.sign(Sign::CloseBrace)?;
+    Ok(())
+}
+
+/// Writes a member.
+fn write_member(pen: &mut Pen, member: &Member) -> Result<(), AllocError>
+    ensures { IfOk result (λ _. Writes pen.old pen.new (spell_member (member_view member.now))) }
+{
+    match member {
+        Member::Field(field) => write_field(pen, field)?,
+        Member::Method(method) => write_method(pen, method)?,
+    }
+    Ok(())
+}
+
+/// Writes a class.
+fn write_class(pen: &mut Pen, class: &ClassNode) -> Result<(), AllocError>
+    ensures { IfOk result (λ _. Writes pen.old pen.new (spell_class (class_view class.now))) }
+{
+    pen.key(Keyword::Class)?;
+    pen.name(&class.name)?;
+    pen.sign(Sign::OpenBrace)?;
+    pen.key(Keyword::Public)?;
+    pen.sign(Sign::Colon)?;
+    write_members(pen, &class.members)?;
+    pen.sign(Sign::CloseBrace)?;
+    pen.sign(Sign::Semicolon)?;
+    Ok(())
+}
+
+/// Writes members, one behind the other.
+fn write_members(pen: &mut Pen, members: &[Member]) -> Result<(), AllocError>
+    ensures { IfOk result (λ _. Writes pen.old pen.new (spell_members (map member_view members.now))) }
+{
+    'members: for member in members {
+        write_member(pen, member)?;
+    }
+    Ok(())
+}
+
+/// Writes classes, one behind the other.
+pub(crate) fn write_classes(pen: &mut Pen, classes: &[ClassNode]) -> Result<(), AllocError>
+    ensures { IfOk result (λ _. Writes pen.old pen.new (spell_classes (map class_view classes.now))) }
+{
+    'classes: for class in classes {
+        write_class(pen, class)?;
+    }
+    Ok(())
+}
+
+/// Whether the statement is `return` of the number 0.
+fn returns_zero(s: &StmtNode) -> bool
+    ensures { result ≡ returns_zero (statement_view s.now) }
+{
+    match &s.kind {
+        StmtKind::Return(e) => match &e.kind {
+            ExprKind::Number(n) => *n == 0,
+            _ => false,
+        },
+        _ => false,
+    }
+}
+
+/// Whether the last of the statements is.
+fn ends_in_zero(items: &[StmtNode]) -> bool
+    ensures { result ≡ ends_in_zero false (statements_view items.now) }
+{
+    let mut last = false;
+    for s in items {
+        last = returns_zero(s);
+    }
+    last
+}
+
+/// Writes `main`, with its optional end where its last statement is `return` of the number 0.
+pub(crate) fn write_main(pen: &mut Pen, items: &[StmtNode]) -> Result<(), AllocError>
+    ensures { IfOk result (λ _. Writes pen.old pen.new (spell_main (statements_view items.now))) }
+{
+    pen.key(Keyword::Int)?;
+    pen.key(Keyword::Main)?;
+    pen.sign(Sign::OpenParenthesis)?;
+    pen.sign(Sign::CloseParenthesis)?;
+    pen.sign(Sign::OpenBrace)?;
+    write_statements(pen, items)?;
+    write_end(pen, ends_in_zero(items))?;
+    pen.sign(Sign::CloseBrace)?;
+    Ok(())
+}
+
+/// Writes the optional end of `main`, if it is wanted.
+fn write_end(pen: &mut Pen, wanted: bool) -> Result<(), AllocError>
+    ensures { IfOk result (λ _. Writes pen.old pen.new (spell_end wanted)) }
+{
+    if wanted {
+        pen.key(Keyword::Return)?;
+        pen.number(0)?;
+        pen.sign(Sign::Semicolon)?;
+    }
+    Ok(())
+}

@@ -1,0 +1,94 @@
+//! Expressions.
+
+ghost use Rattle.std.specs.Prelude.{nat_lt, IfOk};
+ghost use Rattle.ca_tree.specs.View.{expression_view, expressions_view};
+ghost use Rattle.ca_canonical.specs.Spell.{binds, bracketed, in_parentheses, spell_expression, spell_list};
+ghost use Rattle.ca_canonical.specs.Pens.{Writes};
+
+use crate::operators::{TAIL_STRENGTH, UNARY_STRENGTH, binary_sign, binds, strength, unary_sign};
+use crate::pen::Pen;
+use ca_tree::{ExprKind, ExprNode, Keyword, Sign};
+use std::alloc::AllocError;
+
+/// Writes an expression.
+#[cycle(expression)]
+pub(crate) fn write_expression(pen: &mut Pen, e: &ExprNode) -> Result<(), AllocError>
+    ensures { IfOk result (λ _. Writes pen.old pen.new (spell_expression (expression_view e.now))) }
+{
+    match &e.kind {
+        ExprKind::Number(n) => pen.number(*n)?,
+        ExprKind::Truth(truth) => pen.key(if *truth {
+            Keyword::True
+        } else {
+            Keyword::False
+        })?,
+        ExprKind::Null => pen.key(Keyword::Nullptr)?,
+        ExprKind::This => pen.key(Keyword::This)?,
+        ExprKind::Named(name) => pen.name(name)?,
+        ExprKind::Call(name, arguments) => {
+            pen.name(name)?;
+            write_arguments(pen, arguments)?;
+        }
+        ExprKind::Field(object, name) => {
+            write_operand(pen, object, TAIL_STRENGTH)?;
+            pen.sign(Sign::Arrow)?;
+            pen.name(name)?;
+        }
+        ExprKind::Method(object, name, arguments) => {
+            write_operand(pen, object, TAIL_STRENGTH)?;
+            pen.sign(Sign::Arrow)?;
+            pen.name(name)?;
+            write_arguments(pen, arguments)?;
+        }
+        ExprKind::Index(array, index) => {
+            write_operand(pen, array, TAIL_STRENGTH)?;
+            pen.sign(Sign::OpenBracket)?;
+            write_expression(pen, index)?;
+            pen.sign(Sign::CloseBracket)?;
+        }
+        ExprKind::Unary(op, operand) => {
+            pen.sign(unary_sign(*op))?;
+            write_operand(pen, operand, UNARY_STRENGTH)?;
+        }
+        ExprKind::Binary(op, left, right) => {
+            let strength = strength(*op);
+            write_operand(pen, left, strength)?;
+            pen.sign(binary_sign(*op))?;
+            write_operand(pen, right, strength + 1)?;
+        }
+    }
+    Ok(())
+}
+
+/// Writes an operand, in round brackets where its operator binds less than `least`.
+#[cycle(expression)]
+fn write_operand(pen: &mut Pen, e: &ExprNode, least: u32) -> Result<(), AllocError>
+    ensures { IfOk result (λ _. Writes pen.old pen.new (bracketed (nat_lt (binds (expression_view e.now)) least) (spell_expression (expression_view e.now)))) }
+{
+    if binds(e) < least {
+        pen.sign(Sign::OpenParenthesis)?;
+        write_expression(pen, e)?;
+        pen.sign(Sign::CloseParenthesis)?;
+    } else {
+        write_expression(pen, e)?;
+    }
+    Ok(())
+}
+
+/// Writes arguments in round brackets, with commas between them.
+#[cycle(expression)]
+fn write_arguments(pen: &mut Pen, arguments: &[ExprNode]) -> Result<(), AllocError>
+    ensures { IfOk result (λ _. Writes pen.old pen.new (in_parentheses (spell_list (expressions_view arguments.now)))) }
+{
+    pen.sign(Sign::OpenParenthesis)?;
+    let mut begun = false;
+    'arguments: for e in arguments {
+        if begun {
+            pen.sign(Sign::Comma)?;
+        }
+        write_expression(pen, e)?;
+        begun = true;
+    }
+    pen.sign(Sign::CloseParenthesis)?;
+    Ok(())
+}

@@ -1,0 +1,17 @@
+//! Laws of the canonical text.
+
+ghost use Rattle.std.specs.Prelude.{ℕ, List};
+ghost use Rattle.ca_tree.specs.declared.token.Token.{Token};
+ghost use Rattle.ca_tree.specs.Plain.{TextTree};
+ghost use Rattle.ca_lex.specs.Tokens.{Tokens};
+ghost use Rattle.ca_parse.specs.Grammar.{Derives};
+ghost use Rattle.ca_canonical.specs.Texts.{text_of};
+ghost use Rattle.ca_canonical.specs.Spell.{spell};
+ghost use Rattle.ca_canonical.specs.ReadsBack.{DerivesLike};
+
+/// The canonical text of a tree that the tokens of some text derive has tokens, and they derive a
+/// tree that is equal but for places.
+pub fn canonical_text_reads_back()
+    ensures tokens { (text : List ℕ) (ts : List Token) (t : TextTree) → Tokens text ts → Derives ts t → (us : List Token) × Tokens (text_of (spell t)) us }
+    ensures tree { (text : List ℕ) (ts us : List Token) (t : TextTree) → Tokens text ts → Derives ts t → Tokens (text_of (spell t)) us → DerivesLike us t }
+{}

@@ -1,0 +1,38 @@
+//! The canonical text of a tree: every tree has one written form, and reading it gives the tree back.
+//!
+//! `unparse` promises exactly the text that `specs/Spell.antt` (which tokens) and `specs/Texts.antt`
+//! (which bytes) define, unless memory runs out. It writes the bytes as it goes over the tree, in time
+//! linear in the tree.
+#![tactic(auto)]
+
+mod classes;
+mod expressions;
+pub mod laws;
+mod operators;
+mod pen;
+mod spellings;
+mod statements;
+#[cfg(test)]
+mod tests;
+
+ghost use Rattle.std.specs.Prelude.{◌≡◌, IfOk};
+ghost use Rattle.ca_tree.specs.View.{tree_view};
+ghost use Rattle.ca_canonical.specs.Texts.{text_of};
+ghost use Rattle.ca_canonical.specs.Spell.{spell};
+
+use crate::classes::{write_classes, write_main};
+use crate::pen::Pen;
+use ca_base::Memory;
+use ca_tree::Tree;
+use std::alloc::Global;
+
+/// The canonical text of the tree.
+pub fn unparse(alloc: Global, tree: &Tree) -> Result<Vec<u8>, Memory>
+    ensures { IfOk result (λ text. text.items ≡ text_of (spell (tree_view tree.now))) }
+{
+    let mut pen = Pen::new(alloc);
+    write_classes(&mut pen, &tree.classes)?;
+    write_main(&mut pen, &tree.main)?;
+    let text = pen.finish()?;
+    Ok(text)
+}

@@ -1,0 +1,147 @@
+//! The text as far as it has been written.
+
+ghost use Rattle.std.specs.Prelude.{◌≡◌, ◌<◌, ◌^◌, [], ◌∷◌, ◌++◌, false, IfOk};
+ghost use Rattle.ca_tree.specs.declared.token.Kind.TheVariants.{Word, Number, Key, Sign as SignKind};
+ghost use Rattle.ca_canonical.specs.Texts.{depth_behind_sign, gap_behind, is_semicolon};
+ghost use Rattle.ca_canonical.specs.Pens.{Writes, put, waiting, whole};
+
+use crate::spellings::{key_text, sign_text};
+use ca_tree::{Keyword, Name, Sign};
+use itoa::Buffer;
+use std::alloc::{AllocError, Global};
+use std::marker::Model;
+
+/// The text of some tokens, and what decides on the byte behind the last of them.
+#[derive(Drop)]
+pub(crate) struct Pen {
+    text: Vec<u8>,
+    /// Within how many round brackets the text ends.
+    depth: usize,
+    /// Whether the last token is a `}`, and the byte behind it waits for the next token.
+    brace: bool,
+}
+
+impl Model for Pen {
+    ghost use Rattle.std.specs.Prelude.{◌≤◌, length};
+    ghost use Rattle.ca_canonical.specs.Pens.{Written};
+
+    ghost Value = { Written };
+
+    ghost view = { λ p. record { text = p.text.items; depth = p.depth; brace = p.brace } };
+
+    ghost invariant = { λ p. p.depth ≤ length p.text.items };
+}
+
+/// The byte behind a sign within so many round brackets; behind a `}` what follows decides.
+fn gap_behind(depth: usize, sign: Sign) -> Option<u8>
+    ensures { result ≡ gap_behind depth sign }
+{
+    match sign {
+        Sign::OpenBrace => Some(b'\n'),
+        Sign::Colon => Some(b'\n'),
+        Sign::Semicolon => Some(if depth == 0 { b'\n' } else { b' ' }),
+        Sign::CloseBrace => None,
+        _ => Some(b' '),
+    }
+}
+
+/// The round brackets that are open behind a sign.
+fn depth_behind(depth: usize, sign: Sign) -> usize
+    requires { depth < 2 ^ 63 }
+    ensures { result ≡ depth_behind_sign depth sign }
+{
+    match sign {
+        Sign::OpenParenthesis => depth + 1,
+        Sign::CloseParenthesis => depth.saturating_sub(1),
+        _ => depth,
+    }
+}
+
+/// Whether the sign is `;`.
+fn is_semicolon(sign: Sign) -> bool
+    ensures { result ≡ is_semicolon sign }
+{
+    matches!(sign, Sign::Semicolon)
+}
+
+impl Pen {
+    /// Nothing has been written.
+    pub fn new(alloc: Global) -> Pen
+        ensures { result ≡ record { text = []; depth = 0; brace = false } }
+    {
+        Pen {
+            text: Vec::new(alloc),
+            depth: 0,
+            brace: false,
+        }
+    }
+
+    /// Writes the byte behind a `}` that waits for it, where a `;` follows or not.
+    fn end_brace(&mut self, semicolon: bool) -> Result<(), AllocError>
+        ensures text { IfOk result (λ _. self.new.text ≡ self.old.text ++ waiting self.old.brace semicolon) }
+        ensures depth { self.new.depth ≡ self.old.depth }
+        ensures brace { IfOk result (λ _. self.new.brace ≡ false) }
+    {
+        if self.brace {
+            self.text.push(if semicolon { b' ' } else { b'\n' })?;
+            self.brace = false;
+        }
+        Ok(())
+    }
+
+    /// Writes a token of this text, a `;` or not, and the byte behind it unless it waits.
+    fn put(&mut self, semicolon: bool, text: &[u8], gap: Option<u8>) -> Result<(), AllocError>
+        ensures { IfOk result (λ _. self.new ≡ put semicolon text.now gap self.old) }
+    {
+        self.end_brace(semicolon)?;
+        self.text.extend_from_slice(text)?;
+        match gap {
+            Some(gap) => self.text.push(gap)?,
+            None => self.brace = true,
+        }
+        Ok(())
+    }
+
+    /// Writes a name.
+    pub fn name(&mut self, name: &Name) -> Result<(), AllocError>
+        ensures { IfOk result (λ _. Writes self.old self.new (Word name.now ∷ [])) }
+    {
+        self.put(false, name.as_bytes(), Some(b' '))?;
+        Ok(())
+    }
+
+    /// Writes a number.
+    pub fn number(&mut self, n: i64) -> Result<(), AllocError>
+        ensures { IfOk result (λ _. Writes self.old self.new (Number n ∷ [])) }
+    {
+        let mut buffer = Buffer::new();
+        self.put(false, buffer.format(n).as_bytes(), Some(b' '))?;
+        Ok(())
+    }
+
+    /// Writes a key word.
+    pub fn key(&mut self, key: Keyword) -> Result<(), AllocError>
+        ensures { IfOk result (λ _. Writes self.old self.new (Key key ∷ [])) }
+    {
+        self.put(false, key_text(key).as_bytes(), Some(b' '))?;
+        Ok(())
+    }
+
+    /// Writes a sign.
+    pub fn sign(&mut self, sign: Sign) -> Result<(), AllocError>
+        ensures { IfOk result (λ _. Writes self.old self.new (SignKind sign ∷ [])) }
+    {
+        let gap = gap_behind(self.depth, sign);
+        self.put(is_semicolon(sign), sign_text(sign).as_bytes(), gap)?;
+        self.depth = depth_behind(self.depth, sign);
+        Ok(())
+    }
+
+    /// The whole text.
+    pub fn finish(mut self) -> Result<Vec<u8>, AllocError>
+        ensures { IfOk result (λ text. text.items ≡ whole self []) }
+    {
+        self.end_brace(false)?;
+        Ok(self.text)
+    }
+}

@@ -1,0 +1,167 @@
+//! Statements.
+
+ghost use Rattle.std.specs.Prelude.{IfOk};
+ghost use Rattle.ca_tree.specs.View.{expression_view, right_view, statement_view, statements_view};
+ghost use Rattle.ca_canonical.specs.Spell.{condition, spell_for, spell_header, spell_right, spell_statement, spell_statements, spell_type};
+ghost use Rattle.ca_canonical.specs.Pens.{Writes};
+
+use crate::expressions::write_expression;
+use crate::operators::assign_sign;
+use crate::pen::Pen;
+use ca_tree::{ExprNode, Keyword, Right, Sign, StmtKind, StmtNode, TypeNode};
+use std::alloc::AllocError;
+
+/// Writes a type.
+pub(crate) fn write_type(pen: &mut Pen, ty: &TypeNode) -> Result<(), AllocError>
+    ensures { IfOk result (λ _. Writes pen.old pen.new (spell_type ty.now)) }
+{
+    match ty {
+        TypeNode::Long => pen.key(Keyword::Long)?,
+        TypeNode::Bool => pen.key(Keyword::Bool)?,
+        TypeNode::Pointer(name, _) => {
+            pen.name(name)?;
+            pen.sign(Sign::Times)?;
+        }
+    }
+    Ok(())
+}
+
+/// Writes what a target is put to.
+fn write_right(pen: &mut Pen, right: &Right) -> Result<(), AllocError>
+    ensures { IfOk result (λ _. Writes pen.old pen.new (spell_right (right_view right.now))) }
+{
+    match right {
+        Right::Value(e) => write_expression(pen, e)?,
+        Right::New(name, _) => {
+            pen.key(Keyword::New)?;
+            pen.name(name)?;
+            pen.sign(Sign::OpenParenthesis)?;
+            pen.sign(Sign::CloseParenthesis)?;
+        }
+    }
+    Ok(())
+}
+
+/// Writes a declaration or an assignment without its `;`.
+fn write_header(pen: &mut Pen, s: &StmtNode) -> Result<(), AllocError>
+    ensures { IfOk result (λ _. Writes pen.old pen.new (spell_header (statement_view s.now))) }
+{
+    match &s.kind {
+        StmtKind::Local {
+            ty,
+            name,
+            value,
+            ..
+        } => {
+            write_type(pen, ty)?;
+            pen.name(name)?;
+            if let Some(right) = value {
+                pen.sign(Sign::Assign)?;
+                write_right(pen, right)?;
+            }
+        }
+        StmtKind::Assign { target, op, right } => {
+            write_expression(pen, target)?;
+            pen.sign(assign_sign(*op))?;
+            write_right(pen, right)?;
+        }
+        _ => {}
+    }
+    Ok(())
+}
+
+/// Writes a key word and an expression in round brackets.
+fn write_condition(pen: &mut Pen, key: Keyword, e: &ExprNode) -> Result<(), AllocError>
+    ensures { IfOk result (λ _. Writes pen.old pen.new (condition key (expression_view e.now))) }
+{
+    pen.key(key)?;
+    pen.sign(Sign::OpenParenthesis)?;
+    write_expression(pen, e)?;
+    pen.sign(Sign::CloseParenthesis)?;
+    Ok(())
+}
+
+/// Writes the head of a loop that counts.
+fn write_for(
+    pen: &mut Pen,
+    first: &StmtNode,
+    cond: &ExprNode,
+    next: &StmtNode,
+) -> Result<(), AllocError>
+    ensures { IfOk result (λ _. Writes pen.old pen.new (spell_for (statement_view first.now) (expression_view cond.now) (statement_view next.now))) }
+{
+    pen.key(Keyword::For)?;
+    pen.sign(Sign::OpenParenthesis)?;
+    write_header(pen, first)?;
+    pen.sign(Sign::Semicolon)?;
+    write_expression(pen, cond)?;
+    pen.sign(Sign::Semicolon)?;
+    write_header(pen, next)?;
+    pen.sign(Sign::CloseParenthesis)?;
+    Ok(())
+}
+
+/// Writes a statement.
+#[cycle(statement)]
+fn write_statement(pen: &mut Pen, s: &StmtNode) -> Result<(), AllocError>
+    ensures { IfOk result (λ _. Writes pen.old pen.new (spell_statement (statement_view s.now))) }
+{
+    match &s.kind {
+        StmtKind::Empty => pen.sign(Sign::Semicolon)?,
+        StmtKind::Block(items) => {
+            pen.sign(Sign::OpenBrace)?;
+            write_statements(pen, items)?;
+            pen.sign(Sign::CloseBrace)?;
+        }
+        StmtKind::Local { .. } | StmtKind::Assign { .. } => {
+            write_header(pen, s)?;
+            pen.sign(Sign::Semicolon)?;
+        }
+        StmtKind::Call(e) => {
+            write_expression(pen, e)?;
+            pen.sign(Sign::Semicolon)?;
+        }
+        StmtKind::If { cond, yes, no } => {
+            write_condition(pen, Keyword::If, cond)?;
+            write_statement(pen, yes)?;
+            if let Some(no) = no {
+                pen.key(Keyword::Else)?;
+                write_statement(pen, no)?;
+            }
+        }
+        StmtKind::While { cond, body } => {
+            write_condition(pen, Keyword::While, cond)?;
+            write_statement(pen, body)?;
+        }
+        StmtKind::For {
+            first,
+            cond,
+            next,
+            body,
+        } => {
+            write_for(pen, first, cond, next)?;
+            write_statement(pen, body)?;
+        }
+        StmtKind::Return(e) => {
+            pen.key(Keyword::Return)?;
+            write_expression(pen, e)?;
+            pen.sign(Sign::Semicolon)?;
+        }
+        StmtKind::Print(e) => {
+            write_condition(pen, Keyword::Print, e)?;
+            pen.sign(Sign::Semicolon)?;
+        }
+    }
+    Ok(())
+}
+
+/// Writes statements, one behind the other.
+#[cycle(statement)]
+pub(crate) fn write_statements(pen: &mut Pen, items: &[StmtNode]) -> Result<(), AllocError>
+    ensures { IfOk result (λ _. Writes pen.old pen.new (spell_statements (statements_view items.now))) }
+{
+    'items: for s in items {
+        write_statement(pen, s)?;
+    }
+    Ok(())
+}

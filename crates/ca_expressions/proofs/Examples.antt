@@ -1,0 +1,67 @@
+-- Small expressions and their trees.
+use Rattle.std.proofs.Common.{◌≡◌, ℕ, pos, List, [], ◌∷◌, true, Some, None, refl, arith}
+use Rattle.ca_descent.specs.Exact.{sees}
+use Rattle.ca_tree.specs.declared.name.Place.{Place}
+use Rattle.ca_tree.specs.declared.token.Token.{Token}
+use Rattle.ca_tree.specs.declared.token.Kind.TheVariants.{Word, Number}
+use Rattle.ca_tree.specs.declared.token.Kind.TheVariants.{Key as KeyKind, Sign as SignKind}
+use Rattle.ca_tree.specs.declared.token.Keyword.TheVariants.{True}
+use Rattle.ca_tree.specs.declared.token.Sign.{Sign}
+use Rattle.ca_tree.specs.declared.token.Sign.TheVariants.{Minus, Less, Arrow, OpenParenthesis, CloseParenthesis}
+use Rattle.ca_tree.specs.declared.tree.BinaryOp.TheVariants.{Minus as MinusOp, Less as LessOp}
+use Rattle.ca_tree.specs.declared.tree.UnaryOp.TheVariants.{Minus as MinusSign}
+use Rattle.ca_tree.specs.Plain.{Expression, truth, named, method, unary, binary, no_expressions}
+use Rattle.ca_tree.specs.Plain.{number as number_tree}
+use Rattle.ca_expressions.specs.Terminals.{literal, operator, goes_on}
+use Rattle.ca_expressions.specs.Grammar.{Level, operands, one_operand, operands_end, operands_more, unary_first, unary_last, a_literal, a_chain, Chain, name_chain, tails_end, tails_more, method_tail, args, listed_none, is_call, is_target}
+
+-- tokens of line 1
+abbrev place : ℕ → Place
+place n = record { line = 1; column = n }
+
+abbrev name : ℕ → ℕ → Token
+name byte n = record { kind = Word (byte ∷ []); at = place n; start = 0; len = 0 }
+
+abbrev one : ℕ → Token
+one n = record { kind = Number (pos 1); at = place n; start = 0; len = 0 }
+
+abbrev mark : Sign → ℕ → Token
+mark s n = record { kind = SignKind s; at = place n; start = 0; len = 0 }
+
+-- the table: `-` binds at level 4, `<` at 3, and `->` goes on with everything
+minus_binds : operator 4 (mark Minus 2) ≡ Some (MinusOp, place 2)
+minus_binds = refl
+
+less_is_weaker : (operator 3 (mark Less 2) ≡ Some (LessOp, place 2)) × (goes_on 4 (mark Less 2) ≡ None)
+less_is_weaker = (refl, refl)
+
+arrow_goes_on : goes_on 6 (mark Arrow 2) ≡ Some (place 2)
+arrow_goes_on = refl
+
+true_is_literal : literal (record { kind = KeyKind True; at = place 1; start = 0; len = 0 }) ≡ Some (truth (place 1) true)
+true_is_literal = refl
+
+-- a: an operand at level 5
+abbrev a_name_tree : ℕ → Expression
+a_name_tree n = named (place n) (97 ∷ [])
+
+operand : (n : ℕ) (r : List Token) → Level 5 (name 97 n ∷ r) (a_name_tree n) r
+operand n r = operands (omega arith) (one_operand (omega arith) (unary_last (a_chain (name_chain (sees refl) tails_end)))) operands_end
+
+-- a - a - a: to the left, and each node stands at its operator
+differences : Level 4 (name 97 1 ∷ mark Minus 3 ∷ name 97 5 ∷ mark Minus 7 ∷ name 97 9 ∷ [])
+    (binary (place 7) MinusOp (binary (place 3) MinusOp (a_name_tree 1) (a_name_tree 5)) (a_name_tree 9)) []
+differences = operands (omega arith) (operand 1 _)
+    (operands_more (sees refl) (operand 5 _) (operands_more (sees refl) (operand 9 _) operands_end))
+
+-- -1: a unary node round a literal
+negated : Level 6 (mark Minus 1 ∷ one 2 ∷ []) (unary (place 1) MinusSign (number_tree (place 2) (pos 1))) []
+negated = one_operand (omega arith) (unary_first (sees refl) (unary_last (a_literal (sees refl))))
+
+-- a->b(): a call of a method, and no target
+called : Chain (name 97 1 ∷ mark Arrow 2 ∷ name 98 4 ∷ mark OpenParenthesis 5 ∷ mark CloseParenthesis 6 ∷ [])
+    (method (place 2) (a_name_tree 1) (98 ∷ []) no_expressions) []
+called = name_chain (sees refl) (tails_more (method_tail (sees refl) (sees refl) (args (sees refl) (listed_none (sees refl)))) tails_end)
+
+shape : (is_call (method (place 2) (a_name_tree 1) (98 ∷ []) no_expressions) ≡ true) × (is_target (a_name_tree 1) ≡ true)
+shape = (refl, refl)

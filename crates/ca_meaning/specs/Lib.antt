@@ -1,0 +1,10 @@
+pub mod Operators
+pub mod Expressions
+pub mod Flows
+pub mod Functions
+pub mod Serial
+pub mod Output
+pub mod Sections
+pub mod WellTyped
+pub mod Commuting
+pub mod ProgramTyped

@@ -1,0 +1,177 @@
+//! Locals and assignments.
+
+ghost use Rattle.std.specs.Prelude.{◌≡◌, pos};
+ghost use Rattle.ca_tree.specs.Plain.{value, number};
+ghost use Rattle.ca_descent.specs.Exact.{Exact, Unlimited};
+ghost use Rattle.ca_tree.specs.View.{expression_view, right_view, statement_view};
+ghost use Rattle.ca_expressions.specs.Readers.{answer};
+ghost use Rattle.ca_parse.specs.Grammar.{Right as RightSide, Local, Compound, Change, Assign, AssignLine, First, first_place as first_place_of};
+ghost use Rattle.ca_parse.specs.Closed.{RightClosed, ChangeClosed, AssignClosed, AssignTo, AssignToClosed};
+
+use crate::types::{begins_local, parse_type};
+use ca_expressions::{
+    Fault, is_target, key_at, parse_chain, parse_expression, sign_at, take_name, take_sign,
+};
+use ca_tree::{
+    AssignOp, ExprKind, ExprNode, Keyword, Place, Right, Sign, StmtKind, StmtNode, Token,
+};
+use std::alloc::Global;
+
+/// The place of the first token of a chain.
+pub fn first_place(chain: &ExprNode) -> Place
+    ensures { result ≡ first_place_of (expression_view chain.now) }
+{
+    match &chain.kind {
+        ExprKind::Field(object, _) => first_place(object),
+        ExprKind::Method(object, _, _) => first_place(object),
+        ExprKind::Index(array, _) => first_place(array),
+        ExprKind::Binary(_, left, _) => first_place(left),
+        _ => chain.at,
+    }
+}
+
+/// What a target is put to: a value, or a new object.
+pub fn parse_right<'a>(
+    alloc: Global,
+    tokens: &'a [Token],
+) -> Result<(Right, &'a [Token]), Fault<'a>>
+    ensures answer { Exact RightSide RightClosed tokens.now (answer right_view result) }
+{
+    let Some((_, rest)) = key_at(tokens, Keyword::New) else {
+        let (value, rest) = parse_expression(alloc, tokens)?;
+        return Ok((Right::Value(value), rest));
+    };
+    let ((class, at), rest) = take_name(alloc, rest)?;
+    let Some((_, more)) = sign_at(rest, Sign::OpenParenthesis) else {
+        return Ok((Right::New(class, at), rest));
+    };
+    let (_, rest) = take_sign(more, Sign::CloseParenthesis)?;
+    Ok((Right::New(class, at), rest))
+}
+
+/// A local, and the `;` behind it.
+pub fn parse_local<'a>(
+    alloc: Global,
+    tokens: &'a [Token],
+) -> Result<(StmtNode, &'a [Token]), Fault<'a>>
+    ensures answer { Exact Local Local tokens.now (answer statement_view result) }
+{
+    let ((ty, at), rest) = parse_type(alloc, tokens)?;
+    let ((name, name_at), rest) = take_name(alloc, rest)?;
+    let Some((_, more)) = sign_at(rest, Sign::Assign) else {
+        let (_, rest) = take_sign(rest, Sign::Semicolon)?;
+        let kind = StmtKind::Local {
+            ty,
+            name,
+            name_at,
+            value: None,
+        };
+        return Ok((StmtNode { at, kind }, rest));
+    };
+    let (value, rest) = parse_right(alloc, more)?;
+    let (_, rest) = take_sign(rest, Sign::Semicolon)?;
+    let kind = StmtKind::Local {
+        ty,
+        name,
+        name_at,
+        value: Some(value),
+    };
+    Ok((StmtNode { at, kind }, rest))
+}
+
+/// `+=`, `-=` or `*=`.
+fn parse_compound<'a>(tokens: &'a [Token]) -> Result<(AssignOp, &'a [Token]), Fault<'a>>
+    ensures answer { Exact (Unlimited Compound) (Unlimited Compound) tokens.now (answer (λ o. o) result) }
+{
+    if let Some((_, rest)) = sign_at(tokens, Sign::PlusAssign) {
+        return Ok((AssignOp::Add, rest));
+    }
+    if let Some((_, rest)) = sign_at(tokens, Sign::MinusAssign) {
+        return Ok((AssignOp::Sub, rest));
+    }
+    let (_, rest) = take_sign(tokens, Sign::TimesAssign)?;
+    Ok((AssignOp::Mul, rest))
+}
+
+/// The 1 of `++` and `--`, at the place of the sign.
+fn one(at: Place) -> Right
+    ensures { right_view result ≡ value (number at (pos 1)) }
+{
+    let kind = ExprKind::Number(1);
+    Right::Value(ExprNode { at, kind })
+}
+
+/// What stands behind the target of an assignment.
+fn parse_change<'a>(
+    alloc: Global,
+    tokens: &'a [Token],
+) -> Result<((AssignOp, Right), &'a [Token]), Fault<'a>>
+    ensures answer { Exact Change ChangeClosed tokens.now (answer (λ c. (c.0, right_view c.1)) result) }
+{
+    if let Some((_, rest)) = sign_at(tokens, Sign::Assign) {
+        let (right, rest) = parse_right(alloc, rest)?;
+        return Ok(((AssignOp::Put, right), rest));
+    }
+    if let Some((at, rest)) = sign_at(tokens, Sign::Increment) {
+        return Ok(((AssignOp::Add, one(at)), rest));
+    }
+    if let Some((at, rest)) = sign_at(tokens, Sign::Decrement) {
+        return Ok(((AssignOp::Sub, one(at)), rest));
+    }
+    let (op, rest) = parse_compound(tokens)?;
+    let (value, rest) = parse_expression(alloc, rest)?;
+    Ok(((op, Right::Value(value)), rest))
+}
+
+/// What the assignment does behind its target.
+pub fn parse_assign_to<'a>(
+    alloc: Global,
+    target: ExprNode,
+    tokens: &'a [Token],
+) -> Result<(StmtNode, &'a [Token]), Fault<'a>>
+    ensures answer { Exact (AssignTo (expression_view target)) (AssignToClosed (expression_view target)) tokens.now (answer statement_view result) }
+{
+    let at = first_place(&target);
+    let ((op, right), rest) = parse_change(alloc, tokens)?;
+    let kind = StmtKind::Assign { target, op, right };
+    Ok((StmtNode { at, kind }, rest))
+}
+
+/// An assignment.
+pub fn parse_assign<'a>(
+    alloc: Global,
+    tokens: &'a [Token],
+) -> Result<(StmtNode, &'a [Token]), Fault<'a>>
+    ensures answer { Exact Assign AssignClosed tokens.now (answer statement_view result) }
+{
+    let (target, rest) = parse_chain(alloc, tokens)?;
+    if !is_target(&target) {
+        return Err(Fault::Wrong(rest));
+    }
+    parse_assign_to(alloc, target, rest)
+}
+
+/// The first part of a `for`, and the `;` behind it.
+pub fn parse_first<'a>(
+    alloc: Global,
+    tokens: &'a [Token],
+) -> Result<(StmtNode, &'a [Token]), Fault<'a>>
+    ensures answer { Exact First First tokens.now (answer statement_view result) }
+{
+    if begins_local(tokens) {
+        return parse_local(alloc, tokens);
+    }
+    parse_assign_line(alloc, tokens)
+}
+
+/// An assignment, and the `;` behind it.
+fn parse_assign_line<'a>(
+    alloc: Global,
+    tokens: &'a [Token],
+) -> Result<(StmtNode, &'a [Token]), Fault<'a>>
+    ensures answer { Exact AssignLine AssignLine tokens.now (answer statement_view result) }
+{
+    let (assign, rest) = parse_assign(alloc, tokens)?;
+    let (_, rest) = take_sign(rest, Sign::Semicolon)?;
+    Ok((assign, rest))
+}

@@ -1,0 +1,11 @@
+pub mod Least
+pub mod Judging
+pub mod InMemory
+pub mod CallValues
+pub mod Lookups
+pub mod Tables
+pub mod Index
+pub mod Innermost
+pub mod CallNodes
+pub mod Arguments
+mod Examples

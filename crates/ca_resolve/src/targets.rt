@@ -1,0 +1,72 @@
+//! Targets.
+
+ghost use Rattle.std.specs.Prelude.{◌≡◌};
+ghost use Rattle.ca_tree.specs.View.{expression_view as node_view};
+ghost use Rattle.ca_program.specs.Plain.{Expression};
+ghost use Rattle.ca_program.specs.View.{expression_view};
+ghost use Rattle.ca_resolve.specs.Judged.{Answers, Judged};
+ghost use Rattle.ca_resolve.specs.Scopes.{Found as PlainFound};
+ghost use Rattle.ca_resolve.specs.Rules.{is_target};
+ghost use Rattle.ca_resolve.specs.Values.{judge_item_target, judge_target};
+ghost use Rattle.ca_resolve.specs.View.{found_view, target_view, scope_view};
+
+use crate::errors::{CheckError, both, violation};
+use crate::found::{Found, Target};
+use crate::scope::Scope;
+use crate::sorts::Sort;
+use crate::values::{check_for, check_found};
+use ca_program::Expr;
+use ca_tree::{ExprKind, ExprNode, Place};
+use std::alloc::Global;
+
+/// What the expression names as a target, and the type of its values.
+pub fn check_target<'a>(
+    alloc: Global,
+    scope: &Scope<'_, 'a>,
+    e: &ExprNode,
+) -> Result<(Target, Sort<'a>), CheckError>
+    ensures { Answers target_view result (judge_target (scope_view scope.now) (node_view e.now)) }
+{
+    match &e.kind {
+        ExprKind::Index(array, index) => {
+            let array = check_found(alloc, scope, array);
+            item_target(array, check_for(alloc, scope, Sort::Long, index), e.at)
+        }
+        ExprKind::Number(_)
+        | ExprKind::Truth(_)
+        | ExprKind::Null
+        | ExprKind::This
+        | ExprKind::Named(_)
+        | ExprKind::Call(..)
+        | ExprKind::Field(..)
+        | ExprKind::Method(..)
+        | ExprKind::Unary(..)
+        | ExprKind::Binary(..) => target(check_found(alloc, scope, e)?, e.at),
+    }
+}
+
+/// A local, or an own scalar field.
+fn target<'a>(found: Found<'a>, at: Place) -> Result<(Target, Sort<'a>), CheckError>
+    ensures { Answers target_view result (is_target (found_view found.entry) at) }
+{
+    match found {
+        Found::Value(Expr::Local(id), sort) => Ok((Target::Local(id), sort)),
+        Found::Value(Expr::Own(id), sort) => Ok((Target::Field(id), sort)),
+        Found::Value(..) | Found::Array(..) => Err(violation(at, 27)),
+    }
+}
+
+/// An item of an own array field.
+fn item_target<'a>(
+    array: Result<Found<'a>, CheckError>,
+    index: Result<Expr, CheckError>,
+    at: Place,
+) -> Result<(Target, Sort<'a>), CheckError>
+    ensures { (j : Judged PlainFound) (k : Judged Expression) → Answers found_view array.entry j → Answers expression_view index k → Answers target_view result (judge_item_target j k at) }
+{
+    let (array, index) = both(array, index)?;
+    match array {
+        Found::Array(Expr::This, id, sort) => Ok((Target::Item(id, index), sort)),
+        Found::Array(..) | Found::Value(..) => Err(violation(at, 27)),
+    }
+}

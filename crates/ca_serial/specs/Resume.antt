@@ -1,0 +1,246 @@
+-- What is left to do, as a meaning.
+use Rattle.std.specs.Prelude.{ℕ, zero, suc, List, [], ◌∷◌, ◌++◌, Option, Some, None, slice_get, slice_set, drop}
+use Rattle.ca_program.specs.declared.program.FieldId.{FieldId}
+use Rattle.ca_program.specs.declared.program.Expr.{Expr}
+use Rattle.ca_program.specs.Plain.{PlainProgram, PlainMethod, Expression, Statement, Statements, while_loop, for_loop}
+use Rattle.ca_program.specs.View.{expression_view, expressions_view, statement_view, statements_view}
+use Rattle.ca_model.specs.declared.value.Value.{Value as Datum}
+use Rattle.ca_model.specs.declared.value.Value.TheVariants.{Null, Ref}
+use Rattle.ca_model.specs.declared.value.Object.{Object}
+use Rattle.ca_model.specs.Heaps.{created, HasSlot}
+use Rattle.ca_model.specs.declared.value.TrapKind.TheVariants.{OutOfRange}
+use Rattle.ca_program.specs.declared.program.ValueType.{ValueType}
+use Rattle.ca_meaning.specs.Operators.{operated, signed, assigned}
+use Rattle.ca_meaning.specs.Expressions.{Out, gives, traps, trap_at, ◌>>=◌, take_step, value_at, one_in, items_in, slot_of, pointed, Item, found, answer, decided, unless_decided, invocation}
+use Rattle.ca_meaning.specs.Flows.{Flow, goes_on, gives_back, stops, runs_out, and_on, with, choose, Parts, line_of, exec, exec_all}
+use Rattle.ca_meaning.specs.Functions.{own_of, function_parts, functions_of, value_in, values_in}
+use Rattle.ca_meaning.specs.Serial.{World, in_heap, printed, put_own, room_for, own_value, own_item_at, run_call, operations_of, serial_parts}
+use Rattle.ca_serial.specs.declared.bodies.Mode.{Mode}
+use Rattle.ca_serial.specs.declared.bodies.Mode.TheVariants.{InFunction, InOperation}
+use Rattle.ca_serial.specs.declared.work.Target.{Target}
+use Rattle.ca_serial.specs.declared.work.Target.TheVariants.{Function, Operation}
+use Rattle.ca_serial.specs.declared.work.Work.{Work}
+use Rattle.ca_serial.specs.declared.work.Work.TheVariants.{Evaluate, Take, Collect, Exec, Seq, Again, Leave}
+use Rattle.ca_serial.specs.declared.work.Taker.{Taker}
+use Rattle.ca_serial.specs.declared.work.Taker.TheVariants.{ReadField, CheckObject, ReadItem, Sign, CheckLeft, Apply, PutLocal, PutField, CheckIndex, PutItem, NewItem, Print, Choose, Turn, GiveBack}
+use Rattle.ca_serial.specs.declared.work.Next.{Next}
+use Rattle.ca_serial.specs.declared.work.Next.TheVariants.{GoesOn, Printed, Trapped, Spent}
+use Rattle.ca_serial.specs.declared.machine.Machine.{Machine}
+use Rattle.ca_serial.specs.declared.machine.Found.{Found}
+use Rattle.ca_serial.specs.Bodies.{Body, with_locals}
+
+-- Statements in the body that runs
+
+-- a statement of a value method leaves the world as it is
+abbrev pub carried : World → Flow (Unit {0}) → Flow World
+carried w (goes_on ls s k) = goes_on ls w k
+carried w (gives_back v s k) = gives_back v w k
+carried w (stops t s) = stops t w
+carried w (runs_out s) = runs_out w
+
+abbrev pub parts_in : PlainProgram → World → Body → Parts (Unit {0})
+parts_in p w f = function_parts (functions_of p.functions w.heap) w.heap f.this
+
+abbrev pub runs : PlainProgram → Mode → Body → World → ℕ → Statement → ℕ → Flow World
+runs p InFunction f w line s k = carried w (exec (parts_in p w f) line f.locals tt s k)
+runs p InOperation f w line s k = exec (serial_parts p f.this) line f.locals w s k
+
+abbrev pub runs_all : PlainProgram → Mode → Body → World → Statements → ℕ → Flow World
+runs_all p InFunction f w ss k = carried w (exec_all (parts_in p w f) f.locals tt ss k)
+runs_all p InOperation f w ss k = exec_all (serial_parts p f.this) f.locals w ss k
+
+-- a loop that comes again
+abbrev pub comes_again : PlainProgram → Mode → Body → World → ℕ → Statement → ℕ → Flow World
+comes_again p InFunction f w line loop k = carried w ((parts_in p w f).again line f.locals tt loop k)
+comes_again p InOperation f w line loop k = (serial_parts p f.this).again line f.locals w loop k
+
+-- the body of a loop, and behind it the next part of a `for`
+abbrev pub runs_body : PlainProgram → Mode → Body → World → ℕ → Statement → ℕ → Flow World
+runs_body p m f w line (while_loop own c b) k = runs p m f w (line_of b) b k
+runs_body p m f w line (for_loop own site part first c next b) k =
+    and_on (runs p m f w (line_of b) b k) (λ ls w k. runs p m (with_locals f ls) w line next k)
+runs_body p m f w line other k = goes_on f.locals w k
+
+-- a loop whose condition has this value
+abbrev pub turns : PlainProgram → Mode → Body → World → ℕ → Statement → ℕ → Datum → Flow World
+turns p m f w line loop k v =
+    choose v (with (take_step k) w (λ _ k. and_on (runs_body p m f w line loop k) (λ ls w k. comes_again p m (with_locals f ls) w line loop k))) (goes_on f.locals w k)
+
+-- Work
+
+abbrev pub pop : List Datum → World → (Datum → List Datum → Flow World) → Flow World
+pop [] w f = runs_out w
+pop (v ∷ vs) w f = f v vs
+
+-- so many values, of which the last came last, before those that are given; and the one below them
+abbrev pub taken : ℕ → List Datum → List Datum → World → (List Datum → Datum → List Datum → Flow World) → Flow World
+taken zero vs xs w f = pop vs w (λ v vs. f xs v vs)
+taken (suc n) vs xs w f = pop vs w (λ x vs. taken n vs (x ∷ xs) w f)
+
+abbrev pub back_in : List Body → World → (Body → List Body → Flow World) → Flow World
+back_in [] w f = runs_out w
+back_in (g ∷ below) w f = f g below
+
+abbrev pub go_on : Flow World → (List Datum → World → ℕ → Flow World) → (Datum → World → ℕ → Flow World) → Flow World
+go_on (goes_on ls w k) f g = f ls w k
+go_on (gives_back v w k) f g = g v w k
+go_on (stops t w) f g = stops t w
+go_on (runs_out w) f g = runs_out w
+
+abbrev pub by_mode : {A : Type 0} → Mode → A → A → A
+by_mode InFunction a b = a
+by_mode InOperation a b = b
+
+-- a call whose receiver and arguments are values
+abbrev pub called : PlainProgram → Target → ℕ → Datum → List Datum → List Datum → Body → World → ℕ → (List Datum → World → ℕ → Flow World) → Flow World
+called p (Function m) line v xs vs f w k go =
+    with (pointed line v k >>= λ n k. take_step k >>= λ _ k. (functions_of p.functions w.heap).call m n xs k) w (λ v k. go (v ∷ vs) w k)
+called p (Operation m) line v xs vs f w k go =
+    with (pointed line v k) w (λ n k. go_on (run_call (operations_of p) f.locals (invocation n m xs) w k) (λ ls w k. go vs w k) (λ v w k. runs_out w))
+
+-- the value of an expression in the body that runs
+abbrev pub value_of : PlainProgram → Body → World → ℕ → Expr → ℕ → Out Datum
+value_of p f w line e k = value_in p.functions w.heap f.this line f.locals (expression_view e) k
+
+-- a call whose arguments before the first of these are values, of which there are n
+abbrev pub collected : PlainProgram → ℕ → Target → List Expr → ℕ → List Datum → Body → World → ℕ → (List Datum → World → ℕ → Flow World) → Flow World
+collected p line t arguments n vs f w k go =
+    with (values_in p.functions w.heap f.this line f.locals (expressions_view arguments) k) w (λ xs k.
+    taken n vs xs w (λ xs v vs. called p t line v xs vs f w k go))
+
+-- the own item that was found before the right side was evaluated
+abbrev pub found_again : ℕ → World → Datum → FieldId → ℕ → ℕ → Out Item
+found_again line w this field place k = found line place (slice_get (items_in (slice_get (own_of w.heap this) field.field)) place) k
+
+-- What is done with a value, and then with the values, the body, the world and the steps that are left.
+-- The last argument is for a value that is given back.
+abbrev pub used : PlainProgram → Taker → Datum → List Datum → Body → World → ℕ → (List Datum → Body → World → ℕ → Flow World) → (Datum → World → ℕ → Flow World) → Flow World
+used p (ReadField line i) v vs f w k go back =
+    with (pointed line v k >>= λ n k. gives (one_in (slot_of w.heap n i)) k) w (λ v k. go (v ∷ vs) f w k)
+used p (CheckObject line i e) v vs f w k go back =
+    with (pointed line v k) w (λ n k. with (value_of p f w line e.now k) w (λ v k. with (own_item_at line w (Ref n) i v k) w (λ item k. go (item.value ∷ vs) f w k)))
+used p (ReadItem line object i) v vs f w k go back =
+    with (own_item_at line w object i v k) w (λ item k. go (item.value ∷ vs) f w k)
+used p (Sign op) v vs f w k go back = go (signed op v ∷ vs) f w k
+used p (CheckLeft line op e) v vs f w k go back =
+    with (unless_decided (decided op v) k (value_of p f w line e.now k >>= λ x k. answer line (operated op v x) k)) w (λ v k. go (v ∷ vs) f w k)
+used p (Apply line op left) v vs f w k go back =
+    with (answer line (operated op left v) k) w (λ v k. go (v ∷ vs) f w k)
+used p (PutLocal l op) v vs f w k go back =
+    go vs (with_locals f (slice_set f.locals l.0 (assigned op (value_at f.locals l.0) v))) w k
+used p (PutField i op) v vs f w k go back =
+    go vs f (in_heap w (put_own w.heap f.this i 0 (assigned op (own_value w f.this i) v))) k
+used p (CheckIndex line i op e) v vs f w k go back =
+    with (own_item_at line w f.this i v k) w (λ item k. with (value_of p f w line e.now k) w (λ v k.
+    go vs f (in_heap w (put_own w.heap f.this i item.place (assigned op item.value v))) k))
+used p (PutItem line i place op) v vs f w k go back =
+    with (found_again line w f.this i place k) w (λ item k.
+    go vs f (in_heap w (put_own w.heap f.this i item.place (assigned op item.value v))) k)
+used p (NewItem line i c) v vs f w k go back =
+    with (own_item_at line w f.this i v k) w (λ item k. with (room_for p line w.heap c k) w (λ n k.
+    go vs f (in_heap w (put_own (created p c w.heap) f.this i item.place (Ref n))) k))
+used p Print v vs f w k go back = go vs f (printed w v) k
+used p (Choose a b) v vs f w k go back =
+    go_on (choose v (runs p f.mode f w a.now.line (statement_view a.now) k) (runs p f.mode f w b.now.line (statement_view b.now) k)) (λ ls w k. go vs (with_locals f ls) w k) back
+used p (Turn line loop) v vs f w k go back =
+    go_on (turns p f.mode f w line (statement_view loop.now) k v) (λ ls w k. go vs (with_locals f ls) w k) back
+used p GiveBack v vs f w k go back = back v w k
+
+abbrev mutual
+  pub resume : PlainProgram → List Work → List Datum → Body → List Body → World → ℕ → Flow World
+  resume p [] vs f below w k = goes_on [] w k
+  resume p (Evaluate line e ∷ todo) vs f below w k =
+      with (value_of p f w line e.now k) w (λ v k. resume p todo (v ∷ vs) f below w k)
+  resume p (Take taker ∷ todo) vs f below w k =
+      pop vs w (λ v vs. used p taker v vs f w k (λ vs f w k. resume p todo vs f below w k) (λ v w k. by_mode f.mode (unwind p todo vs below w k v) (runs_out w)))
+  resume p (Collect line t arguments n ∷ todo) vs f below w k =
+      collected p line t (drop n arguments.now) n vs f w k (λ vs w k. resume p todo vs f below w k)
+  resume p (Exec line s ∷ todo) vs f below w k =
+      go_on (runs p f.mode f w line (statement_view s.now) k) (λ ls w k. resume p todo vs (with_locals f ls) below w k) (λ v w k. by_mode f.mode (unwind p todo vs below w k v) (runs_out w))
+  resume p (Seq ss ∷ todo) vs f below w k =
+      go_on (runs_all p f.mode f w (statements_view ss.now) k) (λ ls w k. resume p todo vs (with_locals f ls) below w k) (λ v w k. by_mode f.mode (unwind p todo vs below w k v) (runs_out w))
+  resume p (Again line loop ∷ todo) vs f below w k =
+      go_on (comes_again p f.mode f w line (statement_view loop.now) k) (λ ls w k. resume p todo vs (with_locals f ls) below w k) (λ v w k. by_mode f.mode (unwind p todo vs below w k v) (runs_out w))
+  resume p (Leave ∷ todo) vs f below w k =
+      back_in below w (λ g below. resume p todo (by_mode f.mode (Null ∷ vs) vs) g below w k)
+
+  -- a value method gives a value back: what is left of its body is dropped
+  pub unwind : PlainProgram → List Work → List Datum → List Body → World → ℕ → Datum → Flow World
+  unwind p [] vs below w k v = runs_out w
+  unwind p (Leave ∷ todo) vs below w k v = back_in below w (λ g below. resume p todo (v ∷ vs) g below w k)
+  unwind p (_ ∷ todo) vs below w k v = unwind p todo vs below w k v
+
+-- What a machine means
+
+abbrev pub world_of : Machine → List Datum → World
+world_of m ps = record { heap = m.heap; prints = ps }
+
+-- with this work
+abbrev pub rest_of : PlainProgram → List Work → Machine → List Datum → Flow World
+rest_of p todo m ps = resume p todo m.values m.bodies.current m.bodies.below (world_of m ps) m.left
+
+-- that gives a value back
+abbrev pub back_of : PlainProgram → Machine → List Datum → Datum → Flow World
+back_of p m ps v = by_mode m.bodies.current.mode (unwind p m.todo m.values m.bodies.below (world_of m ps) m.left v) (runs_out (world_of m ps))
+
+-- that drops what is left of the body of a value method
+abbrev pub unwound : PlainProgram → Machine → List Datum → Datum → Flow World
+unwound p m ps v = unwind p m.todo m.values m.bodies.below (world_of m ps) m.left v
+
+-- that goes back to the caller with a value
+abbrev pub handed_back : PlainProgram → Machine → List Datum → Datum → Flow World
+handed_back p m ps v = back_in m.bodies.below (world_of m ps) (λ g below. resume p m.todo (v ∷ m.values) g below (world_of m ps) m.left)
+
+-- that goes on from how a statement ends
+abbrev pub going_on : PlainProgram → Machine → Flow World → Flow World
+going_on p m flow =
+    go_on flow (λ ls w k. resume p m.todo m.values (with_locals m.bodies.current ls) m.bodies.below w k) (λ v w k. by_mode m.bodies.current.mode (unwind p m.todo m.values m.bodies.below w k v) (runs_out w))
+
+-- that runs this statement
+abbrev pub does : PlainProgram → ℕ → Statement → Machine → List Datum → Flow World
+does p line s m ps = going_on p m (runs p m.bodies.current.mode m.bodies.current (world_of m ps) line s m.left)
+
+-- that goes on with a loop from its condition on
+abbrev pub loops : PlainProgram → ℕ → Expression → Statement → Machine → List Datum → Flow World
+loops p line c loop m ps =
+    with (value_in p.functions m.heap m.bodies.current.this line m.bodies.current.locals c m.left) (world_of m ps) (λ v k.
+    going_on p m (turns p m.bodies.current.mode m.bodies.current (world_of m ps) line loop k v))
+
+-- that uses the value
+abbrev pub takes : PlainProgram → Taker → Datum → Machine → List Datum → Flow World
+takes p taker v m ps =
+    used p taker v m.values m.bodies.current (world_of m ps) m.left (λ vs f w k. resume p m.todo vs f m.bodies.below w k) (λ v w k. by_mode m.bodies.current.mode (unwind p m.todo m.values m.bodies.below w k v) (runs_out w))
+
+-- that begins a call with so many values
+abbrev pub begins : PlainProgram → ℕ → Target → ℕ → Machine → List Datum → Flow World
+begins p line t n m ps =
+    taken n m.values [] (world_of m ps) (λ xs v vs. called p t line v xs vs m.bodies.current (world_of m ps) m.left (λ vs w k. resume p m.todo vs m.bodies.current m.bodies.below w k))
+
+-- after a piece of work
+abbrev pub after : PlainProgram → Machine → List Datum → Next → Flow World
+after p m ps GoesOn = rest_of p m.todo m ps
+after p m ps (Printed v) = rest_of p m.todo m (ps ++ v ∷ [])
+after p m ps (Trapped t) = stops t (world_of m ps)
+after p m ps Spent = runs_out (world_of m ps)
+
+abbrev pub target_method : PlainProgram → Target → Option PlainMethod
+target_method p (Function m) = slice_get p.functions m.0
+target_method p (Operation m) = slice_get p.ops m.0
+
+abbrev pub target_mode : Target → Mode
+target_mode (Function m) = InFunction
+target_mode (Operation m) = InOperation
+
+abbrev pub others_in : Option PlainMethod → List ValueType
+others_in None = []
+others_in (Some m) = drop m.params m.body.locals
+
+-- an item that was looked for
+abbrev pub looked_up : ℕ → Option Found → ℕ → Out Item
+looked_up line None k = traps (trap_at line OutOfRange)
+looked_up line (Some x) k = gives (record { place = x.place; value = x.value }) k
+
+-- there is such an item of the object that a value names
+abbrev pub HasOwn : List Object → Datum → FieldId → ℕ → Type 0
+HasOwn h (Ref n) f i = HasSlot (slice_get h n) f.field i
+HasOwn h _ f i = ⊥

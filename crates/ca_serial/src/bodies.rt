@@ -1,0 +1,161 @@
+//! The bodies that run, each called by the one below it.
+
+ghost use Rattle.std.specs.Prelude.{◌≡◌, [], ◌∷◌, ◌++◌, map, slice_set, IfOk};
+ghost use Rattle.ca_model.specs.Slots.{start_of};
+ghost use Rattle.ca_meaning.specs.Expressions.{value_at};
+
+use ca_base::Memory;
+use ca_model::{Value, start_of};
+use ca_program::ValueType;
+use std::alloc::Global;
+use std::marker::Model;
+
+/// What kind of body runs: that of a value method, or that of an operation or `main`.
+#[derive(Clone, Copy, PartialEq, Eq, Debug)]
+pub enum Mode {
+    InFunction,
+    InOperation,
+}
+
+/// A body that runs: its receiver, its kind and the place where its locals begin.
+#[derive(Clone, Copy)]
+pub struct Entry {
+    pub this: Value,
+    pub mode: Mode,
+    pub base: usize,
+}
+
+/// The body that runs and those that wait for it. The locals of all stand in one vector.
+#[derive(Drop)]
+pub struct Bodies {
+    locals: Vec<Value>,
+    current: Entry,
+    below: Vec<Entry>,
+}
+
+impl Model for Bodies {
+    ghost use Rattle.std.specs.Prelude.{reverse};
+    ghost use Rattle.ca_serial.specs.Bodies.{Nest, nest_of};
+
+    ghost Value = { Nest };
+
+    ghost view = { λ s. nest_of s.locals.items s.current (reverse s.below.items) };
+}
+
+impl Bodies {
+    ghost use Rattle.ca_serial.specs.Bodies.{main_body, with_locals, Went};
+
+    /// The body of `main`, whose locals have these types.
+    pub fn new(alloc: Global, types: &[ValueType]) -> Result<Bodies, Memory>
+        ensures current { IfOk result (λ bodies. bodies.current ≡ main_body types.now) }
+        ensures below { IfOk result (λ bodies. bodies.below ≡ []) }
+    {
+        let mut locals = Vec::new(alloc);
+        add_starts(&mut locals, types)?;
+        Ok(Bodies {
+            locals,
+            current: Entry {
+                this: Value::Null,
+                mode: Mode::InOperation,
+                base: 0,
+            },
+            below: Vec::new(alloc),
+        })
+    }
+
+    /// The receiver of the body that runs.
+    #[inline]
+    pub fn this(&self) -> Value
+        ensures { result ≡ self.now.current.this }
+    {
+        self.current.this
+    }
+
+    /// The kind of the body that runs.
+    #[inline]
+    pub fn mode(&self) -> Mode
+        ensures { result ≡ self.now.current.mode }
+    {
+        self.current.mode
+    }
+
+    /// The locals of the body that runs.
+    #[inline]
+    pub fn locals(&self) -> &[Value]
+        ensures { result.now ≡ self.now.current.locals }
+    {
+        let base = self.current.base;
+        if base < self.locals.len() {
+            &self.locals[base..]
+        } else {
+            &[]
+        }
+    }
+
+    /// A local of the body that runs, and null where there is no such local.
+    #[inline]
+    pub fn local(&self, index: u32) -> Value
+        ensures { result ≡ value_at self.now.current.locals index }
+    {
+        match self.locals().get(index as usize) {
+            Some(value) => *value,
+            None => Value::Null,
+        }
+    }
+
+    /// Puts a value into a local of the body that runs, if there is such a local.
+    #[inline]
+    pub fn set(&mut self, index: u32, value: Value)
+        ensures current { self.new.current ≡ with_locals self.old.current (slice_set self.old.current.locals index value) }
+        ensures below { self.new.below ≡ self.old.below }
+    {
+        let base = self.current.base;
+        let len = self.locals.len();
+        if base < len && (index as usize) < len - base {
+            self.locals[base + index as usize] = value;
+        }
+    }
+
+    /// Begins a body whose first locals are the arguments; the others have these types.
+    pub fn enter(
+        &mut self,
+        this: Value,
+        mode: Mode,
+        arguments: &[Value],
+        others: &[ValueType],
+    ) -> Result<(), Memory>
+        ensures current { IfOk result (λ _. self.new.current ≡ record { this = this; locals = arguments.now ++ map start_of others.now; mode = mode }) }
+        ensures below { IfOk result (λ _. self.new.below ≡ self.old.current ∷ self.old.below) }
+    {
+        let base = self.locals.len();
+        self.locals.extend_from_slice(arguments)?;
+        add_starts(&mut self.locals, others)?;
+        self.below.push(self.current)?;
+        self.current = Entry { this, mode, base };
+        Ok(())
+    }
+
+    /// Goes back to the body below, if there is one.
+    pub fn leave(&mut self) -> bool
+        ensures { Went result self.old self.new }
+    {
+        match self.below.pop() {
+            Some(entry) => {
+                self.locals.truncate(self.current.base);
+                self.current = entry;
+                true
+            }
+            None => false,
+        }
+    }
+}
+
+/// Adds what locals of these types start with.
+fn add_starts(locals: &mut Vec<Value>, types: &[ValueType]) -> Result<(), Memory>
+    ensures { IfOk result (λ _. locals.new.items ≡ locals.old.items ++ map start_of types.now) }
+{
+    for ty in types {
+        locals.push(start_of(*ty))?;
+    }
+    Ok(())
+}

@@ -1,0 +1,185 @@
+//! The steps of expressions.
+
+ghost use Rattle.std.specs.Prelude.{◌≡◌, ◌∷◌, ℕ, List, IfOk};
+ghost use Rattle.ca_program.specs.View.{program_view, expression_view, expressions_view, statement_view, statements_view};
+ghost use Rattle.ca_model.specs.declared.value.Value.{Value as Datum};
+ghost use Rattle.ca_meaning.specs.Expressions.{decided};
+ghost use Rattle.ca_serial.specs.Resume.{rest_of, takes, after};
+
+use crate::machine::{Machine, field_of, trapped};
+use crate::work::{Next, Taker, Target, Work};
+use ca_base::Memory;
+use ca_meaning::{operate, operate_unary};
+use ca_model::{TrapKind, Value};
+use ca_program::{BinaryOp, Expr, FieldId, Program, UnaryOp};
+
+impl<'a> Machine<'a> {
+    /// Goes on with an expression: its value, or its first part.
+    #[inline]
+    pub fn evaluate(&mut self, program: &'a Program, line: u32, e: &'a Expr) -> Result<Next, Memory>
+        ensures { IfOk result (λ next. (ps : List Datum) → rest_of (program_view program.now) (Work.Evaluate line e.entry ∷ self.old.todo) self.old ps ≡ after (program_view program.now) self.new ps next) }
+    {
+        match e {
+            Expr::Number(n) => self.values.push(Value::Long(*n))?,
+            Expr::Truth(b) => self.values.push(Value::Bool(*b))?,
+            Expr::Null => self.values.push(Value::Null)?,
+            Expr::This => self.values.push(self.bodies.this())?,
+            Expr::Local(l) => self.values.push(self.bodies.local(l.0))?,
+            Expr::Own(f) => {
+                let value = field_of(&self.heap, self.bodies.this(), *f);
+                self.values.push(value)?;
+            }
+            Expr::OwnItem(f, i) => {
+                let this = self.bodies.this();
+                self.then(Taker::ReadItem(line, this, *f), line, i)?;
+            }
+            Expr::Read(p, f) => self.then(Taker::ReadField(line, *f), line, p)?,
+            Expr::ReadItem(p, f, i) => self.then(Taker::CheckObject(line, *f, i), line, p)?,
+            Expr::Value(receiver, m, arguments) => {
+                let target = Target::Function(*m);
+                self.todo
+                    .push(Work::Collect(line, target, arguments.as_slice(), 0))?;
+                self.todo.push(Work::Evaluate(line, receiver))?;
+            }
+            Expr::Unary(op, a) => self.then(Taker::Sign(*op), line, a)?,
+            Expr::Binary(op, a, b) => self.then(Taker::CheckLeft(line, *op, b), line, a)?,
+        }
+        Ok(Next::GoesOn)
+    }
+
+    /// Puts the work on an expression before what takes its value.
+    #[inline]
+    pub fn then(&mut self, taker: Taker<'a>, line: u32, e: &'a Expr) -> Result<(), Memory>
+        ensures todo { IfOk result (λ _. self.new.todo ≡ Work.Evaluate line e.entry ∷ Work.Take taker.entry ∷ self.old.todo) }
+        ensures values { self.new.values ≡ self.old.values }
+        ensures bodies { self.new.bodies ≡ self.old.bodies }
+        ensures heap { self.new.heap ≡ self.old.heap }
+        ensures left { self.new.left ≡ self.old.left }
+    {
+        self.todo.push(Work::Take(taker))?;
+        self.todo.push(Work::Evaluate(line, e))?;
+        Ok(())
+    }
+
+    /// Reads a field of the object.
+    #[inline]
+    pub fn read_field(
+        &mut self,
+        program: &'a Program,
+        line: u32,
+        field: FieldId,
+        object: Value,
+    ) -> Result<Next, Memory>
+        ensures { IfOk result (λ next. (ps : List Datum) → takes (program_view program.now) (Taker.ReadField line field) object self.old ps ≡ after (program_view program.now) self.new ps next) }
+    {
+        let Value::Ref(_) = object else {
+            return Ok(trapped(line, TrapKind::NullPointer));
+        };
+        let value = field_of(&self.heap, object, field);
+        self.values.push(value)?;
+        Ok(Next::GoesOn)
+    }
+
+    /// Checks the object, and goes on with the index of an item of it.
+    pub fn check_object(
+        &mut self,
+        program: &'a Program,
+        line: u32,
+        field: FieldId,
+        index: &'a Expr,
+        object: Value,
+    ) -> Result<Next, Memory>
+        ensures { IfOk result (λ next. (ps : List Datum) → takes (program_view program.now) (Taker.CheckObject line field index.entry) object self.old ps ≡ after (program_view program.now) self.new ps next) }
+    {
+        let Value::Ref(_) = object else {
+            return Ok(trapped(line, TrapKind::NullPointer));
+        };
+        self.then(Taker::ReadItem(line, object, field), line, index)?;
+        Ok(Next::GoesOn)
+    }
+
+    /// Reads an item of an object.
+    pub fn read_item(
+        &mut self,
+        program: &'a Program,
+        line: u32,
+        object: Value,
+        field: FieldId,
+        index: Value,
+    ) -> Result<Next, Memory>
+        ensures { IfOk result (λ next. (ps : List Datum) → takes (program_view program.now) (Taker.ReadItem line object field) index self.old ps ≡ after (program_view program.now) self.new ps next) }
+    {
+        match self.indexed(line, object, field, index)? {
+            Some(item) => {
+                self.values.push(item.value)?;
+                Ok(Next::GoesOn)
+            }
+            None => Ok(trapped(line, TrapKind::OutOfRange)),
+        }
+    }
+
+    #[inline]
+    pub fn sign(&mut self, program: &'a Program, op: UnaryOp, value: Value) -> Result<Next, Memory>
+        ensures { IfOk result (λ next. (ps : List Datum) → takes (program_view program.now) (Taker.Sign op) value self.old ps ≡ after (program_view program.now) self.new ps next) }
+    {
+        self.values.push(operate_unary(op, value))?;
+        Ok(Next::GoesOn)
+    }
+
+    /// Goes on with the right side, unless the left one decides.
+    #[inline]
+    pub fn check_left(
+        &mut self,
+        program: &'a Program,
+        line: u32,
+        op: BinaryOp,
+        right: &'a Expr,
+        left: Value,
+    ) -> Result<Next, Memory>
+        ensures { IfOk result (λ next. (ps : List Datum) → takes (program_view program.now) (Taker.CheckLeft line op right.entry) left self.old ps ≡ after (program_view program.now) self.new ps next) }
+    {
+        match decide(op, left) {
+            Some(value) => self.values.push(value)?,
+            None => self.then(Taker::Apply(line, op, left), line, right)?,
+        }
+        Ok(Next::GoesOn)
+    }
+
+    #[inline]
+    pub fn apply(
+        &mut self,
+        program: &'a Program,
+        line: u32,
+        op: BinaryOp,
+        left: Value,
+        right: Value,
+    ) -> Result<Next, Memory>
+        ensures { IfOk result (λ next. (ps : List Datum) → takes (program_view program.now) (Taker.Apply line op left) right self.old ps ≡ after (program_view program.now) self.new ps next) }
+    {
+        match operate(op, left, right) {
+            Ok(value) => {
+                self.values.push(value)?;
+                Ok(Next::GoesOn)
+            }
+            Err(kind) => Ok(trapped(line, kind)),
+        }
+    }
+}
+
+/// What the left side of an operator decides alone.
+#[inline]
+fn decide(op: BinaryOp, left: Value) -> Option<Value>
+    ensures { result ≡ decided op left }
+{
+    match op {
+        BinaryOp::And => match left {
+            Value::Bool(false) => Some(Value::Bool(false)),
+            _ => None,
+        },
+        BinaryOp::Or => match left {
+            Value::Bool(true) => Some(Value::Bool(true)),
+            _ => None,
+        },
+        _ => None,
+    }
+}

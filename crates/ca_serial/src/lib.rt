@@ -1,0 +1,26 @@
+//! The serial interpreter of the whole language.
+//!
+//! `drive` runs `main` of a program from the empty heap with a budget of steps. It promises its caller
+//! the outcome of the depth-first serial run of that program, exactly, with its heap, its steps or its
+//! trap, and that the values which that run prints went to the sink in their order, each as it came.
+//! After an error a beginning of them did. A failed write comes only where the sink's count of faults
+//! rose. Calls stand on a vector and expressions on an explicit stack, so that no depth of calls runs
+//! out of the machine's own stack, and no piece of work takes memory but where a stack grows.
+//! `specs/Resume.antt` says what a stack of work still means, which is the one clause of every step.
+#![tactic(auto)]
+
+mod bodies;
+mod calls;
+mod expressions;
+mod loops;
+mod machine;
+mod print;
+mod running;
+mod stack;
+mod statements;
+mod step;
+#[cfg(test)]
+mod tests;
+mod work;
+
+pub use running::{Outcome, RunError, drive};

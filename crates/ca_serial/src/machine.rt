@@ -1,0 +1,189 @@
+//! The state of a run.
+
+ghost use Rattle.std.specs.Prelude.{◌≡◌, ◌∷◌, [], IfOk, IfSome, slice_get, Some, option_copied};
+ghost use Rattle.ca_program.specs.View.{program_view, expression_view};
+ghost use Rattle.ca_model.specs.declared.value.Value.TheVariants.{Bool as Truth};
+ghost use Rattle.ca_model.specs.declared.value.Trap.{Trap};
+ghost use Rattle.ca_meaning.specs.Expressions.{gives, one_in, items_in, indexed};
+ghost use Rattle.ca_meaning.specs.Functions.{own_of, value_in};
+ghost use Rattle.ca_meaning.specs.Serial.{put_own, serial, ended};
+ghost use Rattle.ca_serial.specs.Resume.{HasOwn};
+ghost use Rattle.ca_serial.specs.declared.work.Next.TheVariants.{Trapped};
+
+use crate::bodies::Bodies;
+use crate::stack::Stack;
+use crate::work::{Next, Work};
+use ca_base::Memory;
+use ca_direct::Scene;
+use ca_model::{Heap, Slot, Trap, TrapKind, Value};
+use ca_program::{Expr, FieldId, Program};
+use std::alloc::Global;
+
+/// The work that is left, the values that it takes, the bodies that run, the heap, and the steps left.
+#[derive(Drop)]
+pub struct Machine<'a> {
+    pub todo: Stack<Work<'a>>,
+    pub values: Stack<Value>,
+    pub bodies: Bodies,
+    pub heap: Heap,
+    pub left: u64,
+}
+
+impl<'a> Machine<'a> {
+    ghost use Rattle.ca_serial.specs.Resume.{rest_of, looked_up};
+
+    /// The machine before `main`.
+    pub fn new(alloc: Global, program: &'a Program, budget: u64) -> Result<Machine<'a>, Memory>
+        ensures { IfOk result (λ m. ended budget (rest_of (program_view program.now) m.todo m []) ≡ serial (program_view program.now) budget) }
+    {
+        let mut todo = Stack::new(alloc);
+        todo.push(Work::Seq(program.main.stmts.as_slice()))?;
+        Ok(Machine {
+            todo,
+            values: Stack::new(alloc),
+            bodies: Bodies::new(alloc, program.main.locals.as_slice())?,
+            heap: Heap::new(alloc),
+            left: budget,
+        })
+    }
+
+    /// What expressions are read in.
+    #[inline]
+    fn scene(&self) -> Scene<'_>
+        ensures heap { result.heap.now ≡ self.now.heap }
+        ensures this { result.this ≡ self.now.bodies.current.this }
+        ensures locals { result.locals.now ≡ self.now.bodies.current.locals }
+    {
+        Scene {
+            heap: &self.heap,
+            this: self.bodies.this(),
+            locals: self.bodies.locals(),
+        }
+    }
+
+    /// The value of an expression, where it is found without a call.
+    #[inline]
+    pub fn value_of(&self, program: &Program, line: u32, e: &Expr) -> Option<Value>
+        ensures { IfSome result (λ v. value_in (program_view program.now).functions self.now.heap self.now.bodies.current.this line self.now.bodies.current.locals (expression_view e.now) self.now.left ≡ gives v self.now.left) }
+    {
+        self.scene().value_of(e)
+    }
+
+    /// The truth value of an expression, where it is found without a call.
+    #[inline]
+    pub fn truth_of(&self, program: &Program, line: u32, e: &Expr) -> Option<bool>
+        ensures { IfSome result (λ b. value_in (program_view program.now).functions self.now.heap self.now.bodies.current.this line self.now.bodies.current.locals (expression_view e.now) self.now.left ≡ gives (Truth b) self.now.left) }
+    {
+        self.scene().truth_of(e)
+    }
+
+    /// The item that an index names in an array field of the object that a value names.
+    #[inline]
+    pub fn indexed(
+        &self,
+        line: u32,
+        object: Value,
+        field: FieldId,
+        index: Value,
+    ) -> Result<Option<Found>, Memory>
+        ensures { IfOk result (λ found. indexed line (items_in (slice_get (own_of self.now.heap object) field.field)) index self.now.left ≡ looked_up line found self.now.left) }
+    {
+        let Value::Long(number) = index else {
+            return Ok(None);
+        };
+        if number < 0 {
+            return Ok(None);
+        }
+        let Some(value) = item_of(&self.heap, object, field, number as usize) else {
+            return Ok(None);
+        };
+        // No heap holds so many values that a place passes a u32.
+        match u32::try_from(number) {
+            Ok(place) => Ok(Some(Found { place, value })),
+            Err(_) => Err(Memory),
+        }
+    }
+}
+
+/// An item of an array: its place and its value.
+#[derive(Clone, Copy)]
+pub struct Found {
+    pub place: u32,
+    pub value: Value,
+}
+
+/// The slot of a field of the object that a value names.
+#[inline]
+fn slot_of(heap: &Heap, object: Value, field: FieldId) -> Option<&Slot>
+    ensures { option_copied result ≡ slice_get (own_of heap.now object) field.field }
+{
+    match object {
+        Value::Ref(id) => {
+            if id < heap.len() {
+                heap.get(id).slots.get(field.field)
+            } else {
+                None
+            }
+        }
+        _ => None,
+    }
+}
+
+/// The single value of a field of the object that a value names, and null where there is none.
+#[inline]
+pub fn field_of(heap: &Heap, object: Value, field: FieldId) -> Value
+    ensures { result ≡ one_in (slice_get (own_of heap.now object) field.field) }
+{
+    match slot_of(heap, object, field) {
+        Some(slot) => match slot {
+            Slot::One(value) => *value,
+            Slot::Many(_) => Value::Null,
+        },
+        None => Value::Null,
+    }
+}
+
+/// An item of an array field of the object that a value names, if there is one.
+#[inline]
+pub fn item_of(heap: &Heap, object: Value, field: FieldId, place: usize) -> Option<Value>
+    ensures { result ≡ slice_get (items_in (slice_get (own_of heap.now object) field.field)) place }
+{
+    match slot_of(heap, object, field) {
+        Some(slot) => match slot {
+            Slot::One(_) => None,
+            Slot::Many(values) => values.get(place),
+        },
+        None => None,
+    }
+}
+
+/// Puts a value into a field of the object that a value names, if there is one that is no array.
+#[inline]
+pub fn put(heap: &mut Heap, object: Value, field: FieldId, value: Value)
+    ensures { heap.new ≡ put_own heap.old object field 0 value }
+{
+    if let Value::Ref(id) = object {
+        if heap.has_slot(id, field.field, 0) {
+            heap.store(id, field.field, 0, value);
+        }
+    }
+}
+
+/// Puts a value into an item of a field of the object that a value names.
+#[inline]
+pub fn store(heap: &mut Heap, object: Value, field: FieldId, item: u32, value: Value)
+    requires { HasOwn heap.old object field item }
+    ensures { heap.new ≡ put_own heap.old object field item value }
+{
+    if let Value::Ref(id) = object {
+        heap.store(id, field.field, item, value);
+    }
+}
+
+/// A trap on a line.
+#[inline]
+pub fn trapped(line: u32, kind: TrapKind) -> Next
+    ensures { result ≡ Trapped (record { line = line; kind = kind }) }
+{
+    Next::Trapped(Trap { line, kind })
+}

@@ -1,0 +1,79 @@
+//! The whole run.
+
+ghost use Rattle.std.specs.Prelude.{◌≡◌, ◌≤◌, IfOk};
+ghost use Rattle.ca_base.specs.Devices.{Rose, Writes};
+ghost use Rattle.ca_program.specs.View.{program_view};
+ghost use Rattle.ca_meaning.specs.Serial.{serial};
+ghost use Rattle.ca_meaning.specs.Output.{prints_text};
+ghost use Rattle.ca_serial.specs.Runs.{run_with, prints_of, OnWrite};
+
+use crate::machine::Machine;
+use crate::print::print_line;
+use crate::work::Next;
+use ca_base::Sink;
+use ca_model::{Heap, Trap};
+use ca_program::Program;
+use std::alloc::Global;
+use std::sync::Wait;
+use thiserror::Error;
+
+/// How a run ends: with its heap and the steps that it took, by a trap, or with a step too many.
+#[derive(Drop)]
+pub enum Outcome {
+    Done { heap: Heap, steps: u64 },
+    Trapped(Trap),
+    Spent,
+}
+
+/// Why a run gives up: a write failed, or memory is wanting.
+#[derive(Clone, Copy, PartialEq, Eq, Debug, Error)]
+pub enum RunError {
+    #[error("a write failed")]
+    Write,
+    #[error("out of memory")]
+    Memory,
+}
+
+/// Runs `main` from the empty heap with a budget of steps. What it prints goes to the sink at once.
+///
+/// After an error a beginning of the prints was written.
+pub fn drive<R: Wait, K: Sink>(
+    rt: &R,
+    alloc: Global,
+    program: &Program,
+    budget: u64,
+    sink: &mut K,
+) -> Result<Outcome, RunError>
+    // The outcome is that of the depth-first serial run.
+    ensures outcome { IfOk result (λ outcome. serial (program_view program.now) budget ≡ run_with (prints_of (serial (program_view program.now) budget)) outcome) }
+    // Its prints were written, or a beginning of them before an error.
+    ensures prints { Writes (K.written sink.old) (K.written sink.new) result (prints_text (prints_of (serial (program_view program.now) budget))) }
+    ensures write { OnWrite result (Rose (K.faults sink.old) (K.faults sink.new)) }
+    ensures later { K.faults sink.old ≤ K.faults sink.new }
+{
+    let Ok(mut machine) = Machine::new(alloc, program, budget) else {
+        return Err(RunError::Memory);
+    };
+    for _ in rt.forever() {
+        let Some(work) = machine.todo.pop() else {
+            break;
+        };
+        let Ok(next) = machine.step(program, work) else {
+            return Err(RunError::Memory);
+        };
+        match next {
+            Next::GoesOn => {}
+            Next::Printed(value) => {
+                if let Err(_) = print_line(value, sink) {
+                    return Err(RunError::Write);
+                }
+            }
+            Next::Trapped(trap) => return Ok(Outcome::Trapped(trap)),
+            Next::Spent => return Ok(Outcome::Spent),
+        }
+    }
+    Ok(Outcome::Done {
+        steps: budget.saturating_sub(machine.left),
+        heap: machine.heap,
+    })
+}

@@ -1,0 +1,69 @@
+//! What is left to do.
+
+use ca_model::{Trap, Value};
+use ca_program::{
+    AssignOp, BinaryOp, ClassId, Expr, FieldId, FunctionId, LocalId, OpId, Stmt, UnaryOp,
+};
+
+/// What is called.
+#[derive(Clone, Copy)]
+pub enum Target {
+    Function(FunctionId),
+    Operation(OpId),
+}
+
+/// What takes the value on top of the stack. A number that comes first is the line of the innermost
+/// statement.
+#[derive(Clone, Copy)]
+pub enum Taker<'a> {
+    /// Reads a field of the object that the value names.
+    ReadField(u32, FieldId),
+    /// Checks the value, which is to name an object, and goes on with the index of an item of it.
+    CheckObject(u32, FieldId, &'a Expr),
+    /// Reads the item that the value is the index of, in a field of an object.
+    ReadItem(u32, Value, FieldId),
+    Sign(UnaryOp),
+    /// Goes on with the right side, unless the value, which is that of the left side, decides.
+    CheckLeft(u32, BinaryOp, &'a Expr),
+    /// Applies an operator to the value of its left side and the value.
+    Apply(u32, BinaryOp, Value),
+    PutLocal(LocalId, AssignOp),
+    PutField(FieldId, AssignOp),
+    /// Checks the value, which is the index of an own item, and goes on with the right side.
+    CheckIndex(u32, FieldId, AssignOp, &'a Expr),
+    /// Puts the value into an own item.
+    PutItem(u32, FieldId, u32, AssignOp),
+    /// Puts a new object into the own item that the value is the index of.
+    NewItem(u32, FieldId, ClassId),
+    Print,
+    Choose(&'a Stmt, &'a Stmt),
+    /// Enters a turn of a loop if the value, which is that of its condition, is true.
+    Turn(u32, &'a Stmt),
+    GiveBack,
+}
+
+/// A piece of work. A number that comes first is the line of the innermost statement.
+#[derive(Clone, Copy)]
+pub enum Work<'a> {
+    /// Evaluates an expression.
+    Evaluate(u32, &'a Expr),
+    Take(Taker<'a>),
+    /// Goes on with a call whose receiver and first arguments are values: so many of them.
+    Collect(u32, Target, &'a [Expr], usize),
+    /// Runs a statement on a line.
+    Exec(u32, &'a Stmt),
+    Seq(&'a [Stmt]),
+    /// A loop that comes again.
+    Again(u32, &'a Stmt),
+    /// The end of a body that was called.
+    Leave,
+}
+
+/// How a piece of work ends.
+#[derive(Clone, Copy)]
+pub enum Next {
+    GoesOn,
+    Printed(Value),
+    Trapped(Trap),
+    Spent,
+}

@@ -1,0 +1,2 @@
+pub mod SmallForm
+pub mod TypedPuts

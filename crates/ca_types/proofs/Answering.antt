@@ -1,0 +1,91 @@
+-- How right answers for parts make right answers for the whole.
+use Rattle.std.proofs.Common.{◌≡◌, List, [], ◌∷◌, ◌++◌, Option, Some, None, Result, Ok, Err, map, Vec, Global, refl, sym, subst, ◌∙◌, ap, arith}
+use Rattle.std.proofs.lemmas.List.{map-append}
+use Rattle.ca_resolve.specs.declared.errors.CheckError.{CheckError}
+use Rattle.ca_resolve.specs.declared.errors.CheckError.TheVariants.{Violation as Tells_violation, Limit as Tells_limit, Memory}
+use Rattle.ca_resolve.specs.Judged.{Violation, Judged, fine, faulty, violations, both, within, unless, beside, Tells, Answers, Finds, Joins, Extends}
+use Rattle.ca_types.specs.Rules.{listed}
+use Rattle.ca_types.specs.Statements.{added}
+
+both_violations : {A B : Type 0} (j : Judged A) (k : Judged B) → violations (both j k) ≡ violations j ++ violations k
+both_violations (fine a) (fine b) = refl
+both_violations (fine a) (faulty u us) = refl
+both_violations (faulty v vs) k = refl
+
+-- an answer finds the violations
+pub finds : {T A : Type 0} (view : T → A) (r : Result T CheckError) (j : Judged A) → Answers view r j → Finds r (violations j)
+finds view (Ok t) j h = ap violations h
+finds view (Err e) j h = h
+
+-- where an error tells nothing, nothing else is claimed of it
+pub within_err : {A B : Type 0} (e : CheckError) (j : Judged A) (rule : A → Judged B) → Tells e (violations j) → Tells e (violations (within j rule))
+within_err (Tells_violation at code) (fine a) rule h = absurd (omega (arith, h.1.one.1))
+within_err (Tells_limit at code) (fine a) rule h = absurd (omega (arith, h.1.one.1))
+within_err Memory (fine a) rule h = (tt, tt)
+within_err e (faulty v vs) rule h = h
+
+pub within_ok : {A B : Type 0} (j : Judged A) (rule : A → Judged B) (a : A) → j ≡ fine a → within j rule ≡ rule a
+within_ok j rule a h = ap (λ k. within k rule) h
+
+pub joined : {T U A B : Type 0} (f : T → A) (g : U → B) (a : Result T CheckError) (b : Result U CheckError) (r : Result (T × U) CheckError) (j : Judged A) (k : Judged B)
+    → Joins a b r → Answers f a j → Answers g b k → Answers (λ (p : T × U). (f p.0, g p.1)) r (both j k)
+joined f g a b (Ok p) j k h x y =
+    let x2 = subst (λ z. Answers f z j) h.0 x in
+    let y2 = subst (λ z. Answers g z k) h.1 y in
+    rw x2 (rw y2 refl)
+joined f g a b (Err e) j k h x y = subst (λ vs. Tells e vs) (sym (both_violations j k)) (h (violations j) (violations k) (finds f a j x) (finds g b k y))
+
+pub besides : {T U A : Type 0} (f : U → A) (a : Result T CheckError) (b : Result U CheckError) (r : Result (T × U) CheckError) (v : Option Violation) (k : Judged A)
+    → Joins a b r → Finds a (listed v) → Answers f b k → Answers (λ (p : T × U). f p.1) r (beside v k)
+besides f a b (Ok p) None k h x y = subst (λ z. Answers f z k) h.1 y
+besides f a b (Ok p) (Some v) k h x y = let x2 = subst (λ z. Finds z (v ∷ [])) h.0 x in absurd (cc)
+besides f a b (Err e) None k h x y = h [] (violations k) x (finds f b k y)
+besides f a b (Err e) (Some v) k h x y = h (v ∷ []) (violations k) x (finds f b k y)
+
+pub extended : {T A : Type 0} (f : T → A) (a : Result (Vec T Global) CheckError) (b : Result T CheckError) (r : Result (Vec T Global) CheckError) (j : Judged (List A)) (k : Judged A)
+    → Extends a b r → Answers (λ (v : Vec T Global). map f v.items) a j → Answers f b k → Answers (λ (v : Vec T Global). map f v.items) r (added j k)
+extended f a b (Ok w) j k h x y =
+    let x2 = subst (λ z. Answers (λ (v : Vec _ Global). map f v.items) z j) h.2 x in
+    let y2 = subst (λ z. Answers f z k) h.3 y in
+    let e : map f w.items ≡ map f h.0.items ++ f h.1 ∷ [] = ap (map f) h.4 ∙ map-append f h.0.items (h.1 ∷ []) in
+    rw x2 (rw y2 (ap (λ (zs : List _). fine zs) (sym e)))
+extended f a b (Err e) j k h x y =
+    within_err e (both j k) (λ p. fine (p.0 ++ p.1 ∷ []))
+    (subst (λ vs. Tells e vs) (sym (both_violations j k)) (h (violations j) (violations k) (finds (λ (v : Vec _ Global). map f v.items) a j x) (finds f b k y)))
+
+-- the rule of a node's own
+pub stands : {T A : Type 0} (a : Result T CheckError) (t : T) (v : Option Violation) (x : A) → Finds a (listed v) → a ≡ Ok t → unless v x ≡ fine x
+stands a t None x h e = refl
+stands a t (Some v) x h e = let x2 = subst (λ z. Finds z (v ∷ [])) e h in absurd (cc)
+
+pub breaks : {T A : Type 0} (a : Result T CheckError) (d : CheckError) (v : Option Violation) (x : A) → Finds a (listed v) → a ≡ Err d → Tells d (violations (unless v x))
+breaks a d None x h e = subst (λ z. Finds z []) e h
+breaks a d (Some v) x h e = subst (λ z. Finds z (v ∷ [])) e h
+
+-- two rules of a node's own
+pub pair_breaks : {T U A : Type 0} (a : Result T CheckError) (b : Result U CheckError) (r : Result (T × U) CheckError) (e : CheckError) (v w : Option Violation) (x : A)
+    → Joins a b r → Finds a (listed v) → Finds b (listed w) → r ≡ Err e → Tells e (violations (beside v (unless w x)))
+pair_breaks a b r e None None x h p q k = (subst (λ z. Joins a b z) k h) [] [] p q
+pair_breaks a b r e None (Some w) x h p q k = (subst (λ z. Joins a b z) k h) [] (w ∷ []) p q
+pair_breaks a b r e (Some v) None x h p q k = (subst (λ z. Joins a b z) k h) (v ∷ []) [] p q
+pair_breaks a b r e (Some v) (Some w) x h p q k = (subst (λ z. Joins a b z) k h) (v ∷ []) (w ∷ []) p q
+
+-- a node inside which all is fine
+pub own_tells : {A B : Type 0} (e : CheckError) (j : Judged A) (rule : A → Judged B) (a : A) → j ≡ fine a → Tells e (violations (rule a)) → Tells e (violations (within j rule))
+own_tells e j rule a h t = subst (λ k. Tells e (violations (within k rule))) (sym h) t
+
+pub joined_tells : {T U A B : Type 0} (f : T → A) (g : U → B) (a : Result T CheckError) (b : Result U CheckError) (r : Result (T × U) CheckError) (e : CheckError) (j : Judged A) (k : Judged B)
+    → Joins a b r → Answers f a j → Answers g b k → r ≡ Err e → Tells e (violations (both j k))
+joined_tells f g a b r e j k h x y q = subst (λ z. Answers (λ (p : _ × _). (f p.0, g p.1)) z (both j k)) q (joined f g a b r j k h x y)
+
+pub besides_tells : {T U A : Type 0} (f : U → A) (a : Result T CheckError) (b : Result U CheckError) (r : Result (T × U) CheckError) (e : CheckError) (v : Option Violation) (k : Judged A)
+    → Joins a b r → Finds a (listed v) → Answers f b k → r ≡ Err e → Tells e (violations (beside v k))
+besides_tells f a b r e v k h x y q = subst (λ z. Answers (λ (p : _ × _). f p.1) z (beside v k)) q (besides f a b r v k h x y)
+
+pub pair_stands : {T U A : Type 0} (a : Result T CheckError) (b : Result U CheckError) (r : Result (T × U) CheckError) (p : T × U) (v w : Option Violation) (x : A)
+    → Joins a b r → Finds a (listed v) → Finds b (listed w) → r ≡ Ok p → beside v (unless w x) ≡ fine x
+pair_stands a b r p None w x h m n k =
+    let both_ok = subst (λ z. Joins a b z) k h in stands b p.1 w x n both_ok.1
+pair_stands a b r p (Some v) w x h m n k =
+    let both_ok = subst (λ z. Joins a b z) k h in
+    let first : Finds (Ok p.0) (v ∷ []) = subst (λ z. Finds z (v ∷ [])) both_ok.0 m in absurd (cc)

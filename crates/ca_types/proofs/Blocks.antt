@@ -1,0 +1,75 @@
+-- What the end of a block leaves of where its last statement ends.
+use Rattle.std.proofs.Common.{◌≡◌, ℕ, ◌+◌, suc, List, Option, drop, refl, sym, subst, ◌∙◌, ap, arith}
+use Rattle.ca_tree.specs.Plain.{Statement, Statements, empty, block, local, assign, call_statement, if_only, if_else, while_loop, for_loop, return_value, print_value, no_statements, statement_and}
+use Rattle.ca_program.specs.declared.program.ClassId.{ClassId}
+use Rattle.ca_program.specs.declared.program.ValueType.{ValueType}
+use Rattle.ca_resolve.specs.Scopes.{Sort, VisibleLocal, Classes}
+use Rattle.ca_types.specs.Statements.{Standing, opened, closed, counted, left, declaring, behind, behind_all}
+
+-- two places in one block
+pub record SameBlock (c d : Standing) : Type 0 where
+  pub classes : d.scope.classes ≡ c.scope.classes
+  pub class : d.scope.class ≡ c.scope.class
+  pub result : d.result ≡ c.result
+  pub outside : drop d.in_block d.scope.locals ≡ drop c.in_block c.scope.locals
+
+pub same_block : (c : Standing) → SameBlock c c
+same_block c = record { classes = refl; class = refl; result = refl; outside = refl }
+
+pub then_same : (c d e : Standing) → SameBlock c d → SameBlock d e → SameBlock c e
+then_same c d e f g = record { classes = g.classes ∙ f.classes; class = g.class ∙ f.class; result = g.result ∙ f.result; outside = g.outside ∙ f.outside }
+
+pub declaring_same : (c : Standing) (s : Sort) (name : List ℕ) → SameBlock c (declaring c s name)
+declaring_same c s name = record { classes = refl; class = refl; result = refl; outside = let n : c.in_block + 1 ≡ suc c.in_block = omega arith in rw n refl }
+
+pub behind_same : (s : Statement) (c : Standing) → SameBlock c (behind c s)
+behind_same (empty at) c = same_block c
+behind_same (block at ss) c = record { classes = refl; class = refl; result = refl; outside = refl }
+behind_same (local at ty name name_at right) c = declaring_same c _ name
+behind_same (assign at target op right) c = same_block c
+behind_same (call_statement at e) c = same_block c
+behind_same (if_only at e s) c = record { classes = refl; class = refl; result = refl; outside = refl }
+behind_same (if_else at e a b) c = record { classes = refl; class = refl; result = refl; outside = refl }
+behind_same (while_loop at e s) c = record { classes = refl; class = refl; result = refl; outside = refl }
+behind_same (for_loop at first e next s) c = record { classes = refl; class = refl; result = refl; outside = refl }
+behind_same (return_value at e) c = same_block c
+behind_same (print_value at e) c = same_block c
+
+pub behind_all_same : (ss : Statements) (c : Standing) → SameBlock c (behind_all c ss)
+behind_all_same no_statements c = same_block c
+behind_all_same (statement_and s ss) c = then_same c (behind c s) (behind_all (behind c s) ss) (behind_same s c) (behind_all_same ss (behind c s))
+
+made : (a a' : Classes) (b b' : Option ClassId) (ls ls' : List VisibleLocal) (n m : ℕ) (types : List ValueType) (loops : ℕ) (r r' : Option Sort) → a ≡ a' → b ≡ b' → ls ≡ ls' → r ≡ r'
+    → (let one : Standing = record { scope = record { classes = a; class = b; locals = ls }; in_block = n; first = m; locals = types; loops = loops; result = r } in one)
+    ≡ (let other : Standing = record { scope = record { classes = a'; class = b'; locals = ls' }; in_block = n; first = m; locals = types; loops = loops; result = r' } in other)
+made a a' b b' ls ls' n m types loops r r' p q t u = rw (p, q, t, u) refl
+
+left_is_closed : (c d : Standing) → SameBlock (opened c) d → left d c.in_block c.first ≡ closed c d
+left_is_closed c d f = made d.scope.classes c.scope.classes d.scope.class c.scope.class (drop d.in_block d.scope.locals) c.scope.locals c.in_block c.first d.locals d.loops d.result c.result f.classes f.class f.outside f.result
+
+-- a block that began at c and whose last statement ends at d
+block_ends : (c d f : Standing) (n m : ℕ) → n ≡ c.in_block → m ≡ c.first → SameBlock (opened c) d → f ≡ left d n m → f ≡ closed c d
+block_ends c d f n m p q same e = e ∙ (ap (λ z. left d z m) p ∙ (ap (left d c.in_block) q ∙ left_is_closed c d same))
+
+pub inner_behind : (c o d f : Standing) (n m : ℕ) (s : Statement) → o ≡ opened c → n ≡ c.in_block → m ≡ c.first → d ≡ behind o s → f ≡ left d n m → f ≡ closed c (behind (opened c) s)
+inner_behind c o d f n m s opens count first inside ends =
+    let e : d ≡ behind (opened c) s = inside ∙ ap (λ z. behind z s) opens in
+    block_ends c d f n m count first (subst (SameBlock (opened c)) (sym e) (behind_same s (opened c))) ends ∙ ap (closed c) e
+
+pub block_behind : (c o d f : Standing) (n m : ℕ) (ss : Statements) → o ≡ opened c → n ≡ c.in_block → m ≡ c.first → d ≡ behind_all o ss → f ≡ left d n m → f ≡ closed c (behind_all (opened c) ss)
+block_behind c o d f n m ss opens count first inside ends =
+    let e : d ≡ behind_all (opened c) ss = inside ∙ ap (λ z. behind_all z ss) opens in
+    block_ends c d f n m count first (subst (SameBlock (opened c)) (sym e) (behind_all_same ss (opened c))) ends ∙ ap (closed c) e
+
+-- the block round a `for` begins behind the word, and ends where the loop's body does
+pub loop_behind : (c b n i f : Standing) (count number : ℕ) (first next s : Statement) → count ≡ c.in_block → number ≡ c.first → b ≡ behind (opened (counted c)) first
+    → n ≡ closed b (behind (opened b) next) → i ≡ closed n (behind (opened n) s) → f ≡ left i count number
+    → f ≡ closed c (behind (opened (closed (behind (opened (counted c)) first) (behind (opened (behind (opened (counted c)) first)) next))) s)
+loop_behind c b n i f count number first next s counts numbers begins steps inside ends =
+    let begun = behind (opened (counted c)) first in
+    let same = behind_same first (opened (counted c)) in
+    let stepped = closed begun (behind (opened begun) next) in
+    let last = closed stepped (behind (opened stepped) s) in
+    let n_is : n ≡ stepped = steps ∙ ap (λ z. closed z (behind (opened z) next)) begins in
+    let i_is : i ≡ last = inside ∙ ap (λ z. closed z (behind (opened z) s)) n_is in
+    block_ends c last f count number counts numbers (record { classes = same.classes; class = same.class; result = same.result; outside = same.outside }) (ends ∙ ap (λ z. left z count number) i_is)

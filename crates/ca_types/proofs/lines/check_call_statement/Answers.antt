@@ -1,0 +1,35 @@
+use Rattle.std.proofs.Common.{ap, ◌∙◌, sym}
+use Rattle.std.proofs.lemmas.Result.{err_from_is_err_and}
+use Rattle.ca_tree.specs.View.{expression_view}
+use Rattle.ca_program.specs.Plain as program
+use Rattle.ca_resolve.specs.Judged.{fine, within}
+use Rattle.ca_resolve.specs.Scopes.{Invocation}
+use Rattle.ca_resolve.specs.Values.{judge_call, place_of, in_order}
+use Rattle.ca_resolve.specs.View.{invocation_view}
+use Rattle.ca_types.specs.Rules.{called_operation}
+use Rattle.ca_types.specs.View.{standing_view}
+use Rattle.ca_types.proofs.Answering.{own_tells, within_err, within_ok}
+use Rattle.ca_types.proofs.Nodes.{place_is, values_are}
+use Rattle.ca_types.proofs.lines.check_call_statement.Goals as goal
+
+pub returns-in_err-op : goal.returns-in_err-op
+returns-in_err-op c =
+    let s = standing_view c.args.walk.now in
+    let e = expression_view c.args.e.now in
+    let err = c.in_err-op.field-0.0 in
+    let i = invocation_view c.in_ok-call.call in
+    let p = err_from_is_err_and c.from_residual-in_err-op.result c.from_residual-in_err-op.ensures.1 in
+    rw (p.1, p.2)
+    (own_tells err (judge_call s.scope e) (λ (i : Invocation). within (called_operation s.result i.callee (place_of e)) (λ o. fine (program.invoke c.args.at.line i.receiver o (in_order i.arguments)))) i
+    (ap (λ z. judge_call z e) (sym c.scope.ensures) ∙ c.in_ok-call.ensures)
+    (rw (place_is c.args.e.now)
+    (within_err err (called_operation s.result i.callee c.args.e.now.at) (λ o. fine (program.invoke c.args.at.line i.receiver o (in_order i.arguments))) c.in_err-op.ensures)))
+
+pub returns : goal.returns
+returns c =
+    let s = standing_view c.args.walk.now in
+    let e = expression_view c.args.e.now in
+    let i = invocation_view c.in_ok-call.call in
+    within_ok (judge_call s.scope e) (λ (i : Invocation). within (called_operation s.result i.callee (place_of e)) (λ o. fine (program.invoke c.args.at.line i.receiver o (in_order i.arguments)))) i
+    (ap (λ z. judge_call z e) (sym c.scope.ensures) ∙ c.in_ok-call.ensures)
+    ∙ (rw (place_is c.args.e.now) (rw c.in_ok-op.ensures (ap (λ z. fine (program.invoke c.args.at.line i.receiver c.in_ok-op.op z)) (values_are c.in_ok-call.call.arguments.items))))

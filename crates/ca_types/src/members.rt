@@ -1,0 +1,297 @@
+//! Fields, parameters and methods.
+
+ghost use Rattle.std.specs.Prelude.{◌≡◌, ℕ, List, Option, IfOk, OnOk, is_some, length, map, false};
+ghost use Rattle.std.specs.Option.{option_map};
+ghost use Rattle.ca_tree.specs.View.{statement_view, statements_view, method_view as tree_method};
+ghost use Rattle.ca_program.specs.View.{method_view};
+ghost use Rattle.ca_program.specs.Plain.{Statement};
+ghost use Rattle.ca_resolve.specs.Judged.{Answers, Finds, Judged, fine, both, within};
+ghost use Rattle.ca_resolve.specs.LocalView.{sort_view};
+ghost use Rattle.ca_resolve.specs.View.{classes_view};
+ghost use Rattle.ca_types.specs.Rules.{listed, returns, last_returns, member_once, ends_with_return, length_stands, length_limit};
+ghost use Rattle.ca_types.specs.Classes.{behind_parameters, judge_parameter, judge_parameters, item_count, judge_field_member, judge_result_type, result_sort, method_limit, method_begin, body_begin, method_end, judge_method, judge_parts};
+ghost use Rattle.ca_types.specs.View.{standing_view, member_standing, all_view, method_parts_view};
+ghost use Rattle.ca_program.specs.declared.program.ValueType.{ValueType as PlainType};
+
+use crate::rules::{bound, check_type, rule};
+use crate::statements::{Answer, check_statements};
+use crate::walk::Walk;
+use ca_program::{Body, ClassId, FieldInfo, Method, Stmt, ValueType};
+use ca_resolve::{CheckError, ClassTable, Names, Sort, both};
+use ca_tree::{FieldNode, MethodNode, Name, ParamNode, Place, StmtKind, StmtNode, TypeNode};
+use std::alloc::{AllocError, Global};
+
+/// The most fields, operations and value methods, and the most locals of a body.
+const MOST: u32 = 256;
+
+const MOST_LOCALS: usize = 256;
+
+const MOST_PARAMETERS: usize = 32;
+
+/// The most items of an array.
+const MOST_ITEMS: i64 = 1_000_000;
+
+/// How many fields of the class, and operations and value methods of the program, come before.
+#[derive(Clone, Copy)]
+pub(crate) struct Counts {
+    pub(crate) fields: u32,
+    pub(crate) operations: u32,
+    pub(crate) functions: u32,
+}
+
+/// Where a member stands in its class, and what the program has before.
+#[derive(Drop)]
+pub(crate) struct MemberWalk<'s, 'a> {
+    pub(crate) classes: &'s ClassTable<'a>,
+    pub(crate) class: ClassId,
+    /// The names of all members of the class.
+    pub(crate) names: Names<'a>,
+    /// The number of the member in its class.
+    pub(crate) number: u32,
+    pub(crate) counts: Counts,
+    /// How many `for` statements come before.
+    pub(crate) loops: u32,
+}
+
+/// A parameter, before it is declared.
+fn check_parameter(walk: &Walk, param: &ParamNode) -> Answer<ValueType>
+    ensures { Answers (λ t. t) result (judge_parameter (standing_view walk.now) param.now) }
+{
+    let many = bound(walk.count() == MOST_PARAMETERS, param.at, 54);
+    let full = bound(walk.count() == MOST_LOCALS, param.at, 55);
+    let written = check_type(walk.classes, &param.ty);
+    let (_, (_, ty)) = both(many, both(full, written))?;
+    walk.local_once(&param.name, param.at)?;
+    Ok(ty)
+}
+
+/// The parameters of a method, each of which is a local of its body.
+fn check_parameters<'a>(
+    walk: &mut Walk<'_, 'a>,
+    params: &'a [ParamNode],
+) -> Result<Answer<()>, AllocError>
+    ensures judged { IfOk result (λ a. Answers (λ u. u) a (judge_parameters (standing_view walk.old) params.now)) }
+    ensures behind { OnOk result (standing_view walk.new ≡ behind_parameters (standing_view walk.old) params.now) }
+{
+    let mut answers = Ok(());
+    for param in params {
+        let answer = check_parameter(walk, param);
+        let sort = walk.classes.sort_of(&param.ty);
+        walk.declare(sort, &param.name)?;
+        answers = and_also(answers, answer);
+    }
+    Ok(answers)
+}
+
+/// The parameters so far and one more, of which only the violations count.
+fn and_also(front: Answer<()>, one: Answer<ValueType>) -> Answer<()>
+    ensures { (j : Judged (Unit {0})) (k : Judged PlainType) → Answers (λ u. u) front j → Answers (λ t. t) one k → Answers (λ u. u) result (within (both j k) (λ r. fine r.0)) }
+{
+    let (first, _) = both(front, one)?;
+    Ok(first)
+}
+
+/// Whether the member of this number is the first of its name.
+fn member_once(standing: &MemberWalk, name: &Name, at: Place) -> Answer<()>
+    ensures { Finds result (listed (member_once (member_standing standing.now).names (member_standing standing.now).number name.now at)) }
+{
+    rule(standing.names.number(name) != Some(standing.number), at, 22)
+}
+
+/// An array has at least one item.
+fn length_stands(length: Option<i64>, at: Place) -> Answer<()>
+    ensures { Finds result (listed (length_stands length at)) }
+{
+    match length {
+        None => Ok(()),
+        Some(n) => rule(n <= 0, at, 33),
+    }
+}
+
+/// An array has not too many items.
+fn length_limit(length: Option<i64>, at: Place) -> Answer<()>
+    ensures { Finds result (listed (length_limit length at)) }
+{
+    match length {
+        None => Ok(()),
+        Some(n) => bound(n > MOST_ITEMS, at, 56),
+    }
+}
+
+/// How many items an array has.
+fn item_count(length: Option<i64>) -> Result<Option<u32>, AllocError>
+    ensures { IfOk result (λ n. n ≡ item_count length) }
+{
+    match length {
+        None => Ok(None),
+        Some(n) => {
+            let count = u32::try_from(n.unsigned_abs()).or(Err(AllocError))?;
+            Ok(Some(count))
+        }
+    }
+}
+
+/// A field.
+pub(crate) fn check_field(
+    alloc: Global,
+    standing: &MemberWalk,
+    field: &FieldNode,
+) -> Answer<FieldInfo>
+    ensures { Answers (λ f. f) result (judge_field_member (member_standing standing.now) field.now) }
+{
+    let many = bound(standing.counts.fields == MOST, field.at, 51);
+    let long = length_limit(field.length, field.at);
+    let written = check_type(standing.classes, &field.ty);
+    let (_, (_, ty)) = both(many, both(long, written))?;
+    let again = member_once(standing, &field.name, field.at);
+    let empty = length_stands(field.length, field.at);
+    both(again, empty)?;
+    let length = item_count(field.length)?;
+    Ok(FieldInfo {
+        name: field.name.copy(alloc)?,
+        ty,
+        length,
+    })
+}
+
+/// Whether the statement ends with a `return` on each way through it.
+#[cycle(returns)]
+fn returns(stmt: &StmtNode) -> bool
+    ensures { result ≡ returns (statement_view stmt.now) }
+{
+    match &stmt.kind {
+        StmtKind::Return(_) => true,
+        StmtKind::Block(stmts) => last_returns(stmts),
+        StmtKind::If {
+            cond: _,
+            yes: yes_node,
+            no: no_node,
+        } => match no_node {
+            Some(node) => returns(yes_node) && returns(node),
+            None => false,
+        },
+        StmtKind::Empty
+        | StmtKind::Local { .. }
+        | StmtKind::Assign { .. }
+        | StmtKind::Call(_)
+        | StmtKind::While { .. }
+        | StmtKind::For { .. }
+        | StmtKind::Print(_) => false,
+    }
+}
+
+/// Whether the last statement does.
+#[cycle(returns)]
+fn last_returns(stmts: &[StmtNode]) -> bool
+    ensures { result ≡ last_returns false (statements_view stmts.now) }
+{
+    let mut last = false;
+    for stmt in stmts {
+        last = returns(stmt);
+    }
+    last
+}
+
+/// The type of a method's result.
+fn check_result_type(classes: &ClassTable, written: &Option<TypeNode>) -> Answer<Option<ValueType>>
+    ensures { Answers (λ t. t) result (judge_result_type (classes_view classes.now).names written.now) }
+{
+    match written {
+        None => Ok(None),
+        Some(ty) => {
+            let ty = check_type(classes, ty)?;
+            Ok(Some(ty))
+        }
+    }
+}
+
+fn result_sort<'a>(classes: &ClassTable<'a>, written: &'a Option<TypeNode>) -> Option<Sort<'a>>
+    ensures { option_map sort_view result ≡ result_sort (classes_view classes.now).names written.now }
+{
+    match written {
+        None => None,
+        Some(ty) => Some(classes.sort_of(ty)),
+    }
+}
+
+/// Not too many operations, and not too many value methods.
+fn method_limit(standing: &MemberWalk, method: &MethodNode) -> Answer<()>
+    ensures { Finds result (listed (method_limit (member_standing standing.now).numbers method.now.result method.now.at)) }
+{
+    match &method.result {
+        None => bound(standing.counts.operations == MOST, method.at, 52),
+        Some(_) => bound(standing.counts.functions == MOST, method.at, 53),
+    }
+}
+
+/// A value method can't end without a `return`.
+fn ends_with_return(method: &MethodNode) -> Answer<()>
+    ensures { Finds result (listed (ends_with_return (is_some method.now.result) (statements_view method.now.body.items) method.now.at)) }
+{
+    rule(
+        method.result.is_some() && !last_returns(&method.body),
+        method.at,
+        30,
+    )
+}
+
+/// A method, and how many `for` statements the program has behind it.
+pub(crate) fn check_method<'a>(
+    alloc: Global,
+    standing: &MemberWalk<'_, 'a>,
+    method: &'a MethodNode,
+) -> Result<(Answer<Method>, u32), AllocError>
+    ensures judged { IfOk result (λ p. Answers method_view p.0 (judge_method (member_standing standing.now) (tree_method method.now))) }
+    ensures loops { IfOk result (λ p. p.1 ≡ (method_end (member_standing standing.now) (tree_method method.now)).loops) }
+{
+    let sort = result_sort(standing.classes, &method.result);
+    let mut walk = Walk::new(
+        alloc,
+        standing.classes,
+        Some(standing.class),
+        standing.loops,
+        sort,
+    );
+    let params = check_parameters(&mut walk, &method.params)?;
+    let stmts = check_statements(alloc, &mut walk, &method.body)?;
+    let loops = walk.loops;
+    let written = check_result_type(standing.classes, &method.result);
+    let parts = both(written, both(params, stmts));
+    let answer = method_of(alloc, standing, method, walk.locals, parts);
+    Ok((answer, loops))
+}
+
+/// How many parameters; what has no number is larger than any memory.
+fn count_of(params: &[ParamNode]) -> Result<u32, AllocError>
+    ensures { IfOk result (λ n. n ≡ length params.now) }
+{
+    u32::try_from(params.len()).or(Err(AllocError))
+}
+
+/// What a method has: its result's type, its parameters and its statements.
+type MethodParts = (Option<ValueType>, ((), Vec<Stmt>));
+
+/// The method of its judged parts.
+fn method_of(
+    alloc: Global,
+    standing: &MemberWalk,
+    method: &MethodNode,
+    locals: Vec<ValueType>,
+    parts: Answer<MethodParts>,
+) -> Answer<Method>
+    ensures { (j : Judged (Option PlainType × (Unit {0} × List Statement))) → Answers method_parts_view parts j → locals.items ≡ (method_end (member_standing standing.now) (tree_method method.now)).locals → Answers method_view result (judge_parts (member_standing standing.now) (tree_method method.now) j) }
+{
+    let limit = method_limit(standing, method);
+    let (_, (result_type, (_, stmts))) = both(limit, parts)?;
+    let again = member_once(standing, &method.name, method.at);
+    let ends = ends_with_return(method);
+    both(again, ends)?;
+    let params = count_of(&method.params)?;
+    Ok(Method {
+        class: standing.class,
+        name: method.name.copy(alloc)?,
+        params,
+        body: Body { locals, stmts },
+        result: result_type,
+    })
+}

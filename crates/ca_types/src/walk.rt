@@ -1,0 +1,170 @@
+//! Where a statement stands.
+
+ghost use Rattle.std.specs.Prelude.{◌≡◌, ◌+◌, ◌∷◌, [], drop, length, map, IfOk, OnOk};
+ghost use Rattle.std.specs.Option.{option_map};
+ghost use Rattle.ca_resolve.specs.LocalView.{sort_view};
+ghost use Rattle.ca_resolve.specs.View.{scope_view, classes_view};
+ghost use Rattle.ca_resolve.specs.Judged.{Finds};
+ghost use Rattle.ca_resolve.specs.Scopes.{find_local};
+ghost use Rattle.ca_types.specs.Rules.{listed, local_once};
+ghost use Rattle.ca_types.specs.Statements.{type_of, declaring, opened, left, counted};
+ghost use Rattle.ca_types.specs.Classes.{beginning};
+ghost use Rattle.ca_types.specs.View.{standing_view};
+
+use crate::rules::rule;
+use ca_program::{ClassId, LocalId, LoopId, ValueType};
+use ca_resolve::{CheckError, ClassTable, Locals, Scope, Sort, VisibleLocal};
+use ca_tree::{Name, Place};
+use std::alloc::{AllocError, Global};
+
+/// How many locals the block round another has declared, and the number of its first.
+#[derive(Clone, Copy)]
+pub(crate) struct Outer {
+    pub(crate) in_block: usize,
+    pub(crate) first: usize,
+}
+
+/// Where a statement stands in its body, and what the body and the program have before.
+#[derive(Drop)]
+pub(crate) struct Walk<'s, 'a> {
+    pub(crate) classes: &'s ClassTable<'a>,
+    /// None in `main`.
+    pub(crate) class: Option<ClassId>,
+    /// In a value method, the type of its result.
+    pub(crate) result: Option<Sort<'a>>,
+    pub(crate) visible: Locals<'a>,
+    /// How many of them the innermost block has declared.
+    pub(crate) in_block: usize,
+    /// The number of the first local that is this block's.
+    pub(crate) first: usize,
+    /// The types of all locals of the body so far, parameters first.
+    pub(crate) locals: Vec<ValueType>,
+    /// How many `for` statements the program has before.
+    pub(crate) loops: u32,
+}
+
+impl<'s, 'a> Walk<'s, 'a> {
+    /// Where a body begins, behind so many `for` statements.
+    pub(crate) fn new(
+        alloc: Global,
+        classes: &'s ClassTable<'a>,
+        class: Option<ClassId>,
+        loops: u32,
+        returned: Option<Sort<'a>>,
+    ) -> Walk<'s, 'a>
+        ensures { standing_view result ≡ beginning (classes_view classes.now) class loops (option_map sort_view returned.entry) }
+    {
+        Walk {
+            classes,
+            class,
+            result: returned,
+            visible: Locals::new(alloc),
+            in_block: 0,
+            first: 0,
+            locals: Vec::new(alloc),
+            loops,
+        }
+    }
+
+    /// What names mean here.
+    pub(crate) fn scope(&self) -> Scope<'_, 'a>
+        ensures { scope_view result ≡ (standing_view self.now).scope }
+    {
+        Scope {
+            classes: self.classes,
+            class: self.class,
+            locals: &self.visible,
+        }
+    }
+
+    /// How many locals the body has declared.
+    pub(crate) fn count(&self) -> usize
+        ensures { result ≡ length (standing_view self.now).locals }
+    {
+        self.locals.len()
+    }
+
+    /// The number of the next local; a body that has none is larger than any memory.
+    pub(crate) fn next_local(&self) -> Result<LocalId, AllocError>
+        ensures { IfOk result (λ l. l ≡ record { 0 = length (standing_view self.now).locals }) }
+    {
+        let number = u32::try_from(self.count()).or(Err(AllocError))?;
+        Ok(LocalId(number))
+    }
+
+    /// Declares a local.
+    pub(crate) fn declare(&mut self, sort: Sort<'a>, name: &'a Name) -> Result<(), AllocError>
+        ensures { OnOk result (standing_view self.new ≡ declaring (standing_view self.old) (sort_view sort.entry) name.now) }
+    {
+        let id = self.next_local()?;
+        let in_block = self.in_block.checked_add(1).ok_or(AllocError)?;
+        self.visible.push(VisibleLocal { name, id, sort })?;
+        self.in_block = in_block;
+        self.locals.push(type_of(&sort))?;
+        Ok(())
+    }
+
+    /// Begins a block, and gives what the block round it needs at its end.
+    pub(crate) fn open(&mut self) -> Outer
+        ensures opened { standing_view self.new ≡ opened (standing_view self.old) }
+        ensures in_block { result.in_block ≡ (standing_view self.old).in_block }
+        ensures first { result.first ≡ (standing_view self.old).first }
+    {
+        let outer = Outer {
+            in_block: self.in_block,
+            first: self.first,
+        };
+        self.in_block = 0;
+        self.first = self.count();
+        outer
+    }
+
+    /// Ends a block inside the other.
+    pub(crate) fn close(&mut self, outer: Outer)
+        ensures { standing_view self.new ≡ left (standing_view self.old) outer.in_block outer.first }
+    {
+        leave(&mut self.visible, self.in_block);
+        self.in_block = outer.in_block;
+        self.first = outer.first;
+    }
+
+    /// Counts a `for` statement, and gives its number.
+    pub(crate) fn count_loop(&mut self) -> Result<LoopId, AllocError>
+        ensures counted { OnOk result (standing_view self.new ≡ counted (standing_view self.old)) }
+        ensures number { IfOk result (λ l. l.0 ≡ (standing_view self.old).loops) }
+    {
+        let number = LoopId(self.loops);
+        self.loops = self.loops.checked_add(1).ok_or(AllocError)?;
+        Ok(number)
+    }
+
+    /// A local is declared once in its block.
+    pub(crate) fn local_once(&self, name: &Name, at: Place) -> Result<(), CheckError>
+        ensures { Finds result (listed (local_once (standing_view self.now).first (find_local (standing_view self.now).scope.locals name.now) at)) }
+    {
+        match self.visible.find(name) {
+            Some(local) => rule(self.first <= local.id.0 as usize, at, 23),
+            None => Ok(()),
+        }
+    }
+}
+
+/// The type of values of the sort; one that names no class stands in no program.
+fn type_of(sort: &Sort) -> ValueType
+    ensures { result ≡ type_of (sort_view sort.now) }
+{
+    match sort {
+        Sort::Long | Sort::Undefined(_) | Sort::NoObject => ValueType::Long,
+        Sort::Truth => ValueType::Bool,
+        Sort::Pointer(class) => ValueType::Pointer(*class),
+    }
+}
+
+/// Leaves so many of the innermost locals.
+fn leave(visible: &mut Locals, count: usize)
+    ensures { visible.new ≡ drop count visible.old }
+{
+    for _i in 0..count {
+        visible.pop();
+    }
+}
