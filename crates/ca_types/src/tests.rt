@@ -3,8 +3,7 @@
 use crate::check;
 use ca_resolve::CheckError;
 use ca_tree::{
-    ClassNode, ExprKind, ExprNode, FieldNode, Member, Name, Place, Right, StmtKind, StmtNode, Tree,
-    TypeNode,
+    ClassNode, FieldNode, Member, Name, Place, Right, StmtKind, StmtNode, Tree, TypeNode,
 };
 use std::alloc::Global;
 use std::test::Fail;
@@ -13,32 +12,46 @@ fn at(column: u32) -> Place {
     Place { line: 1, column }
 }
 
-/// `class A { public: long n; }; int main() { A *a = new CLASS(); }`
-fn tree(alloc: Global, class: &[u8]) -> Result<Tree, Fail> {
+/// `class A { public: long n; };`
+fn classes(alloc: Global) -> Result<Vec<ClassNode>, Fail> {
     let field = FieldNode {
         ty: TypeNode::Long,
         name: Name::new(alloc, b"n")?,
         at: at(24),
         length: None,
     };
+    let members = vec![in alloc; Member::Field(field)]?;
+    let class = ClassNode {
+        name: Name::new(alloc, b"A")?,
+        at: at(7),
+        members,
+    };
+    Ok(vec![in alloc; class]?)
+}
+
+/// `A *a = new CLASS();`
+fn declaration(alloc: Global, class: &[u8]) -> Result<StmtKind, Fail> {
+    let ty = TypeNode::Pointer(Name::new(alloc, b"A")?, at(44));
+    let name = Name::new(alloc, b"a")?;
+    let value = Some(Right::New(Name::new(alloc, class)?, at(55)));
+    Ok(StmtKind::Local {
+        ty,
+        name,
+        name_at: at(47),
+        value,
+    })
+}
+
+/// `class A { public: long n; }; int main() { A *a = new CLASS(); }`
+fn tree(alloc: Global, class: &[u8]) -> Result<Tree, Fail> {
     let local = StmtNode {
         at: at(44),
-        kind: StmtKind::Local {
-            ty: TypeNode::Pointer(Name::new(alloc, b"A")?, at(44)),
-            name: Name::new(alloc, b"a")?,
-            name_at: at(47),
-            value: Some(Right::New(Name::new(alloc, class)?, at(55))),
-        },
+        kind: declaration(alloc, class)?,
     };
+    let main = vec![in alloc; local]?;
     Ok(Tree {
-        classes: vec![in alloc;
-            ClassNode {
-                name: Name::new(alloc, b"A")?,
-                at: at(7),
-                members: vec![in alloc; Member::Field(field)]?,
-            },
-        ]?,
-        main: vec![in alloc; local]?,
+        classes: classes(alloc)?,
+        main,
     })
 }
 
