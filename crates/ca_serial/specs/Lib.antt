@@ -1,3 +1,4 @@
 pub mod Bodies
+pub mod Extents
 pub mod Resume
 pub mod Runs

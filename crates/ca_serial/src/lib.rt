@@ -12,6 +12,7 @@
 mod bodies;
 mod calls;
 mod expressions;
+mod extents;
 mod loops;
 mod machine;
 mod print;
@@ -23,4 +24,5 @@ mod step;
 mod tests;
 mod work;
 
+pub use extents::{ExtentAnswer, Extents, NoExtents};
 pub use running::{Outcome, RunError, drive};

@@ -1,17 +1,20 @@
 //! The whole run.
 
-ghost use Rattle.std.specs.Prelude.{◌≡◌, ◌≤◌, IfOk};
+ghost use Rattle.std.specs.Prelude.{◌≡◌, ◌≤◌, false, [], IfOk};
 ghost use Rattle.ca_base.specs.Devices.{Rose, Writes};
 ghost use Rattle.ca_program.specs.View.{program_view};
 ghost use Rattle.ca_meaning.specs.Serial.{serial};
 ghost use Rattle.ca_meaning.specs.Output.{prints_text};
+ghost use Rattle.ca_parallel.specs.Marks.{SoundMarks};
 ghost use Rattle.ca_serial.specs.Runs.{run_with, prints_of, OnWrite};
 
+use crate::extents::Extents;
 use crate::machine::Machine;
 use crate::print::print_line;
 use crate::work::Next;
 use ca_base::Sink;
 use ca_model::{Heap, Trap};
+use ca_parallel::Marks;
 use ca_program::Program;
 use std::alloc::Global;
 use std::sync::Wait;
@@ -36,20 +39,28 @@ pub enum RunError {
 
 /// Runs `main` from the empty heap with a budget of steps. What it prints goes to the sink at once.
 ///
-/// After an error a beginning of the prints was written.
-pub fn drive<R: Wait, K: Sink>(
+/// The marks are sound, and there are none where the engine doesn't serve. So far every call and every
+/// loop runs here, marked or not, and the engine is handed nothing. After an error a beginning of the
+/// prints was written.
+pub fn drive<R: Wait, E: Extents, K: Sink>(
     rt: &R,
     alloc: Global,
     program: &Program,
+    marks: &Marks,
     budget: u64,
+    engine: &mut E,
     sink: &mut K,
 ) -> Result<Outcome, RunError>
+    requires sound { SoundMarks (program_view program.now) marks.now.ops.items marks.now.loops.items }
+    requires served { E.serves ≡ false → (marks.now.ops.items ≡ []) × (marks.now.loops.items ≡ []) }
     // The outcome is that of the depth-first serial run.
     ensures outcome { IfOk result (λ outcome. serial (program_view program.now) budget ≡ run_with (prints_of (serial (program_view program.now) budget)) outcome) }
     // Its prints were written, or a beginning of them before an error.
     ensures prints { Writes (K.written sink.old) (K.written sink.new) result (prints_text (prints_of (serial (program_view program.now) budget))) }
     ensures write { OnWrite result (Rose (K.faults sink.old) (K.faults sink.new)) }
     ensures later { K.faults sink.old ≤ K.faults sink.new }
+    // Nothing was handed to the engine.
+    ensures account { E.account engine.new ≡ E.account engine.old }
 {
     let Ok(mut machine) = Machine::new(alloc, program, budget) else {
         return Err(RunError::Memory);

@@ -1,0 +1,16 @@
+//! What may run in any order, as definitions: extents, separable operations, parallel extents and marks.
+//!
+//! An engine that runs the operations of an extent in an order of its own is asked only where that is
+//! sound: where the extent is parallel. Whoever hands operations to an engine owes that, and this crate
+//! has the words for it: `specs/Bodies.antt` (what stands in a body), `Extents` (what operations may
+//! invoke and write), `Separable` (accesses to the receiver come before calls), `Parallel` and `Marks`
+//! (which calls and loops may be handed on). The types are `Op`, an operation that is called, and `Marks`.
+//! `laws` has what is known of marks by definition alone.
+#![tactic(auto)]
+
+pub mod laws;
+mod marks;
+mod op;
+
+pub use marks::Marks;
+pub use op::Op;

@@ -1,0 +1,12 @@
+//! Calls of operations.
+
+use ca_model::Values;
+use ca_program::OpId;
+
+/// An operation that is called: the number of its receiver, the operation and its arguments.
+#[derive(Drop, Debug)]
+pub struct Op {
+    pub receiver: u32,
+    pub op: OpId,
+    pub args: Values,
+}

@@ -1,0 +1,85 @@
+//! Engines, which run operations and all that these invoke.
+
+ghost use Rattle.std.specs.Prelude.{◌≡◌, ℕ, Bool, true, false, List, map, IfOk, OnOk, OnErr};
+ghost use Rattle.ca_program.specs.View.{program_view};
+ghost use Rattle.ca_program.specs.Plain.{PlainProgram};
+ghost use Rattle.ca_model.specs.declared.value.Object.{Object};
+ghost use Rattle.ca_model.specs.Typed.{TypedHeap};
+ghost use Rattle.ca_meaning.specs.Expressions.{Invocation};
+ghost use Rattle.ca_meaning.specs.WellTyped.{AllWellTyped};
+ghost use Rattle.ca_parallel.specs.Calls.{invocations_of, operation_of};
+ghost use Rattle.ca_parallel.specs.Parallel.{ParallelFrom};
+ghost use Rattle.ca_serial.specs.Extents.{Answers};
+
+use ca_base::Memory;
+use ca_model::Heap;
+use ca_parallel::Op;
+use ca_program::Program;
+use std::sync::Wait;
+use std::thread::Threads;
+
+/// What an engine answers: it ran all, in so many steps, or it left the heap as it was.
+#[derive(Clone, Copy, PartialEq, Eq, Debug)]
+pub enum ExtentAnswer {
+    Done { steps: u64 },
+    Declined,
+}
+
+/// An engine, which runs operations of a parallel extent and all that these invoke, in an order of its own.
+pub trait Extents {
+    /// What the engine keeps of the operations that it was handed, as a plain value.
+    ghost Account: { Type 0 };
+
+    ghost account: { Self → Account };
+
+    /// Whether it may be asked.
+    ghost serves: { Bool };
+
+    /// What running these operations within a budget, in a heap, does to the account.
+    ghost Accounts: { Account → PlainProgram → List Object → List Invocation → ℕ → Account → Type 0 };
+
+    /// Runs the operations, of which there may be none, within a budget of steps.
+    ///
+    /// `Done` leaves the heap of their serial run in order, which takes so many steps. `Declined` comes
+    /// exactly where that run is not done within the budget. It and an error leave the heap as it was.
+    fn run<R: Threads + Wait>(
+        &mut self,
+        rt: &R,
+        program: &Program,
+        heap: &mut Heap,
+        first: &[Op],
+        left: u64,
+    ) -> Result<ExtentAnswer, Memory>
+        requires serves { serves ≡ true }
+        requires heap { TypedHeap (program_view program.now) heap.old }
+        requires typed { AllWellTyped (program_view program.now) heap.old (invocations_of first.now) }
+        requires parallel { ParallelFrom (program_view program.now) (map operation_of first.now) }
+        ensures answer { IfOk result (λ answer. Answers (program_view program.now) heap.old (invocations_of first.now) left heap.new answer) }
+        ensures accounts { OnOk result (Accounts (account self.old) (program_view program.now) heap.old (invocations_of first.now) left (account self.new)) }
+        ensures heap_kept { OnErr result (heap.new ≡ heap.old) }
+        ensures account_kept { OnErr result (account self.new ≡ account self.old) };
+}
+
+/// The engine that is never asked: it serves only where there are no marks.
+pub struct NoExtents;
+
+impl Extents for NoExtents {
+    ghost Account = { Unit {0} };
+
+    ghost account = { λ engine. tt };
+
+    ghost serves = { false };
+
+    ghost Accounts = { λ before p h is budget after. Unit {0} };
+
+    fn run<R: Threads + Wait>(
+        &mut self,
+        _rt: &R,
+        _program: &Program,
+        _heap: &mut Heap,
+        _first: &[Op],
+        _left: u64,
+    ) -> Result<ExtentAnswer, Memory> {
+        Ok(ExtentAnswer::Declined)
+    }
+}
