@@ -19,8 +19,6 @@ mod running;
 mod stack;
 mod statements;
 mod step;
-#[cfg(test)]
-mod tests;
 mod work;
 
 pub use running::{Outcome, RunError, drive};
