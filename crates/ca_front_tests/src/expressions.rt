@@ -1,9 +1,7 @@
-//! Expressions, chains and single tokens.
+//! Expressions, chains and names.
 
 use crate::sources::tokens;
-use ca_expressions::{
-    Fault, is_call, is_target, operator_at, parse_chain, parse_expression, take_name, take_number,
-};
+use ca_expressions::{is_call, is_target, parse_chain, parse_expression, take_name};
 use ca_tree::{BinaryOp, ExprKind};
 use std::test::Fail;
 
@@ -29,29 +27,16 @@ fn gives_each_node_its_place(rt: HostRuntime) -> Result<(), Fail> {
 }
 
 #[test]
-fn reads_in_front(rt: HostRuntime) -> Result<(), Fail> {
+fn reads_a_chain_and_a_name(rt: HostRuntime) -> Result<(), Fail> {
     let alloc = rt.alloc();
-    let tokens = tokens(alloc, "a()->b[1] < 7")?;
+    let tokens = tokens(alloc, "a()->b[1] = 7")?;
     let Ok((chain, left)) = parse_chain(alloc, &tokens) else {
         return Err(Fail::from("a chain"));
     };
-    assert!(rt; is_target(&chain) && !is_call(&chain));
-    let Some(((BinaryOp::Less, at), left)) = operator_at(left, 3) else {
-        return Err(Fail::from("an operator"));
-    };
-    let Ok(((number, _), left)) = take_number(left) else {
-        return Err(Fail::from("a number"));
-    };
-    assert!(rt; at.column == 11 && number == 7 && left.is_empty());
+    assert!(rt; is_target(&chain) && !is_call(&chain) && left.len() == 2);
     let Ok(((name, _), left)) = take_name(alloc, &tokens) else {
         return Err(Fail::from("a name"));
     };
     assert!(rt; name.as_bytes() == b"a".as_slice() && left.len() == 9);
-    let wrong = match parse_expression(alloc, left) {
-        Ok(_) => return Err(Fail::from("no expression")),
-        Err(Fault::Wrong(left)) => left,
-        Err(fault) => return Err(Fail::from(fault)),
-    };
-    assert!(rt; wrong.len() == 8);
     Ok(())
 }
