@@ -19,8 +19,6 @@ mod sinks;
 mod sources;
 mod standard;
 mod sure;
-#[cfg(test)]
-mod tests;
 mod write_whole;
 
 pub use faults::{Failed, Memory};

@@ -12,8 +12,6 @@ mod operators;
 mod pen;
 mod spellings;
 mod statements;
-#[cfg(test)]
-mod tests;
 
 ghost use Rattle.std.specs.Prelude.{◌≡◌, IfOk};
 ghost use Rattle.ca_tree.specs.View.{tree_view};

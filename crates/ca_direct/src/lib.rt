@@ -8,7 +8,5 @@
 #![tactic(auto)]
 
 mod scene;
-#[cfg(test)]
-mod tests;
 
 pub use scene::Scene;

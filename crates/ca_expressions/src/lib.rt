@@ -11,8 +11,6 @@
 mod expressions;
 mod inner;
 mod nodes;
-#[cfg(test)]
-mod tests;
 mod tokens;
 
 pub use expressions::{is_call, is_target, parse_chain, parse_expression};

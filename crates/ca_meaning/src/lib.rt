@@ -11,7 +11,5 @@
 
 pub mod arithmetic;
 pub mod laws;
-#[cfg(test)]
-mod tests;
 
 pub use arithmetic::{assign, operate, operate_unary};

@@ -11,8 +11,6 @@
 pub mod heap;
 pub mod line;
 pub mod print;
-#[cfg(test)]
-mod tests;
 pub mod value;
 
 pub use heap::{CreateError, Heap};

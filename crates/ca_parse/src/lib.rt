@@ -12,8 +12,6 @@ mod assigns;
 pub mod laws;
 mod members;
 mod statements;
-#[cfg(test)]
-mod tests;
 mod types;
 mod whole;
 

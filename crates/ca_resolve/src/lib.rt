@@ -21,8 +21,6 @@ mod nodes;
 mod scope;
 mod sorts;
 mod targets;
-#[cfg(test)]
-mod tests;
 mod values;
 
 pub use calls::check_call;

@@ -20,8 +20,6 @@ mod running;
 mod stack;
 mod statements;
 mod step;
-#[cfg(test)]
-mod tests;
 mod work;
 
 pub use extents::{ExtentAnswer, Extents, NoExtents};

@@ -14,8 +14,6 @@ mod compare;
 mod execute;
 mod extent;
 pub mod laws;
-#[cfg(test)]
-mod tests;
 mod verdicts;
 mod weighed;
 

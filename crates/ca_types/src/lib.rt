@@ -18,8 +18,6 @@ mod program;
 mod puts;
 mod rules;
 mod statements;
-#[cfg(test)]
-mod tests;
 mod walk;
 
 pub use ca_resolve::{CheckError, Code};

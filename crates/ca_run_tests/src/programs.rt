@@ -1,0 +1,18 @@
+//! Programs of small sources.
+
+use ca_lex::lex;
+use ca_parse::parse;
+use ca_program::Program;
+use ca_types::check;
+use std::alloc::Global;
+use std::test::Fail;
+
+/// The program of a text.
+pub fn program(alloc: Global, text: &str) -> Result<Program, Fail> {
+    if text.len() > 1_000 {
+        return Err(Fail::new("a long text"));
+    }
+    let tokens = lex(alloc, text.as_bytes())?;
+    let tree = parse(alloc, &tokens)?;
+    Ok(check(alloc, &tree)?)
+}

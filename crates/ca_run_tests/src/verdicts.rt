@@ -1,0 +1,29 @@
+//! Verdicts on operations and themselves.
+
+use crate::programs::program;
+use ca_program::OpId;
+use ca_symbolic::{Extent, Reason, Verdict, verdict};
+use std::test::Fail;
+
+/// Two sums commute, and two puts of a pointer differ.
+#[test]
+fn each_operation_with_itself(rt: HostRuntime) -> Result<(), Fail> {
+    let alloc = rt.alloc();
+    let text = "class Acc { public: long sum; Acc *peer; void add(long p) { sum = sum + p; }\
+        void tie(Acc *q) { peer = q; } }; int main() { }";
+    let program = program(alloc, text)?;
+    let extent = Extent {
+        ops: Vec::new(alloc),
+        functions: Vec::new(alloc),
+        written: Vec::new(alloc),
+    };
+    assert!(rt; program.ops.len() == 2);
+    let add = verdict(alloc, &program, &extent, OpId(0), OpId(0))?;
+    assert!(rt; matches!(&add, Verdict::Commutes));
+    let tie = verdict(alloc, &program, &extent, OpId(1), OpId(1))?;
+    let Verdict::Unproved(Reason::FieldDiffers { field, .. }) = &tie else {
+        return Err(Fail::from("a field that differs"));
+    };
+    assert!(rt; field.field == 1);
+    Ok(())
+}
