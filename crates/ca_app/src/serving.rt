@@ -16,8 +16,9 @@ use crate::reading::{NoProgram, Reading, read_program};
 use crate::refusals::Refusal;
 use ca_base::{Failed, Gate, ReadError, Sink, Source, read_all, write_all};
 use ca_model::print_heap;
+use ca_parallel::Marks;
 use ca_program::Program;
-use ca_serial::{Outcome, RunError, drive};
+use ca_serial::{NoExtents, Outcome, RunError, drive};
 use ca_small::is_small;
 use ca_words::{Command, command_of, usage_line};
 use std::alloc::Global;
@@ -177,7 +178,9 @@ fn run_program<R: Wait, K: Sink>(
     ensures no_read_fault { result ≡ 6 → ⊥ }
     ensures no_usage { result ≡ 2 → ⊥ }
 {
-    match drive(rt, alloc, program, u64::from(budget), sink) {
+    let marks = Marks::none(alloc);
+    let engine = &mut NoExtents;
+    match drive(rt, alloc, program, &marks, u64::from(budget), engine, sink) {
         Ok(Outcome::Done { heap, .. }) => finish(print_heap(program, &heap, sink), 0),
         Ok(Outcome::Trapped(trap)) => finish(write_trap(trap, sink), 3),
         Ok(Outcome::Spent) => finish(write_spent(budget, sink), 4),

@@ -2,30 +2,121 @@
 
 use crate::sources::tree;
 use ca_canonical::unparse;
+use std::alloc::Global;
 use std::test::Fail;
 
-/// A source with classes, one with statements and one with expressions, and their canonical texts.
-const TEXTS: [(&str, &str); 3] = [
+/// The canonical text of the tree of a source.
+fn canonical(alloc: Global, source: &str) -> Result<Vec<u8>, Fail> {
+    let tree = tree(alloc, source)?;
+    Ok(unparse(alloc, &tree)?)
+}
+
+/// Sources and their canonical texts.
+const TEXTS: [(&str, &str); 12] = [
     (
-        "class B; class A { public: long x, y[3]; B *p; bool f(long a, B *b) { return a > 1; } }; int main() { return 0; }",
-        "class A {\npublic :\nlong x ;\nlong y [ 3 ] ;\nB * p ;\nbool f ( long a , B * b ) {\nreturn a > 1 ;\n}\n} ;\nint main ( ) {\n}\n",
+        "class A { public: long n; void add(long v) { n += v; } void two(long v) { add(v); add(v + 1); } }; int main() { A *a = new A(); a->two(3); }",
+        "class A {\npublic :\nlong n ;\nvoid add ( long v ) {\nn += v ;\n}\nvoid two ( long v ) {\nadd ( v ) ;\nadd ( v + 1 ) ;\n}\n} ;\nint main ( ) {\nA * a = new A ( ) ;\na -> two ( 3 ) ;\n}\n",
     ),
     (
-        "int main() { if (a) { if (b) c(); } else while (d) ; for (long i = 0; i < n; i++) p[i] = new A; }",
-        "int main ( ) {\nif ( a ) {\nif ( b ) c ( ) ;\n}\nelse while ( d ) ;\nfor ( long i = 0 ; i < n ; i += 1 ) p [ i ] = new A ( ) ;\n}\n",
+        "class B; class A { public: long x, y[3]; B *p, *q; bool f(long a, B *b) { return a > 1; } }; int main() { }",
+        "class A {\npublic :\nlong x ;\nlong y [ 3 ] ;\nB * p ;\nB * q ;\nbool f ( long a , B * b ) {\nreturn a > 1 ;\n}\n} ;\nint main ( ) {\n}\n",
     ),
     (
-        "int main() { print((-(a + b))->f - (c - (d)) * 2); print(-(-x) == y(1, !z)); }",
-        "int main ( ) {\nprint ( ( - ( a + b ) ) -> f - ( c - d ) * 2 ) ;\nprint ( - - x == y ( 1 , ! z ) ) ;\n}\n",
+        "int main() { x++; y--; z *= 2; }",
+        "int main ( ) {\nx += 1 ;\ny -= 1 ;\nz *= 2 ;\n}\n",
+    ),
+    ("int main() { return 0; }", "int main ( ) {\n}\n"),
+    (
+        "int main() { return 0; return 0; }",
+        "int main ( ) {\nreturn 0 ;\nreturn 0 ;\n}\n",
+    ),
+    (
+        "int main() { return (0); }",
+        "int main ( ) {\nreturn 0 ;\nreturn 0 ;\n}\n",
+    ),
+    (
+        "int main() { return 1; }",
+        "int main ( ) {\nreturn 1 ;\n}\n",
+    ),
+    ("int main() { { } ; ; }", "int main ( ) {\n{\n} ;\n;\n}\n"),
+    (
+        "int main() { if (a) if (b) c(); else d(); }",
+        "int main ( ) {\nif ( a ) if ( b ) c ( ) ;\nelse d ( ) ;\n}\n",
+    ),
+    (
+        "int main() { if (a) { if (b) c(); } else while (true) d(1, -2); }",
+        "int main ( ) {\nif ( a ) {\nif ( b ) c ( ) ;\n}\nelse while ( true ) d ( 1 , - 2 ) ;\n}\n",
+    ),
+    (
+        "int main() { for (long i = 0; i < n; i++) p[i] = new A; }",
+        "int main ( ) {\nfor ( long i = 0 ; i < n ; i += 1 ) p [ i ] = new A ( ) ;\n}\n",
+    ),
+    (
+        "int main() { print((-(a + b))->f); print((1)[(x)->y]); print(-(-x)); print(!(a == b)); }",
+        "int main ( ) {\nprint ( ( - ( a + b ) ) -> f ) ;\nprint ( ( 1 ) [ x -> y ] ) ;\nprint ( - - x ) ;\nprint ( ! ( a == b ) ) ;\n}\n",
     ),
 ];
 
 #[test]
 fn writes_whole_texts(rt: HostRuntime) -> Result<(), Fail> {
     for (source, expected) in TEXTS {
-        let tree = tree(rt.alloc(), source)?;
-        let text = unparse(rt.alloc(), &tree)?;
+        let text = canonical(rt.alloc(), source)?;
         assert!(rt; text.as_slice() == expected.as_bytes(), "{source}");
+    }
+    Ok(())
+}
+
+/// The binary operators, with how strongly they bind.
+const OPERATORS: [(&str, u32); 13] = [
+    ("||", 0),
+    ("&&", 1),
+    ("==", 2),
+    ("!=", 2),
+    ("<", 3),
+    (">", 3),
+    ("<=", 3),
+    (">=", 3),
+    ("+", 4),
+    ("-", 4),
+    ("*", 5),
+    ("/", 5),
+    ("%", 5),
+];
+
+#[test]
+fn writes_each_operator_under_each_other(rt: HostRuntime) -> Result<(), Fail> {
+    let alloc = rt.alloc();
+    for (upper, strength) in OPERATORS {
+        for (lower, lower_strength) in OPERATORS {
+            let left = format!(in alloc; "int main() {{ print((a {} b) {} c); }}", lower, upper)?;
+            let text = canonical(alloc, &left)?;
+            let expected = if lower_strength < strength {
+                format!(in alloc;
+                    "int main ( ) {{\nprint ( ( a {} b ) {} c ) ;\n}}\n",
+                    lower, upper
+                )?
+            } else {
+                format!(in alloc;
+                    "int main ( ) {{\nprint ( a {} b {} c ) ;\n}}\n",
+                    lower, upper
+                )?
+            };
+            assert!(rt; text.as_slice() == expected.as_bytes(), "{left}");
+            let right = format!(in alloc; "int main() {{ print(a {} (b {} c)); }}", upper, lower)?;
+            let text = canonical(alloc, &right)?;
+            let expected = if lower_strength <= strength {
+                format!(in alloc;
+                    "int main ( ) {{\nprint ( a {} ( b {} c ) ) ;\n}}\n",
+                    upper, lower
+                )?
+            } else {
+                format!(in alloc;
+                    "int main ( ) {{\nprint ( a {} b {} c ) ;\n}}\n",
+                    upper, lower
+                )?
+            };
+            assert!(rt; text.as_slice() == expected.as_bytes(), "{right}");
+        }
     }
     Ok(())
 }

@@ -2,7 +2,8 @@
 
 use crate::programs::program;
 use ca_base::MemSink;
-use ca_serial::{Outcome, drive};
+use ca_parallel::Marks;
+use ca_serial::{NoExtents, Outcome, drive};
 use std::test::Fail;
 
 #[test]
@@ -11,7 +12,9 @@ fn sums_up(rt: HostRuntime) -> Result<(), Fail> {
     let text = "int main() { long s; for (long i = 0; i < 1000; i++) s += i + 3; print(s); }";
     let program = program(alloc, text)?;
     let mut sink = MemSink::new(alloc, 100, Vec::new(alloc))?;
-    let outcome = drive(&rt, alloc, &program, 1_000_000_000, &mut sink)?;
+    let marks = Marks::none(alloc);
+    let engine = &mut NoExtents;
+    let outcome = drive(&rt, alloc, &program, &marks, 1_000, engine, &mut sink)?;
     assert!(rt; matches!(&outcome, Outcome::Done { steps: 1_000, .. }));
     assert!(rt; sink.bytes() == b"502500\n".as_slice());
     Ok(())
