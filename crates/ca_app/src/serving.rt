@@ -2,6 +2,7 @@
 
 ghost use Rattle.std.specs.Prelude.{◌≡◌, ℕ, ◌≤◌, ◌⊎◌, true, false, List, length, Some};
 ghost use Rattle.ca_base.specs.Devices.{Rose, at_end};
+ghost use Rattle.ca_tree.specs.View.{tree_view};
 ghost use Rattle.ca_program.specs.View.{program_view};
 ghost use Rattle.ca_meaning.specs.Output.{Reply, output};
 ghost use Rattle.ca_words.specs.Words.{texts};
@@ -18,7 +19,6 @@ use ca_base::{Failed, Gate, ReadError, Sink, Source, read_all, write_all};
 use ca_model::print_heap;
 use ca_program::Program;
 use ca_serial::{Outcome, RunError, drive};
-use ca_small::is_small;
 use ca_words::{Command, command_of, usage_line};
 use std::alloc::Global;
 use std::sync::Wait;
@@ -126,7 +126,7 @@ fn serve_program<R: Wait, K: Sink>(
     reading: &Reading,
     sink: &mut K,
 ) -> u8
-    ensures ends { EndsWith (ProgramReplies reading.now.start (program_view reading.now.program) command) result (K.written sink.old) (K.written sink.new) }
+    ensures ends { EndsWith (ProgramReplies reading.now.start (tree_view reading.now.tree) (program_view reading.now.program) command) result (K.written sink.old) (K.written sink.new) }
     ensures write_fault { SinkCause result (K.faults sink.old) (K.faults sink.new) }
     ensures no_read_fault { result ≡ 6 → ⊥ }
     ensures no_usage { result ≡ 2 → ⊥ }
@@ -147,15 +147,15 @@ fn refuse<K: Sink>(refusal: Refusal, sink: &mut K) -> u8
     finish(refusal.write(sink), refusal.status())
 }
 
-/// Writes the verdicts of a program, for which they are built where it is of the small form.
+/// Writes the verdicts of a program, for which they are built where its text is of the small form.
 fn pair_program<K: Sink>(alloc: Global, reading: &Reading, sink: &mut K) -> u8
-    ensures ends { EndsWith (ProgramReplies reading.now.start (program_view reading.now.program) Command.Pairs) result (K.written sink.old) (K.written sink.new) }
+    ensures ends { EndsWith (ProgramReplies reading.now.start (tree_view reading.now.tree) (program_view reading.now.program) Command.Pairs) result (K.written sink.old) (K.written sink.new) }
     ensures write_fault { SinkCause result (K.faults sink.old) (K.faults sink.new) }
     ensures no_read_fault { result ≡ 6 → ⊥ }
     ensures no_usage { result ≡ 2 → ⊥ }
 {
     let program = &reading.program;
-    if !is_small(program) {
+    if !reading.is_small() {
         return refuse(Refusal::not_built(reading.start), sink);
     }
     match verdicts_of(alloc, program) {
