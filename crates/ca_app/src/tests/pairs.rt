@@ -18,6 +18,7 @@ fn doubling(alloc: Global, times: usize) -> Result<Vec<u8>, AllocError> {
 /// Two texts of one tree but for places, of the small form.
 const PLAIN: &str =
     "class A { public: long f; long g; void m(long x) { f = f + x; } }; int main() { A *a = new A(); a->m(1); }";
+
 const ADORNED: &str =
     "class A; // again\nclass A { public: long f, g; void m(long x) { f = (f + x); } }; int main() { A *a = new A; /* on a */ a->m(1); return 0; }";
 
@@ -37,8 +38,7 @@ const NEARLY_SMALL: [&str; 8] = [
 #[test]
 fn serves_texts_of_the_small_form(rt: HostRuntime) -> Result<(), AllocError> {
     for text in [PLAIN, ADORNED] {
-        let ended =
-            Call::new("pairs", text).writes(&rt, b"extent A::m\nA::m A::m commutes\n")?;
+        let ended = Call::new("pairs", text).writes(&rt, b"extent A::m\nA::m A::m commutes\n")?;
         assert!(rt; ended == (0, true), "of {text}");
     }
     for text in NEARLY_SMALL {
