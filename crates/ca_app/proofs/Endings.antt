@@ -1,6 +1,7 @@
 -- What was given is the one reply that there is.
 use Rattle.std.proofs.Common.{◌≡◌, ℕ, true, false, List, ◌++◌, Option, Result, Ok, Err, refl, ap, sym, ◌∙◌, subst, arith}
 use Rattle.ca_tree.specs.declared.name.Place.{Place}
+use Rattle.ca_tree.specs.Plain.{TextTree}
 use Rattle.ca_base.specs.Devices.{Rose, HasCause, Writes, Began, grown}
 use Rattle.ca_base.proofs.Writing.{began_more, writes_after}
 use Rattle.ca_program.specs.Plain.{PlainProgram}
@@ -13,10 +14,10 @@ use Rattle.ca_words.specs.declared.Command.{Command}
 use Rattle.ca_words.specs.declared.Command.TheVariants.{Run, Pairs}
 use Rattle.ca_words.specs.Words.{Names}
 use Rattle.ca_words.proofs.OneCommand.{one_command}
-use Rattle.ca_small.specs.SmallForm.{is_small}
+use Rattle.ca_small.specs.SmallShape.{is_small_text}
 use Rattle.ca_app.specs.Accepted.{BeginsAt}
 use Rattle.ca_app.specs.Refusals.{refusal_reply}
-use Rattle.ca_app.specs.Reading.{IsProgramOf, IsRefusalOf}
+use Rattle.ca_app.specs.Reading.{HasOneTree, IsProgramOf, IsRefusalOf}
 use Rattle.ca_app.specs.Reply.{ProgramReplies, runs, pairs, not_built, CommandReplies, refuses, serves, Replies, usage, named, usage_reply, not_built_reply}
 use Rattle.ca_app.specs.Ends.{Ends, whole, write_fault, EndsWith, status_after}
 use Rattle.ca_app.specs.Pairs.{AreVerdicts, pairs_text}
@@ -50,15 +51,22 @@ module _ {command : Command} {text : List ℕ} {status : ℕ} {old now : Option 
           subst P reply_is ends
       each reply (serves accepted begins replies) = absurd (is.unaccepted _ accepted)
 
-  pub ends_program : (p : PlainProgram) (at : Place) → IsProgramOf text p → BeginsAt text at → EndsWith (ProgramReplies at p command) status old now → EndsWith (CommandReplies command text) status old now
-  ends_program p at is begins ends = record { some = λ a b. let s = ends.some a b in (s.0, serves is.accepted begins s.1); each = each }
+  pub ends_program : (p : PlainProgram) (tree : TextTree) (at : Place) → IsProgramOf text p → HasOneTree text tree → BeginsAt text at → EndsWith (ProgramReplies at tree p command) status old now → EndsWith (CommandReplies command text) status old now
+  ends_program p tree at is one begins ends = record {
+    some = λ a b.
+        let s = ends.some a b in
+        let P : TextTree → Type 0 = λ t. ProgramReplies at t p command s.0 in
+        (s.0, serves is.accepted begins (subst P (sym (one.only is.accepted.tree is.accepted.has_tree)) s.1));
+    each = each;
+  }
     where
       each : (reply : Reply) → CommandReplies command text reply → Ends reply status old now
       each reply (refuses {at = q} {code = d} refused) = absurd (is.unrefused q d refused)
       each reply (serves {p = q} {at = other} accepted' begins' replies) =
-          let P : PlainProgram → Type 0 = λ x. ProgramReplies at x command reply in
-          let Q : Place → Type 0 = λ x. ProgramReplies x q command reply in
-          ends.each reply (subst P (is.only q accepted') (subst Q (one_start begins' begins) replies))
+          let P : PlainProgram → Type 0 = λ x. ProgramReplies at tree x command reply in
+          let Q : TextTree → Type 0 = λ x. ProgramReplies at x q command reply in
+          let R : Place → Type 0 = λ x. ProgramReplies x accepted'.tree q command reply in
+          ends.each reply (subst P (is.only q accepted') (subst Q (one.only accepted'.tree accepted'.has_tree) (subst R (one_start begins' begins) replies)))
 
 -- what a run replies begins with its prints
 abbrev rest_of_reply : PlainProgram → ℕ → Ended → List ℕ
@@ -88,16 +96,16 @@ ends_run_written p b e r status ended rest old mid now is reply told written sta
     (ends_written r status ended (prints_text (prints_of e) ++ rest) old now (writes_after old mid now r (prints_text (prints_of e)) rest told written) status_is)
 
 -- what each command replies to a program, as what it has to be
-run_is : (at : Place) (p : PlainProgram) (workers budget : ℕ) (reply : Reply) → ProgramReplies at p (Run workers budget) reply → reply ≡ output p budget
-run_is at p workers budget reply runs = refl
+run_is : (at : Place) (tree : TextTree) (p : PlainProgram) (workers budget : ℕ) (reply : Reply) → ProgramReplies at tree p (Run workers budget) reply → reply ≡ output p budget
+run_is at tree p workers budget reply runs = refl
 
-pairs_are : (at : Place) (p : PlainProgram) (vs : List Verdict) (reply : Reply) → is_small p ≡ true → AreVerdicts p vs → ProgramReplies at p Pairs reply → reply ≡ record { status = 0; bytes = pairs_text p vs }
-pairs_are at p vs reply small are (pairs {vs = ws} small' others) = let P : List Verdict → Reply = λ z. record { status = 0; bytes = pairs_text p z } in sym (ap P (one_list p vs ws are others))
-pairs_are at p vs reply small are (not_built large) = absurd cc
+pairs_are : (at : Place) (tree : TextTree) (p : PlainProgram) (vs : List Verdict) (reply : Reply) → is_small_text tree p ≡ true → AreVerdicts p vs → ProgramReplies at tree p Pairs reply → reply ≡ record { status = 0; bytes = pairs_text p vs }
+pairs_are at tree p vs reply small are (pairs {vs = ws} small' others) = let P : List Verdict → Reply = λ z. record { status = 0; bytes = pairs_text p z } in sym (ap P (one_list p vs ws are others))
+pairs_are at tree p vs reply small are (not_built large) = absurd cc
 
-not_built_is : (at : Place) (p : PlainProgram) (reply : Reply) → is_small p ≡ false → ProgramReplies at p Pairs reply → reply ≡ not_built_reply at
-not_built_is at p reply large (pairs small are) = absurd cc
-not_built_is at p reply large (not_built large') = refl
+not_built_is : (at : Place) (tree : TextTree) (p : PlainProgram) (reply : Reply) → is_small_text tree p ≡ false → ProgramReplies at tree p Pairs reply → reply ≡ not_built_reply at
+not_built_is at tree p reply large (pairs small are) = absurd cc
+not_built_is at tree p reply large (not_built large') = refl
 
 module _ {status : ℕ} {old now : Option (List ℕ)} where
   only_reply : (replies : Reply → Type 0) (is : Reply) → replies is → ((reply : Reply) → replies reply → reply ≡ is) → Ends is status old now → EndsWith replies status old now
@@ -106,14 +114,14 @@ module _ {status : ℕ} {old now : Option (List ℕ)} where
     each = λ reply this. let P : Reply → Type 0 = λ r. Ends r status old now in subst P (sym (only reply this)) ends;
   }
 
-  pub ends_not_built : (at : Place) (p : PlainProgram) → is_small p ≡ false → Ends (not_built_reply at) status old now → EndsWith (ProgramReplies at p Pairs) status old now
-  ends_not_built at p large = only_reply _ _ (not_built large) (λ reply this. not_built_is at p reply large this)
+  pub ends_not_built : (at : Place) (tree : TextTree) (p : PlainProgram) → is_small_text tree p ≡ false → Ends (not_built_reply at) status old now → EndsWith (ProgramReplies at tree p Pairs) status old now
+  ends_not_built at tree p large = only_reply _ _ (not_built large) (λ reply this. not_built_is at tree p reply large this)
 
-  pub ends_run : (at : Place) (p : PlainProgram) (workers budget : ℕ) → Ends (output p budget) status old now → EndsWith (ProgramReplies at p (Run workers budget)) status old now
-  ends_run at p workers budget = only_reply _ _ runs (λ reply this. run_is at p workers budget reply this)
+  pub ends_run : (at : Place) (tree : TextTree) (p : PlainProgram) (workers budget : ℕ) → Ends (output p budget) status old now → EndsWith (ProgramReplies at tree p (Run workers budget)) status old now
+  ends_run at tree p workers budget = only_reply _ _ runs (λ reply this. run_is at tree p workers budget reply this)
 
-  pub ends_pairs : (at : Place) (p : PlainProgram) (vs : List Verdict) → is_small p ≡ true → AreVerdicts p vs → Ends (record { status = 0; bytes = pairs_text p vs }) status old now → EndsWith (ProgramReplies at p Pairs) status old now
-  ends_pairs at p vs small are = only_reply _ _ (pairs small are) (λ reply this. pairs_are at p vs reply small are this)
+  pub ends_pairs : (at : Place) (tree : TextTree) (p : PlainProgram) (vs : List Verdict) → is_small_text tree p ≡ true → AreVerdicts p vs → Ends (record { status = 0; bytes = pairs_text p vs }) status old now → EndsWith (ProgramReplies at tree p Pairs) status old now
+  ends_pairs at tree p vs small are = only_reply _ _ (pairs small are) (λ reply this. pairs_are at tree p vs reply small are this)
 
 module _ {words : List (List ℕ)} {text : List ℕ} {status : ℕ} {old now : Option (List ℕ)} where
   pub ends_usage : IsUsageFault words → Ends usage_reply status old now → EndsWith (Replies words text) status old now

@@ -1,11 +1,13 @@
 -- What each status says of the reply that was given.
-use Rattle.std.proofs.Common.{◌≡◌, ℕ, ◌⊎◌, Bool, true, false, List, Option, Some, refl, sym, ◌∙◌, subst, arith, inl, inr}
+use Rattle.std.proofs.Common.{◌≡◌, ℕ, ◌⊎◌, ◌&&◌, Bool, true, false, List, Option, Some, refl, sym, ◌∙◌, subst, arith, inl, inr}
 use Rattle.ca_tree.specs.declared.name.Place.{Place}
+use Rattle.ca_tree.specs.Plain.{TextTree}
 use Rattle.std.specs.Prelude.{slice_get}
 use Rattle.ca_base.specs.Devices.{grown}
 use Rattle.ca_program.specs.declared.program.FieldId.{FieldId}
 use Rattle.ca_program.specs.Plain.{PlainProgram}
 use Rattle.ca_small.specs.SmallForm.{is_small}
+use Rattle.ca_small.specs.SmallShape.{has_small_shape, is_small_text}
 use Rattle.ca_small.proofs.Typed.{small_is_typed}
 use Rattle.ca_meaning.specs.Output.{Reply, reply_of}
 use Rattle.ca_meaning.specs.Serial.{Ended, done, trapped, spent, serial}
@@ -49,6 +51,14 @@ kind_of true false e = absurd (omega arith)
 kind_of false true e = absurd (omega arith)
 kind_of false false e = refl
 
+-- the program of a text of the small form passes the program's test
+program_is_small : (tree : TextTree) (p : PlainProgram) → is_small_text tree p ≡ true → is_small p ≡ true
+program_is_small tree p h = at (has_small_shape tree) (is_small p) h
+  where
+    at : (a b : Bool) → (a && b) ≡ true → b ≡ true
+    at true b e = e
+    at false b e = absurd (cc)
+
 -- operations of which the verdict says that they commute do so
 do_commute : (p : PlainProgram) (vs : List Verdict) → is_small p ≡ true → AreVerdicts p vs → (n : ℕ) → slice_get vs n ≡ Some Commutes
     → (written : List FieldId) → DoCommute p written (record { 0 = n }) (record { 0 = n })
@@ -83,35 +93,35 @@ record IsRun (p : PlainProgram) (command : Command) (status : ℕ) : Type 0 wher
   pub same : status ≡ (reply_of p budget (serial p budget)).status
 
 -- The command is `pairs`, and these are the verdicts and what was written of them.
-record IsPairs (p : PlainProgram) (command : Command) (old now : Option (List ℕ)) : Type 0 where
+record IsPairs (tree : TextTree) (p : PlainProgram) (command : Command) (old now : Option (List ℕ)) : Type 0 where
   pub verdicts : List Verdict
   pub is : command ≡ Pairs
-  pub small : is_small p ≡ true
+  pub small : is_small_text tree p ≡ true
   pub are : AreVerdicts p verdicts
   pub bytes : now ≡ grown old (pairs_text p verdicts)
 
 -- what a command replied to a program, by its status
-not_built_at : (at : Place) (p : PlainProgram) (command : Command) (reply : Reply) → ProgramReplies at p command reply → 1 ≡ reply.status → (command ≡ Pairs) × (is_small p ≡ false)
-not_built_at at p command reply (runs {budget = b}) e = absurd ((refusals_end p b (serial p b)).0 (sym e))
-not_built_at at p command reply (pairs small are) e = absurd (omega arith)
-not_built_at at p command reply (not_built large) e = (refl, large)
+not_built_at : (at : Place) (tree : TextTree) (p : PlainProgram) (command : Command) (reply : Reply) → ProgramReplies at tree p command reply → 1 ≡ reply.status → (command ≡ Pairs) × (is_small_text tree p ≡ false)
+not_built_at at tree p command reply (runs {budget = b}) e = absurd ((refusals_end p b (serial p b)).0 (sym e))
+not_built_at at tree p command reply (pairs small are) e = absurd (omega arith)
+not_built_at at tree p command reply (not_built large) e = (refl, large)
 
-no_limit_at : (at : Place) (p : PlainProgram) (command : Command) (reply : Reply) → ProgramReplies at p command reply → 8 ≡ reply.status → ⊥
-no_limit_at at p command reply (runs {budget = b}) e = (refusals_end p b (serial p b)).1 (sym e)
-no_limit_at at p command reply (pairs small are) e = omega arith
-no_limit_at at p command reply (not_built large) e = omega arith
+no_limit_at : (at : Place) (tree : TextTree) (p : PlainProgram) (command : Command) (reply : Reply) → ProgramReplies at tree p command reply → 8 ≡ reply.status → ⊥
+no_limit_at at tree p command reply (runs {budget = b}) e = (refusals_end p b (serial p b)).1 (sym e)
+no_limit_at at tree p command reply (pairs small are) e = omega arith
+no_limit_at at tree p command reply (not_built large) e = omega arith
 
-run_at : (at : Place) (p : PlainProgram) (command : Command) (reply : Reply) (status : ℕ) → (status ≡ 0 → ⊥) → (status ≡ 1 → ⊥)
-    → ProgramReplies at p command reply → status ≡ reply.status → IsRun p command status
-run_at at p command reply status zero one (runs {workers = w} {budget = b}) e = record { workers = w; budget = b; is = refl; same = e }
-run_at at p command reply status zero one (pairs small are) e = absurd (zero e)
-run_at at p command reply status zero one (not_built large) e = absurd (one e)
+run_at : (at : Place) (tree : TextTree) (p : PlainProgram) (command : Command) (reply : Reply) (status : ℕ) → (status ≡ 0 → ⊥) → (status ≡ 1 → ⊥)
+    → ProgramReplies at tree p command reply → status ≡ reply.status → IsRun p command status
+run_at at tree p command reply status zero one (runs {workers = w} {budget = b}) e = record { workers = w; budget = b; is = refl; same = e }
+run_at at tree p command reply status zero one (pairs small are) e = absurd (zero e)
+run_at at tree p command reply status zero one (not_built large) e = absurd (one e)
 
-done_at : (at : Place) (p : PlainProgram) (command : Command) (reply : Reply) (old now : Option (List ℕ))
-    → ProgramReplies at p command reply → 0 ≡ reply.status → now ≡ grown old reply.bytes → IsRun p command 0 ⊎ IsPairs p command old now
-done_at at p command reply old now (runs {workers = w} {budget = b}) e told = inl (record { workers = w; budget = b; is = refl; same = e })
-done_at at p command reply old now (pairs {vs = vs} small are) e told = inr (record { verdicts = vs; is = refl; small = small; are = are; bytes = told })
-done_at at p command reply old now (not_built large) e told = absurd (omega arith)
+done_at : (at : Place) (tree : TextTree) (p : PlainProgram) (command : Command) (reply : Reply) (old now : Option (List ℕ))
+    → ProgramReplies at tree p command reply → 0 ≡ reply.status → now ≡ grown old reply.bytes → IsRun p command 0 ⊎ IsPairs tree p command old now
+done_at at tree p command reply old now (runs {workers = w} {budget = b}) e told = inl (record { workers = w; budget = b; is = refl; same = e })
+done_at at tree p command reply old now (pairs {vs = vs} small are) e told = inr (record { verdicts = vs; is = refl; small = small; are = are; bytes = told })
+done_at at tree p command reply old now (not_built large) e told = absurd (omega arith)
 
 module _ {words : List (List ℕ)} {text : List ℕ} where
   run_ends : (status : ℕ) (End : Ended → Type 0) {p : PlainProgram} {command : Command}
@@ -131,7 +141,7 @@ module _ {words : List (List ℕ)} {text : List ℕ} where
   error_status (named names (refuses {at = at} {code = code} refused)) e =
       inl (record { at = at; code = code; refused = refused; kind = kind_of false (is_limit_code code) e })
   error_status (named {command = command} {reply = reply} names (serves {p = p} {at = at} accepted begins replies)) e =
-      let is = not_built_at at p command reply replies e in
+      let is = not_built_at at accepted.tree p command reply replies e in
       inr (record { named = let P : Command → Type 0 = λ c. Names words c in subst P is.0 names; program = p; accepted = accepted; large = is.1 })
 
   limit_status : {reply : Reply} → Replies words text reply → 8 ≡ reply.status → IsRefused true text
@@ -139,7 +149,7 @@ module _ {words : List (List ℕ)} {text : List ℕ} where
   limit_status (named names (refuses {at = at} {code = code} refused)) e =
       record { at = at; code = code; refused = refused; kind = kind_of true (is_limit_code code) e }
   limit_status (named {command = command} {reply = reply} names (serves {p = p} {at = at} accepted begins replies)) e =
-      absurd (no_limit_at at p command reply replies e)
+      absurd (no_limit_at at accepted.tree p command reply replies e)
 
   -- the end of the run is the one with this status
   run_status : (status : ℕ) (End : Ended → Type 0) → (status ≡ 0 → ⊥) → (status ≡ 1 → ⊥) → (status ≡ 2 → ⊥) → (status ≡ 8 → ⊥)
@@ -152,7 +162,7 @@ module _ {words : List (List ℕ)} {text : List ℕ} where
       at true e = eight e
       at false e = one e
   run_status status End zero one two eight ends (named {command = command} {reply = reply} names (serves {p = p} {at = at} accepted begins replies)) e =
-      run_ends status End ends names accepted (run_at at p command reply status zero one replies e)
+      run_ends status End ends names accepted (run_at at accepted.tree p command reply status zero one replies e)
 
   -- the end of status 0 is that of a run, or of pairs
   done_status : {old now : Option (List ℕ)} {reply : Reply} → Replies words text reply → 0 ≡ reply.status → now ≡ grown old reply.bytes
@@ -164,18 +174,19 @@ module _ {words : List (List ℕ)} {text : List ℕ} where
       at true e = omega arith
       at false e = omega arith
   done_status {old} {now} (named {command = command} {reply = reply} names (serves {p = p} {at = at} accepted begins replies)) e told =
-      ends (done_at at p command reply old now replies e told)
+      ends (done_at at accepted.tree p command reply old now replies e told)
     where
-      ends : IsRun p command 0 ⊎ IsPairs p command old now → RunEnds words text IsDone ⊎ PairsEnd words text old now
+      ends : IsRun p command 0 ⊎ IsPairs accepted.tree p command old now → RunEnds words text IsDone ⊎ PairsEnd words text old now
       ends (inl run) = inl (run_ends 0 IsDone done_end names accepted run)
       ends (inr is) = inr (record {
         program = p;
         verdicts = is.verdicts;
         named = let P : Command → Type 0 = λ c. Names words c in subst P is.is names;
         accepted = accepted;
+        small = is.small;
         verdicts_are = is.are;
         bytes = is.bytes;
-        commute = do_commute p is.verdicts is.small is.are;
+        commute = do_commute p is.verdicts (program_is_small accepted.tree p is.small) is.are;
       })
 
 module _ {words : List (List ℕ)} {text : List ℕ} {status : ℕ} {old now : Option (List ℕ)} (headline : EndsWith (Replies words text) status old now) where

@@ -1,9 +1,9 @@
 -- What each status says of the words and the text.
-use Rattle.std.specs.Prelude.{ℕ, ◌≡◌, Bool, false, List, Option, Some, slice_get}
+use Rattle.std.specs.Prelude.{ℕ, ◌≡◌, Bool, true, false, List, Option, Some, slice_get}
 use Rattle.ca_tree.specs.declared.name.Place.{Place}
 use Rattle.ca_program.specs.declared.program.FieldId.{FieldId}
 use Rattle.ca_program.specs.Plain.{PlainProgram}
-use Rattle.ca_small.specs.SmallForm.{is_small}
+use Rattle.ca_small.specs.SmallShape.{is_small_text}
 use Rattle.ca_base.specs.Devices.{grown}
 use Rattle.ca_model.specs.declared.value.Object.{Object}
 use Rattle.ca_model.specs.declared.value.Trap.{Trap}
@@ -30,12 +30,12 @@ pub record IsRefused (limit : Bool) (text : List ℕ) : Type 0 where
   pub refused : RefusedAt text at code
   pub kind : is_limit_code code ≡ limit
 
--- The words name `pairs`, and the text's program isn't of the small form, for which alone `pairs` is built.
+-- The words name `pairs`, and the text isn't of the small form, for which alone `pairs` is built.
 pub record IsNotBuilt (words : List (List ℕ)) (text : List ℕ) : Type 0 where
   pub named : Names words Pairs
   pub program : PlainProgram
   pub accepted : Accepted text program
-  pub large : is_small program ≡ false
+  pub large : is_small_text accepted.tree program ≡ false
 
 -- The words name a run, and the serial run of the text's program ends so.
 pub record RunEnds (words : List (List ℕ)) (text : List ℕ) (end : Ended → Type 0) : Type 0 where
@@ -46,13 +46,14 @@ pub record RunEnds (words : List (List ℕ)) (text : List ℕ) (end : Ended → 
   pub accepted : Accepted text program
   pub ends : end (serial program budget)
 
--- The words name `pairs`, and what was written are the verdicts on the operations of the text's program. Those of
--- which it is written that they commute do so, whichever fields are written.
+-- The words name `pairs`, the text is of the small form, and what was written are the verdicts on the operations of
+-- its program. Those of which it is written that they commute do so, whichever fields are written.
 pub record PairsEnd (words : List (List ℕ)) (text : List ℕ) (old now : Option (List ℕ)) : Type 0 where
   pub program : PlainProgram
   pub verdicts : List Verdict
   pub named : Names words Pairs
   pub accepted : Accepted text program
+  pub small : is_small_text accepted.tree program ≡ true
   pub verdicts_are : AreVerdicts program verdicts
   pub bytes : now ≡ grown old (pairs_text program verdicts)
   pub commute : (n : ℕ) → slice_get verdicts n ≡ Some Commutes → (written : List FieldId) → DoCommute program written (record { 0 = n }) (record { 0 = n })

@@ -1,8 +1,9 @@
 -- What words and a text reply: a status and the bytes that are written.
 use Rattle.std.specs.Prelude.{ℕ, ◌≡◌, true, false, List}
 use Rattle.ca_tree.specs.declared.name.Place.{Place}
+use Rattle.ca_tree.specs.Plain.{TextTree}
 use Rattle.ca_program.specs.Plain.{PlainProgram}
-use Rattle.ca_small.specs.SmallForm.{is_small}
+use Rattle.ca_small.specs.SmallShape.{is_small_text}
 use Rattle.ca_meaning.specs.Output.{Reply, output}
 use Rattle.ca_words.specs.declared.Command.{Command}
 use Rattle.ca_words.specs.declared.Command.TheVariants.{Run, Pairs}
@@ -15,20 +16,20 @@ use Rattle.ca_app.specs.Pairs.{AreVerdicts, pairs_text}
 abbrev pub usage_reply : Reply
 usage_reply = record { status = 2; bytes = usage_text }
 
--- the reply where `pairs` isn't built for the program of a text that begins here
+-- the reply where `pairs` isn't built for a text that begins here
 abbrev pub not_built_reply : Place → Reply
 not_built_reply at = refusal_reply at 0
 
--- what a command replies to a program, whose text begins at this place
-pub data ProgramReplies (at : Place) (p : PlainProgram) : Command → Reply → Type 0 where
-  runs : {workers budget : ℕ} → ProgramReplies at p (Run workers budget) (output p budget)
-  pairs : {vs : List Verdict} → is_small p ≡ true → AreVerdicts p vs → ProgramReplies at p Pairs (record { status = 0; bytes = pairs_text p vs })
-  not_built : is_small p ≡ false → ProgramReplies at p Pairs (not_built_reply at)
+-- what a command replies to a program, whose text begins at this place and has this tree
+pub data ProgramReplies (at : Place) (tree : TextTree) (p : PlainProgram) : Command → Reply → Type 0 where
+  runs : {workers budget : ℕ} → ProgramReplies at tree p (Run workers budget) (output p budget)
+  pairs : {vs : List Verdict} → is_small_text tree p ≡ true → AreVerdicts p vs → ProgramReplies at tree p Pairs (record { status = 0; bytes = pairs_text p vs })
+  not_built : is_small_text tree p ≡ false → ProgramReplies at tree p Pairs (not_built_reply at)
 
 -- what a command replies to a text: a refusal, or what it replies to the text's program
 pub data CommandReplies (command : Command) (text : List ℕ) : Reply → Type 0 where
   refuses : {at : Place} {code : ℕ} → RefusedAt text at code → CommandReplies command text (refusal_reply at code)
-  serves : {p : PlainProgram} {at : Place} {reply : Reply} → Accepted text p → BeginsAt text at → ProgramReplies at p command reply → CommandReplies command text reply
+  serves : {p : PlainProgram} {at : Place} {reply : Reply} → (accepted : Accepted text p) → BeginsAt text at → ProgramReplies at accepted.tree p command reply → CommandReplies command text reply
 
 -- what words on a text reply: they name no command, or one
 pub data Replies (words : List (List ℕ)) (text : List ℕ) : Reply → Type 0 where

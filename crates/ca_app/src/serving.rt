@@ -1,9 +1,12 @@
 //! All that the program does.
 
-ghost use Rattle.std.specs.Prelude.{◌≡◌, ℕ, ◌≤◌, ◌⊎◌, true, false, List, length, Some};
-ghost use Rattle.ca_base.specs.Devices.{Rose, at_end};
+ghost use Rattle.std.specs.Prelude.{◌≡◌, ℕ, ◌≤◌, ◌⊎◌, true, false, List, length, Some, IfOk};
+ghost use Rattle.ca_base.specs.Devices.{Rose, Writes, at_end};
+ghost use Rattle.ca_tree.specs.View.{tree_view};
 ghost use Rattle.ca_program.specs.View.{program_view};
-ghost use Rattle.ca_meaning.specs.Output.{Reply, output};
+ghost use Rattle.ca_meaning.specs.Output.{Reply, output, prints_text};
+ghost use Rattle.ca_meaning.specs.Serial.{serial};
+ghost use Rattle.ca_serial.specs.Runs.{run_with, prints_of, OnWrite};
 ghost use Rattle.ca_words.specs.Words.{texts};
 ghost use Rattle.ca_app.specs.Causes.{IsUsageFault, IsRefused, IsNotBuilt, RunEnds, PairsEnd, IsDone, IsTrapped, IsSpent};
 ghost use Rattle.ca_app.specs.Ends.{Ends, EndsWith, SinkCause, Complete, IsReadToEnd, status_after};
@@ -19,7 +22,6 @@ use ca_model::print_heap;
 use ca_parallel::Marks;
 use ca_program::Program;
 use ca_serial::{NoExtents, Outcome, RunError, drive};
-use ca_small::is_small;
 use ca_words::{Command, command_of, usage_line};
 use std::alloc::Global;
 use std::sync::Wait;
@@ -127,7 +129,7 @@ fn serve_program<R: Wait, K: Sink>(
     reading: &Reading,
     sink: &mut K,
 ) -> u8
-    ensures ends { EndsWith (ProgramReplies reading.now.start (program_view reading.now.program) command) result (K.written sink.old) (K.written sink.new) }
+    ensures ends { EndsWith (ProgramReplies reading.now.start (tree_view reading.now.tree) (program_view reading.now.program) command) result (K.written sink.old) (K.written sink.new) }
     ensures write_fault { SinkCause result (K.faults sink.old) (K.faults sink.new) }
     ensures no_read_fault { result ≡ 6 → ⊥ }
     ensures no_usage { result ≡ 2 → ⊥ }
@@ -148,15 +150,15 @@ fn refuse<K: Sink>(refusal: Refusal, sink: &mut K) -> u8
     finish(refusal.write(sink), refusal.status())
 }
 
-/// Writes the verdicts of a program, for which they are built where it is of the small form.
+/// Writes the verdicts of a program, for which they are built where its text is of the small form.
 fn pair_program<K: Sink>(alloc: Global, reading: &Reading, sink: &mut K) -> u8
-    ensures ends { EndsWith (ProgramReplies reading.now.start (program_view reading.now.program) Command.Pairs) result (K.written sink.old) (K.written sink.new) }
+    ensures ends { EndsWith (ProgramReplies reading.now.start (tree_view reading.now.tree) (program_view reading.now.program) Command.Pairs) result (K.written sink.old) (K.written sink.new) }
     ensures write_fault { SinkCause result (K.faults sink.old) (K.faults sink.new) }
     ensures no_read_fault { result ≡ 6 → ⊥ }
     ensures no_usage { result ≡ 2 → ⊥ }
 {
     let program = &reading.program;
-    if !is_small(program) {
+    if !reading.is_small() {
         return refuse(Refusal::not_built(reading.start), sink);
     }
     match verdicts_of(alloc, program) {
@@ -178,15 +180,30 @@ fn run_program<R: Wait, K: Sink>(
     ensures no_read_fault { result ≡ 6 → ⊥ }
     ensures no_usage { result ≡ 2 → ⊥ }
 {
-    let marks = Marks::none(alloc);
-    let engine = &mut NoExtents;
-    match drive(rt, alloc, program, &marks, u64::from(budget), engine, sink) {
+    match run_unmarked(rt, alloc, program, u64::from(budget), sink) {
         Ok(Outcome::Done { heap, .. }) => finish(print_heap(program, &heap, sink), 0),
         Ok(Outcome::Trapped(trap)) => finish(write_trap(trap, sink), 3),
         Ok(Outcome::Spent) => finish(write_spent(budget, sink), 4),
         Err(RunError::Write) => 7,
         Err(RunError::Memory) => 5,
     }
+}
+
+/// Runs a program of which nothing is marked.
+fn run_unmarked<R: Wait, K: Sink>(
+    rt: &R,
+    alloc: Global,
+    program: &Program,
+    budget: u64,
+    sink: &mut K,
+) -> Result<Outcome, RunError>
+    ensures outcome { IfOk result (λ outcome. serial (program_view program.now) budget ≡ run_with (prints_of (serial (program_view program.now) budget)) outcome) }
+    ensures prints { Writes (K.written sink.old) (K.written sink.new) result (prints_text (prints_of (serial (program_view program.now) budget))) }
+    ensures write { OnWrite result (Rose (K.faults sink.old) (K.faults sink.new)) }
+    ensures later { K.faults sink.old ≤ K.faults sink.new }
+{
+    let marks = Marks::none(alloc);
+    drive(rt, alloc, program, &marks, budget, &mut NoExtents, sink)
 }
 
 /// The status where the reply was written, and 7 where a write failed.

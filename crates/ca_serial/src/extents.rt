@@ -61,6 +61,7 @@ pub trait Extents {
 }
 
 /// The engine that is never asked: it serves only where there are no marks.
+#[derive(Clone, Copy)]
 pub struct NoExtents;
 
 impl Extents for NoExtents {

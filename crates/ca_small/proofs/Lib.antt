@@ -1,1 +1,3 @@
+mod ShapeExamples
+pub mod Shapes
 pub mod Typed

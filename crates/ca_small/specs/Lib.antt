@@ -1,2 +1,3 @@
 pub mod SmallForm
+pub mod SmallShape
 pub mod TypedPuts

@@ -62,7 +62,7 @@ fn scalar_has(fields: &[FieldInfo], field: u32, ty: ValueType) -> bool
     }
 }
 
-fn is_sum(op: BinaryOp) -> bool
+pub(crate) fn is_sum(op: BinaryOp) -> bool
     ensures { result ≡ is_sum op }
 {
     match op {
@@ -130,7 +130,7 @@ fn is_value_for(around: Around, field: u32, value: &Expr) -> bool
     }
 }
 
-fn is_put(op: AssignOp) -> bool
+pub(crate) fn is_put(op: AssignOp) -> bool
     ensures { result ≡ is_put op }
 {
     match op {

@@ -15,7 +15,40 @@ fn doubling(alloc: Global, times: usize) -> Result<Vec<u8>, AllocError> {
     Ok(text)
 }
 
-/// Verdicts on the operations of a class, and a program for which they aren't built.
+/// Two texts of one tree but for places, of the small form.
+const PLAIN: &str =
+    "class A { public: long f; long g; void m(long x) { f = f + x; } }; int main() { A *a = new A(); a->m(1); }";
+
+const ADORNED: &str =
+    "class A; // again\nclass A { public: long f, g; void m(long x) { f = (f + x); } }; int main() { A *a = new A; /* on a */ a->m(1); return 0; }";
+
+/// Texts that are close to the small form.
+const NEARLY_SMALL: [&str; 8] = [
+    "class A { public: long f; void m(long x) { this->f = x; } }; int main() { }",
+    "class A { public: void m(long x) { f = x; } long f; }; int main() { }",
+    "class A { public: long f; void m(long x) { f = f + (x + x); } }; int main() { }",
+    "class A { public: long f; void m(long x) { x = f; } }; int main() { }",
+    "class A { public: long f; void m(long x) { f += x; } }; int main() { }",
+    "class A { public: bool f; }; int main() { }",
+    "class A { public: long m(long x) { return x; } }; int main() { }",
+    "class A { public: void m(long x) { } }; int main() { A *a = new A(); a->m(1 + 1); }",
+];
+
+/// The small form is asked of the tree, and of what the targets of puts are.
+#[test]
+fn serves_texts_of_the_small_form(rt: HostRuntime) -> Result<(), AllocError> {
+    for text in [PLAIN, ADORNED] {
+        let ended = Call::new("pairs", text).writes(&rt, b"extent A::m\nA::m A::m commutes\n")?;
+        assert!(rt; ended == (0, true), "of {text}");
+    }
+    for text in NEARLY_SMALL {
+        let ended = Call::new("pairs", text).writes(&rt, b"error 1:1 E00\n")?;
+        assert!(rt; ended == (1, true), "of {text}");
+    }
+    Ok(())
+}
+
+/// Verdicts on the operations of a class, and programs for which they aren't built.
 #[test]
 fn tells_which_pairs_commute(rt: HostRuntime) -> Result<(), AllocError> {
     for (text, status, written) in [

@@ -5,4 +5,4 @@ pub returns-in-Err-Refused-clause-ends : goal.returns-in-Err-Refused-clause-ends
 returns-in-Err-Refused-clause-ends g c = ends_refused (rw c.in-Err-Refused.field-0-is at c.in-Err-Refused.ensures.cause) (rw c.in-Err-Refused.field-0-is at c.refuse.ensures.ends)
 
 pub returns-in-Ok-clause-ends : goal.returns-in-Ok-clause-ends
-returns-in-Ok-clause-ends g c = ends_program _ _ c.in-Ok.ensures.program c.in-Ok.ensures.begins c.serve_program.ensures.ends
+returns-in-Ok-clause-ends g c = ends_program _ _ _ c.in-Ok.ensures.program c.in-Ok.ensures.tree c.in-Ok.ensures.begins c.serve_program.ensures.ends
