@@ -7,7 +7,7 @@ use ca_resolve::{
     CheckError, ClassTable, Locals, Scope, Sort, Target, VisibleLocal, check_call, check_for,
     check_target, check_value,
 };
-use ca_tree::{ExprNode, Name};
+use ca_tree::{ClassNode, ExprNode, Name};
 use std::alloc::Global;
 use std::test::Fail;
 
@@ -19,17 +19,13 @@ fn expression(alloc: Global, text: &str) -> Result<ExprNode, Fail> {
     }
 }
 
-#[test]
-fn values_calls_and_targets(rt: HostRuntime) -> Result<(), Fail> {
-    let alloc = rt.alloc();
-    let text = "class A { public: long n, a[3]; long f(long p) { return p; } void o(long p) { } };\
-        int main() { }";
-    let tree = tree(alloc, text)?;
-    let table = ClassTable::new(alloc, &tree.classes)?;
-    let name = Name::new(alloc, b"x")?;
+/// A sum, an item, and calls in the first class, where a local `long x` is visible; and a comparison
+/// that is no number.
+fn are_right<'a>(alloc: Global, classes: &'a [ClassNode], x: &'a Name) -> Result<bool, Fail> {
+    let table = ClassTable::new(alloc, classes)?;
     let mut locals = Locals::new(alloc);
     locals.push(VisibleLocal {
-        name: &name,
+        name: x,
         id: LocalId(0),
         sort: Sort::Long,
     })?;
@@ -42,11 +38,20 @@ fn values_calls_and_targets(rt: HostRuntime) -> Result<(), Fail> {
     let (target, _) = check_target(alloc, &scope, &expression(alloc, "a[x]")?)?;
     let call = check_call(alloc, &scope, &expression(alloc, "o(x)")?)?;
     let is_item = matches!(&target, Target::Item(field, _) if field.field == 1);
-    assert!(rt; sort.is_long() && is_item && call.arguments.len() == 1);
-    let told = match check_for(alloc, &scope, Sort::Long, &expression(alloc, "x == n")?) {
+    let is_told = match check_for(alloc, &scope, Sort::Long, &expression(alloc, "x == n")?) {
         Err(CheckError::Violation(place, code)) => place.column == 3 && code.0 == 25,
         _ => false,
     };
-    assert!(rt; told);
+    Ok(sort.is_long() && is_item && call.arguments.len() == 1 && is_told)
+}
+
+#[test]
+fn values_calls_and_targets(rt: HostRuntime) -> Result<(), Fail> {
+    let alloc = rt.alloc();
+    let text = "class A { public: long n, a[3]; long f(long p) { return p; } void o(long p) { } };\
+        int main() { }";
+    let tree = tree(alloc, text)?;
+    let name = Name::new(alloc, b"x")?;
+    assert!(rt; are_right(alloc, &tree.classes, &name)?);
     Ok(())
 }
