@@ -6,8 +6,8 @@ ghost use Rattle.ca_program.specs.Plain.{binary};
 ghost use Rattle.std.specs.Int.{int_wrap, w64};
 ghost use Rattle.ca_model.specs.declared.value.Value.TheVariants.{Long, Bool as Truth, Ref};
 ghost use Rattle.ca_meaning.specs.Expressions.{gives, one_in, decided};
-ghost use Rattle.ca_meaning.specs.Operators.{operated, operated_longs};
-ghost use Rattle.ca_direct.specs.Direct.{direct, slot_at, item_at};
+ghost use Rattle.ca_meaning.specs.Operators.{operated, operated_longs, same_value};
+ghost use Rattle.ca_direct.specs.Direct.{direct, slot_at, item_at, pointer};
 
 use ca_meaning::operate;
 use ca_model::{Heap, Slot, Value};
@@ -65,20 +65,23 @@ impl<'a> Scene<'a> {
         }
     }
 
+    /// The single value of an own field.
+    #[inline]
+    fn own(&self, field: u32) -> Option<Value>
+        ensures { IfSome result (λ v. (n : ℕ) × (self.now.this ≡ Ref n) × (one_in (slot_at self.now.heap.now n field) ≡ v)) }
+    {
+        match self.this {
+            Value::Ref(id) => self.field(id, field),
+            _ => None,
+        }
+    }
+
     /// An item of an own array field.
     #[inline]
     fn own_item(&self, field: u32, index: i64) -> Option<Value>
         ensures { IfSome result (λ v. (n : ℕ) × (self.now.this ≡ Ref n) × (item_at self.now.heap.now n field index ≡ gives v 0)) }
     {
-        self.item_of(self.this, field, index)
-    }
-
-    /// An item of an array field of the object that a value names.
-    #[inline]
-    fn item_of(&self, object: Value, field: u32, index: i64) -> Option<Value>
-        ensures { IfSome result (λ v. (n : ℕ) × (object ≡ Ref n) × (item_at self.now.heap.now n field index ≡ gives v 0)) }
-    {
-        match object {
+        match self.this {
             Value::Ref(id) => self.item(id, field, index),
             _ => None,
         }
@@ -92,21 +95,42 @@ impl<'a> Scene<'a> {
         self.locals.get(index as usize).copied()
     }
 
-    /// The value of an expression that is the receiver, a local, or a field read through such ones.
-    fn pointer_of(&self, e: &Expr) -> Option<Value>
-        ensures { IfSome result (λ v. direct self.now.heap.now self.now.this self.now.locals.now (expression_view e.now) ≡ gives v 0) }
+    /// The number of the object that an expression without operators names.
+    #[cycle(number)]
+    fn object_of(&self, e: &Expr) -> Option<u32>
+        ensures { IfSome result (λ n. direct self.now.heap.now self.now.this self.now.locals.now (expression_view e.now) ≡ gives (Ref n) 0) }
     {
         match e {
-            Expr::This => Some(self.this),
-            Expr::Local(l) => self.local(l.0),
-            Expr::Own(f) => match self.this {
-                Value::Ref(id) => self.field(id, f.field),
-                _ => None,
+            Expr::This => object(self.this),
+            Expr::Local(l) => match self.local(l.0) {
+                Some(value) => object(value),
+                None => None,
             },
-            Expr::Read(p, f) => match self.pointer_of(p) {
-                Some(object) => match object {
-                    Value::Ref(id) => self.field(id, f.field),
-                    _ => None,
+            Expr::Own(f) => match self.own(f.field) {
+                Some(value) => object(value),
+                None => None,
+            },
+            Expr::Read(p, f) => match self.object_of(p) {
+                Some(id) => match self.field(id, f.field) {
+                    Some(value) => object(value),
+                    None => None,
+                },
+                None => None,
+            },
+            Expr::OwnItem(f, i) => match self.side(i) {
+                Some(index) => match self.own_item(f.field, index) {
+                    Some(value) => object(value),
+                    None => None,
+                },
+                None => None,
+            },
+            Expr::ReadItem(p, f, i) => match self.object_of(p) {
+                Some(id) => match self.side(i) {
+                    Some(index) => match self.item(id, f.field, index) {
+                        Some(value) => object(value),
+                        None => None,
+                    },
+                    None => None,
                 },
                 None => None,
             },
@@ -114,7 +138,24 @@ impl<'a> Scene<'a> {
         }
     }
 
+    /// The value of a number or a local that is a number, at once, and of another expression by `long_of`.
+    #[cycle(number)]
+    #[inline(always)]
+    fn side(&self, e: &Expr) -> Option<i64>
+        ensures { IfSome result (λ n. direct self.now.heap.now self.now.this self.now.locals.now (expression_view e.now) ≡ gives (Long n) 0) }
+    {
+        match e {
+            Expr::Number(n) => Some(*n),
+            Expr::Local(l) => match self.local(l.0) {
+                Some(value) => long(value),
+                None => None,
+            },
+            _ => self.long_of(e),
+        }
+    }
+
     /// The value of an expression that is a number.
+    #[cycle(number)]
     fn long_of(&self, e: &Expr) -> Option<i64>
         ensures { IfSome result (λ n. direct self.now.heap.now self.now.this self.now.locals.now (expression_view e.now) ≡ gives (Long n) 0) }
     {
@@ -124,27 +165,27 @@ impl<'a> Scene<'a> {
                 Some(value) => long(value),
                 None => None,
             },
-            Expr::Own(f) => match self.this {
-                Value::Ref(id) => match self.field(id, f.field) {
-                    Some(value) => long(value),
-                    None => None,
-                },
-                _ => None,
-            },
-            Expr::Read(_, _) => match self.pointer_of(e) {
+            Expr::Own(f) => match self.own(f.field) {
                 Some(value) => long(value),
                 None => None,
             },
-            Expr::OwnItem(f, i) => match self.long_of(i) {
+            Expr::Read(p, f) => match self.object_of(p) {
+                Some(id) => match self.field(id, f.field) {
+                    Some(value) => long(value),
+                    None => None,
+                },
+                None => None,
+            },
+            Expr::OwnItem(f, i) => match self.side(i) {
                 Some(index) => match self.own_item(f.field, index) {
                     Some(value) => long(value),
                     None => None,
                 },
                 None => None,
             },
-            Expr::ReadItem(p, f, i) => match self.pointer_of(p) {
-                Some(object) => match self.long_of(i) {
-                    Some(index) => match self.item_of(object, f.field, index) {
+            Expr::ReadItem(p, f, i) => match self.object_of(p) {
+                Some(id) => match self.side(i) {
+                    Some(index) => match self.item(id, f.field, index) {
                         Some(value) => long(value),
                         None => None,
                     },
@@ -153,14 +194,14 @@ impl<'a> Scene<'a> {
                 None => None,
             },
             Expr::Unary(op, a) => match op {
-                UnaryOp::Minus => match self.long_of(a) {
+                UnaryOp::Minus => match self.side(a) {
                     Some(number) => Some(negated(number)),
                     None => None,
                 },
                 UnaryOp::Not => None,
             },
-            Expr::Binary(op, a, b) => match self.long_of(a) {
-                Some(left) => match self.long_of(b) {
+            Expr::Binary(op, a, b) => match self.side(a) {
+                Some(left) => match self.side(b) {
                     Some(right) => arithmetic(*op, left, right),
                     None => None,
                 },
@@ -201,21 +242,63 @@ impl<'a> Scene<'a> {
     }
 
     /// What a comparison of two numbers, or of two values without operators, gives.
+    #[inline]
     fn compare(&self, op: BinaryOp, a: &Expr, b: &Expr) -> Option<bool>
         ensures { IfSome result (λ t. direct self.now.heap.now self.now.this self.now.locals.now (binary op (expression_view a.now) (expression_view b.now)) ≡ gives (Truth t) 0) }
     {
-        match self.long_of(a) {
-            Some(left) => match self.long_of(b) {
+        match self.side(a) {
+            Some(left) => match self.side(b) {
                 Some(right) => compared(op, left, right),
                 None => None,
             },
-            None => match self.read(a) {
-                Some(left) => match self.read(b) {
-                    Some(right) => alike(op, left, right),
+            None => match self.pointer_of(a) {
+                Some(left) => match self.pointer_of(b) {
+                    Some(right) => same_pointers(op, left, right),
+                    None => None,
+                },
+                None => self.compare_others(op, a, b),
+            },
+        }
+    }
+
+    /// What a comparison of two values without operators gives.
+    #[inline(never)]
+    fn compare_others(&self, op: BinaryOp, a: &Expr, b: &Expr) -> Option<bool>
+        ensures { IfSome result (λ t. direct self.now.heap.now self.now.this self.now.locals.now (binary op (expression_view a.now) (expression_view b.now)) ≡ gives (Truth t) 0) }
+    {
+        match self.read(a) {
+            Some(left) => match self.read(b) {
+                Some(right) => alike(op, left, right),
+                None => None,
+            },
+            None => None,
+        }
+    }
+
+    /// The pointer that an expression without operators and items is; none for null.
+    #[inline]
+    fn pointer_of(&self, e: &Expr) -> Option<Option<u32>>
+        ensures { IfSome result (λ p. direct self.now.heap.now self.now.this self.now.locals.now (expression_view e.now) ≡ gives (pointer p) 0) }
+    {
+        match e {
+            Expr::Null => Some(None),
+            Expr::This => pointed(self.this),
+            Expr::Local(l) => match self.local(l.0) {
+                Some(value) => pointed(value),
+                None => None,
+            },
+            Expr::Own(f) => match self.own(f.field) {
+                Some(value) => pointed(value),
+                None => None,
+            },
+            Expr::Read(p, f) => match self.object_of(p) {
+                Some(id) => match self.field(id, f.field) {
+                    Some(value) => pointed(value),
                     None => None,
                 },
                 None => None,
             },
+            _ => None,
         }
     }
 
@@ -227,26 +310,36 @@ impl<'a> Scene<'a> {
             Expr::Number(n) => Some(Value::Long(*n)),
             Expr::Truth(b) => Some(Value::Bool(*b)),
             Expr::Null => Some(Value::Null),
-            Expr::OwnItem(f, i) => match self.long_of(i) {
+            Expr::This => Some(self.this),
+            Expr::Local(l) => self.local(l.0),
+            Expr::Own(f) => self.own(f.field),
+            Expr::Read(p, f) => match self.object_of(p) {
+                Some(id) => self.field(id, f.field),
+                None => None,
+            },
+            Expr::OwnItem(f, i) => match self.side(i) {
                 Some(index) => self.own_item(f.field, index),
                 None => None,
             },
-            Expr::ReadItem(p, f, i) => match self.pointer_of(p) {
-                Some(object) => match self.long_of(i) {
-                    Some(index) => self.item_of(object, f.field, index),
+            Expr::ReadItem(p, f, i) => match self.object_of(p) {
+                Some(id) => match self.side(i) {
+                    Some(index) => self.item(id, f.field, index),
                     None => None,
                 },
                 None => None,
             },
-            _ => self.pointer_of(e),
+            _ => None,
         }
     }
 
     /// The value of an expression.
+    #[inline]
     pub fn value_of(&self, e: &Expr) -> Option<Value>
         ensures { IfSome result (λ v. direct self.now.heap.now self.now.this self.now.locals.now (expression_view e.now) ≡ gives v 0) }
     {
         match e {
+            Expr::Number(n) => Some(Value::Long(*n)),
+            Expr::Local(l) => self.local(l.0),
             Expr::Unary(op, _) => match op {
                 UnaryOp::Minus => self.number(e),
                 UnaryOp::Not => self.truth(e),
@@ -293,6 +386,29 @@ fn long(value: Value) -> Option<i64>
 {
     match value {
         Value::Long(number) => Some(number),
+        _ => None,
+    }
+}
+
+/// The object that a value names.
+#[inline]
+fn object(value: Value) -> Option<u32>
+    ensures { IfSome result (λ n. value ≡ Ref n) }
+{
+    match value {
+        Value::Ref(id) => Some(id),
+        _ => None,
+    }
+}
+
+/// The pointer that a value is; none for null.
+#[inline]
+fn pointed(value: Value) -> Option<Option<u32>>
+    ensures { IfSome result (λ p. value ≡ pointer p) }
+{
+    match value {
+        Value::Ref(id) => Some(Some(id)),
+        Value::Null => Some(None),
         _ => None,
     }
 }
@@ -356,6 +472,35 @@ fn compared(op: BinaryOp, left: i64, right: i64) -> Option<bool>
         BinaryOp::Equal => Some(left == right),
         BinaryOp::NotEqual => Some(left != right),
         _ => None,
+    }
+}
+
+/// Whether two pointers are equal, or differ.
+#[inline]
+fn same_pointers(op: BinaryOp, left: Option<u32>, right: Option<u32>) -> Option<bool>
+    ensures { IfSome result (λ b. (decided op (pointer left) ≡ None) × (operated op (pointer left) (pointer right) ≡ Ok (Truth b))) }
+{
+    match op {
+        BinaryOp::Equal => Some(is_same(left, right)),
+        BinaryOp::NotEqual => Some(!is_same(left, right)),
+        _ => None,
+    }
+}
+
+/// Whether two pointers are equal.
+#[inline]
+fn is_same(left: Option<u32>, right: Option<u32>) -> bool
+    ensures { result ≡ same_value (pointer left) (pointer right) }
+{
+    match left {
+        Some(a) => match right {
+            Some(b) => a == b,
+            None => false,
+        },
+        None => match right {
+            Some(_) => false,
+            None => true,
+        },
     }
 }
 

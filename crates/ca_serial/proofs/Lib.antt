@@ -5,3 +5,4 @@ pub mod Steps
 pub mod CallSteps
 pub mod Items
 pub mod Stacks
+pub mod AtOnce

@@ -107,7 +107,7 @@ for_body p f w line own site part first c next b k go back = go_on_and_on (runs 
 pub list_runs : (p : PlainProgram) (f : Body) (w : World) (x : Stmt) (xs ss : List Stmt) (k : ℕ) (go : List Datum → World → ℕ → Flow World) (back : Datum → World → ℕ → Flow World) → ss ≡ x ∷ xs → go_on (runs_all p f.mode f w (statements_view ss) k) go back ≡ go_on (runs p f.mode f w x.line (statement_view x) k) (λ ls w k. go_on (runs_all p f.mode (with_locals f ls) w (statements_view xs) k) go back) back
 list_runs p f w x xs ss k go back is = rw is (seq_runs p f w (statement_view x) (statements_view xs) k go back ∙ rw (line_is x) refl)
 
-none_run : (p : PlainProgram) (m : Mode) (f : Body) (w : World) (k : ℕ) (go : List Datum → World → ℕ → Flow World) (back : Datum → World → ℕ → Flow World) → go_on (runs_all p m f w no_statements k) go back ≡ go f.locals w k
+pub none_run : (p : PlainProgram) (m : Mode) (f : Body) (w : World) (k : ℕ) (go : List Datum → World → ℕ → Flow World) (back : Datum → World → ℕ → Flow World) → go_on (runs_all p m f w no_statements k) go back ≡ go f.locals w k
 none_run p InFunction f w k go back = refl
 none_run p InOperation f w k go back = refl
 

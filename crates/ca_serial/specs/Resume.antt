@@ -1,5 +1,5 @@
 -- What is left to do, as a meaning.
-use Rattle.std.specs.Prelude.{ℕ, zero, suc, List, [], ◌∷◌, ◌++◌, Option, Some, None, slice_get, slice_set, drop}
+use Rattle.std.specs.Prelude.{◌≡◌, ◌<◌, Bool, true, false, ℕ, zero, suc, List, [], ◌∷◌, ◌++◌, Option, Some, None, slice_get, slice_set, drop}
 use Rattle.ca_program.specs.declared.program.FieldId.{FieldId}
 use Rattle.ca_program.specs.declared.program.Expr.{Expr}
 use Rattle.ca_program.specs.Plain.{PlainProgram, PlainMethod, Expression, Statement, Statements, while_loop, for_loop}
@@ -22,7 +22,11 @@ use Rattle.ca_serial.specs.declared.work.Target.TheVariants.{Function, Operation
 use Rattle.ca_serial.specs.declared.work.Work.{Work}
 use Rattle.ca_serial.specs.declared.work.Work.TheVariants.{Evaluate, Take, Collect, Exec, Seq, Again, Leave}
 use Rattle.ca_serial.specs.declared.work.Taker.{Taker}
-use Rattle.ca_serial.specs.declared.work.Taker.TheVariants.{ReadField, CheckObject, ReadItem, Sign, CheckLeft, Apply, PutLocal, PutField, CheckIndex, PutItem, NewItem, Print, Choose, Turn, GiveBack}
+use Rattle.ca_serial.specs.declared.work.Taker.TheVariants.{ReadField, CheckObject, ReadItem, Sign, CheckLeft, Apply, PutLocal, PutField, CheckIndex, PutItem, NewItem, Print, Choose, Turn as TakeTurn, GiveBack}
+use Rattle.ca_serial.specs.declared.work.Left.{Left}
+use Rattle.ca_serial.specs.declared.work.Left.TheVariants.{Nothing, Statement as OneLeft, Statements as SomeLeft}
+use Rattle.ca_serial.specs.declared.work.Turn.{Turn}
+use Rattle.ca_serial.specs.declared.work.Turn.TheVariants.{Whole, Ends}
 use Rattle.ca_serial.specs.declared.work.Next.{Next}
 use Rattle.ca_serial.specs.declared.work.Next.TheVariants.{GoesOn, Printed, Trapped, Spent}
 use Rattle.ca_serial.specs.declared.machine.Machine.{Machine}
@@ -142,7 +146,7 @@ used p (NewItem line i c) v vs f w k go back =
 used p Print v vs f w k go back = go vs f (printed w v) k
 used p (Choose a b) v vs f w k go back =
     go_on (choose v (runs p f.mode f w a.now.line (statement_view a.now) k) (runs p f.mode f w b.now.line (statement_view b.now) k)) (λ ls w k. go vs (with_locals f ls) w k) back
-used p (Turn line loop) v vs f w k go back =
+used p (TakeTurn line loop) v vs f w k go back =
     go_on (turns p f.mode f w line (statement_view loop.now) k v) (λ ls w k. go vs (with_locals f ls) w k) back
 used p GiveBack v vs f w k go back = back v w k
 
@@ -222,6 +226,51 @@ after p m ps GoesOn = rest_of p m.todo m ps
 after p m ps (Printed v) = rest_of p m.todo m (ps ++ v ∷ [])
 after p m ps (Trapped t) = stops t (world_of m ps)
 after p m ps Spent = runs_out (world_of m ps)
+
+-- a piece of work was done at once: then all is as before but for what it means
+abbrev pub AtOnce : Bool → PlainProgram → Work → Machine → Machine → Type 0
+AtOnce true p work old new = (new.todo ≡ old.todo) × (new.left ≡ old.left) × ((todo : List Work) (ps : List Datum) → rest_of p (work ∷ todo) old ps ≡ rest_of p todo new ps)
+AtOnce false p work old new = new ≡ old
+
+-- that runs this statement, and then this work
+abbrev pub does_before : PlainProgram → List Work → ℕ → Statement → Machine → List Datum → Flow World
+does_before p todo line s m ps =
+    go_on (runs p m.bodies.current.mode m.bodies.current (world_of m ps) line s m.left) (λ ls w k. resume p todo m.values (with_locals m.bodies.current ls) m.bodies.below w k) (λ v w k. by_mode m.bodies.current.mode (unwind p todo m.values m.bodies.below w k v) (runs_out w))
+
+-- the same of a statement
+abbrev pub Puts : Bool → PlainProgram → ℕ → Statement → Machine → Machine → Type 0
+Puts true p line s old new = (new.todo ≡ old.todo) × (new.left ≡ old.left) × ((todo : List Work) (ps : List Datum) → does_before p todo line s old ps ≡ rest_of p todo new ps)
+Puts false p line s old new = new ≡ old
+
+-- and the same of a list of statements
+abbrev pub all_before : PlainProgram → List Work → Statements → Machine → List Datum → Flow World
+all_before p todo ss m ps =
+    go_on (runs_all p m.bodies.current.mode m.bodies.current (world_of m ps) ss m.left) (λ ls w k. resume p todo m.values (with_locals m.bodies.current ls) m.bodies.below w k) (λ v w k. by_mode m.bodies.current.mode (unwind p todo m.values m.bodies.below w k v) (runs_out w))
+
+-- and of a loop that comes again
+abbrev pub again_before : PlainProgram → List Work → ℕ → Statement → Machine → List Datum → Flow World
+again_before p todo line loop m ps =
+    go_on (comes_again p m.bodies.current.mode m.bodies.current (world_of m ps) line loop m.left) (λ ls w k. resume p todo m.values (with_locals m.bodies.current ls) m.bodies.below w k) (λ v w k. by_mode m.bodies.current.mode (unwind p todo m.values m.bodies.below w k v) (runs_out w))
+
+-- the work that is left of a statement, before other work
+abbrev pub pieces : Left → List Work → List Work
+pieces Nothing todo = todo
+pieces (OneLeft line s) todo = Exec line s ∷ todo
+pieces (SomeLeft ss) todo = Seq ss ∷ todo
+
+-- after a turn of a loop: the loop comes again, or the work ended so
+abbrev pub behind : PlainProgram → Work → Machine → List Datum → Turn → Flow World
+behind p loop m ps Whole = rest_of p (loop ∷ m.todo) m ps
+behind p loop m ps (Ends next) = after p m ps next
+
+-- a whole turn takes a step
+abbrev pub Lessens : Turn → ℕ → ℕ → Type 0
+Lessens Whole new old = new < old
+Lessens (Ends next) new old = Unit {0}
+
+abbrev pub LeavesAsMany : Turn → ℕ → ℕ → Type 0
+LeavesAsMany Whole new old = new ≡ old
+LeavesAsMany (Ends next) new old = Unit {0}
 
 abbrev pub target_method : PlainProgram → Target → Option PlainMethod
 target_method p (Function m) = slice_get p.functions m.0

@@ -66,8 +66,21 @@ impl<'a> Machine<'a> {
             .enter(top.below, mode_of(target), top.items, called.others)?;
         self.values.cut(count);
         self.left -= 1;
+        let next = self.begin_body(program, called.stmts)?;
+        Ok(next)
+    }
+
+    /// Begins a body that was entered. One that is done at once is left again with no work on the stack.
+    fn begin_body(&mut self, program: &'a Program, ss: &'a [Stmt]) -> Result<Next, Memory>
+        ensures { IfOk result (λ next. (ps : List Datum) → rest_of (program_view program.now) (Work.Seq ss.entry ∷ Work.Leave ∷ self.old.todo) self.old ps ≡ after (program_view program.now) self.new ps next) }
+    {
+        let rest = self.do_all(program, ss);
+        if rest.is_empty() {
+            let next = self.leave(program)?;
+            return Ok(next);
+        }
         self.todo.push(Work::Leave)?;
-        self.todo.push(Work::Seq(called.stmts))?;
+        self.todo.push(Work::Seq(rest))?;
         Ok(Next::GoesOn)
     }
 

@@ -4,55 +4,68 @@ ghost use Rattle.std.specs.Prelude.{◌≡◌, ◌∷◌, ℕ, List, IfOk, true}
 ghost use Rattle.ca_program.specs.View.{program_view, expression_view, expressions_view, statement_view, statements_view};
 ghost use Rattle.ca_model.specs.declared.value.Value.{Value as Datum};
 ghost use Rattle.ca_model.specs.declared.value.Value.TheVariants.{Bool as Truth};
-ghost use Rattle.ca_serial.specs.Resume.{rest_of, takes, loops, after};
+ghost use Rattle.ca_serial.specs.Resume.{rest_of, takes, loops, after, behind, pieces, Lessens, LeavesAsMany};
 
 use crate::machine::Machine;
-use crate::work::{Next, Taker, Work};
+use crate::work::{Left, Next, Taker, Turn, Work};
 use ca_base::Memory;
 use ca_model::Value;
 use ca_program::{Expr, Program, Stmt, StmtForm};
 
 impl<'a> Machine<'a> {
-    /// Goes on with a loop that comes again.
+    /// Goes on with a loop that comes again. Turns that are done at once come one after another.
     #[inline]
     pub fn again(&mut self, program: &'a Program, line: u32, s: &'a Stmt) -> Result<Next, Memory>
         ensures { IfOk result (λ next. (ps : List Datum) → rest_of (program_view program.now) (Work.Again line s.entry ∷ self.old.todo) self.old ps ≡ after (program_view program.now) self.new ps next) }
     {
+        loop {
+            if let Turn::Ends(next) = self.turn(program, line, s)? {
+                return Ok(next);
+            }
+        }
+    }
+
+    /// Goes on with a loop that comes again, for one turn.
+    fn turn(&mut self, program: &'a Program, line: u32, s: &'a Stmt) -> Result<Turn, Memory>
+        ensures means { IfOk result (λ turn. (ps : List Datum) → rest_of (program_view program.now) (Work.Again line s.entry ∷ self.old.todo) self.old ps ≡ behind (program_view program.now) (Work.Again line s.entry) self.new ps turn) }
+        ensures less { IfOk result (λ turn. Lessens turn self.new.left self.old.left) }
+    {
         match &s.kind {
             StmtForm::While(c, _) => {
-                let next = self.test(program, line, s, c)?;
-                Ok(next)
+                let turn = self.test(program, line, s, c)?;
+                Ok(turn)
             }
             StmtForm::For(_, _, _, c, _, _) => {
-                let next = self.test(program, line, s, c)?;
-                Ok(next)
+                let turn = self.test(program, line, s, c)?;
+                Ok(turn)
             }
-            _ => Ok(Next::GoesOn),
+            _ => Ok(Turn::Ends(Next::GoesOn)),
         }
     }
 
     /// Goes on with the condition of a loop.
     #[inline]
-    pub fn test(
+    fn test(
         &mut self,
         program: &'a Program,
         line: u32,
         s: &'a Stmt,
         c: &'a Expr,
-    ) -> Result<Next, Memory>
-        ensures { IfOk result (λ next. (ps : List Datum) → loops (program_view program.now) line (expression_view c.now) (statement_view s.now) self.old ps ≡ after (program_view program.now) self.new ps next) }
+    ) -> Result<Turn, Memory>
+        ensures means { IfOk result (λ turn. (ps : List Datum) → loops (program_view program.now) line (expression_view c.now) (statement_view s.now) self.old ps ≡ behind (program_view program.now) (Work.Again line s.entry) self.new ps turn) }
+        ensures less { IfOk result (λ turn. Lessens turn self.new.left self.old.left) }
     {
         match self.truth_of(program, line, c) {
-            Some(truth) => self.enter_turn(program, line, s, Value::Bool(truth)),
+            Some(true) => self.begin_turn(program, line, s),
+            Some(false) => Ok(Turn::Ends(Next::GoesOn)),
             None => {
                 self.then(Taker::Turn(line, s), line, c)?;
-                Ok(Next::GoesOn)
+                Ok(Turn::Ends(Next::GoesOn))
             }
         }
     }
 
     /// Enters a turn of a loop if the value of its condition is true.
-    #[inline]
     pub fn enter_turn(
         &mut self,
         program: &'a Program,
@@ -63,32 +76,86 @@ impl<'a> Machine<'a> {
         ensures { IfOk result (λ next. (ps : List Datum) → takes (program_view program.now) (Taker.Turn line s.entry) condition self.old ps ≡ after (program_view program.now) self.new ps next) }
     {
         match condition {
-            Value::Bool(true) => self.begin_turn(program, line, s),
+            Value::Bool(true) => match self.begin_turn(program, line, s)? {
+                Turn::Whole => {
+                    self.todo.push(Work::Again(line, s))?;
+                    Ok(Next::GoesOn)
+                }
+                Turn::Ends(next) => Ok(next),
+            },
             _ => Ok(Next::GoesOn),
         }
     }
 
     /// Takes a step and enters a turn of a loop.
     #[inline]
-    fn begin_turn(&mut self, program: &'a Program, line: u32, s: &'a Stmt) -> Result<Next, Memory>
-        ensures { IfOk result (λ next. (ps : List Datum) → takes (program_view program.now) (Taker.Turn line s.entry) (Truth true) self.old ps ≡ after (program_view program.now) self.new ps next) }
+    fn begin_turn(&mut self, program: &'a Program, line: u32, s: &'a Stmt) -> Result<Turn, Memory>
+        ensures means { IfOk result (λ turn. (ps : List Datum) → takes (program_view program.now) (Taker.Turn line s.entry) (Truth true) self.old ps ≡ behind (program_view program.now) (Work.Again line s.entry) self.new ps turn) }
+        ensures less { IfOk result (λ turn. Lessens turn self.new.left self.old.left) }
     {
         if self.left == 0 {
-            return Ok(Next::Spent);
+            return Ok(Turn::Ends(Next::Spent));
         }
         self.left -= 1;
-        self.todo.push(Work::Again(line, s))?;
         match &s.kind {
-            StmtForm::While(_, body) => {
-                let next = self.enter(program, body)?;
+            StmtForm::While(_, body) => match self.start(program, body.line, body) {
+                Left::Nothing => Ok(Turn::Whole),
+                left => {
+                    self.todo.push(Work::Again(line, s))?;
+                    let next = self.go_on(program, left)?;
+                    Ok(Turn::Ends(next))
+                }
+            },
+            StmtForm::For(_, _, _, _, next, body) => match self.start(program, body.line, body) {
+                Left::Nothing => {
+                    let turn = self.follow(program, line, s, next)?;
+                    Ok(turn)
+                }
+                left => {
+                    self.todo.push(Work::Again(line, s))?;
+                    self.todo.push(Work::Exec(line, next))?;
+                    let next = self.go_on(program, left)?;
+                    Ok(Turn::Ends(next))
+                }
+            },
+            _ => Ok(Turn::Ends(Next::GoesOn)),
+        }
+    }
+
+    /// Runs the next part of a `for` behind its body.
+    #[inline]
+    fn follow(
+        &mut self,
+        program: &'a Program,
+        line: u32,
+        s: &'a Stmt,
+        next: &'a Stmt,
+    ) -> Result<Turn, Memory>
+        ensures means { IfOk result (λ turn. (ps : List Datum) → rest_of (program_view program.now) (Work.Exec line next.entry ∷ Work.Again line s.entry ∷ self.old.todo) self.old ps ≡ behind (program_view program.now) (Work.Again line s.entry) self.new ps turn) }
+        ensures less { IfOk result (λ turn. LeavesAsMany turn self.new.left self.old.left) }
+    {
+        if self.do_one(program, line, next) {
+            return Ok(Turn::Whole);
+        }
+        self.todo.push(Work::Again(line, s))?;
+        let next = self.exec(program, line, next)?;
+        Ok(Turn::Ends(next))
+    }
+
+    /// Goes on with what is left of a statement.
+    fn go_on(&mut self, program: &'a Program, left: Left<'a>) -> Result<Next, Memory>
+        ensures { IfOk result (λ next. (ps : List Datum) → rest_of (program_view program.now) (pieces left.entry self.old.todo) self.old ps ≡ after (program_view program.now) self.new ps next) }
+    {
+        match left {
+            Left::Nothing => Ok(Next::GoesOn),
+            Left::Statement(line, s) => {
+                let next = self.exec(program, line, s)?;
                 Ok(next)
             }
-            StmtForm::For(_, _, _, _, next, body) => {
-                self.todo.push(Work::Exec(line, next))?;
-                let next = self.enter(program, body)?;
+            Left::Statements(ss) => {
+                let next = self.go_through(program, ss)?;
                 Ok(next)
             }
-            _ => Ok(Next::GoesOn),
         }
     }
 }

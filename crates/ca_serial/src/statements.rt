@@ -1,13 +1,18 @@
 //! The steps of statements.
 
-ghost use Rattle.std.specs.Prelude.{◌≡◌, ◌∷◌, ℕ, List, IfOk};
+ghost use Rattle.std.specs.Prelude.{◌≡◌, ◌∷◌, ℕ, List, IfOk, slice_get, slice_set};
 ghost use Rattle.ca_program.specs.View.{program_view, expression_view, expressions_view, statement_view, statements_view};
 ghost use Rattle.ca_model.specs.declared.value.Value.{Value as Datum};
 ghost use Rattle.ca_program.specs.Plain.{put_local, put_field, put_item, new_local, new_field, new_item, invoke, if_else, return_value, print_value};
-ghost use Rattle.ca_serial.specs.Resume.{rest_of, takes, does, after};
+ghost use Rattle.ca_meaning.specs.Operators.{assigned};
+ghost use Rattle.ca_meaning.specs.Expressions.{one_in, value_at};
+ghost use Rattle.ca_meaning.specs.Functions.{own_of};
+ghost use Rattle.ca_meaning.specs.Serial.{put_own};
+ghost use Rattle.ca_serial.specs.Bodies.{with_locals};
+ghost use Rattle.ca_serial.specs.Resume.{rest_of, takes, does, after, HasOwn};
 
 use crate::bodies::Mode;
-use crate::machine::{Machine, field_of, item_of, put, store, trapped};
+use crate::machine::{Found, Machine, field_of, item_of, put, store, trapped};
 use crate::work::{Next, Taker, Target, Work};
 use ca_base::Memory;
 use ca_meaning::assign;
@@ -97,6 +102,16 @@ impl<'a> Machine<'a> {
     pub fn seq(&mut self, program: &'a Program, ss: &'a [Stmt]) -> Result<Next, Memory>
         ensures { IfOk result (λ next. (ps : List Datum) → rest_of (program_view program.now) (Work.Seq ss.entry ∷ self.old.todo) self.old ps ≡ after (program_view program.now) self.new ps next) }
     {
+        let rest = self.do_all(program, ss);
+        let next = self.go_through(program, rest)?;
+        Ok(next)
+    }
+
+    /// Goes on with a list of statements, of which the first is to be run.
+    #[inline]
+    pub fn go_through(&mut self, program: &'a Program, ss: &'a [Stmt]) -> Result<Next, Memory>
+        ensures { IfOk result (λ next. (ps : List Datum) → rest_of (program_view program.now) (Work.Seq ss.entry ∷ self.old.todo) self.old ps ≡ after (program_view program.now) self.new ps next) }
+    {
         match ss.split_first() {
             Some((first, rest)) => {
                 if rest.is_empty() {
@@ -143,13 +158,26 @@ impl<'a> Machine<'a> {
     ) -> Next
         ensures { (ps : List Datum) → takes (program_view program.now) (Taker.PutLocal local op) value self.old ps ≡ after (program_view program.now) self.new ps result }
     {
+        self.assign_local(local, op, value);
+        Next::GoesOn
+    }
+
+    /// Puts what an operator gives for the old value and a value into a local, and does nothing else.
+    #[inline]
+    pub fn assign_local(&mut self, local: LocalId, op: AssignOp, value: Value)
+        ensures current { self.new.bodies.current ≡ with_locals self.old.bodies.current (slice_set self.old.bodies.current.locals local.0 (assigned op (value_at self.old.bodies.current.locals local.0) value)) }
+        ensures below { self.new.bodies.below ≡ self.old.bodies.below }
+        ensures todo { self.new.todo ≡ self.old.todo }
+        ensures values { self.new.values ≡ self.old.values }
+        ensures heap { self.new.heap ≡ self.old.heap }
+        ensures left { self.new.left ≡ self.old.left }
+    {
         if let AssignOp::Put = op {
             self.bodies.set(local.0, value);
-            return Next::GoesOn;
+            return;
         }
         let new = assign(op, self.bodies.local(local.0), value);
         self.bodies.set(local.0, new);
-        Next::GoesOn
     }
 
     /// Puts the value of an expression into an own field.
@@ -187,10 +215,37 @@ impl<'a> Machine<'a> {
     ) -> Next
         ensures { (ps : List Datum) → takes (program_view program.now) (Taker.PutField field op) value self.old ps ≡ after (program_view program.now) self.new ps result }
     {
+        self.assign_field(field, op, value);
+        Next::GoesOn
+    }
+
+    /// Puts what an operator gives for the old value and a value into an own field, and does nothing else.
+    #[inline]
+    pub fn assign_field(&mut self, field: FieldId, op: AssignOp, value: Value)
+        ensures heap { self.new.heap ≡ put_own self.old.heap self.old.bodies.current.this field 0 (assigned op (one_in (slice_get (own_of self.old.heap self.old.bodies.current.this) field.field)) value) }
+        ensures bodies { self.new.bodies ≡ self.old.bodies }
+        ensures todo { self.new.todo ≡ self.old.todo }
+        ensures values { self.new.values ≡ self.old.values }
+        ensures left { self.new.left ≡ self.old.left }
+    {
         let this = self.bodies.this();
         let new = assign(op, field_of(&self.heap, this, field), value);
         put(&mut self.heap, this, field, new);
-        Next::GoesOn
+    }
+
+    /// Puts what an operator gives for the value of an own item and a value into it, and does nothing else.
+    #[inline]
+    pub fn assign_item(&mut self, field: FieldId, item: Found, op: AssignOp, value: Value)
+        requires { HasOwn self.old.heap self.old.bodies.current.this field item.place }
+        ensures heap { self.new.heap ≡ put_own self.old.heap self.old.bodies.current.this field item.place (assigned op item.value value) }
+        ensures bodies { self.new.bodies ≡ self.old.bodies }
+        ensures todo { self.new.todo ≡ self.old.todo }
+        ensures values { self.new.values ≡ self.old.values }
+        ensures left { self.new.left ≡ self.old.left }
+    {
+        let this = self.bodies.this();
+        let new = assign(op, item.value, value);
+        store(&mut self.heap, this, field, item.place, new);
     }
 
     /// Puts the value of an expression into an own item.

@@ -67,3 +67,19 @@ pub enum Next {
     Trapped(Trap),
     Spent,
 }
+
+/// What is left of a statement whose beginning was done at once.
+#[derive(Clone, Copy)]
+pub enum Left<'a> {
+    Nothing,
+    /// A statement on a line.
+    Statement(u32, &'a Stmt),
+    Statements(&'a [Stmt]),
+}
+
+/// How a turn of a loop ends: it was done at once, and the loop comes again, or so.
+#[derive(Clone, Copy)]
+pub enum Turn {
+    Whole,
+    Ends(Next),
+}

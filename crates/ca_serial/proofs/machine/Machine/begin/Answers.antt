@@ -32,4 +32,4 @@ returns c = λ ps.
     let called = c.body_of-called in
     taken_there c.args.count m.values (world_of m ps) _ top.below (drop (c.args.count + 1) m.values) top.items.now c.in-Some.ensures.0 c.in-Some.ensures.1
     ∙ rw c.in-Ref.is (begun (program_view c.args.program.now) c.args.target c.args.line c.in-Ref.field-0 top.items.now (drop (c.args.count + 1) m.values) m.bodies.current m.bodies.below m.todo (world_of m ps) m.left called.result.stmts called.result.others.now lt called.ensures.stmts called.ensures.others
-    ∙ rw (c.in_ok-push-2.ensures, c.in_ok-push.ensures, c.cut.ensures, c.in_ok-enter.ensures.current, c.in_ok-enter.ensures.below, c.mode_of.ensures, c.in-Ref.is))
+    ∙ (rw (c.cut.ensures, c.in_ok-enter.ensures.current, c.in_ok-enter.ensures.below, c.mode_of.ensures, c.in-Ref.is) at c.in_ok-next.ensures ps))

@@ -2,16 +2,16 @@ use Rattle.std.proofs.Common.{◌∙◌}
 use Rattle.ca_program.specs.View.{program_view}
 use Rattle.ca_serial.specs.Resume.{world_of}
 use Rattle.ca_serial.proofs.Steps.{while_again_at, for_again_at}
-use Rattle.ca_serial.proofs.machine.Machine.again.Goals as goal
+use Rattle.ca_serial.proofs.machine.Machine.turn.Goals as goal
 
-pub returns-in_ok-next-in-While : goal.returns-in_ok-next-in-While
-returns-in_ok-next-in-While c = λ ps.
+pub returns-in_ok-turn-in-While-clause-means : goal.returns-in_ok-turn-in-While-clause-means
+returns-in_ok-turn-in-While-clause-means c = λ ps.
     let m = c.args.self.now in
     while_again_at (program_view c.args.program.now) m.bodies.current (world_of m ps) c.args.line c.args.s.now c.in-While.c _ m.left _ _ c.in-While.is
-    ∙ c.in_ok-next-in-While.ensures ps
+    ∙ c.in_ok-turn-in-While.ensures.means ps
 
-pub returns-in_ok-next-in-For : goal.returns-in_ok-next-in-For
-returns-in_ok-next-in-For c = λ ps.
+pub returns-in_ok-turn-in-For-clause-means : goal.returns-in_ok-turn-in-For-clause-means
+returns-in_ok-turn-in-For-clause-means c = λ ps.
     let m = c.args.self.now in
     for_again_at (program_view c.args.program.now) m.bodies.current (world_of m ps) c.args.line c.args.s.now _ _ _ c.in-For.c _ _ m.left _ _ c.in-For.is
-    ∙ c.in_ok-next-in-For.ensures ps
+    ∙ c.in_ok-turn-in-For.ensures.means ps

@@ -4,7 +4,7 @@ use Rattle.std.proofs.lemmas.List.{nil_from_length}
 use Rattle.ca_program.specs.View.{program_view}
 use Rattle.ca_serial.specs.Resume.{world_of}
 use Rattle.ca_serial.proofs.Steps.{list_runs, last_runs}
-use Rattle.ca_serial.proofs.machine.Machine.seq.Goals as goal
+use Rattle.ca_serial.proofs.machine.Machine.go_through.Goals as goal
 
 pub returns-then-is_empty : goal.returns-then-is_empty
 returns-then-is_empty c = λ ps.

@@ -1,0 +1,15 @@
+use Rattle.std.proofs.Common.{◌∙◌, ◌∷◌, sym}
+use Rattle.std.proofs.lemmas.Bool.{eqb-true}
+use Rattle.ca_program.specs.View.{program_view}
+use Rattle.ca_serial.specs.declared.work.Work.TheVariants.{Leave}
+use Rattle.ca_serial.proofs.AtOnce.{nothing_before}
+use Rattle.ca_serial.proofs.machine.Machine.begin_body.Goals as goal
+
+pub returns-then-is_empty : goal.returns-then-is_empty
+returns-then-is_empty c = λ ps.
+    let p = program_view c.args.program.now in
+    let done = c.do_all-rest in
+    let todo = Leave ∷ c.args.self.now.todo in
+    done.ensures.left todo ps
+    ∙ nothing_before p todo done.new.self done.result.now ps (eqb-true _ 0 (sym c.if-is_empty.ensures))
+    ∙ (rw done.ensures.todo at c.in_ok-next.ensures ps)

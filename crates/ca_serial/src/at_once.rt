@@ -1,0 +1,171 @@
+//! Statements that are done at once, with no work put on the stack.
+
+ghost use Rattle.std.specs.Prelude.{◌≡◌, ◌∷◌, ℕ, List};
+ghost use Rattle.ca_program.specs.View.{program_view, expression_view};
+ghost use Rattle.ca_program.specs.Plain.{put_local, put_field, put_item};
+ghost use Rattle.ca_model.specs.declared.value.Value.{Value as Datum};
+ghost use Rattle.ca_serial.specs.Resume.{rest_of, AtOnce, Puts, pieces};
+
+use crate::bodies::Mode;
+use crate::machine::Machine;
+use crate::work::{Left, Work};
+use ca_program::{AssignOp, Expr, FieldId, LocalId, Program, Stmt, StmtForm};
+
+impl<'a> Machine<'a> {
+    /// Does what it can of a statement on a line at once, and gives back what is left of it.
+    #[inline(always)]
+    pub fn start(&mut self, program: &'a Program, line: u32, s: &'a Stmt) -> Left<'a>
+        ensures todo { self.new.todo ≡ self.old.todo }
+        ensures steps { self.new.left ≡ self.old.left }
+        ensures left { (todo : List Work) (ps : List Datum) → rest_of (program_view program.now) (Work.Exec line s.entry ∷ todo) self.old ps ≡ rest_of (program_view program.now) (pieces result todo) self.new ps }
+    {
+        match &s.kind {
+            StmtForm::Block(ss) => {
+                let left = self.start_all(program, ss.as_slice());
+                left
+            }
+            _ => {
+                if self.do_one(program, line, s) {
+                    Left::Nothing
+                } else {
+                    Left::Statement(line, s)
+                }
+            }
+        }
+    }
+
+    /// Does what it can of a list of statements at once, and gives back what is left of it.
+    #[inline(always)]
+    fn start_all(&mut self, program: &'a Program, ss: &'a [Stmt]) -> Left<'a>
+        ensures todo { self.new.todo ≡ self.old.todo }
+        ensures steps { self.new.left ≡ self.old.left }
+        ensures left { (todo : List Work) (ps : List Datum) → rest_of (program_view program.now) (Work.Seq ss.entry ∷ todo) self.old ps ≡ rest_of (program_view program.now) (pieces result todo) self.new ps }
+    {
+        let rest = self.do_all(program, ss);
+        if rest.is_empty() {
+            Left::Nothing
+        } else {
+            Left::Statements(rest)
+        }
+    }
+
+    /// Does the first statements of a list at once, and gives back the others.
+    pub fn do_all(&mut self, program: &'a Program, ss: &'a [Stmt]) -> &'a [Stmt]
+        ensures todo { self.new.todo ≡ self.old.todo }
+        ensures steps { self.new.left ≡ self.old.left }
+        ensures left { (todo : List Work) (ps : List Datum) → rest_of (program_view program.now) (Work.Seq ss.entry ∷ todo) self.old ps ≡ rest_of (program_view program.now) (Work.Seq result ∷ todo) self.new ps }
+    {
+        let mut rest = ss;
+        while let Some((first, others)) = rest.split_first() {
+            if !self.do_one(program, first.line, first) {
+                return rest;
+            }
+            rest = others;
+        }
+        rest
+    }
+
+    /// Does a statement on a line at once, if it only puts values that are found without a call.
+    pub fn do_one(&mut self, program: &'a Program, line: u32, s: &'a Stmt) -> bool
+        ensures { AtOnce result (program_view program.now) (Work.Exec line s.entry) self.old self.new }
+    {
+        match &s.kind {
+            StmtForm::PutLocal(l, op, e) => self.put_local_now(program, line, *l, *op, e),
+            StmtForm::PutField(f, op, e) => self.put_field_now(program, line, *f, *op, e),
+            StmtForm::PutItem(f, i, op, e) => self.put_item_now(program, line, *f, i, *op, e),
+            StmtForm::If(c, a, b) => match self.truth_of(program, line, c) {
+                Some(truth) => {
+                    let chosen: &'a Stmt = if truth { a } else { b };
+                    self.do_one(program, chosen.line, chosen)
+                }
+                None => false,
+            },
+            StmtForm::Block(ss) => match ss.as_slice().split_first() {
+                Some((one, rest)) => {
+                    if !rest.is_empty() {
+                        return false;
+                    }
+                    self.do_one(program, one.line, one)
+                }
+                None => true,
+            },
+            _ => false,
+        }
+    }
+
+    /// Puts the value of an expression into a local, where it is found without a call.
+    #[inline]
+    fn put_local_now(
+        &mut self,
+        program: &'a Program,
+        line: u32,
+        local: LocalId,
+        op: AssignOp,
+        e: &'a Expr,
+    ) -> bool
+        ensures { (own : ℕ) → Puts result (program_view program.now) line (put_local own local op (expression_view e.now)) self.old self.new }
+    {
+        match self.value_of(program, line, e) {
+            Some(value) => {
+                self.assign_local(local, op, value);
+                true
+            }
+            None => false,
+        }
+    }
+
+    /// Puts the value of an expression into an own field, where it is found without a call.
+    #[inline]
+    fn put_field_now(
+        &mut self,
+        program: &'a Program,
+        line: u32,
+        field: FieldId,
+        op: AssignOp,
+        e: &'a Expr,
+    ) -> bool
+        ensures { (own : ℕ) → Puts result (program_view program.now) line (put_field own field op (expression_view e.now)) self.old self.new }
+    {
+        if let Mode::InFunction = self.bodies.mode() {
+            return false;
+        }
+        match self.value_of(program, line, e) {
+            Some(value) => {
+                self.assign_field(field, op, value);
+                true
+            }
+            None => false,
+        }
+    }
+
+    /// Puts the value of an expression into an own item, where it and the index are found without a call.
+    #[inline]
+    fn put_item_now(
+        &mut self,
+        program: &'a Program,
+        line: u32,
+        field: FieldId,
+        index: &'a Expr,
+        op: AssignOp,
+        e: &'a Expr,
+    ) -> bool
+        ensures { (own : ℕ) → Puts result (program_view program.now) line (put_item own field (expression_view index.now) op (expression_view e.now)) self.old self.new }
+    {
+        if let Mode::InFunction = self.bodies.mode() {
+            return false;
+        }
+        let Some(index) = self.value_of(program, line, index) else {
+            return false;
+        };
+        let Ok(Some(item)) = self.indexed(line, self.bodies.this(), field, index) else {
+            return false;
+        };
+        match self.value_of(program, line, e) {
+            Some(value) => {
+                self.assign_item(field, item, op, value);
+                true
+            }
+            None => false,
+        }
+    }
+}
