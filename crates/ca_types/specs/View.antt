@@ -6,6 +6,7 @@ use Rattle.ca_resolve.specs.View.{classes_view}
 use Rattle.std.specs.Prelude.{Result, Ok, Err, Option}
 use Rattle.ca_resolve.specs.declared.errors.CheckError.{CheckError}
 use Rattle.ca_resolve.specs.declared.errors.CheckError.TheVariants.{Violation as Tells_violation, Limit as Tells_limit, Memory}
+use Rattle.std.specs.declared.boxed.Box.{Box}
 use Rattle.std.specs.declared.vec.Vec.{Vec}
 use Rattle.std.specs.Global.{Global}
 use Rattle.ca_program.specs.declared.program.Stmt.{Stmt}
@@ -48,6 +49,10 @@ Tells_something (Err Memory) = ⊥
 
 abbrev pub all_view : Vec Stmt Global → List Statement
 all_view v = map statement_view v.items
+
+-- a statement in a box
+abbrev pub boxed_view : Box Stmt Global → Statement
+boxed_view b = statement_view b.value
 
 abbrev pub counts_view : Counts → Numbers
 counts_view n = record { field = n.fields; operation = n.operations; function = n.functions }

@@ -7,8 +7,8 @@ ghost use Rattle.ca_program.specs.Plain.{Expression, Statement};
 ghost use Rattle.ca_program.specs.View as program;
 ghost use Rattle.ca_resolve.specs.Judged.{Answers, Judged, fine};
 ghost use Rattle.ca_resolve.specs.Scopes.{sort_of};
-ghost use Rattle.ca_types.specs.Statements.{nothing, first_part, judge_block, judge_if, judge_while, judge_for_loop, judge_statement, judge_statements, judge_local, declaring, behind, behind_all, opened, counted, closed};
-ghost use Rattle.ca_types.specs.View.{standing_view, all_view};
+ghost use Rattle.ca_types.specs.Statements.{nothing, first_part, judge_block, judge_if, judge_while, judge_for_loop, judge_statement, judge_statements, judge_local, judge_condition, declaring, behind, behind_all, opened, counted, closed, left};
+ghost use Rattle.ca_types.specs.View.{standing_view, all_view, boxed_view};
 
 use crate::lines::{check_call_statement, check_condition, check_print, check_return};
 use crate::puts::{check_assign, check_local};
@@ -56,19 +56,24 @@ fn block(line: u32, all: Answer<Vec<Stmt>>) -> Answer<Stmt>
     })
 }
 
+/// A judged statement in a box.
+fn boxed(alloc: Global, part: Answer<Stmt>) -> Answer<Box<Stmt>>
+    ensures { (j : Judged Statement) → Answers program.statement_view part j → Answers boxed_view result j }
+{
+    let stmt = part?;
+    Ok(Box::new(alloc, stmt)?)
+}
+
 /// An `if` of judged parts.
 fn if_else(
-    alloc: Global,
     line: u32,
     cond: Answer<Expr>,
-    yes_part: Answer<Stmt>,
-    no_part: Answer<Stmt>,
+    yes_part: Answer<Box<Stmt>>,
+    no_part: Answer<Box<Stmt>>,
 ) -> Answer<Stmt>
-    ensures { (i : Judged Expression) (j k : Judged Statement) → Answers program.expression_view cond i → Answers program.statement_view yes_part j → Answers program.statement_view no_part k → Answers program.statement_view result (judge_if line i j k) }
+    ensures { (i : Judged Expression) (j k : Judged Statement) → Answers program.expression_view cond i → Answers boxed_view yes_part j → Answers boxed_view no_part k → Answers program.statement_view result (judge_if line i j k) }
 {
     let (cond, (yes_part, no_part)) = both(cond, both(yes_part, no_part))?;
-    let yes_part = Box::new(alloc, yes_part)?;
-    let no_part = Box::new(alloc, no_part)?;
     Ok(Stmt {
         line,
         kind: StmtForm::If(cond, yes_part, no_part),
@@ -76,11 +81,10 @@ fn if_else(
 }
 
 /// A `while` of judged parts.
-fn while_loop(alloc: Global, line: u32, cond: Answer<Expr>, body: Answer<Stmt>) -> Answer<Stmt>
-    ensures { (i : Judged Expression) (j : Judged Statement) → Answers program.expression_view cond i → Answers program.statement_view body j → Answers program.statement_view result (judge_while line i j) }
+fn while_loop(line: u32, cond: Answer<Expr>, body: Answer<Box<Stmt>>) -> Answer<Stmt>
+    ensures { (i : Judged Expression) (j : Judged Statement) → Answers program.expression_view cond i → Answers boxed_view body j → Answers program.statement_view result (judge_while line i j) }
 {
     let (cond, body) = both(cond, body)?;
-    let body = Box::new(alloc, body)?;
     Ok(Stmt {
         line,
         kind: StmtForm::While(cond, body),
@@ -93,25 +97,21 @@ struct Head {
     at: Place,
     site: LoopId,
     part: FirstPart,
-    first: Answer<Stmt>,
+    first: Answer<Box<Stmt>>,
 }
 
 /// A `for` of judged parts.
 fn for_loop(
-    alloc: Global,
     head: Head,
     cond: Answer<Expr>,
-    next: Answer<Stmt>,
-    body: Answer<Stmt>,
+    next: Answer<Box<Stmt>>,
+    body: Answer<Box<Stmt>>,
 ) -> Answer<Stmt>
-    ensures { (f : Judged Statement) (i : Judged Expression) (j k : Judged Statement) → Answers program.statement_view head.first f → Answers program.expression_view cond i → Answers program.statement_view next j → Answers program.statement_view body k → Answers program.statement_view result (judge_for_loop head.at head.site.0 head.part f i j k) }
+    ensures { (f : Judged Statement) (i : Judged Expression) (j k : Judged Statement) → Answers boxed_view head.first f → Answers program.expression_view cond i → Answers boxed_view next j → Answers boxed_view body k → Answers program.statement_view result (judge_for_loop head.at head.site.0 head.part f i j k) }
 {
     let passed = bound(head.site.0 == MOST_LOOPS, head.at, 57);
     let parts = both(both(head.first, cond), both(next, body));
     let (_, ((first, cond), (next, body))) = both(passed, parts)?;
-    let first = Box::new(alloc, first)?;
-    let next = Box::new(alloc, next)?;
-    let body = Box::new(alloc, body)?;
     Ok(Stmt {
         line: head.at.line,
         kind: StmtForm::For(head.site, head.part, first, cond, next, body),
@@ -161,19 +161,13 @@ pub(crate) fn check_statement<'a>(
             Ok(check_assign(alloc, walk, at, target, *op, right))
         }
         StmtKind::Call(e) => Ok(check_call_statement(alloc, walk, at, e)),
-        StmtKind::If {
-            cond,
-            yes: yes_node,
-            no: no_node,
-        } => {
-            let cond = check_condition(alloc, &walk.scope(), cond);
-            let yes_part = check_inner(alloc, walk, yes_node)?;
-            let no_part = match no_node {
-                Some(node) => check_inner(alloc, walk, node)?,
-                None => Ok(nothing(alloc, at.line)),
-            };
-            Ok(if_else(alloc, at.line, cond, yes_part, no_part))
-        }
+        StmtKind::If { cond, yes, no } => match no {
+            Some(no) => {
+                let yes_part = check_inner(alloc, walk, yes)?;
+                check_else(alloc, walk, at, no, cond, yes_part)
+            }
+            None => check_if_only(alloc, walk, at, yes, cond),
+        },
         StmtKind::While { cond, body } => check_while(alloc, walk, at, body, cond),
         StmtKind::For {
             first,
@@ -182,11 +176,8 @@ pub(crate) fn check_statement<'a>(
             body,
         } => {
             let (outer, head) = check_head(alloc, walk, at, first)?;
-            let cond = check_condition(alloc, &walk.scope(), cond);
             let next = check_inner(alloc, walk, next)?;
-            let body = check_inner(alloc, walk, body)?;
-            walk.close(outer);
-            Ok(for_loop(alloc, head, cond, next, body))
+            check_rounds(alloc, walk, body, cond, outer, head, next)
         }
         StmtKind::Return(e) => Ok(check_return(alloc, walk, at, e)),
         StmtKind::Print(e) => Ok(check_print(alloc, walk, at, e)),
@@ -199,14 +190,14 @@ fn check_inner<'a>(
     alloc: Global,
     walk: &mut Walk<'_, 'a>,
     stmt: &'a StmtNode,
-) -> Result<Answer<Stmt>, AllocError>
-    ensures judged { IfOk result (λ a. Answers program.statement_view a (judge_statement (opened (standing_view walk.old)) (tree_view stmt.now))) }
+) -> Result<Answer<Box<Stmt>>, AllocError>
+    ensures judged { IfOk result (λ a. Answers boxed_view a (judge_statement (opened (standing_view walk.old)) (tree_view stmt.now))) }
     ensures behind { OnOk result (standing_view walk.new ≡ closed (standing_view walk.old) (behind (opened (standing_view walk.old)) (tree_view stmt.now))) }
 {
     let outer = walk.open();
     let answer = check_statement(alloc, walk, stmt)?;
     walk.close(outer);
-    Ok(answer)
+    Ok(boxed(alloc, answer))
 }
 
 /// The statements of a block.
@@ -240,7 +231,7 @@ fn check_while<'a>(
 {
     let cond = check_condition(alloc, &walk.scope(), cond);
     let body = check_inner(alloc, walk, body)?;
-    Ok(while_loop(alloc, at.line, cond, body))
+    Ok(while_loop(at.line, cond, body))
 }
 
 /// The word and the first part of a `for`, in a block round the loop, whose end is left open.
@@ -256,13 +247,13 @@ fn check_head<'a>(
     ensures at { IfOk result (λ p. p.1.at ≡ at) }
     ensures site { IfOk result (λ p. p.1.site.0 ≡ (standing_view walk.old).loops) }
     ensures part { IfOk result (λ p. p.1.part ≡ first_part (tree_view first.now)) }
-    ensures judged { IfOk result (λ p. Answers program.statement_view p.1.first (judge_statement (opened (counted (standing_view walk.old))) (tree_view first.now))) }
+    ensures judged { IfOk result (λ p. Answers boxed_view p.1.first (judge_statement (opened (counted (standing_view walk.old))) (tree_view first.now))) }
     ensures behind { OnOk result (standing_view walk.new ≡ behind (opened (counted (standing_view walk.old))) (tree_view first.now)) }
 {
     let site = walk.count_loop()?;
     let outer = walk.open();
     let part = first_part(first);
-    let first = check_statement(alloc, walk, first)?;
+    let first = boxed(alloc, check_statement(alloc, walk, first)?);
     let head = Head {
         at,
         site,
@@ -270,6 +261,62 @@ fn check_head<'a>(
         first,
     };
     Ok((outer, head))
+}
+
+/// An `if` without `else`.
+#[cycle(statement)]
+fn check_if_only<'a>(
+    alloc: Global,
+    walk: &mut Walk<'_, 'a>,
+    at: Place,
+    yes: &'a StmtNode,
+    cond: &ExprNode,
+) -> Result<Answer<Stmt>, AllocError>
+    ensures judged { IfOk result (λ a. Answers program.statement_view a (judge_statement (standing_view walk.old) (tree.if_only at (expression_view cond.now) (tree_view yes.now)))) }
+    ensures behind { OnOk result (standing_view walk.new ≡ behind (standing_view walk.old) (tree.if_only at (expression_view cond.now) (tree_view yes.now))) }
+{
+    let cond = check_condition(alloc, &walk.scope(), cond);
+    let yes_part = check_inner(alloc, walk, yes)?;
+    let no_part = boxed(alloc, Ok(nothing(alloc, at.line)));
+    Ok(if_else(at.line, cond, yes_part, no_part))
+}
+
+/// The other branch of an `if` whose first is judged.
+#[cycle(statement)]
+fn check_else<'a>(
+    alloc: Global,
+    walk: &mut Walk<'_, 'a>,
+    at: Place,
+    no: &'a StmtNode,
+    cond: &ExprNode,
+    yes_part: Answer<Box<Stmt>>,
+) -> Result<Answer<Stmt>, AllocError>
+    ensures judged { (j : Judged Statement) → Answers boxed_view yes_part j → IfOk result (λ a. Answers program.statement_view a (judge_if at.line (judge_condition (standing_view walk.old).scope (expression_view cond.now)) j (judge_statement (opened (standing_view walk.old)) (tree_view no.now)))) }
+    ensures behind { OnOk result (standing_view walk.new ≡ closed (standing_view walk.old) (behind (opened (standing_view walk.old)) (tree_view no.now))) }
+{
+    let cond = check_condition(alloc, &walk.scope(), cond);
+    let no_part = check_inner(alloc, walk, no)?;
+    Ok(if_else(at.line, cond, yes_part, no_part))
+}
+
+/// The condition and the body of a `for` whose other parts are judged, and the end of the block round it.
+#[cycle(statement)]
+fn check_rounds<'a>(
+    alloc: Global,
+    walk: &mut Walk<'_, 'a>,
+    body: &'a StmtNode,
+    cond: &ExprNode,
+    outer: Outer,
+    head: Head,
+    next: Answer<Box<Stmt>>,
+) -> Result<Answer<Stmt>, AllocError>
+    ensures judged { (f j : Judged Statement) → Answers boxed_view head.first f → Answers boxed_view next j → IfOk result (λ a. Answers program.statement_view a (judge_for_loop head.at head.site.0 head.part f (judge_condition (standing_view walk.old).scope (expression_view cond.now)) j (judge_statement (opened (standing_view walk.old)) (tree_view body.now)))) }
+    ensures behind { OnOk result (standing_view walk.new ≡ left (closed (standing_view walk.old) (behind (opened (standing_view walk.old)) (tree_view body.now))) outer.in_block outer.first) }
+{
+    let cond = check_condition(alloc, &walk.scope(), cond);
+    let body = check_inner(alloc, walk, body)?;
+    walk.close(outer);
+    Ok(for_loop(head, cond, next, body))
 }
 
 /// Statements in order.

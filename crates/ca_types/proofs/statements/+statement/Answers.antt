@@ -1,13 +1,13 @@
 use Rattle.std.proofs.Common.{◌≡◌, [], map, IfOk, OnOk, refl, sym, subst, ◌∙◌, ap}
-use Rattle.ca_tree.specs.Plain.{block, for_loop}
-use Rattle.ca_tree.specs.View.{expression_view, form_view, statement_view as tree_view, statements_view as tree_views}
+use Rattle.ca_tree.specs.Plain.{block}
+use Rattle.ca_tree.specs.View.{form_view, statement_view as tree_view, statements_view as tree_views}
 use Rattle.ca_tree.proofs.Rows.{block_is}
 use Rattle.ca_program.specs.View as resolved
 use Rattle.ca_resolve.specs.Judged.{Answers, fine}
 use Rattle.ca_types.specs.Statements.{judge_statement, behind, added}
 use Rattle.ca_types.specs.View.{standing_view, all_view}
 use Rattle.ca_types.proofs.Answering.{extended}
-use Rattle.ca_types.proofs.Blocks.{inner_behind, block_behind, loop_behind}
+use Rattle.ca_types.proofs.Blocks.{inner_behind, block_behind}
 use Rattle.ca_types.proofs.Walks.{step, ended}
 use Rattle.ca_types.proofs.statements.+statement.Goals as goal
 
@@ -61,21 +61,3 @@ check_statements-returns-clause-behind t c =
     let xs = c.args.stmts.now in
     let e = ended (standing_view c.args.walk.now) (standing_view c.loop-stmt.walk) (tree_views xs) c.loop-stmt.invariant.0 xs c.loop-stmt.stmt-index c.loop-stmt-test.false c.loop-stmt.invariant.2 in
     sym e.1
-
-pub check_statement-returns-in_ok-body-in-For-clause-behind : goal.check_statement-returns-in_ok-body-in-For-clause-behind
-check_statement-returns-in_ok-body-in-For-clause-behind t c =
-    let start = standing_view c.args.walk.now in
-    let at = c.args.stmt.now.at in
-    let cond = expression_view c.in-For.cond in
-    let x = c.deref-in-For.result.now in
-    let y = c.deref-in-For-2.result.now in
-    let z = c.deref-in-For-3.result.now in
-    let e : tree_view c.args.stmt.now ≡ for_loop at (tree_view x) cond (tree_view y) (tree_view z) =
-    ap (λ k. form_view k at) c.in-For.is
-    ∙ (ap (λ n. for_loop at (tree_view n) cond (tree_view c.in-For.next.value) (tree_view c.in-For.body.value)) (sym c.deref-in-For.ensures)
-    ∙ (ap (λ n. for_loop at (tree_view x) cond (tree_view n) (tree_view c.in-For.body.value)) (sym c.deref-in-For-2.ensures)
-    ∙ ap (λ n. for_loop at (tree_view x) cond (tree_view y) (tree_view n)) (sym c.deref-in-For-3.ensures))) in
-    loop_behind start (standing_view c.check_head.new.walk) (standing_view c.check_inner-in-For.new.walk) (standing_view c.check_inner-in-For-2.new.walk) (standing_view c.close.new.self)
-    c.in_ok-outer-in-For.outer.in_block c.in_ok-outer-in-For.outer.first (tree_view x) (tree_view y) (tree_view z)
-    c.in_ok-outer-in-For.ensures.in_block c.in_ok-outer-in-For.ensures.first c.in_ok-outer-in-For.ensures.behind c.in_ok-next-in-For.ensures.behind c.in_ok-body-in-For.ensures.behind c.close.ensures
-    ∙ ap (behind start) (sym e)

@@ -1,3 +1,4 @@
+use Rattle.std.proofs.Common.{Box, Global}
 use Rattle.std.proofs.lemmas.Result.{err_from_is_err_and}
 use Rattle.ca_program.specs.declared.program.Expr.{Expr}
 use Rattle.ca_program.specs.declared.program.Stmt.{Stmt}
@@ -5,23 +6,24 @@ use Rattle.ca_program.specs.Plain as program
 use Rattle.ca_program.specs.View as resolved
 use Rattle.ca_resolve.specs.Judged.{fine, both, beside}
 use Rattle.ca_types.specs.Rules.{loop_limit}
+use Rattle.ca_types.specs.View.{boxed_view}
 use Rattle.ca_types.proofs.Answering.{within_err, joined, besides_tells}
 use Rattle.ca_types.proofs.statements.for_loop.Goals as goal
 
 abbrev Plain : Type 0
 Plain = (program.Statement × program.Expression) × (program.Statement × program.Statement)
 
-abbrev plain : (Stmt × Expr) × (Stmt × Stmt) → Plain
-plain p = ((resolved.statement_view p.0.0, resolved.expression_view p.0.1), (resolved.statement_view p.1.0, resolved.statement_view p.1.1))
+abbrev plain : (Box Stmt Global × Expr) × (Box Stmt Global × Box Stmt Global) → Plain
+plain p = ((boxed_view p.0.0, resolved.expression_view p.0.1), (boxed_view p.1.0, boxed_view p.1.1))
 
 pub returns-in_err-first : goal.returns-in_err-first
 returns-in_err-first c = λ f i j k x y z w.
     let head = c.args.head in
     let err = c.in_err-first.field-0.0 in
     let limit = loop_limit head.site.0 head.at in
-    let left = joined resolved.statement_view resolved.expression_view head.first c.args.cond c.both.result f i c.both.ensures x y in
-    let right = joined resolved.statement_view resolved.statement_view c.args.next c.args.body c.both-2.result j k c.both-2.ensures z w in
-    let all = joined (λ (q : Stmt × Expr). (resolved.statement_view q.0, resolved.expression_view q.1)) (λ (q : Stmt × Stmt). (resolved.statement_view q.0, resolved.statement_view q.1)) c.both.result c.both-2.result c.both-parts.result (both f i) (both j k) c.both-parts.ensures left right in
+    let left = joined boxed_view resolved.expression_view head.first c.args.cond c.both.result f i c.both.ensures x y in
+    let right = joined boxed_view boxed_view c.args.next c.args.body c.both-2.result j k c.both-2.ensures z w in
+    let all = joined (λ (q : Box Stmt Global × Expr). (boxed_view q.0, resolved.expression_view q.1)) (λ (q : Box Stmt Global × Box Stmt Global). (boxed_view q.0, boxed_view q.1)) c.both.result c.both-2.result c.both-parts.result (both f i) (both j k) c.both-parts.ensures left right in
     let p = err_from_is_err_and c.from_residual.result c.from_residual.ensures.1 in
     rw (p.1, p.2)
     (within_err err (beside limit (both (both f i) (both j k))) (λ (q : Plain). fine (program.for_loop head.at.line (record { 0 = head.site.0 }) head.part q.0.0 q.0.1 q.1.0 q.1.1))
