@@ -1,4 +1,5 @@
 pub mod Lines
+pub mod Semicolons
 pub mod Uses
 pub mod Locals
 pub mod Alone

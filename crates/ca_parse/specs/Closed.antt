@@ -51,6 +51,10 @@ pub data AssignTo (x : Expression) : ℕ → List Token → Statement → List T
 abbrev pub AssignToClosed : Expression → Deriving Statement
 AssignToClosed x = Before (goes_on 0) (AssignTo x)
 
+-- the `;` behind x
+pub data Ended {A : Type 0} (x : A) : ℕ → List Token → A → List Token → Type 0 where
+  semicolon : {free : ℕ} {s r : List Token} {e : Place} → Sees (sign Semicolon) s e r → Ended x free s x r
+
 -- a chain that begins a statement: one that is called, or a target
 pub data Use : Type 0 where
   calling : Expression → Use

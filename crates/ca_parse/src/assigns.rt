@@ -8,6 +8,7 @@ ghost use Rattle.ca_expressions.specs.Readers.{answer};
 ghost use Rattle.ca_parse.specs.Grammar.{Right as RightSide, Local, Compound, Change, Assign, AssignLine, First, first_place as first_place_of};
 ghost use Rattle.ca_parse.specs.Closed.{RightClosed, ChangeClosed, AssignClosed, AssignTo, AssignToClosed};
 
+use crate::endings::ended;
 use crate::types::{begins_local, parse_type};
 use ca_expressions::{
     Fault, is_target, key_at, parse_chain, parse_expression, sign_at, take_name, take_sign,
@@ -59,24 +60,22 @@ pub fn parse_local<'a>(
     let ((ty, at), rest) = parse_type(alloc, tokens)?;
     let ((name, name_at), rest) = take_name(alloc, rest)?;
     let Some((_, more)) = sign_at(rest, Sign::Assign) else {
-        let (_, rest) = take_sign(rest, Sign::Semicolon)?;
         let kind = StmtKind::Local {
             ty,
             name,
             name_at,
             value: None,
         };
-        return Ok((StmtNode { at, kind }, rest));
+        return ended(StmtNode { at, kind }, rest);
     };
     let (value, rest) = parse_right(alloc, more)?;
-    let (_, rest) = take_sign(rest, Sign::Semicolon)?;
     let kind = StmtKind::Local {
         ty,
         name,
         name_at,
         value: Some(value),
     };
-    Ok((StmtNode { at, kind }, rest))
+    ended(StmtNode { at, kind }, rest)
 }
 
 /// `+=`, `-=` or `*=`.
@@ -172,6 +171,5 @@ fn parse_assign_line<'a>(
     ensures answer { Exact AssignLine AssignLine tokens.now (answer statement_view result) }
 {
     let (assign, rest) = parse_assign(alloc, tokens)?;
-    let (_, rest) = take_sign(rest, Sign::Semicolon)?;
-    Ok((assign, rest))
+    ended(assign, rest)
 }

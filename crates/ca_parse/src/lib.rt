@@ -9,6 +9,7 @@
 #![tactic(auto)]
 
 mod assigns;
+mod endings;
 pub mod laws;
 mod members;
 mod statements;

@@ -11,98 +11,67 @@ ghost use Rattle.ca_parse.specs.Grammar.{Stmt, Item, Items, is_open};
 ghost use Rattle.ca_parse.specs.Closed.{StmtClosed, ItemClosed, Condition, IfRest, IfRestClosed, WhileRest, WhileRestClosed, ForRest, ForRestClosed, ReturnRest, PrintRest, Simple, is_nested};
 
 use crate::assigns::{first_place, parse_assign, parse_assign_to, parse_first, parse_local};
+use crate::endings::ended;
 use crate::types::begins_local;
 use ca_expressions::{
     Fault, is_call, is_key, is_sign, is_target, key_at, parse_chain, parse_expression, sign_at,
     take_sign,
 };
 use ca_tree::{ExprNode, Keyword, Place, Sign, StmtKind, StmtNode, Token};
-use std::alloc::{AllocError, Global};
+use std::alloc::Global;
 
 /// How many blocks, ifs and loops a token may stand in.
 const DEEPEST: usize = 200;
 
 /// An `if` without `else`.
-fn if_only(alloc: Global, at: Place, cond: ExprNode, yes: StmtNode) -> Result<StmtNode, AllocError>
-    ensures { IfOk result (λ s. statement_view s ≡ if_only_tree at (expression_view cond) (statement_view yes)) }
+fn if_only(at: Place, cond: ExprNode, yes: Box<StmtNode>) -> StmtNode
+    ensures { statement_view result ≡ if_only_tree at (expression_view cond) (statement_view (box_value yes)) }
 {
-    let yes = Box::new(alloc, yes)?;
     let kind = StmtKind::If {
         cond,
         yes,
         no: None,
     };
-    Ok(StmtNode { at, kind })
+    StmtNode { at, kind }
 }
 
 /// An `if` with its `else`.
-fn if_else(
-    alloc: Global,
-    at: Place,
-    cond: ExprNode,
-    yes: StmtNode,
-    other: StmtNode,
-) -> Result<StmtNode, AllocError>
-    ensures { IfOk result (λ s. statement_view s
-        ≡ if_else_tree at (expression_view cond) (statement_view yes) (statement_view other)) }
+fn if_else(at: Place, cond: ExprNode, yes: Box<StmtNode>, other: Box<StmtNode>) -> StmtNode
+    ensures { statement_view result
+        ≡ if_else_tree at (expression_view cond) (statement_view (box_value yes)) (statement_view (box_value other)) }
 {
-    let yes = Box::new(alloc, yes)?;
-    let other = Box::new(alloc, other)?;
     let kind = StmtKind::If {
         cond,
         yes,
         no: Some(other),
     };
-    Ok(StmtNode { at, kind })
+    StmtNode { at, kind }
 }
 
-fn while_loop(
-    alloc: Global,
-    at: Place,
-    cond: ExprNode,
-    body: StmtNode,
-) -> Result<StmtNode, AllocError>
-    ensures { IfOk result (λ s. statement_view s ≡ while_tree at (expression_view cond) (statement_view body)) }
+fn while_loop(at: Place, cond: ExprNode, body: Box<StmtNode>) -> StmtNode
+    ensures { statement_view result ≡ while_tree at (expression_view cond) (statement_view (box_value body)) }
 {
-    let body = Box::new(alloc, body)?;
     let kind = StmtKind::While { cond, body };
-    Ok(StmtNode { at, kind })
-}
-
-/// Two statements, each in a box.
-fn boxes(
-    alloc: Global,
-    first: StmtNode,
-    second: StmtNode,
-) -> Result<(Box<StmtNode>, Box<StmtNode>), AllocError>
-    ensures first { IfOk result (λ p. box_value p.0 ≡ first) }
-    ensures second { IfOk result (λ p. box_value p.1 ≡ second) }
-{
-    let first = Box::new(alloc, first)?;
-    let second = Box::new(alloc, second)?;
-    Ok((first, second))
+    StmtNode { at, kind }
 }
 
 fn for_loop(
-    alloc: Global,
     at: Place,
-    first: StmtNode,
+    first: Box<StmtNode>,
     cond: ExprNode,
-    next: StmtNode,
-    body: StmtNode,
-) -> Result<StmtNode, AllocError>
-    ensures { IfOk result (λ s. statement_view s
-        ≡ for_tree at (statement_view first) (expression_view cond) (statement_view next) (statement_view body)) }
+    next: Box<StmtNode>,
+    body: Box<StmtNode>,
+) -> StmtNode
+    ensures { statement_view result
+        ≡ for_tree at (statement_view (box_value first)) (expression_view cond) (statement_view (box_value next)) (statement_view (box_value body)) }
 {
-    let (first, next) = boxes(alloc, first, next)?;
-    let body = Box::new(alloc, body)?;
     let kind = StmtKind::For {
         first,
         cond,
         next,
         body,
     };
-    Ok(StmtNode { at, kind })
+    StmtNode { at, kind }
 }
 
 /// A statement that begins with a chain: a call, or an assignment.
@@ -114,17 +83,15 @@ fn parse_simple<'a>(
 {
     let (chain, rest) = parse_chain(alloc, tokens)?;
     if is_call(&chain) {
-        let (_, rest) = take_sign(rest, Sign::Semicolon)?;
         let at = first_place(&chain);
         let kind = StmtKind::Call(chain);
-        return Ok((StmtNode { at, kind }, rest));
+        return ended(StmtNode { at, kind }, rest);
     }
     if !is_target(&chain) {
         return Err(Fault::Wrong(rest));
     }
     let (assign, rest) = parse_assign_to(alloc, chain, rest)?;
-    let (_, rest) = take_sign(rest, Sign::Semicolon)?;
-    Ok((assign, rest))
+    ended(assign, rest)
 }
 
 /// What stands behind the word `return`, which stands at the place.
@@ -136,9 +103,8 @@ fn parse_return<'a>(
     ensures answer { Exact (ReturnRest at) (ReturnRest at) tokens.now (answer statement_view result) }
 {
     let (value, rest) = parse_expression(alloc, tokens)?;
-    let (_, rest) = take_sign(rest, Sign::Semicolon)?;
     let kind = StmtKind::Return(value);
-    Ok((StmtNode { at, kind }, rest))
+    ended(StmtNode { at, kind }, rest)
 }
 
 /// What stands behind the word `print`, which stands at the place.
@@ -150,9 +116,8 @@ fn parse_print<'a>(
     ensures answer { Exact (PrintRest at) (PrintRest at) tokens.now (answer statement_view result) }
 {
     let (value, rest) = parse_condition(alloc, tokens)?;
-    let (_, rest) = take_sign(rest, Sign::Semicolon)?;
     let kind = StmtKind::Print(value);
-    Ok((StmtNode { at, kind }, rest))
+    ended(StmtNode { at, kind }, rest)
 }
 
 /// An expression between round brackets.
@@ -289,13 +254,13 @@ fn parse_if<'a>(
 {
     let (cond, rest) = parse_condition(alloc, tokens)?;
     let (yes, rest) = parse_statement(alloc, depth + 1, rest)?;
+    let yes = Box::new(alloc, yes)?;
     let Some((_, more)) = key_at(rest, Keyword::Else) else {
-        let statement = if_only(alloc, at, cond, yes)?;
-        return Ok((statement, rest));
+        return Ok((if_only(at, cond, yes), rest));
     };
     let (other, rest) = parse_statement(alloc, depth + 1, more)?;
-    let statement = if_else(alloc, at, cond, yes, other)?;
-    Ok((statement, rest))
+    let other = Box::new(alloc, other)?;
+    Ok((if_else(at, cond, yes, other), rest))
 }
 
 /// What stands behind the word `while`, which stands at the place.
@@ -312,8 +277,8 @@ fn parse_while<'a>(
 {
     let (cond, rest) = parse_condition(alloc, tokens)?;
     let (body, rest) = parse_statement(alloc, depth + 1, rest)?;
-    let statement = while_loop(alloc, at, cond, body)?;
-    Ok((statement, rest))
+    let body = Box::new(alloc, body)?;
+    Ok((while_loop(at, cond, body), rest))
 }
 
 /// What stands behind the word `for`, which stands at the place.
@@ -330,11 +295,13 @@ fn parse_for<'a>(
 {
     let (_, rest) = take_sign(tokens, Sign::OpenParenthesis)?;
     let (first, rest) = parse_first(alloc, rest)?;
+    let first = Box::new(alloc, first)?;
     let (cond, rest) = parse_expression(alloc, rest)?;
     let (_, rest) = take_sign(rest, Sign::Semicolon)?;
     let (next, rest) = parse_assign(alloc, rest)?;
+    let next = Box::new(alloc, next)?;
     let (_, rest) = take_sign(rest, Sign::CloseParenthesis)?;
     let (body, rest) = parse_statement(alloc, depth + 1, rest)?;
-    let statement = for_loop(alloc, at, first, cond, next, body)?;
-    Ok((statement, rest))
+    let body = Box::new(alloc, body)?;
+    Ok((for_loop(at, first, cond, next, body), rest))
 }

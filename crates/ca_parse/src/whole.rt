@@ -118,8 +118,8 @@ fn is_return_zero(tokens: &[Token], rest: &[Token]) -> bool
     end.is_empty()
 }
 
-/// The statements of `main` without a last one that only ends it.
-fn kept(items: Vec<StmtNode>, ends: bool) -> Vec<StmtNode>
+/// The items, without the last one where it only ends them.
+fn kept<T: Drop>(items: Vec<T>, ends: bool) -> Vec<T>
     ensures { result.items ≡ cond ends (take (length items.items - 1) items.items) items.items }
 {
     let mut out = items;

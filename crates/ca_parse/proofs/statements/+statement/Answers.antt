@@ -97,25 +97,25 @@ pub parse_if-returns-in_err-yes-clause-answer : goal.parse_if-returns-in_err-yes
 parse_if-returns-in_err-yes-clause-answer t c =
     let p = err_from_is_err_and c.from_residual-in_err-yes.result c.from_residual-in_err-yes.ensures.1 in rw (p.1, p.2) (if_rest_answer _ _ (and_ok c.in_ok-cond.ensures.answer (and_failed _ c.in_err-yes.ensures.answer)))
 
-pub parse_if-returns-in_err-statement-clause-answer : goal.parse_if-returns-in_err-statement-clause-answer
-parse_if-returns-in_err-statement-clause-answer t c =
-    let p = err_from_is_err_and c.from_residual-in_err-statement.result c.from_residual-in_err-statement.ensures.1 in rw (p.1, p.2) (no_memory)
+pub parse_if-returns-in_err-yes-2-clause-answer : goal.parse_if-returns-in_err-yes-2-clause-answer
+parse_if-returns-in_err-yes-2-clause-answer t c =
+    let p = err_from_is_err_and c.from_residual-in_err-yes-2.result c.from_residual-in_err-yes-2.ensures.1 in rw (p.1, p.2) (no_memory)
 
 pub parse_if-returns-in_default-clause-answer : goal.parse_if-returns-in_default-clause-answer
 parse_if-returns-in_default-clause-answer t c =
-    rw c.in_ok-statement.ensures (if_rest_answer _ _ (and_ok c.in_ok-cond.ensures.answer (and_ok c.in_ok-yes.ensures.answer (without_answer _ _ _ _ c.in_default.ensures.none))))
+    let e = rw c.in_ok-yes-2.ensures.ok at c.if_only.ensures in rw e (if_rest_answer _ _ (and_ok c.in_ok-cond.ensures.answer (and_ok c.in_ok-yes.ensures.answer (without_answer _ _ _ _ c.in_default.ensures.none))))
 
 pub parse_if-returns-in_err-other-clause-answer : goal.parse_if-returns-in_err-other-clause-answer
 parse_if-returns-in_err-other-clause-answer t c =
     let p = err_from_is_err_and c.from_residual-in_err-other.result c.from_residual-in_err-other.ensures.1 in rw (p.1, p.2) (if_rest_answer _ _ (and_ok c.in_ok-cond.ensures.answer (and_ok c.in_ok-yes.ensures.answer (else_answer _ _ _ _ (c.in_ok-yes.ensures.shut (ap is_some (sees_head (key K_Else) c.in-Some.ensures.some))) (sees_head (key K_Else) c.in-Some.ensures.some) (and_ok (sees_got c.in-Some.ensures.some) (and_failed _ c.in_err-other.ensures.answer))))))
 
-pub parse_if-returns-in_err-statement-2-clause-answer : goal.parse_if-returns-in_err-statement-2-clause-answer
-parse_if-returns-in_err-statement-2-clause-answer t c =
-    let p = err_from_is_err_and c.from_residual-in_err-statement-2.result c.from_residual-in_err-statement-2.ensures.1 in rw (p.1, p.2) (no_memory)
+pub parse_if-returns-in_err-other-2-clause-answer : goal.parse_if-returns-in_err-other-2-clause-answer
+parse_if-returns-in_err-other-2-clause-answer t c =
+    let p = err_from_is_err_and c.from_residual-in_err-other-2.result c.from_residual-in_err-other-2.ensures.1 in rw (p.1, p.2) (no_memory)
 
 pub parse_if-returns-clause-answer : goal.parse_if-returns-clause-answer
 parse_if-returns-clause-answer t c =
-    rw c.in_ok-statement-2.ensures (if_rest_answer _ _ (and_ok c.in_ok-cond.ensures.answer (and_ok c.in_ok-yes.ensures.answer (else_answer _ _ _ _ (c.in_ok-yes.ensures.shut (ap is_some (sees_head (key K_Else) c.in-Some.ensures.some))) (sees_head (key K_Else) c.in-Some.ensures.some) (and_ok (sees_got c.in-Some.ensures.some) (and_ok c.in_ok-other.ensures.answer and_done))))))
+    let e = rw (c.in_ok-yes-2.ensures.ok, c.in_ok-other-2.ensures.ok) at c.if_else.ensures in rw e (if_rest_answer _ _ (and_ok c.in_ok-cond.ensures.answer (and_ok c.in_ok-yes.ensures.answer (else_answer _ _ _ _ (c.in_ok-yes.ensures.shut (ap is_some (sees_head (key K_Else) c.in-Some.ensures.some))) (sees_head (key K_Else) c.in-Some.ensures.some) (and_ok (sees_got c.in-Some.ensures.some) (and_ok c.in_ok-other.ensures.answer and_done))))))
 
 pub parse_if-parse_statement-requires-2 : goal.parse_if-parse_statement-requires-2
 parse_if-parse_statement-requires-2 t c =
@@ -129,13 +129,13 @@ pub parse_while-returns-in_err-body-clause-answer : goal.parse_while-returns-in_
 parse_while-returns-in_err-body-clause-answer t c =
     let p = err_from_is_err_and c.from_residual-in_err-body.result c.from_residual-in_err-body.ensures.1 in rw (p.1, p.2) (while_rest_answer _ _ (and_ok c.in_ok-cond.ensures.answer (and_failed _ c.in_err-body.ensures.answer)))
 
-pub parse_while-returns-in_err-statement-clause-answer : goal.parse_while-returns-in_err-statement-clause-answer
-parse_while-returns-in_err-statement-clause-answer t c =
-    let p = err_from_is_err_and c.from_residual-in_err-statement.result c.from_residual-in_err-statement.ensures.1 in rw (p.1, p.2) (no_memory)
+pub parse_while-returns-in_err-body-2-clause-answer : goal.parse_while-returns-in_err-body-2-clause-answer
+parse_while-returns-in_err-body-2-clause-answer t c =
+    let p = err_from_is_err_and c.from_residual-in_err-body-2.result c.from_residual-in_err-body-2.ensures.1 in rw (p.1, p.2) (no_memory)
 
 pub parse_while-returns-clause-answer : goal.parse_while-returns-clause-answer
 parse_while-returns-clause-answer t c =
-    rw c.in_ok-statement.ensures (while_rest_answer _ _ (and_ok c.in_ok-cond.ensures.answer (and_ok c.in_ok-body.ensures.answer and_done)))
+    let e = rw c.in_ok-body-2.ensures.ok at c.while_loop.ensures in rw e (while_rest_answer _ _ (and_ok c.in_ok-cond.ensures.answer (and_ok c.in_ok-body.ensures.answer and_done)))
 
 pub parse_for-returns-in_err-rest-clause-answer : goal.parse_for-returns-in_err-rest-clause-answer
 parse_for-returns-in_err-rest-clause-answer t c =
@@ -165,13 +165,21 @@ pub parse_for-returns-in_err-body-clause-answer : goal.parse_for-returns-in_err-
 parse_for-returns-in_err-body-clause-answer t c =
     let p = err_from_is_err_and c.from_residual-in_err-body.result c.from_residual-in_err-body.ensures.1 in rw (p.1, p.2) (for_rest_answer _ _ (and_ok c.in_ok-rest.ensures.answer (and_ok c.in_ok-first.ensures.answer (and_ok c.in_ok-cond.ensures.answer (and_ok c.in_ok-rest-2.ensures.answer (and_ok c.in_ok-next.ensures.answer (and_ok c.in_ok-rest-3.ensures.answer (and_failed _ c.in_err-body.ensures.answer))))))))
 
-pub parse_for-returns-in_err-statement-clause-answer : goal.parse_for-returns-in_err-statement-clause-answer
-parse_for-returns-in_err-statement-clause-answer t c =
-    let p = err_from_is_err_and c.from_residual-in_err-statement.result c.from_residual-in_err-statement.ensures.1 in rw (p.1, p.2) (no_memory)
+pub parse_for-returns-in_err-first-2-clause-answer : goal.parse_for-returns-in_err-first-2-clause-answer
+parse_for-returns-in_err-first-2-clause-answer t c =
+    let p = err_from_is_err_and c.from_residual-in_err-first-2.result c.from_residual-in_err-first-2.ensures.1 in rw (p.1, p.2) (no_memory)
+
+pub parse_for-returns-in_err-next-2-clause-answer : goal.parse_for-returns-in_err-next-2-clause-answer
+parse_for-returns-in_err-next-2-clause-answer t c =
+    let p = err_from_is_err_and c.from_residual-in_err-next-2.result c.from_residual-in_err-next-2.ensures.1 in rw (p.1, p.2) (no_memory)
+
+pub parse_for-returns-in_err-body-2-clause-answer : goal.parse_for-returns-in_err-body-2-clause-answer
+parse_for-returns-in_err-body-2-clause-answer t c =
+    let p = err_from_is_err_and c.from_residual-in_err-body-2.result c.from_residual-in_err-body-2.ensures.1 in rw (p.1, p.2) (no_memory)
 
 pub parse_for-returns-clause-answer : goal.parse_for-returns-clause-answer
 parse_for-returns-clause-answer t c =
-    rw c.in_ok-statement.ensures (for_rest_answer _ _ (and_ok c.in_ok-rest.ensures.answer (and_ok c.in_ok-first.ensures.answer (and_ok c.in_ok-cond.ensures.answer (and_ok c.in_ok-rest-2.ensures.answer (and_ok c.in_ok-next.ensures.answer (and_ok c.in_ok-rest-3.ensures.answer (and_ok c.in_ok-body.ensures.answer and_done))))))))
+    let e = rw (c.in_ok-first-2.ensures.ok, c.in_ok-next-2.ensures.ok, c.in_ok-body-2.ensures.ok) at c.for_loop.ensures in rw e (for_rest_answer _ _ (and_ok c.in_ok-rest.ensures.answer (and_ok c.in_ok-first.ensures.answer (and_ok c.in_ok-cond.ensures.answer (and_ok c.in_ok-rest-2.ensures.answer (and_ok c.in_ok-next.ensures.answer (and_ok c.in_ok-rest-3.ensures.answer (and_ok c.in_ok-body.ensures.answer and_done))))))))
 
 pub parse_items-returns-in_err-item : goal.parse_items-returns-in_err-item
 parse_items-returns-in_err-item t c =
