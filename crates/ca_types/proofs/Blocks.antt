@@ -4,7 +4,7 @@ use Rattle.ca_tree.specs.Plain.{Statement, Statements, empty, block, local, assi
 use Rattle.ca_program.specs.declared.program.ClassId.{ClassId}
 use Rattle.ca_program.specs.declared.program.ValueType.{ValueType}
 use Rattle.ca_resolve.specs.Scopes.{Sort, VisibleLocal, Classes}
-use Rattle.ca_types.specs.Statements.{Standing, opened, closed, counted, left, declaring, behind, behind_all}
+use Rattle.ca_types.specs.Statements.{Standing, opened, closed, left, declaring, behind, behind_all}
 
 -- two places in one block
 pub record SameBlock (c d : Standing) : Type 0 where
@@ -60,16 +60,3 @@ pub block_behind : (c o d f : Standing) (n m : ℕ) (ss : Statements) → o ≡ 
 block_behind c o d f n m ss opens count first inside ends =
     let e : d ≡ behind_all (opened c) ss = inside ∙ ap (λ z. behind_all z ss) opens in
     block_ends c d f n m count first (subst (SameBlock (opened c)) (sym e) (behind_all_same ss (opened c))) ends ∙ ap (closed c) e
-
--- the block round a `for` begins behind the word, and ends where the loop's body does
-pub loop_behind : (c b n i f : Standing) (count number : ℕ) (first next s : Statement) → count ≡ c.in_block → number ≡ c.first → b ≡ behind (opened (counted c)) first
-    → n ≡ closed b (behind (opened b) next) → i ≡ closed n (behind (opened n) s) → f ≡ left i count number
-    → f ≡ closed c (behind (opened (closed (behind (opened (counted c)) first) (behind (opened (behind (opened (counted c)) first)) next))) s)
-loop_behind c b n i f count number first next s counts numbers begins steps inside ends =
-    let begun = behind (opened (counted c)) first in
-    let same = behind_same first (opened (counted c)) in
-    let stepped = closed begun (behind (opened begun) next) in
-    let last = closed stepped (behind (opened stepped) s) in
-    let n_is : n ≡ stepped = steps ∙ ap (λ z. closed z (behind (opened z) next)) begins in
-    let i_is : i ≡ last = inside ∙ ap (λ z. closed z (behind (opened z) s)) n_is in
-    block_ends c last f count number counts numbers (record { classes = same.classes; class = same.class; result = same.result; outside = same.outside }) (ends ∙ ap (λ z. left z count number) i_is)

@@ -119,17 +119,20 @@ fn check_member<'a>(
     ensures judged { (j : Judged PlainMembers) → Answers members_view front j → IfOk result (λ a. Answers members_view a (add_member (member_standing standing.old) j (member_view member.now))) }
     ensures behind { OnOk result (member_standing standing.new ≡ behind_member (member_standing standing.old) (member_view member.now)) }
 {
+    let number = one_more(standing.number)?;
     match member {
         Member::Field(field) => {
+            let fields = one_more(standing.counts.fields)?;
             let answer = check_field(alloc, standing, field);
-            standing.number = one_more(standing.number)?;
-            standing.counts.fields = one_more(standing.counts.fields)?;
+            standing.number = number;
+            standing.counts.fields = fields;
             Ok(with_field(front, answer))
         }
         Member::Method(method) => {
+            let counts = behind_method(standing.counts, &method.result)?;
             let (answer, loops) = check_method(alloc, standing, method)?;
-            standing.number = one_more(standing.number)?;
-            standing.counts = behind_method(standing.counts, &method.result)?;
+            standing.number = number;
+            standing.counts = counts;
             standing.loops = loops;
             Ok(with_method(front, answer))
         }
@@ -173,6 +176,7 @@ fn check_class<'a>(
     ensures judged { IfOk result (λ a. Answers members_view a (judge_class (class_standing walk.old) (class_view class.now))) }
     ensures behind { OnOk result (class_standing walk.new ≡ behind_class (class_standing walk.old) (class_view class.now)) }
 {
+    let number = one_more(walk.number)?;
     let passed = bound(walk.number == MOST_CLASSES, class.at, 50);
     let again = class_once(walk, class);
     let mut standing = MemberWalk {
@@ -187,7 +191,7 @@ fn check_class<'a>(
         loops: walk.loops,
     };
     let members = check_members(alloc, &mut standing, &class.members)?;
-    walk.number = one_more(walk.number)?;
+    walk.number = number;
     walk.counts = standing.counts;
     walk.loops = standing.loops;
     Ok(class_of(passed, members, again))

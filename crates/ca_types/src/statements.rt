@@ -133,8 +133,7 @@ fn check_declaration<'a>(
 {
     let answer = check_local(alloc, walk, at, ty, name, name_at, value);
     let sort = walk.classes.sort_of(ty);
-    walk.declare(sort, name)?;
-    Ok(answer)
+    walk.declare(sort, name).and(Ok(answer))
 }
 
 /// A statement. Want of memory ends the walk.
