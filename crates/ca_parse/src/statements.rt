@@ -18,7 +18,7 @@ use ca_expressions::{
     take_sign,
 };
 use ca_tree::{ExprNode, Keyword, Place, Sign, StmtKind, StmtNode, Token};
-use std::alloc::Global;
+use std::alloc::{AllocError, Global};
 
 /// How many blocks, ifs and loops a token may stand in.
 const DEEPEST: usize = 200;
@@ -53,6 +53,23 @@ fn while_loop(at: Place, cond: ExprNode, body: Box<StmtNode>) -> StmtNode
 {
     let kind = StmtKind::While { cond, body };
     StmtNode { at, kind }
+}
+
+/// Each of the three in a box.
+fn boxes<T: Drop>(
+    alloc: Global,
+    first: T,
+    second: T,
+    third: T,
+) -> Result<(Box<T>, Box<T>, Box<T>), AllocError>
+    ensures first { IfOk result (λ p. box_value p.0 ≡ first) }
+    ensures second { IfOk result (λ p. box_value p.1 ≡ second) }
+    ensures third { IfOk result (λ p. box_value p.2 ≡ third) }
+{
+    let first = Box::new(alloc, first)?;
+    let second = Box::new(alloc, second)?;
+    let third = Box::new(alloc, third)?;
+    Ok((first, second, third))
 }
 
 fn for_loop(
@@ -295,13 +312,11 @@ fn parse_for<'a>(
 {
     let (_, rest) = take_sign(tokens, Sign::OpenParenthesis)?;
     let (first, rest) = parse_first(alloc, rest)?;
-    let first = Box::new(alloc, first)?;
     let (cond, rest) = parse_expression(alloc, rest)?;
     let (_, rest) = take_sign(rest, Sign::Semicolon)?;
     let (next, rest) = parse_assign(alloc, rest)?;
-    let next = Box::new(alloc, next)?;
     let (_, rest) = take_sign(rest, Sign::CloseParenthesis)?;
     let (body, rest) = parse_statement(alloc, depth + 1, rest)?;
-    let body = Box::new(alloc, body)?;
+    let (first, next, body) = boxes(alloc, first, next, body)?;
     Ok((for_loop(at, first, cond, next, body), rest))
 }

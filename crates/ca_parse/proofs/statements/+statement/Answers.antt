@@ -169,17 +169,9 @@ pub parse_for-returns-in_err-first-2-clause-answer : goal.parse_for-returns-in_e
 parse_for-returns-in_err-first-2-clause-answer t c =
     let p = err_from_is_err_and c.from_residual-in_err-first-2.result c.from_residual-in_err-first-2.ensures.1 in rw (p.1, p.2) (no_memory)
 
-pub parse_for-returns-in_err-next-2-clause-answer : goal.parse_for-returns-in_err-next-2-clause-answer
-parse_for-returns-in_err-next-2-clause-answer t c =
-    let p = err_from_is_err_and c.from_residual-in_err-next-2.result c.from_residual-in_err-next-2.ensures.1 in rw (p.1, p.2) (no_memory)
-
-pub parse_for-returns-in_err-body-2-clause-answer : goal.parse_for-returns-in_err-body-2-clause-answer
-parse_for-returns-in_err-body-2-clause-answer t c =
-    let p = err_from_is_err_and c.from_residual-in_err-body-2.result c.from_residual-in_err-body-2.ensures.1 in rw (p.1, p.2) (no_memory)
-
 pub parse_for-returns-clause-answer : goal.parse_for-returns-clause-answer
 parse_for-returns-clause-answer t c =
-    let e = rw (c.in_ok-first-2.ensures.ok, c.in_ok-next-2.ensures.ok, c.in_ok-body-2.ensures.ok) at c.for_loop.ensures in rw e (for_rest_answer _ _ (and_ok c.in_ok-rest.ensures.answer (and_ok c.in_ok-first.ensures.answer (and_ok c.in_ok-cond.ensures.answer (and_ok c.in_ok-rest-2.ensures.answer (and_ok c.in_ok-next.ensures.answer (and_ok c.in_ok-rest-3.ensures.answer (and_ok c.in_ok-body.ensures.answer and_done))))))))
+    let e = rw (c.in_ok-first-2.ensures.first, c.in_ok-first-2.ensures.second, c.in_ok-first-2.ensures.third) at c.for_loop.ensures in rw e (for_rest_answer _ _ (and_ok c.in_ok-rest.ensures.answer (and_ok c.in_ok-first.ensures.answer (and_ok c.in_ok-cond.ensures.answer (and_ok c.in_ok-rest-2.ensures.answer (and_ok c.in_ok-next.ensures.answer (and_ok c.in_ok-rest-3.ensures.answer (and_ok c.in_ok-body.ensures.answer and_done))))))))
 
 pub parse_items-returns-in_err-item : goal.parse_items-returns-in_err-item
 parse_items-returns-in_err-item t c =
