@@ -117,7 +117,7 @@ impl<'a> Scene<'a> {
                 },
                 None => None,
             },
-            Expr::OwnItem(f, i) => match self.side(i) {
+            Expr::OwnItem(f, i) => match self.long_of(i) {
                 Some(index) => match self.own_item(f.field, index) {
                     Some(value) => object(value),
                     None => None,
@@ -125,7 +125,7 @@ impl<'a> Scene<'a> {
                 None => None,
             },
             Expr::ReadItem(p, f, i) => match self.object_of(p) {
-                Some(id) => match self.side(i) {
+                Some(id) => match self.long_of(i) {
                     Some(index) => match self.item(id, f.field, index) {
                         Some(value) => object(value),
                         None => None,
@@ -138,10 +138,9 @@ impl<'a> Scene<'a> {
         }
     }
 
-    /// The value of a number or a local that is a number, at once, and of another expression by `long_of`.
-    #[cycle(number)]
+    /// The value of a number, or of a local that is a number.
     #[inline(always)]
-    fn side(&self, e: &Expr) -> Option<i64>
+    fn leaf(&self, e: &Expr) -> Option<i64>
         ensures { IfSome result (λ n. direct self.now.heap.now self.now.this self.now.locals.now (expression_view e.now) ≡ gives (Long n) 0) }
     {
         match e {
@@ -150,21 +149,98 @@ impl<'a> Scene<'a> {
                 Some(value) => long(value),
                 None => None,
             },
-            _ => self.long_of(e),
+            _ => None,
         }
     }
 
-    /// The value of an expression that is a number.
+    /// What an operator gives for two leaves.
+    #[inline(always)]
+    fn on_leaves(&self, op: BinaryOp, a: &Expr, b: &Expr) -> Option<i64>
+        ensures { IfSome result (λ n. direct self.now.heap.now self.now.this self.now.locals.now (binary op (expression_view a.now) (expression_view b.now)) ≡ gives (Long n) 0) }
+    {
+        match self.leaf(a) {
+            Some(left) => match self.leaf(b) {
+                Some(right) => arithmetic(op, left, right),
+                None => None,
+            },
+            None => None,
+        }
+    }
+
+    /// Whether a comparison of two leaves holds.
+    #[inline(always)]
+    fn compare_leaves(&self, op: BinaryOp, a: &Expr, b: &Expr) -> Option<bool>
+        ensures { IfSome result (λ t. direct self.now.heap.now self.now.this self.now.locals.now (binary op (expression_view a.now) (expression_view b.now)) ≡ gives (Truth t) 0) }
+    {
+        match self.leaf(a) {
+            Some(left) => match self.leaf(b) {
+                Some(right) => compared(op, left, right),
+                None => None,
+            },
+            None => None,
+        }
+    }
+
+    /// The value of an expression that is a number. What is short is done in place.
     #[cycle(number)]
-    fn long_of(&self, e: &Expr) -> Option<i64>
+    #[inline(always)]
+    pub fn long_of(&self, e: &Expr) -> Option<i64>
         ensures { IfSome result (λ n. direct self.now.heap.now self.now.this self.now.locals.now (expression_view e.now) ≡ gives (Long n) 0) }
     {
         match e {
-            Expr::Number(n) => Some(*n),
-            Expr::Local(l) => match self.local(l.0) {
-                Some(value) => long(value),
+            Expr::Number(_) | Expr::Local(_) => self.leaf(e),
+            Expr::Binary(op, a, b) => match self.on_leaves(*op, a, b) {
+                Some(number) => Some(number),
+                None => self.binary_of(e),
+            },
+            Expr::OwnItem(_, _) => self.own_item_of(e),
+            _ => self.other_of(e),
+        }
+    }
+
+    /// The number that an operator of numbers gives.
+    #[cycle(number)]
+    #[inline(never)]
+    fn binary_of(&self, e: &Expr) -> Option<i64>
+        ensures { IfSome result (λ n. direct self.now.heap.now self.now.this self.now.locals.now (expression_view e.now) ≡ gives (Long n) 0) }
+    {
+        match e {
+            Expr::Binary(op, a, b) => match self.long_of(a) {
+                Some(left) => match self.long_of(b) {
+                    Some(right) => arithmetic(*op, left, right),
+                    None => None,
+                },
                 None => None,
             },
+            _ => None,
+        }
+    }
+
+    /// The number that an own item is.
+    #[cycle(number)]
+    #[inline(never)]
+    fn own_item_of(&self, e: &Expr) -> Option<i64>
+        ensures { IfSome result (λ n. direct self.now.heap.now self.now.this self.now.locals.now (expression_view e.now) ≡ gives (Long n) 0) }
+    {
+        match e {
+            Expr::OwnItem(f, i) => match self.long_of(i) {
+                Some(index) => match self.own_item(f.field, index) {
+                    Some(value) => long(value),
+                    None => None,
+                },
+                None => None,
+            },
+            _ => None,
+        }
+    }
+
+    /// The number that a field, an item of an object or a negation is.
+    #[cycle(number)]
+    #[inline(never)]
+    fn other_of(&self, e: &Expr) -> Option<i64>
+        ensures { IfSome result (λ n. direct self.now.heap.now self.now.this self.now.locals.now (expression_view e.now) ≡ gives (Long n) 0) }
+    {
+        match e {
             Expr::Own(f) => match self.own(f.field) {
                 Some(value) => long(value),
                 None => None,
@@ -176,15 +252,8 @@ impl<'a> Scene<'a> {
                 },
                 None => None,
             },
-            Expr::OwnItem(f, i) => match self.side(i) {
-                Some(index) => match self.own_item(f.field, index) {
-                    Some(value) => long(value),
-                    None => None,
-                },
-                None => None,
-            },
             Expr::ReadItem(p, f, i) => match self.object_of(p) {
-                Some(id) => match self.side(i) {
+                Some(id) => match self.long_of(i) {
                     Some(index) => match self.item(id, f.field, index) {
                         Some(value) => long(value),
                         None => None,
@@ -194,25 +263,35 @@ impl<'a> Scene<'a> {
                 None => None,
             },
             Expr::Unary(op, a) => match op {
-                UnaryOp::Minus => match self.side(a) {
+                UnaryOp::Minus => match self.long_of(a) {
                     Some(number) => Some(negated(number)),
                     None => None,
                 },
                 UnaryOp::Not => None,
-            },
-            Expr::Binary(op, a, b) => match self.side(a) {
-                Some(left) => match self.side(b) {
-                    Some(right) => arithmetic(*op, left, right),
-                    None => None,
-                },
-                None => None,
             },
             _ => None,
         }
     }
 
     /// The value of an expression that is a truth value.
+    #[cycle(truth)]
+    #[inline]
     pub fn truth_of(&self, e: &Expr) -> Option<bool>
+        ensures { IfSome result (λ b. direct self.now.heap.now self.now.this self.now.locals.now (expression_view e.now) ≡ gives (Truth b) 0) }
+    {
+        match e {
+            Expr::Binary(op, a, b) => match self.compare_leaves(*op, a, b) {
+                Some(truth) => Some(truth),
+                None => self.other_truth_of(e),
+            },
+            _ => self.other_truth_of(e),
+        }
+    }
+
+    /// The value of an expression that is a truth value and no comparison of two leaves.
+    #[cycle(truth)]
+    #[inline(never)]
+    fn other_truth_of(&self, e: &Expr) -> Option<bool>
         ensures { IfSome result (λ b. direct self.now.heap.now self.now.this self.now.locals.now (expression_view e.now) ≡ gives (Truth b) 0) }
     {
         match e {
@@ -246,8 +325,8 @@ impl<'a> Scene<'a> {
     fn compare(&self, op: BinaryOp, a: &Expr, b: &Expr) -> Option<bool>
         ensures { IfSome result (λ t. direct self.now.heap.now self.now.this self.now.locals.now (binary op (expression_view a.now) (expression_view b.now)) ≡ gives (Truth t) 0) }
     {
-        match self.side(a) {
-            Some(left) => match self.side(b) {
+        match self.long_of(a) {
+            Some(left) => match self.long_of(b) {
                 Some(right) => compared(op, left, right),
                 None => None,
             },
@@ -317,12 +396,12 @@ impl<'a> Scene<'a> {
                 Some(id) => self.field(id, f.field),
                 None => None,
             },
-            Expr::OwnItem(f, i) => match self.side(i) {
+            Expr::OwnItem(f, i) => match self.long_of(i) {
                 Some(index) => self.own_item(f.field, index),
                 None => None,
             },
             Expr::ReadItem(p, f, i) => match self.object_of(p) {
-                Some(id) => match self.side(i) {
+                Some(id) => match self.long_of(i) {
                     Some(index) => self.item(id, f.field, index),
                     None => None,
                 },
