@@ -6,9 +6,10 @@ ghost use Rattle.ca_program.specs.Plain.{binary};
 ghost use Rattle.std.specs.Int.{int_wrap, w64};
 ghost use Rattle.ca_model.specs.declared.value.Value.TheVariants.{Long, Bool as Truth, Ref};
 ghost use Rattle.ca_meaning.specs.Expressions.{gives, one_in, decided};
-ghost use Rattle.ca_meaning.specs.Operators.{operated, operated_longs, same_value};
+ghost use Rattle.ca_meaning.specs.Operators.{operated, operated_longs};
 ghost use Rattle.ca_direct.specs.Direct.{direct, slot_at, item_at, pointer};
 
+use crate::pointers::{object, pointed, same_pointers};
 use ca_meaning::operate;
 use ca_model::{Heap, Slot, Value};
 use ca_program::{BinaryOp, Expr, UnaryOp};
@@ -153,14 +154,14 @@ impl<'a> Scene<'a> {
         }
     }
 
-    /// What an operator gives for two leaves.
+    /// What an operator that can't fail gives for two leaves.
     #[inline(always)]
     fn on_leaves(&self, op: BinaryOp, a: &Expr, b: &Expr) -> Option<i64>
         ensures { IfSome result (λ n. direct self.now.heap.now self.now.this self.now.locals.now (binary op (expression_view a.now) (expression_view b.now)) ≡ gives (Long n) 0) }
     {
         match self.leaf(a) {
             Some(left) => match self.leaf(b) {
-                Some(right) => arithmetic(op, left, right),
+                Some(right) => quick(op, left, right),
                 None => None,
             },
             None => None,
@@ -419,6 +420,7 @@ impl<'a> Scene<'a> {
         match e {
             Expr::Number(n) => Some(Value::Long(*n)),
             Expr::Local(l) => self.local(l.0),
+            Expr::This => Some(self.this),
             Expr::Unary(op, _) => match op {
                 UnaryOp::Minus => self.number(e),
                 UnaryOp::Not => self.truth(e),
@@ -469,31 +471,19 @@ fn long(value: Value) -> Option<i64>
     }
 }
 
-/// The object that a value names.
-#[inline]
-fn object(value: Value) -> Option<u32>
-    ensures { IfSome result (λ n. value ≡ Ref n) }
+/// The number that an operator that can't fail gives for two numbers.
+#[inline(always)]
+fn quick(op: BinaryOp, left: i64, right: i64) -> Option<i64>
+    ensures { IfSome result (λ n. operated_longs op left right ≡ Ok (Long n)) }
 {
-    match value {
-        Value::Ref(id) => Some(id),
-        _ => None,
-    }
-}
-
-/// The pointer that a value is; none for null.
-#[inline]
-fn pointed(value: Value) -> Option<Option<u32>>
-    ensures { IfSome result (λ p. value ≡ pointer p) }
-{
-    match value {
-        Value::Ref(id) => Some(Some(id)),
-        Value::Null => Some(None),
+    match op {
+        BinaryOp::Plus | BinaryOp::Minus | BinaryOp::Times => arithmetic(op, left, right),
         _ => None,
     }
 }
 
 /// The number that an operator gives for two numbers.
-#[inline]
+#[inline(always)]
 fn arithmetic(op: BinaryOp, left: i64, right: i64) -> Option<i64>
     ensures { IfSome result (λ n. operated_longs op left right ≡ Ok (Long n)) }
 {
@@ -551,35 +541,6 @@ fn compared(op: BinaryOp, left: i64, right: i64) -> Option<bool>
         BinaryOp::Equal => Some(left == right),
         BinaryOp::NotEqual => Some(left != right),
         _ => None,
-    }
-}
-
-/// Whether two pointers are equal, or differ.
-#[inline]
-fn same_pointers(op: BinaryOp, left: Option<u32>, right: Option<u32>) -> Option<bool>
-    ensures { IfSome result (λ b. (decided op (pointer left) ≡ None) × (operated op (pointer left) (pointer right) ≡ Ok (Truth b))) }
-{
-    match op {
-        BinaryOp::Equal => Some(is_same(left, right)),
-        BinaryOp::NotEqual => Some(!is_same(left, right)),
-        _ => None,
-    }
-}
-
-/// Whether two pointers are equal.
-#[inline]
-fn is_same(left: Option<u32>, right: Option<u32>) -> bool
-    ensures { result ≡ same_value (pointer left) (pointer right) }
-{
-    match left {
-        Some(a) => match right {
-            Some(b) => a == b,
-            None => false,
-        },
-        None => match right {
-            Some(_) => false,
-            None => true,
-        },
     }
 }
 

@@ -102,13 +102,19 @@ impl<'a> Machine<'a> {
     fn value_now(&self, program: &Program, line: u32, e: &Expr) -> Option<Value>
         ensures { IfSome result (λ v. value_in (program_view program.now).functions self.now.heap self.now.bodies.current.this line self.now.bodies.current.locals (expression_view e.now) self.now.left ≡ gives v self.now.left) }
     {
-        if is_number(e) {
-            return match self.long_of(program, line, e) {
-                Some(number) => Some(Value::Long(number)),
-                None => None,
-            };
+        match e {
+            Expr::Number(number) => Some(Value::Long(*number)),
+            Expr::Binary(op, _, _) => {
+                if !gives_number(*op) {
+                    return self.value_of(program, line, e);
+                }
+                match self.long_of(program, line, e) {
+                    Some(number) => Some(Value::Long(number)),
+                    None => None,
+                }
+            }
+            _ => self.value_of(program, line, e),
         }
-        self.value_of(program, line, e)
     }
 
     /// The truth value of an expression, where it is found without a call.
@@ -196,19 +202,15 @@ impl<'a> Machine<'a> {
     }
 }
 
-/// Whether an expression is a number, or an operator that gives one.
+/// Whether an operator gives a number.
 #[inline(always)]
-fn is_number(e: &Expr) -> bool {
-    match e {
-        Expr::Number(_) => true,
-        Expr::Binary(op, _, _) => match op {
-            BinaryOp::Plus
-            | BinaryOp::Minus
-            | BinaryOp::Times
-            | BinaryOp::Divide
-            | BinaryOp::Remainder => true,
-            _ => false,
-        },
+fn gives_number(op: BinaryOp) -> bool {
+    match op {
+        BinaryOp::Plus
+        | BinaryOp::Minus
+        | BinaryOp::Times
+        | BinaryOp::Divide
+        | BinaryOp::Remainder => true,
         _ => false,
     }
 }
