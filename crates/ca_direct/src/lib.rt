@@ -7,6 +7,7 @@
 //! is taken. So the interpreter tries them first and goes on with its stack where they answer `None`.
 #![tactic(auto)]
 
+mod pointers;
 mod scene;
 
 pub use scene::Scene;

@@ -6,9 +6,10 @@ ghost use Rattle.ca_program.specs.Plain.{binary};
 ghost use Rattle.std.specs.Int.{int_wrap, w64};
 ghost use Rattle.ca_model.specs.declared.value.Value.TheVariants.{Long, Bool as Truth, Ref};
 ghost use Rattle.ca_meaning.specs.Expressions.{gives, one_in, decided};
-ghost use Rattle.ca_meaning.specs.Operators.{operated, operated_longs, same_value};
+ghost use Rattle.ca_meaning.specs.Operators.{operated, operated_longs};
 ghost use Rattle.ca_direct.specs.Direct.{direct, slot_at, item_at, pointer};
 
+use crate::pointers::{object, pointed, same_pointers};
 use ca_meaning::operate;
 use ca_model::{Heap, Slot, Value};
 use ca_program::{BinaryOp, Expr, UnaryOp};
@@ -117,7 +118,7 @@ impl<'a> Scene<'a> {
                 },
                 None => None,
             },
-            Expr::OwnItem(f, i) => match self.side(i) {
+            Expr::OwnItem(f, i) => match self.long_of(i) {
                 Some(index) => match self.own_item(f.field, index) {
                     Some(value) => object(value),
                     None => None,
@@ -125,7 +126,7 @@ impl<'a> Scene<'a> {
                 None => None,
             },
             Expr::ReadItem(p, f, i) => match self.object_of(p) {
-                Some(id) => match self.side(i) {
+                Some(id) => match self.long_of(i) {
                     Some(index) => match self.item(id, f.field, index) {
                         Some(value) => object(value),
                         None => None,
@@ -138,10 +139,9 @@ impl<'a> Scene<'a> {
         }
     }
 
-    /// The value of a number or a local that is a number, at once, and of another expression by `long_of`.
-    #[cycle(number)]
+    /// The value of a number, or of a local that is a number.
     #[inline(always)]
-    fn side(&self, e: &Expr) -> Option<i64>
+    fn leaf(&self, e: &Expr) -> Option<i64>
         ensures { IfSome result (λ n. direct self.now.heap.now self.now.this self.now.locals.now (expression_view e.now) ≡ gives (Long n) 0) }
     {
         match e {
@@ -150,21 +150,98 @@ impl<'a> Scene<'a> {
                 Some(value) => long(value),
                 None => None,
             },
-            _ => self.long_of(e),
+            _ => None,
         }
     }
 
-    /// The value of an expression that is a number.
+    /// What an operator that can't fail gives for two leaves.
+    #[inline(always)]
+    fn on_leaves(&self, op: BinaryOp, a: &Expr, b: &Expr) -> Option<i64>
+        ensures { IfSome result (λ n. direct self.now.heap.now self.now.this self.now.locals.now (binary op (expression_view a.now) (expression_view b.now)) ≡ gives (Long n) 0) }
+    {
+        match self.leaf(a) {
+            Some(left) => match self.leaf(b) {
+                Some(right) => quick(op, left, right),
+                None => None,
+            },
+            None => None,
+        }
+    }
+
+    /// Whether a comparison of two leaves holds.
+    #[inline(always)]
+    fn compare_leaves(&self, op: BinaryOp, a: &Expr, b: &Expr) -> Option<bool>
+        ensures { IfSome result (λ t. direct self.now.heap.now self.now.this self.now.locals.now (binary op (expression_view a.now) (expression_view b.now)) ≡ gives (Truth t) 0) }
+    {
+        match self.leaf(a) {
+            Some(left) => match self.leaf(b) {
+                Some(right) => compared(op, left, right),
+                None => None,
+            },
+            None => None,
+        }
+    }
+
+    /// The value of an expression that is a number. What is short is done in place.
     #[cycle(number)]
-    fn long_of(&self, e: &Expr) -> Option<i64>
+    #[inline(always)]
+    pub fn long_of(&self, e: &Expr) -> Option<i64>
         ensures { IfSome result (λ n. direct self.now.heap.now self.now.this self.now.locals.now (expression_view e.now) ≡ gives (Long n) 0) }
     {
         match e {
-            Expr::Number(n) => Some(*n),
-            Expr::Local(l) => match self.local(l.0) {
-                Some(value) => long(value),
+            Expr::Number(_) | Expr::Local(_) => self.leaf(e),
+            Expr::Binary(op, a, b) => match self.on_leaves(*op, a, b) {
+                Some(number) => Some(number),
+                None => self.binary_of(e),
+            },
+            Expr::OwnItem(_, _) => self.own_item_of(e),
+            _ => self.other_of(e),
+        }
+    }
+
+    /// The number that an operator of numbers gives.
+    #[cycle(number)]
+    #[inline(never)]
+    fn binary_of(&self, e: &Expr) -> Option<i64>
+        ensures { IfSome result (λ n. direct self.now.heap.now self.now.this self.now.locals.now (expression_view e.now) ≡ gives (Long n) 0) }
+    {
+        match e {
+            Expr::Binary(op, a, b) => match self.long_of(a) {
+                Some(left) => match self.long_of(b) {
+                    Some(right) => arithmetic(*op, left, right),
+                    None => None,
+                },
                 None => None,
             },
+            _ => None,
+        }
+    }
+
+    /// The number that an own item is.
+    #[cycle(number)]
+    #[inline(never)]
+    fn own_item_of(&self, e: &Expr) -> Option<i64>
+        ensures { IfSome result (λ n. direct self.now.heap.now self.now.this self.now.locals.now (expression_view e.now) ≡ gives (Long n) 0) }
+    {
+        match e {
+            Expr::OwnItem(f, i) => match self.long_of(i) {
+                Some(index) => match self.own_item(f.field, index) {
+                    Some(value) => long(value),
+                    None => None,
+                },
+                None => None,
+            },
+            _ => None,
+        }
+    }
+
+    /// The number that a field, an item of an object or a negation is.
+    #[cycle(number)]
+    #[inline(never)]
+    fn other_of(&self, e: &Expr) -> Option<i64>
+        ensures { IfSome result (λ n. direct self.now.heap.now self.now.this self.now.locals.now (expression_view e.now) ≡ gives (Long n) 0) }
+    {
+        match e {
             Expr::Own(f) => match self.own(f.field) {
                 Some(value) => long(value),
                 None => None,
@@ -176,15 +253,8 @@ impl<'a> Scene<'a> {
                 },
                 None => None,
             },
-            Expr::OwnItem(f, i) => match self.side(i) {
-                Some(index) => match self.own_item(f.field, index) {
-                    Some(value) => long(value),
-                    None => None,
-                },
-                None => None,
-            },
             Expr::ReadItem(p, f, i) => match self.object_of(p) {
-                Some(id) => match self.side(i) {
+                Some(id) => match self.long_of(i) {
                     Some(index) => match self.item(id, f.field, index) {
                         Some(value) => long(value),
                         None => None,
@@ -194,25 +264,35 @@ impl<'a> Scene<'a> {
                 None => None,
             },
             Expr::Unary(op, a) => match op {
-                UnaryOp::Minus => match self.side(a) {
+                UnaryOp::Minus => match self.long_of(a) {
                     Some(number) => Some(negated(number)),
                     None => None,
                 },
                 UnaryOp::Not => None,
-            },
-            Expr::Binary(op, a, b) => match self.side(a) {
-                Some(left) => match self.side(b) {
-                    Some(right) => arithmetic(*op, left, right),
-                    None => None,
-                },
-                None => None,
             },
             _ => None,
         }
     }
 
     /// The value of an expression that is a truth value.
+    #[cycle(truth)]
+    #[inline]
     pub fn truth_of(&self, e: &Expr) -> Option<bool>
+        ensures { IfSome result (λ b. direct self.now.heap.now self.now.this self.now.locals.now (expression_view e.now) ≡ gives (Truth b) 0) }
+    {
+        match e {
+            Expr::Binary(op, a, b) => match self.compare_leaves(*op, a, b) {
+                Some(truth) => Some(truth),
+                None => self.other_truth_of(e),
+            },
+            _ => self.other_truth_of(e),
+        }
+    }
+
+    /// The value of an expression that is a truth value and no comparison of two leaves.
+    #[cycle(truth)]
+    #[inline(never)]
+    fn other_truth_of(&self, e: &Expr) -> Option<bool>
         ensures { IfSome result (λ b. direct self.now.heap.now self.now.this self.now.locals.now (expression_view e.now) ≡ gives (Truth b) 0) }
     {
         match e {
@@ -246,8 +326,8 @@ impl<'a> Scene<'a> {
     fn compare(&self, op: BinaryOp, a: &Expr, b: &Expr) -> Option<bool>
         ensures { IfSome result (λ t. direct self.now.heap.now self.now.this self.now.locals.now (binary op (expression_view a.now) (expression_view b.now)) ≡ gives (Truth t) 0) }
     {
-        match self.side(a) {
-            Some(left) => match self.side(b) {
+        match self.long_of(a) {
+            Some(left) => match self.long_of(b) {
                 Some(right) => compared(op, left, right),
                 None => None,
             },
@@ -317,12 +397,12 @@ impl<'a> Scene<'a> {
                 Some(id) => self.field(id, f.field),
                 None => None,
             },
-            Expr::OwnItem(f, i) => match self.side(i) {
+            Expr::OwnItem(f, i) => match self.long_of(i) {
                 Some(index) => self.own_item(f.field, index),
                 None => None,
             },
             Expr::ReadItem(p, f, i) => match self.object_of(p) {
-                Some(id) => match self.side(i) {
+                Some(id) => match self.long_of(i) {
                     Some(index) => self.item(id, f.field, index),
                     None => None,
                 },
@@ -340,6 +420,7 @@ impl<'a> Scene<'a> {
         match e {
             Expr::Number(n) => Some(Value::Long(*n)),
             Expr::Local(l) => self.local(l.0),
+            Expr::This => Some(self.this),
             Expr::Unary(op, _) => match op {
                 UnaryOp::Minus => self.number(e),
                 UnaryOp::Not => self.truth(e),
@@ -390,31 +471,19 @@ fn long(value: Value) -> Option<i64>
     }
 }
 
-/// The object that a value names.
-#[inline]
-fn object(value: Value) -> Option<u32>
-    ensures { IfSome result (λ n. value ≡ Ref n) }
+/// The number that an operator that can't fail gives for two numbers.
+#[inline(always)]
+fn quick(op: BinaryOp, left: i64, right: i64) -> Option<i64>
+    ensures { IfSome result (λ n. operated_longs op left right ≡ Ok (Long n)) }
 {
-    match value {
-        Value::Ref(id) => Some(id),
-        _ => None,
-    }
-}
-
-/// The pointer that a value is; none for null.
-#[inline]
-fn pointed(value: Value) -> Option<Option<u32>>
-    ensures { IfSome result (λ p. value ≡ pointer p) }
-{
-    match value {
-        Value::Ref(id) => Some(Some(id)),
-        Value::Null => Some(None),
+    match op {
+        BinaryOp::Plus | BinaryOp::Minus | BinaryOp::Times => arithmetic(op, left, right),
         _ => None,
     }
 }
 
 /// The number that an operator gives for two numbers.
-#[inline]
+#[inline(always)]
 fn arithmetic(op: BinaryOp, left: i64, right: i64) -> Option<i64>
     ensures { IfSome result (λ n. operated_longs op left right ≡ Ok (Long n)) }
 {
@@ -472,35 +541,6 @@ fn compared(op: BinaryOp, left: i64, right: i64) -> Option<bool>
         BinaryOp::Equal => Some(left == right),
         BinaryOp::NotEqual => Some(left != right),
         _ => None,
-    }
-}
-
-/// Whether two pointers are equal, or differ.
-#[inline]
-fn same_pointers(op: BinaryOp, left: Option<u32>, right: Option<u32>) -> Option<bool>
-    ensures { IfSome result (λ b. (decided op (pointer left) ≡ None) × (operated op (pointer left) (pointer right) ≡ Ok (Truth b))) }
-{
-    match op {
-        BinaryOp::Equal => Some(is_same(left, right)),
-        BinaryOp::NotEqual => Some(!is_same(left, right)),
-        _ => None,
-    }
-}
-
-/// Whether two pointers are equal.
-#[inline]
-fn is_same(left: Option<u32>, right: Option<u32>) -> bool
-    ensures { result ≡ same_value (pointer left) (pointer right) }
-{
-    match left {
-        Some(a) => match right {
-            Some(b) => a == b,
-            None => false,
-        },
-        None => match right {
-            Some(_) => false,
-            None => true,
-        },
     }
 }
 

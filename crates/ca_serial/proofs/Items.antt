@@ -1,5 +1,5 @@
 -- Items of arrays, stores, and room for new objects.
-use Rattle.std.proofs.Common.{◌≡◌, ℕ, zero, suc, ◌+◌, List, [], ◌∷◌, ◌++◌, length, Option, Some, None, refl, pos, negsuc, inl, inr}
+use Rattle.std.proofs.Common.{◌≡◌, ℕ, ℤ, zero, suc, ◌+◌, List, [], ◌∷◌, ◌++◌, length, Option, Some, None, refl, pos, negsuc, inl, inr}
 use Rattle.std.specs.Prelude.{IfSome, slice_get, Bool, true, false, nat_lt, nat_le, ◌||◌}
 use Rattle.std.proofs.lemmas.Option.{slice_get_within}
 use Rattle.std.proofs.lemmas.Bool.{le-leb, lt-ltb, leb-true, ltb-true}
@@ -96,6 +96,10 @@ room_gives p line h c k room = rw (room_test h (starts_of p c) room) refl
 pub truth_found : (ms : List PlainMethod) (h : List Object) (r : Datum) (line : ℕ) (ls : List Datum) (e : Expression) (k : ℕ) (o : Option Bool) → IfSome o (λ b. direct h r ls e ≡ gives (Truth b) 0) → IfSome o (λ b. value_in ms h r line ls e k ≡ gives (Truth b) k)
 truth_found ms h r line ls e k None is = tt
 truth_found ms h r line ls e k (Some b) is = direct_is (functions_of ms h).call h r line ls e k (Truth b) is
+
+pub long_found : (ms : List PlainMethod) (h : List Object) (r : Datum) (line : ℕ) (ls : List Datum) (e : Expression) (k : ℕ) (o : Option ℤ) → IfSome o (λ n. direct h r ls e ≡ gives (Long n) 0) → IfSome o (λ n. value_in ms h r line ls e k ≡ gives (Long n) k)
+long_found ms h r line ls e k None is = tt
+long_found ms h r line ls e k (Some n) is = direct_is (functions_of ms h).call h r line ls e k (Long n) is
 
 pub value_found : (ms : List PlainMethod) (h : List Object) (r : Datum) (line : ℕ) (ls : List Datum) (e : Expression) (k : ℕ) (o : Option Datum) → IfSome o (λ v. direct h r ls e ≡ gives v 0) → IfSome o (λ v. value_in ms h r line ls e k ≡ gives v k)
 value_found ms h r line ls e k None is = tt

@@ -45,7 +45,7 @@ pub line_is : (s : Stmt) → line_of (statement_view s) ≡ s.line
 line_is s = form_line s.kind s.line
 
 -- a list of statements is its first and then the rest
-seq_is : (p : PlainProgram) (m : Mode) (f : Body) (w : World) (x : Statement) (xs : Statements) (k : ℕ) → runs_all p m f w (statement_and x xs) k ≡ and_on (runs p m f w (line_of x) x k) (λ ls w k. runs_all p m (with_locals f ls) w xs k)
+pub seq_is : (p : PlainProgram) (m : Mode) (f : Body) (w : World) (x : Statement) (xs : Statements) (k : ℕ) → runs_all p m f w (statement_and x xs) k ≡ and_on (runs p m f w (line_of x) x k) (λ ls w k. runs_all p m (with_locals f ls) w xs k)
 seq_is p InFunction f w x xs k = carried_on w (exec (parts_in p w f) (line_of x) f.locals tt x k) _ _ (λ ls k. refl)
 seq_is p InOperation f w x xs k = refl
 
@@ -127,7 +127,7 @@ block_runs p m f w line s ss k is =
     ∙ ap (λ st. runs p m f w line st k) (block_is s.line ss)
     ∙ block_all p m f w line s.line (statements_view ss.items) k
 
-if_is : (p : PlainProgram) (m : Mode) (f : Body) (w : World) (line own : ℕ) (c : Expression) (a b : Statement) (k : ℕ) → runs p m f w line (if_else own c a b) k ≡ with (value_in p.functions w.heap f.this line f.locals c k) w (λ v k. choose v (runs p m f w (line_of a) a k) (runs p m f w (line_of b) b k))
+pub if_is : (p : PlainProgram) (m : Mode) (f : Body) (w : World) (line own : ℕ) (c : Expression) (a b : Statement) (k : ℕ) → runs p m f w line (if_else own c a b) k ≡ with (value_in p.functions w.heap f.this line f.locals c k) w (λ v k. choose v (runs p m f w (line_of a) a k) (runs p m f w (line_of b) b k))
 if_is p InFunction f w line own c a b k = carried_with w (value_in p.functions w.heap f.this line f.locals c k) _ _ (λ v k. carried_choose w v _ _)
 if_is p InOperation f w line own c a b k = refl
 

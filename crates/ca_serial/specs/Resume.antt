@@ -210,6 +210,12 @@ loops p line c loop m ps =
     with (value_in p.functions m.heap m.bodies.current.this line m.bodies.current.locals c m.left) (world_of m ps) (λ v k.
     going_on p m (turns p m.bodies.current.mode m.bodies.current (world_of m ps) line loop k v))
 
+-- that evaluates this expression
+abbrev pub evaluates : PlainProgram → ℕ → Expression → Machine → List Datum → Flow World
+evaluates p line e m ps =
+    with (value_in p.functions m.heap m.bodies.current.this line m.bodies.current.locals e m.left) (world_of m ps) (λ v k.
+    resume p m.todo (v ∷ m.values) m.bodies.current m.bodies.below (world_of m ps) k)
+
 -- that uses the value
 abbrev pub takes : PlainProgram → Taker → Datum → Machine → List Datum → Flow World
 takes p taker v m ps =

@@ -1,15 +1,19 @@
 //! Statements that are done at once, with no work put on the stack.
 
-ghost use Rattle.std.specs.Prelude.{◌≡◌, ◌∷◌, ℕ, List};
+ghost use Rattle.std.specs.Prelude.{◌≡◌, ◌∷◌, ℕ, List, IfSome};
 ghost use Rattle.ca_program.specs.View.{program_view, expression_view};
 ghost use Rattle.ca_program.specs.Plain.{put_local, put_field, put_item};
 ghost use Rattle.ca_model.specs.declared.value.Value.{Value as Datum};
+ghost use Rattle.ca_model.specs.declared.value.Value.TheVariants.{Bool as Truth};
+ghost use Rattle.ca_meaning.specs.Expressions.{gives};
+ghost use Rattle.ca_meaning.specs.Functions.{value_in};
 ghost use Rattle.ca_serial.specs.Resume.{rest_of, AtOnce, Puts, pieces};
 
 use crate::bodies::Mode;
 use crate::machine::Machine;
 use crate::work::{Left, Work};
-use ca_program::{AssignOp, Expr, FieldId, LocalId, Program, Stmt, StmtForm};
+use ca_model::Value;
+use ca_program::{AssignOp, BinaryOp, Expr, FieldId, LocalId, Program, Stmt, StmtForm};
 
 impl<'a> Machine<'a> {
     /// Does what it can of a statement on a line at once, and gives back what is left of it.
@@ -73,7 +77,7 @@ impl<'a> Machine<'a> {
             StmtForm::PutLocal(l, op, e) => self.put_local_now(program, line, *l, *op, e),
             StmtForm::PutField(f, op, e) => self.put_field_now(program, line, *f, *op, e),
             StmtForm::PutItem(f, i, op, e) => self.put_item_now(program, line, *f, i, *op, e),
-            StmtForm::If(c, a, b) => match self.truth_of(program, line, c) {
+            StmtForm::If(c, a, b) => match self.truth_now(program, line, c) {
                 Some(truth) => {
                     let chosen: &'a Stmt = if truth { a } else { b };
                     self.do_one(program, chosen.line, chosen)
@@ -93,8 +97,36 @@ impl<'a> Machine<'a> {
         }
     }
 
+    /// The value of an expression, where it is found without a call. A number goes no way through memory.
+    #[inline(always)]
+    fn value_now(&self, program: &Program, line: u32, e: &Expr) -> Option<Value>
+        ensures { IfSome result (λ v. value_in (program_view program.now).functions self.now.heap self.now.bodies.current.this line self.now.bodies.current.locals (expression_view e.now) self.now.left ≡ gives v self.now.left) }
+    {
+        match e {
+            Expr::Number(number) => Some(Value::Long(*number)),
+            Expr::Binary(op, _, _) => {
+                if !gives_number(*op) {
+                    return self.value_of(program, line, e);
+                }
+                match self.long_of(program, line, e) {
+                    Some(number) => Some(Value::Long(number)),
+                    None => None,
+                }
+            }
+            _ => self.value_of(program, line, e),
+        }
+    }
+
+    /// The truth value of an expression, where it is found without a call.
+    #[inline(never)]
+    fn truth_now(&self, program: &Program, line: u32, e: &Expr) -> Option<bool>
+        ensures { IfSome result (λ b. value_in (program_view program.now).functions self.now.heap self.now.bodies.current.this line self.now.bodies.current.locals (expression_view e.now) self.now.left ≡ gives (Truth b) self.now.left) }
+    {
+        self.truth_of(program, line, e)
+    }
+
     /// Puts the value of an expression into a local, where it is found without a call.
-    #[inline]
+    #[inline(never)]
     fn put_local_now(
         &mut self,
         program: &'a Program,
@@ -105,7 +137,7 @@ impl<'a> Machine<'a> {
     ) -> bool
         ensures { (own : ℕ) → Puts result (program_view program.now) line (put_local own local op (expression_view e.now)) self.old self.new }
     {
-        match self.value_of(program, line, e) {
+        match self.value_now(program, line, e) {
             Some(value) => {
                 self.assign_local(local, op, value);
                 true
@@ -115,7 +147,7 @@ impl<'a> Machine<'a> {
     }
 
     /// Puts the value of an expression into an own field, where it is found without a call.
-    #[inline]
+    #[inline(never)]
     fn put_field_now(
         &mut self,
         program: &'a Program,
@@ -129,7 +161,7 @@ impl<'a> Machine<'a> {
         if let Mode::InFunction = self.bodies.mode() {
             return false;
         }
-        match self.value_of(program, line, e) {
+        match self.value_now(program, line, e) {
             Some(value) => {
                 self.assign_field(field, op, value);
                 true
@@ -139,7 +171,7 @@ impl<'a> Machine<'a> {
     }
 
     /// Puts the value of an expression into an own item, where it and the index are found without a call.
-    #[inline]
+    #[inline(never)]
     fn put_item_now(
         &mut self,
         program: &'a Program,
@@ -154,18 +186,31 @@ impl<'a> Machine<'a> {
         if let Mode::InFunction = self.bodies.mode() {
             return false;
         }
-        let Some(index) = self.value_of(program, line, index) else {
+        let Some(index) = self.long_of(program, line, index) else {
             return false;
         };
-        let Ok(Some(item)) = self.indexed(line, self.bodies.this(), field, index) else {
+        let Ok(Some(item)) = self.indexed(line, self.bodies.this(), field, Value::Long(index)) else {
             return false;
         };
-        match self.value_of(program, line, e) {
+        match self.value_now(program, line, e) {
             Some(value) => {
                 self.assign_item(field, item, op, value);
                 true
             }
             None => false,
         }
+    }
+}
+
+/// Whether an operator gives a number.
+#[inline(always)]
+fn gives_number(op: BinaryOp) -> bool {
+    match op {
+        BinaryOp::Plus
+        | BinaryOp::Minus
+        | BinaryOp::Times
+        | BinaryOp::Divide
+        | BinaryOp::Remainder => true,
+        _ => false,
     }
 }

@@ -1,17 +1,19 @@
 //! The steps of calls.
 
-ghost use Rattle.std.specs.Prelude.{◌≡◌, ◌∷◌, ℕ, List, IfOk, Some};
+ghost use Rattle.std.specs.Prelude.{◌≡◌, ◌∷◌, ℕ, List, IfOk, IfSome, Some};
 ghost use Rattle.ca_program.specs.View.{program_view, method_view, expression_view, expressions_view, statement_view, statements_view};
 ghost use Rattle.ca_model.specs.declared.value.Value.{Value as Datum};
 ghost use Rattle.ca_meaning.specs.Functions.{body_of};
-ghost use Rattle.ca_serial.specs.Resume.{rest_of, back_of, unwound, handed_back, begins, after, target_method, target_mode, others_in};
+ghost use Rattle.ca_meaning.specs.Flows.{gives_back};
+ghost use Rattle.ca_serial.specs.Resume.{rest_of, world_of, runs, back_of, unwound, handed_back, begins, after, target_method, target_mode, others_in};
 
 use crate::bodies::Mode;
+use crate::expressions::calls;
 use crate::machine::{Machine, trapped};
 use crate::work::{Next, Target, Work};
 use ca_base::Memory;
 use ca_model::{TrapKind, Value};
-use ca_program::{Expr, Method, Program, Stmt, ValueType};
+use ca_program::{Expr, Method, Program, Stmt, StmtForm, ValueType};
 
 impl<'a> Machine<'a> {
     /// Goes on with the arguments of a call from one of them on, and then begins the call.
@@ -79,9 +81,41 @@ impl<'a> Machine<'a> {
             let next = self.leave(program)?;
             return Ok(next);
         }
+        if let Mode::InFunction = self.bodies.mode() {
+            if let Some((first, _)) = rest.split_first() {
+                if let Some(value) = self.given_back(program, first.line, first) {
+                    let next = self.hand_back(program, value)?;
+                    return Ok(next);
+                }
+            }
+        }
         self.todo.push(Work::Leave)?;
         self.todo.push(Work::Seq(rest))?;
         Ok(Next::GoesOn)
+    }
+
+    /// The value that a statement on a line gives back, where it does so at once and changes nothing.
+    fn given_back(&self, program: &Program, line: u32, s: &Stmt) -> Option<Value>
+        ensures { IfSome result (λ v. (ps : List Datum) → runs (program_view program.now) self.now.bodies.current.mode self.now.bodies.current (world_of self.now ps) line (statement_view s.now) self.now.left ≡ gives_back v (world_of self.now ps) self.now.left) }
+    {
+        match &s.kind {
+            StmtForm::Return(e) => {
+                if calls(e) {
+                    return None;
+                }
+                self.value_of(program, line, e)
+            }
+            StmtForm::If(c, a, b) => match self.truth_of(program, line, c) {
+                Some(true) => self.given_back(program, a.line, a),
+                Some(false) => self.given_back(program, b.line, b),
+                None => None,
+            },
+            StmtForm::Block(ss) => match ss.as_slice().split_first() {
+                Some((first, _)) => self.given_back(program, first.line, first),
+                None => None,
+            },
+            _ => None,
+        }
     }
 
     /// Gives a value back to the caller of a value method. In another body that ends the run.

@@ -2,16 +2,17 @@
 
 ghost use Rattle.std.specs.Prelude.{◌≡◌, ◌∷◌, ℕ, List, IfOk};
 ghost use Rattle.ca_program.specs.View.{program_view, expression_view, expressions_view, statement_view, statements_view};
+ghost use Rattle.ca_program.specs.Plain.{value_call, binary};
 ghost use Rattle.ca_model.specs.declared.value.Value.{Value as Datum};
 ghost use Rattle.ca_meaning.specs.Expressions.{decided};
-ghost use Rattle.ca_serial.specs.Resume.{rest_of, takes, after};
+ghost use Rattle.ca_serial.specs.Resume.{rest_of, takes, evaluates, after};
 
 use crate::machine::{Machine, field_of, trapped};
 use crate::work::{Next, Taker, Target, Work};
 use ca_base::Memory;
 use ca_meaning::{operate, operate_unary};
 use ca_model::{TrapKind, Value};
-use ca_program::{BinaryOp, Expr, FieldId, Program, UnaryOp};
+use ca_program::{BinaryOp, Expr, FieldId, FunctionId, Program, UnaryOp};
 
 impl<'a> Machine<'a> {
     /// Goes on with an expression: its value, or its first part.
@@ -36,14 +37,64 @@ impl<'a> Machine<'a> {
             Expr::Read(p, f) => self.then(Taker::ReadField(line, *f), line, p)?,
             Expr::ReadItem(p, f, i) => self.then(Taker::CheckObject(line, *f, i), line, p)?,
             Expr::Value(receiver, m, arguments) => {
-                let target = Target::Function(*m);
-                self.todo
-                    .push(Work::Collect(line, target, arguments.as_slice(), 0))?;
-                self.todo.push(Work::Evaluate(line, receiver))?;
+                let next = self.evaluate_call(program, line, receiver, *m, arguments.as_slice())?;
+                return Ok(next);
             }
             Expr::Unary(op, a) => self.then(Taker::Sign(*op), line, a)?,
-            Expr::Binary(op, a, b) => self.then(Taker::CheckLeft(line, *op, b), line, a)?,
+            Expr::Binary(op, a, b) => {
+                let next = self.evaluate_binary(program, line, *op, a, b)?;
+                return Ok(next);
+            }
         }
+        Ok(Next::GoesOn)
+    }
+
+    /// Goes on with a call of a value method.
+    #[inline]
+    fn evaluate_call(
+        &mut self,
+        program: &'a Program,
+        line: u32,
+        receiver: &'a Expr,
+        method: FunctionId,
+        arguments: &'a [Expr],
+    ) -> Result<Next, Memory>
+        ensures { IfOk result (λ next. (ps : List Datum) → evaluates (program_view program.now) line (value_call (expression_view receiver.now) method (expressions_view arguments.now)) self.old ps ≡ after (program_view program.now) self.new ps next) }
+    {
+        let target = Target::Function(method);
+        match self.value_of(program, line, receiver) {
+            Some(object) => {
+                self.values.push(object)?;
+                let next = self.collect(program, line, target, arguments, 0)?;
+                Ok(next)
+            }
+            None => {
+                self.todo.push(Work::Collect(line, target, arguments, 0))?;
+                self.todo.push(Work::Evaluate(line, receiver))?;
+                Ok(Next::GoesOn)
+            }
+        }
+    }
+
+    /// Goes on with two sides. A left side that is short is evaluated at once.
+    #[inline]
+    fn evaluate_binary(
+        &mut self,
+        program: &'a Program,
+        line: u32,
+        op: BinaryOp,
+        a: &'a Expr,
+        b: &'a Expr,
+    ) -> Result<Next, Memory>
+        ensures { IfOk result (λ next. (ps : List Datum) → evaluates (program_view program.now) line (binary op (expression_view a.now) (expression_view b.now)) self.old ps ≡ after (program_view program.now) self.new ps next) }
+    {
+        if is_short(a) {
+            if let Some(left) = self.value_of(program, line, a) {
+                let next = self.check_left(program, line, op, b, left)?;
+                return Ok(next);
+            }
+        }
+        self.then(Taker::CheckLeft(line, op, b), line, a)?;
         Ok(Next::GoesOn)
     }
 
@@ -163,6 +214,33 @@ impl<'a> Machine<'a> {
             }
             Err(kind) => Ok(trapped(line, kind)),
         }
+    }
+}
+
+/// Whether an expression has no operator and no call at its head.
+#[inline]
+fn is_short(e: &Expr) -> bool {
+    match e {
+        Expr::Value(_, _, _) | Expr::Unary(_, _) | Expr::Binary(_, _, _) => false,
+        _ => true,
+    }
+}
+
+/// Whether an expression is a call, or an operator with one beside it, so that it has no value at once.
+#[inline]
+pub fn calls(e: &Expr) -> bool {
+    match e {
+        Expr::Value(_, _, _) => true,
+        Expr::Binary(_, a, b) => is_call(a) || is_call(b),
+        _ => false,
+    }
+}
+
+#[inline]
+fn is_call(e: &Expr) -> bool {
+    match e {
+        Expr::Value(_, _, _) => true,
+        _ => false,
     }
 }
 

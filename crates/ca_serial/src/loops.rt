@@ -14,7 +14,7 @@ use ca_program::{Expr, Program, Stmt, StmtForm};
 
 impl<'a> Machine<'a> {
     /// Goes on with a loop that comes again. Turns that are done at once come one after another.
-    #[inline]
+    #[inline(never)]
     pub fn again(&mut self, program: &'a Program, line: u32, s: &'a Stmt) -> Result<Next, Memory>
         ensures { IfOk result (λ next. (ps : List Datum) → rest_of (program_view program.now) (Work.Again line s.entry ∷ self.old.todo) self.old ps ≡ after (program_view program.now) self.new ps next) }
     {
@@ -26,6 +26,7 @@ impl<'a> Machine<'a> {
     }
 
     /// Goes on with a loop that comes again, for one turn.
+    #[inline(always)]
     fn turn(&mut self, program: &'a Program, line: u32, s: &'a Stmt) -> Result<Turn, Memory>
         ensures means { IfOk result (λ turn. (ps : List Datum) → rest_of (program_view program.now) (Work.Again line s.entry ∷ self.old.todo) self.old ps ≡ behind (program_view program.now) (Work.Again line s.entry) self.new ps turn) }
         ensures less { IfOk result (λ turn. Lessens turn self.new.left self.old.left) }
@@ -44,7 +45,7 @@ impl<'a> Machine<'a> {
     }
 
     /// Goes on with the condition of a loop.
-    #[inline]
+    #[inline(always)]
     fn test(
         &mut self,
         program: &'a Program,
@@ -88,7 +89,7 @@ impl<'a> Machine<'a> {
     }
 
     /// Takes a step and enters a turn of a loop.
-    #[inline]
+    #[inline(always)]
     fn begin_turn(&mut self, program: &'a Program, line: u32, s: &'a Stmt) -> Result<Turn, Memory>
         ensures means { IfOk result (λ turn. (ps : List Datum) → takes (program_view program.now) (Taker.Turn line s.entry) (Truth true) self.old ps ≡ behind (program_view program.now) (Work.Again line s.entry) self.new ps turn) }
         ensures less { IfOk result (λ turn. Lessens turn self.new.left self.old.left) }
@@ -123,7 +124,7 @@ impl<'a> Machine<'a> {
     }
 
     /// Runs the next part of a `for` behind its body.
-    #[inline]
+    #[inline(always)]
     fn follow(
         &mut self,
         program: &'a Program,

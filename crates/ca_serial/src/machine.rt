@@ -2,7 +2,7 @@
 
 ghost use Rattle.std.specs.Prelude.{◌≡◌, ◌∷◌, [], IfOk, IfSome, slice_get, Some, option_copied};
 ghost use Rattle.ca_program.specs.View.{program_view, expression_view};
-ghost use Rattle.ca_model.specs.declared.value.Value.TheVariants.{Bool as Truth};
+ghost use Rattle.ca_model.specs.declared.value.Value.TheVariants.{Long, Bool as Truth};
 ghost use Rattle.ca_model.specs.declared.value.Trap.{Trap};
 ghost use Rattle.ca_meaning.specs.Expressions.{gives, one_in, items_in, indexed};
 ghost use Rattle.ca_meaning.specs.Functions.{own_of, value_in};
@@ -69,8 +69,16 @@ impl<'a> Machine<'a> {
         self.scene().value_of(e)
     }
 
+    /// The number that an expression is, where it is found without a call.
+    #[inline(always)]
+    pub fn long_of(&self, program: &Program, line: u32, e: &Expr) -> Option<i64>
+        ensures { IfSome result (λ n. value_in (program_view program.now).functions self.now.heap self.now.bodies.current.this line self.now.bodies.current.locals (expression_view e.now) self.now.left ≡ gives (Long n) self.now.left) }
+    {
+        self.scene().long_of(e)
+    }
+
     /// The truth value of an expression, where it is found without a call.
-    #[inline]
+    #[inline(always)]
     pub fn truth_of(&self, program: &Program, line: u32, e: &Expr) -> Option<bool>
         ensures { IfSome result (λ b. value_in (program_view program.now).functions self.now.heap self.now.bodies.current.this line self.now.bodies.current.locals (expression_view e.now) self.now.left ≡ gives (Truth b) self.now.left) }
     {

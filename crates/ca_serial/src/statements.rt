@@ -12,6 +12,7 @@ ghost use Rattle.ca_serial.specs.Bodies.{with_locals};
 ghost use Rattle.ca_serial.specs.Resume.{rest_of, takes, does, after, HasOwn};
 
 use crate::bodies::Mode;
+use crate::expressions::calls;
 use crate::machine::{Found, Machine, field_of, item_of, put, store, trapped};
 use crate::work::{Next, Taker, Target, Work};
 use ca_base::Memory;
@@ -492,13 +493,14 @@ impl<'a> Machine<'a> {
     fn return_value(&mut self, program: &'a Program, line: u32, e: &'a Expr) -> Result<Next, Memory>
         ensures { IfOk result (λ next. (own : ℕ) (ps : List Datum) → does (program_view program.now) line (return_value own (expression_view e.now)) self.old ps ≡ after (program_view program.now) self.new ps next) }
     {
-        match self.value_of(program, line, e) {
-            Some(value) => self.give_back(program, value),
-            None => {
-                self.then(Taker::GiveBack, line, e)?;
-                Ok(Next::GoesOn)
+        if !calls(e) {
+            if let Some(value) = self.value_of(program, line, e) {
+                return self.give_back(program, value);
             }
         }
+        self.todo.push(Work::Take(Taker::GiveBack))?;
+        let next = self.evaluate(program, line, e)?;
+        Ok(next)
     }
 
     /// Prints the value of an expression.
