@@ -7,8 +7,11 @@ use Rattle.ca_parallel.specs.Calls.{RunsTo}
 use Rattle.ca_serial.specs.declared.extents.ExtentAnswer.{ExtentAnswer}
 use Rattle.ca_serial.specs.declared.extents.ExtentAnswer.TheVariants.{Done, Declined}
 
--- Done: the heap after it and the steps are those of the serial run. Declined: the serial run isn't done
--- within the budget, and the heap is as it was.
+-- Done: the heap after it and the steps are those of the serial run. Declined: the heap is as it was.
 abbrev pub Answers : PlainProgram → List Object → List Invocation → ℕ → List Object → ExtentAnswer → Type 0
 Answers p before is budget after (Done steps) = RunsTo p before is budget after steps
-Answers p before is budget after Declined = (after ≡ before) × ((g : List Object) (steps : ℕ) → ¬ RunsTo p before is budget g steps)
+Answers p before is budget after Declined = after ≡ before
+
+-- the serial run is done within the budget with no heap
+abbrev pub IsNotDone : PlainProgram → List Object → List Invocation → ℕ → Type 0
+IsNotDone p before is budget = (after : List Object) (steps : ℕ) → ¬ RunsTo p before is budget after steps

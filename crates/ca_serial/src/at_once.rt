@@ -189,7 +189,8 @@ impl<'a> Machine<'a> {
         let Some(index) = self.long_of(program, line, index) else {
             return false;
         };
-        let Ok(Some(item)) = self.indexed(line, self.bodies.this(), field, Value::Long(index)) else {
+        let Ok(Some(item)) = self.indexed(line, self.bodies.this(), field, Value::Long(index))
+        else {
             return false;
         };
         match self.value_now(program, line, e) {

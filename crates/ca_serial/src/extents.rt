@@ -9,7 +9,8 @@ ghost use Rattle.ca_meaning.specs.Expressions.{Invocation};
 ghost use Rattle.ca_meaning.specs.WellTyped.{AllWellTyped};
 ghost use Rattle.ca_parallel.specs.Calls.{invocations_of, operation_of};
 ghost use Rattle.ca_parallel.specs.Parallel.{ParallelFrom};
-ghost use Rattle.ca_serial.specs.Extents.{Answers};
+ghost use Rattle.ca_serial.specs.declared.extents.ExtentAnswer.TheVariants.{Declined};
+ghost use Rattle.ca_serial.specs.Extents.{Answers, IsNotDone};
 
 use ca_base::Memory;
 use ca_model::Heap;
@@ -32,7 +33,7 @@ pub trait Extents {
 
     ghost account: { Self → Account };
 
-    /// Whether it may be asked.
+    /// Whether it runs what it is handed.
     ghost serves: { Bool };
 
     /// What running these operations within a budget, in a heap, does to the account.
@@ -40,8 +41,9 @@ pub trait Extents {
 
     /// Runs the operations, of which there may be none, within a budget of steps.
     ///
-    /// `Done` leaves the heap of their serial run in order, which takes so many steps. `Declined` comes
-    /// exactly where that run is not done within the budget. It and an error leave the heap as it was.
+    /// `Done` leaves the heap of their serial run in order, which takes so many steps. `Declined` and an
+    /// error leave the heap as it was. An engine that serves declines only where that run is not done
+    /// within the budget.
     fn run<R: Threads + Wait>(
         &mut self,
         rt: &R,
@@ -50,17 +52,17 @@ pub trait Extents {
         first: &[Op],
         left: u64,
     ) -> Result<ExtentAnswer, Memory>
-        requires serves { serves ≡ true }
         requires heap { TypedHeap (program_view program.now) heap.old }
         requires typed { AllWellTyped (program_view program.now) heap.old (invocations_of first.now) }
         requires parallel { ParallelFrom (program_view program.now) (map operation_of first.now) }
         ensures answer { IfOk result (λ answer. Answers (program_view program.now) heap.old (invocations_of first.now) left heap.new answer) }
+        ensures declined { serves ≡ true → IfOk result (λ answer. answer ≡ Declined → IsNotDone (program_view program.now) heap.old (invocations_of first.now) left) }
         ensures accounts { OnOk result (Accounts (account self.old) (program_view program.now) heap.old (invocations_of first.now) left (account self.new)) }
         ensures heap_kept { OnErr result (heap.new ≡ heap.old) }
         ensures account_kept { OnErr result (account self.new ≡ account self.old) };
 }
 
-/// The engine that is never asked: it serves only where there are no marks.
+/// The engine that declines whatever it is handed. It is for runs without marks.
 #[derive(Clone, Copy)]
 pub struct NoExtents;
 
