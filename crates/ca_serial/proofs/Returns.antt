@@ -12,7 +12,7 @@ use Rattle.ca_program.specs.View.{form_view, expression_view, statement_view, st
 use Rattle.ca_model.specs.declared.value.Value.{Value as Datum}
 use Rattle.ca_model.specs.declared.value.Value.TheVariants.{Bool as Truth}
 use Rattle.ca_meaning.specs.Expressions.{gives}
-use Rattle.ca_meaning.specs.Flows.{Flow, gives_back, and_on, with, choose, line_of}
+use Rattle.ca_meaning.specs.Flows.{gives_back, and_on, with}
 use Rattle.ca_meaning.specs.Functions.{value_in}
 use Rattle.ca_meaning.specs.Serial.{World}
 use Rattle.ca_serial.specs.declared.bodies.Mode.{Mode}
