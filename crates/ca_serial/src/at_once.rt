@@ -99,7 +99,7 @@ impl<'a> Machine<'a> {
 
     /// The value of an expression, where it is found without a call. A number goes no way through memory.
     #[inline(always)]
-    fn value_now(&self, program: &Program, line: u32, e: &Expr) -> Option<Value>
+    pub fn value_now(&self, program: &Program, line: u32, e: &Expr) -> Option<Value>
         ensures { IfSome result (λ v. value_in (program_view program.now).functions self.now.heap self.now.bodies.current.this line self.now.bodies.current.locals (expression_view e.now) self.now.left ≡ gives v self.now.left) }
     {
         match e {

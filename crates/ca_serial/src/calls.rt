@@ -29,7 +29,7 @@ impl<'a> Machine<'a> {
     {
         let mut index = first;
         while index < arguments.len() {
-            match self.value_of(program, line, &arguments[index]) {
+            match self.value_now(program, line, &arguments[index]) {
                 Some(value) => self.values.push(value)?,
                 None => {
                     self.todo
@@ -90,8 +90,27 @@ impl<'a> Machine<'a> {
             }
         }
         self.todo.push(Work::Leave)?;
-        self.todo.push(Work::Seq(rest))?;
-        Ok(Next::GoesOn)
+        let next = self.put_off(program, rest)?;
+        Ok(next)
+    }
+
+    /// Makes the first statement of a list the next piece of work, and what is behind it the one after that.
+    #[inline]
+    fn put_off(&mut self, program: &'a Program, ss: &'a [Stmt]) -> Result<Next, Memory>
+        ensures { IfOk result (λ next. (ps : List Datum) → rest_of (program_view program.now) (Work.Seq ss.entry ∷ self.old.todo) self.old ps ≡ after (program_view program.now) self.new ps next) }
+    {
+        match ss.split_first() {
+            Some((first, rest)) => {
+                if rest.is_empty() {
+                    self.todo.push(Work::Exec(first.line, first))?;
+                    return Ok(Next::GoesOn);
+                }
+                self.todo.push(Work::Seq(rest))?;
+                self.todo.push(Work::Exec(first.line, first))?;
+                Ok(Next::GoesOn)
+            }
+            None => Ok(Next::GoesOn),
+        }
     }
 
     /// The value that a statement on a line gives back, where it does so at once and changes nothing.

@@ -94,8 +94,31 @@ impl<'a> Machine<'a> {
                 return Ok(next);
             }
         }
-        self.then(Taker::CheckLeft(line, op, b), line, a)?;
-        Ok(Next::GoesOn)
+        self.todo.push(Work::Take(Taker::CheckLeft(line, op, b)))?;
+        let next = self.begin_expression(program, line, a)?;
+        Ok(next)
+    }
+
+    /// Begins an expression: a call at once, and another one as the next piece of work.
+    #[inline]
+    fn begin_expression(
+        &mut self,
+        program: &'a Program,
+        line: u32,
+        e: &'a Expr,
+    ) -> Result<Next, Memory>
+        ensures { IfOk result (λ next. (ps : List Datum) → rest_of (program_view program.now) (Work.Evaluate line e.entry ∷ self.old.todo) self.old ps ≡ after (program_view program.now) self.new ps next) }
+    {
+        match e {
+            Expr::Value(receiver, m, arguments) => {
+                let next = self.evaluate_call(program, line, receiver, *m, arguments.as_slice())?;
+                Ok(next)
+            }
+            _ => {
+                self.todo.push(Work::Evaluate(line, e))?;
+                Ok(Next::GoesOn)
+            }
+        }
     }
 
     /// Puts the work on an expression before what takes its value.
@@ -190,10 +213,16 @@ impl<'a> Machine<'a> {
         ensures { IfOk result (λ next. (ps : List Datum) → takes (program_view program.now) (Taker.CheckLeft line op right.entry) left self.old ps ≡ after (program_view program.now) self.new ps next) }
     {
         match decide(op, left) {
-            Some(value) => self.values.push(value)?,
-            None => self.then(Taker::Apply(line, op, left), line, right)?,
+            Some(value) => {
+                self.values.push(value)?;
+                Ok(Next::GoesOn)
+            }
+            None => {
+                self.todo.push(Work::Take(Taker::Apply(line, op, left)))?;
+                let next = self.begin_expression(program, line, right)?;
+                Ok(next)
+            }
         }
-        Ok(Next::GoesOn)
     }
 
     #[inline]

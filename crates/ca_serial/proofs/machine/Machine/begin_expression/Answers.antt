@@ -1,0 +1,8 @@
+use Rattle.ca_serial.proofs.CallSteps.{call_is}
+use Rattle.ca_serial.proofs.machine.Machine.begin_expression.Goals as goal
+
+pub returns-in_ok-next-in-Value : goal.returns-in_ok-next-in-Value
+returns-in_ok-next-in-Value c = λ ps.
+    let v = c.in-Value in
+    rw (call_is c.args.e.now v.receiver v.m v.arguments v.is)
+    (rw (c.deref.ensures, c.as_slice.ensures.value) at c.in_ok-next-in-Value.ensures ps)
