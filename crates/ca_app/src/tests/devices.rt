@@ -53,10 +53,11 @@ fn gives_way_to_faults(rt: HostRuntime) -> Result<(), AllocError> {
         let ended = Call { failing, ..graph }.writes(&rt, written.as_bytes())?;
         assert!(rt; ended == (status, true), "of {written}");
     }
+    let prints = Call::new("run 1 9", PRINTS);
     for number in 1..13 {
         let call = Call {
             failing: (0, number),
-            ..Call::new("run 1 9", PRINTS)
+            ..prints
         };
         let (status, written) = call.run(&rt)?;
         let begun = PRINTED.as_bytes().starts_with(&written);
@@ -64,6 +65,20 @@ fn gives_way_to_faults(rt: HostRuntime) -> Result<(), AllocError> {
         assert!(rt;
             begun && (status, whole) == if number < 8 { (7, false) } else { (0, true) },
             "of {number}"
+        );
+        let call = Call {
+            failing: (number, 0),
+            ..prints
+        };
+        let (status, written) = call.run(&rt)?;
+        assert!(rt;
+            (status, written.len())
+                == if number < 3 {
+                    (6, 0)
+                } else {
+                    (0, PRINTED.len())
+                },
+            "of read {number}"
         );
     }
     let refused = Call {
