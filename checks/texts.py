@@ -1,0 +1,110 @@
+"""The text of a program, with the line of each statement."""
+
+from programs import BOOL, LONG
+
+STRENGTH = {"||": 0, "&&": 1, "==": 2, "!=": 2, "<": 3, ">": 3, "<=": 3, ">=": 3, "+": 4, "-": 4, "*": 5, "/": 5, "%": 5}
+UNARY, TAIL = 6, 7
+
+
+def type_text(ty):
+    return ty + " " if ty in (LONG, BOOL) else ty + " *"
+
+
+class Writer:
+    """Writes a program with random blanks and comments.
+
+    `lines` has the line of each statement, by its id, and `starts` the pieces of the text before which one stands.
+    """
+
+    def __init__(self, rng):
+        self.rng, self.text, self.line, self.lines, self.starts = rng, [], 1, {}, []
+
+    def put(self, text):
+        self.text.append(text)
+        self.line += text.count("\n")
+
+    def gap(self):
+        self.put(self.rng.choice([" ", "\n", " ", "\t", " /* x */ ", "\n", " // y\n"]))
+
+    def expr(self, e, least=0):
+        kind = e[0]
+        if kind in ("unary", "binary"):
+            strength = UNARY if kind == "unary" else STRENGTH[e[1]]
+            text = self.operation(e, strength)
+            return f"({text})" if strength < least or self.rng.random() < 0.1 else text
+        if kind == "read":
+            front = "" if e[1] is None else self.expr(e[1], TAIL) + "->"
+            return front + self.place(e[2], e[3])
+        if kind == "call":
+            front = "" if e[1] is None else self.expr(e[1], TAIL) + "->"
+            return f"{front}{e[2].name}({', '.join(self.expr(a) for a in e[3])})"
+        if kind == "new":
+            return f"new {e[1]}" + self.rng.choice(["()", ""])
+        return {"null": "nullptr", "this": "this"}.get(kind) or str(e[1]).lower() * (kind == "truth") or str(e[1])
+
+    def operation(self, e, strength):
+        if e[0] == "unary":
+            return f"{e[1]} {self.expr(e[2], strength)}"
+        return f"{self.expr(e[2], strength)} {e[1]} {self.expr(e[3], strength + 1)}"
+
+    def place(self, field, index):
+        return field if index is None else f"{field}[{self.expr(index)}]"
+
+    def simple(self, s):
+        if s[0] == "local":
+            return type_text(s[2]) + s[1] + ("" if s[3] is None else " = " + self.expr(s[3]))
+        target = s[1] if s[0] == "put" else self.place(s[1], s[2])
+        op, right = s[-2], s[-1]
+        if op in ("+=", "-=") and right == ("number", 1) and self.rng.random() < 0.5:
+            return target + op[0] * 2
+        return f"{target} {op} {self.expr(right)}"
+
+    def statement(self, s):
+        self.gap()
+        self.lines[id(s)] = self.line
+        self.starts.append(len(self.text))
+        kind = s[0]
+        if kind == "call":
+            self.put(self.expr(s) + ";")
+        elif kind == "print":
+            self.put(f"print({self.expr(s[1])});")
+        elif kind == "return":
+            self.put(f"return {self.expr(s[1])};")
+        elif kind == "block":
+            self.block(s[1])
+        elif kind in ("if", "while", "for"):
+            self.compound(s)
+        else:
+            self.put(self.simple(s) + ";")
+
+    def compound(self, s):
+        if s[0] == "for":
+            self.put(f"for ({self.simple(s[1])}; {self.expr(s[2])}; {self.simple(s[3])})")
+            return self.block(s[4])
+        self.put(f"{s[0]} ({self.expr(s[1])})")
+        self.block(s[2])
+        if s[0] == "if" and s[3] is not None:
+            self.put(" else")
+            self.block(s[3])
+
+    def block(self, statements):
+        self.gap()
+        self.put("{")
+        for s in statements:
+            self.statement(s)
+        self.gap()
+        self.put("}")
+
+    def program(self, p):
+        for c in p.classes:
+            self.put(f"class {c.name} {{ public:\n")
+            for name, ty, length in c.fields:
+                self.put(f"{type_text(ty)}{name}{'' if length is None else f'[{length}]'};\n")
+            for m in c.methods:
+                params = ", ".join(type_text(t) + n for n, t in m.params)
+                self.put(f"{'void ' if m.result is None else type_text(m.result)}{m.name}({params})")
+                self.block(m.body)
+            self.put("};\n")
+        self.put("int main()")
+        self.block(p.main)
+        return "".join(self.text)
