@@ -1,16 +1,16 @@
 -- Nodes in a Vec are viewed as the list that it holds.
-use Rattle.std.proofs.Common.{◌≡◌, List, [], ◌∷◌, refl, ◌∙◌, ap, Global}
+use Rattle.std.proofs.Common.{◌≡◌, refl, ◌∙◌, ap, Global}
 use Rattle.std.specs.declared.vec.Vec.{Vec}
 use Rattle.ca_tree.specs.declared.name.Place.{Place}
 use Rattle.ca_tree.specs.declared.name.Name.{Name}
 use Rattle.ca_tree.specs.declared.tree.ExprNode.{ExprNode}
-use Rattle.ca_tree.specs.declared.tree.ExprKind.{ExprKind, Call, Method, Row_of-ExprNode, end_of-ExprNode, more_of-ExprNode, items-the_row-ExprNode, items_hidden-the_row-ExprNode-0}
+use Rattle.ca_tree.specs.declared.tree.ExprKind.{Call, Row_of-ExprNode, end_of-ExprNode, more_of-ExprNode, items-the_row-ExprNode, items_hidden-the_row-ExprNode-0}
 use Rattle.ca_tree.specs.declared.tree.ExprKind.TheBlock.{hidden-the_row-ExprNode-0}
 use Rattle.ca_tree.specs.declared.tree.StmtNode.{StmtNode}
 use Rattle.ca_tree.specs.declared.tree.StmtKind.{Block, Row_of-StmtNode, end_of-StmtNode, more_of-StmtNode, items-the_row-StmtNode, items_hidden-the_row-StmtNode-0}
 use Rattle.ca_tree.specs.declared.tree.StmtKind.TheBlock.{hidden-the_row-StmtNode-0}
-use Rattle.ca_tree.specs.Plain.{expression_and, statement_and, call, method, block}
-use Rattle.ca_tree.specs.View.{kind_view, row_view, expression_view, expressions_view, form_view, list_view, statements_view}
+use Rattle.ca_tree.specs.Plain.{expression_and, statement_and, call, block}
+use Rattle.ca_tree.specs.View.{kind_view, row_view, expressions_view, form_view, list_view, statements_view}
 
 expression_row : {n : _} (k : Row_of-ExprNode n) → row_view k ≡ expressions_view (items-the_row-ExprNode n k)
 expression_row end_of-ExprNode = refl

@@ -1,5 +1,5 @@
 -- The plain tree of the nodes that the parser makes.
-use Rattle.std.specs.Prelude.{ℕ, List, [], ◌∷◌, map, Option, Some, None}
+use Rattle.std.specs.Prelude.{List, [], ◌∷◌, map, Option, Some, None}
 use Rattle.ca_tree.specs.declared.name.Place.{Place}
 use Rattle.ca_tree.specs.declared.tree.ExprNode.{ExprNode}
 use Rattle.ca_tree.specs.declared.tree.ExprKind.{ExprKind, Number, Truth, Null, This, Named, Call', Field', Method', Index', Unary', Binary', Row_of-ExprNode, end_of-ExprNode, more_of-ExprNode}

@@ -47,13 +47,13 @@ impl Name {
     pub fn copy(&self, alloc: Global) -> Result<Name, AllocError>
         ensures { IfOk result (λ name. name ≡ self.now) }
     {
-        Name::new(alloc, self.bytes.as_slice())
+        Name::new(alloc, self.as_bytes())
     }
 
     /// Whether the two have the same bytes.
     pub fn is_same(&self, other: &Name) -> bool
         ensures { IsTrue result ↔ (self.now ≡ other.now) }
     {
-        self.bytes.as_slice() == other.bytes.as_slice()
+        self.as_bytes() == other.as_bytes()
     }
 }

@@ -13,6 +13,7 @@ pub struct Token {
     pub len: usize,
 }
 
+/// What a token is. A word that is no key word is a name; no token spells a negative number.
 #[derive(Drop, Debug)]
 pub enum Kind {
     Word(Name),
@@ -44,6 +45,7 @@ pub enum Keyword {
     Main,
 }
 
+/// The signs, of one byte or of two.
 #[derive(Clone, Copy, PartialEq, Eq, Debug)]
 pub enum Sign {
     OpenBrace,

@@ -17,6 +17,7 @@ pub struct ClassNode {
     pub members: Vec<Member>,
 }
 
+/// A member of a class, each by itself: `long a, b;` is two fields.
 #[derive(Drop, Debug)]
 pub enum Member {
     Field(FieldNode),
@@ -66,6 +67,8 @@ pub struct StmtNode {
     pub kind: StmtKind,
 }
 
+/// What a statement is. The parser makes the first part of a `for` a local or an assignment, its next
+/// part an assignment, a target a name, a field or an index, and a call a call or a method.
 #[cycle(stmt)]
 #[derive(Drop, Debug)]
 pub enum StmtKind {
@@ -102,6 +105,7 @@ pub enum StmtKind {
     Print(ExprNode),
 }
 
+/// `=`, `+=`, `-=` and `*=`; `x++` is `x += 1`, and `x--` is `x -= 1`.
 #[derive(Clone, Copy, PartialEq, Eq, Debug)]
 pub enum AssignOp {
     Put,
@@ -126,6 +130,8 @@ pub struct ExprNode {
     pub kind: ExprKind,
 }
 
+/// What an expression is. A call names a method of the class that it stands in; a field, a method and
+/// an index begin with the object or the array that they are of.
 #[cycle(expr)]
 #[derive(Drop, Debug)]
 pub enum ExprKind {
@@ -142,12 +148,14 @@ pub enum ExprKind {
     Binary(BinaryOp, Box<ExprNode>, Box<ExprNode>),
 }
 
+/// The prefix `-` and `!`.
 #[derive(Clone, Copy, PartialEq, Eq, Debug)]
 pub enum UnaryOp {
     Minus,
     Not,
 }
 
+/// The binary operators, from the weakest to the strongest.
 #[derive(Clone, Copy, PartialEq, Eq, Debug)]
 pub enum BinaryOp {
     Or,
