@@ -22,6 +22,7 @@ impl Model for CallCount {
 }
 
 impl CallCount {
+    /// No call was made yet, and the calls with these numbers are to fail.
     pub(crate) fn new(failing: Vec<u64>) -> CallCount
         ensures { result ≡ no_calls_yet failing.items }
     {

@@ -22,6 +22,7 @@ impl Model for Cursor {
 }
 
 impl Cursor {
+    /// These bytes, of which none was read.
     pub(crate) fn new(bytes: Vec<u8>) -> Cursor
         ensures { result ≡ bytes.items }
     {
