@@ -27,25 +27,25 @@ pub(crate) fn is_name_byte(b: u8) -> bool
 }
 
 /// How many bytes of a name or a key word stand in front.
-pub(crate) fn name_len(s: &[u8]) -> usize
-    ensures length { result ≡ prefix_len is_name_byte s.now }
-    ensures within { result ≤ length s.now }
+pub(crate) fn name_len(text: &[u8]) -> usize
+    ensures length { result ≡ prefix_len is_name_byte text.now }
+    ensures within { result ≤ length text.now }
 {
-    s.iter().take_while(|b| is_name_byte(**b)).count()
+    text.iter().take_while(|b| is_name_byte(**b)).count()
 }
 
 /// How many digits stand in front.
-pub(crate) fn digits_len(s: &[u8]) -> usize
-    ensures length { result ≡ prefix_len is_ascii_digit s.now }
-    ensures within { result ≤ length s.now }
+pub(crate) fn digits_len(text: &[u8]) -> usize
+    ensures length { result ≡ prefix_len is_ascii_digit text.now }
+    ensures within { result ≤ length text.now }
 {
-    s.iter().take_while(|b| b.is_ascii_digit()).count()
+    text.iter().take_while(|b| b.is_ascii_digit()).count()
 }
 
 /// How many bytes stand before the first line feed, or all where there is none.
-pub(crate) fn line_len(s: &[u8]) -> usize
-    ensures length { result ≡ prefix_len is_no_line_feed s.now }
-    ensures within { result ≤ length s.now }
+pub(crate) fn line_len(text: &[u8]) -> usize
+    ensures length { result ≡ prefix_len is_no_line_feed text.now }
+    ensures within { result ≤ length text.now }
 {
-    s.iter().take_while(|b| **b != b'\n').count()
+    text.iter().take_while(|b| **b != b'\n').count()
 }

@@ -27,29 +27,29 @@ pub(crate) enum Front {
 
 /// What stands in front. A comment or a sign is told by its first byte and the bytes behind it.
 #[tactic(auto, unfolding(crate::specs::Pieces::piece_of))]
-pub(crate) fn front_of(alloc: Global, s: &[u8]) -> Result<Front, AllocError>
-    requires { 0 < length s.now }
-    ensures { IfOk result (λ front. piece_at front ≡ piece_of s.now) }
+pub(crate) fn front_of(alloc: Global, text: &[u8]) -> Result<Front, AllocError>
+    requires { 0 < length text.now }
+    ensures { IfOk result (λ front. piece_at front ≡ piece_of text.now) }
 {
-    let first = s[0];
+    let first = text[0];
     if is_blank(first) {
         Ok(Front::Blank(1))
     } else if is_letter(first) {
-        word(alloc, s)
+        word(alloc, text)
     } else if first.is_ascii_digit() {
-        Ok(number(s))
+        Ok(number(text))
     } else if first == b'/' {
-        Ok(slash(&s[1..]))
+        Ok(slash(&text[1..]))
     } else {
-        Ok(sign(first, &s[1..]))
+        Ok(sign(first, &text[1..]))
     }
 }
 
 /// The key word or the name in front, where a letter is first.
-fn word(alloc: Global, s: &[u8]) -> Result<Front, AllocError>
-    ensures { IfOk result (λ front. piece_at front ≡ word_piece s.now) }
+fn word(alloc: Global, text: &[u8]) -> Result<Front, AllocError>
+    ensures { IfOk result (λ front. piece_at front ≡ word_piece text.now) }
 {
-    let (bytes, _rest) = s.split_at(name_len(s));
+    let (bytes, _rest) = text.split_at(name_len(text));
     match keyword_of(bytes) {
         Some(keyword) => Ok(Front::Token(bytes.len(), Kind::Key(keyword))),
         None => Ok(Front::Token(bytes.len(), Kind::Word(Name::new(alloc, bytes)?))),
@@ -57,10 +57,10 @@ fn word(alloc: Global, s: &[u8]) -> Result<Front, AllocError>
 }
 
 /// The number in front, where a digit is first.
-fn number(s: &[u8]) -> Front
-    ensures { piece_at result ≡ number_piece s.now }
+fn number(text: &[u8]) -> Front
+    ensures { piece_at result ≡ number_piece text.now }
 {
-    let (digits, rest) = s.split_at(digits_len(s));
+    let (digits, rest) = text.split_at(digits_len(text));
     if digits.len() > 1 && digits[0] == b'0' {
         return Front::Refused;
     }
@@ -94,28 +94,28 @@ fn value_of(digits: &[u8]) -> Option<u64>
     Some(n)
 }
 
-/// The comment or the sign that begins with `/`, where `s` follows it.
-fn slash(s: &[u8]) -> Front
-    ensures { piece_at result ≡ slash_piece s.now }
+/// The comment or the sign that begins with `/`, where `behind` follows it.
+fn slash(behind: &[u8]) -> Front
+    ensures { piece_at result ≡ slash_piece behind.now }
 {
-    match s {
-        [b'/', ..] => Front::Comment(line_len(s) + 1),
+    match behind {
+        [b'/', ..] => Front::Comment(line_len(behind) + 1),
         [b'*', rest @ ..] => match close_of(rest) {
             Some(n) => Front::Comment(n + 2),
             None => Front::Refused,
         },
-        _ => sign(b'/', s),
+        _ => sign(b'/', behind),
     }
 }
 
 /// How many bytes there are through the first `*/`.
-fn close_of(s: &[u8]) -> Option<usize>
-    ensures length { result ≡ close_len s.now }
-    ensures within { IfSome result (λ n. n ≤ length s.now) }
+fn close_of(text: &[u8]) -> Option<usize>
+    ensures length { result ≡ close_len text.now }
+    ensures within { IfSome result (λ n. n ≤ length text.now) }
 {
     let mut n: usize = 0;
-    while n + 1 < s.len() {
-        if closes(s[n], s[n + 1]) {
+    while n + 1 < text.len() {
+        if closes(text[n], text[n + 1]) {
             return Some(n + 2);
         }
         n += 1;

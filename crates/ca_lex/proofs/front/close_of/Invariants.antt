@@ -5,9 +5,9 @@ use Rattle.ca_lex.proofs.front.close_of.Given as goal
 
 abbrev pub invariant-loop-n : goal.invariant-loop-n
 invariant-loop-n l = record {
-  within : l.n ≤ length l.s;
-  same : close_len l.s ≡ option_map (λ k. k + l.n) (close_len (drop l.n l.s));
+  within : l.n ≤ length l.text;
+  same : close_len l.text ≡ option_map (λ k. k + l.n) (close_len (drop l.n l.text));
 }
 
 abbrev pub decreases-loop-n : goal.decreases-loop-n
-decreases-loop-n l = length l.s - l.n
+decreases-loop-n l = length l.text - l.n
