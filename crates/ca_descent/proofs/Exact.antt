@@ -202,11 +202,6 @@ wrong_at {s = s} d f = record {
   along = λ free w s' q' r y e e' h c. f free s' r y (same_first w s s' s q' e e' h) c;
 }
 
--- the first token is wrong, as C has no derivation
-pub wrong_here : {T A : Type 0} {D C : Grammar T A} {s : List T} → Default D
-    → ((free : ℕ) (s' r : List T) (y : A) → C free s' y r → ⊥) → Exact D C s (Failed (Wrong s))
-wrong_here d f = wrong_at d (λ free s' r y h c. f free s' r y c)
-
 -- the first token would do, and passes a limit: tokens that begin as these do derive nothing unless it is free
 pub too_deep_at : {T A : Type 0} {D C : Grammar T A} {s q : List T} {t : T} → s ≡ t ∷ q → DefaultFrom t D
     → ((free : ℕ) (s' r : List T) (y : A) → SameHead s s' → free < length s' → C free s' y r → ⊥)

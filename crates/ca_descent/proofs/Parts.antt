@@ -1,6 +1,6 @@
 -- A rule as its parts, one behind the other: from exact answers of the parts to one of the rule.
 use Rattle.std.proofs.Common.{◌≡◌, ℕ, ◌≤◌, List, [], ◌++◌, length, Option, Some, refl, subst, sym, append_assoc, length-append, arith}
-use Rattle.ca_descent.specs.Exact.{Grammar, Unlimited, Failure, Answer, Got, Failed, Exact, Sees, sees, Before, Many, many_end}
+use Rattle.ca_descent.specs.Exact.{Grammar, Unlimited, Failure, Answer, Got, Failed, Exact, Sees, sees}
 use Rattle.ca_descent.proofs.Exact.{Default, DefaultFrom, Rule, then_ok, then_failed, got_nothing}
 
 -- a part and what stands behind it, which may name what the part read, and which derives something
@@ -39,10 +39,6 @@ p ⨾ q = record { D = Then p.D (λ x. (q x).D) (λ x. (q x).some); C = Upto p.C
 
 abbrev pub finish : {T B : Type 0} → B → Part T B
 finish y = record { D = Done y; C = Done y; some = record { more = []; tree = y; reads = λ free r h. done } }
-
--- any number of them, up to a token that none begins with
-abbrev pub list_of : {T A E : Type 0} → Grammar T A → (T → Option E) → Part T (List A)
-list_of D want = record { D = Many D; C = Before want (Many D); some = record { more = []; tree = []; reads = λ free r h. many_end } }
 
 then_split : {T A B : Type 0} {C : Grammar T A} {F : A → Grammar T B} (free : ℕ) (s r : List T) (y : B) → Upto C F free s y r
     → (x : A) × (q : List T) × C free s x q × F x free q y r
