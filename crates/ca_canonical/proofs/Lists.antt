@@ -12,7 +12,7 @@ use Rattle.ca_tree.specs.declared.tree.Member.{Member}
 use Rattle.ca_tree.specs.declared.tree.ClassNode.{ClassNode}
 use Rattle.ca_tree.specs.Plain.{Expressions}
 use Rattle.ca_tree.specs.View.{expression_view, expressions_view, statement_view, statements_view, member_view, class_view}
-use Rattle.ca_canonical.specs.Spell.{spell_expression, spell_list, spell_others, spell_param, spell_params, spell_other_params, spell_statement, spell_statements, spell_member, spell_members, spell_class, spell_classes, returns_zero, ends_in_zero}
+use Rattle.ca_canonical.specs.Spell.{spell_expression, spell_list, spell_others, spell_param, spell_params, spell_other_params, spell_statement, spell_statements, spell_member, spell_members, spell_class, spell_classes}
 use Rattle.ca_canonical.specs.Pens.{Written, Writes}
 use Rattle.ca_canonical.proofs.Writing.{Leaves, fewer_left}
 
@@ -94,11 +94,3 @@ class_written {old = old} {now = now} {all = all} cs i c h e l w =
 
 pub no_class_left : (cs : List ClassNode) (i : ℕ) → length cs ≤ i → spell_classes (map class_view (drop i cs)) ≡ []
 no_class_left cs i h = ap (λ z. spell_classes (map class_view z)) (drop_all i cs h)
-
--- one statement further
-pub zero_seen : (all : Bool) (last : Bool) (ss : List StmtNode) (i : ℕ) (s : StmtNode) → i < length ss → s ≡ get_or ss i s
-    → all ≡ ends_in_zero last (statements_view (drop i ss)) → all ≡ ends_in_zero (returns_zero (statement_view s)) (statements_view (drop (i + 1) ss))
-zero_seen all last ss i s h e a = a ∙ ap (λ z. ends_in_zero last (statements_view z)) (item_and_rest ss i s h e)
-
-pub all_seen : (all : Bool) (last : Bool) (ss : List StmtNode) (i : ℕ) → length ss ≤ i → all ≡ ends_in_zero last (statements_view (drop i ss)) → last ≡ all
-all_seen all last ss i h a = sym (a ∙ ap (λ z. ends_in_zero last (statements_view z)) (drop_all i ss h))

@@ -1,9 +1,7 @@
 -- What has been written of a text.
 use Rattle.std.specs.Prelude.{◌≡◌, ℕ, List, [], ◌∷◌, ◌++◌, Bool, true, false, Option, Some, None}
 use Rattle.ca_tree.specs.declared.token.Kind.{Kind}
-use Rattle.ca_tree.specs.declared.token.Sign.{Sign}
-use Rattle.ca_canonical.specs.Spellings.{sign_text}
-use Rattle.ca_canonical.specs.Texts.{is_semicolon, semicolon_first, behind_brace, gap_behind, depth_behind_sign, text_from}
+use Rattle.ca_canonical.specs.Texts.{semicolon_first, behind_brace, text_from}
 
 -- The text of some tokens, within how many round brackets it ends, and whether the byte behind its last token, a `}`,
 -- waits for the next one.
@@ -37,8 +35,3 @@ waits None = true
 -- a token of this text has been written, a `;` or not, and the byte behind it
 abbrev pub put : Bool → List ℕ → Option ℕ → Written → Written
 put semicolon text gap p = record { text = p.text ++ waiting p.brace semicolon ++ text ++ gap_text gap; depth = p.depth; brace = waits gap }
-
-abbrev pub put_sign : Sign → Written → Written
-put_sign s p =
-    let q = put (is_semicolon s) (sign_text s) (gap_behind p.depth s) p in
-    record { text = q.text; depth = depth_behind_sign p.depth s; brace = q.brace }

@@ -1,8 +1,9 @@
 //! Expressions.
 
-ghost use Rattle.std.specs.Prelude.{nat_lt, IfOk};
+ghost use Rattle.std.specs.Prelude.{◌≡◌, nat_lt, IfOk};
+ghost use Rattle.ca_tree.specs.declared.token.Kind.TheVariants.{Key};
 ghost use Rattle.ca_tree.specs.View.{expression_view, expressions_view};
-ghost use Rattle.ca_canonical.specs.Spell.{binds, bracketed, in_parentheses, spell_expression, spell_list};
+ghost use Rattle.ca_canonical.specs.Spell.{binds, bracketed, in_parentheses, spell_expression, spell_list, spell_truth};
 ghost use Rattle.ca_canonical.specs.Pens.{Writes};
 
 use crate::operators::{TAIL_STRENGTH, UNARY_STRENGTH, binary_sign, binds, strength, unary_sign};
@@ -17,11 +18,7 @@ pub(crate) fn write_expression(pen: &mut Pen, e: &ExprNode) -> Result<(), AllocE
 {
     match &e.kind {
         ExprKind::Number(n) => pen.number(*n)?,
-        ExprKind::Truth(truth) => pen.key(if *truth {
-            Keyword::True
-        } else {
-            Keyword::False
-        })?,
+        ExprKind::Truth(truth) => pen.key(truth_key(*truth))?,
         ExprKind::Null => pen.key(Keyword::Nullptr)?,
         ExprKind::This => pen.key(Keyword::This)?,
         ExprKind::Named(name) => pen.name(name)?,
@@ -58,6 +55,13 @@ pub(crate) fn write_expression(pen: &mut Pen, e: &ExprNode) -> Result<(), AllocE
         }
     }
     Ok(())
+}
+
+/// The key word of a truth value.
+fn truth_key(truth: bool) -> Keyword
+    ensures { Key result ≡ spell_truth truth }
+{
+    if truth { Keyword::True } else { Keyword::False }
 }
 
 /// Writes an operand, in round brackets where its operator binds less than `least`.

@@ -1,4 +1,5 @@
-//! The canonical text of a tree: every tree has one written form, and reading it gives the tree back.
+//! The canonical text of a tree: every tree has one written form, and where the tokens of some text
+//! derive the tree, those of its written form derive it too, but for places.
 //!
 //! `unparse` promises exactly the text that `specs/Spell.antt` (which tokens) and `specs/Texts.antt`
 //! (which bytes) define, unless memory runs out. It writes the bytes as it goes over the tree, in time

@@ -2,7 +2,7 @@
 
 ghost use Rattle.std.specs.Prelude.{IfOk};
 ghost use Rattle.ca_tree.specs.View.{expression_view, right_view, statement_view, statements_view};
-ghost use Rattle.ca_canonical.specs.Spell.{condition, spell_for, spell_header, spell_right, spell_statement, spell_statements, spell_type};
+ghost use Rattle.ca_canonical.specs.Spell.{condition, ended, spell_expression, spell_for, spell_header, spell_right, spell_statement, spell_statements, spell_type};
 ghost use Rattle.ca_canonical.specs.Pens.{Writes};
 
 use crate::expressions::write_expression;
@@ -70,6 +70,24 @@ fn write_header(pen: &mut Pen, s: &StmtNode) -> Result<(), AllocError>
     Ok(())
 }
 
+/// Writes a declaration or an assignment and its `;`.
+fn write_ended_header(pen: &mut Pen, s: &StmtNode) -> Result<(), AllocError>
+    ensures { IfOk result (λ _. Writes pen.old pen.new (ended (spell_header (statement_view s.now)))) }
+{
+    write_header(pen, s)?;
+    pen.sign(Sign::Semicolon)?;
+    Ok(())
+}
+
+/// Writes an expression and a `;`.
+fn write_ended(pen: &mut Pen, e: &ExprNode) -> Result<(), AllocError>
+    ensures { IfOk result (λ _. Writes pen.old pen.new (ended (spell_expression (expression_view e.now)))) }
+{
+    write_expression(pen, e)?;
+    pen.sign(Sign::Semicolon)?;
+    Ok(())
+}
+
 /// Writes a key word and an expression in round brackets.
 fn write_condition(pen: &mut Pen, key: Keyword, e: &ExprNode) -> Result<(), AllocError>
     ensures { IfOk result (λ _. Writes pen.old pen.new (condition key (expression_view e.now))) }
@@ -92,8 +110,7 @@ fn write_for(
 {
     pen.key(Keyword::For)?;
     pen.sign(Sign::OpenParenthesis)?;
-    write_header(pen, first)?;
-    pen.sign(Sign::Semicolon)?;
+    write_ended_header(pen, first)?;
     write_expression(pen, cond)?;
     pen.sign(Sign::Semicolon)?;
     write_header(pen, next)?;
@@ -113,14 +130,8 @@ fn write_statement(pen: &mut Pen, s: &StmtNode) -> Result<(), AllocError>
             write_statements(pen, items)?;
             pen.sign(Sign::CloseBrace)?;
         }
-        StmtKind::Local { .. } | StmtKind::Assign { .. } => {
-            write_header(pen, s)?;
-            pen.sign(Sign::Semicolon)?;
-        }
-        StmtKind::Call(e) => {
-            write_expression(pen, e)?;
-            pen.sign(Sign::Semicolon)?;
-        }
+        StmtKind::Local { .. } | StmtKind::Assign { .. } => write_ended_header(pen, s)?,
+        StmtKind::Call(e) => write_ended(pen, e)?,
         StmtKind::If { cond, yes, no } => {
             write_condition(pen, Keyword::If, cond)?;
             write_statement(pen, yes)?;
@@ -144,8 +155,7 @@ fn write_statement(pen: &mut Pen, s: &StmtNode) -> Result<(), AllocError>
         }
         StmtKind::Return(e) => {
             pen.key(Keyword::Return)?;
-            write_expression(pen, e)?;
-            pen.sign(Sign::Semicolon)?;
+            write_ended(pen, e)?;
         }
         StmtKind::Print(e) => {
             write_condition(pen, Keyword::Print, e)?;
