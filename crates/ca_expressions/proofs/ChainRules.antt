@@ -1,12 +1,11 @@
 -- The rules of chains, tails and arguments as their parts.
 use Rattle.std.proofs.Common.{◌≡◌, ℕ, List, [], ◌∷◌, Some, None, refl}
 use Rattle.ca_descent.specs.Exact.{Grammar, Unlimited, Answer, Got, Exact, sees, head_of, Seen, Unseen, Before, separated_none, separated, following_end, following}
-use Rattle.ca_descent.proofs.Exact.{Default, seen, unseen, exact_map, got_nothing, sees_head}
+use Rattle.ca_descent.proofs.Exact.{seen, unseen, exact_map, got_nothing, sees_head}
 use Rattle.ca_descent.proofs.Parts.{Then, then, Upto, upto, done, Part, ◌⨾◌, finish}
 use Rattle.ca_descent.proofs.Separated.{Punctuated}
 use Rattle.ca_tree.specs.declared.name.Place.{Place}
 use Rattle.ca_tree.specs.declared.token.Token.{Token}
-use Rattle.ca_tree.specs.declared.token.Kind.TheVariants.{Word}
 use Rattle.ca_tree.specs.declared.token.Kind.TheVariants.{Sign as SignKind}
 use Rattle.ca_tree.specs.declared.token.Keyword.TheVariants.{This}
 use Rattle.ca_tree.specs.declared.token.Sign.TheVariants.{OpenParenthesis, CloseParenthesis, OpenBracket, CloseBracket, Comma, Arrow}
@@ -14,7 +13,7 @@ use Rattle.ca_tree.specs.Plain.{Expression, this, named, call, field, method, in
 use Rattle.ca_expressions.specs.Terminals.{key, key_of, sign, sign_of, goes_on, goes_on_of, tail_front}
 use Rattle.ca_expressions.specs.Grammar.{expressions, Chain, this_chain, name_chain, call_chain, Tails, tails_end, tails_more, Tail, field_tail, method_tail, index_tail, Args, args, Listed, listed_none, listed, Further, further_none, further, Expr}
 use Rattle.ca_expressions.specs.Readers.{Closed}
-use Rattle.ca_expressions.proofs.Terminals.{sign_gives, name_gives, token, start, word, mark, a_name, name_sees, sign_sees}
+use Rattle.ca_expressions.proofs.Terminals.{sign_gives, name_gives, token, word, mark, a_name, sign_sees}
 use Rattle.ca_expressions.proofs.Follow.{level_begins, tail_goes_on, head_gives, tails_follow, tails_nothing}
 use Rattle.ca_expressions.proofs.Lists.{InBrackets, MoreItems, comma_rule}
 use Rattle.ca_expressions.proofs.Rules.{a_level, more_tails}
@@ -72,14 +71,6 @@ name_join free s r x (then n (called_name a t)) = call_chain n a t
 pub name_answer : {s : List Token} {o : Answer Token Expression} → head_of (key This) s ≡ None
     → Exact name_parts.D name_parts.C s o → Exact (Unlimited Chain) (Closed 6 Chain) s o
 name_answer h d = unseen h (exact_map name_join name_split d)
-
--- a name is a chain
-pub chain_default : Default (Unlimited Chain)
-chain_default = record {
-  more = token (Word []) ∷ [];
-  tree = named start [];
-  reads = λ free r h. name_chain (sees name_sees) tails_end;
-}
 
 -- no bracket: the name alone, and its tails
 plain_split : (n : List ℕ × Place) (free : ℕ) (s r : List Token) (x : Expression)

@@ -16,7 +16,7 @@ use Rattle.ca_tree.specs.contracts.token.Sign.{the_type}
 use denote.Enum.Declared.{tag_of}
 use denote.Enum.Bare.{sameb}
 use Rattle.ca_tree.specs.declared.tree.BinaryOp.{BinaryOp}
-use Rattle.ca_expressions.specs.Terminals.{sign_code, key_of, sign_of, name_of, number_of, zero_of, literal_of_key, literal_of, unary_sign, unary_of, joining, binding, of_level, with_place, operator_of, key, sign, number, literal, unary_operator}
+use Rattle.ca_expressions.specs.Terminals.{sign_code, key_of, sign_of, name_of, number_of, literal_of_key, literal_of, unary_sign, unary_of, joining, binding, of_level, with_place, operator_of, key, sign, number, literal, unary_operator}
 
 -- how a test of the code tells
 pub some_of : {A : Type 0} (o : Option A) → is_some o ≡ true → (a : A) × (o ≡ Some a)
@@ -63,7 +63,7 @@ not_word (Number n) at f = refl
 not_word (KeyKind n) at f = refl
 not_word (SignKind n) at f = refl
 
--- a key word, a sign and the number 0 carry their places
+-- a key word and a sign carry their places
 pub key_carries : (k : Keyword) (x : Kind) (at : Place) → is_some (key_of k x at) ≡ true → key_of k x at ≡ Some at
 key_carries k (KeyKind w) at h = held _ at h
 key_carries k (SignKind w) at h = absurd cc
@@ -75,12 +75,6 @@ sign_carries k (SignKind w) at h = held _ at h
 sign_carries k (KeyKind w) at h = absurd cc
 sign_carries k (Word n) at h = absurd cc
 sign_carries k (Number n) at h = absurd cc
-
-pub zero_carries : (x : Kind) (at : Place) → is_some (zero_of x at) ≡ true → zero_of x at ≡ Some at
-zero_carries (Number n) at h = held _ at h
-zero_carries (KeyKind w) at h = absurd cc
-zero_carries (Word n) at h = absurd cc
-zero_carries (SignKind n) at h = absurd cc
 
 -- the derived equality of signs is that of their numbers
 sign_tag : (a : Sign) → tag_of the_type a ≡ sign_code a

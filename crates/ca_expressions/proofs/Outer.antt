@@ -7,17 +7,13 @@ use Rattle.ca_tree.specs.declared.name.Place.{Place}
 use Rattle.ca_tree.specs.declared.token.Token.{Token}
 use Rattle.ca_tree.specs.declared.token.Kind.{Kind}
 use Rattle.ca_tree.specs.Plain.{Expression}
-use Rattle.ca_expressions.specs.Grammar.{OuterExpression, OuterChain, ExpressionEnded, ChainEnded}
+use Rattle.ca_expressions.specs.Grammar.{OuterExpression, OuterChain, ExpressionEnded}
 use Rattle.ca_expressions.proofs.Terminals.{test}
 use Rattle.ca_expressions.proofs.Follow.{NoFront, NoChainFront, level_begins, chain_front}
 use Rattle.ca_expressions.proofs.Rules.{a_level}
-use Rattle.ca_expressions.proofs.ChainRules.{chain_default}
 
 abbrev pub an_expression : Part Token Expression
 an_expression = record { D = OuterExpression; C = ExpressionEnded; some = short_default 1000 (a_level 0).some }
-
-abbrev pub an_outer_chain : Part Token Expression
-an_outer_chain = record { D = OuterChain; C = ChainEnded; some = short_default 1000 chain_default }
 
 -- a test that holds of no token with which it can begin does not hold of its first token
 pub expression_begins : {A : Type 0} (f : Kind → Place → Option A) → NoFront f → (free : ℕ) (s r : List Token) (x : Expression)

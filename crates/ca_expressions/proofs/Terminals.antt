@@ -13,7 +13,7 @@ use Rattle.ca_tree.specs.declared.token.Keyword.{Keyword}
 use Rattle.ca_tree.specs.declared.token.Keyword.TheVariants.{Class, Public, Long, Bool as BoolKey, Int, Void, If, Else, While, For, Return, New, Nullptr, This, True, False, Print, Main}
 use Rattle.ca_tree.specs.declared.token.Sign.{Sign}
 use Rattle.ca_tree.specs.declared.token.Sign.TheVariants.{OpenBrace, CloseBrace, OpenParenthesis, CloseParenthesis, OpenBracket, CloseBracket, Semicolon, Comma, Colon, Assign, Equal, NotEqual, Less, Greater, LessEqual, GreaterEqual, Plus, Minus, Times, Divide, Remainder, Not, And, Or, Arrow, PlusAssign, MinusAssign, TimesAssign, Increment, Decrement}
-use Rattle.ca_expressions.specs.Terminals.{key_code, sign_code, key_of, sign_of, name_of, number_of, key, sign, name, number, zero}
+use Rattle.ca_expressions.specs.Terminals.{key_code, sign_code, key_of, sign_of, name_of, number_of, key, sign, name, number}
 
 -- key words and signs are told by their numbers
 keys : List Keyword
@@ -160,9 +160,6 @@ sign_sees s = same_code (sign_code s)
 
 pub name_sees : name (token (Word [])) ≡ Some ([], start)
 name_sees = refl
-
-pub zero_sees : zero (token (Number (pos 0))) ≡ Some start
-zero_sees = refl
 
 pub number_sees : number (token (Number (pos 0))) ≡ Some (pos 0, start)
 number_sees = refl

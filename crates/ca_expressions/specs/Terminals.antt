@@ -247,13 +247,6 @@ goes_on_of k (KeyKind w) at = None
 goes_on_of k (Word n) at = None
 goes_on_of k (Number n) at = None
 
--- a token that a type begins with: `long`, `bool` or a name
-abbrev pub type_front_of : Kind → Place → Option Place
-type_front_of (Word n) at = Some at
-type_front_of (KeyKind w) at = cond (nat_eq (key_code w) (key_code Long) || nat_eq (key_code w) (key_code BoolKey)) (Some at) None
-type_front_of (SignKind s) at = None
-type_front_of (Number n) at = None
-
 -- a key word or a sign carries its place
 abbrev pub key : Keyword → Token → Option Place
 key k t = key_of k t.kind t.at
@@ -271,10 +264,6 @@ number t = number_of t.kind t.at
 -- the number 0
 abbrev pub zero : Token → Option Place
 zero t = zero_of t.kind t.at
-
--- what a type begins with carries its place
-abbrev pub type_front : Token → Option Place
-type_front t = type_front_of t.kind t.at
 
 -- a literal carries its expression
 abbrev pub literal : Token → Option Expression

@@ -11,7 +11,7 @@ ghost use Rattle.ca_tree.specs.declared.token.Sign.TheVariants.{OpenParenthesis}
 use crate::nodes::{binary, field, index, method, unary};
 use crate::tokens::{
     Fault, is_sign, is_tail, key_at, literal_at, operator_at, sign_at, take_name, take_sign,
-    unary_at,
+    together, unary_at,
 };
 use ca_tree::{ExprKind, ExprNode, Keyword, Sign, Token};
 use std::alloc::Global;
@@ -89,7 +89,7 @@ fn parse_primary<'a>(
         return parse_inner_chain(alloc, tokens);
     };
     let (inner, rest) = parse_level(alloc, 0, rest)?;
-    let (_, rest) = take_sign(rest, Sign::CloseParenthesis)?;
+    let ((inner, _), rest) = together(inner, take_sign(rest, Sign::CloseParenthesis))?;
     parse_tails(alloc, inner, rest)
 }
 
@@ -145,18 +145,18 @@ fn parse_tail<'a>(
     ensures shorter { IfOk result (λ p. length p.1.now < length tokens.now) }
 {
     if let Some((at, rest)) = sign_at(tokens, Sign::OpenBracket) {
-        let (item, rest) = parse_level(alloc, 0, rest)?;
-        let (_, rest) = take_sign(rest, Sign::CloseBracket)?;
+        let (parts, rest) = together(front, parse_level(alloc, 0, rest))?;
+        let (((front, item), _), rest) = together(parts, take_sign(rest, Sign::CloseBracket))?;
         let node = index(alloc, at, front, item)?;
         return Ok((node, rest));
     }
-    let (at, rest) = take_sign(tokens, Sign::Arrow)?;
-    let ((name, _), rest) = take_name(alloc, rest)?;
+    let ((front, at), rest) = together(front, take_sign(tokens, Sign::Arrow))?;
+    let ((front, (name, _)), rest) = together(front, take_name(alloc, rest))?;
     if !is_sign(rest, Sign::OpenParenthesis) {
         let node = field(alloc, at, front, name)?;
         return Ok((node, rest));
     }
-    let (args, rest) = parse_args(alloc, rest)?;
+    let (((front, name), args), rest) = together((front, name), parse_args(alloc, rest))?;
     let node = method(alloc, at, front, name, args)?;
     Ok((node, rest))
 }

@@ -15,6 +15,6 @@ mod tokens;
 
 pub use expressions::{is_call, is_target, parse_chain, parse_expression};
 pub use tokens::{
-    Fault, is_key, is_name, is_sign, is_type, is_zero, key_at, literal_at, number_at, operator_at,
-    sign_at, take_key, take_name, take_number, take_sign, take_zero, unary_at,
+    Fault, is_key, is_name, is_sign, is_zero, key_at, number_at, sign_at, take_key, take_name,
+    take_number, take_sign, together,
 };

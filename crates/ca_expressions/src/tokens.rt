@@ -1,9 +1,9 @@
 //! What stands in front of the tokens: a key word, a sign, a name, a number.
 
-ghost use Rattle.std.specs.Prelude.{◌≡◌, ◌<◌, length, IfSome, IfNone, IfOk, None, is_some};
+ghost use Rattle.std.specs.Prelude.{◌≡◌, ◌<◌, length, IfSome, IfNone, IfOk, IfErr, None, Ok, Err, is_some};
 ghost use Rattle.ca_descent.specs.Exact.{Unlimited, Exact, Sees, head_of};
 ghost use Rattle.ca_tree.specs.View.{expression_view};
-ghost use Rattle.ca_expressions.specs.Terminals.{key, sign, name, number, zero, type_front, tail_front, literal, unary_operator, binding, joining, operator};
+ghost use Rattle.ca_expressions.specs.Terminals.{key, sign, name, number, zero, tail_front, literal, unary_operator, binding, joining, operator};
 ghost use Rattle.ca_expressions.specs.Readers.{answer};
 ghost use Rattle.ca_expressions.specs.declared.tokens.Fault.TheVariants.{Memory};
 
@@ -78,21 +78,6 @@ pub fn is_name(tokens: &[Token]) -> bool
     if let [token, ..] = tokens {
         if let Kind::Word(_) = &token.kind {
             return true;
-        }
-    }
-    false
-}
-
-/// Whether a token that a type begins with stands in front: `long`, `bool` or a name.
-pub fn is_type(tokens: &[Token]) -> bool
-    ensures { result ≡ is_some (head_of type_front tokens.now) }
-{
-    if let [token, ..] = tokens {
-        if let Kind::Word(_) = &token.kind {
-            return true;
-        }
-        if let Kind::Key(found) = &token.kind {
-            return *found == Keyword::Long || *found == Keyword::Bool;
         }
     }
     false
@@ -276,20 +261,6 @@ pub fn take_sign<'a>(tokens: &'a [Token], wanted: Sign) -> Result<(Place, &'a [T
     }
 }
 
-/// The place of the number 0, and what stands behind it.
-pub fn take_zero<'a>(tokens: &'a [Token]) -> Result<(Place, &'a [Token]), Fault<'a>>
-    ensures answer { Exact (Unlimited (Sees zero)) (Unlimited (Sees zero)) tokens.now (answer (λ p. p) result) }
-    ensures shorter { IfOk result (λ p. length p.1.now < length tokens.now) }
-{
-    let [token, rest @ ..] = tokens else {
-        return Err(Fault::Wrong(tokens));
-    };
-    if !is_zero(tokens) {
-        return Err(Fault::Wrong(tokens));
-    }
-    Ok((token.at, rest))
-}
-
 /// The number with its place, and what stands behind it.
 pub fn take_number<'a>(tokens: &'a [Token]) -> Result<((i64, Place), &'a [Token]), Fault<'a>>
     ensures answer { Exact (Unlimited (Sees number)) (Unlimited (Sees number)) tokens.now (answer (λ p. p) result) }
@@ -317,4 +288,20 @@ pub fn take_name<'a>(
     };
     let name = found.copy(alloc)?;
     Ok(((name, token.at), rest))
+}
+
+/// The value and what was read behind it. Where nothing was read the value is dropped here, in one
+/// function for values of all types.
+pub fn together<'a, T: Drop, U>(
+    value: T,
+    read: Result<(U, &'a [Token]), Fault<'a>>,
+) -> Result<((T, U), &'a [Token]), Fault<'a>>
+    ensures value { IfOk result (λ p. p.0.0 ≡ value) }
+    ensures found { IfOk result (λ p. read.entry ≡ Ok (p.0.1, p.1)) }
+    ensures failed { IfErr result (λ fault. read.entry ≡ Err fault) }
+{
+    match read {
+        Ok((found, rest)) => Ok(((value, found), rest)),
+        Err(fault) => Err(fault),
+    }
 }

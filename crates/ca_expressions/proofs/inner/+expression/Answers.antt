@@ -14,6 +14,7 @@ use Rattle.ca_expressions.specs.Terminals.{key, sign, literal, unary_operator, o
 use Rattle.ca_expressions.specs.Grammar.{Level, Tails}
 use Rattle.ca_expressions.specs.Readers.{failure, answer, Closed}
 use Rattle.ca_expressions.proofs.Fronts.{some_of, none_of}
+use Rattle.ca_expressions.proofs.Readings.{read_got, read_failed}
 use Rattle.ca_expressions.proofs.Lists.{listed_none, listed_failed, commas_more, commas_failed, commas_end, commas_wrong, expressions_are}
 use Rattle.ca_expressions.proofs.Rules.{above_failed, level_below, unary_answer, operand_answer, operands_stop, sign_answer, primary_answer, literal_answer, bracket_answer, chain_answer}
 use Rattle.ca_expressions.proofs.ChainRules.{this_answer, name_answer, plain_answer, called_answer, tails_answer, tails_stop, index_answer, member_answer, field_answer, method_answer, argument_rule, args_answer}
@@ -119,18 +120,19 @@ parse_primary-returns-in_err-inner-clause-answer t c =
     let d = c.in-Some-sign_at.ensures.some in
     rw (p.1, p.2) (bracket_answer (sees_head (sign OpenParenthesis) d) (and_ok (sees_got d) (and_failed _ c.in_err-inner.ensures.answer)))
 
-pub parse_primary-returns-in_err-rest-clause-answer : goal.parse_primary-returns-in_err-rest-clause-answer
-parse_primary-returns-in_err-rest-clause-answer t c =
-    let p = err_from_is_err_and c.from_residual-in_err-rest.result c.from_residual-in_err-rest.ensures.1 in
+pub parse_primary-returns-in_err-inner-2-clause-answer : goal.parse_primary-returns-in_err-inner-2-clause-answer
+parse_primary-returns-in_err-inner-2-clause-answer t c =
+    let p = err_from_is_err_and c.from_residual-in_err-inner-2.result c.from_residual-in_err-inner-2.ensures.1 in
     let d = c.in-Some-sign_at.ensures.some in
     rw (p.1, p.2) (bracket_answer (sees_head (sign OpenParenthesis) d) (and_ok (sees_got d) (and_ok c.in_ok-inner.ensures.answer
-    (and_failed _ c.in_err-rest.ensures.answer))))
+    (and_failed _ (read_failed (λ z. z) c.in_err-inner-2.ensures.failed c.take_sign.ensures.answer)))))
 
 pub parse_primary-returns-clause-answer : goal.parse_primary-returns-clause-answer
 parse_primary-returns-clause-answer t c =
     let d = c.in-Some-sign_at.ensures.some in
+    let e = c.in_ok-inner-2.ensures.value in
     bracket_answer (sees_head (sign OpenParenthesis) d) (and_ok (sees_got d) (and_ok c.in_ok-inner.ensures.answer
-    (and_ok c.in_ok-rest.ensures.answer c.parse_tails.ensures.answer)))
+    (and_ok (read_got (λ z. z) c.in_ok-inner-2.ensures.found c.take_sign.ensures.answer) (rw e at c.parse_tails.ensures.answer))))
 
 -- chains
 pub parse_inner_chain-returns-in-Some-clause-answer : goal.parse_inner_chain-returns-in-Some-clause-answer
@@ -191,55 +193,74 @@ pub parse_tails-returns-clause-shorter : goal.parse_tails-returns-clause-shorter
 parse_tails-returns-clause-shorter t c = c.tails.invariant.1
 
 -- one tail
-pub parse_tail-returns-in_err-item-clause-answer : goal.parse_tail-returns-in_err-item-clause-answer
-parse_tail-returns-in_err-item-clause-answer t c =
+pub parse_tail-returns-in_err-parts-clause-answer : goal.parse_tail-returns-in_err-parts-clause-answer
+parse_tail-returns-in_err-parts-clause-answer t c =
     let p = err_from_is_err_and c.from_residual.result c.from_residual.ensures.1 in
     let d = c.in-Some.ensures.some in
-    rw (p.1, p.2) (index_answer _ (sees_head (sign OpenBracket) d) (and_ok (sees_got d) (and_failed _ c.in_err-item.ensures.answer)))
+    rw (p.1, p.2) (index_answer _ (sees_head (sign OpenBracket) d) (and_ok (sees_got d)
+    (and_failed _ (read_failed expression_view c.in_err-parts.ensures.failed c.parse_level.ensures.answer))))
 
-pub parse_tail-returns-in_err-rest-clause-answer : goal.parse_tail-returns-in_err-rest-clause-answer
-parse_tail-returns-in_err-rest-clause-answer t c =
-    let p = err_from_is_err_and c.from_residual-in_err-rest.result c.from_residual-in_err-rest.ensures.1 in
+pub parse_tail-returns-in_err-front-clause-answer : goal.parse_tail-returns-in_err-front-clause-answer
+parse_tail-returns-in_err-front-clause-answer t c =
+    let p = err_from_is_err_and c.from_residual-in_err-front.result c.from_residual-in_err-front.ensures.1 in
     let d = c.in-Some.ensures.some in
-    rw (p.1, p.2) (index_answer _ (sees_head (sign OpenBracket) d) (and_ok (sees_got d) (and_ok c.in_ok-item.ensures.answer
-    (and_failed _ c.in_err-rest.ensures.answer))))
+    let item = read_got expression_view c.in_ok-parts.ensures.found c.parse_level.ensures.answer in
+    rw (p.1, p.2) (index_answer _ (sees_head (sign OpenBracket) d) (and_ok (sees_got d) (and_ok item
+    (and_failed _ (read_failed (λ z. z) c.in_err-front.ensures.failed c.take_sign.ensures.answer)))))
 
 pub parse_tail-returns-in-Some-clause-answer : goal.parse_tail-returns-in-Some-clause-answer
 parse_tail-returns-in-Some-clause-answer t c =
     let d = c.in-Some.ensures.some in
+    let item = read_got expression_view c.in_ok-parts.ensures.found c.parse_level.ensures.answer in
+    let close = read_got (λ z. z) c.in_ok-front.ensures.found c.take_sign.ensures.answer in
+    let v = c.in_ok-front.ensures.value in
+    let f : c.in_ok-front.front ≡ c.args.front = ap (λ z. z.0) v ∙ c.in_ok-parts.ensures.value in
+    let g : c.in_ok-front.item ≡ c.in_ok-parts.parts.1 = ap (λ z. z.1) v in
     let e = c.in_ok-node.ensures in
-    rw e (index_answer _ (sees_head (sign OpenBracket) d) (and_ok (sees_got d) (and_ok c.in_ok-item.ensures.answer
-    (and_ok c.in_ok-rest.ensures.answer and_done))))
+    rw (e, f, g) (index_answer _ (sees_head (sign OpenBracket) d) (and_ok (sees_got d) (and_ok item (and_ok close and_done))))
 
-pub parse_tail-returns-in_err-at-clause-answer : goal.parse_tail-returns-in_err-at-clause-answer
-parse_tail-returns-in_err-at-clause-answer t c =
-    let p = err_from_is_err_and c.from_residual-in_err-at.result c.from_residual-in_err-at.ensures.1 in
-    rw (p.1, p.2) (member_answer _ c.in_default.ensures.none (and_failed _ c.in_err-at.ensures.answer))
+pub parse_tail-returns-in_err-front-2-clause-answer : goal.parse_tail-returns-in_err-front-2-clause-answer
+parse_tail-returns-in_err-front-2-clause-answer t c =
+    let p = err_from_is_err_and c.from_residual-in_err-front-2.result c.from_residual-in_err-front-2.ensures.1 in
+    rw (p.1, p.2) (member_answer _ c.in_default.ensures.none
+    (and_failed _ (read_failed (λ z. z) c.in_err-front-2.ensures.failed c.take_sign-2.ensures.answer)))
 
-pub parse_tail-returns-in_err-name-clause-answer : goal.parse_tail-returns-in_err-name-clause-answer
-parse_tail-returns-in_err-name-clause-answer t c =
-    let p = err_from_is_err_and c.from_residual-in_err-name.result c.from_residual-in_err-name.ensures.1 in
-    rw (p.1, p.2) (member_answer _ c.in_default.ensures.none (and_ok c.in_ok-at.ensures.answer (and_failed _ c.in_err-name.ensures.answer)))
+pub parse_tail-returns-in_err-front-3-clause-answer : goal.parse_tail-returns-in_err-front-3-clause-answer
+parse_tail-returns-in_err-front-3-clause-answer t c =
+    let p = err_from_is_err_and c.from_residual-in_err-front-3.result c.from_residual-in_err-front-3.ensures.1 in
+    let arrow = read_got (λ z. z) c.in_ok-front-2.ensures.found c.take_sign-2.ensures.answer in
+    rw (p.1, p.2) (member_answer _ c.in_default.ensures.none (and_ok arrow
+    (and_failed _ (read_failed (λ z. z) c.in_err-front-3.ensures.failed c.take_name.ensures.answer))))
 
 pub parse_tail-returns-then-not-is_sign-clause-answer : goal.parse_tail-returns-then-not-is_sign-clause-answer
 parse_tail-returns-then-not-is_sign-clause-answer t c =
+    let arrow = read_got (λ z. z) c.in_ok-front-2.ensures.found c.take_sign-2.ensures.answer in
+    let n = read_got (λ z. z) c.in_ok-front-3.ensures.found c.take_name.ensures.answer in
+    let f = c.in_ok-front-3.ensures.value ∙ c.in_ok-front-2.ensures.value in
     let e = c.in_ok-node-2.ensures in
-    rw e (member_answer _ c.in_default.ensures.none (and_ok c.in_ok-at.ensures.answer (and_ok c.in_ok-name.ensures.answer
+    rw (e, f) (member_answer _ c.in_default.ensures.none (and_ok arrow (and_ok n
     (field_answer _ _ _ (none_of _ (sym c.is_sign.ensures ∙ c.if-not-is_sign.true))))))
 
-pub parse_tail-returns-in_err-args-clause-answer : goal.parse_tail-returns-in_err-args-clause-answer
-parse_tail-returns-in_err-args-clause-answer t c =
-    let p = err_from_is_err_and c.from_residual-in_err-args.result c.from_residual-in_err-args.ensures.1 in
+pub parse_tail-returns-in_err-front-4-clause-answer : goal.parse_tail-returns-in_err-front-4-clause-answer
+parse_tail-returns-in_err-front-4-clause-answer t c =
+    let p = err_from_is_err_and c.from_residual-in_err-front-4.result c.from_residual-in_err-front-4.ensures.1 in
     let h = some_of _ (sym c.is_sign.ensures ∙ c.if-not-is_sign.false) in
-    rw (p.1, p.2) (member_answer _ c.in_default.ensures.none (and_ok c.in_ok-at.ensures.answer (and_ok c.in_ok-name.ensures.answer
-    (method_answer _ _ _ h.1 (and_failed _ c.in_err-args.ensures.answer)))))
+    let arrow = read_got (λ z. z) c.in_ok-front-2.ensures.found c.take_sign-2.ensures.answer in
+    let n = read_got (λ z. z) c.in_ok-front-3.ensures.found c.take_name.ensures.answer in
+    rw (p.1, p.2) (member_answer _ c.in_default.ensures.none (and_ok arrow (and_ok n (method_answer _ _ _ h.1
+    (and_failed _ (read_failed (λ v. map expression_view v.items) c.in_err-front-4.ensures.failed c.parse_args.ensures.answer))))))
 
 pub parse_tail-returns-clause-answer : goal.parse_tail-returns-clause-answer
 parse_tail-returns-clause-answer t c =
-    let e = c.in_ok-node-3.ensures in
     let h = some_of _ (sym c.is_sign.ensures ∙ c.if-not-is_sign.false) in
-    rw e (member_answer _ c.in_default.ensures.none (and_ok c.in_ok-at.ensures.answer (and_ok c.in_ok-name.ensures.answer
-    (method_answer _ _ _ h.1 (and_ok c.in_ok-args.ensures.answer and_done)))))
+    let arrow = read_got (λ z. z) c.in_ok-front-2.ensures.found c.take_sign-2.ensures.answer in
+    let n = read_got (λ z. z) c.in_ok-front-3.ensures.found c.take_name.ensures.answer in
+    let args = read_got (λ v. map expression_view v.items) c.in_ok-front-4.ensures.found c.parse_args.ensures.answer in
+    let v = c.in_ok-front-4.ensures.value in
+    let f : c.in_ok-front-4.front ≡ c.args.front = ap (λ z. z.0) v ∙ (c.in_ok-front-3.ensures.value ∙ c.in_ok-front-2.ensures.value) in
+    let g : c.in_ok-front-4.name ≡ c.in_ok-front-3.name = ap (λ z. z.1) v in
+    let e = c.in_ok-node-3.ensures in
+    rw (e, f, g) (member_answer _ c.in_default.ensures.none (and_ok arrow (and_ok n (method_answer _ _ _ h.1 (and_ok args and_done)))))
 
 -- arguments
 pub parse_args-returns-in_err-behind-clause-answer : goal.parse_args-returns-in_err-behind-clause-answer
