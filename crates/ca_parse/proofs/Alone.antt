@@ -1,5 +1,5 @@
 -- Tokens that derive one tree alone, with one rest: from the parts of a rule to the rule.
-use Rattle.std.proofs.Common.{◌≡◌, ℕ, List, [], ◌∷◌, ◌++◌, Bool, true, false, Option, Some, None, refl, sym, ◌∙◌, ap, subst}
+use Rattle.std.proofs.Common.{◌≡◌, ℕ, List, [], ◌∷◌, ◌++◌, Option, Some, None, refl, sym, ◌∙◌, ap, subst}
 use Rattle.ca_descent.specs.Exact.{Unlimited, Got, Exact, Sees, head_of}
 use Rattle.ca_descent.proofs.Exact.{same_self, sees_got, sees_head}
 use Rattle.ca_descent.proofs.Parts.{Upto, upto, Done, done}

@@ -1,27 +1,27 @@
 -- The rules of types, locals and assignments as their parts.
-use Rattle.std.proofs.Common.{◌≡◌, ◌<◌, ℕ, ℤ, pos, List, [], ◌∷◌, ◌++◌, Bool, true, false, cond, Option, Some, None, is_some, refl, sym, ◌∙◌, ap, subst, arith, ◌⊎◌, inl, inr}
-use Rattle.ca_descent.specs.Exact.{Unlimited, Answer, Got, Failed, Exact, Sees, sees, head_of, Seen, Unseen, Before}
-use Rattle.ca_descent.proofs.Exact.{Default, seen, unseen, exact_map, sees_head}
+use Rattle.std.proofs.Common.{◌≡◌, ℕ, pos, List, [], ◌∷◌, Bool, true, false, cond, Option, Some, None, refl, ◌∙◌, subst}
+use Rattle.ca_descent.specs.Exact.{Unlimited, Answer, Exact, Sees, sees, head_of, Seen, Unseen, Before}
+use Rattle.ca_descent.proofs.Exact.{seen, unseen, exact_map, sees_head}
 use Rattle.ca_descent.proofs.Parts.{then, upto, done, Part, ◌⨾◌, finish, default_of}
 use Rattle.ca_tree.specs.declared.name.Place.{Place}
 use Rattle.ca_tree.specs.declared.token.Token.{Token}
-use Rattle.ca_tree.specs.declared.token.Kind.TheVariants.{Word, Number}
 use Rattle.ca_tree.specs.declared.token.Kind.TheVariants.{Sign as SignKind}
 use Rattle.ca_tree.specs.declared.token.Sign.{Sign}
-use Rattle.ca_tree.specs.declared.token.Keyword.TheVariants.{Long as LongKey, Bool as BoolKey, New, This}
+use Rattle.ca_tree.specs.declared.token.Keyword.TheVariants.{Long as LongKey, Bool as BoolKey, New}
 use Rattle.ca_tree.specs.declared.token.Sign.TheVariants.{OpenParenthesis, CloseParenthesis, Semicolon, Assign as AssignSign, Times, PlusAssign, MinusAssign, TimesAssign, Increment, Decrement}
 use Rattle.ca_tree.specs.declared.tree.TypeNode.{TypeNode}
 use Rattle.ca_tree.specs.declared.tree.TypeNode.TheVariants.{Long, Bool as BoolType, Pointer}
 use Rattle.ca_tree.specs.declared.tree.AssignOp.{AssignOp}
 use Rattle.ca_tree.specs.declared.tree.AssignOp.TheVariants.{Put, Add, Sub, Mul}
 use Rattle.ca_tree.specs.Plain.{Expression, RightSide, Statement, number as number_tree, value, new, local, assign}
-use Rattle.ca_expressions.specs.Terminals.{key, key_of, sign, sign_of, name, name_of, goes_on, goes_on_of, literal, literal_of, unary_operator, unary_of}
-use Rattle.ca_expressions.specs.Grammar.{name_chain, tails_end, OuterExpression, OuterChain, ChainEnded, is_target}
+use Rattle.ca_expressions.specs.Terminals.{key, key_of, sign, sign_of, goes_on, goes_on_of}
+use Rattle.ca_expressions.specs.Grammar.{OuterExpression, is_target}
 use Rattle.ca_expressions.proofs.Outer.{an_expression, expression_begins}
-use Rattle.ca_expressions.proofs.Terminals.{token, start, key_gives, sign_gives, name_gives, word, mark, a_name}
+use Rattle.ca_expressions.proofs.Terminals.{key_gives, sign_gives, name_gives, word, mark, a_name}
+use Rattle.ca_parse.proofs.Uses.{a_picked}
 use Rattle.ca_parse.proofs.Alone.{Alone, fewer_alone}
 use Rattle.ca_parse.specs.Grammar.{Deriving, TypeName, long, bool, pointer, Right, expression, creation, creation_call, Local, declares, begins, Compound, plus_assign, minus_assign, times_assign, Change, puts, changes, increments, decrements, Assign, assigns, AssignLine, assign_line, first_place}
-use Rattle.ca_parse.specs.Closed.{RightClosed, ChangeClosed, AssignClosed, AssignTo, assign_to, AssignToClosed, target_of, Picked}
+use Rattle.ca_parse.specs.Closed.{RightClosed, ChangeClosed, AssignClosed, AssignTo, assign_to, AssignToClosed, target_of}
 
 -- behind the token stands nothing that goes on with an expression
 pub ended_sign : (k : Sign) {s r : List Token} {p : Place} → Sees (sign k) s p r → ((at : Place) → goes_on_of 0 (SignKind k) at ≡ None) → head_of (goes_on 0) s ≡ None
@@ -269,9 +269,6 @@ local_answer d = exact_map (local_join) (local_split) d
 pub local_alone : {s r : List Token} {x : Statement} → Alone local_parts.C s x r → Alone Local s x r
 local_alone {s = s} d = fewer_alone (λ free q w c. local_split free s q w c) d
 
-pub local_answer_of : {s : List Token} {o : Answer Token Statement} → Exact local_parts.D local_parts.C s o → Exact Local Local s o
-local_answer_of d = local_answer d
-
 abbrev pub plus_parts : Part Token AssignOp
 plus_parts = mark PlusAssign ⨾ λ p. finish Add
 
@@ -462,19 +459,8 @@ change_ended free s r c (changes o e) = compound_ended _ _ _ o
     compound_ended s r o (times_assign d) = sign_gives (goes_on_of 6) TimesAssign d
 
 -- a target
-pub some_chain : Default (Picked target_of OuterChain)
-some_chain = record {
-  more = token (Word []) ∷ [];
-  tree = _;
-  reads = λ free r h. record {
-    tree = _;
-    it = record { front = token (Word []) ∷ []; cut = refl; derives = λ r. name_chain (sees refl) tails_end; within = inl (omega arith) };
-    picked = refl;
-  };
-}
-
 abbrev pub a_target : Part Token Expression
-a_target = record { D = Picked target_of OuterChain; C = Picked target_of ChainEnded; some = some_chain }
+a_target = a_picked target_of refl
 
 target_is : (x y : Expression) → target_of x ≡ Some y → (is_target x ≡ true) × (x ≡ y)
 target_is x y h = at (is_target x) refl h

@@ -1,37 +1,32 @@
 -- Statements that begin with a chain, and what is no local.
-use Rattle.std.proofs.Common.{◌≡◌, ◌<◌, ◌≤◌, ◌+◌, ◌||◌, ℕ, pos, List, [], ◌∷◌, ◌++◌, Bool, true, false, cond, length, map, Option, Some, None, is_some, refl, sym, ◌∙◌, ap, subst, arith, ◌⊎◌, inl, inr}
-use Rattle.ca_descent.specs.Exact.{Unlimited, Answer, Got, Failed, TooDeep, Exact, Sees, sees, head_of, Seen, Unseen, Before, Asked, Limited}
-use Rattle.ca_descent.proofs.Exact.{Default, DefaultFrom, seen, unseen, exact_map, sees_head, got_nothing, limited_ok, limited_deep, shrinks}
-use Rattle.ca_descent.proofs.Parts.{Then, then, Upto, upto, done, Part, ◌⨾◌, finish, default_of, default_from}
+use Rattle.std.proofs.Common.{◌≡◌, ◌<◌, ℕ, pos, List, [], ◌∷◌, ◌++◌, Bool, true, false, length, map, Option, Some, None, is_some, refl, sym, ◌∙◌, ap, subst, arith, inl}
+use Rattle.ca_descent.specs.Exact.{Unlimited, Answer, Got, Exact, Sees, sees, head_of, Unseen}
+use Rattle.ca_descent.proofs.Exact.{Default, unseen, exact_map, sees_head, shrinks}
+use Rattle.ca_descent.proofs.Parts.{then, upto, done, Part, ◌⨾◌, finish}
 use Rattle.ca_tree.specs.declared.name.Place.{Place}
 use Rattle.ca_tree.specs.declared.token.Token.{Token}
-use Rattle.ca_tree.specs.declared.token.Kind.{Kind}
-use Rattle.ca_tree.specs.declared.token.Kind.TheVariants.{Word}
-use Rattle.ca_tree.specs.declared.token.Kind.TheVariants.{Key as KeyKind, Sign as SignKind}
-use Rattle.ca_tree.specs.declared.token.Keyword.{Keyword}
+use Rattle.ca_tree.specs.declared.token.Kind.TheVariants.{Sign as SignKind}
 use Rattle.ca_tree.specs.declared.token.Keyword.TheVariants.{Long as LongKey, Bool as BoolKey, If, Else, While, For, Return, Print, This}
 use Rattle.ca_tree.specs.declared.token.Sign.{Sign}
-use Rattle.ca_tree.specs.declared.token.Sign.TheVariants.{OpenBrace, CloseBrace, OpenParenthesis, CloseParenthesis, OpenBracket, Semicolon, Times, Arrow, Assign as AssignSign, PlusAssign, MinusAssign, TimesAssign, Increment, Decrement}
+use Rattle.ca_tree.specs.declared.token.Sign.TheVariants.{OpenBrace, OpenParenthesis, OpenBracket, Semicolon, Times, Arrow, Assign as AssignSign, PlusAssign, MinusAssign, TimesAssign, Increment, Decrement}
 use Rattle.ca_tree.specs.declared.tree.AssignOp.{AssignOp}
 use Rattle.ca_tree.specs.declared.tree.AssignOp.TheVariants.{Add}
 use Rattle.ca_tree.specs.declared.tree.StmtNode.{StmtNode}
 use Rattle.ca_tree.specs.View.{statement_view, statements_view}
 use Rattle.ca_tree.specs.declared.tree.TypeNode.{TypeNode}
-use Rattle.ca_tree.specs.Plain.{Expression, RightSide, Statement, number as number_tree, truth, null, this, named, call, field, method, index, unary, binary, value, assign, statement_and, empty, block, call_statement, if_only, if_else, while_loop, for_loop, return_value, print_value}
-use Rattle.ca_expressions.specs.Terminals.{key, key_of, sign, sign_of, name, name_of, goes_on, goes_on_of}
-use Rattle.ca_expressions.specs.Grammar.{Chain, this_chain, name_chain, call_chain, args, Tails, tails_end, tails_more, Tail, field_tail, method_tail, index_tail, OuterExpression, ExpressionEnded, OuterChain, ChainEnded, is_call, is_target}
-use Rattle.ca_expressions.proofs.Terminals.{test, token, start, key_gives, sign_gives, name_gives, word, mark, key_sees, sign_sees}
+use Rattle.ca_tree.specs.Plain.{Expression, RightSide, Statement, number as number_tree, truth, null, this, named, call, field, method, index, unary, binary, value, assign, statement_and, call_statement}
+use Rattle.ca_expressions.specs.Terminals.{key, key_of, sign, sign_of, name, name_of, goes_on_of}
+use Rattle.ca_expressions.specs.Grammar.{Chain, this_chain, name_chain, call_chain, args, Tails, tails_end, tails_more, Tail, field_tail, method_tail, index_tail, OuterChain, is_call, is_target}
+use Rattle.ca_expressions.proofs.Terminals.{token, start, key_gives, sign_gives, mark}
 use Rattle.ca_expressions.specs.Readers.{answer}
 use Rattle.ca_expressions.specs.declared.tokens.Fault.{Fault}
 use Rattle.std.specs.Borrow.{Bor}
 use Rattle.std.specs.Prelude.{Result, Ok, Err, IfOk}
-use Rattle.ca_parse.specs.Grammar.{Deriving, TypeName, long, bool, pointer, Local, declares, begins, Change, puts, changes, increments, decrements, Compound, plus_assign, minus_assign, times_assign, Assign, assigns, AssignLine, assign_line, First, first_local, first_assign, Nested, Stmt, nothing, a_block, an_assign, a_call, an_if, an_if_else, a_while, a_for, a_return, a_print, Item, a_local, a_statement, Items, items_end, items_and, Lines, lines_end, lines_and, One, one, is_open, statements, first_place}
-use Rattle.ca_parse.specs.Closed.{AssignTo, assign_to, AssignToClosed, AssignClosed, Use, calling, putting, use_by, use_of, Picked, Used, called, put, Shut, StmtClosed, ItemClosed, Otherwise, with_else, without, OtherwiseClosed, Condition, condition, ReturnRest, return_rest, PrintRest, print_rest, Simple, simple_call, simple_put, IfRest, if_rest, IfRestClosed, WhileRest, while_rest, WhileRestClosed, ForRest, for_rest, ForRestClosed, is_nested}
-use Rattle.ca_parse.proofs.Lines.{Closing}
-use Rattle.ca_parse.proofs.Alone.{Alone, fewer_alone}
-use Rattle.ca_parse.proofs.Locals.{From, LocalOr, a_local as or_local, another, Other}
-use Rattle.ca_expressions.proofs.Outer.{an_expression, outer_chain_begins}
-use Rattle.ca_parse.proofs.AssignRules.{put_to, an_assign as assign_part, ended_sign, change_ended, assign_line_parts, assign_line_join}
+use Rattle.ca_parse.specs.Grammar.{Deriving, TypeName, long, bool, pointer, Local, declares, begins, Change, puts, changes, increments, decrements, Compound, plus_assign, minus_assign, times_assign, assigns, AssignLine, assign_line, First, first_local, first_assign, Stmt, nothing, a_block, an_assign, a_call, an_if, an_if_else, a_while, a_for, a_return, a_print, Item, a_local, a_statement, is_open, statements, first_place}
+use Rattle.ca_parse.specs.Closed.{assign_to, Use, calling, putting, use_by, use_of, Used, called, put, StmtClosed, ItemClosed, ReturnRest, return_rest, PrintRest, print_rest, Simple, simple_call, simple_put}
+use Rattle.ca_parse.proofs.Uses.{a_picked}
+use Rattle.ca_parse.proofs.Locals.{LocalOr, a_local as or_local, another, Other}
+use Rattle.ca_parse.proofs.AssignRules.{put_to, ended_sign, change_ended}
 use Rattle.ca_parse.proofs.StatementFronts.{shut_here, assign_front, stmt_not_long, stmt_not_bool}
 
 pub used_default : (u : Use) → Default (Used u)
@@ -46,19 +41,8 @@ used_default (putting x) = record {
 abbrev pub used_part : Use → Part Token Statement
 used_part u = record { D = Used u; C = Used u; some = used_default u }
 
-pub some_use : Default (Picked use_of OuterChain)
-some_use = record {
-  more = token (Word []) ∷ [];
-  tree = _;
-  reads = λ free r h. record {
-    tree = _;
-    it = record { front = token (Word []) ∷ []; cut = refl; derives = λ r. name_chain (sees refl) tails_end; within = inl (omega arith) };
-    picked = refl;
-  };
-}
-
 abbrev pub a_use : Part Token Use
-a_use = record { D = Picked use_of OuterChain; C = Picked use_of ChainEnded; some = some_use }
+a_use = a_picked use_of refl
 
 pub call_use : (x : Expression) → is_call x ≡ true → use_of x ≡ Some (calling x)
 call_use x h = ap (λ z. use_by x z (is_target x)) h
@@ -147,15 +131,6 @@ chain_answer depth m b i w f t p d = unseen {want = sign Semicolon} m (unseen {w
 -- a terminal that was read leaves less
 pub shrinks_first : (k : Sign) {s q : List Token} {p : Place} → Exact (Unlimited (Sees (sign k))) (Unlimited (Sees (sign k))) s (Got p q) → length q < length s
 shrinks_first k d = shrinks (λ free r x e. elim e [ ]) d
-
--- how a test tells
-pub some_of : {A : Type 0} (o : Option A) → is_some o ≡ true → (a : A) × (o ≡ Some a)
-some_of (Some a) h = (a, refl)
-some_of None h = absurd cc
-
-pub none_of : {A : Type 0} (o : Option A) → is_some o ≡ false → o ≡ None
-none_of (Some a) h = absurd cc
-none_of None h = refl
 
 -- statements as a Vec and as a list
 pub statements_are : (ss : List StmtNode) → statements_view ss ≡ statements (map statement_view ss)

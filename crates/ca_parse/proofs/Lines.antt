@@ -1,8 +1,8 @@
 -- Lines up to and with a closing token, each of which gives some items, as a loop reads them.
-use Rattle.std.proofs.Common.{◌≡◌, ℕ, List, [], ◌∷◌, ◌++◌, Option, Some, None, refl, sym, ◌∙◌, ap, subst}
+use Rattle.std.proofs.Common.{◌≡◌, ℕ, List, [], ◌∷◌, ◌++◌, Option, Some, None, refl, sym, subst}
 use Rattle.std.proofs.lemmas.List.{append-nil}
 use Rattle.ca_descent.specs.Exact.{Unlimited, Failure, Answer, Got, Failed, Exact, Sees, sees, head_of, Seen, Unseen, prefixed, image, Gathers}
-use Rattle.ca_descent.proofs.Exact.{Default, Rule, then_ok, then_failed, seen, unseen, sees_head, exact_image}
+use Rattle.ca_descent.proofs.Exact.{Rule, then_ok, then_failed, seen, unseen, sees_head, exact_image}
 use Rattle.ca_descent.proofs.Many.{prefixed_append}
 use Rattle.ca_tree.specs.declared.token.Token.{Token}
 use Rattle.ca_parse.specs.Grammar.{Deriving, Lines, lines_end, lines_and, One, one}
@@ -29,9 +29,6 @@ pub record Closing {A B : Type 0} (D C : Deriving (List A)) (close : Token → O
   pub closes : close token ≡ Some carried
 
 module _ {A B : Type 0} {D C : Deriving (List A)} {close : Token → Option B} (p : Closing D C close) where
-  pub lines_default : Default (Lines D close)
-  lines_default = record { more = p.token ∷ []; tree = []; reads = λ free r h. lines_end (sees p.closes) }
-
   lines_join : (free : ℕ) (s q r : List Token) (xs zs : List A) → D free s xs q → Appended (Lines D close) xs free q zs r
       → Lines D close free s zs r
   lines_join free s q r xs zs d f = subst (λ z. Lines D close free s z r) (sym f.split) (lines_and d f.it)

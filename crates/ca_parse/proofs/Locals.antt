@@ -1,17 +1,18 @@
 -- A local, or something else that begins with no type: two tokens tell.
-use Rattle.std.proofs.Common.{◌≡◌, ℕ, ◌<◌, ◌≤◌, List, [], ◌∷◌, ◌++◌, Bool, true, false, ◌&&◌, ◌||◌, Option, Some, None, is_some, refl, sym, ◌∙◌, ap, subst, drop, length, arith}
-use Rattle.ca_descent.specs.Exact.{Failure, NoMemory, Wrong, TooDeep, Answer, Got, Failed, SameHead, Viable, Meets, Along, Exact, Sees, sees, head_of, Seen, Unseen, Past}
+use Rattle.std.proofs.Common.{◌≡◌, ℕ, ◌≤◌, List, [], ◌∷◌, ◌++◌, true, false, ◌&&◌, ◌||◌, Option, Some, None, is_some, refl, sym, ap, subst, length, arith}
+use Rattle.ca_descent.specs.Exact.{NoMemory, Wrong, TooDeep, Answer, Got, Failed, SameHead, Viable, Meets, Along, Exact, Sees, sees, head_of, Past}
 use Rattle.ca_descent.proofs.Exact.{seen, unseen, exact_map, past, sees_head}
 use Rattle.ca_tree.specs.declared.token.Token.{Token}
 use Rattle.ca_tree.specs.declared.token.Kind.TheVariants.{Word}
 use Rattle.ca_tree.specs.declared.token.Kind.TheVariants.{Sign as SignKind}
+use Rattle.ca_tree.specs.declared.token.Keyword.{Keyword}
 use Rattle.ca_tree.specs.declared.token.Keyword.TheVariants.{Long as LongKey, Bool as BoolKey}
 use Rattle.ca_tree.specs.declared.token.Sign.TheVariants.{Semicolon, Times}
 use Rattle.ca_tree.specs.declared.name.Place.{Place}
 use Rattle.ca_tree.specs.declared.tree.TypeNode.{TypeNode}
 use Rattle.ca_tree.specs.Plain.{Statement}
-use Rattle.ca_expressions.specs.Terminals.{key, key_of, sign, sign_of, name, name_of}
-use Rattle.ca_expressions.proofs.Terminals.{token, key_gives, name_gives, sign_gives}
+use Rattle.ca_expressions.specs.Terminals.{key, sign, name, name_of}
+use Rattle.ca_expressions.proofs.Terminals.{token, key_gives}
 use Rattle.ca_parse.specs.Grammar.{Deriving, TypeName, long, bool, pointer, Local, declares, begins}
 use Rattle.ca_parse.specs.Closed.{is_local}
 
@@ -166,10 +167,6 @@ module _ {D C : Deriving Statement} (other : Other D C) where
           at free s r x (another c) f = c
           at free s r x (a_local l) f = absurd (named_otherwise t n e s f (local_front _ _ _ _ l))
 
-      none_of : {A : Type 0} (o : Option A) (b : Bool) → is_some o ≡ b → b ≡ false → o ≡ None
-      none_of None b e f = refl
-      none_of (Some a) b e f = absurd cc
-
       by_name : (s : List Token) → is_local s ≡ false → Exact D C s o → Exact (LocalOr D) (LocalOr C) s o
       by_name [] h d = plain [] refl refl refl d
       by_name (t ∷ q) h d = at (key LongKey t) (key BoolKey t) (name t) (head_of (sign Times) q) refl refl refl refl h
@@ -191,19 +188,13 @@ module _ {D C : Deriving Statement} (other : Other D C) where
       by_front [] h d = absurd cc
       by_front (t ∷ q) h d = at (key LongKey t) (key BoolKey t) (name t) (head_of (sign Times) q) refl refl refl refl h
         where
-          keyed : (a : Place) → key LongKey t ≡ Some a → Exact (LocalOr D) (LocalOr C) (t ∷ q) o
-          keyed a e = seen {want = key LongKey} e (exact_map (λ free s r x d. a_local d) (λ free s r x c. go free s r x c.it c.seen) d)
+          keyed : (k : Keyword) → ((free : ℕ) (s r : List Token) (x : Statement) → C free s x r → head_of (key k) s ≡ None)
+              → (a : Place) → key k t ≡ Some a → Exact (LocalOr D) (LocalOr C) (t ∷ q) o
+          keyed k not_keyed a e = seen {want = key k} e (exact_map (λ free s r x d. a_local d) (λ free s r x c. go free s r x c.it c.seen) d)
             where
-              go : (free : ℕ) (s r : List Token) (x : Statement) → LocalOr C free s x r → head_of (key LongKey) s ≡ Some a → Local free s x r
+              go : (free : ℕ) (s r : List Token) (x : Statement) → LocalOr C free s x r → head_of (key k) s ≡ Some a → Local free s x r
               go free s r x (a_local l) f = l
-              go free s r x (another c) f = let g = other.not_long free s r x c in absurd cc
-
-          keyed_bool : (a : Place) → key BoolKey t ≡ Some a → Exact (LocalOr D) (LocalOr C) (t ∷ q) o
-          keyed_bool a e = seen {want = key BoolKey} e (exact_map (λ free s r x d. a_local d) (λ free s r x c. go free s r x c.it c.seen) d)
-            where
-              go : (free : ℕ) (s r : List Token) (x : Statement) → LocalOr C free s x r → head_of (key BoolKey) s ≡ Some a → Local free s x r
-              go free s r x (a_local l) f = l
-              go free s r x (another c) f = let g = other.not_bool free s r x c in absurd cc
+              go free s r x (another c) f = let g = not_keyed free s r x c in absurd cc
 
           starred : (n : List ℕ × Place) (p : Place) → name t ≡ Some n → head_of (sign Times) q ≡ Some p → Exact (LocalOr D) (LocalOr C) (t ∷ q) o
           starred n p e k = past refl (seen {want = sign Times} k (exact_map (λ free s r x d. a_local d)
@@ -216,8 +207,8 @@ module _ {D C : Deriving Statement} (other : Other D C) where
 
           at : (a b : Option Place) (n : Option (List ℕ × Place)) (p : Option Place) → key LongKey t ≡ a → key BoolKey t ≡ b → name t ≡ n → head_of (sign Times) q ≡ p
               → (is_some a || (is_some b || (is_some n && is_some p))) ≡ true → Exact (LocalOr D) (LocalOr C) (t ∷ q) o
-          at (Some a) b n p ea eb en ep h = keyed a ea
-          at None (Some b) n p ea eb en ep h = keyed_bool b eb
+          at (Some a) b n p ea eb en ep h = keyed LongKey other.not_long a ea
+          at None (Some b) n p ea eb en ep h = keyed BoolKey other.not_bool b eb
           at None None (Some n) (Some p) ea eb en ep h = starred n p en ep
           at None None (Some n) None ea eb en ep h = absurd cc
           at None None None p ea eb en ep h = absurd cc

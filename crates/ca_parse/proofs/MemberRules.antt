@@ -1,36 +1,27 @@
 -- The rules of members and classes as their parts.
-use Rattle.std.proofs.Common.{◌≡◌, ◌<◌, ◌≤◌, ◌+◌, ◌-◌, ◌&&◌, nat_eq, drop, suc, ℕ, ℤ, pos, List, [], ◌∷◌, ◌++◌, Bool, true, false, cond, length, take, map, Option, Some, None, is_some, refl, sym, ◌∙◌, ap, subst, append_assoc, length-append, arith}
-use Rattle.std.proofs.Math.Seq.{take-append_seam}
-use Rattle.std.proofs.lemmas.List.{map-append, take-map, length-map}
-use Rattle.std.proofs.lemmas.Bool.{eqb-true}
-use Rattle.ca_descent.specs.Exact.{Unlimited, Failure, NoMemory, Wrong, TooDeep, Answer, Got, Failed, SameHead, Viable, Exact, Sees, sees, head_of, Seen, Unseen, Before, Separated, separated_none, Following, following_end, following, prefixed, image, Gathers}
-use Rattle.ca_descent.proofs.Exact.{Default, sees_parts, seen, unseen, exact_map, exact_image, sees_head, got_nothing}
-use Rattle.ca_descent.proofs.Parts.{and_ok, Then, then, Upto, upto, done, Part, ◌⨾◌, finish, default_of}
-use Rattle.ca_descent.proofs.Separated.{Punctuated, following_more, following_failed, following_stop, following_missing, separated_stop, separated_more, separated_failed}
-use Rattle.ca_descent.proofs.Many.{gathers_none, gathers_more, gathers_end}
+use Rattle.std.proofs.Common.{◌≡◌, ℕ, ℤ, List, [], ◌∷◌, true, false, Option, Some, None, refl, ◌∙◌, subst}
+use Rattle.ca_descent.specs.Exact.{Answer, Got, Failed, Exact, Sees, sees, head_of, Seen, Unseen, separated_none, Following, following_end, following, prefixed, image, Gathers}
+use Rattle.ca_descent.proofs.Exact.{seen, unseen, exact_map, exact_image, sees_head, got_nothing}
+use Rattle.ca_descent.proofs.Parts.{and_ok, then, upto, done, Part, ◌⨾◌, finish, default_of}
+use Rattle.ca_descent.proofs.Separated.{Punctuated}
 use Rattle.ca_tree.specs.declared.name.Place.{Place}
 use Rattle.ca_tree.specs.declared.token.Token.{Token}
-use Rattle.ca_tree.specs.declared.token.Kind.{Kind}
-use Rattle.ca_tree.specs.declared.token.Kind.TheVariants.{Word, Number}
 use Rattle.ca_tree.specs.declared.token.Kind.TheVariants.{Key as KeyKind, Sign as SignKind}
-use Rattle.ca_tree.specs.declared.token.Keyword.TheVariants.{Class as ClassKey, Public, Long as LongKey, Bool as BoolKey, Int, Void, Else, Return, Main}
+use Rattle.ca_tree.specs.declared.token.Keyword.TheVariants.{Class as ClassKey, Public, Int, Void}
 use Rattle.ca_tree.specs.declared.token.Sign.{Sign}
 use Rattle.ca_tree.specs.declared.token.Sign.TheVariants.{OpenBrace, CloseBrace, OpenParenthesis, CloseParenthesis, OpenBracket, CloseBracket, Semicolon, Comma, Colon, Times}
 use Rattle.ca_tree.specs.declared.tree.TypeNode.{TypeNode}
-use Rattle.ca_tree.specs.declared.tree.FieldNode.{FieldNode}
 use Rattle.ca_tree.specs.declared.tree.ParamNode.{ParamNode}
-use Rattle.ca_tree.specs.declared.tree.StmtNode.{StmtNode}
-use Rattle.ca_tree.specs.View.{statement_view}
-use Rattle.ca_tree.specs.Plain.{Statement, MethodTree, MemberTree, ClassTree, TextTree, field_member, method_member}
-use Rattle.ca_expressions.specs.Terminals.{key, key_of, sign, sign_of, name, name_of, number, number_of, zero, zero_of}
+use Rattle.ca_tree.specs.Plain.{Statement, MemberTree, ClassTree, field_member, method_member}
+use Rattle.ca_expressions.specs.Terminals.{key, key_of, sign, sign_of}
 use Rattle.ca_expressions.proofs.Terminals.{token, start, key_gives, sign_gives, name_gives, word, mark, a_name, a_number, sign_sees}
-use Rattle.ca_parse.specs.Grammar.{Deriving, TypeName, long, bool, pointer, Item, Items, items_end, Lines, lines_end, lines_and, One, one, Listed, Param, param, Signature, signature, Length, scalar, array, is_pointer, Further, further_plain, further_pointer, Member, fields, operation, value_method, Declaration, forward, a_class, read, is_return_zero, MainItem, main_item, kept, Program, program, statements}
-use Rattle.ca_parse.specs.Closed.{Shut, ItemClosed, LengthClosed, Named, named_field, NamedClosed, FurtherClosed, MethodOf, method_of, MainBody, main_body, MemberRest, method_rest, field_rest, DeclarationRest, forward_rest, class_rest, MainItemClosed, main_closed}
+use Rattle.ca_parse.specs.Grammar.{Lines, lines_end, Listed, Param, param, Signature, signature, Length, scalar, array, is_pointer, Further, further_plain, further_pointer, Member, fields, operation, value_method, Declaration, forward, a_class, statements}
+use Rattle.ca_parse.specs.Closed.{LengthClosed, Named, named_field, NamedClosed, FurtherClosed, MethodOf, method_of, MemberRest, method_rest, field_rest, DeclarationRest, forward_rest, class_rest}
 use Rattle.ca_parse.proofs.Alone.{Alone, fewer_alone}
-use Rattle.ca_parse.proofs.Lines.{Closing, one_answer, Loop, loop_more, loop_failed, loop_end, loop_unclosed}
-use Rattle.ca_parse.proofs.AssignRules.{a_type, pointer_parts}
+use Rattle.ca_parse.proofs.Lines.{Closing}
+use Rattle.ca_parse.proofs.AssignRules.{a_type}
 use Rattle.ca_parse.proofs.StatementRules.{items_part}
-use Rattle.ca_parse.proofs.StatementFronts.{item_not_else, item_not_close, no_else, type_front}
+use Rattle.ca_parse.proofs.StatementFronts.{type_front}
 use Rattle.ca_parse.proofs.ChainStatements.{nothing_seen, no_type}
 
 abbrev pub param_parts : Part Token ParamNode
@@ -192,22 +183,22 @@ following_part ty = record {
   some = record { more = token (SignKind Semicolon) ∷ []; tree = []; reads = λ free r h. following_end (sees refl) };
 }
 
-abbrev pub method_of_parts : (res : Option TypeNode) (n : List ℕ × Place) → Part Token MemberTree
-method_of_parts res n = signature_part ⨾ λ m. finish (method_member (record { result = res; name = n.0; at = n.1; params = m.0; body = statements m.1 }))
+abbrev pub method_of_parts : (res : Option TypeNode) (n : List ℕ × Place) → Part Token (List MemberTree)
+method_of_parts res n = signature_part ⨾ λ m. finish (method_member (record { result = res; name = n.0; at = n.1; params = m.0; body = statements m.1 }) ∷ [])
 
-pub method_of_join : (res : Option TypeNode) (n : List ℕ × Place) (free : ℕ) (s r : List Token) (x : MemberTree) → (method_of_parts res n).D free s x r → (MethodOf res n) free s x r
+pub method_of_join : (res : Option TypeNode) (n : List ℕ × Place) (free : ℕ) (s r : List Token) (x : List MemberTree) → (method_of_parts res n).D free s x r → (MethodOf res n) free s x r
 method_of_join res n free s r x (then m done) = method_of m
 
-method_of_split : (res : Option TypeNode) (n : List ℕ × Place) (free : ℕ) (s r : List Token) (x : MemberTree) → (MethodOf res n) free s x r → (method_of_parts res n).C free s x r
+method_of_split : (res : Option TypeNode) (n : List ℕ × Place) (free : ℕ) (s r : List Token) (x : List MemberTree) → (MethodOf res n) free s x r → (method_of_parts res n).C free s x r
 method_of_split res n free s r x (method_of m) = upto m done
 
-pub method_of_answer : (res : Option TypeNode) (n : List ℕ × Place) {s : List Token} {o : Answer Token MemberTree} → Exact (method_of_parts res n).D (method_of_parts res n).C s o → Exact (MethodOf res n) (MethodOf res n) s o
+pub method_of_answer : (res : Option TypeNode) (n : List ℕ × Place) {s : List Token} {o : Answer Token (List MemberTree)} → Exact (method_of_parts res n).D (method_of_parts res n).C s o → Exact (MethodOf res n) (MethodOf res n) s o
 method_of_answer res n d = exact_map (method_of_join res n) (method_of_split res n) d
 
-pub method_of_alone : (res : Option TypeNode) (n : List ℕ × Place) {s r : List Token} {x : MemberTree} → Alone (method_of_parts res n).C s x r → Alone (MethodOf res n) s x r
+pub method_of_alone : (res : Option TypeNode) (n : List ℕ × Place) {s r : List Token} {x : List MemberTree} → Alone (method_of_parts res n).C s x r → Alone (MethodOf res n) s x r
 method_of_alone res n {s = s} d = fewer_alone (λ free q w c. method_of_split res n free s q w c) d
 
-abbrev pub method_part : (res : Option TypeNode) (n : List ℕ × Place) → Part Token MemberTree
+abbrev pub method_part : (res : Option TypeNode) (n : List ℕ × Place) → Part Token (List MemberTree)
 method_part res n = record { D = MethodOf res n; C = MethodOf res n; some = default_of (method_of_parts res n).D (MethodOf res n) (method_of_join res n) (method_of_parts res n).some }
 
 pub following_not : (k : Sign) → ((p : Place) → sign_of k (SignKind Comma) p ≡ None) → ((p : Place) → sign_of k (SignKind Semicolon) p ≡ None) → {ty : TypeNode}
@@ -224,23 +215,20 @@ pub length_not_bracket : {ty : TypeNode} (free : ℕ) (s q r : List Token) (l : 
 length_not_bracket free s q r l scalar f = following_not OpenParenthesis (λ p. refl) (λ p. refl) _ _ _ _ f
 length_not_bracket free s q r l (array o n c) f = sign_gives (sign_of OpenParenthesis) OpenBracket o
 
-abbrev pub method_rest_parts : (ty : TypeNode) (n : List ℕ × Place) → Part Token (List MemberTree)
-method_rest_parts ty n = method_part (Some ty) n ⨾ λ m. finish (m ∷ [])
+pub method_rest_join : (ty : TypeNode) (n : List ℕ × Place) (free : ℕ) (s r : List Token) (x : (List MemberTree)) → MethodOf (Some ty) n free s x r → (MemberRest ty n) free s x r
+method_rest_join ty n free s r x (method_of m) = method_rest m
 
-pub method_rest_join : (ty : TypeNode) (n : List ℕ × Place) (free : ℕ) (s r : List Token) (x : (List MemberTree)) → (method_rest_parts ty n).D free s x r → (MemberRest ty n) free s x r
-method_rest_join ty n free s r x (then (method_of m) done) = method_rest m
-
-method_rest_split : (ty : TypeNode) (n : List ℕ × Place) (a0 : Place) (free : ℕ) (s r : List Token) (x : (List MemberTree)) → Seen (sign OpenParenthesis) a0 (MemberRest ty n) free s x r → (method_rest_parts ty n).C free s x r
+method_rest_split : (ty : TypeNode) (n : List ℕ × Place) (a0 : Place) (free : ℕ) (s r : List Token) (x : (List MemberTree)) → Seen (sign OpenParenthesis) a0 (MemberRest ty n) free s x r → MethodOf (Some ty) n free s x r
 method_rest_split ty n a0 free s r x c = at free s r x c.it c.seen
   where
-    at : (free : ℕ) (s r : List Token) (x : (List MemberTree)) → (MemberRest ty n) free s x r → head_of (sign OpenParenthesis) s ≡ Some a0 → (method_rest_parts ty n).C free s x r
-    at free s r x (method_rest m) g0 = upto (method_of m) done
+    at : (free : ℕ) (s r : List Token) (x : (List MemberTree)) → (MemberRest ty n) free s x r → head_of (sign OpenParenthesis) s ≡ Some a0 → MethodOf (Some ty) n free s x r
+    at free s r x (method_rest m) g0 = method_of m
     at free s r x (field_rest l f) g0 = let f = length_not_bracket _ _ _ _ _ l f in absurd cc
 
-pub method_rest_answer : (ty : TypeNode) (n : List ℕ × Place) {a0 : Place} {s : List Token} {o : Answer Token (List MemberTree)} → head_of (sign OpenParenthesis) s ≡ Some a0 → Exact (method_rest_parts ty n).D (method_rest_parts ty n).C s o → Exact (MemberRest ty n) (MemberRest ty n) s o
+pub method_rest_answer : (ty : TypeNode) (n : List ℕ × Place) {a0 : Place} {s : List Token} {o : Answer Token (List MemberTree)} → head_of (sign OpenParenthesis) s ≡ Some a0 → Exact (MethodOf (Some ty) n) (MethodOf (Some ty) n) s o → Exact (MemberRest ty n) (MemberRest ty n) s o
 method_rest_answer ty n {a0} h0 d = seen {want = sign OpenParenthesis} h0 (exact_map (method_rest_join ty n) (method_rest_split ty n a0) d)
 
-pub method_rest_alone : (ty : TypeNode) (n : List ℕ × Place) {a0 : Place} {s r : List Token} {x : (List MemberTree)} → head_of (sign OpenParenthesis) s ≡ Some a0 → Alone (method_rest_parts ty n).C s x r → Alone (MemberRest ty n) s x r
+pub method_rest_alone : (ty : TypeNode) (n : List ℕ × Place) {a0 : Place} {s r : List Token} {x : (List MemberTree)} → head_of (sign OpenParenthesis) s ≡ Some a0 → Alone (MethodOf (Some ty) n) s x r → Alone (MemberRest ty n) s x r
 method_rest_alone ty n {a0} {s = s} h0 d = fewer_alone (λ free q w c. method_rest_split ty n a0 free s q w (record { it = c; seen = h0 })) d
 
 abbrev pub field_rest_parts : (ty : TypeNode) (n : List ℕ × Place) → Part Token (List MemberTree)
@@ -266,16 +254,16 @@ abbrev pub member_rest_part : (ty : TypeNode) (n : List ℕ × Place) → Part T
 member_rest_part ty n = record { D = MemberRest ty n; C = MemberRest ty n; some = default_of (field_rest_parts ty n).D (MemberRest ty n) (field_rest_join ty n) (field_rest_parts ty n).some }
 
 abbrev pub operation_parts : Part Token (List MemberTree)
-operation_parts = word Void ⨾ λ v. a_name ⨾ λ n. method_part None n ⨾ λ m. finish (m ∷ [])
+operation_parts = word Void ⨾ λ v. a_name ⨾ λ n. method_part None n
 
 pub operation_join : (free : ℕ) (s r : List Token) (x : (List MemberTree)) → operation_parts.D free s x r → Member free s x r
-operation_join free s r x (then v (then n (then (method_of m) done))) = operation v n m
+operation_join free s r x (then v (then n (method_of m))) = operation v n m
 
 operation_split : (a0 : Place) (free : ℕ) (s r : List Token) (x : (List MemberTree)) → Seen (key Void) a0 Member free s x r → operation_parts.C free s x r
 operation_split a0 free s r x c = at free s r x c.it c.seen
   where
     at : (free : ℕ) (s r : List Token) (x : (List MemberTree)) → Member free s x r → head_of (key Void) s ≡ Some a0 → operation_parts.C free s x r
-    at free s r x (operation v n m) g0 = upto v (upto n (upto (method_of m) done))
+    at free s r x (operation v n m) g0 = upto v (upto n (method_of m))
     at free s r x (fields t n l f) g0 = let f = type_front (key_of Void) (λ p. refl) (λ p. refl) (λ n p. refl) _ _ _ _ t in absurd cc
     at free s r x (value_method t n m) g0 = let f = type_front (key_of Void) (λ p. refl) (λ p. refl) (λ n p. refl) _ _ _ _ t in absurd cc
 
@@ -437,35 +425,3 @@ fields_start ty n s q l h d = record { go = go }
         → Exact (MemberRest ty n) (MemberRest ty n) s (prefixed (field_in ty n l ∷ []) o)
     go o f = field_rest_answer ty n h (and_ok d (subst (λ z. Exact (following_part ty ⨾ λ fs. finish (field_in ty n l ∷ fs)).D (following_part ty ⨾ λ fs. finish (field_in ty n l ∷ fs)).C q z) (seam o)
         (exact_image (λ fs. field_in ty n l ∷ fs) (λ free s r x d. then d done) split f)))
-
--- loops over lists with commas between
-module _ {A : Type 0} {D C : Deriving A} (close : Sign) (rule : Punctuated D C (sign Comma) (sign close)) where
-  abbrev pub Commas : Deriving (List A) → List Token → List A → List Token → Type 0
-  Commas All all xs rest = Gathers All All (Following D (sign Comma) (sign close)) (Following D (sign Comma) (sign close)) all xs rest
-
-  pub listed_none : {s r : List Token} {c : Place} → Sees (sign close) s c r → Exact (Separated D (sign Comma) (sign close)) (Separated D (sign Comma) (sign close)) s (Got [] r)
-  listed_none d = let p = sees_parts d in separated_stop rule p.1 p.2
-
-  pub listed_failed : {s : List Token} (f : Failure Token) → head_of (sign close) s ≡ None → Exact D C s (Failed f)
-      → Exact (Separated D (sign Comma) (sign close)) (Separated D (sign Comma) (sign close)) s (Failed f)
-  listed_failed f h d = separated_failed rule f h d
-
-  pub listed_first : {s q : List Token} {x : A} → head_of (sign close) s ≡ None → Exact D C s (Got x q)
-      → Commas (Separated D (sign Comma) (sign close)) s (x ∷ []) q
-  listed_first h d = record { go = λ o f. separated_more rule h d f }
-
-  pub commas_more : {All : Deriving (List A)} {all rest m q : List Token} {xs : List A} {c : Place} {x : A} → Commas All all xs rest
-      → Sees (sign Comma) rest c m → Exact D C m (Got x q) → Commas All all (xs ++ x ∷ []) q
-  commas_more g k d = let p = sees_parts k in gathers_more g (λ o f. following_more rule p.1 p.2 d f)
-
-  pub commas_failed : {All : Deriving (List A)} {all rest m : List Token} {xs : List A} {c : Place} (f : Failure Token) → Commas All all xs rest
-      → Sees (sign Comma) rest c m → Exact D C m (Failed f) → Exact All All all (Failed f)
-  commas_failed f g k d = let p = sees_parts k in g.go (Failed f) (following_failed rule f p.1 p.2 d)
-
-  pub commas_end : {All : Deriving (List A)} {all rest r : List Token} {xs : List A} {c : Place} → Commas All all xs rest
-      → Sees (sign close) rest c r → Exact All All all (Got xs r)
-  commas_end g k = let p = sees_parts k in gathers_end g (following_stop rule p.1 p.2)
-
-  pub commas_wrong : {All : Deriving (List A)} {all rest : List Token} {xs : List A} → Commas All all xs rest
-      → head_of (sign Comma) rest ≡ None → head_of (sign close) rest ≡ None → Exact All All all (Failed (Wrong rest))
-  commas_wrong {rest = rest} g h k = g.go (Failed (Wrong rest)) (following_missing rule h k)

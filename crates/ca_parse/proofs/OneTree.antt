@@ -1,32 +1,32 @@
 -- Every derivation of tokens is the only one, so they derive one tree.
-use Rattle.std.proofs.Common.{◌≡◌, ◌+◌, ℕ, ℤ, List, [], ◌∷◌, ◌++◌, Bool, true, false, Option, Some, None, is_some, refl, sym, ◌∙◌, ap, subst}
-use Rattle.ca_descent.specs.Exact.{Got, Sees, sees, head_of, Separated, separated_none, separated, Following, following_end, following}
+use Rattle.std.proofs.Common.{◌≡◌, ◌+◌, ℕ, ℤ, List, [], ◌∷◌, Bool, true, false, Option, Some, None, is_some, refl, sym, ◌∙◌, ap, subst}
+use Rattle.ca_descent.specs.Exact.{Sees, sees, head_of, Separated, separated_none, separated, Following, following_end, following}
 use Rattle.ca_descent.proofs.Exact.{sees_head}
 use Rattle.ca_descent.proofs.Separated.{Punctuated}
 use Rattle.ca_tree.specs.declared.name.Place.{Place}
 use Rattle.ca_tree.specs.declared.token.Token.{Token}
 use Rattle.ca_tree.specs.declared.token.Kind.TheVariants.{Key as KeyKind}
 use Rattle.ca_tree.specs.declared.token.Keyword.{Keyword}
-use Rattle.ca_tree.specs.declared.token.Keyword.TheVariants.{This, Class as ClassKey, Long as LongKey, Bool as BoolKey, Int, Void, If, Else, While, For, Return, New, Print}
+use Rattle.ca_tree.specs.declared.token.Keyword.TheVariants.{This, Long as LongKey, Bool as BoolKey, Void, If, Else, While, For, Return, New, Print}
 use Rattle.ca_tree.specs.declared.token.Sign.{Sign}
 use Rattle.ca_tree.specs.declared.token.Sign.TheVariants.{OpenBrace, CloseBrace, OpenParenthesis, CloseParenthesis, OpenBracket, Semicolon, Comma, Times, Assign as AssignSign, PlusAssign, MinusAssign, TimesAssign, Increment, Decrement}
 use Rattle.ca_tree.specs.declared.tree.TypeNode.{TypeNode}
 use Rattle.ca_tree.specs.declared.tree.AssignOp.{AssignOp}
 use Rattle.ca_tree.specs.declared.tree.ParamNode.{ParamNode}
-use Rattle.ca_tree.specs.Plain.{Expression, RightSide, Statement, MemberTree, ClassTree, TextTree, call_statement, if_only, if_else}
-use Rattle.ca_expressions.specs.Terminals.{key, key_of, sign, sign_of, name, name_of, goes_on, goes_on_of}
-use Rattle.ca_expressions.specs.Grammar.{OuterExpression, OuterChain}
-use Rattle.ca_expressions.proofs.Terminals.{key_gives, sign_gives, name_gives}
-use Rattle.ca_parse.specs.Grammar.{Deriving, TypeName, long, bool, pointer, Right, expression, creation, creation_call, Local, declares, begins, Compound, plus_assign, minus_assign, times_assign, Change, puts, changes, increments, decrements, Assign, assigns, AssignLine, assign_line, First, first_local, first_assign, Stmt, nothing, a_block, an_assign, a_call, an_if, an_if_else, a_while, a_for, a_return, a_print, Item, a_local, a_statement, Items, items_end, items_and, Lines, lines_end, lines_and, One, one, Listed, Param, param, Signature, signature, Length, scalar, array, Further, further_plain, further_pointer, Member, fields, operation, value_method, Declaration, forward, a_class, read, is_return_zero, MainItem, main_item, kept, Program, program, is_pointer, is_open, first_place, DerivesFree}
-use Rattle.ca_parse.specs.Closed.{RightClosed, ChangeClosed, AssignClosed, StmtClosed, ItemClosed, Shut, LengthClosed, Condition, condition, Otherwise, with_else, without, OtherwiseClosed, IfRest, if_rest, IfRestClosed, WhileRestClosed, ForRestClosed, Simple, simple_call, simple_put, Use, calling, putting, Used, called, put, AssignToClosed, Named, NamedClosed, named_field, FurtherClosed, method_of, MemberRest, method_rest, field_rest, MainItemClosed, main_closed, MainBody, main_body}
+use Rattle.ca_tree.specs.Plain.{Expression, RightSide, Statement, MemberTree, ClassTree, TextTree, call_statement, if_only}
+use Rattle.ca_expressions.specs.Terminals.{key, key_of, sign, sign_of, goes_on, goes_on_of}
+use Rattle.ca_expressions.specs.Grammar.{OuterChain}
+use Rattle.ca_expressions.proofs.Terminals.{sign_gives, name_gives}
+use Rattle.ca_parse.specs.Grammar.{Deriving, TypeName, long, bool, pointer, Right, expression, creation, creation_call, Local, declares, begins, Compound, plus_assign, minus_assign, times_assign, Change, puts, changes, increments, decrements, Assign, assigns, AssignLine, assign_line, First, first_local, first_assign, Stmt, nothing, a_block, an_assign, a_call, an_if, an_if_else, a_while, a_for, a_return, a_print, Item, a_local, a_statement, Items, items_end, items_and, Lines, One, one, Param, param, Signature, signature, Length, scalar, array, Further, further_plain, further_pointer, Member, fields, operation, value_method, Declaration, forward, a_class, read, is_return_zero, MainItem, kept, Program, program, is_open, first_place, DerivesFree}
+use Rattle.ca_parse.specs.Closed.{RightClosed, ChangeClosed, AssignClosed, StmtClosed, ItemClosed, LengthClosed, Condition, condition, Otherwise, with_else, without, OtherwiseClosed, Simple, simple_call, simple_put, calling, putting, Used, called, put, AssignToClosed, Named, NamedClosed, named_field, FurtherClosed, MainItemClosed, main_closed, MainBody}
 use Rattle.ca_parse.proofs.Alone.{Alone, exact_alone, sees_alone, then_alone, done_alone, fewer_alone, picked_alone, lines_alone, one_alone}
 use Rattle.ca_parse.proofs.OneExpression.{expression_alone as value_alone, chain_alone as target_alone}
 use Rattle.ca_parse.proofs.Locals.{TypeFront, front_long, front_bool, front_name, local_front, LocalOr, a_local as or_local, another, Other}
 use Rattle.ca_parse.proofs.AssignRules.{long_alone, bool_alone, pointer_alone, expression_alone, expression_not_new, creation_alone, created_alone, created_call_alone, no_bracket, bare_alone, valued_alone, local_alone, plus_alone, minus_alone, times_alone, puts_alone, increments_alone, decrements_alone, changes_alone, compound_not, assign_to_alone, change_ended, ended_sign, is_targeted, assign_alone, assign_line_alone}
-use Rattle.ca_parse.proofs.StatementRules.{nothing_alone, block_alone, if_alone, while_alone, for_alone, return_alone, print_alone, return_rest_alone, print_rest_alone, condition_split, if_rest_split, while_rest_split, for_rest_split, branch_shut, else_split, else_parts}
+use Rattle.ca_parse.proofs.StatementRules.{nothing_alone, block_alone, if_alone, while_alone, for_alone, return_alone, print_alone, return_rest_alone, print_rest_alone, condition_split, if_rest_split, while_rest_split, for_rest_split, branch_shut, else_split}
 use Rattle.ca_parse.proofs.ChainStatements.{simple_split, chain_split, call_use, put_use, other_line, other_statement, first_split, item_split}
 use Rattle.ca_parse.proofs.StatementFronts.{chain_front, assign_front, item_not_else, item_not_close, no_else, type_front}
-use Rattle.ca_parse.proofs.MemberRules.{param_alone, param_rule, signature_alone, array_alone, named_split, further_rule, following_not, following_not_bracket, length_not_bracket, method_of_alone, method_rest_alone, field_rest_alone, operation_alone, typed_alone, member_lines, forward_rest_alone, class_rest_alone, declaration_alone, declaration_lines, scalar_answer}
+use Rattle.ca_parse.proofs.MemberRules.{param_alone, param_rule, signature_alone, array_alone, named_split, further_rule, following_not_bracket, length_not_bracket, method_of_alone, method_rest_alone, field_rest_alone, operation_alone, typed_alone, member_lines, forward_rest_alone, class_rest_alone, declaration_alone, declaration_lines, scalar_answer}
 use Rattle.ca_parse.proofs.TextRules.{main_lines, main_item_of, main_body_split, program_alone}
 
 type_tells : (free : ℕ) (s r : List Token) (ty : TypeNode × Place) → TypeName free s ty r → Alone TypeName s ty r
@@ -309,10 +309,10 @@ further_tells ty free s r x c = record { only = λ free' q y d. at free free' s 
 
 member_tells : (free : ℕ) (s r : List Token) (xs : List MemberTree) → Member free s xs r → Alone Member s xs r
 member_tells free s r xs (operation v n m) = operation_alone (sees_head (key Void) v) (then_alone (sees_alone v) (then_alone (sees_alone n)
-    (then_alone (method_of_alone _ _ (then_alone (signature_tells _ _ _ _ m) done_alone)) done_alone)))
+    (method_of_alone _ _ (then_alone (signature_tells _ _ _ _ m) done_alone))))
 member_tells free s r xs (value_method t n (signature o p b i)) = typed_alone (type_front (key_of Void) (λ p. refl) (λ p. refl) (λ n p. refl) _ _ _ _ t)
     (then_alone (type_tells _ _ _ _ t) (then_alone (sees_alone n) (method_rest_alone _ _ (sees_head (sign OpenParenthesis) o)
-    (then_alone (method_of_alone _ _ (then_alone (signature_tells _ _ _ _ (signature o p b i)) done_alone)) done_alone))))
+    (method_of_alone _ _ (then_alone (signature_tells _ _ _ _ (signature o p b i)) done_alone)))))
 member_tells free s r xs (fields {ty = ty} t n l f) = typed_alone (type_front (key_of Void) (λ p. refl) (λ p. refl) (λ n p. refl) _ _ _ _ t)
     (then_alone (type_tells _ _ _ _ t) (then_alone (sees_alone n) (field_rest_alone _ _ (length_not_bracket _ _ _ _ _ l f)
     (then_alone (length_tells _ _ _ _ l (following_not_bracket _ _ _ _ f))

@@ -1,8 +1,8 @@
 -- What statements and items begin with, and items as lines.
-use Rattle.std.proofs.Common.{◌≡◌, ◌<◌, ◌≤◌, ◌+◌, ◌||◌, ℕ, pos, List, [], ◌∷◌, ◌++◌, Bool, true, false, cond, length, map, Option, Some, None, is_some, refl, sym, ◌∙◌, ap, subst, arith, ◌⊎◌, inl, inr}
-use Rattle.ca_descent.specs.Exact.{Unlimited, Answer, Got, Failed, TooDeep, Exact, Sees, sees, head_of, Seen, Unseen, Before, Asked, Limited}
-use Rattle.ca_descent.proofs.Exact.{Default, DefaultFrom, seen, unseen, exact_map, sees_head, got_nothing, limited_ok, limited_deep, shrinks}
-use Rattle.ca_descent.proofs.Parts.{Then, then, Upto, upto, done, Part, ◌⨾◌, finish, default_of, default_from}
+use Rattle.std.proofs.Common.{◌≡◌, ℕ, List, [], ◌∷◌, true, false, Option, None, is_some, refl, ◌∙◌, ap}
+use Rattle.ca_descent.specs.Exact.{Answer, Exact, sees, head_of}
+use Rattle.ca_descent.proofs.Exact.{exact_map}
+use Rattle.ca_descent.proofs.Parts.{Part}
 use Rattle.ca_tree.specs.declared.name.Place.{Place}
 use Rattle.ca_tree.specs.declared.token.Token.{Token}
 use Rattle.ca_tree.specs.declared.token.Kind.{Kind}
@@ -10,28 +10,16 @@ use Rattle.ca_tree.specs.declared.token.Kind.TheVariants.{Word}
 use Rattle.ca_tree.specs.declared.token.Kind.TheVariants.{Key as KeyKind, Sign as SignKind}
 use Rattle.ca_tree.specs.declared.token.Keyword.{Keyword}
 use Rattle.ca_tree.specs.declared.token.Keyword.TheVariants.{Long as LongKey, Bool as BoolKey, If, Else, While, For, Return, Print, This}
-use Rattle.ca_tree.specs.declared.token.Sign.{Sign}
-use Rattle.ca_tree.specs.declared.token.Sign.TheVariants.{OpenBrace, CloseBrace, OpenParenthesis, CloseParenthesis, OpenBracket, Semicolon, Times, Arrow, Assign as AssignSign, PlusAssign, MinusAssign, TimesAssign, Increment, Decrement}
-use Rattle.ca_tree.specs.declared.tree.AssignOp.{AssignOp}
-use Rattle.ca_tree.specs.declared.tree.AssignOp.TheVariants.{Add}
-use Rattle.ca_tree.specs.declared.tree.StmtNode.{StmtNode}
-use Rattle.ca_tree.specs.View.{statement_view, statements_view}
+use Rattle.ca_tree.specs.declared.token.Sign.TheVariants.{OpenBrace, CloseBrace, Semicolon}
 use Rattle.ca_tree.specs.declared.tree.TypeNode.{TypeNode}
-use Rattle.ca_tree.specs.Plain.{Expression, RightSide, Statement, number as number_tree, truth, null, this, named, call, field, method, index, unary, binary, value, assign, statement_and, empty, block, call_statement, if_only, if_else, while_loop, for_loop, return_value, print_value}
-use Rattle.ca_expressions.specs.Terminals.{key, key_of, sign, sign_of, name, name_of, goes_on, goes_on_of}
-use Rattle.ca_expressions.specs.Grammar.{Chain, this_chain, name_chain, call_chain, args, Tails, tails_end, tails_more, Tail, field_tail, method_tail, index_tail, OuterExpression, ExpressionEnded, OuterChain, ChainEnded, is_call, is_target}
-use Rattle.ca_expressions.proofs.Terminals.{test, token, start, key_gives, sign_gives, name_gives, word, mark, key_sees, sign_sees}
-use Rattle.ca_expressions.specs.Readers.{answer}
-use Rattle.ca_expressions.specs.declared.tokens.Fault.{Fault}
-use Rattle.std.specs.Borrow.{Bor}
-use Rattle.std.specs.Prelude.{Result, Ok, Err, IfOk}
-use Rattle.ca_parse.specs.Grammar.{Deriving, TypeName, long, bool, pointer, Local, declares, begins, Change, puts, changes, increments, decrements, Compound, plus_assign, minus_assign, times_assign, Assign, assigns, AssignLine, assign_line, First, first_local, first_assign, Nested, Stmt, nothing, a_block, an_assign, a_call, an_if, an_if_else, a_while, a_for, a_return, a_print, Item, a_local, a_statement, Items, items_end, items_and, Lines, lines_end, lines_and, One, one, is_open, statements, first_place}
-use Rattle.ca_parse.specs.Closed.{AssignTo, assign_to, AssignToClosed, AssignClosed, Use, calling, putting, use_by, use_of, Picked, Used, called, put, Shut, StmtClosed, ItemClosed, Otherwise, with_else, without, OtherwiseClosed, Condition, condition, ReturnRest, return_rest, PrintRest, print_rest, Simple, simple_call, simple_put, IfRest, if_rest, IfRestClosed, WhileRest, while_rest, WhileRestClosed, ForRest, for_rest, ForRestClosed, is_nested}
+use Rattle.ca_tree.specs.Plain.{Expression, Statement, empty}
+use Rattle.ca_expressions.specs.Terminals.{key, key_of, sign, sign_of}
+use Rattle.ca_expressions.specs.Grammar.{OuterChain}
+use Rattle.ca_expressions.proofs.Terminals.{test, token, start, key_gives, sign_gives, name_gives}
+use Rattle.ca_parse.specs.Grammar.{Deriving, TypeName, long, bool, pointer, Local, declares, begins, assigns, AssignLine, assign_line, Stmt, nothing, a_block, an_assign, a_call, an_if, an_if_else, a_while, a_for, a_return, a_print, Item, a_local, a_statement, Items, items_end, items_and, Lines, lines_end, lines_and, One, one, is_open}
+use Rattle.ca_parse.specs.Closed.{Shut, StmtClosed, ItemClosed}
 use Rattle.ca_parse.proofs.Lines.{Closing}
-use Rattle.ca_parse.proofs.Alone.{Alone, fewer_alone}
-use Rattle.ca_parse.proofs.Locals.{From, LocalOr, a_local as or_local, another, Other}
-use Rattle.ca_expressions.proofs.Outer.{an_expression, outer_chain_begins}
-use Rattle.ca_parse.proofs.AssignRules.{put_to, an_assign as assign_part, ended_sign, change_ended, assign_line_parts, assign_line_join}
+use Rattle.ca_expressions.proofs.Outer.{outer_chain_begins}
 
 -- statements as parts; `;` is one
 abbrev pub a_stmt : ℕ → Part Token Statement
@@ -155,13 +143,12 @@ items_answer {depth} d = exact_map (lines_items depth) (items_lines depth) d
 pub no_else : (s : List Token) → head_of (key Else) s ≡ None → (x : Statement) → is_some (head_of (key Else) s) ≡ true → is_open x ≡ false
 no_else s h x e = let f : is_some (head_of (key Else) s) ≡ false = ap is_some h in absurd cc
 
-lines_not_else : (depth free : ℕ) (s r : List Token) (xs : List Statement) → Lines (One (Item depth)) (sign CloseBrace) free s xs r
-    → head_of (key Else) s ≡ None
-lines_not_else depth free s r xs (lines_end c) = sign_gives (key_of Else) CloseBrace c
-lines_not_else depth free s r xs (lines_and (one i) m) = item_not_else _ _ _ _ _ i
-
-pub item_lines : (depth : ℕ) → Closing (One (Item depth)) (One (ItemClosed depth)) (sign CloseBrace)
-item_lines depth = record {
+-- items of D up to a brace as lines of one item each: one before an item or the brace is one of C
+pub one_lines : {A : Type 0} {D C : Deriving A} → ((free : ℕ) (s r : List Token) (x : A) → D free s x r → head_of (key Else) s ≡ None)
+    → ((free : ℕ) (s r : List Token) (x : A) → D free s x r → head_of (sign CloseBrace) s ≡ None)
+    → ((free : ℕ) (s r : List Token) (x : A) → D free s x r → head_of (key Else) r ≡ None → C free s x r)
+    → Closing (One D) (One C) (sign CloseBrace)
+one_lines {A} {D} {C} not_else not_close closed = record {
   before = before;
   begins = begins_so;
   token = token (SignKind CloseBrace);
@@ -169,9 +156,15 @@ item_lines depth = record {
   closes = refl;
 }
   where
-    before : (free : ℕ) (s q r : List Token) (xs ys : List Statement) → One (Item depth) free s xs q
-        → Lines (One (Item depth)) (sign CloseBrace) free q ys r → One (ItemClosed depth) free s xs q
-    before free s q r xs ys (one {x = x} i) m = one (record { it = i; shut = no_else q (lines_not_else depth free q r ys m) x })
+    lines_not_else : (free : ℕ) (s r : List Token) (xs : List A) → Lines (One D) (sign CloseBrace) free s xs r → head_of (key Else) s ≡ None
+    lines_not_else free s r xs (lines_end c) = sign_gives (key_of Else) CloseBrace c
+    lines_not_else free s r xs (lines_and (one i) m) = not_else _ _ _ _ i
 
-    begins_so : (free : ℕ) (s r : List Token) (xs : List Statement) → One (Item depth) free s xs r → head_of (sign CloseBrace) s ≡ None
-    begins_so free s r xs (one i) = item_not_close _ _ _ _ _ i
+    before : (free : ℕ) (s q r : List Token) (xs ys : List A) → One D free s xs q → Lines (One D) (sign CloseBrace) free q ys r → One C free s xs q
+    before free s q r xs ys (one i) m = one (closed _ _ _ _ i (lines_not_else free q r ys m))
+
+    begins_so : (free : ℕ) (s r : List Token) (xs : List A) → One D free s xs r → head_of (sign CloseBrace) s ≡ None
+    begins_so free s r xs (one i) = not_close _ _ _ _ i
+
+pub item_lines : (depth : ℕ) → Closing (One (Item depth)) (One (ItemClosed depth)) (sign CloseBrace)
+item_lines depth = one_lines (item_not_else depth) (item_not_close depth) (λ free s r x i h. record { it = i; shut = no_else r h x })

@@ -1,37 +1,21 @@
 -- The rules of statements as their parts.
-use Rattle.std.proofs.Common.{◌≡◌, ◌<◌, ◌≤◌, ◌+◌, ◌||◌, ℕ, pos, List, [], ◌∷◌, ◌++◌, Bool, true, false, cond, length, map, Option, Some, None, is_some, refl, sym, ◌∙◌, ap, subst, arith, ◌⊎◌, inl, inr}
-use Rattle.ca_descent.specs.Exact.{Unlimited, Answer, Got, Failed, TooDeep, Exact, Sees, sees, head_of, Seen, Unseen, Before, Asked, Limited}
-use Rattle.ca_descent.proofs.Exact.{Default, DefaultFrom, seen, unseen, exact_map, sees_head, got_nothing, limited_ok, limited_deep, shrinks}
-use Rattle.ca_descent.proofs.Parts.{Then, then, Upto, upto, done, Part, ◌⨾◌, finish, default_of, default_from}
+use Rattle.std.proofs.Common.{◌≡◌, ◌<◌, ◌+◌, ◌||◌, ℕ, List, [], ◌∷◌, true, false, Option, Some, None, is_some, refl, ap}
+use Rattle.ca_descent.specs.Exact.{Answer, Got, Failed, TooDeep, Exact, sees, head_of, Seen, Limited}
+use Rattle.ca_descent.proofs.Exact.{seen, unseen, exact_map, sees_head, got_nothing, limited_ok, limited_deep}
+use Rattle.ca_descent.proofs.Parts.{then, upto, done, Part, ◌⨾◌, finish, default_of, default_from}
 use Rattle.ca_tree.specs.declared.name.Place.{Place}
 use Rattle.ca_tree.specs.declared.token.Token.{Token}
-use Rattle.ca_tree.specs.declared.token.Kind.{Kind}
-use Rattle.ca_tree.specs.declared.token.Kind.TheVariants.{Word}
-use Rattle.ca_tree.specs.declared.token.Kind.TheVariants.{Key as KeyKind, Sign as SignKind}
-use Rattle.ca_tree.specs.declared.token.Keyword.{Keyword}
-use Rattle.ca_tree.specs.declared.token.Keyword.TheVariants.{Long as LongKey, Bool as BoolKey, If, Else, While, For, Return, Print, This}
-use Rattle.ca_tree.specs.declared.token.Sign.{Sign}
-use Rattle.ca_tree.specs.declared.token.Sign.TheVariants.{OpenBrace, CloseBrace, OpenParenthesis, CloseParenthesis, OpenBracket, Semicolon, Times, Arrow, Assign as AssignSign, PlusAssign, MinusAssign, TimesAssign, Increment, Decrement}
-use Rattle.ca_tree.specs.declared.tree.AssignOp.{AssignOp}
-use Rattle.ca_tree.specs.declared.tree.AssignOp.TheVariants.{Add}
-use Rattle.ca_tree.specs.declared.tree.StmtNode.{StmtNode}
-use Rattle.ca_tree.specs.View.{statement_view, statements_view}
-use Rattle.ca_tree.specs.declared.tree.TypeNode.{TypeNode}
-use Rattle.ca_tree.specs.Plain.{Expression, RightSide, Statement, number as number_tree, truth, null, this, named, call, field, method, index, unary, binary, value, assign, statement_and, empty, block, call_statement, if_only, if_else, while_loop, for_loop, return_value, print_value}
-use Rattle.ca_expressions.specs.Terminals.{key, key_of, sign, sign_of, name, name_of, goes_on, goes_on_of}
-use Rattle.ca_expressions.specs.Grammar.{Chain, this_chain, name_chain, call_chain, args, Tails, tails_end, tails_more, Tail, field_tail, method_tail, index_tail, OuterExpression, ExpressionEnded, OuterChain, ChainEnded, is_call, is_target}
-use Rattle.ca_expressions.proofs.Terminals.{test, token, start, key_gives, sign_gives, name_gives, word, mark, key_sees, sign_sees}
-use Rattle.ca_expressions.specs.Readers.{answer}
-use Rattle.ca_expressions.specs.declared.tokens.Fault.{Fault}
-use Rattle.std.specs.Borrow.{Bor}
-use Rattle.std.specs.Prelude.{Result, Ok, Err, IfOk}
-use Rattle.ca_parse.specs.Grammar.{Deriving, TypeName, long, bool, pointer, Local, declares, begins, Change, puts, changes, increments, decrements, Compound, plus_assign, minus_assign, times_assign, Assign, assigns, AssignLine, assign_line, First, first_local, first_assign, Nested, Stmt, nothing, a_block, an_assign, a_call, an_if, an_if_else, a_while, a_for, a_return, a_print, Item, a_local, a_statement, Items, items_end, items_and, Lines, lines_end, lines_and, One, one, is_open, statements, first_place}
-use Rattle.ca_parse.specs.Closed.{AssignTo, assign_to, AssignToClosed, AssignClosed, Use, calling, putting, use_by, use_of, Picked, Used, called, put, Shut, StmtClosed, ItemClosed, Otherwise, with_else, without, OtherwiseClosed, Condition, condition, ReturnRest, return_rest, PrintRest, print_rest, Simple, simple_call, simple_put, IfRest, if_rest, IfRestClosed, WhileRest, while_rest, WhileRestClosed, ForRest, for_rest, ForRestClosed, is_nested}
-use Rattle.ca_parse.proofs.Lines.{Closing}
+use Rattle.ca_tree.specs.declared.token.Kind.TheVariants.{Sign as SignKind}
+use Rattle.ca_tree.specs.declared.token.Keyword.TheVariants.{If, Else, While, For, Return, Print}
+use Rattle.ca_tree.specs.declared.token.Sign.TheVariants.{OpenBrace, CloseBrace, OpenParenthesis, CloseParenthesis, Semicolon}
+use Rattle.ca_tree.specs.Plain.{Expression, Statement, empty, block, if_only, if_else, while_loop, for_loop, return_value, print_value}
+use Rattle.ca_expressions.specs.Terminals.{key, key_of, sign, sign_of}
+use Rattle.ca_expressions.proofs.Terminals.{token, key_gives, sign_gives, word, mark}
+use Rattle.ca_parse.specs.Grammar.{First, first_assign, Nested, Stmt, nothing, a_block, an_assign, a_call, an_if, an_if_else, a_while, a_for, a_return, a_print, Items, items_end, is_open, statements}
+use Rattle.ca_parse.specs.Closed.{StmtClosed, Otherwise, with_else, without, OtherwiseClosed, Condition, condition, ReturnRest, return_rest, PrintRest, print_rest, IfRest, if_rest, IfRestClosed, WhileRest, while_rest, WhileRestClosed, ForRest, for_rest, ForRestClosed, is_nested}
 use Rattle.ca_parse.proofs.Alone.{Alone, fewer_alone}
-use Rattle.ca_parse.proofs.Locals.{From, LocalOr, a_local as or_local, another, Other}
-use Rattle.ca_expressions.proofs.Outer.{an_expression, outer_chain_begins}
-use Rattle.ca_parse.proofs.AssignRules.{put_to, an_assign as assign_part, ended_sign, change_ended, assign_line_parts, assign_line_join}
+use Rattle.ca_expressions.proofs.Outer.{an_expression}
+use Rattle.ca_parse.proofs.AssignRules.{an_assign as assign_part, ended_sign, assign_line_parts, assign_line_join}
 use Rattle.ca_parse.proofs.StatementFronts.{a_stmt, chain_front, assign_front}
 
 -- `;`

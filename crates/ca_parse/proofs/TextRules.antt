@@ -1,37 +1,29 @@
 -- The rules of `main` and of whole texts as their parts.
-use Rattle.std.proofs.Common.{◌≡◌, ◌<◌, ◌≤◌, ◌+◌, ◌-◌, ◌&&◌, nat_eq, drop, suc, ℕ, ℤ, pos, List, [], ◌∷◌, ◌++◌, Bool, true, false, cond, length, take, map, Option, Some, None, is_some, refl, sym, ◌∙◌, ap, subst, append_assoc, length-append, arith}
+use Rattle.std.proofs.Common.{◌≡◌, ◌-◌, ◌&&◌, nat_eq, suc, ℕ, ℤ, List, [], ◌∷◌, ◌++◌, Bool, true, false, cond, length, take, map, Some, None, is_some, refl, sym, ◌∙◌, ap, subst, append_assoc, length-append, arith}
 use Rattle.std.proofs.Math.Seq.{take-append_seam}
 use Rattle.std.proofs.lemmas.List.{map-append, take-map, length-map}
 use Rattle.std.proofs.lemmas.Bool.{eqb-true}
-use Rattle.ca_descent.specs.Exact.{Unlimited, Failure, NoMemory, Wrong, TooDeep, Answer, Got, Failed, SameHead, Viable, Exact, Sees, sees, head_of, Seen, Unseen, Before, Separated, separated_none, Following, following_end, following, prefixed, image, Gathers}
-use Rattle.ca_descent.proofs.Exact.{Default, sees_parts, seen, unseen, exact_map, exact_image, sees_head, got_nothing}
-use Rattle.ca_descent.proofs.Parts.{and_ok, Then, then, Upto, upto, done, Part, ◌⨾◌, finish, default_of}
-use Rattle.ca_descent.proofs.Separated.{Punctuated, following_more, following_failed, following_stop, following_missing, separated_stop, separated_more, separated_failed}
-use Rattle.ca_descent.proofs.Many.{gathers_none, gathers_more, gathers_end}
+use Rattle.ca_descent.specs.Exact.{Unlimited, Failure, NoMemory, Wrong, TooDeep, Answer, Got, Failed, Viable, Exact, Sees, sees, head_of, image}
+use Rattle.ca_descent.proofs.Exact.{exact_map, exact_image}
+use Rattle.ca_descent.proofs.Parts.{then, upto, done, Part, ◌⨾◌, finish}
+use Rattle.ca_descent.proofs.Many.{gathers_none}
 use Rattle.ca_tree.specs.declared.name.Place.{Place}
 use Rattle.ca_tree.specs.declared.token.Token.{Token}
 use Rattle.ca_tree.specs.declared.token.Kind.{Kind}
 use Rattle.ca_tree.specs.declared.token.Kind.TheVariants.{Word, Number}
 use Rattle.ca_tree.specs.declared.token.Kind.TheVariants.{Key as KeyKind, Sign as SignKind}
-use Rattle.ca_tree.specs.declared.token.Keyword.TheVariants.{Class as ClassKey, Public, Long as LongKey, Bool as BoolKey, Int, Void, Else, Return, Main}
-use Rattle.ca_tree.specs.declared.token.Sign.{Sign}
-use Rattle.ca_tree.specs.declared.token.Sign.TheVariants.{OpenBrace, CloseBrace, OpenParenthesis, CloseParenthesis, OpenBracket, CloseBracket, Semicolon, Comma, Colon, Times}
-use Rattle.ca_tree.specs.declared.tree.TypeNode.{TypeNode}
-use Rattle.ca_tree.specs.declared.tree.FieldNode.{FieldNode}
-use Rattle.ca_tree.specs.declared.tree.ParamNode.{ParamNode}
+use Rattle.ca_tree.specs.declared.token.Keyword.TheVariants.{Else, Return, Main}
+use Rattle.ca_tree.specs.declared.token.Sign.TheVariants.{OpenBrace, CloseBrace, OpenParenthesis, CloseParenthesis, Semicolon}
 use Rattle.ca_tree.specs.declared.tree.StmtNode.{StmtNode}
 use Rattle.ca_tree.specs.View.{statement_view}
-use Rattle.ca_tree.specs.Plain.{Statement, MethodTree, MemberTree, ClassTree, TextTree, field_member, method_member}
-use Rattle.ca_expressions.specs.Terminals.{key, key_of, sign, sign_of, name, name_of, number, number_of, zero, zero_of}
-use Rattle.ca_expressions.proofs.Terminals.{token, start, key_gives, sign_gives, name_gives, word, mark, a_name, a_number, sign_sees}
-use Rattle.ca_parse.specs.Grammar.{Deriving, TypeName, long, bool, pointer, Item, Items, items_end, Lines, lines_end, lines_and, One, one, Listed, Param, param, Signature, signature, Length, scalar, array, is_pointer, Further, further_plain, further_pointer, Member, fields, operation, value_method, Declaration, forward, a_class, read, is_return_zero, MainItem, main_item, kept, Program, program, statements}
-use Rattle.ca_parse.specs.Closed.{Shut, ItemClosed, LengthClosed, Named, named_field, NamedClosed, FurtherClosed, MethodOf, method_of, MainBody, main_body, MemberRest, method_rest, field_rest, DeclarationRest, forward_rest, class_rest, MainItemClosed, main_closed}
+use Rattle.ca_tree.specs.Plain.{Statement, TextTree}
+use Rattle.ca_expressions.specs.Terminals.{key, sign, number, number_of, zero, zero_of}
+use Rattle.ca_expressions.proofs.Terminals.{token, word, mark}
+use Rattle.ca_parse.specs.Grammar.{Item, Lines, lines_end, One, read, is_return_zero, MainItem, main_item, kept, Program, program, statements}
+use Rattle.ca_parse.specs.Closed.{ItemClosed, MainBody, main_body, MainItemClosed, main_closed}
 use Rattle.ca_parse.proofs.Alone.{Alone, fewer_alone}
 use Rattle.ca_parse.proofs.Lines.{Closing, one_answer, Loop, loop_more, loop_failed, loop_end, loop_unclosed}
-use Rattle.ca_parse.proofs.AssignRules.{a_type, pointer_parts}
-use Rattle.ca_parse.proofs.StatementRules.{items_part}
-use Rattle.ca_parse.proofs.StatementFronts.{item_not_else, item_not_close, no_else, type_front}
-use Rattle.ca_parse.proofs.ChainStatements.{nothing_seen, no_type}
+use Rattle.ca_parse.proofs.StatementFronts.{item_not_else, item_not_close, no_else, one_lines}
 use Rattle.ca_parse.proofs.MemberRules.{declarations_part}
 
 -- an item of main
@@ -86,25 +78,15 @@ main_failed (TooDeep q) d = let m = d.meets in record {
   along = λ free w s' q' r y e e' h n c. let k = main_item_of free s' r y c in d.along free w s' q' r y.0 e e' h n k.0;
 }
 
-pub main_not_else : (free : ℕ) (s r : List Token) (xs : List (Statement × Bool)) → Lines (One MainItem) (sign CloseBrace) free s xs r → head_of (key Else) s ≡ None
-main_not_else free s r xs (lines_end c) = sign_gives (key_of Else) CloseBrace c
-main_not_else free s r xs (lines_and (one (main_item i)) m) = item_not_else _ _ _ _ _ i
+item_in : (free : ℕ) (s r : List Token) (y : Statement × Bool) → MainItem free s y r → Item 1 free s y.0 r
+item_in free s r y (main_item i) = i
+
+main_shut : (free : ℕ) (s r : List Token) (y : Statement × Bool) → MainItem free s y r → head_of (key Else) r ≡ None → MainItemClosed free s y r
+main_shut free s r y (main_item {x = x} i) h = main_closed (record { it = i; shut = no_else r h x })
 
 pub main_lines : Closing (One MainItem) (One MainItemClosed) (sign CloseBrace)
-main_lines = record {
-  before = before;
-  begins = begins_so;
-  token = token (SignKind CloseBrace);
-  carried = start;
-  closes = refl;
-}
-  where
-    before : (free : ℕ) (s q r : List Token) (xs ys : List (Statement × Bool)) → One MainItem free s xs q
-        → Lines (One MainItem) (sign CloseBrace) free q ys r → One MainItemClosed free s xs q
-    before free s q r xs ys (one (main_item {x = x} i)) m = one (main_closed (record { it = i; shut = no_else q (main_not_else free q r ys m) x }))
-
-    begins_so : (free : ℕ) (s r : List Token) (xs : List (Statement × Bool)) → One MainItem free s xs r → head_of (sign CloseBrace) s ≡ None
-    begins_so free s r xs (one (main_item i)) = item_not_close _ _ _ _ _ i
+main_lines = one_lines (λ free s r y m. item_not_else 1 free s r y.0 (item_in free s r y m))
+    (λ free s r y m. item_not_close 1 free s r y.0 (item_in free s r y m)) main_shut
 
 -- the statements that stay
 pub main_body_split : (free : ℕ) (s r : List Token) (y : List Statement) → MainBody free s y r
@@ -271,13 +253,6 @@ no_tokens (t ∷ s) h = absurd (omega (arith, h))
 pub whole_all : {ts q : List Token} {x : TextTree} → Exact Program Program ts (Got x q) → q ≡ [] → (free : ℕ) → Program free ts x []
 whole_all {ts} {q} {x} d e free = let m = d.meets in
     let cut : ts ≡ m.front ++ [] = m.cut ∙ ap (λ z. m.front ++ z) e in subst (λ z. Program free z x []) (sym cut) (m.reads free [])
-
--- where an answer stands
-pub wrong_within : {A : Type 0} {D C : Deriving A} {s q : List Token} → Exact D C s (Failed (Wrong q)) → length q ≤ length s
-wrong_within {q = q} d = let m = d.meets in omega (arith, ap length m.cut, length-append m.front q)
-
-pub deep_within : {A : Type 0} {D C : Deriving A} {s q : List Token} → Exact D C s (Failed (TooDeep q)) → length q ≤ length s
-deep_within {q = q} d = let m = d.meets.begun in omega (arith, ap length m.cut, length-append m.front q)
 
 -- the statements that stay, in memory
 pub kept_view : (out items : List StmtNode) (ends : Bool) → out ≡ cond ends (take (length items - 1) items) items

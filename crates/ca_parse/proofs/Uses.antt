@@ -1,17 +1,33 @@
 -- Chains that are used in a statement: a chain that is not what is wanted can go on to one that is.
-use Rattle.std.proofs.Common.{◌≡◌, ℕ, ◌+◌, ◌<◌, ◌≤◌, List, [], ◌∷◌, ◌++◌, length, Option, Some, None, refl, sym, ◌∙◌, ap, subst, append_assoc, length-append, arith, ◌⊎◌, inl, inr}
+use Rattle.std.proofs.Common.{◌≡◌, ◌+◌, ◌<◌, ◌≤◌, List, [], ◌∷◌, ◌++◌, length, Option, Some, None, refl, sym, ◌∙◌, ap, subst, append_assoc, length-append, arith, ◌⊎◌, inl, inr}
 use Rattle.std.proofs.lemmas.List.{append-nil}
-use Rattle.ca_descent.specs.Exact.{Failure, NoMemory, Wrong, TooDeep, Answer, Got, Failed, SameHead, Viable, Exact, Sees, sees}
+use Rattle.ca_descent.specs.Exact.{Failure, NoMemory, Wrong, TooDeep, Got, Failed, SameHead, Viable, Exact, sees}
 use Rattle.ca_descent.proofs.Exact.{same_more}
+use Rattle.ca_descent.proofs.Parts.{Part}
 use Rattle.ca_tree.specs.declared.token.Token.{Token}
 use Rattle.ca_tree.specs.declared.token.Kind.TheVariants.{Word}
 use Rattle.ca_tree.specs.declared.token.Kind.TheVariants.{Sign as SignKind}
 use Rattle.ca_tree.specs.declared.token.Sign.TheVariants.{Arrow}
-use Rattle.ca_tree.specs.Plain.{Expression, field}
+use Rattle.ca_tree.specs.Plain.{Expression, named, field}
 use Rattle.ca_expressions.specs.Grammar.{Chain, this_chain, name_chain, call_chain, Tails, tails_end, tails_more, Tail, field_tail, OuterChain, ChainEnded}
 use Rattle.ca_expressions.proofs.Terminals.{token, start}
-use Rattle.ca_parse.specs.Grammar.{Deriving}
-use Rattle.ca_parse.specs.Closed.{Use, calling, putting, use_of, target_of, Picked}
+use Rattle.ca_parse.specs.Closed.{Picked}
+
+-- a chain of which pick takes something, if it takes something of a name
+abbrev pub a_picked : {B : Type 0} (pick : Expression → Option B) {b : B} → pick (named start []) ≡ Some b → Part Token B
+a_picked pick {b} h = record {
+  D = Picked pick OuterChain;
+  C = Picked pick ChainEnded;
+  some = record {
+    more = token (Word []) ∷ [];
+    tree = b;
+    reads = λ free r k. record {
+      tree = named start [];
+      it = record { front = token (Word []) ∷ []; cut = refl; derives = λ r. name_chain (sees refl) tails_end; within = inl (omega arith) };
+      picked = h;
+    };
+  };
+}
 
 -- one more tail behind a chain
 tails_then : (a b y : Expression) (s q r : List Token) → Tails a s b q → Tail b q y r → Tails a s y r

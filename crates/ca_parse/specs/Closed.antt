@@ -1,6 +1,6 @@
 -- What the clauses of the parsing functions speak of, and no rule of the grammar has: what may follow, and parts of rules.
-use Rattle.std.specs.Prelude.{◌≡◌, ℕ, ℤ, Bool, true, false, cond, ◌&&◌, ◌||◌, List, [], ◌∷◌, ◌++◌, ◌+◌, drop, Option, Some, None, is_some}
-use Rattle.ca_descent.specs.Exact.{Grammar, Sees, head_of, Before, Following}
+use Rattle.std.specs.Prelude.{◌≡◌, ℕ, ℤ, Bool, true, false, cond, ◌&&◌, ◌||◌, List, [], ◌∷◌, ◌+◌, drop, Option, Some, None, is_some}
+use Rattle.ca_descent.specs.Exact.{Sees, head_of, Before, Following}
 use Rattle.ca_tree.specs.declared.name.Place.{Place}
 use Rattle.ca_tree.specs.declared.token.Token.{Token}
 use Rattle.ca_tree.specs.declared.token.Keyword.TheVariants.{Long as LongKey, Bool as BoolKey, Public, If, Else, While, For}
@@ -154,9 +154,9 @@ abbrev pub FurtherClosed : TypeNode → Deriving MemberTree
 FurtherClosed ty = Before (sign OpenBracket) (Further ty)
 
 -- what stands behind the result and the name of a method
-pub data MethodOf (result : Option TypeNode) (n : List ℕ × Place) : ℕ → List Token → MemberTree → List Token → Type 0 where
+pub data MethodOf (result : Option TypeNode) (n : List ℕ × Place) : ℕ → List Token → List MemberTree → List Token → Type 0 where
   method_of : {free : ℕ} {s r : List Token} {m : List ParamNode × List Statement} → Signature free s m r
-      → MethodOf result n free s (method_member (record { result = result; name = n.0; at = n.1; params = m.0; body = statements m.1 })) r
+      → MethodOf result n free s (method_member (record { result = result; name = n.0; at = n.1; params = m.0; body = statements m.1 }) ∷ []) r
 
 -- what stands behind the type and the name of a member
 pub data MemberRest (ty : TypeNode) (n : List ℕ × Place) : ℕ → List Token → List MemberTree → List Token → Type 0 where

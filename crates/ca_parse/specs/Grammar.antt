@@ -28,7 +28,7 @@
 -- Each family has a constructor for each of its alternatives. A class, field, method or parameter has the place of its
 -- name, a statement that of its first token.
 use Rattle.std.specs.Prelude.{◌≡◌, ℕ, ℤ, pos, ◌+◌, ◌-◌, ◌<◌, Bool, true, false, cond, ◌&&◌, List, [], ◌∷◌, ◌++◌, length, take, Option, Some, None, is_some}
-use Rattle.ca_descent.specs.Exact.{Grammar, Unlimited, Sees, Asked, Separated, Following}
+use Rattle.ca_descent.specs.Exact.{Grammar, Sees, Asked, Separated, Following}
 use Rattle.ca_tree.specs.declared.name.Place.{Place}
 use Rattle.ca_tree.specs.declared.token.Token.{Token}
 use Rattle.ca_tree.specs.declared.token.Keyword.TheVariants.{Class as ClassKey, Public, Long as LongKey, Bool as BoolKey, Int, Void, If, Else, While, For, Return, New, Print, Main}
@@ -38,7 +38,7 @@ use Rattle.ca_tree.specs.declared.tree.TypeNode.TheVariants.{Long, Bool as BoolT
 use Rattle.ca_tree.specs.declared.tree.ParamNode.{ParamNode}
 use Rattle.ca_tree.specs.declared.tree.AssignOp.{AssignOp}
 use Rattle.ca_tree.specs.declared.tree.AssignOp.TheVariants.{Put, Add, Sub, Mul}
-use Rattle.ca_tree.specs.Plain.{Expression, RightSide, Statement, Statements, MethodTree, MemberTree, ClassTree, TextTree, number as number_tree, truth, null, this, named, call, field, method, index, unary, binary, value, new, empty, block, local, assign, call_statement, if_only, if_else, while_loop, for_loop, return_value, print_value, no_statements, statement_and, field_member, method_member}
+use Rattle.ca_tree.specs.Plain.{Expression, RightSide, Statement, Statements, MemberTree, ClassTree, TextTree, number as number_tree, truth, null, this, named, call, field, method, index, unary, binary, value, new, empty, block, local, assign, call_statement, if_only, if_else, while_loop, for_loop, return_value, print_value, no_statements, statement_and, field_member, method_member}
 use Rattle.ca_expressions.specs.Terminals.{key, sign, name, number, zero}
 use Rattle.ca_expressions.specs.Grammar.{OuterExpression, OuterChain, is_call, is_target}
 

@@ -17,6 +17,7 @@ use ca_tree::{
 };
 use std::alloc::{AllocFailed, Global};
 
+/// A parameter of a method.
 fn parse_param<'a>(
     alloc: Global,
     tokens: &'a [Token],
@@ -126,14 +127,13 @@ fn parse_fields<'a>(
     ensures answer { Exact (MemberRest ty (name, at)) (MemberRest ty (name, at)) tokens.now (answer (λ v. map member_view v.items) result) }
 {
     let (length, behind) = parse_length(tokens)?;
-    let mut out = Vec::new(alloc);
     let first = FieldNode {
         ty: copy_type(alloc, &ty)?,
         name,
         at,
         length,
     };
-    out.push(Member::Field(first))?;
+    let mut out = line(alloc, Member::Field(first))?;
     let mut rest = behind;
     'more: while let Some((_, more)) = sign_at(rest, Sign::Comma) {
         let (field, more) = parse_further(alloc, &ty, more)?;
@@ -164,27 +164,25 @@ fn parse_member<'a>(
 {
     if let Some((_, rest)) = key_at(tokens, Keyword::Void) {
         let ((name, at), rest) = take_name(alloc, rest)?;
-        let (method, rest) = parse_method(alloc, None, name, at, rest)?;
-        return Ok((line(alloc, method)?, rest));
+        return parse_method(alloc, None, name, at, rest);
     }
     let ((ty, _), rest) = parse_type(alloc, tokens)?;
     let ((name, at), rest) = take_name(alloc, rest)?;
     if is_sign(rest, Sign::OpenParenthesis) {
-        let (method, rest) = parse_method(alloc, Some(ty), name, at, rest)?;
-        return Ok((line(alloc, method)?, rest));
+        return parse_method(alloc, Some(ty), name, at, rest);
     }
     parse_fields(alloc, ty, name, at, rest)
 }
 
-/// A method behind its result and its name.
+/// A method behind its result and its name, as a line of its own.
 fn parse_method<'a>(
     alloc: Global,
     result_type: Option<TypeNode>,
     name: Name,
     at: Place,
     tokens: &'a [Token],
-) -> Result<(Member, &'a [Token]), Fault<'a>>
-    ensures answer { Exact (MethodOf result_type (name, at)) (MethodOf result_type (name, at)) tokens.now (answer member_view result) }
+) -> Result<(Vec<Member>, &'a [Token]), Fault<'a>>
+    ensures answer { Exact (MethodOf result_type (name, at)) (MethodOf result_type (name, at)) tokens.now (answer (λ v. map member_view v.items) result) }
 {
     let ((params, body), rest) = parse_signature(alloc, tokens)?;
     let method = MethodNode {
@@ -194,7 +192,7 @@ fn parse_method<'a>(
         params,
         body,
     };
-    Ok((Member::Method(method), rest))
+    Ok((line(alloc, Member::Method(method))?, rest))
 }
 
 /// The members of a line behind those before.

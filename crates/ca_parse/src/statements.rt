@@ -15,7 +15,7 @@ use crate::endings::ended;
 use crate::types::begins_local;
 use ca_expressions::{
     Fault, is_call, is_key, is_sign, is_target, key_at, parse_chain, parse_expression, sign_at,
-    take_sign,
+    take_sign, together,
 };
 use ca_tree::{ExprNode, Keyword, Place, Sign, StmtKind, StmtNode, Token};
 use std::alloc::{AllocError, Global};
@@ -48,11 +48,22 @@ fn if_else(at: Place, cond: ExprNode, yes: Box<StmtNode>, other: Box<StmtNode>) 
     StmtNode { at, kind }
 }
 
+/// A `while`.
 fn while_loop(at: Place, cond: ExprNode, body: Box<StmtNode>) -> StmtNode
     ensures { statement_view result ≡ while_tree at (expression_view cond) (statement_view (box_value body)) }
 {
     let kind = StmtKind::While { cond, body };
     StmtNode { at, kind }
+}
+
+/// The first as it is, and the second in a box. Without memory both are dropped here, in one function
+/// for values of all types.
+fn boxed<T: Drop, U: Drop>(alloc: Global, first: T, second: U) -> Result<(T, Box<U>), AllocError>
+    ensures first { IfOk result (λ p. p.0 ≡ first) }
+    ensures second { IfOk result (λ p. box_value p.1 ≡ second) }
+{
+    let second = Box::new(alloc, second)?;
+    Ok((first, second))
 }
 
 /// Each of the three in a box.
@@ -72,6 +83,7 @@ fn boxes<T: Drop>(
     Ok((first, second, third))
 }
 
+/// A `for`.
 fn for_loop(
     at: Place,
     first: Box<StmtNode>,
@@ -270,13 +282,16 @@ fn parse_if<'a>(
     ensures shut { IfOk result (λ p. is_some (head_of (key Else) p.1.now) ≡ true → is_open (statement_view p.0) ≡ false) }
 {
     let (cond, rest) = parse_condition(alloc, tokens)?;
-    let (yes, rest) = parse_statement(alloc, depth + 1, rest)?;
-    let yes = Box::new(alloc, yes)?;
+    let ((cond, yes), rest) = together(cond, parse_statement(alloc, depth + 1, rest))?;
+    let (cond, yes) = boxed(alloc, cond, yes)?;
     let Some((_, more)) = key_at(rest, Keyword::Else) else {
         return Ok((if_only(at, cond, yes), rest));
     };
-    let (other, rest) = parse_statement(alloc, depth + 1, more)?;
-    let other = Box::new(alloc, other)?;
+    let (((cond, yes), other), rest) = together(
+        (cond, yes),
+        parse_statement(alloc, depth + 1, more),
+    )?;
+    let ((cond, yes), other) = boxed(alloc, (cond, yes), other)?;
     Ok((if_else(at, cond, yes, other), rest))
 }
 
@@ -293,8 +308,8 @@ fn parse_while<'a>(
     ensures shut { IfOk result (λ p. is_some (head_of (key Else) p.1.now) ≡ true → is_open (statement_view p.0) ≡ false) }
 {
     let (cond, rest) = parse_condition(alloc, tokens)?;
-    let (body, rest) = parse_statement(alloc, depth + 1, rest)?;
-    let body = Box::new(alloc, body)?;
+    let ((cond, body), rest) = together(cond, parse_statement(alloc, depth + 1, rest))?;
+    let (cond, body) = boxed(alloc, cond, body)?;
     Ok((while_loop(at, cond, body), rest))
 }
 

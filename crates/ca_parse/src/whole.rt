@@ -26,7 +26,7 @@ pub enum ParseError {
     /// The number of the first wrong token, or the number of tokens where more are wanted.
     #[error("token {0} is wrong")]
     Syntax(usize),
-    /// The number of the first token that passes a limit on nesting.
+    /// The number of the first token that passes a limit on nesting, or on an expression's length.
     #[error("token {0} is nested too deeply")]
     Deep(usize),
     #[error("out of memory")]
@@ -53,6 +53,7 @@ fn parse_class<'a>(
     Ok((Some(ClassNode { name, at, members }), rest))
 }
 
+/// A class, or none where it is only declared.
 fn parse_declaration<'a>(
     alloc: Global,
     tokens: &'a [Token],
@@ -150,6 +151,7 @@ fn parse_main<'a>(
     Ok((kept(out, ends), rest))
 }
 
+/// The classes and `main`.
 fn parse_program<'a>(alloc: Global, tokens: &'a [Token]) -> Result<(Tree, &'a [Token]), Fault<'a>>
     ensures answer { Exact Program Program tokens.now (answer tree_view result) }
 {

@@ -1,15 +1,17 @@
-use Rattle.std.proofs.Common.{◌∷◌, [], sym, ◌∙◌, ap, subst, map, arith, is_some}
+use Rattle.std.proofs.Common.{◌≡◌, ◌∷◌, [], sym, ◌∙◌, ap, subst, map, arith, is_some}
 use Rattle.std.proofs.lemmas.Result.{err_from_is_err_and}
 use Rattle.std.proofs.lemmas.List.{map-append}
 use Rattle.ca_descent.specs.Exact.{Exact}
 use Rattle.ca_descent.proofs.Exact.{sees_got, sees_head, no_memory, sees_shorter, no_longer}
 use Rattle.ca_descent.proofs.Parts.{and_ok, and_failed, and_done}
 use Rattle.ca_expressions.specs.Terminals.{key, sign}
+use Rattle.ca_expressions.proofs.Readings.{read_got, read_failed, read_holds}
 use Rattle.ca_parse.proofs.Lines.{one_answer, loop_more, loop_failed, loop_end, loop_unclosed}
 use Rattle.ca_parse.proofs.Locals.{other_answer, local_answer}
 use Rattle.ca_parse.proofs.StatementFronts.{items_answer, item_lines}
 use Rattle.ca_parse.proofs.StatementRules.{nothing_answer, if_rest_answer, else_answer, without_answer, while_rest_answer, for_rest_answer, block_answer, if_answer, while_answer, for_answer, nested_deep, not_nested, none_nested, return_answer, print_answer}
-use Rattle.ca_parse.proofs.ChainStatements.{chain_answer, some_of, none_of, statements_are, tail_shut, simple_shut, return_shut, print_shut, no_item, other_statement, item_answer}
+use Rattle.ca_expressions.proofs.Fronts.{some_of, none_of}
+use Rattle.ca_parse.proofs.ChainStatements.{chain_answer, statements_are, tail_shut, simple_shut, return_shut, print_shut, no_item, other_statement, item_answer}
 use Rattle.ca_tree.specs.View.{statement_view}
 use Rattle.ca_tree.specs.declared.token.Keyword.TheVariants.{Else as K_Else, For as K_For, If as K_If, Print as K_Print, Return as K_Return, While as K_While}
 use Rattle.ca_tree.specs.declared.token.Sign.TheVariants.{OpenBrace as S_OpenBrace, Semicolon as S_Semicolon}
@@ -93,49 +95,76 @@ pub parse_if-returns-in_err-cond-clause-answer : goal.parse_if-returns-in_err-co
 parse_if-returns-in_err-cond-clause-answer t c =
     let p = err_from_is_err_and c.from_residual.result c.from_residual.ensures.1 in rw (p.1, p.2) (if_rest_answer _ _ (and_failed _ c.in_err-cond.ensures.answer))
 
-pub parse_if-returns-in_err-yes-clause-answer : goal.parse_if-returns-in_err-yes-clause-answer
-parse_if-returns-in_err-yes-clause-answer t c =
-    let p = err_from_is_err_and c.from_residual-in_err-yes.result c.from_residual-in_err-yes.ensures.1 in rw (p.1, p.2) (if_rest_answer _ _ (and_ok c.in_ok-cond.ensures.answer (and_failed _ c.in_err-yes.ensures.answer)))
+pub parse_if-returns-in_err-cond-2-clause-answer : goal.parse_if-returns-in_err-cond-2-clause-answer
+parse_if-returns-in_err-cond-2-clause-answer t c =
+    let p = err_from_is_err_and c.from_residual-in_err-cond-2.result c.from_residual-in_err-cond-2.ensures.1 in rw (p.1, p.2) (if_rest_answer _ _ (and_ok c.in_ok-cond.ensures.answer (and_failed _ (read_failed statement_view c.in_err-cond-2.ensures.failed c.parse_statement.ensures.answer))))
 
-pub parse_if-returns-in_err-yes-2-clause-answer : goal.parse_if-returns-in_err-yes-2-clause-answer
-parse_if-returns-in_err-yes-2-clause-answer t c =
-    let p = err_from_is_err_and c.from_residual-in_err-yes-2.result c.from_residual-in_err-yes-2.ensures.1 in rw (p.1, p.2) (no_memory)
+pub parse_if-returns-in_err-cond-3-clause-answer : goal.parse_if-returns-in_err-cond-3-clause-answer
+parse_if-returns-in_err-cond-3-clause-answer t c =
+    let p = err_from_is_err_and c.from_residual-in_err-cond-3.result c.from_residual-in_err-cond-3.ensures.1 in rw (p.1, p.2) (no_memory)
 
 pub parse_if-returns-in_default-clause-answer : goal.parse_if-returns-in_default-clause-answer
 parse_if-returns-in_default-clause-answer t c =
-    let e = rw c.in_ok-yes-2.ensures.ok at c.if_only.ensures in rw e (if_rest_answer _ _ (and_ok c.in_ok-cond.ensures.answer (and_ok c.in_ok-yes.ensures.answer (without_answer _ _ _ _ c.in_default.ensures.none))))
+    let yes = read_got statement_view c.in_ok-cond-2.ensures.found c.parse_statement.ensures.answer in
+    let e = rw (c.in_ok-cond-3.ensures.first, c.in_ok-cond-3.ensures.second, c.in_ok-cond-2.ensures.value) at c.if_only.ensures in
+    rw e (if_rest_answer _ _ (and_ok c.in_ok-cond.ensures.answer (and_ok yes (without_answer _ _ _ _ c.in_default.ensures.none))))
 
-pub parse_if-returns-in_err-other-clause-answer : goal.parse_if-returns-in_err-other-clause-answer
-parse_if-returns-in_err-other-clause-answer t c =
-    let p = err_from_is_err_and c.from_residual-in_err-other.result c.from_residual-in_err-other.ensures.1 in rw (p.1, p.2) (if_rest_answer _ _ (and_ok c.in_ok-cond.ensures.answer (and_ok c.in_ok-yes.ensures.answer (else_answer _ _ _ _ (c.in_ok-yes.ensures.shut (ap is_some (sees_head (key K_Else) c.in-Some.ensures.some))) (sees_head (key K_Else) c.in-Some.ensures.some) (and_ok (sees_got c.in-Some.ensures.some) (and_failed _ c.in_err-other.ensures.answer))))))
+pub parse_if-returns-in_err-cond-4-clause-answer : goal.parse_if-returns-in_err-cond-4-clause-answer
+parse_if-returns-in_err-cond-4-clause-answer t c =
+    let p = err_from_is_err_and c.from_residual-in_err-cond-4.result c.from_residual-in_err-cond-4.ensures.1 in
+    let d = c.in-Some.ensures.some in
+    let yes = read_got statement_view c.in_ok-cond-2.ensures.found c.parse_statement.ensures.answer in
+    let shut = read_holds _ c.in_ok-cond-2.ensures.found c.parse_statement.ensures.shut in
+    rw (p.1, p.2) (if_rest_answer _ _ (and_ok c.in_ok-cond.ensures.answer (and_ok yes (else_answer _ _ _ _ (shut (ap is_some (sees_head (key K_Else) d))) (sees_head (key K_Else) d)
+    (and_ok (sees_got d) (and_failed _ (read_failed statement_view c.in_err-cond-4.ensures.failed c.parse_statement-2.ensures.answer)))))))
 
-pub parse_if-returns-in_err-other-2-clause-answer : goal.parse_if-returns-in_err-other-2-clause-answer
-parse_if-returns-in_err-other-2-clause-answer t c =
-    let p = err_from_is_err_and c.from_residual-in_err-other-2.result c.from_residual-in_err-other-2.ensures.1 in rw (p.1, p.2) (no_memory)
+pub parse_if-returns-in_err-cond-5-clause-answer : goal.parse_if-returns-in_err-cond-5-clause-answer
+parse_if-returns-in_err-cond-5-clause-answer t c =
+    let p = err_from_is_err_and c.from_residual-in_err-cond-5.result c.from_residual-in_err-cond-5.ensures.1 in rw (p.1, p.2) (no_memory)
 
 pub parse_if-returns-clause-answer : goal.parse_if-returns-clause-answer
 parse_if-returns-clause-answer t c =
-    let e = rw (c.in_ok-yes-2.ensures.ok, c.in_ok-other-2.ensures.ok) at c.if_else.ensures in rw e (if_rest_answer _ _ (and_ok c.in_ok-cond.ensures.answer (and_ok c.in_ok-yes.ensures.answer (else_answer _ _ _ _ (c.in_ok-yes.ensures.shut (ap is_some (sees_head (key K_Else) c.in-Some.ensures.some))) (sees_head (key K_Else) c.in-Some.ensures.some) (and_ok (sees_got c.in-Some.ensures.some) (and_ok c.in_ok-other.ensures.answer and_done))))))
+    let d = c.in-Some.ensures.some in
+    let yes = read_got statement_view c.in_ok-cond-2.ensures.found c.parse_statement.ensures.answer in
+    let shut = read_holds _ c.in_ok-cond-2.ensures.found c.parse_statement.ensures.shut in
+    let other = read_got statement_view c.in_ok-cond-4.ensures.found c.parse_statement-2.ensures.answer in
+    let v = c.in_ok-cond-5.ensures.first ∙ c.in_ok-cond-4.ensures.value in
+    let f : c.in_ok-cond-5.cond ≡ c.in_ok-cond-3.cond = ap (λ z. z.0) v in
+    let g : c.in_ok-cond-5.yes ≡ c.in_ok-cond-3.yes = ap (λ z. z.1) v in
+    let e = rw (f, g, c.in_ok-cond-5.ensures.second, c.in_ok-cond-3.ensures.first, c.in_ok-cond-3.ensures.second, c.in_ok-cond-2.ensures.value) at c.if_else.ensures in
+    rw e (if_rest_answer _ _ (and_ok c.in_ok-cond.ensures.answer (and_ok yes (else_answer _ _ _ _ (shut (ap is_some (sees_head (key K_Else) d))) (sees_head (key K_Else) d)
+    (and_ok (sees_got d) (and_ok other and_done))))))
+
+pub parse_if-returns-clause-shut : goal.parse_if-returns-clause-shut
+parse_if-returns-clause-shut t c =
+    let e = rw c.in_ok-cond-5.ensures.second at c.if_else.ensures in rw e (read_holds _ c.in_ok-cond-4.ensures.found c.parse_statement-2.ensures.shut)
 
 pub parse_if-parse_statement-requires-2 : goal.parse_if-parse_statement-requires-2
 parse_if-parse_statement-requires-2 t c =
-    omega (arith, c.requires, sees_shorter c.in-Some.ensures.some, no_longer c.in_ok-yes.ensures.answer, c.in_ok-cond.ensures.shorter)
+    let yes = read_got statement_view c.in_ok-cond-2.ensures.found c.parse_statement.ensures.answer in
+    omega (arith, c.requires, sees_shorter c.in-Some.ensures.some, no_longer yes, c.in_ok-cond.ensures.shorter)
 
 pub parse_while-returns-in_err-cond-clause-answer : goal.parse_while-returns-in_err-cond-clause-answer
 parse_while-returns-in_err-cond-clause-answer t c =
     let p = err_from_is_err_and c.from_residual.result c.from_residual.ensures.1 in rw (p.1, p.2) (while_rest_answer _ _ (and_failed _ c.in_err-cond.ensures.answer))
 
-pub parse_while-returns-in_err-body-clause-answer : goal.parse_while-returns-in_err-body-clause-answer
-parse_while-returns-in_err-body-clause-answer t c =
-    let p = err_from_is_err_and c.from_residual-in_err-body.result c.from_residual-in_err-body.ensures.1 in rw (p.1, p.2) (while_rest_answer _ _ (and_ok c.in_ok-cond.ensures.answer (and_failed _ c.in_err-body.ensures.answer)))
+pub parse_while-returns-in_err-cond-2-clause-answer : goal.parse_while-returns-in_err-cond-2-clause-answer
+parse_while-returns-in_err-cond-2-clause-answer t c =
+    let p = err_from_is_err_and c.from_residual-in_err-cond-2.result c.from_residual-in_err-cond-2.ensures.1 in rw (p.1, p.2) (while_rest_answer _ _ (and_ok c.in_ok-cond.ensures.answer (and_failed _ (read_failed statement_view c.in_err-cond-2.ensures.failed c.parse_statement.ensures.answer))))
 
-pub parse_while-returns-in_err-body-2-clause-answer : goal.parse_while-returns-in_err-body-2-clause-answer
-parse_while-returns-in_err-body-2-clause-answer t c =
-    let p = err_from_is_err_and c.from_residual-in_err-body-2.result c.from_residual-in_err-body-2.ensures.1 in rw (p.1, p.2) (no_memory)
+pub parse_while-returns-in_err-cond-3-clause-answer : goal.parse_while-returns-in_err-cond-3-clause-answer
+parse_while-returns-in_err-cond-3-clause-answer t c =
+    let p = err_from_is_err_and c.from_residual-in_err-cond-3.result c.from_residual-in_err-cond-3.ensures.1 in rw (p.1, p.2) (no_memory)
 
 pub parse_while-returns-clause-answer : goal.parse_while-returns-clause-answer
 parse_while-returns-clause-answer t c =
-    let e = rw c.in_ok-body-2.ensures.ok at c.while_loop.ensures in rw e (while_rest_answer _ _ (and_ok c.in_ok-cond.ensures.answer (and_ok c.in_ok-body.ensures.answer and_done)))
+    let body = read_got statement_view c.in_ok-cond-2.ensures.found c.parse_statement.ensures.answer in
+    let e = rw (c.in_ok-cond-3.ensures.first, c.in_ok-cond-3.ensures.second, c.in_ok-cond-2.ensures.value) at c.while_loop.ensures in
+    rw e (while_rest_answer _ _ (and_ok c.in_ok-cond.ensures.answer (and_ok body and_done)))
+
+pub parse_while-returns-clause-shut : goal.parse_while-returns-clause-shut
+parse_while-returns-clause-shut t c =
+    let e = rw c.in_ok-cond-3.ensures.second at c.while_loop.ensures in rw e (read_holds _ c.in_ok-cond-2.ensures.found c.parse_statement.ensures.shut)
 
 pub parse_for-returns-in_err-rest-clause-answer : goal.parse_for-returns-in_err-rest-clause-answer
 parse_for-returns-in_err-rest-clause-answer t c =

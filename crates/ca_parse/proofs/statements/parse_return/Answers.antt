@@ -1,5 +1,5 @@
 use Rattle.std.proofs.lemmas.Result.{err_from_is_err_and}
-use Rattle.ca_descent.proofs.Parts.{and_ok, and_failed, and_done}
+use Rattle.ca_descent.proofs.Parts.{and_ok, and_failed}
 use Rattle.ca_parse.proofs.StatementRules.{return_rest_answer}
 use Rattle.ca_parse.proofs.Semicolons.{ended_answer}
 use Rattle.ca_tree.specs.View.{statement_view}

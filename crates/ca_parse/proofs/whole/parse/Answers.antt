@@ -3,7 +3,7 @@ use Rattle.std.proofs.lemmas.Bool.{eqb-true, eqb-false}
 use Rattle.ca_descent.specs.Whole.{FirstWrong, FirstDeep}
 use Rattle.ca_descent.proofs.Whole.{whole_got, whole_rest, whole_wrong, whole_deep}
 use Rattle.ca_parse.specs.Grammar.{DerivesFree}
-use Rattle.ca_parse.proofs.TextRules.{no_tokens, whole_all, wrong_within, deep_within}
+use Rattle.ca_parse.proofs.TextRules.{no_tokens, whole_all}
 use Rattle.ca_parse.proofs.whole.parse.Goals as goal
 
 pub returns-then-is_empty-clause-tree : goal.returns-then-is_empty-clause-tree

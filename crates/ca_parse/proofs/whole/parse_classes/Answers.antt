@@ -3,7 +3,7 @@ use Rattle.std.proofs.lemmas.Result.{err_from_is_err_and}
 use Rattle.std.proofs.lemmas.List.{map-append}
 use Rattle.ca_descent.proofs.Exact.{no_memory, shrinks}
 use Rattle.ca_parse.proofs.Lines.{loop_more, loop_failed, loop_end, loop_unclosed}
-use Rattle.ca_parse.proofs.ChainStatements.{some_of, none_of}
+use Rattle.ca_expressions.proofs.Fronts.{some_of, none_of}
 use Rattle.ca_parse.proofs.MemberRules.{declaration_lines, no_declaration}
 use Rattle.ca_tree.specs.View.{class_view}
 use Rattle.ca_parse.proofs.whole.parse_classes.Goals as goal

@@ -2,7 +2,8 @@ use Rattle.std.proofs.Common.{◌≡◌, ◌∷◌, [], sym, ◌∙◌, ap, map,
 use Rattle.std.proofs.lemmas.Result.{err_from_is_err_and}
 use Rattle.std.proofs.lemmas.List.{map-append}
 use Rattle.ca_descent.proofs.Exact.{no_memory, no_longer, shrinks}
-use Rattle.ca_parse.proofs.ChainStatements.{some_of, none_of, no_item}
+use Rattle.ca_expressions.proofs.Fronts.{some_of, none_of}
+use Rattle.ca_parse.proofs.ChainStatements.{no_item}
 use Rattle.ca_parse.proofs.TextRules.{main_start, main_more, main_loop_failed, main_unclosed, main_end, kept_view}
 use Rattle.ca_tree.specs.View.{statement_view}
 use Rattle.ca_parse.proofs.whole.parse_main.Goals as goal
