@@ -7,8 +7,11 @@ use std::test::Fail;
 
 /// The canonical text of the tree of a source.
 fn canonical(alloc: Global, source: &str) -> Result<Vec<u8>, Fail> {
-    let tree = tree(alloc, source)?;
-    Ok(unparse(alloc, &tree)?)
+    let text = {
+        let tree = tree(alloc, source)?;
+        unparse(alloc, &tree)
+    };
+    Ok(text?)
 }
 
 /// Sources and their canonical texts.
@@ -83,39 +86,50 @@ const OPERATORS: [(&str, u32); 13] = [
     ("%", 5),
 ];
 
+/// Whether `(a LOWER b) UPPER c` keeps its brackets, or else loses them.
+fn keeps_left(alloc: Global, upper: &str, lower: &str, kept: bool) -> Result<bool, Fail> {
+    let source = format!(in alloc; "int main() {{ print((a {} b) {} c); }}", lower, upper)?;
+    let expected = if kept {
+        format!(in alloc;
+            "int main ( ) {{\nprint ( ( a {} b ) {} c ) ;\n}}\n",
+            lower, upper
+        )?
+    } else {
+        format!(in alloc;
+            "int main ( ) {{\nprint ( a {} b {} c ) ;\n}}\n",
+            lower, upper
+        )?
+    };
+    let text = canonical(alloc, &source)?;
+    Ok(text.as_slice() == expected.as_bytes())
+}
+
+/// Whether `a UPPER (b LOWER c)` keeps its brackets, or else loses them.
+fn keeps_right(alloc: Global, upper: &str, lower: &str, kept: bool) -> Result<bool, Fail> {
+    let source = format!(in alloc; "int main() {{ print(a {} (b {} c)); }}", upper, lower)?;
+    let expected = if kept {
+        format!(in alloc;
+            "int main ( ) {{\nprint ( a {} ( b {} c ) ) ;\n}}\n",
+            upper, lower
+        )?
+    } else {
+        format!(in alloc;
+            "int main ( ) {{\nprint ( a {} b {} c ) ;\n}}\n",
+            upper, lower
+        )?
+    };
+    let text = canonical(alloc, &source)?;
+    Ok(text.as_slice() == expected.as_bytes())
+}
+
 #[test]
 fn writes_each_operator_under_each_other(rt: HostRuntime) -> Result<(), Fail> {
     let alloc = rt.alloc();
     for (upper, strength) in OPERATORS {
         for (lower, lower_strength) in OPERATORS {
-            let left = format!(in alloc; "int main() {{ print((a {} b) {} c); }}", lower, upper)?;
-            let text = canonical(alloc, &left)?;
-            let expected = if lower_strength < strength {
-                format!(in alloc;
-                    "int main ( ) {{\nprint ( ( a {} b ) {} c ) ;\n}}\n",
-                    lower, upper
-                )?
-            } else {
-                format!(in alloc;
-                    "int main ( ) {{\nprint ( a {} b {} c ) ;\n}}\n",
-                    lower, upper
-                )?
-            };
-            assert!(rt; text.as_slice() == expected.as_bytes(), "{left}");
-            let right = format!(in alloc; "int main() {{ print(a {} (b {} c)); }}", upper, lower)?;
-            let text = canonical(alloc, &right)?;
-            let expected = if lower_strength <= strength {
-                format!(in alloc;
-                    "int main ( ) {{\nprint ( a {} ( b {} c ) ) ;\n}}\n",
-                    upper, lower
-                )?
-            } else {
-                format!(in alloc;
-                    "int main ( ) {{\nprint ( a {} b {} c ) ;\n}}\n",
-                    upper, lower
-                )?
-            };
-            assert!(rt; text.as_slice() == expected.as_bytes(), "{right}");
+            let left = keeps_left(alloc, upper, lower, lower_strength < strength)?;
+            let right = keeps_right(alloc, upper, lower, lower_strength <= strength)?;
+            assert!(rt; left && right, "{upper} over {lower}");
         }
     }
     Ok(())

@@ -1,57 +1,78 @@
 //! Expressions among the members of a small class.
 
-use crate::sources::{tokens, tree};
-use ca_expressions::parse_expression;
-use ca_program::{ClassId, LocalId};
+use crate::sources::tree;
+use ca_program::{ClassId, Expr, LocalId};
 use ca_resolve::{
-    CheckError, ClassTable, Locals, Scope, Sort, Target, VisibleLocal, check_call, check_for,
+    ClassTable, Locals, Scope, Sort, Target, VisibleLocal, and_one, check_call, check_for,
     check_target, check_value,
 };
-use ca_tree::{ClassNode, ExprNode, Name};
-use std::alloc::Global;
+use ca_tree::{ClassNode, Name, StmtKind, StmtNode};
+use std::alloc::{AllocError, Global};
 use std::test::Fail;
 
-fn expression(alloc: Global, text: &str) -> Result<ExprNode, Fail> {
-    let tokens = tokens(alloc, text)?;
-    match parse_expression(alloc, &tokens) {
-        Ok((expression, _)) => Ok(expression),
-        Err(_) => Err(Fail::from("no expression")),
+/// Whether the expression of the statement resolves as the text below says.
+fn is_right(alloc: Global, scope: &Scope, stmt: &StmtNode) -> bool {
+    match &stmt.kind {
+        StmtKind::Print(e) => matches!(check_value(alloc, scope, e), Ok((_, Sort::Long))),
+        StmtKind::Return(e) => {
+            matches!(check_for(alloc, scope, Sort::Long, e), Ok(Expr::Local(_)))
+        }
+        StmtKind::Assign { target, .. } => {
+            matches!(
+                check_target(alloc, scope, target),
+                Ok((Target::Item(..), _))
+            )
+        }
+        StmtKind::Call(e) => check_call(alloc, scope, e).is_ok(),
+        _ => false,
     }
 }
 
-/// A sum, an item, and calls in the first class, where a local `long x` is visible; and a comparison
-/// that is no number.
-fn are_right<'a>(alloc: Global, classes: &'a [ClassNode], x: &'a Name) -> Result<bool, Fail> {
-    let table = ClassTable::new(alloc, classes)?;
+/// Whether all of the statements do, in the first of the classes and behind a local `long x`.
+fn are_right<'a>(
+    alloc: Global,
+    classes: &'a [ClassNode],
+    stmts: &[StmtNode],
+    x: &'a Name,
+) -> Result<bool, AllocError> {
     let mut locals = Locals::new(alloc);
     locals.push(VisibleLocal {
         name: x,
         id: LocalId(0),
         sort: Sort::Long,
     })?;
+    let table = ClassTable::new(alloc, classes)?;
     let scope = Scope {
         classes: &table,
         class: Some(ClassId(0)),
         locals: &locals,
     };
-    let (_, sort) = check_value(alloc, &scope, &expression(alloc, "n + f(x)")?)?;
-    let (target, _) = check_target(alloc, &scope, &expression(alloc, "a[x]")?)?;
-    let call = check_call(alloc, &scope, &expression(alloc, "o(x)")?)?;
-    let is_item = matches!(&target, Target::Item(field, _) if field.field == 1);
-    let is_told = match check_for(alloc, &scope, Sort::Long, &expression(alloc, "x == n")?) {
-        Err(CheckError::Violation(place, code)) => place.column == 3 && code.0 == 25,
-        _ => false,
-    };
-    Ok(sort.is_long() && is_item && call.arguments.len() == 1 && is_told)
+    let mut right = true;
+    for stmt in stmts {
+        right = right && is_right(alloc, &scope, stmt);
+    }
+    Ok(right)
 }
 
+/// A sum with a call is a number, `x` is a local, `a[x]` an item, and `o(x)` a call.
 #[test]
-fn values_calls_and_targets(rt: HostRuntime) -> Result<(), Fail> {
+fn resolves_expressions(rt: HostRuntime) -> Result<(), Fail> {
     let alloc = rt.alloc();
     let text = "class A { public: long n, a[3]; long f(long p) { return p; } void o(long p) { } };\
-        int main() { }";
-    let tree = tree(alloc, text)?;
+        int main() { print(n + f(x)); return x; a[x] = 1; o(x); }";
     let name = Name::new(alloc, b"x")?;
-    assert!(rt; are_right(alloc, &tree.classes, &name)?);
+    let tree = tree(alloc, text)?;
+    let told = are_right(alloc, &tree.classes, &tree.main, &name);
+    assert!(rt; matches!(told, Ok(true)) && tree.main.len() == 4);
     Ok(())
+}
+
+/// A value joins those before it.
+#[test]
+fn joins_values(rt: HostRuntime) {
+    let joined = match and_one(Ok(Vec::new(rt.alloc())), Ok(7u32)) {
+        Ok(values) => values.len() == 1,
+        Err(_) => false,
+    };
+    assert!(rt; joined);
 }

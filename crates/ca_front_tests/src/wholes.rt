@@ -2,35 +2,18 @@
 
 use crate::sources::{tokens, tree};
 use ca_parse::{ParseError, parse};
-use ca_tree::{AssignOp, Member, StmtKind};
+use ca_tree::{AssignOp, ClassNode, Member, StmtKind, StmtNode};
 use std::test::Fail;
 
-#[test]
-fn gives_each_part_its_place(rt: HostRuntime) -> Result<(), Fail> {
-    let text = "class A{public:B*b,*c[1];void f(long n)\
-        {if(n)b->n--;else d=new A;}};int main(){A*a;}";
-    let tree = tree(rt.alloc(), text)?;
-    let [class] = tree.classes.as_slice() else {
-        return Err(Fail::from("one class"));
-    };
-    let [
-        Member::Field(first),
-        Member::Field(second),
-        Member::Method(method),
-    ] = class.members.as_slice()
-    else {
-        return Err(Fail::from("two fields and a method"));
-    };
-    let [statement] = method.body.as_slice() else {
-        return Err(Fail::from("one statement"));
-    };
+/// Whether the branches of the `if` have the places of the text below.
+fn are_branches_placed(statement: &StmtNode) -> bool {
     let StmtKind::If {
         yes,
         no: Some(other),
         ..
     } = &statement.kind
     else {
-        return Err(Fail::from("an if with an else"));
+        return false;
     };
     let StmtKind::Assign {
         target,
@@ -38,19 +21,42 @@ fn gives_each_part_its_place(rt: HostRuntime) -> Result<(), Fail> {
         ..
     } = &yes.kind
     else {
-        return Err(Fail::from("a step down"));
+        return false;
     };
-    let [local] = tree.main.as_slice() else {
-        return Err(Fail::from("one local"));
+    yes.at.column == 46 && target.at.column == 47 && other.at.column == 58
+}
+
+/// Whether the class and its members do.
+fn is_class_placed(class: &ClassNode) -> bool {
+    let [
+        Member::Field(first),
+        Member::Field(second),
+        Member::Method(method),
+    ] = class.members.as_slice()
+    else {
+        return false;
     };
-    let places = [class.at, first.at, second.at, method.at, statement.at];
-    for (place, column) in places.iter().zip([7, 18, 21, 31, 41]) {
-        assert!(rt; place.column == column);
-    }
-    let places = [yes.at, target.at, other.at, local.at];
-    for (place, column) in places.iter().zip([46, 47, 58, 80]) {
-        assert!(rt; place.column == column);
-    }
+    let [statement] = method.body.as_slice() else {
+        return false;
+    };
+    class.at.column == 7
+        && first.at.column == 18
+        && second.at.column == 21
+        && method.at.column == 31
+        && statement.at.column == 41
+        && are_branches_placed(statement)
+}
+
+#[test]
+fn gives_each_part_its_place(rt: HostRuntime) -> Result<(), Fail> {
+    let text = "class A{public:B*b,*c[1];void f(long n)\
+        {if(n)b->n--;else d=new A;}};int main(){A*a;}";
+    let tree = tree(rt.alloc(), text)?;
+    let is_placed = match (tree.classes.as_slice(), tree.main.as_slice()) {
+        ([class], [local]) => is_class_placed(class) && local.at.column == 80,
+        _ => false,
+    };
+    assert!(rt; is_placed);
     Ok(())
 }
 
