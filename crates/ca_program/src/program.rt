@@ -47,6 +47,7 @@ pub struct FieldInfo {
     pub length: Option<u32>,
 }
 
+/// A class: its name, and its fields in order.
 #[derive(Drop, Debug)]
 pub struct Class {
     pub name: Name,
@@ -86,6 +87,10 @@ pub enum FirstPart {
     Assigns,
 }
 
+/// What a statement does. A put or a creation begins with its target, with the index behind an array
+/// field. A call has its receiver, the operation and the arguments. An `if` has its condition and two
+/// branches. A `for` has its number, what its first part does, and then the first part, the condition,
+/// the last part and the body.
 #[cycle(stmt)]
 #[derive(Drop, Debug)]
 pub enum StmtForm {
@@ -104,7 +109,8 @@ pub enum StmtForm {
     Print(Expr),
 }
 
-/// An expression. `Own` fields are those of the receiver.
+/// An expression. `Own` fields are those of the receiver, `Read` ones those of the object in front; an
+/// item has its index last. `Value` calls a value method of the object in front.
 #[derive(Drop, Debug)]
 pub enum Expr {
     Number(i64),
