@@ -15,8 +15,7 @@ use Rattle.ca_program.specs.Plain as program
 use Rattle.ca_program.specs.View.{expression_view, expressions_view}
 use Rattle.ca_resolve.specs.Values.{place_of, count_of, in_order}
 
--- a node's place is kept beside it
-pub place_kept : (k : ExprKind) (at : Place) → place_of (kind_view k at) ≡ at
+place_kept : (k : ExprKind) (at : Place) → place_of (kind_view k at) ≡ at
 place_kept (Number n) at = refl
 place_kept (Truth b) at = refl
 place_kept Null at = refl
@@ -28,6 +27,10 @@ place_kept (Method' p at1 e name shape all) at = refl
 place_kept (Index' p at1 e q at2 i) at = refl
 place_kept (Unary' op p at1 e) at = refl
 place_kept (Binary' op p at1 a q at2 b) at = refl
+
+-- a node's place is kept beside it
+pub place_is : (e : ExprNode) → place_of (node_view e) ≡ e.at
+place_is e = place_kept e.kind e.at
 
 pub method_is : (at : Place) (p : Box ExprNode Global) (name : Name) (v : Vec ExprNode Global) → kind_view (Method p name v) at ≡ method at (node_view p.value) name (nodes_view v.items)
 method_is at p name v = ap (λ (es : Expressions). method at (node_view p.value) name es) (tree.row_is_list v)

@@ -57,8 +57,8 @@ impl Numbers {
     }
 }
 
-/// The next number; a text that has none is larger than any memory.
-fn one_more(n: u32) -> Result<u32, AllocError>
+/// The next number; what has none is larger than any memory.
+pub fn one_more(n: u32) -> Result<u32, AllocError>
     ensures { IfOk result (λ m. m ≡ n + 1) }
 {
     n.checked_add(1).ok_or(AllocError)
@@ -79,7 +79,7 @@ pub(crate) fn member_table<'a>(
     let mut meanings = Vec::new(alloc);
     let mut next = numbers;
     for member in members {
-        names.push(name_of(member))?;
+        names.push(member_name(member))?;
         meanings.push(meaning_of(alloc, classes, next, member)?)?;
         next = next.after(member)?;
     }
@@ -92,7 +92,8 @@ pub(crate) fn member_table<'a>(
     Ok((MemberTable { names, meanings }, after))
 }
 
-fn name_of(member: &Member) -> &Name
+/// The name of the member.
+pub fn member_name(member: &Member) -> &Name
     ensures { result.now ≡ member_name (member_view member.now) }
 {
     match member {

@@ -1,6 +1,6 @@
 //! The rules of a node, where its parts have been looked at.
 
-ghost use Rattle.std.specs.Prelude.{◌≡◌, IfOk};
+ghost use Rattle.std.specs.Prelude.{◌≡◌, IfOk, box_value};
 ghost use Rattle.ca_tree.specs.View.{expression_view as node_view};
 ghost use Rattle.ca_program.specs.Plain.{Expression};
 ghost use Rattle.ca_program.specs.View.{expression_view};
@@ -64,6 +64,17 @@ fn member_read<'a>(
     }
 }
 
+/// Two values, each in a box.
+fn boxes<T: Drop>(alloc: Global, first: T, second: T) -> Result<(Box<T>, Box<T>), AllocError>
+    ensures first { IfOk result (λ p. box_value p.0 ≡ first) }
+    ensures second { IfOk result (λ p. box_value p.1 ≡ second) }
+{
+    let first = Box::new(alloc, first)?;
+    let second = Box::new(alloc, second)?;
+    Ok((first, second))
+}
+
+/// A field of the object.
 fn field_of(alloc: Global, object: Expr, id: FieldId) -> Result<Expr, AllocError>
     ensures { IfOk result (λ e. expression_view e ≡ field_of (expression_view object) id) }
 {
@@ -73,14 +84,15 @@ fn field_of(alloc: Global, object: Expr, id: FieldId) -> Result<Expr, AllocError
     Ok(Expr::Read(Box::new(alloc, object)?, id))
 }
 
+/// An item of an array field of the object.
 fn item_of(alloc: Global, object: Expr, id: FieldId, index: Expr) -> Result<Expr, AllocError>
     ensures { IfOk result (λ e. expression_view e ≡ item_of (expression_view object) id (expression_view index)) }
 {
-    let index = Box::new(alloc, index)?;
     if matches!(object, Expr::This) {
-        return Ok(Expr::OwnItem(id, index));
+        return Ok(Expr::OwnItem(id, Box::new(alloc, index)?));
     }
-    Ok(Expr::ReadItem(Box::new(alloc, object)?, id, index))
+    let (object, index) = boxes(alloc, object, index)?;
+    Ok(Expr::ReadItem(object, id, index))
 }
 
 /// The member of the receiver's class.
@@ -208,7 +220,6 @@ pub(crate) fn binary<'a>(
     if !takes_binary(op, &left_sort, &right_sort) {
         return Err(violation(at, 25));
     }
-    let left = Box::new(alloc, left)?;
-    let right = Box::new(alloc, right)?;
+    let (left, right) = boxes(alloc, left, right)?;
     Ok(Found::Value(Expr::Binary(op, left, right), binary_sort(op)))
 }

@@ -6,7 +6,7 @@ ghost use Rattle.ca_program.specs.Plain.{Expression};
 ghost use Rattle.ca_program.specs.View.{expression_view};
 ghost use Rattle.ca_resolve.specs.Judged.{Answers, Judged};
 ghost use Rattle.ca_resolve.specs.Scopes.{Found as PlainFound};
-ghost use Rattle.ca_resolve.specs.Rules.{is_target};
+ghost use Rattle.ca_resolve.specs.Rules.{is_item_target, is_target};
 ghost use Rattle.ca_resolve.specs.Values.{judge_item_target, judge_target};
 ghost use Rattle.ca_resolve.specs.View.{found_view, target_view, scope_view};
 
@@ -41,22 +41,32 @@ pub fn check_target<'a>(
         | ExprKind::Field(..)
         | ExprKind::Method(..)
         | ExprKind::Unary(..)
-        | ExprKind::Binary(..) => target(check_found(alloc, scope, e)?, e.at),
+        | ExprKind::Binary(..) => target(&check_found(alloc, scope, e)?, e.at),
     }
 }
 
 /// A local, or an own scalar field.
-fn target<'a>(found: Found<'a>, at: Place) -> Result<(Target, Sort<'a>), CheckError>
-    ensures { Answers target_view result (is_target (found_view found.entry) at) }
+fn target<'a>(found: &Found<'a>, at: Place) -> Result<(Target, Sort<'a>), CheckError>
+    ensures { Answers target_view result (is_target (found_view found.now) at) }
 {
     match found {
-        Found::Value(Expr::Local(id), sort) => Ok((Target::Local(id), sort)),
-        Found::Value(Expr::Own(id), sort) => Ok((Target::Field(id), sort)),
+        Found::Value(Expr::Local(id), sort) => Ok((Target::Local(*id), *sort)),
+        Found::Value(Expr::Own(id), sort) => Ok((Target::Field(*id), *sort)),
         Found::Value(..) | Found::Array(..) => Err(violation(at, 27)),
     }
 }
 
 /// An item of an own array field.
+fn own_item<'a>(array: &Found<'a>, index: Expr, at: Place) -> Result<(Target, Sort<'a>), CheckError>
+    ensures { Answers target_view result (is_item_target (found_view array.now) (expression_view index) at) }
+{
+    match array {
+        Found::Array(Expr::This, id, sort) => Ok((Target::Item(*id, index), *sort)),
+        Found::Array(..) | Found::Value(..) => Err(violation(at, 27)),
+    }
+}
+
+/// An item as a target.
 fn item_target<'a>(
     array: Result<Found<'a>, CheckError>,
     index: Result<Expr, CheckError>,
@@ -65,8 +75,5 @@ fn item_target<'a>(
     ensures { (j : Judged PlainFound) (k : Judged Expression) → Answers found_view array.entry j → Answers expression_view index k → Answers target_view result (judge_item_target j k at) }
 {
     let (array, index) = both(array, index)?;
-    match array {
-        Found::Array(Expr::This, id, sort) => Ok((Target::Item(id, index), sort)),
-        Found::Array(..) | Found::Value(..) => Err(violation(at, 27)),
-    }
+    own_item(&array, index, at)
 }

@@ -13,7 +13,7 @@ pub loop-member-preserved : goal.loop-member-preserved
 loop-member-preserved c =
     let x = c.member-item.result in (
       table_step c.args.classes.now c.args.numbers.class (numbers_view c.args.numbers) c.args.members.now c.loop-member.member-index x c.loop-member.names.items c.push.new.self.items c.loop-member.meanings.items c.push-in-loop-member.new.self.items
-          c.name_of.result c.in_ok-meaning_of.field-0 (numbers_view c.loop-member.next) (numbers_view c.in_ok-next.next) c.loop-member-test.true c.member-item.is c.name_of.ensures
+          c.member_name.result c.in_ok-meaning_of.field-0 (numbers_view c.loop-member.next) (numbers_view c.in_ok-next.next) c.loop-member-test.true c.member-item.is c.member_name.ensures
           (c.in_ok-meaning_of.ensures ∙ ap (λ k. meaning_of c.args.classes.now k (numbers_view c.loop-member.next) (member_view x)) c.loop-member.invariant.1)
           c.in_ok-next.ensures.numbers c.in_ok-push.ensures.items c.in_ok-push-2.ensures.items c.loop-member.invariant.0,
       c.in_ok-next.ensures.class ∙ c.loop-member.invariant.1,
