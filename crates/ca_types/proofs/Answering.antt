@@ -1,28 +1,11 @@
 -- How right answers for parts make right answers for the whole.
-use Rattle.std.proofs.Common.{◌≡◌, List, [], ◌∷◌, ◌++◌, Option, Some, None, Result, Ok, Err, map, Vec, Global, refl, sym, subst, ◌∙◌, ap, arith}
+use Rattle.std.proofs.Common.{◌≡◌, List, [], ◌∷◌, ◌++◌, Option, Some, None, Result, Ok, Err, map, Vec, Global, refl, sym, subst, ◌∙◌, ap}
 use Rattle.std.proofs.lemmas.List.{map-append}
 use Rattle.ca_resolve.specs.declared.errors.CheckError.{CheckError}
-use Rattle.ca_resolve.specs.declared.errors.CheckError.TheVariants.{Violation as Tells_violation, Limit as Tells_limit, Memory}
-use Rattle.ca_resolve.specs.Judged.{Violation, Judged, fine, faulty, violations, both, within, unless, beside, Tells, Answers, Finds, Joins, Extends}
+use Rattle.ca_resolve.specs.Judged.{Violation, Judged, fine, violations, both, within, unless, beside, Tells, Answers, Finds, Joins, Extends}
+use Rattle.ca_resolve.proofs.Judging.{both_violations, finds, within_tells}
 use Rattle.ca_types.specs.Rules.{listed}
 use Rattle.ca_types.specs.Statements.{added}
-
-both_violations : {A B : Type 0} (j : Judged A) (k : Judged B) → violations (both j k) ≡ violations j ++ violations k
-both_violations (fine a) (fine b) = refl
-both_violations (fine a) (faulty u us) = refl
-both_violations (faulty v vs) k = refl
-
--- an answer finds the violations
-pub finds : {T A : Type 0} (view : T → A) (r : Result T CheckError) (j : Judged A) → Answers view r j → Finds r (violations j)
-finds view (Ok t) j h = ap violations h
-finds view (Err e) j h = h
-
--- where an error tells nothing, nothing else is claimed of it
-pub within_err : {A B : Type 0} (e : CheckError) (j : Judged A) (rule : A → Judged B) → Tells e (violations j) → Tells e (violations (within j rule))
-within_err (Tells_violation at code) (fine a) rule h = absurd (omega (arith, h.1.one.1))
-within_err (Tells_limit at code) (fine a) rule h = absurd (omega (arith, h.1.one.1))
-within_err Memory (fine a) rule h = (tt, tt)
-within_err e (faulty v vs) rule h = h
 
 pub within_ok : {A B : Type 0} (j : Judged A) (rule : A → Judged B) (a : A) → j ≡ fine a → within j rule ≡ rule a
 within_ok j rule a h = ap (λ k. within k rule) h
@@ -50,7 +33,7 @@ extended f a b (Ok w) j k h x y =
     let e : map f w.items ≡ map f h.0.items ++ f h.1 ∷ [] = ap (map f) h.4 ∙ map-append f h.0.items (h.1 ∷ []) in
     rw x2 (rw y2 (ap (λ (zs : List _). fine zs) (sym e)))
 extended f a b (Err e) j k h x y =
-    within_err e (both j k) (λ p. fine (p.0 ++ p.1 ∷ []))
+    within_tells e (both j k) (λ p. fine (p.0 ++ p.1 ∷ []))
     (subst (λ vs. Tells e vs) (sym (both_violations j k)) (h (violations j) (violations k) (finds (λ (v : Vec _ Global). map f v.items) a j x) (finds f b k y)))
 
 -- the rule of a node's own
@@ -74,13 +57,9 @@ pair_breaks a b r e (Some v) (Some w) x h p q k = (subst (λ z. Joins a b z) k h
 pub own_tells : {A B : Type 0} (e : CheckError) (j : Judged A) (rule : A → Judged B) (a : A) → j ≡ fine a → Tells e (violations (rule a)) → Tells e (violations (within j rule))
 own_tells e j rule a h t = subst (λ k. Tells e (violations (within k rule))) (sym h) t
 
-pub joined_tells : {T U A B : Type 0} (f : T → A) (g : U → B) (a : Result T CheckError) (b : Result U CheckError) (r : Result (T × U) CheckError) (e : CheckError) (j : Judged A) (k : Judged B)
-    → Joins a b r → Answers f a j → Answers g b k → r ≡ Err e → Tells e (violations (both j k))
-joined_tells f g a b r e j k h x y q = subst (λ z. Answers (λ (p : _ × _). (f p.0, g p.1)) z (both j k)) q (joined f g a b r j k h x y)
-
-pub besides_tells : {T U A : Type 0} (f : U → A) (a : Result T CheckError) (b : Result U CheckError) (r : Result (T × U) CheckError) (e : CheckError) (v : Option Violation) (k : Judged A)
-    → Joins a b r → Finds a (listed v) → Answers f b k → r ≡ Err e → Tells e (violations (beside v k))
-besides_tells f a b r e v k h x y q = subst (λ z. Answers (λ (p : _ × _). f p.1) z (beside v k)) q (besides f a b r v k h x y)
+pub beside_exit : {T U A B : Type 0} (f : U → A) (a : Result T CheckError) (b : Result U CheckError) (r : Result (T × U) CheckError) (e : CheckError) (v : Option Violation) (k : Judged A) (rule : A → Judged B)
+    → r ≡ Err e → Joins a b r → Finds a (listed v) → Answers f b k → Tells e (violations (within (beside v k) rule))
+beside_exit f a b r e v k rule is h x y = within_tells e (beside v k) rule (subst (λ z. Answers (λ (p : _ × _). f p.1) z (beside v k)) is (besides f a b r v k h x y))
 
 pub pair_stands : {T U A : Type 0} (a : Result T CheckError) (b : Result U CheckError) (r : Result (T × U) CheckError) (p : T × U) (v w : Option Violation) (x : A)
     → Joins a b r → Finds a (listed v) → Finds b (listed w) → r ≡ Ok p → beside v (unless w x) ≡ fine x

@@ -1,14 +1,12 @@
 -- A walk over a list of parameters, members or classes.
-use Rattle.std.proofs.Common.{◌≡◌, ℕ, ◌+◌, ◌<◌, ◌≤◌, suc, List, [], ◌∷◌, map, drop, length, get_or, refl, sym, ◌∙◌, ap, arith}
-use Rattle.std.proofs.Math.Seq.{drop-cons}
+use Rattle.std.proofs.Common.{◌≡◌, ℕ, ◌+◌, ◌<◌, ◌≤◌, List, [], ◌∷◌, map, drop, length, get_or, refl, sym, ◌∙◌, ap}
 use Rattle.std.proofs.lemmas.List.{drop_all}
 use Rattle.ca_resolve.specs.Judged.{Judged}
+use Rattle.ca_resolve.proofs.Tables.{next_read}
 use Rattle.ca_types.specs.Classes.{walked, gathered}
 
 pub next_item : {X Y : Type 0} (view : X → Y) (xs : List X) (i : ℕ) (x : X) → i < length xs → x ≡ get_or xs i x → map view (drop i xs) ≡ view x ∷ map view (drop (i + 1) xs)
-next_item view xs i x h e =
-    let n : i + 1 ≡ suc i = omega arith in
-    ap (map view) (drop-cons xs i x h ∙ ap (λ y. y ∷ drop (suc i) xs) (sym e)) ∙ ap (λ m. view x ∷ map view (drop m xs)) (sym n)
+next_item view xs i x h e = ap (map view) (next_read xs i x h e)
 
 -- the items of a list from i on, behind others that gave `front`, are all that is left of the whole
 pub record Rest {S T A : Type 0} (next : S → T → S) (add : S → Judged A → T → Judged A) (s0 : S) (front0 : Judged A) (all : List T) (s : S) (front : Judged A) (rest : List T) : Type 0 where
@@ -31,8 +29,3 @@ rest_end next add s0 s front0 front all xs e r = (r.judged ∙ ap (gathered next
 
 pub none_left : {X Y : Type 0} (view : X → Y) (xs : List X) (i : ℕ) → length xs ≤ i → map view (drop i xs) ≡ []
 none_left view xs i h = ap (map view) (drop_all i xs h)
-
-pub next_plain : {X : Type 0} (xs : List X) (i : ℕ) (x : X) → i < length xs → x ≡ get_or xs i x → drop i xs ≡ x ∷ drop (i + 1) xs
-next_plain xs i x h e =
-    let n : i + 1 ≡ suc i = omega arith in
-    drop-cons xs i x h ∙ (ap (λ y. y ∷ drop (suc i) xs) (sym e) ∙ ap (λ m. x ∷ drop m xs) (sym n))

@@ -1,18 +1,16 @@
 -- A walk over the statements of a list.
-use Rattle.std.proofs.Common.{◌≡◌, ℕ, ◌+◌, ◌<◌, ◌≤◌, suc, List, [], ◌∷◌, drop, length, get_or, sym, ◌∙◌, ap, arith}
-use Rattle.std.proofs.Math.Seq.{drop-cons}
+use Rattle.std.proofs.Common.{◌≡◌, ℕ, ◌+◌, ◌<◌, ◌≤◌, List, [], drop, length, get_or, sym, ◌∙◌, ap}
 use Rattle.std.proofs.lemmas.List.{drop_all}
 use Rattle.ca_tree.specs.declared.tree.StmtNode.{StmtNode}
 use Rattle.ca_tree.specs.Plain.{Statements, statement_and}
 use Rattle.ca_tree.specs.View.{statement_view, statements_view}
 use Rattle.ca_program.specs.Plain as program
 use Rattle.ca_resolve.specs.Judged.{Judged, fine}
+use Rattle.ca_resolve.proofs.Tables.{next_read}
 use Rattle.ca_types.specs.Statements.{Standing, behind, behind_all, added, judge_statement, judge_statements}
 
 next_statement : (xs : List StmtNode) (i : ℕ) (s : StmtNode) → i < length xs → s ≡ get_or xs i s → statements_view (drop i xs) ≡ statement_and (statement_view s) (statements_view (drop (i + 1) xs))
-next_statement xs i s h e =
-    let n : i + 1 ≡ suc i = omega arith in
-    ap statements_view (drop-cons xs i s h ∙ ap (λ y. y ∷ drop (suc i) xs) (sym e)) ∙ ap (λ m. statement_and (statement_view s) (statements_view (drop m xs))) (sym n)
+next_statement xs i s h e = ap statements_view (next_read xs i s h e)
 
 -- the statements of a list from i on, behind others that gave `front`, are all that is left of the whole
 pub record Left (c0 : Standing) (all : Statements) (c : Standing) (front : Judged (List program.Statement)) (rest : Statements) : Type 0 where

@@ -153,10 +153,12 @@ right_sort Add t = Some long
 right_sort Sub t = Some long
 right_sort Mul t = Some long
 
+-- an assignment of judged parts
+abbrev pub judge_assignment : Option Sort → Bool → Place → AssignOp → Judged (Target × Sort) → Judged Source → Judged program.Statement
+judge_assignment result creates at op target source = within (both target source) (λ p. unless (creates_nothing result creates at) (put at.line p.0.0 op p.1))
+
 abbrev pub judge_assign : Standing → Place → Judged (Target × Sort) → AssignOp → RightSide → Judged program.Statement
-judge_assign c at target op right =
-    within (both target (judge_right c.scope (right_sort op target) right))
-    (λ p. unless (creates_nothing c.result (creates right) at) (put at.line p.0.0 op p.1))
+judge_assign c at target op right = judge_assignment c.result (creates right) at op target (judge_right c.scope (right_sort op target) right)
 
 -- locals
 
@@ -177,10 +179,14 @@ abbrev pub start_creates : Option RightSide → Bool
 start_creates None = false
 start_creates (Some right) = creates right
 
+-- a local of its judged type and first value, by whether it creates and is declared again
+abbrev pub judge_declaration : ℕ → Target → Option Violation → Option Violation → Judged (ValueType × Source) → Judged program.Statement
+judge_declaration line target created again parts = within parts (λ p. beside created (unless again (put line target Put p.1)))
+
 abbrev pub judge_local : Standing → Place → TypeNode → List ℕ → Place → Option RightSide → Judged program.Statement
 judge_local c at ty name name_at right =
-    within (beside (local_limit (length c.locals) name_at) (both (judge_type c.scope.classes.names ty) (judge_start c.scope (sort_of c.scope.classes.names ty) right)))
-    (λ p. beside (creates_nothing c.result (start_creates right) at) (unless (local_once c.first (find_local c.scope.locals name) name_at) (put at.line (to_local (record { 0 = length c.locals })) Put p.1)))
+    judge_declaration at.line (to_local (record { 0 = length c.locals })) (creates_nothing c.result (start_creates right) at) (local_once c.first (find_local c.scope.locals name) name_at)
+    (beside (local_limit (length c.locals) name_at) (both (judge_type c.scope.classes.names ty) (judge_start c.scope (sort_of c.scope.classes.names ty) right)))
 
 -- calls, conditions, `return` and `print`
 

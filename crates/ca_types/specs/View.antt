@@ -40,6 +40,10 @@ abbrev pub source_view : CodeSource → Source
 source_view (Value e) = of_value (expression_view e)
 source_view (New c) = of_new c
 
+-- the type and the first value of a local, where no limit is passed
+abbrev pub local_parts_view : Unit {0} × (ValueType × CodeSource) → ValueType × Source
+local_parts_view p = (p.1.0, source_view p.1.1)
+
 -- a result other than want of memory
 abbrev pub Tells_something : {T : Type 0} → Result T CheckError → Type 0
 Tells_something (Ok t) = Unit {0}

@@ -12,16 +12,13 @@ ghost use Rattle.ca_types.specs.Rules.{listed, class_once};
 ghost use Rattle.ca_types.specs.Classes.{behind_member, behind_members, add_member, judge_members, class_begin, behind_class, behind_classes, judge_class, judge_classes, first_class, with_field, with_method, with_class, Members as PlainMembers, Parts as PlainParts};
 ghost use Rattle.ca_types.specs.View.{member_standing, class_standing, counts_view, members_view, parts_view};
 
+use crate::limits::{MOST_CLASSES, bound};
 use crate::members::{Counts, MemberWalk, check_field, check_method};
-use crate::rules::{bound, rule};
-use crate::statements::Answer;
+use crate::rules::{Answer, rule};
 use ca_program::{Class, ClassId, FieldInfo, Method};
-use ca_resolve::{CheckError, ClassTable, Names, both};
+use ca_resolve::{ClassTable, Names, both, member_name, one_more};
 use ca_tree::{ClassNode, Member, Name, TypeNode};
 use std::alloc::{AllocError, Global};
-
-/// The most classes of a program.
-const MOST_CLASSES: u32 = 256;
 
 /// What the members of a class resolve to.
 #[derive(Drop)]
@@ -48,29 +45,13 @@ pub(crate) struct ClassWalk<'s, 'a> {
     pub(crate) loops: u32,
 }
 
-/// One more; what has no number is larger than any memory.
-fn one_more(n: u32) -> Result<u32, AllocError>
-    ensures { IfOk result (λ m. m ≡ n + 1) }
-{
-    n.checked_add(1).ok_or(AllocError)
-}
-
-fn name_of(member: &Member) -> &Name
-    ensures { result.now ≡ member_name (member_view member.now) }
-{
-    match member {
-        Member::Field(field) => &field.name,
-        Member::Method(method) => &method.name,
-    }
-}
-
 /// The names of the members of a class in order.
 fn names_of<'a>(alloc: Global, members: &'a [Member]) -> Result<Names<'a>, AllocError>
     ensures { IfOk result (λ names. names ≡ map member_name (map member_view members.now)) }
 {
     let mut all = Vec::new(alloc);
     for member in members {
-        all.push(name_of(member))?;
+        all.push(member_name(member))?;
     }
     Names::new(alloc, all)
 }

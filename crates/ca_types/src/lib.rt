@@ -7,11 +7,12 @@
 //! where each statement stands and what it resolves to, and `specs/Classes.antt` does the same for
 //! members, classes and the whole tree (`judge`, `Violations`, `Resolved`).
 //!
-//! The walk goes once over the tree. It looks at everything, whatever is broken, and of two
-//! violations it keeps the lesser.
+//! The walk goes once over the tree, and once more over the bodies of value methods, for their
+//! `return`s. It looks at everything, whatever is broken, and of two violations it keeps the lesser.
 #![tactic(auto)]
 
 mod classes;
+mod limits;
 mod lines;
 mod members;
 mod program;

@@ -12,15 +12,15 @@ ghost use Rattle.ca_types.specs.Statements.{judge_condition, judge_call_statemen
 ghost use Rattle.ca_types.specs.View.{standing_view};
 
 use crate::puts::check_wanted;
-use crate::rules::rule;
+use crate::rules::{Answer, rule};
 use crate::walk::Walk;
 use ca_program::{Expr, OpId, Stmt, StmtForm};
-use ca_resolve::{Callee, CheckError, Scope, Sort, both, check_call, check_value, violation};
+use ca_resolve::{Callee, Scope, Sort, both, check_call, check_value, violation};
 use ca_tree::{ExprNode, Place};
 use std::alloc::Global;
 
 /// The operation that a statement calls.
-fn called_operation(returned: &Option<Sort>, callee: &Callee, at: Place) -> Result<OpId, CheckError>
+fn called_operation(returned: &Option<Sort>, callee: &Callee, at: Place) -> Answer<OpId>
     ensures { Answers (λ o. o) result (called_operation (option_map sort_view returned.now) (callee_view callee.now) at) }
 {
     match callee {
@@ -41,7 +41,7 @@ pub(crate) fn check_call_statement(
     walk: &Walk,
     at: Place,
     e: &ExprNode,
-) -> Result<Stmt, CheckError>
+) -> Answer<Stmt>
     ensures { Answers program.statement_view result (judge_call_statement (standing_view walk.now) at (expression_view e.now)) }
 {
     let call = check_call(alloc, &walk.scope(), e)?;
@@ -53,11 +53,7 @@ pub(crate) fn check_call_statement(
 }
 
 /// The condition of an `if` or a loop.
-pub(crate) fn check_condition(
-    alloc: Global,
-    scope: &Scope,
-    e: &ExprNode,
-) -> Result<Expr, CheckError>
+pub(crate) fn check_condition(alloc: Global, scope: &Scope, e: &ExprNode) -> Answer<Expr>
     ensures { Answers program.expression_view result (judge_condition (scope_view scope.now) (expression_view e.now)) }
 {
     let (value, sort) = check_value(alloc, scope, e)?;
@@ -69,12 +65,7 @@ pub(crate) fn check_condition(
 }
 
 /// A `return`.
-pub(crate) fn check_return(
-    alloc: Global,
-    walk: &Walk,
-    at: Place,
-    e: &ExprNode,
-) -> Result<Stmt, CheckError>
+pub(crate) fn check_return(alloc: Global, walk: &Walk, at: Place, e: &ExprNode) -> Answer<Stmt>
     ensures { Answers program.statement_view result (judge_return (standing_view walk.now) at (expression_view e.now)) }
 {
     let value = check_wanted(alloc, &walk.scope(), walk.result, e)?;
@@ -88,26 +79,21 @@ pub(crate) fn check_return(
 }
 
 /// A number or a truth value is printed.
-fn printed_agrees(sort: &Sort, at: Place) -> Result<(), CheckError>
+fn printed_agrees(sort: &Sort, at: Place) -> Answer<()>
     ensures { Finds result (listed (printed_agrees (sort_view sort.now) at)) }
 {
     rule(!(sort.is_long() || sort.is_truth()), at, 25)
 }
 
 /// A value method prints nothing.
-fn prints_nothing(returned: &Option<Sort>, at: Place) -> Result<(), CheckError>
+fn prints_nothing(returned: &Option<Sort>, at: Place) -> Answer<()>
     ensures { Finds result (listed (prints_nothing (option_map sort_view returned.now) at)) }
 {
     rule(returned.is_some(), at, 29)
 }
 
 /// A `print`.
-pub(crate) fn check_print(
-    alloc: Global,
-    walk: &Walk,
-    at: Place,
-    e: &ExprNode,
-) -> Result<Stmt, CheckError>
+pub(crate) fn check_print(alloc: Global, walk: &Walk, at: Place, e: &ExprNode) -> Answer<Stmt>
     ensures { Answers program.statement_view result (judge_print (standing_view walk.now) at (expression_view e.now)) }
 {
     let (value, sort) = check_value(alloc, &walk.scope(), e)?;

@@ -13,23 +13,16 @@ ghost use Rattle.ca_types.specs.Classes.{behind_parameters, judge_parameter, jud
 ghost use Rattle.ca_types.specs.View.{standing_view, member_standing, all_view, method_parts_view};
 ghost use Rattle.ca_program.specs.declared.program.ValueType.{ValueType as PlainType};
 
-use crate::rules::{bound, check_type, rule};
-use crate::statements::{Answer, check_statements};
+use crate::limits::{
+    MOST_FIELDS, MOST_FUNCTIONS, MOST_ITEMS, MOST_LOCALS, MOST_OPERATIONS, MOST_PARAMETERS, bound,
+};
+use crate::rules::{Answer, check_type, rule};
+use crate::statements::check_statements;
 use crate::walk::Walk;
 use ca_program::{Body, ClassId, FieldInfo, Method, Stmt, ValueType};
-use ca_resolve::{CheckError, ClassTable, Names, Sort, both};
+use ca_resolve::{ClassTable, Names, Sort, both};
 use ca_tree::{FieldNode, MethodNode, Name, ParamNode, Place, StmtKind, StmtNode, TypeNode};
 use std::alloc::{AllocError, Global};
-
-/// The most fields, operations and value methods, and the most locals of a body.
-const MOST: u32 = 256;
-
-const MOST_LOCALS: usize = 256;
-
-const MOST_PARAMETERS: usize = 32;
-
-/// The most items of an array.
-const MOST_ITEMS: i64 = 1_000_000;
 
 /// How many fields of the class, and operations and value methods of the program, come before.
 #[derive(Clone, Copy)]
@@ -139,7 +132,7 @@ pub(crate) fn check_field(
 ) -> Answer<FieldInfo>
     ensures { Answers (λ f. f) result (judge_field_member (member_standing standing.now) field.now) }
 {
-    let many = bound(standing.counts.fields == MOST, field.at, 51);
+    let many = bound(standing.counts.fields == MOST_FIELDS, field.at, 51);
     let long = length_limit(field.length, field.at);
     let written = check_type(standing.classes, &field.ty);
     let (_, (_, ty)) = both(many, both(long, written))?;
@@ -219,8 +212,8 @@ fn method_limit(standing: &MemberWalk, method: &MethodNode) -> Answer<()>
     ensures { Finds result (listed (method_limit (member_standing standing.now).numbers method.now.result method.now.at)) }
 {
     match &method.result {
-        None => bound(standing.counts.operations == MOST, method.at, 52),
-        Some(_) => bound(standing.counts.functions == MOST, method.at, 53),
+        None => bound(standing.counts.operations == MOST_OPERATIONS, method.at, 52),
+        Some(_) => bound(standing.counts.functions == MOST_FUNCTIONS, method.at, 53),
     }
 }
 

@@ -9,7 +9,8 @@ ghost use Rattle.ca_types.specs.View.{parts_view, all_view};
 ghost use Rattle.ca_program.specs.Plain.{Statement};
 
 use crate::classes::{Parts, check_classes};
-use crate::statements::{Answer, check_statements};
+use crate::rules::Answer;
+use crate::statements::check_statements;
 use crate::walk::Walk;
 use ca_program::{Body, Program, Stmt, ValueType};
 use ca_resolve::{CheckError, ClassTable, both};

@@ -1,28 +1,27 @@
 //! Assignments and declarations of locals.
 
-ghost use Rattle.std.specs.Prelude.{◌≡◌, IfOk, pos, length};
+ghost use Rattle.std.specs.Prelude.{◌≡◌, IfOk, Option};
 ghost use Rattle.std.specs.Option.{option_map};
 ghost use Rattle.ca_tree.specs.View.{expression_view, right_view, option_right_view};
 ghost use Rattle.ca_program.specs.View as program;
-ghost use Rattle.ca_resolve.specs.Judged.{Answers, Finds, Judged};
+ghost use Rattle.ca_program.specs.declared.program.ValueType.{ValueType as PlainType};
+ghost use Rattle.ca_resolve.specs.Judged.{Answers, Finds, Judged, Violation};
 ghost use Rattle.ca_resolve.specs.Scopes.{Target as PlainTarget, Sort as PlainSort};
 ghost use Rattle.ca_resolve.specs.LocalView.{sort_view};
 ghost use Rattle.ca_resolve.specs.View.{scope_view, target_view};
 ghost use Rattle.ca_types.specs.Rules.{listed, is_own, is_put, compound_agrees, writes_no_field, creates_nothing};
-ghost use Rattle.ca_types.specs.Statements.{creates, start_creates, start_value, put, judge_wanted, judge_right, judge_put_target, judge_assign, judge_start, judge_local, right_sort};
-ghost use Rattle.ca_types.specs.View.{standing_view, source_view, Tells_something};
+ghost use Rattle.ca_types.specs.Statements.{Source as PlainSource, creates, start_creates, start_value, put, judge_wanted, judge_right, judge_put_target, judge_assignment, judge_assign, judge_start, judge_declaration, judge_local, right_sort};
+ghost use Rattle.ca_types.specs.View.{standing_view, source_view, local_parts_view, Tells_something};
 
-use crate::rules::{bound, check_type, class_defined, rule};
+use crate::limits::{MOST_LOCALS, bound};
+use crate::rules::{Answer, check_type, class_defined, rule};
 use crate::walk::Walk;
-use ca_program::{AssignOp, ClassId, Expr, Stmt, StmtForm};
+use ca_program::{AssignOp, ClassId, Expr, Stmt, StmtForm, ValueType};
 use ca_resolve::{
     CheckError, Scope, Sort, Target, both, check_for, check_target, check_value, violation,
 };
 use ca_tree::{ExprNode, Name, Place, Right, TypeNode};
 use std::alloc::{AllocError, Global};
-
-/// The most locals of a body.
-const MOST_LOCALS: usize = 256;
 
 /// What a target is put to: a value, or a new object of a class.
 #[derive(Drop)]
@@ -37,7 +36,7 @@ pub(crate) fn check_wanted(
     scope: &Scope,
     wanted: Option<Sort>,
     e: &ExprNode,
-) -> Result<Expr, CheckError>
+) -> Answer<Expr>
     ensures { Answers program.expression_view result (judge_wanted (scope_view scope.now) (option_map sort_view wanted.entry) (expression_view e.now)) }
 {
     match wanted {
@@ -50,12 +49,7 @@ pub(crate) fn check_wanted(
 }
 
 /// The right side of a target, whose type may be known.
-fn check_right(
-    alloc: Global,
-    scope: &Scope,
-    wanted: Option<Sort>,
-    right: &Right,
-) -> Result<Source, CheckError>
+fn check_right(alloc: Global, scope: &Scope, wanted: Option<Sort>, right: &Right) -> Answer<Source>
     ensures { Answers source_view result (judge_right (scope_view scope.now) (option_map sort_view wanted.entry) (right_view right.now)) }
 {
     match right {
@@ -129,25 +123,21 @@ fn put(line: u32, target: (Target, Sort), op: AssignOp, source: Source) -> Stmt
 }
 
 /// A compound assignment is to a number.
-fn compound_agrees(op: AssignOp, target: &(Target, Sort), at: Place) -> Result<(), CheckError>
+fn compound_agrees(op: AssignOp, target: &(Target, Sort), at: Place) -> Answer<()>
     ensures { Finds result (listed (compound_agrees op (target_view target.now).1 at)) }
 {
     rule(!is_put(op) && !target.1.is_long(), at, 25)
 }
 
 /// A value method writes no field.
-fn writes_no_field(
-    returned: &Option<Sort>,
-    target: &(Target, Sort),
-    at: Place,
-) -> Result<(), CheckError>
+fn writes_no_field(returned: &Option<Sort>, target: &(Target, Sort), at: Place) -> Answer<()>
     ensures { Finds result (listed (writes_no_field (option_map sort_view returned.now) (target_view target.now).0 at)) }
 {
     rule(returned.is_some() && is_own(target), at, 29)
 }
 
 /// A value method creates nothing.
-fn creates_nothing(returned: &Option<Sort>, creates: bool, at: Place) -> Result<(), CheckError>
+fn creates_nothing(returned: &Option<Sort>, creates: bool, at: Place) -> Answer<()>
     ensures { Finds result (listed (creates_nothing (option_map sort_view returned.now) creates at)) }
 {
     rule(returned.is_some() && creates, at, 29)
@@ -159,7 +149,7 @@ fn check_put_target<'a>(
     walk: &Walk<'_, 'a>,
     op: AssignOp,
     e: &ExprNode,
-) -> Result<(Target, Sort<'a>), CheckError>
+) -> Answer<(Target, Sort<'a>)>
     ensures { Answers target_view result (judge_put_target (standing_view walk.now) op (expression_view e.now)) }
 {
     let target = check_target(alloc, &walk.scope(), e)?;
@@ -170,7 +160,7 @@ fn check_put_target<'a>(
 }
 
 /// The result, unless memory ran out.
-fn told<T: Drop>(answer: Result<T, CheckError>) -> Result<Result<T, CheckError>, AllocError>
+fn told<T: Drop>(answer: Answer<T>) -> Result<Answer<T>, AllocError>
     ensures { IfOk result (λ r. (r ≡ answer) × Tells_something r) }
 {
     match answer {
@@ -180,7 +170,7 @@ fn told<T: Drop>(answer: Result<T, CheckError>) -> Result<Result<T, CheckError>,
 }
 
 /// The type that the right side is to have, where it is known.
-fn right_sort<'a>(op: AssignOp, target: &Result<(Target, Sort<'a>), CheckError>) -> Option<Sort<'a>>
+fn right_sort<'a>(op: AssignOp, target: &Answer<(Target, Sort<'a>)>) -> Option<Sort<'a>>
     ensures { (j : Judged (PlainTarget × PlainSort)) → Tells_something target.now → Answers target_view target.now j → option_map sort_view result ≡ right_sort op j }
 {
     match op {
@@ -192,6 +182,22 @@ fn right_sort<'a>(op: AssignOp, target: &Result<(Target, Sort<'a>), CheckError>)
     }
 }
 
+/// An assignment of judged parts.
+fn assignment(
+    returned: &Option<Sort>,
+    creates: bool,
+    at: Place,
+    op: AssignOp,
+    target: Answer<(Target, Sort)>,
+    source: Answer<Source>,
+) -> Answer<Stmt>
+    ensures { (j : Judged (PlainTarget × PlainSort)) (k : Judged PlainSource) → Answers target_view target.entry j → Answers source_view source k → Answers program.statement_view result (judge_assignment (option_map sort_view returned.now) creates at op j k) }
+{
+    let (target, source) = both(target, source)?;
+    creates_nothing(returned, creates, at)?;
+    Ok(put(at.line, target, op, source))
+}
+
 /// An assignment.
 pub(crate) fn check_assign(
     alloc: Global,
@@ -200,15 +206,13 @@ pub(crate) fn check_assign(
     target: &ExprNode,
     op: AssignOp,
     right: &Right,
-) -> Result<Stmt, CheckError>
+) -> Answer<Stmt>
     ensures { Answers program.statement_view result (judge_assign (standing_view walk.now) at (judge_put_target (standing_view walk.now) op (expression_view target.now)) op (right_view right.now)) }
 {
     let target = told(check_put_target(alloc, walk, op, target))?;
     let wanted = right_sort(op, &target);
     let source = check_right(alloc, &walk.scope(), wanted, right);
-    let (target, source) = both(target, source)?;
-    creates_nothing(&walk.result, creates(right), at)?;
-    Ok(put(at.line, target, op, source))
+    assignment(&walk.result, creates(right), at, op, target, source)
 }
 
 /// What a local that is declared without a value is put to.
@@ -223,12 +227,7 @@ fn start_value(sort: &Sort) -> Expr
 }
 
 /// The initial value of a local.
-fn check_start(
-    alloc: Global,
-    scope: &Scope,
-    sort: Sort,
-    value: &Option<Right>,
-) -> Result<Source, CheckError>
+fn check_start(alloc: Global, scope: &Scope, sort: Sort, value: &Option<Right>) -> Answer<Source>
     ensures { Answers source_view result (judge_start (scope_view scope.now) (sort_view sort.entry) (option_right_view value.now)) }
 {
     match value {
@@ -246,6 +245,21 @@ fn start_creates(value: &Option<Right>) -> bool
     }
 }
 
+/// A local of its judged type and first value.
+fn declaration(
+    line: u32,
+    target: (Target, Sort),
+    created: Answer<()>,
+    again: Answer<()>,
+    parts: Answer<((), (ValueType, Source))>,
+) -> Answer<Stmt>
+    ensures { (v w : Option Violation) (j : Judged (PlainType × PlainSource)) → Finds created (listed v) → Finds again (listed w) → Answers local_parts_view parts j → Answers program.statement_view result (judge_declaration line (target_view target.entry).0 v w j) }
+{
+    let (_, (_, source)) = parts?;
+    both(created, again)?;
+    Ok(put(line, target, AssignOp::Put, source))
+}
+
 /// A local, before it is declared.
 pub(crate) fn check_local<'a>(
     alloc: Global,
@@ -255,7 +269,7 @@ pub(crate) fn check_local<'a>(
     name: &Name,
     name_at: Place,
     value: &Option<Right>,
-) -> Result<Stmt, CheckError>
+) -> Answer<Stmt>
     ensures { Answers program.statement_view result (judge_local (standing_view walk.now) at ty.now name.now name_at (option_right_view value.now)) }
 {
     let id = walk.next_local()?;
@@ -263,9 +277,8 @@ pub(crate) fn check_local<'a>(
     let written = check_type(walk.classes, ty);
     let sort = walk.classes.sort_of(ty);
     let start = check_start(alloc, &walk.scope(), sort, value);
-    let (_, (_, source)) = both(passed, both(written, start))?;
     let created = creates_nothing(&walk.result, start_creates(value), at);
     let again = walk.local_once(name, name_at);
-    both(created, again)?;
-    Ok(put(at.line, (Target::Local(id), sort), AssignOp::Put, source))
+    let parts = both(passed, both(written, start));
+    declaration(at.line, (Target::Local(id), sort), created, again, parts)
 }

@@ -10,20 +10,15 @@ ghost use Rattle.ca_resolve.specs.Scopes.{sort_of};
 ghost use Rattle.ca_types.specs.Statements.{nothing, first_part, judge_block, judge_if, judge_while, judge_for_loop, judge_statement, judge_statements, judge_local, judge_condition, declaring, behind, behind_all, opened, counted, closed, left};
 ghost use Rattle.ca_types.specs.View.{standing_view, all_view, boxed_view};
 
+use crate::limits::{MOST_LOOPS, bound};
 use crate::lines::{check_call_statement, check_condition, check_print, check_return};
 use crate::puts::{check_assign, check_local};
-use crate::rules::bound;
+use crate::rules::Answer;
 use crate::walk::{Outer, Walk};
 use ca_program::{Expr, FirstPart, LoopId, Stmt, StmtForm};
-use ca_resolve::{CheckError, and_one, both};
+use ca_resolve::{and_one, both};
 use ca_tree::{ExprNode, Name, Place, Right, StmtKind, StmtNode, TypeNode};
 use std::alloc::{AllocError, Global};
-
-/// The most `for` statements of a program.
-const MOST_LOOPS: u32 = 256;
-
-/// What a part resolves to, or its least violation.
-pub(crate) type Answer<T> = Result<T, CheckError>;
 
 /// An empty statement, or a missing `else`.
 fn nothing(alloc: Global, line: u32) -> Stmt

@@ -11,9 +11,9 @@ ghost use Rattle.ca_types.specs.Statements.{type_of, declaring, opened, left, co
 ghost use Rattle.ca_types.specs.Classes.{beginning};
 ghost use Rattle.ca_types.specs.View.{standing_view};
 
-use crate::rules::rule;
+use crate::rules::{Answer, rule};
 use ca_program::{ClassId, LocalId, LoopId, ValueType};
-use ca_resolve::{CheckError, ClassTable, Locals, Scope, Sort, VisibleLocal};
+use ca_resolve::{ClassTable, Locals, Scope, Sort, VisibleLocal};
 use ca_tree::{Name, Place};
 use std::alloc::{AllocError, Global};
 
@@ -139,7 +139,7 @@ impl<'s, 'a> Walk<'s, 'a> {
     }
 
     /// A local is declared once in its block.
-    pub(crate) fn local_once(&self, name: &Name, at: Place) -> Result<(), CheckError>
+    pub(crate) fn local_once(&self, name: &Name, at: Place) -> Answer<()>
         ensures { Finds result (listed (local_once (standing_view self.now).first (find_local (standing_view self.now).scope.locals name.now) at)) }
     {
         match self.visible.find(name) {

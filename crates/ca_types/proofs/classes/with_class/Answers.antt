@@ -1,8 +1,6 @@
 use Rattle.std.proofs.lemmas.Result.{err_from_is_err_and}
-use Rattle.ca_types.specs.Classes.{Parts, Members, with_class}
 use Rattle.ca_types.specs.View.{parts_view, members_view}
-use Rattle.ca_resolve.specs.Judged.{fine, both}
-use Rattle.ca_types.proofs.Answering.{within_err, joined_tells}
+use Rattle.ca_resolve.proofs.Judging.{both_exit}
 use Rattle.ca_types.proofs.classes.with_class.Goals as goal
 
 pub returns-in_err-parts : goal.returns-in_err-parts
@@ -10,5 +8,4 @@ returns-in_err-parts c = λ j k x y.
     let err = c.in_err-parts.field-0.0 in
     let p = err_from_is_err_and c.from_residual.result c.from_residual.ensures.1 in
     rw (p.1, p.2)
-    (within_err err (both j k) (λ (q : Parts × Members). fine (with_class q.0 c.args.name.now q.1))
-    (joined_tells parts_view members_view c.args.front c.args.members c.both.result err j k c.both.ensures x y c.in_err-parts.was))
+    (both_exit parts_view members_view c.args.front c.args.members c.both.result err j k _ c.in_err-parts.was c.both.ensures x y)

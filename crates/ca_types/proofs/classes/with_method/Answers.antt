@@ -1,10 +1,7 @@
 use Rattle.std.proofs.lemmas.Result.{err_from_is_err_and}
-use Rattle.ca_program.specs.Plain.{PlainMethod}
 use Rattle.ca_program.specs.View.{method_view}
-use Rattle.ca_types.specs.Classes.{Members, with_method}
 use Rattle.ca_types.specs.View.{members_view}
-use Rattle.ca_resolve.specs.Judged.{fine, both}
-use Rattle.ca_types.proofs.Answering.{within_err, joined_tells}
+use Rattle.ca_resolve.proofs.Judging.{both_exit}
 use Rattle.ca_types.proofs.classes.with_method.Goals as goal
 
 pub returns-in_err-members : goal.returns-in_err-members
@@ -12,5 +9,4 @@ returns-in_err-members c = λ j k x y.
     let err = c.in_err-members.field-0.0 in
     let p = err_from_is_err_and c.from_residual.result c.from_residual.ensures.1 in
     rw (p.1, p.2)
-    (within_err err (both j k) (λ (q : Members × PlainMethod). fine (with_method q.0 q.1.result q.1))
-    (joined_tells members_view method_view c.args.front c.args.method c.both.result err j k c.both.ensures x y c.in_err-members.was))
+    (both_exit members_view method_view c.args.front c.args.method c.both.result err j k _ c.in_err-members.was c.both.ensures x y)

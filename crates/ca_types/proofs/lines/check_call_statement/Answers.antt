@@ -8,8 +8,9 @@ use Rattle.ca_resolve.specs.Values.{judge_call, place_of, in_order}
 use Rattle.ca_resolve.specs.View.{invocation_view}
 use Rattle.ca_types.specs.Rules.{called_operation}
 use Rattle.ca_types.specs.View.{standing_view}
-use Rattle.ca_types.proofs.Answering.{own_tells, within_err, within_ok}
-use Rattle.ca_types.proofs.Nodes.{place_is, values_are}
+use Rattle.ca_resolve.proofs.Judging.{within_tells}
+use Rattle.ca_types.proofs.Answering.{own_tells, within_ok}
+use Rattle.ca_resolve.proofs.InMemory.{place_is, in_order_is}
 use Rattle.ca_types.proofs.lines.check_call_statement.Goals as goal
 
 pub returns-in_err-op : goal.returns-in_err-op
@@ -23,7 +24,7 @@ returns-in_err-op c =
     (own_tells err (judge_call s.scope e) (λ (i : Invocation). within (called_operation s.result i.callee (place_of e)) (λ o. fine (program.invoke c.args.at.line i.receiver o (in_order i.arguments)))) i
     (ap (λ z. judge_call z e) (sym c.scope.ensures) ∙ c.in_ok-call.ensures)
     (rw (place_is c.args.e.now)
-    (within_err err (called_operation s.result i.callee c.args.e.now.at) (λ o. fine (program.invoke c.args.at.line i.receiver o (in_order i.arguments))) c.in_err-op.ensures)))
+    (within_tells err (called_operation s.result i.callee c.args.e.now.at) (λ o. fine (program.invoke c.args.at.line i.receiver o (in_order i.arguments))) c.in_err-op.ensures)))
 
 pub returns : goal.returns
 returns c =
@@ -32,4 +33,4 @@ returns c =
     let i = invocation_view c.in_ok-call.call in
     within_ok (judge_call s.scope e) (λ (i : Invocation). within (called_operation s.result i.callee (place_of e)) (λ o. fine (program.invoke c.args.at.line i.receiver o (in_order i.arguments)))) i
     (ap (λ z. judge_call z e) (sym c.scope.ensures) ∙ c.in_ok-call.ensures)
-    ∙ (rw (place_is c.args.e.now) (rw c.in_ok-op.ensures (ap (λ z. fine (program.invoke c.args.at.line i.receiver c.in_ok-op.op z)) (values_are c.in_ok-call.call.arguments.items))))
+    ∙ (rw (place_is c.args.e.now) (rw c.in_ok-op.ensures (ap (λ z. fine (program.invoke c.args.at.line i.receiver c.in_ok-op.op z)) (in_order_is c.in_ok-call.call.arguments.items))))

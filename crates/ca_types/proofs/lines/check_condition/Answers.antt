@@ -1,4 +1,4 @@
-use Rattle.ca_types.proofs.Nodes.{place_is}
+use Rattle.ca_resolve.proofs.InMemory.{place_is}
 use Rattle.ca_types.proofs.lines.check_condition.Goals as goal
 
 pub returns-else-is_truth : goal.returns-else-is_truth

@@ -10,7 +10,7 @@ use Rattle.ca_resolve.specs.LocalView.{sort_view}
 use Rattle.ca_types.specs.Rules.{printed_agrees, prints_nothing}
 use Rattle.ca_types.specs.View.{standing_view}
 use Rattle.ca_types.proofs.Answering.{pair_breaks, own_tells}
-use Rattle.ca_types.proofs.Nodes.{place_is}
+use Rattle.ca_resolve.proofs.InMemory.{place_is}
 use Rattle.ca_types.proofs.lines.check_print.Goals as goal
 
 pub returns-in_err-both : goal.returns-in_err-both

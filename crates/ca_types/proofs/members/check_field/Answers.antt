@@ -7,7 +7,7 @@ use Rattle.ca_types.specs.Rules.{member_once, field_limit, length_limit, length_
 use Rattle.ca_types.specs.Statements.{judge_type}
 use Rattle.ca_types.specs.Classes.{item_count}
 use Rattle.ca_types.specs.View.{member_standing}
-use Rattle.ca_types.proofs.Answering.{own_tells, within_err, besides, besides_tells, pair_breaks}
+use Rattle.ca_types.proofs.Answering.{own_tells, besides, beside_exit, pair_breaks}
 use Rattle.ca_types.proofs.members.check_field.Goals as goal
 
 pub returns-in_err-ty : goal.returns-in_err-ty
@@ -22,8 +22,7 @@ returns-in_err-ty c =
     let inner = besides (λ (t : ValueType). t) c.length_limit-long.result c.check_type-written.result c.both.result long j c.both.ensures c.length_limit-long.ensures c.check_type-written.ensures in
     let p = err_from_is_err_and c.from_residual.result c.from_residual.ensures.1 in
     rw (p.1, p.2)
-    (within_err err (beside many (beside long j)) (λ (t : ValueType). beside (member_once s.names s.number f.name f.at) (unless (length_stands f.length f.at) (give t)))
-    (besides_tells (λ (q : Unit {0} × ValueType). q.1) c.bound-many.result c.both.result c.both-2.result err many (beside long j) c.both-2.ensures c.bound-many.ensures inner c.in_err-ty.was))
+    (beside_exit (λ (q : Unit {0} × ValueType). q.1) c.bound-many.result c.both.result c.both-2.result err many (beside long j) _ c.in_err-ty.was c.both-2.ensures c.bound-many.ensures inner)
 
 pub returns-in_err-both : goal.returns-in_err-both
 returns-in_err-both c =

@@ -1,12 +1,11 @@
 use Rattle.std.proofs.Common.{length, nat_eq, subst}
 use Rattle.std.proofs.lemmas.Result.{err_from_is_err_and}
 use Rattle.ca_program.specs.declared.program.ValueType.{ValueType}
-use Rattle.ca_resolve.specs.Judged.{Finds, beside, unless, broken_if}
-use Rattle.ca_resolve.specs.Scopes.{find_local}
-use Rattle.ca_types.specs.Rules.{listed, local_once, parameter_limit, local_limit}
+use Rattle.ca_resolve.specs.Judged.{Finds, beside, broken_if}
+use Rattle.ca_types.specs.Rules.{listed, parameter_limit, local_limit}
 use Rattle.ca_types.specs.Statements.{judge_type}
 use Rattle.ca_types.specs.View.{standing_view}
-use Rattle.ca_types.proofs.Answering.{within_err, besides, besides_tells}
+use Rattle.ca_types.proofs.Answering.{besides, beside_exit}
 use Rattle.ca_types.proofs.members.check_parameter.Goals as goal
 
 pub returns-in_err-ty : goal.returns-in_err-ty
@@ -22,5 +21,4 @@ returns-in_err-ty c =
     let inner = besides (λ (t : ValueType). t) c.bound-full.result c.check_type-written.result c.both.result full j c.both.ensures finds_full c.check_type-written.ensures in
     let p = err_from_is_err_and c.from_residual.result c.from_residual.ensures.1 in
     rw (p.1, p.2)
-    (within_err err (beside many (beside full j)) (λ (t : ValueType). unless (local_once s.first (find_local s.scope.locals c.args.param.now.name) at) t)
-    (besides_tells (λ (q : Unit {0} × ValueType). q.1) c.bound-many.result c.both.result c.both-2.result err many (beside full j) c.both-2.ensures finds_many inner c.in_err-ty.was))
+    (beside_exit (λ (q : Unit {0} × ValueType). q.1) c.bound-many.result c.both.result c.both-2.result err many (beside full j) _ c.in_err-ty.was c.both-2.ensures finds_many inner)

@@ -1,10 +1,11 @@
 use Rattle.std.proofs.Common.{◌∙◌, ap, refl, sym, subst}
 use Rattle.std.proofs.lemmas.List.{drop_all}
 use Rattle.ca_resolve.specs.Judged.{Answers, fine}
+use Rattle.ca_resolve.proofs.Tables.{next_read}
 use Rattle.ca_types.specs.Statements.{declaring}
 use Rattle.ca_types.specs.Classes.{behind_parameter, add_parameter, judge_parameter}
 use Rattle.ca_types.specs.View.{standing_view}
-use Rattle.ca_types.proofs.Lists.{next_plain, rest_start, rest_step, rest_end}
+use Rattle.ca_types.proofs.Lists.{rest_start, rest_step, rest_end}
 use Rattle.ca_types.proofs.members.check_parameters.Goals as goal
 
 pub loop-param-init : goal.loop-param-init
@@ -18,7 +19,7 @@ loop-param-preserved c =
       add_parameter s front p,
       c.and_also-answers.ensures front (judge_parameter s p) c.loop-param.invariant.1 c.check_parameter-answer.ensures,
       rest_step behind_parameter add_parameter (standing_view c.args.walk.now) s (standing_view c.declare.new.self) (fine tt) front c.args.params.now p _ _
-          (next_plain c.args.params.now c.loop-param.param-index p c.loop-param-test.true c.param-item.is)
+          (next_read c.args.params.now c.loop-param.param-index p c.loop-param-test.true c.param-item.is)
           (c.in_ok-declare.ensures ∙ ap (λ z. declaring s z p.name) c.sort_of-sort.ensures) c.loop-param.invariant.2,
     )
 

@@ -9,7 +9,7 @@ use Rattle.ca_resolve.specs.Judged.{Answers, fine, beside, unless}
 use Rattle.ca_types.specs.Rules.{member_once, ends_with_return}
 use Rattle.ca_types.specs.Classes.{method_limit, method_of}
 use Rattle.ca_types.specs.View.{member_standing, all_view, method_parts_view}
-use Rattle.ca_types.proofs.Answering.{own_tells, within_err, within_ok, besides, besides_tells, pair_breaks, pair_stands}
+use Rattle.ca_types.proofs.Answering.{own_tells, within_ok, besides, beside_exit, pair_breaks, pair_stands}
 use Rattle.ca_types.proofs.Nodes.{statements_are}
 use Rattle.ca_types.proofs.members.method_of.Goals as goal
 
@@ -34,8 +34,7 @@ returns-in_err-result_type c = λ j h l.
     let err = c.in_err-result_type.field-0.0 in
     let p = err_from_is_err_and c.from_residual.result c.from_residual.ensures.1 in
     rw (p.1, p.2)
-    (within_err err (beside limit j) (λ (q : Parts). beside once (unless ends (give q)))
-    (besides_tells method_parts_view c.method_limit-limit.result c.args.parts c.both.result err limit j c.both.ensures c.method_limit-limit.ensures h c.in_err-result_type.was))
+    (beside_exit method_parts_view c.method_limit-limit.result c.args.parts c.both.result err limit j _ c.in_err-result_type.was c.both.ensures c.method_limit-limit.ensures h)
 
 pub returns-in_err-both : goal.returns-in_err-both
 returns-in_err-both c = λ j h l.

@@ -8,7 +8,7 @@ use Rattle.ca_resolve.specs.View.{target_view}
 use Rattle.ca_types.specs.Rules.{compound_agrees, writes_no_field}
 use Rattle.ca_types.specs.View.{standing_view}
 use Rattle.ca_types.proofs.Answering.{pair_breaks, own_tells}
-use Rattle.ca_types.proofs.Nodes.{place_is}
+use Rattle.ca_resolve.proofs.InMemory.{place_is}
 use Rattle.ca_types.proofs.puts.check_put_target.Goals as goal
 
 pub returns-in_err-both : goal.returns-in_err-both

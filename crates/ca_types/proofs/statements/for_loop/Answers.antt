@@ -4,10 +4,10 @@ use Rattle.ca_program.specs.declared.program.Expr.{Expr}
 use Rattle.ca_program.specs.declared.program.Stmt.{Stmt}
 use Rattle.ca_program.specs.Plain as program
 use Rattle.ca_program.specs.View as resolved
-use Rattle.ca_resolve.specs.Judged.{fine, both, beside}
+use Rattle.ca_resolve.specs.Judged.{both}
 use Rattle.ca_types.specs.Rules.{loop_limit}
 use Rattle.ca_types.specs.View.{boxed_view}
-use Rattle.ca_types.proofs.Answering.{within_err, joined, besides_tells}
+use Rattle.ca_types.proofs.Answering.{joined, beside_exit}
 use Rattle.ca_types.proofs.statements.for_loop.Goals as goal
 
 abbrev Plain : Type 0
@@ -26,5 +26,4 @@ returns-in_err-first c = λ f i j k x y z w.
     let all = joined (λ (q : Box Stmt Global × Expr). (boxed_view q.0, resolved.expression_view q.1)) (λ (q : Box Stmt Global × Box Stmt Global). (boxed_view q.0, boxed_view q.1)) c.both.result c.both-2.result c.both-parts.result (both f i) (both j k) c.both-parts.ensures left right in
     let p = err_from_is_err_and c.from_residual.result c.from_residual.ensures.1 in
     rw (p.1, p.2)
-    (within_err err (beside limit (both (both f i) (both j k))) (λ (q : Plain). fine (program.for_loop head.at.line (record { 0 = head.site.0 }) head.part q.0.0 q.0.1 q.1.0 q.1.1))
-    (besides_tells plain c.bound-passed.result c.both-parts.result c.both-3.result err limit (both (both f i) (both j k)) c.both-3.ensures c.bound-passed.ensures all c.in_err-first.was))
+    (beside_exit plain c.bound-passed.result c.both-parts.result c.both-3.result err limit (both (both f i) (both j k)) _ c.in_err-first.was c.both-3.ensures c.bound-passed.ensures all)
