@@ -11,7 +11,7 @@ use Rattle.ca_model.specs.declared.value.Object.{Object}
 use Rattle.ca_model.specs.declared.value.Trap.{Trap}
 use Rattle.ca_model.specs.declared.value.TrapKind.TheVariants.{HeapFull}
 use Rattle.ca_model.specs.Slots.{slots_len, start_of}
-use Rattle.ca_model.specs.Heaps.{values_in, stored, starts_of, created}
+use Rattle.ca_model.specs.Heaps.{values_in, most_objects, most_values, stored, starts_of, created}
 use Rattle.ca_meaning.specs.Operators.{assigned}
 use Rattle.ca_meaning.specs.Expressions.{Out, gives, traps, trap_at, take_step, one_in, items_in, Item, indexed, Invocation, due}
 use Rattle.ca_meaning.specs.Flows.{Flow, goes_on, gives_back, stops, runs_out, and_on, with, Parts, exec_all, turn}
@@ -35,7 +35,7 @@ put_own h _ f i v = h
 
 -- there is no room for one object more, or not for one with these slots
 abbrev pub is_full : List Object → List Slot → Bool
-is_full h new = nat_le 1000000 (length h) || nat_lt 4000000 (values_in h + slots_len new)
+is_full h new = nat_le most_objects (length h) || nat_lt most_values (values_in h + slots_len new)
 
 abbrev pub unless_full : Bool → ℕ → ℕ → ℕ → Out ℕ
 unless_full true line n k = traps (trap_at line HeapFull)

@@ -7,11 +7,11 @@ use Rattle.ca_model.specs.declared.value.Object.{Object}
 use Rattle.ca_model.specs.Slots.{slots_len}
 use Rattle.ca_model.specs.Heaps.{values_in, IsFull}
 
-or_true : (b : Bool) → (b || true) ≡ true
+pub or_true : (b : Bool) → (b || true) ≡ true
 or_true true = refl
 or_true false = refl
 
-not_true : (b : Bool) → (b ≡ true → ⊥) → b ≡ false
+pub not_true : (b : Bool) → (b ≡ true → ⊥) → b ≡ false
 not_true true h = absurd (h refl)
 not_true false h = refl
 

@@ -2,11 +2,11 @@
 use Rattle.std.specs.Prelude.{ℕ, ◌≡◌, ◌≤◌, List, length, map, Option, Some, None}
 use Rattle.ca_model.specs.declared.value.Object.{Object}
 use Rattle.ca_model.specs.Slots.{slot_len}
-use Rattle.ca_model.specs.Heaps.{values_in}
+use Rattle.ca_model.specs.Heaps.{values_in, most_objects, most_values}
 
 pub record Counted (objects : List Object) (values : ℕ) : Type 0 where
-  pub few_objects : length objects ≤ 1000000
-  pub few_values : values ≤ 4000000
+  pub few_objects : length objects ≤ most_objects
+  pub few_values : values ≤ most_values
   pub counted : values ≡ values_in objects
 
 -- there is such an object, of the same class and slot lengths

@@ -32,9 +32,16 @@ fields_of (Some c) = c.fields
 abbrev pub starts_of : PlainProgram → ClassId → List Slot
 starts_of p c = start_slots (fields_of (slice_get p.classes c.0))
 
+-- the most objects of a heap, and the most values that they hold together
+abbrev pub most_objects : ℕ
+most_objects = 1000000
+
+abbrev pub most_values : ℕ
+most_values = 4000000
+
 -- there is no room for one object more, or not for one with these slots
 abbrev pub IsFull : List Object → List Slot → Type 0
-IsFull h new = (1000000 ≤ length h) ⊎ (4000000 < values_in h + slots_len new)
+IsFull h new = (most_objects ≤ length h) ⊎ (most_values < values_in h + slots_len new)
 
 -- the heap with one object more, of starting values
 abbrev pub created : PlainProgram → ClassId → List Object → List Object

@@ -3,7 +3,7 @@
 ghost use Rattle.std.specs.Prelude.{◌≡◌, ◌<◌, ◌≤◌, ◌↔◌, [], length, slice_get, slice_set, IsTrue, IfOk, OnErr};
 ghost use Rattle.ca_program.specs.View.{program_view};
 ghost use Rattle.ca_model.specs.declared.value.Object.{Object};
-ghost use Rattle.ca_model.specs.Heaps.{HasSlot, IsFull, created, starts_of, stored};
+ghost use Rattle.ca_model.specs.Heaps.{HasSlot, IsFull, created, most_objects, starts_of, stored};
 ghost use Rattle.ca_model.specs.Counted.{IsLike};
 ghost use Rattle.ca_model.specs.Slots.{start_slots};
 
@@ -98,7 +98,7 @@ impl Heap {
     /// How many objects there are.
     pub fn len(&self) -> u32
         ensures value { result ≡ length self.now }
-        ensures few { length self.now ≤ 1000000 }
+        ensures few { length self.now ≤ most_objects }
     {
         self.objects.len() as u32
     }

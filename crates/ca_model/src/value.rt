@@ -1,6 +1,6 @@
 //! Values, slots, objects and traps.
 
-ghost use Rattle.std.specs.Prelude.{◌≡◌, ◌<◌, ◌≤◌, ◌↔◌, [], ◌∷◌, ◌++◌, length, slice_get, slice_set, IsTrue, IfOk, MatchOption, option_copied, replicate};
+ghost use Rattle.std.specs.Prelude.{◌≡◌, ◌<◌, ◌≤◌, ◌↔◌, [], ◌∷◌, ◌++◌, length, slice_get, slice_set, IsTrue, IfOk, OnErr, MatchOption, option_copied, replicate};
 ghost use Rattle.ca_model.specs.Slots.{slot_len, slots_len, HasItem, put_item, start_of, start_slot, start_slots};
 
 use ca_program::{ClassId, FieldInfo, ValueType};
@@ -50,26 +50,30 @@ impl Values {
         })
     }
 
-    /// Adds a value at the end.
+    /// Adds a value at the end. Without memory for it the values are as before.
     pub fn push(&mut self, value: Value) -> Result<(), AllocError>
-        ensures { IfOk result (λ _. self.new ≡ self.old ++ value ∷ []) }
+        ensures added { IfOk result (λ _. self.new ≡ self.old ++ value ∷ []) }
+        ensures kept { OnErr result (self.new ≡ self.old) }
     {
         self.items.push(value)?;
         Ok(())
     }
 
+    /// How many values there are.
     pub fn len(&self) -> usize
         ensures { result ≡ length self.now }
     {
         self.items.len()
     }
 
+    /// The value at a place, if there is one.
     pub fn get(&self, index: usize) -> Option<Value>
         ensures { result ≡ slice_get self.now index }
     {
         self.items.get(index).copied()
     }
 
+    /// Puts a value at a place in the place of the old one.
     pub fn set(&mut self, index: usize, value: Value)
         requires { index < length self.old }
         ensures { self.new ≡ slice_set self.old index value }
@@ -77,6 +81,7 @@ impl Values {
         self.items[index] = value;
     }
 
+    /// All values.
     pub fn as_slice(&self) -> &[Value]
         ensures { result.now ≡ self.now }
     {
@@ -92,8 +97,6 @@ pub enum Slot {
 }
 
 impl Slot {
-    ghost use Rattle.ca_model.specs.Slots.{one_in};
-
     /// Whether it holds such an item. A single value is item 0.
     pub fn has(&self, item: u32) -> bool
         ensures { IsTrue result ↔ (item < slot_len self.now) }
@@ -101,16 +104,6 @@ impl Slot {
         match self {
             Slot::One(_) => item == 0,
             Slot::Many(values) => (item as usize) < values.len(),
-        }
-    }
-
-    /// Its single value, and null for an array.
-    pub fn one(&self) -> Value
-        ensures { result ≡ one_in (Some self.now) }
-    {
-        match self {
-            Slot::One(value) => *value,
-            Slot::Many(_) => Value::Null,
         }
     }
 
@@ -142,16 +135,7 @@ impl Model for Slots {
 }
 
 impl Slots {
-    ghost use Rattle.ca_model.specs.Slots.{one_in, put_slot};
-
-    /// No slots. It takes no memory.
-    pub fn new(alloc: Global) -> Slots
-        ensures { result ≡ [] }
-    {
-        Slots {
-            items: Vec::new(alloc),
-        }
-    }
+    ghost use Rattle.ca_model.specs.Slots.{put_slot};
 
     /// What the fields of an object start with.
     pub fn start(alloc: Global, fields: &[FieldInfo]) -> Result<Slots, AllocError>
@@ -171,6 +155,7 @@ impl Slots {
         self.items.len()
     }
 
+    /// All slots.
     pub fn as_slice(&self) -> &[Slot]
         ensures { result.now ≡ self.now }
     {
@@ -182,16 +167,6 @@ impl Slots {
         ensures { option_copied result ≡ slice_get self.now field }
     {
         self.items.get(field as usize)
-    }
-
-    /// The single value of a field, and null for an array and where there is no such field.
-    pub fn one(&self, field: u32) -> Value
-        ensures { result ≡ one_in (slice_get self.now field) }
-    {
-        match self.get(field) {
-            Some(slot) => slot.one(),
-            None => Value::Null,
-        }
     }
 
     /// Whether there is such a field, and it has such an item.
@@ -237,7 +212,7 @@ pub fn start_of(ty: ValueType) -> Value
 }
 
 /// How many values an object of these fields holds, if no more than there is room for.
-pub fn size_within(fields: &[FieldInfo], room: u32) -> Option<u32>
+pub(crate) fn size_within(fields: &[FieldInfo], room: u32) -> Option<u32>
     ensures { MatchOption result (room < slots_len (start_slots fields.now)) (λ size. (size ≡ slots_len (start_slots fields.now)) × (size ≤ room)) }
 {
     let mut total: u32 = 0;
