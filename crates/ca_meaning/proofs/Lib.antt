@@ -1,3 +1,4 @@
 pub mod Near
 pub mod Fix
 pub mod Examples
+mod CommutingExamples
