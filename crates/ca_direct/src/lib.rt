@@ -2,12 +2,17 @@
 //!
 //! `Scene` is what such an expression is read in: the heap, the receiver and the locals. Its calls
 //! answer a number, a truth value or any value, and `None` wherever they do not decide: at a call of
-//! a value method, at a trap, at a value of another type. Each promises that where it answers, the
-//! expression has this value in the meaning of programs, whatever calls mean there, and that no step
-//! is taken. So the interpreter tries them first and goes on with its stack where they answer `None`.
+//! a value method, at a trap, at a value of another type, at a comparison of comparisons. Each promises
+//! that what it answers is the value of the expression where no step is left; by the law in `laws` that
+//! is its value in the meaning of programs, whatever calls mean there, and no step is taken. Nothing is
+//! promised of `None`: the interpreter tries these calls first, and goes on with its stack at `None`.
+//! `scene` has what a scene holds and any value, `numbers`, `truths` and `pointers` one type each.
 #![tactic(auto)]
 
+pub mod laws;
+mod numbers;
 mod pointers;
 mod scene;
+mod truths;
 
 pub use scene::Scene;

@@ -1,17 +1,48 @@
-//! Values that are pointers.
+//! Expressions and values that are pointers.
 
 ghost use Rattle.std.specs.Prelude.{◌≡◌, IfSome, None, Ok};
+ghost use Rattle.ca_program.specs.View.{expression_view};
 ghost use Rattle.ca_model.specs.declared.value.Value.TheVariants.{Bool as Truth, Ref};
-ghost use Rattle.ca_meaning.specs.Expressions.{decided};
+ghost use Rattle.ca_meaning.specs.Expressions.{decided, gives};
 ghost use Rattle.ca_meaning.specs.Operators.{operated, same_value};
-ghost use Rattle.ca_direct.specs.Direct.{pointer};
+ghost use Rattle.ca_direct.specs.Direct.{direct, pointer};
 
+use crate::scene::Scene;
 use ca_model::Value;
-use ca_program::BinaryOp;
+use ca_program::{BinaryOp, Expr};
+
+impl<'a> Scene<'a> {
+    /// The pointer that an expression without operators and items is; none for null.
+    #[inline]
+    pub(crate) fn pointer_of(&self, e: &Expr) -> Option<Option<u32>>
+        ensures { IfSome result (λ p. direct self.now.heap.now self.now.this self.now.locals.now (expression_view e.now) ≡ gives (pointer p) 0) }
+    {
+        match e {
+            Expr::Null => Some(None),
+            Expr::This => pointed(self.this),
+            Expr::Local(l) => match self.local(l.0) {
+                Some(value) => pointed(value),
+                None => None,
+            },
+            Expr::Own(f) => match self.own(f.field) {
+                Some(value) => pointed(value),
+                None => None,
+            },
+            Expr::Read(p, f) => match self.object_of(p) {
+                Some(id) => match self.field(id, f.field) {
+                    Some(value) => pointed(value),
+                    None => None,
+                },
+                None => None,
+            },
+            _ => None,
+        }
+    }
+}
 
 /// The object that a value names.
 #[inline]
-pub fn object(value: Value) -> Option<u32>
+pub(crate) fn object(value: Value) -> Option<u32>
     ensures { IfSome result (λ n. value ≡ Ref n) }
 {
     match value {
@@ -22,7 +53,7 @@ pub fn object(value: Value) -> Option<u32>
 
 /// The pointer that a value is; none for null.
 #[inline]
-pub fn pointed(value: Value) -> Option<Option<u32>>
+fn pointed(value: Value) -> Option<Option<u32>>
     ensures { IfSome result (λ p. value ≡ pointer p) }
 {
     match value {
@@ -34,7 +65,7 @@ pub fn pointed(value: Value) -> Option<Option<u32>>
 
 /// Whether two pointers are equal, or differ.
 #[inline]
-pub fn same_pointers(op: BinaryOp, left: Option<u32>, right: Option<u32>) -> Option<bool>
+pub(crate) fn same_pointers(op: BinaryOp, left: Option<u32>, right: Option<u32>) -> Option<bool>
     ensures { IfSome result (λ b. (decided op (pointer left) ≡ None) × (operated op (pointer left) (pointer right) ≡ Ok (Truth b))) }
 {
     match op {

@@ -1,6 +1,6 @@
 use Rattle.std.proofs.Common.{rules}
 use Rattle.std.proofs.lemmas.Int.{wraps}
-use Rattle.ca_direct.proofs.scene.arithmetic.Goals as goal
+use Rattle.ca_direct.proofs.numbers.arithmetic.Goals as goal
 
 pub returns-in-Plus : goal.returns-in-Plus
 returns-in-Plus c = search (rules, wraps)
