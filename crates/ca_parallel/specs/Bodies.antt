@@ -122,7 +122,7 @@ abbrev mutual
   loops_of (block line ss) = loops_of_all ss
   loops_of (if_else line c a b) = loops_of a ++ loops_of b
   loops_of (while_loop line c b) = loops_of b
-  loops_of (for_loop line site part first c next b) = for_loop line site part first c next b ∷ loops_of b
+  loops_of (for_loop line site part first c next b) = for_loop line site part first c next b ∷ (loops_of first ++ (loops_of next ++ loops_of b))
   loops_of (put_local line l op e) = []
   loops_of (put_field line f op e) = []
   loops_of (put_item line f i op e) = []

@@ -5,7 +5,8 @@
 //! has the words for it: `specs/Bodies.antt` (what stands in a body), `Extents` (what operations may
 //! invoke and write), `Separable` (accesses to the receiver come before calls), `Parallel` and `Marks`
 //! (which calls and loops may be handed on). The types are `Op`, an operation that is called, and `Marks`.
-//! `laws` has what is known of marks by definition alone.
+//! `laws` has what is known of marks by definition alone. Worked examples in `proofs/` show for each cause
+//! a body, a loop or a mark that it rules out, and a whole program with its extents and a sound mark.
 #![tactic(auto)]
 
 pub mod laws;

@@ -1,11 +1,11 @@
-//! Marks.
+//! Marks on calls and loops.
 
 ghost use Rattle.std.specs.Prelude.{◌≡◌, []};
 
 use ca_program::{LoopId, OpId};
 use std::alloc::Global;
 
-/// The operations whose calls, and the loops which, may be handed to an engine.
+/// The operations whose calls may be handed to an engine, and the loops that may.
 #[derive(Drop, Debug)]
 pub struct Marks {
     pub ops: Vec<OpId>,
