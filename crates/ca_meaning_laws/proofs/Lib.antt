@@ -7,3 +7,4 @@ pub mod Statements
 pub mod FunctionTypes
 pub mod SerialTypes
 pub mod SectionTypes
+mod Examples

@@ -6,7 +6,8 @@
 //! every proof above speaks of the steps that a run takes, and of no budget. `typing`: every construct
 //! of a well typed program keeps a typed heap typed, its values have their types, and the calls that it
 //! makes are well typed; so do sections with their object and their list.
-//! The lemmas behind them are in `proofs/`: `Steady` and `Bigs` for budgets, `Values` and on for types.
+//! The lemmas behind them are in `proofs/`: `Steady` and `Bigs` for budgets, `Values` and on for types;
+//! `Examples` has runs that show what the premises on types are for.
 #![tactic(auto)]
 
 pub mod budgets;
