@@ -1,5 +1,5 @@
 -- Whether there is room for an object, as a test.
-use Rattle.std.proofs.Common.{◌≡◌, ℕ, ◌+◌, List, length, Bool, true, false, refl, inl, inr}
+use Rattle.std.proofs.Common.{◌≡◌, ◌+◌, List, length, Bool, true, false, refl, inl, inr}
 use Rattle.std.specs.Prelude.{nat_le, nat_lt, ◌||◌}
 use Rattle.std.proofs.lemmas.Bool.{le-leb, lt-ltb, leb-true, ltb-true}
 use Rattle.ca_model.specs.declared.value.Slot.{Slot}

@@ -1,8 +1,8 @@
 use Rattle.std.proofs.Common.{◌≡◌, ◌∙◌, ◌<◌, sym, ap, arith, length, inl, inr}
 use Rattle.ca_program.specs.View.{program_view}
-use Rattle.ca_model.specs.Slots.{slots_len, start_slots}
+use Rattle.ca_model.specs.Slots.{slots_len}
 use Rattle.ca_model.specs.Heaps.{starts_of}
-use Rattle.ca_model.proofs.Stores.{counted_push, starts_are}
+use Rattle.ca_model.proofs.Stores.{counted_push}
 use Rattle.ca_model.proofs.heap.Heap.create.Goals as goal
 
 pub invariant_of-self-2 : goal.invariant_of-self-2
