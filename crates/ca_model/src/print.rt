@@ -13,8 +13,12 @@ use ca_base::{Failed, Sink, write_all};
 use ca_program::{Class, ClassId, FieldInfo, Program};
 use itoa::Buffer;
 
-/// Adds the text of a value.
-fn add_value<K: Sink>(value: Value, line: &mut Line, sink: &mut K) -> Result<(), Failed>
+/// Adds the text of a value to a line: a number in decimal, `true` or `false`, `null`, or `#` and the number
+/// of an object. It goes out when the line is flushed, or before, with what was pending, where the line's
+/// buffer is full.
+///
+/// After `Failed` a beginning of what was pending and the text was written.
+pub fn add_value<K: Sink>(value: Value, line: &mut Line, sink: &mut K) -> Result<(), Failed>
     ensures bytes { Adds (K.written sink.old) (K.written sink.new) line.old line.new result (value_text value) }
     ensures cause { HasCause (K.faults sink.old) (K.faults sink.new) result }
 {
