@@ -1,6 +1,7 @@
 -- Statements that are done at once.
-use Rattle.std.proofs.Common.{Bor, ◌≡◌, ◌∙◌, ℕ, List, [], ◌∷◌, ◌<◌, ◌-◌, refl, ap, length}
+use Rattle.std.proofs.Common.{Bor, ◌≡◌, ◌∙◌, ℕ, List, ◌∷◌, ◌<◌, ◌-◌, refl, ap, length}
 use Rattle.std.specs.Prelude.{Bool, true, false}
+use Rattle.std.proofs.lemmas.List.{nil_from_length}
 use Rattle.std.specs.declared.alloc.Global.{Global}
 use Rattle.std.specs.declared.vec.Vec.{Vec}
 use Rattle.std.specs.declared.boxed.Box.{Box}
@@ -14,16 +15,14 @@ use Rattle.ca_program.specs.View.{form_view, expression_view, statement_view, st
 use Rattle.ca_model.specs.declared.value.Value.{Value as Datum}
 use Rattle.ca_model.specs.declared.value.Value.TheVariants.{Bool as Truth}
 use Rattle.ca_meaning.specs.Expressions.{gives}
-use Rattle.ca_meaning.specs.Flows.{runs_out}
 use Rattle.ca_meaning.specs.Functions.{value_in}
 use Rattle.ca_serial.specs.declared.machine.Machine.{Machine}
 use Rattle.ca_serial.specs.declared.work.Work.{Work}
 use Rattle.ca_serial.specs.declared.work.Work.TheVariants.{Exec, Seq, Again}
 use Rattle.ca_serial.specs.declared.work.Left.{Left}
 use Rattle.ca_serial.specs.declared.work.Taker.TheVariants.{Turn}
-use Rattle.ca_serial.specs.Bodies.{with_locals}
-use Rattle.ca_serial.specs.Resume.{rest_of, resume, unwind, by_mode, go_on, does_before, all_before, world_of, AtOnce, Puts, pieces, takes}
-use Rattle.ca_serial.proofs.Steps.{line_is, list_runs, last_runs, none_run, block_runs, if_runs, while_turn, for_turn}
+use Rattle.ca_serial.specs.Resume.{rest_of, going_on, does_before, all_before, world_of, AtOnce, Puts, pieces, takes}
+use Rattle.ca_serial.proofs.Steps.{line_is, list_runs, last_runs, none_run, block_runs, branch_of, if_runs, while_turn, for_turn}
 
 -- the first statement of a list was done at once
 pub one_more : (p : PlainProgram) (todo : List Work) (old new : Machine) (ss : List Stmt) (x : Bor Stmt) (r : Bor (List Stmt)) (ps : List Datum) → ss ≡ x.now ∷ r.now → ((todo : List Work) (ps : List Datum) → rest_of p (Exec x.now.line x ∷ todo) old ps ≡ rest_of p todo new ps) → all_before p todo (statements_view ss) old ps ≡ all_before p todo (statements_view r.now) new ps
@@ -39,12 +38,8 @@ pub same_at_once : (r : Bool) (p : PlainProgram) (a b : Work) (old new : Machine
 same_at_once true p a b old new same h = (h.0, h.1, λ todo ps. same todo ps ∙ h.2 todo ps)
 same_at_once false p a b old new same h = h
 
-abbrev pub chosen_of : Bool → Box Stmt Global → Box Stmt Global → Stmt
-chosen_of true a b = a.value
-chosen_of false a b = b.value
-
 -- a branch is taken
-pub if_chosen : (p : PlainProgram) (line : ℕ) (s : Bor Stmt) (x : Bor Stmt) (c : Expr) (a b : Box Stmt Global) (truth : Bool) (m : Machine) (todo : List Work) (ps : List Datum) → s.now.kind ≡ If c a b → x.now ≡ chosen_of truth a b → value_in p.functions m.heap m.bodies.current.this line m.bodies.current.locals (expression_view c) m.left ≡ gives (Truth truth) m.left → rest_of p (Exec line s ∷ todo) m ps ≡ rest_of p (Exec x.now.line x ∷ todo) m ps
+pub if_chosen : (p : PlainProgram) (line : ℕ) (s : Bor Stmt) (x : Bor Stmt) (c : Expr) (a b : Box Stmt Global) (truth : Bool) (m : Machine) (todo : List Work) (ps : List Datum) → s.now.kind ≡ If c a b → x.now ≡ branch_of truth a b → value_in p.functions m.heap m.bodies.current.this line m.bodies.current.locals (expression_view c) m.left ≡ gives (Truth truth) m.left → rest_of p (Exec line s ∷ todo) m ps ≡ rest_of p (Exec x.now.line x ∷ todo) m ps
 if_chosen p line s x c a b true m todo ps is here value =
     rw here
     (ap (λ form. does_before p todo line (form_view form s.now.line) m ps) is
@@ -59,19 +54,15 @@ if_chosen p line s x c a b false m todo ps is here value =
 -- a block is its statements
 pub block_all_before : (p : PlainProgram) (line : ℕ) (s : Bor Stmt) (ss : Vec Stmt Global) (m : Machine) (todo : List Work) (ps : List Datum) → s.now.kind ≡ Block ss → rest_of p (Exec line s ∷ todo) m ps ≡ all_before p todo (statements_view ss.items) m ps
 block_all_before p line s ss m todo ps is =
-    ap (λ flow. go_on flow (λ ls w k. resume p todo m.values (with_locals m.bodies.current ls) m.bodies.below w k) (λ v w k. by_mode m.bodies.current.mode (unwind p todo m.values m.bodies.below w k v) (runs_out w))) (block_runs p m.bodies.current.mode m.bodies.current (world_of m ps) line s.now ss m.left is)
-
-is_empty : {X : Type 0} (xs : List X) → length xs ≡ 0 → xs ≡ []
-is_empty [] is = refl
-is_empty (x ∷ xs) is = absurd (cc)
+    ap (going_on p todo m) (block_runs p m.bodies.current.mode m.bodies.current (world_of m ps) line s.now ss m.left is)
 
 -- an empty list
 pub nothing_before : (p : PlainProgram) (todo : List Work) (m : Machine) (ss : List Stmt) (ps : List Datum) → length ss ≡ 0 → all_before p todo (statements_view ss) m ps ≡ rest_of p todo m ps
-nothing_before p todo m ss ps none = ap (λ xs. all_before p todo (statements_view xs) m ps) (is_empty ss none) ∙ none_run p m.bodies.current.mode m.bodies.current (world_of m ps) m.left _ _
+nothing_before p todo m ss ps none = ap (λ xs. all_before p todo (statements_view xs) m ps) (nil_from_length ss none) ∙ none_run p m.bodies.current.mode m.bodies.current (world_of m ps) m.left _ _
 
 -- a list of one
 pub one_before : (p : PlainProgram) (todo : List Work) (m : Machine) (ss : List Stmt) (x : Bor Stmt) (xs : List Stmt) (ps : List Datum) → ss ≡ x.now ∷ xs → length xs ≡ 0 → all_before p todo (statements_view ss) m ps ≡ rest_of p (Exec x.now.line x ∷ todo) m ps
-one_before p todo m ss x xs ps is none = last_runs p m.bodies.current (world_of m ps) x.now xs ss m.left _ _ is (is_empty xs none)
+one_before p todo m ss x xs ps is none = last_runs p m.bodies.current (world_of m ps) x.now xs ss m.left _ _ is (nil_from_length xs none)
 
 abbrev pub stepped : Machine → Machine
 stepped m = record { todo = m.todo; values = m.values; bodies = m.bodies; heap = m.heap; left = m.left - 1 }

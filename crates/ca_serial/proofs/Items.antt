@@ -1,8 +1,7 @@
 -- Items of arrays, stores, and room for new objects.
-use Rattle.std.proofs.Common.{◌≡◌, ℕ, ℤ, zero, suc, ◌+◌, List, [], ◌∷◌, ◌++◌, length, Option, Some, None, refl, pos, negsuc, inl, inr}
-use Rattle.std.specs.Prelude.{IfSome, slice_get, Bool, true, false, nat_lt, nat_le, ◌||◌}
+use Rattle.std.proofs.Common.{◌≡◌, ℕ, ℤ, zero, suc, List, [], ◌∷◌, ◌++◌, length, Option, Some, None, refl, pos, negsuc}
+use Rattle.std.specs.Prelude.{IfSome, slice_get, Bool}
 use Rattle.std.proofs.lemmas.Option.{slice_get_within}
-use Rattle.std.proofs.lemmas.Bool.{le-leb, lt-ltb, leb-true, ltb-true}
 use Rattle.ca_program.specs.declared.program.ClassId.{ClassId}
 use Rattle.ca_program.specs.declared.program.FieldId.{FieldId}
 use Rattle.ca_program.specs.Plain.{PlainProgram, PlainMethod, Expression}
@@ -12,13 +11,14 @@ use Rattle.ca_model.specs.declared.value.Slot.{Slot}
 use Rattle.ca_model.specs.declared.value.Slot.TheVariants.{One, Many}
 use Rattle.ca_model.specs.declared.value.Object.{Object}
 use Rattle.ca_model.specs.declared.value.TrapKind.TheVariants.{HeapFull}
-use Rattle.ca_model.specs.Slots.{slots_len, HasItem}
-use Rattle.ca_model.specs.Heaps.{values_in, HasSlot, starts_of, created, IsFull}
+use Rattle.ca_model.specs.Slots.{HasItem}
+use Rattle.ca_model.specs.Heaps.{HasSlot, starts_of, created, IsFull}
+use Rattle.ca_model.proofs.Creation.{full_test, room_test}
 use Rattle.ca_meaning.specs.Expressions.{gives, traps, trap_at, items_in, slots_in, Item, found, indexed}
 use Rattle.ca_meaning.specs.Functions.{own_of, functions_of, value_in}
 use Rattle.ca_direct.specs.Direct.{direct}
 use Rattle.ca_direct.proofs.Steady.{direct_is}
-use Rattle.ca_meaning.specs.Serial.{room_for, is_full}
+use Rattle.ca_meaning.specs.Serial.{room_for}
 use Rattle.ca_serial.specs.declared.machine.Found.{Found}
 use Rattle.ca_serial.specs.Resume.{looked_up, HasOwn}
 
@@ -66,24 +66,6 @@ still_has p c h (Truth b) field i has = absurd has
 still_has p c h Null field i has = absurd has
 
 -- Room for a new object
-
-or_true : (b : Bool) → (b || true) ≡ true
-or_true true = refl
-or_true false = refl
-
-not_true : (b : Bool) → (b ≡ true → ⊥) → b ≡ false
-not_true true h = absurd (h refl)
-not_true false h = refl
-
-full_test : (h : List Object) (new : List Slot) → IsFull h new → is_full h new ≡ true
-full_test h new (inl many) = rw (le-leb 1000000 (length h) many) refl
-full_test h new (inr large) = rw (lt-ltb 4000000 (values_in h + slots_len new) large) (or_true (nat_le 1000000 (length h)))
-
-room_test : (h : List Object) (new : List Slot) → (IsFull h new → ⊥) → is_full h new ≡ false
-room_test h new room =
-    let few : nat_le 1000000 (length h) ≡ false = not_true _ (λ e. room (inl (leb-true _ _ e))) in
-    let small : nat_lt 4000000 (values_in h + slots_len new) ≡ false = not_true _ (λ e. room (inr (ltb-true _ _ e))) in
-    rw (few, small) refl
 
 pub full_traps : (p : PlainProgram) (line : ℕ) (h : List Object) (c : ClassId) (k : ℕ) → IsFull h (starts_of p c) → room_for p line h c k ≡ traps (trap_at line HeapFull)
 full_traps p line h c k full = rw (full_test h (starts_of p c) full) refl

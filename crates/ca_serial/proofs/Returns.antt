@@ -23,7 +23,7 @@ use Rattle.ca_serial.specs.declared.work.Work.TheVariants.{Leave}
 use Rattle.ca_serial.specs.Bodies.{Body, with_locals}
 use Rattle.ca_serial.specs.Resume.{runs, runs_all, resume, back_in, world_of, all_before}
 use Rattle.ca_serial.proofs.Flows.{carried_with}
-use Rattle.ca_serial.proofs.Steps.{line_is, seq_is, list_runs, block_runs, if_is}
+use Rattle.ca_serial.proofs.Steps.{line_is, seq_is, list_runs, block_runs, branch_of, if_is}
 
 -- a statement gives this value back, if there is one
 abbrev pub Gives : PlainProgram → Machine → ℕ → Stmt → Option Datum → Type 0
@@ -40,11 +40,7 @@ return_gives p m line s e (Some v) is value = λ ps.
     ∙ return_is p m.bodies.current.mode m.bodies.current (world_of m ps) line s.line (expression_view e) m.left
     ∙ rw value refl
 
-abbrev pub taken_of : Bool → Box Stmt Global → Box Stmt Global → Stmt
-taken_of true a b = a.value
-taken_of false a b = b.value
-
-if_taken : (p : PlainProgram) (m : Machine) (line : ℕ) (s : Stmt) (c : Expr) (a b : Box Stmt Global) (t : Bool) (ps : List Datum) → s.kind ≡ If c a b → value_in p.functions m.heap m.bodies.current.this line m.bodies.current.locals (expression_view c) m.left ≡ gives (Truth t) m.left → runs p m.bodies.current.mode m.bodies.current (world_of m ps) line (statement_view s) m.left ≡ runs p m.bodies.current.mode m.bodies.current (world_of m ps) (taken_of t a b).line (statement_view (taken_of t a b)) m.left
+if_taken : (p : PlainProgram) (m : Machine) (line : ℕ) (s : Stmt) (c : Expr) (a b : Box Stmt Global) (t : Bool) (ps : List Datum) → s.kind ≡ If c a b → value_in p.functions m.heap m.bodies.current.this line m.bodies.current.locals (expression_view c) m.left ≡ gives (Truth t) m.left → runs p m.bodies.current.mode m.bodies.current (world_of m ps) line (statement_view s) m.left ≡ runs p m.bodies.current.mode m.bodies.current (world_of m ps) (branch_of t a b).line (statement_view (branch_of t a b)) m.left
 if_taken p m line s c a b true ps is value =
     ap (λ form. runs p m.bodies.current.mode m.bodies.current (world_of m ps) line (form_view form s.line) m.left) is
     ∙ if_is p m.bodies.current.mode m.bodies.current (world_of m ps) line s.line (expression_view c) (statement_view a.value) (statement_view b.value) m.left
@@ -54,7 +50,7 @@ if_taken p m line s c a b false ps is value =
     ∙ if_is p m.bodies.current.mode m.bodies.current (world_of m ps) line s.line (expression_view c) (statement_view a.value) (statement_view b.value) m.left
     ∙ rw value (ap (λ l. runs p m.bodies.current.mode m.bodies.current (world_of m ps) l (statement_view b.value) m.left) (line_is b.value))
 
-pub if_gives : (p : PlainProgram) (m : Machine) (line l : ℕ) (s x : Stmt) (c : Expr) (a b : Box Stmt Global) (t : Bool) (o : Option Datum) → s.kind ≡ If c a b → x ≡ taken_of t a b → l ≡ x.line → value_in p.functions m.heap m.bodies.current.this line m.bodies.current.locals (expression_view c) m.left ≡ gives (Truth t) m.left → Gives p m l x o → Gives p m line s o
+pub if_gives : (p : PlainProgram) (m : Machine) (line l : ℕ) (s x : Stmt) (c : Expr) (a b : Box Stmt Global) (t : Bool) (o : Option Datum) → s.kind ≡ If c a b → x ≡ branch_of t a b → l ≡ x.line → value_in p.functions m.heap m.bodies.current.this line m.bodies.current.locals (expression_view c) m.left ≡ gives (Truth t) m.left → Gives p m l x o → Gives p m line s o
 if_gives p m line l s x c a b t None is here on value given = tt
 if_gives p m line l s x c a b t (Some v) is here on value given = λ ps.
     if_taken p m line s c a b t ps is value ∙ (rw (on, here) at (given ps))

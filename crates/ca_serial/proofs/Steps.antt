@@ -1,6 +1,6 @@
 -- One step of what is left to do: lists of statements and loops.
 use Rattle.std.proofs.Common.{◌≡◌, ℕ, zero, suc, ◌<◌, ◌-◌, List, [], ◌∷◌, refl, ap, sym, ◌∙◌, arith}
-use Rattle.std.specs.Prelude.{true}
+use Rattle.std.specs.Prelude.{Bool, true, false}
 use Rattle.ca_program.specs.declared.program.Stmt.{Stmt}
 use Rattle.ca_program.specs.declared.program.LoopId.{LoopId}
 use Rattle.ca_program.specs.declared.program.FirstPart.{FirstPart}
@@ -126,6 +126,11 @@ block_runs p m f w line s ss k is =
     ap (λ form. runs p m f w line (form_view form s.line) k) is
     ∙ ap (λ st. runs p m f w line st k) (block_is s.line ss)
     ∙ block_all p m f w line s.line (statements_view ss.items) k
+
+-- the branch that a condition takes
+abbrev pub branch_of : Bool → Box Stmt Global → Box Stmt Global → Stmt
+branch_of true a b = a.value
+branch_of false a b = b.value
 
 pub if_is : (p : PlainProgram) (m : Mode) (f : Body) (w : World) (line own : ℕ) (c : Expression) (a b : Statement) (k : ℕ) → runs p m f w line (if_else own c a b) k ≡ with (value_in p.functions w.heap f.this line f.locals c k) w (λ v k. choose v (runs p m f w (line_of a) a k) (runs p m f w (line_of b) b k))
 if_is p InFunction f w line own c a b k = carried_with w (value_in p.functions w.heap f.this line f.locals c k) _ _ (λ v k. carried_choose w v _ _)

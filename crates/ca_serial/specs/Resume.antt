@@ -195,20 +195,32 @@ unwound p m ps v = unwind p m.todo m.values m.bodies.below (world_of m ps) m.lef
 abbrev pub handed_back : PlainProgram → Machine → List Datum → Datum → Flow World
 handed_back p m ps v = back_in m.bodies.below (world_of m ps) (λ g below. resume p m.todo (v ∷ m.values) g below (world_of m ps) m.left)
 
--- that goes on from how a statement ends
-abbrev pub going_on : PlainProgram → Machine → Flow World → Flow World
-going_on p m flow =
-    go_on flow (λ ls w k. resume p m.todo m.values (with_locals m.bodies.current ls) m.bodies.below w k) (λ v w k. by_mode m.bodies.current.mode (unwind p m.todo m.values m.bodies.below w k v) (runs_out w))
+-- that goes on with this work from how a statement ends
+abbrev pub going_on : PlainProgram → List Work → Machine → Flow World → Flow World
+going_on p todo m flow =
+    go_on flow (λ ls w k. resume p todo m.values (with_locals m.bodies.current ls) m.bodies.below w k) (λ v w k. by_mode m.bodies.current.mode (unwind p todo m.values m.bodies.below w k v) (runs_out w))
+
+-- that runs this statement, and then this work
+abbrev pub does_before : PlainProgram → List Work → ℕ → Statement → Machine → List Datum → Flow World
+does_before p todo line s m ps = going_on p todo m (runs p m.bodies.current.mode m.bodies.current (world_of m ps) line s m.left)
 
 -- that runs this statement
 abbrev pub does : PlainProgram → ℕ → Statement → Machine → List Datum → Flow World
-does p line s m ps = going_on p m (runs p m.bodies.current.mode m.bodies.current (world_of m ps) line s m.left)
+does p line s m ps = does_before p m.todo line s m ps
+
+-- that runs these statements, and then this work
+abbrev pub all_before : PlainProgram → List Work → Statements → Machine → List Datum → Flow World
+all_before p todo ss m ps = going_on p todo m (runs_all p m.bodies.current.mode m.bodies.current (world_of m ps) ss m.left)
+
+-- that goes on with a loop that comes again, and then with this work
+abbrev pub again_before : PlainProgram → List Work → ℕ → Statement → Machine → List Datum → Flow World
+again_before p todo line loop m ps = going_on p todo m (comes_again p m.bodies.current.mode m.bodies.current (world_of m ps) line loop m.left)
 
 -- that goes on with a loop from its condition on
 abbrev pub loops : PlainProgram → ℕ → Expression → Statement → Machine → List Datum → Flow World
 loops p line c loop m ps =
     with (value_in p.functions m.heap m.bodies.current.this line m.bodies.current.locals c m.left) (world_of m ps) (λ v k.
-    going_on p m (turns p m.bodies.current.mode m.bodies.current (world_of m ps) line loop k v))
+    going_on p m.todo m (turns p m.bodies.current.mode m.bodies.current (world_of m ps) line loop k v))
 
 -- that evaluates this expression
 abbrev pub evaluates : PlainProgram → ℕ → Expression → Machine → List Datum → Flow World
@@ -238,25 +250,10 @@ abbrev pub AtOnce : Bool → PlainProgram → Work → Machine → Machine → T
 AtOnce true p work old new = (new.todo ≡ old.todo) × (new.left ≡ old.left) × ((todo : List Work) (ps : List Datum) → rest_of p (work ∷ todo) old ps ≡ rest_of p todo new ps)
 AtOnce false p work old new = new ≡ old
 
--- that runs this statement, and then this work
-abbrev pub does_before : PlainProgram → List Work → ℕ → Statement → Machine → List Datum → Flow World
-does_before p todo line s m ps =
-    go_on (runs p m.bodies.current.mode m.bodies.current (world_of m ps) line s m.left) (λ ls w k. resume p todo m.values (with_locals m.bodies.current ls) m.bodies.below w k) (λ v w k. by_mode m.bodies.current.mode (unwind p todo m.values m.bodies.below w k v) (runs_out w))
-
 -- the same of a statement
 abbrev pub Puts : Bool → PlainProgram → ℕ → Statement → Machine → Machine → Type 0
 Puts true p line s old new = (new.todo ≡ old.todo) × (new.left ≡ old.left) × ((todo : List Work) (ps : List Datum) → does_before p todo line s old ps ≡ rest_of p todo new ps)
 Puts false p line s old new = new ≡ old
-
--- and the same of a list of statements
-abbrev pub all_before : PlainProgram → List Work → Statements → Machine → List Datum → Flow World
-all_before p todo ss m ps =
-    go_on (runs_all p m.bodies.current.mode m.bodies.current (world_of m ps) ss m.left) (λ ls w k. resume p todo m.values (with_locals m.bodies.current ls) m.bodies.below w k) (λ v w k. by_mode m.bodies.current.mode (unwind p todo m.values m.bodies.below w k v) (runs_out w))
-
--- and of a loop that comes again
-abbrev pub again_before : PlainProgram → List Work → ℕ → Statement → Machine → List Datum → Flow World
-again_before p todo line loop m ps =
-    go_on (comes_again p m.bodies.current.mode m.bodies.current (world_of m ps) line loop m.left) (λ ls w k. resume p todo m.values (with_locals m.bodies.current ls) m.bodies.below w k) (λ v w k. by_mode m.bodies.current.mode (unwind p todo m.values m.bodies.below w k v) (runs_out w))
 
 -- the work that is left of a statement, before other work
 abbrev pub pieces : Left → List Work → List Work

@@ -203,7 +203,7 @@ impl<'a> Machine<'a> {
     }
 }
 
-/// Whether an operator gives a number.
+/// Whether an operator gives a number. It decides only which way is taken, so every answer is right.
 #[inline(always)]
 fn gives_number(op: BinaryOp) -> bool {
     match op {

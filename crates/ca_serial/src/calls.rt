@@ -191,6 +191,7 @@ impl<'a> Machine<'a> {
     }
 }
 
+/// The kind of the body that a call begins.
 fn mode_of(target: Target) -> Mode
     ensures { result ≡ target_mode target }
 {

@@ -192,6 +192,7 @@ impl<'a> Machine<'a> {
         }
     }
 
+    /// Applies an operator to its one side.
     #[inline]
     pub fn sign(&mut self, program: &'a Program, op: UnaryOp, value: Value) -> Result<Next, Memory>
         ensures { IfOk result (λ next. (ps : List Datum) → takes (program_view program.now) (Taker.Sign op) value self.old ps ≡ after (program_view program.now) self.new ps next) }
@@ -225,6 +226,7 @@ impl<'a> Machine<'a> {
         }
     }
 
+    /// Applies an operator to both sides.
     #[inline]
     pub fn apply(
         &mut self,
@@ -246,7 +248,8 @@ impl<'a> Machine<'a> {
     }
 }
 
-/// Whether an expression has no operator and no call at its head.
+/// Whether an expression has no operator and no call at its head. It decides only which way is taken, so
+/// every answer is right.
 #[inline]
 fn is_short(e: &Expr) -> bool {
     match e {
@@ -256,6 +259,7 @@ fn is_short(e: &Expr) -> bool {
 }
 
 /// Whether an expression is a call, or an operator with one beside it, so that it has no value at once.
+/// Where this says no, the value is asked for, so every answer is right.
 #[inline]
 pub fn calls(e: &Expr) -> bool {
     match e {
@@ -265,6 +269,7 @@ pub fn calls(e: &Expr) -> bool {
     }
 }
 
+/// Whether an expression is a call.
 #[inline]
 fn is_call(e: &Expr) -> bool {
     match e {

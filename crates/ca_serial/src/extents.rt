@@ -49,15 +49,15 @@ pub trait Extents {
         rt: &R,
         program: &Program,
         heap: &mut Heap,
-        first: &[Op],
-        left: u64,
+        operations: &[Op],
+        budget: u64,
     ) -> Result<ExtentAnswer, Memory>
         requires heap { TypedHeap (program_view program.now) heap.old }
-        requires typed { AllWellTyped (program_view program.now) heap.old (invocations_of first.now) }
-        requires parallel { ParallelFrom (program_view program.now) (map operation_of first.now) }
-        ensures answer { IfOk result (λ answer. Answers (program_view program.now) heap.old (invocations_of first.now) left heap.new answer) }
-        ensures declined { serves ≡ true → IfOk result (λ answer. answer ≡ Declined → IsNotDone (program_view program.now) heap.old (invocations_of first.now) left) }
-        ensures accounts { OnOk result (Accounts (account self.old) (program_view program.now) heap.old (invocations_of first.now) left (account self.new)) }
+        requires typed { AllWellTyped (program_view program.now) heap.old (invocations_of operations.now) }
+        requires parallel { ParallelFrom (program_view program.now) (map operation_of operations.now) }
+        ensures answer { IfOk result (λ answer. Answers (program_view program.now) heap.old (invocations_of operations.now) budget heap.new answer) }
+        ensures declined { serves ≡ true → IfOk result (λ answer. answer ≡ Declined → IsNotDone (program_view program.now) heap.old (invocations_of operations.now) budget) }
+        ensures accounts { OnOk result (Accounts (account self.old) (program_view program.now) heap.old (invocations_of operations.now) budget (account self.new)) }
         ensures heap_kept { OnErr result (heap.new ≡ heap.old) }
         ensures account_kept { OnErr result (account self.new ≡ account self.old) };
 }
@@ -80,8 +80,8 @@ impl Extents for NoExtents {
         _rt: &R,
         _program: &Program,
         _heap: &mut Heap,
-        _first: &[Op],
-        _left: u64,
+        _operations: &[Op],
+        _budget: u64,
     ) -> Result<ExtentAnswer, Memory> {
         Ok(ExtentAnswer::Declined)
     }

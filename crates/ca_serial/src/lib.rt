@@ -4,7 +4,9 @@
 //! the outcome of the depth-first serial run of that program, exactly, with its heap, its steps or its
 //! trap, and that the values which that run prints went to the sink in their order, each as it came.
 //! After an error a beginning of them did. A failed write comes only where the sink's count of faults
-//! rose. Calls stand on a vector and expressions on an explicit stack, so that no depth of calls runs
+//! rose. An engine (`Extents`) is to run operations in an order of its own; so far `drive` hands it nothing.
+//!
+//! Calls stand on a vector and expressions on an explicit stack, so that no depth of calls runs
 //! out of the machine's own stack, and no piece of work takes memory but where a stack grows.
 //! `specs/Resume.antt` says what a stack of work still means, which is the one clause of every step.
 #![tactic(auto)]
@@ -17,6 +19,7 @@ mod extents;
 mod loops;
 mod machine;
 mod print;
+mod puts;
 mod running;
 mod stack;
 mod statements;

@@ -3,9 +3,10 @@
 ghost use Rattle.std.specs.Prelude.{◌≡◌, ◌≤◌, false, [], IfOk};
 ghost use Rattle.ca_base.specs.Devices.{Rose, Writes};
 ghost use Rattle.ca_program.specs.View.{program_view};
-ghost use Rattle.ca_meaning.specs.Serial.{serial};
+ghost use Rattle.ca_meaning.specs.Serial.{ended, serial};
 ghost use Rattle.ca_meaning.specs.Output.{prints_text};
 ghost use Rattle.ca_parallel.specs.Marks.{SoundMarks};
+ghost use Rattle.ca_serial.specs.Resume.{rest_of};
 ghost use Rattle.ca_serial.specs.Runs.{run_with, prints_of, OnWrite};
 
 use crate::extents::Extents;
@@ -17,6 +18,7 @@ use ca_model::{Heap, Trap};
 use ca_parallel::Marks;
 use ca_program::Program;
 use std::alloc::Global;
+use std::mem;
 use std::sync::Wait;
 use thiserror::Error;
 
@@ -65,6 +67,25 @@ pub fn drive<R: Wait, E: Extents, K: Sink>(
     let Ok(mut machine) = Machine::new(alloc, program, budget) else {
         return Err(RunError::Memory);
     };
+    run_on(rt, alloc, program, budget, &mut machine, sink)
+}
+
+/// Runs a machine to its end, and takes its heap.
+fn run_on<'a, R: Wait, K: Sink>(
+    rt: &R,
+    alloc: Global,
+    program: &'a Program,
+    budget: u64,
+    machine: &mut Machine<'a>,
+    sink: &mut K,
+) -> Result<Outcome, RunError>
+    // The machine stands before `main`.
+    requires { ended budget (rest_of (program_view program.now) machine.old.todo machine.old []) ≡ serial (program_view program.now) budget }
+    ensures outcome { IfOk result (λ outcome. serial (program_view program.now) budget ≡ run_with (prints_of (serial (program_view program.now) budget)) outcome) }
+    ensures prints { Writes (K.written sink.old) (K.written sink.new) result (prints_text (prints_of (serial (program_view program.now) budget))) }
+    ensures write { OnWrite result (Rose (K.faults sink.old) (K.faults sink.new)) }
+    ensures later { K.faults sink.old ≤ K.faults sink.new }
+{
     for _ in rt.forever() {
         let Some(work) = machine.todo.pop() else {
             break;
@@ -85,6 +106,6 @@ pub fn drive<R: Wait, E: Extents, K: Sink>(
     }
     Ok(Outcome::Done {
         steps: budget.saturating_sub(machine.left),
-        heap: machine.heap,
+        heap: mem::replace(&mut machine.heap, Heap::new(alloc)),
     })
 }

@@ -5,6 +5,7 @@ ghost use Rattle.std.specs.Prelude.{◌≡◌, ◌+◌, [], ◌∷◌, take, dro
 use std::alloc::{AllocError, Global};
 use std::marker::Model;
 
+/// A stack. In memory its top stands last.
 #[derive(Drop)]
 pub struct Stack<T> {
     items: Vec<T>,
@@ -28,6 +29,7 @@ impl<T> Stack<T> {
         }
     }
 
+    /// Takes the top item, if there is one.
     #[inline]
     pub fn pop(&mut self) -> Option<T>
         ensures { MatchOption result ((self.old ≡ []) × (self.new ≡ [])) (λ x. self.old ≡ x ∷ self.new) }
@@ -37,6 +39,7 @@ impl<T> Stack<T> {
 }
 
 impl<T: Drop> Stack<T> {
+    /// Puts an item on top. It asks for memory only where the vector is full.
     #[inline]
     pub fn push(&mut self, item: T) -> Result<(), AllocError>
         ensures { IfOk result (λ _. self.new ≡ item ∷ self.old) }

@@ -49,8 +49,14 @@ impl<'a> Machine<'a> {
             Taker::Sign(op) => self.sign(program, op, value),
             Taker::CheckLeft(line, op, right) => self.check_left(program, line, op, right, value),
             Taker::Apply(line, op, left) => self.apply(program, line, op, left, value),
-            Taker::PutLocal(local, op) => Ok(self.set_local(program, local, op, value)),
-            Taker::PutField(field, op) => Ok(self.set_field(program, field, op, value)),
+            Taker::PutLocal(local, op) => {
+                self.assign_local(local, op, value);
+                Ok(Next::GoesOn)
+            }
+            Taker::PutField(field, op) => {
+                self.assign_field(field, op, value);
+                Ok(Next::GoesOn)
+            }
             Taker::CheckIndex(line, field, op, e) => {
                 self.check_index(program, line, field, op, e, value)
             }

@@ -22,12 +22,15 @@ pub enum Taker<'a> {
     CheckObject(u32, FieldId, &'a Expr),
     /// Reads the item that the value is the index of, in a field of an object.
     ReadItem(u32, Value, FieldId),
+    /// Applies an operator to the value.
     Sign(UnaryOp),
     /// Goes on with the right side, unless the value, which is that of the left side, decides.
     CheckLeft(u32, BinaryOp, &'a Expr),
     /// Applies an operator to the value of its left side and the value.
     Apply(u32, BinaryOp, Value),
+    /// Puts the value into a local.
     PutLocal(LocalId, AssignOp),
+    /// Puts the value into an own field.
     PutField(FieldId, AssignOp),
     /// Checks the value, which is the index of an own item, and goes on with the right side.
     CheckIndex(u32, FieldId, AssignOp, &'a Expr),
@@ -35,10 +38,13 @@ pub enum Taker<'a> {
     PutItem(u32, FieldId, u32, AssignOp),
     /// Puts a new object into the own item that the value is the index of.
     NewItem(u32, FieldId, ClassId),
+    /// Prints the value.
     Print,
+    /// Runs the first statement if the value, which is that of a condition, is true, and else the second.
     Choose(&'a Stmt, &'a Stmt),
     /// Enters a turn of a loop if the value, which is that of its condition, is true.
     Turn(u32, &'a Stmt),
+    /// Gives the value back to the caller of a value method.
     GiveBack,
 }
 
@@ -47,11 +53,13 @@ pub enum Taker<'a> {
 pub enum Work<'a> {
     /// Evaluates an expression.
     Evaluate(u32, &'a Expr),
+    /// Takes the value on top of the stack.
     Take(Taker<'a>),
     /// Goes on with a call whose receiver and first arguments are values: so many of them.
     Collect(u32, Target, &'a [Expr], usize),
     /// Runs a statement on a line.
     Exec(u32, &'a Stmt),
+    /// Runs statements, each on its own line.
     Seq(&'a [Stmt]),
     /// A loop that comes again.
     Again(u32, &'a Stmt),
@@ -59,7 +67,7 @@ pub enum Work<'a> {
     Leave,
 }
 
-/// How a piece of work ends.
+/// How a piece of work ends: the run goes on, where it printed a value behind that print, or it stops.
 #[derive(Clone, Copy)]
 pub enum Next {
     GoesOn,
@@ -77,7 +85,7 @@ pub enum Left<'a> {
     Statements(&'a [Stmt]),
 }
 
-/// How a turn of a loop ends: it was done at once, and the loop comes again, or so.
+/// How a turn of a loop ends: whole, so that the loop comes again, or as a piece of work ends.
 #[derive(Clone, Copy)]
 pub enum Turn {
     Whole,

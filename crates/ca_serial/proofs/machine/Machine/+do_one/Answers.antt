@@ -1,7 +1,8 @@
 use Rattle.std.proofs.Common.{rules, ap, refl, ◌≡◌, ◌∙◌, ◌∷◌, length}
 use Rattle.ca_program.specs.View.{program_view, form_view}
 use Rattle.ca_serial.specs.declared.work.Work.TheVariants.{Exec}
-use Rattle.ca_serial.proofs.AtOnce.{put_at_once, same_at_once, chosen_of, if_chosen, block_all_before, nothing_before, one_before}
+use Rattle.ca_serial.proofs.AtOnce.{put_at_once, same_at_once, if_chosen, block_all_before, nothing_before, one_before}
+use Rattle.ca_serial.proofs.Steps.{branch_of}
 use Rattle.ca_serial.proofs.machine.Machine.+do_one.Goals as goal
 use Rattle.ca_serial.proofs.machine.Machine.+do_one.Goals.{then-truth, else-truth}
 
@@ -18,7 +19,7 @@ pub returns-after-truth : goal.returns-after-truth
 returns-after-truth t c =
     let p = program_view c.args.program.now in
     let x = c.if-truth.chosen in
-    let here : x.now ≡ chosen_of c.in-Some.truth c.in-If.a c.in-If.b = elim c.if-truth.branch [
+    let here : x.now ≡ branch_of c.in-Some.truth c.in-If.a c.in-If.b = elim c.if-truth.branch [
       | then-truth w ↦ rw (w.chosen-is, w.if-truth.true) w.deref-chosen.ensures
       | else-truth w ↦ rw (w.chosen-is, w.if-truth.false) w.deref-chosen-else-truth.ensures
     ] in

@@ -3,7 +3,7 @@ use Rattle.ca_program.specs.View.{program_view}
 use Rattle.ca_meaning.specs.Serial.{ended, serial}
 use Rattle.ca_serial.specs.Resume.{rest_of}
 use Rattle.ca_serial.proofs.Endings.{began_with, began_value, told_more}
-use Rattle.ca_serial.proofs.running.drive.Goals as goal
+use Rattle.ca_serial.proofs.running.run_on.Goals as goal
 
 pub returns-in_default-step-clause-prints : goal.returns-in_default-step-clause-prints
 returns-in_default-step-clause-prints g c =
@@ -14,7 +14,7 @@ pub returns-in-Err-clause-prints : goal.returns-in-Err-clause-prints
 returns-in-Err-clause-prints g c =
     let i = c.loop.invariant in
     let p = program_view c.args.program.now in
-    let e = rw c.in-Printed.is at c.in-Ok-step.ensures i.0 in
+    let e = rw c.in-Printed.is at c.in-Ok.ensures i.0 in
     let m = c.step.new.self in
     let v = c.in-Printed.value in
     let is : ended c.args.budget (rest_of p m.todo m (i.0 ++ v ∷ [])) ≡ serial p c.args.budget = ap (ended c.args.budget) (sym e) ∙ rw c.in-Some-pop.ensures at i.1 in
@@ -24,7 +24,7 @@ pub loop-preserved : goal.loop-preserved
 loop-preserved g c =
     let i = c.loop.invariant in
     let p = program_view c.args.program.now in
-    let e = rw c.in-Printed.is at c.in-Ok-step.ensures i.0 in
+    let e = rw c.in-Printed.is at c.in-Ok.ensures i.0 in
     let m = c.step.new.self in
     let v = c.in-Printed.value in
     let is : ended c.args.budget (rest_of p m.todo m (i.0 ++ v ∷ [])) ≡ serial p c.args.budget = ap (ended c.args.budget) (sym e) ∙ rw c.in-Some-pop.ensures at i.1 in

@@ -5,7 +5,7 @@ use Rattle.ca_model.specs.declared.value.Value.{Value as Datum}
 use Rattle.ca_meaning.specs.Serial.{ended, serial}
 use Rattle.ca_meaning.specs.Output.{prints_text}
 use Rattle.ca_serial.specs.Resume.{rest_of}
-use Rattle.ca_serial.proofs.running.drive.Given as goal
+use Rattle.ca_serial.proofs.running.run_on.Given as goal
 
 abbrev pub invariant-loop : goal.invariant-loop
 invariant-loop g l =
