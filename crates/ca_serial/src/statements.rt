@@ -19,7 +19,8 @@ impl<'a> Machine<'a> {
     pub fn exec(&mut self, program: &'a Program, line: u32, s: &'a Stmt) -> Result<Next, Memory>
         ensures { IfOk result (λ next. (ps : List Datum) → does (program_view program.now) line (statement_view s.now) self.old ps ≡ after (program_view program.now) self.new ps next) }
     {
-        // `Ok(..?)` leaves the clause to this function, which knows the line that the statement stands on.
+        // A part's clause is for every line of the statement's own. `Ok(..?)` in place of a tail call lets the
+        // prover apply it at the line of `s`.
         match &s.kind {
             StmtForm::Block(ss) => {
                 self.todo.push(Work::Seq(ss.as_slice()))?;
