@@ -3,15 +3,15 @@ use Rattle.std.proofs.Common.{◌≡◌, ℕ, zero, suc, ◌^◌, List, [], ◌�
 use Rattle.std.specs.Prelude.{Option, Some, None, slice_get, ◌&&◌, nat_eq, is_none, pos, negsuc, ℤ, FitsSigned}
 use Rattle.std.specs.Int.{w64}
 use Rattle.std.proofs.lemmas.Bool.{ltb-true, eqb-true}
-use Rattle.ca_tree.specs.declared.tree.AssignOp.TheVariants.{Put, Add, Sub, Mul}
+use Rattle.ca_tree.specs.declared.tree.AssignOp.TheVariants.{Put}
 use Rattle.ca_tree.specs.declared.tree.BinaryOp.{BinaryOp}
-use Rattle.ca_tree.specs.declared.tree.BinaryOp.TheVariants.{Or, And, Equal, NotEqual, Less, Greater, LessEqual, GreaterEqual, Plus, Minus, Times, Divide, Remainder}
+use Rattle.ca_tree.specs.declared.tree.BinaryOp.TheVariants.{Plus, Minus}
 use Rattle.ca_program.specs.declared.program.ClassId.{ClassId}
 use Rattle.ca_program.specs.declared.program.FieldInfo.{FieldInfo}
 use Rattle.ca_program.specs.declared.program.ValueType.{ValueType}
 use Rattle.ca_program.specs.declared.program.ValueType.TheVariants.{Long, Pointer}
 use Rattle.ca_program.specs.declared.program.ValueType.TheVariants.{Bool as Truth}
-use Rattle.ca_program.specs.Plain.{PlainProgram, PlainMethod, PlainClass, Expression, number, truth, null, this, local, own, own_item, read, read_item, value_call, unary, binary, Statement, Statements, block, put_local, put_field, put_item, new_local, new_field, new_item, invoke, if_else, while_loop, for_loop, return_value, print_value, no_statements, statement_and}
+use Rattle.ca_program.specs.Plain.{PlainProgram, PlainMethod, PlainClass, Expression, number, null, local, own, binary, Statement, Statements, put_field, no_statements, statement_and}
 use Rattle.ca_small.specs.SmallForm.{fits, is_long, same_type, local_has, scalar_has, is_sum, has_type, is_value_for, is_field_put, are_field_puts, is_small_method, are_small_methods, are_lines, is_empty, is_small}
 use Rattle.ca_small.specs.TypedPuts.{IsScalar, ValueTyped, PutTyped, PutsTyped, MethodTyped, TypedPuts}
 
@@ -32,14 +32,9 @@ class_means c d h = ap (λ n. record { 0 = n }) (eqb-true c.0 d.0 h)
 
 same_means : (s t : ValueType) → same_type s t ≡ true → s ≡ t
 same_means Long Long h = refl
-same_means Long Truth h = absurd (cc)
-same_means Long (Pointer d) h = absurd (cc)
-same_means Truth Long h = absurd (cc)
 same_means Truth Truth h = refl
-same_means Truth (Pointer d) h = absurd (cc)
-same_means (Pointer c) Long h = absurd (cc)
-same_means (Pointer c) Truth h = absurd (cc)
 same_means (Pointer c) (Pointer d) h = ap (λ e. Pointer e) (class_means c d h)
+same_means s t h = absurd (cc)
 
 local_means : (o : Option ValueType) (ty : ValueType) → local_has o ty ≡ true → o ≡ Some ty
 local_means None ty h = absurd (cc)
@@ -54,26 +49,11 @@ module _ (c : ClassId) (fields : List FieldInfo) (locals : List ValueType) where
       → ValueTyped c fields locals a Long → ValueTyped c fields locals b Long → ValueTyped c fields locals (binary op a b) ty
   sum_means Plus a b Long s l x y = (x, y)
   sum_means Minus a b Long s l x y = (x, y)
-  sum_means op a b Truth s l x y = absurd (cc)
-  sum_means op a b (Pointer d) s l x y = absurd (cc)
-  sum_means Or a b Long s l x y = absurd (cc)
-  sum_means And a b Long s l x y = absurd (cc)
-  sum_means Equal a b Long s l x y = absurd (cc)
-  sum_means NotEqual a b Long s l x y = absurd (cc)
-  sum_means Less a b Long s l x y = absurd (cc)
-  sum_means Greater a b Long s l x y = absurd (cc)
-  sum_means LessEqual a b Long s l x y = absurd (cc)
-  sum_means GreaterEqual a b Long s l x y = absurd (cc)
-  sum_means Times a b Long s l x y = absurd (cc)
-  sum_means Divide a b Long s l x y = absurd (cc)
-  sum_means Remainder a b Long s l x y = absurd (cc)
+  sum_means op a b ty s l x y = absurd (cc)
 
   value_means : (e : Expression) (ty : ValueType) → has_type c fields locals e ty ≡ true → ValueTyped c fields locals e ty
   value_means (number n) Long h = fits_means n (both (fits n) true h).0
-  value_means (number n) Truth h = absurd (let k = both (fits n) false h in cc)
-  value_means (number n) (Pointer d) h = absurd (let k = both (fits n) false h in cc)
-  value_means null Long h = absurd (cc)
-  value_means null Truth h = absurd (cc)
+  value_means (number n) ty h = absurd (let k = both (fits n) (is_long ty) h in cc)
   value_means null (Pointer d) h = tt
   value_means (local l) ty h = local_means (slice_get locals l.0) ty h
   value_means (own f) ty h =
@@ -84,13 +64,7 @@ module _ (c : ClassId) (fields : List FieldInfo) (locals : List ValueType) where
       let s = both (is_sum op) (is_long ty) k.0 in
       let v = both (has_type c fields locals a Long) (has_type c fields locals b Long) k.1 in
       sum_means op a b ty s.0 s.1 (value_means a Long v.0) (value_means b Long v.1)
-  value_means (truth b) ty h = absurd (cc)
-  value_means this ty h = absurd (cc)
-  value_means (own_item f i) ty h = absurd (cc)
-  value_means (read e f) ty h = absurd (cc)
-  value_means (read_item e f i) ty h = absurd (cc)
-  value_means (value_call e m args) ty h = absurd (cc)
-  value_means (unary op e) ty h = absurd (cc)
+  value_means e ty h = absurd (cc)
 
   put_means : (o : Option FieldInfo) (e : Expression) → is_value_for c fields locals o e ≡ true → PutTyped c fields locals o e
   put_means None e h = absurd (cc)
@@ -106,21 +80,7 @@ module _ (c : ClassId) (fields : List FieldInfo) (locals : List ValueType) where
       at (put_field line f Put e) h rest =
           let k = both (nat_eq f.class.0 c.0) (is_value_for c fields locals (slice_get fields f.field) e) h in
           (class_means f.class c k.0, put_means (slice_get fields f.field) e k.1, rest)
-      at (put_field line f Add e) h rest = absurd (cc)
-      at (put_field line f Sub e) h rest = absurd (cc)
-      at (put_field line f Mul e) h rest = absurd (cc)
-      at (block line qs) h rest = absurd (cc)
-      at (put_local line l op e) h rest = absurd (cc)
-      at (put_item line f i op e) h rest = absurd (cc)
-      at (new_local line l d) h rest = absurd (cc)
-      at (new_field line f d) h rest = absurd (cc)
-      at (new_item line f i d) h rest = absurd (cc)
-      at (invoke line e op args) h rest = absurd (cc)
-      at (if_else line e s1 s2) h rest = absurd (cc)
-      at (while_loop line e s1) h rest = absurd (cc)
-      at (for_loop line site part s1 e s2 s3) h rest = absurd (cc)
-      at (return_value line e) h rest = absurd (cc)
-      at (print_value line e) h rest = absurd (cc)
+      at s h rest = absurd (cc)
 
 method_means : (c : Option PlainClass) (m : PlainMethod) → is_small_method c m ≡ true → MethodTyped c m
 method_means None m h = absurd (cc)

@@ -2,34 +2,29 @@
 -- there are no value methods, and `main` only declares locals and calls operations.
 use Rattle.std.specs.Prelude.{ℤ, ◌^◌, Bool, true, false, ◌&&◌, ◌||◌, List, [], ◌∷◌, length, Option, Some, None, slice_get, nat_eq, is_none, pos, negsuc, nat_lt}
 use Rattle.ca_tree.specs.declared.tree.AssignOp.{AssignOp}
-use Rattle.ca_tree.specs.declared.tree.AssignOp.TheVariants.{Put, Add, Sub, Mul}
+use Rattle.ca_tree.specs.declared.tree.AssignOp.TheVariants.{Put}
 use Rattle.ca_tree.specs.declared.tree.BinaryOp.{BinaryOp}
-use Rattle.ca_tree.specs.declared.tree.BinaryOp.TheVariants.{Or, And, Equal, NotEqual, Less, Greater, LessEqual, GreaterEqual, Plus, Minus, Times, Divide, Remainder}
+use Rattle.ca_tree.specs.declared.tree.BinaryOp.TheVariants.{Plus, Minus}
 use Rattle.ca_program.specs.declared.program.ClassId.{ClassId}
 use Rattle.ca_program.specs.declared.program.FieldInfo.{FieldInfo}
 use Rattle.ca_program.specs.declared.program.ValueType.{ValueType}
 use Rattle.ca_program.specs.declared.program.ValueType.TheVariants.{Long, Pointer}
 use Rattle.ca_program.specs.declared.program.ValueType.TheVariants.{Bool as Truth}
-use Rattle.ca_program.specs.Plain.{PlainProgram, PlainMethod, PlainClass, Expression, Expressions, no_expressions, expression_and, number, truth, null, this, local, own, own_item, read, read_item, value_call, unary, binary, Statement, Statements, block, put_local, put_field, put_item, new_local, new_field, new_item, invoke, if_else, while_loop, for_loop, return_value, print_value, no_statements, statement_and}
+use Rattle.ca_program.specs.Plain.{PlainProgram, PlainMethod, PlainClass, Expression, Expressions, no_expressions, expression_and, number, null, local, own, binary, Statement, Statements, put_local, put_field, new_local, invoke, no_statements, statement_and}
 
 abbrev pub is_long : ValueType → Bool
 is_long Long = true
-is_long Truth = false
-is_long (Pointer c) = false
+is_long ty = false
 
 abbrev pub is_pointer : ValueType → Bool
-is_pointer Long = false
-is_pointer Truth = false
 is_pointer (Pointer c) = true
+is_pointer ty = false
 
 abbrev pub same_type : ValueType → ValueType → Bool
-same_type Long ty = is_long ty
-same_type Truth Long = false
+same_type Long Long = true
 same_type Truth Truth = true
-same_type Truth (Pointer c) = false
-same_type (Pointer c) Long = false
-same_type (Pointer c) Truth = false
 same_type (Pointer c) (Pointer d) = nat_eq c.0 d.0
+same_type s t = false
 
 -- the local is there, and of the type
 abbrev pub local_has : Option ValueType → ValueType → Bool
@@ -44,17 +39,7 @@ scalar_has (Some f) ty = is_none f.length && same_type f.ty ty
 abbrev pub is_sum : BinaryOp → Bool
 is_sum Plus = true
 is_sum Minus = true
-is_sum Or = false
-is_sum And = false
-is_sum Equal = false
-is_sum NotEqual = false
-is_sum Less = false
-is_sum Greater = false
-is_sum LessEqual = false
-is_sum GreaterEqual = false
-is_sum Times = false
-is_sum Divide = false
-is_sum Remainder = false
+is_sum op = false
 
 -- the number is one of 64 bits
 abbrev pub fits : ℤ → Bool
@@ -69,13 +54,7 @@ has_type c fields locals null ty = is_pointer ty
 has_type c fields locals (local l) ty = local_has (slice_get locals l.0) ty
 has_type c fields locals (own f) ty = nat_eq f.class.0 c.0 && scalar_has (slice_get fields f.field) ty
 has_type c fields locals (binary op a b) ty = (is_sum op && is_long ty) && (has_type c fields locals a Long && has_type c fields locals b Long)
-has_type c fields locals (truth b) ty = false
-has_type c fields locals this ty = false
-has_type c fields locals (own_item f i) ty = false
-has_type c fields locals (read e f) ty = false
-has_type c fields locals (read_item e f i) ty = false
-has_type c fields locals (value_call e m args) ty = false
-has_type c fields locals (unary op e) ty = false
+has_type c fields locals e ty = false
 
 -- the field is there and no array, and the value has its type
 abbrev pub is_value_for : ClassId → List FieldInfo → List ValueType → Option FieldInfo → Expression → Bool
@@ -84,25 +63,12 @@ is_value_for c fields locals (Some f) e = is_none f.length && has_type c fields 
 
 abbrev pub is_put : AssignOp → Bool
 is_put Put = true
-is_put Add = false
-is_put Sub = false
-is_put Mul = false
+is_put op = false
 
 -- a statement of an operation: a put into a scalar field of the class
 abbrev pub is_field_put : ClassId → List FieldInfo → List ValueType → Statement → Bool
 is_field_put c fields locals (put_field line f op e) = (is_put op && nat_eq f.class.0 c.0) && is_value_for c fields locals (slice_get fields f.field) e
-is_field_put c fields locals (block line ss) = false
-is_field_put c fields locals (put_local line l op e) = false
-is_field_put c fields locals (put_item line f i op e) = false
-is_field_put c fields locals (new_local line l d) = false
-is_field_put c fields locals (new_field line f d) = false
-is_field_put c fields locals (new_item line f i d) = false
-is_field_put c fields locals (invoke line e op args) = false
-is_field_put c fields locals (if_else line e s1 s2) = false
-is_field_put c fields locals (while_loop line e s1) = false
-is_field_put c fields locals (for_loop line site part s1 e s2 s3) = false
-is_field_put c fields locals (return_value line e) = false
-is_field_put c fields locals (print_value line e) = false
+is_field_put c fields locals s = false
 
 abbrev pub are_field_puts : ClassId → List FieldInfo → List ValueType → Statements → Bool
 are_field_puts c fields locals no_statements = true
@@ -119,45 +85,15 @@ are_small_methods classes (m ∷ ms) = is_small_method (slice_get classes m.clas
 
 abbrev pub is_null : Expression → Bool
 is_null null = true
-is_null (number n) = false
-is_null (truth b) = false
-is_null this = false
-is_null (local l) = false
-is_null (own f) = false
-is_null (own_item f i) = false
-is_null (read e f) = false
-is_null (read_item e f i) = false
-is_null (value_call e m args) = false
-is_null (unary op e) = false
-is_null (binary op a b) = false
+is_null e = false
 
 abbrev pub is_local : Expression → Bool
 is_local (local l) = true
-is_local null = false
-is_local (number n) = false
-is_local (truth b) = false
-is_local this = false
-is_local (own f) = false
-is_local (own_item f i) = false
-is_local (read e f) = false
-is_local (read_item e f i) = false
-is_local (value_call e m args) = false
-is_local (unary op e) = false
-is_local (binary op a b) = false
+is_local e = false
 
 abbrev pub is_number : Expression → Bool
 is_number (number n) = true
-is_number null = false
-is_number (truth b) = false
-is_number this = false
-is_number (local l) = false
-is_number (own f) = false
-is_number (own_item f i) = false
-is_number (read e f) = false
-is_number (read_item e f i) = false
-is_number (value_call e m args) = false
-is_number (unary op e) = false
-is_number (binary op a b) = false
+is_number e = false
 
 -- an argument of a call in `main`
 abbrev pub is_argument : Expression → Bool
@@ -172,16 +108,7 @@ abbrev pub is_line : Statement → Bool
 is_line (put_local line l op e) = is_put op && is_null e
 is_line (new_local line l d) = true
 is_line (invoke line e op args) = is_local e && are_arguments args
-is_line (put_field line f op e) = false
-is_line (block line ss) = false
-is_line (put_item line f i op e) = false
-is_line (new_field line f d) = false
-is_line (new_item line f i d) = false
-is_line (if_else line e s1 s2) = false
-is_line (while_loop line e s1) = false
-is_line (for_loop line site part s1 e s2 s3) = false
-is_line (return_value line e) = false
-is_line (print_value line e) = false
+is_line s = false
 
 abbrev pub are_lines : Statements → Bool
 are_lines no_statements = true

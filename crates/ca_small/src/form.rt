@@ -13,34 +13,22 @@ use ca_program::{
 fn is_long(ty: ValueType) -> bool
     ensures { result ≡ is_long ty }
 {
-    match ty {
-        ValueType::Long => true,
-        ValueType::Bool | ValueType::Pointer(_) => false,
-    }
+    matches!(ty, ValueType::Long)
 }
 
 fn is_pointer(ty: ValueType) -> bool
     ensures { result ≡ is_pointer ty }
 {
-    match ty {
-        ValueType::Pointer(_) => true,
-        ValueType::Long | ValueType::Bool => false,
-    }
+    matches!(ty, ValueType::Pointer(_))
 }
 
 fn same_type(one: ValueType, other: ValueType) -> bool
     ensures { result ≡ same_type one other }
 {
-    match one {
-        ValueType::Long => is_long(other),
-        ValueType::Bool => match other {
-            ValueType::Bool => true,
-            ValueType::Long | ValueType::Pointer(_) => false,
-        },
-        ValueType::Pointer(c) => match other {
-            ValueType::Pointer(d) => c.0 == d.0,
-            ValueType::Long | ValueType::Bool => false,
-        },
+    match (one, other) {
+        (ValueType::Long, ValueType::Long) | (ValueType::Bool, ValueType::Bool) => true,
+        (ValueType::Pointer(c), ValueType::Pointer(d)) => c.0 == d.0,
+        _ => false,
     }
 }
 
@@ -65,20 +53,7 @@ fn scalar_has(fields: &[FieldInfo], field: u32, ty: ValueType) -> bool
 pub(crate) fn is_sum(op: BinaryOp) -> bool
     ensures { result ≡ is_sum op }
 {
-    match op {
-        BinaryOp::Plus | BinaryOp::Minus => true,
-        BinaryOp::Or
-        | BinaryOp::And
-        | BinaryOp::Equal
-        | BinaryOp::NotEqual
-        | BinaryOp::Less
-        | BinaryOp::Greater
-        | BinaryOp::LessEqual
-        | BinaryOp::GreaterEqual
-        | BinaryOp::Times
-        | BinaryOp::Divide
-        | BinaryOp::Remainder => false,
-    }
+    matches!(op, BinaryOp::Plus | BinaryOp::Minus)
 }
 
 /// Every number in memory is one of 64 bits.
@@ -111,13 +86,7 @@ fn has_type(around: Around, value: &Expr, ty: ValueType) -> bool
                 && has_type(around, a, ValueType::Long)
                 && has_type(around, b, ValueType::Long)
         }
-        Expr::Truth(_)
-        | Expr::This
-        | Expr::OwnItem(..)
-        | Expr::Read(..)
-        | Expr::ReadItem(..)
-        | Expr::Value(..)
-        | Expr::Unary(..) => false,
+        _ => false,
     }
 }
 
@@ -133,10 +102,7 @@ fn is_value_for(around: Around, field: u32, value: &Expr) -> bool
 pub(crate) fn is_put(op: AssignOp) -> bool
     ensures { result ≡ is_put op }
 {
-    match op {
-        AssignOp::Put => true,
-        AssignOp::Add | AssignOp::Sub | AssignOp::Mul => false,
-    }
+    matches!(op, AssignOp::Put)
 }
 
 fn is_field_put(around: Around, stmt: &Stmt) -> bool
@@ -146,18 +112,7 @@ fn is_field_put(around: Around, stmt: &Stmt) -> bool
         StmtForm::PutField(f, op, value) => {
             is_put(*op) && f.class.0 == around.class.0 && is_value_for(around, f.field, value)
         }
-        StmtForm::Block(_)
-        | StmtForm::PutLocal(..)
-        | StmtForm::PutItem(..)
-        | StmtForm::NewLocal(..)
-        | StmtForm::NewField(..)
-        | StmtForm::NewItem(..)
-        | StmtForm::Invoke(..)
-        | StmtForm::If(..)
-        | StmtForm::While(..)
-        | StmtForm::For(..)
-        | StmtForm::Return(_)
-        | StmtForm::Print(_) => false,
+        _ => false,
     }
 }
 
@@ -203,58 +158,19 @@ fn are_small_methods(classes: &[Class], methods: &[Method]) -> bool
 fn is_null(value: &Expr) -> bool
     ensures { result ≡ is_null (expression_view value.now) }
 {
-    match value {
-        Expr::Null => true,
-        Expr::Number(_)
-        | Expr::Truth(_)
-        | Expr::This
-        | Expr::Local(_)
-        | Expr::Own(_)
-        | Expr::OwnItem(..)
-        | Expr::Read(..)
-        | Expr::ReadItem(..)
-        | Expr::Value(..)
-        | Expr::Unary(..)
-        | Expr::Binary(..) => false,
-    }
+    matches!(value, Expr::Null)
 }
 
 fn is_local(value: &Expr) -> bool
     ensures { result ≡ is_local (expression_view value.now) }
 {
-    match value {
-        Expr::Local(_) => true,
-        Expr::Number(_)
-        | Expr::Truth(_)
-        | Expr::Null
-        | Expr::This
-        | Expr::Own(_)
-        | Expr::OwnItem(..)
-        | Expr::Read(..)
-        | Expr::ReadItem(..)
-        | Expr::Value(..)
-        | Expr::Unary(..)
-        | Expr::Binary(..) => false,
-    }
+    matches!(value, Expr::Local(_))
 }
 
 fn is_number(value: &Expr) -> bool
     ensures { result ≡ is_number (expression_view value.now) }
 {
-    match value {
-        Expr::Number(_) => true,
-        Expr::Truth(_)
-        | Expr::Null
-        | Expr::This
-        | Expr::Local(_)
-        | Expr::Own(_)
-        | Expr::OwnItem(..)
-        | Expr::Read(..)
-        | Expr::ReadItem(..)
-        | Expr::Value(..)
-        | Expr::Unary(..)
-        | Expr::Binary(..) => false,
-    }
+    matches!(value, Expr::Number(_))
 }
 
 fn is_argument(value: &Expr) -> bool
@@ -281,16 +197,7 @@ fn is_line(stmt: &Stmt) -> bool
         StmtForm::PutLocal(_, op, value) => is_put(*op) && is_null(value),
         StmtForm::NewLocal(..) => true,
         StmtForm::Invoke(receiver, _, arguments) => is_local(receiver) && are_arguments(arguments),
-        StmtForm::Block(_)
-        | StmtForm::PutField(..)
-        | StmtForm::PutItem(..)
-        | StmtForm::NewField(..)
-        | StmtForm::NewItem(..)
-        | StmtForm::If(..)
-        | StmtForm::While(..)
-        | StmtForm::For(..)
-        | StmtForm::Return(_)
-        | StmtForm::Print(_) => false,
+        _ => false,
     }
 }
 

@@ -13,19 +13,13 @@ use ca_tree::{
 fn is_pointer_type(ty: &TypeNode) -> bool
     ensures { result ≡ is_pointer_type ty.now }
 {
-    match ty {
-        TypeNode::Pointer(..) => true,
-        TypeNode::Long | TypeNode::Bool => false,
-    }
+    matches!(ty, TypeNode::Pointer(..))
 }
 
 fn is_type(ty: &TypeNode) -> bool
     ensures { result ≡ is_type ty.now }
 {
-    match ty {
-        TypeNode::Long | TypeNode::Pointer(..) => true,
-        TypeNode::Bool => false,
-    }
+    matches!(ty, TypeNode::Long | TypeNode::Pointer(..))
 }
 
 fn is_field(field: &FieldNode) -> bool
@@ -48,54 +42,19 @@ fn are_params(params: &[ParamNode]) -> bool
 fn is_named(e: &ExprNode) -> bool
     ensures { result ≡ is_named (expression_view e.now) }
 {
-    match &e.kind {
-        ExprKind::Named(_) => true,
-        ExprKind::Number(_)
-        | ExprKind::Truth(_)
-        | ExprKind::Null
-        | ExprKind::This
-        | ExprKind::Call(..)
-        | ExprKind::Field(..)
-        | ExprKind::Method(..)
-        | ExprKind::Index(..)
-        | ExprKind::Unary(..)
-        | ExprKind::Binary(..) => false,
-    }
+    matches!(&e.kind, ExprKind::Named(_))
 }
 
 fn is_nullptr(e: &ExprNode) -> bool
     ensures { result ≡ is_nullptr (expression_view e.now) }
 {
-    match &e.kind {
-        ExprKind::Null => true,
-        ExprKind::Number(_)
-        | ExprKind::Truth(_)
-        | ExprKind::This
-        | ExprKind::Named(_)
-        | ExprKind::Call(..)
-        | ExprKind::Field(..)
-        | ExprKind::Method(..)
-        | ExprKind::Index(..)
-        | ExprKind::Unary(..)
-        | ExprKind::Binary(..) => false,
-    }
+    matches!(&e.kind, ExprKind::Null)
 }
 
 fn is_item(e: &ExprNode) -> bool
     ensures { result ≡ is_item (expression_view e.now) }
 {
-    match &e.kind {
-        ExprKind::Named(_) | ExprKind::Number(_) => true,
-        ExprKind::Truth(_)
-        | ExprKind::Null
-        | ExprKind::This
-        | ExprKind::Call(..)
-        | ExprKind::Field(..)
-        | ExprKind::Method(..)
-        | ExprKind::Index(..)
-        | ExprKind::Unary(..)
-        | ExprKind::Binary(..) => false,
-    }
+    matches!(&e.kind, ExprKind::Named(_) | ExprKind::Number(_))
 }
 
 fn is_chain(e: &ExprNode) -> bool
@@ -104,14 +63,7 @@ fn is_chain(e: &ExprNode) -> bool
     match &e.kind {
         ExprKind::Named(_) | ExprKind::Number(_) => true,
         ExprKind::Binary(op, left, right) => is_sum(*op) && is_chain(left) && is_item(right),
-        ExprKind::Truth(_)
-        | ExprKind::Null
-        | ExprKind::This
-        | ExprKind::Call(..)
-        | ExprKind::Field(..)
-        | ExprKind::Method(..)
-        | ExprKind::Index(..)
-        | ExprKind::Unary(..) => false,
+        _ => false,
     }
 }
 
@@ -131,15 +83,7 @@ fn is_name_put(stmt: &StmtNode) -> bool
         StmtKind::Assign { target, op, right } => is_put(*op)
             && is_named(target)
             && is_value(right),
-        StmtKind::Empty
-        | StmtKind::Block(_)
-        | StmtKind::Local { .. }
-        | StmtKind::Call(_)
-        | StmtKind::If { .. }
-        | StmtKind::While { .. }
-        | StmtKind::For { .. }
-        | StmtKind::Return(_)
-        | StmtKind::Print(_) => false,
+        _ => false,
     }
 }
 
@@ -225,16 +169,7 @@ fn is_call(e: &ExprNode) -> bool
 {
     match &e.kind {
         ExprKind::Method(receiver, _, arguments) => is_named(receiver) && are_arguments(arguments),
-        ExprKind::Number(_)
-        | ExprKind::Truth(_)
-        | ExprKind::Null
-        | ExprKind::This
-        | ExprKind::Named(_)
-        | ExprKind::Call(..)
-        | ExprKind::Field(..)
-        | ExprKind::Index(..)
-        | ExprKind::Unary(..)
-        | ExprKind::Binary(..) => false,
+        _ => false,
     }
 }
 
@@ -244,14 +179,7 @@ fn is_main_line(stmt: &StmtNode) -> bool
     match &stmt.kind {
         StmtKind::Local { ty, value, .. } => is_pointer_type(ty) && is_creation(value),
         StmtKind::Call(e) => is_call(e),
-        StmtKind::Empty
-        | StmtKind::Block(_)
-        | StmtKind::Assign { .. }
-        | StmtKind::If { .. }
-        | StmtKind::While { .. }
-        | StmtKind::For { .. }
-        | StmtKind::Return(_)
-        | StmtKind::Print(_) => false,
+        _ => false,
     }
 }
 
