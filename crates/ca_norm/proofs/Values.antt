@@ -101,3 +101,7 @@ module _ (v : Valuation) where
   means (atom PointerArray group n) s f = refl
   means (add a b) s f = number_means (add a b) refl s f
   means (sub a b) s f = number_means (sub a b) refl s f
+
+  -- terms of one form mean the same
+  pub same_forms : (t u : PlainTerm) → IsSorted t → IsSorted u → LiteralsFit t → LiteralsFit u → norm t ≡ norm u → mean v t ≡ mean v u
+  same_forms t u s r f g e = sym (means t s f) ∙ ap (form_mean v) e ∙ means u r g

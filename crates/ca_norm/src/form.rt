@@ -36,13 +36,14 @@ impl Model for Polynomial {
 }
 
 impl Polynomial {
-    /// The polynomial of a number.
+    /// The formal polynomial of a term, which is to be a number. It recurses as deep as the term is.
     #[inline(never)]
     pub fn of(alloc: Global, term: &Term) -> Result<Polynomial, AllocError>
         ensures { IfOk result (λ p. p ≡ collect ghosts.cmp (expand (shape term.now))) }
     {
         let mut form = BTreeMap::new(alloc);
         add_term(&mut form, term, 1)?;
+        // Asked for its clause, that the entries are in order.
         let _count = form.len();
         let products = form.into_iter().collect(alloc)?;
         Ok(Polynomial { products })

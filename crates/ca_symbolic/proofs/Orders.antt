@@ -13,16 +13,17 @@ use Rattle.ca_meaning.specs.Expressions.{one_in, or_null}
 use Rattle.ca_model.specs.Typed.{SlotsTyped}
 use Rattle.ca_small.specs.TypedPuts.{PutsTyped}
 use Rattle.ca_meaning.specs.WellTyped.{ValuesTyped}
-use Rattle.ca_norm.specs.Terms.{PlainTerm, IsSorted, LiteralsFit}
+use Rattle.ca_norm.specs.Terms.{PlainTerm}
 use Rattle.ca_norm.specs.Forms.{norm}
-use Rattle.ca_norm.specs.Meanings.{Valuation, mean, form_mean}
-use Rattle.ca_norm.proofs.Values.{means}
+use Rattle.ca_norm.specs.Meanings.{Valuation, mean}
+use Rattle.ca_norm.proofs.Valuations.{valuation_of}
+use Rattle.ca_norm.proofs.Values.{same_forms}
 use Rattle.ca_symbolic.specs.Symbolic.{starts, fields_after, after}
 use Rattle.ca_symbolic.specs.Verdicts.{after_both}
 use Rattle.ca_symbolic.proofs.Puts.{own_puts}
 use Rattle.ca_symbolic.proofs.Slots.{write}
 use Rattle.ca_symbolic.proofs.Sorts.{AllGood, starts_good, after_good}
-use Rattle.ca_symbolic.proofs.Values.{fit, fit_sorted, parameter_means, starts_mean, after_means}
+use Rattle.ca_symbolic.proofs.Values.{parameter_means, starts_mean, after_means}
 
 -- Lengths
 
@@ -37,10 +38,6 @@ length_after g body ts = length_fields g body.locals body.statements ts
 pub length_starts : (n : ℕ) (fs : List FieldInfo) → length (starts n fs) ≡ length fs
 length_starts n [] = refl
 length_starts n (f ∷ fs) = ap suc (length_starts (n + 1) fs)
-
--- terms of one form mean the same
-same_forms : (v : Valuation) (t u : PlainTerm) → IsSorted t → IsSorted u → LiteralsFit t → LiteralsFit u → norm t ≡ norm u → mean v t ≡ mean v u
-same_forms v t u s r f g e = sym (means v t s f) ∙ ap (form_mean v) e ∙ means v u r g
 
 same_means : (v : Valuation) (fs : List FieldInfo) (ts us : List PlainTerm) → AllGood fs ts → AllGood fs us → map norm ts ≡ map norm us → map (mean v) ts ≡ map (mean v) us
 same_means v [] [] [] a b e = refl
@@ -62,10 +59,7 @@ picked ss xs ys (suc (suc zero)) n = or_null (slice_get ys n)
 picked ss xs ys (suc (suc (suc g))) n = one_in (slice_get ss n)
 
 abbrev valuation : List Slot → List Datum → List Datum → Valuation
-valuation ss xs ys = record {
-  value = λ s g n. fit s (picked ss xs ys g n);
-  sorted = λ s g n. fit_sorted s (picked ss xs ys g n);
-}
+valuation ss xs ys = valuation_of (picked ss xs ys)
 
 module _ (c : ClassId) (fs : List FieldInfo) (a b : PlainBody) (first : PutsTyped c fs a.locals a.statements) (second : PutsTyped c fs b.locals b.statements) where
   both_good : AllGood fs (after_both 1 a 2 b (starts 0 fs)) × AllGood fs (after_both 2 b 1 a (starts 0 fs))

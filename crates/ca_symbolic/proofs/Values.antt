@@ -1,8 +1,7 @@
 -- What the terms of the fields mean: the slots that the operation's body leaves.
-use Rattle.std.proofs.Common.{rules, ◌≡◌, ℕ, zero, suc, ◌+◌, List, [], ◌∷◌, pos, false, map, Option, Some, None, FitsSigned, refl, ap, ap₂, sym, ◌∙◌, arith, slice_set, w64, add-zero}
+use Rattle.std.proofs.Common.{◌≡◌, ℕ, zero, suc, ◌+◌, List, [], ◌∷◌, map, Option, Some, None, refl, ap, ap₂, sym, ◌∙◌, arith, slice_set, w64, add-zero}
 use Rattle.std.specs.Prelude.{slice_get}
-use Rattle.std.specs.Int.{int_wrap}
-use Rattle.std.proofs.lemmas.Int.{SFits-int_wrap, int_wrap_fits}
+use Rattle.std.proofs.lemmas.Int.{int_wrap_fits}
 use Rattle.std.proofs.lemmas.List.{map-set}
 use Rattle.ca_tree.specs.declared.tree.AssignOp.TheVariants.{Put}
 use Rattle.ca_tree.specs.declared.tree.BinaryOp.TheVariants.{Plus, Minus}
@@ -23,77 +22,44 @@ use Rattle.ca_meaning.specs.WellTyped.{ValuesTyped}
 use Rattle.ca_model.specs.Typed.{HasType, SlotTyped, SlotsTyped}
 use Rattle.ca_small.specs.TypedPuts.{ValueTyped, PutsTyped}
 use Rattle.ca_norm.specs.declared.term.Sort.{Sort}
-use Rattle.ca_norm.specs.declared.term.Sort.TheVariants.{Long, Bool, Pointer, LongArray, BoolArray, PointerArray}
 use Rattle.ca_norm.specs.Terms.{PlainTerm}
-use Rattle.ca_norm.specs.Meanings.{operate, IsOfSort, Valuation, mean}
+use Rattle.ca_norm.specs.Meanings.{operate, Valuation, mean}
+use Rattle.ca_norm.proofs.Valuations.{as_sort}
 use Rattle.ca_symbolic.specs.Symbolic.{sort_of_type, sort_of_slot, starts, parameter, term_of, fields_after}
 use Rattle.ca_symbolic.specs.Symbolic as symbolic
 use Rattle.ca_symbolic.proofs.Puts.{put_value, own_puts}
 use Rattle.ca_symbolic.proofs.Slots.{write, put_write, read_write, scalar_is_one}
 use Rattle.ca_symbolic.proofs.Sorts.{put_type}
 
--- a value of the sort: the given one, if it is of the sort
-abbrev pub fit : Sort → Datum → Datum
-fit Long (datum.Long n) = datum.Long (int_wrap w64 n)
-fit Long v = datum.Long (pos 0)
-fit Bool (datum.Bool b) = datum.Bool b
-fit Bool v = datum.Bool false
-fit Pointer datum.Null = datum.Null
-fit Pointer (datum.Ref r) = datum.Ref r
-fit Pointer v = datum.Null
-fit s v = v
-
-zero_fits : FitsSigned w64 (pos 0)
-zero_fits = search rules
-
-pub fit_sorted : (s : Sort) (v : Datum) → IsOfSort s (fit s v)
-fit_sorted Long (datum.Long n) = SFits-int_wrap w64 n
-fit_sorted Long (datum.Bool b) = zero_fits
-fit_sorted Long datum.Null = zero_fits
-fit_sorted Long (datum.Ref r) = zero_fits
-fit_sorted Bool (datum.Long n) = tt
-fit_sorted Bool (datum.Bool b) = tt
-fit_sorted Bool datum.Null = tt
-fit_sorted Bool (datum.Ref r) = tt
-fit_sorted Pointer (datum.Long n) = tt
-fit_sorted Pointer (datum.Bool b) = tt
-fit_sorted Pointer datum.Null = tt
-fit_sorted Pointer (datum.Ref r) = tt
-fit_sorted LongArray v = tt
-fit_sorted BoolArray v = tt
-fit_sorted PointerArray v = tt
-
-pub fit_typed : (h : List Object) (ty : ValueType) (v : Datum) → HasType h v ty → fit (sort_of_type ty) v ≡ v
-fit_typed h type.Long (datum.Long n) t = ap datum.Long (int_wrap_fits w64 n t)
-fit_typed h type.Bool (datum.Bool b) t = refl
-fit_typed h (type.Pointer c) datum.Null t = refl
-fit_typed h (type.Pointer c) (datum.Ref r) t = refl
-fit_typed h ty v t = absurd t
-
-means : Valuation → List PlainTerm → List Datum
-means v ts = map (mean v) ts
+-- a value of the type of a parameter or field is of its sort already
+sort_typed : (h : List Object) (ty : ValueType) (v : Datum) → HasType h v ty → as_sort (sort_of_type ty) v ≡ v
+sort_typed h type.Long (datum.Long n) t = ap datum.Long (int_wrap_fits w64 n t)
+sort_typed h type.Bool (datum.Bool b) t = refl
+sort_typed h (type.Pointer c) datum.Null t = refl
+sort_typed h (type.Pointer c) (datum.Ref r) t = refl
+sort_typed h ty v t = absurd t
 
 -- the atom of a parameter means its argument
-pub parameter_means : (v : Valuation) (g n : ℕ) (h : List Object) (xs : List Datum) (tys : List ValueType) (l : ℕ) → ((s : Sort) → v.value s g n ≡ fit s (or_null (slice_get xs l))) → ValuesTyped h xs tys → mean v (parameter g n (slice_get tys l)) ≡ or_null (slice_get xs l)
+pub parameter_means : (v : Valuation) (g n : ℕ) (h : List Object) (xs : List Datum) (tys : List ValueType) (l : ℕ) → ((s : Sort) → v.value s g n ≡ as_sort s (or_null (slice_get xs l))) → ValuesTyped h xs tys → mean v (parameter g n (slice_get tys l)) ≡ or_null (slice_get xs l)
 parameter_means v g n h [] [] l e t = refl
 parameter_means v g n h [] (ty ∷ tys) l e t = absurd t
 parameter_means v g n h (x ∷ xs) [] l e t = absurd t
-parameter_means v g n h (x ∷ xs) (ty ∷ tys) zero e t = e (sort_of_type ty) ∙ fit_typed h ty x t.0
+parameter_means v g n h (x ∷ xs) (ty ∷ tys) zero e t = e (sort_of_type ty) ∙ sort_typed h ty x t.0
 parameter_means v g n h (x ∷ xs) (ty ∷ tys) (suc l) e t = parameter_means v g n h xs tys l e t.1
 
-slot_means : (v : Valuation) (n : ℕ) (h : List Object) (s : Slot) (ty : ValueType) (m : Option ℕ) (ts : List PlainTerm) (ss : List Slot) → ((k : Sort) → v.value k 3 n ≡ fit k (one_in (Some s))) → SlotTyped h s ty m → write (map (mean v) ts) ss ≡ ss → write (v.value (sort_of_slot ty m) 3 n ∷ map (mean v) ts) (s ∷ ss) ≡ s ∷ ss
-slot_means v n h (One x) ty None ts ss e t r = ap₂ (λ a b. One a ∷ b) (e (sort_of_type ty) ∙ fit_typed h ty x t) r
+slot_means : (v : Valuation) (n : ℕ) (h : List Object) (s : Slot) (ty : ValueType) (m : Option ℕ) (ts : List PlainTerm) (ss : List Slot) → ((k : Sort) → v.value k 3 n ≡ as_sort k (one_in (Some s))) → SlotTyped h s ty m → write (map (mean v) ts) ss ≡ ss → write (v.value (sort_of_slot ty m) 3 n ∷ map (mean v) ts) (s ∷ ss) ≡ s ∷ ss
+slot_means v n h (One x) ty None ts ss e t r = ap₂ (λ a b. One a ∷ b) (e (sort_of_type ty) ∙ sort_typed h ty x t) r
 slot_means v n h (One x) ty (Some m) ts ss e t r = absurd t
 slot_means v n h (Many xs) ty m ts ss e t r = ap (λ b. Many xs ∷ b) r
 
 -- the atoms of the fields mean what the slots hold
-pub starts_mean : (v : Valuation) (h : List Object) (n : ℕ) (fs : List FieldInfo) (ss : List Slot) → ((k : ℕ) (s : Sort) → v.value s 3 (n + k) ≡ fit s (one_in (slice_get ss k))) → SlotsTyped h ss fs → write (map (mean v) (starts n fs)) ss ≡ ss
+pub starts_mean : (v : Valuation) (h : List Object) (n : ℕ) (fs : List FieldInfo) (ss : List Slot) → ((k : ℕ) (s : Sort) → v.value s 3 (n + k) ≡ as_sort s (one_in (slice_get ss k))) → SlotsTyped h ss fs → write (map (mean v) (starts n fs)) ss ≡ ss
 starts_mean v h n [] [] e t = refl
 starts_mean v h n [] (s ∷ ss) e t = absurd t
 starts_mean v h n (f ∷ fs) [] e t = absurd t
 starts_mean v h n (f ∷ fs) (s ∷ ss) e t =
-    let here : (k : Sort) → v.value k 3 n ≡ fit k (one_in (Some s)) = λ k. ap (v.value k 3) (sym (add-zero n)) ∙ e 0 k in
-    let there : (k : ℕ) (d : Sort) → v.value d 3 (n + 1 + k) ≡ fit d (one_in (slice_get ss k)) = λ k d. ap (v.value d 3) (let i : n + 1 + k ≡ n + suc k = omega arith in i) ∙ e (suc k) d in
+    let here : (k : Sort) → v.value k 3 n ≡ as_sort k (one_in (Some s)) = λ k. ap (v.value k 3) (sym (add-zero n)) ∙ e 0 k in
+    let there : (k : ℕ) (d : Sort) → v.value d 3 (n + 1 + k) ≡ as_sort d (one_in (slice_get ss k)) = λ k d. ap (v.value d 3) (let i : n + 1 + k ≡ n + suc k = omega arith in i) ∙ e (suc k) d in
     slot_means v n h s f.ty f.length (starts (n + 1) fs) ss here t.0 (starts_mean v h (n + 1) fs ss there t.1)
 
 field_means : (v : Valuation) (ts : List PlainTerm) (f : ℕ) → mean v (symbolic.or_null (slice_get ts f)) ≡ or_null (slice_get (map (mean v) ts) f)

@@ -7,7 +7,7 @@ ghost use Rattle.ca_symbolic.specs.Verdicts.{after_both, heavy_in, orders, IsVer
 
 use crate::execute::{execute, starting};
 use crate::verdicts::{Reason, Verdict};
-use crate::weighed::{SymError, Weighed};
+use crate::weighed::{ExecutionError, Weighed};
 use ca_norm::same;
 use ca_program::{Body, ClassId, FieldId, FieldInfo};
 use std::alloc::Global;
@@ -26,12 +26,12 @@ fn order(
     body: &Body,
     next_group: u32,
     next: &Body,
-) -> Result<Vec<Weighed>, SymError>
+) -> Result<Vec<Weighed>, ExecutionError>
     ensures terms { IfOk result (λ v. v.items ≡ after_both group (body_view body.now) next_group (body_view next.now) (starts 0 fields.now)) }
     ensures few { IfOk result (λ v. length v.items ≤ 2 ^ 32) }
     ensures length { IfOk result (λ v. length v.items ≡ length fields.now) }
     ensures light { IfOk result (λ _. heavy_in group (body_view body.now) next_group (body_view next.now) (starts 0 fields.now) ≡ false) }
-    ensures large { result ≡ Err SymError.Large → heavy_in group (body_view body.now) next_group (body_view next.now) (starts 0 fields.now) ≡ true }
+    ensures large { result ≡ Err ExecutionError.Large → heavy_in group (body_view body.now) next_group (body_view next.now) (starts 0 fields.now) ≡ true }
 {
     let mut state = starting(alloc, fields)?;
     execute(alloc, body, group, &mut state)?;
@@ -45,11 +45,11 @@ fn first_difference(
     class: ClassId,
     first: &[Weighed],
     second: &[Weighed],
-) -> Result<Verdict, SymError>
+) -> Result<Verdict, ExecutionError>
     requires equal { length first.now ≡ length second.now }
     requires few { length first.now ≤ 2 ^ 32 }
     ensures verdict { IfOk result (λ v. IsComparison class first.now second.now v) }
-    ensures light { result ≡ Err SymError.Large → ⊥ }
+    ensures light { result ≡ Err ExecutionError.Large → ⊥ }
 {
     for place in 0..first.len() {
         let one = first[place].normal(alloc)?;
@@ -76,9 +76,9 @@ pub fn compared(
     fields: &[FieldInfo],
     a: &Body,
     b: &Body,
-) -> Result<Verdict, SymError>
+) -> Result<Verdict, ExecutionError>
     ensures verdict { IfOk result (λ v. IsVerdict class (orders fields.now (body_view a.now) (body_view b.now)) v) }
-    ensures large { result ≡ Err SymError.Large → (orders fields.now (body_view a.now) (body_view b.now)).heavy ≡ true }
+    ensures large { result ≡ Err ExecutionError.Large → (orders fields.now (body_view a.now) (body_view b.now)).heavy ≡ true }
 {
     let first = order(alloc, fields, FIRST, a, SECOND, b)?;
     let second = order(alloc, fields, SECOND, b, FIRST, a)?;

@@ -7,7 +7,7 @@ ghost use Rattle.ca_norm.specs.Weights.{weight_of};
 ghost use Rattle.ca_symbolic.specs.Symbolic.{sort_of_type, sort_of_slot, starts, term_of, parameter, after, made};
 ghost use Rattle.ca_symbolic.specs.Verdicts.{is_heavy};
 
-use crate::weighed::{SymError, Weighed};
+use crate::weighed::{ExecutionError, Weighed};
 use ca_norm::Sort;
 use ca_program::{BinaryOp, Body, Expr, FieldInfo, LocalId, StmtForm, ValueType};
 use std::alloc::Global;
@@ -37,15 +37,15 @@ fn sort_of_slot(field: &FieldInfo) -> Sort
 }
 
 /// The terms of the fields at the start. There is no room for more fields than a u32 numbers.
-pub fn starting(alloc: Global, fields: &[FieldInfo]) -> Result<Vec<Weighed>, SymError>
+pub fn starting(alloc: Global, fields: &[FieldInfo]) -> Result<Vec<Weighed>, ExecutionError>
     ensures terms { IfOk result (λ v. v.items ≡ starts 0 fields.now) }
     ensures few { IfOk result (λ v. length v.items ≤ 2 ^ 32) }
-    ensures light { result ≡ Err SymError.Large → ⊥ }
+    ensures light { result ≡ Err ExecutionError.Large → ⊥ }
 {
     let mut state = Vec::new(alloc);
     for field in fields {
         let Ok(number) = u32::try_from(state.len()) else {
-            return Err(SymError::Memory);
+            return Err(ExecutionError::Memory);
         };
         state.push(Weighed::atom(sort_of_slot(field), FIELDS, number))?;
     }
@@ -68,10 +68,10 @@ fn value_of(
     group: u32,
     locals: &[ValueType],
     fields: &[Weighed],
-) -> Result<Weighed, SymError>
+) -> Result<Weighed, ExecutionError>
     ensures made { IfOk result (λ t. t ≡ term_of group locals.now fields.now (expression_view value.now)) }
     ensures light { IfOk result (λ t. weight_of t ≤ 65536) }
-    ensures large { result ≡ Err SymError.Large → 65536 < weight_of (term_of group locals.now fields.now (expression_view value.now)) }
+    ensures large { result ≡ Err ExecutionError.Large → 65536 < weight_of (term_of group locals.now fields.now (expression_view value.now)) }
 {
     match value {
         Expr::Number(n) => Ok(Weighed::number(*n)),
@@ -109,10 +109,10 @@ pub fn execute(
     body: &Body,
     group: u32,
     fields: &mut Vec<Weighed>,
-) -> Result<(), SymError>
+) -> Result<(), ExecutionError>
     ensures after { OnOk result (fields.new.items ≡ after group (body_view body.now) fields.old.items) }
     ensures light { OnOk result (list_any is_heavy (made group (body_view body.now) fields.old.items) ≡ false) }
-    ensures large { result ≡ Err SymError.Large → list_any is_heavy (made group (body_view body.now) fields.old.items) ≡ true }
+    ensures large { result ≡ Err ExecutionError.Large → list_any is_heavy (made group (body_view body.now) fields.old.items) ≡ true }
 {
     let locals = body.locals.as_slice();
     for stmt in &body.stmts {

@@ -27,7 +27,7 @@ ghost use Rattle.ca_symbolic.specs.Verdicts.{VerdictOf};
 use crate::compare::compared;
 pub use crate::extent::Extent;
 pub use crate::verdicts::{Reason, Verdict};
-use crate::weighed::SymError;
+use crate::weighed::ExecutionError;
 use ca_base::Memory;
 use ca_program::{ClassId, FieldInfo, OpId, Program};
 use std::alloc::Global;
@@ -44,7 +44,9 @@ fn fields_of(program: &Program, class: ClassId) -> &[FieldInfo]
 }
 
 /// The verdict on two operations of one class in an extent. What the second clause promises needs a
-/// program that is well typed, and so has each one that the checker made.
+/// program whose operations are lists of well typed puts, as those of each program are that passes
+/// `ca_small::is_small`. It holds whatever the extent says: such an operation reads and writes its own
+/// object alone.
 pub fn verdict(
     alloc: Global,
     program: &Program,
@@ -62,7 +64,7 @@ pub fn verdict(
     let fields = fields_of(program, first.class);
     match compared(alloc, first.class, fields, &first.body, &second.body) {
         Ok(verdict) => Ok(verdict),
-        Err(SymError::Large) => Ok(Verdict::Unproved(Reason::Large)),
-        Err(SymError::Memory) => Err(Memory),
+        Err(ExecutionError::Large) => Ok(Verdict::Unproved(Reason::Large)),
+        Err(ExecutionError::Memory) => Err(Memory),
     }
 }

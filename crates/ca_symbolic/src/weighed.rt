@@ -13,29 +13,29 @@ use std::marker::Model;
 
 /// Why a symbolic execution stopped.
 #[derive(Clone, Copy, PartialEq, Eq, Debug)]
-pub enum SymError {
+pub enum ExecutionError {
     /// A term weighs more than `MOST_WEIGHT`.
     Large,
     Memory,
 }
 
-impl From<AllocError> for SymError {
-    ghost use Rattle.ca_symbolic.specs.declared.weighed.SymError.TheVariants.{Memory};
+impl From<AllocError> for ExecutionError {
+    ghost use Rattle.ca_symbolic.specs.declared.weighed.ExecutionError.TheVariants.{Memory};
 
     ghost from_gives = { λ _ e. e ≡ Memory };
 
-    fn from(_error: AllocError) -> SymError {
-        SymError::Memory
+    fn from(_error: AllocError) -> ExecutionError {
+        ExecutionError::Memory
     }
 }
 
-impl<T: Drop> From<AllocFailed<T>> for SymError {
-    ghost use Rattle.ca_symbolic.specs.declared.weighed.SymError.TheVariants.{Memory};
+impl<T: Drop> From<AllocFailed<T>> for ExecutionError {
+    ghost use Rattle.ca_symbolic.specs.declared.weighed.ExecutionError.TheVariants.{Memory};
 
     ghost from_gives = { λ _ e. e ≡ Memory };
 
-    fn from(_error: AllocFailed<T>) -> SymError {
-        SymError::Memory
+    fn from(_error: AllocFailed<T>) -> ExecutionError {
+        ExecutionError::Memory
     }
 }
 
@@ -77,6 +77,7 @@ impl Model for Weighed {
 }
 
 impl Weighed {
+    /// The term of a number.
     pub fn number(n: i64) -> Weighed
         ensures { result ≡ number n }
     {
@@ -86,6 +87,7 @@ impl Weighed {
         }
     }
 
+    /// The term of null, and of what has no term yet.
     pub fn null() -> Weighed
         ensures { result ≡ null }
     {
@@ -95,6 +97,7 @@ impl Weighed {
         }
     }
 
+    /// The term of an atom, by its group and its number there.
     pub fn atom(sort: Sort, group: u32, number: u32) -> Weighed
         ensures { result ≡ atom sort group number }
     {
@@ -106,15 +109,15 @@ impl Weighed {
 
     /// The measure of the sum of two terms, which is that of their difference, unless these are too
     /// heavy.
-    fn measure_of_two(a: &Weighed, b: &Weighed) -> Result<Measure, SymError>
+    fn measure_of_two(a: &Weighed, b: &Weighed) -> Result<Measure, ExecutionError>
         ensures light { IfOk result (λ m. IsLight (add a.now b.now) m.spread m.nodes m.depth) }
-        ensures large { result ≡ Err SymError.Large → 65536 < weight_of (add a.now b.now) }
+        ensures large { result ≡ Err ExecutionError.Large → 65536 < weight_of (add a.now b.now) }
     {
         let spread = a.measure.spread + b.measure.spread;
         let nodes = a.measure.nodes + b.measure.nodes + 1;
         let depth = a.measure.depth.max(b.measure.depth) + 1;
         if spread.max(nodes).max(16 * depth) > MOST_WEIGHT {
-            return Err(SymError::Large);
+            return Err(ExecutionError::Large);
         }
         Ok(Measure {
             spread,
@@ -124,10 +127,10 @@ impl Weighed {
     }
 
     /// The sum of two terms, unless it is too heavy.
-    pub fn sum(alloc: Global, a: Weighed, b: Weighed) -> Result<Weighed, SymError>
+    pub fn sum(alloc: Global, a: Weighed, b: Weighed) -> Result<Weighed, ExecutionError>
         ensures made { IfOk result (λ t. t ≡ add a b) }
         ensures light { IfOk result (λ t. weight_of t ≤ 65536) }
-        ensures large { result ≡ Err SymError.Large → 65536 < weight_of (add a b) }
+        ensures large { result ≡ Err ExecutionError.Large → 65536 < weight_of (add a b) }
     {
         let measure = Weighed::measure_of_two(&a, &b)?;
         let term = Term::add(alloc, a.term, b.term)?;
@@ -135,10 +138,10 @@ impl Weighed {
     }
 
     /// The difference of two terms, unless it is too heavy.
-    pub fn difference(alloc: Global, a: Weighed, b: Weighed) -> Result<Weighed, SymError>
+    pub fn difference(alloc: Global, a: Weighed, b: Weighed) -> Result<Weighed, ExecutionError>
         ensures made { IfOk result (λ t. t ≡ sub a b) }
         ensures light { IfOk result (λ t. weight_of t ≤ 65536) }
-        ensures large { result ≡ Err SymError.Large → 65536 < weight_of (sub a b) }
+        ensures large { result ≡ Err ExecutionError.Large → 65536 < weight_of (sub a b) }
     {
         let measure = Weighed::measure_of_two(&a, &b)?;
         let term = Term::sub(alloc, a.term, b.term)?;
