@@ -1,23 +1,27 @@
 -- Steps of the text of extents, and of the list of verdicts.
-use Rattle.std.proofs.Common.{◌≡◌, ℕ, zero, suc, ◌+◌, ◌≤◌, List, [], ◌∷◌, ◌++◌, length, map, min, drop, Some, refl, ap, ◌∙◌, subst, arith, add-one}
+use Rattle.std.proofs.Common.{◌≡◌, ℕ, zero, suc, ◌+◌, ◌<◌, ◌≤◌, List, [], ◌∷◌, ◌++◌, length, map, min, drop, get_or, Some, refl, ap, ◌∙◌, subst, arith}
 use Rattle.std.specs.Prelude.{slice_get, option_map}
-use Rattle.std.proofs.lemmas.Option.{slice_get-map, slice_get_within, get_or_from_slice_get, same_Some}
-use Rattle.std.proofs.Math.Seq.{drop-cons}
+use Rattle.std.proofs.lemmas.Option.{slice_get-map, same_Some}
 use Rattle.ca_program.specs.declared.program.Method.{Method}
 use Rattle.ca_program.specs.Plain.{PlainProgram, PlainMethod}
 use Rattle.ca_program.specs.View.{method_view}
+use Rattle.ca_model.proofs.Stores.{found}
+use Rattle.ca_model.proofs.Texts.{drop_there}
 use Rattle.ca_symbolic.specs.declared.verdicts.Verdict.{Verdict}
 use Rattle.ca_app.specs.Pairs.{extent_text, extents_text}
 
 -- a method in memory is viewed as the method there
-pub viewed : (ms : List Method) (i : ℕ) (m : Method) → slice_get ms i ≡ Some m → slice_get (map method_view ms) i ≡ Some (method_view m)
+viewed : (ms : List Method) (i : ℕ) (m : Method) → slice_get ms i ≡ Some m → slice_get (map method_view ms) i ≡ Some (method_view m)
 viewed ms i m h = slice_get-map method_view ms i ∙ ap (λ o. option_map method_view o) h
 
-drop_there : {X : Type 0} (xs : List X) (i : ℕ) (x : X) → slice_get xs i ≡ Some x → drop i xs ≡ x ∷ drop (i + 1) xs
-drop_there xs i x h = rw (add-one i) (drop-cons xs i x (slice_get_within xs i x h) ∙ ap (λ y. y ∷ drop (suc i) xs) (get_or_from_slice_get xs i x x h))
-
-pub at_extent : (p : PlainProgram) (ms : List PlainMethod) (vs : List Verdict) (i : ℕ) (m : PlainMethod) (v : Verdict) → slice_get ms i ≡ Some m → slice_get vs i ≡ Some v → extents_text p (drop i ms) (drop i vs) ≡ extent_text p m v ++ extents_text p (drop (i + 1) ms) (drop (i + 1) vs)
+at_extent : (p : PlainProgram) (ms : List PlainMethod) (vs : List Verdict) (i : ℕ) (m : PlainMethod) (v : Verdict) → slice_get ms i ≡ Some m → slice_get vs i ≡ Some v → extents_text p (drop i ms) (drop i vs) ≡ extent_text p m v ++ extents_text p (drop (i + 1) ms) (drop (i + 1) vs)
 at_extent p ms vs i m v h k = rw (drop_there ms i m h, drop_there vs i v k)
+
+-- what is left of the text at extent i begins with that of the operation there, which lies in memory
+pub extent_there : (p : PlainProgram) (ms : List Method) (vs : List Verdict) (i : ℕ) (m : Method) (v : Verdict) → i < min (length ms) (length vs) → m ≡ get_or ms i m → v ≡ get_or vs i v
+    → extents_text p (drop i (map method_view ms)) (drop i vs) ≡ extent_text p (method_view m) v ++ extents_text p (drop (i + 1) (map method_view ms)) (drop (i + 1) vs)
+extent_there p ms vs i m v lt e f =
+    at_extent p (map method_view ms) vs i (method_view m) v (viewed ms i m (found ms i m (omega (arith, lt)) e)) (found vs i v (omega (arith, lt)) f)
 
 no_verdicts : (p : PlainProgram) (ms : List PlainMethod) → extents_text p ms [] ≡ []
 no_verdicts p [] = refl

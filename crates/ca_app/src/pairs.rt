@@ -31,7 +31,8 @@ pub fn verdicts_of(alloc: Global, program: &Program) -> Result<Vec<Verdict>, Mem
     Ok(verdicts)
 }
 
-/// The extent of an operation that calls nothing.
+/// The extent of an operation of the small form, which calls nothing. No clause is due: a verdict and
+/// what it promises are the same whatever the extent says.
 fn extent_of(alloc: Global, op: OpId, body: &Body) -> Result<Extent, Memory> {
     let mut ops = Vec::new(alloc);
     ops.push(op)?;

@@ -8,26 +8,15 @@ ghost use Rattle.ca_small.specs.SmallShape.{is_small_text};
 ghost use Rattle.ca_app.specs.Accepted.{HasTokens, BeginsAt, token_place};
 ghost use Rattle.ca_app.specs.Reading.{HasOneTree, IsProgramOf, IsCauseFor};
 
-use crate::refusals::Refusal;
+use crate::refusals::{NO_TOKEN, Refusal, TOO_DEEP, TOO_GREAT, TOO_MANY, WRONG_TOKEN};
 use ca_lex::{LexError, end_place, lex};
 use ca_parse::{ParseError, parse};
 use ca_program::Program;
-use ca_resolve::{CheckError, Code};
+use ca_resolve::CheckError;
 use ca_small::{has_small_shape, is_small};
 use ca_tree::{Place, Token, Tree};
 use ca_types::check;
 use std::alloc::Global;
-
-/// A byte that is part of no token.
-const NO_TOKEN: Code = Code(1);
-/// A number that is too great.
-const TOO_GREAT: Code = Code(2);
-/// A token too many.
-const TOO_MANY: Code = Code(3);
-/// A token that the grammar doesn't allow.
-const WRONG_TOKEN: Code = Code(10);
-/// A token that is nested too deeply.
-const TOO_DEEP: Code = Code(11);
 
 /// Why a text has no program: it is refused, or memory is wanting.
 #[derive(Clone, Copy, PartialEq, Eq, Debug)]

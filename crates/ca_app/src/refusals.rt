@@ -10,11 +10,22 @@ use ca_resolve::Code;
 use ca_tree::Place;
 use itoa::Buffer;
 
-/// The number of bytes of the source passes the limit. Such a refusal has no place in the source.
-const TOO_LONG: Code = Code(4);
+// The codes that `ca_types::check` doesn't tell. Its own limits are 50 to 57.
 
 /// The command isn't built for the source's program.
 const NOT_BUILT: Code = Code(0);
+/// A byte that is part of no token.
+pub const NO_TOKEN: Code = Code(1);
+/// A number that is too great.
+pub const TOO_GREAT: Code = Code(2);
+/// A token too many.
+pub const TOO_MANY: Code = Code(3);
+/// The number of bytes of the source passes the limit. Such a refusal has no place in the source.
+const TOO_LONG: Code = Code(4);
+/// A token that the grammar doesn't allow.
+pub const WRONG_TOKEN: Code = Code(10);
+/// A token that is nested too deeply.
+pub const TOO_DEEP: Code = Code(11);
 
 /// Where a text is refused, and by which code.
 #[derive(Clone, Copy, PartialEq, Eq, Debug)]
@@ -53,9 +64,10 @@ impl Refusal {
         ensures { result ≡ is_limit_code self.code.0 }
     {
         let code = self.code.0;
-        code == 3 || code == 4 || code == 11 || (50 <= code && code <= 57)
+        code == TOO_MANY.0 || code == TOO_LONG.0 || code == TOO_DEEP.0 || (50 <= code && code <= 57)
     }
 
+    /// The word in front of the place.
     fn word(self) -> &'static [u8]
         ensures { result.now ≡ refusal_word (is_limit_code self.code.0) }
     {

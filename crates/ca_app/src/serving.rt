@@ -29,11 +29,28 @@ use std::sync::Wait;
 /// The most bytes of a source.
 const MOST_BYTES: u64 = 1_048_576;
 
+// The exit statuses. `Refusal::status` tells those of refusals, 1 and 8.
+
+const DONE: u8 = 0;
+
+const USAGE: u8 = 2;
+
+const TRAPPED: u8 = 3;
+
+const SPENT: u8 = 4;
+
+const NO_MEMORY: u8 = 5;
+
+const READ_FAULT: u8 = 6;
+
+const WRITE_FAULT: u8 = 7;
+
 /// Serves the words, which stand behind the program's name, over a source and a sink, and answers
 /// the exit status.
 ///
 /// The whole source is read before anything is written. Status 5 is want of memory, 6 a failed
-/// read, 7 a failed write; every other status is that of the reply.
+/// read, 7 a failed write; every other status is that of the reply. The gate is for the workers of a
+/// parallel run: so far nothing passes it.
 pub fn top<R: AllocGlobal + Wait, S: Source, K: Sink, G: Gate>(
     rt: &R,
     words: &[String],
@@ -71,7 +88,7 @@ pub fn top<R: AllocGlobal + Wait, S: Source, K: Sink, G: Gate>(
     ensures limit_read_to_end { (text : List ℕ) → S.left source.old ≡ Some text → length text ≤ 1048576 → result ≡ 8 → S.left source.new ≡ at_end (S.left source.old) }
 {
     let Some(command) = command_of(words) else {
-        return finish(write_all(sink, usage_line()), 2);
+        return finish(write_all(sink, usage_line()), USAGE);
     };
     serve(rt, rt.alloc(), command, source, sink)
 }
@@ -95,8 +112,8 @@ fn serve<R: Wait, S: Source, K: Sink>(
     match read_all(alloc, source, MOST_BYTES) {
         Ok(text) => serve_text(rt, alloc, command, &text, sink),
         Err(ReadError::Limit) => refuse(Refusal::OVERLONG, sink),
-        Err(ReadError::Fault) => 6,
-        Err(ReadError::Memory) => 5,
+        Err(ReadError::Fault) => READ_FAULT,
+        Err(ReadError::Memory) => NO_MEMORY,
     }
 }
 
@@ -117,7 +134,7 @@ fn serve_text<R: Wait, K: Sink>(
     match read_program(alloc, text) {
         Ok(reading) => serve_program(rt, alloc, command, &reading, sink),
         Err(NoProgram::Refused(refusal)) => refuse(refusal, sink),
-        Err(NoProgram::Memory) => 5,
+        Err(NoProgram::Memory) => NO_MEMORY,
     }
 }
 
@@ -162,8 +179,8 @@ fn pair_program<K: Sink>(alloc: Global, reading: &Reading, sink: &mut K) -> u8
         return refuse(Refusal::not_built(reading.start), sink);
     }
     match verdicts_of(alloc, program) {
-        Ok(verdicts) => finish(write_pairs(program, &verdicts, sink), 0),
-        Err(_) => 5,
+        Ok(verdicts) => finish(write_pairs(program, &verdicts, sink), DONE),
+        Err(_) => NO_MEMORY,
     }
 }
 
@@ -181,11 +198,11 @@ fn run_program<R: Wait, K: Sink>(
     ensures no_usage { result ≡ 2 → ⊥ }
 {
     match run_unmarked(rt, alloc, program, u64::from(budget), sink) {
-        Ok(Outcome::Done { heap, .. }) => finish(print_heap(program, &heap, sink), 0),
-        Ok(Outcome::Trapped(trap)) => finish(write_trap(trap, sink), 3),
-        Ok(Outcome::Spent) => finish(write_spent(budget, sink), 4),
-        Err(RunError::Write) => 7,
-        Err(RunError::Memory) => 5,
+        Ok(Outcome::Done { heap, .. }) => finish(print_heap(program, &heap, sink), DONE),
+        Ok(Outcome::Trapped(trap)) => finish(write_trap(trap, sink), TRAPPED),
+        Ok(Outcome::Spent) => finish(write_spent(budget, sink), SPENT),
+        Err(RunError::Write) => WRITE_FAULT,
+        Err(RunError::Memory) => NO_MEMORY,
     }
 }
 
@@ -206,12 +223,12 @@ fn run_unmarked<R: Wait, K: Sink>(
     drive(rt, alloc, program, &marks, budget, &mut NoExtents, sink)
 }
 
-/// The status where the reply was written, and 7 where a write failed.
+/// The status where the reply was written, and that of a failed write where one failed.
 fn finish(written: Result<(), Failed>, status: u8) -> u8
     ensures { result ≡ status_after written status }
 {
     match written {
         Ok(()) => status,
-        Err(_) => 7,
+        Err(_) => WRITE_FAULT,
     }
 }

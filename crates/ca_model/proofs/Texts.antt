@@ -17,7 +17,7 @@ drop_suc [] i x h = absurd (cc)
 drop_suc (y ∷ xs) zero x h = let e : y ≡ x = cc in rw e
 drop_suc (y ∷ xs) (suc i) x h = drop_suc xs i x h
 
-drop_there : {X : Type 0} (xs : List X) (i : ℕ) (x : X) → slice_get xs i ≡ Some x → drop i xs ≡ x ∷ drop (i + 1) xs
+pub drop_there : {X : Type 0} (xs : List X) (i : ℕ) (x : X) → slice_get xs i ≡ Some x → drop i xs ≡ x ∷ drop (i + 1) xs
 drop_there xs i x h = rw (add-one i) (drop_suc xs i x h)
 
 pub first_value : (vs : List Datum) (d : Datum) → 1 ≤ length vs → values_text vs ≡ value_text (get_or vs 0 d) ++ further_values_text (drop 1 vs)

@@ -1,10 +1,9 @@
-use Rattle.std.proofs.Common.{◌≡◌, ◌<◌, ◌≤◌, ◌+◌, ◌++◌, length, min, drop, map, arith}
+use Rattle.std.proofs.Common.{◌≡◌, ◌≤◌, ◌+◌, ◌++◌, length, min, drop, map, arith}
 use Rattle.std.proofs.lemmas.List.{length-map}
 use Rattle.ca_program.specs.View.{program_view, method_view}
-use Rattle.ca_model.proofs.Stores.{found}
 use Rattle.ca_model.proofs.Lines.{adds_after, adds_more, went_after, further, at_end}
 use Rattle.ca_app.specs.Pairs.{extent_text, extents_text}
-use Rattle.ca_app.proofs.ExtentTexts.{viewed, at_extent, no_extents}
+use Rattle.ca_app.proofs.ExtentTexts.{extent_there, no_extents}
 use Rattle.ca_app.proofs.pairs.add_extents.Goals as goal
 
 pub returns-in-Err-clause-bytes : goal.returns-in-Err-clause-bytes
@@ -16,9 +15,7 @@ returns-in-Err-clause-bytes g c =
     let before = c.loop-i.invariant.texts in
     let m = c.index-methods-i.result in
     let v = c.index-verdicts-i.result in
-    let few_methods : i < length c.args.methods.now = omega (arith, c.min-count.ensures) in
-    let few_verdicts : i < length verdicts = omega (arith, c.min-count.ensures) in
-    let here = at_extent p methods verdicts i (method_view m) v (viewed c.args.methods.now i m (found c.args.methods.now i m few_methods c.index-methods-i.is)) (found verdicts i v few_verdicts c.index-verdicts-i.is) in
+    let here = extent_there p c.args.methods.now verdicts i m v (omega (arith, c.min-count.ensures)) c.index-methods-i.is c.index-verdicts-i.is in
     let more = extents_text p (drop (i + 1) methods) (drop (i + 1) verdicts) in
     rw (further (extents_text p methods verdicts) before.0 _ (extent_text p (method_view m) v) more before.1 here)
     (adds_more _ _ _ _ _ (before.0 ++ extent_text p (method_view m) v) more (adds_after _ _ _ c.args.line.now before.0 _ (extent_text p (method_view m) v) _ _ before.2 c.in-Err.ensures.bytes))
@@ -32,9 +29,7 @@ loop-i-preserved g c =
     let before = c.loop-i.invariant.texts in
     let m = c.index-methods-i.result in
     let v = c.index-verdicts-i.result in
-    let few_methods : i < length c.args.methods.now = omega (arith, c.min-count.ensures) in
-    let few_verdicts : i < length verdicts = omega (arith, c.min-count.ensures) in
-    let here = at_extent p methods verdicts i (method_view m) v (viewed c.args.methods.now i m (found c.args.methods.now i m few_methods c.index-methods-i.is)) (found verdicts i v few_verdicts c.index-verdicts-i.is) in
+    let here = extent_there p c.args.methods.now verdicts i m v (omega (arith, c.min-count.ensures)) c.index-methods-i.is c.index-verdicts-i.is in
     record {
       texts = (
         before.0 ++ extent_text p (method_view m) v,
