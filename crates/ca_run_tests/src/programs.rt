@@ -14,5 +14,11 @@ pub fn program(alloc: Global, text: &str) -> Result<Program, Fail> {
     }
     let tokens = lex(alloc, text.as_bytes())?;
     let tree = parse(alloc, &tokens)?;
-    Ok(check(alloc, &tree)?)
+    let program = check(alloc, &tree);
+    let_go(tree);
+    Ok(program?)
 }
+
+/// Lets a value go. A tree or a program that lives at a `?` has its destructor proved there, and here it
+/// is one call.
+pub fn let_go<T: Drop>(_value: T) {}
