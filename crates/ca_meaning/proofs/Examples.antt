@@ -1,5 +1,6 @@
 -- Worked examples of operators, of the order of evaluation, and of small programs.
-use Rattle.std.proofs.Common.{◌≡◌, ℕ, [], ◌∷◌, None, Some, Ok, Err, refl, codes, pos, negsuc, true, false, arith}
+use Rattle.std.proofs.Common.{◌≡◌, ℕ, Bool, [], ◌∷◌, None, Some, Ok, Err, refl, codes, pos, negsuc, true, false, arith}
+use Rattle.std.specs.Prelude.{count_by}
 use Rattle.std.specs.Int.{int_wrap}
 use Rattle.std.specs.Fmt.{digits}
 use Rattle.ca_tree.specs.declared.tree.AssignOp.TheVariants.{Put, Add, Sub, Mul}
@@ -22,6 +23,7 @@ use Rattle.ca_meaning.specs.Output.{output}
 use Rattle.ca_meaning.specs.Sections.{Sectioned, section, loop_section}
 use Rattle.ca_meaning.specs.Sections as sections
 use Rattle.ca_meaning.specs.Multisets.{SameItems}
+use Rattle.ca_meaning.proofs.Weights.{counted_by_weights}
 
 -- ---- operators
 
@@ -362,6 +364,10 @@ listed_by_loop = refl
 -- listed operations are compared up to their order, and with how often each is there
 exchanged : (x y : Invocation) → SameItems (x ∷ y ∷ []) (y ∷ x ∷ [])
 exchanged x y = record { weighed = λ f. omega arith }
+
+-- as many pass a test, in either order
+counted : (x y : Invocation) (test : Invocation → Bool) → count_by test (x ∷ y ∷ []) ≡ count_by test (y ∷ x ∷ [])
+counted x y test = counted_by_weights (x ∷ y ∷ []) (y ∷ x ∷ []) (exchanged x y) test
 
 once_and_twice : (x : Invocation) → ¬ SameItems (x ∷ x ∷ []) (x ∷ [])
 once_and_twice x same = let e : 2 ≡ 1 = same.weighed (λ i. 1) in absurd (omega (arith, e))

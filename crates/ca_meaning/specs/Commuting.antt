@@ -7,7 +7,7 @@ use Rattle.ca_program.specs.Plain.{PlainProgram}
 use Rattle.ca_model.specs.declared.value.Value.{Value as Datum}
 use Rattle.ca_model.specs.declared.value.Object.{Object}
 use Rattle.ca_model.specs.Typed.{TypedHeap}
-use Rattle.ca_meaning.specs.Expressions.{Invocation, invocation}
+use Rattle.ca_meaning.specs.Expressions.{invocation}
 use Rattle.ca_meaning.specs.Sections.{Outcome, Completes}
 use Rattle.ca_meaning.specs.Multisets.{SameItems}
 use Rattle.ca_meaning.specs.Agree.{AgreesAt}

@@ -1,6 +1,6 @@
-//! Laws of the serial meaning, in which no bound on the nesting of calls and turns occurs.
+//! Laws of the serial meaning, in which no bound on the nesting of calls and turns occurs, and of multisets.
 
-ghost use Rattle.std.specs.Prelude.{◌≡◌, ◌≤◌, ℕ, List, slice_get};
+ghost use Rattle.std.specs.Prelude.{◌≡◌, ◌≤◌, ℕ, Bool, List, slice_get, count_by};
 ghost use Rattle.ca_program.specs.declared.program.FunctionId.{FunctionId};
 ghost use Rattle.ca_program.specs.Plain.{PlainProgram, PlainMethod, Expression, Statement, Statements, while_loop};
 ghost use Rattle.ca_model.specs.declared.value.Value.{Value as Datum};
@@ -10,6 +10,7 @@ ghost use Rattle.ca_meaning.specs.Expressions.{gives, take_step, Place, eval, In
 ghost use Rattle.ca_meaning.specs.Flows.{goes_on, and_on, with, choose, line_of, exec, exec_all, turn};
 ghost use Rattle.ca_meaning.specs.Functions.{body_of, locals_of, value_of_body, function_parts, functions_of, value_in};
 ghost use Rattle.ca_meaning.specs.Serial.{World, came_back, operations_of, run_call, serial_parts};
+ghost use Rattle.ca_meaning.specs.Multisets.{SameItems};
 ghost use Rattle.ca_meaning.specs.Sections.{Section, loops_of, section_parts};
 
 /// A call of a value method means its body.
@@ -55,4 +56,10 @@ pub fn expression_gives_no_steps_back()
 /// No list of statements of a serial run leaves more steps than it was given.
 pub fn statements_give_no_steps_back()
     ensures { (p : PlainProgram) (this : Datum) (xs : Statements) (ls after : List Datum) (w x : World) (k j : ℕ) → exec_all (serial_parts p this) ls w xs k ≡ goes_on after x j → j ≤ k }
+{}
+
+/// Lists in which every test counts as many items are the same multiset: nothing has to be weighed.
+pub fn tests_count_weights<T>()
+    ensures same { (xs ys : List T) → ((test : T → Bool) → count_by test xs ≡ count_by test ys) → SameItems xs ys }
+    ensures counted { (xs ys : List T) → SameItems xs ys → (test : T → Bool) → count_by test xs ≡ count_by test ys }
 {}

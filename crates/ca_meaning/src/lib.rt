@@ -4,9 +4,11 @@
 //! other crate cites: `Operators`, `Expressions` (values, with the order of evaluation, steps and traps),
 //! `Flows` (one steering definition of statements over any state), `Functions` (value methods), `Serial`
 //! (operations and `main`), `Output` (the bytes and the status of a run), `Sections` and `Commuting`
-//! (what a call does to its receiver alone, and when two calls commute), `WellTyped` and `ProgramTyped`.
+//! (what a call does to its receiver alone, and when two calls commute), `Multisets` (lists up to order),
+//! `Agree` (what isn't written holds the same), `WellTyped` and `ProgramTyped`.
 //! The code is what every evaluator shares: the operators on two values, on one, and in assignments.
-//! `laws` has the equations of calls and loops, in which no bound on their nesting occurs.
+//! `laws` has the equations of calls and loops, in which no bound on their nesting occurs, and that tests tell
+//! multisets apart.
 #![tactic(auto)]
 
 pub mod arithmetic;

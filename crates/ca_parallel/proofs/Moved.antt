@@ -1,16 +1,15 @@
 -- What a run does it does whatever was printed and noted before: where these lists are changed by functions
 -- that keep to the end what a print adds, the run leaves what it left, so changed.
-use Rattle.std.proofs.Common.{◌≡◌, ℕ, zero, suc, List, [], ◌∷◌, ◌++◌, refl, ap, sym, ◌∙◌, true, false}
+use Rattle.std.proofs.Common.{◌≡◌, ℕ, zero, suc, List, [], ◌∷◌, ◌++◌, refl, ap, ◌∙◌, true, false}
 use Rattle.std.specs.Prelude.{slice_get}
 use Rattle.ca_program.specs.declared.program.OpId.{OpId}
 use Rattle.ca_program.specs.Plain.{PlainProgram, Expression, Expressions, Statement, Statements, block, put_local, put_field, put_item, new_local, new_field, new_item, invoke, if_else, while_loop, for_loop, return_value, print_value, no_statements, statement_and}
 use Rattle.ca_model.specs.declared.value.Value.{Value as Datum}
 use Rattle.ca_model.specs.declared.value.Value.TheVariants.{Long, Bool as Truth, Null, Ref}
-use Rattle.ca_model.specs.declared.value.Object.{Object}
 use Rattle.ca_meaning.specs.Expressions.{Out, gives, traps, over, take_step, Invocation, due}
 use Rattle.ca_meaning.specs.Flows.{Flow, goes_on, gives_back, stops, runs_out, and_on, with, choose, Parts, line_of, turn_of, exec, exec_all, turn}
 use Rattle.ca_meaning.specs.Functions.{body_of, locals_of, place, functions_of, value_in}
-use Rattle.ca_meaning.specs.Serial.{Note, World, in_heap, own_item_at, room_for, Operations, came_back, run_call, operation_act, operation_parts, operations, operations_of, serial_ops}
+use Rattle.ca_meaning.specs.Serial.{Note, World, own_item_at, room_for, Operations, came_back, run_call, operation_act, operation_parts, operations, operations_of, serial_ops}
 
 abbrev pub Prints : Type 0
 Prints = List Datum → List Datum

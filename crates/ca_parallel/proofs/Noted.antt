@@ -1,21 +1,21 @@
 -- A run with marks takes notes and does else what the serial run does; and what its calls and loops mean is
 -- a fixed point.
-use Rattle.std.proofs.Common.{◌≡◌, ℕ, zero, suc, ◌<◌, ◌≤◌, List, [], ◌∷◌, ◌++◌, refl, ap, sym, subst, ◌∙◌, true, false, Bool, arith, map}
+use Rattle.std.proofs.Common.{◌≡◌, ℕ, zero, suc, ◌≤◌, List, [], ◌∷◌, refl, ap, sym, subst, ◌∙◌, true, false, Bool, arith, map}
 use Rattle.std.specs.Prelude.{slice_get}
 use Rattle.ca_program.specs.declared.program.OpId.{OpId}
-use Rattle.ca_program.specs.Plain.{PlainProgram, Expression, Expressions, Statement, Statements, block, put_local, put_field, put_item, new_local, new_field, new_item, invoke, if_else, while_loop, for_loop, return_value, print_value}
+use Rattle.ca_program.specs.Plain.{PlainProgram, Expression, Expressions, Statement, Statements}
 use Rattle.ca_model.specs.declared.value.Value.{Value as Datum}
 use Rattle.ca_model.specs.declared.value.Value.TheVariants.{Null, Ref}
 use Rattle.ca_model.specs.Slots.{start_of}
 use Rattle.ca_meaning.specs.Expressions.{Invocation, due}
-use Rattle.ca_meaning.specs.Flows.{Flow, goes_on, gives_back, stops, runs_out, with, exec, exec_all, turn}
+use Rattle.ca_meaning.specs.Flows.{Flow, goes_on, gives_back, stops, runs_out, exec, exec_all, turn}
 use Rattle.ca_meaning.specs.Functions.{place, body_of, locals_of, functions_of}
 use Rattle.ca_meaning.specs.Serial.{World, fresh, Operations, run_call, operation_parts, operations, operations_of, serial_parts, main_run, ended, serial}
 use Rattle.ca_meaning.specs.Sections.{LoopSectioned, loop_done, loop_stopped, loop_over, loop_section}
 use Rattle.ca_meaning.proofs.Near.{le_self, NearFlow, flow_same, flow_with, Agree, exec_near, all_exec_near, loop_near}
 use Rattle.ca_meaning.proofs.Fix.{eval_self, due_self, act_self, CloseOps, run_near, operation_agree, close_ops, close_all_ops}
 use Rattle.ca_parallel.specs.Lists.{PlainMarks, no_marks, op_in, loop_in, note, noted, either, noted_call, loop_noted, noted_loop, noted_parts, noted_operations, noted_of, marked_parts, noted_run}
-use Rattle.ca_parallel.proofs.Moved.{Prints, Notes, shifted, moved, with_moved, exec_moved, all_moved, turn_moved, act_moved, MovedOps, call_moved, exec_serial_moved, ops_moved}
+use Rattle.ca_parallel.proofs.Moved.{Prints, Notes, shifted, moved, with_moved, all_moved, turn_moved, act_moved, MovedOps, call_moved, exec_serial_moved, ops_moved}
 
 abbrev pub as_is : Prints
 as_is ps = ps

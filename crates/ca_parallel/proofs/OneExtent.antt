@@ -1,11 +1,11 @@
 -- Rising lists of the same items are one list, so the extent of some operations is one value.
-use Rattle.std.proofs.Common.{◌≡◌, ◌⊎◌, inl, inr, ℕ, zero, suc, ◌+◌, ◌<◌, List, [], ◌∷◌, Some, refl, ap, ap₂, sym, subst, ◌∙◌, arith}
-use Rattle.std.specs.Prelude.{◌↔◌, Contains, slice_get}
+use Rattle.std.proofs.Common.{◌≡◌, ◌⊎◌, inl, inr, zero, suc, ◌<◌, List, [], ◌∷◌, refl, ap, ap₂, sym, subst, ◌∙◌, arith}
+use Rattle.std.specs.Prelude.{◌↔◌, Contains}
 use Rattle.ca_program.specs.declared.program.FieldId.{FieldId}
 use Rattle.ca_program.specs.declared.program.FunctionId.{FunctionId}
 use Rattle.ca_program.specs.declared.program.OpId.{OpId}
 use Rattle.ca_program.specs.Plain.{PlainProgram}
-use Rattle.ca_parallel.specs.Extents.{Extent, IsExtentOf}
+use Rattle.ca_parallel.specs.Extents.{Extent}
 use Rattle.ca_parallel.specs.ExtentsOf.{Rises, OpBefore, FunctionBefore, FieldBefore, ExtentOf}
 
 -- no item comes before itself, and what comes before an item comes before all behind it

@@ -1,5 +1,5 @@
 -- What is separable, and what commutes, where some fields are written, is so where fewer are.
-use Rattle.std.proofs.Common.{◌≡◌, ℕ, Bool, true, false, ◌||◌, List}
+use Rattle.std.proofs.Common.{ℕ, Bool, true, false, ◌||◌, List}
 use Rattle.std.specs.Prelude.{Contains}
 use Rattle.ca_program.specs.declared.program.FieldId.{FieldId}
 use Rattle.ca_program.specs.declared.program.FunctionId.{FunctionId}
@@ -9,7 +9,7 @@ use Rattle.ca_model.specs.declared.value.Object.{Object}
 use Rattle.ca_meaning.specs.Agree.{AgreesAt}
 use Rattle.ca_meaning.specs.Commuting.{Commutes}
 use Rattle.ca_parallel.specs.Extents.{operation_body, Invokes, root, called, Writes, Extent, IsExtentOf}
-use Rattle.ca_parallel.specs.Separable.{ReadsWritten, itself, through, MayAccess, IsClean, AreClean, holds_call, IsSeparated, AreSeparated, Separable}
+use Rattle.ca_parallel.specs.Separable.{ReadsWritten, itself, through, MayAccess, IsClean, AreClean, holds_call, IsSeparated, AreSeparated}
 use Rattle.ca_parallel.specs.Parallel.{Parallel}
 
 record Fewer (less more : List FieldId) : Type 0 where
