@@ -6,13 +6,17 @@ use Rattle.ca_model.specs.declared.value.Value.TheVariants.{Long, Null, Ref}
 use Rattle.ca_model.specs.declared.value.Slot.{Slot}
 use Rattle.ca_model.specs.declared.value.Object.{Object}
 use Rattle.ca_meaning.specs.Expressions.{Out, gives, over, ◌>>=◌, Calls, indexed, items_in, slots_in, eval}
-use Rattle.ca_meaning.specs.Functions.{place}
+use Rattle.ca_meaning.specs.Sections.{section_place}
 
 abbrev pub no_calls : Calls
 no_calls m n vs k = over
 
-abbrev pub direct : List Object → Datum → List Datum → Expression → Out Datum
-direct h this ls e = eval no_calls (place h this 0 ls) e 0
+abbrev pub direct : List Object → Datum → List Slot → List Datum → Expression → Out Datum
+direct h this own ls e = eval no_calls (section_place h this own 0 ls) e 0
+
+-- the item of an own array field that a number names
+abbrev pub own_item_in : List Slot → ℕ → ℤ → Out Datum
+own_item_in own f i = indexed 0 (items_in (slice_get own f)) (Long i) 0 >>= λ item k. gives item.value k
 
 -- the slot of a field of object n
 abbrev pub slot_at : List Object → ℕ → ℕ → Option Slot

@@ -15,7 +15,7 @@ impl<'a> Scene<'a> {
     /// The pointer that an expression without operators and items is; none for null.
     #[inline]
     pub(crate) fn pointer_of(&self, e: &Expr) -> Option<Option<u32>>
-        ensures { IfSome result (λ p. direct self.now.heap.now self.now.this self.now.locals.now (expression_view e.now) ≡ gives (pointer p) 0) }
+        ensures { IfSome result (λ p. direct self.now.heap.now self.now.this self.now.own.now self.now.locals.now (expression_view e.now) ≡ gives (pointer p) 0) }
     {
         match e {
             Expr::Null => Some(None),

@@ -4,7 +4,7 @@ ghost use Rattle.std.specs.Prelude.{◌≡◌, IfSome, slice_get, option_copied,
 ghost use Rattle.ca_program.specs.View.{expression_view};
 ghost use Rattle.ca_model.specs.declared.value.Value.TheVariants.{Ref};
 ghost use Rattle.ca_meaning.specs.Expressions.{gives, one_in};
-ghost use Rattle.ca_direct.specs.Direct.{direct, slot_at, item_at};
+ghost use Rattle.ca_direct.specs.Direct.{direct, slot_at, item_at, own_item_in};
 
 use ca_model::{Heap, Slot, Value};
 use ca_program::{BinaryOp, Expr, UnaryOp};
@@ -14,6 +14,7 @@ use ca_program::{BinaryOp, Expr, UnaryOp};
 pub struct Scene<'a> {
     pub heap: &'a Heap,
     pub this: Value,
+    pub own: &'a [Slot],
     pub locals: &'a [Value],
 }
 
@@ -64,22 +65,31 @@ impl<'a> Scene<'a> {
     /// The single value of an own field.
     #[inline]
     pub(crate) fn own(&self, field: u32) -> Option<Value>
-        ensures { IfSome result (λ v. (n : ℕ) × (self.now.this ≡ Ref n) × (one_in (slot_at self.now.heap.now n field) ≡ v)) }
+        ensures { IfSome result (λ v. one_in (slice_get self.now.own.now field) ≡ v) }
     {
-        match self.this {
-            Value::Ref(id) => self.field(id, field),
-            _ => None,
+        match self.own.get(field as usize) {
+            Some(slot) => match slot {
+                Slot::One(value) => Some(*value),
+                Slot::Many(_) => None,
+            },
+            None => None,
         }
     }
 
     /// An item of an own array field.
     #[inline]
     pub(crate) fn own_item(&self, field: u32, index: i64) -> Option<Value>
-        ensures { IfSome result (λ v. (n : ℕ) × (self.now.this ≡ Ref n) × (item_at self.now.heap.now n field index ≡ gives v 0)) }
+        ensures { IfSome result (λ v. own_item_in self.now.own.now field index ≡ gives v 0) }
     {
-        match self.this {
-            Value::Ref(id) => self.item(id, field, index),
-            _ => None,
+        if index < 0 {
+            return None;
+        }
+        match self.own.get(field as usize) {
+            Some(slot) => match slot {
+                Slot::One(_) => None,
+                Slot::Many(values) => values.get(index as usize),
+            },
+            None => None,
         }
     }
 
@@ -93,7 +103,7 @@ impl<'a> Scene<'a> {
 
     /// The value of an expression without operators.
     pub(crate) fn read(&self, e: &Expr) -> Option<Value>
-        ensures { IfSome result (λ v. direct self.now.heap.now self.now.this self.now.locals.now (expression_view e.now) ≡ gives v 0) }
+        ensures { IfSome result (λ v. direct self.now.heap.now self.now.this self.now.own.now self.now.locals.now (expression_view e.now) ≡ gives v 0) }
     {
         match e {
             Expr::Number(n) => Some(Value::Long(*n)),
@@ -124,7 +134,7 @@ impl<'a> Scene<'a> {
     /// The value of an expression.
     #[inline]
     pub fn value_of(&self, e: &Expr) -> Option<Value>
-        ensures { IfSome result (λ v. direct self.now.heap.now self.now.this self.now.locals.now (expression_view e.now) ≡ gives v 0) }
+        ensures { IfSome result (λ v. direct self.now.heap.now self.now.this self.now.own.now self.now.locals.now (expression_view e.now) ≡ gives v 0) }
     {
         match e {
             Expr::Number(n) => Some(Value::Long(*n)),
@@ -149,7 +159,7 @@ impl<'a> Scene<'a> {
     /// The value of an expression that is a number.
     #[inline]
     fn number(&self, e: &Expr) -> Option<Value>
-        ensures { IfSome result (λ v. direct self.now.heap.now self.now.this self.now.locals.now (expression_view e.now) ≡ gives v 0) }
+        ensures { IfSome result (λ v. direct self.now.heap.now self.now.this self.now.own.now self.now.locals.now (expression_view e.now) ≡ gives v 0) }
     {
         match self.long_of(e) {
             Some(number) => Some(Value::Long(number)),
@@ -160,7 +170,7 @@ impl<'a> Scene<'a> {
     /// The value of an expression that is a truth value.
     #[inline]
     fn truth(&self, e: &Expr) -> Option<Value>
-        ensures { IfSome result (λ v. direct self.now.heap.now self.now.this self.now.locals.now (expression_view e.now) ≡ gives v 0) }
+        ensures { IfSome result (λ v. direct self.now.heap.now self.now.this self.now.own.now self.now.locals.now (expression_view e.now) ≡ gives v 0) }
     {
         match self.truth_of(e) {
             Some(truth) => Some(Value::Bool(truth)),
