@@ -1,7 +1,6 @@
 pub mod Endings
 mod Examples
 pub mod ExtentTexts
-pub mod LineLemmas
 pub mod OneProgram
 pub mod OneRefusal
 pub mod OneVerdict

@@ -1,5 +1,4 @@
 pub mod Accepted
-pub mod Lines
 pub mod Refusals
 pub mod Pairs
 pub mod Reply

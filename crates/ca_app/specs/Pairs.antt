@@ -7,7 +7,7 @@ use Rattle.ca_symbolic.specs.declared.verdicts.Verdict.{Verdict}
 use Rattle.ca_symbolic.specs.declared.verdicts.Verdict.TheVariants.{Commutes, Unproved}
 use Rattle.ca_symbolic.specs.declared.verdicts.Reason.TheVariants.{Large, FieldDiffers}
 use Rattle.ca_symbolic.specs.Verdicts.{VerdictOf}
-use Rattle.ca_app.specs.Lines.{in_a_row}
+use Rattle.ca_model.specs.Lines.{in_a_row}
 
 abbrev pub class_name : Option PlainClass → List ℕ
 class_name None = []

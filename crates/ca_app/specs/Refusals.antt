@@ -10,7 +10,7 @@ use Rattle.ca_resolve.specs.Judged.{Violation, IsLeast, is_limit}
 use Rattle.ca_types.specs.Classes.{Violations}
 use Rattle.ca_meaning.specs.Output.{Reply}
 use Rattle.ca_app.specs.Accepted.{most_bytes, HasTokens, HasTree, token_place}
-use Rattle.ca_app.specs.Lines.{in_a_row}
+use Rattle.ca_model.specs.Lines.{in_a_row}
 
 -- the code of what is read in place of a token
 abbrev pub token_code : Refusal → ℕ

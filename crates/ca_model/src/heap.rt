@@ -3,7 +3,7 @@
 ghost use Rattle.std.specs.Prelude.{◌≡◌, ◌<◌, ◌≤◌, ◌↔◌, [], length, slice_get, slice_set, IsTrue, IfOk, OnErr};
 ghost use Rattle.ca_program.specs.View.{program_view};
 ghost use Rattle.ca_model.specs.declared.value.Object.{Object};
-ghost use Rattle.ca_model.specs.Heaps.{HasSlot, IsFull, created, most_objects, starts_of, stored};
+ghost use Rattle.ca_model.specs.Heaps.{HasSlot, created, is_full, most_objects, starts_of, stored};
 ghost use Rattle.ca_model.specs.Counted.{IsLike};
 ghost use Rattle.ca_model.specs.Slots.{start_slots};
 
@@ -74,8 +74,8 @@ impl Heap {
     pub fn create(&mut self, program: &Program, class: ClassId) -> Result<u32, CreateError>
         ensures made { IfOk result (λ id. (id ≡ length self.old) × (self.new ≡ created (program_view program.now) class self.old)) }
         ensures kept { OnErr result (self.new ≡ self.old) }
-        ensures full { result ≡ Err CreateError.Full → IsFull self.old (starts_of (program_view program.now) class) }
-        ensures always_full { IsFull self.old (starts_of (program_view program.now) class) → result ≡ Err CreateError.Full }
+        ensures full { result ≡ Err CreateError.Full → IsTrue (is_full self.old (starts_of (program_view program.now) class)) }
+        ensures always_full { IsTrue (is_full self.old (starts_of (program_view program.now) class)) → result ≡ Err CreateError.Full }
     {
         let fields = fields_of(program, class);
         if self.objects.len() >= MOST_OBJECTS {

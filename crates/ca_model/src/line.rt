@@ -2,7 +2,7 @@
 
 ghost use Rattle.std.specs.Prelude.{◌≡◌, ◌++◌, [], if◌then◌else◌, IfOk};
 ghost use Rattle.ca_base.specs.Devices.{HasCause, Writes};
-ghost use Rattle.ca_model.specs.Lines.{Adds};
+ghost use Rattle.ca_model.specs.Lines.{Adds, joined};
 
 use arrayvec::ArrayVec;
 use ca_base::{Failed, Sink, write_all};
@@ -72,4 +72,29 @@ impl Line {
         self.pending.clear();
         Ok(())
     }
+}
+
+/// Writes the parts of a line, one behind the other.
+pub fn write_line<K: Sink>(parts: &[&[u8]], sink: &mut K) -> Result<(), Failed>
+    ensures bytes { Writes (K.written sink.old) (K.written sink.new) result (joined parts.now) }
+    ensures cause { HasCause (K.faults sink.old) (K.faults sink.new) result }
+{
+    let mut line = Line::new();
+    if let Err(failed) = add_parts(parts, &mut line, sink) {
+        return Err(failed);
+    }
+    line.flush(sink)
+}
+
+/// Adds the parts to what is to be written, one behind the other.
+pub fn add_parts<K: Sink>(parts: &[&[u8]], line: &mut Line, sink: &mut K) -> Result<(), Failed>
+    ensures bytes { Adds (K.written sink.old) (K.written sink.new) line.old line.new result (joined parts.now) }
+    ensures cause { HasCause (K.faults sink.old) (K.faults sink.new) result }
+{
+    for part in parts {
+        if let Err(failed) = line.add(sink, part) {
+            return Err(failed);
+        }
+    }
+    Ok(())
 }

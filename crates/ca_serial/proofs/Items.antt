@@ -1,6 +1,6 @@
 -- Items of arrays, stores, and room for new objects.
 use Rattle.std.proofs.Common.{◌≡◌, ℕ, ℤ, zero, suc, List, [], ◌∷◌, ◌++◌, length, Option, Some, None, refl, pos, negsuc}
-use Rattle.std.specs.Prelude.{IfSome, slice_get, Bool}
+use Rattle.std.specs.Prelude.{IfSome, IsTrue, slice_get, Bool, true, false}
 use Rattle.std.proofs.lemmas.Option.{slice_get_within}
 use Rattle.ca_program.specs.declared.program.ClassId.{ClassId}
 use Rattle.ca_program.specs.declared.program.FieldId.{FieldId}
@@ -12,13 +12,12 @@ use Rattle.ca_model.specs.declared.value.Slot.TheVariants.{One, Many}
 use Rattle.ca_model.specs.declared.value.Object.{Object}
 use Rattle.ca_model.specs.declared.value.TrapKind.TheVariants.{HeapFull}
 use Rattle.ca_model.specs.Slots.{HasItem}
-use Rattle.ca_model.specs.Heaps.{HasSlot, starts_of, created, IsFull}
-use Rattle.ca_model.proofs.Creation.{full_test, room_test}
+use Rattle.ca_model.specs.Heaps.{HasSlot, starts_of, created, is_full}
 use Rattle.ca_meaning.specs.Expressions.{gives, traps, trap_at, items_in, slots_in, Item, found, indexed}
 use Rattle.ca_meaning.specs.Functions.{own_of, functions_of, value_in}
 use Rattle.ca_direct.specs.Direct.{direct}
 use Rattle.ca_direct.proofs.Steady.{direct_is}
-use Rattle.ca_meaning.specs.Serial.{room_for}
+use Rattle.ca_meaning.specs.Serial.{room_for, unless_full}
 use Rattle.ca_serial.specs.declared.machine.Found.{Found}
 use Rattle.ca_serial.specs.Resume.{looked_up, HasOwn}
 
@@ -67,22 +66,26 @@ still_has p c h Null field i has = absurd has
 
 -- Room for a new object
 
-pub full_traps : (p : PlainProgram) (line : ℕ) (h : List Object) (c : ClassId) (k : ℕ) → IsFull h (starts_of p c) → room_for p line h c k ≡ traps (trap_at line HeapFull)
-full_traps p line h c k full = rw (full_test h (starts_of p c) full) refl
+pub full_traps : (p : PlainProgram) (line : ℕ) (h : List Object) (c : ClassId) (k : ℕ) → IsTrue (is_full h (starts_of p c)) → room_for p line h c k ≡ traps (trap_at line HeapFull)
+full_traps p line h c k full = rw full refl
 
-pub room_gives : (p : PlainProgram) (line : ℕ) (h : List Object) (c : ClassId) (k : ℕ) → (IsFull h (starts_of p c) → ⊥) → room_for p line h c k ≡ gives (length h) k
-room_gives p line h c k room = rw (room_test h (starts_of p c) room) refl
+pub room_gives : (p : PlainProgram) (line : ℕ) (h : List Object) (c : ClassId) (k : ℕ) → (IsTrue (is_full h (starts_of p c)) → ⊥) → room_for p line h c k ≡ gives (length h) k
+room_gives p line h c k room = at (is_full h (starts_of p c)) room
+  where
+    at : (b : Bool) → (IsTrue b → ⊥) → unless_full b line (length h) k ≡ gives (length h) k
+    at true room = absurd (room refl)
+    at false room = refl
 
 -- Values that are found without a call
 
-pub truth_found : (ms : List PlainMethod) (h : List Object) (r : Datum) (line : ℕ) (ls : List Datum) (e : Expression) (k : ℕ) (o : Option Bool) → IfSome o (λ b. direct h r ls e ≡ gives (Truth b) 0) → IfSome o (λ b. value_in ms h r line ls e k ≡ gives (Truth b) k)
+pub truth_found : (ms : List PlainMethod) (h : List Object) (r : Datum) (line : ℕ) (ls : List Datum) (e : Expression) (k : ℕ) (o : Option Bool) → IfSome o (λ b. direct h r (own_of h r) ls e ≡ gives (Truth b) 0) → IfSome o (λ b. value_in ms h r line ls e k ≡ gives (Truth b) k)
 truth_found ms h r line ls e k None is = tt
-truth_found ms h r line ls e k (Some b) is = direct_is (functions_of ms h).call h r line ls e k (Truth b) is
+truth_found ms h r line ls e k (Some b) is = direct_is (functions_of ms h).call h r (own_of h r) line ls e k (Truth b) is
 
-pub long_found : (ms : List PlainMethod) (h : List Object) (r : Datum) (line : ℕ) (ls : List Datum) (e : Expression) (k : ℕ) (o : Option ℤ) → IfSome o (λ n. direct h r ls e ≡ gives (Long n) 0) → IfSome o (λ n. value_in ms h r line ls e k ≡ gives (Long n) k)
+pub long_found : (ms : List PlainMethod) (h : List Object) (r : Datum) (line : ℕ) (ls : List Datum) (e : Expression) (k : ℕ) (o : Option ℤ) → IfSome o (λ n. direct h r (own_of h r) ls e ≡ gives (Long n) 0) → IfSome o (λ n. value_in ms h r line ls e k ≡ gives (Long n) k)
 long_found ms h r line ls e k None is = tt
-long_found ms h r line ls e k (Some n) is = direct_is (functions_of ms h).call h r line ls e k (Long n) is
+long_found ms h r line ls e k (Some n) is = direct_is (functions_of ms h).call h r (own_of h r) line ls e k (Long n) is
 
-pub value_found : (ms : List PlainMethod) (h : List Object) (r : Datum) (line : ℕ) (ls : List Datum) (e : Expression) (k : ℕ) (o : Option Datum) → IfSome o (λ v. direct h r ls e ≡ gives v 0) → IfSome o (λ v. value_in ms h r line ls e k ≡ gives v k)
+pub value_found : (ms : List PlainMethod) (h : List Object) (r : Datum) (line : ℕ) (ls : List Datum) (e : Expression) (k : ℕ) (o : Option Datum) → IfSome o (λ v. direct h r (own_of h r) ls e ≡ gives v 0) → IfSome o (λ v. value_in ms h r line ls e k ≡ gives v k)
 value_found ms h r line ls e k None is = tt
-value_found ms h r line ls e k (Some v) is = direct_is (functions_of ms h).call h r line ls e k v is
+value_found ms h r line ls e k (Some v) is = direct_is (functions_of ms h).call h r (own_of h r) line ls e k v is

@@ -3,6 +3,7 @@ use Rattle.ca_program.specs.View.{program_view}
 use Rattle.ca_model.specs.Slots.{slots_len}
 use Rattle.ca_model.specs.Heaps.{starts_of}
 use Rattle.ca_model.proofs.Stores.{counted_push}
+use Rattle.ca_model.proofs.Creation.{full_by}
 use Rattle.ca_model.proofs.heap.Heap.create.Goals as goal
 
 pub invariant_of-self-2 : goal.invariant_of-self-2
@@ -18,7 +19,7 @@ returns-clause-made c =
 pub returns-clause-always_full : goal.returns-clause-always_full
 returns-clause-always_full c = λ full.
     let same : slots_len (starts_of (program_view c.args.program.now) c.args.class) ≡ c.in-Some.size = ap slots_len (sym c.fields_of-fields.ensures) ∙ sym c.in-Some.ensures.0 in
-    elim (rw (← c.self.view_is) at full) [
+    elim (full_by c.self.inside.objects.items (starts_of (program_view c.args.program.now) c.args.class) (rw (← c.self.view_is) at full)) [
       | inl many ↦ absurd (omega (arith, many, c.len.ensures, c.self.inside.objects.ok.0))
       | inr large ↦ absurd (omega (arith, large, same, c.in-Some.ensures.1, c.self.invariant.few_values, c.self.invariant.counted))
     ]

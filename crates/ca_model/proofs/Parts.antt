@@ -6,7 +6,7 @@ use Rattle.ca_base.specs.Devices.{Began}
 use Rattle.ca_base.proofs.Writing.{began_more}
 use Rattle.ca_model.specs.Lines.{Went}
 use Rattle.ca_model.proofs.Lines.{went_after, began_in}
-use Rattle.ca_app.specs.Lines.{joined}
+use Rattle.ca_model.specs.Lines.{joined}
 
 -- the parts through i are those before it, and then it
 joined_through : (ps : List (Bor (List ℕ))) (i : ℕ) (d : Bor (List ℕ)) → i < length ps → joined (take (suc i) ps) ≡ joined (take i ps) ++ (get_or ps i d).now

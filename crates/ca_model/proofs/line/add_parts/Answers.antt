@@ -1,7 +1,7 @@
 use Rattle.std.proofs.Common.{[], sym, arith, append-nil, take_all}
-use Rattle.ca_app.proofs.LineLemmas.{part_went, part_began}
+use Rattle.ca_model.proofs.Parts.{part_went, part_began}
 use Rattle.ca_base.proofs.Writing.{grown_nothing}
-use Rattle.ca_app.proofs.lines.add_parts.Goals as goal
+use Rattle.ca_model.proofs.line.add_parts.Goals as goal
 
 pub loop-part-init : goal.loop-part-init
 loop-part-init g c = record { went = record { out = []; told = sym (grown_nothing _); all = append-nil _ }; later = omega arith }

@@ -1,5 +1,5 @@
 use Rattle.ca_model.proofs.Lines.{flushed, not_added}
-use Rattle.ca_app.proofs.lines.write_line.Goals as goal
+use Rattle.ca_model.proofs.line.write_line.Goals as goal
 
 pub returns-in-Err-clause-bytes : goal.returns-in-Err-clause-bytes
 returns-in-Err-clause-bytes g c = not_added _ _ _ _ _ (rw c.new-line.ensures at c.in-Err.ensures.bytes)

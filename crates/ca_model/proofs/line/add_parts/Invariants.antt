@@ -1,7 +1,7 @@
 use Rattle.std.proofs.Common.{◌≤◌, ◌++◌, take}
 use Rattle.ca_model.specs.Lines.{Went}
-use Rattle.ca_app.specs.Lines.{joined}
-use Rattle.ca_app.proofs.lines.add_parts.Given as goal
+use Rattle.ca_model.specs.Lines.{joined}
+use Rattle.ca_model.proofs.line.add_parts.Given as goal
 
 abbrev pub invariant-loop-part : goal.invariant-loop-part
 invariant-loop-part g l = record {
