@@ -1,5 +1,5 @@
 -- Heaps: the objects in the order of their creation, each found by its place.
-use Rattle.std.specs.Prelude.{ℕ, zero, suc, ◌+◌, ◌<◌, ◌≤◌, List, [], ◌∷◌, ◌++◌, length, Option, Some, None, slice_get, ◌⊎◌}
+use Rattle.std.specs.Prelude.{ℕ, zero, suc, ◌+◌, ◌<◌, ◌≤◌, Bool, ◌||◌, nat_le, nat_lt, List, [], ◌∷◌, ◌++◌, length, Option, Some, None, slice_get, ◌⊎◌}
 use Rattle.ca_program.specs.declared.program.ClassId.{ClassId}
 use Rattle.ca_program.specs.declared.program.FieldInfo.{FieldInfo}
 use Rattle.ca_program.specs.Plain.{PlainProgram, PlainClass}
@@ -42,6 +42,10 @@ most_values = 4000000
 -- there is no room for one object more, or not for one with these slots
 abbrev pub IsFull : List Object → List Slot → Type 0
 IsFull h new = (most_objects ≤ length h) ⊎ (most_values < values_in h + slots_len new)
+
+-- there is no room for one object more, or not for one with these slots
+abbrev pub is_full : List Object → List Slot → Bool
+is_full h new = nat_le most_objects (length h) || nat_lt most_values (values_in h + slots_len new)
 
 -- the heap with one object more, of starting values
 abbrev pub created : PlainProgram → ClassId → List Object → List Object
