@@ -13,18 +13,24 @@ def type_text(ty):
 class Writer:
     """Writes a program with random blanks and comments.
 
-    `lines` has the line of each statement, by its id, and `starts` the pieces of the text before which one stands.
+    `lines` has the line of each statement, by its id. `points` has the pieces of the text before which something can
+    be put, each with what can stand there (class, member, item) and in which body, and the last piece as `end`;
+    `heads` the pieces that begin a class.
     """
 
     def __init__(self, rng):
-        self.rng, self.text, self.line, self.lines, self.starts = rng, [], 1, {}, []
+        self.rng, self.text, self.line, self.lines = rng, [], 1, {}
+        self.points, self.heads, self.body = [], [], "outside"
 
     def put(self, text):
         self.text.append(text)
         self.line += text.count("\n")
 
+    def point(self, kind):
+        self.points.append((len(self.text), kind, self.body))
+
     def gap(self):
-        self.put(self.rng.choice([" ", "\n", " ", "\t", " /* x */ ", "\n", " // y\n"]))
+        self.put(self.rng.choice([" ", "\n", " ", "\t", " /* é */ ", "\n", " // y\n"]))
 
     def expr(self, e, least=0):
         kind = e[0]
@@ -62,7 +68,7 @@ class Writer:
     def statement(self, s):
         self.gap()
         self.lines[id(s)] = self.line
-        self.starts.append(len(self.text))
+        self.point("item")
         kind = s[0]
         if kind == "call":
             self.put(self.expr(s) + ";")
@@ -95,16 +101,30 @@ class Writer:
         self.gap()
         self.put("}")
 
+    def method(self, m):
+        self.point("member")
+        params = ", ".join(type_text(t) + n for n, t in m.params)
+        self.put(f"{'void ' if m.result is None else type_text(m.result)}{m.name}({params})")
+        self.body = "operation" if m.result is None else m.result if m.result in (LONG, BOOL) else "pointer"
+        self.block(m.body)
+        self.body = "outside"
+
     def program(self, p):
         for c in p.classes:
+            self.point("class")
+            self.heads.append(len(self.text))
             self.put(f"class {c.name} {{ public:\n")
             for name, ty, length in c.fields:
+                self.point("member")
                 self.put(f"{type_text(ty)}{name}{'' if length is None else f'[{length}]'};\n")
             for m in c.methods:
-                params = ", ".join(type_text(t) + n for n, t in m.params)
-                self.put(f"{'void ' if m.result is None else type_text(m.result)}{m.name}({params})")
-                self.block(m.body)
+                self.method(m)
+            self.point("member")
             self.put("};\n")
+        self.point("class")
         self.put("int main()")
+        self.body = "main"
         self.block(p.main)
+        self.body = "outside"
+        self.points.append((len(self.text) - 1, "end", self.body))
         return "".join(self.text)
