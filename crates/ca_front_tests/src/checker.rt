@@ -13,6 +13,17 @@ fn checked(alloc: Global, text: &str) -> Result<Result<Program, CheckError>, Fai
     Ok(check(alloc, &tree))
 }
 
+/// Whether the text is refused in its first line at the column, with the code.
+fn is_refused(alloc: Global, text: &str, column: u32, code: u32) -> Result<bool, Fail> {
+    Ok(match checked(alloc, text)? {
+        Err(CheckError::Violation(place, found)) => {
+            place.line == 1 && place.column == column && found.0 == code
+        }
+        _ => false,
+    })
+}
+
+/// A program resolves; an unknown class and a wrong value are refused, and not the statement round them.
 #[test]
 fn a_tree_is_resolved_or_refused(rt: HostRuntime) -> Result<(), Fail> {
     let alloc = rt.alloc();
@@ -21,11 +32,11 @@ fn a_tree_is_resolved_or_refused(rt: HostRuntime) -> Result<(), Fail> {
         Ok(program) => program.classes.len() == 1 && program.main.locals.len() == 1,
         Err(_) => false,
     };
-    let refused = "class A { public: long n; }; int main() { A *a = new B(); }";
-    let told = match checked(alloc, refused)? {
-        Err(CheckError::Violation(place, code)) => place.column == 54 && code.0 == 21,
-        _ => false,
-    };
-    assert!(rt; resolved && told);
+    assert!(rt; resolved);
+    let unknown = "class A { public: long n; }; int main() { A *a = new B(); }";
+    let printed = "class A { public: long f() { print(nullptr); return 1; } }; int main() { }";
+    for (text, column, code) in [(unknown, 54, 21), (printed, 36, 25)] {
+        assert!(rt; is_refused(alloc, text, column, code)?);
+    }
     Ok(())
 }

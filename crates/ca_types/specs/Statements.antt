@@ -201,8 +201,12 @@ judge_condition s e = within (judge_value s e) (λ v. unless (condition_agrees v
 abbrev pub judge_return : Standing → Place → Expression → Judged program.Statement
 judge_return c at e = within (judge_wanted c.scope c.result e) (λ v. unless (return_stands c.result at) (program.return_value at.line v))
 
+-- a number or a truth value, to be printed
+abbrev pub judge_printed : Scope → Expression → Judged program.Expression
+judge_printed s e = within (judge_value s e) (λ v. unless (printed_agrees v.1 (place_of e)) v.0)
+
 abbrev pub judge_print : Standing → Place → Expression → Judged program.Statement
-judge_print c at e = within (judge_value c.scope e) (λ v. beside (printed_agrees v.1 (place_of e)) (unless (prints_nothing c.result at) (program.print_value at.line v.0)))
+judge_print c at e = within (judge_printed c.scope e) (λ v. unless (prints_nothing c.result at) (program.print_value at.line v))
 
 -- statements
 

@@ -4,18 +4,18 @@ ghost use Rattle.std.specs.Prelude.{◌≡◌, map};
 ghost use Rattle.std.specs.Option.{option_map};
 ghost use Rattle.ca_tree.specs.View.{expression_view};
 ghost use Rattle.ca_program.specs.View as program;
-ghost use Rattle.ca_resolve.specs.Judged.{Answers, Finds};
+ghost use Rattle.ca_resolve.specs.Judged.{Answers};
 ghost use Rattle.ca_resolve.specs.LocalView.{sort_view};
 ghost use Rattle.ca_resolve.specs.View.{scope_view, callee_view};
-ghost use Rattle.ca_types.specs.Rules.{listed, called_operation, printed_agrees, prints_nothing};
-ghost use Rattle.ca_types.specs.Statements.{judge_condition, judge_call_statement, judge_return, judge_print};
+ghost use Rattle.ca_types.specs.Rules.{called_operation, has_text};
+ghost use Rattle.ca_types.specs.Statements.{judge_condition, judge_call_statement, judge_return, judge_printed, judge_print};
 ghost use Rattle.ca_types.specs.View.{standing_view};
 
 use crate::puts::check_wanted;
-use crate::rules::{Answer, rule};
+use crate::rules::Answer;
 use crate::walk::Walk;
 use ca_program::{Expr, OpId, Stmt, StmtForm};
-use ca_resolve::{Callee, Scope, Sort, both, check_call, check_value, violation};
+use ca_resolve::{Callee, Scope, Sort, check_call, check_value, violation};
 use ca_tree::{ExprNode, Place};
 use std::alloc::Global;
 
@@ -78,28 +78,33 @@ pub(crate) fn check_return(alloc: Global, walk: &Walk, at: Place, e: &ExprNode) 
     })
 }
 
-/// A number or a truth value is printed.
-fn printed_agrees(sort: &Sort, at: Place) -> Answer<()>
-    ensures { Finds result (listed (printed_agrees (sort_view sort.now) at)) }
+/// Whether values of the type have a text.
+fn has_text(sort: &Sort) -> bool
+    ensures { result ≡ has_text (sort_view sort.now) }
 {
-    rule(!(sort.is_long() || sort.is_truth()), at, 25)
+    sort.is_long() || sort.is_truth()
 }
 
-/// A value method prints nothing.
-fn prints_nothing(returned: &Option<Sort>, at: Place) -> Answer<()>
-    ensures { Finds result (listed (prints_nothing (option_map sort_view returned.now) at)) }
+/// A number or a truth value, to be printed.
+fn check_printed(alloc: Global, scope: &Scope, e: &ExprNode) -> Answer<Expr>
+    ensures { Answers program.expression_view result (judge_printed (scope_view scope.now) (expression_view e.now)) }
 {
-    rule(returned.is_some(), at, 29)
+    let (value, sort) = check_value(alloc, scope, e)?;
+    if has_text(&sort) {
+        Ok(value)
+    } else {
+        Err(violation(e.at, 25))
+    }
 }
 
 /// A `print`.
 pub(crate) fn check_print(alloc: Global, walk: &Walk, at: Place, e: &ExprNode) -> Answer<Stmt>
     ensures { Answers program.statement_view result (judge_print (standing_view walk.now) at (expression_view e.now)) }
 {
-    let (value, sort) = check_value(alloc, &walk.scope(), e)?;
-    let has_text = printed_agrees(&sort, e.at);
-    let printed = prints_nothing(&walk.result, at);
-    both(has_text, printed)?;
+    let value = check_printed(alloc, &walk.scope(), e)?;
+    if walk.result.is_some() {
+        return Err(violation(at, 29));
+    }
     Ok(Stmt {
         line: at.line,
         kind: StmtForm::Print(value),

@@ -21,7 +21,7 @@ use Rattle.ca_resolve.specs.Scopes as scopes
 use Rattle.ca_resolve.specs.Rules.{is_target, is_item_target, can_hold, is_long, is_truth}
 use Rattle.ca_resolve.specs.Values.{place_of, in_order, judge_found, judge_value, judge_for, judge_target, judge_call}
 use Rattle.ca_types.specs.Rules.{local_once, condition_agrees, printed_agrees, compound_agrees, writes_no_field, called_operation, creates_nothing, prints_nothing, return_stands, local_limit, loop_limit, is_own, has_text}
-use Rattle.ca_types.specs.Statements.{Standing, opened, closed, counted, declaring, behind, behind_all, class_defined, judge_type, type_of, Source, of_value, of_new, creates, judge_wanted, new_agrees, judge_right, put, judge_put_target, right_sort, judge_assign, start_value, judge_start, start_creates, judge_local, judge_call_statement, judge_condition, judge_return, judge_print, nothing, first_part, statements_in, added, judge_statement, judge_statements}
+use Rattle.ca_types.specs.Statements.{Standing, opened, closed, counted, declaring, behind, behind_all, class_defined, judge_type, type_of, Source, of_value, of_new, creates, judge_wanted, new_agrees, judge_right, put, judge_put_target, right_sort, judge_assign, start_value, judge_start, start_creates, judge_local, judge_call_statement, judge_condition, judge_return, judge_printed, judge_print, nothing, first_part, statements_in, added, judge_statement, judge_statements}
 use Rattle.ca_typing.specs.Fits.{NumbersFit, RightFits, StartFits, StatementFits, StatementsFit}
 use Rattle.ca_typing.proofs.Lists.{Begins, begins_itself, begins_through, item_there, all_append}
 use Rattle.ca_typing.proofs.Judging.{same_fine, within_fine, made_fine, both_fine, unless_fine, none_broken, beside_fine, not_broken, not_not, kept}
@@ -272,13 +272,12 @@ module _ (p : PlainProgram) (q : TypesOf) where
 
     print_typed : (at : Place) (e : Expression) (x : program.Statement) → NumbersFit e → judge_print c at e ≡ fine x → StatementTyped p q x
     print_typed at e x fits h =
-        let place = place_of e in
-        let w = within_fine (judge_value c.scope e) (λ (v : program.Expression × Sort). beside (printed_agrees v.1 place) (unless (prints_nothing c.result at) (program.print_value at.line v.0))) x h in
-        let b = beside_fine (printed_agrees w.0.1 place) (unless (prints_nothing c.result at) (program.print_value at.line w.0.0)) x w.2 in
-        let none = result_none (not_broken (is_some c.result) at 29 (none_broken (prints_nothing c.result at) (program.print_value at.line w.0.0) x b.1)) in
-        let text = not_not (has_text w.0.1) (not_broken (not (has_text w.0.1)) place 25 b.0) in
-        subst (StatementTyped p q) (unless_fine (prints_nothing c.result at) (program.print_value at.line w.0.0) x b.1)
-        (none, text_type w.0.1 (ExpressionTyped p q w.0.0) (value_typed p q c.scope at_c.scope e w.0 fits w.1) text)
+        let w = within_fine (judge_printed c.scope e) (λ v. unless (prints_nothing c.result at) (program.print_value at.line v)) x h in
+        let g = within_fine (judge_value c.scope e) (λ (v : program.Expression × Sort). unless (printed_agrees v.1 (place_of e)) v.0) w.0 w.1 in
+        let k = kept (has_text g.0.1) (place_of e) 25 g.0.0 w.0 g.2 in
+        let none = result_none (not_broken (is_some c.result) at 29 (none_broken (prints_nothing c.result at) (program.print_value at.line w.0) x w.2)) in
+        subst (StatementTyped p q) (unless_fine (prints_nothing c.result at) (program.print_value at.line w.0) x w.2)
+        (none, subst (λ y. ExpressionTyped p q y LongValue ⊎ ExpressionTyped p q y TruthValue) k.1 (text_type g.0.1 (ExpressionTyped p q g.0.0) (value_typed p q c.scope at_c.scope e g.0 fits g.1) k.0))
 
   -- where a block of its own begins, and what stands behind it
   opened_stands : (c : Standing) → Stands c → Stands (opened c)

@@ -1,7 +1,6 @@
 use Rattle.std.proofs.Common.{Box, Global}
 use Rattle.std.proofs.lemmas.Result.{err_from_is_err_and}
 use Rattle.ca_program.specs.declared.program.Stmt.{Stmt}
-use Rattle.ca_program.specs.Plain as program
 use Rattle.ca_program.specs.View as resolved
 use Rattle.ca_resolve.specs.Judged.{both}
 use Rattle.ca_types.specs.View.{boxed_view}

@@ -1,5 +1,4 @@
 use Rattle.std.proofs.lemmas.Result.{err_from_is_err_and}
-use Rattle.ca_program.specs.Plain as program
 use Rattle.ca_program.specs.View as resolved
 use Rattle.ca_types.specs.View.{boxed_view}
 use Rattle.ca_resolve.proofs.Judging.{both_exit}
