@@ -5,11 +5,12 @@ use Rattle.ca_program.specs.Plain.{Expression, Expressions, number, truth, null,
 use Rattle.ca_model.specs.declared.value.Value.{Value as Datum}
 use Rattle.ca_model.specs.declared.value.Value.TheVariants.{Long, Bool as Truth, Null, Ref}
 use Rattle.ca_model.specs.declared.value.Object.{Object}
+use Rattle.ca_model.specs.declared.value.Slot.{Slot}
 use Rattle.ca_model.specs.declared.value.Trap.{Trap}
 use Rattle.ca_model.specs.declared.value.TrapKind.{TrapKind}
 use Rattle.ca_meaning.specs.Operators.{operated}
 use Rattle.ca_meaning.specs.Expressions.{Out, gives, traps, over, ◌>>=◌, pointed, found, indexed, answer, decided, unless_decided, items_in, slot_of, Calls, eval, eval_all}
-use Rattle.ca_meaning.specs.Functions.{place}
+use Rattle.ca_meaning.specs.Sections.{section_place}
 use Rattle.ca_direct.specs.Direct.{no_calls, direct}
 
 -- the first gives a value with no step left only where the second gives it with k left
@@ -51,9 +52,9 @@ steady_unless : (k : ℕ) (d : Option Datum) {a b : Out Datum} → Steady k a b 
 steady_unless k (Some v) h = both_give
 steady_unless k None h = h
 
-module _ (c : Calls) (h : List Object) (r : Datum) (line : ℕ) (ls : List Datum) (k : ℕ) where
+module _ (c : Calls) (h : List Object) (r : Datum) (o : List Slot) (line : ℕ) (ls : List Datum) (k : ℕ) where
   mutual
-    eval_steady : (e : Expression) → Steady k (eval no_calls (place h r 0 ls) e 0) (eval c (place h r line ls) e k)
+    eval_steady : (e : Expression) → Steady k (eval no_calls (section_place h r o 0 ls) e 0) (eval c (section_place h r o line ls) e k)
     eval_steady (number x) = both_give
     eval_steady (truth x) = both_give
     eval_steady null = both_give
@@ -71,7 +72,7 @@ module _ (c : Calls) (h : List Object) (r : Datum) (line : ℕ) (ls : List Datum
     eval_steady (binary op a b) =
         steady_then _ _ (eval_steady a) (λ v. steady_unless k (decided op v) (steady_then _ _ (eval_steady b) (λ w. steady_answer line k (operated op v w))))
 
-    all_steady : (es : Expressions) → Steady k (eval_all no_calls (place h r 0 ls) es 0) (eval_all c (place h r line ls) es k)
+    all_steady : (es : Expressions) → Steady k (eval_all no_calls (section_place h r o 0 ls) es 0) (eval_all c (section_place h r o line ls) es k)
     all_steady no_expressions = both_give
     all_steady (expression_and e es) = steady_then _ _ (eval_steady e) (λ v. steady_then _ _ (all_steady es) (λ vs. both_give))
 
@@ -81,5 +82,5 @@ steady_gives one_traps is = cc
 steady_gives one_is_over is = cc
 
 -- what an expression gives where no step is left is its value whatever calls mean
-pub direct_is : (c : Calls) (h : List Object) (r : Datum) (line : ℕ) (ls : List Datum) (e : Expression) (k : ℕ) (v : Datum) → direct h r ls e ≡ gives v 0 → eval c (place h r line ls) e k ≡ gives v k
-direct_is c h r line ls e k v is = steady_gives (eval_steady c h r line ls k e) is
+pub direct_is : (c : Calls) (h : List Object) (r : Datum) (o : List Slot) (line : ℕ) (ls : List Datum) (e : Expression) (k : ℕ) (v : Datum) → direct h r o ls e ≡ gives v 0 → eval c (section_place h r o line ls) e k ≡ gives v k
+direct_is c h r o line ls e k v is = steady_gives (eval_steady c h r o line ls k e) is

@@ -1,10 +1,10 @@
 //! The values of expressions that call nothing, found without a stack.
 //!
-//! `Scene` is what such an expression is read in: the heap, the receiver and the locals. Its calls
-//! answer a number, a truth value or any value, and `None` wherever they do not decide: at a call of
-//! a value method, at a trap, at a value of another type, at a comparison of comparisons. Each promises
-//! that what it answers is the value of the expression where no step is left; by the law in `laws` that
-//! is its value in the meaning of programs, whatever calls mean there, and no step is taken. Nothing is
+//! `Scene` is what such an expression is read in: the heap, the receiver, the slots of own fields and the
+//! locals. Its calls answer a number, a truth value or any value, and `None` wherever they do not decide: at
+//! a call of a value method, at a trap, at a value of another type, at a comparison of comparisons. Each
+//! promises that what it answers is the value of the expression where no step is left; by the law in `laws`
+//! that is its value in the meaning of programs, whatever calls mean there, and no step is taken. Nothing is
 //! promised of `None`: the interpreter tries these calls first, and goes on with its stack at `None`.
 //! `scene` has what a scene holds and any value, `numbers`, `truths` and `pointers` one type each.
 #![tactic(auto)]

@@ -7,7 +7,7 @@ ghost use Rattle.ca_program.specs.Plain.{binary};
 ghost use Rattle.ca_model.specs.declared.value.Value.TheVariants.{Long, Ref};
 ghost use Rattle.ca_meaning.specs.Expressions.{gives};
 ghost use Rattle.ca_meaning.specs.Operators.{operated_longs};
-ghost use Rattle.ca_direct.specs.Direct.{direct};
+ghost use Rattle.ca_direct.specs.Direct.{seen};
 
 use crate::pointers::object;
 use crate::scene::Scene;
@@ -18,7 +18,7 @@ impl<'a> Scene<'a> {
     /// The number of the object that an expression without operators names.
     #[cycle(number)]
     pub(crate) fn object_of(&self, e: &Expr) -> Option<u32>
-        ensures { IfSome result (λ n. direct self.now.heap.now self.now.this self.now.locals.now (expression_view e.now) ≡ gives (Ref n) 0) }
+        ensures { IfSome result (λ n. seen self.now (expression_view e.now) ≡ gives (Ref n) 0) }
     {
         match e {
             Expr::This => object(self.this),
@@ -61,7 +61,7 @@ impl<'a> Scene<'a> {
     /// The value of a number, or of a local that is a number.
     #[inline(always)]
     pub(crate) fn leaf(&self, e: &Expr) -> Option<i64>
-        ensures { IfSome result (λ n. direct self.now.heap.now self.now.this self.now.locals.now (expression_view e.now) ≡ gives (Long n) 0) }
+        ensures { IfSome result (λ n. seen self.now (expression_view e.now) ≡ gives (Long n) 0) }
     {
         match e {
             Expr::Number(n) => Some(*n),
@@ -76,7 +76,7 @@ impl<'a> Scene<'a> {
     /// What an operator that can't fail gives for two leaves.
     #[inline(always)]
     fn on_leaves(&self, op: BinaryOp, a: &Expr, b: &Expr) -> Option<i64>
-        ensures { IfSome result (λ n. direct self.now.heap.now self.now.this self.now.locals.now (binary op (expression_view a.now) (expression_view b.now)) ≡ gives (Long n) 0) }
+        ensures { IfSome result (λ n. seen self.now (binary op (expression_view a.now) (expression_view b.now)) ≡ gives (Long n) 0) }
     {
         match self.leaf(a) {
             Some(left) => match self.leaf(b) {
@@ -91,7 +91,7 @@ impl<'a> Scene<'a> {
     #[cycle(number)]
     #[inline(always)]
     pub fn long_of(&self, e: &Expr) -> Option<i64>
-        ensures { IfSome result (λ n. direct self.now.heap.now self.now.this self.now.locals.now (expression_view e.now) ≡ gives (Long n) 0) }
+        ensures { IfSome result (λ n. seen self.now (expression_view e.now) ≡ gives (Long n) 0) }
     {
         match e {
             Expr::Number(_) | Expr::Local(_) => self.leaf(e),
@@ -108,7 +108,7 @@ impl<'a> Scene<'a> {
     #[cycle(number)]
     #[inline(never)]
     fn binary_of(&self, e: &Expr) -> Option<i64>
-        ensures { IfSome result (λ n. direct self.now.heap.now self.now.this self.now.locals.now (expression_view e.now) ≡ gives (Long n) 0) }
+        ensures { IfSome result (λ n. seen self.now (expression_view e.now) ≡ gives (Long n) 0) }
     {
         match e {
             Expr::Binary(op, a, b) => match self.long_of(a) {
@@ -126,7 +126,7 @@ impl<'a> Scene<'a> {
     #[cycle(number)]
     #[inline(never)]
     fn own_item_of(&self, e: &Expr) -> Option<i64>
-        ensures { IfSome result (λ n. direct self.now.heap.now self.now.this self.now.locals.now (expression_view e.now) ≡ gives (Long n) 0) }
+        ensures { IfSome result (λ n. seen self.now (expression_view e.now) ≡ gives (Long n) 0) }
     {
         match e {
             Expr::OwnItem(f, i) => match self.long_of(i) {
@@ -144,7 +144,7 @@ impl<'a> Scene<'a> {
     #[cycle(number)]
     #[inline(never)]
     fn other_of(&self, e: &Expr) -> Option<i64>
-        ensures { IfSome result (λ n. direct self.now.heap.now self.now.this self.now.locals.now (expression_view e.now) ≡ gives (Long n) 0) }
+        ensures { IfSome result (λ n. seen self.now (expression_view e.now) ≡ gives (Long n) 0) }
     {
         match e {
             Expr::Own(f) => match self.own(f.field) {

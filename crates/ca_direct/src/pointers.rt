@@ -5,7 +5,7 @@ ghost use Rattle.ca_program.specs.View.{expression_view};
 ghost use Rattle.ca_model.specs.declared.value.Value.TheVariants.{Bool as Truth, Ref};
 ghost use Rattle.ca_meaning.specs.Expressions.{decided, gives};
 ghost use Rattle.ca_meaning.specs.Operators.{operated, same_value};
-ghost use Rattle.ca_direct.specs.Direct.{direct, pointer};
+ghost use Rattle.ca_direct.specs.Direct.{pointer, seen};
 
 use crate::scene::Scene;
 use ca_model::Value;
@@ -15,7 +15,7 @@ impl<'a> Scene<'a> {
     /// The pointer that an expression without operators and items is; none for null.
     #[inline]
     pub(crate) fn pointer_of(&self, e: &Expr) -> Option<Option<u32>>
-        ensures { IfSome result (λ p. direct self.now.heap.now self.now.this self.now.locals.now (expression_view e.now) ≡ gives (pointer p) 0) }
+        ensures { IfSome result (λ p. seen self.now (expression_view e.now) ≡ gives (pointer p) 0) }
     {
         match e {
             Expr::Null => Some(None),

@@ -1,19 +1,20 @@
 //! A scene, and the value of an expression in it.
 
-ghost use Rattle.std.specs.Prelude.{◌≡◌, IfSome, slice_get, option_copied, ℕ};
+ghost use Rattle.std.specs.Prelude.{◌≡◌, IfSome, Some, slice_get, option_copied};
 ghost use Rattle.ca_program.specs.View.{expression_view};
-ghost use Rattle.ca_model.specs.declared.value.Value.TheVariants.{Ref};
 ghost use Rattle.ca_meaning.specs.Expressions.{gives, one_in};
-ghost use Rattle.ca_direct.specs.Direct.{direct, slot_at, item_at};
+ghost use Rattle.ca_direct.specs.Direct.{seen, own_in, slot_at, item_in};
 
 use ca_model::{Heap, Slot, Value};
 use ca_program::{BinaryOp, Expr, UnaryOp};
 
-/// What an expression is read in. The locals are those of the body that runs.
+/// What an expression is read in. Own fields are read in the slots that are handed in, and else in those
+/// that the receiver has in the heap. The locals are those of the body that runs.
 #[derive(Clone, Copy)]
 pub struct Scene<'a> {
     pub heap: &'a Heap,
     pub this: Value,
+    pub own: Option<&'a [Slot]>,
     pub locals: &'a [Value],
 }
 
@@ -36,10 +37,7 @@ impl<'a> Scene<'a> {
         ensures { IfSome result (λ v. one_in (slot_at self.now.heap.now id field) ≡ v) }
     {
         match self.slot(id, field) {
-            Some(slot) => match slot {
-                Slot::One(value) => Some(*value),
-                Slot::Many(_) => None,
-            },
+            Some(slot) => single(slot),
             None => None,
         }
     }
@@ -47,39 +45,47 @@ impl<'a> Scene<'a> {
     /// An item of an array field of an object.
     #[inline]
     pub(crate) fn item(&self, id: u32, field: u32, index: i64) -> Option<Value>
-        ensures { IfSome result (λ v. item_at self.now.heap.now id field index ≡ gives v 0) }
+        ensures { IfSome result (λ v. item_in (slot_at self.now.heap.now id field) index ≡ gives v 0) }
     {
-        if index < 0 {
-            return None;
-        }
         match self.slot(id, field) {
-            Some(slot) => match slot {
-                Slot::One(_) => None,
-                Slot::Many(values) => values.get(index as usize),
-            },
+            Some(slot) => item(slot, index),
             None => None,
+        }
+    }
+
+    /// The slot of an own field.
+    #[inline]
+    fn own_slot(&self, field: u32) -> Option<&Slot>
+        ensures { option_copied result ≡ slice_get (own_in self.now) field }
+    {
+        match self.own {
+            Some(slots) => slots.get(field as usize),
+            None => match self.this {
+                Value::Ref(id) => self.slot(id, field),
+                _ => None,
+            },
         }
     }
 
     /// The single value of an own field.
     #[inline]
     pub(crate) fn own(&self, field: u32) -> Option<Value>
-        ensures { IfSome result (λ v. (n : ℕ) × (self.now.this ≡ Ref n) × (one_in (slot_at self.now.heap.now n field) ≡ v)) }
+        ensures { IfSome result (λ v. one_in (slice_get (own_in self.now) field) ≡ v) }
     {
-        match self.this {
-            Value::Ref(id) => self.field(id, field),
-            _ => None,
+        match self.own_slot(field) {
+            Some(slot) => single(slot),
+            None => None,
         }
     }
 
     /// An item of an own array field.
     #[inline]
     pub(crate) fn own_item(&self, field: u32, index: i64) -> Option<Value>
-        ensures { IfSome result (λ v. (n : ℕ) × (self.now.this ≡ Ref n) × (item_at self.now.heap.now n field index ≡ gives v 0)) }
+        ensures { IfSome result (λ v. item_in (slice_get (own_in self.now) field) index ≡ gives v 0) }
     {
-        match self.this {
-            Value::Ref(id) => self.item(id, field, index),
-            _ => None,
+        match self.own_slot(field) {
+            Some(slot) => item(slot, index),
+            None => None,
         }
     }
 
@@ -93,7 +99,7 @@ impl<'a> Scene<'a> {
 
     /// The value of an expression without operators.
     pub(crate) fn read(&self, e: &Expr) -> Option<Value>
-        ensures { IfSome result (λ v. direct self.now.heap.now self.now.this self.now.locals.now (expression_view e.now) ≡ gives v 0) }
+        ensures { IfSome result (λ v. seen self.now (expression_view e.now) ≡ gives v 0) }
     {
         match e {
             Expr::Number(n) => Some(Value::Long(*n)),
@@ -124,7 +130,7 @@ impl<'a> Scene<'a> {
     /// The value of an expression.
     #[inline]
     pub fn value_of(&self, e: &Expr) -> Option<Value>
-        ensures { IfSome result (λ v. direct self.now.heap.now self.now.this self.now.locals.now (expression_view e.now) ≡ gives v 0) }
+        ensures { IfSome result (λ v. seen self.now (expression_view e.now) ≡ gives v 0) }
     {
         match e {
             Expr::Number(n) => Some(Value::Long(*n)),
@@ -149,7 +155,7 @@ impl<'a> Scene<'a> {
     /// The value of an expression that is a number.
     #[inline]
     fn number(&self, e: &Expr) -> Option<Value>
-        ensures { IfSome result (λ v. direct self.now.heap.now self.now.this self.now.locals.now (expression_view e.now) ≡ gives v 0) }
+        ensures { IfSome result (λ v. seen self.now (expression_view e.now) ≡ gives v 0) }
     {
         match self.long_of(e) {
             Some(number) => Some(Value::Long(number)),
@@ -160,11 +166,36 @@ impl<'a> Scene<'a> {
     /// The value of an expression that is a truth value.
     #[inline]
     fn truth(&self, e: &Expr) -> Option<Value>
-        ensures { IfSome result (λ v. direct self.now.heap.now self.now.this self.now.locals.now (expression_view e.now) ≡ gives v 0) }
+        ensures { IfSome result (λ v. seen self.now (expression_view e.now) ≡ gives v 0) }
     {
         match self.truth_of(e) {
             Some(truth) => Some(Value::Bool(truth)),
             None => None,
         }
+    }
+}
+
+/// The single value that a slot holds.
+#[inline]
+fn single(slot: &Slot) -> Option<Value>
+    ensures { IfSome result (λ v. one_in (Some slot.now) ≡ v) }
+{
+    match slot {
+        Slot::One(value) => Some(*value),
+        Slot::Many(_) => None,
+    }
+}
+
+/// The item of an array that a number names.
+#[inline]
+fn item(slot: &Slot, index: i64) -> Option<Value>
+    ensures { IfSome result (λ v. item_in (Some slot.now) index ≡ gives v 0) }
+{
+    if index < 0 {
+        return None;
+    }
+    match slot {
+        Slot::One(_) => None,
+        Slot::Many(values) => values.get(index as usize),
     }
 }

@@ -6,7 +6,7 @@ ghost use Rattle.ca_program.specs.Plain.{binary};
 ghost use Rattle.ca_model.specs.declared.value.Value.TheVariants.{Bool as Truth};
 ghost use Rattle.ca_meaning.specs.Expressions.{gives, decided};
 ghost use Rattle.ca_meaning.specs.Operators.{operated, operated_longs};
-ghost use Rattle.ca_direct.specs.Direct.{direct};
+ghost use Rattle.ca_direct.specs.Direct.{seen};
 
 use crate::pointers::same_pointers;
 use crate::scene::Scene;
@@ -19,7 +19,7 @@ impl<'a> Scene<'a> {
     #[cycle(truth)]
     #[inline]
     pub fn truth_of(&self, e: &Expr) -> Option<bool>
-        ensures { IfSome result (λ b. direct self.now.heap.now self.now.this self.now.locals.now (expression_view e.now) ≡ gives (Truth b) 0) }
+        ensures { IfSome result (λ b. seen self.now (expression_view e.now) ≡ gives (Truth b) 0) }
     {
         match e {
             Expr::Binary(op, a, b) => match self.compare_leaves(*op, a, b) {
@@ -34,7 +34,7 @@ impl<'a> Scene<'a> {
     #[cycle(truth)]
     #[inline(never)]
     fn other_truth_of(&self, e: &Expr) -> Option<bool>
-        ensures { IfSome result (λ b. direct self.now.heap.now self.now.this self.now.locals.now (expression_view e.now) ≡ gives (Truth b) 0) }
+        ensures { IfSome result (λ b. seen self.now (expression_view e.now) ≡ gives (Truth b) 0) }
     {
         match e {
             Expr::Unary(op, a) => match op {
@@ -65,7 +65,7 @@ impl<'a> Scene<'a> {
     /// Whether a comparison of two leaves holds.
     #[inline(always)]
     fn compare_leaves(&self, op: BinaryOp, a: &Expr, b: &Expr) -> Option<bool>
-        ensures { IfSome result (λ t. direct self.now.heap.now self.now.this self.now.locals.now (binary op (expression_view a.now) (expression_view b.now)) ≡ gives (Truth t) 0) }
+        ensures { IfSome result (λ t. seen self.now (binary op (expression_view a.now) (expression_view b.now)) ≡ gives (Truth t) 0) }
     {
         match self.leaf(a) {
             Some(left) => match self.leaf(b) {
@@ -79,7 +79,7 @@ impl<'a> Scene<'a> {
     /// What a comparison of two numbers, or of two values without operators, gives.
     #[inline]
     fn compare(&self, op: BinaryOp, a: &Expr, b: &Expr) -> Option<bool>
-        ensures { IfSome result (λ t. direct self.now.heap.now self.now.this self.now.locals.now (binary op (expression_view a.now) (expression_view b.now)) ≡ gives (Truth t) 0) }
+        ensures { IfSome result (λ t. seen self.now (binary op (expression_view a.now) (expression_view b.now)) ≡ gives (Truth t) 0) }
     {
         match self.long_of(a) {
             Some(left) => match self.long_of(b) {
@@ -99,7 +99,7 @@ impl<'a> Scene<'a> {
     /// What a comparison of two values without operators gives.
     #[inline(never)]
     fn compare_others(&self, op: BinaryOp, a: &Expr, b: &Expr) -> Option<bool>
-        ensures { IfSome result (λ t. direct self.now.heap.now self.now.this self.now.locals.now (binary op (expression_view a.now) (expression_view b.now)) ≡ gives (Truth t) 0) }
+        ensures { IfSome result (λ t. seen self.now (binary op (expression_view a.now) (expression_view b.now)) ≡ gives (Truth t) 0) }
     {
         match self.read(a) {
             Some(left) => match self.read(b) {

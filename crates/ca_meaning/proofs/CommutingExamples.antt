@@ -68,5 +68,6 @@ set_and_set : ¬ Commutes program (n ∷ []) set set
 set_and_set commutes =
     let on : CommutesOn program heap 0 (with_n 0) set (given 1) set (given 2) =
     commutes class_a refl refl heap (((fits 0 (omega arith), tt)), tt) 0 (given 1) (given 2)
-    (refl, (fits 1 (omega arith), tt)) (refl, (fits 2 (omega arith), tt)) (with_n 0) (record { class = refl; slots = (fits 0 (omega arith), tt) }) (λ f own constant. refl) in
+    (refl, (fits 1 (omega arith), tt)) (refl, (fits 2 (omega arith), tt)) (with_n 0) (record { class = refl; slots = (fits 0 (omega arith), tt) })
+    (record { other = with_n 0; there = refl; agree = record { class = refl; constants = λ f own constant. refl } }) in
     differ ((on.same (joined (left 1) (left 2)) (joined (left 2) (left 1)) (in_order 1 2) (in_order 2 1)).object)

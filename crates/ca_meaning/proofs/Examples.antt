@@ -21,7 +21,7 @@ use Rattle.ca_meaning.specs.Serial.{done, trapped, spent, serial}
 use Rattle.ca_meaning.specs.Output.{output}
 use Rattle.ca_meaning.specs.Sections.{Sectioned, section, loop_section}
 use Rattle.ca_meaning.specs.Sections as sections
-use Rattle.ca_meaning.specs.Commuting.{SameItems}
+use Rattle.ca_meaning.specs.Multisets.{SameItems}
 
 -- ---- operators
 
@@ -361,7 +361,7 @@ listed_by_loop = refl
 
 -- listed operations are compared up to their order, and with how often each is there
 exchanged : (x y : Invocation) → SameItems (x ∷ y ∷ []) (y ∷ x ∷ [])
-exchanged x y test = omega arith
+exchanged x y = record { weighed = λ f. omega arith }
 
 once_and_twice : (x : Invocation) → ¬ SameItems (x ∷ x ∷ []) (x ∷ [])
-once_and_twice x same = let e : 2 ≡ 1 = same (λ i. true) in absurd (omega (arith, e))
+once_and_twice x same = let e : 2 ≡ 1 = same.weighed (λ i. 1) in absurd (omega (arith, e))

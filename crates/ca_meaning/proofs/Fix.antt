@@ -7,11 +7,11 @@ use Rattle.ca_program.specs.Plain.{PlainProgram, PlainMethod, Expression, Expres
 use Rattle.ca_model.specs.declared.value.Value.{Value as Datum}
 use Rattle.ca_model.specs.declared.value.Value.TheVariants.{Ref}
 use Rattle.ca_model.specs.declared.value.Object.{Object}
-use Rattle.ca_model.specs.Heaps.{starts_of}
+use Rattle.ca_model.specs.Heaps.{starts_of, is_full}
 use Rattle.ca_meaning.specs.Expressions.{Out, gives, traps, over, take_step, Place, eval, eval_all, Invocation, due}
 use Rattle.ca_meaning.specs.Flows.{Flow, goes_on, gives_back, stops, runs_out, and_on, with, choose, line_of, exec, exec_all, turn}
 use Rattle.ca_meaning.specs.Functions.{place, body_of, locals_of, value_of_body, Functions, function_parts, functions, functions_of, value_in}
-use Rattle.ca_meaning.specs.Serial.{World, Operations, came_back, is_full, unless_full, run_call, operation_act, operation_parts, operations, operations_of, serial_parts}
+use Rattle.ca_meaning.specs.Serial.{World, Operations, came_back, unless_full, run_call, operation_act, operation_parts, operations, operations_of, serial_parts}
 use Rattle.ca_meaning.specs.Sections.{Section, section_place, Again, section_act, section_parts_with, loops, loops_of, section_parts}
 use Rattle.ca_meaning.proofs.Near.{le_self, Near, both_give, both_trap, both_over, near_same, near_go, near_indexed, eval_near, all_near, due_near, NearFlow, both_go, both_return, both_stop, both_run_out, flow_same, flow_go, flow_with, flow_step, Agree, all_exec_near, loop_near}
 
@@ -79,7 +79,7 @@ room_self : (full : Bool) (line n k : ℕ) → Near k (unless_full full line n k
 room_self true line n k = both_trap
 room_self false line n k = near_go n k
 
-act_self : (p : PlainProgram) (this : Datum) (line : ℕ) (ls : List Datum) (w : World) (x : Statement) (k : ℕ) → NearFlow k (operation_act p this line ls w x k) (operation_act p this line ls w x k)
+pub act_self : (p : PlainProgram) (this : Datum) (line : ℕ) (ls : List Datum) (w : World) (x : Statement) (k : ℕ) → NearFlow k (operation_act p this line ls w x k) (operation_act p this line ls w x k)
 act_self p this line ls w (put_field l f op e) k = flow_with w _ _ (eval_self p.functions w.heap (place w.heap this line ls) e k) (λ v k1 le1. flow_go ls _ k1)
 act_self p this line ls w (put_item l f i op e) k =
     flow_with w _ _ (eval_self p.functions w.heap (place w.heap this line ls) i k) (λ v k1 le1. flow_with w _ _ (near_indexed line _ v k1) (λ item k2 le2.
@@ -98,9 +98,9 @@ act_self p this line ls w (while_loop l c b) k = flow_go ls w k
 act_self p this line ls w (for_loop l site part first c next b) k = flow_go ls w k
 act_self p this line ls w (return_value l e) k = flow_go ls w k
 
-record CloseOps (n : ℕ) (f g : Operations) : Type 0 where
-  invokes : (i : Invocation) (w : World) (k : ℕ) → k < n → NearFlow k (f.invoke i w k) (g.invoke i w k)
-  agains : (this : Datum) (line : ℕ) (ls : List Datum) (w : World) (x : Statement) (k : ℕ) → k < n → NearFlow k (f.again this line ls w x k) (g.again this line ls w x k)
+pub record CloseOps (n : ℕ) (f g : Operations) : Type 0 where
+  pub invokes : (i : Invocation) (w : World) (k : ℕ) → k < n → NearFlow k (f.invoke i w k) (g.invoke i w k)
+  pub agains : (this : Datum) (line : ℕ) (ls : List Datum) (w : World) (x : Statement) (k : ℕ) → k < n → NearFlow k (f.again this line ls w x k) (g.again this line ls w x k)
 
 came_near : {n : ℕ} (ls : List Datum) {a b : Flow World} → NearFlow n a b → NearFlow n (came_back ls a) (came_back ls b)
 came_near ls (both_go h) = both_go h
@@ -108,10 +108,10 @@ came_near ls (both_return h) = both_run_out
 came_near ls both_stop = both_stop
 came_near ls both_run_out = both_run_out
 
-run_near : (n : ℕ) (f g : Operations) → CloseOps n f g → (ls : List Datum) (i : Invocation) (w : World) (k : ℕ) → k ≤ n → NearFlow k (run_call f ls i w k) (run_call g ls i w k)
+pub run_near : (n : ℕ) (f g : Operations) → CloseOps n f g → (ls : List Datum) (i : Invocation) (w : World) (k : ℕ) → k ≤ n → NearFlow k (run_call f ls i w k) (run_call g ls i w k)
 run_near n f g c ls i w k le = flow_step w k _ _ (λ j lt. came_near ls (c.invokes i w j (omega arith)))
 
-operation_agree : (n : ℕ) (p : PlainProgram) (f g : Operations) → CloseOps n f g → (this : Datum) → Agree n (operation_parts p f this) (operation_parts p g this)
+pub operation_agree : (n : ℕ) (p : PlainProgram) (f g : Operations) → CloseOps n f g → (this : Datum) → Agree n (operation_parts p f this) (operation_parts p g this)
 operation_agree n p f g c this = record {
   values = λ line ls w e k le. eval_self p.functions w.heap (place w.heap this line ls) e k;
   acts = λ line ls w x k le. act_self p this line ls w x k;
@@ -120,7 +120,7 @@ operation_agree n p f g c this = record {
   begins = λ line ls w x k a b le near. near;
 }
 
-close_ops : (p : PlainProgram) (n a b : ℕ) → n ≤ a → n ≤ b → CloseOps n (operations a p) (operations b p)
+pub close_ops : (p : PlainProgram) (n a b : ℕ) → n ≤ a → n ≤ b → CloseOps n (operations a p) (operations b p)
 close_ops p n zero b x y = record { invokes = λ i w k lt. absurd (omega arith); agains = λ this line ls w z k lt. absurd (omega arith) }
 close_ops p n (suc a) zero x y = record { invokes = λ i w k lt. absurd (omega arith); agains = λ this line ls w z k lt. absurd (omega arith) }
 close_ops p n (suc a) (suc b) x y = record {
@@ -128,7 +128,7 @@ close_ops p n (suc a) (suc b) x y = record {
   agains = λ this line ls w z k lt. loop_near k _ _ (operation_agree k p _ _ (close_ops p k a b (omega arith) (omega arith)) this) z line ls w k (le_self k);
 }
 
-close_all_ops : (p : PlainProgram) (n : ℕ) → CloseOps n (operations n p) (operations_of p)
+pub close_all_ops : (p : PlainProgram) (n : ℕ) → CloseOps n (operations n p) (operations_of p)
 close_all_ops p n = record {
   invokes = λ i w k lt. (close_ops p (suc k) n (suc k) lt (le_self (suc k))).invokes i w k (le_self (suc k));
   agains = λ this line ls w x k lt. (close_ops p (suc k) n (suc k) lt (le_self (suc k))).agains this line ls w x k (le_self (suc k));

@@ -1,4 +1,5 @@
 pub mod Near
 pub mod Fix
+pub mod Weights
 pub mod Examples
 mod CommutingExamples

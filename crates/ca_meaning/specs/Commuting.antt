@@ -1,30 +1,17 @@
 -- When two operations commute.
-use Rattle.std.specs.Prelude.{◌≡◌, ℕ, ◌+◌, List, ◌++◌, Bool, Option, Some, None, slice_get, count_by, Contains, ◌↔◌}
+use Rattle.std.specs.Prelude.{◌≡◌, ℕ, ◌+◌, List, ◌++◌, slice_get, ◌↔◌}
 use Rattle.ca_program.specs.declared.program.ClassId.{ClassId}
 use Rattle.ca_program.specs.declared.program.FieldId.{FieldId}
 use Rattle.ca_program.specs.declared.program.OpId.{OpId}
 use Rattle.ca_program.specs.Plain.{PlainProgram}
 use Rattle.ca_model.specs.declared.value.Value.{Value as Datum}
 use Rattle.ca_model.specs.declared.value.Object.{Object}
-use Rattle.ca_model.specs.Typed.{ObjectTyped, TypedHeap}
+use Rattle.ca_model.specs.Typed.{TypedHeap}
 use Rattle.ca_meaning.specs.Expressions.{Invocation, invocation}
 use Rattle.ca_meaning.specs.Sections.{Outcome, Completes}
-use Rattle.ca_meaning.specs.WellTyped.{WellTyped, IsMethodOf}
-
--- an object of the class, with a slot of the right type for each field
-pub record IsTypedObject (p : PlainProgram) (h : List Object) (c : ClassId) (o : Object) : Type 0 where
-  pub class : o.class ≡ c
-  pub slots : ObjectTyped h (slice_get p.classes c.0) o.slots
-
--- the fields of the class that are not written hold the same in both
-abbrev pub AgreesWith : List FieldId → Object → Option Object → Type 0
-AgreesWith written o None = ⊥
-AgreesWith written o (Some q) =
-    (f : FieldId) → f.class ≡ o.class → ¬ Contains written f → slice_get o.slots f.field ≡ slice_get q.slots f.field
-
--- as multisets: whatever is counted, there are as many in both
-abbrev pub SameItems : List Invocation → List Invocation → Type 0
-SameItems xs ys = (test : Invocation → Bool) → count_by test xs ≡ count_by test ys
+use Rattle.ca_meaning.specs.Multisets.{SameItems}
+use Rattle.ca_meaning.specs.Agree.{AgreesAt}
+use Rattle.ca_meaning.specs.WellTyped.{WellTyped, IsMethodOf, IsTypedObject}
 
 -- what two sections leave, the second of which began with the first one's object
 abbrev pub joined : Outcome → Outcome → Outcome
@@ -57,5 +44,5 @@ Commutes p written a b =
     (c : ClassId) → IsMethodOf (slice_get p.ops a.0) c → IsMethodOf (slice_get p.ops b.0) c →
     (h : List Object) → TypedHeap p h →
     (r : ℕ) (xs ys : List Datum) → WellTyped p h (invocation r a xs) → WellTyped p h (invocation r b ys) →
-    (o : Object) → IsTypedObject p h c o → AgreesWith written o (slice_get h r) →
+    (o : Object) → IsTypedObject p h c o → AgreesAt written o h r →
     CommutesOn p h r o a xs b ys

@@ -6,5 +6,7 @@ pub mod Serial
 pub mod Output
 pub mod Sections
 pub mod WellTyped
+pub mod Multisets
+pub mod Agree
 pub mod Commuting
 pub mod ProgramTyped

@@ -1,41 +1,47 @@
 -- What a program means, run depth first: a call of an operation runs its body at once.
-use Rattle.std.specs.Prelude.{ℕ, zero, suc, ◌+◌, ◌-◌, Bool, true, false, List, [], ◌∷◌, ◌++◌, length, map, slice_get, slice_set, nat_lt, nat_le, ◌||◌}
+use Rattle.std.specs.Prelude.{ℕ, zero, suc, ◌+◌, ◌-◌, Bool, true, false, List, [], ◌∷◌, ◌++◌, length, map, slice_get, slice_set}
 use Rattle.ca_program.specs.declared.program.ClassId.{ClassId}
 use Rattle.ca_program.specs.declared.program.FieldId.{FieldId}
 use Rattle.ca_program.specs.declared.program.OpId.{OpId}
 use Rattle.ca_program.specs.Plain.{PlainProgram, Expression, Expressions, Statement, put_field, put_item, new_local, new_field, new_item, print_value}
 use Rattle.ca_model.specs.declared.value.Value.{Value as Datum}
 use Rattle.ca_model.specs.declared.value.Value.TheVariants.{Null, Ref}
-use Rattle.ca_model.specs.declared.value.Slot.{Slot}
 use Rattle.ca_model.specs.declared.value.Object.{Object}
 use Rattle.ca_model.specs.declared.value.Trap.{Trap}
 use Rattle.ca_model.specs.declared.value.TrapKind.TheVariants.{HeapFull}
-use Rattle.ca_model.specs.Slots.{slots_len, start_of}
-use Rattle.ca_model.specs.Heaps.{values_in, most_objects, most_values, stored, starts_of, created}
+use Rattle.ca_model.specs.Slots.{start_of}
+use Rattle.ca_model.specs.Heaps.{stored, starts_of, is_full, created}
 use Rattle.ca_meaning.specs.Operators.{assigned}
 use Rattle.ca_meaning.specs.Expressions.{Out, gives, traps, trap_at, take_step, one_in, items_in, Item, indexed, Invocation, due}
 use Rattle.ca_meaning.specs.Flows.{Flow, goes_on, gives_back, stops, runs_out, and_on, with, Parts, exec_all, turn}
 use Rattle.ca_meaning.specs.Functions.{own_of, place, body_of, locals_of, functions_of, value_in}
 
--- the heap, and the values that were printed so far
+-- A note on operations that are about to run: the heap before them, the operations, and the steps left.
+pub record Note : Type 0 where
+  pub heap : List Object
+  pub first : List Invocation
+  pub left : ℕ
+
+-- The heap, the values that were printed so far, and the notes that were taken. Nothing here takes one.
 pub record World : Type 0 where
   pub heap : List Object
   pub prints : List Datum
+  pub notes : List Note
+
+-- a world in which nothing was printed and no note was taken
+abbrev pub fresh : List Object → World
+fresh h = record { heap = h; prints = []; notes = [] }
 
 abbrev pub in_heap : World → List Object → World
-in_heap w h = record { heap = h; prints = w.prints }
+in_heap w h = record { heap = h; prints = w.prints; notes = w.notes }
 
 abbrev pub printed : World → Datum → World
-printed w v = record { heap = w.heap; prints = w.prints ++ v ∷ [] }
+printed w v = record { heap = w.heap; prints = w.prints ++ v ∷ []; notes = w.notes }
 
 -- the heap with the value put into an item of an own field of the receiver
 abbrev pub put_own : List Object → Datum → FieldId → ℕ → Datum → List Object
 put_own h (Ref n) f i v = stored h n f.field i v
 put_own h _ f i v = h
-
--- there is no room for one object more, or not for one with these slots
-abbrev pub is_full : List Object → List Slot → Bool
-is_full h new = nat_le most_objects (length h) || nat_lt most_values (values_in h + slots_len new)
 
 abbrev pub unless_full : Bool → ℕ → ℕ → ℕ → Out ℕ
 unless_full true line n k = traps (trap_at line HeapFull)
@@ -130,7 +136,7 @@ serial_ops p (i ∷ is) w k = and_on (run_call (operations_of p) [] i w k) (λ l
 
 -- `main` from the empty heap, with at most k steps
 abbrev pub main_run : PlainProgram → ℕ → Flow World
-main_run p k = exec_all (serial_parts p Null) (map start_of p.main.locals) (record { heap = []; prints = [] }) p.main.statements k
+main_run p k = exec_all (serial_parts p Null) (map start_of p.main.locals) (fresh []) p.main.statements k
 
 -- how a run ends: done, with the prints, the heap and the steps that it took; by a trap; or spent
 pub data Ended : Type 0 where

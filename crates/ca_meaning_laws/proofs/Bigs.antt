@@ -8,13 +8,13 @@ use Rattle.ca_model.specs.declared.value.Value.{Value as Datum}
 use Rattle.ca_model.specs.declared.value.Value.TheVariants.{Null, Ref}
 use Rattle.ca_model.specs.declared.value.Object.{Object}
 use Rattle.ca_model.specs.declared.value.Trap.{Trap}
-use Rattle.ca_model.specs.Heaps.{created, starts_of}
+use Rattle.ca_model.specs.Heaps.{created, starts_of, is_full}
 use Rattle.ca_model.specs.Slots.{put_slot}
 use Rattle.ca_meaning.specs.Operators.{assigned}
 use Rattle.ca_meaning.specs.Expressions.{Out, gives, take_step, one_in, Place, eval, eval_all, Invocation, due, traps}
 use Rattle.ca_meaning.specs.Flows.{Flow, goes_on, gives_back, stops, runs_out, and_on, with, exec, exec_all}
 use Rattle.ca_meaning.specs.Functions.{place, body_of, locals_of, value_of_body, Functions, function_parts, functions_of}
-use Rattle.ca_meaning.specs.Serial.{World, in_heap, printed, put_own, is_full, unless_full, own_value, Operations, came_back, run_call, operation_act, operation_parts, operations_of, serial_parts, serial_ops}
+use Rattle.ca_meaning.specs.Serial.{World, in_heap, printed, put_own, unless_full, own_value, Operations, came_back, run_call, operation_act, operation_parts, operations_of, serial_parts, serial_ops}
 use Rattle.ca_meaning.specs.Sections.{Section, with_own, with_listed, section_start, section_place, section_act, section_parts, loops_of, section_run, loop_run}
 use Rattle.ca_meaning.proofs.Fix.{call_runs, again_runs, invoke_runs, loop_runs, section_loop_runs}
 use Rattle.ca_meaning_laws.specs.Budgets.{Takes, Taken, End, on_with, back_with, flow_at, Reaches, Reached}

@@ -19,7 +19,7 @@ use Rattle.ca_meaning.specs.Flows.{Flow, goes_on, gives_back, stops, runs_out, e
 use Rattle.ca_meaning.specs.Functions.{body_of, locals_of, functions_of}
 use Rattle.ca_meaning.specs.Sections.{Section, with_own, with_listed, section_place, section_act, Again, section_parts_with, loops, loops_of, section_parts, section_start, section_value, section_item_at, sectioned, section}
 use Rattle.ca_meaning.specs.WellTyped.{ValuesTyped, CallTyped, WellTyped, AllWellTyped, IsMethodOf}
-use Rattle.ca_meaning.specs.Commuting.{IsTypedObject}
+use Rattle.ca_meaning.specs.WellTyped.{IsTypedObject}
 use Rattle.ca_meaning.specs.ProgramTyped.{Scope, IsScalar, field_info, ExpressionTyped, StatementTyped, StatementsTyped, scope_of, MethodTyped, OperationTyped, ProgramTyped}
 use Rattle.ca_meaning_laws.specs.Typed.{Yields, Extends, IsReceiver, OwnTyped, PlaceTyped, FlowTyped, goes_on_typed, runs_out_typed, SectionTyped, SectionLeaves, frozen_heap}
 use Rattle.ca_meaning_laws.proofs.Values.{assigned_typed, frame_typed, own_scalar, own_array, indexed_typed, own_put, FieldHas, scalar_has, array_has}
@@ -77,10 +77,10 @@ module _ (p : PlainProgram) (typed : ProgramTyped p) (h : List Object) (heap : T
   section_act_typed g line ls x (for_loop l site part first c next b) k good ext vs t = goes_on_typed ls x k good ext vs
   section_act_typed g line ls x (return_value l e) k good ext vs t = goes_on_typed ls x k good ext vs
 
-  abbrev AgainTyped : Again → Type 0
+  abbrev pub AgainTyped : Again → Type 0
   AgainTyped a = (g : List Object) (line : ℕ) (ls : List Datum) (x : Section) (y : Statement) (k : ℕ) → SectionTyped p h s x → Extends g h → ValuesTyped h ls s.locals → StatementTyped p s y → FlowTyped (frozen_heap h) (SectionTyped p h s) s g (a line ls x y k)
 
-  section_parts_typed : (a : Again) → AgainTyped a → PartsTyped (frozen_heap h) (SectionTyped p h s) p s (section_parts_with p h r a)
+  pub section_parts_typed : (a : Again) → AgainTyped a → PartsTyped (frozen_heap h) (SectionTyped p h s) p s (section_parts_with p h r a)
   section_parts_typed a all = record {
     values = λ line ls x e ty k good v t. section_value_typed x line ls e ty k good v t;
     acts = λ g line ls x y k good ext v t. section_act_typed g line ls x y k good ext v t;
@@ -92,7 +92,7 @@ module _ (p : PlainProgram) (typed : ProgramTyped p) (h : List Object) (heap : T
     begins = λ g line ls x y k b good ext v t flow. flow;
   }
 
-  loops_typed : (n : ℕ) → AgainTyped (loops n p h r)
+  pub loops_typed : (n : ℕ) → AgainTyped (loops n p h r)
   loops_typed zero = λ g line ls x y k good ext v t. runs_out_typed x good ext
   loops_typed (suc n) = λ g line ls x y k good ext v t. turn_typed (frozen_heap h) (SectionTyped p h s) p s (section_parts_with p h r (loops n p h r)) (section_parts_typed (loops n p h r) (loops_typed n)) g y t line ls x k good ext v
 

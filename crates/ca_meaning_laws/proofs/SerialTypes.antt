@@ -9,12 +9,12 @@ use Rattle.ca_program.specs.Plain.{PlainProgram, PlainMethod, Expression, Statem
 use Rattle.ca_model.specs.declared.value.Value.{Value as Datum}
 use Rattle.ca_model.specs.declared.value.Value.TheVariants.{Null, Ref}
 use Rattle.ca_model.specs.declared.value.Object.{Object}
-use Rattle.ca_model.specs.Heaps.{created, starts_of}
+use Rattle.ca_model.specs.Heaps.{created, starts_of, is_full}
 use Rattle.ca_model.specs.Typed.{IsOfClass, HasType, TypedHeap}
 use Rattle.ca_meaning.specs.Expressions.{eval, Invocation}
 use Rattle.ca_meaning.specs.Flows.{Flow, goes_on, gives_back, stops, runs_out, and_on, with, exec, exec_all}
 use Rattle.ca_meaning.specs.Functions.{own_of, place, body_of, locals_of, functions_of}
-use Rattle.ca_meaning.specs.Serial.{World, in_heap, printed, put_own, is_full, unless_full, room_for, own_value, own_item_at, Operations, came_back, run_call, operation_act, operation_parts, operations, operations_of, serial_parts, serial_ops, main_run}
+use Rattle.ca_meaning.specs.Serial.{World, in_heap, printed, put_own, unless_full, room_for, own_value, own_item_at, Operations, came_back, run_call, operation_act, operation_parts, operations, operations_of, serial_parts, serial_ops, main_run}
 use Rattle.ca_meaning.specs.WellTyped.{ValuesTyped, parameters_of, CallTyped, WellTyped, AllWellTyped}
 use Rattle.ca_meaning.specs.ProgramTyped.{Scope, IsScalar, IsArray, field_info, IsClass, ExpressionTyped, StatementTyped, scope_of, MethodTyped, OperationTyped, main_scope, ProgramTyped}
 use Rattle.ca_meaning_laws.specs.Typed.{Yields, yields, yields_trap, Extends, IsReceiver, FlowTyped, goes_on_typed, gives_back_typed, stops_typed, runs_out_typed, KeepsHeap, goes_on_kept, gives_back_kept, stops_kept, runs_out_kept, WorldTyped, heap_of}
@@ -215,5 +215,5 @@ module _ (p : PlainProgram) (typed : ProgramTyped p) where
   -- the whole run of `main`
   pub main_typed : (k : ℕ) → WorldFlow p (main_scope p) Null [] (main_run p k)
   main_typed k =
-      all_exec_typed heap_of (WorldTyped p (main_scope p) Null) p (main_scope p) (serial_parts p Null) (serial_parts_typed (main_scope p) Null) [] p.main.statements typed.main _ (record { heap = []; prints = [] }) k
+      all_exec_typed heap_of (WorldTyped p (main_scope p) Null) p (main_scope p) (serial_parts p Null) (serial_parts_typed (main_scope p) Null) [] p.main.statements typed.main _ (record { heap = []; prints = []; notes = [] }) k
       (record { heap = tt; receiver = tt }) (extends_self []) (starts_typed [] p.main.locals)

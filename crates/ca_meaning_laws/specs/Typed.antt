@@ -14,7 +14,7 @@ use Rattle.ca_meaning.specs.Flows.{Flow, goes_on, gives_back, stops, runs_out}
 use Rattle.ca_meaning.specs.Serial.{World}
 use Rattle.ca_meaning.specs.Sections.{Section, Sectioned, done, stopped}
 use Rattle.ca_meaning.specs.Sections as sections
-use Rattle.ca_meaning.specs.Commuting.{IsTypedObject}
+use Rattle.ca_meaning.specs.WellTyped.{IsTypedObject}
 use Rattle.ca_meaning.specs.ProgramTyped.{Scope}
 use Rattle.ca_meaning.specs.WellTyped.{ValuesTyped, AllWellTyped}
 

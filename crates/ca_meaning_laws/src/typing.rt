@@ -15,7 +15,7 @@ ghost use Rattle.ca_meaning.specs.Flows.{exec};
 ghost use Rattle.ca_meaning.specs.Functions.{functions_of};
 ghost use Rattle.ca_meaning.specs.Serial.{World, serial_parts, serial_ops, main_run};
 ghost use Rattle.ca_meaning.specs.Sections.{Section, section, section_parts};
-ghost use Rattle.ca_meaning.specs.Commuting.{IsTypedObject};
+ghost use Rattle.ca_meaning.specs.WellTyped.{IsTypedObject};
 ghost use Rattle.ca_meaning.specs.WellTyped.{ValuesTyped, WellTyped, AllWellTyped, IsMethodOf};
 ghost use Rattle.ca_meaning.specs.ProgramTyped.{Scope, IsOperation, ExpressionTyped, ExpressionsTyped, StatementTyped, main_scope, ProgramTyped};
 ghost use Rattle.ca_meaning_laws.specs.Typed.{Yields, IsReceiver, PlaceTyped, FlowTyped, KeepsHeap, WorldTyped, SectionTyped, SectionLeaves, heap_of, frozen_heap};

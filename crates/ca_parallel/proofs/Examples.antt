@@ -148,6 +148,10 @@ condition_with_call p s = s.0.1 (there sum_field)
 first_part_with_call : (p : PlainProgram) → ¬ IsSeparated p written false (for_loop 2 (record { 0 = 0 }) Declares (put_local 2 counter Put (own sum_field)) (binary Less (local counter) (number (pos 3))) (put_local 2 counter Add (number (pos 1))) (call_next parameter))
 first_part_with_call p s = s.0 (there sum_field)
 
+-- for (long i = 0; sum < 3; next->m(p)) {}: so is a call in the next part
+next_part_with_call : (p : PlainProgram) → ¬ IsSeparated p written false (for_loop 2 (record { 0 = 0 }) Declares (put_local 2 counter Put (number (pos 0))) (binary Less (own sum_field) (number (pos 3))) (call_next parameter) (block 2 no_statements))
+next_part_with_call p s = s.1.1 (there sum_field)
+
 -- ---- reads of other objects
 
 -- o->base is a constant

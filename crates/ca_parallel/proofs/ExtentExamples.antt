@@ -1,6 +1,6 @@
 -- Worked examples of extents and of marks, over whole programs.
 use Rattle.std.proofs.Common.{◌≡◌, ◌⊎◌, inl, inr, ℕ, zero, suc, ◌-◌, true, false, List, [], ◌∷◌, None, Some, refl, ap, ap₂, sym, subst, ◌∙◌, arith, codes}
-use Rattle.std.specs.Prelude.{pos, Contains, slice_get, count_by}
+use Rattle.std.specs.Prelude.{pos, Contains, slice_get}
 use Rattle.ca_tree.specs.declared.tree.AssignOp.TheVariants.{Put, Add}
 use Rattle.ca_tree.specs.declared.tree.BinaryOp.TheVariants.{Less, Plus}
 use Rattle.ca_program.specs.declared.program.ValueType.TheVariants.{Long}
@@ -15,9 +15,11 @@ use Rattle.ca_model.specs.declared.value.Object.{Object}
 use Rattle.ca_model.specs.Slots.{one_in, put_slot}
 use Rattle.ca_meaning.specs.Operators.{assigned}
 use Rattle.ca_meaning.specs.Sections.{Outcome, done, section}
+use Rattle.ca_meaning.specs.Multisets.{weight}
 use Rattle.ca_meaning.specs.Commuting.{joined, OrderCompletes, IsComplete, Commutes}
 use Rattle.ca_parallel.specs.Bodies.{calls_of_all, functions_of_body, targets_of_all}
 use Rattle.ca_parallel.specs.Extents.{operation_body, function_body, Invokes, root, called, Evaluates, by_operation, by_function, Writes, IsExtentOf, Extent}
+use Rattle.ca_parallel.specs.ExtentsOf.{Rises, FieldBefore, ExtentOf}
 use Rattle.ca_parallel.specs.Separable.{ReadsWritten, itself, through, IsClean, Separable}
 use Rattle.ca_parallel.specs.Parallel.{ParallelFrom}
 use Rattle.ca_parallel.specs.Marks.{SoundLoop, SoundMarks}
@@ -169,6 +171,40 @@ not_reset (inr e) = absurd (omega (arith, number_of mark reset e))
 greater : ¬ IsExtentOf cells from_visit (record { ops = visit ∷ mark ∷ reset ∷ []; functions = start ∷ []; written = sum_field ∷ last_field ∷ base_field ∷ [] })
 greater x = not_reset (invoked_from_visit ((x.ops reset).0 (suc (suc zero), omega arith, refl)))
 
+-- ---- the extent as one value: lists that rise
+
+rise_1 : {A : Type 0} (Before : A → A → Type 0) (a : A) → Rises Before (a ∷ [])
+rise_1 {A} Before a = record { rises = from }
+  where
+    from : (n : ℕ) (x y : A) → slice_get (a ∷ []) n ≡ Some x → slice_get (a ∷ []) (suc n) ≡ Some y → Before x y
+    from n x y at next = absurd cc
+
+rise_2 : {A : Type 0} (Before : A → A → Type 0) (a b : A) → Before a b → Rises Before (a ∷ b ∷ [])
+rise_2 {A} Before a b less = record { rises = from }
+  where
+    from : (n : ℕ) (x y : A) → slice_get (a ∷ b ∷ []) n ≡ Some x → slice_get (a ∷ b ∷ []) (suc n) ≡ Some y → Before x y
+    from zero x y at next = let e : a ≡ x = cc in let f : b ≡ y = cc in subst (λ z. Before z y) e (subst (λ z. Before a z) f less)
+    from (suc n) x y at next = absurd cc
+
+visited_once : ExtentOf cells from_visit visited
+visited_once = record {
+  holds = visited_is;
+  ops = rise_2 _ visit mark (omega arith);
+  functions = rise_1 _ start;
+  written = rise_2 _ sum_field last_field (inr (refl, omega arith));
+}
+
+-- the same extent, with an operation twice, or with its fields the other way round
+repeated : (functions : List FunctionId) (fields : List FieldId) → ¬ ExtentOf cells from_visit (record { ops = visit ∷ mark ∷ mark ∷ []; functions = functions; written = fields })
+repeated functions fields x = omega (arith, x.ops.rises 1 mark mark refl refl)
+
+falls : ¬ FieldBefore last_field sum_field
+falls (inl less) = omega (arith, less)
+falls (inr (same, less)) = omega (arith, less)
+
+exchanged : (ops : List OpId) (functions : List FunctionId) → ¬ ExtentOf cells from_visit (record { ops = ops; functions = functions; written = last_field ∷ sum_field ∷ [] })
+exchanged ops functions x = falls (x.written.rises 0 last_field sum_field refl refl)
+
 -- ---- a sound mark: the extent of `mark` is `mark`, which commutes with itself
 
 abbrev pub from_mark : List OpId
@@ -209,49 +245,17 @@ marks_commute fs c in_a in_b h th r xs ys tx ty o to agrees = record {
       let i : m ≡ n = both_leave h r o xs ys m w ∙ sym (both_leave h r o ys xs n u) in
       record {
         object = ap (λ (z : Outcome). z.object) i;
-        listed = λ test. ap (λ (z : Outcome). count_by test z.listed) i;
+        listed = record { weighed = λ f. ap (λ (z : Outcome). weight f z.listed) i };
         steps = ap (λ (z : Outcome). z.steps) i;
       };
 }
 
-pub mark_is_parallel : ParallelFrom cells from_mark
-mark_is_parallel x is = record {
-  separable = λ op c. subst (λ z. Separable cells x.written z) (invoked_from_mark ((is.ops op).0 c)) ((tt, tt), tt);
-  commute = λ a b in_a in_b.
-      subst (λ z. Commutes cells x.written z b) (invoked_from_mark ((is.ops a).0 in_a))
-      (subst (λ z. Commutes cells x.written mark z) (invoked_from_mark ((is.ops b).0 in_b)) (marks_commute x.written));
-}
-
-marked : SoundMarks cells from_mark []
-marked = record {
-  operations = λ op c. subst (λ z. ParallelFrom cells (z ∷ [])) (only mark op c) mark_is_parallel;
-  sites = λ id c. absurd (none id c);
-}
-
--- ---- loops that call `mark`
-
-abbrev mark_loop : Expression → Statement
-mark_loop bound = for_loop 9 (record { 0 = 0 }) Declares (put_local 9 counter Put (number (pos 0))) (binary Less (local counter) bound) (put_local 9 counter Add (number (pos 1))) (invoke 9 this mark (expression_and (local counter) no_expressions))
-
-base_is_not_written : (x : Extent) → IsExtentOf cells from_mark x → ¬ Contains x.written base_field
-base_is_not_written x is c =
-    let w : Writes cells from_mark base_field = (is.written base_field).0 c in
-    other_fields 2 1 (omega arith) (subst (λ o. Contains (targets_of_all (operation_body cells o)) base_field) (sym (invoked_from_mark w.invoked)) w.target)
-
--- for (long i = 0; i < base; i += 1) mark(i);
-bounded_by_constant : SoundLoop cells (mark_loop (own base_field))
-bounded_by_constant = record {
-  form = record { counter = counter; begins = refl; compares = refl; counts = (refl, refl); calls = tt };
-  parallel = mark_is_parallel;
-  constant = λ x is. (tt, (tt, tt, base_is_not_written x is), tt, (tt, (tt, tt)));
-}
+abbrev mark_alone : Extent
+mark_alone = record { ops = mark ∷ []; functions = []; written = last_field ∷ [] }
 
 nothing_from_mark : {m : FunctionId} → ¬ Evaluates cells from_mark m
 nothing_from_mark (by_operation {op} {m} i c) = none m (subst (λ o. Contains (functions_of_body (operation_body cells o)) m) (sym (invoked_from_mark i)) c)
 nothing_from_mark (by_function e c) = nothing_from_mark e
-
-abbrev mark_alone : Extent
-mark_alone = record { ops = mark ∷ []; functions = []; written = last_field ∷ [] }
 
 mark_alone_is : IsExtentOf cells from_mark mark_alone
 mark_alone_is = record {
@@ -263,12 +267,65 @@ mark_alone_is = record {
   );
 }
 
+pub mark_is_parallel : ParallelFrom cells from_mark
+mark_is_parallel = record {
+  roots = from_mark;
+  extent = mark_alone;
+  is = mark_alone_is;
+  holds = λ op c. c;
+  parallel = record {
+    separable = λ op c. subst (λ z. Separable cells mark_alone.written z) (only mark op c) ((tt, tt), tt);
+    commute = λ a b in_a in_b.
+        subst (λ z. Commutes cells mark_alone.written z b) (only mark a in_a)
+        (subst (λ z. Commutes cells mark_alone.written mark z) (only mark b in_b) (marks_commute mark_alone.written));
+  };
+}
+
+-- the extent of `mark` holds it however often it is asked for
+marks_are_parallel : ParallelFrom cells (mark ∷ mark ∷ [])
+unfolding mark_is_parallel
+marks_are_parallel = record {
+  roots = from_mark;
+  extent = mark_alone;
+  is = mark_alone_is;
+  holds = λ op c. either_mark op (pair mark mark op c);
+  parallel = mark_is_parallel.parallel;
+}
+  where
+    either_mark : (op : OpId) → (mark ≡ op) ⊎ (mark ≡ op) → Contains from_mark op
+    either_mark op (inl e) = subst (λ z. Contains from_mark z) e (there mark)
+    either_mark op (inr e) = subst (λ z. Contains from_mark z) e (there mark)
+
+marked : SoundMarks cells (record { ops = from_mark; loops = [] })
+marked = record {
+  operations = λ op c. subst (λ z. ParallelFrom cells (z ∷ [])) (only mark op c) mark_is_parallel;
+  sites = λ id c. absurd (none id c);
+}
+
+-- ---- loops that call `mark`
+
+abbrev mark_loop : Expression → Statement
+mark_loop bound = for_loop 9 (record { 0 = 0 }) Declares (put_local 9 counter Put (number (pos 0))) (binary Less (local counter) bound) (put_local 9 counter Add (number (pos 1))) (invoke 9 this mark (expression_and (local counter) no_expressions))
+
+-- for (long i = 0; i < base; i += 1) mark(i);
+bounded_by_constant : SoundLoop cells (mark_loop (own base_field))
+unfolding mark_is_parallel
+bounded_by_constant = record {
+  form = record { counter = counter; begins = refl; compares = refl; counts = (refl, refl); calls = tt };
+  calls = mark_is_parallel;
+  constant = (tt, (tt, tt, other_fields 2 1 (omega arith)), tt, (tt, (tt, tt)));
+}
+
+-- an extent that holds `mark` writes `last`
+last_is_written : (s : ParallelFrom cells from_mark) → Contains s.extent.written last_field
+last_is_written s = (s.is.written last_field).1 (record { op = mark; invoked = (s.is.ops mark).0 (s.holds mark (there mark)); target = there last_field })
+
 -- i < last, and i < o->last, read what `mark` writes
 bounded_by_written : ¬ SoundLoop cells (mark_loop (own last_field))
-bounded_by_written s = (s.constant mark_alone mark_alone_is).1.2 (there last_field)
+bounded_by_written s = s.constant.1.2 (last_is_written s.calls)
 
 bounded_by_foreign : ¬ SoundLoop cells (mark_loop (read parameter last_field))
-bounded_by_foreign s = (s.constant mark_alone mark_alone_is).1.2.0 (there last_field)
+bounded_by_foreign s = s.constant.1.2.0 (last_is_written s.calls)
 
 -- ---- an unsound mark: `tell` is separable itself, and calls `say`, which prints
 
@@ -307,32 +364,8 @@ invoked_from_tell (called {op} {callee} i c) = inr (tell_calls op callee (invoke
 say_is_invoked : Invokes speakers from_tell say
 say_is_invoked = called (root (there tell)) (there say)
 
-tells : (op : OpId) → (tell ≡ op) ⊎ (say ≡ op) → Invokes speakers from_tell op
-tells op (inl e) = subst (λ z. Invokes speakers from_tell z) e (root (there tell))
-tells op (inr e) = subst (λ z. Invokes speakers from_tell z) e say_is_invoked
+say_is_called : (s : ParallelFrom speakers from_tell) → Contains s.extent.ops say
+say_is_called s = (s.is.ops say).1 (called ((s.is.ops tell).0 (s.holds tell (there tell))) (there say))
 
--- neither calls a value method or writes a field
-no_functions : (op : OpId) (m : FunctionId) → (tell ≡ op) ⊎ (say ≡ op) → ¬ Contains (functions_of_body (operation_body speakers op)) m
-no_functions op m (inl e) c = none m (subst (λ o. Contains (functions_of_body (operation_body speakers o)) m) (sym e) c)
-no_functions op m (inr e) c = none m (subst (λ o. Contains (functions_of_body (operation_body speakers o)) m) (sym e) c)
-
-no_targets : (op : OpId) (f : FieldId) → (tell ≡ op) ⊎ (say ≡ op) → ¬ Contains (targets_of_all (operation_body speakers op)) f
-no_targets op f (inl e) c = none f (subst (λ o. Contains (targets_of_all (operation_body speakers o)) f) (sym e) c)
-no_targets op f (inr e) c = none f (subst (λ o. Contains (targets_of_all (operation_body speakers o)) f) (sym e) c)
-
-nothing_evaluated : {m : FunctionId} → ¬ Evaluates speakers from_tell m
-nothing_evaluated (by_operation {op} {m} i c) = no_functions op m (invoked_from_tell i) c
-nothing_evaluated (by_function e c) = nothing_evaluated e
-
-abbrev told : Extent
-told = record { ops = tell ∷ say ∷ []; functions = []; written = [] }
-
-told_is : IsExtentOf speakers from_tell told
-told_is = record {
-  ops = λ op. (λ c. tells op (pair tell say op c), λ i. listed tell say op (invoked_from_tell i));
-  functions = λ m. (λ c. absurd (none m c), λ e. absurd (nothing_evaluated e));
-  written = λ f. (λ c. absurd (none f c), λ w. absurd (no_targets w.op f (invoked_from_tell w.invoked) w.target));
-}
-
-unmarked : ¬ SoundMarks speakers from_tell []
-unmarked s = ((s.operations tell (there tell) told told_is).separable say (second tell say)).0
+unmarked : ¬ SoundMarks speakers (record { ops = from_tell; loops = [] })
+unmarked s = let from : ParallelFrom speakers from_tell = s.operations tell (there tell) in (from.parallel.separable say (say_is_called from)).0

@@ -7,7 +7,7 @@ use Rattle.ca_program.specs.declared.program.LocalId.{LocalId}
 use Rattle.ca_program.specs.declared.program.FirstPart.{FirstPart}
 use Rattle.ca_program.specs.declared.program.FirstPart.TheVariants.{Declares, Assigns}
 use Rattle.ca_program.specs.Plain.{PlainProgram, Expression, number, local, own, read, binary, Statement, block, put_local, while_loop, for_loop, no_statements}
-use Rattle.ca_parallel.specs.Bodies.{calls_of, loops_of}
+use Rattle.ca_parallel.specs.Bodies.{calls_of, fors_in}
 use Rattle.ca_parallel.specs.Separable.{IsSeparated}
 use Rattle.ca_parallel.specs.Loops.{IsCallLoop}
 use Rattle.ca_parallel.proofs.Examples.{sum_field, base_field, next_field, parameter, counter, first_op, written, there, base_is_constant, next_is_constant, call_next, statements_2, add_to_sum}
@@ -38,7 +38,7 @@ adds_one = record { counter = counter; begins = refl; compares = refl; counts = 
 calls : calls_of three_calls ≡ first_op ∷ []
 calls = refl
 
-loops : loops_of (block 3 (statements_2 add_to_sum (while_loop 3 (below (number (pos 3))) three_calls))) ≡ three_calls ∷ []
+loops : fors_in (block 3 (statements_2 add_to_sum (while_loop 3 (below (number (pos 3))) three_calls))) ≡ three_calls ∷ []
 loops = refl
 
 -- i = i + 1, and a block of two calls

@@ -118,24 +118,24 @@ abbrev mutual
 
 -- the `for` statements
 abbrev mutual
-  pub loops_of : Statement → List Statement
-  loops_of (block line ss) = loops_of_all ss
-  loops_of (if_else line c a b) = loops_of a ++ loops_of b
-  loops_of (while_loop line c b) = loops_of b
-  loops_of (for_loop line site part first c next b) = for_loop line site part first c next b ∷ (loops_of first ++ (loops_of next ++ loops_of b))
-  loops_of (put_local line l op e) = []
-  loops_of (put_field line f op e) = []
-  loops_of (put_item line f i op e) = []
-  loops_of (new_local line l c) = []
-  loops_of (new_field line f c) = []
-  loops_of (new_item line f i c) = []
-  loops_of (invoke line e op arguments) = []
-  loops_of (return_value line e) = []
-  loops_of (print_value line e) = []
+  pub fors_in : Statement → List Statement
+  fors_in (block line ss) = fors_in_all ss
+  fors_in (if_else line c a b) = fors_in a ++ fors_in b
+  fors_in (while_loop line c b) = fors_in b
+  fors_in (for_loop line site part first c next b) = for_loop line site part first c next b ∷ (fors_in first ++ (fors_in next ++ fors_in b))
+  fors_in (put_local line l op e) = []
+  fors_in (put_field line f op e) = []
+  fors_in (put_item line f i op e) = []
+  fors_in (new_local line l c) = []
+  fors_in (new_field line f c) = []
+  fors_in (new_item line f i c) = []
+  fors_in (invoke line e op arguments) = []
+  fors_in (return_value line e) = []
+  fors_in (print_value line e) = []
 
-  pub loops_of_all : Statements → List Statement
-  loops_of_all no_statements = []
-  loops_of_all (statement_and s ss) = loops_of s ++ loops_of_all ss
+  pub fors_in_all : Statements → List Statement
+  fors_in_all no_statements = []
+  fors_in_all (statement_and s ss) = fors_in s ++ fors_in_all ss
 
 -- the value methods that the expressions of a body call, and the fields that they read
 abbrev pub functions_of_body : Statements → List FunctionId

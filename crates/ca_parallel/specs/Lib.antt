@@ -1,7 +1,9 @@
 pub mod Bodies
 pub mod Extents
+pub mod ExtentsOf
 pub mod Separable
 pub mod Loops
 pub mod Parallel
 pub mod Marks
 pub mod Calls
+pub mod Lists

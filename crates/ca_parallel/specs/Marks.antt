@@ -3,18 +3,18 @@ use Rattle.std.specs.Prelude.{◌≡◌, true, List, [], ◌∷◌, ◌++◌, fl
 use Rattle.ca_program.specs.declared.program.LoopId.{LoopId}
 use Rattle.ca_program.specs.declared.program.OpId.{OpId}
 use Rattle.ca_program.specs.Plain.{PlainProgram, PlainMethod, Statement, for_loop}
-use Rattle.ca_parallel.specs.Bodies.{calls_of, loops_of_all}
-use Rattle.ca_parallel.specs.Extents.{Extent, IsExtentOf}
+use Rattle.ca_parallel.specs.Bodies.{calls_of, fors_in_all}
 use Rattle.ca_parallel.specs.Separable.{IsSeparated}
 use Rattle.ca_parallel.specs.Loops.{IsCallLoop}
 use Rattle.ca_parallel.specs.Parallel.{ParallelFrom}
+use Rattle.ca_parallel.specs.Lists.{PlainMarks}
 
 -- the `for` statements of operations and of `main`
 abbrev pub loops_of_method : PlainMethod → List Statement
-loops_of_method m = loops_of_all m.body.statements
+loops_of_method m = fors_in_all m.body.statements
 
 abbrev pub loops_of_program : PlainProgram → List Statement
-loops_of_program p = flat_map loops_of_method p.ops ++ loops_of_all p.main.statements
+loops_of_program p = flat_map loops_of_method p.ops ++ fors_in_all p.main.statements
 
 -- the `for` statement has this number
 abbrev pub HasSite : Statement → LoopId → Type 0
@@ -25,9 +25,9 @@ HasSite _ id = ⊥
 -- methods, only locals and constants of that extent, and divide by literals other than 0 alone.
 pub record SoundLoop (p : PlainProgram) (loop : Statement) : Type 0 where
   pub form : IsCallLoop loop
-  pub parallel : ParallelFrom p (calls_of loop)
-  pub constant : (x : Extent) → IsExtentOf p (calls_of loop) x → IsSeparated p x.written true loop
+  pub calls : ParallelFrom p (calls_of loop)
+  pub constant : IsSeparated p calls.extent.written true loop
 
-pub record SoundMarks (p : PlainProgram) (ops : List OpId) (loops : List LoopId) : Type 0 where
-  pub operations : (op : OpId) → Contains ops op → ParallelFrom p (op ∷ [])
-  pub sites : (id : LoopId) → Contains loops id → (loop : Statement) → Contains (loops_of_program p) loop → HasSite loop id → SoundLoop p loop
+pub record SoundMarks (p : PlainProgram) (marks : PlainMarks) : Type 0 where
+  pub operations : (op : OpId) → Contains marks.ops op → ParallelFrom p (op ∷ [])
+  pub sites : (id : LoopId) → Contains marks.loops id → (loop : Statement) → Contains (loops_of_program p) loop → HasSite loop id → SoundLoop p loop

@@ -1,9 +1,11 @@
 //! Marks on calls and loops.
 
-ghost use Rattle.std.specs.Prelude.{◌≡◌, []};
+ghost use Rattle.std.specs.Prelude.{◌≡◌};
+ghost use Rattle.ca_parallel.specs.Lists.{no_marks};
 
 use ca_program::{LoopId, OpId};
 use std::alloc::Global;
+use std::marker::Model;
 
 /// The operations whose calls may be handed to an engine, and the loops that may.
 #[derive(Drop, Debug)]
@@ -12,11 +14,18 @@ pub struct Marks {
     pub loops: Vec<LoopId>,
 }
 
+impl Model for Marks {
+    ghost use Rattle.ca_parallel.specs.Lists.{PlainMarks};
+
+    ghost Value = { PlainMarks };
+
+    ghost view = { λ m. record { ops = m.ops.items; loops = m.loops.items } };
+}
+
 impl Marks {
     /// No marks. It takes no memory.
     pub fn none(alloc: Global) -> Marks
-        ensures ops { result.ops.items ≡ [] }
-        ensures loops { result.loops.items ≡ [] }
+        ensures { result ≡ no_marks }
     {
         Marks {
             ops: Vec::new(alloc),

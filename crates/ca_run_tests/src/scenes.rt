@@ -1,18 +1,20 @@
 //! Values that are found without a call.
 
 use ca_direct::Scene;
-use ca_model::{Heap, Value};
-use ca_program::{BinaryOp, Expr, LocalId};
+use ca_model::{Heap, Slot, Value};
+use ca_program::{BinaryOp, ClassId, Expr, FieldId, LocalId};
 use std::test::Fail;
 
 #[test]
 fn finds_values(rt: HostRuntime) -> Result<(), Fail> {
     let alloc = rt.alloc();
     let heap = Heap::new(alloc);
+    let own = [Slot::One(Value::Long(5))];
     let locals = [Value::Long(7)];
     let scene = Scene {
         heap: &heap,
         this: Value::Null,
+        own: own.as_slice(),
         locals: locals.as_slice(),
     };
     let left = Box::new(alloc, Expr::Local(LocalId(0)))?;
@@ -21,5 +23,10 @@ fn finds_values(rt: HostRuntime) -> Result<(), Fail> {
     let ten = Box::new(alloc, Expr::Number(10))?;
     let less = Expr::Binary(BinaryOp::Less, Box::new(alloc, sum)?, ten);
     assert!(rt; scene.truth_of(&less) == Some(false));
+    let field = FieldId {
+        class: ClassId(0),
+        field: 0,
+    };
+    assert!(rt; scene.long_of(&Expr::Own(field)) == Some(5));
     Ok(())
 }

@@ -78,14 +78,14 @@ room_gives p line h c k room = at (is_full h (starts_of p c)) room
 
 -- Values that are found without a call
 
-pub truth_found : (ms : List PlainMethod) (h : List Object) (r : Datum) (line : ℕ) (ls : List Datum) (e : Expression) (k : ℕ) (o : Option Bool) → IfSome o (λ b. direct h r ls e ≡ gives (Truth b) 0) → IfSome o (λ b. value_in ms h r line ls e k ≡ gives (Truth b) k)
+pub truth_found : (ms : List PlainMethod) (h : List Object) (r : Datum) (line : ℕ) (ls : List Datum) (e : Expression) (k : ℕ) (o : Option Bool) → IfSome o (λ b. direct h r (own_of h r) ls e ≡ gives (Truth b) 0) → IfSome o (λ b. value_in ms h r line ls e k ≡ gives (Truth b) k)
 truth_found ms h r line ls e k None is = tt
-truth_found ms h r line ls e k (Some b) is = direct_is (functions_of ms h).call h r line ls e k (Truth b) is
+truth_found ms h r line ls e k (Some b) is = direct_is (functions_of ms h).call h r (own_of h r) line ls e k (Truth b) is
 
-pub long_found : (ms : List PlainMethod) (h : List Object) (r : Datum) (line : ℕ) (ls : List Datum) (e : Expression) (k : ℕ) (o : Option ℤ) → IfSome o (λ n. direct h r ls e ≡ gives (Long n) 0) → IfSome o (λ n. value_in ms h r line ls e k ≡ gives (Long n) k)
+pub long_found : (ms : List PlainMethod) (h : List Object) (r : Datum) (line : ℕ) (ls : List Datum) (e : Expression) (k : ℕ) (o : Option ℤ) → IfSome o (λ n. direct h r (own_of h r) ls e ≡ gives (Long n) 0) → IfSome o (λ n. value_in ms h r line ls e k ≡ gives (Long n) k)
 long_found ms h r line ls e k None is = tt
-long_found ms h r line ls e k (Some n) is = direct_is (functions_of ms h).call h r line ls e k (Long n) is
+long_found ms h r line ls e k (Some n) is = direct_is (functions_of ms h).call h r (own_of h r) line ls e k (Long n) is
 
-pub value_found : (ms : List PlainMethod) (h : List Object) (r : Datum) (line : ℕ) (ls : List Datum) (e : Expression) (k : ℕ) (o : Option Datum) → IfSome o (λ v. direct h r ls e ≡ gives v 0) → IfSome o (λ v. value_in ms h r line ls e k ≡ gives v k)
+pub value_found : (ms : List PlainMethod) (h : List Object) (r : Datum) (line : ℕ) (ls : List Datum) (e : Expression) (k : ℕ) (o : Option Datum) → IfSome o (λ v. direct h r (own_of h r) ls e ≡ gives v 0) → IfSome o (λ v. value_in ms h r line ls e k ≡ gives v k)
 value_found ms h r line ls e k None is = tt
-value_found ms h r line ls e k (Some v) is = direct_is (functions_of ms h).call h r line ls e k v is
+value_found ms h r line ls e k (Some v) is = direct_is (functions_of ms h).call h r (own_of h r) line ls e k v is

@@ -1,11 +1,11 @@
 -- What is left to do, as a meaning.
-use Rattle.std.specs.Prelude.{◌≡◌, ◌<◌, Bool, true, false, ℕ, zero, suc, List, [], ◌∷◌, ◌++◌, Option, Some, None, slice_get, slice_set, drop}
+use Rattle.std.specs.Prelude.{◌≡◌, ◌<◌, ◌≤◌, Bool, true, false, ℕ, zero, suc, pos, IsSome, List, [], ◌∷◌, ◌++◌, Option, Some, None, slice_get, slice_set, drop}
 use Rattle.ca_program.specs.declared.program.FieldId.{FieldId}
 use Rattle.ca_program.specs.declared.program.Expr.{Expr}
 use Rattle.ca_program.specs.Plain.{PlainProgram, PlainMethod, Expression, Statement, Statements, while_loop, for_loop}
 use Rattle.ca_program.specs.View.{expression_view, expressions_view, statement_view, statements_view}
 use Rattle.ca_model.specs.declared.value.Value.{Value as Datum}
-use Rattle.ca_model.specs.declared.value.Value.TheVariants.{Null, Ref}
+use Rattle.ca_model.specs.declared.value.Value.TheVariants.{Long, Null, Ref}
 use Rattle.ca_model.specs.declared.value.Object.{Object}
 use Rattle.ca_model.specs.Heaps.{created, HasSlot}
 use Rattle.ca_model.specs.declared.value.TrapKind.TheVariants.{OutOfRange}
@@ -291,6 +291,11 @@ others_in (Some m) = drop m.params m.body.locals
 abbrev pub looked_up : ℕ → Option Found → ℕ → Out Item
 looked_up line None k = traps (trap_at line OutOfRange)
 looked_up line (Some x) k = gives (record { place = x.place; value = x.value }) k
+
+-- an index names an item, and its place is past every u32
+abbrev pub PassesPlaces : List Datum → Datum → Type 0
+PassesPlaces items (Long (pos n)) = IsSome (slice_get items n) × (4294967296 ≤ n)
+PassesPlaces items _ = ⊥
 
 -- there is such an item of the object that a value names
 abbrev pub HasOwn : List Object → Datum → FieldId → ℕ → Type 0

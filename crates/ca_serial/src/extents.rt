@@ -6,6 +6,7 @@ ghost use Rattle.ca_program.specs.Plain.{PlainProgram};
 ghost use Rattle.ca_model.specs.declared.value.Object.{Object};
 ghost use Rattle.ca_model.specs.Typed.{TypedHeap};
 ghost use Rattle.ca_meaning.specs.Expressions.{Invocation};
+ghost use Rattle.ca_meaning.specs.ProgramTyped.{ProgramTyped};
 ghost use Rattle.ca_meaning.specs.WellTyped.{AllWellTyped};
 ghost use Rattle.ca_parallel.specs.Calls.{invocations_of, operation_of};
 ghost use Rattle.ca_parallel.specs.Parallel.{ParallelFrom};
@@ -44,7 +45,7 @@ pub trait Extents {
     /// `Done` leaves the heap of their serial run in order, which takes so many steps. `Declined` and an
     /// error leave the heap as it was. An engine that serves declines only where that run is not done
     /// within the budget.
-    fn run<R: Threads + Wait>(
+    fn run<R: Threads + Wait + Sync>(
         &mut self,
         rt: &R,
         program: &Program,
@@ -52,6 +53,7 @@ pub trait Extents {
         operations: &[Op],
         budget: u64,
     ) -> Result<ExtentAnswer, Memory>
+        requires program { ProgramTyped (program_view program.now) }
         requires heap { TypedHeap (program_view program.now) heap.old }
         requires typed { AllWellTyped (program_view program.now) heap.old (invocations_of operations.now) }
         requires parallel { ParallelFrom (program_view program.now) (map operation_of operations.now) }
@@ -75,7 +77,7 @@ impl Extents for NoExtents {
 
     ghost Accounts = { λ before p h is budget after. Unit {0} };
 
-    fn run<R: Threads + Wait>(
+    fn run<R: Threads + Wait + Sync>(
         &mut self,
         _rt: &R,
         _program: &Program,

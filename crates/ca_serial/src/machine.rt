@@ -1,6 +1,6 @@
 //! The state of a run.
 
-ghost use Rattle.std.specs.Prelude.{◌≡◌, ◌∷◌, [], IfOk, IfSome, slice_get, Some, option_copied};
+ghost use Rattle.std.specs.Prelude.{◌≡◌, ◌∷◌, [], IfOk, IfSome, OnErr, slice_get, Some, None, option_copied};
 ghost use Rattle.ca_program.specs.View.{program_view, expression_view};
 ghost use Rattle.ca_model.specs.declared.value.Value.TheVariants.{Long, Bool as Truth};
 ghost use Rattle.ca_model.specs.declared.value.Trap.{Trap};
@@ -30,7 +30,7 @@ pub struct Machine<'a> {
 }
 
 impl<'a> Machine<'a> {
-    ghost use Rattle.ca_serial.specs.Resume.{rest_of, looked_up};
+    ghost use Rattle.ca_serial.specs.Resume.{rest_of, looked_up, PassesPlaces};
 
     /// The machine before `main`.
     pub fn new(alloc: Global, program: &'a Program, budget: u64) -> Result<Machine<'a>, Memory>
@@ -52,11 +52,13 @@ impl<'a> Machine<'a> {
     fn scene(&self) -> Scene<'_>
         ensures heap { result.heap.now ≡ self.now.heap }
         ensures this { result.this ≡ self.now.bodies.current.this }
+        ensures own { result.own ≡ None }
         ensures locals { result.locals.now ≡ self.now.bodies.current.locals }
     {
         Scene {
             heap: &self.heap,
             this: self.bodies.this(),
+            own: None,
             locals: self.bodies.locals(),
         }
     }
@@ -85,7 +87,8 @@ impl<'a> Machine<'a> {
         self.scene().truth_of(e)
     }
 
-    /// The item that an index names in an array field of the object that a value names.
+    /// The item that an index names in an array field of the object that a value names. An item that
+    /// stands where no u32 reaches is want of memory.
     #[inline]
     pub fn indexed(
         &self,
@@ -94,7 +97,8 @@ impl<'a> Machine<'a> {
         field: FieldId,
         index: Value,
     ) -> Result<Option<Found>, Memory>
-        ensures { IfOk result (λ found. indexed line (items_in (slice_get (own_of self.now.heap object) field.field)) index self.now.left ≡ looked_up line found self.now.left) }
+        ensures found { IfOk result (λ found. indexed line (items_in (slice_get (own_of self.now.heap object) field.field)) index self.now.left ≡ looked_up line found self.now.left) }
+        ensures want { OnErr result (PassesPlaces (items_in (slice_get (own_of self.now.heap object) field.field)) index) }
     {
         let Value::Long(number) = index else {
             return Ok(None);

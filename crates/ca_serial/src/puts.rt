@@ -1,15 +1,16 @@
 //! The steps of puts and creations. In the body of a value method only a put into a local does something.
 
-ghost use Rattle.std.specs.Prelude.{◌≡◌, ℕ, List, IfOk, slice_get, slice_set};
+ghost use Rattle.std.specs.Prelude.{◌≡◌, ℕ, List, None, IfOk, OnErr, IsTrue, slice_get, slice_set};
 ghost use Rattle.ca_program.specs.View.{program_view, expression_view};
 ghost use Rattle.ca_program.specs.Plain.{put_local, put_field, put_item, new_local, new_field, new_item};
 ghost use Rattle.ca_model.specs.declared.value.Value.{Value as Datum};
+ghost use Rattle.ca_model.specs.Heaps.{is_full, starts_of};
 ghost use Rattle.ca_meaning.specs.Operators.{assigned};
-ghost use Rattle.ca_meaning.specs.Expressions.{one_in, value_at};
+ghost use Rattle.ca_meaning.specs.Expressions.{one_in, items_in, indexed, value_at};
 ghost use Rattle.ca_meaning.specs.Functions.{own_of};
 ghost use Rattle.ca_meaning.specs.Serial.{put_own};
 ghost use Rattle.ca_serial.specs.Bodies.{with_locals};
-ghost use Rattle.ca_serial.specs.Resume.{takes, does, after, HasOwn};
+ghost use Rattle.ca_serial.specs.Resume.{takes, does, after, looked_up, HasOwn, PassesPlaces};
 
 use crate::bodies::Mode;
 use crate::machine::{Found, Machine, field_of, item_of, put, store, trapped};
@@ -200,7 +201,8 @@ impl<'a> Machine<'a> {
         local: LocalId,
         class: ClassId,
     ) -> Result<Next, Memory>
-        ensures { IfOk result (λ next. (own : ℕ) (ps : List Datum) → does (program_view program.now) line (new_local own local class) self.old ps ≡ after (program_view program.now) self.new ps next) }
+        ensures means { IfOk result (λ next. (own : ℕ) (ps : List Datum) → does (program_view program.now) line (new_local own local class) self.old ps ≡ after (program_view program.now) self.new ps next) }
+        ensures want { OnErr result (IsTrue (is_full self.old.heap (starts_of (program_view program.now) class)) → ⊥) }
     {
         if let Mode::InFunction = self.bodies.mode() {
             return Ok(Next::GoesOn);
@@ -223,7 +225,8 @@ impl<'a> Machine<'a> {
         field: FieldId,
         class: ClassId,
     ) -> Result<Next, Memory>
-        ensures { IfOk result (λ next. (own : ℕ) (ps : List Datum) → does (program_view program.now) line (new_field own field class) self.old ps ≡ after (program_view program.now) self.new ps next) }
+        ensures means { IfOk result (λ next. (own : ℕ) (ps : List Datum) → does (program_view program.now) line (new_field own field class) self.old ps ≡ after (program_view program.now) self.new ps next) }
+        ensures want { OnErr result (IsTrue (is_full self.old.heap (starts_of (program_view program.now) class)) → ⊥) }
     {
         if let Mode::InFunction = self.bodies.mode() {
             return Ok(Next::GoesOn);
@@ -270,7 +273,9 @@ impl<'a> Machine<'a> {
         class: ClassId,
         index: Value,
     ) -> Result<Next, Memory>
-        ensures { IfOk result (λ next. (ps : List Datum) → takes (program_view program.now) (Taker.NewItem line field class) index self.old ps ≡ after (program_view program.now) self.new ps next) }
+        ensures means { IfOk result (λ next. (ps : List Datum) → takes (program_view program.now) (Taker.NewItem line field class) index self.old ps ≡ after (program_view program.now) self.new ps next) }
+        ensures there { OnErr result (indexed line (items_in (slice_get (own_of self.old.heap self.old.bodies.current.this) field.field)) index self.old.left ≡ looked_up line None self.old.left → ⊥) }
+        ensures want { OnErr result (IsTrue (is_full self.old.heap (starts_of (program_view program.now) class)) → PassesPlaces (items_in (slice_get (own_of self.old.heap self.old.bodies.current.this) field.field)) index) }
     {
         match self.indexed(line, self.bodies.this(), field, index)? {
             Some(item) => match self.heap.create(program, class) {

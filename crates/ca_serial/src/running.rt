@@ -3,6 +3,7 @@
 ghost use Rattle.std.specs.Prelude.{◌≡◌, ◌≤◌, false, [], IfOk};
 ghost use Rattle.ca_base.specs.Devices.{Rose, Writes};
 ghost use Rattle.ca_program.specs.View.{program_view};
+ghost use Rattle.ca_meaning.specs.ProgramTyped.{ProgramTyped};
 ghost use Rattle.ca_meaning.specs.Serial.{ended, serial};
 ghost use Rattle.ca_meaning.specs.Output.{prints_text};
 ghost use Rattle.ca_parallel.specs.Marks.{SoundMarks};
@@ -20,6 +21,7 @@ use ca_program::Program;
 use std::alloc::Global;
 use std::mem;
 use std::sync::Wait;
+use std::thread::Threads;
 use thiserror::Error;
 
 /// How a run ends: with its heap and the steps that it took, by a trap, or with a step too many.
@@ -41,10 +43,10 @@ pub enum RunError {
 
 /// Runs `main` from the empty heap with a budget of steps. What it prints goes to the sink at once.
 ///
-/// The marks are sound, and there are none where the engine doesn't serve. So far every call and every
+/// The program is typed, the marks are sound, and there are none where the engine doesn't serve. So far every call and every
 /// loop runs here, marked or not, and the engine is handed nothing. After an error a beginning of the
 /// prints was written.
-pub fn drive<R: Wait, E: Extents, K: Sink>(
+pub fn drive<R: Threads + Wait + Sync, E: Extents, K: Sink>(
     rt: &R,
     alloc: Global,
     program: &Program,
@@ -53,6 +55,7 @@ pub fn drive<R: Wait, E: Extents, K: Sink>(
     engine: &mut E,
     sink: &mut K,
 ) -> Result<Outcome, RunError>
+    requires program { ProgramTyped (program_view program.now) }
     requires sound { SoundMarks (program_view program.now) marks.now.ops.items marks.now.loops.items }
     requires served { E.serves ≡ false → (marks.now.ops.items ≡ []) × (marks.now.loops.items ≡ []) }
     // The outcome is that of the depth-first serial run.

@@ -8,7 +8,7 @@ use crate::tests::sources::{
 use std::alloc::AllocError;
 
 /// Runs to their ends, with the words, the text, the status and what is written.
-const RUNS: [(&str, &str, u8, &str); 32] = [
+const RUNS: [(&str, &str, u8, &str); 33] = [
     ("run 1 100", FIRST, 0, FIRST_HEAP),
     ("run 1 4", FIRST, 0, FIRST_HEAP),
     ("run 1 3", FIRST, 4, "spent 3\n"),
@@ -103,6 +103,13 @@ const RUNS: [(&str, &str, u8, &str); 32] = [
     (
         "run 1 9",
         "class C { public: long a[2]; void put(long z) { a[2] = 1 / z; } }; int main() { C *c = new C(); c->put(0); }",
+        3,
+        "trap 1 OutOfRange\n",
+    ),
+    // and is no number modulo 2^32
+    (
+        "run 1 9",
+        "class C { public: long a[2]; void put() { a[4294967296] = 1; } }; int main() { C *c = new C(); c->put(); }",
         3,
         "trap 1 OutOfRange\n",
     ),
