@@ -1,3 +1,4 @@
+mod Fits
 mod Lists
 mod Judging
 mod Sorts
@@ -7,3 +8,8 @@ mod Returning
 mod Methods
 mod Members
 mod Typing
+mod LiteralTokens
+mod LiteralExpressions
+mod LiteralTrees
+mod Texts
+mod Examples

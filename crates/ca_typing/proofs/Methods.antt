@@ -15,7 +15,7 @@ use Rattle.ca_resolve.specs.Scopes.{Sort, sort_of, find_local}
 use Rattle.ca_types.specs.Rules.{member_once, local_once, ends_with_return, parameter_limit, local_limit, last_returns}
 use Rattle.ca_types.specs.Statements.{Standing, judge_type, type_of, judge_statements}
 use Rattle.ca_types.specs.Classes.{gathered, behind_parameter, behind_parameters, judge_parameter, add_parameter, judge_parameters, MemberStanding, judge_result_type, result_sort, method_limit, method_begin, body_begin, method_end, method_of, judge_method}
-use Rattle.ca_typing.specs.Fits.{StatementsFit}
+use Rattle.ca_typing.proofs.Fits.{StatementsFit}
 use Rattle.ca_typing.proofs.Lists.{Begins, begins_itself, begins_through, begins_taken, begins_shorter, item_there}
 use Rattle.ca_typing.proofs.Judging.{same_fine, within_fine, made_fine, both_fine, unless_fine, none_broken, beside_fine, not_broken, not_not, gathered_fine}
 use Rattle.ca_typing.proofs.Sorts.{Declared, type_declared}

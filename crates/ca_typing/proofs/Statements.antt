@@ -22,7 +22,7 @@ use Rattle.ca_resolve.specs.Rules.{is_target, is_item_target, can_hold, is_long,
 use Rattle.ca_resolve.specs.Values.{place_of, in_order, judge_found, judge_value, judge_for, judge_target, judge_call}
 use Rattle.ca_types.specs.Rules.{local_once, condition_agrees, printed_agrees, compound_agrees, writes_no_field, called_operation, creates_nothing, prints_nothing, return_stands, local_limit, loop_limit, is_own, has_text}
 use Rattle.ca_types.specs.Statements.{Standing, opened, closed, counted, declaring, behind, behind_all, class_defined, judge_type, type_of, Source, of_value, of_new, creates, judge_wanted, new_agrees, judge_right, put, judge_put_target, right_sort, judge_assign, start_value, judge_start, start_creates, judge_local, judge_call_statement, judge_condition, judge_return, judge_printed, judge_print, nothing, first_part, statements_in, added, judge_statement, judge_statements}
-use Rattle.ca_typing.specs.Fits.{NumbersFit, RightFits, StartFits, StatementFits, StatementsFit}
+use Rattle.ca_typing.proofs.Fits.{NumbersFit, RightFits, StartFits, StatementFits, StatementsFit}
 use Rattle.ca_typing.proofs.Lists.{Begins, begins_itself, begins_through, item_there, all_append}
 use Rattle.ca_typing.proofs.Judging.{same_fine, within_fine, made_fine, both_fine, unless_fine, none_broken, beside_fine, not_broken, not_not, kept}
 use Rattle.ca_typing.proofs.Sorts.{Holds, Declared, declared_holds, class_found, type_declared, one_type, long_type, truth_type, text_type}

@@ -15,7 +15,7 @@ use Rattle.ca_resolve.specs.Scopes.{Meaning, Numbers, classes_of, class_names, m
 use Rattle.ca_types.specs.Rules.{class_once, class_limit}
 use Rattle.ca_types.specs.Statements.{judge_statements, behind_all}
 use Rattle.ca_types.specs.Classes.{gathered, Members, no_members, behind_members, judge_members, ClassStanding, class_begin, behind_class, judge_class, Parts, with_class, add_class, no_parts, judge_classes, first_class, main_begin, program_of, judge}
-use Rattle.ca_typing.specs.Fits.{ClassFits, LiteralsFit}
+use Rattle.ca_typing.proofs.Fits.{ClassFits, LiteralsFit}
 use Rattle.ca_typing.proofs.Lists.{Begins, begins_itself, begins_through, item_there, one_longer, all_append, all_at}
 use Rattle.ca_typing.proofs.Judging.{same_fine, within_fine, made_fine, both_fine, unless_fine, beside_fine, gathered_fine}
 use Rattle.ca_typing.proofs.Values.{MeaningTyped, ClassesTyped}

@@ -19,7 +19,7 @@ use Rattle.ca_resolve.specs.Scopes as scopes
 use Rattle.ca_resolve.specs.Rules.{member_known, is_method, receiver_member, operand_agrees, operands_agree, value_agrees, as_many, unary_sort, binary_sort, is_value_method, has_index, is_array, this_known, takes_unary, takes_binary, can_hold}
 use Rattle.ca_resolve.specs.Values.{place_of, field_of, item_of, in_order, member_read, judge_named, judge_this, as_value, judge_field, own_method, method_through, count_of, parameters_of, rest_of, value_for, judge_invocation, call_value, object_of, value_of, judge_found, judge_arguments, judge_value, judge_call}
 use Rattle.ca_types.specs.Statements.{type_of}
-use Rattle.ca_typing.specs.Fits.{NumbersFit, AllNumbersFit}
+use Rattle.ca_typing.proofs.Fits.{NumbersFit, AllNumbersFit}
 use Rattle.ca_typing.proofs.Judging.{same_fine, within_fine, made_fine, both_fine, found_fine, kept}
 use Rattle.ca_typing.proofs.Sorts.{Holds, Declared, declared_holds, one_type, sides_typed, signed_typed, unary_declared, binary_declared}
 

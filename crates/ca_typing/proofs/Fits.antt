@@ -1,8 +1,23 @@
--- Trees of which each number that stands in an expression fits the type `long`.
-use Rattle.std.specs.Prelude.{Option, Some, None, FitsSigned}
+-- Tokens of which each number fits the type `long`, and trees of which each number in an expression does.
+use Rattle.std.specs.Prelude.{List, Option, Some, None, FitsSigned}
 use Rattle.std.specs.Int.{w64}
 use Rattle.std.specs.List.{AllByRecursion}
+use Rattle.ca_tree.specs.declared.token.Token.{Token}
+use Rattle.ca_tree.specs.declared.token.Kind.{Kind}
+use Rattle.ca_tree.specs.declared.token.Kind.TheVariants.{Word, Number, Key, Sign}
 use Rattle.ca_tree.specs.Plain.{Expression, Expressions, number, truth, null, this, named, call, field, method, index, unary, binary, no_expressions, expression_and, RightSide, value, new, Statement, Statements, empty, block, local, assign, call_statement, if_only, if_else, while_loop, for_loop, return_value, print_value, no_statements, statement_and, MemberTree, ClassTree, TextTree, field_member, method_member}
+
+abbrev pub KindFits : Kind → Type 0
+KindFits (Number n) = FitsSigned w64 n
+KindFits (Word name) = Unit {0}
+KindFits (Key key) = Unit {0}
+KindFits (Sign sign) = Unit {0}
+
+abbrev pub TokenFits : Token → Type 0
+TokenFits t = KindFits t.kind
+
+abbrev pub TokensFit : List Token → Type 0
+TokensFit = AllByRecursion TokenFits
 
 abbrev mutual
   pub NumbersFit : Expression → Type 0
