@@ -7,19 +7,20 @@ use Rattle.ca_model.specs.declared.value.Value.{Value as Datum}
 use Rattle.ca_meaning.specs.Flows.{Flow, goes_on, gives_back, stops, runs_out}
 use Rattle.ca_meaning.specs.Serial.{World, Ended, ended, serial}
 use Rattle.ca_meaning.specs.Output.{print_text, prints_text}
+use Rattle.ca_parallel.specs.Lists.{world_after}
 use Rattle.ca_serial.specs.declared.machine.Machine.{Machine}
 use Rattle.ca_serial.specs.declared.work.Work.{Work}
 use Rattle.ca_serial.specs.declared.running.Outcome.{Outcome}
 use Rattle.ca_serial.specs.declared.running.Outcome.TheVariants.{Done, Trapped, Spent}
 use Rattle.ca_serial.specs.Resume.{rest_of, world_of}
 use Rattle.ca_serial.specs.Runs.{prints_of, run_with}
-use Rattle.ca_serial.proofs.Prints.{world_in, later_of, resume_grows}
+use Rattle.ca_serial.proofs.Prints.{later_of, resume_grows}
 
 texts_append : (ps qs : List Datum) → prints_text (ps ++ qs) ≡ prints_text ps ++ prints_text qs
 texts_append [] qs = refl
 texts_append (p ∷ ps) qs = ap (λ t. print_text p ++ t) (texts_append ps qs) ∙ sym (append_assoc (print_text p) (prints_text ps) (prints_text qs))
 
-ended_prints : (budget : ℕ) (flow : Flow World) → prints_of (ended budget flow) ≡ (world_in flow).prints
+ended_prints : (budget : ℕ) (flow : Flow World) → prints_of (ended budget flow) ≡ (world_after flow).prints
 ended_prints budget (goes_on ls w k) = refl
 ended_prints budget (gives_back v w k) = refl
 ended_prints budget (stops t w) = refl

@@ -13,6 +13,7 @@ use Rattle.ca_meaning.specs.Expressions.{Out, gives, traps, over, ◌>>=◌, one
 use Rattle.ca_meaning.specs.Flows.{Flow, goes_on, gives_back, stops, runs_out, and_on, with, choose, Parts, line_of, turn_of, exec, exec_all, turn}
 use Rattle.ca_meaning.specs.Functions.{body_of, locals_of, place, functions_of, value_in, values_in}
 use Rattle.ca_meaning.specs.Serial.{World, came_back, run_call, own_item_at, room_for, operation_act, operation_parts, Operations, operations, operations_of, serial_parts}
+use Rattle.ca_parallel.specs.Lists.{world_after}
 use Rattle.ca_serial.specs.declared.bodies.Mode.{Mode}
 use Rattle.ca_serial.specs.declared.bodies.Mode.TheVariants.{InFunction, InOperation}
 use Rattle.ca_serial.specs.declared.work.Target.{Target}
@@ -29,25 +30,19 @@ pub record Later (w x : World) : Type 0 where
   pub more : List Datum
   pub whole : x.prints ≡ w.prints ++ more
 
-abbrev pub world_in : Flow World → World
-world_in (goes_on ls w k) = w
-world_in (gives_back v w k) = w
-world_in (stops t w) = w
-world_in (runs_out w) = w
-
 pub data Grows (w : World) (flow : Flow World) : Type 0 where
-  grows : Later w (world_in flow) → Grows w flow
+  grows : Later w (world_after flow) → Grows w flow
 
-pub later_of : {w : World} {flow : Flow World} → Grows w flow → Later w (world_in flow)
+pub later_of : {w : World} {flow : Flow World} → Grows w flow → Later w (world_after flow)
 later_of (grows l) = l
 
-same_prints : (w : World) (h : List Object) → Later w (record { heap = h; prints = w.prints })
+same_prints : (w : World) (h : List Object) → Later w (record { heap = h; prints = w.prints; notes = w.notes })
 same_prints w h = record { more = []; whole = sym (append-nil w.prints) }
 
 stays : (w : World) → Later w w
 stays w = same_prints w w.heap
 
-one_more : (w : World) (v : Datum) → Later w (record { heap = w.heap; prints = w.prints ++ v ∷ [] })
+one_more : (w : World) (v : Datum) → Later w (record { heap = w.heap; prints = w.prints ++ v ∷ []; notes = w.notes })
 one_more w v = record { more = v ∷ []; whole = refl }
 
 pub then_later : {w x y : World} → Later w x → Later x y → Later w y

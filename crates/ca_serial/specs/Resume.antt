@@ -177,7 +177,7 @@ abbrev mutual
 -- What a machine means
 
 abbrev pub world_of : Machine → List Datum → World
-world_of m ps = record { heap = m.heap; prints = ps }
+world_of m ps = record { heap = m.heap; prints = ps; notes = [] }
 
 -- with this work
 abbrev pub rest_of : PlainProgram → List Work → Machine → List Datum → Flow World

@@ -6,6 +6,7 @@ ghost use Rattle.ca_program.specs.View.{program_view};
 ghost use Rattle.ca_meaning.specs.ProgramTyped.{ProgramTyped};
 ghost use Rattle.ca_meaning.specs.Serial.{ended, serial};
 ghost use Rattle.ca_meaning.specs.Output.{prints_text};
+ghost use Rattle.ca_parallel.specs.Lists.{no_marks};
 ghost use Rattle.ca_parallel.specs.Marks.{SoundMarks};
 ghost use Rattle.ca_serial.specs.Resume.{rest_of};
 ghost use Rattle.ca_serial.specs.Runs.{run_with, prints_of, OnWrite};
@@ -43,9 +44,9 @@ pub enum RunError {
 
 /// Runs `main` from the empty heap with a budget of steps. What it prints goes to the sink at once.
 ///
-/// The program is typed, the marks are sound, and there are none where the engine doesn't serve. So far every call and every
-/// loop runs here, marked or not, and the engine is handed nothing. After an error a beginning of the
-/// prints was written.
+/// The program is typed, the marks are sound, and there are none where the engine doesn't serve. So far
+/// every call and every loop runs here, marked or not, and the engine is handed nothing. After an error a
+/// beginning of the prints was written.
 pub fn drive<R: Threads + Wait + Sync, E: Extents, K: Sink>(
     rt: &R,
     alloc: Global,
@@ -56,8 +57,8 @@ pub fn drive<R: Threads + Wait + Sync, E: Extents, K: Sink>(
     sink: &mut K,
 ) -> Result<Outcome, RunError>
     requires program { ProgramTyped (program_view program.now) }
-    requires sound { SoundMarks (program_view program.now) marks.now.ops.items marks.now.loops.items }
-    requires served { E.serves ≡ false → (marks.now.ops.items ≡ []) × (marks.now.loops.items ≡ []) }
+    requires sound { SoundMarks (program_view program.now) marks.now }
+    requires served { E.serves ≡ false → marks.now ≡ no_marks }
     // The outcome is that of the depth-first serial run.
     ensures outcome { IfOk result (λ outcome. serial (program_view program.now) budget ≡ run_with (prints_of (serial (program_view program.now) budget)) outcome) }
     // Its prints were written, or a beginning of them before an error.
