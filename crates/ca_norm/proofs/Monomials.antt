@@ -1,12 +1,12 @@
--- The derived order of monomials ties only equal ones, and `==` finds them.
+-- The order of monomials ties only equal ones, and `==` finds them.
 use Rattle.std.proofs.Common.{◌≡◌, ℕ, refl, sym, ap, ap₂, Ordering, Less, Equal, Greater, nat_cmp, arith, Decides, true≢false, ◌&&◌, ◌==◌}
 use Rattle.std.specs.Ordering.{ordering_then}
 use Rattle.std.proofs.lemmas.Bool.Decides.{nat_tests, Decides-like, Decides-and, Decides-eqb}
 use Rattle.ca_norm.specs.declared.form.Monomial.{Monomial}
 use Rattle.ca_norm.specs.declared.form.Monomial.TheVariants.{One, Atom}
-use Rattle.ca_norm.specs.contracts.form.MonomialOrd.TheImpl.{ghosts}
 use Rattle.ca_norm.specs.contracts.form.MonomialPartialEq.TheImpl.{ghosts as equals}
-use Rattle.ca_norm.specs.contracts.form.MonomialOrd.TheImpl.Laws.{total-law}
+use Rattle.ca_norm.specs.Order.{monomial_cmp}
+use Rattle.ca_norm.specs.OrderLaws.{monomials_total}
 use Rattle.ca_norm.proofs.Collect.{Exact}
 
 nat_same : (m n : ℕ) → nat_cmp m n ≡ Equal → m ≡ n
@@ -17,15 +17,15 @@ then_equal Less p e = cc
 then_equal Equal p e = (refl, e)
 then_equal Greater p e = cc
 
-monomial_same : (m n : Monomial) → ghosts.cmp m n ≡ Equal → m ≡ n
+monomial_same : (m n : Monomial) → monomial_cmp m n ≡ Equal → m ≡ n
 monomial_same One One e = refl
 monomial_same One (Atom h j) e = cc
 monomial_same (Atom g i) One e = cc
 monomial_same (Atom g i) (Atom h j) e =
     let t : (nat_cmp g h ≡ Equal) × (nat_cmp i j ≡ Equal) = then_equal (nat_cmp g h) (nat_cmp i j) e in ap₂ Atom (nat_same g h t.0) (nat_same i j t.1)
 
-pub monomials_exact : Exact ghosts.cmp
-monomials_exact = record { order = total-law; same = monomial_same }
+pub monomials_exact : Exact monomial_cmp
+monomials_exact = record { order = monomials_total; same = monomial_same }
 
 monomial_decides : (m n : Monomial) → Decides (equals.eq m n) (m ≡ n)
 monomial_decides One One = (λ e. refl, λ e. refl)

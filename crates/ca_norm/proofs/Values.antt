@@ -5,7 +5,7 @@ use Rattle.std.proofs.lemmas.Int.{SFits-int_wrap, int_wrap_fits}
 use Rattle.ca_tree.specs.declared.tree.BinaryOp.TheVariants.{Plus, Minus}
 use Rattle.ca_model.specs.declared.value.Value.{Value as Datum}
 use Rattle.ca_model.specs.declared.value.Value.TheVariants as datum
-use Rattle.ca_norm.specs.contracts.form.MonomialOrd.TheImpl.{ghosts}
+use Rattle.ca_norm.specs.Order.{monomial_cmp}
 use Rattle.ca_norm.specs.declared.term.Sort.{Sort}
 use Rattle.ca_norm.specs.declared.term.Sort.TheVariants.{Long, Bool, Pointer, LongArray, BoolArray, PointerArray}
 use Rattle.ca_norm.specs.declared.form.Monomial.{Monomial}
@@ -86,8 +86,8 @@ module _ (v : Valuation) where
 
   number_means : (t : PlainTerm) → sort_of t ≡ Long → IsSorted t → LiteralsFit t → form_mean v (norm t) ≡ mean v t
   number_means t e s f =
-      let ps : Sum Monomial = collect ghosts.cmp (expand t) in
-      let same : Alike (word (polynomial_value v ps)) (word (number_of (mean v t))) = alike_trans (value_is ps) (alike_trans (total_collect ghosts.cmp monomials_exact words (expand t)) (alike_sym (mean_is t e s f))) in
+      let ps : Sum Monomial = collect monomial_cmp (expand t) in
+      let same : Alike (word (polynomial_value v ps)) (word (number_of (mean v t))) = alike_trans (value_is ps) (alike_trans (total_collect monomial_cmp monomials_exact words (expand t)) (alike_sym (mean_is t e s f))) in
       ap (form_mean v) (norm_number t e) ∙ ap datum.Long (word_same (polynomial_value v ps) (number_of (mean v t)) same ∙ int_wrap_fits w64 (number_of (mean v t)) (fits t e s f)) ∙ sym (number_is t e s)
 
   pub means : (t : PlainTerm) → IsSorted t → LiteralsFit t → form_mean v (norm t) ≡ mean v t

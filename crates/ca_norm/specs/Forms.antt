@@ -5,7 +5,6 @@ use Rattle.std.specs.List.Sorted.{IsStrictlySortedBy}
 use Rattle.std.specs.Map.{keys_of, lookup}
 use Rattle.std.specs.BTreeMap.{is_at}
 use Rattle.std.specs.Option.{unwrap_or}
-use Rattle.ca_norm.specs.contracts.form.MonomialOrd.TheImpl.{ghosts}
 use Rattle.ca_norm.specs.declared.term.Sort.{Sort}
 use Rattle.ca_norm.specs.declared.term.Sort.TheVariants.{Long}
 use Rattle.ca_norm.specs.declared.form.Monomial.{Monomial}
@@ -14,6 +13,7 @@ use Rattle.ca_norm.specs.declared.form.Normal.{Normal}
 use Rattle.ca_norm.specs.declared.form.Normal.TheVariants as normal
 use Rattle.ca_norm.specs.Sums.{Sum, scale, collect, NoZero}
 use Rattle.ca_norm.specs.Terms.{PlainTerm, number, null, atom, add, sub, sort_of}
+use Rattle.ca_norm.specs.Order.{monomial_cmp}
 
 -- A number as a sum of products, in the order in which they are written. Minus one is 2^64 - 1.
 abbrev pub expand : PlainTerm → Sum Monomial
@@ -23,9 +23,9 @@ expand (atom sort group n) = (monomial.Atom group n, 1) ∷ []
 expand (add a b) = expand a ++ expand b
 expand (sub a b) = expand a ++ scale (2 ^ 64 - 1) (expand b)
 
--- the form of a term of that sort, the monomials in their derived order: One, then by group and number
+-- the form of a term of that sort, the monomials in their order
 abbrev pub form_at : Sort → PlainTerm → Normal
-form_at Long t = normal.Polynomial (collect ghosts.cmp (expand t))
+form_at Long t = normal.Polynomial (collect monomial_cmp (expand t))
 form_at sort (atom s group n) = normal.Atom s group n
 form_at sort t = normal.Null
 
@@ -47,10 +47,10 @@ SamePolynomial t u = (m : Monomial) → int_wrap w64 (coefficient t m) ≡ int_w
 
 -- 0 where the monomial does not stand
 abbrev pub coefficient_at : Sum Monomial → Monomial → ℕ
-coefficient_at ps m = unwrap_or (lookup (is_at (ghosts.cmp m)) ps) 0
+coefficient_at ps m = unwrap_or (lookup (is_at (monomial_cmp m)) ps) 0
 
 -- the finite map from monomials to their coefficients in the term, modulo 2^64 and without zeros
 abbrev pub IsPolynomialOf : Normal → PlainTerm → Type 0
 IsPolynomialOf (normal.Polynomial ps) t =
-    IsStrictlySortedBy ghosts.cmp (keys_of ps) × NoZero ps × ((m : Monomial) → int_wrap w64 (pos (coefficient_at ps m)) ≡ int_wrap w64 (coefficient t m))
+    IsStrictlySortedBy monomial_cmp (keys_of ps) × NoZero ps × ((m : Monomial) → int_wrap w64 (pos (coefficient_at ps m)) ≡ int_wrap w64 (coefficient t m))
 IsPolynomialOf form t = ⊥

@@ -1,7 +1,7 @@
 //! Normal forms.
 
 ghost use Rattle.std.specs.Prelude.{◌≡◌, ◌↔◌, IfOk, IsTrue};
-ghost use Rattle.ca_norm.specs.contracts.form.MonomialOrd.TheImpl.{ghosts};
+ghost use Rattle.ca_norm.specs.Order.{monomial_cmp};
 ghost use Rattle.ca_norm.specs.Sums.{collect};
 ghost use Rattle.ca_norm.specs.Terms.{shape};
 ghost use Rattle.ca_norm.specs.Forms.{expand};
@@ -9,14 +9,53 @@ ghost use Rattle.ca_norm.specs.Forms.{expand};
 use crate::gather::add_term;
 use crate::term::{Sort, Term};
 use std::alloc::{AllocError, Global};
+use std::cmp::Ordering;
 use std::collections::BTreeMap;
 use std::marker::Model;
 
 /// A product of atoms: nothing, which is 1, or one atom of sort Long by its group and number.
-#[derive(Clone, Copy, PartialEq, Eq, PartialOrd, Ord, Debug)]
+#[derive(Clone, Copy, PartialEq, Eq, Debug)]
 pub enum Monomial {
     One,
     Atom(u32, u32),
+}
+
+impl Ord for Monomial {
+    ghost use Rattle.std.specs.Prelude.{refl};
+    ghost use Rattle.ca_norm.specs.Order.{monomial_cmp};
+    ghost use Rattle.ca_norm.specs.OrderLaws.{monomials_total, monomials_tied};
+
+    ghost cmp = { monomial_cmp };
+
+    ghost total = { monomials_total };
+
+    ghost matches_partial_cmp = { λ x y. refl };
+
+    ghost matches_eq = { monomials_tied };
+
+    /// One first, then by group and number.
+    fn cmp(&self, other: &Monomial) -> Ordering {
+        match (self, other) {
+            (Monomial::One, Monomial::One) => Ordering::Equal,
+            (Monomial::One, Monomial::Atom(_, _)) => Ordering::Less,
+            (Monomial::Atom(_, _), Monomial::One) => Ordering::Greater,
+            (Monomial::Atom(g, m), Monomial::Atom(h, n)) => g.cmp(h).then(m.cmp(n)),
+        }
+    }
+}
+
+impl PartialOrd for Monomial {
+    ghost use Rattle.std.specs.Ordering.{as_partial_cmp};
+    ghost use Rattle.ca_norm.specs.Order.{monomial_cmp};
+    ghost use Rattle.ca_norm.specs.OrderLaws.{monomials_partial};
+
+    ghost partial_cmp = { as_partial_cmp monomial_cmp };
+
+    ghost laws = { monomials_partial };
+
+    fn partial_cmp(&self, other: &Monomial) -> Option<Ordering> {
+        Some(self.cmp(other))
+    }
 }
 
 /// A formal polynomial modulo 2^64: the monomials in rising order, each with its coefficient, which
@@ -39,7 +78,7 @@ impl Polynomial {
     /// The formal polynomial of a term, which is to be a number. It recurses as deep as the term is.
     #[inline(never)]
     pub fn of(alloc: Global, term: &Term) -> Result<Polynomial, AllocError>
-        ensures { IfOk result (λ p. p ≡ collect ghosts.cmp (expand (shape term.now))) }
+        ensures { IfOk result (λ p. p ≡ collect monomial_cmp (expand (shape term.now))) }
     {
         let mut form = BTreeMap::new(alloc);
         add_term(&mut form, term, 1)?;

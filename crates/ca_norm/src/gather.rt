@@ -4,7 +4,7 @@ ghost use Rattle.std.specs.Prelude.{◌≡◌, ℕ, ◌+◌, ◌%◌, ◌^◌, O
 ghost use Rattle.std.specs.Option.{unwrap_or};
 ghost use Rattle.std.specs.Map.{lookup};
 ghost use Rattle.std.specs.BTreeMap.{is_at};
-ghost use Rattle.ca_norm.specs.contracts.form.MonomialOrd.TheImpl.{ghosts};
+ghost use Rattle.ca_norm.specs.Order.{monomial_cmp};
 ghost use Rattle.ca_norm.specs.Sums.{NoZero, Adds, AddsSum};
 ghost use Rattle.ca_norm.specs.Terms.{shape};
 ghost use Rattle.ca_norm.specs.Forms.{expand};
@@ -15,7 +15,7 @@ use std::alloc::AllocError;
 use std::collections::BTreeMap;
 
 fn sum_at(form: &BTreeMap<Monomial, u64>, monomial: &Monomial, coefficient: u64) -> u64
-    ensures { result ≡ (unwrap_or (lookup (is_at (ghosts.cmp monomial.now)) form.now.entries) 0 + coefficient) % (2 ^ 64) }
+    ensures { result ≡ (unwrap_or (lookup (is_at (monomial_cmp monomial.now)) form.now.entries) 0 + coefficient) % (2 ^ 64) }
 {
     match form.get(monomial) {
         Some(old) => old.wrapping_add(coefficient),

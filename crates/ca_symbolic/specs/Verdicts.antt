@@ -1,4 +1,6 @@
--- The verdict on two operations of a class: whether both orders leave the same terms in the fields.
+-- The verdict on two operations of a class: whether both orders leave the same terms in the fields. It is for
+-- programs of the small form, whose bodies are lists of puts: every other statement is passed over, and every
+-- other expression is null, so that the verdict says nothing of such a body.
 use Rattle.std.specs.Prelude.{◌≡◌, ◌≢◌, ℕ, ◌||◌, Bool, true, false, nat_lt, List, map, take, Option, Some, slice_get}
 use Rattle.std.specs.List.{list_any}
 use Rattle.ca_program.specs.declared.program.ClassId.{ClassId}
@@ -62,7 +64,7 @@ abbrev pub VerdictAt : PlainProgram → Option PlainMethod → Option PlainMetho
 VerdictAt p (Some m) (Some n) v = IsVerdict m.class (orders (fields_of (slice_get p.classes m.class.0)) m.body n.body) v
 VerdictAt p _ _ v = ⊥
 
--- Large where a term made in one of the two orders is too heavy; else the first field whose forms
--- differ, with the two forms; else the pair commutes.
+-- On programs of the small form: Large where a term made in one of the two orders is too heavy; else the
+-- first field whose forms differ, with the two forms; else the pair commutes.
 abbrev pub VerdictOf : PlainProgram → OpId → OpId → Verdict → Type 0
 VerdictOf p a b v = VerdictAt p (slice_get p.ops a.0) (slice_get p.ops b.0) v

@@ -6,8 +6,8 @@
 //! sense of ca_meaning. `Unproved` claims nothing of the pair. Nothing but want of memory keeps a
 //! verdict from its caller.
 //!
-//! Built for operations of the small form, whose bodies are lists of puts: their extents are the
-//! operation alone.
+//! Built for programs of the small form, where bodies are lists of puts: the extent of an operation is
+//! the operation alone. Every other statement is passed over.
 #![tactic(auto)]
 
 mod compare;
