@@ -9,12 +9,13 @@ use std::test::Fail;
 fn finds_values(rt: HostRuntime) -> Result<(), Fail> {
     let alloc = rt.alloc();
     let heap = Heap::new(alloc);
-    let own = [Slot::One(Value::Long(5))];
+    let slots = [Slot::One(Value::Long(5))];
+    let own = Some(slots.as_slice());
     let locals = [Value::Long(7)];
     let scene = Scene {
         heap: &heap,
         this: Value::Null,
-        own: own.as_slice(),
+        own,
         locals: locals.as_slice(),
     };
     let left = Box::new(alloc, Expr::Local(LocalId(0)))?;
