@@ -1,6 +1,6 @@
 -- A statement that is judged fine is well typed among the locals of its whole body.
 use Rattle.std.proofs.Common.{◌≡◌, ℕ, List, [], ◌∷◌, ◌++◌, Bool, true, false, length, refl, sym, subst, ap, ◌∙◌, arith}
-use Rattle.std.specs.Prelude.{Option, Some, None, slice_get, is_some, not, ◌&&◌, pos}
+use Rattle.std.specs.Prelude.{◌⊎◌, Option, Some, None, slice_get, is_some, not, ◌&&◌, pos}
 use Rattle.std.specs.Int.{w64}
 use Rattle.std.specs.List.{AllByRecursion}
 use Rattle.std.proofs.lemmas.Int.{fits_signed_from_abs}
