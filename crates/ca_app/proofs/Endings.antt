@@ -1,5 +1,5 @@
 -- What was given is the one reply that there is.
-use Rattle.std.proofs.Common.{◌≡◌, ℕ, true, false, List, ◌++◌, Option, Result, Ok, Err, refl, ap, sym, ◌∙◌, subst, arith}
+use Rattle.std.proofs.Common.{◌≡◌, ℕ, true, false, List, ◌++◌, Option, Result, Ok, Err, ◌⊎◌, inl, inr, refl, ap, sym, ◌∙◌, subst, arith}
 use Rattle.ca_tree.specs.declared.name.Place.{Place}
 use Rattle.ca_tree.specs.Plain.{TextTree}
 use Rattle.ca_base.specs.Devices.{Rose, HasCause, Writes, Began, grown}
@@ -12,18 +12,18 @@ use Rattle.ca_serial.specs.Runs.{prints_of}
 use Rattle.ca_symbolic.specs.declared.verdicts.Verdict.{Verdict}
 use Rattle.ca_words.specs.declared.Command.{Command}
 use Rattle.ca_words.specs.declared.Command.TheVariants.{Run, Pairs}
-use Rattle.ca_words.specs.Words.{Names}
+use Rattle.ca_words.specs.Words.{Names, reads}
 use Rattle.ca_words.proofs.OneCommand.{one_command}
 use Rattle.ca_small.specs.SmallShape.{is_small_text}
 use Rattle.ca_app.specs.Accepted.{BeginsAt}
 use Rattle.ca_app.specs.Refusals.{refusal_reply}
 use Rattle.ca_app.specs.Reading.{HasOneTree, IsProgramOf, IsRefusalOf}
 use Rattle.ca_app.specs.Reply.{ProgramReplies, runs, pairs, not_built, CommandReplies, refuses, serves, Replies, usage, named, usage_reply, not_built_reply}
-use Rattle.ca_app.specs.Ends.{Ends, whole, write_fault, EndsWith, status_after}
+use Rattle.ca_app.specs.Ends.{Ends, whole, write_fault, Unreplied, EndsWith, status_after}
 use Rattle.ca_app.specs.Pairs.{AreVerdicts, pairs_text}
-use Rattle.ca_app.proofs.OneVerdict.{one_list}
 use Rattle.ca_app.proofs.OneProgram.{one_start}
-use Rattle.ca_app.specs.Causes.{IsUsageFault}
+use Rattle.ca_app.proofs.OneReply.{program_reply, command_reply, one_reply}
+use Rattle.ca_app.specs.Causes.{IsUsageFault, ReadsNothing}
 
 -- what came of writing a reply
 pub ends_written : {T E : Type 0} (r : Result T E) (status ended : ℕ) (bytes : List ℕ) (old now : Option (List ℕ)) → Writes old now r bytes → ended ≡ status_after r status → Ends (record { status = status; bytes = bytes }) ended old now
@@ -40,26 +40,29 @@ pub after_seven : {T E : Type 0} (before now : ℕ) (r : Result T E) (status end
 after_seven before now (Ok x) status ended cause e other seven = absurd (other (sym e ∙ seven))
 after_seven before now (Err x) status ended cause e other seven = cause.failed
 
+module _ {status : ℕ} {old now : Option (List ℕ)} where
+  only_reply : (replies : Reply → Type 0) (is : Reply) → replies is → ((reply : Reply) → replies reply → reply ≡ is) → Ends is status old now → EndsWith replies status old now
+  only_reply replies is one only ends = record {
+    some = inr (is, one);
+    each = λ reply this. let P : Reply → Type 0 = λ r. Ends r status old now in subst P (sym (only reply this)) ends;
+  }
+
 module _ {command : Command} {text : List ℕ} {status : ℕ} {old now : Option (List ℕ)} where
   pub ends_refused : {at : Place} {code : ℕ} → IsRefusalOf text at code → Ends (refusal_reply at code) status old now → EndsWith (CommandReplies command text) status old now
-  ends_refused {at = p} {code = c} is ends = record { some = λ a b. (refusal_reply p c, refuses is.refused); each = each }
-    where
-      each : (reply : Reply) → CommandReplies command text reply → Ends reply status old now
-      each reply (refuses {at = q} {code = d} other) =
-          let P : Reply → Type 0 = λ r. Ends r status old now in
-          let reply_is : refusal_reply p c ≡ refusal_reply q d = sym (ap (λ x. refusal_reply x d) (is.place q d other) ∙ ap (λ x. refusal_reply p x) (is.number q d other)) in
-          subst P reply_is ends
-      each reply (serves accepted begins replies) = absurd (is.unaccepted _ accepted)
+  ends_refused is = only_reply (CommandReplies command text) _ (refuses is.refused) (λ reply this. command_reply this (refuses is.refused))
 
   pub ends_program : (p : PlainProgram) (tree : TextTree) (at : Place) → IsProgramOf text p → HasOneTree text tree → BeginsAt text at → EndsWith (ProgramReplies at tree p command) status old now → EndsWith (CommandReplies command text) status old now
   ends_program p tree at is one begins ends = record {
-    some = λ a b.
-        let s = ends.some a b in
-        let P : TextTree → Type 0 = λ t. ProgramReplies at t p command s.0 in
-        (s.0, serves is.accepted begins (subst P (sym (one.only is.accepted.tree is.accepted.has_tree)) s.1));
+    some = some ends.some;
     each = each;
   }
     where
+      some : Unreplied status old now ⊎ ((reply : Reply) × ProgramReplies at tree p command reply) → Unreplied status old now ⊎ ((reply : Reply) × CommandReplies command text reply)
+      some (inl u) = inl u
+      some (inr s) =
+          let P : TextTree → Type 0 = λ t. ProgramReplies at t p command s.0 in
+          inr (s.0, serves is.accepted begins (subst P (sym (one.only is.accepted.tree is.accepted.has_tree)) s.1))
+
       each : (reply : Reply) → CommandReplies command text reply → Ends reply status old now
       each reply (refuses {at = q} {code = d} refused) = absurd (is.unrefused q d refused)
       each reply (serves {p = q} {at = other} accepted' begins' replies) =
@@ -95,47 +98,37 @@ ends_run_written p b e r status ended rest old mid now is reply told written sta
     subst P (sym (output_is ∙ reply))
     (ends_written r status ended (prints_text (prints_of e) ++ rest) old now (writes_after old mid now r (prints_text (prints_of e)) rest told written) status_is)
 
--- what each command replies to a program, as what it has to be
-run_is : (at : Place) (tree : TextTree) (p : PlainProgram) (workers budget : ℕ) (reply : Reply) → ProgramReplies at tree p (Run workers budget) reply → reply ≡ output p budget
-run_is at tree p workers budget reply runs = refl
-
-pairs_are : (at : Place) (tree : TextTree) (p : PlainProgram) (vs : List Verdict) (reply : Reply) → is_small_text tree p ≡ true → AreVerdicts p vs → ProgramReplies at tree p Pairs reply → reply ≡ record { status = 0; bytes = pairs_text p vs }
-pairs_are at tree p vs reply small are (pairs {vs = ws} small' others) = let P : List Verdict → Reply = λ z. record { status = 0; bytes = pairs_text p z } in sym (ap P (one_list p vs ws are others))
-pairs_are at tree p vs reply small are (not_built large) = absurd cc
-
-not_built_is : (at : Place) (tree : TextTree) (p : PlainProgram) (reply : Reply) → is_small_text tree p ≡ false → ProgramReplies at tree p Pairs reply → reply ≡ not_built_reply at
-not_built_is at tree p reply large (pairs small are) = absurd cc
-not_built_is at tree p reply large (not_built large') = refl
-
 module _ {status : ℕ} {old now : Option (List ℕ)} where
-  only_reply : (replies : Reply → Type 0) (is : Reply) → replies is → ((reply : Reply) → replies reply → reply ≡ is) → Ends is status old now → EndsWith replies status old now
-  only_reply replies is one only ends = record {
-    some = λ a b. (is, one);
-    each = λ reply this. let P : Reply → Type 0 = λ r. Ends r status old now in subst P (sym (only reply this)) ends;
-  }
-
   pub ends_not_built : (at : Place) (tree : TextTree) (p : PlainProgram) → is_small_text tree p ≡ false → Ends (not_built_reply at) status old now → EndsWith (ProgramReplies at tree p Pairs) status old now
-  ends_not_built at tree p large = only_reply _ _ (not_built large) (λ reply this. not_built_is at tree p reply large this)
+  ends_not_built at tree p large = only_reply _ _ (not_built large) (λ reply this. program_reply this (not_built large))
 
   pub ends_run : (at : Place) (tree : TextTree) (p : PlainProgram) (workers budget : ℕ) → Ends (output p budget) status old now → EndsWith (ProgramReplies at tree p (Run workers budget)) status old now
-  ends_run at tree p workers budget = only_reply _ _ runs (λ reply this. run_is at tree p workers budget reply this)
+  ends_run at tree p workers budget = only_reply _ _ runs (λ reply this. program_reply this runs)
 
   pub ends_pairs : (at : Place) (tree : TextTree) (p : PlainProgram) (vs : List Verdict) → is_small_text tree p ≡ true → AreVerdicts p vs → Ends (record { status = 0; bytes = pairs_text p vs }) status old now → EndsWith (ProgramReplies at tree p Pairs) status old now
-  ends_pairs at tree p vs small are = only_reply _ _ (pairs small are) (λ reply this. pairs_are at tree p vs reply small are this)
+  ends_pairs at tree p vs small are = only_reply _ _ (pairs small are) (λ reply this. program_reply this (pairs small are))
 
 module _ {words : List (List ℕ)} {text : List ℕ} {status : ℕ} {old now : Option (List ℕ)} where
   pub ends_usage : IsUsageFault words → Ends usage_reply status old now → EndsWith (Replies words text) status old now
-  ends_usage fault ends = record { some = λ a b. (usage_reply, usage fault); each = each }
-    where
-      each : (reply : Reply) → Replies words text reply → Ends reply status old now
-      each reply (usage fault') = ends
-      each reply (named names replies) = absurd (fault _ names)
+  ends_usage fault = only_reply (Replies words text) usage_reply (usage fault) (λ reply this. one_reply this (usage fault))
 
   pub ends_named : (command : Command) → Names words command → EndsWith (CommandReplies command text) status old now → EndsWith (Replies words text) status old now
-  ends_named command names ends = record { some = λ a b. let s = ends.some a b in (s.0, named names s.1); each = each }
+  ends_named command names ends = record { some = some ends.some; each = each }
     where
+      some : Unreplied status old now ⊎ ((reply : Reply) × CommandReplies command text reply) → Unreplied status old now ⊎ ((reply : Reply) × Replies words text reply)
+      some (inl u) = inl u
+      some (inr s) = inr (s.0, named names s.1)
+
       each : (reply : Reply) → Replies words text reply → Ends reply status old now
       each reply (usage fault) = absurd (fault _ names)
       each reply (named {command = other} names' replies) =
           let P : Command → Type 0 = λ c. CommandReplies c text reply in
           ends.each reply (subst P (one_command _ other command names' names) replies)
+
+-- each command so far reads its source
+each_reads : (command : Command) → reads command ≡ false → ⊥
+each_reads (Run workers budget) e = cc
+each_reads Pairs e = cc
+
+pub some_read : {words : List (List ℕ)} (command : Command) → Names words command → ReadsNothing words → ⊥
+some_read command names nothing = each_reads command (nothing command names)

@@ -1,7 +1,9 @@
+pub mod AcceptedTyped
 pub mod Endings
 mod Examples
 pub mod ExtentTexts
 pub mod OneProgram
 pub mod OneRefusal
+pub mod OneReply
 pub mod OneVerdict
 pub mod StatusLemmas

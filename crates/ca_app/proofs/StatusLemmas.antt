@@ -22,7 +22,7 @@ use Rattle.ca_words.specs.Words.{Names}
 use Rattle.ca_app.specs.Accepted.{Accepted}
 use Rattle.ca_app.specs.Reply.{ProgramReplies, runs, pairs, not_built, refuses, serves, Replies, usage, named}
 use Rattle.ca_app.specs.Pairs.{AreVerdicts, pairs_text}
-use Rattle.ca_app.specs.Ends.{Ends, whole, no_memory, read_fault, write_fault, EndsWith, Complete}
+use Rattle.ca_app.specs.Ends.{Ends, whole, no_memory, read_fault, write_fault, Unreplied, EndsWith, Complete}
 use Rattle.ca_app.specs.Causes.{IsRefused, IsNotBuilt, RunEnds, PairsEnd, IsDone, IsTrapped, IsSpent}
 
 -- A reply that was given whole.
@@ -36,13 +36,21 @@ record Given (replies : Reply → Type 0) (status : ℕ) (old now : Option (List
 given : {replies : Reply → Type 0} {status : ℕ} {old now : Option (List ℕ)} → EndsWith replies status old now
     → (status ≡ 5 → ⊥) → (status ≡ 6 → ⊥) → (status ≡ 7 → ⊥) → Given replies status old now
 given {replies = replies} {status = status} {old = old} {now = now} ends a b c =
-    let s = ends.some a b in at s.1 (ends.each s.0 s.1)
+    from ends.some
   where
     at : {reply : Reply} → replies reply → Ends reply status old now → Given replies status old now
     at {reply} is (whole e w) = record { reply = reply; is_one = is; same = e; bytes = w }
     at is (no_memory e w) = absurd (a e)
     at is (read_fault e w) = absurd (b e)
     at is (write_fault e w) = absurd (c e)
+
+    early : (status ≡ 5) ⊎ (status ≡ 6) → ⊥
+    early (inl e) = a e
+    early (inr e) = b e
+
+    from : Unreplied status old now ⊎ ((reply : Reply) × replies reply) → Given replies status old now
+    from (inl u) = absurd (early u.cause)
+    from (inr s) = at s.1 (ends.each s.0 s.1)
 
 -- the status of a refusal says whether its code is that of a limit
 kind_of : (limit b : Bool) → refusal_status limit ≡ refusal_status b → b ≡ limit

@@ -12,7 +12,7 @@ use Rattle.ca_meaning.specs.Serial.{Ended, done, trapped, spent, serial}
 use Rattle.ca_meaning.specs.Commuting.{Commutes as DoCommute}
 use Rattle.ca_words.specs.declared.Command.{Command}
 use Rattle.ca_words.specs.declared.Command.TheVariants.{Run, Pairs}
-use Rattle.ca_words.specs.Words.{Names}
+use Rattle.ca_words.specs.Words.{Names, reads}
 use Rattle.ca_symbolic.specs.declared.verdicts.Verdict.{Verdict}
 use Rattle.ca_symbolic.specs.declared.verdicts.Verdict.TheVariants.{Commutes}
 use Rattle.ca_app.specs.Accepted.{Accepted}
@@ -22,6 +22,14 @@ use Rattle.ca_app.specs.Pairs.{AreVerdicts, pairs_text}
 -- the words name no command
 abbrev pub IsUsageFault : List (List ℕ) → Type 0
 IsUsageFault words = (c : Command) → Names words c → ⊥
+
+-- the words name no command, or one that doesn't read its source
+abbrev pub ReadsNothing : List (List ℕ) → Type 0
+ReadsNothing words = (c : Command) → Names words c → reads c ≡ false
+
+-- the words name a command that reads its source
+abbrev pub ReadsSource : List (List ℕ) → Type 0
+ReadsSource words = (c : Command) × Names words c × (reads c ≡ true)
 
 -- The text is refused, by a limit or not.
 pub record IsRefused (limit : Bool) (text : List ℕ) : Type 0 where

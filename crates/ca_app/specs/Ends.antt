@@ -10,9 +10,14 @@ pub data Ends (reply : Reply) (status : ℕ) (old now : Option (List ℕ)) : Typ
   read_fault : status ≡ 6 → now ≡ old → Ends reply status old now
   write_fault : status ≡ 7 → Began old now reply.bytes → Ends reply status old now
 
--- There is a reply of this kind, unless memory was wanting or a read failed; and the call ended with any that there is.
+-- Memory was wanting or a read failed before there was a reply, and nothing was written.
+pub record Unreplied (status : ℕ) (old now : Option (List ℕ)) : Type 0 where
+  pub cause : (status ≡ 5) ⊎ (status ≡ 6)
+  pub same : now ≡ old
+
+-- There is a reply of this kind, or nothing was written before there was one; and the call ended with any that there is.
 pub record EndsWith (replies : Reply → Type 0) (status : ℕ) (old now : Option (List ℕ)) : Type 0 where
-  pub some : (status ≡ 5 → ⊥) → (status ≡ 6 → ⊥) → (reply : Reply) × replies reply
+  pub some : Unreplied status old now ⊎ ((reply : Reply) × replies reply)
   pub each : (reply : Reply) → replies reply → Ends reply status old now
 
 -- status 7 comes only where the count of the sink's faults rose, and the count never falls

@@ -9,6 +9,7 @@
 //! are refused, `specs/Reply.antt` has the replies, and `specs/Ends.antt` how a call ends.
 #![tactic(auto)]
 
+mod laws;
 mod lines;
 mod pairs;
 mod reading;
@@ -17,4 +18,5 @@ mod serving;
 #[cfg(test)]
 mod tests;
 
+pub use laws::{accepted_programs_are_typed, one_reply};
 pub use serving::top;

@@ -7,9 +7,8 @@ ghost use Rattle.ca_model.specs.Heaps.{fields_of};
 ghost use Rattle.ca_model.specs.Lines.{Adds};
 ghost use Rattle.ca_app.specs.Pairs.{AreVerdicts, class_name, field_name, verdict_word, verdict_field, extent_text, extents_text, pairs_text};
 
-use ca_model::line::add_parts;
 use ca_base::{Failed, Memory, Sink};
-use ca_model::line::Line;
+use ca_model::line::{Line, add_parts};
 use ca_program::{Body, ClassId, FieldId, Method, OpId, Program, StmtForm};
 use ca_symbolic::{Extent, Reason, Verdict, verdict};
 use std::alloc::Global;

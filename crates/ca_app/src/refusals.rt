@@ -4,8 +4,8 @@ ghost use Rattle.std.specs.Prelude.{◌≡◌};
 ghost use Rattle.ca_base.specs.Devices.{HasCause, Writes};
 ghost use Rattle.ca_app.specs.Refusals.{is_limit_code, leading_zero, refusal_word, refusal_status, refusal_text};
 
-use ca_model::line::write_line;
 use ca_base::{Failed, Sink};
+use ca_model::line::write_line;
 use ca_resolve::Code;
 use ca_tree::Place;
 use itoa::Buffer;

@@ -5,13 +5,14 @@ ghost use Rattle.ca_base.specs.Devices.{Rose, Writes, at_end};
 ghost use Rattle.ca_tree.specs.View.{tree_view};
 ghost use Rattle.ca_program.specs.View.{program_view};
 ghost use Rattle.ca_meaning.specs.Output.{Reply, output, prints_text};
+ghost use Rattle.ca_meaning.specs.ProgramTyped.{ProgramTyped};
 ghost use Rattle.ca_meaning.specs.Serial.{serial};
 ghost use Rattle.ca_serial.specs.Runs.{run_with, prints_of, OnWrite};
 ghost use Rattle.ca_words.specs.Words.{texts};
-ghost use Rattle.ca_app.specs.Causes.{IsUsageFault, IsRefused, IsNotBuilt, RunEnds, PairsEnd, IsDone, IsTrapped, IsSpent};
+ghost use Rattle.ca_app.specs.Causes.{IsUsageFault, ReadsNothing, ReadsSource, IsRefused, IsNotBuilt, RunEnds, PairsEnd, IsDone, IsTrapped, IsSpent};
 ghost use Rattle.ca_app.specs.Ends.{Ends, EndsWith, SinkCause, Complete, IsReadToEnd, status_after};
 ghost use Rattle.ca_app.specs.Refusals.{refusal_reply};
-ghost use Rattle.ca_app.specs.Reply.{ProgramReplies, CommandReplies, Replies, usage_reply};
+ghost use Rattle.ca_app.specs.Reply.{ProgramReplies, CommandReplies, Replies};
 
 use crate::lines::{write_spent, write_trap};
 use crate::pairs::{verdicts_of, write_pairs};
@@ -25,6 +26,7 @@ use ca_serial::{NoExtents, Outcome, RunError, drive};
 use ca_words::{Command, command_of, usage_line};
 use std::alloc::Global;
 use std::sync::Wait;
+use std::thread::Threads;
 
 /// The most bytes of a source.
 const MOST_BYTES: u64 = 1_048_576;
@@ -48,10 +50,10 @@ const WRITE_FAULT: u8 = 7;
 /// Serves the words, which stand behind the program's name, over a source and a sink, and answers
 /// the exit status.
 ///
-/// The whole source is read before anything is written. Status 5 is want of memory, 6 a failed
+/// A command that reads its source reads the whole of it before anything is written. Status 5 is want of memory, 6 a failed
 /// read, 7 a failed write; every other status is that of the reply. The gate is for the workers of a
 /// parallel run: so far nothing passes it.
-pub fn top<R: AllocGlobal + Wait, S: Source, K: Sink, G: Gate>(
+pub fn top<R: AllocGlobal + Threads + Wait + Sync, S: Source, K: Sink, G: Gate>(
     rt: &R,
     words: &[String],
     source: &mut S,
@@ -73,18 +75,21 @@ pub fn top<R: AllocGlobal + Wait, S: Source, K: Sink, G: Gate>(
     ensures complete { (text : List ℕ) → S.left source.old ≡ Some text → (Rose (S.faults source.old) (S.faults source.new) → ⊥) → (Rose (K.faults sink.old) (K.faults sink.new) → ⊥)
         → (reply : Reply) → Replies (texts words.now) text reply → Complete reply result (K.written sink.old) (K.written sink.new) }
 
-    // Status 2 comes exactly where the words name no command. Then nothing is read, and memory is
-    // never wanting.
-    ensures usage { IsUsageFault (texts words.now) → Ends usage_reply result (K.written sink.old) (K.written sink.new) }
+    // Words that name no command, or one that doesn't read its source, leave the source as it was, and
+    // the reply is told whether or not the source tells its bytes.
+    ensures unread { ReadsNothing (texts words.now) → source.new ≡ source.old }
+    ensures unread_headline { ReadsNothing (texts words.now) → (text : List ℕ) → EndsWith (Replies (texts words.now) text) result (K.written sink.old) (K.written sink.new) }
+    ensures unread_fault { ReadsNothing (texts words.now) → result ≡ 6 → ⊥ }
+
+    // Status 2 comes only where the words name no command. Then memory is never wanting.
     ensures usage_status { IsUsageFault (texts words.now) → (result ≡ 2) ⊎ (result ≡ 7) }
-    ensures usage_unread { IsUsageFault (texts words.now) → source.new ≡ source.old }
     ensures usage_only { result ≡ 2 → IsUsageFault (texts words.now) }
 
     // Statuses 6 and 7 come only where the device failed in this call.
     ensures read_fault { result ≡ 6 → Rose (S.faults source.old) (S.faults source.new) }
     ensures write_fault { SinkCause result (K.faults sink.old) (K.faults sink.new) }
     ensures source_later { S.faults source.old ≤ S.faults source.new }
-    ensures read_to_end { IsReadToEnd result → S.left source.new ≡ at_end (S.left source.old) }
+    ensures read_to_end { ReadsSource (texts words.now) → IsReadToEnd result → S.left source.new ≡ at_end (S.left source.old) }
     ensures limit_read_to_end { (text : List ℕ) → S.left source.old ≡ Some text → length text ≤ 1048576 → result ≡ 8 → S.left source.new ≡ at_end (S.left source.old) }
 {
     let Some(command) = command_of(words) else {
@@ -94,7 +99,7 @@ pub fn top<R: AllocGlobal + Wait, S: Source, K: Sink, G: Gate>(
 }
 
 /// Serves a command on the text that the source has.
-fn serve<R: Wait, S: Source, K: Sink>(
+fn serve<R: Threads + Wait + Sync, S: Source, K: Sink>(
     rt: &R,
     alloc: Global,
     command: Command,
@@ -118,7 +123,7 @@ fn serve<R: Wait, S: Source, K: Sink>(
 }
 
 /// Serves a command on a text.
-fn serve_text<R: Wait, K: Sink>(
+fn serve_text<R: Threads + Wait + Sync, K: Sink>(
     rt: &R,
     alloc: Global,
     command: Command,
@@ -139,13 +144,14 @@ fn serve_text<R: Wait, K: Sink>(
 }
 
 /// Serves a command on the program that was read.
-fn serve_program<R: Wait, K: Sink>(
+fn serve_program<R: Threads + Wait + Sync, K: Sink>(
     rt: &R,
     alloc: Global,
     command: Command,
     reading: &Reading,
     sink: &mut K,
 ) -> u8
+    requires { ProgramTyped (program_view reading.now.program) }
     ensures ends { EndsWith (ProgramReplies reading.now.start (tree_view reading.now.tree) (program_view reading.now.program) command) result (K.written sink.old) (K.written sink.new) }
     ensures write_fault { SinkCause result (K.faults sink.old) (K.faults sink.new) }
     ensures no_read_fault { result ≡ 6 → ⊥ }
@@ -185,13 +191,14 @@ fn pair_program<K: Sink>(alloc: Global, reading: &Reading, sink: &mut K) -> u8
 }
 
 /// Runs a program. What it prints is written as it comes.
-fn run_program<R: Wait, K: Sink>(
+fn run_program<R: Threads + Wait + Sync, K: Sink>(
     rt: &R,
     alloc: Global,
     program: &Program,
     budget: u32,
     sink: &mut K,
 ) -> u8
+    requires { ProgramTyped (program_view program.now) }
     ensures ends { Ends (output (program_view program.now) budget) result (K.written sink.old) (K.written sink.new) }
     ensures write_fault { SinkCause result (K.faults sink.old) (K.faults sink.new) }
     ensures no_read_fault { result ≡ 6 → ⊥ }
@@ -207,13 +214,14 @@ fn run_program<R: Wait, K: Sink>(
 }
 
 /// Runs a program of which nothing is marked.
-fn run_unmarked<R: Wait, K: Sink>(
+fn run_unmarked<R: Threads + Wait + Sync, K: Sink>(
     rt: &R,
     alloc: Global,
     program: &Program,
     budget: u64,
     sink: &mut K,
 ) -> Result<Outcome, RunError>
+    requires { ProgramTyped (program_view program.now) }
     ensures outcome { IfOk result (λ outcome. serial (program_view program.now) budget ≡ run_with (prints_of (serial (program_view program.now) budget)) outcome) }
     ensures prints { Writes (K.written sink.old) (K.written sink.new) result (prints_text (prints_of (serial (program_view program.now) budget))) }
     ensures write { OnWrite result (Rose (K.faults sink.old) (K.faults sink.new)) }

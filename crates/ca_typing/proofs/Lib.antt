@@ -11,5 +11,5 @@ mod Typing
 mod LiteralTokens
 mod LiteralExpressions
 mod LiteralTrees
-mod Texts
+pub mod Texts
 mod Examples

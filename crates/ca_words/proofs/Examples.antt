@@ -1,8 +1,8 @@
 -- Worked examples of the words of a command and of the usage line.
-use Rattle.std.proofs.Common.{◌≡◌, [], ◌∷◌, take, drop, codes, refl, arith}
+use Rattle.std.proofs.Common.{◌≡◌, [], ◌∷◌, take, drop, codes, refl, arith, true}
 use Rattle.std.specs.Fmt.{digits}
 use Rattle.ca_words.specs.declared.Command.TheVariants.{Run}
-use Rattle.ca_words.specs.Words.{words_of, Names, usage_text}
+use Rattle.ca_words.specs.Words.{words_of, Names, reads, usage_text}
 
 run_with_budget_100 : words_of (Run 1 100) ≡ codes "run" ∷ codes "1" ∷ codes "100" ∷ []
 unfolding digits
@@ -21,3 +21,6 @@ usage_begins = refl
 
 usage_ends : drop 89 usage_text ≡ codes "WORKERS\n"
 usage_ends = refl
+
+reads_its_source : reads (Run 1 100) ≡ true
+reads_its_source = refl

@@ -1,5 +1,5 @@
 -- What the words of the command line name, and the usage line.
-use Rattle.std.specs.Prelude.{◌≡◌, ℕ, ◌≤◌, List, [], ◌∷◌, map, codes, decimal, String, string_bytes}
+use Rattle.std.specs.Prelude.{◌≡◌, Bool, true, ℕ, ◌≤◌, List, [], ◌∷◌, map, codes, decimal, String, string_bytes}
 use Rattle.std.specs.declared.alloc.Global.{Global}
 use Rattle.ca_words.specs.declared.Command.{Command}
 use Rattle.ca_words.specs.declared.Command.TheVariants.{Run, Pairs}
@@ -38,6 +38,11 @@ pub record Spells (words : List (List ℕ)) (command : Command) : Type 0 where
 pub record Names (words : List (List ℕ)) (command : Command) : Type 0 where
   pub spells : Spells words command
   pub built : IsBuilt command
+
+-- whether the command reads its source
+abbrev pub reads : Command → Bool
+reads (Run workers budget) = true
+reads Pairs = true
 
 abbrev pub usage_text : List ℕ
 usage_text = codes "usage: commute run WORKERS BUDGET | pairs | plan | emit | gen SEED SIZE | load SEED SIZE WORKERS\n"

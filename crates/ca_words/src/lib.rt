@@ -8,7 +8,7 @@
 //! command line is told from want of memory whatever is left.
 #![tactic(auto)]
 
-ghost use Rattle.std.specs.Prelude.{◌≡◌, ℕ, ◌≤◌, ◌↔◌, List, IsTrue, IfSome, IfNone, decimal};
+ghost use Rattle.std.specs.Prelude.{◌≡◌, ℕ, ◌<◌, ◌≤◌, ◌↔◌, List, IsTrue, IfSome, IfNone, decimal};
 ghost use Rattle.ca_words.specs.declared.Command.{Command};
 ghost use Rattle.ca_words.specs.Words.{texts, IsBuilt, Spells, Names, usage_text};
 
@@ -63,6 +63,45 @@ pub fn usage_line() -> &'static [u8]
     b"usage: commute run WORKERS BUDGET | pairs | plan | emit | gen SEED SIZE | load SEED SIZE WORKERS\n"
 }
 
+/// The number from `least` to `most` that the word is. A number is its decimal digits, with no sign and
+/// no leading zero.
+pub fn number_of(word: &str, least: u64, most: u64) -> Option<u64>
+    ensures some { IfSome result (λ n. (word.now ≡ decimal n) × (least ≤ n) × (n ≤ most)) }
+    ensures none { IfNone result ((n : ℕ) → least ≤ n → n ≤ most → word.now ≡ decimal n → ⊥) }
+{
+    match number_in(word) {
+        Some(number) if least <= number && number <= most => Some(number),
+        _ => None,
+    }
+}
+
+// The number below 2^64 that the word is.
+fn number_in(word: &str) -> Option<u64>
+    ensures some { IfSome result (λ n. word.now ≡ decimal n) }
+    ensures none { IfNone result ((n : ℕ) → n < 18446744073709551616 → word.now ≡ decimal n → ⊥) }
+{
+    if word == "0" {
+        return Some(0);
+    }
+    match word.as_bytes() {
+        // `parse` alone would take a plus and leading zeros, which no number has.
+        [b'1'..=b'9', ..] => match word.parse::<u64>() {
+            Ok(number) => Some(number),
+            Err(_) => None,
+        },
+        _ => None,
+    }
+}
+
+// The number from 1 to `most` that the word is.
+fn count_of(word: &str, most: u32) -> Option<u32>
+    ensures some { IfSome result (λ n. (word.now ≡ decimal n) × (1 ≤ n) × (n ≤ most)) }
+    ensures none { IfNone result ((n : ℕ) → 1 ≤ n → n ≤ most → word.now ≡ decimal n → ⊥) }
+{
+    let number = number_of(word, 1, u64::from(most))?;
+    Some(number as u32)
+}
+
 // The command that the words spell, whether it is built or not.
 fn spelled(words: &[String]) -> Option<Command>
     ensures some { IfSome result (Spells (texts words.now)) }
@@ -70,25 +109,10 @@ fn spelled(words: &[String]) -> Option<Command>
 {
     match words {
         [name, workers, budget] if name.as_str() == "run" => Some(Command::Run {
-            workers: number_of(workers.as_str(), Command::MOST_WORKERS)?,
-            budget: number_of(budget.as_str(), Command::MOST_BUDGET)?,
+            workers: count_of(workers.as_str(), Command::MOST_WORKERS)?,
+            budget: count_of(budget.as_str(), Command::MOST_BUDGET)?,
         }),
         [name] if name.as_str() == "pairs" => Some(Command::Pairs),
-        _ => None,
-    }
-}
-
-// The number from 1 to `most` that the word is.
-fn number_of(word: &str, most: u32) -> Option<u32>
-    ensures some { IfSome result (λ n. (word.now ≡ decimal n) × (1 ≤ n) × (n ≤ most)) }
-    ensures none { IfNone result ((n : ℕ) → 1 ≤ n → n ≤ most → word.now ≡ decimal n → ⊥) }
-{
-    match word.as_bytes() {
-        // `parse` alone would take a plus and leading zeros, which no number has.
-        [b'1'..=b'9', ..] => match word.parse::<u32>() {
-            Ok(number) if number <= most => Some(number),
-            _ => None,
-        },
         _ => None,
     }
 }

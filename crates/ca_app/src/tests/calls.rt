@@ -4,6 +4,7 @@ use crate::top;
 use ca_base::{MemSink, MemSource, OpenGate};
 use std::alloc::{AllocError, Global};
 use std::sync::Wait;
+use std::thread::Threads;
 
 /// The words of a command line that is written with one space between them.
 pub fn words(alloc: Global, line: &str) -> Result<Vec<String>, AllocError> {
@@ -41,7 +42,10 @@ impl<'a> Call<'a> {
     }
 
     /// The status of the call, and what it wrote.
-    pub fn run<R: AllocGlobal + Wait>(self, rt: &R) -> Result<(u8, Vec<u8>), AllocError> {
+    pub fn run<R: AllocGlobal + Threads + Wait + Sync>(
+        self,
+        rt: &R,
+    ) -> Result<(u8, Vec<u8>), AllocError> {
         let text = Vec::from_slice(rt.alloc(), self.text)?;
         let mut source = MemSource::new(text, vec![in rt.alloc(); self.failing.0; 1]?);
         let failing_writes = vec![in rt.alloc(); self.failing.1; 1]?;
@@ -54,7 +58,7 @@ impl<'a> Call<'a> {
     }
 
     /// The status of the call, and whether it wrote these bytes.
-    pub fn writes<R: AllocGlobal + Wait>(
+    pub fn writes<R: AllocGlobal + Threads + Wait + Sync>(
         self,
         rt: &R,
         written: &[u8],

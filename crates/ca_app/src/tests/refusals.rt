@@ -5,9 +5,14 @@ use crate::tests::refused::REFUSED;
 use crate::tests::sources::GRAPH_VISIT;
 use std::alloc::{AllocError, Global};
 use std::sync::Wait;
+use std::thread::Threads;
 
 /// Whether a text is refused by this line.
-fn is_refused<R: AllocGlobal + Wait>(rt: &R, text: &str, line: &str) -> Result<bool, AllocError> {
+fn is_refused<R: AllocGlobal + Threads + Wait + Sync>(
+    rt: &R,
+    text: &str,
+    line: &str,
+) -> Result<bool, AllocError> {
     let written = format!(in rt.alloc(); "{line}\n")?;
     let status = if line.starts_with("limit") { 8 } else { 1 };
     let ended = Call::new("run 1 1", text).writes(rt, written.as_bytes())?;
@@ -59,7 +64,7 @@ impl Parts {
 }
 
 /// Texts that reach a limit of names and types with so many parts, and what one part more is told.
-const LIMITED: [(u32, Parts, &str); 10] = [
+const LIMITED: [(u32, Parts, &str); 11] = [
     (
         256,
         Parts {
@@ -84,6 +89,17 @@ const LIMITED: [(u32, Parts, &str); 10] = [
         256,
         Parts {
             front: "class A { public:\n",
+            before: "void m",
+            behind: "() { }\n",
+            back: "}; int main() { }",
+        },
+        "limit 258:6 E52\n",
+    ),
+    // One part more is named like a field, of which nothing is told.
+    (
+        256,
+        Parts {
+            front: "class A { public: long m256;\n",
             before: "void m",
             behind: "() { }\n",
             back: "}; int main() { }",

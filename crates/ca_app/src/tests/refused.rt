@@ -42,6 +42,7 @@ int main() { m(); } => error 1:14 E24
 class A { public: long f() { { return 1; ; } } }; int main() { } => error 1:24 E30
 int main() { print(1 == nullptr); } => error 1:22 E25
 int main() { print(nullptr); } => error 1:20 E25
+class A { public: long f() { print(nullptr); return 1; } }; int main() { } => error 1:36 E25
 int main() { { long x; } x = 1; } => error 1:26 E24
 int main() { long x = x; } => error 1:23 E24
 class A { public: void m() { } long f() { m(); return 1; } }; int main() { } => error 1:43 E29

@@ -4,14 +4,14 @@ use Rattle.ca_words.specs.Words.{texts}
 use Rattle.ca_words.proofs.Items.{one_item, three_items}
 use Rattle.ca_words.proofs.spelled.Goals as goal
 
-pub returns-in_ok-number_of-in-len3-2-clause-some :
-    goal.returns-in_ok-number_of-in-len3-2-clause-some
-returns-in_ok-number_of-in-len3-2-clause-some c =
+pub returns-in_ok-count_of-in-len3-2-clause-some :
+    goal.returns-in_ok-count_of-in-len3-2-clause-some
+returns-in_ok-count_of-in-len3-2-clause-some c =
     let words = three_items c.args.words.now _ _ _ (omega arith) c.name-item-then-words-lt4.is c.workers-item.is c.budget-item.is in
     let name = (bytes_eq-Decides c.as_str-then-words-lt4.result.now (codes "run")).0 (sym c.if-eq-2.ensures) in
-    let workers = c.in_ok-number_of-in-len3.ensures.some in
-    let budget = c.in_ok-number_of-in-len3-2.ensures.some in
-    let spelled : texts c.args.words.now ≡ codes "run" ∷ decimal c.in_ok-number_of-in-len3.field-0 ∷ decimal c.in_ok-number_of-in-len3-2.field-0 ∷ [] = rw words cc in
+    let workers = c.in_ok-count_of-in-len3.ensures.some in
+    let budget = c.in_ok-count_of-in-len3-2.ensures.some in
+    let spelled : texts c.args.words.now ≡ codes "run" ∷ decimal c.in_ok-count_of-in-len3.field-0 ∷ decimal c.in_ok-count_of-in-len3-2.field-0 ∷ [] = rw words cc in
     record { spelled = spelled; in_range = ((omega arith, omega arith), (omega arith, omega arith)) }
 
 pub returns-in-len1-clause-some : goal.returns-in-len1-clause-some

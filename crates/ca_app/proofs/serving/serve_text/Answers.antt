@@ -1,3 +1,5 @@
+use Rattle.std.proofs.Common.{rules}
+use Rattle.ca_app.proofs.AcceptedTyped.{accepted_is_typed}
 use Rattle.ca_app.proofs.Endings.{ends_refused, ends_program}
 use Rattle.ca_app.proofs.serving.serve_text.Goals as goal
 
@@ -6,3 +8,6 @@ returns-in-Err-Refused-clause-ends g c = ends_refused (rw c.in-Err-Refused.field
 
 pub returns-in-Ok-clause-ends : goal.returns-in-Ok-clause-ends
 returns-in-Ok-clause-ends g c = ends_program _ _ _ c.in-Ok.ensures.program c.in-Ok.ensures.tree c.in-Ok.ensures.begins c.serve_program.ensures.ends
+
+pub serve_program-requires : goal.serve_program-requires
+serve_program-requires g c = (search rules, accepted_is_typed c.in-Ok.ensures.program.accepted)

@@ -1,12 +1,34 @@
 use Rattle.std.proofs.Common.{arith}
-use Rattle.ca_app.proofs.Endings.{ends_usage, ends_named, ends_written, after_six, after_seven}
+use Rattle.ca_app.proofs.Endings.{ends_usage, ends_named, ends_written, after_six, after_seven, some_read}
 use Rattle.ca_app.proofs.StatusLemmas.{when_0, when_1, when_3, when_4, when_8, completely}
 use Rattle.ca_app.proofs.serving.top.Goals as goal
 
-pub returns-in_default-clause-headline : goal.returns-in_default-clause-headline
-returns-in_default-clause-headline g c = λ text told.
+pub returns-in_default-clause-unread_headline : goal.returns-in_default-clause-unread_headline
+returns-in_default-clause-unread_headline g c = λ nothing text.
     let written = rw c.usage_line.ensures at c.write_all.ensures.bytes in
     ends_usage c.in_default.ensures.only (ends_written _ _ _ _ _ _ written c.finish.ensures)
+
+pub returns-in_default-clause-headline : goal.returns-in_default-clause-headline
+returns-in_default-clause-headline g c = λ text told.
+    returns-in_default-clause-unread_headline g c (λ command names. absurd (c.in_default.ensures.only command names)) text
+
+pub returns-in_default-clause-unread_fault : goal.returns-in_default-clause-unread_fault
+returns-in_default-clause-unread_fault g c = λ nothing. after_six c.write_all.result 2 _ c.finish.ensures (λ e. omega arith)
+
+pub returns-in_default-clause-read_to_end : goal.returns-in_default-clause-read_to_end
+returns-in_default-clause-read_to_end g c = λ reads is. absurd (c.in_default.ensures.only reads.0 reads.1)
+
+pub returns-clause-read_to_end : goal.returns-clause-read_to_end
+returns-clause-read_to_end g c = λ reads is. c.serve.ensures.read_to_end is
+
+pub returns-clause-unread : goal.returns-clause-unread
+returns-clause-unread g c = λ nothing. absurd (some_read _ c.in-Some.ensures.named nothing)
+
+pub returns-clause-unread_headline : goal.returns-clause-unread_headline
+returns-clause-unread_headline g c = λ nothing. absurd (some_read _ c.in-Some.ensures.named nothing)
+
+pub returns-clause-unread_fault : goal.returns-clause-unread_fault
+returns-clause-unread_fault g c = λ nothing. absurd (some_read _ c.in-Some.ensures.named nothing)
 
 pub returns-clause-headline : goal.returns-clause-headline
 returns-clause-headline g c = λ text told. ends_named _ c.in-Some.ensures.named (c.serve.ensures.headline text told)

@@ -1,0 +1,62 @@
+-- Words and a text have one reply at most.
+use Rattle.std.proofs.Common.{◌≡◌, ℕ, List, refl, ap, ◌∙◌, subst}
+use Rattle.ca_tree.specs.declared.name.Place.{Place}
+use Rattle.ca_tree.specs.Plain.{TextTree}
+use Rattle.ca_program.specs.Plain.{PlainProgram}
+use Rattle.ca_parse.proofs.OneTree.{tree_is_one}
+use Rattle.ca_meaning.specs.Output.{Reply}
+use Rattle.ca_symbolic.specs.declared.verdicts.Verdict.{Verdict}
+use Rattle.ca_words.specs.declared.Command.{Command}
+use Rattle.ca_words.proofs.OneCommand.{one_command}
+use Rattle.ca_app.specs.Accepted.{HasTree, Accepted}
+use Rattle.ca_app.specs.Refusals.{RefusedAt, too_long, no_token, wrong_token, deep_token, violates, refusal_reply}
+use Rattle.ca_app.specs.Reading.{HasOneTree, IsProgramOf, IsRefusalOf}
+use Rattle.ca_app.specs.Reply.{ProgramReplies, runs, pairs, not_built, CommandReplies, refuses, serves, Replies, usage, named}
+use Rattle.ca_app.specs.Pairs.{pairs_text}
+use Rattle.ca_app.proofs.OneVerdict.{one_list}
+use Rattle.ca_app.proofs.OneProgram.{derived_by, one_start}
+use Rattle.ca_app.proofs.OneRefusal.{refused_as_long, refused_no_token, refused_wrong, refused_deep, refused_violation, program_of_tree}
+
+-- a text has one tree at most
+has_one : {text : List ℕ} {tree : TextTree} → HasTree text tree → HasOneTree text tree
+has_one {tree = tree} h = record { is = h; only = λ other o. tree_is_one h.tokens 0 0 other tree (derived_by h.has_tokens o) h.derived }
+
+is_refusal : {text : List ℕ} {at : Place} {code : ℕ} → RefusedAt text at code → IsRefusalOf text at code
+is_refusal (too_long more) = refused_as_long more
+is_refusal (no_token short fault) = refused_no_token short fault
+is_refusal (wrong_token tokens first) = refused_wrong tokens first
+is_refusal (deep_token tokens first) = refused_deep tokens first
+is_refusal (violates {v = v} tree least) = refused_violation v (has_one tree) least
+
+is_program : {text : List ℕ} {p : PlainProgram} → Accepted text p → IsProgramOf text p
+is_program accepted = program_of_tree (has_one accepted.has_tree) accepted.resolved
+
+-- a command has one reply to a program
+pub program_reply : {at : Place} {tree : TextTree} {p : PlainProgram} {command : Command} {r s : Reply} → ProgramReplies at tree p command r → ProgramReplies at tree p command s → r ≡ s
+program_reply runs runs = refl
+program_reply {p = p} (pairs {vs = vs} small are) (pairs {vs = ws} small' others) =
+    let P : List Verdict → Reply = λ z. record { status = 0; bytes = pairs_text p z } in ap P (one_list p vs ws are others)
+program_reply (pairs small are) (not_built large) = absurd cc
+program_reply (not_built large) (pairs small are) = absurd cc
+program_reply (not_built large) (not_built large') = refl
+
+-- and one to a text
+pub command_reply : {command : Command} {text : List ℕ} {r s : Reply} → CommandReplies command text r → CommandReplies command text s → r ≡ s
+command_reply (refuses {at = p} {code = c} one) (refuses {at = q} {code = d} other) =
+    let is = is_refusal other in
+    ap (λ x. refusal_reply x c) (is.place p c one) ∙ ap (λ x. refusal_reply q x) (is.number p c one)
+command_reply (refuses refused) (serves accepted begins replies) = absurd ((is_refusal refused).unaccepted _ accepted)
+command_reply (serves accepted begins replies) (refuses {at = q} {code = d} refused) = absurd ((is_program accepted).unrefused q d refused)
+command_reply {command} {r = r} (serves {p = p} accepted begins replies) (serves {p = q} {at = at} accepted' begins' replies') =
+    let P : PlainProgram → Type 0 = λ x. ProgramReplies at accepted'.tree x command r in
+    let Q : TextTree → Type 0 = λ x. ProgramReplies at x p command r in
+    let R : Place → Type 0 = λ x. ProgramReplies x accepted.tree p command r in
+    program_reply (subst P ((is_program accepted').only p accepted) (subst Q ((has_one accepted'.has_tree).only accepted.tree accepted.has_tree) (subst R (one_start begins begins') replies))) replies'
+
+pub one_reply : {words : List (List ℕ)} {text : List ℕ} {r s : Reply} → Replies words text r → Replies words text s → r ≡ s
+one_reply (usage fault) (usage fault') = refl
+one_reply (usage fault) (named names replies) = absurd (fault _ names)
+one_reply (named names replies) (usage fault) = absurd (fault _ names)
+one_reply {words} {text} {r = r} (named {command = c} names replies) (named {command = d} names' replies') =
+    let P : Command → Type 0 = λ x. CommandReplies x text r in
+    command_reply (subst P (one_command words c d names names') replies) replies'

@@ -1,0 +1,18 @@
+//! Laws of texts that are accepted, and of replies.
+
+ghost use Rattle.std.specs.Prelude.{◌≡◌, ℕ, List};
+ghost use Rattle.ca_program.specs.Plain.{PlainProgram};
+ghost use Rattle.ca_meaning.specs.Output.{Reply};
+ghost use Rattle.ca_meaning.specs.ProgramTyped.{ProgramTyped};
+ghost use Rattle.ca_app.specs.Accepted.{Accepted};
+ghost use Rattle.ca_app.specs.Reply.{Replies};
+
+/// The program of an accepted text is well typed.
+pub fn accepted_programs_are_typed()
+    ensures { (text : List ℕ) (p : PlainProgram) → Accepted text p → ProgramTyped p }
+{}
+
+/// Words and a text have one reply at most.
+pub fn one_reply()
+    ensures { (words : List (List ℕ)) (text : List ℕ) (r s : Reply) → Replies words text r → Replies words text s → r ≡ s }
+{}
