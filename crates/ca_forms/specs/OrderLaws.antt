@@ -1,13 +1,11 @@
 -- The order of monomials is total, and it ties what `==` finds equal. The impls of the comparisons cite it.
-use Rattle.std.proofs.Common.{◌≡◌, ℕ, refl, arith, ◌==◌, ◌&&◌, Ordering, Less, Equal, nat_cmp, is_eq}
-use Rattle.std.specs.Cmp.{IsTotalOrder, IsPartialOrder, partial_order_from_agreeing_total}
-use Rattle.std.specs.Ordering.{ordering_reverse, ordering_then, then_cmp, on, eq_by_cmp, as_partial_cmp}
-use Rattle.std.proofs.lemmas.Cmp.{nat_cmp_total, on_total, then_total}
-use Rattle.std.proofs.lemmas.Bool.Decides.{nat_tests}
-use Rattle.ca_norm.specs.declared.form.Monomial.{Monomial}
-use Rattle.ca_norm.specs.declared.form.Monomial.TheVariants.{One, Atom}
-use Rattle.ca_norm.specs.contracts.form.MonomialPartialEq.TheImpl.{ghosts as equals}
-use Rattle.ca_norm.specs.Order.{monomial_cmp}
+use Rattle.std.proofs.Common.{◌≡◌, ℕ, refl, Ordering, Less, Equal, nat_cmp}
+use Rattle.std.specs.Cmp.{IsTotalOrder, IsPartialOrder, nat_cmp_total, unsigned_ties, on_total, then_total, both_tied, partial_order_from_agreeing_total}
+use Rattle.std.specs.Ordering.{ordering_reverse, then_cmp, on, eq_by_cmp, as_partial_cmp}
+use Rattle.ca_forms.specs.declared.form.Monomial.{Monomial}
+use Rattle.ca_forms.specs.declared.form.Monomial.TheVariants.{One, Atom}
+use Rattle.ca_forms.specs.contracts.form.MonomialPartialEq.TheImpl.{ghosts as equals}
+use Rattle.ca_forms.specs.Order.{monomial_cmp}
 
 -- atoms, by their group and number
 abbrev pair_cmp : ℕ × ℕ → ℕ × ℕ → Ordering
@@ -36,14 +34,11 @@ alike x y z e = cc
 pub monomials_total : IsTotalOrder monomial_cmp
 monomials_total = record { antisymm = turned; trans = chained; congr = alike }
 
-tied_atoms : (g h m n : ℕ) → (g == h && m == n) ≡ is_eq (ordering_then (nat_cmp g h) (nat_cmp m n))
-tied_atoms g h m n = grind (arith, nat_tests)
-
 pub monomials_tied : (x y : Monomial) → equals.eq x y ≡ eq_by_cmp monomial_cmp x y
 monomials_tied One One = refl
 monomials_tied One (Atom h n) = refl
 monomials_tied (Atom g m) One = refl
-monomials_tied (Atom g m) (Atom h n) = tied_atoms g h m n
+monomials_tied (Atom g m) (Atom h n) = both_tied _ _ (nat_cmp g h) (nat_cmp m n) (unsigned_ties g h) (unsigned_ties m n)
 
 pub monomials_partial : IsPartialOrder equals.eq (as_partial_cmp monomial_cmp)
 monomials_partial = partial_order_from_agreeing_total monomial_cmp monomials_total (λ x y. refl) monomials_tied
