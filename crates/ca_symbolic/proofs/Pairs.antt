@@ -1,6 +1,6 @@
 -- A pair whose verdict is Commutes does commute.
 use Rattle.std.proofs.Common.{◌≡◌, ℕ, zero, suc, List, [], length, take, Option, Some, None, refl, ap, ap₂, sym, subst, ◌∙◌, arith, take_all}
-use Rattle.std.specs.Prelude.{slice_get, count_by}
+use Rattle.std.specs.Prelude.{slice_get}
 use Rattle.std.proofs.lemmas.Option.{slice_get-map}
 use Rattle.ca_program.specs.declared.program.ClassId.{ClassId}
 use Rattle.ca_program.specs.declared.program.FieldId.{FieldId}
@@ -16,6 +16,7 @@ use Rattle.ca_model.specs.declared.value.Slot.{Slot}
 use Rattle.ca_model.specs.Heaps.{fields_of}
 use Rattle.ca_model.specs.Typed.{SlotsTyped, ObjectTyped}
 use Rattle.ca_meaning.specs.Functions.{body_of}
+use Rattle.ca_meaning.specs.Multisets.{weight}
 use Rattle.ca_meaning.specs.Sections.{Outcome, done, section}
 use Rattle.ca_meaning.specs.WellTyped.{IsMethodOf, parameters_of, CallTyped, ValuesTyped}
 use Rattle.ca_meaning.specs.Commuting.{joined, OrderCompletes, IsComplete, CommutesOn, Commutes}
@@ -49,7 +50,7 @@ commute_on p typed h r o a xs b ys e = record {
       let j = order_leaves p typed h r o b ys a xs n u in
       record {
         object = ap (λ (z : Outcome). z.object) i ∙ e ∙ sym (ap (λ (z : Outcome). z.object) j);
-        listed = λ test. ap (λ (z : Outcome). count_by test z.listed) i ∙ sym (ap (λ (z : Outcome). count_by test z.listed) j);
+        listed = record { weighed = λ f. ap (λ (z : Outcome). weight f z.listed) i ∙ sym (ap (λ (z : Outcome). weight f z.listed) j) };
         steps = ap (λ (z : Outcome). z.steps) i ∙ sym (ap (λ (z : Outcome). z.steps) j);
       };
 }

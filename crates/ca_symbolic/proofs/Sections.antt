@@ -18,7 +18,7 @@ use Rattle.ca_meaning.specs.Operators.{assigned}
 use Rattle.ca_meaning.specs.Expressions.{gives, one_in, slots_in, invocation}
 use Rattle.ca_meaning.specs.Flows.{goes_on, and_on, with, exec_all}
 use Rattle.ca_meaning.specs.Functions.{place, own_of, body_of, functions_of, value_in}
-use Rattle.ca_meaning.specs.Serial.{World, Operations, operations, operations_of, operation_parts, operation_act, own_value, put_own, came_back, run_call}
+use Rattle.ca_meaning.specs.Serial.{World, in_heap, Operations, operations, operations_of, operation_parts, operation_act, own_value, put_own, came_back, run_call}
 use Rattle.ca_meaning.specs.Sections.{Section, Outcome, done, with_own, section_place, section_value, section_act, section_parts, section_start, sectioned, section, then_listed}
 use Rattle.ca_symbolic.proofs.Puts.{put_value, own_puts, after_body, put_runs, put_is, put_body}
 
@@ -70,45 +70,42 @@ get_set [] r o q e = cc
 get_set (x ∷ h) zero o q e = refl
 get_set (x ∷ h) (suc r) o q e = get_set h r o q e
 
-abbrev world : List Datum → List Object → World
-world prints h = record { heap = h; prints = prints }
-
 abbrev with_slots : Object → List Slot → Object
 with_slots o slots = record { class = o.class; slots = slots }
 
-module _ (p : PlainProgram) (ops : Operations) (prints : List Datum) (r : ℕ) (c : ClassId) (fs : List FieldInfo) (tys : List ValueType) (ls : List Datum) (k : ℕ) where
+module _ (p : PlainProgram) (ops : Operations) (w : World) (r : ℕ) (c : ClassId) (fs : List FieldInfo) (tys : List ValueType) (ls : List Datum) (k : ℕ) where
   -- puts on object r of a heap are puts on the object alone, put back
   pub serial_puts : (body : Statements) (h : List Object) (o : Object) → slice_get h r ≡ Some o → PutsTyped c fs tys body
-      → exec_all (operation_parts p ops (Ref r)) ls (world prints h) body k ≡ goes_on ls (world prints (slice_set h r (with_slots o (own_puts o.slots ls body)))) k
-  serial_puts no_statements h o e t = ap (λ z. goes_on ls (world prints z) k) (sym (set_self h r o e))
+      → exec_all (operation_parts p ops (Ref r)) ls (in_heap w h) body k ≡ goes_on ls (in_heap w (slice_set h r (with_slots o (own_puts o.slots ls body)))) k
+  serial_puts no_statements h o e t = ap (λ z. goes_on ls (in_heap w z) k) (sym (set_self h r o e))
   serial_puts (statement_and (put_field line f Put v) rest) h o e t =
-      let old : Datum = own_value (world prints h) (Ref r) f in
+      let old : Datum = own_value (in_heap w h) (Ref r) f in
       let value : value_in p.functions h (Ref r) line ls v k ≡ gives (put_value ls (own_of h (Ref r)) v) k =
       put_runs c fs tys (functions_of p.functions h).call (place h (Ref r) line ls) k (slice_get fs f.field) v t.1 in
       let new : Datum = put_value ls o.slots v in
       let slots : own_of h (Ref r) ≡ o.slots = ap slots_in e in
-      let put : operation_act p (Ref r) line ls (world prints h) (put_field line f Put v) k ≡ goes_on ls (world prints (slice_set h r (with_slots o (put_slot o.slots f.field 0 new)))) k =
-      ap (λ x. with x (world prints h) (λ v k. goes_on ls (world prints (put_own h (Ref r) f 0 (assigned Put old v))) k)) value
-      ∙ ap (λ x. goes_on ls (world prints (put_own h (Ref r) f 0 x)) k) (put_is old (put_value ls (own_of h (Ref r)) v) ∙ ap (λ x. put_value ls x v) slots)
-      ∙ ap (λ x. goes_on ls (world prints x) k) (sym (stored_is h r f.field 0 new o e)) in
+      let put : operation_act p (Ref r) line ls (in_heap w h) (put_field line f Put v) k ≡ goes_on ls (in_heap w (slice_set h r (with_slots o (put_slot o.slots f.field 0 new)))) k =
+      ap (λ x. with x (in_heap w h) (λ v k. goes_on ls (in_heap w (put_own h (Ref r) f 0 (assigned Put old v))) k)) value
+      ∙ ap (λ x. goes_on ls (in_heap w (put_own h (Ref r) f 0 x)) k) (put_is old (put_value ls (own_of h (Ref r)) v) ∙ ap (λ x. put_value ls x v) slots)
+      ∙ ap (λ x. goes_on ls (in_heap w x) k) (sym (stored_is h r f.field 0 new o e)) in
       let next : Object = with_slots o (put_slot o.slots f.field 0 new) in
       ap (λ x. and_on x (λ ls s k. exec_all (operation_parts p ops (Ref r)) ls s rest k)) put
       ∙ serial_puts rest (slice_set h r next) next (get_set h r o next e) t.2
-      ∙ ap (λ x. goes_on ls (world prints x) k) (set_again h r next (with_slots o (own_puts next.slots ls rest)))
+      ∙ ap (λ x. goes_on ls (in_heap w x) k) (set_again h r next (with_slots o (own_puts next.slots ls rest)))
   serial_puts (statement_and s rest) h o e t = absurd t
 
 less_one : (k : ℕ) → k ≡ suc k - 1
 less_one k = omega arith
 
-pub section_then_list : (p : PlainProgram) → TypedPuts p → (op : OpId) (r : ℕ) (xs : List Datum) (h : List Object) (prints : List Datum) (o : Object) (k : ℕ) → slice_get h r ≡ Some o
-    → run_call (operations_of p) [] (invocation r op xs) (world prints h) k ≡ then_listed p r (world prints h) k (section p h r o op xs k)
-section_then_list p typed op r xs h prints o zero e = refl
-section_then_list p typed op r xs h prints o (suc k) e =
+pub section_then_list : (p : PlainProgram) → TypedPuts p → (op : OpId) (r : ℕ) (xs : List Datum) (w : World) (o : Object) (k : ℕ) → slice_get w.heap r ≡ Some o
+    → run_call (operations_of p) [] (invocation r op xs) w k ≡ then_listed p r w k (section p w.heap r o op xs k)
+section_then_list p typed op r xs w o zero e = refl
+section_then_list p typed op r xs w o (suc k) e =
     let b = put_body p typed op in
     let body : Statements = body_of (slice_get p.ops op.0) in
-    let run : exec_all (operation_parts p (operations k p) (Ref r)) xs (world prints h) body k ≡ goes_on xs (world prints (slice_set h r (after_body p o op xs))) k =
-    serial_puts p (operations k p) prints r b.class b.fields b.types xs k body h o e b.puts in
-    ap (λ ls. came_back [] (exec_all (operation_parts p (operations k p) (Ref r)) ls (world prints h) body k)) (b.locals xs)
+    let run : exec_all (operation_parts p (operations k p) (Ref r)) xs w body k ≡ goes_on xs (in_heap w (slice_set w.heap r (after_body p o op xs))) k =
+    serial_puts p (operations k p) w r b.class b.fields b.types xs k body w.heap o e b.puts in
+    ap (λ ls. came_back [] (exec_all (operation_parts p (operations k p) (Ref r)) ls w body k)) (b.locals xs)
     ∙ ap (came_back []) run
-    ∙ ap (λ n. goes_on [] (world prints (slice_set h r (after_body p o op xs))) n) (less_one k)
-    ∙ ap (then_listed p r (world prints h) (suc k)) (sym (section_is p typed h r o op xs k))
+    ∙ ap (λ n. goes_on [] (in_heap w (slice_set w.heap r (after_body p o op xs))) n) (less_one k)
+    ∙ ap (then_listed p r w (suc k)) (sym (section_is p typed w.heap r o op xs k))
