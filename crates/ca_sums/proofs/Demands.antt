@@ -1,11 +1,11 @@
 -- Demands whose sums of guards are equal maps: every test finds as many under true guards.
-use Rattle.std.proofs.Common.{◌≡◌, ℕ, zero, suc, ◌+◌, ◌*◌, ◌%◌, ◌^◌, ◌<◌, ◌≤◌, Bool, true, false, List, [], ◌∷◌, ◌++◌, length, refl, sym, ap, ap₂, ◌∙◌, arith, Ordering}
+use Rattle.std.proofs.Common.{◌≡◌, ℕ, ◌+◌, ◌*◌, ◌^◌, ◌<◌, ◌≤◌, Bool, true, false, List, [], ◌∷◌, ◌++◌, length, ap, ◌∙◌, arith, Ordering}
 use Rattle.std.specs.Prelude.{◌&&◌}
 use Rattle.ca_sums.specs.Sums.{Sum, total, Alike, collect}
 use Rattle.ca_sums.specs.Rows.{at_index, pair_cmp, grouped, flat}
 use Rattle.ca_sums.proofs.Algebra.{alike_refl, alike_eq, alike_sym, alike_trans, alike_add, alike_mul, total_append}
 use Rattle.ca_sums.proofs.Collect.{Exact, total_collect}
-use Rattle.ca_sums.proofs.Rows.{total_at, pair_exact, total_grouped}
+use Rattle.ca_sums.proofs.Rows.{pair_exact, total_grouped}
 use Rattle.ca_sums.proofs.Counts.{one_if, count}
 
 -- each key with the products of its guard
