@@ -74,10 +74,7 @@ impl Model for Polynomial {
 
 impl Polynomial {
     /// The polynomial of gathered products.
-    pub fn gathered(
-        alloc: Global,
-        form: BTreeMap<Monomial, u64>,
-    ) -> Result<Polynomial, AllocError>
+    pub fn gathered(alloc: Global, form: BTreeMap<Monomial, u64>) -> Result<Polynomial, AllocError>
         requires { NoZero form.entries }
         ensures products { IfOk result (λ p. p ≡ form.entries) }
         ensures ordered { IsOrdered monomial_cmp form }

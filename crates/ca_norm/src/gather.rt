@@ -12,11 +12,7 @@ use std::alloc::{AllocError, Global};
 use std::collections::BTreeMap;
 
 /// Adds a term's products, each times the factor.
-fn add_term(
-    form: &mut BTreeMap<Monomial, u64>,
-    term: &Term,
-    factor: u64,
-) -> Result<(), AllocError>
+fn add_term(form: &mut BTreeMap<Monomial, u64>, term: &Term, factor: u64) -> Result<(), AllocError>
     requires { NoZero form.old.entries }
     ensures nonzero { NoZero form.new.entries }
     ensures added { OnOk result (AddsSum form.old.entries form.new.entries factor (expand (shape term.now))) }
