@@ -2,9 +2,9 @@
 use Rattle.std.proofs.Common.{◌≡◌, ◌∷◌, [], pos, negsuc, refl}
 use Rattle.std.specs.Int.{int_wrap}
 use Rattle.ca_model.specs.declared.value.Value.TheVariants as datum
-use Rattle.ca_norm.specs.declared.term.Sort.TheVariants.{Long, Pointer}
-use Rattle.ca_norm.specs.declared.form.Monomial.TheVariants as monomial
-use Rattle.ca_norm.specs.declared.form.Normal.TheVariants as normal
+use Rattle.ca_forms.specs.declared.sort.Sort.TheVariants.{Long, Pointer}
+use Rattle.ca_forms.specs.declared.form.Monomial.TheVariants as monomial
+use Rattle.ca_forms.specs.declared.form.Normal.TheVariants as normal
 use Rattle.ca_norm.specs.Terms.{PlainTerm, number, null, atom, add, sub}
 use Rattle.ca_norm.specs.Weights.{weight_of}
 use Rattle.ca_norm.specs.Forms.{norm, coefficient}

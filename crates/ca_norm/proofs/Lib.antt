@@ -1,9 +1,4 @@
 pub mod Examples
-pub mod Algebra
-pub mod Collect
-pub mod Monomials
-pub mod Entries
-pub mod Additions
 pub mod Words
 pub mod Polynomials
 pub mod Valuations

@@ -2,17 +2,17 @@
 use Rattle.std.proofs.Common.{◌≡◌, ℕ, ◌+◌, ◌-◌, ◌*◌, ◌^◌, pos, sym, ap, ◌∙◌, arith, w64, of_z, nat_cmp, cond, ◌&&◌, ◌==◌, subst}
 use Rattle.std.specs.Ordering.{ordering_then}
 use Rattle.std.proofs.lemmas.Bool.Decides.{nat_tests}
-use Rattle.ca_norm.specs.Order.{monomial_cmp}
-use Rattle.ca_norm.specs.declared.term.Sort.TheVariants.{Long}
-use Rattle.ca_norm.specs.declared.form.Monomial.{Monomial}
-use Rattle.ca_norm.specs.declared.form.Monomial.TheVariants.{One, Atom}
-use Rattle.ca_norm.specs.declared.form.Normal.TheVariants.{Polynomial}
-use Rattle.ca_norm.specs.Sums.{Sum, total, Alike, scale, collect}
+use Rattle.ca_forms.specs.Order.{monomial_cmp}
+use Rattle.ca_forms.specs.declared.sort.Sort.TheVariants.{Long}
+use Rattle.ca_forms.specs.declared.form.Monomial.{Monomial}
+use Rattle.ca_forms.specs.declared.form.Monomial.TheVariants.{One, Atom}
+use Rattle.ca_forms.specs.declared.form.Normal.TheVariants.{Polynomial}
+use Rattle.ca_sums.specs.Sums.{Sum, total, Alike, scale, collect}
 use Rattle.ca_norm.specs.Terms.{PlainTerm, number, null, atom, add, sub, sort_of, LiteralsFit}
 use Rattle.ca_norm.specs.Forms.{expand, form_at, norm, coefficient, SamePolynomial, coefficient_at, IsPolynomialOf}
-use Rattle.ca_norm.proofs.Algebra.{alike_refl, alike_eq, alike_sym, alike_trans, alike_add, alike_mul, alike_mod, total_append, total_scale}
-use Rattle.ca_norm.proofs.Collect.{is_tied, SameCoefficients, collect_same, gathered_collect, total_collect, found}
-use Rattle.ca_norm.proofs.Monomials.{monomials_exact}
+use Rattle.ca_sums.proofs.Algebra.{alike_refl, alike_eq, alike_sym, alike_trans, alike_add, alike_mul, alike_mod, total_append, total_scale}
+use Rattle.ca_sums.proofs.Collect.{is_tied, SameCoefficients, collect_same, gathered_collect, total_collect, found}
+use Rattle.ca_forms.proofs.Monomials.{monomials_exact}
 use Rattle.ca_norm.proofs.Words.{word, word_fits, word_pos, word_add, word_sub, word_same}
 
 -- what the products with this monomial sum to

@@ -5,18 +5,18 @@ use Rattle.std.proofs.lemmas.Int.{SFits-int_wrap, int_wrap_fits}
 use Rattle.ca_tree.specs.declared.tree.BinaryOp.TheVariants.{Plus, Minus}
 use Rattle.ca_model.specs.declared.value.Value.{Value as Datum}
 use Rattle.ca_model.specs.declared.value.Value.TheVariants as datum
-use Rattle.ca_norm.specs.Order.{monomial_cmp}
-use Rattle.ca_norm.specs.declared.term.Sort.{Sort}
-use Rattle.ca_norm.specs.declared.term.Sort.TheVariants.{Long, Bool, Pointer, LongArray, BoolArray, PointerArray}
-use Rattle.ca_norm.specs.declared.form.Monomial.{Monomial}
-use Rattle.ca_norm.specs.declared.form.Monomial.TheVariants as monomial
-use Rattle.ca_norm.specs.Sums.{Sum, total, Alike, scale, collect}
+use Rattle.ca_forms.specs.Order.{monomial_cmp}
+use Rattle.ca_forms.specs.declared.sort.Sort.{Sort}
+use Rattle.ca_forms.specs.declared.sort.Sort.TheVariants.{Long, Bool, Pointer, LongArray, BoolArray, PointerArray}
+use Rattle.ca_forms.specs.declared.form.Monomial.{Monomial}
+use Rattle.ca_forms.specs.declared.form.Monomial.TheVariants as monomial
+use Rattle.ca_sums.specs.Sums.{Sum, total, Alike, scale, collect}
 use Rattle.ca_norm.specs.Terms.{PlainTerm, number, null, atom, add, sub, sort_of, IsSorted, LiteralsFit}
 use Rattle.ca_norm.specs.Forms.{expand, norm}
 use Rattle.ca_norm.specs.Meanings.{operate, IsOfSort, Valuation, mean, number_of, monomial_value, polynomial_value, form_mean}
-use Rattle.ca_norm.proofs.Algebra.{alike_refl, alike_eq, alike_sym, alike_trans, alike_add, alike_mul, total_append, total_scale}
-use Rattle.ca_norm.proofs.Collect.{total_collect}
-use Rattle.ca_norm.proofs.Monomials.{monomials_exact}
+use Rattle.ca_sums.proofs.Algebra.{alike_refl, alike_eq, alike_sym, alike_trans, alike_add, alike_mul, total_append, total_scale}
+use Rattle.ca_sums.proofs.Collect.{total_collect}
+use Rattle.ca_forms.proofs.Monomials.{monomials_exact}
 use Rattle.ca_norm.proofs.Words.{word, word_fits, word_wrap, word_pos, word_add, word_sub, word_times, word_same}
 use Rattle.ca_norm.proofs.Polynomials.{norm_number}
 

@@ -2,8 +2,8 @@
 use Rattle.std.proofs.Common.{rules, ◌≡◌, ℕ, ◌+◌, ◌-◌, ◌*◌, ◌%◌, ◌^◌, ◌<◌, ℤ, pos, ◌+ℤ◌, ◌-ℤ◌, ◌*ℤ◌, neg_ℤ, FitsSigned, sym, ap, ap₂, ◌∙◌, arith, w64, of_z, to_z, mod-lt, pow_pos}
 use Rattle.std.specs.Int.{int_wrap}
 use Rattle.std.proofs.lemmas.Int.{SFits-int_wrap, int_wrap_fits, to_z-of_z, of_z-to_z, wrapping_add-bits, wrapping_sub-bits, wrapping_mul-bits, int_wrap-add_left, int_wrap-add_right, int_wrap-sub_right, int_wrap-mul_left, int_wrap-mul_right}
-use Rattle.ca_norm.specs.Sums.{Alike}
-use Rattle.ca_norm.proofs.Algebra.{alike_refl, alike_eq, alike_trans, alike_mul, alike_mod}
+use Rattle.ca_sums.specs.Sums.{Alike}
+use Rattle.ca_sums.proofs.Algebra.{alike_refl, alike_eq, alike_trans, alike_mul, alike_mod}
 
 abbrev pub word : ℤ → ℕ
 word z = of_z w64 (int_wrap w64 z)

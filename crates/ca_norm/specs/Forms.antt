@@ -5,15 +5,15 @@ use Rattle.std.specs.List.Sorted.{IsStrictlySortedBy}
 use Rattle.std.specs.Map.{keys_of, lookup}
 use Rattle.std.specs.BTreeMap.{is_at}
 use Rattle.std.specs.Option.{unwrap_or}
-use Rattle.ca_norm.specs.declared.term.Sort.{Sort}
-use Rattle.ca_norm.specs.declared.term.Sort.TheVariants.{Long}
-use Rattle.ca_norm.specs.declared.form.Monomial.{Monomial}
-use Rattle.ca_norm.specs.declared.form.Monomial.TheVariants as monomial
-use Rattle.ca_norm.specs.declared.form.Normal.{Normal}
-use Rattle.ca_norm.specs.declared.form.Normal.TheVariants as normal
-use Rattle.ca_norm.specs.Sums.{Sum, scale, collect, NoZero}
+use Rattle.ca_forms.specs.declared.sort.Sort.{Sort}
+use Rattle.ca_forms.specs.declared.sort.Sort.TheVariants.{Long}
+use Rattle.ca_forms.specs.declared.form.Monomial.{Monomial}
+use Rattle.ca_forms.specs.declared.form.Monomial.TheVariants as monomial
+use Rattle.ca_forms.specs.declared.form.Normal.{Normal}
+use Rattle.ca_forms.specs.declared.form.Normal.TheVariants as normal
+use Rattle.ca_sums.specs.Sums.{Sum, scale, collect, NoZero}
 use Rattle.ca_norm.specs.Terms.{PlainTerm, number, null, atom, add, sub, sort_of}
-use Rattle.ca_norm.specs.Order.{monomial_cmp}
+use Rattle.ca_forms.specs.Order.{monomial_cmp}
 
 -- A number as a sum of products, in the order in which they are written. Minus one is 2^64 - 1.
 abbrev pub expand : PlainTerm → Sum Monomial

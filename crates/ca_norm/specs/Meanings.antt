@@ -7,13 +7,13 @@ use Rattle.ca_model.specs.declared.value.Value.{Value as Datum}
 use Rattle.ca_model.specs.declared.value.Value.TheVariants as datum
 use Rattle.ca_model.specs.declared.value.TrapKind.{TrapKind}
 use Rattle.ca_meaning.specs.Operators.{operated}
-use Rattle.ca_norm.specs.declared.term.Sort.{Sort}
-use Rattle.ca_norm.specs.declared.term.Sort.TheVariants.{Long, Bool, Pointer, LongArray, BoolArray, PointerArray}
-use Rattle.ca_norm.specs.declared.form.Monomial.{Monomial}
-use Rattle.ca_norm.specs.declared.form.Monomial.TheVariants as monomial
-use Rattle.ca_norm.specs.declared.form.Normal.{Normal}
-use Rattle.ca_norm.specs.declared.form.Normal.TheVariants as normal
-use Rattle.ca_norm.specs.Sums.{Sum}
+use Rattle.ca_forms.specs.declared.sort.Sort.{Sort}
+use Rattle.ca_forms.specs.declared.sort.Sort.TheVariants.{Long, Bool, Pointer, LongArray, BoolArray, PointerArray}
+use Rattle.ca_forms.specs.declared.form.Monomial.{Monomial}
+use Rattle.ca_forms.specs.declared.form.Monomial.TheVariants as monomial
+use Rattle.ca_forms.specs.declared.form.Normal.{Normal}
+use Rattle.ca_forms.specs.declared.form.Normal.TheVariants as normal
+use Rattle.ca_sums.specs.Sums.{Sum}
 use Rattle.ca_norm.specs.Terms.{PlainTerm, number, null, atom, add, sub}
 
 -- An array is no single value, so nothing is asked where an atom of an array stands.

@@ -1,8 +1,8 @@
 -- Terms as plain values: nothing says where they lie in memory.
 use Rattle.std.specs.Prelude.{ℕ, ℤ, ◌≡◌, FitsSigned}
 use Rattle.std.specs.Int.{w64}
-use Rattle.ca_norm.specs.declared.term.Sort.{Sort}
-use Rattle.ca_norm.specs.declared.term.Sort.TheVariants.{Long, Pointer}
+use Rattle.ca_forms.specs.declared.sort.Sort.{Sort}
+use Rattle.ca_forms.specs.declared.sort.Sort.TheVariants.{Long, Pointer}
 use Rattle.ca_norm.specs.declared.term.Term.{Term}
 use Rattle.ca_norm.specs.declared.term.Term.TheVariants.{Number, Null, Atom, Add', Sub'}
 

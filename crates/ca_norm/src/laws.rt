@@ -1,7 +1,7 @@
 //! Laws of normal forms.
 
 ghost use Rattle.std.specs.Prelude.{◌≡◌};
-ghost use Rattle.ca_norm.specs.declared.term.Sort.TheVariants.{Long};
+ghost use Rattle.ca_forms.specs.declared.sort.Sort.TheVariants.{Long};
 ghost use Rattle.ca_norm.specs.Terms.{PlainTerm, IsSorted, LiteralsFit, sort_of};
 ghost use Rattle.ca_norm.specs.Forms.{norm, SamePolynomial, IsPolynomialOf};
 ghost use Rattle.ca_norm.specs.Meanings.{Valuation, mean, form_mean};

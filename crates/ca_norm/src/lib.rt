@@ -10,7 +10,6 @@
 //! have equal forms: so equal forms are equal values, and `same` finds each equation of sums.
 #![tactic(auto)]
 
-mod form;
 mod gather;
 pub mod laws;
 mod term;
@@ -22,9 +21,10 @@ ghost use Rattle.ca_norm.specs.Terms.{shape};
 ghost use Rattle.ca_norm.specs.Weights.{weight_of};
 ghost use Rattle.ca_norm.specs.Forms.{norm};
 
-pub use crate::form::{Monomial, Normal, Polynomial};
-pub use crate::term::{Sort, Term};
+use crate::gather::polynomial_of;
+pub use crate::term::Term;
 pub use crate::weigh::weight;
+pub use ca_forms::{Monomial, Normal, Polynomial, Sort};
 use std::alloc::{AllocError, Global};
 use thiserror::Error;
 
@@ -59,7 +59,7 @@ pub fn normal(alloc: Global, term: &Term) -> Result<Normal, NormalError>
         return Err(NormalError::Large);
     }
     match term.sort() {
-        Sort::Long => Ok(Normal::Polynomial(Polynomial::of(alloc, term)?)),
+        Sort::Long => Ok(Normal::Polynomial(polynomial_of(alloc, term)?)),
         sort => match term {
             Term::Atom(_, group, number) => Ok(Normal::Atom(sort, *group, *number)),
             _ => Ok(Normal::Null),

@@ -3,18 +3,8 @@
 ghost use Rattle.std.specs.Prelude.{◌≡◌, IfOk};
 ghost use Rattle.ca_norm.specs.Terms.{PlainTerm, add, sub, shape, sort_of};
 
+use ca_forms::Sort;
 use std::alloc::{AllocError, Global};
-
-/// What kind of value a term stands for.
-#[derive(Clone, Copy, PartialEq, Eq, Debug)]
-pub enum Sort {
-    Long,
-    Bool,
-    Pointer,
-    LongArray,
-    BoolArray,
-    PointerArray,
-}
 
 /// A term. An atom has a sort, a group and a number in the group. Group 0 is the receiver, 1 and 2
 /// are the parameters of the first and of the second operation, and 3 is what the receiver's fields

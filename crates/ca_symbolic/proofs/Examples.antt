@@ -13,8 +13,8 @@ use Rattle.ca_model.specs.declared.value.Value.TheVariants as datum
 use Rattle.ca_model.specs.declared.value.Slot.TheVariants.{One}
 use Rattle.ca_model.specs.declared.value.Object.{Object}
 use Rattle.ca_meaning.specs.Sections.{done, over, section}
-use Rattle.ca_norm.specs.declared.term.Sort.TheVariants.{Long, Pointer}
-use Rattle.ca_norm.specs.declared.form.Normal.TheVariants.{Atom}
+use Rattle.ca_forms.specs.declared.sort.Sort.TheVariants.{Long, Pointer}
+use Rattle.ca_forms.specs.declared.form.Normal.TheVariants.{Atom}
 use Rattle.ca_norm.specs.Terms.{atom, add, sub}
 use Rattle.ca_symbolic.specs.declared.verdicts.Verdict.TheVariants.{Commutes, Unproved}
 use Rattle.ca_symbolic.specs.declared.verdicts.Reason.TheVariants.{FieldDiffers}

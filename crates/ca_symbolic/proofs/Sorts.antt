@@ -10,7 +10,7 @@ use Rattle.ca_program.specs.declared.program.ValueType.TheVariants as type
 use Rattle.ca_program.specs.Plain.{Expression, Statements, local, own, binary, put_field, no_statements, statement_and}
 use Rattle.ca_program.specs.Plain as plain
 use Rattle.ca_small.specs.TypedPuts.{IsScalar, ValueTyped, PutTyped, PutsTyped}
-use Rattle.ca_norm.specs.declared.term.Sort.{Sort}
+use Rattle.ca_forms.specs.declared.sort.Sort.{Sort}
 use Rattle.ca_norm.specs.Terms.{PlainTerm, sort_of, IsSorted, LiteralsFit}
 use Rattle.ca_symbolic.specs.Symbolic.{sort_of_type, sort_of_slot, starts, parameter, or_null, term_of, fields_after}
 

@@ -7,7 +7,7 @@ use Rattle.ca_program.specs.declared.program.ClassId.{ClassId}
 use Rattle.ca_program.specs.declared.program.FieldId.{FieldId}
 use Rattle.ca_program.specs.declared.program.OpId.{OpId}
 use Rattle.ca_program.specs.Plain.{PlainProgram, PlainMethod}
-use Rattle.ca_norm.specs.declared.form.Normal.{Normal}
+use Rattle.ca_forms.specs.declared.form.Normal.{Normal}
 use Rattle.ca_symbolic.specs.declared.verdicts.Verdict.{Verdict}
 use Rattle.ca_symbolic.specs.declared.verdicts.Verdict.TheVariants.{Commutes, Unproved}
 use Rattle.ca_symbolic.specs.declared.verdicts.Reason.TheVariants.{Large, FieldDiffers}

@@ -21,7 +21,7 @@ use Rattle.ca_meaning.specs.Expressions.{one_in, or_null}
 use Rattle.ca_meaning.specs.WellTyped.{ValuesTyped}
 use Rattle.ca_model.specs.Typed.{HasType, SlotTyped, SlotsTyped}
 use Rattle.ca_small.specs.TypedPuts.{ValueTyped, PutsTyped}
-use Rattle.ca_norm.specs.declared.term.Sort.{Sort}
+use Rattle.ca_forms.specs.declared.sort.Sort.{Sort}
 use Rattle.ca_norm.specs.Terms.{PlainTerm}
 use Rattle.ca_norm.specs.Meanings.{operate, Valuation, mean}
 use Rattle.ca_norm.proofs.Valuations.{as_sort}

@@ -4,8 +4,8 @@ use Rattle.std.specs.Prelude.{◌≡◌, refl}
 use Rattle.std.specs.Coded.{Coded, coded_ℤ}
 use Rattle.std.proofs.Common.{ap, ap₂}
 use base.Stored.{Gv, gnil, gnum, gcons}
-use Rattle.ca_norm.specs.declared.term.Sort.{Sort}
-use Rattle.ca_norm.specs.declared.term.Sort.TheVariants.{Long, Bool, Pointer, LongArray, BoolArray, PointerArray}
+use Rattle.ca_forms.specs.declared.sort.Sort.{Sort}
+use Rattle.ca_forms.specs.declared.sort.Sort.TheVariants.{Long, Bool, Pointer, LongArray, BoolArray, PointerArray}
 use Rattle.ca_norm.specs.Terms.{PlainTerm, number, null, atom, add, sub}
 
 abbrev pub sort_code : Sort → Gv

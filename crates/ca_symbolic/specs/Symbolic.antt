@@ -8,8 +8,8 @@ use Rattle.ca_program.specs.declared.program.ValueType.{ValueType}
 use Rattle.ca_program.specs.declared.program.ValueType.TheVariants as type
 use Rattle.ca_program.specs.Plain.{Expression, Statements, PlainBody, local, own, binary, put_field, no_statements, statement_and}
 use Rattle.ca_program.specs.Plain as plain
-use Rattle.ca_norm.specs.declared.term.Sort.{Sort}
-use Rattle.ca_norm.specs.declared.term.Sort.TheVariants.{Long, Bool, Pointer, LongArray, BoolArray, PointerArray}
+use Rattle.ca_forms.specs.declared.sort.Sort.{Sort}
+use Rattle.ca_forms.specs.declared.sort.Sort.TheVariants.{Long, Bool, Pointer, LongArray, BoolArray, PointerArray}
 use Rattle.ca_norm.specs.Terms.{PlainTerm, number, null, atom, add, sub}
 
 abbrev pub sort_of_type : ValueType → Sort

@@ -8,7 +8,7 @@ use Rattle.ca_program.specs.declared.program.FieldInfo.{FieldInfo}
 use Rattle.ca_program.specs.declared.program.OpId.{OpId}
 use Rattle.ca_program.specs.Plain.{PlainProgram, PlainMethod, PlainBody}
 use Rattle.ca_model.specs.Heaps.{fields_of}
-use Rattle.ca_norm.specs.declared.form.Normal.{Normal}
+use Rattle.ca_forms.specs.declared.form.Normal.{Normal}
 use Rattle.ca_norm.specs.Terms.{PlainTerm}
 use Rattle.ca_norm.specs.Weights.{weight_of}
 use Rattle.ca_norm.specs.Forms.{norm}

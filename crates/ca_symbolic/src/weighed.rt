@@ -1,7 +1,7 @@
 //! Terms that are not too heavy, each with what its weight is made of.
 
 ghost use Rattle.std.specs.Prelude.{◌≡◌, ◌≤◌, ◌<◌, IfOk};
-ghost use Rattle.ca_norm.specs.declared.term.Sort.{Sort};
+ghost use Rattle.ca_forms.specs.declared.sort.Sort.{Sort};
 ghost use Rattle.ca_norm.specs.Terms.{number, null, atom, add, sub};
 ghost use Rattle.ca_norm.specs.Weights.{weight_of};
 ghost use Rattle.ca_norm.specs.Forms.{norm};

@@ -2,7 +2,7 @@ use Rattle.std.proofs.Common.{◌≡◌, ◌∙◌, ap, rules, to_z-of_z, of_z, 
 use Rattle.std.proofs.lemmas.Result.{on_ok_weaker}
 use Rattle.ca_norm.specs.Terms.{shape}
 use Rattle.ca_norm.specs.Forms.{expand}
-use Rattle.ca_norm.proofs.Additions.{adds_one, adds_both, adds_minus}
+use Rattle.ca_sums.proofs.Additions.{adds_one, adds_both, adds_minus}
 use Rattle.ca_norm.proofs.gather.+add_term.Goals as goal
 
 pub returns-in-Number-clause-added : goal.returns-in-Number-clause-added

@@ -2,7 +2,7 @@
 use Rattle.std.proofs.Common.{◌≡◌, ℕ, ◌+◌, ◌*◌, ◌%◌, ◌^◌, [], ◌∷◌, ◌++◌, refl, sym, ap, ap₂, ◌∙◌, arith, add_assoc, mul_assoc, mul-add, mul-zero, zero-add}
 use Rattle.std.proofs.lemmas.Nat.{mul-mod}
 use Rattle.std.proofs.Math.Nat.{add-mod-mod, mod-add-mod, mod-mod}
-use Rattle.ca_norm.specs.Sums.{Sum, total, Alike, scale}
+use Rattle.ca_sums.specs.Sums.{Sum, total, Alike, scale}
 
 pub alike_refl : (a : ℕ) → Alike a a
 alike_refl a = record { alike = refl }

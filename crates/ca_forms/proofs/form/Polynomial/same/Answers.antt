@@ -1,7 +1,7 @@
 use Rattle.std.proofs.Common.{rules, Decides, ◌≡◌}
 use Rattle.std.proofs.lemmas.Slice.Eq.{slice_eq-Decides}
-use Rattle.ca_norm.proofs.Monomials.{product_decides}
-use Rattle.ca_norm.proofs.form.Polynomial.same.Goals as goal
+use Rattle.ca_forms.proofs.Monomials.{product_decides}
+use Rattle.ca_forms.proofs.form.Polynomial.same.Goals as goal
 
 pub returns : goal.returns
 returns c =

@@ -7,8 +7,8 @@ use Rattle.std.specs.List.Sorted.{IsStrictlySortedBy}
 use Rattle.std.specs.Map.{keys_of, lookup}
 use Rattle.std.specs.BTreeMap.{is_at}
 use Rattle.std.proofs.lemmas.Cmp.{tied_itself}
-use Rattle.ca_norm.specs.Sums.{Sum, total, Alike, put_if, insert_at, insert, collect, NoZero}
-use Rattle.ca_norm.proofs.Algebra.{alike_refl, alike_eq, alike_sym, alike_trans, alike_add, alike_mul, alike_mod, alike_cancel}
+use Rattle.ca_sums.specs.Sums.{Sum, total, Alike, put_if, insert_at, insert, collect, NoZero}
+use Rattle.ca_sums.proofs.Algebra.{alike_refl, alike_eq, alike_sym, alike_trans, alike_add, alike_mul, alike_mod, alike_cancel}
 
 -- the monomials of the sum are above m
 abbrev pub Above : {M : Type 0} → (M → M → Ordering) → M → Sum M → Type 0

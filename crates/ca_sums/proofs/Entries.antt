@@ -5,9 +5,9 @@ use Rattle.std.specs.List.{AllByRecursion}
 use Rattle.std.specs.List.Sorted.{IsStrictlySortedBy}
 use Rattle.std.specs.Map.{keys_of, lookup, remove_entry}
 use Rattle.std.specs.BTreeMap.{insert_entry, is_at}
-use Rattle.ca_norm.specs.Sums.{Sum, total, Alike, collect, NoZero, Adds, AddsSum}
-use Rattle.ca_norm.proofs.Algebra.{alike_refl, alike_eq, alike_sym, alike_trans, alike_add, alike_mul, alike_mod, alike_cancel}
-use Rattle.ca_norm.proofs.Collect.{Exact, SameCoefficients, gathered_same, gathered_collect, total_collect, none_above}
+use Rattle.ca_sums.specs.Sums.{Sum, total, Alike, collect, NoZero, Adds, AddsSum}
+use Rattle.ca_sums.proofs.Algebra.{alike_refl, alike_eq, alike_sym, alike_trans, alike_add, alike_mul, alike_mod, alike_cancel}
+use Rattle.ca_sums.proofs.Collect.{Exact, SameCoefficients, gathered_same, gathered_collect, total_collect, none_above}
 
 swapped : (a b c : ℕ) → b + a ≡ c → a + b ≡ c
 swapped a b c e = omega (arith, e)

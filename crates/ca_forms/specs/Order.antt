@@ -2,8 +2,8 @@
 use Rattle.std.specs.declared.cmp.Ordering.{Ordering}
 use Rattle.std.specs.declared.cmp.Ordering.TheVariants.{Less, Equal, Greater}
 use Rattle.std.specs.Ordering.{nat_cmp, ordering_then}
-use Rattle.ca_norm.specs.declared.form.Monomial.{Monomial}
-use Rattle.ca_norm.specs.declared.form.Monomial.TheVariants.{One, Atom}
+use Rattle.ca_forms.specs.declared.form.Monomial.{Monomial}
+use Rattle.ca_forms.specs.declared.form.Monomial.TheVariants.{One, Atom}
 
 abbrev pub monomial_cmp : Monomial → Monomial → Ordering
 monomial_cmp One One = Equal

@@ -2,12 +2,12 @@
 use Rattle.std.proofs.Common.{◌≡◌, ℕ, refl, sym, ap, ap₂, Ordering, Less, Equal, Greater, nat_cmp, arith, Decides, true≢false, ◌&&◌, ◌==◌}
 use Rattle.std.specs.Ordering.{ordering_then}
 use Rattle.std.proofs.lemmas.Bool.Decides.{nat_tests, Decides-like, Decides-and, Decides-eqb}
-use Rattle.ca_norm.specs.declared.form.Monomial.{Monomial}
-use Rattle.ca_norm.specs.declared.form.Monomial.TheVariants.{One, Atom}
-use Rattle.ca_norm.specs.contracts.form.MonomialPartialEq.TheImpl.{ghosts as equals}
-use Rattle.ca_norm.specs.Order.{monomial_cmp}
-use Rattle.ca_norm.specs.OrderLaws.{monomials_total}
-use Rattle.ca_norm.proofs.Collect.{Exact}
+use Rattle.ca_forms.specs.declared.form.Monomial.{Monomial}
+use Rattle.ca_forms.specs.declared.form.Monomial.TheVariants.{One, Atom}
+use Rattle.ca_forms.specs.contracts.form.MonomialPartialEq.TheImpl.{ghosts as equals}
+use Rattle.ca_forms.specs.Order.{monomial_cmp}
+use Rattle.ca_forms.specs.OrderLaws.{monomials_total}
+use Rattle.ca_sums.proofs.Collect.{Exact}
 
 nat_same : (m n : ℕ) → nat_cmp m n ≡ Equal → m ≡ n
 nat_same m n e = grind (arith, nat_tests)

@@ -1,8 +1,8 @@
 use Rattle.std.proofs.Common.{sym, ◌∙◌, rules, arith}
-use Rattle.ca_norm.specs.Order.{monomial_cmp}
-use Rattle.ca_norm.proofs.Entries.{no_zero_put, no_zero_take, put_adds, take_adds}
-use Rattle.ca_norm.proofs.Monomials.{monomials_exact}
-use Rattle.ca_norm.proofs.gather.add_product.Goals as goal
+use Rattle.ca_forms.specs.Order.{monomial_cmp}
+use Rattle.ca_sums.proofs.Entries.{no_zero_put, no_zero_take, put_adds, take_adds}
+use Rattle.ca_forms.proofs.Monomials.{monomials_exact}
+use Rattle.ca_forms.proofs.gather.add_product.Goals as goal
 
 pub returns-then-sum-eq0-clause-nonzero : goal.returns-then-sum-eq0-clause-nonzero
 returns-then-sum-eq0-clause-nonzero c = rw c.remove.ensures.entries (no_zero_take monomial_cmp monomials_exact c.args.monomial c.args.form.now.entries c.requires)

@@ -1,7 +1,7 @@
 -- What a term adds to a map, from what its parts add.
 use Rattle.std.proofs.Common.{◌≡◌, ℕ, ◌+◌, ◌-◌, ◌*◌, ◌%◌, ◌^◌, [], ◌∷◌, ◌++◌, sym, ap, ◌∙◌, arith, mul_assoc}
-use Rattle.ca_norm.specs.Sums.{Sum, total, scale, Adds, AddsSum}
-use Rattle.ca_norm.proofs.Algebra.{alike_refl, alike_eq, alike_trans, alike_add, alike_mul, alike_mod, total_append, total_scale}
+use Rattle.ca_sums.specs.Sums.{Sum, total, scale, Adds, AddsSum}
+use Rattle.ca_sums.proofs.Algebra.{alike_refl, alike_eq, alike_trans, alike_add, alike_mul, alike_mod, total_append, total_scale}
 
 one_product : (k n g : ℕ) → (k * n) * g ≡ k * (n * g + 0)
 one_product k n g = omega arith

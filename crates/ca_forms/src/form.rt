@@ -1,13 +1,11 @@
 //! Normal forms.
 
 ghost use Rattle.std.specs.Prelude.{◌≡◌, ◌↔◌, IfOk, IsTrue};
-ghost use Rattle.ca_norm.specs.Order.{monomial_cmp};
-ghost use Rattle.ca_norm.specs.Sums.{collect};
-ghost use Rattle.ca_norm.specs.Terms.{shape};
-ghost use Rattle.ca_norm.specs.Forms.{expand};
+ghost use Rattle.std.specs.BTreeMap.{IsOrdered};
+ghost use Rattle.ca_sums.specs.Sums.{NoZero};
+ghost use Rattle.ca_forms.specs.Order.{monomial_cmp};
 
-use crate::gather::add_term;
-use crate::term::{Sort, Term};
+use crate::sort::Sort;
 use std::alloc::{AllocError, Global};
 use std::cmp::Ordering;
 use std::collections::BTreeMap;
@@ -22,8 +20,8 @@ pub enum Monomial {
 
 impl Ord for Monomial {
     ghost use Rattle.std.specs.Prelude.{refl};
-    ghost use Rattle.ca_norm.specs.Order.{monomial_cmp};
-    ghost use Rattle.ca_norm.specs.OrderLaws.{monomials_total, monomials_tied};
+    ghost use Rattle.ca_forms.specs.Order.{monomial_cmp};
+    ghost use Rattle.ca_forms.specs.OrderLaws.{monomials_total, monomials_tied};
 
     ghost cmp = { monomial_cmp };
 
@@ -46,8 +44,8 @@ impl Ord for Monomial {
 
 impl PartialOrd for Monomial {
     ghost use Rattle.std.specs.Ordering.{as_partial_cmp};
-    ghost use Rattle.ca_norm.specs.Order.{monomial_cmp};
-    ghost use Rattle.ca_norm.specs.OrderLaws.{monomials_partial};
+    ghost use Rattle.ca_forms.specs.Order.{monomial_cmp};
+    ghost use Rattle.ca_forms.specs.OrderLaws.{monomials_partial};
 
     ghost partial_cmp = { as_partial_cmp monomial_cmp };
 
@@ -67,7 +65,7 @@ pub struct Polynomial {
 
 impl Model for Polynomial {
     ghost use Rattle.std.specs.Prelude.{ℕ, List};
-    ghost use Rattle.ca_norm.specs.declared.form.Monomial.{Monomial};
+    ghost use Rattle.ca_forms.specs.declared.form.Monomial.{Monomial};
 
     ghost Value = { List (Monomial × ℕ) };
 
@@ -75,13 +73,12 @@ impl Model for Polynomial {
 }
 
 impl Polynomial {
-    /// The formal polynomial of a term, which is to be a number. It recurses as deep as the term is.
-    #[inline(never)]
-    pub fn of(alloc: Global, term: &Term) -> Result<Polynomial, AllocError>
-        ensures { IfOk result (λ p. p ≡ collect monomial_cmp (expand (shape term.now))) }
+    /// The polynomial of gathered products.
+    pub fn gathered(alloc: Global, form: BTreeMap<Monomial, u64>) -> Result<Polynomial, AllocError>
+        requires { NoZero form.entries }
+        ensures products { IfOk result (λ p. p ≡ form.entries) }
+        ensures ordered { IsOrdered monomial_cmp form }
     {
-        let mut form = BTreeMap::new(alloc);
-        add_term(&mut form, term, 1)?;
         // Asked for its clause, that the entries are in order.
         let _count = form.len();
         let products = form.into_iter().collect(alloc)?;

@@ -2,10 +2,10 @@
 use Rattle.std.proofs.Common.{◌≡◌, ℕ, refl, Ordering, Less, Equal, nat_cmp}
 use Rattle.std.specs.Cmp.{IsTotalOrder, IsPartialOrder, nat_cmp_total, unsigned_ties, on_total, then_total, both_tied, partial_order_from_agreeing_total}
 use Rattle.std.specs.Ordering.{ordering_reverse, then_cmp, on, eq_by_cmp, as_partial_cmp}
-use Rattle.ca_norm.specs.declared.form.Monomial.{Monomial}
-use Rattle.ca_norm.specs.declared.form.Monomial.TheVariants.{One, Atom}
-use Rattle.ca_norm.specs.contracts.form.MonomialPartialEq.TheImpl.{ghosts as equals}
-use Rattle.ca_norm.specs.Order.{monomial_cmp}
+use Rattle.ca_forms.specs.declared.form.Monomial.{Monomial}
+use Rattle.ca_forms.specs.declared.form.Monomial.TheVariants.{One, Atom}
+use Rattle.ca_forms.specs.contracts.form.MonomialPartialEq.TheImpl.{ghosts as equals}
+use Rattle.ca_forms.specs.Order.{monomial_cmp}
 
 -- atoms, by their group and number
 abbrev pair_cmp : ℕ × ℕ → ℕ × ℕ → Ordering

@@ -1,0 +1,12 @@
+//! Sorts of values.
+
+/// What kind of value a term stands for.
+#[derive(Clone, Copy, PartialEq, Eq, Debug)]
+pub enum Sort {
+    Long,
+    Bool,
+    Pointer,
+    LongArray,
+    BoolArray,
+    PointerArray,
+}
