@@ -22,3 +22,5 @@ pub mod Back
 pub mod Agreeing
 pub mod Stand
 pub mod CallThenList
+pub mod ThenListed
+pub mod SerialOrder

@@ -44,7 +44,7 @@ pub record LeavesBy (p : PlainProgram) (h : List Object) (i : Invocation) (o : O
   pub object : m.object ≡ object_with o section.own
   pub listed : m.listed ≡ section.listed
 
-abbrev outcome : Object → List Invocation → ℕ → Outcome
+abbrev pub outcome : Object → List Invocation → ℕ → Outcome
 outcome o listed steps = record { object = o; listed = listed; steps = steps }
 
 outcome_object : {m n : Outcome} → done m ≡ done n → m.object ≡ n.object

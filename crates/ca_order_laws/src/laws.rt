@@ -1,6 +1,6 @@
 //! The laws of order.
 
-ghost use Rattle.ca_order_laws.specs.Order.{AnyFrozenHeap, Diamond, Finishes, OneEnd};
+ghost use Rattle.ca_order_laws.specs.Order.{AnyFrozenHeap, DepthFirst, Diamond, Finishes, OneEnd, SectionThenList};
 
 /// A section reads constants of the frozen heap alone, so whoever runs sections may keep any heap that
 /// stands for the frozen one.
@@ -22,4 +22,16 @@ pub fn all_complete_runs_end_alike()
 /// middle may be followed by any other.
 pub fn any_run_can_be_completed()
     ensures { Finishes }
+{}
+
+/// A call may be run as its section and then what that lists, and the other way round: what an engine that runs
+/// sections does and what the serial run does are one, for each call alone.
+pub fn a_call_is_its_section_and_its_list()
+    ensures { SectionThenList }
+{}
+
+/// The serial run is a complete run of the pending machine, and any complete run tells how the serial run ends: with
+/// it an engine that runs the operations of a parallel extent in an order of its own answers what the serial run would.
+pub fn depth_first_is_a_complete_run()
+    ensures { DepthFirst }
 {}
