@@ -24,3 +24,4 @@ pub mod Stand
 pub mod CallThenList
 pub mod ThenListed
 pub mod SerialOrder
+pub mod Loops

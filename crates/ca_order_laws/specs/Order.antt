@@ -104,7 +104,7 @@ abbrev pub LoopThenList : Type 0
 LoopThenList =
     (p : PlainProgram) → ProgramTyped p → (x : Extent) → SeparableExtent p x →
     (loop : Statement) → IsCallLoop loop → ((op : OpId) → Contains (calls_of loop) op → Contains x.ops op) → IsSeparated p x.written true loop →
-    (s : Scope) → s.result ≡ None → (this : Datum) (line : ℕ) (ls : List Datum) (w : World) → StatementTyped p s loop → WorldTyped p s this w → ValuesTyped w.heap ls s.locals →
+    (s : Scope) (this : Datum) (line : ℕ) (ls : List Datum) (w : World) → StatementTyped p s loop → WorldTyped p s this w → ValuesTyped w.heap ls s.locals →
     (k j : ℕ) (ms : List Datum) (v : World) →
     (exec (serial_parts p this) line ls w loop k ≡ goes_on ms v j) ↔ (then_looped p w k (loop_section p w.heap this ls line loop k) ≡ goes_on ms v j)
 

@@ -1,6 +1,6 @@
 //! The laws of order.
 
-ghost use Rattle.ca_order_laws.specs.Order.{AnyFrozenHeap, DepthFirst, Diamond, Finishes, OneEnd, SectionThenList};
+ghost use Rattle.ca_order_laws.specs.Order.{AnyFrozenHeap, DepthFirst, Diamond, Finishes, LoopThenList, OneEnd, SectionThenList};
 
 /// A section reads constants of the frozen heap alone, so whoever runs sections may keep any heap that
 /// stands for the frozen one.
@@ -28,6 +28,11 @@ pub fn any_run_can_be_completed()
 /// sections does and what the serial run does are one, for each call alone.
 pub fn a_call_is_its_section_and_its_list()
     ensures { SectionThenList }
+{}
+
+/// So is a loop of calls: its calls may be listed first, and then run as any list of operations is.
+pub fn a_call_loop_is_its_section_and_its_list()
+    ensures { LoopThenList }
 {}
 
 /// The serial run is a complete run of the pending machine, and any complete run tells how the serial run ends: with
