@@ -18,10 +18,10 @@ use Rattle.ca_meaning.specs.Sections.{Outcome, done, section}
 use Rattle.ca_meaning.specs.Commuting.{joined, OrderCompletes, CommutesOn, Commutes}
 
 -- class A { public: long n; void set(long x) { n = x; } };
-abbrev class_a : ClassId
+abbrev pub class_a : ClassId
 class_a = record { 0 = 0 }
 
-abbrev n : FieldId
+abbrev pub n : FieldId
 n = record { class = class_a; field = 0 }
 
 abbrev set : OpId
@@ -35,10 +35,10 @@ program = record {
   main = record { locals = []; statements = no_statements };
 }
 
-abbrev with_n : ℕ → Object
+abbrev pub with_n : ℕ → Object
 with_n x = record { class = class_a; slots = One (Long (pos x)) ∷ [] }
 
-abbrev heap : List Object
+abbrev pub heap : List Object
 heap = with_n 0 ∷ []
 
 abbrev given : ℕ → List Datum

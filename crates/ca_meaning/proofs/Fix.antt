@@ -13,7 +13,7 @@ use Rattle.ca_meaning.specs.Flows.{Flow, goes_on, gives_back, stops, runs_out, a
 use Rattle.ca_meaning.specs.Functions.{place, body_of, locals_of, value_of_body, Functions, function_parts, functions, functions_of, value_in}
 use Rattle.ca_meaning.specs.Serial.{World, Operations, came_back, unless_full, run_call, operation_act, operation_parts, operations, operations_of, serial_parts}
 use Rattle.ca_meaning.specs.Sections.{Section, section_place, Again, section_act, section_parts_with, loops, loops_of, section_parts}
-use Rattle.ca_meaning.proofs.Near.{le_self, Near, both_give, both_trap, both_over, near_same, near_go, near_indexed, eval_near, all_near, due_near, NearFlow, both_go, both_return, both_stop, both_run_out, flow_same, flow_go, flow_with, flow_step, Agree, all_exec_near, loop_near}
+use Rattle.ca_meaning.proofs.Near.{le_self, Near, both_give, both_trap, both_over, near_same, near_go, near_indexed, eval_near, all_near, due_near, NearFlow, both_go, both_return, both_stop, both_run_out, flow_same, flow_go, flow_with, flow_step, CloseParts, all_exec_near, loop_near}
 
 -- ---- value methods
 
@@ -27,7 +27,7 @@ record Close (n : ℕ) (f g : Functions) : Type 0 where
   calls : (m : FunctionId) (r : ℕ) (vs : List Datum) (k : ℕ) → k < n → Near k (f.call m r vs k) (g.call m r vs k)
   agains : (this : Datum) (line : ℕ) (ls : List Datum) (x : Statement) (k : ℕ) → k < n → NearFlow k (f.again this line ls tt x k) (g.again this line ls tt x k)
 
-function_agree : (n : ℕ) (f g : Functions) → Close n f g → (h : List Object) (this : Datum) → Agree n (function_parts f h this) (function_parts g h this)
+function_agree : (n : ℕ) (f g : Functions) → Close n f g → (h : List Object) (this : Datum) → CloseParts n (function_parts f h this) (function_parts g h this)
 function_agree n f g c h this = record {
   values = λ line ls s e k le. eval_near n f.call g.call c.calls (place h this line ls) e k le;
   acts = λ line ls s x k le. flow_go ls s k;
@@ -111,7 +111,7 @@ came_near ls both_run_out = both_run_out
 pub run_near : (n : ℕ) (f g : Operations) → CloseOps n f g → (ls : List Datum) (i : Invocation) (w : World) (k : ℕ) → k ≤ n → NearFlow k (run_call f ls i w k) (run_call g ls i w k)
 run_near n f g c ls i w k le = flow_step w k _ _ (λ j lt. came_near ls (c.invokes i w j (omega arith)))
 
-pub operation_agree : (n : ℕ) (p : PlainProgram) (f g : Operations) → CloseOps n f g → (this : Datum) → Agree n (operation_parts p f this) (operation_parts p g this)
+pub operation_agree : (n : ℕ) (p : PlainProgram) (f g : Operations) → CloseOps n f g → (this : Datum) → CloseParts n (operation_parts p f this) (operation_parts p g this)
 operation_agree n p f g c this = record {
   values = λ line ls w e k le. eval_self p.functions w.heap (place w.heap this line ls) e k;
   acts = λ line ls w x k le. act_self p this line ls w x k;
@@ -171,7 +171,7 @@ section_act_self p h this line ls s (while_loop l c b) k = flow_go ls s k
 section_act_self p h this line ls s (for_loop l site part first c next b) k = flow_go ls s k
 section_act_self p h this line ls s (return_value l e) k = flow_go ls s k
 
-section_agree : (n : ℕ) (p : PlainProgram) (h : List Object) (this : Datum) (f g : Again) → ((line : ℕ) (ls : List Datum) (s : Section) (x : Statement) (k : ℕ) → k < n → NearFlow k (f line ls s x k) (g line ls s x k)) → Agree n (section_parts_with p h this f) (section_parts_with p h this g)
+section_agree : (n : ℕ) (p : PlainProgram) (h : List Object) (this : Datum) (f g : Again) → ((line : ℕ) (ls : List Datum) (s : Section) (x : Statement) (k : ℕ) → k < n → NearFlow k (f line ls s x k) (g line ls s x k)) → CloseParts n (section_parts_with p h this f) (section_parts_with p h this g)
 section_agree n p h this f g c = record {
   values = λ line ls s e k le. eval_self p.functions h (section_place h this s.own line ls) e k;
   acts = λ line ls s x k le. section_act_self p h this line ls s x k;

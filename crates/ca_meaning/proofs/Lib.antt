@@ -3,3 +3,4 @@ pub mod Fix
 pub mod Weights
 pub mod Examples
 mod CommutingExamples
+mod AgreeExamples

@@ -155,14 +155,14 @@ flow_step s (suc k) f g h = let le : k ≤ suc k = omega arith in flow_more le (
 
 -- the parts of two bodies agree where no more than n steps are left, and loops that come again where a
 -- step was taken
-pub record Agree {S : Type 0} (n : ℕ) (p q : Parts S) : Type 0 where
+pub record CloseParts {S : Type 0} (n : ℕ) (p q : Parts S) : Type 0 where
   pub values : (line : ℕ) (ls : List Datum) (s : S) (e : Expression) (k : ℕ) → k ≤ n → Near k (p.value line ls s e k) (q.value line ls s e k)
   pub acts : (line : ℕ) (ls : List Datum) (s : S) (x : Statement) (k : ℕ) → k ≤ n → NearFlow k (p.act line ls s x k) (q.act line ls s x k)
   pub calls : (line : ℕ) (ls : List Datum) (s : S) (e : Expression) (op : OpId) (es : Expressions) (k : ℕ) → k ≤ n → NearFlow k (p.call line ls s e op es k) (q.call line ls s e op es k)
   pub agains : (line : ℕ) (ls : List Datum) (s : S) (x : Statement) (k : ℕ) → k < n → NearFlow k (p.again line ls s x k) (q.again line ls s x k)
   pub begins : (line : ℕ) (ls : List Datum) (s : S) (x : Statement) (k : ℕ) (a b : Flow S) → k ≤ n → NearFlow k a b → NearFlow k (p.begin line ls s x k a) (q.begin line ls s x k b)
 
-module _ {S : Type 0} (n : ℕ) (p q : Parts S) (h : Agree n p q) where
+module _ {S : Type 0} (n : ℕ) (p q : Parts S) (h : CloseParts n p q) where
   turn_near : (c : Expression) (f g : List Datum → S → ℕ → Flow S) (loop : Statement) (line : ℕ) (ls : List Datum) (s : S) (k : ℕ) → k ≤ n → ((ls : List Datum) (s : S) (k : ℕ) → k < n → NearFlow k (f ls s k) (g ls s k)) → NearFlow k (turn_of p c f loop line ls s k) (turn_of q c g loop line ls s k)
   turn_near c f g loop line ls s k le r =
       flow_with s _ _ (h.values line ls s c k le) (λ v k1 le1. flow_choose v

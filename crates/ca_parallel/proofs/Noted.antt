@@ -12,7 +12,7 @@ use Rattle.ca_meaning.specs.Flows.{Flow, goes_on, gives_back, stops, runs_out, e
 use Rattle.ca_meaning.specs.Functions.{place, body_of, locals_of, functions_of}
 use Rattle.ca_meaning.specs.Serial.{World, fresh, Operations, run_call, operation_parts, operations, operations_of, serial_parts, main_run, ended, serial}
 use Rattle.ca_meaning.specs.Sections.{LoopSectioned, loop_done, loop_stopped, loop_over, loop_section}
-use Rattle.ca_meaning.proofs.Near.{le_self, NearFlow, flow_same, flow_with, Agree, exec_near, all_exec_near, loop_near}
+use Rattle.ca_meaning.proofs.Near.{le_self, NearFlow, flow_same, flow_with, CloseParts, exec_near, all_exec_near, loop_near}
 use Rattle.ca_meaning.proofs.Fix.{eval_self, due_self, act_self, CloseOps, run_near, operation_agree, close_ops, close_all_ops}
 use Rattle.ca_parallel.specs.Lists.{PlainMarks, no_marks, op_in, loop_in, note, noted, either, noted_call, loop_noted, noted_loop, noted_parts, noted_operations, noted_of, marked_parts, noted_run}
 use Rattle.ca_parallel.proofs.Moved.{Prints, Notes, shifted, moved, with_moved, all_moved, turn_moved, act_moved, MovedOps, call_moved, exec_serial_moved, ops_moved}
@@ -112,7 +112,7 @@ noted_loop_near n p ms f g c this line ls w s k x y le near = from (loop_in ms.l
     from true = exec_near n _ _ (operation_agree n p f g c this) s line ls (loop_noted w k (loop_section p w.heap this ls line s k)) k le
     from false = near
 
-noted_agree : (n : ℕ) (p : PlainProgram) (ms : PlainMarks) (f g o u : Operations) → CloseOps n f g → CloseOps n o u → (this : Datum) → Agree n (noted_parts p ms f o this) (noted_parts p ms g u this)
+noted_agree : (n : ℕ) (p : PlainProgram) (ms : PlainMarks) (f g o u : Operations) → CloseOps n f g → CloseOps n o u → (this : Datum) → CloseParts n (noted_parts p ms f o this) (noted_parts p ms g u this)
 noted_agree n p ms f g o u c d this = record {
   values = λ line ls w e k le. eval_self p.functions w.heap (place w.heap this line ls) e k;
   acts = λ line ls w x k le. act_self p this line ls w x k;
@@ -164,5 +164,5 @@ none_all p this ss ls w k = flow_same (all_exec_near k _ _ (none_agree k) ss ls 
       agains = λ this line ls w x k lt. let c : CloseOps (suc k) (operations (suc k) p) (operations_of p) = close_all_ops p (suc k) in subst (λ (o : Operations). NearFlow k (o.again this line ls w x k) ((operations_of p).again this line ls w x k)) (sym (none_operations (suc k) p)) (c.agains this line ls w x k (le_self (suc k)));
     }
 
-    none_agree : (n : ℕ) → Agree n (marked_parts p no_marks this) (serial_parts p this)
+    none_agree : (n : ℕ) → CloseParts n (marked_parts p no_marks this) (serial_parts p this)
     none_agree n = operation_agree n p (noted_of p no_marks) (operations_of p) (none_ops n) this
