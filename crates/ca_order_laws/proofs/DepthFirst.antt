@@ -12,7 +12,8 @@ use Rattle.ca_order_laws.specs.Pending.{Leaves, PendingRun, rests, runs}
 use Rattle.ca_order_laws.proofs.Weights.{weight_append, Split, Decides, equal, other, Two, one, both, count_of, there, count_self, two}
 use Rattle.ca_order_laws.proofs.Places.{one_some}
 use Rattle.ca_order_laws.proofs.Runs.{ends_same, ends_left, append_runs, Middle, middle, Parts, apart}
-use Rattle.ca_order_laws.proofs.Diamond.{Setting, Fine, fine_step, run_same, Ahead, front}
+use Rattle.ca_order_laws.proofs.Diamond.{Setting, Fine, fine_step, Ahead, front}
+use Rattle.ca_order_laws.proofs.PendingRuns.{run_same, run_then}
 
 -- the serial run of operations in order is done with this heap
 pub record Ended (p : PlainProgram) (is : List Invocation) (w : World) (last : List Object) (k left : ℕ) : Type 0 where
@@ -21,18 +22,6 @@ pub record Ended (p : PlainProgram) (is : List Invocation) (w : World) (last : L
   pub run : serial_ops p is w k ≡ goes_on [] world left
 
 module _ {p : PlainProgram} {frozen : List Object} {Good : Invocation → Type 0} {GoodObject : ℕ → Object → Type 0} (z : Setting p frozen Good GoodObject) where
-
-  run_steps : {last : List Object} {rest es : List Invocation} {h : List Object} {ps : List Invocation} {s t : ℕ} → s ≡ t → PendingRun p frozen last rest es h ps s → PendingRun p frozen last rest es h ps t
-  run_steps {last} {rest} {es} {h} {ps} e run = subst (λ n. PendingRun p frozen last rest es h ps n) e run
-
-  pub run_then : {mid last : List Object} {es fs more : List Invocation} {s t : ℕ} {h : List Object} {ps : List Invocation} → PendingRun p frozen mid [] es h ps s → PendingRun p frozen last [] fs mid more t → PendingRun p frozen last [] (es ++ fs) h (ps ++ more) (s + t)
-  run_then {more = more} {t = t} (rests ps none) run = run_steps (let e : t ≡ 0 + t = omega arith in e) (run_same z (ps ++ more) record { weighed = λ f. let p = none.weighed f in let q = weight_append f ps more in omega arith } run)
-  run_then {more = more} {t = t} (runs a es h ps others o r s same found sec tail) run =
-      run_steps (let e : r.steps + (s + t) ≡ (r.steps + s) + t = omega arith in e)
-        (runs a _ h (ps ++ more) (others ++ more) o r (s + t)
-          record { weighed = λ f. let p = same.weighed f in let q = weight_append f ps more in let u = weight_append f others more in omega arith }
-          found sec
-          (run_same z (r.listed ++ (others ++ more)) record { weighed = λ f. let p = weight_append f (r.listed ++ others) more in let p1 = weight_append f r.listed others in let p2 = weight_append f others more in let p3 = weight_append f r.listed (others ++ more) in omega arith } (run_then tail run)))
 
   pub fine_end : {last : List Object} {rest es : List Invocation} {h : List Object} {ps : List Invocation} {s : ℕ} → PendingRun p frozen last rest es h ps s → Fine z h ps → Fine z last rest
   fine_end (rests ps same) fine = record { size = fine.size; objects = fine.objects; ops = λ x s. fine.ops x record { others = s.others; same = record { weighed = λ f. same.weighed f ∙ s.same.weighed f } } }
@@ -60,7 +49,7 @@ module _ {p : PlainProgram} {frozen : List Object} {Good : Invocation → Type 0
     pub steps : t ≡ s + left
 
   pub carry : {mid last : List Object} {rest es : List Invocation} {h : List Object} {ps : List Invocation} {s : ℕ} → PendingRun p frozen mid rest es h ps s → (fs : List Invocation) (t : ℕ) → Fine z h ps → PendingRun p frozen last [] fs h ps t → Carried mid last rest s t
-  carry (rests ps same) fs t fine run = record { es = fs; left = t; run = run_same z _ record { weighed = λ f. sym (same.weighed f) } run; steps = omega arith }
+  carry (rests ps same) fs t fine run = record { es = fs; left = t; run = run_same _ record { weighed = λ f. sym (same.weighed f) } run; steps = omega arith }
   carry {mid} {last} {rest} (runs a more h ps others o r s same found sec tail) fs t fine run =
       let w : Ahead z last h a others (length fs) t = front z a others fine same run in
       let eo : w.o ≡ o = one_some _ w.o o w.found found in
@@ -69,11 +58,6 @@ module _ {p : PlainProgram} {frozen : List Object} {Good : Invocation → Type 0
       let i : Carried mid last rest s w.left = carry tail w.es w.left (fine_step z h ps others a o r fine same found sec) moved in
       let e = ap (λ q. q.steps) er in let p = w.steps in let q = i.steps in
       record { es = i.es; left = i.left; run = i.run; steps = omega arith }
-
-  -- rounds: a run, and then a run from where it ended
-  pub run_after : {mid last : List Object} {rest end es fs : List Invocation} {s t : ℕ} {h : List Object} {ps : List Invocation} → PendingRun p frozen mid rest es h ps s → PendingRun p frozen last end fs mid rest t → PendingRun p frozen last end (es ++ fs) h ps (s + t)
-  run_after {t = t} (rests ps same) run = run_steps (let e : t ≡ 0 + t = omega arith in e) (run_same z ps same run)
-  run_after {t = t} (runs a es h ps others o r s same found sec tail) run = run_steps (let e : r.steps + (s + t) ≡ (r.steps + s) + t = omega arith in e) (runs a _ h ps others o r (s + t) same found sec (run_after tail run))
 
   -- a complete run, and what is left of the steps
   pub record Complete (h : List Object) (ps : List Invocation) (k : ℕ) (last : List Object) (left : ℕ) : Type 0 where

@@ -9,6 +9,7 @@ use Rattle.ca_meaning.specs.Multisets.{weight, SameItems}
 use Rattle.ca_order_laws.specs.Pending.{Leaves, PendingRun, rests, runs}
 use Rattle.ca_order_laws.proofs.Weights.{weight_append, Split, Decides, equal, other, Two, one, both, count_of, there, count_self, two}
 use Rattle.ca_order_laws.proofs.Decided.{decide_nat}
+use Rattle.ca_order_laws.proofs.PendingRuns.{run_same}
 use Rattle.ca_order_laws.proofs.Places.{get_set, get_else, set_again, set_swap, set_length, one_some}
 
 -- b before a where a came before b
@@ -36,11 +37,6 @@ module _ {p : PlainProgram} {frozen : List Object} {Good : Invocation → Type 0
     pub size : length h ≡ z.size
     pub objects : (n : ℕ) (o : Object) → slice_get h n ≡ Some o → GoodObject n o
     pub ops : (x : Invocation) → Split x ps → Good x
-
-  -- the pending operations count up to order
-  pub run_same : {last : List Object} {rest es : List Invocation} {h : List Object} {ps : List Invocation} {s : ℕ} (qs : List Invocation) → SameItems qs ps → PendingRun p frozen last rest es h ps s → PendingRun p frozen last rest es h qs s
-  run_same qs e (rests ps same) = rests qs record { weighed = λ f. e.weighed f ∙ same.weighed f }
-  run_same qs e (runs a more h ps others o r s same found sec run) = runs a more h qs others o r s record { weighed = λ f. e.weighed f ∙ same.weighed f } found sec run
 
   fine_append : (xs ys : List Invocation) → ((x : Invocation) → Split x xs → Good x) → ((x : Invocation) → Split x ys → Good x) → (x : Invocation) → Split x (xs ++ ys) → Good x
   fine_append xs ys f g x s = from (decide_nat (weight (count_of z.decide x) xs) 0)

@@ -2,6 +2,7 @@ pub mod Weights
 pub mod Places
 pub mod Decided
 pub mod Runs
+pub mod PendingRuns
 pub mod Diamond
 pub mod DepthFirst
 pub mod Likes
@@ -25,3 +26,4 @@ pub mod CallThenList
 pub mod ThenListed
 pub mod SerialOrder
 pub mod Loops
+mod Examples

@@ -114,3 +114,10 @@ DepthFirst =
     (p : PlainProgram) → ProgramTyped p → (roots : List OpId) (x : Extent) → IsExtentOf p roots x → Parallel p x →
     (h : List Object) → TypedHeap p h → (is : List Invocation) → AllWellTyped p h is → AllInside x is →
     (budget : ℕ) (last : List Object) (steps : ℕ) → RunsTo p h is budget last steps ↔ ((steps ≤ budget) × CompleteRun p h h is last steps)
+
+-- A run, and then a run from where it ended, are one run: rounds need no relation of their own.
+abbrev pub Rounds : Type 0
+Rounds =
+    (p : PlainProgram) (frozen h mid last : List Object) (is rest waiting first second : List Invocation) (s t : ℕ) →
+    PendingRun p frozen mid rest first h is s → PendingRun p frozen last waiting second mid rest t →
+    PendingRun p frozen last waiting (first ++ second) h is (s + t)

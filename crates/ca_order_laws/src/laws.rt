@@ -1,6 +1,6 @@
 //! The laws of order.
 
-ghost use Rattle.ca_order_laws.specs.Order.{AnyFrozenHeap, DepthFirst, Diamond, Finishes, LoopThenList, OneEnd, SectionThenList};
+ghost use Rattle.ca_order_laws.specs.Order.{AnyFrozenHeap, DepthFirst, Diamond, Finishes, LoopThenList, OneEnd, Rounds, SectionThenList};
 
 /// A section reads constants of the frozen heap alone, so whoever runs sections may keep any heap that
 /// stands for the frozen one.
@@ -22,6 +22,11 @@ pub fn all_complete_runs_end_alike()
 /// middle may be followed by any other.
 pub fn any_run_can_be_completed()
     ensures { Finishes }
+{}
+
+/// A run, and then a run from where it ended, are one run, so an engine may go in rounds.
+pub fn rounds_are_one_run()
+    ensures { Rounds }
 {}
 
 /// A call may be run as its section and then what that lists, and the other way round: what an engine that runs
