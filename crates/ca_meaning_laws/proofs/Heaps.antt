@@ -67,11 +67,11 @@ slots_kept h g x [] (f ∷ fs) t = absurd t
 slots_kept h g x (s ∷ ss) [] t = absurd t
 slots_kept h g x (s ∷ ss) (f ∷ fs) t = (slot_kept h g x s f.ty f.length t.0, slots_kept h g x ss fs t.1)
 
-object_kept : (h g : List Object) → Extends h g → (k : Option PlainClass) (ss : List Slot) → ObjectTyped h k ss → ObjectTyped g k ss
+pub object_kept : (h g : List Object) → Extends h g → (k : Option PlainClass) (ss : List Slot) → ObjectTyped h k ss → ObjectTyped g k ss
 object_kept h g x None ss t = absurd t
 object_kept h g x (Some k) ss t = slots_kept h g x ss k.fields t
 
-each_kept : (p : PlainProgram) (h g : List Object) → Extends h g → (os : List Object) → EachTyped p h os → EachTyped p g os
+pub each_kept : (p : PlainProgram) (h g : List Object) → Extends h g → (os : List Object) → EachTyped p h os → EachTyped p g os
 each_kept p h g x [] t = tt
 each_kept p h g x (o ∷ os) t = (object_kept h g x (slice_get p.classes o.class.0) o.slots t.0, each_kept p h g x os t.1)
 
@@ -84,7 +84,7 @@ receiver_kept h g x (Some c) Null t = absurd t
 
 -- ---- what typed heaps hold
 
-object_typed : (p : PlainProgram) (g os : List Object) (n : ℕ) (c : ClassId) → EachTyped p g os → IsOfClass (slice_get os n) c → ObjectTyped g (slice_get p.classes c.0) (slots_in (slice_get os n))
+pub object_typed : (p : PlainProgram) (g os : List Object) (n : ℕ) (c : ClassId) → EachTyped p g os → IsOfClass (slice_get os n) c → ObjectTyped g (slice_get p.classes c.0) (slots_in (slice_get os n))
 object_typed p g [] n c t e = absurd e
 object_typed p g (o ∷ os) zero c t e = subst (λ z. ObjectTyped g (slice_get p.classes z.0) o.slots) e t.0
 object_typed p g (o ∷ os) (suc n) c t e = object_typed p g os n c t.1 e

@@ -106,7 +106,7 @@ module _ (p : PlainProgram) (typed : ProgramTyped p) where
       typed_with heap_of (WorldTyped p s r) s (λ v. HasType w.heap v ty) h _ w _ good ext (serial_value s r w line ls e ty k good vs t)
       (λ v k1 hv. goes_to p s r h w (printed w v) ls k1 good ext good.heap (extends_self w.heap) vs)
 
-  act_typed : (s : Scope) (r : Datum) (h : List Object) (line : ℕ) (ls : List Datum) (w : World) (y : Statement) (k : ℕ) → WorldTyped p s r w → Extends h w.heap → ValuesTyped w.heap ls s.locals → StatementTyped p s y → WorldFlow p s r h (operation_act p r line ls w y k)
+  pub act_typed : (s : Scope) (r : Datum) (h : List Object) (line : ℕ) (ls : List Datum) (w : World) (y : Statement) (k : ℕ) → WorldTyped p s r w → Extends h w.heap → ValuesTyped w.heap ls s.locals → StatementTyped p s y → WorldFlow p s r h (operation_act p r line ls w y k)
   act_typed s r h line ls w (put_field l f op e) k good ext vs t =
       typed_with heap_of (WorldTyped p s r) s (λ v. HasType w.heap v t.0) h _ w _ good ext (serial_value s r w line ls e t.0 k good vs t.3.1)
       (λ v k1 hv. put_goes s r h w ls f 0 _ t.0 k1 good ext vs t.1.1 (scalar_has (field_info p f) t.0 t.2) (assigned_typed w.heap op (own_value w r f) v t.0 t.3.0 (own_old s r w f t.0 good t.1.1 t.2) hv))
