@@ -1,5 +1,5 @@
 -- Worked examples: an extent of three operations that run in two orders, and two calls that don't commute.
-use Rattle.std.proofs.Common.{◌≡◌, ◌≢◌, ◌<◌, ◌⊎◌, inl, inr, ℕ, zero, suc, ◌+◌, List, [], ◌∷◌, ◌++◌, Option, Some, None, refl, ap, sym, subst, ◌∙◌, arith, codes, pos}
+use Rattle.std.proofs.Common.{◌≡◌, ◌≢◌, ◌<◌, ℕ, zero, suc, List, [], ◌∷◌, Some, None, refl, ap, sym, subst, ◌∙◌, arith, codes, pos}
 use Rattle.std.proofs.lemmas.Int.{ints}
 use Rattle.std.specs.Prelude.{Contains, FitsSigned, slice_get}
 use Rattle.std.specs.Int.{w64}
@@ -19,7 +19,7 @@ use Rattle.ca_model.specs.Typed.{TypedHeap}
 use Rattle.ca_meaning.specs.Expressions.{Invocation, invocation}
 use Rattle.ca_meaning.specs.Sections.{Outcome, Completes}
 use Rattle.ca_meaning.specs.Multisets.{weight, SameItems}
-use Rattle.ca_meaning.specs.WellTyped.{ValuesTyped, CallTyped, WellTyped, AllWellTyped, IsMethodOf}
+use Rattle.ca_meaning.specs.WellTyped.{ValuesTyped, WellTyped}
 use Rattle.ca_meaning.specs.Commuting.{joined, OrderCompletes, SameOutcome, CommutesOn, Commutes}
 use Rattle.ca_meaning.specs.ProgramTyped.{OperationTyped, ProgramTyped}
 use Rattle.ca_parallel.specs.Bodies.{calls_of_all, functions_of_body, targets_of_all}
@@ -27,8 +27,7 @@ use Rattle.ca_parallel.specs.Calls.{RunsTo}
 use Rattle.ca_parallel.specs.Extents.{operation_body, Invokes, root, called, Evaluates, by_operation, by_function, Writes, Extent, IsExtentOf}
 use Rattle.ca_parallel.specs.Separable.{Separable}
 use Rattle.ca_parallel.specs.Parallel.{Parallel}
-use Rattle.ca_order_laws.specs.Pending.{PendingRun, rests, runs, CompleteRun}
-use Rattle.ca_order_laws.specs.Order.{AllInside}
+use Rattle.ca_order_laws.specs.Pending.{rests, runs, CompleteRun}
 use Rattle.ca_order_laws.proofs.Sections.{leaves_one}
 use Rattle.ca_order_laws.proofs.SerialOrder.{depth_first}
 
@@ -99,16 +98,20 @@ three_is_typed = record {
   where
     of : (m q : PlainMethod) → Some q ≡ Some m → OperationTyped three q → OperationTyped three m
     of m q e t = subst (λ z. OperationTyped three z) (let z : q ≡ m = cc in z) t
+
     ops : (n : ℕ) (m : PlainMethod) → slice_get three.ops n ≡ Some m → OperationTyped three m
     ops zero m e = of m going e (record {
       method = record { class = (_, refl); parameters = omega arith; body = ((left, [], refl, (refl, refl), (refl, (refl, refl)), refl), ((right, [], refl, (refl, refl), (refl, (refl, refl)), refl), tt)) };
-      result = refl })
+      result = refl;
+    })
     ops (suc zero) m e = of m (marking left a 1) e (record {
       method = record { class = (_, refl); parameters = omega arith; body = ((LongType, (refl, refl), (refl, refl), (tt, (refl, fits 1 (omega arith)))), tt) };
-      result = refl })
+      result = refl;
+    })
     ops (suc (suc zero)) m e = of m (marking right b 2) e (record {
       method = record { class = (_, refl); parameters = omega arith; body = ((LongType, (refl, refl), (refl, refl), (tt, (refl, fits 2 (omega arith)))), tt) };
-      result = refl })
+      result = refl;
+    })
     ops (suc (suc (suc n))) m e = absurd cc
 
 -- ---- its extent
@@ -193,9 +196,10 @@ reached_is = record {
   functions = λ m. (λ c. absurd (no_item m c), λ e. absurd (none_evaluated e));
   written = λ f. (
     λ c. two_of (λ z. Writes three from_go z) a b f
-      (record { op = mark_left; invoked = invokes mark_left the_second; target = (zero, omega arith, refl) })
-      (record { op = mark_right; invoked = invokes mark_right the_third; target = (zero, omega arith, refl) }) c,
-    λ w. targets w.op f (invoked w.invoked) w.target);
+        (record { op = mark_left; invoked = invokes mark_left the_second; target = (zero, omega arith, refl) })
+        (record { op = mark_right; invoked = invokes mark_right the_third; target = (zero, omega arith, refl) }) c,
+    λ w. targets w.op f (invoked w.invoked) w.target,
+  );
 }
 
 -- ---- it is parallel
@@ -286,18 +290,18 @@ left_then_right : CompleteRun three before before (first_call ∷ []) after 3
 left_then_right = record {
   order = first_call ∷ left_call ∷ right_call ∷ [];
   run = runs first_call (left_call ∷ right_call ∷ []) before (first_call ∷ []) [] root_object (done_with root_object (left_call ∷ right_call ∷ [])) 2 (record { weighed = λ f. refl }) refl (1, refl)
-    (runs left_call (right_call ∷ []) before (left_call ∷ right_call ∷ []) (right_call ∷ []) (with_value left 0) (done_with (with_value left 1) []) 1 (record { weighed = λ f. refl }) refl (1, refl)
-    (runs right_call [] (root_object ∷ with_value left 1 ∷ with_value right 0 ∷ []) (right_call ∷ []) [] (with_value right 0) (done_with (with_value right 2) []) 0 (record { weighed = λ f. refl }) refl (1, refl)
-    (rests [] (record { weighed = λ f. refl }))));
+      (runs left_call (right_call ∷ []) before (left_call ∷ right_call ∷ []) (right_call ∷ []) (with_value left 0) (done_with (with_value left 1) []) 1 (record { weighed = λ f. refl }) refl (1, refl)
+      (runs right_call [] (root_object ∷ with_value left 1 ∷ with_value right 0 ∷ []) (right_call ∷ []) [] (with_value right 0) (done_with (with_value right 2) []) 0 (record { weighed = λ f. refl }) refl (1, refl)
+      (rests [] (record { weighed = λ f. refl }))));
 }
 
 right_then_left : CompleteRun three before before (first_call ∷ []) after 3
 right_then_left = record {
   order = first_call ∷ right_call ∷ left_call ∷ [];
   run = runs first_call (right_call ∷ left_call ∷ []) before (first_call ∷ []) [] root_object (done_with root_object (left_call ∷ right_call ∷ [])) 2 (record { weighed = λ f. refl }) refl (1, refl)
-    (runs right_call (left_call ∷ []) before (left_call ∷ right_call ∷ []) (left_call ∷ []) (with_value right 0) (done_with (with_value right 2) []) 1 (record { weighed = λ f. omega arith }) refl (1, refl)
-    (runs left_call [] (root_object ∷ with_value left 0 ∷ with_value right 2 ∷ []) (left_call ∷ []) [] (with_value left 0) (done_with (with_value left 1) []) 0 (record { weighed = λ f. refl }) refl (1, refl)
-    (rests [] (record { weighed = λ f. refl }))));
+      (runs right_call (left_call ∷ []) before (left_call ∷ right_call ∷ []) (left_call ∷ []) (with_value right 0) (done_with (with_value right 2) []) 1 (record { weighed = λ f. omega arith }) refl (1, refl)
+      (runs left_call [] (root_object ∷ with_value left 0 ∷ with_value right 2 ∷ []) (left_call ∷ []) [] (with_value left 0) (done_with (with_value left 1) []) 0 (record { weighed = λ f. refl }) refl (1, refl)
+      (rests [] (record { weighed = λ f. refl }))));
 }
 
 before_is_typed : TypedHeap three before
@@ -334,8 +338,8 @@ in_order : (x y : ℕ) → SameItems (set_to 1 ∷ set_to 2 ∷ []) (set_to x �
 in_order x y same = record {
   order = set_to x ∷ set_to y ∷ [];
   run = runs (set_to x) (set_to y ∷ []) (one_object 0) (set_to 1 ∷ set_to 2 ∷ []) (set_to y ∷ []) (with_value top 0) (done_with (with_value top x) []) 1 same refl (1, refl)
-    (runs (set_to y) [] (one_object x) (set_to y ∷ []) [] (with_value top x) (done_with (with_value top y) []) 0 (record { weighed = λ f. refl }) refl (1, refl)
-    (rests [] (record { weighed = λ f. refl })));
+      (runs (set_to y) [] (one_object x) (set_to y ∷ []) [] (with_value top x) (done_with (with_value top y) []) 0 (record { weighed = λ f. refl }) refl (1, refl)
+      (rests [] (record { weighed = λ f. refl })));
 }
 
 ends_in_two : CompleteRun setters (one_object 0) (one_object 0) (set_to 1 ∷ set_to 2 ∷ []) (one_object 2) 2
