@@ -40,7 +40,7 @@ due_calls c q e op es k =
 pub none_of : {A : Type 0} (x : A) → ¬ Contains [] x
 none_of x c = let lt = c.1 in absurd (omega arith)
 
-single_is : {A : Type 0} (x y : A) → Contains (x ∷ []) y → x ≡ y
+pub single_is : {A : Type 0} (x y : A) → Contains (x ∷ []) y → x ≡ y
 single_is x y c = ⊎_elim (λ a. absurd (none_of y a)) (λ e. e) (Contains-push_cases [] x y c)
 
 module _ (written : List FieldId) (ops : List OpId) (class : Option ClassId) where

@@ -24,6 +24,7 @@ pub mod Agreeing
 pub mod Stand
 pub mod CallThenList
 pub mod ThenListed
+pub mod Standing
 pub mod SerialOrder
 pub mod Loops
 mod Examples

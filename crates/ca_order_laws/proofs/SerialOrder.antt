@@ -6,7 +6,7 @@ use Rattle.ca_program.specs.declared.program.OpId.{OpId}
 use Rattle.ca_program.specs.Plain.{PlainProgram, PlainMethod}
 use Rattle.ca_model.specs.declared.value.Value.{Value as Datum}
 use Rattle.ca_model.specs.declared.value.Object.{Object}
-use Rattle.ca_model.specs.Typed.{IsOfClass, ObjectTyped, EachTyped, TypedHeap}
+use Rattle.ca_model.specs.Typed.{IsOfClass, TypedHeap}
 use Rattle.ca_meaning.specs.Expressions.{Invocation}
 use Rattle.ca_meaning.specs.Flows.{goes_on}
 use Rattle.ca_meaning.specs.Serial.{World, Note, fresh, in_heap, run_call, operations_of, serial_ops}
@@ -14,8 +14,6 @@ use Rattle.ca_meaning.specs.Sections.{Outcome, done, sectioned, section}
 use Rattle.ca_meaning.specs.WellTyped.{CallTyped, WellTyped}
 use Rattle.ca_meaning.specs.ProgramTyped.{ProgramTyped}
 use Rattle.ca_meaning_laws.specs.Budgets.{on_with, Reaches, Reached}
-use Rattle.ca_meaning_laws.specs.Typed.{Extends}
-use Rattle.ca_meaning_laws.proofs.Heaps.{each_kept}
 use Rattle.ca_meaning_laws.proofs.SerialTypes.{well_kept}
 use Rattle.ca_meaning_laws.proofs.Steady.{SteadyFlow}
 use Rattle.ca_meaning_laws.proofs.Bigs.{serial_call_steady, serial_ops_steady}
@@ -25,38 +23,14 @@ use Rattle.ca_parallel.specs.Calls.{RunsTo}
 use Rattle.ca_parallel.proofs.Moved.{moved, shifted, serial_ops_moved}
 use Rattle.ca_order_laws.specs.Pending.{Leaves, PendingRun, CompleteRun}
 use Rattle.ca_order_laws.specs.Order.{StandsFor, DepthFirst}
-use Rattle.ca_order_laws.proofs.Places.{one_some}
 use Rattle.ca_order_laws.proofs.Runs.{ends_same}
-use Rattle.ca_order_laws.proofs.Frozen.{there_too, any_frozen_heap}
+use Rattle.ca_order_laws.proofs.Frozen.{any_frozen_heap}
 use Rattle.ca_order_laws.proofs.Diamond.{Setting, Fine}
+use Rattle.ca_order_laws.proofs.Standing.{extends_frozen, stands_good}
 use Rattle.ca_order_laws.proofs.DepthFirst.{Ended, Complete, Parted, SectionsThenLists, serial_completes, completes_serial}
 use Rattle.ca_order_laws.proofs.Sections.{object_with, outcome, LeavesBy, leaves_by, leaves_steps}
 use Rattle.ca_order_laws.proofs.Setting.{GoodCall, GoodObject, method_of, setting, fine}
 use Rattle.ca_order_laws.proofs.CallThenList.{SectionRest, call_first, call_then}
-
--- ---- a heap of good objects stands for the frozen one
-
-each_from : (p : PlainProgram) (g os : List Object) → ((n : ℕ) (o : Object) → slice_get os n ≡ Some o → ObjectTyped g (slice_get p.classes o.class.0) o.slots) → EachTyped p g os
-each_from p g [] f = tt
-each_from p g (o ∷ os) f = (f 0 o refl, each_from p g os (λ n q e. f (suc n) q e))
-
-module _ (p : PlainProgram) (x : Extent) (frozen h : List Object) (size : length h ≡ length frozen) (objects : (n : ℕ) (o : Object) → slice_get h n ≡ Some o → GoodObject p x frozen n o) where
-  extends_frozen : Extends frozen h
-  extends_frozen = record { keeps = λ n c t. from n c (slice_get frozen n) refl t }
-    where
-      from : (n : ℕ) (c : ClassId) (q : Option Object) → slice_get frozen n ≡ q → IsOfClass q c → IsOfClass (slice_get h n) c
-      from n c None e t = absurd t
-      from n c (Some q) e t =
-          let o = there_too h frozen size n q e in
-          let g : GoodObject p x frozen n o.0 = objects n o.0 o.1 in
-          let same : g.agrees.other ≡ q = one_some _ g.agrees.other q g.agrees.there e in
-          subst (λ z. IsOfClass z c) (sym o.1) (g.agrees.agree.class ∙ ap (λ (z : Object). z.class) same ∙ t)
-
-  stands_good : StandsFor p x frozen h
-  stands_good = record {
-    heap = each_kept p frozen h extends_frozen h (each_from p frozen h (λ n o e. let g : GoodObject p x frozen n o = objects n o e in g.typed.slots));
-    agree = record { as_many = size; each = λ n o e. let g : GoodObject p x frozen n o = objects n o e in g.agrees };
-  }
 
 -- ---- calls, seen from the setting
 

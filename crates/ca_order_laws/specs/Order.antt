@@ -114,3 +114,13 @@ Rounds =
     (p : PlainProgram) (frozen h mid last : List Object) (is rest waiting first second : List Invocation) (s t : ℕ) →
     PendingRun p frozen mid rest first h is s → PendingRun p frozen last waiting second mid rest t →
     PendingRun p frozen last waiting (first ++ second) h is (s + t)
+
+-- What a run leaves is as good as what it began with: its heap stands for the frozen one, and what waits is well typed
+-- and of the extent.
+abbrev pub RunsStay : Type 0
+RunsStay =
+    (p : PlainProgram) → ProgramTyped p → (roots : List OpId) (x : Extent) → IsExtentOf p roots x → Parallel p x →
+    (frozen h : List Object) → TypedHeap p frozen → StandsFor p x frozen h →
+    (is : List Invocation) → AllWellTyped p frozen is → AllInside x is →
+    (mid : List Object) (rest order : List Invocation) (s : ℕ) → PendingRun p frozen mid rest order h is s →
+    StandsFor p x frozen mid × AllWellTyped p frozen rest × AllInside x rest
