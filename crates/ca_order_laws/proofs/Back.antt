@@ -30,7 +30,7 @@ use Rattle.ca_order_laws.proofs.Flags.{some_left, some_right, Rise, rise_or, ris
 use Rattle.ca_order_laws.proofs.Runs.{ends_same, ends_locals, ends_left, call_with, append_runs, list_locals, AtOnce, at_once, reaches_same, takes_same, stop_reaches, reaches_steps}
 use Rattle.ca_order_laws.proofs.Kept.{IsKept, AreKept}
 use Rattle.ca_order_laws.proofs.Grown.{Grows, GrownFlow, grown_of, section_grown, all_section_grown, loop_section_grown}
-use Rattle.ca_order_laws.proofs.Rel.{lite_rise, lite_grown, Lite, Rel, rel_rise, rel_before, own_before, Common, locals_after, after_put}
+use Rattle.ca_order_laws.proofs.Related.{lite_rise, lite_grown, Lite, Related, rel_rise, rel_before, own_before, Common, locals_after, after_put}
 
 module _ (p : PlainProgram) (written : List FieldId) (ops : List OpId) (sc : Scope) (w0 : World) (this : Datum) (put_in : List Slot → World) (b0 : Bool) where
   abbrev wp : Parts World
@@ -40,7 +40,7 @@ module _ (p : PlainProgram) (written : List FieldId) (ops : List OpId) (sc : Sco
   qp = section_parts p w0.heap this
 
   abbrev R : Bool → World → Section → ℕ → Type 0
-  R b w s t = Rel p written ops sc w0 this put_in b0 b w s t
+  R b w s t = Related p written ops sc w0 this put_in b0 b w s t
 
   abbrev L : Bool → Section → Type 0
   L b s = Lite p written ops sc w0 this put_in b0 b s

@@ -36,8 +36,8 @@ use Rattle.ca_order_laws.proofs.Likes.{Like}
 use Rattle.ca_order_laws.proofs.Kept.{AreKept}
 use Rattle.ca_order_laws.proofs.Grown.{none_of}
 use Rattle.ca_order_laws.proofs.Sections.{object_with, body_kept}
-use Rattle.ca_order_laws.proofs.Rel.{Puts, Constants, Rel, Common}
-use Rattle.ca_order_laws.proofs.Stand.{Placed, common}
+use Rattle.ca_order_laws.proofs.Related.{Puts, Constants, Related, Common}
+use Rattle.ca_order_laws.proofs.BothRuns.{Placed, common}
 use Rattle.ca_order_laws.proofs.First.{Forth, all_forward}
 use Rattle.ca_order_laws.proofs.Back.{Backed, all_back}
 
@@ -158,7 +158,7 @@ module _ (p : PlainProgram) (program : ProgramTyped p) (roots : List OpId) (x : 
     both : Common p x.written x.ops (scope_of m) w (Ref i.receiver) put_in false
     both = common p program x.written x.ops (body_kept p roots x is_extent) (scope_of m) w (Ref i.receiver) put_in false heap call.0 (λ e. puts) placed method.result
 
-    start : Rel p x.written x.ops (scope_of m) w (Ref i.receiver) put_in false false w (section_start o.slots) 0
+    start : Related p x.written x.ops (scope_of m) w (Ref i.receiver) put_in false false w (section_start o.slots) 0
     start = record {
       lite = record {
         none = λ e. refl;

@@ -116,37 +116,37 @@ three_is_typed = record {
 
 -- ---- its extent
 
-data Three {A : Type 0} (x y z : A) : A → Type 0 where
+pub data Three {A : Type 0} (x y z : A) : A → Type 0 where
   the_first : Three x y z x
   the_second : Three x y z y
   the_third : Three x y z z
 
-three_of : {A : Type 0} (x y z w : A) → Contains (x ∷ y ∷ z ∷ []) w → Three x y z w
+pub three_of : {A : Type 0} (x y z w : A) → Contains (x ∷ y ∷ z ∷ []) w → Three x y z w
 three_of x y z w (zero, below, is) = subst (λ v. Three x y z v) is the_first
 three_of x y z w (suc zero, below, is) = subst (λ v. Three x y z v) is the_second
 three_of x y z w (suc (suc zero), below, is) = subst (λ v. Three x y z v) is the_third
 three_of x y z w (suc (suc (suc k)), below, is) = absurd (omega arith)
 
-of_three : {A : Type 0} (x y z w : A) → Three x y z w → Contains (x ∷ y ∷ z ∷ []) w
+pub of_three : {A : Type 0} (x y z w : A) → Three x y z w → Contains (x ∷ y ∷ z ∷ []) w
 of_three x y z _ the_first = (zero, omega arith, refl)
 of_three x y z _ the_second = (suc zero, omega arith, refl)
 of_three x y z _ the_third = (suc (suc zero), omega arith, refl)
 
-no_item : {A : Type 0} (x : A) → ¬ Contains [] x
+pub no_item : {A : Type 0} (x : A) → ¬ Contains [] x
 no_item x c = let below = c.1 in absurd (omega arith)
 
-first_of_two : {A : Type 0} (x y : A) → Contains (x ∷ y ∷ []) x
+pub first_of_two : {A : Type 0} (x y : A) → Contains (x ∷ y ∷ []) x
 first_of_two x y = (zero, omega arith, refl)
 
-second_of_two : {A : Type 0} (x y : A) → Contains (x ∷ y ∷ []) y
+pub second_of_two : {A : Type 0} (x y : A) → Contains (x ∷ y ∷ []) y
 second_of_two x y = (suc zero, omega arith, refl)
 
-two_of : {A : Type 0} (P : A → Type 0) (x y z : A) → P x → P y → Contains (x ∷ y ∷ []) z → P z
+pub two_of : {A : Type 0} (P : A → Type 0) (x y z : A) → P x → P y → Contains (x ∷ y ∷ []) z → P z
 two_of P x y z p q (zero, below, is) = subst P is p
 two_of P x y z p q (suc zero, below, is) = subst P is q
 two_of P x y z p q (suc (suc k), below, is) = absurd (omega arith)
 
-one_of : {A : Type 0} (P : A → Type 0) (x z : A) → P x → Contains (x ∷ []) z → P z
+pub one_of : {A : Type 0} (P : A → Type 0) (x z : A) → P x → Contains (x ∷ []) z → P z
 one_of P x z p (zero, below, is) = subst P is p
 one_of P x z p (suc k, below, is) = absurd (omega arith)
 

@@ -30,7 +30,7 @@ use Rattle.ca_order_laws.proofs.Flags.{some_left, some_right, Rise, rise_or, ris
 use Rattle.ca_order_laws.proofs.Runs.{AtOnce, at_once, reaches_same, takes_same, stop_reaches, reaches_steps, Called, called, one_more}
 use Rattle.ca_order_laws.proofs.Kept.{IsKept, AreKept}
 use Rattle.ca_order_laws.proofs.Grown.{due_calls}
-use Rattle.ca_order_laws.proofs.Rel.{called_op, put_constants, Rel, rel_rise, rel_before, own_before, listed_inside, Common, locals_after, after_put, rel_put}
+use Rattle.ca_order_laws.proofs.Related.{called_op, put_constants, Related, rel_rise, rel_before, own_before, listed_inside, Common, locals_after, after_put, rel_put}
 
 module _ (p : PlainProgram) (written : List FieldId) (ops : List OpId) (sc : Scope) (w0 : World) (this : Datum) (put_in : List Slot → World) (b0 : Bool) where
   abbrev wp : Parts World
@@ -40,7 +40,7 @@ module _ (p : PlainProgram) (written : List FieldId) (ops : List OpId) (sc : Sco
   qp = section_parts p w0.heap this
 
   abbrev R : Bool → World → Section → ℕ → Type 0
-  R b w s t = Rel p written ops sc w0 this put_in b0 b w s t
+  R b w s t = Related p written ops sc w0 this put_in b0 b w s t
 
   rises : {b c : Bool} {w : World} {s : Section} {t : ℕ} → Rise b c → R b w s t → R c w s t
   rises up a = rel_rise p written ops sc w0 this put_in b0 up a

@@ -31,8 +31,8 @@ use Rattle.ca_order_laws.proofs.Kept.{IsKept, AreKept, Within, within_left, with
 use Rattle.ca_order_laws.proofs.Grown.{none_of}
 use Rattle.ca_order_laws.proofs.Frames.{like_self}
 use Rattle.ca_order_laws.proofs.Sections.{body_kept}
-use Rattle.ca_order_laws.proofs.Rel.{Rel, Common}
-use Rattle.ca_order_laws.proofs.Stand.{common}
+use Rattle.ca_order_laws.proofs.Related.{Related, Common}
+use Rattle.ca_order_laws.proofs.BothRuns.{common}
 use Rattle.ca_order_laws.proofs.First.{Forth, forward}
 use Rattle.ca_order_laws.proofs.Back.{Backed, back}
 
@@ -140,7 +140,7 @@ module _ (p : PlainProgram) (program : ProgramTyped p) (roots : List OpId) (x : 
   abbrev start : Section
   start = section_start (own_of w.heap this)
 
-  at_start : Rel p x.written x.ops s w this stays true true w start 0
+  at_start : Related p x.written x.ops s w this stays true true w start 0
   at_start = record {
     lite = record { none = λ e. cc; rises = λ e. cc; typed = record { own = own_typed p w.heap s.class this good.heap good.receiver; listed = tt }; constants = λ f e free. refl; inside = λ i c. absurd (none_of i c) };
     run = stop_reaches [] w;

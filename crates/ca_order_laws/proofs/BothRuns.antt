@@ -20,7 +20,7 @@ use Rattle.ca_order_laws.proofs.Likes.{Like}
 use Rattle.ca_order_laws.proofs.Kept.{AreKept}
 use Rattle.ca_order_laws.proofs.Frames.{Stays, serial_stays}
 use Rattle.ca_order_laws.proofs.Agreeing.{Stands, values_agree, dues_agree}
-use Rattle.ca_order_laws.proofs.Rel.{Puts, Constants, Rel, Common, own_before}
+use Rattle.ca_order_laws.proofs.Related.{Puts, Constants, Related, Common, own_before}
 
 -- the heap with these slots put in is typed, with the same classes and the same constants
 pub record Placed (p : PlainProgram) (written : List FieldId) (h : List Object) (w : World) : Type 0 where
@@ -33,7 +33,7 @@ module _ (p : PlainProgram) (program : ProgramTyped p) (written : List FieldId) 
     (puts : b0 ≡ false → Puts p written ops sc w0 this put_in b0)
     (placed : (own : List Slot) → OwnTyped p w0.heap sc.class own → Constants p written ops sc w0 this put_in b0 own → Placed p written w0.heap (put_in own)) where
   abbrev R : Bool → World → Section → ℕ → Type 0
-  R b w s t = Rel p written ops sc w0 this put_in b0 b w s t
+  R b w s t = Related p written ops sc w0 this put_in b0 b w s t
 
   stands : (b : Bool) (w : World) (s : Section) (t : ℕ) → R b w s t → Stands written sc w0.heap w.heap this b s.own
   stands b w s t rel =
