@@ -2,34 +2,41 @@
 use Rattle.std.proofs.Common.{◌≡◌, ◌≢◌, ◌<◌, ℕ, zero, suc, List, [], ◌∷◌, Some, None, refl, ap, sym, subst, ◌∙◌, arith, codes, pos}
 use Rattle.std.proofs.lemmas.Int.{ints}
 use Rattle.std.specs.Prelude.{Contains, FitsSigned, slice_get}
-use Rattle.std.specs.Int.{w64}
-use Rattle.ca_tree.specs.declared.tree.AssignOp.TheVariants.{Put}
+use Rattle.std.specs.Int.{w64, int_wrap}
+use Rattle.ca_tree.specs.declared.tree.AssignOp.TheVariants.{Put, Add}
+use Rattle.ca_tree.specs.declared.tree.BinaryOp.TheVariants.{Less}
 use Rattle.ca_program.specs.declared.program.ClassId.{ClassId}
 use Rattle.ca_program.specs.declared.program.FieldId.{FieldId}
 use Rattle.ca_program.specs.declared.program.FunctionId.{FunctionId}
 use Rattle.ca_program.specs.declared.program.OpId.{OpId}
 use Rattle.ca_program.specs.declared.program.ValueType.TheVariants.{Long as LongType, Pointer}
-use Rattle.ca_program.specs.Plain.{PlainProgram, PlainMethod, number, local, own, no_expressions, Statements, put_field, invoke, no_statements, statement_and}
+use Rattle.ca_program.specs.declared.program.LocalId.{LocalId}
+use Rattle.ca_program.specs.declared.program.FirstPart.TheVariants.{Declares}
+use Rattle.ca_program.specs.Plain.{PlainProgram, PlainMethod, number, local, own, binary, no_expressions, Statement, Statements, put_local, put_field, invoke, for_loop, no_statements, statement_and}
 use Rattle.ca_model.specs.declared.value.Value.{Value as Datum}
-use Rattle.ca_model.specs.declared.value.Value.TheVariants.{Long, Ref}
+use Rattle.ca_model.specs.declared.value.Value.TheVariants.{Long, Null, Ref}
 use Rattle.ca_model.specs.declared.value.Slot.{Slot}
 use Rattle.ca_model.specs.declared.value.Slot.TheVariants.{One}
 use Rattle.ca_model.specs.declared.value.Object.{Object}
 use Rattle.ca_model.specs.Typed.{TypedHeap}
 use Rattle.ca_meaning.specs.Expressions.{Invocation, invocation}
-use Rattle.ca_meaning.specs.Sections.{Outcome, Completes}
+use Rattle.ca_meaning.specs.Flows.{goes_on, exec}
+use Rattle.ca_meaning.specs.Serial.{fresh, serial_parts}
+use Rattle.ca_meaning.specs.Sections.{Outcome, Completes, loop_section}
 use Rattle.ca_meaning.specs.Multisets.{weight, SameItems}
 use Rattle.ca_meaning.specs.WellTyped.{ValuesTyped, WellTyped}
 use Rattle.ca_meaning.specs.Commuting.{joined, OrderCompletes, SameOutcome, CommutesOn, Commutes}
-use Rattle.ca_meaning.specs.ProgramTyped.{OperationTyped, ProgramTyped}
+use Rattle.ca_meaning.specs.ProgramTyped.{Scope, StatementTyped, OperationTyped, ProgramTyped}
 use Rattle.ca_parallel.specs.Bodies.{calls_of_all, functions_of_body, targets_of_all}
 use Rattle.ca_parallel.specs.Calls.{RunsTo}
 use Rattle.ca_parallel.specs.Extents.{operation_body, Invokes, root, called, Evaluates, by_operation, by_function, Writes, Extent, IsExtentOf}
 use Rattle.ca_parallel.specs.Separable.{Separable}
 use Rattle.ca_parallel.specs.Parallel.{Parallel}
+use Rattle.ca_order_laws.specs.Order.{then_looped}
 use Rattle.ca_order_laws.specs.Pending.{rests, runs, CompleteRun}
 use Rattle.ca_order_laws.proofs.Sections.{leaves_one}
 use Rattle.ca_order_laws.proofs.SerialOrder.{depth_first}
+use Rattle.ca_order_laws.proofs.Loops.{loop_then_list}
 
 -- ---- one operation calls two
 
@@ -310,6 +317,46 @@ before_is_typed = ((refl, (refl, tt)), ((fits 0 (omega arith), tt), ((fits 0 (om
 -- so the serial run ends in that heap too, with as many steps
 serial_ends_so : RunsTo three before (first_call ∷ []) 3 after 3
 serial_ends_so = (depth_first three three_is_typed from_go reached reached_is reached_is_parallel before before_is_typed (first_call ∷ []) ((refl, tt), tt) (λ i c. one_of (λ z. Contains reached.ops z.op) first_call i (of_three go mark_left mark_right go the_first) c) 3 after 3).1 (omega arith, right_then_left)
+
+-- ---- a loop of `main`, which has no receiver
+
+abbrev held : LocalId
+held = record { 0 = 0 }
+
+abbrev counter : LocalId
+counter = record { 0 = 1 }
+
+-- for (long i = 0; i < 2; i += 1) held->mark();
+abbrev marks : Statement
+marks = for_loop 9 (record { 0 = 0 }) Declares (put_local 9 counter Put (number (pos 0))) (binary Less (local counter) (number (pos 2))) (put_local 9 counter Add (number (pos 1))) (invoke 9 (local held) mark_left no_expressions)
+
+abbrev scope : Scope
+scope = record { class = None; locals = Pointer left ∷ LongType ∷ []; result = None }
+
+marks_is_typed : StatementTyped three scope marks
+marks_is_typed = (
+  (LongType, refl, (tt, (refl, fits 0 (omega arith)))),
+  (LongType, (refl, refl), refl, (refl, fits 2 (omega arith))),
+  (LongType, refl, (refl, (refl, fits 1 (omega arith)))),
+  (left, [], refl, (refl, refl), refl, refl),
+)
+
+abbrev locals_at : ℕ → List Datum
+locals_at n = Ref 1 ∷ Long (pos n) ∷ []
+
+abbrev marked : List Object
+marked = root_object ∷ with_value left 1 ∷ with_value right 0 ∷ []
+
+runs_serially : exec (serial_parts three Null) 9 (locals_at 0) (fresh before) marks 4 ≡ goes_on (locals_at 2) (fresh marked) 0
+unfolding int_wrap
+runs_serially = refl
+
+-- its calls, listed first, leave the same
+runs_listed : then_looped three (fresh before) 4 (loop_section three before Null (locals_at 0) 9 marks 4) ≡ goes_on (locals_at 2) (fresh marked) 0
+runs_listed =
+    (loop_then_list three three_is_typed from_go reached reached_is marks (record { counter = counter; begins = refl; compares = refl; counts = (refl, refl); calls = tt })
+    (λ op c. one_of (λ z. Contains reached.ops z) mark_left op (of_three go mark_left mark_right mark_left the_second) c) (tt, (tt, tt, tt), tt, (tt, tt))
+    scope Null 9 (locals_at 0) (fresh before) marks_is_typed (record { heap = before_is_typed; receiver = tt }) (refl, (fits 0 (omega arith), tt)) 4 0 (locals_at 2) (fresh marked)).0 runs_serially
 
 -- ---- two calls that don't commute have two ends
 

@@ -66,8 +66,8 @@ OneEnd =
     (is : List Invocation) → AllWellTyped p frozen is → AllInside x is →
     (last end : List Object) (s t : ℕ) → CompleteRun p frozen h is last s → CompleteRun p frozen h is end t → (last ≡ end) × (s ≡ t)
 
--- What a run leaves can be finished exactly where all can: after a run that leaves operations waiting, there is again
--- a complete run, to the same heap, with the steps that are left.
+-- Where there is a complete run, there is one again behind any run that leaves operations waiting, to the same heap,
+-- with the steps that are left.
 abbrev pub Finishes : Type 0
 Finishes =
     (p : PlainProgram) → ProgramTyped p → (roots : List OpId) (x : Extent) → IsExtentOf p roots x → Parallel p x →

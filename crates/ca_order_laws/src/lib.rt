@@ -8,8 +8,8 @@
 //! The lemmas are in `proofs/`: `Likes` to `Agreeing` (values agree in heaps that differ in written fields alone),
 //! `Grown` and `Frames` (what sections and runs change), `Related`, `First` and `Back` (from the serial run to the
 //! section and its list, and back), `Weights` to `DepthFirst` (the machine), `Setting` (sections as its steps).
-//! `Examples` has an extent of three operations that run in two orders, and two calls that don't commute; `IllTyped` a
-//! program that is not typed, where all else holds and two orders have two ends.
+//! `Examples` has an extent of three operations that run in two orders, a loop of calls in `main`, and two calls that
+//! don't commute; `IllTyped` a program that is not typed, where all else holds and two orders have two ends.
 #![tactic(auto)]
 
 pub mod laws;
