@@ -1,6 +1,6 @@
 -- The serial run of a call is its section and then the run of what that lists.
-use Rattle.std.proofs.Common.{◌≡◌, ℕ, zero, suc, ◌+◌, ◌-◌, ◌<◌, ◌≤◌, List, [], ◌∷◌, ◌++◌, Option, Some, None, refl, ap, sym, subst, ◌∙◌, arith, true, false, Bool}
-use Rattle.std.specs.Prelude.{slice_get, slice_set, Contains, ◌||◌}
+use Rattle.std.proofs.Common.{◌≡◌, ℕ, zero, suc, ◌+◌, List, [], ◌∷◌, Option, Some, None, refl, ap, sym, subst, ◌∙◌, arith, false}
+use Rattle.std.specs.Prelude.{slice_get, slice_set, Contains}
 use Rattle.ca_program.specs.declared.program.ClassId.{ClassId}
 use Rattle.ca_program.specs.declared.program.FieldId.{FieldId}
 use Rattle.ca_program.specs.declared.program.OpId.{OpId}
@@ -16,29 +16,28 @@ use Rattle.ca_model.proofs.Stores.{stored_is}
 use Rattle.ca_meaning.specs.Expressions.{Invocation, slots_in, slot_of}
 use Rattle.ca_meaning.specs.Flows.{Flow, goes_on, gives_back, stops, runs_out, exec_all}
 use Rattle.ca_meaning.specs.Functions.{own_of, body_of, locals_of}
-use Rattle.ca_meaning.specs.Serial.{World, in_heap, put_own, came_back, run_call, operations_of, serial_parts, serial_ops}
+use Rattle.ca_meaning.specs.Serial.{World, in_heap, came_back, run_call, operations_of, serial_parts, serial_ops}
 use Rattle.ca_meaning.specs.Sections.{Section, section_start, section_parts, section_run}
 use Rattle.ca_meaning.specs.WellTyped.{CallTyped, WellTyped}
-use Rattle.ca_meaning.specs.ProgramTyped.{Scope, scope_of, MethodTyped, OperationTyped, ProgramTyped}
+use Rattle.ca_meaning.specs.ProgramTyped.{Scope, scope_of, OperationTyped, ProgramTyped}
 use Rattle.ca_meaning.proofs.Fix.{invoke_runs}
-use Rattle.ca_meaning_laws.specs.Budgets.{End, on_with, flow_at, Reaches, Reached}
-use Rattle.ca_meaning_laws.specs.Typed.{Extends, IsReceiver, OwnTyped}
+use Rattle.ca_meaning_laws.specs.Budgets.{on_with, Reaches, Reached}
+use Rattle.ca_meaning_laws.specs.Typed.{Extends, OwnTyped}
 use Rattle.ca_meaning_laws.proofs.Values.{frame_typed}
 use Rattle.ca_meaning_laws.proofs.Heaps.{each_kept, object_typed}
-use Rattle.ca_meaning_laws.proofs.Steady.{SteadyFlow, SteadyParts, all_exec_steady}
+use Rattle.ca_meaning_laws.proofs.Steady.{SteadyFlow, all_exec_steady}
 use Rattle.ca_meaning_laws.proofs.Bigs.{invoke_steady, all_serial_steady, section_parts_steady, AfterStep, after_step, before_step}
 use Rattle.ca_parallel.specs.Bodies.{calls_of_all}
-use Rattle.ca_parallel.specs.Extents.{Extent, operation_body}
-use Rattle.ca_parallel.specs.Separable.{is_some_of, AreSeparated}
-use Rattle.ca_order_laws.specs.Order.{SeparableExtent}
+use Rattle.ca_parallel.specs.Extents.{Extent, IsExtentOf}
+use Rattle.ca_parallel.specs.Separable.{is_some_of, AreSeparated, Separable}
 use Rattle.ca_order_laws.proofs.Runs.{ends_same, ends_left, reaches_same, reaches_steps, stop_reaches}
 use Rattle.ca_order_laws.proofs.Places.{get_set, set_again}
 use Rattle.ca_order_laws.proofs.Likes.{Like}
 use Rattle.ca_order_laws.proofs.Kept.{AreKept}
 use Rattle.ca_order_laws.proofs.Grown.{none_of}
 use Rattle.ca_order_laws.proofs.Sections.{object_with, body_kept}
-use Rattle.ca_order_laws.proofs.Rel.{Puts, Constants, Rel, Common}
-use Rattle.ca_order_laws.proofs.Stand.{Placed, common}
+use Rattle.ca_order_laws.proofs.Related.{Puts, Constants, Related, Common}
+use Rattle.ca_order_laws.proofs.BothRuns.{Placed, common}
 use Rattle.ca_order_laws.proofs.First.{Forth, all_forward}
 use Rattle.ca_order_laws.proofs.Back.{Backed, all_back}
 
@@ -106,12 +105,13 @@ came_reaches f v n steady run = from (f n) refl (ap (λ k. came_back [] (f k)) (
         at (stops t y) e q = cc
         at (runs_out y) e q = cc
 
-module _ (p : PlainProgram) (program : ProgramTyped p) (x : Extent) (separable : SeparableExtent p x) (w : World) (heap : TypedHeap p w.heap) (i : Invocation) (inside : Contains x.ops i.op) (o : Object) (found : slice_get w.heap i.receiver ≡ Some o) where
+module _ (p : PlainProgram) (program : ProgramTyped p) (roots : List OpId) (x : Extent) (is_extent : IsExtentOf p roots x) (w : World) (heap : TypedHeap p w.heap) (i : Invocation) (inside : Contains x.ops i.op) (separable : Separable p x.written i.op) (o : Object) (found : slice_get w.heap i.receiver ≡ Some o) where
   abbrev put_in : List Slot → World
   put_in own = in_heap w (slice_set w.heap i.receiver (object_with o own))
 
   abbrev serial_body : Option PlainMethod → ℕ → Flow World
   serial_body z k = exec_all (serial_parts p (Ref i.receiver)) (locals_of z i.arguments) w (body_of z) k
+
   abbrev section_body : Option PlainMethod → ℕ → Flow Section
   section_body z k = exec_all (section_parts p w.heap (Ref i.receiver)) (locals_of z i.arguments) (section_start o.slots) (body_of z) k
 
@@ -156,9 +156,9 @@ module _ (p : PlainProgram) (program : ProgramTyped p) (x : Extent) (separable :
     method = program.ops i.op.0 m is
 
     both : Common p x.written x.ops (scope_of m) w (Ref i.receiver) put_in false
-    both = common p program x.written x.ops (body_kept p x separable) (scope_of m) w (Ref i.receiver) put_in false heap call.0 (λ e. puts) placed method.result
+    both = common p program x.written x.ops (body_kept p roots x is_extent) (scope_of m) w (Ref i.receiver) put_in false heap call.0 (λ e. puts) placed method.result
 
-    start : Rel p x.written x.ops (scope_of m) w (Ref i.receiver) put_in false false w (section_start o.slots) 0
+    start : Related p x.written x.ops (scope_of m) w (Ref i.receiver) put_in false false w (section_start o.slots) 0
     start = record {
       lite = record {
         none = λ e. refl;
@@ -176,14 +176,14 @@ module _ (p : PlainProgram) (program : ProgramTyped p) (x : Extent) (separable :
     body_first : (ls : List Datum) (v : World) (n : ℕ) → Reaches (λ k. exec_all (serial_parts p (Ref i.receiver)) locals w m.body.statements k) (on_with ls v) n → BodyRest (Some m) v n
     body_first ls v n run =
         let f : Forth p x.written x.ops (scope_of m) w (Ref i.receiver) put_in false (λ k. exec_all (section_parts p w.heap (Ref i.receiver)) locals (section_start o.slots) m.body.statements k) (is_some_of (calls_of_all m.body.statements)) ls v (0 + n) =
-              all_forward p x.written x.ops (scope_of m) w (Ref i.receiver) put_in false both m.body.statements false sep method.method.body kept locals w (section_start o.slots) 0 (frame_typed w.heap i.arguments m.params m.body.locals call.1) start ls v n run in
+        all_forward p x.written x.ops (scope_of m) w (Ref i.receiver) put_in false both m.body.statements false sep method.method.body kept locals w (section_start o.slots) 0 (frame_typed w.heap i.arguments m.params m.body.locals call.1) start ls v n run in
         let q = f.sum in
         record { locals = ls; section = f.s; s = f.n; t = f.t; reaches = f.reaches; rest = f.rel.run; sum = omega arith }
 
     body_back : (ls : List Datum) (u : Section) (n : ℕ) (v : World) (t : ℕ) → Reaches (λ k. exec_all (section_parts p w.heap (Ref i.receiver)) locals (section_start o.slots) m.body.statements k) (on_with ls u) n → Reaches (λ k. serial_ops p u.listed (put_in u.own) k) (on_with [] v) t → Reaches (λ k. exec_all (serial_parts p (Ref i.receiver)) locals w m.body.statements k) (on_with ls v) (n + t)
     body_back ls u n v t run list =
         let b : Backed p x.written x.ops (scope_of m) w (Ref i.receiver) put_in false (λ k. exec_all (serial_parts p (Ref i.receiver)) locals w m.body.statements k) ls v 0 (n + t) =
-              all_back p x.written x.ops (scope_of m) w (Ref i.receiver) put_in false both m.body.statements false sep method.method.body kept locals w (section_start o.slots) 0 (frame_typed w.heap i.arguments m.params m.body.locals call.1) start ls u n run v t list in
+        all_back p x.written x.ops (scope_of m) w (Ref i.receiver) put_in false both m.body.statements false sep method.method.body kept locals w (section_start o.slots) 0 (frame_typed w.heap i.arguments m.params m.body.locals call.1) start ls u n run v t list in
         reaches_steps (let e = b.sum in let z : b.n ≡ n + t = omega arith in z) b.reaches
 
   first_of : (z : Option PlainMethod) → slice_get p.ops i.op.0 ≡ z → CallTyped w.heap z i.receiver i.arguments → AreSeparated p x.written false (body_of z) → AreKept x.written x.ops (body_of z) → (ls : List Datum) (v : World) (n : ℕ) → Reaches (λ k. serial_body z k) (on_with ls v) n → BodyRest z v n
@@ -202,14 +202,14 @@ module _ (p : PlainProgram) (program : ProgramTyped p) (x : Extent) (separable :
     call_first v n f =
         let a : AfterStep (λ k. came_back [] ((operations_of p).invoke i w k)) (on_with [] v) n = after_step w _ (on_with [] v) n (invoke_steady p [] i w n) f in
         let b : (ls : List Datum) × Reaches (λ k. serial_body called k) (on_with ls v) a.t =
-              came_reaches (λ k. serial_body called k) v a.t (all_serial_steady p (Ref i.receiver) (body_of called) (locals_of called i.arguments) w a.t) (reaches_same (λ k. ap (λ z. came_back [] z) (invoke_runs p i w k)) a.rest) in
-        let r : BodyRest called v a.t = first_of called refl well (separable.separable i.op inside) (body_kept p x separable i.op inside) b.0 v a.t b.1 in
+        came_reaches (λ k. serial_body called k) v a.t (all_serial_steady p (Ref i.receiver) (body_of called) (locals_of called i.arguments) w a.t) (reaches_same (λ k. ap (λ z. came_back [] z) (invoke_runs p i w k)) a.rest) in
+        let r : BodyRest called v a.t = first_of called refl well separable (body_kept p roots x is_extent i.op inside) b.0 v a.t b.1 in
         let q = a.sum in let q1 = r.sum in
         record { locals = r.locals; section = r.section; s = suc r.s; t = r.t; reaches = before_step (section_start o.slots) (λ k. section_body called k) (on_with r.locals r.section) r.s r.reaches; rest = r.rest; sum = omega arith }
 
     pub call_then : (ls : List Datum) (u : Section) (s : ℕ) (v : World) (t : ℕ) → Reaches (λ k. section_run p w.heap i o.slots k) (on_with ls u) s → Reaches (λ k. serial_ops p u.listed (put_in u.own) k) (on_with [] v) t → Reaches (λ k. run_call (operations_of p) [] i w k) (on_with [] v) (s + t)
     call_then ls u s v t f list =
         let a : AfterStep (λ k. section_body called k) (on_with ls u) s = after_step (section_start o.slots) _ (on_with ls u) s (all_exec_steady s _ (section_parts_steady p w.heap (Ref i.receiver) s) (body_of called) (locals_of called i.arguments) (section_start o.slots)) f in
-        let b : Reaches (λ k. serial_body called k) (on_with ls v) (a.t + t) = back_of called refl well (separable.separable i.op inside) (body_kept p x separable i.op inside) ls u a.t v t a.rest list in
+        let b : Reaches (λ k. serial_body called k) (on_with ls v) (a.t + t) = back_of called refl well separable (body_kept p roots x is_extent i.op inside) ls u a.t v t a.rest list in
         let call : Reaches (λ k. came_back [] ((operations_of p).invoke i w k)) (on_with [] v) (a.t + t) = record { at = λ j. ap (λ z. came_back [] z) (invoke_runs p i w ((a.t + t) + j) ∙ b.at j) } in
         reaches_steps (let q = a.sum in let z : suc (a.t + t) ≡ s + t = omega arith in z) (before_step w _ (on_with [] v) (a.t + t) call)

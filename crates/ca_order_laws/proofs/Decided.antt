@@ -1,5 +1,5 @@
 -- Equality of calls can be decided.
-use Rattle.std.proofs.Common.{◌≡◌, ℕ, List, [], ◌∷◌, refl, ap, ◌∙◌, ◌≢◌, zero, suc, arith}
+use Rattle.std.proofs.Common.{◌≡◌, ℕ, List, [], ◌∷◌, refl, ap, ◌∙◌, zero, suc, arith}
 use Rattle.std.specs.Prelude.{Bool, true, false, ℤ, pos, negsuc}
 use Rattle.ca_program.specs.declared.program.OpId.{OpId}
 use Rattle.ca_model.specs.declared.value.Value.{Value as Datum}
@@ -70,6 +70,7 @@ decide_call a b = from (decide_nat a.op.0 b.op.0) (decide_nat a.receiver b.recei
   where
     make : ℕ → ℕ → List Datum → Invocation
     make m n l = record { receiver = n; op = make_op m; arguments = l }
+
     from : Decides a.op.0 b.op.0 → Decides a.receiver b.receiver → Decides a.arguments b.arguments → Decides a b
     from (equal x) (equal y) (equal z) = equal (ap (λ m. make m a.receiver a.arguments) x ∙ ap (λ n. make b.op.0 n a.arguments) y ∙ ap (λ l. make b.op.0 b.receiver l) z)
     from (other n) y z = other (λ e. n (ap (λ (d : Invocation). d.op.0) e))

@@ -1,15 +1,15 @@
 -- The depth-first run is a complete run, and each complete run ends as it does.
-use Rattle.std.proofs.Common.{◌≡◌, ℕ, zero, suc, ◌+◌, ◌<◌, ◌≤◌, List, [], ◌∷◌, ◌++◌, length, Option, Some, None, refl, ap, sym, subst, ◌∙◌, arith, ◌≢◌}
+use Rattle.std.proofs.Common.{◌≡◌, ℕ, zero, suc, ◌+◌, ◌<◌, ◌≤◌, List, [], ◌∷◌, ◌++◌, length, Some, refl, ap, sym, subst, ◌∙◌, arith}
 use Rattle.std.specs.Prelude.{slice_get, slice_set}
 use Rattle.ca_program.specs.Plain.{PlainProgram}
 use Rattle.ca_model.specs.declared.value.Object.{Object}
 use Rattle.ca_meaning.specs.Expressions.{Invocation}
-use Rattle.ca_meaning.specs.Flows.{Flow, goes_on, gives_back, stops, runs_out, and_on}
+use Rattle.ca_meaning.specs.Flows.{goes_on, and_on}
 use Rattle.ca_meaning.specs.Serial.{World, in_heap, run_call, operations_of, serial_ops}
 use Rattle.ca_meaning.specs.Sections.{Outcome}
-use Rattle.ca_meaning.specs.Multisets.{weight, SameItems}
+use Rattle.ca_meaning.specs.Multisets.{SameItems}
 use Rattle.ca_order_laws.specs.Pending.{Leaves, PendingRun, rests, runs}
-use Rattle.ca_order_laws.proofs.Weights.{weight_append, Split, Decides, equal, other, Two, one, both, count_of, there, count_self, two}
+use Rattle.ca_order_laws.proofs.Weights.{weight_append}
 use Rattle.ca_order_laws.proofs.Places.{one_some}
 use Rattle.ca_order_laws.proofs.Runs.{ends_same, ends_left, append_runs, Middle, middle, Parts, apart}
 use Rattle.ca_order_laws.proofs.Diamond.{Setting, Fine, fine_step, Ahead, front}
@@ -22,7 +22,6 @@ pub record Ended (p : PlainProgram) (is : List Invocation) (w : World) (last : L
   pub run : serial_ops p is w k ≡ goes_on [] world left
 
 module _ {p : PlainProgram} {frozen : List Object} {Good : Invocation → Type 0} {GoodObject : ℕ → Object → Type 0} (z : Setting p frozen Good GoodObject) where
-
   pub fine_end : {last : List Object} {rest es : List Invocation} {h : List Object} {ps : List Invocation} {s : ℕ} → PendingRun p frozen last rest es h ps s → Fine z h ps → Fine z last rest
   fine_end (rests ps same) fine = record { size = fine.size; objects = fine.objects; ops = λ x s. fine.ops x record { others = s.others; same = record { weighed = λ f. same.weighed f ∙ s.same.weighed f } } }
   fine_end (runs a more h ps others o r s same found sec tail) fine = fine_end tail (fine_step z h ps others a o r fine same found sec)
@@ -85,8 +84,11 @@ module _ {p : PlainProgram} {frozen : List Object} {Good : Invocation → Type 0
     -- the serial run is done: there is a complete run
     pub serial_completes : (n k : ℕ) → k ≤ n → (w : World) (ps : List Invocation) (v : World) (left : ℕ) → Fine z w.heap ps → serial_ops p ps w k ≡ goes_on [] v left → Complete w.heap ps k v.heap left
     serial_completes n k le w [] v left fine e = record {
-      es = []; s = 0; steps = let d = ends_left e in omega arith;
-      run = subst (λ (u : World). PendingRun p frozen u.heap [] [] w.heap [] 0) (ends_same e) (rests [] record { weighed = λ f. refl }) }
+      es = [];
+      s = 0;
+      steps = let d = ends_left e in omega arith;
+      run = subst (λ (u : World). PendingRun p frozen u.heap [] [] w.heap [] 0) (ends_same e) (rests [] record { weighed = λ f. refl });
+    }
     serial_completes zero k le w (a ∷ more) v left fine e =
         let m : Middle p a more w k v left = middle p a more w k v left e in
         let q : Parted w a k m.world m.steps = law.parts w a k m.world m.steps (fine_sub (a ∷ more) (a ∷ []) more record { weighed = λ f. omega arith } fine) m.call in
@@ -105,8 +107,11 @@ module _ {p : PlainProgram} {frozen : List Object} {Good : Invocation → Type 0
         let j : Complete m.world.heap more m.steps v.heap left = serial_completes n m.steps (omega arith) m.world more v left fine_m m.rest in
         let sj = j.steps in
         record {
-          es = a ∷ (i.es ++ j.es); s = q.r.steps + (i.s + j.s); steps = omega arith;
-          run = runs a _ w.heap (a ∷ more) more q.o q.r (i.s + j.s) record { weighed = λ f. refl } q.found q.section (run_then {mid = m.world.heap} {es = i.es} {fs = j.es} {more = more} {s = i.s} {t = j.s} i.run j.run) }
+          es = a ∷ (i.es ++ j.es);
+          s = q.r.steps + (i.s + j.s);
+          steps = omega arith;
+          run = runs a _ w.heap (a ∷ more) more q.o q.r (i.s + j.s) record { weighed = λ f. refl } q.found q.section (run_then {mid = m.world.heap} {es = i.es} {fs = j.es} {more = more} {s = i.s} {t = j.s} i.run j.run);
+        }
 
     -- there is a complete run: the serial run is done
     pub completes_serial : (n : ℕ) (ps es : List Invocation) (w : World) (last : List Object) (s j : ℕ) → length es ≤ n → Fine z w.heap ps → PendingRun p frozen last [] es w.heap ps s → Ended p ps w last (s + j) j

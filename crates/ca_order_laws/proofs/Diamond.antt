@@ -1,5 +1,5 @@
 -- Where sections commute, every complete run ends alike.
-use Rattle.std.proofs.Common.{◌≡◌, ℕ, zero, suc, ◌+◌, ◌<◌, ◌≤◌, List, [], ◌∷◌, ◌++◌, length, Option, Some, None, refl, ap, sym, subst, ◌∙◌, arith, ◌≢◌}
+use Rattle.std.proofs.Common.{◌≡◌, ℕ, suc, ◌+◌, List, [], ◌∷◌, ◌++◌, length, Some, refl, ap, sym, subst, ◌∙◌, arith, ◌≢◌}
 use Rattle.std.specs.Prelude.{slice_get, slice_set}
 use Rattle.ca_program.specs.Plain.{PlainProgram}
 use Rattle.ca_model.specs.declared.value.Object.{Object}
@@ -32,7 +32,6 @@ pub record Setting (p : PlainProgram) (frozen : List Object) (Good : Invocation 
   pub commutes : (a b : Invocation) (o : Object) (r q : Outcome) → Good a → Good b → a.receiver ≡ b.receiver → GoodObject a.receiver o → Leaves p frozen a o r → Leaves p frozen b r.object q → Swapped p frozen a b o r q
 
 module _ {p : PlainProgram} {frozen : List Object} {Good : Invocation → Type 0} {GoodObject : ℕ → Object → Type 0} (z : Setting p frozen Good GoodObject) where
-
   pub record Fine (h : List Object) (ps : List Invocation) : Type 0 where
     pub size : length h ≡ z.size
     pub objects : (n : ℕ) (o : Object) → slice_get h n ≡ Some o → GoodObject n o
@@ -77,7 +76,7 @@ module _ {p : PlainProgram} {frozen : List Object} {Good : Invocation → Type 0
   front_here : {last : List Object} (a b : Invocation) (h : List Object) (others zs es : List Invocation) (ob oa : Object) (rb ra : Outcome) (s left : ℕ) → b.receiver ≡ a.receiver → SameItems others (b ∷ zs) → slice_get h b.receiver ≡ Some ob → slice_get (slice_set h b.receiver rb.object) a.receiver ≡ Some oa → PendingRun p frozen last [] es (slice_set (slice_set h b.receiver rb.object) a.receiver ra.object) (ra.listed ++ (rb.listed ++ zs)) left → s ≡ ra.steps + left → Swapped p frozen b a ob rb ra → Ahead last h a others (suc (suc (length es))) (rb.steps + s)
   front_here {last} a b h others zs es ob oa rb ra s left e same found_b found_a run steps w =
       let heap : slice_set (slice_set h b.receiver rb.object) a.receiver ra.object ≡ slice_set (slice_set h a.receiver w.first.object) b.receiver w.second.object =
-            ap (λ n. slice_set (slice_set h n rb.object) a.receiver ra.object) e ∙ set_again h a.receiver rb.object ra.object ∙ ap (λ v. slice_set h a.receiver v) (sym w.object) ∙ sym (set_again h a.receiver w.first.object w.second.object) ∙ ap (λ n. slice_set (slice_set h a.receiver w.first.object) n w.second.object) (sym e) in
+      ap (λ n. slice_set (slice_set h n rb.object) a.receiver ra.object) e ∙ set_again h a.receiver rb.object ra.object ∙ ap (λ v. slice_set h a.receiver v) (sym w.object) ∙ sym (set_again h a.receiver w.first.object w.second.object) ∙ ap (λ n. slice_set (slice_set h a.receiver w.first.object) n w.second.object) (sym e) in
       let at_a : slice_get h a.receiver ≡ Some ob = subst (λ n. slice_get h n ≡ Some ob) e found_b in
       let at_b : slice_get (slice_set h a.receiver w.first.object) b.receiver ≡ Some w.first.object = subst (λ n. slice_get (slice_set h a.receiver w.first.object) n ≡ Some w.first.object) (sym e) (get_set h a.receiver ob w.first.object at_a) in
       let moved : PendingRun p frozen last [] es (slice_set (slice_set h a.receiver w.first.object) b.receiver w.second.object) (ra.listed ++ (rb.listed ++ zs)) left = subst (λ g. PendingRun p frozen last [] es g (ra.listed ++ (rb.listed ++ zs)) left) heap run in
@@ -85,7 +84,10 @@ module _ {p : PlainProgram} {frozen : List Object} {Good : Invocation → Type 0
       let sum : w.second.steps + left ≡ w.second.steps + left = refl in
       let equal_steps = w.steps in
       record {
-        o = ob; r = w.first; es = b ∷ es; left = w.second.steps + left;
+        o = ob;
+        r = w.first;
+        es = b ∷ es;
+        left = w.second.steps + left;
         found = at_a;
         section = w.begins;
         run = runs b es (slice_set h a.receiver w.first.object) (w.first.listed ++ others) (w.first.listed ++ zs) w.first.object w.second left
@@ -100,7 +102,10 @@ module _ {p : PlainProgram} {frozen : List Object} {Good : Invocation → Type 0
   front_apart {last} a b h others zs es ob oa rb ra s left ne same found_b found_a sec_b sec_a run steps =
       let moved : PendingRun p frozen last [] es (slice_set (slice_set h a.receiver ra.object) b.receiver rb.object) (ra.listed ++ (rb.listed ++ zs)) left = subst (λ g. PendingRun p frozen last [] es g (ra.listed ++ (rb.listed ++ zs)) left) (set_swap h b.receiver a.receiver rb.object ra.object ne) run in
       record {
-        o = oa; r = ra; es = b ∷ es; left = rb.steps + left;
+        o = oa;
+        r = ra;
+        es = b ∷ es;
+        left = rb.steps + left;
         found = sym (get_else h b.receiver a.receiver rb.object ne) ∙ found_a;
         section = sec_a;
         run = runs b es (slice_set h a.receiver ra.object) (ra.listed ++ others) (ra.listed ++ zs) ob rb left
@@ -123,19 +128,26 @@ module _ {p : PlainProgram} {frozen : List Object} {Good : Invocation → Type 0
   front a others fine same (rests ps none) = absurd (let p = same.weighed (λ _. 1) in let q = none.weighed (λ _. 1) in omega arith)
   front {last} a others fine same (runs b more h ps left ob rb s same_b found_b sec_b run) =
       from (two z.decide a b others left record { weighed = λ f. sym (same.weighed f) ∙ same_b.weighed f })
-          (λ zs fine e. front a (rb.listed ++ zs) fine e run)
+      (λ zs fine e. front a (rb.listed ++ zs) fine e run)
     where
       from : Two a b others left → ((zs : List Invocation) → Fine (slice_set h b.receiver rb.object) (rb.listed ++ left) → SameItems (rb.listed ++ left) (a ∷ (rb.listed ++ zs)) → Ahead last (slice_set h b.receiver rb.object) a (rb.listed ++ zs) (length more) s) → Ahead last h a others (suc (length more)) (rb.steps + s)
       from (one e alike) tail = subst (λ x. Ahead last h x others (suc (length more)) (rb.steps + s)) (sym e) record {
-        o = ob; r = rb; es = more; left = s; found = found_b; section = sec_b;
+        o = ob;
+        r = rb;
+        es = more;
+        left = s;
+        found = found_b;
+        section = sec_b;
         run = run_same _ record { weighed = λ f. let p = alike.weighed f in let p1 = weight_append f rb.listed others in let p2 = weight_append f rb.listed left in omega arith } run;
-        steps = refl; fewer = refl }
+        steps = refl;
+        fewer = refl;
+      }
       from (both zs to_b to_a) tail =
           let step : Fine (slice_set h b.receiver rb.object) (rb.listed ++ left) = fine_step h ps left b ob rb fine same_b found_b sec_b in
           let good_a : Good a = fine.ops a record { others = others; same = same } in
           let good_b : Good b = fine.ops b record { others = left; same = same_b } in
           front_two a b h others zs ob rb (length more) s good_a good_b (fine.objects b.receiver ob found_b) to_b found_b sec_b
-            (tail zs step record { weighed = λ f. let p = to_a.weighed f in let p1 = weight_append f rb.listed left in let p2 = weight_append f rb.listed zs in omega arith }) (decide_nat b.receiver a.receiver)
+          (tail zs step record { weighed = λ f. let p = to_a.weighed f in let p1 = weight_append f rb.listed left in let p2 = weight_append f rb.listed zs in omega arith }) (decide_nat b.receiver a.receiver)
 
   -- every complete run ends alike
   pub record Alike {A : Type 0} (x y : A) (n m s t : ℕ) : Type 0 where

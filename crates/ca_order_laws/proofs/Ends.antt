@@ -1,11 +1,8 @@
 -- The diamond, and that all complete runs end alike.
-use Rattle.std.proofs.Common.{◌≡◌, ℕ, List, ◌∷◌, refl}
-use Rattle.ca_program.specs.declared.program.OpId.{OpId}
-use Rattle.ca_program.specs.Plain.{PlainProgram}
-use Rattle.ca_order_laws.specs.Pending.{CompleteRun}
+use Rattle.std.proofs.Common.{◌∷◌, refl}
 use Rattle.ca_order_laws.specs.Order.{Diamond, OneEnd, Finishes}
-use Rattle.ca_order_laws.proofs.Diamond.{Setting, Fine, Ahead, front, Alike, alike}
-use Rattle.ca_order_laws.proofs.DepthFirst.{Carried, carry}
+use Rattle.ca_order_laws.proofs.Diamond.{Fine, front, alike}
+use Rattle.ca_order_laws.proofs.DepthFirst.{carry}
 use Rattle.ca_order_laws.proofs.Setting.{setting, fine}
 
 pub diamond : Diamond

@@ -1,36 +1,42 @@
 -- Worked examples: an extent of three operations that run in two orders, and two calls that don't commute.
-use Rattle.std.proofs.Common.{◌≡◌, ◌≢◌, ◌<◌, ◌⊎◌, inl, inr, ℕ, zero, suc, ◌+◌, List, [], ◌∷◌, ◌++◌, Option, Some, None, refl, ap, sym, subst, ◌∙◌, arith, codes, pos}
+use Rattle.std.proofs.Common.{◌≡◌, ◌≢◌, ◌<◌, ℕ, zero, suc, List, [], ◌∷◌, Some, None, refl, ap, sym, subst, ◌∙◌, arith, codes, pos}
 use Rattle.std.proofs.lemmas.Int.{ints}
 use Rattle.std.specs.Prelude.{Contains, FitsSigned, slice_get}
-use Rattle.std.specs.Int.{w64}
-use Rattle.ca_tree.specs.declared.tree.AssignOp.TheVariants.{Put}
+use Rattle.std.specs.Int.{w64, int_wrap}
+use Rattle.ca_tree.specs.declared.tree.AssignOp.TheVariants.{Put, Add}
+use Rattle.ca_tree.specs.declared.tree.BinaryOp.TheVariants.{Less}
 use Rattle.ca_program.specs.declared.program.ClassId.{ClassId}
 use Rattle.ca_program.specs.declared.program.FieldId.{FieldId}
 use Rattle.ca_program.specs.declared.program.FunctionId.{FunctionId}
 use Rattle.ca_program.specs.declared.program.OpId.{OpId}
 use Rattle.ca_program.specs.declared.program.ValueType.TheVariants.{Long as LongType, Pointer}
-use Rattle.ca_program.specs.Plain.{PlainProgram, PlainMethod, number, local, own, no_expressions, Statements, put_field, invoke, no_statements, statement_and}
+use Rattle.ca_program.specs.declared.program.LocalId.{LocalId}
+use Rattle.ca_program.specs.declared.program.FirstPart.TheVariants.{Declares}
+use Rattle.ca_program.specs.Plain.{PlainProgram, PlainMethod, number, local, own, binary, no_expressions, Statement, Statements, put_local, put_field, invoke, for_loop, no_statements, statement_and}
 use Rattle.ca_model.specs.declared.value.Value.{Value as Datum}
-use Rattle.ca_model.specs.declared.value.Value.TheVariants.{Long, Ref}
+use Rattle.ca_model.specs.declared.value.Value.TheVariants.{Long, Null, Ref}
 use Rattle.ca_model.specs.declared.value.Slot.{Slot}
 use Rattle.ca_model.specs.declared.value.Slot.TheVariants.{One}
 use Rattle.ca_model.specs.declared.value.Object.{Object}
 use Rattle.ca_model.specs.Typed.{TypedHeap}
 use Rattle.ca_meaning.specs.Expressions.{Invocation, invocation}
-use Rattle.ca_meaning.specs.Sections.{Outcome, Completes}
+use Rattle.ca_meaning.specs.Flows.{goes_on, exec}
+use Rattle.ca_meaning.specs.Serial.{fresh, serial_parts}
+use Rattle.ca_meaning.specs.Sections.{Outcome, Completes, loop_section}
 use Rattle.ca_meaning.specs.Multisets.{weight, SameItems}
-use Rattle.ca_meaning.specs.WellTyped.{ValuesTyped, CallTyped, WellTyped, AllWellTyped, IsMethodOf}
+use Rattle.ca_meaning.specs.WellTyped.{ValuesTyped, WellTyped}
 use Rattle.ca_meaning.specs.Commuting.{joined, OrderCompletes, SameOutcome, CommutesOn, Commutes}
-use Rattle.ca_meaning.specs.ProgramTyped.{OperationTyped, ProgramTyped}
+use Rattle.ca_meaning.specs.ProgramTyped.{Scope, StatementTyped, OperationTyped, ProgramTyped}
 use Rattle.ca_parallel.specs.Bodies.{calls_of_all, functions_of_body, targets_of_all}
 use Rattle.ca_parallel.specs.Calls.{RunsTo}
 use Rattle.ca_parallel.specs.Extents.{operation_body, Invokes, root, called, Evaluates, by_operation, by_function, Writes, Extent, IsExtentOf}
 use Rattle.ca_parallel.specs.Separable.{Separable}
 use Rattle.ca_parallel.specs.Parallel.{Parallel}
-use Rattle.ca_order_laws.specs.Pending.{PendingRun, rests, runs, CompleteRun}
-use Rattle.ca_order_laws.specs.Order.{AllInside}
+use Rattle.ca_order_laws.specs.Order.{then_looped}
+use Rattle.ca_order_laws.specs.Pending.{rests, runs, CompleteRun}
 use Rattle.ca_order_laws.proofs.Sections.{leaves_one}
 use Rattle.ca_order_laws.proofs.SerialOrder.{depth_first}
+use Rattle.ca_order_laws.proofs.Loops.{loop_then_list}
 
 -- ---- one operation calls two
 
@@ -99,51 +105,55 @@ three_is_typed = record {
   where
     of : (m q : PlainMethod) → Some q ≡ Some m → OperationTyped three q → OperationTyped three m
     of m q e t = subst (λ z. OperationTyped three z) (let z : q ≡ m = cc in z) t
+
     ops : (n : ℕ) (m : PlainMethod) → slice_get three.ops n ≡ Some m → OperationTyped three m
     ops zero m e = of m going e (record {
       method = record { class = (_, refl); parameters = omega arith; body = ((left, [], refl, (refl, refl), (refl, (refl, refl)), refl), ((right, [], refl, (refl, refl), (refl, (refl, refl)), refl), tt)) };
-      result = refl })
+      result = refl;
+    })
     ops (suc zero) m e = of m (marking left a 1) e (record {
       method = record { class = (_, refl); parameters = omega arith; body = ((LongType, (refl, refl), (refl, refl), (tt, (refl, fits 1 (omega arith)))), tt) };
-      result = refl })
+      result = refl;
+    })
     ops (suc (suc zero)) m e = of m (marking right b 2) e (record {
       method = record { class = (_, refl); parameters = omega arith; body = ((LongType, (refl, refl), (refl, refl), (tt, (refl, fits 2 (omega arith)))), tt) };
-      result = refl })
+      result = refl;
+    })
     ops (suc (suc (suc n))) m e = absurd cc
 
 -- ---- its extent
 
-data Three {A : Type 0} (x y z : A) : A → Type 0 where
+pub data Three {A : Type 0} (x y z : A) : A → Type 0 where
   the_first : Three x y z x
   the_second : Three x y z y
   the_third : Three x y z z
 
-three_of : {A : Type 0} (x y z w : A) → Contains (x ∷ y ∷ z ∷ []) w → Three x y z w
+pub three_of : {A : Type 0} (x y z w : A) → Contains (x ∷ y ∷ z ∷ []) w → Three x y z w
 three_of x y z w (zero, below, is) = subst (λ v. Three x y z v) is the_first
 three_of x y z w (suc zero, below, is) = subst (λ v. Three x y z v) is the_second
 three_of x y z w (suc (suc zero), below, is) = subst (λ v. Three x y z v) is the_third
 three_of x y z w (suc (suc (suc k)), below, is) = absurd (omega arith)
 
-of_three : {A : Type 0} (x y z w : A) → Three x y z w → Contains (x ∷ y ∷ z ∷ []) w
+pub of_three : {A : Type 0} (x y z w : A) → Three x y z w → Contains (x ∷ y ∷ z ∷ []) w
 of_three x y z _ the_first = (zero, omega arith, refl)
 of_three x y z _ the_second = (suc zero, omega arith, refl)
 of_three x y z _ the_third = (suc (suc zero), omega arith, refl)
 
-no_item : {A : Type 0} (x : A) → ¬ Contains [] x
+pub no_item : {A : Type 0} (x : A) → ¬ Contains [] x
 no_item x c = let below = c.1 in absurd (omega arith)
 
-first_of_two : {A : Type 0} (x y : A) → Contains (x ∷ y ∷ []) x
+pub first_of_two : {A : Type 0} (x y : A) → Contains (x ∷ y ∷ []) x
 first_of_two x y = (zero, omega arith, refl)
 
-second_of_two : {A : Type 0} (x y : A) → Contains (x ∷ y ∷ []) y
+pub second_of_two : {A : Type 0} (x y : A) → Contains (x ∷ y ∷ []) y
 second_of_two x y = (suc zero, omega arith, refl)
 
-two_of : {A : Type 0} (P : A → Type 0) (x y z : A) → P x → P y → Contains (x ∷ y ∷ []) z → P z
+pub two_of : {A : Type 0} (P : A → Type 0) (x y z : A) → P x → P y → Contains (x ∷ y ∷ []) z → P z
 two_of P x y z p q (zero, below, is) = subst P is p
 two_of P x y z p q (suc zero, below, is) = subst P is q
 two_of P x y z p q (suc (suc k), below, is) = absurd (omega arith)
 
-one_of : {A : Type 0} (P : A → Type 0) (x z : A) → P x → Contains (x ∷ []) z → P z
+pub one_of : {A : Type 0} (P : A → Type 0) (x z : A) → P x → Contains (x ∷ []) z → P z
 one_of P x z p (zero, below, is) = subst P is p
 one_of P x z p (suc k, below, is) = absurd (omega arith)
 
@@ -193,9 +203,10 @@ reached_is = record {
   functions = λ m. (λ c. absurd (no_item m c), λ e. absurd (none_evaluated e));
   written = λ f. (
     λ c. two_of (λ z. Writes three from_go z) a b f
-      (record { op = mark_left; invoked = invokes mark_left the_second; target = (zero, omega arith, refl) })
-      (record { op = mark_right; invoked = invokes mark_right the_third; target = (zero, omega arith, refl) }) c,
-    λ w. targets w.op f (invoked w.invoked) w.target);
+        (record { op = mark_left; invoked = invokes mark_left the_second; target = (zero, omega arith, refl) })
+        (record { op = mark_right; invoked = invokes mark_right the_third; target = (zero, omega arith, refl) }) c,
+    λ w. targets w.op f (invoked w.invoked) w.target,
+  );
 }
 
 -- ---- it is parallel
@@ -286,18 +297,18 @@ left_then_right : CompleteRun three before before (first_call ∷ []) after 3
 left_then_right = record {
   order = first_call ∷ left_call ∷ right_call ∷ [];
   run = runs first_call (left_call ∷ right_call ∷ []) before (first_call ∷ []) [] root_object (done_with root_object (left_call ∷ right_call ∷ [])) 2 (record { weighed = λ f. refl }) refl (1, refl)
-    (runs left_call (right_call ∷ []) before (left_call ∷ right_call ∷ []) (right_call ∷ []) (with_value left 0) (done_with (with_value left 1) []) 1 (record { weighed = λ f. refl }) refl (1, refl)
-    (runs right_call [] (root_object ∷ with_value left 1 ∷ with_value right 0 ∷ []) (right_call ∷ []) [] (with_value right 0) (done_with (with_value right 2) []) 0 (record { weighed = λ f. refl }) refl (1, refl)
-    (rests [] (record { weighed = λ f. refl }))));
+      (runs left_call (right_call ∷ []) before (left_call ∷ right_call ∷ []) (right_call ∷ []) (with_value left 0) (done_with (with_value left 1) []) 1 (record { weighed = λ f. refl }) refl (1, refl)
+      (runs right_call [] (root_object ∷ with_value left 1 ∷ with_value right 0 ∷ []) (right_call ∷ []) [] (with_value right 0) (done_with (with_value right 2) []) 0 (record { weighed = λ f. refl }) refl (1, refl)
+      (rests [] (record { weighed = λ f. refl }))));
 }
 
 right_then_left : CompleteRun three before before (first_call ∷ []) after 3
 right_then_left = record {
   order = first_call ∷ right_call ∷ left_call ∷ [];
   run = runs first_call (right_call ∷ left_call ∷ []) before (first_call ∷ []) [] root_object (done_with root_object (left_call ∷ right_call ∷ [])) 2 (record { weighed = λ f. refl }) refl (1, refl)
-    (runs right_call (left_call ∷ []) before (left_call ∷ right_call ∷ []) (left_call ∷ []) (with_value right 0) (done_with (with_value right 2) []) 1 (record { weighed = λ f. omega arith }) refl (1, refl)
-    (runs left_call [] (root_object ∷ with_value left 0 ∷ with_value right 2 ∷ []) (left_call ∷ []) [] (with_value left 0) (done_with (with_value left 1) []) 0 (record { weighed = λ f. refl }) refl (1, refl)
-    (rests [] (record { weighed = λ f. refl }))));
+      (runs right_call (left_call ∷ []) before (left_call ∷ right_call ∷ []) (left_call ∷ []) (with_value right 0) (done_with (with_value right 2) []) 1 (record { weighed = λ f. omega arith }) refl (1, refl)
+      (runs left_call [] (root_object ∷ with_value left 0 ∷ with_value right 2 ∷ []) (left_call ∷ []) [] (with_value left 0) (done_with (with_value left 1) []) 0 (record { weighed = λ f. refl }) refl (1, refl)
+      (rests [] (record { weighed = λ f. refl }))));
 }
 
 before_is_typed : TypedHeap three before
@@ -306,6 +317,46 @@ before_is_typed = ((refl, (refl, tt)), ((fits 0 (omega arith), tt), ((fits 0 (om
 -- so the serial run ends in that heap too, with as many steps
 serial_ends_so : RunsTo three before (first_call ∷ []) 3 after 3
 serial_ends_so = (depth_first three three_is_typed from_go reached reached_is reached_is_parallel before before_is_typed (first_call ∷ []) ((refl, tt), tt) (λ i c. one_of (λ z. Contains reached.ops z.op) first_call i (of_three go mark_left mark_right go the_first) c) 3 after 3).1 (omega arith, right_then_left)
+
+-- ---- a loop of `main`, which has no receiver
+
+abbrev held : LocalId
+held = record { 0 = 0 }
+
+abbrev counter : LocalId
+counter = record { 0 = 1 }
+
+-- for (long i = 0; i < 2; i += 1) held->mark();
+abbrev marks : Statement
+marks = for_loop 9 (record { 0 = 0 }) Declares (put_local 9 counter Put (number (pos 0))) (binary Less (local counter) (number (pos 2))) (put_local 9 counter Add (number (pos 1))) (invoke 9 (local held) mark_left no_expressions)
+
+abbrev scope : Scope
+scope = record { class = None; locals = Pointer left ∷ LongType ∷ []; result = None }
+
+marks_is_typed : StatementTyped three scope marks
+marks_is_typed = (
+  (LongType, refl, (tt, (refl, fits 0 (omega arith)))),
+  (LongType, (refl, refl), refl, (refl, fits 2 (omega arith))),
+  (LongType, refl, (refl, (refl, fits 1 (omega arith)))),
+  (left, [], refl, (refl, refl), refl, refl),
+)
+
+abbrev locals_at : ℕ → List Datum
+locals_at n = Ref 1 ∷ Long (pos n) ∷ []
+
+abbrev marked : List Object
+marked = root_object ∷ with_value left 1 ∷ with_value right 0 ∷ []
+
+runs_serially : exec (serial_parts three Null) 9 (locals_at 0) (fresh before) marks 4 ≡ goes_on (locals_at 2) (fresh marked) 0
+unfolding int_wrap
+runs_serially = refl
+
+-- its calls, listed first, leave the same
+runs_listed : then_looped three (fresh before) 4 (loop_section three before Null (locals_at 0) 9 marks 4) ≡ goes_on (locals_at 2) (fresh marked) 0
+runs_listed =
+    (loop_then_list three three_is_typed from_go reached reached_is marks (record { counter = counter; begins = refl; compares = refl; counts = (refl, refl); calls = tt })
+    (λ op c. one_of (λ z. Contains reached.ops z) mark_left op (of_three go mark_left mark_right mark_left the_second) c) (tt, (tt, tt, tt), tt, (tt, tt))
+    scope Null 9 (locals_at 0) (fresh before) marks_is_typed (record { heap = before_is_typed; receiver = tt }) (refl, (fits 0 (omega arith), tt)) 4 0 (locals_at 2) (fresh marked)).0 runs_serially
 
 -- ---- two calls that don't commute have two ends
 
@@ -334,8 +385,8 @@ in_order : (x y : ℕ) → SameItems (set_to 1 ∷ set_to 2 ∷ []) (set_to x �
 in_order x y same = record {
   order = set_to x ∷ set_to y ∷ [];
   run = runs (set_to x) (set_to y ∷ []) (one_object 0) (set_to 1 ∷ set_to 2 ∷ []) (set_to y ∷ []) (with_value top 0) (done_with (with_value top x) []) 1 same refl (1, refl)
-    (runs (set_to y) [] (one_object x) (set_to y ∷ []) [] (with_value top x) (done_with (with_value top y) []) 0 (record { weighed = λ f. refl }) refl (1, refl)
-    (rests [] (record { weighed = λ f. refl })));
+      (runs (set_to y) [] (one_object x) (set_to y ∷ []) [] (with_value top x) (done_with (with_value top y) []) 0 (record { weighed = λ f. refl }) refl (1, refl)
+      (rests [] (record { weighed = λ f. refl })));
 }
 
 ends_in_two : CompleteRun setters (one_object 0) (one_object 0) (set_to 1 ∷ set_to 2 ∷ []) (one_object 2) 2

@@ -33,9 +33,6 @@ rise_stays b false r e = let f : b ≡ false = r.falls refl in cc
 pub rise_self : (b : Bool) → Rise b b
 rise_self b = record { falls = λ e. e }
 
-pub rise_then : {a b c : Bool} → Rise a b → Rise b c → Rise a c
-rise_then v w = record { falls = λ e. v.falls (w.falls e) }
-
 pub rise_or : (b c : Bool) → Rise b (b || c)
 rise_or b c = record { falls = or_left b c }
 

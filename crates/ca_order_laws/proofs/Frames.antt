@@ -1,6 +1,6 @@
 -- Operations of the extent that run change written fields alone.
-use Rattle.std.proofs.Common.{◌≡◌, ℕ, zero, suc, List, [], ◌∷◌, ◌++◌, Option, Some, None, refl, ap, sym, subst, ◌∙◌, ◌+◌, true, false, Bool}
-use Rattle.std.specs.Prelude.{slice_get, Contains}
+use Rattle.std.proofs.Common.{◌≡◌, ℕ, zero, suc, List, [], ◌∷◌, Option, Some, None, refl, sym, subst, ◌∙◌, ◌+◌, true, false}
+use Rattle.std.specs.Prelude.{slice_get, slice_set, Contains}
 use Rattle.std.proofs.lemmas.List.Elements.{Contains-push, Contains-append_left, Contains-append_right}
 use Rattle.ca_program.specs.declared.program.ClassId.{ClassId}
 use Rattle.ca_program.specs.declared.program.FieldId.{FieldId}
@@ -11,18 +11,19 @@ use Rattle.ca_program.specs.Plain.{PlainProgram, PlainMethod, Expression, Statem
 use Rattle.ca_model.specs.declared.value.Value.{Value as Datum}
 use Rattle.ca_model.specs.declared.value.Value.TheVariants.{Long, Bool as Truth, Null, Ref}
 use Rattle.ca_model.specs.declared.value.Object.{Object}
+use Rattle.ca_model.specs.Heaps.{created}
 use Rattle.ca_model.specs.Typed.{IsOfClass, HasType, TypedHeap}
-use Rattle.ca_meaning.specs.Expressions.{Out, gives, traps, over, value_at, take_step, eval, Invocation, slot_of}
+use Rattle.ca_meaning.specs.Expressions.{Out, gives, traps, over, value_at, eval, Invocation, slot_of}
 use Rattle.ca_meaning.specs.Flows.{Flow, goes_on, gives_back, stops, runs_out, and_on, with, choose, Parts, line_of, turn_of, exec, exec_all, turn}
 use Rattle.ca_meaning.specs.Operators.{assigned}
 use Rattle.ca_meaning.specs.Functions.{place, body_of, locals_of, functions_of, value_in}
-use Rattle.ca_meaning.specs.Serial.{World, in_heap, printed, put_own, own_value, own_item_at, Operations, came_back, run_call, operation_act, operation_parts, operations, operations_of, serial_ops}
+use Rattle.ca_meaning.specs.Serial.{World, in_heap, printed, put_own, own_value, own_item_at, room_for, Operations, came_back, run_call, operation_act, operation_parts, operations, operations_of, serial_ops}
 use Rattle.ca_meaning.specs.WellTyped.{ValuesTyped, CallTyped, WellTyped, AllWellTyped}
 use Rattle.ca_meaning.specs.ProgramTyped.{Scope, ExpressionTyped, StatementTyped, StatementsTyped, scope_of, MethodTyped, OperationTyped, ProgramTyped}
 use Rattle.ca_meaning_laws.specs.Budgets.{on_with, Reaches}
 use Rattle.ca_meaning_laws.specs.Typed.{Yields, yields, yields_trap, yields_over, Extends, IsReceiver, FlowTyped, goes_on_typed, gives_back_typed, stops_typed, runs_out_typed, KeepsHeap, goes_on_kept, gives_back_kept, stops_kept, runs_out_kept, WorldTyped, heap_of}
 use Rattle.ca_meaning_laws.proofs.Values.{assigned_typed, frame_typed, local_typed, local_set}
-use Rattle.ca_meaning_laws.proofs.Heaps.{extends_self, extends_then, values_kept, receiver_kept}
+use Rattle.ca_meaning_laws.proofs.Heaps.{extends_self, extends_then, extends_created, values_kept, receiver_kept}
 use Rattle.ca_meaning_laws.proofs.Evals.{eval_typed, due_typed}
 use Rattle.ca_meaning_laws.proofs.Statements.{typed_with, typed_step, typed_on}
 use Rattle.ca_meaning_laws.proofs.FunctionTypes.{calls_typed, serial_place}
@@ -45,6 +46,15 @@ put_own_like written h (Ref n) f i v at there = put_like written h n f i v at th
 put_own_like written h (Long n) f i v at there = absurd there
 put_own_like written h (Truth n) f i v at there = absurd there
 put_own_like written h Null f i v at there = absurd there
+
+-- a new object leaves those that are there as they are
+created_like : (written : List FieldId) (p : PlainProgram) (c : ClassId) (h : List Object) → Like written h (created p c h)
+created_like written p c h = record { slots = λ n f there free. from h n f there }
+  where
+    from : (h : List Object) (n : ℕ) (f : FieldId) → IsOfClass (slice_get h n) f.class → slot_of h n f ≡ slot_of (created p c h) n f
+    from [] n f there = absurd there
+    from (o ∷ h) zero f there = refl
+    from (o ∷ h) (suc n) f there = from h n f there
 
 both_yield : {A : Type 0} (P Q : A → Type 0) (o : Out A) → Yields P o → Yields Q o → Yields (λ v. P v × Q v) o
 both_yield P Q (gives v k) (yields _ _ a) (yields _ _ b) = yields v k (a, b)
@@ -94,6 +104,7 @@ module _ (p : PlainProgram) (program : ProgramTyped p) (written : List FieldId) 
     where
       moved : (v : World) → TypedHeap p v.heap → Extends w.heap v.heap → WorldTyped p s r v
       moved v t more = record { heap = t; receiver = receiver_kept w.heap v.heap more s.class r good.0.receiver }
+
       from : (a : Flow World) → KeepsHeap p w.heap a → Like written h0 (world_after a).heap → Framed s r h (came_back ls a)
       from (goes_on _ v k) (goes_on_kept _ _ _ t more) like = goes_on_typed ls v k (moved v t more, like) (extends_then h w.heap v.heap ext more) (values_kept w.heap v.heap more ls s.locals vs)
       from (gives_back _ v k) (gives_back_kept _ _ _ t more) like = runs_out_typed v (moved v t more, like) (extends_then h w.heap v.heap ext more)
@@ -110,18 +121,34 @@ module _ (p : PlainProgram) (program : ProgramTyped p) (written : List FieldId) 
     put_stays : (w : World) (f : FieldId) (i : ℕ) (v : Datum) → Good s r w → Extends h w.heap → Contains written f → s.class ≡ Some f.class → Like written h0 (put_own w.heap r f i v)
     put_stays w f i v good ext at e = like_then written h0 w.heap _ (extends_then h0 h w.heap base ext) good.1 (put_own_like written w.heap r f i v at (receiver_at w.heap s.class r f.class good.0.receiver e))
 
+    -- a new object, and then a put of it
+    new_stays : (w : World) (c : ClassId) → Good s r w → Extends h w.heap → Like written h0 (created p c w.heap)
+    new_stays w c good ext = like_then written h0 w.heap _ (extends_then h0 h w.heap base ext) good.1 (created_like written p c w.heap)
+
+    new_put_stays : (w : World) (c : ClassId) (f : FieldId) (i n : ℕ) → Good s r w → Extends h w.heap → Contains written f → s.class ≡ Some f.class → Like written h0 (put_own (created p c w.heap) r f i (Ref n))
+    new_put_stays w c f i n good ext at e =
+        let more : Extends w.heap (created p c w.heap) = extends_created p c w.heap in
+        let from : Extends h0 (created p c w.heap) = extends_then h0 w.heap (created p c w.heap) (extends_then h0 h w.heap base ext) more in
+        like_then written h0 (created p c w.heap) _ from (new_stays w c good ext)
+        (put_own_like written (created p c w.heap) r f i (Ref n) at (receiver_kept w.heap (created p c w.heap) more (Some f.class) r (receiver_at w.heap s.class r f.class good.0.receiver e)))
+
     act_like : (y : Statement) → StatementTyped p s y → IsKept written ops y → (line : ℕ) (ls : List Datum) (w : World) (k : ℕ) → Good s r w → Extends h w.heap → LikeAfter (operation_act p r line ls w y k)
     act_like (put_field l f op e) t kept line ls w k good ext =
         like_with {A = Datum} (value_in p.functions w.heap r line ls e k) w (λ v k. goes_on ls (in_heap w (put_own w.heap r f 0 (assigned op (own_value w r f) v))) k) good.1 (λ v k. record { like = put_stays w f 0 (assigned op (own_value w r f) v) good ext kept t.1.1 })
     act_like (put_item l f i op e) t kept line ls w k good ext =
         like_with {A = Datum} (value_in p.functions w.heap r line ls i k) w (λ u k. with (own_item_at line w r f u k) w (λ item k. with (value_in p.functions w.heap r line ls e k) w (λ v k. goes_on ls (in_heap w (put_own w.heap r f item.place (assigned op item.value v))) k))) good.1
-          (λ u k. like_with (own_item_at line w r f u k) w (λ item k. with (value_in p.functions w.heap r line ls e k) w (λ v k. goes_on ls (in_heap w (put_own w.heap r f item.place (assigned op item.value v))) k)) good.1
-            (λ item k. like_with {A = Datum} (value_in p.functions w.heap r line ls e k) w (λ v k. goes_on ls (in_heap w (put_own w.heap r f item.place (assigned op item.value v))) k) good.1
-              (λ v k. record { like = put_stays w f item.place (assigned op item.value v) good ext kept t.1.1 })))
+        (λ u k. like_with (own_item_at line w r f u k) w (λ item k. with (value_in p.functions w.heap r line ls e k) w (λ v k. goes_on ls (in_heap w (put_own w.heap r f item.place (assigned op item.value v))) k)) good.1
+        (λ item k. like_with {A = Datum} (value_in p.functions w.heap r line ls e k) w (λ v k. goes_on ls (in_heap w (put_own w.heap r f item.place (assigned op item.value v))) k) good.1
+        (λ v k. record { like = put_stays w f item.place (assigned op item.value v) good ext kept t.1.1 })))
     act_like (print_value l e) t kept line ls w k good ext = like_with {A = Datum} (value_in p.functions w.heap r line ls e k) w (λ v k. goes_on ls (printed w v) k) good.1 (λ v k. record { like = good.1 })
-    act_like (new_local l i c) t kept line ls w k good ext = absurd kept
-    act_like (new_field l f c) t kept line ls w k good ext = absurd kept
-    act_like (new_item l f i c) t kept line ls w k good ext = absurd kept
+    act_like (new_local l i c) t kept line ls w k good ext = like_with (room_for p line w.heap c k) w (λ n k. goes_on (slice_set ls i.0 (Ref n)) (in_heap w (created p c w.heap)) k) good.1 (λ n k. record { like = new_stays w c good ext })
+    act_like (new_field l f c) t kept line ls w k good ext =
+        like_with (room_for p line w.heap c k) w (λ n k. goes_on ls (in_heap w (put_own (created p c w.heap) r f 0 (Ref n))) k) good.1 (λ n k. record { like = new_put_stays w c f 0 n good ext kept t.0.1 })
+    act_like (new_item l f i c) t kept line ls w k good ext =
+        like_with {A = Datum} (value_in p.functions w.heap r line ls i k) w (λ v k. with (own_item_at line w r f v k) w (λ item k. with (room_for p line w.heap c k) w (λ n k. goes_on ls (in_heap w (put_own (created p c w.heap) r f item.place (Ref n))) k))) good.1
+        (λ v k. like_with (own_item_at line w r f v k) w (λ item k. with (room_for p line w.heap c k) w (λ n k. goes_on ls (in_heap w (put_own (created p c w.heap) r f item.place (Ref n))) k)) good.1
+        (λ item k. like_with (room_for p line w.heap c k) w (λ n k. goes_on ls (in_heap w (put_own (created p c w.heap) r f item.place (Ref n))) k) good.1
+        (λ n k. record { like = new_put_stays w c f item.place n good ext kept t.0.1 })))
     act_like (block l ss) t kept line ls w k good ext = record { like = good.1 }
     act_like (put_local l i op e) t kept line ls w k good ext = record { like = good.1 }
     act_like (invoke l e op es) t kept line ls w k good ext = record { like = good.1 }
@@ -164,9 +191,9 @@ module _ (p : PlainProgram) (program : ProgramTyped p) (written : List FieldId) 
           (λ i k1 well. typed_step heap_of (Good s r) s h w k1 _ good ext (λ j. came_framed s r h w ls good ext t (o.invoke i w j) (all.invokes i w j (subst (λ z. Contains ops z) (sym well.1) kept) good.0.heap (extends_then h0 h w.heap base ext) good.1 well.0)))
       exec_framed (put_field l f op e) ty kept line ls w k good ext t = act_framed (put_field l f op e) ty kept line ls w k good ext t
       exec_framed (put_item l f i op e) ty kept line ls w k good ext t = act_framed (put_item l f i op e) ty kept line ls w k good ext t
-      exec_framed (new_local l i c) ty kept line ls w k good ext t = absurd kept
-      exec_framed (new_field l f c) ty kept line ls w k good ext t = absurd kept
-      exec_framed (new_item l f i c) ty kept line ls w k good ext t = absurd kept
+      exec_framed (new_local l i c) ty kept line ls w k good ext t = act_framed (new_local l i c) ty kept line ls w k good ext t
+      exec_framed (new_field l f c) ty kept line ls w k good ext t = act_framed (new_field l f c) ty kept line ls w k good ext t
+      exec_framed (new_item l f i c) ty kept line ls w k good ext t = act_framed (new_item l f i c) ty kept line ls w k good ext t
       exec_framed (print_value l e) ty kept line ls w k good ext t = act_framed (print_value l e) ty kept line ls w k good ext t
 
       all_exec_framed : (ys : Statements) → StatementsTyped p s ys → AreKept written ops ys → (ls : List Datum) (w : World) (k : ℕ) → Good s r w → Extends h w.heap → ValuesTyped w.heap ls s.locals → Framed s r h (exec_all wp ls w ys k)
@@ -203,7 +230,7 @@ module _ (p : PlainProgram) (program : ProgramTyped p) (written : List FieldId) 
       let mt : OperationTyped p m = program.ops n m e in
       let mm : MethodTyped p m = mt.method in
       framed_kept (scope_of m) (Ref r) w.heap _
-        (all_exec_framed o all (scope_of m) (Ref r) w.heap base m.body.statements mm.body kept (locals_of (Some m) vs) w k (record { heap = t; receiver = c.0 }, like) (extends_self w.heap) (frame_typed w.heap vs m.params m.body.locals c.1))
+      (all_exec_framed o all (scope_of m) (Ref r) w.heap base m.body.statements mm.body kept (locals_of (Some m) vs) w k (record { heap = t; receiver = c.0 }, like) (extends_self w.heap) (frame_typed w.heap vs m.params m.body.locals c.1))
 
   operations_framed : (n : ℕ) → OpsFramed (operations n p)
   operations_framed zero = record {
@@ -241,6 +268,7 @@ module _ (p : PlainProgram) (program : ProgramTyped p) (written : List FieldId) 
       further v more (gives_back x u k) (gives_back_kept _ _ _ t ext) = gives_back_kept x u k t (extends_then w.heap v.heap u.heap more ext)
       further v more (stops x u) (stops_kept _ _ t ext) = stops_kept x u t (extends_then w.heap v.heap u.heap more ext)
       further v more (runs_out u) (runs_out_kept _ t ext) = runs_out_kept u t (extends_then w.heap v.heap u.heap more ext)
+
       next : (a : Flow World) → KeepsHeap p w.heap a → Like written h0 (world_after a).heap → ((v : World) (j : ℕ) → TypedHeap p v.heap → Extends w.heap v.heap → Like written h0 v.heap → Kept v.heap (serial_ops p is v j)) → Kept w.heap (and_on a (λ ls v j. serial_ops p is v j))
       next (goes_on ls v j) (goes_on_kept _ _ _ u ext) like rest = let b : Kept v.heap (serial_ops p is v j) = rest v j u ext like in record { heap = further v ext _ b.heap; like = b.like }
       next (gives_back x v j) (gives_back_kept _ _ _ u ext) like rest = record { heap = gives_back_kept x v j u ext; like = like }

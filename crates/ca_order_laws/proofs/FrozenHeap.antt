@@ -1,6 +1,6 @@
 -- A section is the same in two heaps that differ in written fields alone.
-use Rattle.std.proofs.Common.{◌≡◌, ℕ, zero, suc, List, Option, Some, None, refl, ap, sym, subst, ◌∙◌, true, false, Bool, ◌||◌}
-use Rattle.std.specs.Prelude.{slice_get, Contains}
+use Rattle.std.proofs.Common.{◌≡◌, ℕ, zero, suc, List, Option, Some, None, refl, ap, sym, subst, ◌∙◌, false, Bool, ◌||◌}
+use Rattle.std.specs.Prelude.{slice_get}
 use Rattle.ca_program.specs.declared.program.ClassId.{ClassId}
 use Rattle.ca_program.specs.declared.program.FieldId.{FieldId}
 use Rattle.ca_program.specs.declared.program.ValueType.{ValueType}
@@ -8,11 +8,10 @@ use Rattle.ca_program.specs.declared.program.ValueType.TheVariants.{Long as Long
 use Rattle.ca_program.specs.Plain.{PlainProgram, PlainMethod, Expression, Statement, Statements, block, put_local, put_field, put_item, new_local, new_field, new_item, invoke, if_else, while_loop, for_loop, return_value, print_value, no_statements, statement_and}
 use Rattle.ca_model.specs.declared.value.Value.{Value as Datum}
 use Rattle.ca_model.specs.declared.value.Value.TheVariants.{Ref}
-use Rattle.ca_model.specs.declared.value.Slot.{Slot}
 use Rattle.ca_model.specs.declared.value.Object.{Object}
-use Rattle.ca_model.specs.Typed.{IsOfClass, TypedHeap, ObjectTyped}
-use Rattle.ca_meaning.specs.Expressions.{take_step, Invocation, invocation}
-use Rattle.ca_meaning.specs.Flows.{Flow, goes_on, gives_back, stops, runs_out, and_on, with, choose, Parts, line_of, exec, exec_all, turn}
+use Rattle.ca_model.specs.Typed.{TypedHeap, ObjectTyped}
+use Rattle.ca_meaning.specs.Expressions.{take_step, Invocation}
+use Rattle.ca_meaning.specs.Flows.{Flow, goes_on, gives_back, stops, runs_out, and_on, Parts, line_of, exec, exec_all, turn}
 use Rattle.ca_meaning.specs.Functions.{body_of, locals_of}
 use Rattle.ca_meaning.specs.Sections.{Section, section_start, section_item_at, section_value, section_parts_with, section_parts, Again, loops, loops_of, sectioned, section}
 use Rattle.ca_meaning.specs.WellTyped.{IsTypedObject}
@@ -24,8 +23,8 @@ use Rattle.ca_meaning_laws.proofs.Heaps.{extends_self}
 use Rattle.ca_meaning_laws.proofs.Statements.{exec_typed}
 use Rattle.ca_meaning_laws.proofs.FunctionTypes.{calls_typed}
 use Rattle.ca_meaning_laws.proofs.SectionTypes.{AgainTyped, section_parts_typed, loops_typed}
-use Rattle.ca_parallel.specs.Separable.{IsClean, AreClean, holds_call, IsSeparated, AreSeparated}
-use Rattle.ca_order_laws.proofs.Likes.{Like, LikeOwn, clean_fine, clean_fine_all, eval_like, due_like}
+use Rattle.ca_parallel.specs.Separable.{IsClean, holds_call, IsSeparated, AreSeparated}
+use Rattle.ca_order_laws.proofs.Likes.{Like, clean_fine, clean_fine_all, eval_like, due_like}
 use Rattle.ca_order_laws.proofs.LikeCalls.{calls_like, with_both, choose_both}
 
 abbrev SectionFlow : PlainProgram → List Object → Scope → Flow Section → Type 0
@@ -51,6 +50,7 @@ module _ (p : PlainProgram) (program : ProgramTyped p) (written : List FieldId) 
   module _ (a c : Again) (typed : AgainTyped p program h heap s r there a) (both : AgainLike a c) where
     abbrev hp : Parts Section
     hp = section_parts_with p h r a
+
     abbrev gp : Parts Section
     gp = section_parts_with p g r c
 
@@ -80,14 +80,14 @@ module _ (p : PlainProgram) (program : ProgramTyped p) (written : List FieldId) 
           with_both _ _ x _ _ (value_like b line ls x good v c BoolType t.0 w.0 k) (λ u k. choose_both u _ _ _ _ (exec_like y b t.1 w.1 (line_of y) ls x k good v) (exec_like z b t.2 w.2 (line_of z) ls x k good v))
       exec_like (while_loop l c y) b t w line ls x k good v =
           with_both _ _ x _ _ (value_like (b || holds_call y) line ls x good v c BoolType t.0 w.0 k) (λ u k. choose_both u _ _ _ _
-            (with_both (take_step k) (take_step k) x _ _ refl (λ _ k. on_both p h s _ _ _ _ (flows y t.1 (line_of y) ls x k good v) (exec_like y (b || holds_call y) t.1 w.1 (line_of y) ls x k good v) (λ ls x k good v. both b line ls x (while_loop l c y) k good v t w))) refl)
+          (with_both (take_step k) (take_step k) x _ _ refl (λ _ k. on_both p h s _ _ _ _ (flows y t.1 (line_of y) ls x k good v) (exec_like y (b || holds_call y) t.1 w.1 (line_of y) ls x k good v) (λ ls x k good v. both b line ls x (while_loop l c y) k good v t w))) refl)
       exec_like (for_loop l site part first c next y) b t w line ls x k good v =
           let up : Bool = b || holds_call (for_loop l site part first c next y) in
           on_both p h s _ _ _ _ (flows first t.0 line ls x k good v) (exec_like first up t.0 w.0 line ls x k good v) (λ ls x k good v.
           with_both _ _ x _ _ (value_like up line ls x good v c BoolType t.1 w.1 k) (λ u k. choose_both u _ _ _ _
-            (with_both (take_step k) (take_step k) x _ _ refl (λ _ k. on_both p h s _ _ _ _ (two_flows y next t.3 t.2 line ls x k good v)
-              (on_both p h s _ _ _ _ (flows y t.3 (line_of y) ls x k good v) (exec_like y up t.3 w.3 (line_of y) ls x k good v) (λ ls x k good v. exec_like next up t.2 w.2 line ls x k good v))
-              (λ ls x k good v. both b line ls x (for_loop l site part first c next y) k good v t w))) refl))
+          (with_both (take_step k) (take_step k) x _ _ refl (λ _ k. on_both p h s _ _ _ _ (two_flows y next t.3 t.2 line ls x k good v)
+          (on_both p h s _ _ _ _ (flows y t.3 (line_of y) ls x k good v) (exec_like y up t.3 w.3 (line_of y) ls x k good v) (λ ls x k good v. exec_like next up t.2 w.2 line ls x k good v))
+          (λ ls x k good v. both b line ls x (for_loop l site part first c next y) k good v t w))) refl))
       exec_like (return_value l e) b t w line ls x k good v = with_both _ _ x _ _ (value_like b line ls x good v e t.0 t.2 w k) (λ u k. refl)
       exec_like (new_local l i c) b t w line ls x k good v = absurd w
       exec_like (new_field l f c) b t w line ls x k good v = absurd w
@@ -101,11 +101,11 @@ module _ (p : PlainProgram) (program : ProgramTyped p) (written : List FieldId) 
     turn_like : (y : Statement) (b : Bool) → StatementTyped p s y → IsSeparated p written b y → (line : ℕ) (ls : List Datum) (x : Section) (k : ℕ) → SectionTyped p h s x → ValuesTyped h ls s.locals → turn hp line ls x y k ≡ turn gp line ls x y k
     turn_like (while_loop l c y) b t w line ls x k good v = exec_like (while_loop l c y) b t w line ls x k good v
     turn_like (for_loop l site part first c next y) b t w line ls x k good v =
-          let up : Bool = b || holds_call (for_loop l site part first c next y) in
-          with_both _ _ x _ _ (value_like up line ls x good v c BoolType t.1 w.1 k) (λ u k. choose_both u _ _ _ _
-            (with_both (take_step k) (take_step k) x _ _ refl (λ _ k. on_both p h s _ _ _ _ (two_flows y next t.3 t.2 line ls x k good v)
-              (on_both p h s _ _ _ _ (flows y t.3 (line_of y) ls x k good v) (exec_like y up t.3 w.3 (line_of y) ls x k good v) (λ ls x k good v. exec_like next up t.2 w.2 line ls x k good v))
-              (λ ls x k good v. both b line ls x (for_loop l site part first c next y) k good v t w))) refl)
+        let up : Bool = b || holds_call (for_loop l site part first c next y) in
+        with_both _ _ x _ _ (value_like up line ls x good v c BoolType t.1 w.1 k) (λ u k. choose_both u _ _ _ _
+        (with_both (take_step k) (take_step k) x _ _ refl (λ _ k. on_both p h s _ _ _ _ (two_flows y next t.3 t.2 line ls x k good v)
+        (on_both p h s _ _ _ _ (flows y t.3 (line_of y) ls x k good v) (exec_like y up t.3 w.3 (line_of y) ls x k good v) (λ ls x k good v. exec_like next up t.2 w.2 line ls x k good v))
+        (λ ls x k good v. both b line ls x (for_loop l site part first c next y) k good v t w))) refl)
     turn_like (block l ss) b t w line ls x k good v = refl
     turn_like (put_local l i op e) b t w line ls x k good v = refl
     turn_like (put_field l f op e) b t w line ls x k good v = refl
@@ -127,17 +127,17 @@ module _ (p : PlainProgram) (program : ProgramTyped p) (written : List FieldId) 
       all_exec_like (loops_of p h r) (loops_of p g r) (λ e line ls x y k good ext v t. loops_typed p program h heap s r there (suc k) e line ls x y k good ext v t) (λ b line ls x y k good v t w. loops_like (suc k) b line ls x y k good v t w) ys b t w ls x k good v
 
 body_same : (p : PlainProgram) (program : ProgramTyped p) (written : List FieldId) (h g : List Object) (heap : TypedHeap p h) (like : Like written h g) (n r : ℕ) (o : Object) (vs : List Datum) (k : ℕ) (c : ClassId) (m : Option PlainMethod) → slice_get p.ops n ≡ m → CallTyped h m r vs → IsMethodOf m c → IsTypedObject p h c o → AreSeparated p written false (body_of m)
-  → exec_all (section_parts p h (Ref r)) (locals_of m vs) (section_start o.slots) (body_of m) k ≡ exec_all (section_parts p g (Ref r)) (locals_of m vs) (section_start o.slots) (body_of m) k
+    → exec_all (section_parts p h (Ref r)) (locals_of m vs) (section_start o.slots) (body_of m) k ≡ exec_all (section_parts p g (Ref r)) (locals_of m vs) (section_start o.slots) (body_of m) k
 body_same p program written h g heap like n r o vs k c None e call of_class object w = absurd call
 body_same p program written h g heap like n r o vs k c (Some m) e call of_class object w =
     let mt : OperationTyped p m = program.ops n m e in
     let mm : MethodTyped p m = mt.method in
     sections_like p program written h g heap like (scope_of m) (Ref r) call.0 m.body.statements false mm.body w _ _ k
-      (record { own = subst (λ z. ObjectTyped h (slice_get p.classes z.0) o.slots) (sym of_class) object.slots; listed = tt })
-      (frame_typed h vs m.params m.body.locals call.1)
+    (record { own = subst (λ z. ObjectTyped h (slice_get p.classes z.0) o.slots) (sym of_class) object.slots; listed = tt })
+    (frame_typed h vs m.params m.body.locals call.1)
 
 pub frozen_same : (p : PlainProgram) (program : ProgramTyped p) (written : List FieldId) (h g : List Object) (heap : TypedHeap p h) (like : Like written h g) (i : Invocation) → WellTyped p h i → (c : ClassId) → IsMethodOf (slice_get p.ops i.op.0) c → (o : Object) → IsTypedObject p h c o → AreSeparated p written false (body_of (slice_get p.ops i.op.0)) → (k : ℕ)
-  → section p g i.receiver o i.op i.arguments k ≡ section p h i.receiver o i.op i.arguments k
+    → section p g i.receiver o i.op i.arguments k ≡ section p h i.receiver o i.op i.arguments k
 frozen_same p program written h g heap like i well c of_class o object w zero = refl
 frozen_same p program written h g heap like i well c of_class o object w (suc k) =
     ap (λ z. sectioned o.class (suc k) z) (sym (body_same p program written h g heap like i.op.0 i.receiver o i.arguments k c (slice_get p.ops i.op.0) refl well of_class object w))

@@ -1,6 +1,6 @@
 -- A section only adds to its list, calls of the extent alone, keeps the constants of its object, and once it may have
 -- called keeps the whole object.
-use Rattle.std.proofs.Common.{◌≡◌, ℕ, zero, suc, List, [], ◌∷◌, ◌++◌, Option, Some, None, refl, ap, sym, subst, ◌∙◌, true, false, Bool, ⊎_elim, arith}
+use Rattle.std.proofs.Common.{◌≡◌, ℕ, zero, suc, List, [], ◌∷◌, ◌++◌, Option, Some, refl, ap, sym, subst, ◌∙◌, true, false, Bool, ⊎_elim, arith, append_assoc, append-nil}
 use Rattle.std.specs.Prelude.{slice_get, ◌||◌, Contains}
 use Rattle.std.proofs.lemmas.List.Elements.{Contains-push_cases, Contains-append_cases}
 use Rattle.ca_program.specs.declared.program.ClassId.{ClassId}
@@ -21,7 +21,7 @@ use Rattle.ca_meaning_laws.specs.Typed.{Yields, yields, yields_trap, yields_over
 use Rattle.ca_parallel.specs.Bodies.{calls_of, calls_of_all}
 use Rattle.ca_parallel.specs.Separable.{MayAccess, is_some_of, holds_call, IsSeparated, AreSeparated}
 use Rattle.ca_order_laws.proofs.Puts.{slot_else, field_same}
-use Rattle.ca_order_laws.proofs.Flags.{some_left, some_right, Rise, rise_stays, rise_self, rise_then, rise_or, rise_part, rise_other, rise_two, rise_again, never_down}
+use Rattle.ca_order_laws.proofs.Flags.{some_left, some_right, Rise, rise_stays, rise_self, rise_or, rise_part, rise_other, rise_two, rise_again, never_down}
 use Rattle.ca_order_laws.proofs.Kept.{IsKept, AreKept}
 
 -- ---- the operation of a call that is due
@@ -37,18 +37,10 @@ due_calls c q e op es k =
 
 -- ---- lists
 
-no_more : {A : Type 0} (l : List A) → l ≡ l ++ []
-no_more [] = refl
-no_more (y ∷ ys) = ap (λ l. y ∷ l) (no_more ys)
-
-append_two : {A : Type 0} (l m n : List A) → (l ++ m) ++ n ≡ l ++ (m ++ n)
-append_two [] m n = refl
-append_two (y ∷ ys) m n = ap (λ l. y ∷ l) (append_two ys m n)
-
 pub none_of : {A : Type 0} (x : A) → ¬ Contains [] x
 none_of x c = let lt = c.1 in absurd (omega arith)
 
-single_is : {A : Type 0} (x y : A) → Contains (x ∷ []) y → x ≡ y
+pub single_is : {A : Type 0} (x y : A) → Contains (x ∷ []) y → x ≡ y
 single_is x y c = ⊎_elim (λ a. absurd (none_of y a)) (λ e. e) (Contains-push_cases [] x y c)
 
 module _ (written : List FieldId) (ops : List OpId) (class : Option ClassId) where
@@ -71,12 +63,12 @@ module _ (written : List FieldId) (ops : List OpId) (class : Option ClassId) whe
   grown_of (grew _ _ _ g) = g
 
   pub grows_self : (b c : Bool) (s : Section) → Grows b c s s
-  grows_self b c s = record { more = []; listed = no_more s.listed; own = λ e. refl; constants = λ f e n. refl; inside = λ i m. absurd (none_of i m); none = λ e. refl }
+  grows_self b c s = record { more = []; listed = sym (append-nil s.listed); own = λ e. refl; constants = λ f e n. refl; inside = λ i m. absurd (none_of i m); none = λ e. refl }
 
   pub grows_then : {b c : Bool} {s t u : Section} → Grows b c s t → Grows b c t u → Grows b c s u
   grows_then {b} {c} {s} {t} {u} g k = record {
     more = g.more ++ k.more;
-    listed = k.listed ∙ ap (λ l. l ++ k.more) g.listed ∙ append_two s.listed g.more k.more;
+    listed = k.listed ∙ ap (λ l. l ++ k.more) g.listed ∙ append_assoc s.listed g.more k.more;
     own = λ e. k.own e ∙ g.own e;
     constants = λ f e n. k.constants f e n ∙ g.constants f e n;
     inside = λ i m. ⊎_elim (λ a. g.inside i a) (λ a. k.inside i a) (Contains-append_cases g.more k.more i m);
@@ -129,7 +121,8 @@ module _ (written : List FieldId) (ops : List OpId) (class : Option ClassId) whe
   -- a put into a written field
   grown_put : (b : Bool) (ls : List Datum) (s : Section) (f : FieldId) (i : ℕ) (v : Datum) (k : ℕ) → MayAccess written b f → Contains written f → class ≡ Some f.class → GrownFlow b (b || false) s (goes_on ls (with_own s (put_slot s.own f.field i v)) k)
   grown_put b ls s f i v k may at of_class = grew ls _ k record {
-    more = []; listed = no_more s.listed;
+    more = [];
+    listed = sym (append-nil s.listed);
     own = λ e. may_not b f may at e;
     constants = λ g e n. slot_else s.own f.field i v g.field (λ same. n (subst (λ z. Contains written z) (field_same f g (let z : Some f.class ≡ Some g.class = sym of_class ∙ e in cc) same) at));
     inside = λ i m. absurd (none_of i m);
@@ -138,7 +131,8 @@ module _ (written : List FieldId) (ops : List OpId) (class : Option ClassId) whe
 
   grown_call : (b : Bool) (ls : List Datum) (s : Section) (i : Invocation) (k : ℕ) → Contains ops i.op → GrownFlow b (b || true) s (goes_on ls (with_listed s i) k)
   grown_call b ls s i k at = grew ls _ k record {
-    more = i ∷ []; listed = refl;
+    more = i ∷ [];
+    listed = refl;
     own = λ e. refl;
     constants = λ g e n. refl;
     inside = λ j m. subst (λ z. Contains ops z.op) (single_is i j m) at;
@@ -168,28 +162,28 @@ module _ (p : PlainProgram) (written : List FieldId) (ops : List OpId) (h : List
       exec_grown (if_else l c y z) b t a w line ls x k =
           let up : Bool = b || is_some_of (calls_of y ++ calls_of z) in
           grown_any written ops s.class b up x _ _ (λ v k. grown_choose written ops s.class b up x v _ _
-            (grown_weak written ops s.class b b (b || holds_call y) up x _ (rise_self b) (rise_part b (calls_of y) (calls_of z)) (exec_grown y b t.1 a.1 w.0 (line_of y) ls x k))
-            (grown_weak written ops s.class b b (b || holds_call z) up x _ (rise_self b) (rise_other b (calls_of y) (calls_of z)) (exec_grown z b t.2 a.2 w.1 (line_of z) ls x k)))
+          (grown_weak written ops s.class b b (b || holds_call y) up x _ (rise_self b) (rise_part b (calls_of y) (calls_of z)) (exec_grown y b t.1 a.1 w.0 (line_of y) ls x k))
+          (grown_weak written ops s.class b b (b || holds_call z) up x _ (rise_self b) (rise_other b (calls_of y) (calls_of z)) (exec_grown z b t.2 a.2 w.1 (line_of z) ls x k)))
       exec_grown (while_loop l c y) b t a w line ls x k =
           let up : Bool = b || holds_call y in
           grown_any written ops s.class b up x _ _ (λ v k. grown_choose written ops s.class b up x v _ _
-            (grown_any written ops s.class b up x (take_step k) _ (λ z k. grown_on written ops s.class b up x _ _
-              (grown_weak written ops s.class b up (up || holds_call y) up x _ (rise_or b (holds_call y)) (rise_again b (holds_call y) (holds_call y) (λ e. e)) (exec_grown y up t.1 a.1 w (line_of y) ls x k))
-              (λ ls x k. all b line ls x (while_loop l c y) k t a w)))
-            (grew ls x k (grows_self written ops s.class b up x)))
+          (grown_any written ops s.class b up x (take_step k) _ (λ z k. grown_on written ops s.class b up x _ _
+          (grown_weak written ops s.class b up (up || holds_call y) up x _ (rise_or b (holds_call y)) (rise_again b (holds_call y) (holds_call y) (λ e. e)) (exec_grown y up t.1 a.1 w (line_of y) ls x k))
+          (λ ls x k. all b line ls x (while_loop l c y) k t a w)))
+          (grew ls x k (grows_self written ops s.class b up x)))
       exec_grown (for_loop l site part first c next y) b t a w line ls x k =
           let cs : List OpId = calls_of first ++ (calls_of next ++ calls_of y) in
           let up : Bool = b || is_some_of cs in
           let rise : Rise b up = rise_or b (is_some_of cs) in
           grown_on written ops s.class b up x _ _
-            (grown_weak written ops s.class b up (up || holds_call first) up x _ rise (rise_again b (is_some_of cs) (holds_call first) (λ e. some_left (calls_of first) (calls_of next ++ calls_of y) e)) (exec_grown first up t.0 a.0 w.0 line ls x k))
-            (λ ls x k. grown_any written ops s.class b up x _ _ (λ v k. grown_choose written ops s.class b up x v _ _
-              (grown_any written ops s.class b up x (take_step k) _ (λ z k. grown_on written ops s.class b up x _ _
-                (grown_on written ops s.class b up x _ _
-                  (grown_weak written ops s.class b up (up || holds_call y) up x _ rise (rise_again b (is_some_of cs) (holds_call y) (λ e. some_right (calls_of next) (calls_of y) (some_right (calls_of first) (calls_of next ++ calls_of y) e))) (exec_grown y up t.3 a.3 w.2 (line_of y) ls x k))
-                  (λ ls x k. grown_weak written ops s.class b up (up || holds_call next) up x _ rise (rise_again b (is_some_of cs) (holds_call next) (λ e. some_left (calls_of next) (calls_of y) (some_right (calls_of first) (calls_of next ++ calls_of y) e))) (exec_grown next up t.2 a.2 w.1 line ls x k)))
-                (λ ls x k. all b line ls x (for_loop l site part first c next y) k t a w)))
-              (grew ls x k (grows_self written ops s.class b up x))))
+          (grown_weak written ops s.class b up (up || holds_call first) up x _ rise (rise_again b (is_some_of cs) (holds_call first) (λ e. some_left (calls_of first) (calls_of next ++ calls_of y) e)) (exec_grown first up t.0 a.0 w.0 line ls x k))
+          (λ ls x k. grown_any written ops s.class b up x _ _ (λ v k. grown_choose written ops s.class b up x v _ _
+          (grown_any written ops s.class b up x (take_step k) _ (λ z k. grown_on written ops s.class b up x _ _
+          (grown_on written ops s.class b up x _ _
+          (grown_weak written ops s.class b up (up || holds_call y) up x _ rise (rise_again b (is_some_of cs) (holds_call y) (λ e. some_right (calls_of next) (calls_of y) (some_right (calls_of first) (calls_of next ++ calls_of y) e))) (exec_grown y up t.3 a.3 w.2 (line_of y) ls x k))
+          (λ ls x k. grown_weak written ops s.class b up (up || holds_call next) up x _ rise (rise_again b (is_some_of cs) (holds_call next) (λ e. some_left (calls_of next) (calls_of y) (some_right (calls_of first) (calls_of next ++ calls_of y) e))) (exec_grown next up t.2 a.2 w.1 line ls x k)))
+          (λ ls x k. all b line ls x (for_loop l site part first c next y) k t a w)))
+          (grew ls x k (grows_self written ops s.class b up x))))
       exec_grown (return_value l e) b t a w line ls x k = grown_any written ops s.class b (b || false) x _ _ (λ v k. grew_back v x k)
       exec_grown (new_local l i c) b t a w line ls x k = absurd a
       exec_grown (new_field l f c) b t a w line ls x k = absurd a
@@ -202,8 +196,8 @@ module _ (p : PlainProgram) (written : List FieldId) (ops : List OpId) (h : List
           let mid : Bool = b || holds_call y in
           let up : Bool = b || is_some_of (calls_of y ++ calls_of_all rest) in
           grown_on written ops s.class b up x _ _
-            (grown_weak written ops s.class b b mid up x _ (rise_self b) (rise_part b (calls_of y) (calls_of_all rest)) (exec_grown y b t.0 a.0 w.0 (line_of y) ls x k))
-            (λ ls x k. grown_weak written ops s.class b mid (mid || is_some_of (calls_of_all rest)) up x _ (rise_or b (holds_call y)) (rise_two b (calls_of y) (calls_of_all rest)) (all_exec_grown rest mid t.1 a.1 w.1 ls x k))
+          (grown_weak written ops s.class b b mid up x _ (rise_self b) (rise_part b (calls_of y) (calls_of_all rest)) (exec_grown y b t.0 a.0 w.0 (line_of y) ls x k))
+          (λ ls x k. grown_weak written ops s.class b mid (mid || is_some_of (calls_of_all rest)) up x _ (rise_or b (holds_call y)) (rise_two b (calls_of y) (calls_of_all rest)) (all_exec_grown rest mid t.1 a.1 w.1 ls x k))
 
     turn_grown : (y : Statement) (b : Bool) → StatementTyped p s y → IsSeparated p written b y → IsKept written ops y → (line : ℕ) (ls : List Datum) (x : Section) (k : ℕ) → SectionGrown b (b || holds_call y) x (turn qp line ls x y k)
     turn_grown (while_loop l c y) b t a w line ls x k = exec_grown (while_loop l c y) b t a w line ls x k
@@ -212,12 +206,12 @@ module _ (p : PlainProgram) (written : List FieldId) (ops : List OpId) (h : List
         let up : Bool = b || is_some_of cs in
         let rise : Rise b up = rise_or b (is_some_of cs) in
         grown_any written ops s.class b up x _ _ (λ v k. grown_choose written ops s.class b up x v _ _
-          (grown_any written ops s.class b up x (take_step k) _ (λ z k. grown_on written ops s.class b up x _ _
-            (grown_on written ops s.class b up x _ _
-              (grown_weak written ops s.class b up (up || holds_call y) up x _ rise (rise_again b (is_some_of cs) (holds_call y) (λ e. some_right (calls_of next) (calls_of y) (some_right (calls_of first) (calls_of next ++ calls_of y) e))) (exec_grown y up t.3 a.3 w.2 (line_of y) ls x k))
-              (λ ls x k. grown_weak written ops s.class b up (up || holds_call next) up x _ rise (rise_again b (is_some_of cs) (holds_call next) (λ e. some_left (calls_of next) (calls_of y) (some_right (calls_of first) (calls_of next ++ calls_of y) e))) (exec_grown next up t.2 a.2 w.1 line ls x k)))
-            (λ ls x k. all b line ls x (for_loop l site part first c next y) k t a w)))
-          (grew ls x k (grows_self written ops s.class b up x)))
+        (grown_any written ops s.class b up x (take_step k) _ (λ z k. grown_on written ops s.class b up x _ _
+        (grown_on written ops s.class b up x _ _
+        (grown_weak written ops s.class b up (up || holds_call y) up x _ rise (rise_again b (is_some_of cs) (holds_call y) (λ e. some_right (calls_of next) (calls_of y) (some_right (calls_of first) (calls_of next ++ calls_of y) e))) (exec_grown y up t.3 a.3 w.2 (line_of y) ls x k))
+        (λ ls x k. grown_weak written ops s.class b up (up || holds_call next) up x _ rise (rise_again b (is_some_of cs) (holds_call next) (λ e. some_left (calls_of next) (calls_of y) (some_right (calls_of first) (calls_of next ++ calls_of y) e))) (exec_grown next up t.2 a.2 w.1 line ls x k)))
+        (λ ls x k. all b line ls x (for_loop l site part first c next y) k t a w)))
+        (grew ls x k (grows_self written ops s.class b up x)))
     turn_grown (block l ss) b t a w line ls x k = grew ls x k (grows_self written ops s.class b _ x)
     turn_grown (put_local l i op e) b t a w line ls x k = grew ls x k (grows_self written ops s.class b _ x)
     turn_grown (put_field l f op e) b t a w line ls x k = grew ls x k (grows_self written ops s.class b _ x)

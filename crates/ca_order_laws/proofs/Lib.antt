@@ -17,13 +17,15 @@ pub mod Sections
 pub mod Setting
 pub mod Ends
 pub mod Frames
-pub mod Rel
+pub mod Related
 pub mod First
 pub mod Back
 pub mod Agreeing
-pub mod Stand
+pub mod BothRuns
 pub mod CallThenList
 pub mod ThenListed
+pub mod Standing
 pub mod SerialOrder
 pub mod Loops
-mod Examples
+pub mod Examples
+mod IllTyped

@@ -1,6 +1,6 @@
 -- The serial run of a call loop is its section and then the run of what that lists.
-use Rattle.std.proofs.Common.{◌≡◌, ℕ, zero, suc, ◌+◌, ◌-◌, ◌<◌, List, [], ◌∷◌, ◌++◌, Option, Some, None, refl, ap, sym, subst, ◌∙◌, arith, true, false, Bool}
-use Rattle.std.specs.Prelude.{slice_get, Contains, ◌||◌}
+use Rattle.std.proofs.Common.{◌≡◌, ℕ, suc, ◌+◌, ◌-◌, List, [], ◌++◌, None, refl, ap, ◌∙◌, arith, true}
+use Rattle.std.specs.Prelude.{◌||◌}
 use Rattle.std.proofs.lemmas.List.Elements.{Contains-push}
 use Rattle.ca_program.specs.declared.program.FieldId.{FieldId}
 use Rattle.ca_program.specs.declared.program.LocalId.{LocalId}
@@ -13,7 +13,7 @@ use Rattle.ca_model.specs.declared.value.Slot.{Slot}
 use Rattle.ca_meaning.specs.Flows.{Flow, goes_on, gives_back, stops, runs_out, and_on, exec}
 use Rattle.ca_meaning.specs.Functions.{own_of}
 use Rattle.ca_meaning.specs.Serial.{World, serial_parts, serial_ops}
-use Rattle.ca_meaning.specs.Sections.{Section, section_start, section_parts, loop_run, loop_sectioned, loop_section}
+use Rattle.ca_meaning.specs.Sections.{Section, section_start, loop_run, loop_sectioned, loop_section}
 use Rattle.ca_meaning.specs.WellTyped.{ValuesTyped}
 use Rattle.ca_meaning.specs.ProgramTyped.{Scope, StatementTyped, StatementsTyped, ProgramTyped}
 use Rattle.ca_meaning_laws.specs.Budgets.{on_with, Reaches, Reached}
@@ -22,17 +22,17 @@ use Rattle.ca_meaning_laws.proofs.Heaps.{extends_self, own_typed}
 use Rattle.ca_meaning_laws.proofs.Steady.{SteadyFlow}
 use Rattle.ca_meaning_laws.proofs.Bigs.{exec_serial_steady, serial_ops_steady, loop_run_steady}
 use Rattle.ca_parallel.specs.Bodies.{calls_of, calls_of_all}
-use Rattle.ca_parallel.specs.Extents.{Extent}
+use Rattle.ca_parallel.specs.Extents.{Extent, IsExtentOf}
 use Rattle.ca_parallel.specs.Separable.{holds_call, IsSeparated}
-use Rattle.ca_parallel.specs.Loops.{Begins, CountsUp, IsCall, AreCalls, CallsAlone, IsCallLoopOf, IsCallLoop}
-use Rattle.ca_order_laws.specs.Order.{SeparableExtent, LoopThenList, then_looped}
-use Rattle.ca_order_laws.proofs.Runs.{ends_same, ends_locals, ends_left, stop_reaches, reaches_steps, list_locals}
+use Rattle.ca_parallel.specs.Loops.{Begins, CountsUp, IsCall, AreCalls, CallsAlone, IsCallLoop}
+use Rattle.ca_order_laws.specs.Order.{LoopThenList, then_looped}
+use Rattle.ca_order_laws.proofs.Runs.{stop_reaches, reaches_steps, list_locals}
 use Rattle.ca_order_laws.proofs.Kept.{IsKept, AreKept, Within, within_left, within_right}
 use Rattle.ca_order_laws.proofs.Grown.{none_of}
 use Rattle.ca_order_laws.proofs.Frames.{like_self}
 use Rattle.ca_order_laws.proofs.Sections.{body_kept}
-use Rattle.ca_order_laws.proofs.Rel.{Rel, Common}
-use Rattle.ca_order_laws.proofs.Stand.{Placed, common}
+use Rattle.ca_order_laws.proofs.Related.{Related, Common}
+use Rattle.ca_order_laws.proofs.BothRuns.{common}
 use Rattle.ca_order_laws.proofs.First.{Forth, forward}
 use Rattle.ca_order_laws.proofs.Back.{Backed, back}
 
@@ -129,18 +129,18 @@ module _ (written : List FieldId) (ops : List OpId) where
 
 -- ---- the loop's two runs
 
-module _ (p : PlainProgram) (program : ProgramTyped p) (x : Extent) (separable : SeparableExtent p x) (s : Scope) (this : Datum) (w : World) (good : WorldTyped p s this w) (result : s.result ≡ None) where
+module _ (p : PlainProgram) (program : ProgramTyped p) (roots : List OpId) (x : Extent) (is : IsExtentOf p roots x) (s : Scope) (this : Datum) (w : World) (good : WorldTyped p s this w) (result : s.result ≡ None) where
   -- a loop of serial code changes no object itself
   abbrev stays : List Slot → World
   stays own = w
 
   both : Common p x.written x.ops s w this stays true
-  both = common p program x.written x.ops (body_kept p x separable) s w this stays true good.heap good.receiver (λ e. cc) (λ own t same. record { heap = good.heap; extends = extends_self w.heap; like = like_self x.written w.heap }) result
+  both = common p program x.written x.ops (body_kept p roots x is) s w this stays true good.heap good.receiver (λ e. cc) (λ own t same. record { heap = good.heap; extends = extends_self w.heap; like = like_self x.written w.heap }) result
 
   abbrev start : Section
   start = section_start (own_of w.heap this)
 
-  at_start : Rel p x.written x.ops s w this stays true true w start 0
+  at_start : Related p x.written x.ops s w this stays true true w start 0
   at_start = record {
     lite = record { none = λ e. cc; rises = λ e. cc; typed = record { own = own_typed p w.heap s.class this good.heap good.receiver; listed = tt }; constants = λ f e free. refl; inside = λ i c. absurd (none_of i c) };
     run = stop_reaches [] w;
@@ -156,7 +156,7 @@ module _ (p : PlainProgram) (program : ProgramTyped p) (x : Extent) (separable :
         reaches_steps (let e = b.sum in let z : b.n ≡ n + t = omega arith in z) b.reaches
 
 pub loop_then_list : LoopThenList
-loop_then_list p program x separable loop form inside sep s this line ls w ty good tl k j ms v = (forth, back_to)
+loop_then_list p program roots x is loop form inside sep s this line ls w ty good tl k j ms v = (forth, back_to)
   where
     kept : IsKept x.written x.ops loop × (s.result ≡ None)
     kept = loop_kept x.written x.ops p s loop form ty inside
@@ -165,8 +165,8 @@ loop_then_list p program x separable loop form inside sep s this line ls w ty go
     forth e =
         let steady : SteadyFlow (suc k) (λ k. exec (serial_parts p this) line ls w loop k) = exec_serial_steady p this loop line ls w k in
         let r : Reached (λ k. exec (serial_parts p this) line ls w loop k) (on_with ms v) k j = steady.reached k (omega arith) (on_with ms v) j e in
-        let f : Forth p x.written x.ops s w this (λ own. w) true (λ k. loop_run p w.heap this ls line loop k) (true || holds_call loop) ms v (0 + r.s) = loop_first p program x separable s this w good kept.1 loop sep ty kept.0 line ls tl ms v r.s r.reaches in
-        let sum = f.sum in let is = r.is in
+        let f : Forth p x.written x.ops s w this (λ own. w) true (λ k. loop_run p w.heap this ls line loop k) (true || holds_call loop) ms v (0 + r.s) = loop_first p program roots x is s this w good kept.1 loop sep ty kept.0 line ls tl ms v r.s r.reaches in
+        let sum = f.sum in let taken = r.is in
         let all : k ≡ f.n + (f.t + j) = omega arith in
         let left : k - (k - (f.t + j)) ≡ f.t + j = omega arith in
         ap (λ o. then_looped p w k (loop_sectioned k o)) (ap (λ n. loop_run p w.heap this ls line loop n) all ∙ f.reaches.at (f.t + j))
@@ -180,7 +180,7 @@ loop_then_list p program x separable loop form inside sep s this line ls w ty go
         let steady2 : SteadyFlow (suc (k - (k - left))) (λ k. serial_ops p u.listed w k) = serial_ops_steady p u.listed w (k - (k - left)) in
         let none : xs ≡ [] = list_locals p u.listed w (k - (k - left)) xs y i d in
         let b : Reached (λ k. serial_ops p u.listed w k) (on_with [] y) (k - (k - left)) i = steady2.reached (k - (k - left)) (omega arith) (on_with [] y) i (d ∙ ap (λ l. goes_on l y i) none) in
-        let c : Reaches (λ k. exec (serial_parts p this) line ls w loop k) (on_with ns y) (a.s + b.s) = loop_back p program x separable s this w good kept.1 loop sep ty kept.0 line ls tl ns u a.s y b.s a.reaches b.reaches in
+        let c : Reaches (λ k. exec (serial_parts p this) line ls w loop k) (on_with ns y) (a.s + b.s) = loop_back p program roots x is s this w good kept.1 loop sep ty kept.0 line ls tl ns u a.s y b.s a.reaches b.reaches in
         let is1 = a.is in let is2 = b.is in
         ap (λ n. exec (serial_parts p this) line ls w loop n) (let z : k ≡ (a.s + b.s) + i = omega arith in z) ∙ c.at i ∙ q
     listed ns u left e (gives_back z y i) d q = cc

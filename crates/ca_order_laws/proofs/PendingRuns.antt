@@ -1,5 +1,5 @@
 -- Runs of the pending machine that are put together.
-use Rattle.std.proofs.Common.{◌≡◌, ℕ, ◌+◌, List, [], ◌∷◌, ◌++◌, subst, ◌∙◌, arith}
+use Rattle.std.proofs.Common.{◌≡◌, ℕ, ◌+◌, List, [], ◌++◌, subst, ◌∙◌, arith}
 use Rattle.ca_program.specs.Plain.{PlainProgram}
 use Rattle.ca_model.specs.declared.value.Object.{Object}
 use Rattle.ca_meaning.specs.Expressions.{Invocation}
@@ -22,10 +22,10 @@ module _ {p : PlainProgram} {frozen : List Object} where
   run_then {more = more} {t = t} (rests ps none) run = run_steps (let e : t ≡ 0 + t = omega arith in e) (run_same (ps ++ more) record { weighed = λ f. let p = none.weighed f in let q = weight_append f ps more in omega arith } run)
   run_then {more = more} {t = t} (runs a es h ps others o r s same found sec tail) run =
       run_steps (let e : r.steps + (s + t) ≡ (r.steps + s) + t = omega arith in e)
-        (runs a _ h (ps ++ more) (others ++ more) o r (s + t)
-          record { weighed = λ f. let p = same.weighed f in let q = weight_append f ps more in let u = weight_append f others more in omega arith }
-          found sec
-          (run_same (r.listed ++ (others ++ more)) record { weighed = λ f. let p = weight_append f (r.listed ++ others) more in let p1 = weight_append f r.listed others in let p2 = weight_append f others more in let p3 = weight_append f r.listed (others ++ more) in omega arith } (run_then tail run)))
+      (runs a _ h (ps ++ more) (others ++ more) o r (s + t)
+      record { weighed = λ f. let p = same.weighed f in let q = weight_append f ps more in let u = weight_append f others more in omega arith }
+      found sec
+      (run_same (r.listed ++ (others ++ more)) record { weighed = λ f. let p = weight_append f (r.listed ++ others) more in let p1 = weight_append f r.listed others in let p2 = weight_append f others more in let p3 = weight_append f r.listed (others ++ more) in omega arith } (run_then tail run)))
 
   -- a run, and then a run from where it ended
   run_after : {mid last : List Object} {rest end es fs : List Invocation} {s t : ℕ} {h : List Object} {ps : List Invocation} → PendingRun p frozen mid rest es h ps s → PendingRun p frozen last end fs mid rest t → PendingRun p frozen last end (es ++ fs) h ps (s + t)

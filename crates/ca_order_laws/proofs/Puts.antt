@@ -1,5 +1,5 @@
 -- A put to a written field changes no other: the step of the frames of a serial run, and of a section's constants.
-use Rattle.std.proofs.Common.{◌≡◌, ℕ, zero, suc, List, [], ◌∷◌, Option, Some, None, refl, ap, sym, subst, ◌∙◌, arith}
+use Rattle.std.proofs.Common.{◌≡◌, ℕ, zero, suc, List, [], ◌∷◌, refl, ap, sym, subst, ◌∙◌}
 use Rattle.std.specs.Prelude.{slice_get, Contains}
 use Rattle.ca_program.specs.declared.program.ClassId.{ClassId}
 use Rattle.ca_program.specs.declared.program.FieldId.{FieldId}
@@ -9,7 +9,7 @@ use Rattle.ca_model.specs.declared.value.Object.{Object}
 use Rattle.ca_model.specs.Slots.{put_slot}
 use Rattle.ca_model.specs.Heaps.{stored}
 use Rattle.ca_model.specs.Typed.{IsOfClass}
-use Rattle.ca_meaning.specs.Expressions.{slots_in, slot_of}
+use Rattle.ca_meaning.specs.Expressions.{slot_of}
 use Rattle.ca_order_laws.proofs.Likes.{Like}
 
 -- other slots stay

@@ -85,8 +85,8 @@ append_runs p (d ∷ ds) ys w k = from (run_call (operations_of p) [] d w k) (λ
 pub one_more : (p : PlainProgram) (ds : List Invocation) (d : Invocation) (u w v : World) (t n : ℕ) → Reaches (λ k. serial_ops p ds u k) (on_with [] w) t → Reaches (λ k. run_call (operations_of p) [] d w k) (on_with [] v) n → Reaches (λ k. serial_ops p (ds ++ d ∷ []) u k) (on_with [] v) (t + n)
 one_more p ds d u w v t n f g =
     reaches_same (λ k. sym (append_runs p ds (d ∷ []) u k))
-      (reaches_on (λ k. serial_ops p ds u k) (λ ls w k. serial_ops p (d ∷ []) w k) [] w (on_with [] v) t n f
-        (reaches_steps (let e : n + 0 ≡ n = omega arith in e) (reaches_on (λ k. run_call (operations_of p) [] d w k) (λ ls w k. goes_on [] w k) [] v (on_with [] v) n 0 g (stop_reaches [] v))))
+    (reaches_on (λ k. serial_ops p ds u k) (λ ls w k. serial_ops p (d ∷ []) w k) [] w (on_with [] v) t n f
+    (reaches_steps (let e : n + 0 ≡ n = omega arith in e) (reaches_on (λ k. run_call (operations_of p) [] d w k) (λ ls w k. goes_on [] w k) [] v (on_with [] v) n 0 g (stop_reaches [] v))))
 
 -- what two parts of a run have between them
 record Between (a : Flow World) (f : List Datum → World → ℕ → Flow World) (v : World) (left : ℕ) : Type 0 where

@@ -1,6 +1,6 @@
 -- What a complete section is: a run of the body with so many steps, which leaves a typed object with the constants of
 -- the one it began with, and lists well typed calls of the extent.
-use Rattle.std.proofs.Common.{◌≡◌, ℕ, zero, suc, ◌+◌, ◌-◌, ◌<◌, List, [], ◌∷◌, ◌++◌, Option, Some, None, refl, ap, sym, subst, ◌∙◌, arith, true, false, Bool}
+use Rattle.std.proofs.Common.{◌≡◌, ℕ, zero, suc, ◌+◌, ◌-◌, ◌<◌, List, Option, Some, None, refl, ap, sym, subst, ◌∙◌, arith, false}
 use Rattle.std.specs.Prelude.{slice_get, Contains}
 use Rattle.ca_program.specs.declared.program.ClassId.{ClassId}
 use Rattle.ca_program.specs.declared.program.FieldId.{FieldId}
@@ -11,26 +11,23 @@ use Rattle.ca_model.specs.declared.value.Value.TheVariants.{Ref}
 use Rattle.ca_model.specs.declared.value.Slot.{Slot}
 use Rattle.ca_model.specs.declared.value.Object.{Object}
 use Rattle.ca_model.specs.Typed.{TypedHeap}
-use Rattle.ca_meaning.specs.Expressions.{Invocation, invocation, take_step}
-use Rattle.ca_meaning.specs.Flows.{Flow, goes_on, gives_back, stops, runs_out, with, exec_all}
+use Rattle.ca_meaning.specs.Expressions.{Invocation}
+use Rattle.ca_meaning.specs.Flows.{Flow, goes_on, gives_back, stops, runs_out, exec_all}
 use Rattle.ca_meaning.specs.Functions.{body_of, locals_of}
-use Rattle.ca_meaning.specs.Sections.{Section, section_start, section_parts, section_run, Outcome, Sectioned, done, stopped, sectioned, section}
-use Rattle.ca_meaning.specs.Sections as sections
-use Rattle.ca_meaning.specs.WellTyped.{WellTyped, CallTyped, AllWellTyped, IsMethodOf, IsTypedObject}
+use Rattle.ca_meaning.specs.Sections.{Section, section_start, section_parts, section_run, Outcome, done, sectioned, section}
+use Rattle.ca_meaning.specs.WellTyped.{WellTyped, AllWellTyped, IsMethodOf, IsTypedObject}
 use Rattle.ca_meaning.specs.ProgramTyped.{scope_of, MethodTyped, OperationTyped, ProgramTyped}
-use Rattle.ca_meaning_laws.specs.Budgets.{End, on_with, flow_at, Reaches, Reached}
+use Rattle.ca_meaning_laws.specs.Budgets.{on_with, flow_at, Reaches, Reached}
 use Rattle.ca_meaning_laws.specs.Typed.{SectionLeaves}
 use Rattle.ca_meaning_laws.proofs.Steady.{SteadyFlow}
 use Rattle.ca_meaning_laws.proofs.Bigs.{section_run_steady}
 use Rattle.ca_meaning_laws.proofs.SectionTypes.{section_leaves}
-use Rattle.ca_parallel.specs.Bodies.{targets_of_all, calls_of_all}
-use Rattle.ca_parallel.specs.Extents.{Extent, IsExtentOf, operation_body, called, Writes}
+use Rattle.ca_parallel.specs.Bodies.{calls_of_all}
+use Rattle.ca_parallel.specs.Extents.{Extent, IsExtentOf, operation_body, called}
 use Rattle.ca_parallel.specs.Separable.{is_some_of, AreSeparated, Separable}
 use Rattle.ca_order_laws.specs.Pending.{Leaves}
-use Rattle.ca_order_laws.specs.Order.{SeparableExtent}
-use Rattle.ca_order_laws.proofs.Runs.{ends_same, ends_left}
 use Rattle.ca_order_laws.proofs.Kept.{AreKept, all_kept_of}
-use Rattle.ca_order_laws.proofs.Grown.{GrownFlow, grew, grew_over, Grows, all_section_grown}
+use Rattle.ca_order_laws.proofs.Grown.{GrownFlow, grew, grew_over, all_section_grown}
 
 -- ---- so many steps
 
@@ -94,6 +91,7 @@ leaves_steps p h i o m leaves = from m.steps refl
   where
     by : LeavesBy p h i o m
     by = leaves_by p h i o m leaves
+
     from : (n : ℕ) → m.steps ≡ n → 0 < m.steps
     from (suc n) e = omega arith
     from zero e = absurd (none (subst (λ n. section_run p h i o.slots (n + 0) ≡ flow_at (on_with by.locals by.section) 0) e (by.reaches.at 0)))
@@ -104,24 +102,24 @@ leaves_steps p h i o m leaves = from m.steps refl
 -- ---- what it leaves
 
 -- the bodies of an extent put into its written fields and call its operations
-pub body_kept : (p : PlainProgram) (x : Extent) → SeparableExtent p x → (op : OpId) → Contains x.ops op → AreKept x.written x.ops (operation_body p op)
-body_kept p x s op at =
-    all_kept_of p x.written x.ops (operation_body p op) false (s.separable op at)
-      (λ f c. (s.is.written f).1 (record { op = op; invoked = (s.is.ops op).0 at; target = c }))
-      (λ o c. (s.is.ops o).1 (called ((s.is.ops op).0 at) c))
+pub body_kept : (p : PlainProgram) (roots : List OpId) (x : Extent) → IsExtentOf p roots x → (op : OpId) → Contains x.ops op → AreKept x.written x.ops (operation_body p op)
+body_kept p roots x is op at =
+    all_kept_of x.written x.ops (operation_body p op)
+    (λ f c. (is.written f).1 (record { op = op; invoked = (is.ops op).0 at; target = c }))
+    (λ o c. (is.ops o).1 (called ((is.ops op).0 at) c))
 
-module _ (p : PlainProgram) (program : ProgramTyped p) (x : Extent) (separable : SeparableExtent p x) (h : List Object) where
+module _ (p : PlainProgram) (program : ProgramTyped p) (roots : List OpId) (x : Extent) (is : IsExtentOf p roots x) (h : List Object) where
   body_grown : (n r : ℕ) (vs : List Datum) (own : List Slot) (c : ClassId) (m : Option PlainMethod) → slice_get p.ops n ≡ m → IsMethodOf m c → AreSeparated p x.written false (body_of m) → AreKept x.written x.ops (body_of m) → (k : ℕ) → GrownFlow x.written x.ops (Some c) false (is_some_of (calls_of_all (body_of m))) (section_start own) (exec_all (section_parts p h (Ref r)) (locals_of m vs) (section_start own) (body_of m) k)
   body_grown n r vs own c None e of_class a w k = absurd of_class
   body_grown n r vs own c (Some m) e of_class a w k =
       let mt : OperationTyped p m = program.ops n m e in
       let mm : MethodTyped p m = mt.method in
       subst (λ z. GrownFlow x.written x.ops (Some z) false (is_some_of (calls_of_all m.body.statements)) (section_start own) (exec_all (section_parts p h (Ref r)) (locals_of (Some m) vs) (section_start own) m.body.statements k)) of_class
-        (all_section_grown p x.written x.ops h (Ref r) (scope_of m) m.body.statements false mm.body a w (locals_of (Some m) vs) (section_start own) k)
+      (all_section_grown p x.written x.ops h (Ref r) (scope_of m) m.body.statements false mm.body a w (locals_of (Some m) vs) (section_start own) k)
 
-  pub run_grown : (i : Invocation) → Contains x.ops i.op → (c : ClassId) → IsMethodOf (slice_get p.ops i.op.0) c → (own : List Slot) (k : ℕ) → GrownFlow x.written x.ops (Some c) false (is_some_of (calls_of_all (operation_body p i.op))) (section_start own) (section_run p h i own k)
-  run_grown i at c of_class own zero = grew_over (section_start own)
-  run_grown i at c of_class own (suc k) = body_grown i.op.0 i.receiver i.arguments own c (slice_get p.ops i.op.0) refl of_class (separable.separable i.op at) (body_kept p x separable i.op at) k
+  pub run_grown : (i : Invocation) → Contains x.ops i.op → Separable p x.written i.op → (c : ClassId) → IsMethodOf (slice_get p.ops i.op.0) c → (own : List Slot) (k : ℕ) → GrownFlow x.written x.ops (Some c) false (is_some_of (calls_of_all (operation_body p i.op))) (section_start own) (section_run p h i own k)
+  run_grown i at sep c of_class own zero = grew_over (section_start own)
+  run_grown i at sep c of_class own (suc k) = body_grown i.op.0 i.receiver i.arguments own c (slice_get p.ops i.op.0) refl of_class sep (body_kept p roots x is i.op at) k
 
   -- a complete section keeps the object's constants, and lists calls of the extent
   pub record Bounded (o : Object) (m : Outcome) : Type 0 where
@@ -129,17 +127,19 @@ module _ (p : PlainProgram) (program : ProgramTyped p) (x : Extent) (separable :
     pub constants : (f : FieldId) → f.class ≡ o.class → ¬ Contains x.written f → slice_get m.object.slots f.field ≡ slice_get o.slots f.field
     pub inside : (i : Invocation) → Contains m.listed i → Contains x.ops i.op
 
-  pub bounded : (i : Invocation) → Contains x.ops i.op → (o : Object) → IsMethodOf (slice_get p.ops i.op.0) o.class → (m : Outcome) → Leaves p h i o m → Bounded o m
-  bounded i at o of_class m leaves = from (run_grown i at o.class of_class o.slots (m.steps + 0))
+  pub bounded : (i : Invocation) → Contains x.ops i.op → Separable p x.written i.op → (o : Object) → IsMethodOf (slice_get p.ops i.op.0) o.class → (m : Outcome) → Leaves p h i o m → Bounded o m
+  bounded i at sep o of_class m leaves = from (run_grown i at sep o.class of_class o.slots (m.steps + 0))
     where
       by : LeavesBy p h i o m
       by = leaves_by p h i o m leaves
+
       grows : GrownFlow x.written x.ops (Some o.class) false (is_some_of (calls_of_all (operation_body p i.op))) (section_start o.slots) (goes_on by.locals by.section 0) → Bounded o m
       grows (grew _ _ _ g) = record {
         class = ap (λ (q : Object). q.class) by.object;
         constants = λ f e n. ap (λ (q : Object). slice_get q.slots f.field) by.object ∙ g.constants f (ap Some (sym e)) n;
         inside = λ j c. g.inside j (subst (λ l. Contains l j) (by.listed ∙ g.listed) c);
       }
+
       from : GrownFlow x.written x.ops (Some o.class) false (is_some_of (calls_of_all (operation_body p i.op))) (section_start o.slots) (section_run p h i o.slots (m.steps + 0)) → Bounded o m
       from f = grows (subst (λ z. GrownFlow x.written x.ops (Some o.class) false (is_some_of (calls_of_all (operation_body p i.op))) (section_start o.slots) z) (by.reaches.at 0) f)
 

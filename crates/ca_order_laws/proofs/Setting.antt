@@ -1,6 +1,6 @@
 -- The setting of the diamond: sections of a parallel extent in a frozen heap.
-use Rattle.std.proofs.Common.{◌≡◌, ℕ, zero, suc, ◌+◌, ◌<◌, List, [], ◌∷◌, ◌++◌, length, Option, Some, None, refl, ap, sym, subst, ◌∙◌, arith, ◌⊎◌, ⊎_elim}
-use Rattle.std.specs.Prelude.{slice_get, Contains, ◌↔◌}
+use Rattle.std.proofs.Common.{◌≡◌, ℕ, ◌+◌, ◌<◌, List, [], ◌∷◌, length, Option, Some, None, refl, sym, subst, ◌∙◌, arith, ⊎_elim}
+use Rattle.std.specs.Prelude.{slice_get, Contains}
 use Rattle.std.proofs.lemmas.List.Elements.{Contains-push, Contains-push_cases, Contains-append_left, Contains-append_right, Contains-append_cases}
 use Rattle.ca_program.specs.declared.program.ClassId.{ClassId}
 use Rattle.ca_program.specs.declared.program.OpId.{OpId}
@@ -9,7 +9,7 @@ use Rattle.ca_model.specs.declared.value.Object.{Object}
 use Rattle.ca_model.specs.Typed.{IsOfClass, ObjectTyped, TypedHeap}
 use Rattle.ca_meaning.specs.Expressions.{Invocation, invocation, slots_in}
 use Rattle.ca_meaning.specs.Sections.{Outcome, Completes}
-use Rattle.ca_meaning.specs.Multisets.{weight, SameItems}
+use Rattle.ca_meaning.specs.Multisets.{weight}
 use Rattle.ca_meaning.specs.WellTyped.{CallTyped, WellTyped, AllWellTyped, IsMethodOf, IsTypedObject}
 use Rattle.ca_meaning.specs.Agree.{Agree, AgreesAt, HeapsAgree}
 use Rattle.ca_meaning.specs.Commuting.{joined, OrderCompletes, IsComplete, SameOutcome, CommutesOn}
@@ -19,9 +19,8 @@ use Rattle.ca_meaning_laws.proofs.Heaps.{object_kept, object_typed}
 use Rattle.ca_parallel.specs.Extents.{Extent, IsExtentOf}
 use Rattle.ca_parallel.specs.Parallel.{Parallel}
 use Rattle.ca_order_laws.specs.Pending.{Leaves}
-use Rattle.ca_order_laws.specs.Order.{SeparableExtent, StandsFor, AllInside}
-use Rattle.ca_order_laws.proofs.Weights.{Split, Decides, equal, other, is_one, count_of, count_self, count_other, there}
-use Rattle.ca_order_laws.proofs.Places.{one_some}
+use Rattle.ca_order_laws.specs.Order.{StandsFor, AllInside}
+use Rattle.ca_order_laws.proofs.Weights.{Split, Decides, equal, other, is_one, count_of, count_self}
 use Rattle.ca_order_laws.proofs.Decided.{decide_call}
 use Rattle.ca_order_laws.proofs.Diamond.{Swapped, Setting, Fine}
 use Rattle.ca_order_laws.proofs.Sections.{leaves_one, Bounded, bounded, typed_leaves}
@@ -85,14 +84,11 @@ good_object p x frozen h s n o e =
 -- ---- the setting
 
 module _ (p : PlainProgram) (program : ProgramTyped p) (roots : List OpId) (x : Extent) (is : IsExtentOf p roots x) (parallel : Parallel p x) (frozen : List Object) (heap : TypedHeap p frozen) where
-  pub separable_extent : SeparableExtent p x
-  separable_extent = record { roots = roots; is = is; separable = parallel.separable }
-
   pub kept_object : (a : Invocation) (o : Object) (r : Outcome) → GoodCall p x frozen a → GoodObject p x frozen a.receiver o → Leaves p frozen a o r → GoodObject p x frozen a.receiver r.object
   kept_object a o r good ob leaves =
       let of_class : IsMethodOf (slice_get p.ops a.op.0) o.class = method_of p x.written frozen a o ob.agrees good.typed in
-      let b : Bounded p program x separable_extent frozen o r = bounded p program x separable_extent frozen a good.inside o of_class r leaves in
-      let t = typed_leaves p program x separable_extent frozen heap a good.typed o.class of_class o ob.typed r leaves in
+      let b : Bounded p program roots x is frozen o r = bounded p program roots x is frozen a good.inside (parallel.separable a.op good.inside) o of_class r leaves in
+      let t = typed_leaves p program roots x is frozen heap a good.typed o.class of_class o ob.typed r leaves in
       let ag : Agree x.written o ob.agrees.other = ob.agrees.agree in
       record {
         agrees = record { other = ob.agrees.other; there = ob.agrees.there; agree = record { class = b.class ∙ ag.class; constants = λ f e n. b.constants f (e ∙ b.class) n ∙ ag.constants f (e ∙ b.class) n } };
@@ -102,8 +98,8 @@ module _ (p : PlainProgram) (program : ProgramTyped p) (roots : List OpId) (x : 
   pub good_listed : (a : Invocation) (o : Object) (r : Outcome) → GoodCall p x frozen a → GoodObject p x frozen a.receiver o → Leaves p frozen a o r → (i : Invocation) → Split i r.listed → GoodCall p x frozen i
   good_listed a o r good ob leaves i split =
       let of_class : IsMethodOf (slice_get p.ops a.op.0) o.class = method_of p x.written frozen a o ob.agrees good.typed in
-      let b : Bounded p program x separable_extent frozen o r = bounded p program x separable_extent frozen a good.inside o of_class r leaves in
-      let t = typed_leaves p program x separable_extent frozen heap a good.typed o.class of_class o ob.typed r leaves in
+      let b : Bounded p program roots x is frozen o r = bounded p program roots x is frozen a good.inside (parallel.separable a.op good.inside) o of_class r leaves in
+      let t = typed_leaves p program roots x is frozen heap a good.typed o.class of_class o ob.typed r leaves in
       record { inside = b.inside i (taken i r.listed split); typed = well_typed_at p frozen r.listed t.1 i (taken i r.listed split) }
 
   pub swapped : (a b : Invocation) (o : Object) (r q : Outcome) → GoodCall p x frozen a → GoodCall p x frozen b → a.receiver ≡ b.receiver → GoodObject p x frozen a.receiver o → Leaves p frozen a o r → Leaves p frozen b r.object q → Swapped p frozen a b o r q
@@ -112,7 +108,7 @@ module _ (p : PlainProgram) (program : ProgramTyped p) (roots : List OpId) (x : 
       let class_a : IsMethodOf (slice_get p.ops a.op.0) o.class = method_of p x.written frozen a o good.agrees ga.typed in
       let class_b : IsMethodOf (slice_get p.ops b.op.0) o.class = method_of p x.written frozen b o (subst (λ n. AgreesAt x.written o frozen n) e good.agrees) gb.typed in
       let c : CommutesOn p frozen a.receiver o a.op a.arguments b.op b.arguments =
-            parallel.commute a.op b.op ga.inside gb.inside o.class class_a class_b frozen heap a.receiver a.arguments b.arguments ga.typed typed_b o good.typed good.agrees in
+      parallel.commute a.op b.op ga.inside gb.inside o.class class_a class_b frozen heap a.receiver a.arguments b.arguments ga.typed typed_b o good.typed good.agrees in
       let sb2 : Completes p frozen a.receiver r.object b.op b.arguments q = subst (λ n. Completes p frozen n r.object b.op b.arguments q) (sym e) sb in
       let first : OrderCompletes p frozen a.receiver o a.op a.arguments b.op b.arguments (joined r q) = (r, q, sa, sb2, refl) in
       let back : IsComplete p frozen a.receiver o b.op b.arguments a.op a.arguments = c.complete.0 (joined r q, first) in

@@ -1,8 +1,7 @@
 -- Section then list, for a call.
-use Rattle.std.proofs.Common.{◌≡◌, ℕ, zero, suc, ◌+◌, ◌-◌, ◌<◌, List, [], ◌∷◌, Option, Some, None, refl, ap, sym, subst, ◌∙◌, arith}
-use Rattle.std.specs.Prelude.{slice_get, slice_set}
+use Rattle.std.proofs.Common.{◌≡◌, ℕ, suc, ◌+◌, ◌-◌, [], refl, ap, sym, subst, ◌∙◌, arith}
+use Rattle.std.specs.Prelude.{slice_set}
 use Rattle.ca_program.specs.Plain.{PlainProgram}
-use Rattle.ca_model.specs.declared.value.Value.{Value as Datum}
 use Rattle.ca_model.specs.declared.value.Object.{Object}
 use Rattle.ca_meaning.specs.Expressions.{Invocation}
 use Rattle.ca_meaning.specs.Flows.{Flow, goes_on, gives_back, stops, runs_out}
@@ -26,14 +25,14 @@ then_at p w i o v n j r =
     ∙ r.rest.at j
 
 pub section_then_list : SectionThenList
-section_then_list p program x separable w heap i inside well o found k j v = (forth, back)
+section_then_list p program roots x is w heap i inside separable well o found k j v = (forth, back)
   where
     forth : run_call (operations_of p) [] i w k ≡ goes_on [] v j → then_listed p i.receiver w k (section p w.heap i.receiver o i.op i.arguments k) ≡ goes_on [] v j
     forth e =
         let steady : SteadyFlow (suc k) (λ k. run_call (operations_of p) [] i w k) = serial_call_steady p [] i w k in
         let r : Reached (λ k. run_call (operations_of p) [] i w k) (on_with [] v) k j = steady.reached k (omega arith) (on_with [] v) j e in
         subst (λ n. then_listed p i.receiver w n (section p w.heap i.receiver o i.op i.arguments n) ≡ goes_on [] v j) (sym r.is)
-          (then_at p w i o v r.s j (call_first p program x separable w heap i inside o found well v r.s r.reaches))
+        (then_at p w i o v r.s j (call_first p program roots x is w heap i inside separable o found well v r.s r.reaches))
 
     from : (f : Flow Section) → section_run p w.heap i o.slots k ≡ f → then_listed p i.receiver w k (sectioned o.class k f) ≡ goes_on [] v j → run_call (operations_of p) [] i w k ≡ goes_on [] v j
     from (goes_on ls u left) e q =
@@ -42,7 +41,7 @@ section_then_list p program x separable w heap i inside well o found k j v = (fo
         let after : World = in_heap w (slice_set w.heap i.receiver (object_with o u.own)) in
         let steady2 : SteadyFlow (suc (k - (k - left))) (λ k. serial_ops p u.listed after k) = serial_ops_steady p u.listed after (k - (k - left)) in
         let b : Reached (λ k. serial_ops p u.listed after k) (on_with [] v) (k - (k - left)) j = steady2.reached (k - (k - left)) (omega arith) (on_with [] v) j q in
-        let call : Reaches (λ k. run_call (operations_of p) [] i w k) (on_with [] v) (a.s + b.s) = call_then p program x separable w heap i inside o found well ls u a.s v b.s a.reaches b.reaches in
+        let call : Reaches (λ k. run_call (operations_of p) [] i w k) (on_with [] v) (a.s + b.s) = call_then p program roots x is w heap i inside separable o found well ls u a.s v b.s a.reaches b.reaches in
         let is1 = a.is in let is2 = b.is in
         ap (λ n. run_call (operations_of p) [] i w n) (let z : k ≡ (a.s + b.s) + j = omega arith in z) ∙ call.at j
     from (gives_back u s left) e q = cc

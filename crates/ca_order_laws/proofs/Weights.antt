@@ -1,6 +1,5 @@
 -- Items of lists that hold the same.
-use Rattle.std.proofs.Common.{◌≡◌, ℕ, zero, suc, ◌+◌, ◌<◌, ◌≤◌, List, [], ◌∷◌, ◌++◌, length, Option, Some, None, refl, ap, sym, ◌∙◌, arith, ◌≢◌}
-use Rattle.std.specs.Prelude.{slice_get, slice_set}
+use Rattle.std.proofs.Common.{◌≡◌, ℕ, ◌+◌, ◌<◌, List, [], ◌∷◌, ◌++◌, refl, ap, sym, arith, ◌≢◌}
 use Rattle.ca_meaning.specs.Multisets.{weight, SameItems}
 
 pub weight_append : {A : Type 0} (g : A → ℕ) (l m : List A) → weight g (l ++ m) ≡ weight g l + weight g m
@@ -44,13 +43,6 @@ module _ {A : Type 0} (decide : (x y : A) → Decides x y) where
 
   pub count_self : (x : A) → count_of x x ≡ 1
   count_self x = one_self x (decide x x)
-
-  none_other : {x y : A} (d : Decides x y) → x ≢ y → is_one d ≡ 0
-  none_other (equal e) n = absurd (n e)
-  none_other (other n) m = refl
-
-  pub count_other : (x y : A) → x ≢ y → count_of x y ≡ 0
-  count_other x y ne = none_other (decide x y) ne
 
   two_from : (a b : A) (xs ys : List A) → Decides a b → SameItems (a ∷ xs) (b ∷ ys) → Two a b xs ys
   two_from a b xs ys (equal e) s = one e record { weighed = λ g. let p = s.weighed g in let q = ap g e in omega arith }

@@ -1,5 +1,5 @@
 -- The laws of order as statements.
-use Rattle.std.specs.Prelude.{◌≡◌, ◌≤◌, ◌↔◌, ◌+◌, ◌-◌, ℕ, true, List, [], ◌∷◌, ◌++◌, Some, None, slice_get, slice_set, Contains}
+use Rattle.std.specs.Prelude.{◌≡◌, ◌≤◌, ◌↔◌, ◌+◌, ◌-◌, ℕ, true, List, [], ◌∷◌, ◌++◌, Some, slice_get, slice_set, Contains}
 use Rattle.ca_program.specs.declared.program.OpId.{OpId}
 use Rattle.ca_program.specs.declared.program.ClassId.{ClassId}
 use Rattle.ca_program.specs.Plain.{PlainProgram, Statement}
@@ -22,12 +22,6 @@ use Rattle.ca_parallel.specs.Calls.{RunsTo}
 use Rattle.ca_parallel.specs.Parallel.{Parallel}
 use Rattle.ca_order_laws.specs.Pending.{Leaves, PendingRun, CompleteRun}
 
--- an extent of separable operations
-pub record SeparableExtent (p : PlainProgram) (x : Extent) : Type 0 where
-  pub roots : List OpId
-  pub is : IsExtentOf p roots x
-  pub separable : (op : OpId) → Contains x.ops op → Separable p x.written op
-
 -- A heap that stands for the frozen one: typed, with the same objects but for the fields that the extent writes.
 pub record StandsFor (p : PlainProgram) (x : Extent) (frozen h : List Object) : Type 0 where
   pub heap : TypedHeap p h
@@ -36,9 +30,8 @@ pub record StandsFor (p : PlainProgram) (x : Extent) (frozen h : List Object) : 
 -- A section reads constants of the frozen heap alone: any heap that stands for it serves as well.
 abbrev pub AnyFrozenHeap : Type 0
 AnyFrozenHeap =
-    (p : PlainProgram) → ProgramTyped p → (x : Extent) → SeparableExtent p x →
-    (frozen h : List Object) → TypedHeap p frozen → StandsFor p x frozen h →
-    (i : Invocation) → Contains x.ops i.op → WellTyped p frozen i →
+    (p : PlainProgram) → ProgramTyped p → (x : Extent) (frozen h : List Object) → TypedHeap p frozen → StandsFor p x frozen h →
+    (i : Invocation) → Separable p x.written i.op → WellTyped p frozen i →
     (c : ClassId) → IsMethodOf (slice_get p.ops i.op.0) c → (o : Object) → IsTypedObject p frozen c o →
     (k : ℕ) → section p h i.receiver o i.op i.arguments k ≡ section p frozen i.receiver o i.op i.arguments k
 
@@ -73,8 +66,8 @@ OneEnd =
     (is : List Invocation) → AllWellTyped p frozen is → AllInside x is →
     (last end : List Object) (s t : ℕ) → CompleteRun p frozen h is last s → CompleteRun p frozen h is end t → (last ≡ end) × (s ≡ t)
 
--- What a run leaves can be finished exactly where all can: after a run that leaves operations waiting, there is again
--- a complete run, to the same heap, with the steps that are left.
+-- Where there is a complete run, there is one again behind any run that leaves operations waiting, to the same heap,
+-- with the steps that are left.
 abbrev pub Finishes : Type 0
 Finishes =
     (p : PlainProgram) → ProgramTyped p → (roots : List OpId) (x : Extent) → IsExtentOf p roots x → Parallel p x →
@@ -83,12 +76,12 @@ Finishes =
     (mid : List Object) (rest order : List Invocation) (s : ℕ) → PendingRun p frozen mid rest order h is s →
     (last : List Object) (t : ℕ) → CompleteRun p frozen h is last t → (left : ℕ) × CompleteRun p frozen mid rest last left × (t ≡ s + left)
 
--- The serial run of a call is done exactly where its section on the receiver's object, put back, and then the run of
--- what it lists is, and both end alike.
+-- The serial run of a call of a separable operation is done exactly where its section on the receiver's object, put
+-- back, and then the run of what it lists is, and both end alike. What it calls need not be separable.
 abbrev pub SectionThenList : Type 0
 SectionThenList =
-    (p : PlainProgram) → ProgramTyped p → (x : Extent) → SeparableExtent p x →
-    (w : World) → TypedHeap p w.heap → (i : Invocation) → Contains x.ops i.op → WellTyped p w.heap i →
+    (p : PlainProgram) → ProgramTyped p → (roots : List OpId) (x : Extent) → IsExtentOf p roots x →
+    (w : World) → TypedHeap p w.heap → (i : Invocation) → Contains x.ops i.op → Separable p x.written i.op → WellTyped p w.heap i →
     (o : Object) → slice_get w.heap i.receiver ≡ Some o → (k j : ℕ) (v : World) →
     (run_call (operations_of p) [] i w k ≡ goes_on [] v j) ↔ (then_listed p i.receiver w k (section p w.heap i.receiver o i.op i.arguments k) ≡ goes_on [] v j)
 
@@ -102,7 +95,7 @@ then_looped p w budget loop_over = runs_out w
 -- the extent doesn't write: it changes no object itself.
 abbrev pub LoopThenList : Type 0
 LoopThenList =
-    (p : PlainProgram) → ProgramTyped p → (x : Extent) → SeparableExtent p x →
+    (p : PlainProgram) → ProgramTyped p → (roots : List OpId) (x : Extent) → IsExtentOf p roots x →
     (loop : Statement) → IsCallLoop loop → ((op : OpId) → Contains (calls_of loop) op → Contains x.ops op) → IsSeparated p x.written true loop →
     (s : Scope) (this : Datum) (line : ℕ) (ls : List Datum) (w : World) → StatementTyped p s loop → WorldTyped p s this w → ValuesTyped w.heap ls s.locals →
     (k j : ℕ) (ms : List Datum) (v : World) →
@@ -121,3 +114,13 @@ Rounds =
     (p : PlainProgram) (frozen h mid last : List Object) (is rest waiting first second : List Invocation) (s t : ℕ) →
     PendingRun p frozen mid rest first h is s → PendingRun p frozen last waiting second mid rest t →
     PendingRun p frozen last waiting (first ++ second) h is (s + t)
+
+-- What a run leaves is as good as what it began with: its heap stands for the frozen one, and what waits is well typed
+-- and of the extent.
+abbrev pub RunsStay : Type 0
+RunsStay =
+    (p : PlainProgram) → ProgramTyped p → (roots : List OpId) (x : Extent) → IsExtentOf p roots x → Parallel p x →
+    (frozen h : List Object) → TypedHeap p frozen → StandsFor p x frozen h →
+    (is : List Invocation) → AllWellTyped p frozen is → AllInside x is →
+    (mid : List Object) (rest order : List Invocation) (s : ℕ) → PendingRun p frozen mid rest order h is s →
+    StandsFor p x frozen mid × AllWellTyped p frozen rest × AllInside x rest

@@ -1,6 +1,6 @@
 //! The laws of order.
 
-ghost use Rattle.ca_order_laws.specs.Order.{AnyFrozenHeap, DepthFirst, Diamond, Finishes, LoopThenList, OneEnd, Rounds, SectionThenList};
+ghost use Rattle.ca_order_laws.specs.Order.{AnyFrozenHeap, DepthFirst, Diamond, Finishes, LoopThenList, OneEnd, Rounds, RunsStay, SectionThenList};
 
 /// A section reads constants of the frozen heap alone, so whoever runs sections may keep any heap that
 /// stands for the frozen one.
@@ -22,6 +22,12 @@ pub fn all_complete_runs_end_alike()
 /// middle may be followed by any other.
 pub fn any_run_can_be_completed()
     ensures { Finishes }
+{}
+
+/// Whatever a run leaves may be asked all this again: its heap stands for the frozen one, and what waits is well typed
+/// and of the extent. An engine carries no types of its own.
+pub fn runs_stay_in_the_extent()
+    ensures { RunsStay }
 {}
 
 /// A run, and then a run from where it ended, are one run, so an engine may go in rounds.
