@@ -108,9 +108,9 @@ fn add_numbers(callees: Callees, s: &Stmt, out: &mut Vec<u32>) -> Result<(), All
             add_numbers(callees, yes, out)?;
             add_numbers(callees, no, out)?;
         }
-        StmtForm::While(cond, body) => {
+        StmtForm::While(cond, turn) => {
             add_called(callees, cond, out)?;
-            add_numbers(callees, body, out)?;
+            add_numbers(callees, turn, out)?;
         }
         StmtForm::For(_, _, first, cond, next, body) => {
             add_numbers(callees, first, out)?;
