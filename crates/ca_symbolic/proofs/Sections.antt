@@ -1,4 +1,4 @@
--- Sections of the small form: each is complete, lists nothing, and puts its object back into the heap.
+-- Sections of the small form: each is complete and lists nothing.
 use Rattle.std.proofs.Common.{◌≡◌, ℕ, zero, suc, ◌-◌, List, [], ◌∷◌, Some, refl, ap, sym, ◌∙◌, arith, slice_set}
 use Rattle.std.specs.Prelude.{slice_get}
 use Rattle.ca_tree.specs.declared.tree.AssignOp.TheVariants.{Put}
@@ -54,58 +54,3 @@ section_is p typed h r o op xs k =
     ap (λ ls. sectioned o.class (suc k) (exec_all (section_parts p h (Ref r)) ls (section_start o.slots) body k)) (b.locals xs)
     ∙ ap (sectioned o.class (suc k)) run
     ∙ ap (λ n. done record { object = after_body p o op xs; listed = []; steps = n }) (one_step k)
-
-set_self : (h : List Object) (r : ℕ) (o : Object) → slice_get h r ≡ Some o → slice_set h r o ≡ h
-set_self [] r o e = refl
-set_self (x ∷ h) zero o e = let same : x ≡ o = cc in ap (λ z. z ∷ h) (sym same)
-set_self (x ∷ h) (suc r) o e = ap (λ z. x ∷ z) (set_self h r o e)
-
-set_again : (h : List Object) (r : ℕ) (o q : Object) → slice_set (slice_set h r o) r q ≡ slice_set h r q
-set_again [] r o q = refl
-set_again (x ∷ h) zero o q = refl
-set_again (x ∷ h) (suc r) o q = ap (λ z. x ∷ z) (set_again h r o q)
-
-get_set : (h : List Object) (r : ℕ) (o q : Object) → slice_get h r ≡ Some o → slice_get (slice_set h r q) r ≡ Some q
-get_set [] r o q e = cc
-get_set (x ∷ h) zero o q e = refl
-get_set (x ∷ h) (suc r) o q e = get_set h r o q e
-
-abbrev with_slots : Object → List Slot → Object
-with_slots o slots = record { class = o.class; slots = slots }
-
-module _ (p : PlainProgram) (ops : Operations) (w : World) (r : ℕ) (c : ClassId) (fs : List FieldInfo) (tys : List ValueType) (ls : List Datum) (k : ℕ) where
-  -- puts on object r of a heap are puts on the object alone, put back
-  pub serial_puts : (body : Statements) (h : List Object) (o : Object) → slice_get h r ≡ Some o → PutsTyped c fs tys body
-      → exec_all (operation_parts p ops (Ref r)) ls (in_heap w h) body k ≡ goes_on ls (in_heap w (slice_set h r (with_slots o (own_puts o.slots ls body)))) k
-  serial_puts no_statements h o e t = ap (λ z. goes_on ls (in_heap w z) k) (sym (set_self h r o e))
-  serial_puts (statement_and (put_field line f Put v) rest) h o e t =
-      let old : Datum = own_value (in_heap w h) (Ref r) f in
-      let value : value_in p.functions h (Ref r) line ls v k ≡ gives (put_value ls (own_of h (Ref r)) v) k =
-      put_runs c fs tys (functions_of p.functions h).call (place h (Ref r) line ls) k (slice_get fs f.field) v t.1 in
-      let new : Datum = put_value ls o.slots v in
-      let slots : own_of h (Ref r) ≡ o.slots = ap slots_in e in
-      let put : operation_act p (Ref r) line ls (in_heap w h) (put_field line f Put v) k ≡ goes_on ls (in_heap w (slice_set h r (with_slots o (put_slot o.slots f.field 0 new)))) k =
-      ap (λ x. with x (in_heap w h) (λ v k. goes_on ls (in_heap w (put_own h (Ref r) f 0 (assigned Put old v))) k)) value
-      ∙ ap (λ x. goes_on ls (in_heap w (put_own h (Ref r) f 0 x)) k) (put_is old (put_value ls (own_of h (Ref r)) v) ∙ ap (λ x. put_value ls x v) slots)
-      ∙ ap (λ x. goes_on ls (in_heap w x) k) (sym (stored_is h r f.field 0 new o e)) in
-      let next : Object = with_slots o (put_slot o.slots f.field 0 new) in
-      ap (λ x. and_on x (λ ls s k. exec_all (operation_parts p ops (Ref r)) ls s rest k)) put
-      ∙ serial_puts rest (slice_set h r next) next (get_set h r o next e) t.2
-      ∙ ap (λ x. goes_on ls (in_heap w x) k) (set_again h r next (with_slots o (own_puts next.slots ls rest)))
-  serial_puts (statement_and s rest) h o e t = absurd t
-
-less_one : (k : ℕ) → k ≡ suc k - 1
-less_one k = omega arith
-
-pub section_then_list : (p : PlainProgram) → TypedPuts p → (op : OpId) (r : ℕ) (xs : List Datum) (w : World) (o : Object) (k : ℕ) → slice_get w.heap r ≡ Some o
-    → run_call (operations_of p) [] (invocation r op xs) w k ≡ then_listed p r w k (section p w.heap r o op xs k)
-section_then_list p typed op r xs w o zero e = refl
-section_then_list p typed op r xs w o (suc k) e =
-    let b = put_body p typed op in
-    let body : Statements = body_of (slice_get p.ops op.0) in
-    let run : exec_all (operation_parts p (operations k p) (Ref r)) xs w body k ≡ goes_on xs (in_heap w (slice_set w.heap r (after_body p o op xs))) k =
-    serial_puts p (operations k p) w r b.class b.fields b.types xs k body w.heap o e b.puts in
-    ap (λ ls. came_back [] (exec_all (operation_parts p (operations k p) (Ref r)) ls w body k)) (b.locals xs)
-    ∙ ap (came_back []) run
-    ∙ ap (λ n. goes_on [] (in_heap w (slice_set w.heap r (after_body p o op xs))) n) (less_one k)
-    ∙ ap (then_listed p r w (suc k)) (sym (section_is p typed w.heap r o op xs k))

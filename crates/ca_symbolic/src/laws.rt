@@ -1,11 +1,6 @@
-//! Laws of sections and of verdicts.
+//! Laws of verdicts.
 
-ghost use Rattle.ca_symbolic.specs.Laws.{SectionThenList, OneVerdict};
-
-/// The serial run of an operation is its section, put back, and then the run of what it lists.
-pub fn section_then_list()
-    ensures { SectionThenList }
-{}
+ghost use Rattle.ca_symbolic.specs.Laws.{OneVerdict};
 
 /// No pair has two verdicts, so a text that is made of verdicts is determined too.
 pub fn one_verdict()
