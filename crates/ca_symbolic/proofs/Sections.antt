@@ -1,5 +1,5 @@
 -- Sections of the small form: each is complete and lists nothing.
-use Rattle.std.proofs.Common.{◌≡◌, ℕ, zero, suc, ◌-◌, List, [], ◌∷◌, Some, refl, ap, sym, ◌∙◌, arith, slice_set}
+use Rattle.std.proofs.Common.{◌≡◌, ℕ, suc, ◌-◌, List, [], refl, ap, ◌∙◌, arith}
 use Rattle.std.specs.Prelude.{slice_get}
 use Rattle.ca_tree.specs.declared.tree.AssignOp.TheVariants.{Put}
 use Rattle.ca_program.specs.declared.program.ClassId.{ClassId}
@@ -10,16 +10,13 @@ use Rattle.ca_program.specs.Plain.{PlainProgram, Statements, put_field, no_state
 use Rattle.ca_model.specs.declared.value.Value.{Value as Datum}
 use Rattle.ca_model.specs.declared.value.Value.TheVariants.{Ref}
 use Rattle.ca_model.specs.declared.value.Object.{Object}
-use Rattle.ca_model.specs.declared.value.Slot.{Slot}
 use Rattle.ca_model.specs.Slots.{put_slot}
-use Rattle.ca_model.proofs.Stores.{stored_is}
 use Rattle.ca_small.specs.TypedPuts.{PutsTyped, TypedPuts}
 use Rattle.ca_meaning.specs.Operators.{assigned}
-use Rattle.ca_meaning.specs.Expressions.{gives, one_in, slots_in, invocation}
+use Rattle.ca_meaning.specs.Expressions.{gives, one_in}
 use Rattle.ca_meaning.specs.Flows.{goes_on, and_on, with, exec_all}
-use Rattle.ca_meaning.specs.Functions.{place, own_of, body_of, functions_of, value_in}
-use Rattle.ca_meaning.specs.Serial.{World, in_heap, Operations, operations, operations_of, operation_parts, operation_act, own_value, put_own, came_back, run_call}
-use Rattle.ca_meaning.specs.Sections.{Section, Outcome, done, with_own, section_place, section_value, section_act, section_parts, section_start, sectioned, section, then_listed}
+use Rattle.ca_meaning.specs.Functions.{body_of, functions_of}
+use Rattle.ca_meaning.specs.Sections.{Section, Outcome, done, with_own, section_place, section_value, section_act, section_parts, section_start, sectioned, section}
 use Rattle.ca_symbolic.proofs.Puts.{put_value, own_puts, after_body, put_runs, put_is, put_body}
 
 module _ (p : PlainProgram) (h : List Object) (this : Datum) (c : ClassId) (fs : List FieldInfo) (tys : List ValueType) (ls : List Datum) (k : ℕ) where
