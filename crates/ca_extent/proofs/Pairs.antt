@@ -1,9 +1,8 @@
 -- The order of pairs of numbers.
-use Rattle.std.proofs.Common.{◌≡◌, ◌⊎◌, inl, inr, ℕ, ◌<◌, ◌&&◌, Bool, true, false, eqb, List, length, get_or, Some, Ordering, Less, Equal, Greater, suc, ◌+◌, refl, ap, ap₂, sym, ◌∙◌, subst, arith, rules}
+use Rattle.std.proofs.Common.{◌≡◌, inl, inr, ℕ, ◌<◌, ◌&&◌, Bool, true, false, eqb, List, get_or, Ordering, Less, Greater, suc, refl, ap₂, subst, arith, rules}
 use Rattle.std.specs.Cmp.{IsTotalOrder, IsEquivalence, ranks, nat_cmp_total, then_total, on_total, and_equiv, on_equiv, both_tied}
 use Rattle.std.specs.Ordering.{nat_cmp, is_eq, ordering_then, eq_by_cmp, MatchOrdering}
 use Rattle.std.specs.List.Sorted.{IsStrictlySortedBy}
-use Rattle.std.specs.Prelude.{slice_get}
 use Rattle.std.proofs.lemmas.Cmp.{by_ranked}
 use Rattle.std.proofs.lemmas.Map.Keys.{Less-from_sorted}
 use Rattle.std.proofs.lemmas.Option.{slice_get_within, get_or_from_slice_get}

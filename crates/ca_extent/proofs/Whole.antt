@@ -1,5 +1,5 @@
 -- The extent, put together from what the work lists reach.
-use Rattle.std.proofs.Common.{◌≡◌, inl, inr, ℕ, suc, ◌+◌, ◌<◌, List, map, length, get_or, Some, refl, sym, ap, ◌∙◌, subst, arith}
+use Rattle.std.proofs.Common.{◌≡◌, inl, inr, ℕ, suc, ◌+◌, ◌<◌, List, map, length, get_or, Some, sym, ap, ◌∙◌, subst, arith}
 use Rattle.std.specs.Prelude.{Contains, flat_map, slice_get}
 use Rattle.std.specs.List.Sorted.{IsStrictlyIncreasing}
 use Rattle.std.proofs.lemmas.List.{length-map, get_or-map}
@@ -10,7 +10,7 @@ use Rattle.ca_program.specs.declared.program.OpId.{OpId}
 use Rattle.ca_program.specs.Plain.{PlainProgram}
 use Rattle.ca_meaning.specs.Functions.{body_of}
 use Rattle.ca_parallel.specs.Bodies.{calls_of_all, targets_of_all, functions_of_body}
-use Rattle.ca_parallel.specs.Extents.{operation_body, function_body, Invokes, root, called, Evaluates, by_operation, by_function, Writes, Extent}
+use Rattle.ca_parallel.specs.Extents.{operation_body, function_body, Invokes, root, called, Evaluates, by_operation, by_function, Writes}
 use Rattle.ca_parallel.specs.ExtentsOf.{Rises, OpBefore, FunctionBefore, FieldBefore, ExtentOf}
 use Rattle.ca_extent.specs.declared.numbers.Callees.TheVariants.{Operations, Functions}
 use Rattle.ca_extent.specs.Ids.{op_number, op_of, function_of, field_of}

@@ -1,7 +1,7 @@
 -- What is reached from some numbers, where each number leads to others.
 use Rattle.std.specs.Prelude.{ℕ, ◌≡◌, ◌<◌, ◌↔◌, ◌++◌, Bool, true, false, List, length, slice_index, slice_index_or, slice_set, slice_get, Contains}
 use Rattle.std.specs.List.Sorted.{IsStrictlyIncreasing}
-use Rattle.ca_program.specs.Plain.{PlainMethod, Statements}
+use Rattle.ca_program.specs.Plain.{PlainMethod}
 use Rattle.ca_meaning.specs.Functions.{body_of}
 use Rattle.ca_extent.specs.declared.numbers.Callees.{Callees}
 use Rattle.ca_extent.specs.Numbers.{numbers_of_all}

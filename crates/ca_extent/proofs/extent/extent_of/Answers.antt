@@ -1,4 +1,4 @@
-use Rattle.std.proofs.Common.{◌≡◌, map, sym, ap, ◌∙◌}
+use Rattle.std.proofs.Common.{◌≡◌, map, ap, ◌∙◌}
 use Rattle.std.specs.Prelude.{flat_map}
 use Rattle.ca_program.specs.View.{method_view, program_view}
 use Rattle.ca_extent.specs.declared.numbers.Callees.TheVariants.{Operations, Functions}

@@ -1,4 +1,4 @@
-use Rattle.std.proofs.Common.{[], ◌∷◌, refl, arith, map}
+use Rattle.std.proofs.Common.{refl, arith, map}
 use Rattle.std.specs.Prelude.{flat_map}
 use Rattle.ca_program.specs.View.{method_view}
 use Rattle.ca_extent.specs.Targets.{written_at}

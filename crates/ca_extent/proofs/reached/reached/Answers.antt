@@ -1,4 +1,4 @@
-use Rattle.std.proofs.Common.{◌≡◌, List, [], length, map, sym, ap, ◌∙◌, arith, None}
+use Rattle.std.proofs.Common.{length, map, ap, ◌∙◌, arith}
 use Rattle.std.proofs.lemmas.List.{length-replicate, length-map}
 use Rattle.std.proofs.lemmas.Option.{slice_get_past}
 use Rattle.ca_program.specs.View.{method_view}

@@ -1,5 +1,4 @@
-use Rattle.std.proofs.Common.{◌≡◌, ◌≤◌, length, take, refl, ap, arith, subst}
-use Rattle.std.specs.Prelude.{Contains}
+use Rattle.std.proofs.Common.{◌≡◌, ◌≤◌, length, take, refl, ap, arith}
 use Rattle.std.proofs.lemmas.List.{take_all}
 use Rattle.ca_parallel.specs.Extents.{Extent}
 use Rattle.ca_extent.proofs.extent.Extent.is_constant.Goals as goal
