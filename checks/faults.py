@@ -130,11 +130,11 @@ FAULTS = [
     ("E21", "class", OUTSIDE, ["class w; class v { public: ^w *x; };", "class v { public: void x() { ^w *v; } };"]),
     ("E21", "parameter", OUTSIDE, ["^Unknown *p", "^Unknown *p, long p", "^zn *p"]),
     ("E21", "member", OUTSIDE, [
-        "^Unknown *u;", "^Unknown *u[0];", "^Unknown *u, *v;", "^Unknown *u() { return nullptr; }",
+        "^Unknown *u;", "^Unknown *u[0];", "^Unknown *u, *w;", "^Unknown *u() { return nullptr; }",
         "^Unknown *u() { }",
     ]),
     ("E22", "member", OUTSIDE, [
-        "long u; bool ^u;", "long u, ^u;", "Z *u, *v, *^u;", "long u; void ^u() { }", "void u() { } long ^u;",
+        "long u; bool ^u;", "long u, ^u;", "Z *u, *w, *^u;", "long u; void ^u() { }", "void u() { } long ^u;",
         "void u() { } void ^u(long p) { }", "long u() { return 1; } void ^u() { }", "long u; Z *^u() { }",
         "long u, ^u[0];",
     ]),
@@ -251,11 +251,11 @@ FAULTS = [
     ("E32", "expression", MAIN, ["^this", "^this->zn", "^this->zv(x, b)", "(^this)->zq[0]"]),
     ("E32", "assignment", MAIN, ["^this->zn = x", "^this->zs[0]++", "z = ^this"]),
     ("E32", "call", MAIN, ["^this->zo(x, b)", "z->zo(x, ^this)"]),
-    ("E33", "member", OUTSIDE, ["long ^u[0];", "bool v, ^u[0], w[0];", "Z *v[1], *^u[0];"]),
+    ("E33", "member", OUTSIDE, ["long ^u[0];", "bool w, ^u[0], wide[0];", "Z *w[1], *^u[0];"]),
     ("E54", "member", OUTSIDE, [f"void u({PARAMETERS}, long ^{p}) {{ }}" for p in ("q", "p0")]),
-    ("E55", "member", OUTSIDE, [f"void u(long p) {{ {MANY_LOCALS} bool ^{v}; }}" for v in ("w", "v0", "p")]),
+    ("E55", "member", OUTSIDE, [f"void u(long p) {{ {MANY_LOCALS} bool ^{w}; }}" for w in ("w", "v0", "p")]),
     ("E56", "member", OUTSIDE, [
-        "long ^u[1000001];", "Z *v, *^u[9223372036854775807];", "long u; bool ^u[1000001];",
+        "long ^u[1000001];", "Z *w, *^u[9223372036854775807];", "long u; bool ^u[1000001];",
     ]),
 ]
 
