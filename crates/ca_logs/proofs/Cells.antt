@@ -1,5 +1,5 @@
 -- What a log of legal histories says of all its entries, and of those at one object.
-use Rattle.std.proofs.Common.{◌≡◌, ◌≢◌, ℕ, zero, suc, ◌+◌, ◌<◌, List, [], ◌∷◌, ◌++◌, filter, flat_map, nat_eq, Option, Some, None, is_none, refl, ap, sym, subst, ◌∙◌, arith, append-nil}
+use Rattle.std.proofs.Common.{◌≡◌, ℕ, zero, suc, ◌+◌, ◌<◌, List, [], ◌∷◌, ◌++◌, nat_eq, Option, Some, None, is_none, refl, ap, sym, subst, ◌∙◌, arith, append-nil}
 use Rattle.std.specs.Prelude.{slice_get}
 use Rattle.std.proofs.lemmas.List.Elements.{filter-append}
 use Rattle.ca_program.specs.Plain.{PlainProgram}
@@ -78,8 +78,8 @@ module _ (p : PlainProgram) (frozen : List Object) where
       let t : Told p frozen i 0 l.ran = told p frozen i l.sections in
       let mine : at n l.ran ≡ l.ran = subst (λ m. at m l.ran ≡ l.ran) here t.mine in
       let is : at n (ran_in (entries_of (log ∷ cells))) ≡ l.ran =
-            ap (λ es. at n es) (first_cell i log cells l) ∙ at_append n l.ran (ran_in (entries_of cells))
-            ∙ ap (λ es. at n l.ran ++ es) (none_below n (omega arith) more) ∙ append-nil (at n l.ran) ∙ mine in
+      ap (λ es. at n es) (first_cell i log cells l) ∙ at_append n l.ran (ran_in (entries_of cells))
+      ∙ ap (λ es. at n l.ran ++ es) (none_below n (omega arith) more) ∙ append-nil (at n l.ran) ∙ mine in
       subst (λ es. Cellwise n (Some log.opened) es (Some log.object)) (sym is) record {
         remains = from_object log.opened log.object 0 l.clock l.ran (subst (λ m. Ran p frozen m log.opened 0 l.ran log.object l.clock) here l.sections);
         in_order = subst (λ es. ordered es ≡ es) mine (settled n l.ran t.climb);
@@ -87,6 +87,6 @@ module _ (p : PlainProgram) (frozen : List Object) where
   cellwise n (suc k) e (cell i log cells l more) =
       let t : Told p frozen i 0 l.ran = told p frozen i l.sections in
       let is : at n (ran_in (entries_of (log ∷ cells))) ≡ at n (ran_in (entries_of cells)) =
-            ap (λ es. at n es) (first_cell i log cells l) ∙ at_append n l.ran (ran_in (entries_of cells))
-            ∙ ap (λ es. es ++ at n (ran_in (entries_of cells))) (t.no_other n (λ q. absurd (omega arith))) in
+      ap (λ es. at n es) (first_cell i log cells l) ∙ at_append n l.ran (ran_in (entries_of cells))
+      ∙ ap (λ es. es ++ at n (ran_in (entries_of cells))) (t.no_other n (λ q. absurd (omega arith))) in
       subst (λ es. Cellwise n (slice_get (opened_of cells) k) es (slice_get (objects_of cells) k)) (sym is) (cellwise n k (omega arith) more)

@@ -1,6 +1,6 @@
--- Worked examples: a log of two objects whose operations call each other, one with a section that stopped, and one that
--- lost a call.
-use Rattle.std.proofs.Common.{◌≡◌, ◌<◌, ℕ, zero, suc, List, [], ◌∷◌, Some, None, refl, ap, sym, subst, arith, codes, pos}
+-- Worked examples: a log of two objects whose operations call each other, one with a section that stopped, one that lost
+-- a call, and one whose operations call each other out of nothing.
+use Rattle.std.proofs.Common.{◌≡◌, ◌<◌, ℕ, zero, suc, List, [], ◌∷◌, Some, None, refl, subst, arith, codes, pos, sym}
 use Rattle.std.proofs.lemmas.Int.{ints}
 use Rattle.std.specs.Prelude.{Contains, FitsSigned, slice_get}
 use Rattle.std.specs.Int.{w64}
@@ -14,19 +14,27 @@ use Rattle.ca_model.specs.declared.value.Value.TheVariants.{Long, Ref}
 use Rattle.ca_model.specs.declared.value.Slot.TheVariants.{One}
 use Rattle.ca_model.specs.declared.value.Object.{Object}
 use Rattle.ca_model.specs.Typed.{IsOfClass}
-use Rattle.ca_meaning.specs.Expressions.{Invocation, invocation}
+use Rattle.ca_meaning.specs.Expressions.{invocation}
 use Rattle.ca_parallel.specs.declared.op.Op.{Op}
-use Rattle.ca_order_laws.specs.Pending.{CompleteRun, PendingRun}
+use Rattle.ca_order_laws.specs.Pending.{CompleteRun}
 use Rattle.ca_logs.specs.declared.log.Task.{Task}
 use Rattle.ca_logs.specs.declared.log.Stop.TheVariants.{Spent}
 use Rattle.ca_logs.specs.declared.log.Entry.{Entry}
 use Rattle.ca_logs.specs.declared.log.CellLog.{CellLog}
-use Rattle.ca_logs.specs.Legal.{Ran, none, and_on, all_ran, one_stuck, TypedAt, LegalCell, LegalLog}
+use Rattle.ca_logs.specs.Legal.{none, and_on, all_ran, one_stuck, TypedAt, LegalCell, LegalLog}
 use Rattle.ca_logs.specs.Balanced.{Balanced}
 use Rattle.ca_logs.specs.LogOrder.{log_order}
+use Rattle.ca_logs.proofs.Climbing.{Owns, owns}
+use Rattle.ca_logs.proofs.Paths.{told, cell_ran}
 use Rattle.ca_logs.proofs.LogRuns.{log_to_run}
 
--- class Node { public: Node *other; long state; void go() { state = 1; other->end(); } void end() { state = 2; } };
+-- class Node {
+-- public:
+--   Node *other; long state;
+--   void go() { state = 1; other->end(); }
+--   void end() { state = 2; }
+--   void turn() { other->turn(); }
+-- };
 abbrev node : ClassId
 node = record { 0 = 0 }
 
@@ -42,6 +50,9 @@ go = record { 0 = 0 }
 abbrev end : OpId
 end = record { 0 = 1 }
 
+abbrev turn : OpId
+turn = record { 0 = 2 }
+
 abbrev method : Statements → PlainMethod
 method ss = record { class = node; name = codes "m"; params = 0; body = record { locals = []; statements = ss }; result = None }
 
@@ -49,7 +60,9 @@ abbrev nodes : PlainProgram
 nodes = record {
   classes = record { name = codes "Node"; fields = record { name = codes "other"; ty = Pointer node; length = None } ∷ record { name = codes "state"; ty = LongType; length = None } ∷ [] } ∷ [];
   ops = method (statement_and (put_field 1 state Put (number (pos 1))) (statement_and (invoke 2 (own other_field) end no_expressions) no_statements))
-      ∷ method (statement_and (put_field 3 state Put (number (pos 2))) no_statements) ∷ [];
+      ∷ method (statement_and (put_field 3 state Put (number (pos 2))) no_statements)
+      ∷ method (statement_and (invoke 4 (own other_field) turn no_expressions) no_statements)
+      ∷ [];
   functions = [];
   main = record { locals = []; statements = no_statements };
 }
@@ -62,7 +75,7 @@ abbrev op_on : ℕ → OpId → Op
 op_on n op = record { receiver = n; op = op; args = [] }
 
 abbrev task_on : ℕ → OpId → ℕ → Task
-task_on n op after = record { op = op_on n op; after = after }
+task_on n op made = record { op = op_on n op; after = made }
 
 -- the section of `go`, which lists the other one's `end`, and that of `end`
 abbrev went : ℕ → ℕ → Entry
@@ -174,3 +187,33 @@ half = record { opened = node_at 0 0; object = node_at 0 1; entries = went 0 0 �
 
 call_is_lost : Balanced (half ∷ []) (task_on 0 go 0 ∷ []) [] → ⊥
 call_is_lost b = let w = b.tasks.weighed (λ t. 1) in absurd (omega arith)
+
+-- ---- two operations that were listed by each other's sections, and by nothing before
+
+-- the section of `turn`, whose task was made at a clock
+
+abbrev turned : ℕ → ℕ → ℕ → ℕ → Entry
+turned n other made clock = record { task = task_on n turn made; clock = clock; steps = 1; invoked = op_on other turn ∷ []; stop = None }
+
+abbrev turned_cell : ℕ → ℕ → ℕ → ℕ → CellLog
+turned_cell n other made clock = record { opened = node_at other 0; object = node_at other 0; entries = turned n other made clock ∷ [] }
+
+abbrev circle : ℕ → ℕ → List CellLog
+circle c d = turned_cell 0 1 d c ∷ turned_cell 1 0 c d ∷ []
+
+-- the log is balanced, whatever the two clocks are
+circle_balanced : (c d : ℕ) → Balanced (circle c d) [] []
+circle_balanced c d = record { tasks = record { weighed = λ f. omega arith }; stuck = λ e i. absurd (no_item e i) }
+
+first_owns : {e : Entry} {es : List Entry} → Owns (e ∷ es) → e.task.after < e.clock
+first_owns (owns e es later more) = later
+
+turned_later : (n other made clock : ℕ) → LegalCell nodes before n (turned_cell n other made clock) → made < clock
+turned_later n other made clock l =
+    first_owns (subst (λ es. Owns es) (sym (cell_ran nodes before n (turned_cell n other made clock) l)) (told nodes before n l.sections).own)
+
+-- but its histories aren't legal: each entry's clock would be greater than the other's
+circle_is_not_legal : (c d : ℕ) → LegalLog nodes before (circle c d) → ⊥
+circle_is_not_legal c d l =
+    let p = turned_later 0 1 d c (l.each 0 (turned_cell 0 1 d c) refl) in
+    let q = turned_later 1 0 c d (l.each 1 (turned_cell 1 0 c d) refl) in absurd (omega arith)

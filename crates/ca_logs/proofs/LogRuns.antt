@@ -1,9 +1,9 @@
 -- A balanced log of legal histories is a run.
-use Rattle.std.proofs.Common.{◌≡◌, ◌≢◌, ℕ, zero, suc, ◌+◌, ◌<◌, List, [], ◌∷◌, ◌++◌, flat_map, Option, Some, None, refl, ap, sym, subst, ◌∙◌, arith}
+use Rattle.std.proofs.Common.{◌≡◌, ℕ, suc, ◌+◌, List, [], ◌∷◌, ◌++◌, flat_map, Option, Some, refl, sym, subst, ◌∙◌, arith}
 use Rattle.std.specs.Prelude.{slice_get, slice_set}
 use Rattle.ca_program.specs.Plain.{PlainProgram}
 use Rattle.ca_model.specs.declared.value.Object.{Object}
-use Rattle.ca_meaning.specs.Multisets.{weight, SameItems}
+use Rattle.ca_meaning.specs.Multisets.{weight}
 use Rattle.ca_meaning.specs.Expressions.{Invocation}
 use Rattle.ca_meaning.specs.Sections.{Completes}
 use Rattle.ca_parallel.specs.Calls.{invocation_of, invocations_of}
@@ -14,14 +14,12 @@ use Rattle.ca_order_laws.proofs.Places.{get_set, get_else}
 use Rattle.ca_order_laws.proofs.PendingRuns.{run_same}
 use Rattle.ca_logs.specs.declared.log.Task.{Task}
 use Rattle.ca_logs.specs.declared.log.Entry.{Entry}
-use Rattle.ca_logs.specs.declared.log.CellLog.{CellLog}
 use Rattle.ca_logs.specs.Entries.{entries_of, ran_in, tasks_in, task_after, listed_by, call_of, task_calls}
-use Rattle.ca_logs.specs.Legal.{outcome_of, RanOn, Ran, none, and_on, LegalLog}
-use Rattle.ca_logs.specs.Balanced.{Balanced}
-use Rattle.ca_logs.specs.LogOrder.{number_of, ordered, log_order}
+use Rattle.ca_logs.specs.Legal.{outcome_of, none, and_on}
+use Rattle.ca_logs.specs.LogOrder.{log_order}
 use Rattle.ca_logs.specs.Laws.{opened_of, objects_of, steps_of, BalancedLogsAreRuns}
 use Rattle.ca_logs.proofs.Tasks.{decide_task, none_listed, weight_map, weight_flat}
-use Rattle.ca_logs.proofs.Climbing.{Owns, Above, Climbs, flat, climbs, all_none}
+use Rattle.ca_logs.proofs.Climbing.{Owns, Climbs, flat, climbs, all_none}
 use Rattle.ca_logs.proofs.Orders.{at, at_here, at_else, weight_ordered, climbs_ordered, at_ordered}
 use Rattle.ca_logs.proofs.Paths.{listed_weight}
 use Rattle.ca_logs.proofs.Cells.{AllLegal, all_legal, owns_all, all_listed, Remains, no_object, from_object, Cellwise, cellwise}
@@ -59,28 +57,30 @@ module _ (p : PlainProgram) (frozen : List Object) where
       PendingRun p frozen last (task_calls rest) (task_calls (tasks_in es)) h (task_calls ts) (steps_of es)
   runs_on [] h last ts rest flat remains level =
       subst (λ g. PendingRun p frozen last (task_calls rest) [] g (task_calls ts) 0) (same_lists last h (λ n. sym (nothing_left n _ _ (remains n))))
-        (rests (task_calls ts) record { weighed = λ f. let w = level (λ (t : Task). f (call_of t)) in let a = weight_map f call_of ts in let b = weight_map f call_of rest in omega arith })
+      (rests (task_calls ts) record { weighed = λ f. let w = level (λ (t : Task). f (call_of t)) in let a = weight_map f call_of ts in let b = weight_map f call_of rest in omega arith })
   runs_on (e ∷ es) h last ts rest (climbs e2 es2 own up more) remains level =
       let x : Task = e.task in
       let n : ℕ = e.task.op.receiver in
       let waits : Split x ts = there decide_task x ts (
-            let w = level (count_of decide_task x) in let self = count_self decide_task x in
-            let z1 = none_listed x e.clock e.invoked own in let z2 = all_none x e.clock es own up in omega arith) in
+      let w = level (count_of decide_task x) in let self = count_self decide_task x in
+      let z1 = none_listed x e.clock e.invoked own in let z2 = all_none x e.clock es own up in omega arith) in
       let l : FirstSection n (slice_get h n) e (at n es) (slice_get last n) =
-            first_section n _ e (at n es) _ (subst (λ l. Remains p frozen n (slice_get h n) l (slice_get last n)) (at_here n e es refl) (remains n)) in
+      first_section n _ e (at n es) _ (subst (λ l. Remains p frozen n (slice_get h n) l (slice_get last n)) (at_here n e es refl) (remains n)) in
       let next : List Object = slice_set h n l.after in
       let others : List Task = waits.others in
       let tail : PendingRun p frozen last (task_calls rest) (task_calls (tasks_in es)) next (task_calls (listed_by e ++ others)) (steps_of es) =
-            runs_on es next last (listed_by e ++ others) rest more
-              (λ m. step m (decide_nat n m) l.found l.rest (remains m))
-              (λ f. let w = level f in let s = waits.same.weighed f in let a = weight_append f (listed_by e) others in omega arith) in
+      runs_on es next last (listed_by e ++ others) rest more
+      (λ m. step m (decide_nat n m) l.found l.rest (remains m))
+      (λ f. let w = level f in let s = waits.same.weighed f in let a = weight_append f (listed_by e) others in omega arith) in
       runs (call_of x) (task_calls (tasks_in es)) h (task_calls ts) (task_calls others) l.before (outcome_of e l.after) (steps_of es)
-        record { weighed = λ f. let s = waits.same.weighed (λ (t : Task). f (call_of t)) in let a = weight_map f call_of ts in let b = weight_map f call_of others in omega arith }
-        l.found l.section
-        (run_same (invocations_of e.invoked ++ task_calls others)
-          record { weighed = λ f.
+      record { weighed = λ f. let s = waits.same.weighed (λ (t : Task). f (call_of t)) in let a = weight_map f call_of ts in let b = weight_map f call_of others in omega arith }
+      l.found l.section
+      (run_same (invocations_of e.invoked ++ task_calls others)
+      record {
+        weighed = λ f.
             let a = weight_append f (invocations_of e.invoked) (task_calls others) in let b = weight_map f call_of (listed_by e ++ others) in
-            let c = weight_append (λ (t : Task). f (call_of t)) (listed_by e) others in let d = listed_calls f e in let q = weight_map f call_of others in omega arith } tail)
+            let c = weight_append (λ (t : Task). f (call_of t)) (listed_by e) others in let d = listed_calls f e in let q = weight_map f call_of others in omega arith;
+      } tail)
     where
       step : {o q : Object} (m : ℕ) → Decides e.task.op.receiver m → slice_get h e.task.op.receiver ≡ Some o →
           Remains p frozen e.task.op.receiver (Some q) (at e.task.op.receiver es) (slice_get last e.task.op.receiver) →
@@ -88,10 +88,10 @@ module _ (p : PlainProgram) (frozen : List Object) where
           Remains p frozen m (slice_get (slice_set h e.task.op.receiver q) m) (at m es) (slice_get last m)
       step {o} {q} m (equal is) found rest old =
           subst (λ k. Remains p frozen k (slice_get (slice_set h e.task.op.receiver q) k) (at k es) (slice_get last k)) is
-            (subst (λ x. Remains p frozen e.task.op.receiver x (at e.task.op.receiver es) (slice_get last e.task.op.receiver)) (sym (get_set h e.task.op.receiver o q found)) rest)
+          (subst (λ x. Remains p frozen e.task.op.receiver x (at e.task.op.receiver es) (slice_get last e.task.op.receiver)) (sym (get_set h e.task.op.receiver o q found)) rest)
       step {o} {q} m (other ne) found rest old =
           subst (λ x. Remains p frozen m x (at m es) (slice_get last m)) (sym (get_else h e.task.op.receiver m q ne))
-            (subst (λ l. Remains p frozen m (slice_get h m) l (slice_get last m)) (at_else m e es ne) old)
+          (subst (λ l. Remains p frozen m (slice_get h m) l (slice_get last m)) (at_else m e es ne) old)
 
 pub log_to_run : BalancedLogsAreRuns
 log_to_run p frozen cells first rest legal balanced =
@@ -99,10 +99,10 @@ log_to_run p frozen cells first rest legal balanced =
     let es : List Entry = ran_in (entries_of cells) in
     let own : Owns es = owns_all p frozen all in
     runs_on p frozen (log_order cells) (opened_of cells) (objects_of cells) first rest (climbs_ordered own)
-      (λ n. let w : Cellwise p frozen n (slice_get (opened_of cells) n) (at n es) (slice_get (objects_of cells) n) = cellwise p frozen n n (omega arith) all in
-            subst (λ l. Remains p frozen n (slice_get (opened_of cells) n) l (slice_get (objects_of cells) n)) (sym (at_ordered n es own ∙ w.in_order)) w.remains)
-      (λ f. let w = balanced.tasks.weighed f in
-            let a = weight_append f (tasks_in es) rest in let b = weight_map f (λ (e : Entry). e.task) es in
-            let c = weight_append f first (flat_map listed_by (entries_of cells)) in let d = weight_flat f listed_by (entries_of cells) in
-            let i = all_listed p frozen f all in
-            let j = weight_ordered (λ (e : Entry). weight f (listed_by e)) es in let k = weight_ordered (λ (e : Entry). f e.task) es in omega arith)
+    (λ n. let w : Cellwise p frozen n (slice_get (opened_of cells) n) (at n es) (slice_get (objects_of cells) n) = cellwise p frozen n n (omega arith) all in
+    subst (λ l. Remains p frozen n (slice_get (opened_of cells) n) l (slice_get (objects_of cells) n)) (sym (at_ordered n es own ∙ w.in_order)) w.remains)
+    (λ f. let w = balanced.tasks.weighed f in
+    let a = weight_append f (tasks_in es) rest in let b = weight_map f (λ (e : Entry). e.task) es in
+    let c = weight_append f first (flat_map listed_by (entries_of cells)) in let d = weight_flat f listed_by (entries_of cells) in
+    let i = all_listed p frozen f all in
+    let j = weight_ordered (λ (e : Entry). weight f (listed_by e)) es in let k = weight_ordered (λ (e : Entry). f e.task) es in omega arith)
