@@ -1,6 +1,6 @@
 -- Worked examples: a log of two objects whose operations call each other, one with a section that stopped, one that lost
 -- a call, and one whose operations call each other out of nothing.
-use Rattle.std.proofs.Common.{◌≡◌, ◌<◌, ℕ, zero, suc, List, [], ◌∷◌, Some, None, refl, subst, arith, codes, pos, sym}
+use Rattle.std.proofs.Common.{◌≡◌, ◌<◌, ℕ, zero, suc, List, [], ◌∷◌, Some, None, refl, ap, sym, ◌∙◌, subst, arith, codes, pos}
 use Rattle.std.proofs.lemmas.Int.{ints}
 use Rattle.std.specs.Prelude.{Contains, FitsSigned, slice_get}
 use Rattle.std.specs.Int.{w64}
@@ -16,6 +16,9 @@ use Rattle.ca_model.specs.declared.value.Object.{Object}
 use Rattle.ca_model.specs.Typed.{IsOfClass}
 use Rattle.ca_meaning.specs.Expressions.{invocation}
 use Rattle.ca_parallel.specs.declared.op.Op.{Op}
+use Rattle.ca_meaning.specs.Agree.{AgreesAt}
+use Rattle.ca_parallel.specs.Separable.{Separable}
+use Rattle.ca_order_laws.proofs.Places.{one_some}
 use Rattle.ca_order_laws.specs.Pending.{CompleteRun}
 use Rattle.ca_logs.specs.declared.log.Task.{Task}
 use Rattle.ca_logs.specs.declared.log.Stop.TheVariants.{Spent}
@@ -217,3 +220,17 @@ circle_is_not_legal : (c d : ℕ) → LegalLog nodes before (circle c d) → ⊥
 circle_is_not_legal c d l =
     let p = turned_later 0 1 d c (l.each 0 (turned_cell 0 1 d c) refl) in
     let q = turned_later 1 0 c d (l.each 1 (turned_cell 1 0 c d) refl) in absurd (omega arith)
+
+-- ---- constants are kept in an extent: that an operation is separable beside some written fields doesn't tell what it writes
+
+end_is_separable : Separable nodes [] end
+end_is_separable = ((tt, tt), tt)
+
+found_agrees : AgreesAt [] (node_at 1 1) (node_at 1 1 ∷ []) 0
+found_agrees = record { other = node_at 1 1; there = refl; agree = record { class = refl; constants = λ f c no. refl } }
+
+left_differs : AgreesAt [] (node_at 1 2) (node_at 1 1 ∷ []) 0 → ⊥
+left_differs a =
+    let same : node_at 1 1 ≡ a.other = one_some (Some (node_at 1 1)) (node_at 1 1) a.other refl a.there in
+    let states : Some (One (Long (pos 2))) ≡ Some (One (Long (pos 1))) = a.agree.constants state refl (no_item state) ∙ ap (λ (o : Object). slice_get o.slots 1) (sym same) in
+    cc

@@ -4,5 +4,7 @@ pub mod Climbing
 pub mod Orders
 pub mod Paths
 pub mod Cells
+pub mod Levels
 pub mod LogRuns
+pub mod Growing
 pub mod Examples

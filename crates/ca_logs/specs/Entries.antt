@@ -1,5 +1,6 @@
--- What entries say: which of them ran and which stopped, and which tasks they listed.
-use Rattle.std.specs.Prelude.{ℕ, List, map, filter, flat_map, is_none, is_some}
+-- What entries say: which of them ran and which stopped, and which tasks they listed; and a history with one entry more.
+use Rattle.std.specs.Prelude.{ℕ, Bool, false, List, [], ◌∷◌, ◌++◌, map, filter, flat_map, Option, Some, None, is_none, is_some}
+use Rattle.ca_model.specs.declared.value.Object.{Object}
 use Rattle.ca_meaning.specs.Expressions.{Invocation}
 use Rattle.ca_parallel.specs.declared.op.Op.{Op}
 use Rattle.ca_parallel.specs.Calls.{invocation_of}
@@ -35,3 +36,28 @@ call_of t = invocation_of t.op
 
 abbrev pub task_calls : List Task → List Invocation
 task_calls ts = map call_of ts
+
+abbrev pub last_of : {A : Type 0} → List A → Option A
+last_of [] = None
+last_of (x ∷ []) = Some x
+last_of (x ∷ y ∷ ys) = last_of (y ∷ ys)
+
+-- a history's last clock, and 0 where it has no entry
+abbrev pub clock_of : Option Entry → ℕ
+clock_of None = 0
+clock_of (Some e) = e.clock
+
+abbrev pub last_clock : CellLog → ℕ
+last_clock log = clock_of (last_of log.entries)
+
+-- whether its last entry has a stop
+abbrev pub has_stop : Option Entry → Bool
+has_stop None = false
+has_stop (Some e) = is_some e.stop
+
+abbrev pub is_stuck : CellLog → Bool
+is_stuck log = has_stop (last_of log.entries)
+
+-- with one entry more, which left this object
+abbrev pub with_entry : CellLog → Entry → Object → CellLog
+with_entry log e o = record { opened = log.opened; object = o; entries = log.entries ++ e ∷ [] }
