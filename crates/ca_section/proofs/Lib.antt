@@ -1,3 +1,5 @@
 pub mod Back
 pub mod HeldCalls
 pub mod Listed
+pub mod Fields
+pub mod NoOffence
