@@ -5,6 +5,8 @@
 #![tactic(auto)]
 
 #[cfg(test)]
+mod extents;
+#[cfg(test)]
 mod forms;
 #[cfg(test)]
 mod heaps;

@@ -1,0 +1,34 @@
+-- A list that is read item by item: what was found, and what is found in the items that are left.
+use Rattle.std.proofs.Common.{◌≡◌, ℕ, suc, ◌+◌, ◌<◌, ◌≤◌, List, [], ◌∷◌, ◌++◌, length, drop, get_or, sym, ap, ◌∙◌, arith, append_assoc, append-nil}
+use Rattle.std.proofs.Math.Seq.{drop-cons}
+use Rattle.std.proofs.lemmas.List.{drop_all, get_or_default}
+
+item_and_rest : {A : Type 0} (xs : List A) (i : ℕ) (x : A) → i < length xs → x ≡ get_or xs i x → drop i xs ≡ x ∷ drop (i + 1) xs
+item_and_rest xs i x h e =
+    let n : i + 1 ≡ suc i = omega arith in
+    drop-cons xs i x h ∙ (ap (λ y. y ∷ drop (suc i) xs) (sym e) ∙ ap (λ m. x ∷ drop m xs) (sym n))
+
+-- one item more: `found` of a list is that of its first item, and then that of the others
+pub one_more : {A B : Type 0} (one : A → List B) (found : List A → List B) → ((x : A) (xs : List A) → found (x ∷ xs) ≡ one x ++ found xs)
+    → (xs : List A) (i : ℕ) (x : A) → i < length xs → x ≡ get_or xs i x → (all now next : List B)
+    → now ++ found (drop i xs) ≡ all → next ≡ now ++ one x → next ++ found (drop (i + 1) xs) ≡ all
+one_more one found by xs i x h e all now next was is =
+    ap (λ z. z ++ found (drop (i + 1) xs)) is
+    ∙ append_assoc now (one x) (found (drop (i + 1) xs))
+    ∙ ap (λ z. now ++ z) (sym (by x (drop (i + 1) xs)))
+    ∙ ap (λ z. now ++ found z) (sym (item_and_rest xs i x h e))
+    ∙ was
+
+-- the same, where the item is read by its index
+pub one_more_at : {A B : Type 0} (one : A → List B) (found : List A → List B) → ((x : A) (xs : List A) → found (x ∷ xs) ≡ one x ++ found xs)
+    → (xs : List A) (i : ℕ) (d : A) → i < length xs → (all now next : List B)
+    → now ++ found (drop i xs) ≡ all → next ≡ now ++ one (get_or xs i d) → next ++ found (drop (i + 1) xs) ≡ all
+one_more_at one found by xs i d h = one_more one found by xs i (get_or xs i d) h (get_or_default xs i d (get_or xs i d) h)
+
+pub none_left : {A B : Type 0} (found : List A → List B) → found [] ≡ [] → (xs : List A) (i : ℕ) → length xs ≤ i → (all now : List B) → now ++ found (drop i xs) ≡ all → now ≡ all
+none_left found empty xs i h all now was =
+    sym (append-nil now) ∙ ap (λ z. now ++ z) (sym empty) ∙ ap (λ z. now ++ found z) (sym (drop_all i xs h)) ∙ was
+
+pub three : {A : Type 0} (old a b new x y z : List A) → a ≡ old ++ x → b ≡ a ++ y → new ≡ b ++ z → new ≡ old ++ (x ++ (y ++ z))
+three old a b new x y z p q r =
+    r ∙ ap (λ u. u ++ z) (q ∙ ap (λ u. u ++ y) p) ∙ append_assoc (old ++ x) y z ∙ append_assoc old x (y ++ z)

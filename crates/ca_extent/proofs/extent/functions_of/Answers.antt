@@ -1,0 +1,10 @@
+use Rattle.std.proofs.Common.{[], ◌∷◌, refl, arith, map}
+use Rattle.ca_extent.specs.Ids.{function_of}
+use Rattle.ca_extent.proofs.Walks.{one_more_at, none_left}
+use Rattle.ca_extent.proofs.extent.functions_of.Goals as goal
+
+pub loop-n-preserved : goal.loop-n-preserved
+loop-n-preserved c = one_more_at (λ n. function_of n ∷ []) (map function_of) (λ x xs. refl) c.args.numbers.now c.loop-n.n-index _ (omega arith) _ _ _ c.loop-n.invariant c.in_ok-push.ensures.items
+
+pub returns : goal.returns
+returns c = none_left (map function_of) refl c.args.numbers.now c.loop-n.n-index (omega arith) _ _ c.loop-n.invariant
