@@ -166,7 +166,7 @@ mutual
   separated k line after (return_value at e) a = clean k line after e a
   separated k line after (print_value at e) a = absurd a
 
-  separateds : {p : PlainProgram} {x : Known} → Sure p x → (after : Bool) (ss : Statements) → AreSeparated p x.written after ss → offence_of_all x after ss ≡ None
+  pub separateds : {p : PlainProgram} {x : Known} → Sure p x → (after : Bool) (ss : Statements) → AreSeparated p x.written after ss → offence_of_all x after ss ≡ None
   separateds k after no_statements a = refl
   separateds k after (statement_and s ss) a = joined _ _ (separated k (line_of s) after s a.0) (separateds k (after || holds_call s) ss a.1)
 
@@ -187,6 +187,6 @@ mutual
   no_offence k line after (return_value at e) q = cleaned k line after e q
   no_offence k line after (print_value at e) q = absurd cc
 
-  no_offences : {p : PlainProgram} {x : Known} → Sure p x → (after : Bool) (ss : Statements) → offence_of_all x after ss ≡ None → AreSeparated p x.written after ss
+  pub no_offences : {p : PlainProgram} {x : Known} → Sure p x → (after : Bool) (ss : Statements) → offence_of_all x after ss ≡ None → AreSeparated p x.written after ss
   no_offences k after no_statements q = tt
   no_offences k after (statement_and s ss) q = (no_offence k (line_of s) after s (front _ _ q), no_offences k (after || holds_call s) ss (back _ _ q))

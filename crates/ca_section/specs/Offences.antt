@@ -15,8 +15,10 @@ use Rattle.ca_program.specs.Plain.{PlainProgram, Expression, Expressions, number
 use Rattle.ca_meaning.specs.Operators.{is_zero, not_of}
 use Rattle.ca_meaning.specs.Flows.{line_of}
 use Rattle.ca_parallel.specs.Extents.{operation_body}
-use Rattle.ca_parallel.specs.Separable.{ReadsWritten, holds_call}
+use Rattle.ca_parallel.specs.Separable.{ReadsWritten, holds_call, Separable}
 use Rattle.ca_section.specs.declared.offence.Offence.{Offence}
+use Rattle.ca_section.specs.declared.offence.Separability.{Separability}
+use Rattle.ca_section.specs.declared.offence.Separability.TheVariants.{Yes, No}
 use Rattle.ca_section.specs.declared.offence.Why.{Why}
 use Rattle.ca_section.specs.declared.offence.Why.TheVariants.{AccessAfterCall, ForeignRead, FunctionRead, Creates, Prints, DividesByVariable}
 
@@ -106,7 +108,7 @@ abbrev mutual
   offence_of_all x after no_statements = None
   offence_of_all x after (statement_and s ss) = option_or (offence_of x (line_of s) after s) (offence_of_all x (after || holds_call s) ss)
 
--- Something is known of an extent that writes these fields: for each value method, whether it reads one of them.
+-- It is known of each value method whether it reads one of the written fields.
 pub record Knows (p : PlainProgram) (written : List FieldId) (reads : FunctionId → Bool) : Type 0 where
   pub decides : (m : FunctionId) → (reads m ≡ true) ↔ ReadsWritten p written m
 
@@ -115,3 +117,12 @@ pub record FirstOffence (p : PlainProgram) (written : List FieldId) (op : OpId) 
   pub reads : FunctionId → Bool
   pub knows : Knows p written reads
   pub is : offence_of_all (record { written = written; reads = reads }) false (operation_body p op) ≡ Some first
+
+-- the answer whether an operation is separable in such an extent: yes exactly where it is, no exactly at its first offence
+pub record Tells (p : PlainProgram) (written : List FieldId) (op : OpId) (s : Separability) : Type 0 where
+  pub yes : (s ≡ Yes) ↔ Separable p written op
+  pub no : (first : Offence) → (s ≡ No first.line first.why) ↔ FirstOffence p written op first
+
+abbrev pub answer_of : Option Offence → Separability
+answer_of None = Yes
+answer_of (Some first) = No first.line first.why

@@ -1,5 +1,5 @@
--- Old values, and what is left when they are put back.
-use Rattle.std.specs.Prelude.{ℕ, List, [], ◌∷◌, Option, Some, None, slice_get}
+-- Old values, the last one first: what is kept at a put, and what is left when all are put back.
+use Rattle.std.specs.Prelude.{ℕ, Bool, true, false, ◌&&◌, if◌then◌else◌, nat_eq, List, [], ◌∷◌, Option, Some, None, slice_get}
 use Rattle.ca_model.specs.declared.value.Value.{Value as Datum}
 use Rattle.ca_model.specs.declared.value.Value.TheVariants.{Null}
 use Rattle.ca_model.specs.declared.value.Slot.{Slot}
@@ -15,6 +15,15 @@ abbrev pub item_in : Option Slot → ℕ → Datum
 item_in None i = Null
 item_in (Some (One v)) i = v
 item_in (Some (Many vs)) i = or_null (slice_get vs i)
+
+-- the old value is of this place
+abbrev pub is_of : Option Old → ℕ → ℕ → Bool
+is_of None f i = false
+is_of (Some o) f i = nat_eq o.field f && nat_eq o.item i
+
+-- the old values after a put to a place: nothing more where the last one is of the same place
+abbrev pub olds_after : List Old → List Slot → ℕ → ℕ → List Old
+olds_after olds ss f i = if is_of (slice_get olds 0) f i then olds else (record { field = f; item = i; value = item_in (slice_get ss f) i } ∷ olds)
 
 -- the slots with these values put back, the last one first
 abbrev pub put_back : List Old → List Slot → List Slot

@@ -2,7 +2,7 @@
 
 ghost use Rattle.std.specs.Prelude.{◌≡◌, ◌∷◌, [], List, IfOk, OnErr, MatchOption, slice_get};
 ghost use Rattle.ca_model.specs.Slots.{put_slot, HasItem};
-ghost use Rattle.ca_section.specs.Olds.{put_back, AllThere, item_in};
+ghost use Rattle.ca_section.specs.Olds.{put_back, AllThere, item_in, is_of, olds_after};
 
 use ca_model::{Slot, Slots, Value};
 use std::alloc::{AllocError, Global};
@@ -55,17 +55,42 @@ impl Olds {
         self.items.pop()
     }
 
-    /// Puts a value into an item, and keeps the one that was there.
-    #[tactic(auto, using(crate::proofs::Back::put_undone, crate::proofs::Back::still_there))]
+    /// Whether the last old value is of this place.
+    #[tactic(auto, using(crate::proofs::Back::first_is_last))]
+    fn is_last(&self, field: u32, item: u32) -> bool
+        ensures { result ≡ is_of (slice_get self.now 0) field item }
+    {
+        match self.items.last() {
+            Some(old) => old.field == field && old.item == item,
+            None => false,
+        }
+    }
+
+    /// Keeps the value of an item, but where the last old value is of the same place.
+    fn keep(&mut self, slots: &Slots, field: u32, item: u32) -> Result<(), AllocError>
+        requires { HasItem (slice_get slots.now field) item }
+        ensures keeps { IfOk result (λ _. self.new ≡ olds_after self.old slots.now field item) }
+        ensures kept { OnErr result (self.new ≡ self.old) }
+    {
+        if self.is_last(field, item) {
+            return Ok(());
+        }
+        let value = item_of(slots, field, item);
+        self.add(Old { field, item, value })
+    }
+
+    /// Puts a value into an item, and keeps the one that was there, but where the last old value is of the
+    /// same place: then that one is what is put back. Whatever comes of it, putting back gives what it gave before.
+    #[tactic(auto, using(crate::proofs::Back::back_kept, crate::proofs::Back::there_kept))]
     pub fn put(&mut self, slots: &mut Slots, field: u32, item: u32, value: Value) -> Result<(), AllocError>
         requires { HasItem (slice_get slots.old field) item }
         ensures put { IfOk result (λ _. slots.new ≡ put_slot slots.old field item value) }
+        ensures keeps { IfOk result (λ _. self.new ≡ olds_after self.old slots.old field item) }
         ensures back { put_back self.new slots.new ≡ put_back self.old slots.old }
         ensures there { AllThere self.old slots.old → AllThere self.new slots.new }
-        ensures kept { OnErr result (slots.new ≡ slots.old) }
+        ensures kept { OnErr result ((self.new ≡ self.old) × (slots.new ≡ slots.old)) }
     {
-        let old = item_of(slots, field, item);
-        self.add(Old { field, item, value: old })?;
+        self.keep(slots, field, item)?;
         slots.put(field, item, value);
         Ok(())
     }
