@@ -94,11 +94,11 @@ fn puts_old_values_back(rt: HostRuntime) -> Result<(), Fail> {
     let_go(program);
     let mut slots = slots?;
     let mut olds = Olds::new(alloc);
-    for (field, value) in [(0, Value::Long(5)), (1, Value::Bool(true)), (0, Value::Long(6))] {
-        assert!(rt; slots.has(field, 0));
-        olds.put(&mut slots, field, 0, value)?;
-    }
-    assert!(rt; matches!(slots.get(0), Some(Slot::One(Value::Long(6)))));
+    assert!(rt; slots.has(0, 0));
+    olds.put(&mut slots, 0, 0, Value::Long(5))?;
+    assert!(rt; slots.has(1, 0));
+    olds.put(&mut slots, 1, 0, Value::Bool(true))?;
+    assert!(rt; matches!(slots.get(0), Some(Slot::One(Value::Long(5)))));
     olds.put_back(&mut slots);
     assert!(rt; matches!(slots.get(0), Some(Slot::One(Value::Long(0)))));
     assert!(rt; matches!(slots.get(1), Some(Slot::One(Value::Bool(false)))));

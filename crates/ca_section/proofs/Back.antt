@@ -1,5 +1,5 @@
 -- A put of the old value undoes a put.
-use Rattle.std.proofs.Common.{◌≡◌, ℕ, zero, suc, ◌<◌, ◌-◌, Bool, true, false, ◌&&◌, List, [], ◌∷◌, Option, Some, None, refl, ap, sym, ◌∙◌, subst, arith, length, get_or}
+use Rattle.std.proofs.Common.{◌≡◌, ℕ, zero, suc, ◌<◌, ◌-◌, Bool, true, false, List, [], ◌∷◌, Some, refl, ap, sym, ◌∙◌, subst, arith, length, get_or}
 use Rattle.std.specs.Prelude.{reverse, nat_eq, if◌then◌else◌}
 use Rattle.std.proofs.lemmas.Bool.{and_parts, eqb-true}
 use Rattle.std.proofs.lemmas.List.{get_or-reverse, length-reverse}
@@ -8,7 +8,7 @@ use Rattle.std.specs.Prelude.{slice_get, slice_set}
 use Rattle.ca_model.specs.declared.value.Value.{Value as Datum}
 use Rattle.ca_model.specs.declared.value.Slot.{Slot}
 use Rattle.ca_model.specs.declared.value.Slot.TheVariants.{One, Many}
-use Rattle.ca_model.specs.Slots.{put_slot, put_item, HasItem, slot_len}
+use Rattle.ca_model.specs.Slots.{put_slot, HasItem}
 use Rattle.ca_section.specs.declared.olds.Old.{Old}
 use Rattle.ca_section.specs.Olds.{item_in, or_null, is_of, olds_after, put_back, AllThere}
 
@@ -72,9 +72,10 @@ there_if : (b : Bool) (o : Old) (os : List Old) (ss : List Slot) (f i : ℕ) (v 
 there_if true o os ss f i v e h a =
     let b = and_parts (nat_eq o.field f) (nat_eq o.item i) e in
     let p : f ≡ o.field = sym (eqb-true o.field f b.0) in
-    let q : i ≡ o.item = sym (eqb-true o.item i b.1) in
-    (subst (λ (n : ℕ). HasItem (slice_get (put_slot ss f i v) n) o.item) p (subst (λ (n : ℕ). HasItem (slice_get (put_slot ss f i v) f) n) q (still_there ss f i v h)),
-     subst (λ s. AllThere os s) (sym (put_hidden o ss f i v e)) a.1)
+    let q : i ≡ o.item = sym (eqb-true o.item i b.1) in (
+      subst (λ (n : ℕ). HasItem (slice_get (put_slot ss f i v) n) o.item) p (subst (λ (n : ℕ). HasItem (slice_get (put_slot ss f i v) f) n) q (still_there ss f i v h)),
+      subst (λ s. AllThere os s) (sym (put_hidden o ss f i v e)) a.1,
+    )
 there_if false o os ss f i v e h a = (still_there ss f i v h, subst (λ s. AllThere (o ∷ os) s) (sym (put_undone ss f i v h)) a)
 
 pub there_kept : (olds : List Old) (ss : List Slot) (f i : ℕ) (v : Datum) → HasItem (slice_get ss f) i → AllThere olds ss → AllThere (olds_after olds ss f i) (put_slot ss f i v)

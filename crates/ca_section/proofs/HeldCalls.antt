@@ -1,15 +1,17 @@
 -- Statements in memory, and which of them hold a call.
-use Rattle.std.proofs.Common.{◌≡◌, ℕ, Bool, true, false, ◌||◌, List, [], ◌∷◌, ◌++◌, Option, Some, None, refl, ap, sym, subst, ◌∙◌, Global}
+use Rattle.std.proofs.Common.{◌≡◌, ℕ, Bool, true, false, ◌||◌, List, [], ◌∷◌, ◌++◌, Option, Some, None, refl, ap, ◌∙◌, Global}
 use Rattle.std.specs.declared.vec.Vec.{Vec}
 use Rattle.std.specs.Option.{option_or}
+use Rattle.std.specs.declared.boxed.Box.{Box}
+use Rattle.ca_program.specs.declared.program.Expr.{Expr, Value}
+use Rattle.ca_program.specs.declared.program.FunctionId.{FunctionId}
 use Rattle.ca_program.specs.declared.program.Stmt.{Stmt}
 use Rattle.ca_program.specs.declared.program.StmtForm.{StmtForm, Block, Block', PutLocal, PutField, PutItem, NewLocal, NewField, NewItem, Invoke, If', While', For', Return, Print}
-use Rattle.ca_program.specs.Plain.{Expression, Statement, Statements, block, value_call}
+use Rattle.ca_program.specs.Plain.{block, value_call}
 use Rattle.ca_program.specs.View.{form_view, statement_view, statements_view, expression_view, expressions_view}
 use Rattle.ca_program.proofs.Rows.{block_is, row_is_list}
 use Rattle.ca_meaning.specs.Flows.{line_of}
-use Rattle.ca_parallel.specs.Separable.{is_some_of, holds_call}
-use Rattle.ca_parallel.specs.Bodies.{calls_of_all}
+use Rattle.ca_parallel.specs.Separable.{is_some_of}
 
 -- the line of a statement's view is its line
 form_line : (f : StmtForm) (l : ℕ) → line_of (form_view f l) ≡ l
@@ -32,6 +34,9 @@ line_is s = form_line s.kind s.line
 
 pub block_view : (s : Stmt) (v : Vec Stmt Global) → s.kind ≡ Block v → statement_view s ≡ block s.line (statements_view v.items)
 block_view s v is = ap (λ k. form_view k s.line) is ∙ block_is s.line v
+
+pub call_view : (e : Expr) (p : Box Expr Global) (m : FunctionId) (v : Vec Expr Global) → e ≡ Value p m v → expression_view e ≡ value_call (expression_view p.value) m (expressions_view v.items)
+call_view e p m v is = ap expression_view is ∙ ap (λ es. value_call (expression_view p.value) m es) (row_is_list v)
 
 pub some_of_both : {A : Type 0} (xs ys : List A) → is_some_of (xs ++ ys) ≡ (is_some_of xs || is_some_of ys)
 some_of_both [] ys = refl

@@ -7,14 +7,13 @@ use Rattle.ca_tree.specs.declared.tree.BinaryOp.{BinaryOp}
 use Rattle.ca_tree.specs.declared.tree.BinaryOp.TheVariants.{Or, And, Equal, NotEqual, Less, Greater, LessEqual, GreaterEqual, Plus, Minus, Times, Divide, Remainder}
 use Rattle.ca_program.specs.declared.program.FieldId.{FieldId}
 use Rattle.ca_program.specs.declared.program.FunctionId.{FunctionId}
-use Rattle.ca_program.specs.declared.program.OpId.{OpId}
 use Rattle.ca_program.specs.Plain.{PlainProgram, Expression, Expressions, number, truth, null, this, local, own, own_item, read, read_item, value_call, unary, binary, no_expressions, expression_and, Statement, Statements, block, put_local, put_field, put_item, new_local, new_field, new_item, invoke, if_else, while_loop, for_loop, return_value, print_value, no_statements, statement_and}
 use Rattle.ca_meaning.specs.Flows.{line_of}
-use Rattle.ca_parallel.specs.Separable.{ReadsWritten, MayAccess, IsNonzeroLiteral, MayStandRight, IsClean, AreClean, holds_call, IsSeparated, AreSeparated}
+use Rattle.ca_parallel.specs.Separable.{ReadsWritten, MayAccess, MayStandRight, IsClean, AreClean, holds_call, IsSeparated, AreSeparated}
 use Rattle.ca_section.specs.declared.offence.Why.{Why}
-use Rattle.ca_section.specs.declared.offence.Why.TheVariants.{AccessAfterCall, ForeignRead, FunctionRead, Creates, Prints, DividesByVariable}
+use Rattle.ca_section.specs.declared.offence.Why.TheVariants.{AccessAfterCall, ForeignRead, FunctionRead, Creates, DividesByVariable}
 use Rattle.ca_section.specs.declared.offence.Offence.{Offence}
-use Rattle.ca_section.specs.Offences.{Known, is_written, offence_if, is_nonzero_literal, may_divide_by_zero, offence_in, offence_in_all, offence_of, offence_of_all}
+use Rattle.ca_section.specs.Offences.{Known, is_written, offence_if, may_divide_by_zero, offence_in, offence_in_all, offence_of, offence_of_all}
 
 -- what is known decides
 pub record Sure (p : PlainProgram) (x : Known) : Type 0 where

@@ -1,9 +1,9 @@
 -- Rounds over the value methods: marks are given only to those that read a written field, and at last to all of them.
-use Rattle.std.proofs.Common.{◌≡◌, ◌≢◌, ℕ, zero, suc, ◌+◌, ◌<◌, ◌≤◌, Bool, true, false, ◌||◌, ◌⊎◌, inl, inr, List, [], ◌∷◌, Option, Some, None, length, get_or, refl, sym, ap, ◌∙◌, subst, arith, ◌↔◌}
+use Rattle.std.proofs.Common.{◌≡◌, ◌≢◌, ℕ, zero, suc, ◌+◌, ◌<◌, ◌≤◌, Bool, true, false, ◌||◌, ◌⊎◌, inl, inr, List, [], ◌∷◌, length, get_or, refl, sym, ap, ◌∙◌, subst, arith}
 use Rattle.std.proofs.Math.ListN.{set}
-use Rattle.std.specs.Prelude.{Contains, slice_get, replicate}
+use Rattle.std.specs.Prelude.{slice_get, replicate}
 use Rattle.std.proofs.lemmas.Bool.{or_parts, cases_lt, cases_eq}
-use Rattle.std.proofs.lemmas.List.{length-set, get_or-set_same, get_or-set_other, get_or-replicate, get_or_past, length-replicate}
+use Rattle.std.proofs.lemmas.List.{length-set, get_or-set_other, get_or-replicate, get_or_past, length-replicate}
 use Rattle.std.proofs.lemmas.Option.{slice_get_past}
 use Rattle.ca_program.specs.declared.program.FieldId.{FieldId}
 use Rattle.ca_program.specs.declared.program.FunctionId.{FunctionId}
@@ -99,6 +99,7 @@ marked_when p written marks many settled m t = from (cases_lt m.0 (length marks)
   where
     past : length marks ≤ m.0 → touched_by_any (known written marks) (function_body p m) ≡ false
     past h = ap (λ z. touched_by_any (known written marks) (body_of z)) (slice_get_past p.functions m.0 (omega (arith, h, many)))
+
     from : (m.0 < length marks) ⊎ (length marks ≤ m.0) → marked marks m ≡ true
     from (inl h) = mark_is marks m.0 ∙ settled m.0 h t
     from (inr h) = absurd (apart t (past h))
@@ -106,7 +107,7 @@ marked_when p written marks many settled m t = from (cases_lt m.0 (length marks)
 closed : (p : PlainProgram) (written : List FieldId) (marks : List Bool) → length marks ≡ length p.functions → ((k : ℕ) → k < length marks → Settled p written marks k)
     → {m : FunctionId} → ReadsWritten p written m → marked marks m ≡ true
 closed p written marks many settled (itself {m} {f} c w) = marked_when p written marks many settled m (body_touched (known written marks) (function_body p m) (by_field f c ((written_decided written f).1 w)))
-closed p written marks many settled (through {m} {k} c r) = marked_when p written marks many settled m (body_touched (known written marks) (function_body p m) (by_function k c (closed p written marks many settled r)))
+closed p written marks many settled (through {m} {callee} c r) = marked_when p written marks many settled m (body_touched (known written marks) (function_body p m) (by_function callee c (closed p written marks many settled r)))
 
 pub all_marked : (p : PlainProgram) (written : List FieldId) (marks : List Bool) → OnlyReaders p written marks → length marks ≡ length p.functions → ((k : ℕ) → k < length marks → Settled p written marks k) → Knows p written (marked marks)
 all_marked p written marks o many settled = record { decides = λ m. (o.reads m, λ r. closed p written marks many settled r) }

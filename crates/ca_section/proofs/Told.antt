@@ -1,16 +1,15 @@
 -- What the first offence of a body says of its operation.
-use Rattle.std.proofs.Common.{◌≡◌, ℕ, Bool, true, false, List, Option, Some, None, ◌↔◌, refl, sym, ap, ◌∙◌, subst}
+use Rattle.std.proofs.Common.{◌≡◌, Bool, true, false, List, Option, Some, None, ◌↔◌, refl, sym, ap, ◌∙◌}
 use Rattle.ca_program.specs.declared.program.FieldId.{FieldId}
 use Rattle.ca_program.specs.declared.program.FunctionId.{FunctionId}
 use Rattle.ca_program.specs.declared.program.OpId.{OpId}
-use Rattle.ca_program.specs.Plain.{PlainProgram, Statements}
+use Rattle.ca_program.specs.Plain.{PlainProgram}
 use Rattle.ca_parallel.specs.Extents.{operation_body}
-use Rattle.ca_parallel.specs.Separable.{Separable, ReadsWritten}
+use Rattle.ca_parallel.specs.Separable.{Separable}
 use Rattle.ca_section.specs.declared.offence.Offence.{Offence}
 use Rattle.ca_section.specs.declared.offence.Separability.{Separability}
 use Rattle.ca_section.specs.declared.offence.Separability.TheVariants.{Yes, No}
-use Rattle.ca_section.specs.declared.offence.Why.{Why}
-use Rattle.ca_section.specs.Offences.{Known, Knows, FirstOffence, Tells, answer_of, offence_of_all}
+use Rattle.ca_section.specs.Offences.{Knows, FirstOffence, Tells, answer_of, offence_of_all}
 use Rattle.ca_section.proofs.Fields.{written_decided}
 use Rattle.ca_section.proofs.NoOffence.{Sure, separateds, no_offences}
 
@@ -55,8 +54,10 @@ no_only (Some f) first e = ap Some (same_parts (lines f first e) (causes f first
   where
     same_parts : {f g : Offence} → f.line ≡ g.line → f.why ≡ g.why → f ≡ g
     same_parts p q = λ i. record { line = p i; why = q i }
+
     lines : (f g : Offence) → answer_of (Some f) ≡ No g.line g.why → f.line ≡ g.line
     lines f g e = cc
+
     causes : (f g : Offence) → answer_of (Some f) ≡ No g.line g.why → f.why ≡ g.why
     causes f g e = cc
 

@@ -82,7 +82,13 @@ impl Olds {
     /// Puts a value into an item, and keeps the one that was there, but where the last old value is of the
     /// same place: then that one is what is put back. Whatever comes of it, putting back gives what it gave before.
     #[tactic(auto, using(crate::proofs::Back::back_kept, crate::proofs::Back::there_kept))]
-    pub fn put(&mut self, slots: &mut Slots, field: u32, item: u32, value: Value) -> Result<(), AllocError>
+    pub fn put(
+        &mut self,
+        slots: &mut Slots,
+        field: u32,
+        item: u32,
+        value: Value,
+    ) -> Result<(), AllocError>
         requires { HasItem (slice_get slots.old field) item }
         ensures put { IfOk result (λ _. slots.new ≡ put_slot slots.old field item value) }
         ensures keeps { IfOk result (λ _. self.new ≡ olds_after self.old slots.old field item) }

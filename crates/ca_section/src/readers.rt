@@ -138,7 +138,11 @@ fn round(program: &Program, written: &[FieldId], marks: &mut Vec<bool>) -> bool
 }
 
 /// A mark for each value method that reads a written field, itself or through others.
-pub(crate) fn readers(alloc: Global, program: &Program, written: &[FieldId]) -> Result<Vec<bool>, Memory>
+pub(crate) fn readers(
+    alloc: Global,
+    program: &Program,
+    written: &[FieldId],
+) -> Result<Vec<bool>, Memory>
     ensures { IfOk result (λ marks. Knows (program_view program.now) written.now (marked marks.items)) }
 {
     let mut marks = vec![in alloc; false; program.functions.len()]?;

@@ -72,7 +72,12 @@ fn answer(offence: Option<Offence>) -> Separability
 }
 
 /// Whether an operation is separable in an extent, or else its first offence in the order of the text.
-pub fn separable(alloc: Global, program: &Program, extent: &Extent, op: OpId) -> Result<Separability, Memory>
+pub fn separable(
+    alloc: Global,
+    program: &Program,
+    extent: &Extent,
+    op: OpId,
+) -> Result<Separability, Memory>
     ensures { IfOk result (λ s. Tells (program_view program.now) extent.now.written op s) }
 {
     let readers = Readers::of(alloc, program, extent)?;

@@ -182,7 +182,11 @@ impl<'a> Known<'a> {
     fn access(&self, at: Spot, field: FieldId) -> Option<Offence>
         ensures { result ≡ access (known self.now.written.now self.now.readers.now) at.line at.after field }
     {
-        offence_if(at.after && self.is_written(field), at.line, Why::AccessAfterCall)
+        offence_if(
+            at.after && self.is_written(field),
+            at.line,
+            Why::AccessAfterCall,
+        )
     }
 
     fn foreign_read(&self, at: Spot, field: FieldId) -> Option<Offence>

@@ -1,7 +1,7 @@
-use Rattle.std.proofs.Common.{◌≡◌, length, map, ap, sym, ◌∙◌, arith, subst, ℕ, ◌<◌}
+use Rattle.std.proofs.Common.{length, ap, sym, ◌∙◌, arith}
 use Rattle.std.proofs.lemmas.List.{length-replicate, length-map}
 use Rattle.ca_program.specs.View.{program_view, method_view}
-use Rattle.ca_section.specs.Readers.{flag, Settled}
+use Rattle.ca_section.specs.Readers.{flag}
 use Rattle.ca_section.proofs.Rounds.{none_marked, all_marked}
 use Rattle.ca_section.proofs.readers.readers.Goals as goal
 
@@ -9,8 +9,8 @@ pub rounds-init : goal.rounds-init
 rounds-init c =
     let clear = c.in_ok-marks.ensures.items_if_clones_equal (λ y h. h) in
     record {
-      only = none_marked (program_view c.args.program.now) c.args.written.now c.in_ok-marks.marks.items (length c.args.program.now.functions.items) clear;
-      many = ap length clear ∙ length-replicate (length c.args.program.now.functions.items) _;
+      only = none_marked (program_view c.args.program.now) c.args.written.now c.in_ok-marks.marks.items c.len.result clear;
+      many = ap length clear ∙ (length-replicate c.len.result _ ∙ omega arith);
       settled = λ e k h. absurd cc;
     }
 

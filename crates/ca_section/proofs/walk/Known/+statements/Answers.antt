@@ -1,4 +1,4 @@
-use Rattle.std.proofs.Common.{◌≡◌, ◌||◌, true, false, drop, sym, subst, arith, ◌+◌}
+use Rattle.std.proofs.Common.{◌≡◌, ◌||◌, drop, sym, subst, arith, ◌+◌}
 use Rattle.std.specs.Option.{option_or}
 use Rattle.ca_program.specs.Plain.{block}
 use Rattle.ca_program.specs.View.{statement_view, statements_view}
