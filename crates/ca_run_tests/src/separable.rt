@@ -15,30 +15,38 @@ struct Row {
     answer: Separability,
 }
 
-const fn no(line: u32, why: Why) -> Separability {
-    Separability::No { line, why }
-}
-
 const ROWS: [Row; 8] = [
     Row {
         text: "class A { public: long n; A *o; void m() { n = o->n; } };\nint main() { }",
         op: 0,
-        answer: no(1, Why::ForeignRead),
+        answer: Separability::No {
+            line: 1,
+            why: Why::ForeignRead,
+        },
     },
     Row {
         text: "class A { public: long n; long f() { return n; } void m() { n = f(); } };\nint main() { }",
         op: 0,
-        answer: no(1, Why::FunctionRead),
+        answer: Separability::No {
+            line: 1,
+            why: Why::FunctionRead,
+        },
     },
     Row {
         text: "class A { public: long n; void m() { print(n); } };\nint main() { }",
         op: 0,
-        answer: no(1, Why::Prints),
+        answer: Separability::No {
+            line: 1,
+            why: Why::Prints,
+        },
     },
     Row {
         text: "class A { public: long n; void m(long p) { n = n / p; } };\nint main() { }",
         op: 0,
-        answer: no(1, Why::DividesByVariable),
+        answer: Separability::No {
+            line: 1,
+            why: Why::DividesByVariable,
+        },
     },
     Row {
         text: "class A { public: long n; void m(long p) { n = n / -2; } };\nint main() { }",
@@ -48,19 +56,28 @@ const ROWS: [Row; 8] = [
     Row {
         text: "class A { public: long n; void m(long p) { n = n / 0; } };\nint main() { }",
         op: 0,
-        answer: no(1, Why::DividesByVariable),
+        answer: Separability::No {
+            line: 1,
+            why: Why::DividesByVariable,
+        },
     },
     Row {
         text: "class Cell {\npublic:\nlong sum;\nlong base;\nlong last;\nCell *next;\nvoid late(long p) {\n\
             sum = sum + p;\nif (next != nullptr) next->late(p);\nlast = sum;\n}\n};\nint main() { }",
         op: 0,
-        answer: no(10, Why::AccessAfterCall),
+        answer: Separability::No {
+            line: 10,
+            why: Why::AccessAfterCall,
+        },
     },
     Row {
         text: "class Bin {\npublic:\nlong n;\nvoid add(long v) { n = n + v; }\n};\nclass Pair {\npublic:\nBin *b[2];\n\
             void fill() { b[0] = new Bin(); b[1] = new Bin(); }\n};\nint main() { }",
         op: 1,
-        answer: no(9, Why::Creates),
+        answer: Separability::No {
+            line: 9,
+            why: Why::Creates,
+        },
     },
 ];
 

@@ -7,9 +7,10 @@
 //! extent's value methods, for who asks of each operation of an extent. `Olds` keeps the values that an object
 //! had before puts, so that a section can be undone with no copy of its object (`specs/Olds.antt`).
 //! `walk` finds the first offence of a body, `calls` whether a statement holds a call, and `readers` the value
-//! methods that read a written field.
+//! methods that read a written field; `callers` says at which of them to look first.
 #![tactic(auto)]
 
+mod callers;
 mod calls;
 pub mod laws;
 mod offence;

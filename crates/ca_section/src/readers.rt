@@ -6,6 +6,7 @@ ghost use Rattle.ca_meaning.specs.Functions.{body_of};
 ghost use Rattle.ca_section.specs.Offences.{Knows};
 ghost use Rattle.ca_section.specs.Readers.{known, marked, touches, touches_any, touched_by, touched_by_any, is_reader, Looked, Round};
 
+use crate::callers::look_first;
 use crate::walk::Known;
 use ca_base::Memory;
 use ca_program::{Expr, FieldId, Method, Program, Stmt, StmtForm};
@@ -106,7 +107,7 @@ fn is_reader(program: &Program, written: &[FieldId], readers: &[bool], k: usize)
 }
 
 /// Looks at a value method without a mark, and gives it one where its body asks for it.
-fn look(program: &Program, written: &[FieldId], k: usize, marks: &mut Vec<bool>) -> bool
+pub(crate) fn look(program: &Program, written: &[FieldId], k: usize, marks: &mut Vec<bool>) -> bool
     requires { k < length marks.old.items }
     ensures { Looked (program_view program.now) written.now k marks.old.items marks.new.items result }
 {
@@ -137,7 +138,8 @@ fn round(program: &Program, written: &[FieldId], marks: &mut Vec<bool>) -> bool
     more
 }
 
-/// A mark for each value method that reads a written field, itself or through others.
+/// A mark for each value method that reads a written field, itself or through others. Methods whose callees got
+/// a mark are looked at first, so each body is read a few times, and the rounds find nothing more.
 pub(crate) fn readers(
     alloc: Global,
     program: &Program,
@@ -146,6 +148,7 @@ pub(crate) fn readers(
     ensures { IfOk result (λ marks. Knows (program_view program.now) written.now (marked marks.items)) }
 {
     let mut marks = vec![in alloc; false; program.functions.len()]?;
+    look_first(alloc, program, written, &mut marks)?;
     let mut more = true;
     'rounds: while more {
         more = round(program, written, &mut marks);

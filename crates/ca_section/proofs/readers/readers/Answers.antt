@@ -8,9 +8,10 @@ use Rattle.ca_section.proofs.readers.readers.Goals as goal
 pub rounds-init : goal.rounds-init
 rounds-init c =
     let clear = c.in_ok-marks.ensures.items_if_clones_equal (λ y h. h) in
+    let looked = c.in_ok-look_first.ensures in
     record {
-      only = none_marked (program_view c.args.program.now) c.args.written.now c.in_ok-marks.marks.items c.len.result clear;
-      many = ap length clear ∙ (length-replicate c.len.result _ ∙ omega arith);
+      only = looked.only (none_marked (program_view c.args.program.now) c.args.written.now c.in_ok-marks.marks.items c.len.result clear);
+      many = looked.as_many ∙ (ap length clear ∙ (length-replicate c.len.result _ ∙ omega arith));
       settled = λ e k h. absurd cc;
     }
 
