@@ -19,4 +19,6 @@ mod runs;
 #[cfg(test)]
 mod scenes;
 #[cfg(test)]
+mod separable;
+#[cfg(test)]
 mod verdicts;
