@@ -1,0 +1,5 @@
+pub mod Stacks
+pub mod Locals
+pub mod Flows
+pub mod Steps
+pub mod CallSteps

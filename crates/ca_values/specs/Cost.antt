@@ -29,18 +29,18 @@ abbrev mutual
 
 -- a loop that comes again, up to the end of its condition
 abbrev pub again_size : Statement → ℕ
-again_size (while_loop own c b) = size c + 3
-again_size (for_loop own site part first c next b) = size c + 3
+again_size (while_loop line c b) = size c + 3
+again_size (for_loop line site part first c next b) = size c + 3
 again_size other = 1
 
 abbrev mutual
   pub statement_size : Statement → ℕ
-  statement_size (block own ss) = statement_sizes ss + 2
-  statement_size (put_local own l op e) = size e + 2
-  statement_size (if_else own c a b) = size c + statement_size a + statement_size b + 3
-  statement_size (while_loop own c b) = size c + 4
-  statement_size (for_loop own site part first c next b) = statement_size first + size c + 4
-  statement_size (return_value own e) = size e + 2
+  statement_size (block line ss) = statement_sizes ss + 2
+  statement_size (put_local line l op e) = size e + 2
+  statement_size (if_else line c a b) = size c + statement_size a + statement_size b + 3
+  statement_size (while_loop line c b) = size c + 4
+  statement_size (for_loop line site part first c next b) = statement_size first + size c + 4
+  statement_size (return_value line e) = size e + 2
   statement_size other = 1
 
   pub statement_sizes : Statements → ℕ
