@@ -17,4 +17,6 @@ mod runs;
 #[cfg(test)]
 mod scenes;
 #[cfg(test)]
+mod values;
+#[cfg(test)]
 mod verdicts;

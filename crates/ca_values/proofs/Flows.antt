@@ -22,6 +22,11 @@ then_same (gives v k) f g h = h v k
 then_same (traps t) f g h = refl
 then_same over f g h = refl
 
+pub then_gives : {A : Type 0} (o : Out A) → o >>= (λ v k. gives v k) ≡ o
+then_gives (gives v k) = refl
+then_gives (traps t) = refl
+then_gives over = refl
+
 pub go_on_and_on : (a : Flow (Unit {0})) (f : List Datum → Unit {0} → ℕ → Flow (Unit {0})) (go : List Datum → ℕ → Out Datum) (back : Datum → ℕ → Out Datum) → go_on (and_on a f) go back ≡ go_on a (λ ls k. go_on (f ls tt k) go back) back
 go_on_and_on (goes_on ls s k) f go back = refl
 go_on_and_on (gives_back v s k) f go back = refl

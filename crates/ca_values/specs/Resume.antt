@@ -7,12 +7,12 @@ use Rattle.ca_program.specs.Plain.{PlainProgram, PlainMethod, Expression, Expres
 use Rattle.ca_program.specs.View.{expression_view, expressions_view, statement_view, statements_view}
 use Rattle.ca_model.specs.declared.value.Value.{Value as Datum}
 use Rattle.ca_model.specs.declared.value.Value.TheVariants.{Null, Ref}
-use Rattle.ca_model.specs.declared.value.Object.{Object}
+use Rattle.ca_model.specs.declared.value.Slot.{Slot}
 use Rattle.ca_model.specs.declared.value.TrapKind.TheVariants.{OutOfRange}
 use Rattle.ca_meaning.specs.Operators.{operated, signed, assigned}
 use Rattle.ca_meaning.specs.Expressions.{Out, gives, traps, over, trap_at, ◌>>=◌, take_step, value_at, one_in, items_in, slot_of, pointed, indexed, answer, decided, unless_decided, Place, Calls, eval, eval_all}
 use Rattle.ca_meaning.specs.Flows.{Flow, goes_on, gives_back, stops, runs_out, and_on, with, choose, Parts, line_of, exec, exec_all}
-use Rattle.ca_meaning.specs.Functions.{place, function_parts, functions_of}
+use Rattle.ca_meaning.specs.Functions.{own_of, place, function_parts, functions_of}
 use Rattle.ca_meaning.specs.Sections.{section_place}
 use Rattle.ca_direct.specs.declared.scene.Scene.{Scene}
 use Rattle.ca_direct.specs.Direct.{own_in}
@@ -25,9 +25,21 @@ use Rattle.ca_values.specs.Bodies.{Body, with_locals}
 
 -- What expressions are read in: the body that runs, and for the outermost expression the scene, whose own
 -- slots are read by it alone.
+
+abbrev pub this_in : Scene → List Body → Datum
+this_in o [] = o.this
+this_in o (f ∷ below) = f.this
+
+abbrev pub slots_for : Scene → List Body → List Slot
+slots_for o [] = own_in o
+slots_for o (f ∷ below) = own_of o.heap.now f.this
+
+abbrev pub locals_in : Scene → List Body → List Datum
+locals_in o [] = o.locals.now
+locals_in o (f ∷ below) = f.locals
+
 abbrev pub here : Scene → List Body → ℕ → Place
-here o [] line = section_place o.heap.now o.this (own_in o) line o.locals.now
-here o (f ∷ below) line = place o.heap.now f.this line f.locals
+here o fs line = section_place o.heap.now (this_in o fs) (slots_for o fs) line (locals_in o fs)
 
 abbrev pub calls_in : PlainProgram → Scene → Calls
 calls_in p o = (functions_of p.functions o.heap.now).call
@@ -83,6 +95,11 @@ taken (suc n) vs xs f = pop vs (λ x vs. taken n vs (x ∷ xs) f)
 abbrev pub in_body : List Body → (Body → List Body → Out Datum) → Out Datum
 in_body [] g = over
 in_body (f ∷ below) g = g f below
+
+-- where a body runs
+abbrev pub in_some : List Body → Out Datum → Out Datum
+in_some [] out = over
+in_some (f ∷ below) out = out
 
 abbrev pub go_on : Flow (Unit {0}) → (List Datum → ℕ → Out Datum) → (Datum → ℕ → Out Datum) → Out Datum
 go_on (goes_on ls s k) go back = go ls k
@@ -164,6 +181,10 @@ abbrev mutual
 abbrev pub rest_of : PlainProgram → Scene → List Work → Evaluator → Out Datum
 rest_of p o todo m = resume p o todo m.values m.bodies m.left
 
+-- with this work before its own, which takes the value
+abbrev pub takes : PlainProgram → Scene → Work → Datum → Evaluator → Out Datum
+takes p o work v m = resume p o (work ∷ m.todo) (v ∷ m.values) m.bodies m.left
+
 -- that runs this statement, and then its work
 abbrev pub does : PlainProgram → Scene → ℕ → Statement → Evaluator → Out Datum
 does p o line s m =
@@ -176,15 +197,13 @@ loops p o line c loop m =
     in_body m.bodies (λ f below. condition p o f line c m.left >>= λ v k.
     go_on (turns p o f line loop k v) (λ ls k. resume p o m.todo m.values (with_locals f ls ∷ below) k) (λ v k. unwind p o m.todo m.values below k v))
 
--- that enters a turn of a loop whose condition has this value
-abbrev pub enters : PlainProgram → Scene → ℕ → Statement → Datum → Evaluator → Out Datum
-enters p o line loop v m =
-    in_body m.bodies (λ f below.
-    go_on (turns p o f line loop m.left v) (λ ls k. resume p o m.todo m.values (with_locals f ls ∷ below) k) (λ v k. unwind p o m.todo m.values below k v))
-
 -- that evaluates this expression
 abbrev pub evaluates : PlainProgram → Scene → ℕ → Expression → Evaluator → Out Datum
 evaluates p o line e m = value_of p o m.bodies line e m.left >>= λ v k. resume p o m.todo (v ∷ m.values) m.bodies k
+
+-- that evaluates an expression of the body that runs, whose value this work takes
+abbrev pub waits : PlainProgram → Scene → Work → ℕ → Expression → Evaluator → Out Datum
+waits p o work line e m = in_some m.bodies (value_of p o m.bodies line e m.left >>= λ v k. resume p o (work ∷ m.todo) (v ∷ m.values) m.bodies k)
 
 -- that begins a call with so many values
 abbrev pub begins : PlainProgram → Scene → ℕ → FunctionId → ℕ → Evaluator → Out Datum

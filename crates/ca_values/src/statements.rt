@@ -1,14 +1,11 @@
 //! The steps of statements. In a value method calls of operations, prints, creations and puts to fields do
 //! nothing.
 
-ghost use Rattle.std.specs.Prelude.{◌≡◌, ◌∷◌, ◌+◌, ℕ, IfOk, slice_set};
+ghost use Rattle.std.specs.Prelude.{◌≡◌, ◌∷◌, ◌+◌, ℕ, IfOk};
 ghost use Rattle.ca_program.specs.View.{program_view, expression_view, statement_view};
 ghost use Rattle.ca_program.specs.Plain.{put_local, if_else, return_value};
-ghost use Rattle.ca_meaning.specs.Operators.{assigned};
-ghost use Rattle.ca_meaning.specs.Expressions.{value_at};
-ghost use Rattle.ca_values.specs.Bodies.{with_local};
-ghost use Rattle.ca_values.specs.Cost.{size, statement_size, weights, Falls};
-ghost use Rattle.ca_values.specs.Resume.{rest_of, does, after};
+ghost use Rattle.ca_values.specs.Cost.{size, statement_size, weight, weights, Falls};
+ghost use Rattle.ca_values.specs.Resume.{rest_of, takes, does, waits, after};
 
 use crate::items::local;
 use crate::machine::Evaluator;
@@ -51,13 +48,13 @@ impl<'a> Evaluator<'a> {
                 Ok(Next::GoesOn)
             }
             StmtForm::Return(e) => Ok(self.return_value(program, outer, line, e)?),
-            StmtForm::PutField(_, _, _)
-            | StmtForm::PutItem(_, _, _, _)
-            | StmtForm::NewLocal(_, _)
-            | StmtForm::NewField(_, _)
-            | StmtForm::NewItem(_, _, _)
-            | StmtForm::Invoke(_, _, _)
-            | StmtForm::Print(_) => Ok(Next::GoesOn),
+            StmtForm::PutField(_, _, _) => Ok(Next::GoesOn),
+            StmtForm::PutItem(_, _, _, _) => Ok(Next::GoesOn),
+            StmtForm::NewLocal(_, _) => Ok(Next::GoesOn),
+            StmtForm::NewField(_, _) => Ok(Next::GoesOn),
+            StmtForm::NewItem(_, _, _) => Ok(Next::GoesOn),
+            StmtForm::Invoke(_, _, _) => Ok(Next::GoesOn),
+            StmtForm::Print(_) => Ok(Next::GoesOn),
         }
     }
 
@@ -101,18 +98,17 @@ impl<'a> Evaluator<'a> {
     {
         match self.value_of(program, outer, line, e) {
             Some(value) => {
-                self.values.push(value)?;
-                let next = self.assign_local(program, outer, l, op)?;
+                let next = self.assign_local(program, outer, l, op, value)?;
                 Ok(next)
             }
             None => {
-                self.then(Work::PutLocal(l, op), line, e)?;
-                Ok(Next::GoesOn)
+                let next = self.wait(program, outer, Work::PutLocal(l, op), line, e)?;
+                Ok(next)
             }
         }
     }
 
-    /// Puts what an operator gives for the old value and the value into a local.
+    /// Puts what an operator gives for the old value and a value into a local.
     #[inline]
     pub(crate) fn assign_local(
         &mut self,
@@ -120,13 +116,11 @@ impl<'a> Evaluator<'a> {
         outer: &Scene<'_>,
         l: LocalId,
         op: AssignOp,
+        value: Value,
     ) -> Result<Next, Memory>
-        ensures means { IfOk result (λ next. rest_of (program_view program.now) outer.now (Work.PutLocal l op ∷ self.old.todo) self.old ≡ after (program_view program.now) outer.now self.new next) }
+        ensures means { IfOk result (λ next. takes (program_view program.now) outer.now (Work.PutLocal l op) value self.old ≡ after (program_view program.now) outer.now self.new next) }
         ensures falls { IfOk result (λ _. Falls self.new.left (weights self.new.todo) self.old.left (weights (Work.PutLocal l op ∷ self.old.todo))) }
     {
-        let Some(value) = self.values.pop() else {
-            return Ok(Next::Spent);
-        };
         let Some(body) = self.bodies.running() else {
             return Ok(Next::Spent);
         };
@@ -151,13 +145,12 @@ impl<'a> Evaluator<'a> {
     {
         match self.truth_of(program, outer, line, c) {
             Some(truth) => {
-                self.values.push(Value::Bool(truth))?;
-                let next = self.choose(program, outer, a, b)?;
+                let next = self.choose(program, outer, a, b, Value::Bool(truth))?;
                 Ok(next)
             }
             None => {
-                self.then(Work::Choose(a, b), line, c)?;
-                Ok(Next::GoesOn)
+                let next = self.wait(program, outer, Work::Choose(a, b), line, c)?;
+                Ok(next)
             }
         }
     }
@@ -170,17 +163,15 @@ impl<'a> Evaluator<'a> {
         outer: &Scene<'_>,
         a: &'a Stmt,
         b: &'a Stmt,
+        condition: Value,
     ) -> Result<Next, Memory>
-        ensures means { IfOk result (λ next. rest_of (program_view program.now) outer.now (Work.Choose a.entry b.entry ∷ self.old.todo) self.old ≡ after (program_view program.now) outer.now self.new next) }
+        ensures means { IfOk result (λ next. takes (program_view program.now) outer.now (Work.Choose a.entry b.entry) condition self.old ≡ after (program_view program.now) outer.now self.new next) }
         ensures falls { IfOk result (λ _. Falls self.new.left (weights self.new.todo) self.old.left (weights (Work.Choose a.entry b.entry ∷ self.old.todo))) }
     {
-        let Some(value) = self.values.pop() else {
-            return Ok(Next::Spent);
-        };
         let Some(_) = self.bodies.running() else {
             return Ok(Next::Spent);
         };
-        match value {
+        match condition {
             Value::Bool(true) => self.todo.push(Work::Exec(a.line, a))?,
             _ => self.todo.push(Work::Exec(b.line, b))?,
         }
@@ -205,9 +196,29 @@ impl<'a> Evaluator<'a> {
                 Ok(next)
             }
             None => {
-                self.then(Work::GiveBack, line, e)?;
-                Ok(Next::GoesOn)
+                let next = self.wait(program, outer, Work::GiveBack, line, e)?;
+                Ok(next)
             }
         }
+    }
+
+    /// Puts the work on an expression of the body that runs before what takes its value.
+    #[inline]
+    pub(crate) fn wait(
+        &mut self,
+        program: &'a Program,
+        outer: &Scene<'_>,
+        taker: Work<'a>,
+        line: u32,
+        e: &'a Expr,
+    ) -> Result<Next, Memory>
+        ensures means { IfOk result (λ next. waits (program_view program.now) outer.now (taker.entry) line (expression_view e.now) self.old ≡ after (program_view program.now) outer.now self.new next) }
+        ensures falls { IfOk result (λ _. Falls self.new.left (weights self.new.todo) self.old.left (weights self.old.todo + (size (expression_view e.now) + weight (taker.entry) + 1))) }
+    {
+        let Some(_) = self.bodies.running() else {
+            return Ok(Next::Spent);
+        };
+        self.then(taker, line, e)?;
+        Ok(Next::GoesOn)
     }
 }

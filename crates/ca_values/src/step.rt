@@ -38,9 +38,18 @@ impl<'a> Evaluator<'a> {
             Work::Collect(line, method, arguments, first) => {
                 self.collect(program, outer, line, method, arguments, first)
             }
-            Work::PutLocal(local, op) => self.assign_local(program, outer, local, op),
-            Work::Choose(a, b) => self.choose(program, outer, a, b),
-            Work::Turn(line, s) => self.turn(program, outer, line, s),
+            Work::PutLocal(local, op) => match self.values.pop() {
+                Some(value) => self.assign_local(program, outer, local, op, value),
+                None => Ok(Next::Spent),
+            },
+            Work::Choose(a, b) => match self.values.pop() {
+                Some(value) => self.choose(program, outer, a, b, value),
+                None => Ok(Next::Spent),
+            },
+            Work::Turn(line, s) => match self.values.pop() {
+                Some(value) => self.enter_turn(program, outer, line, s, value),
+                None => Ok(Next::Spent),
+            },
             Work::GiveBack => match self.values.pop() {
                 Some(value) => self.give_back(program, outer, value),
                 None => Ok(Next::Spent),
