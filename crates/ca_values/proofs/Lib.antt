@@ -3,3 +3,4 @@ pub mod Locals
 pub mod Flows
 pub mod Steps
 pub mod CallSteps
+mod Examples
