@@ -4,11 +4,12 @@ use Rattle.std.specs.Prelude.{Bool, IfSome}
 use Rattle.ca_program.specs.Plain.{Expression}
 use Rattle.ca_model.specs.declared.value.Value.{Value as Datum}
 use Rattle.ca_model.specs.declared.value.Value.TheVariants.{Bool as Truth}
-use Rattle.ca_meaning.specs.Expressions.{Out, gives, traps, over, ◌>>=◌, Place, Calls, eval}
+use Rattle.ca_model.specs.declared.value.Slot.{Slot}
+use Rattle.ca_model.specs.declared.value.Object.{Object}
+use Rattle.ca_meaning.specs.Expressions.{Out, gives, traps, over, ◌>>=◌, Calls, eval}
 use Rattle.ca_meaning.specs.Flows.{Flow, goes_on, gives_back, stops, runs_out, and_on, with}
 use Rattle.ca_meaning.specs.Sections.{section_place}
-use Rattle.ca_direct.specs.declared.scene.Scene.{Scene}
-use Rattle.ca_direct.specs.Direct.{own_in, seen}
+use Rattle.ca_direct.specs.Direct.{direct}
 use Rattle.ca_direct.proofs.Steady.{direct_is}
 use Rattle.ca_values.specs.Resume.{go_on}
 
@@ -44,10 +45,10 @@ and_on_same (gives_back v s k) f g h = refl
 and_on_same (stops t s) f g h = refl
 and_on_same (runs_out s) f g h = refl
 
-pub value_found : (c : Calls) (p : Place) (s : Scene) (line : ℕ) (e : Expression) (k : ℕ) (o : Option Datum) → p ≡ section_place s.heap.now s.this (own_in s) line s.locals.now → IfSome o (λ v. seen s e ≡ gives v 0) → IfSome o (λ v. eval c p e k ≡ gives v k)
-value_found c p s line e k None is h = tt
-value_found c p s line e k (Some v) is h = rw is (direct_is c s.heap.now s.this (own_in s) line s.locals.now e k v h)
+pub value_found : (c : Calls) (h : List Object) (r : Datum) (own : List Slot) (line : ℕ) (ls : List Datum) (e : Expression) (k : ℕ) (o : Option Datum) → IfSome o (λ v. direct h r own ls e ≡ gives v 0) → IfSome o (λ v. eval c (section_place h r own line ls) e k ≡ gives v k)
+value_found c h r own line ls e k None is = tt
+value_found c h r own line ls e k (Some v) is = direct_is c h r own line ls e k v is
 
-pub truth_found : (c : Calls) (p : Place) (s : Scene) (line : ℕ) (e : Expression) (k : ℕ) (o : Option Bool) → p ≡ section_place s.heap.now s.this (own_in s) line s.locals.now → IfSome o (λ b. seen s e ≡ gives (Truth b) 0) → IfSome o (λ b. eval c p e k ≡ gives (Truth b) k)
-truth_found c p s line e k None is h = tt
-truth_found c p s line e k (Some b) is h = rw is (direct_is c s.heap.now s.this (own_in s) line s.locals.now e k (Truth b) h)
+pub truth_found : (c : Calls) (h : List Object) (r : Datum) (own : List Slot) (line : ℕ) (ls : List Datum) (e : Expression) (k : ℕ) (o : Option Bool) → IfSome o (λ b. direct h r own ls e ≡ gives (Truth b) 0) → IfSome o (λ b. eval c (section_place h r own line ls) e k ≡ gives (Truth b) k)
+truth_found c h r own line ls e k None is = tt
+truth_found c h r own line ls e k (Some b) is = direct_is c h r own line ls e k (Truth b) is

@@ -22,7 +22,6 @@ use Rattle.ca_meaning.specs.Flows.{Flow, goes_on, gives_back, and_on, with, choo
 use Rattle.ca_meaning.proofs.Fix.{again_runs}
 use Rattle.ca_direct.specs.declared.scene.Scene.{Scene}
 use Rattle.ca_values.specs.Bodies.{Body, with_locals}
-use Rattle.ca_values.specs.Cost.{size, again_size, statement_size, statement_sizes}
 use Rattle.ca_values.specs.declared.machine.Evaluator.{Evaluator}
 use Rattle.ca_values.specs.declared.work.Work.TheVariants.{Again}
 use Rattle.ca_values.specs.Resume.{value_of, parts_in, condition, runs, runs_all, comes_again, runs_body, turns, go_on, in_body, in_some, resume, unwind, rest_of, does, loops}
@@ -146,14 +145,3 @@ while_loops p o line s c b m is =
 pub for_loops : (p : PlainProgram) (o : Scene) (line : ℕ) (s : Bor Stmt) (site : LoopId) (part : FirstPart) (first : Box Stmt Global) (c : Expr) (next b : Box Stmt Global) (m : Evaluator) → s.now.kind ≡ For site part first c next b → rest_of p o (Again line s ∷ m.todo) m ≡ loops p o line (expression_view c) (statement_view s.now) m
 for_loops p o line s site part first c next b m is =
     in_body_same m.bodies _ _ (λ f below. for_again p o f (λ ls k. resume p o m.todo m.values (with_locals f ls ∷ below) k) (λ v k. unwind p o m.todo m.values below k v) line s.now site part first c next b m.left is)
-
--- Sizes of statements in memory
-
-pub block_size : (s : Stmt) (ss : Vec Stmt Global) → s.kind ≡ Block ss → statement_size (statement_view s) ≡ statement_sizes (statements_view ss.items) + 2
-block_size s ss is = ap (λ form. statement_size (form_view form s.line)) is ∙ ap statement_size (block_is s.line ss)
-
-pub while_size : (s : Stmt) (c : Expr) (b : Box Stmt Global) → s.kind ≡ While c b → (statement_size (statement_view s) ≡ size (expression_view c) + 4) × (again_size (statement_view s) ≡ size (expression_view c) + 3)
-while_size s c b is = rw is (refl, refl)
-
-pub for_size : (s : Stmt) (site : LoopId) (part : FirstPart) (first : Box Stmt Global) (c : Expr) (next b : Box Stmt Global) → s.kind ≡ For site part first c next b → (statement_size (statement_view s) ≡ statement_size (statement_view first.value) + size (expression_view c) + 4) × (again_size (statement_view s) ≡ size (expression_view c) + 3)
-for_size s site part first c next b is = rw is (refl, refl)

@@ -5,7 +5,7 @@ ghost use Rattle.ca_program.specs.View.{program_view, expression_view, expressio
 ghost use Rattle.ca_program.specs.Plain.{value_call};
 ghost use Rattle.ca_meaning.specs.Expressions.{decided, one_in, items_in, value_at};
 ghost use Rattle.ca_values.specs.Cost.{size, sizes, weights, Falls};
-ghost use Rattle.ca_values.specs.Resume.{rest_of, evaluates, after, here, item_at, item_or_trap};
+ghost use Rattle.ca_values.specs.Resume.{rest_of, evaluates, after, this_in, slots_for, locals_in, item_at, item_or_trap};
 
 use crate::items::{field, item, local, own_field, own_item};
 use crate::machine::{Evaluator, trapped};
@@ -87,7 +87,7 @@ impl<'a> Evaluator<'a> {
     /// The receiver of the body that runs.
     #[inline]
     fn this(&self, outer: &Scene<'_>) -> Value
-        ensures { (line : ℕ) → (here outer.now self.now.bodies line).this ≡ result }
+        ensures { this_in outer.now self.now.bodies ≡ result }
     {
         self.scene(outer).this
     }
@@ -95,7 +95,7 @@ impl<'a> Evaluator<'a> {
     /// A local of the body that runs, and null where there is no such local.
     #[inline]
     fn local(&self, outer: &Scene<'_>, index: u32) -> Value
-        ensures { (line : ℕ) → value_at (here outer.now self.now.bodies line).locals index ≡ result }
+        ensures { value_at (locals_in outer.now self.now.bodies) index ≡ result }
     {
         local(self.scene(outer).locals, index)
     }
@@ -103,7 +103,7 @@ impl<'a> Evaluator<'a> {
     /// The single value of an own field of the body that runs, and null where there is none.
     #[inline]
     fn own(&self, outer: &Scene<'_>, f: FieldId) -> Value
-        ensures { (line : ℕ) → one_in (slice_get (here outer.now self.now.bodies line).own f.field) ≡ result }
+        ensures { one_in (slice_get (slots_for outer.now self.now.bodies) f.field) ≡ result }
     {
         own_field(self.scene(outer), f)
     }
@@ -111,7 +111,7 @@ impl<'a> Evaluator<'a> {
     /// The item that an index names in an own array field of the body that runs, if there is one.
     #[inline]
     fn own_item(&self, outer: &Scene<'_>, f: FieldId, index: Value) -> Option<Value>
-        ensures { (line k : ℕ) → item_at line (items_in (slice_get (here outer.now self.now.bodies line).own f.field)) index k ≡ item_or_trap line result k }
+        ensures { (line k : ℕ) → item_at line (items_in (slice_get (slots_for outer.now self.now.bodies) f.field)) index k ≡ item_or_trap line result k }
     {
         own_item(self.scene(outer), f, index)
     }

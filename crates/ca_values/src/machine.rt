@@ -1,6 +1,6 @@
 //! The state of an evaluation.
 
-ghost use Rattle.std.specs.Prelude.{◌≡◌, ◌∷◌, ℕ, [], IfOk, IfSome};
+ghost use Rattle.std.specs.Prelude.{◌≡◌, ◌∷◌, [], IfOk, IfSome};
 ghost use Rattle.ca_program.specs.View.{program_view, expression_view};
 ghost use Rattle.ca_model.specs.declared.value.Value.TheVariants.{Bool as Truth};
 ghost use Rattle.ca_meaning.specs.Expressions.{gives, eval};
@@ -30,7 +30,7 @@ pub struct Evaluator<'a> {
 }
 
 impl<'a> Evaluator<'a> {
-    ghost use Rattle.ca_values.specs.Resume.{here, rest_of, value_of};
+    ghost use Rattle.ca_values.specs.Resume.{this_in, slots_for, locals_in, rest_of, value_of};
 
     /// An evaluator. It takes no memory before its first call.
     pub fn new(alloc: Global) -> Evaluator<'a> {
@@ -112,7 +112,10 @@ impl<'a> Evaluator<'a> {
     /// What expressions are read in: the body that runs, or else the scene of the outermost expression.
     #[inline]
     pub(crate) fn scene<'s>(&'s self, outer: &Scene<'s>) -> Scene<'s>
-        ensures { (line : ℕ) → here outer.now self.now.bodies line ≡ section_place result.heap.now result.this (own_in result) line result.locals.now }
+        ensures heap { result.heap.now ≡ outer.now.heap.now }
+        ensures this { result.this ≡ this_in outer.now self.now.bodies }
+        ensures own { own_in result ≡ slots_for outer.now self.now.bodies }
+        ensures locals { result.locals.now ≡ locals_in outer.now self.now.bodies }
     {
         match self.bodies.running() {
             Some(body) => Scene {

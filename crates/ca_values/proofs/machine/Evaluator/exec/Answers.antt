@@ -2,7 +2,8 @@ use Rattle.std.proofs.Common.{◌∙◌, refl, ap, arith}
 use Rattle.ca_program.specs.View.{program_view}
 use Rattle.ca_values.specs.Bodies.{Body, with_locals}
 use Rattle.ca_values.specs.Resume.{go_on, resume, unwind}
-use Rattle.ca_values.proofs.Steps.{block_runs, while_begins, for_begins, block_size, while_size, for_size}
+use Rattle.ca_values.proofs.Steps.{block_runs, while_begins, for_begins}
+use Rattle.ca_values.proofs.Sizes.{block_size, while_size, for_size}
 use Rattle.ca_values.proofs.machine.Evaluator.exec.Goals as goal
 
 pub returns-in_ok-push-in-Block : goal.returns-in_ok-push-in-Block
