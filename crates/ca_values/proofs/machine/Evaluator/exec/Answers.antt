@@ -1,7 +1,7 @@
 use Rattle.std.proofs.Common.{◌∙◌, refl, ap, arith}
-use Rattle.ca_program.specs.View.{program_view}
-use Rattle.ca_values.specs.Bodies.{Body, with_locals}
-use Rattle.ca_values.specs.Resume.{go_on, resume, unwind}
+use Rattle.ca_program.specs.View.{program_view, form_view}
+use Rattle.ca_values.specs.Bodies.{Body}
+use Rattle.ca_values.specs.Resume.{does}
 use Rattle.ca_values.proofs.Steps.{block_runs, while_begins, for_begins}
 use Rattle.ca_values.proofs.Sizes.{block_size, while_size, for_size}
 use Rattle.ca_values.proofs.machine.Evaluator.exec.Goals as goal
@@ -39,3 +39,23 @@ returns-in_ok-push-in-For-2 c =
       means = rw c.in-Some.ensures (for_begins p c.args.outer.now f _ _ c.args.line c.args.s.now l.field-0 l.field-1 l.first l.field-3 l.field-4 l.field-5 m.left l.is ∙ rw (c.in_ok-push-in-For-2.ensures, c.in_ok-push-in-For.ensures, c.deref-in-For.ensures) refl);
       falls = rw (c.in_ok-push-in-For-2.ensures, c.in_ok-push-in-For.ensures, c.deref-in-For.ensures, size.0, size.1) (omega arith, λ is. omega arith);
     }
+
+pub returns-in_ok-put_local-in-PutLocal-clause-means :
+    goal.returns-in_ok-put_local-in-PutLocal-clause-means
+returns-in_ok-put_local-in-PutLocal-clause-means c =
+    let s = c.args.s.now in
+    ap (λ form. does (program_view c.args.program.now) c.args.outer.now c.args.line (form_view form s.line) c.args.self.now) c.in-PutLocal.is
+    ∙ c.in_ok-put_local-in-PutLocal.ensures.means s.line
+
+pub returns-in_ok-branch-in-If-clause-means : goal.returns-in_ok-branch-in-If-clause-means
+returns-in_ok-branch-in-If-clause-means c =
+    let s = c.args.s.now in
+    ap (λ form. does (program_view c.args.program.now) c.args.outer.now c.args.line (form_view form s.line) c.args.self.now) c.in-If.is
+    ∙ (rw (c.deref.ensures, c.deref-in-If.ensures) at c.in_ok-branch-in-If.ensures.means s.line)
+
+pub returns-in_ok-return_value-in-Return-clause-means :
+    goal.returns-in_ok-return_value-in-Return-clause-means
+returns-in_ok-return_value-in-Return-clause-means c =
+    let s = c.args.s.now in
+    ap (λ form. does (program_view c.args.program.now) c.args.outer.now c.args.line (form_view form s.line) c.args.self.now) c.in-Return.is
+    ∙ c.in_ok-return_value-in-Return.ensures.means s.line
