@@ -6,14 +6,14 @@ use Rattle.ca_values.proofs.machine.Evaluator.run.Given as goal
 
 abbrev pub invariant-turns : goal.invariant-turns
 invariant-turns l =
-    rest_of (program_view l.program) l.outer l.initial.self.todo l.initial.self ≡ rest_of (program_view l.program) l.outer l.self.todo l.self
+    rest_of (program_view l.program) l.outer l.fn.self.todo l.fn.self ≡ rest_of (program_view l.program) l.outer l.self.todo l.self
 
 abbrev pub decreases-turns : goal.decreases-turns
 decreases-turns l = l.self.left
 
 abbrev pub invariant-pieces : goal.invariant-pieces
 invariant-pieces l =
-    (l.self.left ≡ l.before) × (rest_of (program_view l.program) l.outer l.initial.self.todo l.initial.self ≡ rest_of (program_view l.program) l.outer l.self.todo l.self)
+    (l.self.left ≡ l.before) × (rest_of (program_view l.program) l.outer l.fn.self.todo l.fn.self ≡ rest_of (program_view l.program) l.outer l.self.todo l.self)
 
 abbrev pub decreases-pieces : goal.decreases-pieces
 decreases-pieces l = weights l.self.todo

@@ -18,4 +18,4 @@ returns c =
     let s = c.args.scene in
     let b = c.in_ok-begin_with.ensures in
     c.in_ok-found.ensures
-    ∙ rw (b.todo, b.values, b.bodies, b.left) (then_gives (eval (functions_of (program_view c.args.program.now).functions s.heap.now).call (section_place s.heap.now s.this (own_in s) c.args.line s.locals.now) (expression_view c.args.e.now) c.args.left))
+    ∙ rw (b.todo, b.bodies, b.left) (then_gives (eval (functions_of (program_view c.args.program.now).functions s.heap.now).call (section_place s.heap.now s.this (own_in s) c.args.line s.locals.now) (expression_view c.args.e.now) c.args.left))
