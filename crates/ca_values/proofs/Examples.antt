@@ -1,6 +1,6 @@
 -- Worked examples of the definitions.
 use Rattle.std.proofs.Common.{Bor, ◌≡◌, ℕ, List, [], ◌∷◌, refl}
-use Rattle.std.specs.Prelude.{true}
+use Rattle.std.specs.Prelude.{true, pos}
 use Rattle.ca_tree.specs.declared.tree.BinaryOp.TheVariants.{Plus}
 use Rattle.ca_program.specs.declared.program.FunctionId.{FunctionId}
 use Rattle.ca_program.specs.declared.program.Stmt.{Stmt}
@@ -28,7 +28,7 @@ given_back_to_the_caller : (p : PlainProgram) (o : Scene) (ss : Bor (List Stmt))
 given_back_to_the_caller p o ss v vs below k = refl
 
 -- `m(1) + 2`
-size_of_a_sum : (m : FunctionId) → size (binary Plus (value_call this m (expression_and (number 1) no_expressions)) (number 2)) ≡ 10
+size_of_a_sum : (m : FunctionId) → size (binary Plus (value_call this m (expression_and (number (pos 1)) no_expressions)) (number (pos 2))) ≡ 10
 size_of_a_sum m = refl
 
 -- of a loop the condition counts, and not the body

@@ -53,7 +53,6 @@ block_runs p o f line s ss k is =
     ∙ ap (λ st. runs p o f line st k) (block_is s.line ss)
 
 module _ (p : PlainProgram) (o : Scene) (f : Body) (go : List Datum → ℕ → Out Datum) (back : Datum → ℕ → Out Datum) where
-
   -- a list of statements is its first and then the rest
   pub list_runs : (x : Stmt) (xs ss : List Stmt) (k : ℕ) → ss ≡ x ∷ xs → go_on (runs_all p o f (statements_view ss) k) go back ≡ go_on (runs p o f x.line (statement_view x) k) (λ ls k. go_on (runs_all p o (with_locals f ls) (statements_view xs) k) go back) back
   list_runs x xs ss k is = rw is (go_on_and_on (runs p o f (line_of (statement_view x)) (statement_view x) k) _ go back ∙ rw (line_is x) refl)
