@@ -16,15 +16,15 @@ use Rattle.ca_model.specs.declared.value.Value.{Value as Datum}
 use Rattle.ca_model.specs.declared.value.Value.TheVariants.{Long, Bool as Truth, Null, Ref}
 use Rattle.ca_model.specs.declared.value.TrapKind.TheVariants.{NullPointer}
 use Rattle.ca_model.specs.Slots.{start_of}
-use Rattle.ca_meaning.specs.Expressions.{Out, gives, traps, over, ◌>>=◌, trap_at, take_step, pointed, eval, eval_all}
+use Rattle.ca_meaning.specs.Expressions.{Out, gives, traps, over, ◌>>=◌, trap_at, eval, eval_all}
 use Rattle.ca_meaning.specs.Flows.{Flow, goes_on, gives_back, stops, runs_out, exec_all}
 use Rattle.ca_meaning.specs.Functions.{body_of, locals_of, value_of_body, function_parts, functions_of}
 use Rattle.ca_meaning.proofs.Fix.{call_runs}
 use Rattle.ca_direct.specs.declared.scene.Scene.{Scene}
 use Rattle.ca_values.specs.declared.work.Work.{Work}
 use Rattle.ca_values.specs.declared.work.Work.TheVariants.{Seq, Leave}
-use Rattle.ca_values.specs.Bodies.{Body, with_locals}
-use Rattle.ca_values.specs.Resume.{here, calls_in, value_of, values_of, runs_all, pop, taken, go_on, called, collected, resume, others_in}
+use Rattle.ca_values.specs.Bodies.{Body}
+use Rattle.ca_values.specs.Resume.{here, calls_in, value_of, values_of, pop, taken, go_on, called, collected, resume, others_in}
 use Rattle.ca_values.specs.Cost.{size, sizes}
 use Rattle.ca_values.proofs.Flows.{then_then, then_same}
 

@@ -1,5 +1,5 @@
 -- One step of what is left to do: lists of statements and loops.
-use Rattle.std.proofs.Common.{Bor, ◌≡◌, ℕ, zero, suc, ◌<◌, ◌+◌, ◌-◌, List, [], ◌∷◌, refl, ap, sym, ◌∙◌, arith}
+use Rattle.std.proofs.Common.{Bor, ◌≡◌, ℕ, zero, suc, ◌<◌, ◌-◌, List, [], ◌∷◌, refl, ap, sym, ◌∙◌, arith}
 use Rattle.std.specs.Prelude.{true, slice_set}
 use Rattle.std.specs.declared.boxed.Box.{Box}
 use Rattle.std.specs.declared.alloc.Global.{Global}
@@ -11,14 +11,14 @@ use Rattle.ca_program.specs.declared.program.LocalId.{LocalId}
 use Rattle.ca_program.specs.declared.program.LoopId.{LoopId}
 use Rattle.ca_program.specs.declared.program.FirstPart.{FirstPart}
 use Rattle.ca_program.specs.declared.program.StmtForm.{StmtForm, Block, While, For, Block', PutLocal, PutField, PutItem, NewLocal, NewField, NewItem, Invoke, If', While', For', Return, Print}
-use Rattle.ca_program.specs.Plain.{PlainProgram, Expression, Statement, Statements, put_local, while_loop, for_loop, if_else, return_value, statement_and}
+use Rattle.ca_program.specs.Plain.{PlainProgram, Expression, Statement, put_local, while_loop, for_loop, if_else, return_value}
 use Rattle.ca_program.specs.View.{form_view, statement_view, statements_view, expression_view}
 use Rattle.ca_program.proofs.Rows.{block_is}
 use Rattle.ca_model.specs.declared.value.Value.{Value as Datum}
 use Rattle.ca_model.specs.declared.value.Value.TheVariants.{Bool as Truth}
 use Rattle.ca_meaning.specs.Operators.{assigned}
-use Rattle.ca_meaning.specs.Expressions.{Out, gives, ◌>>=◌, take_step, value_at}
-use Rattle.ca_meaning.specs.Flows.{Flow, goes_on, gives_back, and_on, with, choose, line_of, exec}
+use Rattle.ca_meaning.specs.Expressions.{Out, gives, ◌>>=◌, value_at}
+use Rattle.ca_meaning.specs.Flows.{goes_on, gives_back, choose, line_of, exec}
 use Rattle.ca_meaning.proofs.Fix.{again_runs}
 use Rattle.ca_direct.specs.declared.scene.Scene.{Scene}
 use Rattle.ca_values.specs.Bodies.{Body, with_locals}

@@ -1,5 +1,5 @@
 -- The bodies of value methods that run.
-use Rattle.std.specs.Prelude.{◌≡◌, ℕ, List, [], ◌∷◌, take, drop, slice_set}
+use Rattle.std.specs.Prelude.{ℕ, List, [], ◌∷◌, take, drop, slice_set}
 use Rattle.ca_model.specs.declared.value.Value.{Value as Datum}
 use Rattle.ca_values.specs.declared.bodies.Entry.{Entry}
 

@@ -1,9 +1,7 @@
 -- How much work is left, at most. Work that a call or a turn of a loop brings is never counted, since it
 -- takes a step.
 use Rattle.std.specs.Prelude.{◌≡◌, ℕ, ◌+◌, ◌≤◌, ◌<◌, List, [], ◌∷◌, drop}
-use Rattle.ca_program.specs.declared.program.Expr.{Expr}
-use Rattle.ca_program.specs.declared.program.Stmt.{Stmt}
-use Rattle.ca_program.specs.Plain.{Expression, Expressions, number, truth, null, this, local, own, own_item, read, read_item, value_call, unary, binary, no_expressions, expression_and, Statement, Statements, block, put_local, put_field, put_item, new_local, new_field, new_item, invoke, if_else, while_loop, for_loop, return_value, print_value, no_statements, statement_and}
+use Rattle.ca_program.specs.Plain.{Expression, Expressions, number, truth, null, this, local, own, own_item, read, read_item, value_call, unary, binary, no_expressions, expression_and, Statement, Statements, block, put_local, if_else, while_loop, for_loop, return_value, no_statements, statement_and}
 use Rattle.ca_program.specs.View.{expression_view, expressions_view, statement_view, statements_view}
 use Rattle.ca_values.specs.declared.work.Work.{Work}
 use Rattle.ca_values.specs.declared.work.Work.TheVariants.{Evaluate, ReadField, OwnItem, CheckObject, ReadItem, Sign, CheckLeft, Apply, Collect, PutLocal, Choose, Turn, GiveBack, Exec, Seq, Again, Leave}

@@ -1,12 +1,12 @@
 -- What is left to do, as a meaning.
-use Rattle.std.specs.Prelude.{◌≡◌, ℕ, zero, suc, List, [], ◌∷◌, Option, Some, None, slice_get, slice_set, drop}
+use Rattle.std.specs.Prelude.{ℕ, zero, suc, List, [], ◌∷◌, Option, Some, None, slice_get, slice_set, drop}
 use Rattle.ca_program.specs.declared.program.FunctionId.{FunctionId}
 use Rattle.ca_program.specs.declared.program.ValueType.{ValueType}
 use Rattle.ca_program.specs.declared.program.Expr.{Expr}
 use Rattle.ca_program.specs.Plain.{PlainProgram, PlainMethod, Expression, Expressions, Statement, Statements, while_loop, for_loop}
 use Rattle.ca_program.specs.View.{expression_view, expressions_view, statement_view, statements_view}
 use Rattle.ca_model.specs.declared.value.Value.{Value as Datum}
-use Rattle.ca_model.specs.declared.value.Value.TheVariants.{Null, Ref}
+use Rattle.ca_model.specs.declared.value.Value.TheVariants.{Null}
 use Rattle.ca_model.specs.declared.value.Slot.{Slot}
 use Rattle.ca_model.specs.declared.value.TrapKind.TheVariants.{OutOfRange}
 use Rattle.ca_meaning.specs.Operators.{operated, signed, assigned}

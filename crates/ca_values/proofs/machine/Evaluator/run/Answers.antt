@@ -1,4 +1,4 @@
-use Rattle.std.proofs.Common.{◌≡◌, sym, ◌∙◌, refl}
+use Rattle.std.proofs.Common.{sym, ◌∙◌, refl}
 use Rattle.ca_values.proofs.machine.Evaluator.run.Goals as goal
 
 pub returns-in-None : goal.returns-in-None

@@ -1,4 +1,4 @@
-use Rattle.std.proofs.Common.{◌∙◌, refl, drop}
+use Rattle.std.proofs.Common.{◌∙◌, refl}
 use Rattle.ca_program.specs.View.{program_view}
 use Rattle.ca_values.specs.Bodies.{Body}
 use Rattle.ca_values.proofs.Steps.{list_runs}
