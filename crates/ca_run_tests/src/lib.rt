@@ -20,5 +20,6 @@ mod runs;
 mod scenes;
 #[cfg(test)]
 mod separable;
+mod values;
 #[cfg(test)]
 mod verdicts;
