@@ -20,6 +20,7 @@ mod runs;
 mod scenes;
 #[cfg(test)]
 mod separable;
+#[cfg(test)]
 mod values;
 #[cfg(test)]
 mod verdicts;

@@ -19,7 +19,13 @@ const TEXT: &str = "class A { public: long x;
 
 /// What a call of a value method on object 0 with a number gives, and the own field 0 besides, which is
 /// 5 in the own slots of the expression and 0 in the heap. The evaluator serves twice.
-fn found(alloc: Global, program: &Program, method: u32, n: i64, left: u64) -> Result<Found, Memory> {
+fn found(
+    alloc: Global,
+    program: &Program,
+    method: u32,
+    n: i64,
+    left: u64,
+) -> Result<Found, Memory> {
     let mut heap = Heap::new(alloc);
     let Ok(_) = heap.create(program, ClassId(0)) else {
         return Err(Memory);
@@ -34,11 +40,7 @@ fn found(alloc: Global, program: &Program, method: u32, n: i64, left: u64) -> Re
     };
     let mut arguments = Vec::new(alloc);
     arguments.push(Expr::Number(n))?;
-    let call = Expr::Value(
-        Box::new(alloc, Expr::This)?,
-        FunctionId(method),
-        arguments,
-    );
+    let call = Expr::Value(Box::new(alloc, Expr::This)?, FunctionId(method), arguments);
     let field = FieldId {
         class: ClassId(0),
         field: 0,
