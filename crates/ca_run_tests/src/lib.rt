@@ -19,4 +19,8 @@ mod runs;
 #[cfg(test)]
 mod scenes;
 #[cfg(test)]
+mod separable;
+#[cfg(test)]
+mod values;
+#[cfg(test)]
 mod verdicts;

@@ -1,0 +1,10 @@
+pub mod Tasks
+pub mod Comparing
+pub mod Climbing
+pub mod Orders
+pub mod Paths
+pub mod Cells
+pub mod Levels
+pub mod LogRuns
+pub mod Growing
+pub mod Examples

@@ -1,0 +1,7 @@
+pub mod Stacks
+pub mod Locals
+pub mod Flows
+pub mod Steps
+pub mod Sizes
+pub mod CallSteps
+mod Examples

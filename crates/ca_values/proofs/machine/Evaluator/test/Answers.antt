@@ -1,0 +1,18 @@
+use Rattle.std.proofs.Common.{◌∙◌}
+use Rattle.ca_program.specs.View.{program_view, expression_view}
+use Rattle.ca_values.proofs.Steps.{found_in, waits_in}
+use Rattle.ca_values.proofs.machine.Evaluator.test.Goals as goal
+
+pub returns-in_ok-next-in-Some-clause-means : goal.returns-in_ok-next-in-Some-clause-means
+returns-in_ok-next-in-Some-clause-means c =
+    let m = c.args.self.now in
+    let p = program_view c.args.program.now in
+    found_in p c.args.outer.now m.bodies c.args.line (expression_view c.args.c.now) m.left c.in-Some.value _ c.in-Some.ensures
+    ∙ c.in_ok-next-in-Some.ensures.means
+
+pub returns-in_ok-next-in-None-clause-means : goal.returns-in_ok-next-in-None-clause-means
+returns-in_ok-next-in-None-clause-means c =
+    let m = c.args.self.now in
+    let p = program_view c.args.program.now in
+    waits_in p c.args.outer.now m.bodies c.args.line (expression_view c.args.c.now) m.left _
+    ∙ c.in_ok-next-in-None.ensures.means

@@ -1,0 +1,4 @@
+pub mod Bodies
+pub mod Cost
+pub mod Found
+pub mod Resume
