@@ -49,3 +49,7 @@ or_else false b c = refl
 pub option_or_else : {A : Type 0} (a b c : Option A) → option_or (option_or a b) c ≡ option_or a (option_or b c)
 option_or_else None b c = refl
 option_or_else (Some x) b c = refl
+
+pub or_false : (b : Bool) → (b || false) ≡ b
+or_false true = refl
+or_false false = refl

@@ -157,6 +157,16 @@ fn no_call(offence: Option<Offence>) -> Found
     }
 }
 
+/// What is found in a call of an operation.
+fn one_call(offence: Option<Offence>) -> Found
+    ensures { result ≡ record { offence = offence; calls = true } }
+{
+    Found {
+        offence,
+        calls: true,
+    }
+}
+
 impl<'a> Known<'a> {
     pub(crate) fn is_written(&self, field: FieldId) -> bool
         ensures { result ≡ is_written self.now.written.now field }
@@ -240,9 +250,16 @@ impl<'a> Known<'a> {
         None
     }
 
+    /// The first offence in an item that is a target.
+    fn item(&self, at: Spot, field: FieldId, index: &Expr) -> Option<Offence>
+        ensures { result ≡ option_or (access (known self.now.written.now self.now.readers.now) at.line at.after field) (offence_in (known self.now.written.now self.now.readers.now) at.line at.after (expression_view index.now)) }
+    {
+        self.access(at, field).or(self.expression(at, index))
+    }
+
     /// What is found in a statement.
     #[cycle(statements)]
-    #[tactic(auto, using(crate::proofs::HeldCalls::some_of_both, crate::proofs::HeldCalls::line_is))]
+    #[tactic(auto, using(crate::proofs::HeldCalls::some_of_both, crate::proofs::HeldCalls::line_is, crate::proofs::HeldCalls::or_false, crate::proofs::HeldCalls::option_or_else))]
     fn statement(&self, at: Spot, s: &Stmt) -> Found
         requires callless { at.callless ≡ true → holds_call (statement_view s.now) ≡ false }
         ensures offence { result.offence ≡ offence_of (known self.now.written.now self.now.readers.now) at.line at.after (statement_view s.now) }
@@ -254,55 +271,31 @@ impl<'a> Known<'a> {
                 self.statements(in_block(at, s, stmts), stmts)
             }
             StmtForm::PutLocal(_, _, e) | StmtForm::Return(e) => no_call(self.expression(at, e)),
-            StmtForm::PutField(f, _, e) => {
-                no_call(self.access(at, *f).or(self.expression(at, e)))
+            StmtForm::PutField(f, _, e) => no_call(self.access(at, *f).or(self.expression(at, e))),
+            StmtForm::PutItem(f, index, _, e) => {
+                no_call(self.item(at, *f, index).or(self.expression(at, e)))
             }
-            StmtForm::PutItem(f, index, _, e) => no_call(
-                self.access(at, *f)
-                    .or(self.expression(at, index))
-                    .or(self.expression(at, e)),
-            ),
             StmtForm::NewLocal(..) => no_call(creation(at)),
             StmtForm::NewField(f, _) => no_call(self.access(at, *f).or(creation(at))),
-            StmtForm::NewItem(f, index, _) => no_call(
-                self.access(at, *f)
-                    .or(self.expression(at, index))
-                    .or(creation(at)),
-            ),
-            StmtForm::Invoke(receiver, _, arguments) => Found {
-                offence: self
-                    .expression(at, receiver)
-                    .or(self.expressions(at, arguments)),
-                calls: true,
-            },
-            StmtForm::If(cond, yes, no) => {
-                let offence = self.expression(at, cond);
-                let one = self.statement(at.on(yes.line), yes);
-                let other = self.statement(at.on(no.line), no);
-                Found {
-                    offence: offence.or(one.offence).or(other.offence),
-                    calls: one.calls || other.calls,
-                }
+            StmtForm::NewItem(f, index, _) => no_call(self.item(at, *f, index).or(creation(at))),
+            StmtForm::Invoke(receiver, _, arguments) => {
+                let offence = self.expression(at, receiver);
+                one_call(offence.or(self.expressions(at, arguments)))
             }
+            StmtForm::If(cond, yes, no) => no_call(self.expression(at, cond))
+                .then(self.statement(at.on(yes.line), yes))
+                .then(self.statement(at.on(no.line), no)),
             StmtForm::While(cond, body) => {
                 let at = in_loop(at, s);
                 let offence = self.expression(at, cond);
-                let turn = self.statement(at.on(body.line), body);
-                Found {
-                    offence: offence.or(turn.offence),
-                    calls: turn.calls,
-                }
+                no_call(offence).then(self.statement(at.on(body.line), body))
             }
             StmtForm::For(_, _, first, cond, next, body) => {
                 let at = in_loop(at, s);
-                let first = self.statement(at, first);
-                let offence = self.expression(at, cond);
-                let next = self.statement(at, next);
-                let turn = self.statement(at.on(body.line), body);
-                Found {
-                    offence: first.offence.or(offence).or(next.offence).or(turn.offence),
-                    calls: first.calls || (next.calls || turn.calls),
-                }
+                let begun = self.statement(at, first);
+                let begun = begun.then(no_call(self.expression(at, cond)));
+                let turn = self.statement(at, next);
+                begun.then(turn.then(self.statement(at.on(body.line), body)))
             }
             StmtForm::Print(_) => no_call(offence_if(true, at.line, Why::Prints)),
         }
