@@ -14,7 +14,6 @@ mod bytes;
 mod front;
 pub mod laws;
 mod place;
-mod spellings;
 
 ghost use Rattle.std.specs.Prelude.{◌≡◌, ◌≤◌, ◌^◌, length, Err, IfOk};
 ghost use Rattle.ca_tree.specs.declared.name.Place.{Place};

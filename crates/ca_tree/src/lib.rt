@@ -7,10 +7,13 @@
 #![tactic(auto)]
 
 pub mod name;
+pub mod operators;
+pub mod spellings;
 pub mod token;
 pub mod tree;
 
 pub use name::{Name, Place};
+pub use operators::LEVELS;
 pub use token::{Keyword, Kind, Sign, Token};
 pub use tree::{
     AssignOp, BinaryOp, ClassNode, ExprKind, ExprNode, FieldNode, Member, MethodNode, ParamNode,
