@@ -7,3 +7,5 @@ pub mod Parallel
 pub mod Marks
 pub mod Calls
 pub mod Lists
+pub mod Notes
+pub mod Accounts

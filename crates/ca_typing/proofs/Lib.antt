@@ -8,6 +8,8 @@ mod Returning
 mod Methods
 mod Members
 mod Typing
+mod Ascending
+mod Numbers
 mod LiteralTokens
 mod LiteralExpressions
 mod LiteralTrees

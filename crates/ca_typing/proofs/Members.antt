@@ -50,13 +50,13 @@ members_strict s j (method_member m) b h =
     let w = made_fine (both j (judge_method s m)) (λ (r : Members × PlainMethod). with_method r.0 r.1.result r.1) b h in
     (w.0.0, (both_fine j (judge_method s m) w.0 w.1).0)
 
-field_added : (c : MemberStanding) (a b : Members) (f : FieldNode) → add_member c (fine a) (field_member f) ≡ fine b → (i : FieldInfo) × (judge_field_member c f ≡ fine i) × (with_field a i ≡ b)
+pub field_added : (c : MemberStanding) (a b : Members) (f : FieldNode) → add_member c (fine a) (field_member f) ≡ fine b → (i : FieldInfo) × (judge_field_member c f ≡ fine i) × (with_field a i ≡ b)
 field_added c a b f h =
     let w = made_fine (both (fine a) (judge_field_member c f)) (λ (r : Members × FieldInfo). with_field r.0 r.1) b h in
     let d = both_fine (fine a) (judge_field_member c f) w.0 w.1 in
     (w.0.1, d.1, ap (λ x. with_field x w.0.1) (same_fine a w.0.0 d.0) ∙ w.2)
 
-method_added : (c : MemberStanding) (a b : Members) (m : MethodTree) → add_member c (fine a) (method_member m) ≡ fine b → (x : PlainMethod) × (judge_method c m ≡ fine x) × (with_method a x.result x ≡ b)
+pub method_added : (c : MemberStanding) (a b : Members) (m : MethodTree) → add_member c (fine a) (method_member m) ≡ fine b → (x : PlainMethod) × (judge_method c m ≡ fine x) × (with_method a x.result x ≡ b)
 method_added c a b m h =
     let w = made_fine (both (fine a) (judge_method c m)) (λ (r : Members × PlainMethod). with_method r.0 r.1.result r.1) b h in
     let d = both_fine (fine a) (judge_method c m) w.0 w.1 in

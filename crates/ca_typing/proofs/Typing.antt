@@ -22,12 +22,12 @@ use Rattle.ca_typing.proofs.Values.{MeaningTyped, ClassesTyped}
 use Rattle.ca_typing.proofs.Statements.{Stands, in_order_typed, statements_typed}
 use Rattle.ca_typing.proofs.Members.{RowTyped, row_at, Numbered, numbers_behind, row_typed, MembersTyped, members_typed}
 
-classes_strict : (s : ClassStanding) (j : Judged Parts) (t : ClassTree) (b : Parts) → add_class s j t ≡ fine b → (a : Parts) × (j ≡ fine a)
+pub classes_strict : (s : ClassStanding) (j : Judged Parts) (t : ClassTree) (b : Parts) → add_class s j t ≡ fine b → (a : Parts) × (j ≡ fine a)
 classes_strict s j t b h =
     let w = made_fine (both j (judge_class s t)) (λ (r : Parts × Members). with_class r.0 t.name r.1) b h in
     (w.0.0, (both_fine j (judge_class s t) w.0 w.1).0)
 
-class_added : (c : ClassStanding) (a b : Parts) (t : ClassTree) → add_class c (fine a) t ≡ fine b → (m : Members) × (judge_members (class_begin c t.members) t.members ≡ fine m) × (with_class a t.name m ≡ b)
+pub class_added : (c : ClassStanding) (a b : Parts) (t : ClassTree) → add_class c (fine a) t ≡ fine b → (m : Members) × (judge_members (class_begin c t.members) t.members ≡ fine m) × (with_class a t.name m ≡ b)
 class_added c a b t h =
     let w = made_fine (both (fine a) (judge_class c t)) (λ (r : Parts × Members). with_class r.0 t.name r.1) b h in
     let d = both_fine (fine a) (judge_class c t) w.0 w.1 in
