@@ -1,2 +1,10 @@
 pub mod Order
 pub mod OrderLaws
+pub mod Trees
+pub mod Plain
+pub mod Lists
+pub mod Compare
+pub mod Seen
+pub mod Falls
+pub mod Products
+pub mod Rules

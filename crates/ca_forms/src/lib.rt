@@ -5,7 +5,10 @@
 
 mod form;
 mod gather;
+pub mod polynomial;
+pub mod rules;
 mod sort;
+pub mod sums;
 
 pub use crate::form::{Monomial, Normal, Polynomial};
 pub use crate::gather::add_product;

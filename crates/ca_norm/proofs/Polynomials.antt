@@ -8,7 +8,7 @@ use Rattle.ca_forms.specs.declared.form.Monomial.{Monomial}
 use Rattle.ca_forms.specs.declared.form.Monomial.TheVariants.{One, Atom}
 use Rattle.ca_forms.specs.declared.form.Normal.TheVariants.{Polynomial}
 use Rattle.ca_sums.specs.Sums.{Sum, total, Alike, scale, collect}
-use Rattle.ca_norm.specs.Terms.{PlainTerm, number, null, atom, add, sub, sort_of, LiteralsFit}
+use Rattle.ca_norm.specs.Terms.{PlainTerm, number, atom, add, sub, sort_of, LiteralsFit}
 use Rattle.ca_norm.specs.Forms.{expand, form_at, norm, coefficient, SamePolynomial, coefficient_at, IsPolynomialOf}
 use Rattle.ca_sums.proofs.Algebra.{alike_refl, alike_eq, alike_sym, alike_trans, alike_add, alike_mul, alike_mod, total_append, total_scale}
 use Rattle.ca_sums.proofs.Collect.{is_tied, SameCoefficients, collect_same, gathered_collect, total_collect, found}
@@ -34,13 +34,13 @@ tied_atoms g h i j = grind (arith, nat_tests, word_pos)
 pub coefficient_is : (t : PlainTerm) → LiteralsFit t → (m : Monomial) → Alike (word (coefficient t m)) (taken m (expand t))
 coefficient_is (number n) f One = alike_eq (word_fits n f ∙ times_one (of_z w64 n))
 coefficient_is (number n) f (Atom g i) = alike_eq (word_pos 0 ∙ times_none (of_z w64 n))
-coefficient_is null f m = alike_eq (word_pos 0)
 coefficient_is (atom sort h j) f One = alike_eq (word_pos 0 ∙ times_none 1)
 coefficient_is (atom sort h j) f (Atom g i) = alike_eq (tied_atoms g h i j ∙ tied_once (is_tied (monomial_cmp (Atom g i) (Atom h j))))
 coefficient_is (add a b) f m =
     alike_trans (word_add (coefficient a m) (coefficient b m)) (alike_trans (alike_add (coefficient_is a f.0 m) (coefficient_is b f.1 m)) (alike_eq (sym (total_append _ (expand a) (expand b)))))
 coefficient_is (sub a b) f m =
     alike_trans (word_sub (coefficient a m) (coefficient b m)) (alike_trans (alike_add (coefficient_is a f.0 m) (alike_mul (alike_refl (2 ^ 64 - 1)) (coefficient_is b f.1 m))) (alike_eq (ap (λ z. taken m (expand a) + z) (sym (total_scale _ (2 ^ 64 - 1) (expand b))) ∙ sym (total_append _ (expand a) (scale (2 ^ 64 - 1) (expand b))))))
+coefficient_is t f m = alike_eq (word_pos 0)
 
 -- the form of a number
 pub norm_number : (t : PlainTerm) → sort_of t ≡ Long → norm t ≡ Polynomial (collect monomial_cmp (expand t))

@@ -58,6 +58,7 @@ module _ (v : Valuation) where
   number_is (atom sort group n) e s = long_is (v.value sort group n) (atom_sorted sort group n e)
   number_is (add a b) e s = rw (number_is a s.0 s.2, number_is b s.1 s.3) refl
   number_is (sub a b) e s = rw (number_is a s.0 s.2, number_is b s.1 s.3) refl
+  number_is t e s = absurd s
 
   sum_is : (a b : PlainTerm) → IsSorted (add a b) → number_of (mean v (add a b)) ≡ int_wrap w64 (number_of (mean v a) +ℤ number_of (mean v b))
   sum_is a b s = ap₂ (λ x y. number_of (operate Plus x y)) (number_is a s.0 s.2) (number_is b s.1 s.3)
@@ -71,6 +72,7 @@ module _ (v : Valuation) where
   fits (atom sort group n) e s f = long_fits (v.value sort group n) (atom_sorted sort group n e)
   fits (add a b) e s f = subst (FitsSigned w64) (sym (sum_is a b s)) (SFits-int_wrap w64 (number_of (mean v a) +ℤ number_of (mean v b)))
   fits (sub a b) e s f = subst (FitsSigned w64) (sym (difference_is a b s)) (SFits-int_wrap w64 (number_of (mean v a) -ℤ number_of (mean v b)))
+  fits t e s f = absurd s
 
   mean_is : (t : PlainTerm) → sort_of t ≡ Long → IsSorted t → LiteralsFit t → Alike (word (number_of (mean v t))) (total words (expand t))
   mean_is (number n) e s f = alike_eq (word_fits n f ∙ times_one (of_z w64 n) ∙ ap (λ k. of_z w64 n * k + 0) (sym (word_pos 1)))
@@ -83,6 +85,7 @@ module _ (v : Valuation) where
       alike_trans (alike_eq (ap word (difference_is a b s) ∙ word_wrap (number_of (mean v a) -ℤ number_of (mean v b)))) (alike_trans (word_sub (number_of (mean v a)) (number_of (mean v b)))
       (alike_trans (alike_add (mean_is a s.0 s.2 f.0) (alike_mul (alike_refl (2 ^ 64 - 1)) (mean_is b s.1 s.3 f.1)))
       (alike_eq (ap (λ z. total words (expand a) + z) (sym (total_scale words (2 ^ 64 - 1) (expand b))) ∙ sym (total_append words (expand a) (scale (2 ^ 64 - 1) (expand b)))))))
+  mean_is t e s f = absurd s
 
   number_means : (t : PlainTerm) → sort_of t ≡ Long → IsSorted t → LiteralsFit t → form_mean v (norm t) ≡ mean v t
   number_means t e s f =
@@ -101,6 +104,7 @@ module _ (v : Valuation) where
   means (atom PointerArray group n) s f = refl
   means (add a b) s f = number_means (add a b) refl s f
   means (sub a b) s f = number_means (sub a b) refl s f
+  means t s f = absurd s
 
   -- terms of one form mean the same
   pub same_forms : (t u : PlainTerm) → IsSorted t → IsSorted u → LiteralsFit t → LiteralsFit u → norm t ≡ norm u → mean v t ≡ mean v u

@@ -12,16 +12,16 @@ use Rattle.ca_forms.specs.declared.form.Monomial.TheVariants as monomial
 use Rattle.ca_forms.specs.declared.form.Normal.{Normal}
 use Rattle.ca_forms.specs.declared.form.Normal.TheVariants as normal
 use Rattle.ca_sums.specs.Sums.{Sum, scale, collect, NoZero}
-use Rattle.ca_norm.specs.Terms.{PlainTerm, number, null, atom, add, sub, sort_of}
+use Rattle.ca_norm.specs.Terms.{PlainTerm, number, atom, add, sub, sort_of}
 use Rattle.ca_forms.specs.Order.{monomial_cmp}
 
 -- A number as a sum of products, in the order in which they are written. Minus one is 2^64 - 1.
 abbrev pub expand : PlainTerm → Sum Monomial
 expand (number n) = (monomial.One, cast_unsigned w64 n) ∷ []
-expand null = []
 expand (atom sort group n) = (monomial.Atom group n, 1) ∷ []
 expand (add a b) = expand a ++ expand b
 expand (sub a b) = expand a ++ scale (2 ^ 64 - 1) (expand b)
+expand t = []
 
 -- the form of a term of that sort, the monomials in their order
 abbrev pub form_at : Sort → PlainTerm → Normal

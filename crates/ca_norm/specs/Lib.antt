@@ -1,4 +1,5 @@
 pub mod Terms
 pub mod Weights
+pub mod Measures
 pub mod Forms
 pub mod Meanings

@@ -14,7 +14,7 @@ use Rattle.ca_forms.specs.declared.form.Monomial.TheVariants as monomial
 use Rattle.ca_forms.specs.declared.form.Normal.{Normal}
 use Rattle.ca_forms.specs.declared.form.Normal.TheVariants as normal
 use Rattle.ca_sums.specs.Sums.{Sum}
-use Rattle.ca_norm.specs.Terms.{PlainTerm, number, null, atom, add, sub}
+use Rattle.ca_norm.specs.Terms.{PlainTerm, number, atom, add, sub}
 
 -- An array is no single value, so nothing is asked where an atom of an array stands.
 abbrev pub IsOfSort : Sort → Datum → Type 0
@@ -40,13 +40,13 @@ value_or_null (Err kind) = datum.Null
 abbrev pub operate : BinaryOp → Datum → Datum → Datum
 operate op a b = value_or_null (operated op a b)
 
--- numbers wrap round at 64 bits
+-- Numbers wrap round at 64 bits. A term whose normal form is not built yet means null.
 abbrev pub mean : Valuation → PlainTerm → Datum
 mean v (number n) = datum.Long n
-mean v null = datum.Null
 mean v (atom sort group n) = v.value sort group n
 mean v (add a b) = operate Plus (mean v a) (mean v b)
 mean v (sub a b) = operate Minus (mean v a) (mean v b)
+mean v t = datum.Null
 
 abbrev pub number_of : Datum → ℤ
 number_of (datum.Long n) = n

@@ -21,7 +21,6 @@ fn add_term(form: &mut BTreeMap<Monomial, u64>, term: &Term, factor: u64) -> Res
         Term::Number(n) => {
             add_product(form, Monomial::One, factor.wrapping_mul(n.cast_unsigned()))
         }
-        Term::Null => Ok(()),
         Term::Atom(_, group, number) => {
             add_product(form, Monomial::Atom(*group, *number), factor)
         }
@@ -33,6 +32,7 @@ fn add_term(form: &mut BTreeMap<Monomial, u64>, term: &Term, factor: u64) -> Res
             add_term(form, a, factor)?;
             add_term(form, b, factor.wrapping_mul(u64::MAX))
         }
+        _ => Ok(()),
     }
 }
 

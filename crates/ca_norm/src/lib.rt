@@ -1,8 +1,9 @@
 //! Terms, their weight and their normal forms, for whoever compares what two orders of operations
 //! leave behind.
 //!
-//! A term is a number, null, an atom, or a sum or difference of terms; `specs/Terms.antt` has it
-//! without its places in memory. Its weight bounds the work on it, and `normal` promises the normal
+//! A term is what an expression comes to over the atoms of two operations and a receiver;
+//! `specs/Terms.antt` has it without its places in memory. Normal forms are built of numbers, null, atoms,
+//! sums and differences so far; any other term has the form of null or of zero, and no law speaks of it. Its weight bounds the work on it, and `normal` promises the normal
 //! form of each term of at most `MOST_WEIGHT`, unless memory runs out, and `Large` for each other.
 //! What a term and a form mean under a valuation of the atoms stands in `specs/Meanings.antt`.
 //!
@@ -12,6 +13,7 @@
 
 mod gather;
 pub mod laws;
+mod parts;
 mod term;
 mod weigh;
 

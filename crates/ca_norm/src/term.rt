@@ -1,21 +1,51 @@
 //! Terms over the atoms of two operations and a receiver.
 
-ghost use Rattle.std.specs.Prelude.{◌≡◌, IfOk};
-ghost use Rattle.ca_norm.specs.Terms.{PlainTerm, add, sub, shape, sort_of};
+ghost use Rattle.std.specs.Prelude.{◌≡◌, map, IfOk};
+ghost use Rattle.ca_forms.specs.declared.sort.Sort.{Sort};
+ghost use Rattle.ca_norm.specs.Terms.{PlainTerm, add, sub, shape, sort_of, item_sort};
 
+use crate::parts::{both, longer, one_box, three_boxes, two_boxes};
 use ca_forms::Sort;
 use std::alloc::{AllocError, Global};
 
 /// A term. An atom has a sort, a group and a number in the group. Group 0 is the receiver, 1 and 2
 /// are the parameters of the first and of the second operation, and 3 is what the receiver's fields
-/// hold at the start.
+/// hold at the start. Truth values are 1 and 0 in a normal form, and numbers wrap round at 64 bits.
 #[derive(Drop, Debug)]
 pub enum Term {
     Number(i64),
+    Truth(bool),
     Null,
     Atom(Sort, u32, u32),
     Add(Box<Term>, Box<Term>),
     Sub(Box<Term>, Box<Term>),
+    Neg(Box<Term>),
+    Mul(Box<Term>, Box<Term>),
+    /// Rounded towards zero; the divisor isn't 0.
+    Divide(Box<Term>, i64),
+    /// With the sign of what is divided; the divisor isn't 0.
+    Remainder(Box<Term>, i64),
+    Less(Box<Term>, Box<Term>),
+    LessEqual(Box<Term>, Box<Term>),
+    /// Of two numbers, two truth values or two pointers.
+    Same(Box<Term>, Box<Term>),
+    Not(Box<Term>),
+    And(Box<Term>, Box<Term>),
+    Or(Box<Term>, Box<Term>),
+    /// The second where the first is true, else the third.
+    Choose(Box<Term>, Box<Term>, Box<Term>),
+    /// A field of another object: its sort, the object, the field's class and number.
+    Read(Sort, Box<Term>, u32, u32),
+    /// The same of a field that is an array, at an index.
+    ReadAt(Sort, Box<Term>, u32, u32, Box<Term>),
+    /// What a value method gives: its sort, its number, the receiver and the arguments.
+    Result(Sort, u32, Box<Term>, Vec<Term>),
+    /// The item of an array at an index.
+    Select(Box<Term>, Box<Term>),
+    /// An array with another item at an index.
+    Put(Box<Term>, Box<Term>, Box<Term>),
+    /// An array of numbers with an addend at the item at an index.
+    AddAt(Box<Term>, Box<Term>, Box<Term>),
 }
 
 impl Term {
@@ -23,39 +53,153 @@ impl Term {
     pub fn add(alloc: Global, a: Term, b: Term) -> Result<Term, AllocError>
         ensures { IfOk result (λ t. shape t ≡ add (shape a) (shape b)) }
     {
-        Ok(Term::Add(Box::new(alloc, a)?, Box::new(alloc, b)?))
+        let (a, b) = two_boxes(alloc, Ok(a), Ok(b))?;
+        Ok(Term::Add(a, b))
     }
 
     /// The difference of two terms.
     pub fn sub(alloc: Global, a: Term, b: Term) -> Result<Term, AllocError>
         ensures { IfOk result (λ t. shape t ≡ sub (shape a) (shape b)) }
     {
-        Ok(Term::Sub(Box::new(alloc, a)?, Box::new(alloc, b)?))
+        let (a, b) = two_boxes(alloc, Ok(a), Ok(b))?;
+        Ok(Term::Sub(a, b))
+    }
+
+    /// The sort of what the term stands for.
+    pub fn sort(&self) -> Sort
+        ensures { result ≡ sort_of (shape self.now) }
+    {
+        match self {
+            Term::Number(_) | Term::Neg(_) | Term::Divide(_, _) | Term::Remainder(_, _) =>
+                Sort::Long,
+            Term::Add(_, _) | Term::Sub(_, _) | Term::Mul(_, _) => Sort::Long,
+            Term::Truth(_) | Term::Not(_) | Term::And(_, _) | Term::Or(_, _) => Sort::Bool,
+            Term::Less(_, _) | Term::LessEqual(_, _) | Term::Same(_, _) => Sort::Bool,
+            Term::Null => Sort::Pointer,
+            Term::Atom(sort, _, _) => *sort,
+            Term::Read(sort, _, _, _) => *sort,
+            Term::ReadAt(sort, _, _, _, _) => *sort,
+            Term::Result(sort, _, _, _) => *sort,
+            Term::Choose(_, a, _) => a.sort(),
+            Term::Put(a, _, _) => a.sort(),
+            Term::AddAt(a, _, _) => a.sort(),
+            Term::Select(a, _) => item_sort(a.sort()),
+        }
     }
 
     /// The same term once more. It recurses as deep as the term is.
+    #[cycle(copy)]
     pub fn copy(&self, alloc: Global) -> Result<Term, AllocError>
         ensures { IfOk result (λ t. shape t ≡ shape self.now) }
     {
         match self {
             Term::Number(n) => Ok(Term::Number(*n)),
+            Term::Truth(b) => Ok(Term::Truth(*b)),
             Term::Null => Ok(Term::Null),
             Term::Atom(sort, group, number) => Ok(Term::Atom(*sort, *group, *number)),
-            Term::Add(a, b) => Term::add(alloc, a.copy(alloc)?, b.copy(alloc)?),
-            Term::Sub(a, b) => Term::sub(alloc, a.copy(alloc)?, b.copy(alloc)?),
+            Term::Neg(a) => Ok(Term::Neg(one_box(alloc, a.copy(alloc))?)),
+            Term::Divide(a, n) => Ok(Term::Divide(one_box(alloc, a.copy(alloc))?, *n)),
+            Term::Remainder(a, n) => Ok(Term::Remainder(one_box(alloc, a.copy(alloc))?, *n)),
+            Term::Not(a) => Ok(Term::Not(one_box(alloc, a.copy(alloc))?)),
+            Term::Add(a, b) => {
+                let (first, second) = two_boxes(alloc, a.copy(alloc), b.copy(alloc))?;
+                Ok(Term::Add(first, second))
+            }
+            Term::Sub(a, b) => {
+                let (first, second) = two_boxes(alloc, a.copy(alloc), b.copy(alloc))?;
+                Ok(Term::Sub(first, second))
+            }
+            Term::Mul(a, b) => {
+                let (first, second) = two_boxes(alloc, a.copy(alloc), b.copy(alloc))?;
+                Ok(Term::Mul(first, second))
+            }
+            Term::Less(a, b) => {
+                let (first, second) = two_boxes(alloc, a.copy(alloc), b.copy(alloc))?;
+                Ok(Term::Less(first, second))
+            }
+            Term::LessEqual(a, b) => {
+                let (first, second) = two_boxes(alloc, a.copy(alloc), b.copy(alloc))?;
+                Ok(Term::LessEqual(first, second))
+            }
+            Term::Same(a, b) => {
+                let (first, second) = two_boxes(alloc, a.copy(alloc), b.copy(alloc))?;
+                Ok(Term::Same(first, second))
+            }
+            Term::And(a, b) => {
+                let (first, second) = two_boxes(alloc, a.copy(alloc), b.copy(alloc))?;
+                Ok(Term::And(first, second))
+            }
+            Term::Or(a, b) => {
+                let (first, second) = two_boxes(alloc, a.copy(alloc), b.copy(alloc))?;
+                Ok(Term::Or(first, second))
+            }
+            Term::Select(a, i) => {
+                let (first, second) = two_boxes(alloc, a.copy(alloc), i.copy(alloc))?;
+                Ok(Term::Select(first, second))
+            }
+            Term::Choose(c, a, b) => {
+                let (first, second, third) = three_boxes(
+                    alloc,
+                    c.copy(alloc),
+                    a.copy(alloc),
+                    b.copy(alloc),
+                )?;
+                Ok(Term::Choose(first, second, third))
+            }
+            Term::Put(a, i, v) => {
+                let (first, second, third) = three_boxes(
+                    alloc,
+                    a.copy(alloc),
+                    i.copy(alloc),
+                    v.copy(alloc),
+                )?;
+                Ok(Term::Put(first, second, third))
+            }
+            Term::AddAt(a, i, v) => {
+                let (first, second, third) = three_boxes(
+                    alloc,
+                    a.copy(alloc),
+                    i.copy(alloc),
+                    v.copy(alloc),
+                )?;
+                Ok(Term::AddAt(first, second, third))
+            }
+            Term::Read(sort, p, class, field) => {
+                let object = one_box(alloc, p.copy(alloc))?;
+                Ok(Term::Read(*sort, object, *class, *field))
+            }
+            Term::ReadAt(sort, p, class, field, i) => {
+                let (object, index) = two_boxes(alloc, p.copy(alloc), i.copy(alloc))?;
+                Ok(Term::ReadAt(*sort, object, *class, *field, index))
+            }
+            Term::Result(sort, function, p, args) => {
+                let (receiver, args) = both(one_box(alloc, p.copy(alloc)), copy_all(alloc, args))?;
+                Ok(Term::Result(*sort, *function, receiver, args))
+            }
         }
     }
+}
 
-    /// The sort of what the term stands for. Sums and differences are numbers.
-    pub fn sort(&self) -> Sort
-        ensures { result ≡ sort_of (shape self.now) }
-    {
-        match self {
-            Term::Number(_) => Sort::Long,
-            Term::Null => Sort::Pointer,
-            Term::Atom(sort, _, _) => *sort,
-            Term::Add(_, _) => Sort::Long,
-            Term::Sub(_, _) => Sort::Long,
-        }
+#[cycle(copy)]
+fn copy_all(alloc: Global, terms: &[Term]) -> Result<Vec<Term>, AllocError>
+    ensures { IfOk result (λ v. map shape v.items ≡ map shape terms.now) }
+{
+    let mut copies = Vec::new(alloc);
+    for term in terms {
+        let (so_far, copy) = both(Ok(copies), term.copy(alloc))?;
+        copies = longer(so_far, copy)?;
+    }
+    Ok(copies)
+}
+
+/// The sort of the items of an array.
+fn item_sort(sort: Sort) -> Sort
+    ensures { result ≡ item_sort sort }
+{
+    match sort {
+        Sort::LongArray => Sort::Long,
+        Sort::BoolArray => Sort::Bool,
+        Sort::PointerArray => Sort::Pointer,
+        other => other,
     }
 }

@@ -1,0 +1,56 @@
+-- Lists of products as a polynomial, lists of powers as a monomial, and how deep each is.
+use Rattle.std.specs.Prelude.{ℕ, ◌+◌, ◌≤◌, List, [], ◌∷◌}
+use Rattle.std.proofs.Common.{arith}
+use Rattle.std.specs.Coded.{Coded, coded×, coded_ℕ}
+use denote.Param.Weighed.{most}
+use Rattle.ca_forms.specs.Plain.{PlainPart, PlainPolynomial, PlainMonomial, variable, is_less, is_zero, no_products, product_and, no_powers, power_and, coded_part, coded_monomial}
+
+abbrev pub coded_product : Coded (PlainMonomial × ℕ)
+coded_product = coded× coded_monomial coded_ℕ
+
+abbrev pub coded_power : Coded (PlainPart × ℕ)
+coded_power = coded× coded_part coded_ℕ
+
+abbrev pub monomial_of : List (PlainPart × ℕ) → PlainMonomial
+monomial_of [] = no_powers
+monomial_of (p ∷ ps) = power_and p.0 p.1 (monomial_of ps)
+
+abbrev pub powers_of : PlainMonomial → List (PlainPart × ℕ)
+powers_of no_powers = []
+powers_of (power_and p e m) = (p, e) ∷ powers_of m
+
+abbrev pub polynomial_of : List (PlainMonomial × ℕ) → PlainPolynomial
+polynomial_of [] = no_products
+polynomial_of (p ∷ ps) = product_and p.0 p.1 (polynomial_of ps)
+
+abbrev pub products_of : PlainPolynomial → List (PlainMonomial × ℕ)
+products_of no_products = []
+products_of (product_and m c f) = (m, c) ∷ products_of f
+
+abbrev mutual
+  pub part_size : PlainPart → ℕ
+  part_size (variable s g n) = 0
+  part_size (is_less f g) = polynomial_size f + polynomial_size g + 1
+  part_size (is_zero f) = polynomial_size f + 1
+
+  pub polynomial_size : PlainPolynomial → ℕ
+  polynomial_size no_products = 1
+  polynomial_size (product_and m c f) = monomial_size m + 2 + polynomial_size f
+
+  pub monomial_size : PlainMonomial → ℕ
+  monomial_size no_powers = 1
+  monomial_size (power_and p e m) = part_size p + 2 + monomial_size m
+
+abbrev pub product_size : PlainMonomial × ℕ → ℕ
+product_size p = monomial_size p.0 + 1
+
+abbrev pub power_size : PlainPart × ℕ → ℕ
+power_size p = part_size p.0 + 1
+
+pub most_powers : (ps : List (PlainPart × ℕ)) → most (λ p. power_size p + 1) ps ≤ monomial_size (monomial_of ps)
+most_powers [] = omega arith
+most_powers (p ∷ ps) = omega (arith, most_powers ps)
+
+pub most_products : (ps : List (PlainMonomial × ℕ)) → most (λ p. product_size p + 1) ps ≤ polynomial_size (polynomial_of ps)
+most_products [] = omega arith
+most_products (p ∷ ps) = omega (arith, most_products ps)

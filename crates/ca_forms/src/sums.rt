@@ -1,0 +1,167 @@
+//! Sums of products, gathered in an ordered map. What is added is told by what becomes of every total, so no
+//! clause names an order of adding.
+
+ghost use Rattle.std.specs.Prelude.{◌≡◌, ◌+◌, ◌%◌, ◌^◌, ◌++◌, IfOk, OnOk};
+ghost use Rattle.std.specs.Option.{unwrap_or};
+ghost use Rattle.std.specs.Map.{lookup};
+ghost use Rattle.std.specs.BTreeMap.{is_at, IsOrdered};
+ghost use Rattle.ca_sums.specs.Sums.{NoZero, Adds, AddsSum};
+ghost use Rattle.ca_sums.specs.Products.{row, product};
+ghost use Rattle.ca_forms.specs.Lists.{polynomial_of, products_of};
+ghost use Rattle.ca_forms.specs.Compare.{monomial_cmp};
+ghost use Rattle.ca_forms.specs.Products.{times};
+ghost use Rattle.ca_forms.specs.Rules.{gathered, minus};
+
+use crate::polynomial::{Monomial, Polynomial, Product};
+use std::alloc::{AllocError, Global};
+use std::collections::BTreeMap;
+
+fn sum_at(form: &BTreeMap<Monomial, u64>, monomial: &Monomial, coefficient: u64) -> u64
+    ensures { result ≡ (unwrap_or (lookup (is_at (monomial_cmp monomial.now)) form.now.entries) 0 + coefficient) % (2 ^ 64) }
+{
+    match form.get(monomial) {
+        Some(old) => old.wrapping_add(coefficient),
+        None => coefficient,
+    }
+}
+
+/// Adds one product to a gathered sum, to its like if there is one. It stands apart from the recursions that
+/// call it, whose frames are to be small.
+#[inline(never)]
+pub fn add_product(
+    form: &mut BTreeMap<Monomial, u64>,
+    monomial: Monomial,
+    coefficient: u64,
+) -> Result<(), AllocError>
+    requires { NoZero form.old.entries }
+    ensures nonzero { NoZero form.new.entries }
+    ensures added { OnOk result (Adds form.old.entries form.new.entries monomial coefficient) }
+{
+    let sum = sum_at(form, &monomial, coefficient);
+    if sum == 0 {
+        form.remove(&monomial);
+    } else {
+        form.insert(monomial, sum)?;
+    }
+    Ok(())
+}
+
+/// Adds one product times each of the others, times the factor.
+fn add_row(
+    alloc: Global,
+    form: &mut BTreeMap<Monomial, u64>,
+    one: &Product,
+    others: &[Product],
+    factor: u64,
+) -> Result<(), AllocError>
+    requires { NoZero form.old.entries }
+    ensures nonzero { NoZero form.new.entries }
+    ensures added { OnOk result (AddsSum form.old.entries form.new.entries factor (row times one.now others.now)) }
+{
+    let first = factor.wrapping_mul(one.coefficient);
+    for other in others {
+        let monomial = one.monomial.times(alloc, &other.monomial)?;
+        add_product(form, monomial, first.wrapping_mul(other.coefficient))?;
+    }
+    Ok(())
+}
+
+/// Adds the product of two sums, times the factor.
+fn add_products(
+    alloc: Global,
+    form: &mut BTreeMap<Monomial, u64>,
+    a: &[Product],
+    b: &[Product],
+    factor: u64,
+) -> Result<(), AllocError>
+    requires { NoZero form.old.entries }
+    ensures nonzero { NoZero form.new.entries }
+    ensures added { OnOk result (AddsSum form.old.entries form.new.entries factor (product times a.now b.now)) }
+{
+    for one in a {
+        add_row(alloc, form, one, b, factor)?;
+    }
+    Ok(())
+}
+
+/// Adds the product of two polynomials, times the factor.
+#[inline(never)]
+pub fn add_product_of(
+    alloc: Global,
+    form: &mut BTreeMap<Monomial, u64>,
+    f: &Polynomial,
+    g: &Polynomial,
+    factor: u64,
+) -> Result<(), AllocError>
+    requires { NoZero form.old.entries }
+    ensures nonzero { NoZero form.new.entries }
+    ensures added { OnOk result (AddsSum form.old.entries form.new.entries factor (product times (products_of f.now) (products_of g.now))) }
+{
+    add_products(alloc, form, &f.products, &g.products, factor)?;
+    Ok(())
+}
+
+/// The polynomial of gathered products.
+#[inline(never)]
+pub fn finish(alloc: Global, form: BTreeMap<Monomial, u64>) -> Result<Polynomial, AllocError>
+    requires { NoZero form.entries }
+    ensures value { IfOk result (λ f. f ≡ polynomial_of form.entries) }
+    ensures ordered { IsOrdered monomial_cmp form }
+{
+    // Asked for its clause, that the entries are in order.
+    let _count = form.len();
+    let products = form
+        .into_iter()
+        .map(|(monomial, coefficient)| Product {
+            monomial,
+            coefficient,
+        })
+        .collect(alloc)?;
+    Ok(Polynomial { products })
+}
+
+/// Adds products, times the factor.
+fn add_all(
+    alloc: Global,
+    form: &mut BTreeMap<Monomial, u64>,
+    products: &[Product],
+    factor: u64,
+) -> Result<(), AllocError>
+    requires { NoZero form.old.entries }
+    ensures nonzero { NoZero form.new.entries }
+    ensures added { OnOk result (AddsSum form.old.entries form.new.entries factor products.now) }
+{
+    for product in products {
+        let monomial = product.monomial.copy(alloc)?;
+        add_product(form, monomial, factor.wrapping_mul(product.coefficient))?;
+    }
+    Ok(())
+}
+
+/// Adds a polynomial, times the factor.
+#[inline(never)]
+pub fn add_polynomial(
+    alloc: Global,
+    form: &mut BTreeMap<Monomial, u64>,
+    f: &Polynomial,
+    factor: u64,
+) -> Result<(), AllocError>
+    requires { NoZero form.old.entries }
+    ensures nonzero { NoZero form.new.entries }
+    ensures added { OnOk result (AddsSum form.old.entries form.new.entries factor (products_of f.now)) }
+{
+    add_all(alloc, form, &f.products, factor)?;
+    Ok(())
+}
+
+/// The difference of two polynomials. Each side of a comparison is brought into its form once: a chain of
+/// comparisons would else be walked twice at each level.
+#[inline(never)]
+pub fn difference(alloc: Global, f: &Polynomial, g: &Polynomial) -> Result<Polynomial, AllocError>
+    ensures { IfOk result (λ d. d ≡ gathered (products_of f.now ++ minus (products_of g.now))) }
+{
+    let mut form = BTreeMap::new(alloc);
+    add_polynomial(alloc, &mut form, f, 1)?;
+    add_polynomial(alloc, &mut form, g, u64::MAX)?;
+    finish(alloc, form)
+}

@@ -1,0 +1,13 @@
+use Rattle.std.proofs.Common.{◌+◌, arith, ◌∙◌}
+use Rattle.ca_norm.specs.Weights.{spread}
+use Rattle.ca_norm.specs.Measures.{Counts}
+use Rattle.ca_norm.proofs.weigh.Measure.same.Goals as goal
+
+pub returns : goal.returns
+returns c = λ x y g h e.
+    let sums : Counts c.beside-parts.result.spread (spread x + spread y) = omega (arith, c.beside-parts.ensures.spread, g.0, h.0) in (
+      rw (← e) (c.over.ensures.spread ∙ c.same_spread-spread.ensures (spread x) (spread y) sums (c.times.ensures (spread x) (spread y) g.0 h.0)),
+      omega (arith, c.over.ensures.nodes, c.beside-parts.ensures.nodes, g.1, h.1),
+      omega (arith, c.over.ensures.depth, c.beside-parts.ensures.depth, g.2, h.2),
+      omega (arith, c.over.ensures.share),
+    )
