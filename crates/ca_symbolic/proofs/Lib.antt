@@ -8,3 +8,4 @@ pub mod Comparisons
 pub mod Pairs
 pub mod Unique
 mod Examples
+mod ExecutionExamples
