@@ -9,3 +9,5 @@ pub mod Pairs
 pub mod Unique
 mod Examples
 mod ExecutionExamples
+pub mod Alike
+pub mod CallLoops
