@@ -1,7 +1,7 @@
 mod Fits
 mod Lists
 mod Judging
-mod Sorts
+mod Types
 mod Values
 mod Statements
 mod Returning

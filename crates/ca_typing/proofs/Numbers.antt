@@ -15,11 +15,11 @@ use Rattle.ca_program.specs.Plain.{PlainProgram, PlainMethod}
 use Rattle.ca_parallel.specs.Bodies.{fors_in, fors_in_all}
 use Rattle.ca_parallel.specs.Marks.{loops_of_method, loops_of_program}
 use Rattle.ca_resolve.specs.Judged.{Judged, fine, both, within, unless, beside}
-use Rattle.ca_resolve.specs.Scopes.{Target, to_local, to_field, to_item, Sort, sort_of, find_local, classes_of}
+use Rattle.ca_resolve.specs.Scopes.{Target, to_local, to_field, to_item, Ty, ty_of, find_local, classes_of}
 use Rattle.ca_resolve.specs.Values.{place_of, in_order, judge_call}
 use Rattle.ca_types.specs.Rules.{local_once, called_operation, creates_nothing, prints_nothing, return_stands, local_limit, loop_limit}
-use Rattle.ca_types.specs.Statements.{Standing, opened, closed, counted, behind, behind_all, judge_type, Source, of_value, of_new, creates, judge_wanted, judge_right, put, judge_put_target, right_sort, judge_assign, judge_start, start_creates, judge_local, judge_call_statement, judge_condition, judge_return, judge_printed, judge_print, nothing, first_part, statements_in, judge_statement, judge_statements}
-use Rattle.ca_types.specs.Classes.{gathered, behind_parameters, behind_parameter, MemberStanding, body_begin, method_begin, method_end, judge_method, Members, with_method, behind_member, behind_members, add_member, no_members, ClassStanding, class_begin, behind_class, behind_classes, Parts, add_class, no_parts, judge_classes, first_class, main_begin, program_of, judge}
+use Rattle.ca_types.specs.Statements.{Env, enter_block, leave_block, counted, behind, behind_all, judge_type, Source, of_value, of_new, creates, judge_wanted, judge_right, put, judge_put_target, right_ty, judge_assign, judge_start, start_creates, judge_local, judge_call_statement, judge_condition, judge_return, judge_printed, judge_print, nothing, first_part, statements_in, judge_statement, judge_statements}
+use Rattle.ca_types.specs.Classes.{gathered, behind_parameters, behind_parameter, MemberEnv, body_begin, method_begin, method_end, judge_method, Members, with_method, behind_member, behind_members, add_member, no_members, ClassEnv, class_begin, behind_class, behind_classes, Parts, add_class, no_parts, judge_classes, first_class, main_begin, program_of, judge}
 use Rattle.ca_typing.specs.Loops.{LoopsNumbered}
 use Rattle.ca_typing.proofs.Judging.{same_fine, within_fine, made_fine, both_fine, unless_fine, beside_fine, gathered_fine}
 use Rattle.ca_typing.proofs.Statements.{statements_fine}
@@ -51,12 +51,12 @@ put_holds_none line (to_item f i) op (of_new c) = refl
 
 -- ---- statements
 
-module _ (c : Standing) where
+module _ (c : Env) where
   local_numbered : (at : Place) (ty : TypeNode) (name : List ℕ) (name_at : Place) (right : Option RightSide) (x : program.Statement) → judge_local c at ty name name_at right ≡ fine x → Ascends c.loops (fors_in x) c.loops
   local_numbered at ty name name_at right x h =
-      let sort = sort_of c.scope.classes.names ty in
+      let wanted = ty_of c.scope.classes.names ty in
       let typed = judge_type c.scope.classes.names ty in
-      let start = judge_start c.scope sort right in
+      let start = judge_start c.scope wanted right in
       let limit = local_limit (length c.locals) name_at in
       let once = local_once c.first (find_local c.scope.locals name) name_at in
       let creating = creates_nothing c.result (start_creates right) at in
@@ -68,9 +68,9 @@ module _ (c : Standing) where
   assign_numbered : (at : Place) (target : Expression) (op : AssignOp) (right : RightSide) (x : program.Statement) → judge_assign c at (judge_put_target c op target) op right ≡ fine x → Ascends c.loops (fors_in x) c.loops
   assign_numbered at target op right x h =
       let goal = judge_put_target c op target in
-      let sources = judge_right c.scope (right_sort op goal) right in
+      let sources = judge_right c.scope (right_ty op goal) right in
       let creating = creates_nothing c.result (creates right) at in
-      let w = within_fine (both goal sources) (λ (r : (Target × Sort) × Source). unless creating (put at.line r.0.0 op r.1)) x h in
+      let w = within_fine (both goal sources) (λ (r : (Target × Ty) × Source). unless creating (put at.line r.0.0 op r.1)) x h in
       leaf c.loops (put at.line w.0.0.0 op w.0.1) x (put_holds_none at.line w.0.0.0 op w.0.1) (unless_fine creating (put at.line w.0.0.0 op w.0.1) x w.2)
 
   call_numbered : (at : Place) (e : Expression) (x : program.Statement) → judge_call_statement c at e ≡ fine x → Ascends c.loops (fors_in x) c.loops
@@ -90,52 +90,52 @@ module _ (c : Standing) where
       leaf c.loops (program.print_value at.line w.0) x refl (unless_fine (prints_nothing c.result at) (program.print_value at.line w.0) x w.2)
 
 mutual
-  statement_numbered : (c : Standing) (s : Statement) (x : program.Statement) → judge_statement c s ≡ fine x → Ascends c.loops (fors_in x) (behind c s).loops
+  statement_numbered : (c : Env) (s : Statement) (x : program.Statement) → judge_statement c s ≡ fine x → Ascends c.loops (fors_in x) (behind c s).loops
   statement_numbered c (empty at) x h = leaf c.loops (nothing at.line) x refl (same_fine (nothing at.line) x h)
   statement_numbered c (block at ss) x h =
-      let w = made_fine (judge_statements (opened c) (fine []) ss) (λ all. program.block at.line (statements_in all)) x h in
-      let t = statements_numbered (opened c) ss [] w.0 c.loops (let le : c.loops ≤ c.loops = omega arith in le) w.1 in
-      subst (λ y. Ascends c.loops (fors_in y) (behind_all (opened c) ss).loops) w.2 (subst (λ xs. Ascends c.loops xs (behind_all (opened c) ss).loops) (sym (in_order_is w.0)) t)
+      let w = made_fine (judge_statements (enter_block c) (fine []) ss) (λ all. program.block at.line (statements_in all)) x h in
+      let t = statements_numbered (enter_block c) ss [] w.0 c.loops (let le : c.loops ≤ c.loops = omega arith in le) w.1 in
+      subst (λ y. Ascends c.loops (fors_in y) (behind_all (enter_block c) ss).loops) w.2 (subst (λ xs. Ascends c.loops xs (behind_all (enter_block c) ss).loops) (sym (in_order_is w.0)) t)
   statement_numbered c (local at ty name name_at right) x h = local_numbered c at ty name name_at right x h
   statement_numbered c (assign at target op right) x h = assign_numbered c at target op right x h
   statement_numbered c (call_statement at e) x h = call_numbered c at e x h
   statement_numbered c (if_only at e s) x h =
       let test = judge_condition c.scope e in
-      let yes_part = judge_statement (opened c) s in
+      let yes_part = judge_statement (enter_block c) s in
       let no_part : Judged program.Statement = fine (nothing at.line) in
-      let last = behind (opened c) s in
+      let last = behind (enter_block c) s in
       let w = made_fine (both test (both yes_part no_part)) (λ (r : program.Expression × (program.Statement × program.Statement)). program.if_else at.line r.0 r.1.0 r.1.1) x h in
       let d = both_fine yes_part no_part w.0.1 (both_fine test (both yes_part no_part) w.0 w.1).1 in
-      let two = statement_numbered (opened c) s w.0.1.0 d.0 in
+      let two = statement_numbered (enter_block c) s w.0.1.0 d.0 in
       let three = leaf last.loops (nothing at.line) w.0.1.1 refl (same_fine (nothing at.line) w.0.1.1 d.1) in
       subst (λ y. Ascends c.loops (fors_in y) last.loops) w.2 (ascends_then c.loops (fors_in w.0.1.0) last.loops (fors_in w.0.1.1) last.loops two three)
   statement_numbered c (if_else at e a b) x h =
-      let first = behind (opened c) a in
-      let other = opened (closed c first) in
+      let first = behind (enter_block c) a in
+      let other = enter_block (leave_block c first) in
       let last = behind other b in
       let test = judge_condition c.scope e in
-      let yes_part = judge_statement (opened c) a in
+      let yes_part = judge_statement (enter_block c) a in
       let no_part = judge_statement other b in
       let w = made_fine (both test (both yes_part no_part)) (λ (r : program.Expression × (program.Statement × program.Statement)). program.if_else at.line r.0 r.1.0 r.1.1) x h in
       let d = both_fine yes_part no_part w.0.1 (both_fine test (both yes_part no_part) w.0 w.1).1 in
-      let two = statement_numbered (opened c) a w.0.1.0 d.0 in
+      let two = statement_numbered (enter_block c) a w.0.1.0 d.0 in
       let three = statement_numbered other b w.0.1.1 d.1 in
       subst (λ y. Ascends c.loops (fors_in y) last.loops) w.2 (ascends_then c.loops (fors_in w.0.1.0) first.loops (fors_in w.0.1.1) last.loops two three)
   statement_numbered c (while_loop at e s) x h =
       let test = judge_condition c.scope e in
-      let body = judge_statement (opened c) s in
+      let body = judge_statement (enter_block c) s in
       let w = made_fine (both test body) (λ (r : program.Expression × program.Statement). program.while_loop at.line r.0 r.1) x h in
-      let two = statement_numbered (opened c) s w.0.1 (both_fine test body w.0 w.1).1 in
-      subst (λ y. Ascends c.loops (fors_in y) (behind (opened c) s).loops) w.2 two
+      let two = statement_numbered (enter_block c) s w.0.1 (both_fine test body w.0 w.1).1 in
+      subst (λ y. Ascends c.loops (fors_in y) (behind (enter_block c) s).loops) w.2 two
   statement_numbered c (for_loop at first e next s) x h =
-      let begin = opened (counted c) in
+      let begin = enter_block (counted c) in
       let begun = behind begin first in
-      let stepped = behind (opened begun) next in
-      let turn = opened (closed begun stepped) in
+      let stepped = behind (enter_block begun) next in
+      let turn = enter_block (leave_block begun stepped) in
       let last = behind turn s in
       let first_part_j = judge_statement begin first in
       let test = judge_condition begun.scope e in
-      let step = judge_statement (opened begun) next in
+      let step = judge_statement (enter_block begun) next in
       let body = judge_statement turn s in
       let all = both (both first_part_j test) (both step body) in
       let made = λ (r : (program.Statement × program.Expression) × (program.Statement × program.Statement)). program.for_loop at.line (record { 0 = c.loops }) (first_part first) r.0.0 r.0.1 r.1.0 r.1.1 in
@@ -144,7 +144,7 @@ mutual
       let a = both_fine first_part_j test w.0.0 u.0 in
       let b = both_fine step body w.0.1 u.1 in
       let one : Ascends (c.loops + 1) (fors_in w.0.0.0) begun.loops = statement_numbered begin first w.0.0.0 a.0 in
-      let two = statement_numbered (opened begun) next w.0.1.0 b.0 in
+      let two = statement_numbered (enter_block begun) next w.0.1.0 b.0 in
       let three = statement_numbered turn s w.0.1.1 b.1 in
       let rest : Ascends (c.loops + 1) (fors_in w.0.0.0 ++ (fors_in w.0.1.0 ++ fors_in w.0.1.1)) last.loops =
       ascends_then (c.loops + 1) (fors_in w.0.0.0) begun.loops (fors_in w.0.1.0 ++ fors_in w.0.1.1) last.loops one
@@ -154,7 +154,7 @@ mutual
   statement_numbered c (return_value at e) x h = return_numbered c at e x h
   statement_numbered c (print_value at e) x h = print_numbered c at e x h
 
-  statements_numbered : (c : Standing) (ss : Statements) (front all : List program.Statement) (n : ℕ) → Ascends n (flat_map fors_in front) c.loops → judge_statements c (fine front) ss ≡ fine all → Ascends n (flat_map fors_in all) (behind_all c ss).loops
+  statements_numbered : (c : Env) (ss : Statements) (front all : List program.Statement) (n : ℕ) → Ascends n (flat_map fors_in front) c.loops → judge_statements c (fine front) ss ≡ fine all → Ascends n (flat_map fors_in all) (behind_all c ss).loops
   statements_numbered c no_statements front all n asc h = subst (λ xs. Ascends n (flat_map fors_in xs) c.loops) (same_fine front all h) asc
   statements_numbered c (statement_and s ss) front all n asc h =
       let d = behind c s in
@@ -165,11 +165,11 @@ mutual
 
 -- ---- methods, members, classes
 
-parameters_hold_none : (c : Standing) (ps : List ParamNode) → (behind_parameters c ps).loops ≡ c.loops
+parameters_hold_none : (c : Env) (ps : List ParamNode) → (behind_parameters c ps).loops ≡ c.loops
 parameters_hold_none c [] = refl
 parameters_hold_none c (p ∷ ps) = parameters_hold_none (behind_parameter c p) ps
 
-method_numbered : (c : MemberStanding) (m : MethodTree) (x : PlainMethod) → judge_method c m ≡ fine x → Ascends c.loops (loops_of_method x) (method_end c m).loops
+method_numbered : (c : MemberEnv) (m : MethodTree) (x : PlainMethod) → judge_method c m ≡ fine x → Ascends c.loops (loops_of_method x) (method_end c m).loops
 method_numbered c m x h =
     let f = method_fine c m x h in
     let start : c.loops ≤ (body_begin c m).loops = let e = parameters_hold_none (method_begin c m) m.params in omega (arith, e) in
@@ -187,7 +187,7 @@ method_adds : (n : ℕ) (a : Members) (r : Option ValueType) (x : PlainMethod) (
 method_adds n a None x b c h k = subst (λ xs. Ascends n xs c) (sym (method_more a.ops x)) (ascends_then n (loops_of a.ops) b (loops_of_method x) c h k)
 method_adds n a (Some t) x b c h k = ascends_later n (loops_of a.ops) b c (ascends_up b (loops_of_method x) c k) h
 
-members_numbered : (c : MemberStanding) (a all : Members) (ms : List MemberTree) (n : ℕ) → Ascends n (loops_of a.ops) c.loops → gathered behind_member add_member c (fine a) ms ≡ fine all → Ascends n (loops_of all.ops) (behind_members c ms).loops
+members_numbered : (c : MemberEnv) (a all : Members) (ms : List MemberTree) (n : ℕ) → Ascends n (loops_of a.ops) c.loops → gathered behind_member add_member c (fine a) ms ≡ fine all → Ascends n (loops_of all.ops) (behind_members c ms).loops
 members_numbered c a all [] n asc h = subst (λ (b : Members). Ascends n (loops_of b.ops) c.loops) (same_fine a all h) asc
 members_numbered c a all (field_member f ∷ ms) n asc h =
     let w = gathered_fine behind_member add_member members_strict c a (field_member f) ms all h in
@@ -199,7 +199,7 @@ members_numbered c a all (method_member m ∷ ms) n asc h =
     let one = method_adds n a d.0.result d.0 c.loops (method_end c m).loops asc (method_numbered c m d.0 d.1) in
     members_numbered (behind_member c (method_member m)) w.0 all ms n (subst (λ (b : Members). Ascends n (loops_of b.ops) (method_end c m).loops) d.2 one) w.2
 
-classes_numbered : (c : ClassStanding) (a all : Parts) (ts : List ClassTree) (n : ℕ) → Ascends n (loops_of a.ops) c.loops → gathered behind_class add_class c (fine a) ts ≡ fine all → Ascends n (loops_of all.ops) (behind_classes c ts).loops
+classes_numbered : (c : ClassEnv) (a all : Parts) (ts : List ClassTree) (n : ℕ) → Ascends n (loops_of a.ops) c.loops → gathered behind_class add_class c (fine a) ts ≡ fine all → Ascends n (loops_of all.ops) (behind_classes c ts).loops
 classes_numbered c a all [] n asc h = subst (λ (b : Parts). Ascends n (loops_of b.ops) c.loops) (same_fine a all h) asc
 classes_numbered c a all (t ∷ ts) n asc h =
     let w = gathered_fine behind_class add_class classes_strict c a t ts all h in

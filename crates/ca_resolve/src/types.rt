@@ -2,7 +2,7 @@
 
 ghost use Rattle.std.specs.Prelude.{◌≡◌};
 ghost use Rattle.ca_resolve.specs.Rules as rules;
-ghost use Rattle.ca_resolve.specs.LocalView.{sort_view};
+ghost use Rattle.ca_resolve.specs.LocalView.{ty_view};
 
 use ca_program::{ClassId, FunctionId, OpId};
 use ca_tree::{BinaryOp, Name, UnaryOp};
@@ -10,7 +10,7 @@ use ca_tree::{BinaryOp, Name, UnaryOp};
 /// The type of a value: of a pointer by its class, of a pointer to a class that isn't defined by the
 /// name, and of `nullptr` one of its own.
 #[derive(Clone, Copy)]
-pub enum Sort<'a> {
+pub enum Ty<'a> {
     Long,
     Truth,
     Pointer(ClassId),
@@ -22,57 +22,57 @@ pub enum Sort<'a> {
 #[derive(Clone, Copy)]
 pub enum Callee<'a> {
     Operation(OpId),
-    Function(FunctionId, Sort<'a>),
+    Function(FunctionId, Ty<'a>),
 }
 
-impl Sort<'_> {
+impl Ty<'_> {
     /// Whether it is the type of numbers.
     pub fn is_long(&self) -> bool
-        ensures { result ≡ rules.is_long (sort_view self.now) }
+        ensures { result ≡ rules.is_long (ty_view self.now) }
     {
-        matches!(self, Sort::Long)
+        matches!(self, Ty::Long)
     }
 
     /// Whether it is the type of truth values.
     pub fn is_truth(&self) -> bool
-        ensures { result ≡ rules.is_truth (sort_view self.now) }
+        ensures { result ≡ rules.is_truth (ty_view self.now) }
     {
-        matches!(self, Sort::Truth)
+        matches!(self, Ty::Truth)
     }
 
     fn is_no_object(&self) -> bool
-        ensures { result ≡ rules.is_no_object (sort_view self.now) }
+        ensures { result ≡ rules.is_no_object (ty_view self.now) }
     {
-        matches!(self, Sort::NoObject)
+        matches!(self, Ty::NoObject)
     }
 
     fn is_pointer(&self) -> bool
-        ensures { result ≡ rules.is_pointer (sort_view self.now) }
+        ensures { result ≡ rules.is_pointer (ty_view self.now) }
     {
-        matches!(self, Sort::Pointer(_) | Sort::Undefined(_))
+        matches!(self, Ty::Pointer(_) | Ty::Undefined(_))
     }
 
-    fn is_same(&self, other: &Sort) -> bool
-        ensures { result ≡ rules.same_sort (sort_view self.now) (sort_view other.now) }
+    fn is_same(&self, other: &Ty) -> bool
+        ensures { result ≡ rules.same_ty (ty_view self.now) (ty_view other.now) }
     {
         match self {
-            Sort::Long => other.is_long(),
-            Sort::Truth => other.is_truth(),
-            Sort::Pointer(class) => match other {
-                Sort::Pointer(second) => class.0 == second.0,
+            Ty::Long => other.is_long(),
+            Ty::Truth => other.is_truth(),
+            Ty::Pointer(class) => match other {
+                Ty::Pointer(second) => class.0 == second.0,
                 _ => false,
             },
-            Sort::Undefined(name) => match other {
-                Sort::Undefined(second) => name.as_bytes() == second.as_bytes(),
+            Ty::Undefined(name) => match other {
+                Ty::Undefined(second) => name.as_bytes() == second.as_bytes(),
                 _ => false,
             },
-            Sort::NoObject => other.is_no_object(),
+            Ty::NoObject => other.is_no_object(),
         }
     }
 
     /// Whether a target of this type can hold a value of the other.
-    pub fn can_hold(&self, value: &Sort) -> bool
-        ensures { result ≡ rules.can_hold (sort_view self.now) (sort_view value.now) }
+    pub fn can_hold(&self, value: &Ty) -> bool
+        ensures { result ≡ rules.can_hold (ty_view self.now) (ty_view value.now) }
     {
         if value.is_no_object() {
             self.is_pointer()
@@ -82,8 +82,8 @@ impl Sort<'_> {
     }
 
     /// Whether `==` and `!=` take values of the two types.
-    fn can_compare(&self, other: &Sort) -> bool
-        ensures { result ≡ rules.can_compare (sort_view self.now) (sort_view other.now) }
+    fn can_compare(&self, other: &Ty) -> bool
+        ensures { result ≡ rules.can_compare (ty_view self.now) (ty_view other.now) }
     {
         if self.is_no_object() {
             other.is_no_object() || other.is_pointer()
@@ -94,8 +94,8 @@ impl Sort<'_> {
 }
 
 /// Whether the operator takes an operand of the type.
-pub(crate) fn takes_unary(op: UnaryOp, operand: &Sort) -> bool
-    ensures { result ≡ rules.takes_unary op (sort_view operand.now) }
+pub(crate) fn takes_unary(op: UnaryOp, operand: &Ty) -> bool
+    ensures { result ≡ rules.takes_unary op (ty_view operand.now) }
 {
     match op {
         UnaryOp::Minus => operand.is_long(),
@@ -104,8 +104,8 @@ pub(crate) fn takes_unary(op: UnaryOp, operand: &Sort) -> bool
 }
 
 /// Whether the operator takes operands of the types.
-pub(crate) fn takes_binary(op: BinaryOp, left: &Sort, right: &Sort) -> bool
-    ensures { result ≡ rules.takes_binary op (sort_view left.now) (sort_view right.now) }
+pub(crate) fn takes_binary(op: BinaryOp, left: &Ty, right: &Ty) -> bool
+    ensures { result ≡ rules.takes_binary op (ty_view left.now) (ty_view right.now) }
 {
     match op {
         BinaryOp::Or | BinaryOp::And => left.is_truth() && right.is_truth(),
@@ -123,25 +123,25 @@ pub(crate) fn takes_binary(op: BinaryOp, left: &Sort, right: &Sort) -> bool
 }
 
 /// The type of the operator's value.
-pub(crate) fn unary_sort<'a>(op: UnaryOp) -> Sort<'a>
-    ensures { sort_view result ≡ rules.unary_sort op }
+pub(crate) fn unary_ty<'a>(op: UnaryOp) -> Ty<'a>
+    ensures { ty_view result ≡ rules.unary_ty op }
 {
     match op {
-        UnaryOp::Minus => Sort::Long,
-        UnaryOp::Not => Sort::Truth,
+        UnaryOp::Minus => Ty::Long,
+        UnaryOp::Not => Ty::Truth,
     }
 }
 
 /// The type of the operator's value.
-pub(crate) fn binary_sort<'a>(op: BinaryOp) -> Sort<'a>
-    ensures { sort_view result ≡ rules.binary_sort op }
+pub(crate) fn binary_ty<'a>(op: BinaryOp) -> Ty<'a>
+    ensures { ty_view result ≡ rules.binary_ty op }
 {
     match op {
         BinaryOp::Plus
         | BinaryOp::Minus
         | BinaryOp::Times
         | BinaryOp::Divide
-        | BinaryOp::Remainder => Sort::Long,
+        | BinaryOp::Remainder => Ty::Long,
         BinaryOp::Or
         | BinaryOp::And
         | BinaryOp::Equal
@@ -149,6 +149,6 @@ pub(crate) fn binary_sort<'a>(op: BinaryOp) -> Sort<'a>
         | BinaryOp::Less
         | BinaryOp::Greater
         | BinaryOp::LessEqual
-        | BinaryOp::GreaterEqual => Sort::Truth,
+        | BinaryOp::GreaterEqual => Ty::Truth,
     }
 }
