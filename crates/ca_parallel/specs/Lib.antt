@@ -9,3 +9,4 @@ pub mod Calls
 pub mod Lists
 pub mod Notes
 pub mod Accounts
+pub mod Scoped

@@ -10,6 +10,7 @@ use Rattle.ca_program.specs.declared.program.LoopId.{LoopId}
 use Rattle.ca_program.specs.Plain.{PlainProgram, Expression, Expressions, number, truth, null, this, local, own, own_item, read, read_item, value_call, unary, binary, no_expressions, expression_and, Statement, Statements, block, put_local, put_field, put_item, new_local, new_field, new_item, invoke, if_else, while_loop, for_loop, return_value, print_value, no_statements, statement_and}
 use Rattle.ca_meaning.specs.Operators.{not_of}
 use Rattle.ca_parallel.specs.Bodies.{expressions_of}
+use Rattle.ca_parallel.specs.Scoped.{names}
 use Rattle.ca_norm.specs.Terms.{PlainTerm}
 use Rattle.ca_norm.specs.Terms as term
 use Rattle.ca_symbolic.specs.States.{State, DemandKind, not_null, in_range, calls, invokes, loops, PlainDemand, demand}
@@ -58,26 +59,6 @@ abbrev mutual
   demands_in_all p s g (expression_and e es) = demands_in p s g e ++ demands_in_all p s g es
 
 -- Call loops
-
--- the expression names the local
-abbrev mutual
-  pub names : Expression → ℕ → Bool
-  names (number v) n = false
-  names (truth b) n = false
-  names null n = false
-  names this n = false
-  names (local l) n = nat_eq l.0 n
-  names (own f) n = false
-  names (own_item f i) n = names i n
-  names (read e f) n = names e n
-  names (read_item e f i) n = names e n || names i n
-  names (value_call e m arguments) n = names e n || any_names arguments n
-  names (unary op e) n = names e n
-  names (binary op a b) n = names a n || names b n
-
-  pub any_names : Expressions → ℕ → Bool
-  any_names no_expressions n = false
-  any_names (expression_and e es) n = names e n || any_names es n
 
 -- the local that the first part of a `for` puts
 abbrev pub is_counter : Statement → ℕ → Bool

@@ -10,6 +10,9 @@ mod Members
 mod Typing
 mod Ascending
 mod Numbers
+mod Visible
+mod Scoping
+mod ScopedPrograms
 mod LiteralTokens
 mod LiteralExpressions
 mod LiteralTrees
