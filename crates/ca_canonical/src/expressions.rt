@@ -6,7 +6,7 @@ ghost use Rattle.ca_tree.specs.View.{expression_view, expressions_view};
 ghost use Rattle.ca_canonical.specs.Spell.{binds, bracketed, in_parentheses, spell_expression, spell_list, spell_truth};
 ghost use Rattle.ca_canonical.specs.Pens.{Writes};
 
-use crate::operators::{TAIL_LEVEL, UNARY_LEVEL, binds};
+use crate::operators::{TAIL_LEVEL, binds};
 use crate::pen::Pen;
 use ca_tree::{ExprKind, ExprNode, Keyword, Sign};
 use std::alloc::AllocError;
@@ -45,7 +45,7 @@ pub(crate) fn write_expression(pen: &mut Pen, e: &ExprNode) -> Result<(), AllocE
         }
         ExprKind::Unary(op, operand) => {
             pen.sign(op.sign())?;
-            write_operand(pen, operand, UNARY_LEVEL)?;
+            write_operand(pen, operand, op.level())?;
         }
         ExprKind::Binary(op, left, right) => {
             let level = op.level();

@@ -6,10 +6,7 @@ ghost use Rattle.ca_canonical.specs.Spell.{binds};
 
 use ca_tree::{ExprKind, ExprNode, LEVELS};
 
-/// The level of a unary operator, above those of all binary ones.
-pub(crate) const UNARY_LEVEL: usize = LEVELS;
-
-/// The level of a literal.
+/// The level of a literal, above that of unary operators.
 pub(crate) const LITERAL_LEVEL: usize = LEVELS + 1;
 
 /// The level of `->` and an index.
@@ -21,7 +18,7 @@ pub(crate) fn binds(e: &ExprNode) -> usize
 {
     match &e.kind {
         ExprKind::Binary(op, ..) => op.level(),
-        ExprKind::Unary(..) => UNARY_LEVEL,
+        ExprKind::Unary(op, ..) => op.level(),
         ExprKind::Number(_) | ExprKind::Truth(_) | ExprKind::Null => LITERAL_LEVEL,
         ExprKind::This
         | ExprKind::Named(_)
