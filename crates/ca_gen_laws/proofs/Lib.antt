@@ -1,0 +1,10 @@
+pub mod Numbers
+pub mod Chunks
+pub mod Scans
+pub mod Deriving
+pub mod NodeTree
+pub mod TableTree
+pub mod MainTree
+pub mod LinkLines
+pub mod Tokens
+pub mod Program

@@ -1,0 +1,90 @@
+-- The tree of the class of nodes.
+use Rattle.std.proofs.Common.{◌≡◌, ℕ, zero, suc, ◌+◌, ◌-◌, ◌<◌, ◌≤◌, List, [], ◌∷◌, ◌++◌, length, take, true, false, refl, sym, ap, ◌∙◌, subst, arith, inl}
+use Rattle.std.specs.Prelude.{Option, Some, None, pos, codes}
+use Rattle.ca_descent.specs.Exact.{Sees, sees, Short, Separated, separated, separated_none, Following, following, following_end}
+use Rattle.ca_tree.specs.declared.name.Place.{Place}
+use Rattle.ca_tree.specs.declared.token.Kind.{Kind}
+use Rattle.ca_tree.specs.declared.token.Kind.TheVariants.{Word, Number, Key, Sign}
+use Rattle.ca_tree.specs.declared.token.Keyword.TheVariants as key
+use Rattle.ca_tree.specs.declared.token.Sign.TheVariants as sign
+use Rattle.ca_tree.specs.declared.token.Token.{Token}
+use Rattle.ca_tree.specs.declared.tree.TypeNode.TheVariants.{Long, Bool as Truth, Pointer}
+use Rattle.ca_tree.specs.declared.tree.AssignOp.TheVariants.{Put, Add}
+use Rattle.ca_tree.specs.declared.tree.UnaryOp.TheVariants.{Not}
+use Rattle.ca_tree.specs.declared.tree.BinaryOp.TheVariants.{Less, Plus}
+use Rattle.ca_tree.specs.Plain.{Expression, Statement, ClassTree, TextTree, number, truth, named, field, method, index, unary, binary, no_expressions, expression_and, value, new, block, local, assign, call_statement, if_only, for_loop, no_statements, statement_and, field_member, method_member}
+use Rattle.ca_expressions.specs.Grammar.{Level, operands, one_operand, Operands, operands_end, operands_more, Unary, unary_first, unary_last, a_literal, a_chain, Chain, name_chain, tails_end, tails_more, field_tail, method_tail, index_tail, args, listed_none, listed, further_none, further}
+use Rattle.ca_parse.specs.Grammar.{TypeName, long, bool, pointer, expression, creation_call, begins, plus_assign, puts, changes, increments, assigns, assign_line, first_local, a_block, an_assign, a_call, an_if, a_for, a_return, a_local, a_statement, items_end, items_and, Lines, lines_end, lines_and, one, param, signature, scalar, array, Member, fields, operation, Declaration, a_class}
+use Rattle.ca_gen_laws.proofs.Chunks.{mark, spread}
+use Rattle.ca_gen_laws.proofs.Scans.{node_kinds}
+use Rattle.ca_gen_laws.proofs.Deriving.{alone, chain_alone, a_name, short}
+
+abbrev pub node_tree : (ℕ → Token) → ClassTree
+node_tree f = record {
+  name = codes "Node";
+  at = (f 1).at;
+  members =
+      field_member (record { ty = Truth; name = codes "mark"; at = (f 6).at; length = None })
+      ∷ field_member (record { ty = Long; name = codes "value"; at = (f 9).at; length = None })
+      ∷ field_member (record { ty = Long; name = codes "sum"; at = (f 12).at; length = None })
+      ∷ field_member (record { ty = Pointer (codes "Node") (f 14).at; name = codes "left"; at = (f 16).at; length = None })
+      ∷ field_member (record { ty = Pointer (codes "Node") (f 18).at; name = codes "right"; at = (f 20).at; length = None })
+      ∷ method_member (record {
+        result = None;
+        name = codes "set";
+        at = (f 23).at;
+        params =
+            record { ty = Long; name = codes "v"; at = (f 26).at }
+            ∷ record { ty = Pointer (codes "Node") (f 28).at; name = codes "l"; at = (f 30).at }
+            ∷ record { ty = Pointer (codes "Node") (f 32).at; name = codes "r"; at = (f 34).at } ∷ [];
+        body =
+            statement_and (assign (f 37).at (named (f 37).at (codes "value")) Put (value (named (f 39).at (codes "v"))))
+            (statement_and (assign (f 41).at (named (f 41).at (codes "left")) Put (value (named (f 43).at (codes "l"))))
+            (statement_and (assign (f 45).at (named (f 45).at (codes "right")) Put (value (named (f 47).at (codes "r")))) no_statements));
+      })
+      ∷ method_member (record {
+        result = None;
+        name = codes "visit";
+        at = (f 51).at;
+        params = record { ty = Long; name = codes "p"; at = (f 54).at } ∷ [];
+        body =
+            statement_and (assign (f 57).at (named (f 57).at (codes "sum")) Add (value (named (f 59).at (codes "p"))))
+            (statement_and (if_only (f 61).at (unary (f 63).at Not (named (f 64).at (codes "mark")))
+            (block (f 66).at
+            (statement_and (assign (f 67).at (named (f 67).at (codes "mark")) Put (value (truth (f 69).at true)))
+            (statement_and (call_statement (f 71).at (method (f 72).at (named (f 71).at (codes "left")) (codes "visit") (expression_and (named (f 75).at (codes "value")) no_expressions)))
+            (statement_and (call_statement (f 78).at (method (f 79).at (named (f 78).at (codes "right")) (codes "visit") (expression_and (named (f 82).at (codes "value")) no_expressions)))
+            no_statements)))))
+            no_statements);
+      })
+      ∷ [];
+}
+
+pub node_derives : (f : ℕ → Token) (r : List Token) → Declaration 0 (spread f node_kinds r) (node_tree f ∷ []) r
+node_derives f r =
+    a_class (sees refl) (sees refl) (sees refl) (sees refl) (sees refl)
+    (lines_and (fields (bool (sees refl)) (sees refl) scalar (following_end (sees refl)))
+    (lines_and (fields (long (sees refl)) (sees refl) scalar (following_end (sees refl)))
+    (lines_and (fields (long (sees refl)) (sees refl) scalar (following_end (sees refl)))
+    (lines_and (fields (pointer (sees refl) (sees refl)) (sees refl) scalar (following_end (sees refl)))
+    (lines_and (fields (pointer (sees refl) (sees refl)) (sees refl) scalar (following_end (sees refl)))
+    (lines_and (operation (sees refl) (sees refl) (signature (sees refl)
+    (separated (param (long (sees refl)) (sees refl)) (following (sees refl) (param (pointer (sees refl) (sees refl)) (sees refl)) (following (sees refl) (param (pointer (sees refl) (sees refl)) (sees refl)) (following_end (sees refl)))))
+    (sees refl)
+    (items_and (a_statement (an_assign (assign_line (assigns (short (mark (Word (codes "value")) (f 37) ∷ []) _ (λ z. (name_chain (sees refl) tails_end)) (omega arith)) refl (puts (sees refl) (expression (short (mark (Word (codes "v")) (f 39) ∷ []) _ (λ z. a_name) (omega arith))))) (sees refl))))
+    (items_and (a_statement (an_assign (assign_line (assigns (short (mark (Word (codes "left")) (f 41) ∷ []) _ (λ z. (name_chain (sees refl) tails_end)) (omega arith)) refl (puts (sees refl) (expression (short (mark (Word (codes "l")) (f 43) ∷ []) _ (λ z. a_name) (omega arith))))) (sees refl))))
+    (items_and (a_statement (an_assign (assign_line (assigns (short (mark (Word (codes "right")) (f 45) ∷ []) _ (λ z. (name_chain (sees refl) tails_end)) (omega arith)) refl (puts (sees refl) (expression (short (mark (Word (codes "r")) (f 47) ∷ []) _ (λ z. a_name) (omega arith))))) (sees refl))))
+    (items_end (sees refl)))))))
+    (lines_and (operation (sees refl) (sees refl) (signature (sees refl)
+    (separated (param (long (sees refl)) (sees refl)) (following_end (sees refl)))
+    (sees refl)
+    (items_and (a_statement (an_assign (assign_line (assigns (short (mark (Word (codes "sum")) (f 57) ∷ []) _ (λ z. (name_chain (sees refl) tails_end)) (omega arith)) refl (changes (plus_assign (sees refl)) (short (mark (Word (codes "p")) (f 59) ∷ []) _ (λ z. a_name) (omega arith)))) (sees refl))))
+    (items_and (a_statement (an_if (inl (omega arith)) (sees refl) (sees refl) (short (mark (Sign sign.Not) (f 63) ∷ mark (Word (codes "mark")) (f 64) ∷ []) _ (λ z. alone (unary_first (sees refl) (unary_last (a_chain (name_chain (sees refl) tails_end))))) (omega arith)) (sees refl)
+    (a_block (inl (omega arith)) (sees refl)
+    (items_and (a_statement (an_assign (assign_line (assigns (short (mark (Word (codes "mark")) (f 67) ∷ []) _ (λ z. (name_chain (sees refl) tails_end)) (omega arith)) refl (puts (sees refl) (expression (short (mark (Key key.True) (f 69) ∷ []) _ (λ z. alone (unary_last (a_literal (sees refl)))) (omega arith))))) (sees refl))))
+    (items_and (a_statement (a_call (short (mark (Word (codes "left")) (f 71) ∷ mark (Sign sign.Arrow) (f 72) ∷ mark (Word (codes "visit")) (f 73) ∷ mark (Sign sign.OpenParenthesis) (f 74) ∷ mark (Word (codes "value")) (f 75) ∷ mark (Sign sign.CloseParenthesis) (f 76) ∷ []) _ (λ z. (name_chain (sees refl) (tails_more (method_tail (sees refl) (sees refl) (args (sees refl) (listed a_name (further_none (sees refl))))) tails_end))) (omega arith)) refl (sees refl)))
+    (items_and (a_statement (a_call (short (mark (Word (codes "right")) (f 78) ∷ mark (Sign sign.Arrow) (f 79) ∷ mark (Word (codes "visit")) (f 80) ∷ mark (Sign sign.OpenParenthesis) (f 81) ∷ mark (Word (codes "value")) (f 82) ∷ mark (Sign sign.CloseParenthesis) (f 83) ∷ []) _ (λ z. (name_chain (sees refl) (tails_more (method_tail (sees refl) (sees refl) (args (sees refl) (listed a_name (further_none (sees refl))))) tails_end))) (omega arith)) refl (sees refl)))
+    (items_end (sees refl))))))))
+    (items_end (sees refl))))))
+    (lines_end (sees refl)))))))))
+    (sees refl)

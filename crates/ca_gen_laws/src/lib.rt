@@ -1,0 +1,2 @@
+//! Laws of generated texts.
+#![tactic(auto)]
