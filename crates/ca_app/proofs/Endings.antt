@@ -115,6 +115,13 @@ module _ {words : List (List ℕ)} {text : List ℕ} {status : ℕ} {old now : O
   pub ends_generated : (seed size : ℕ) → Names words (Gen seed size) → Ends (generated_reply seed size) status old now → EndsWith (Replies words text) status old now
   ends_generated seed size names = only_reply (Replies words text) (generated_reply seed size) (generates names) (λ reply this. one_reply this (generates names))
 
+  -- a command that reads nothing is `gen`
+  pub ends_unread : (command : Command) → Names words command → reads command ≡ false → ((seed size : ℕ) → command ≡ Gen seed size → Ends (generated_reply seed size) status old now)
+      → EndsWith (Replies words text) status old now
+  ends_unread (Run workers budget) names unread ends = absurd cc
+  ends_unread Pairs names unread ends = absurd cc
+  ends_unread (Gen seed size) names unread ends = ends_generated seed size names (ends seed size refl)
+
   pub ends_named : (command : Command) → Names words command → reads command ≡ true → EndsWith (CommandReplies command text) status old now → EndsWith (Replies words text) status old now
   ends_named command names reading ends = record { some = some ends.some; each = each }
     where
@@ -129,10 +136,23 @@ module _ {words : List (List ℕ)} {text : List ℕ} {status : ℕ} {old now : O
           let P : Command → Type 0 = λ c. CommandReplies c text reply in
           ends.each reply (subst P (one_command _ other command names' names) replies)
 
+-- the text of one seed and size is that of another that the same command has
+pub ends_generated_text : {x n y m status : ℕ} {old now : Option (List ℕ)} → Gen x n ≡ Gen y m → Ends (generated_reply x n) status old now → Ends (generated_reply y m) status old now
+ends_generated_text {x} {n} {y} {m} {status} {old} {now} is ends =
+    let first : x ≡ y = cc in
+    let second : n ≡ m = cc in
+    let P : ℕ → Type 0 = λ z. Ends (generated_reply z n) status old now in
+    let Q : ℕ → Type 0 = λ z. Ends (generated_reply y z) status old now in
+    subst Q second (subst P first ends)
+
 -- words that name a command that reads its source don't name one that reads nothing
 pub some_read : {words : List (List ℕ)} (command : Command) → Names words command → reads command ≡ true → ReadsNothing words → ⊥
-some_read command names reading nothing = let not = nothing command names in cc
+some_read command names reading nothing = let not : reads command ≡ false = nothing command names in cc
 
 -- and the other way round
-pub none_read : {words : List (List ℕ)} (seed size : ℕ) → Names words (Gen seed size) → ReadsSource words → ⊥
-none_read seed size names source = other_reads source.0 seed size source.1 names source.2
+pub none_read : {words : List (List ℕ)} (command : Command) → Names words command → reads command ≡ false → ReadsSource words → ⊥
+none_read {words} command names unread source =
+    let P : Command → Type 0 = λ c. reads c ≡ false in
+    let not : reads source.0 ≡ false = subst P (one_command words command source.0 names source.1) unread in
+    let reading : reads source.0 ≡ true = source.2 in
+    cc

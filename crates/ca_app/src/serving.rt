@@ -14,7 +14,7 @@ ghost use Rattle.ca_app.specs.Ends.{Ends, EndsWith, SinkCause, Complete, IsReadT
 ghost use Rattle.ca_app.specs.Refusals.{refusal_reply};
 ghost use Rattle.ca_app.specs.Reply.{ProgramReplies, CommandReplies, Replies};
 
-use crate::generating::write_generated;
+use crate::generating::serve_unread;
 use crate::lines::{write_spent, write_trap};
 use crate::pairs::{verdicts_of, write_pairs};
 use crate::reading::{NoProgram, Reading, read_program};
@@ -96,10 +96,10 @@ pub fn top<R: AllocGlobal + Threads + Wait + Sync, S: Source, K: Sink, G: Gate>(
     let Some(command) = command_of(words) else {
         return finish(write_all(sink, usage_line()), USAGE);
     };
-    match command {
-        Command::Gen { seed, size } => write_generated(rt.alloc(), seed, size, sink),
-        _ => serve(rt, rt.alloc(), command, source, sink),
+    if command.reads() {
+        return serve(rt, rt.alloc(), command, source, sink);
     }
+    serve_unread(rt.alloc(), command, sink)
 }
 
 /// Serves a command that reads its source, on the text that the source has.

@@ -8,3 +8,10 @@ pub mod MainTree
 pub mod LinkLines
 pub mod Tokens
 pub mod Program
+pub mod Steps
+pub mod Heaps
+pub mod Nodes
+pub mod Visits
+pub mod Linking
+pub mod Filling
+pub mod Run

@@ -40,12 +40,16 @@ add a b m n p q = omega (arith, length-append a b, p, q)
 
 short_line : (i l r : ℕ) → i ≤ 20000 → l ≤ 20000 → r ≤ 20000 → length (link_line i l r) ≤ 32
 short_line i l r a b c =
+    let t4 = decimal r ++ codes ");\n" in
+    let t3 = codes ", " ++ t4 in
+    let t2 = decimal l ++ t3 in
+    let t1 = codes ", " ++ t2 in
     let four = add (decimal r) (codes ");\n") 5 3 (few_digits r c) (omega arith) in
-    let three = add (codes ", ") (decimal r ++ codes ");\n") 2 8 (omega arith) four in
-    let two = add (decimal l) _ 5 10 (few_digits l b) three in
-    let one = add (codes ", ") _ 2 15 (omega arith) two in
-    let first = add (decimal i) _ 5 17 (few_digits i a) one in
-    omega (arith, add (codes "  t->link(") _ 10 22 (omega arith) first)
+    let three = add (codes ", ") t4 2 8 (omega arith) four in
+    let two = add (decimal l) t3 5 10 (few_digits l b) three in
+    let one = add (codes ", ") t2 2 15 (omega arith) two in
+    let first = add (decimal i) t1 5 17 (few_digits i a) one in
+    omega (arith, add (codes "  t->link(") (decimal i ++ t1) 10 22 (omega arith) first)
 
 pub short_lines : (line : ℕ → List ℕ) (i n : ℕ) → ((j : ℕ) → j < i + n → length (line j) ≤ 32) → length (lines_from line i n) ≤ 32 * n
 short_lines line i zero each = omega arith

@@ -1,7 +1,7 @@
 -- The program of a generated text.
 use Rattle.std.proofs.Common.{◌≡◌, ℕ, ◌+◌, ◌<◌, ◌≤◌, Bool, true, false, List, [], ◌∷◌, ◌++◌, map, length, refl, sym, ap, ◌∙◌, append_assoc, arith}
 use Rattle.std.specs.Prelude.{Option, Some, None, pos, codes, int_lt, int_le}
-use Rattle.std.proofs.lemmas.Bool.{lt-leb}
+use Rattle.std.proofs.lemmas.Bool.{lt-leb, le-ltb}
 use Rattle.ca_tree.specs.declared.token.Token.{Token}
 use Rattle.ca_tree.specs.declared.tree.AssignOp.TheVariants.{Put, Add}
 use Rattle.ca_tree.specs.declared.tree.UnaryOp.TheVariants.{Not}
@@ -138,7 +138,7 @@ abbrev parts : ℕ → (ℕ → Token) → (ℕ → Token) → Parts
 parts size a b = record { classes = node_plain ∷ table_plain size ∷ []; ops = node_ops a ++ table_ops size b; functions = [] }
 
 not_long : (size : ℕ) → size ≤ 20000 → int_lt (pos 1000000) (pos size) ≡ false
-not_long size most = lt-leb 1000000 size (omega (arith, most))
+not_long size most = le-ltb 1000000 size (omega (arith, most))
 
 not_empty : (size : ℕ) → 1 ≤ size → int_le (pos size) (pos 0) ≡ false
 not_empty size least = lt-leb size 0 (omega (arith, least))

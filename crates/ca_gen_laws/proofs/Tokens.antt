@@ -181,9 +181,12 @@ module _ (seed size : ℕ) (some : 1 ≤ size) (most : size ≤ 20000) where
 
 -- the tokens are few enough
 
-linked_length : (size i : ℕ) (links : List Link) → Linked size i links → i + length links ≡ size
+pub linked_length : (size i : ℕ) (links : List Link) → Linked size i links → i + length links ≡ size
 linked_length size i [] are = omega (arith, are)
 linked_length size i (x ∷ xs) are = omega (arith, linked_length size (suc i) xs are.1.1.1)
+
+pub linked_below : (size i : ℕ) (links : List Link) → Linked size i links → i ≤ size
+linked_below size i links are = omega (arith, linked_length size i links are)
 
 links_length : (links : List Link) (ts : List Token) → length (link_tokens links ts) ≡ 11 * length links + length ts
 links_length [] ts = omega arith

@@ -10,7 +10,7 @@
 
 ghost use Rattle.std.specs.Prelude.{◌≡◌, ℕ, ◌<◌, ◌≤◌, ◌↔◌, List, IsTrue, IfSome, IfNone, decimal};
 ghost use Rattle.ca_words.specs.declared.Command.{Command};
-ghost use Rattle.ca_words.specs.Words.{texts, IsBuilt, Spells, Names, usage_text};
+ghost use Rattle.ca_words.specs.Words.{texts, IsBuilt, Spells, Names, reads, usage_text};
 
 /// What the words name.
 #[derive(Clone, Copy, PartialEq, Eq, Debug)]
@@ -30,6 +30,16 @@ impl Command {
     const MOST_BUDGET: u32 = 1_000_000_000;
 
     const MOST_SIZE: u32 = 20_000;
+
+    /// Whether it reads its source.
+    pub fn reads(self) -> bool
+        ensures { result ≡ reads self }
+    {
+        match self {
+            Command::Run { .. } | Command::Pairs => true,
+            Command::Gen { .. } => false,
+        }
+    }
 
     // Whether this program does it so far.
     fn is_built(self) -> bool
