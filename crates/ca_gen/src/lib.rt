@@ -1,7 +1,8 @@
 //! A large text that anyone can make again from a number.
 //!
-//! `generate` gives the text of `specs/Generated.antt`: a table of nodes, each linked to two nodes
-//! that a seed gives, and a visit of all that the first node reaches.
+//! `generated_text` gives the text of `specs/Generated.antt`: a table of nodes, each linked to two nodes
+//! that a seed gives, and a visit of all that the first node reaches. `ca_gen_laws` says that the text is
+//! accepted, and that its run ends.
 #![tactic(auto)]
 
 ghost use Rattle.std.specs.Prelude.{◌≡◌, ◌<◌, ◌≤◌, ◌++◌, decimal, IfOk};
@@ -28,7 +29,7 @@ const MAIN_END: &str = "  t->at[0]->visit(1);\n  return 0;\n}\n";
 /// The text of a seed and a size.
 ///
 /// Errors: want of memory.
-pub fn generate(alloc: Global, seed: u64, size: u32) -> Result<Vec<u8>, Memory>
+pub fn generated_text(alloc: Global, seed: u64, size: u32) -> Result<Vec<u8>, Memory>
     requires { (1 ≤ size) × (size ≤ 20000) }
     ensures { IfOk result (λ text. text.items ≡ generated seed size) }
 {

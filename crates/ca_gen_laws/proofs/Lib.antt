@@ -15,3 +15,4 @@ pub mod Visits
 pub mod Linking
 pub mod Filling
 pub mod Run
+pub mod Accepted

@@ -133,7 +133,7 @@ module _ (size : ℕ) (a b : ℕ → Token) (main : Statements) where
     shape_at j in_size (inl e) =
         let P : ℕ → Type 0 = λ z. NodeAt all_set (suc z) in
         let n = new_link in
-        let here : NodeAt all_set (suc i) = record { mark = n.mark; value = n.value; sum = n.sum; left = Ref (suc l); right = Ref (suc r); is = n.is } in
+        let here : NodeAt all_set (suc i) = record { mark = n.mark; value = n.value; sum = n.sum; left = Ref (suc n.left); right = Ref (suc n.right); is = n.is } in
         subst P (sym e) here
     shape_at j in_size (inr other) =
         let s = ready.shape j in_size in

@@ -1,7 +1,7 @@
 use Rattle.std.proofs.Common.{◌≡◌, ◌<◌, ◌%◌, ◌++◌, ap, sym, ◌∙◌, append-nil, append_assoc, arith}
 use Rattle.ca_gen.specs.Generated.{drawn, link_lines, main_end, text_before, generated}
 use Rattle.ca_gen.proofs.Linking.{first_drawn, no_lines, linked, drawn_twice}
-use Rattle.ca_gen.proofs.generate.Goals as goal
+use Rattle.ca_gen.proofs.generated_text.Goals as goal
 
 pub loop-node-init : goal.loop-node-init
 loop-node-init c = record {

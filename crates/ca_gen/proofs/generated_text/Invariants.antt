@@ -1,6 +1,6 @@
 use Rattle.std.proofs.Common.{◌≡◌, ◌<◌, ◌*◌, ◌++◌}
 use Rattle.ca_gen.specs.Generated.{drawn, link_lines, text_before}
-use Rattle.ca_gen.proofs.generate.Given as goal
+use Rattle.ca_gen.proofs.generated_text.Given as goal
 
 -- the text has the links of the nodes so far
 abbrev pub invariant-loop-node : goal.invariant-loop-node
