@@ -45,6 +45,10 @@ abbrev pub spread : (ℕ → Token) → List Kind → List Token → List Token
 spread f [] ts = ts
 spread f (k ∷ ks) ts = mark k (f 0) ∷ spread (λ i. f (suc i)) ks ts
 
+-- n of these tokens, from that of number i on
+abbrev pub tokens_at : (ℕ → Token) → List Kind → ℕ → ℕ → List Token
+tokens_at f ks i n = spread (λ j. f (i + j)) (take n (drop i ks)) []
+
 abbrev pub behind : Token → (ℕ → Token) → ℕ → Token
 behind t f zero = t
 behind t f (suc i) = f i

@@ -14,7 +14,7 @@ use Rattle.ca_tree.specs.Plain.{Statement, TextTree, number, named, field, metho
 use Rattle.ca_expressions.specs.Terminals as terminal
 use Rattle.ca_expressions.specs.Grammar.{name_chain, tails_end, tails_more, field_tail, method_tail, index_tail, args, listed_none, listed, further_none, further}
 use Rattle.ca_parse.specs.Grammar.{statements, pointer, creation_call, begins, Item, a_call, a_return, a_local, a_statement, Lines, lines_end, lines_and, One, one, read, is_return_zero, MainItem, main_item, kept, Program, program}
-use Rattle.ca_gen_laws.proofs.Chunks.{mark, spread}
+use Rattle.ca_gen_laws.proofs.Chunks.{spread, tokens_at}
 use Rattle.ca_gen_laws.proofs.Scans.{node_kinds, table_kinds, link_kinds, main_begin_kinds, main_end_kinds}
 use Rattle.ca_gen_laws.proofs.Deriving.{a_number, short}
 use Rattle.ca_gen_laws.proofs.NodeTree.{node_tree, node_derives}
@@ -68,17 +68,17 @@ read_front front r =
 item_of : {x : Statement} (front r : List Token) → Item 1 0 (front ++ r) x r → MainItem 0 (front ++ r) (x, is_return_zero front) r
 item_of {x} front r d = let P : List Token → Type 0 = λ z. MainItem 0 (front ++ r) (x, is_return_zero z) r in subst P (read_front front r) (main_item d)
 
-begin_item : (f : ℕ → Token) (r : List Token) → MainItem 0 ((mark (Word (codes "Table")) (f 5) ∷ mark (Sign sign.Times) (f 6) ∷ mark (Word (codes "t")) (f 7) ∷ mark (Sign sign.Assign) (f 8) ∷ mark (Key key.New) (f 9) ∷ mark (Word (codes "Table")) (f 10) ∷ mark (Sign sign.OpenParenthesis) (f 11) ∷ mark (Sign sign.CloseParenthesis) (f 12) ∷ mark (Sign sign.Semicolon) (f 13) ∷ []) ++ r) (begin_tree f, false) r
-begin_item f r = item_of (mark (Word (codes "Table")) (f 5) ∷ mark (Sign sign.Times) (f 6) ∷ mark (Word (codes "t")) (f 7) ∷ mark (Sign sign.Assign) (f 8) ∷ mark (Key key.New) (f 9) ∷ mark (Word (codes "Table")) (f 10) ∷ mark (Sign sign.OpenParenthesis) (f 11) ∷ mark (Sign sign.CloseParenthesis) (f 12) ∷ mark (Sign sign.Semicolon) (f 13) ∷ []) r (a_local (begins (pointer (sees refl) (sees refl)) (sees refl) (sees refl) (creation_call (sees refl) (sees refl) (sees refl) (sees refl)) (sees refl)))
+begin_item : (f : ℕ → Token) (r : List Token) → MainItem 0 ((tokens_at f main_begin_kinds 5 9) ++ r) (begin_tree f, false) r
+begin_item f r = item_of (tokens_at f main_begin_kinds 5 9) r (a_local (begins (pointer (sees refl) (sees refl)) (sees refl) (sees refl) (creation_call (sees refl) (sees refl) (sees refl) (sees refl)) (sees refl)))
 
-fill_item : (f : ℕ → Token) (r : List Token) → MainItem 0 ((mark (Word (codes "t")) (f 14) ∷ mark (Sign sign.Arrow) (f 15) ∷ mark (Word (codes "fill")) (f 16) ∷ mark (Sign sign.OpenParenthesis) (f 17) ∷ mark (Sign sign.CloseParenthesis) (f 18) ∷ mark (Sign sign.Semicolon) (f 19) ∷ []) ++ r) (fill_tree f, false) r
-fill_item f r = item_of (mark (Word (codes "t")) (f 14) ∷ mark (Sign sign.Arrow) (f 15) ∷ mark (Word (codes "fill")) (f 16) ∷ mark (Sign sign.OpenParenthesis) (f 17) ∷ mark (Sign sign.CloseParenthesis) (f 18) ∷ mark (Sign sign.Semicolon) (f 19) ∷ []) r (a_statement (a_call (short (mark (Word (codes "t")) (f 14) ∷ mark (Sign sign.Arrow) (f 15) ∷ mark (Word (codes "fill")) (f 16) ∷ mark (Sign sign.OpenParenthesis) (f 17) ∷ mark (Sign sign.CloseParenthesis) (f 18) ∷ []) _ (λ z. name_chain (sees refl) (tails_more (method_tail (sees refl) (sees refl) (args (sees refl) (listed_none (sees refl)))) tails_end)) (omega arith)) refl (sees refl)))
+fill_item : (f : ℕ → Token) (r : List Token) → MainItem 0 ((tokens_at f main_begin_kinds 14 6) ++ r) (fill_tree f, false) r
+fill_item f r = item_of (tokens_at f main_begin_kinds 14 6) r (a_statement (a_call (short (tokens_at f main_begin_kinds 14 5) _ (λ z. name_chain (sees refl) (tails_more (method_tail (sees refl) (sees refl) (args (sees refl) (listed_none (sees refl)))) tails_end)) (omega arith)) refl (sees refl)))
 
-link_item : (x : Link) (r : List Token) → MainItem 0 ((mark (Word (codes "t")) (x.f 0) ∷ mark (Sign sign.Arrow) (x.f 1) ∷ mark (Word (codes "link")) (x.f 2) ∷ mark (Sign sign.OpenParenthesis) (x.f 3) ∷ mark (Number (pos x.node)) (x.f 4) ∷ mark (Sign sign.Comma) (x.f 5) ∷ mark (Number (pos x.left)) (x.f 6) ∷ mark (Sign sign.Comma) (x.f 7) ∷ mark (Number (pos x.right)) (x.f 8) ∷ mark (Sign sign.CloseParenthesis) (x.f 9) ∷ mark (Sign sign.Semicolon) (x.f 10) ∷ []) ++ r) (link_tree x, false) r
-link_item x r = item_of (mark (Word (codes "t")) (x.f 0) ∷ mark (Sign sign.Arrow) (x.f 1) ∷ mark (Word (codes "link")) (x.f 2) ∷ mark (Sign sign.OpenParenthesis) (x.f 3) ∷ mark (Number (pos x.node)) (x.f 4) ∷ mark (Sign sign.Comma) (x.f 5) ∷ mark (Number (pos x.left)) (x.f 6) ∷ mark (Sign sign.Comma) (x.f 7) ∷ mark (Number (pos x.right)) (x.f 8) ∷ mark (Sign sign.CloseParenthesis) (x.f 9) ∷ mark (Sign sign.Semicolon) (x.f 10) ∷ []) r (a_statement (a_call (short (mark (Word (codes "t")) (x.f 0) ∷ mark (Sign sign.Arrow) (x.f 1) ∷ mark (Word (codes "link")) (x.f 2) ∷ mark (Sign sign.OpenParenthesis) (x.f 3) ∷ mark (Number (pos x.node)) (x.f 4) ∷ mark (Sign sign.Comma) (x.f 5) ∷ mark (Number (pos x.left)) (x.f 6) ∷ mark (Sign sign.Comma) (x.f 7) ∷ mark (Number (pos x.right)) (x.f 8) ∷ mark (Sign sign.CloseParenthesis) (x.f 9) ∷ []) _ (λ z. name_chain (sees refl) (tails_more (method_tail (sees refl) (sees refl) (args (sees refl) (listed a_number (further (sees refl) a_number (further (sees refl) a_number (further_none (sees refl))))))) tails_end)) (omega arith)) refl (sees refl)))
+link_item : (x : Link) (r : List Token) → MainItem 0 ((tokens_at x.f (link_kinds x.node x.left x.right) 0 11) ++ r) (link_tree x, false) r
+link_item x r = item_of (tokens_at x.f (link_kinds x.node x.left x.right) 0 11) r (a_statement (a_call (short (tokens_at x.f (link_kinds x.node x.left x.right) 0 10) _ (λ z. name_chain (sees refl) (tails_more (method_tail (sees refl) (sees refl) (args (sees refl) (listed a_number (further (sees refl) a_number (further (sees refl) a_number (further_none (sees refl))))))) tails_end)) (omega arith)) refl (sees refl)))
 
-visit_item : (h : ℕ → Token) (r : List Token) → MainItem 0 ((mark (Word (codes "t")) (h 0) ∷ mark (Sign sign.Arrow) (h 1) ∷ mark (Word (codes "at")) (h 2) ∷ mark (Sign sign.OpenBracket) (h 3) ∷ mark (Number (pos 0)) (h 4) ∷ mark (Sign sign.CloseBracket) (h 5) ∷ mark (Sign sign.Arrow) (h 6) ∷ mark (Word (codes "visit")) (h 7) ∷ mark (Sign sign.OpenParenthesis) (h 8) ∷ mark (Number (pos 1)) (h 9) ∷ mark (Sign sign.CloseParenthesis) (h 10) ∷ mark (Sign sign.Semicolon) (h 11) ∷ []) ++ r) (visit_tree h, false) r
-visit_item h r = item_of (mark (Word (codes "t")) (h 0) ∷ mark (Sign sign.Arrow) (h 1) ∷ mark (Word (codes "at")) (h 2) ∷ mark (Sign sign.OpenBracket) (h 3) ∷ mark (Number (pos 0)) (h 4) ∷ mark (Sign sign.CloseBracket) (h 5) ∷ mark (Sign sign.Arrow) (h 6) ∷ mark (Word (codes "visit")) (h 7) ∷ mark (Sign sign.OpenParenthesis) (h 8) ∷ mark (Number (pos 1)) (h 9) ∷ mark (Sign sign.CloseParenthesis) (h 10) ∷ mark (Sign sign.Semicolon) (h 11) ∷ []) r (a_statement (a_call (short (mark (Word (codes "t")) (h 0) ∷ mark (Sign sign.Arrow) (h 1) ∷ mark (Word (codes "at")) (h 2) ∷ mark (Sign sign.OpenBracket) (h 3) ∷ mark (Number (pos 0)) (h 4) ∷ mark (Sign sign.CloseBracket) (h 5) ∷ mark (Sign sign.Arrow) (h 6) ∷ mark (Word (codes "visit")) (h 7) ∷ mark (Sign sign.OpenParenthesis) (h 8) ∷ mark (Number (pos 1)) (h 9) ∷ mark (Sign sign.CloseParenthesis) (h 10) ∷ []) _ (λ z. name_chain (sees refl) (tails_more (field_tail (sees refl) (sees refl)) (tails_more (index_tail (sees refl) a_number (sees refl)) (tails_more (method_tail (sees refl) (sees refl) (args (sees refl) (listed a_number (further_none (sees refl))))) tails_end)))) (omega arith)) refl (sees refl)))
+visit_item : (h : ℕ → Token) (r : List Token) → MainItem 0 ((tokens_at h main_end_kinds 0 12) ++ r) (visit_tree h, false) r
+visit_item h r = item_of (tokens_at h main_end_kinds 0 12) r (a_statement (a_call (short (tokens_at h main_end_kinds 0 11) _ (λ z. name_chain (sees refl) (tails_more (field_tail (sees refl) (sees refl)) (tails_more (index_tail (sees refl) a_number (sees refl)) (tails_more (method_tail (sees refl) (sees refl) (args (sees refl) (listed a_number (further_none (sees refl))))) tails_end)))) (omega arith)) refl (sees refl)))
 
 -- the last one, which leaves no trace
 abbrev last_tree : (ℕ → Token) → Statement
@@ -101,7 +101,7 @@ end_items h = (visit_tree h, false) ∷ (last_tree h, true) ∷ []
 end_derives : (h : ℕ → Token) → Items (spread h main_end_kinds []) (end_items h)
 end_derives h =
     lines_and (one (visit_item h _))
-    (lines_and (one (main_item (a_statement (a_return (sees refl) (short (mark (Number (pos 0)) (h 13) ∷ []) _ (λ z. a_number) (omega arith)) (sees refl)))))
+    (lines_and (one (main_item (a_statement (a_return (sees refl) (short (tokens_at h main_end_kinds 13 1) _ (λ z. a_number) (omega arith)) (sees refl)))))
     (lines_end (sees refl)))
 
 -- what is left of the items

@@ -15,7 +15,7 @@ use Rattle.ca_tree.specs.declared.tree.BinaryOp.TheVariants.{Less, Plus}
 use Rattle.ca_tree.specs.Plain.{Expression, Statement, ClassTree, TextTree, number, truth, named, field, method, index, unary, binary, no_expressions, expression_and, value, new, block, local, assign, call_statement, if_only, for_loop, no_statements, statement_and, field_member, method_member}
 use Rattle.ca_expressions.specs.Grammar.{Level, operands, one_operand, Operands, operands_end, operands_more, Unary, unary_first, unary_last, a_literal, a_chain, Chain, name_chain, tails_end, tails_more, field_tail, method_tail, index_tail, args, listed_none, listed, further_none, further}
 use Rattle.ca_parse.specs.Grammar.{TypeName, long, bool, pointer, expression, creation_call, begins, plus_assign, puts, changes, increments, assigns, assign_line, first_local, a_block, an_assign, a_call, an_if, a_for, a_return, a_local, a_statement, items_end, items_and, Lines, lines_end, lines_and, one, param, signature, scalar, array, Member, fields, operation, Declaration, a_class}
-use Rattle.ca_gen_laws.proofs.Chunks.{mark, spread}
+use Rattle.ca_gen_laws.proofs.Chunks.{spread, tokens_at}
 use Rattle.ca_gen_laws.proofs.Scans.{node_kinds}
 use Rattle.ca_gen_laws.proofs.Deriving.{alone, chain_alone, a_name, short}
 
@@ -71,19 +71,19 @@ node_derives f r =
     (lines_and (operation (sees refl) (sees refl) (signature (sees refl)
     (separated (param (long (sees refl)) (sees refl)) (following (sees refl) (param (pointer (sees refl) (sees refl)) (sees refl)) (following (sees refl) (param (pointer (sees refl) (sees refl)) (sees refl)) (following_end (sees refl)))))
     (sees refl)
-    (items_and (a_statement (an_assign (assign_line (assigns (short (mark (Word (codes "value")) (f 37) ∷ []) _ (λ z. (name_chain (sees refl) tails_end)) (omega arith)) refl (puts (sees refl) (expression (short (mark (Word (codes "v")) (f 39) ∷ []) _ (λ z. a_name) (omega arith))))) (sees refl))))
-    (items_and (a_statement (an_assign (assign_line (assigns (short (mark (Word (codes "left")) (f 41) ∷ []) _ (λ z. (name_chain (sees refl) tails_end)) (omega arith)) refl (puts (sees refl) (expression (short (mark (Word (codes "l")) (f 43) ∷ []) _ (λ z. a_name) (omega arith))))) (sees refl))))
-    (items_and (a_statement (an_assign (assign_line (assigns (short (mark (Word (codes "right")) (f 45) ∷ []) _ (λ z. (name_chain (sees refl) tails_end)) (omega arith)) refl (puts (sees refl) (expression (short (mark (Word (codes "r")) (f 47) ∷ []) _ (λ z. a_name) (omega arith))))) (sees refl))))
+    (items_and (a_statement (an_assign (assign_line (assigns (short (tokens_at f node_kinds 37 1) _ (λ z. (name_chain (sees refl) tails_end)) (omega arith)) refl (puts (sees refl) (expression (short (tokens_at f node_kinds 39 1) _ (λ z. a_name) (omega arith))))) (sees refl))))
+    (items_and (a_statement (an_assign (assign_line (assigns (short (tokens_at f node_kinds 41 1) _ (λ z. (name_chain (sees refl) tails_end)) (omega arith)) refl (puts (sees refl) (expression (short (tokens_at f node_kinds 43 1) _ (λ z. a_name) (omega arith))))) (sees refl))))
+    (items_and (a_statement (an_assign (assign_line (assigns (short (tokens_at f node_kinds 45 1) _ (λ z. (name_chain (sees refl) tails_end)) (omega arith)) refl (puts (sees refl) (expression (short (tokens_at f node_kinds 47 1) _ (λ z. a_name) (omega arith))))) (sees refl))))
     (items_end (sees refl)))))))
     (lines_and (operation (sees refl) (sees refl) (signature (sees refl)
     (separated (param (long (sees refl)) (sees refl)) (following_end (sees refl)))
     (sees refl)
-    (items_and (a_statement (an_assign (assign_line (assigns (short (mark (Word (codes "sum")) (f 57) ∷ []) _ (λ z. (name_chain (sees refl) tails_end)) (omega arith)) refl (changes (plus_assign (sees refl)) (short (mark (Word (codes "p")) (f 59) ∷ []) _ (λ z. a_name) (omega arith)))) (sees refl))))
-    (items_and (a_statement (an_if (inl (omega arith)) (sees refl) (sees refl) (short (mark (Sign sign.Not) (f 63) ∷ mark (Word (codes "mark")) (f 64) ∷ []) _ (λ z. alone (unary_first (sees refl) (unary_last (a_chain (name_chain (sees refl) tails_end))))) (omega arith)) (sees refl)
+    (items_and (a_statement (an_assign (assign_line (assigns (short (tokens_at f node_kinds 57 1) _ (λ z. (name_chain (sees refl) tails_end)) (omega arith)) refl (changes (plus_assign (sees refl)) (short (tokens_at f node_kinds 59 1) _ (λ z. a_name) (omega arith)))) (sees refl))))
+    (items_and (a_statement (an_if (inl (omega arith)) (sees refl) (sees refl) (short (tokens_at f node_kinds 63 2) _ (λ z. alone (unary_first (sees refl) (unary_last (a_chain (name_chain (sees refl) tails_end))))) (omega arith)) (sees refl)
     (a_block (inl (omega arith)) (sees refl)
-    (items_and (a_statement (an_assign (assign_line (assigns (short (mark (Word (codes "mark")) (f 67) ∷ []) _ (λ z. (name_chain (sees refl) tails_end)) (omega arith)) refl (puts (sees refl) (expression (short (mark (Key key.True) (f 69) ∷ []) _ (λ z. alone (unary_last (a_literal (sees refl)))) (omega arith))))) (sees refl))))
-    (items_and (a_statement (a_call (short (mark (Word (codes "left")) (f 71) ∷ mark (Sign sign.Arrow) (f 72) ∷ mark (Word (codes "visit")) (f 73) ∷ mark (Sign sign.OpenParenthesis) (f 74) ∷ mark (Word (codes "value")) (f 75) ∷ mark (Sign sign.CloseParenthesis) (f 76) ∷ []) _ (λ z. (name_chain (sees refl) (tails_more (method_tail (sees refl) (sees refl) (args (sees refl) (listed a_name (further_none (sees refl))))) tails_end))) (omega arith)) refl (sees refl)))
-    (items_and (a_statement (a_call (short (mark (Word (codes "right")) (f 78) ∷ mark (Sign sign.Arrow) (f 79) ∷ mark (Word (codes "visit")) (f 80) ∷ mark (Sign sign.OpenParenthesis) (f 81) ∷ mark (Word (codes "value")) (f 82) ∷ mark (Sign sign.CloseParenthesis) (f 83) ∷ []) _ (λ z. (name_chain (sees refl) (tails_more (method_tail (sees refl) (sees refl) (args (sees refl) (listed a_name (further_none (sees refl))))) tails_end))) (omega arith)) refl (sees refl)))
+    (items_and (a_statement (an_assign (assign_line (assigns (short (tokens_at f node_kinds 67 1) _ (λ z. (name_chain (sees refl) tails_end)) (omega arith)) refl (puts (sees refl) (expression (short (tokens_at f node_kinds 69 1) _ (λ z. alone (unary_last (a_literal (sees refl)))) (omega arith))))) (sees refl))))
+    (items_and (a_statement (a_call (short (tokens_at f node_kinds 71 6) _ (λ z. (name_chain (sees refl) (tails_more (method_tail (sees refl) (sees refl) (args (sees refl) (listed a_name (further_none (sees refl))))) tails_end))) (omega arith)) refl (sees refl)))
+    (items_and (a_statement (a_call (short (tokens_at f node_kinds 78 6) _ (λ z. (name_chain (sees refl) (tails_more (method_tail (sees refl) (sees refl) (args (sees refl) (listed a_name (further_none (sees refl))))) tails_end))) (omega arith)) refl (sees refl)))
     (items_end (sees refl))))))))
     (items_end (sees refl))))))
     (lines_end (sees refl)))))))))

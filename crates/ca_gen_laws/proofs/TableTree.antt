@@ -15,7 +15,7 @@ use Rattle.ca_tree.specs.declared.tree.BinaryOp.TheVariants.{Less, Plus}
 use Rattle.ca_tree.specs.Plain.{Expression, Statement, ClassTree, TextTree, number, truth, named, field, method, index, unary, binary, no_expressions, expression_and, value, new, block, local, assign, call_statement, if_only, for_loop, no_statements, statement_and, field_member, method_member}
 use Rattle.ca_expressions.specs.Grammar.{Level, operands, one_operand, Operands, operands_end, operands_more, Unary, unary_first, unary_last, a_literal, a_chain, Chain, name_chain, tails_end, tails_more, field_tail, method_tail, index_tail, args, listed_none, listed, further_none, further}
 use Rattle.ca_parse.specs.Grammar.{TypeName, long, bool, pointer, expression, creation_call, begins, plus_assign, puts, changes, increments, assigns, assign_line, first_local, a_block, an_assign, a_call, an_if, a_for, a_return, a_local, a_statement, items_end, items_and, Lines, lines_end, lines_and, one, param, signature, scalar, array, Member, fields, operation, Declaration, a_class}
-use Rattle.ca_gen_laws.proofs.Chunks.{mark, spread}
+use Rattle.ca_gen_laws.proofs.Chunks.{spread, tokens_at}
 use Rattle.ca_gen_laws.proofs.Scans.{table_kinds}
 use Rattle.ca_gen_laws.proofs.Deriving.{a_factor, a_summand, from_sum, from_comparison, alone, chain_alone, a_name, a_number, short}
 
@@ -62,17 +62,17 @@ table_derives size f r =
     (lines_and (fields (pointer (sees refl) (sees refl)) (sees refl) (array (sees refl) (sees refl) (sees refl)) (following_end (sees refl))) 
     (lines_and (operation (sees refl) (sees refl) (signature (sees refl) (separated_none (sees refl)) (sees refl) 
     (items_and (a_statement (a_for (inl (omega arith)) (sees refl) (sees refl) 
-    (first_local (begins (long (sees refl)) (sees refl) (sees refl) (expression (short (mark (Number (pos 0)) (f 22) ∷ []) _ (λ z. a_number) (omega arith))) (sees refl))) 
-    (short (mark (Word (codes "i")) (f 24) ∷ mark (Sign sign.Less) (f 25) ∷ mark (Number (pos size)) (f 26) ∷ []) _ (λ z. (from_comparison (operands (omega arith) (a_summand (unary_last (a_chain (name_chain (sees refl) tails_end)))) (operands_more (sees refl) (a_summand (unary_last (a_literal (sees refl)))) operands_end)))) (omega arith)) 
+    (first_local (begins (long (sees refl)) (sees refl) (sees refl) (expression (short (tokens_at f (table_kinds size) 22 1) _ (λ z. a_number) (omega arith))) (sees refl))) 
+    (short (tokens_at f (table_kinds size) 24 3) _ (λ z. (from_comparison (operands (omega arith) (a_summand (unary_last (a_chain (name_chain (sees refl) tails_end)))) (operands_more (sees refl) (a_summand (unary_last (a_literal (sees refl)))) operands_end)))) (omega arith)) 
     (sees refl) 
-    (assigns (short (mark (Word (codes "i")) (f 28) ∷ []) _ (λ z. (name_chain (sees refl) tails_end)) (omega arith)) refl (increments (sees refl))) 
+    (assigns (short (tokens_at f (table_kinds size) 28 1) _ (λ z. (name_chain (sees refl) tails_end)) (omega arith)) refl (increments (sees refl))) 
     (sees refl) 
-    (an_assign (assign_line (assigns (short (mark (Word (codes "at")) (f 31) ∷ mark (Sign sign.OpenBracket) (f 32) ∷ mark (Word (codes "i")) (f 33) ∷ mark (Sign sign.CloseBracket) (f 34) ∷ []) _ (λ z. (name_chain (sees refl) (tails_more (index_tail (sees refl) a_name (sees refl)) tails_end))) (omega arith)) refl (puts (sees refl) (creation_call (sees refl) (sees refl) (sees refl) (sees refl)))) (sees refl))))) 
+    (an_assign (assign_line (assigns (short (tokens_at f (table_kinds size) 31 4) _ (λ z. (name_chain (sees refl) (tails_more (index_tail (sees refl) a_name (sees refl)) tails_end))) (omega arith)) refl (puts (sees refl) (creation_call (sees refl) (sees refl) (sees refl) (sees refl)))) (sees refl))))) 
     (items_end (sees refl))))) 
     (lines_and (operation (sees refl) (sees refl) (signature (sees refl) 
     (separated (param (long (sees refl)) (sees refl)) (following (sees refl) (param (long (sees refl)) (sees refl)) (following (sees refl) (param (long (sees refl)) (sees refl)) (following_end (sees refl))))) 
     (sees refl) 
-    (items_and (a_statement (a_call (short (mark (Word (codes "at")) (f 55) ∷ mark (Sign sign.OpenBracket) (f 56) ∷ mark (Word (codes "i")) (f 57) ∷ mark (Sign sign.CloseBracket) (f 58) ∷ mark (Sign sign.Arrow) (f 59) ∷ mark (Word (codes "set")) (f 60) ∷ mark (Sign sign.OpenParenthesis) (f 61) ∷ mark (Word (codes "i")) (f 62) ∷ mark (Sign sign.Plus) (f 63) ∷ mark (Number (pos 1)) (f 64) ∷ mark (Sign sign.Comma) (f 65) ∷ mark (Word (codes "at")) (f 66) ∷ mark (Sign sign.OpenBracket) (f 67) ∷ mark (Word (codes "l")) (f 68) ∷ mark (Sign sign.CloseBracket) (f 69) ∷ mark (Sign sign.Comma) (f 70) ∷ mark (Word (codes "at")) (f 71) ∷ mark (Sign sign.OpenBracket) (f 72) ∷ mark (Word (codes "r")) (f 73) ∷ mark (Sign sign.CloseBracket) (f 74) ∷ mark (Sign sign.CloseParenthesis) (f 75) ∷ []) _ (λ z. (name_chain (sees refl) (tails_more (index_tail (sees refl) a_name (sees refl)) (tails_more (method_tail (sees refl) (sees refl) (args (sees refl) (listed (from_sum (operands (omega arith) (a_factor (unary_last (a_chain (name_chain (sees refl) tails_end)))) (operands_more (sees refl) (a_factor (unary_last (a_literal (sees refl)))) operands_end))) (further (sees refl) (chain_alone (name_chain (sees refl) (tails_more (index_tail (sees refl) a_name (sees refl)) tails_end))) (further (sees refl) (chain_alone (name_chain (sees refl) (tails_more (index_tail (sees refl) a_name (sees refl)) tails_end))) (further_none (sees refl))))))) tails_end)))) (omega arith)) refl (sees refl))) 
+    (items_and (a_statement (a_call (short (tokens_at f (table_kinds size) 55 21) _ (λ z. (name_chain (sees refl) (tails_more (index_tail (sees refl) a_name (sees refl)) (tails_more (method_tail (sees refl) (sees refl) (args (sees refl) (listed (from_sum (operands (omega arith) (a_factor (unary_last (a_chain (name_chain (sees refl) tails_end)))) (operands_more (sees refl) (a_factor (unary_last (a_literal (sees refl)))) operands_end))) (further (sees refl) (chain_alone (name_chain (sees refl) (tails_more (index_tail (sees refl) a_name (sees refl)) tails_end))) (further (sees refl) (chain_alone (name_chain (sees refl) (tails_more (index_tail (sees refl) a_name (sees refl)) tails_end))) (further_none (sees refl))))))) tails_end)))) (omega arith)) refl (sees refl))) 
     (items_end (sees refl))))) 
     (lines_end (sees refl)))))
     (sees refl)
