@@ -14,13 +14,15 @@ use std::alloc::{AllocError, Global};
 
 // The parts of the text between which its numbers stand.
 
-const NODE_CLASS: &str = "class Node {\npublic:\n  bool mark;\n  long value;\n  long sum;\n  Node *left;\n  Node *right;\n  void set(long v, Node *l, Node *r) {\n    value = v;\n    left = l;\n    right = r;\n  }\n  void visit(long p) {\n    sum += p;\n    if (!mark) {\n      mark = true;\n      left->visit(value);\n      right->visit(value);\n    }\n  }\n};\n";
+const NODE_CLASS: &str =
+    "class Node {\npublic:\n  bool mark;\n  long value;\n  long sum;\n  Node *left;\n  Node *right;\n  void set(long v, Node *l, Node *r) {\n    value = v;\n    left = l;\n    right = r;\n  }\n  void visit(long p) {\n    sum += p;\n    if (!mark) {\n      mark = true;\n      left->visit(value);\n      right->visit(value);\n    }\n  }\n};\n";
 
 const TABLE_BEGIN: &str = "class Table {\npublic:\n  Node *at[";
 
 const FILL_BEGIN: &str = "];\n  void fill() {\n    for (long i = 0; i < ";
 
-const TABLE_END: &str = "; i++) at[i] = new Node();\n  }\n  void link(long i, long l, long r) {\n    at[i]->set(i + 1, at[l], at[r]);\n  }\n};\n";
+const TABLE_END: &str =
+    "; i++) at[i] = new Node();\n  }\n  void link(long i, long l, long r) {\n    at[i]->set(i + 1, at[l], at[r]);\n  }\n};\n";
 
 const MAIN_BEGIN: &str = "int main() {\n  Table *t = new Table();\n  t->fill();\n";
 

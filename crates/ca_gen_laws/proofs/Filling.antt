@@ -61,7 +61,7 @@ pointing_more items j v is within before i below = at (same_or_not i j)
     at : (i ≡ j) ⊎ (i ≡ j → ⊥) → slice_get (slice_set items j v) i ≡ Some (Ref (suc i))
     at (inl e) =
         let here : slice_get (slice_set items j v) j ≡ Some (Ref (suc j)) =
-            slice_get-get_or (slice_set items j v) j Null (omega (arith, within, length-set items j v)) ∙ ap Some (get_or-set_same items j v Null within ∙ is) in
+        slice_get-get_or (slice_set items j v) j Null (omega (arith, within, length-set items j v)) ∙ ap Some (get_or-set_same items j v Null within ∙ is) in
         let P : ℕ → Type 0 = λ z. slice_get (slice_set items j v) z ≡ Some (Ref (suc z)) in
         subst P (sym e) here
     at (inr other) = read_set items j i v (Ref (suc i)) other (before i (omega (arith, below, other))) (omega (arith, below, within))
@@ -163,8 +163,8 @@ module _ (size : ℕ) (most : size ≤ 20000) (a b : ℕ → Token) (main : Stat
       let first = Ref (length (a_table items ∷ nodes)) in
       let count : length (a_table items ∷ nodes) ≡ suc j = omega (arith, as_many) in
       let rest = filling d w (suc j) (slice_set items j first) (nodes ++ fresh ∷ []) n k (omega (arith, at_end)) (omega (arith, steps))
-          (length-set items j first ∙ long) (pointing_more items j first (ap (λ z. Ref z) count) (omega (arith, below, long)) points)
-          (fresh_last nodes are) (omega (arith, as_many, length-append nodes (fresh ∷ []))) in
+      (length-set items j first ∙ long) (pointing_more items j first (ap (λ z. Ref z) count) (omega (arith, below, long)) points)
+      (fresh_last nodes are) (omega (arith, as_many, length-append nodes (fresh ∷ []))) in
       record {
         all_items = rest.all_items;
         all_nodes = rest.all_nodes;

@@ -84,8 +84,8 @@ module _ (size : ℕ) (a b : ℕ → Token) (main : Statements) where
       ≡ gives (set i (sum_of i) (Ref (suc l)) (Ref (suc r))) k
   link_due h i l r line k items is one two three =
       let by_table : List Object → Option Object → Out Invocation = λ h o.
-          due (functions_of p.functions h).call (record { heap = h; this = Ref 0; own = slots_in o; locals = Long (pos i) ∷ Long (pos l) ∷ Long (pos r) ∷ []; line = line })
-          (own_item (field table 0) (local (the_local 0))) (op 0) arguments k in
+      due (functions_of p.functions h).call (record { heap = h; this = Ref 0; own = slots_in o; locals = Long (pos i) ∷ Long (pos l) ∷ Long (pos r) ∷ []; line = line })
+      (own_item (field table 0) (local (the_local 0))) (op 0) arguments k in
       ap (by_table h) is ∙ rw (one, two, three) refl
 
   -- how a link ends that begins with k + 2 steps left

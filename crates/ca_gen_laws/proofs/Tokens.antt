@@ -146,6 +146,10 @@ module _ (seed size : ℕ) (some : 1 ≤ size) (most : size ≤ 20000) where
       let e = fixed 33 main_begin main_begin_kinds main_rest (scan_main_begin main_rest) d.q d.m in
       let l = links_chunk (main_end ++ []) 0 size e.q e.m (omega arith) in
       let z = fixed 24 main_end main_end_kinds [] (scan_main_end []) l.q l.m in
+      let last = spread z.f main_end_kinds [] in
+      let linked = link_tokens l.links last in
+      let in_main = spread e.f main_begin_kinds linked in
+      let in_table = spread d.f (table_kinds size) in_main in
       record {
         a = c.f;
         b = d.f;
@@ -154,7 +158,7 @@ module _ (seed size : ℕ) (some : 1 ≤ size) (most : size ≤ 20000) where
         h = z.f;
         are = l.are;
         tokens = subst (λ s. Tokens s (text_tokens size c.f d.f e.f l.links z.f)) (sym text_is)
-            (c.on _ (d.on _ (e.on _ (l.on _ (z.on [] at_end)))));
+            (c.on in_table (d.on in_main (e.on linked (l.on last (z.on [] at_end)))));
       }
 
   -- the text is short enough

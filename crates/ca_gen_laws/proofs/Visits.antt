@@ -115,11 +115,11 @@ module _ (size : ℕ) (a b : ℕ → Token) (main : Statements) where
         let right_call = statement_and (invoke (a 78).at.line (own (field node 4)) (op 1) arguments) no_statements in
         let left_call = statement_and (invoke (a 71).at.line (own (field node 3)) (op 1) arguments) right_call in
         let branch : exec_all (serial_parts p this) (v ∷ []) at_sum (branch_body a) k ≡ goes_on (v ∷ []) last y.left =
-            put_on p this (v ∷ []) at_sum (a 67).at.line (field node 0) (truth true) left_call k (Truth true) refl
-            ∙ call_on p this (v ∷ []) at_mark (a 71).at.line (own (field node 3)) (op 1) arguments right_call k x.left (visit l value) behind
-            (child_due marked i (a 71).at.line (v ∷ []) 3 l k true value new_sum to_left to_right at2 refl) x.runs
-            ∙ call_on p this (v ∷ []) behind (a 78).at.line (own (field node 4)) (op 1) arguments no_statements x.left y.left (visit n.right n.value) last
-            (child_due x.heap i (a 78).at.line (v ∷ []) 4 n.right x.left n.mark n.value n.sum (Ref (suc n.left)) (Ref (suc n.right)) n.is refl) y.runs in
+        put_on p this (v ∷ []) at_sum (a 67).at.line (field node 0) (truth true) left_call k (Truth true) refl
+        ∙ call_on p this (v ∷ []) at_mark (a 71).at.line (own (field node 3)) (op 1) arguments right_call k x.left (visit l value) behind
+        (child_due marked i (a 71).at.line (v ∷ []) 3 l k true value new_sum to_left to_right at2 refl) x.runs
+        ∙ call_on p this (v ∷ []) behind (a 78).at.line (own (field node 4)) (op 1) arguments no_statements x.left y.left (visit n.right n.value) last
+        (child_due x.heap i (a 78).at.line (v ∷ []) 4 n.right x.left n.mark n.value n.sum (Ref (suc n.left)) (Ref (suc n.right)) n.is refl) y.runs in
         record {
           heap = y.heap;
           left = y.left;
