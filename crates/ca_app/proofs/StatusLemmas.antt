@@ -17,7 +17,7 @@ use Rattle.ca_symbolic.specs.declared.verdicts.Verdict.TheVariants.{Commutes}
 use Rattle.ca_symbolic.proofs.Pairs.{commutes_from_verdict}
 use Rattle.ca_app.specs.Refusals.{is_limit_code, refusal_status}
 use Rattle.ca_words.specs.declared.Command.{Command}
-use Rattle.ca_words.specs.declared.Command.TheVariants.{Run, Pairs, Gen}
+use Rattle.ca_words.specs.declared.Command.TheVariants.{Run, Pairs}
 use Rattle.ca_words.specs.Words.{Names}
 use Rattle.ca_app.specs.Accepted.{Accepted}
 use Rattle.ca_app.specs.Reply.{ProgramReplies, runs, pairs, not_built, refuses, serves, Replies, usage, generates, named}

@@ -1,5 +1,5 @@
 -- The numbers of a seed and the lines of links, one behind the other.
-use Rattle.std.proofs.Common.{◌≡◌, ℕ, suc, ◌+◌, ◌*◌, ◌%◌, List, [], ◌++◌, refl, ap, sym, ◌∙◌, append_assoc, arith}
+use Rattle.std.proofs.Common.{◌≡◌, ℕ, suc, ◌+◌, ◌*◌, ◌%◌, List, [], ◌++◌, refl, ap, ◌∙◌, append_assoc, arith}
 use Rattle.ca_gen.specs.Generated.{next, drawn, node_of, left_of, right_of, link_line, link_lines, node_class, table_begin, fill_begin, table_end, main_begin, text_before}
 use Rattle.std.specs.Prelude.{decimal}
 

@@ -1,7 +1,7 @@
 -- Derivations of short expressions.
-use Rattle.std.proofs.Common.{◌≡◌, ℕ, ◌+◌, ◌≤◌, List, [], ◌∷◌, ◌++◌, length, refl, arith, inl}
+use Rattle.std.proofs.Common.{ℕ, ◌≤◌, List, ◌∷◌, ◌++◌, length, refl, arith, inl}
 use Rattle.std.specs.Prelude.{ℤ}
-use Rattle.ca_descent.specs.Exact.{Sees, sees, Short}
+use Rattle.ca_descent.specs.Exact.{sees, Short}
 use Rattle.ca_tree.specs.declared.name.Place.{Place}
 use Rattle.ca_tree.specs.declared.token.Kind.TheVariants.{Word, Number}
 use Rattle.ca_tree.specs.declared.token.Token.{Token}

@@ -1,6 +1,6 @@
 -- The loop of a table takes a step for each node.
 use Rattle.std.proofs.Common.{◌≡◌, ℕ, zero, suc, ◌+◌, ◌*◌, ◌<◌, ◌≤◌, List, [], ◌∷◌, ◌++◌, length, Bool, true, false, ◌⊎◌, inl, inr, refl, sym, ap, ◌∙◌, subst, arith}
-use Rattle.std.specs.Prelude.{Option, Some, slice_get, slice_set, get_or, pos, int_lt, ◌+ℤ◌, ◌||◌, nat_le, nat_lt, FitsSigned}
+use Rattle.std.specs.Prelude.{Some, slice_get, slice_set, get_or, pos, ◌+ℤ◌, ◌||◌, nat_le, nat_lt, FitsSigned}
 use Rattle.std.specs.Int.{int_wrap, w64}
 use Rattle.std.proofs.lemmas.Bool.{lt-ltb, le-ltb, lt-leb}
 use Rattle.std.proofs.lemmas.Int.{int_wrap_fits, ints}

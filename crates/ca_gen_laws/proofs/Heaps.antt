@@ -1,5 +1,5 @@
 -- The objects of a heap in which something was stored, and how many nodes of it aren't marked.
-use Rattle.std.proofs.Common.{◌≡◌, ℕ, zero, suc, ◌+◌, ◌≤◌, List, [], ◌∷◌, length, Bool, true, false, ◌⊎◌, inl, inr, refl, sym, ap, ◌∙◌, subst, arith}
+use Rattle.std.proofs.Common.{◌≡◌, ℕ, zero, suc, ◌+◌, ◌≤◌, List, [], ◌∷◌, length, true, false, ◌⊎◌, inl, inr, refl, ap, subst, arith}
 use Rattle.std.specs.Prelude.{Option, Some, None, slice_get}
 use Rattle.ca_model.specs.declared.value.Value.{Value as Datum}
 use Rattle.ca_model.specs.declared.value.Value.TheVariants.{Long, Bool as Truth, Null, Ref}

@@ -1,5 +1,5 @@
 -- A link takes two steps.
-use Rattle.std.proofs.Common.{◌≡◌, ℕ, zero, suc, ◌+◌, ◌<◌, ◌≤◌, List, [], ◌∷◌, length, Bool, ◌⊎◌, inl, inr, refl, sym, ap, ◌∙◌, subst, arith}
+use Rattle.std.proofs.Common.{◌≡◌, ℕ, suc, ◌<◌, List, [], ◌∷◌, length, Bool, ◌⊎◌, inl, inr, refl, sym, ap, ◌∙◌, subst, arith}
 use Rattle.std.specs.Prelude.{Option, Some, slice_get, pos, ◌+ℤ◌}
 use Rattle.std.specs.Int.{int_wrap, w64}
 use Rattle.ca_tree.specs.declared.token.Token.{Token}
@@ -7,7 +7,7 @@ use Rattle.ca_tree.specs.declared.tree.BinaryOp.TheVariants.{Plus}
 use Rattle.ca_program.specs.Plain.{PlainProgram, Expressions, Statements, number, local, own_item, binary, put_field, no_expressions, expression_and, no_statements, statement_and}
 use Rattle.ca_tree.specs.declared.tree.AssignOp.TheVariants.{Put}
 use Rattle.ca_model.specs.declared.value.Value.{Value as Datum}
-use Rattle.ca_model.specs.declared.value.Value.TheVariants.{Long, Bool as Truth, Null, Ref}
+use Rattle.ca_model.specs.declared.value.Value.TheVariants.{Long, Ref}
 use Rattle.ca_model.specs.declared.value.Object.{Object}
 use Rattle.ca_model.specs.Heaps.{stored}
 use Rattle.ca_meaning.specs.Expressions.{Out, gives, ◌>>=◌, slots_in, pointed, found, Invocation, invocation, due}

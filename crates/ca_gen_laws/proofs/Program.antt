@@ -1,12 +1,11 @@
 -- The program of a generated text.
-use Rattle.std.proofs.Common.{◌≡◌, ℕ, ◌+◌, ◌<◌, ◌≤◌, Bool, true, false, List, [], ◌∷◌, ◌++◌, map, length, refl, sym, ap, ◌∙◌, append_assoc, arith}
-use Rattle.std.specs.Prelude.{Option, Some, None, pos, codes, int_lt, int_le}
+use Rattle.std.proofs.Common.{◌≡◌, ℕ, ◌≤◌, true, false, List, [], ◌∷◌, ◌++◌, map, refl, ap, ◌∙◌, append_assoc, arith}
+use Rattle.std.specs.Prelude.{Some, None, pos, codes, int_lt, int_le}
 use Rattle.std.proofs.lemmas.Bool.{lt-leb, le-ltb}
 use Rattle.ca_tree.specs.declared.token.Token.{Token}
 use Rattle.ca_tree.specs.declared.tree.AssignOp.TheVariants.{Put, Add}
 use Rattle.ca_tree.specs.declared.tree.UnaryOp.TheVariants.{Not}
 use Rattle.ca_tree.specs.declared.tree.BinaryOp.TheVariants.{Less, Plus}
-use Rattle.ca_tree.specs.Plain as tree
 use Rattle.ca_tree.specs.Plain.{ClassTree, TextTree}
 use Rattle.ca_program.specs.declared.program.ClassId.{ClassId}
 use Rattle.ca_program.specs.declared.program.FieldId.{FieldId}
@@ -16,14 +15,13 @@ use Rattle.ca_program.specs.declared.program.ValueType.TheVariants.{Long as Long
 use Rattle.ca_program.specs.declared.program.FirstPart.TheVariants.{Declares}
 use Rattle.ca_program.specs.Plain.{PlainProgram, PlainClass, PlainMethod, Statement, Statements, number, truth, local, own, own_item, read_item, unary, binary, no_expressions, expression_and, block, put_local, put_field, new_local, new_item, invoke, if_else, for_loop, no_statements, statement_and}
 use Rattle.ca_parse.specs.Grammar.{statements}
-use Rattle.ca_resolve.specs.Judged.{Judged, fine, both, within, beside, unless, broken_if}
-use Rattle.ca_types.specs.Rules.{class_limit, class_once}
-use Rattle.ca_types.specs.Statements.{Standing, behind, behind_all, judge_statement, judge_statements, statements_in, added}
-use Rattle.ca_types.specs.Classes.{Members, no_members, Parts, add_member, behind_member, class_begin, behind_class, first_class, judge_class, judge_classes, main_begin, program_of, judge, no_parts, add_class, with_class}
+use Rattle.ca_resolve.specs.Judged.{fine, both, within}
+use Rattle.ca_types.specs.Statements.{Standing, behind, behind_all, judge_statements, statements_in}
+use Rattle.ca_types.specs.Classes.{Parts, first_class, judge_classes, main_begin, program_of, judge}
 use Rattle.ca_resolve.specs.Scopes.{classes_of}
 use Rattle.ca_gen_laws.proofs.NodeTree.{node_tree}
 use Rattle.ca_gen_laws.proofs.TableTree.{table_tree}
-use Rattle.ca_gen_laws.proofs.MainTree.{Link, link_tree, begin_tree, fill_tree, visit_tree, main_trees, text_tree}
+use Rattle.ca_gen_laws.proofs.MainTree.{Link, link_tree, begin_tree, visit_tree, text_tree}
 
 -- the numbers of its classes, fields and operations
 

@@ -1,28 +1,28 @@
 -- The serial run of a generated program.
-use Rattle.std.proofs.Common.{◌≡◌, ℕ, zero, suc, ◌+◌, ◌-◌, ◌*◌, ◌<◌, ◌≤◌, List, [], ◌∷◌, ◌++◌, map, length, Bool, false, refl, sym, ap, ◌∙◌, subst, arith}
-use Rattle.std.specs.Prelude.{Option, Some, slice_get, slice_set, pos, replicate}
+use Rattle.std.proofs.Common.{◌≡◌, ℕ, zero, suc, ◌+◌, ◌-◌, ◌*◌, ◌<◌, ◌≤◌, List, [], ◌∷◌, ◌++◌, map, length, false, refl, sym, ap, ◌∙◌, subst, arith}
+use Rattle.std.specs.Prelude.{Some, slice_get, slice_set, pos, replicate}
 use Rattle.std.proofs.lemmas.Bool.{le-ltb}
 use Rattle.std.proofs.lemmas.List.{length-replicate}
 use Rattle.ca_tree.specs.declared.token.Token.{Token}
-use Rattle.ca_program.specs.Plain.{PlainProgram, Statement, Statements, Expressions, number, local, read_item, no_expressions, expression_and, no_statements, statement_and}
+use Rattle.ca_program.specs.Plain.{PlainProgram, Statements, Expressions, number, local, read_item, no_expressions, expression_and, no_statements, statement_and}
 use Rattle.ca_types.specs.Statements.{statements_in}
 use Rattle.ca_model.specs.declared.value.Value.{Value as Datum}
 use Rattle.ca_model.specs.declared.value.Value.TheVariants.{Long, Null, Ref}
 use Rattle.ca_model.specs.declared.value.Object.{Object}
 use Rattle.ca_model.specs.Heaps.{is_full, starts_of, created}
 use Rattle.ca_meaning.specs.Expressions.{Out, gives, ◌>>=◌, slots_in, items_in, pointed, found, Invocation, invocation, due}
-use Rattle.ca_meaning.specs.Flows.{Flow, goes_on, and_on, with, exec_all}
+use Rattle.ca_meaning.specs.Flows.{goes_on, and_on, with, exec_all}
 use Rattle.ca_meaning.specs.Functions.{place, functions_of}
-use Rattle.ca_meaning.specs.Serial.{World, fresh, in_heap, unless_full, operations_of, run_call, serial_parts, main_run, Ended, done, ended, serial}
+use Rattle.ca_meaning.specs.Serial.{World, fresh, in_heap, unless_full, operations_of, run_call, serial_parts, main_run, done, ended, serial}
 use Rattle.ca_gen_laws.proofs.MainTree.{Link}
 use Rattle.ca_gen_laws.proofs.Tokens.{Linked, linked_length, linked_below}
-use Rattle.ca_gen_laws.proofs.Program.{field, table, op, the_local, fill_loop, link_plain, visit_plain, begin_plain, fill_plain, main_plain, the_program}
+use Rattle.ca_gen_laws.proofs.Program.{field, table, op, the_local, link_plain, visit_plain, fill_plain, main_plain, the_program}
 use Rattle.ca_gen_laws.proofs.Steps.{call_on, called}
 use Rattle.ca_gen_laws.proofs.Heaps.{unset, unmarked, few_unmarked, some_object}
-use Rattle.ca_gen_laws.proofs.Nodes.{a_node, a_table, Nodes}
+use Rattle.ca_gen_laws.proofs.Nodes.{a_table}
 use Rattle.ca_gen_laws.proofs.Visits.{visit, Visited, visits}
 use Rattle.ca_gen_laws.proofs.Linking.{NodeAt, Ready, Linking, linking}
-use Rattle.ca_gen_laws.proofs.Filling.{Pointing, fresh_there, Filled, filling}
+use Rattle.ca_gen_laws.proofs.Filling.{fresh_there, Filled, filling}
 
 -- a heap that begins with a table has a mark for each other object at most
 first_unmarked : (h : List Object) (items : List Datum) (size : ℕ) → slice_get h 0 ≡ Some (a_table items) → length h ≡ suc size → unmarked h ≤ size

@@ -1,5 +1,5 @@
 -- Statements of a serial run, one at a time.
-use Rattle.std.proofs.Common.{◌≡◌, ℕ, suc, List, [], ◌∷◌, refl, ap, ◌∙◌}
+use Rattle.std.proofs.Common.{◌≡◌, ℕ, suc, List, refl, ap, ◌∙◌}
 use Rattle.std.specs.Prelude.{slice_get}
 use Rattle.ca_tree.specs.declared.tree.AssignOp.{AssignOp}
 use Rattle.ca_tree.specs.declared.tree.AssignOp.TheVariants.{Put}
@@ -9,8 +9,8 @@ use Rattle.ca_program.specs.Plain.{PlainProgram, Expression, Expressions, Statem
 use Rattle.ca_model.specs.declared.value.Value.{Value as Datum}
 use Rattle.ca_model.specs.declared.value.Value.TheVariants.{Long, Bool as Truth, Null, Ref}
 use Rattle.ca_meaning.specs.Operators.{assigned}
-use Rattle.ca_meaning.specs.Expressions.{Out, gives, Invocation, due}
-use Rattle.ca_meaning.specs.Flows.{Flow, goes_on, and_on, with, choose, line_of, exec, exec_all}
+use Rattle.ca_meaning.specs.Expressions.{gives, Invocation, due}
+use Rattle.ca_meaning.specs.Flows.{goes_on, and_on, with, choose, line_of, exec, exec_all}
 use Rattle.ca_meaning.specs.Functions.{place, body_of, locals_of, functions_of, value_in}
 use Rattle.ca_meaning.specs.Serial.{World, in_heap, put_own, own_value, came_back, operations_of, run_call, serial_parts}
 use Rattle.ca_meaning.proofs.Fix.{call_means}

@@ -1,23 +1,17 @@
 -- The tree of the class of tables.
-use Rattle.std.proofs.Common.{◌≡◌, ℕ, zero, suc, ◌+◌, ◌-◌, ◌<◌, ◌≤◌, List, [], ◌∷◌, ◌++◌, length, take, true, false, refl, sym, ap, ◌∙◌, subst, arith, inl}
-use Rattle.std.specs.Prelude.{Option, Some, None, pos, codes}
-use Rattle.ca_descent.specs.Exact.{Sees, sees, Short, Separated, separated, separated_none, Following, following, following_end}
-use Rattle.ca_tree.specs.declared.name.Place.{Place}
-use Rattle.ca_tree.specs.declared.token.Kind.{Kind}
-use Rattle.ca_tree.specs.declared.token.Kind.TheVariants.{Word, Number, Key, Sign}
-use Rattle.ca_tree.specs.declared.token.Keyword.TheVariants as key
-use Rattle.ca_tree.specs.declared.token.Sign.TheVariants as sign
+use Rattle.std.proofs.Common.{ℕ, List, [], ◌∷◌, refl, arith, inl}
+use Rattle.std.specs.Prelude.{Some, None, pos, codes}
+use Rattle.ca_descent.specs.Exact.{sees, separated, separated_none, following, following_end}
 use Rattle.ca_tree.specs.declared.token.Token.{Token}
-use Rattle.ca_tree.specs.declared.tree.TypeNode.TheVariants.{Long, Bool as Truth, Pointer}
+use Rattle.ca_tree.specs.declared.tree.TypeNode.TheVariants.{Long, Pointer}
 use Rattle.ca_tree.specs.declared.tree.AssignOp.TheVariants.{Put, Add}
-use Rattle.ca_tree.specs.declared.tree.UnaryOp.TheVariants.{Not}
 use Rattle.ca_tree.specs.declared.tree.BinaryOp.TheVariants.{Less, Plus}
-use Rattle.ca_tree.specs.Plain.{Expression, Statement, ClassTree, TextTree, number, truth, named, field, method, index, unary, binary, no_expressions, expression_and, value, new, block, local, assign, call_statement, if_only, for_loop, no_statements, statement_and, field_member, method_member}
-use Rattle.ca_expressions.specs.Grammar.{Level, operands, one_operand, Operands, operands_end, operands_more, Unary, unary_first, unary_last, a_literal, a_chain, Chain, name_chain, tails_end, tails_more, field_tail, method_tail, index_tail, args, listed_none, listed, further_none, further}
-use Rattle.ca_parse.specs.Grammar.{TypeName, long, bool, pointer, expression, creation_call, begins, plus_assign, puts, changes, increments, assigns, assign_line, first_local, a_block, an_assign, a_call, an_if, a_for, a_return, a_local, a_statement, items_end, items_and, Lines, lines_end, lines_and, one, param, signature, scalar, array, Member, fields, operation, Declaration, a_class}
+use Rattle.ca_tree.specs.Plain.{ClassTree, number, named, method, index, binary, no_expressions, expression_and, value, new, local, assign, call_statement, for_loop, no_statements, statement_and, field_member, method_member}
+use Rattle.ca_expressions.specs.Grammar.{operands, operands_end, operands_more, unary_last, a_literal, a_chain, name_chain, tails_end, tails_more, method_tail, index_tail, args, listed, further_none, further}
+use Rattle.ca_parse.specs.Grammar.{long, pointer, expression, creation_call, begins, puts, increments, assigns, assign_line, first_local, an_assign, a_call, a_for, a_statement, items_end, items_and, lines_end, lines_and, param, signature, array, fields, operation, Declaration, a_class}
 use Rattle.ca_gen_laws.proofs.Chunks.{spread, tokens_at}
 use Rattle.ca_gen_laws.proofs.Scans.{table_kinds}
-use Rattle.ca_gen_laws.proofs.Deriving.{a_factor, a_summand, from_sum, from_comparison, alone, chain_alone, a_name, a_number, short}
+use Rattle.ca_gen_laws.proofs.Deriving.{a_factor, a_summand, from_sum, from_comparison, chain_alone, a_name, a_number, short}
 
 abbrev pub table_tree : ℕ → (ℕ → Token) → ClassTree
 table_tree size f = record {

@@ -11,7 +11,7 @@ use Rattle.ca_tree.specs.declared.token.Token.{Token}
 use Rattle.ca_lex.specs.Bytes.{is_letter}
 use Rattle.ca_lex.specs.Places.{start}
 use Rattle.ca_lex.specs.Tokens.{Tokens, TokensFrom, at_end}
-use Rattle.ca_gen.specs.Generated.{left_of, right_of, link_line, link_lines, node_class, table_begin, fill_begin, table_end, main_begin, main_end, text_before, generated}
+use Rattle.ca_gen.specs.Generated.{left_of, right_of, link_line, node_class, table_begin, fill_begin, table_end, main_begin, main_end, text_before, generated}
 use Rattle.ca_gen_laws.proofs.Chunks.{scan, spread, Chunk, chunk_of, chunk_before, digits_first, number_chunk, joined, length_spread}
 use Rattle.ca_gen_laws.proofs.Scans.{node_kinds, table_begin_kinds, fill_begin_kinds, table_end_kinds, main_begin_kinds, main_end_kinds, link_begin_kinds, comma_kinds, link_end_kinds, table_kinds, link_kinds, scan_node, scan_table_begin, scan_fill_begin, scan_table_end, scan_main_begin, scan_main_end, scan_link_begin, scan_comma, scan_link_end}
 use Rattle.ca_gen_laws.proofs.MainTree.{Link, link_tokens, text_tokens}

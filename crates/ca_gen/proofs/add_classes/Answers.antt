@@ -1,4 +1,3 @@
-use Rattle.std.proofs.Common.{◌≡◌, ◌++◌, ap, ◌∙◌, refl}
 use Rattle.ca_gen.specs.Generated.{node_class, table_begin, fill_begin, table_end, main_begin}
 use Rattle.ca_gen.proofs.Linking.{with_classes}
 use Rattle.ca_gen.proofs.add_classes.Goals as goal

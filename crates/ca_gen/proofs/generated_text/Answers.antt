@@ -1,5 +1,5 @@
-use Rattle.std.proofs.Common.{◌≡◌, ◌<◌, ◌%◌, ◌++◌, ap, sym, ◌∙◌, append-nil, append_assoc, arith}
-use Rattle.ca_gen.specs.Generated.{drawn, link_lines, main_end, text_before, generated}
+use Rattle.std.proofs.Common.{◌≡◌, ◌++◌, ap, sym, ◌∙◌, append-nil, append_assoc, arith}
+use Rattle.ca_gen.specs.Generated.{link_lines, main_end, text_before, generated}
 use Rattle.ca_gen.proofs.Linking.{first_drawn, no_lines, linked, drawn_twice}
 use Rattle.ca_gen.proofs.generated_text.Goals as goal
 

@@ -1,5 +1,4 @@
-use Rattle.std.proofs.Common.{◌≡◌, ℕ, sym, ◌∙◌}
-use Rattle.ca_words.specs.declared.Command.TheVariants.{Gen}
+use Rattle.std.proofs.Common.{sym, ◌∙◌}
 use Rattle.ca_app.proofs.Endings.{ends_generated_text, ends_written}
 use Rattle.ca_app.proofs.generating.serve_unread.Goals as goal
 
