@@ -8,12 +8,13 @@ ghost use Rattle.ca_meaning.specs.Output.{Reply, output, prints_text};
 ghost use Rattle.ca_meaning.specs.ProgramTyped.{ProgramTyped};
 ghost use Rattle.ca_meaning.specs.Serial.{serial};
 ghost use Rattle.ca_serial.specs.Runs.{run_with, prints_of, OnWrite};
-ghost use Rattle.ca_words.specs.Words.{texts};
-ghost use Rattle.ca_app.specs.Causes.{IsUsageFault, ReadsNothing, ReadsSource, IsRefused, IsNotBuilt, RunEnds, PairsEnd, IsDone, IsTrapped, IsSpent};
+ghost use Rattle.ca_words.specs.Words.{texts, reads};
+ghost use Rattle.ca_app.specs.Causes.{IsUsageFault, ReadsNothing, ReadsSource, IsRefused, IsNotBuilt, RunEnds, PairsEnd, Generates, IsDone, IsTrapped, IsSpent};
 ghost use Rattle.ca_app.specs.Ends.{Ends, EndsWith, SinkCause, Complete, IsReadToEnd, status_after};
 ghost use Rattle.ca_app.specs.Refusals.{refusal_reply};
 ghost use Rattle.ca_app.specs.Reply.{ProgramReplies, CommandReplies, Replies};
 
+use crate::generating::serve_unread;
 use crate::lines::{write_spent, write_trap};
 use crate::pairs::{verdicts_of, write_pairs};
 use crate::reading::{NoProgram, Reading, read_program};
@@ -79,7 +80,7 @@ pub fn top<R: AllocGlobal + Threads + Wait + Sync, S: Source, K: Sink, G: Gate>(
     ensures headline { (text : List ℕ) → S.left source.old ≡ Some text → EndsWith (Replies (texts words.now) text) result (K.written sink.old) (K.written sink.new) }
 
     // What each of its statuses says of the text and its serial run.
-    ensures done { (text : List ℕ) → S.left source.old ≡ Some text → result ≡ DONE → RunEnds (texts words.now) text IsDone ⊎ PairsEnd (texts words.now) text (K.written sink.old) (K.written sink.new) }
+    ensures done { (text : List ℕ) → S.left source.old ≡ Some text → result ≡ DONE → RunEnds (texts words.now) text IsDone ⊎ (PairsEnd (texts words.now) text (K.written sink.old) (K.written sink.new) ⊎ Generates (texts words.now) (K.written sink.old) (K.written sink.new)) }
     ensures refused { (text : List ℕ) → S.left source.old ≡ Some text → result ≡ REFUSED → IsRefused false text ⊎ IsNotBuilt (texts words.now) text }
     ensures trapped { (text : List ℕ) → S.left source.old ≡ Some text → result ≡ TRAPPED → RunEnds (texts words.now) text IsTrapped }
     ensures spent { (text : List ℕ) → S.left source.old ≡ Some text → result ≡ SPENT → RunEnds (texts words.now) text IsSpent }
@@ -109,10 +110,13 @@ pub fn top<R: AllocGlobal + Threads + Wait + Sync, S: Source, K: Sink, G: Gate>(
     let Some(command) = command_of(words) else {
         return finish(write_all(sink, usage_line()), USAGE);
     };
-    serve(rt, rt.alloc(), command, source, sink)
+    if command.reads() {
+        return serve(rt, rt.alloc(), command, source, sink);
+    }
+    serve_unread(rt.alloc(), command, sink)
 }
 
-/// Serves a command on the text that the source has.
+/// Serves a command that reads its source, on the text that the source has.
 fn serve<R: Threads + Wait + Sync, S: Source, K: Sink>(
     rt: &R,
     alloc: Global,
@@ -120,6 +124,7 @@ fn serve<R: Threads + Wait + Sync, S: Source, K: Sink>(
     source: &mut S,
     sink: &mut K,
 ) -> u8
+    requires { reads command ≡ true }
     ensures headline { (text : List ℕ) → S.left source.old ≡ Some text → EndsWith (CommandReplies command text) result (K.written sink.old) (K.written sink.new) }
     ensures read_fault { result ≡ READ_FAULT → Rose (S.faults source.old) (S.faults source.new) }
     ensures write_fault { SinkCause result (K.faults sink.old) (K.faults sink.new) }
@@ -144,7 +149,8 @@ fn serve_text<R: Threads + Wait + Sync, K: Sink>(
     text: &[u8],
     sink: &mut K,
 ) -> u8
-    requires { length text.now ≤ MOST_BYTES }
+    requires short { length text.now ≤ MOST_BYTES }
+    requires reading { reads command ≡ true }
     ensures ends { EndsWith (CommandReplies command text.now) result (K.written sink.old) (K.written sink.new) }
     ensures write_fault { SinkCause result (K.faults sink.old) (K.faults sink.new) }
     ensures no_read_fault { result ≡ READ_FAULT → ⊥ }
@@ -165,7 +171,8 @@ fn serve_program<R: Threads + Wait + Sync, K: Sink>(
     reading: &Reading,
     sink: &mut K,
 ) -> u8
-    requires { ProgramTyped (program_view reading.now.program) }
+    requires typed { ProgramTyped (program_view reading.now.program) }
+    requires reading { reads command ≡ true }
     ensures ends { EndsWith (ProgramReplies reading.now.start (tree_view reading.now.tree) (program_view reading.now.program) command) result (K.written sink.old) (K.written sink.new) }
     ensures write_fault { SinkCause result (K.faults sink.old) (K.faults sink.new) }
     ensures no_read_fault { result ≡ READ_FAULT → ⊥ }
@@ -174,6 +181,7 @@ fn serve_program<R: Threads + Wait + Sync, K: Sink>(
     match command {
         Command::Run { budget, .. } => run_program(rt, alloc, &reading.program, budget, sink),
         Command::Pairs => pair_program(alloc, reading, sink),
+        Command::Gen { .. } => unreachable!(),
     }
 }
 
@@ -246,7 +254,7 @@ fn run_unmarked<R: Threads + Wait + Sync, K: Sink>(
 }
 
 /// The status where the reply was written, and that of a failed write where one failed.
-fn finish(written: Result<(), Failed>, status: u8) -> u8
+pub fn finish(written: Result<(), Failed>, status: u8) -> u8
     ensures { result ≡ status_after written status }
 {
     match written {
