@@ -18,7 +18,7 @@ use ca_program::{Expr, OpId, Program, Stmt, StmtForm};
 
 impl<'a> Machine<'a> {
     /// Does what it can of the body of a loop at once, and gives back what is left of it.
-    #[inline(always)]
+    #[inline(never)]
     pub fn start_body(&mut self, program: &'a Program, s: &'a Stmt) -> Result<Rest<'a>, Memory>
         ensures todo { self.new.todo ≡ self.old.todo }
         ensures steps { self.new.left ≤ self.old.left }
