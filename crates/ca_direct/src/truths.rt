@@ -17,7 +17,7 @@ use ca_program::{BinaryOp, Expr, UnaryOp};
 impl<'a> Scene<'a> {
     /// The value of an expression that is a truth value.
     #[cycle(truth)]
-    #[inline]
+    #[inline(always)]
     pub fn truth_of(&self, e: &Expr) -> Option<bool>
         ensures { IfSome result (λ b. seen self.now (expression_view e.now) ≡ gives (Truth b) 0) }
     {
@@ -74,7 +74,7 @@ impl<'a> Scene<'a> {
     }
 
     /// Whether a comparison of a pointer with null holds.
-    #[inline(always)]
+    #[inline(never)]
     fn compare_null(&self, op: BinaryOp, a: &Expr) -> Option<bool>
         ensures { IfSome result (λ t. seen self.now (binary op (expression_view a.now) null) ≡ gives (Truth t) 0) }
     {

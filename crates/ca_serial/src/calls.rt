@@ -27,20 +27,41 @@ impl<'a> Machine<'a> {
     ) -> Result<Next, Memory>
         ensures { IfOk result (λ next. (ps : List Datum) → rest_of (program_view program.now) (Work.Collect line target arguments.entry first ∷ self.old.todo) self.old ps ≡ after (program_view program.now) self.new ps next) }
     {
+        let count = self.gather(program, line, target, arguments, first)?;
+        if count < arguments.len() {
+            self.todo
+                .push(Work::Collect(line, target, arguments, count + 1))?;
+            self.todo.push(Work::Evaluate(line, &arguments[count]))?;
+            return Ok(Next::GoesOn);
+        }
+        let next = self.begin(program, line, target, count)?;
+        Ok(next)
+    }
+
+    /// Puts the values of a call's arguments on the stack from one of them on, up to the first that isn't found
+    /// at once. Answers how many of the arguments are values then.
+    #[inline]
+    pub fn gather(
+        &mut self,
+        program: &'a Program,
+        line: u32,
+        target: Target,
+        arguments: &'a [Expr],
+        first: usize,
+    ) -> Result<usize, Memory>
+        ensures todo { self.new.todo ≡ self.old.todo }
+        ensures steps { self.new.left ≡ self.old.left }
+        ensures gathers { IfOk result (λ count. (todo : List Work) (ps : List Datum) → rest_of (program_view program.now) (Work.Collect line target arguments.entry first ∷ todo) self.old ps ≡ rest_of (program_view program.now) (Work.Collect line target arguments.entry count ∷ todo) self.new ps) }
+    {
         let mut index = first;
         while index < arguments.len() {
             match self.value_now(program, line, &arguments[index]) {
                 Some(value) => self.values.push(value)?,
-                None => {
-                    self.todo
-                        .push(Work::Collect(line, target, arguments, index + 1))?;
-                    self.todo.push(Work::Evaluate(line, &arguments[index]))?;
-                    return Ok(Next::GoesOn);
-                }
+                None => return Ok(index),
             }
             index += 1;
         }
-        self.begin(program, line, target, index)
+        Ok(index)
     }
 
     /// Begins a call whose arguments are the top values, so many of them, with the receiver below them.
@@ -96,7 +117,7 @@ impl<'a> Machine<'a> {
 
     /// Makes the first statement of a list the next piece of work, and what is behind it the one after that.
     #[inline]
-    fn put_off(&mut self, program: &'a Program, ss: &'a [Stmt]) -> Result<Next, Memory>
+    pub fn put_off(&mut self, program: &'a Program, ss: &'a [Stmt]) -> Result<Next, Memory>
         ensures { IfOk result (λ next. (ps : List Datum) → rest_of (program_view program.now) (Work.Seq ss.entry ∷ self.old.todo) self.old ps ≡ after (program_view program.now) self.new ps next) }
     {
         match ss.split_first() {
@@ -209,7 +230,7 @@ pub struct Called<'a> {
 }
 
 /// The body of what is called, and nothing where there is no such method.
-fn body_of<'a>(program: &'a Program, target: Target) -> Called<'a>
+pub fn body_of<'a>(program: &'a Program, target: Target) -> Called<'a>
     ensures stmts { statements_view result.stmts.now ≡ body_of (target_method (program_view program.now) target) }
     ensures others { result.others.now ≡ others_in (target_method (program_view program.now) target) }
 {
