@@ -189,7 +189,7 @@ module _ (p : PlainProgram) where
             extent = loop.calls.extent;
             is = loop.calls.is;
             holds = ops_inside loop.calls.extent.ops m.listed (section_inside loop.calls.extent.written loop.calls.extent.ops s.class true _ start k (loop_run p w.heap r ls line y k) refl
-            (section_grown p loop.calls.extent.written loop.calls.extent.ops w.heap r s y true ty loop.constant kept line ls start k) m e);
+                (section_grown p loop.calls.extent.written loop.calls.extent.ops w.heap r s y true ty loop.constant kept line ls start k) m e);
             parallel = loop.calls.parallel;
           };
         }

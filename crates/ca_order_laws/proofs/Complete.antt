@@ -58,8 +58,8 @@ module _ (p : PlainProgram) (h : List Object) (this : Datum) (ls : List Datum) (
           let same : r.s ≡ m.steps = omega arith in
           let reaches : Reaches (λ k. loop_run p h this ls line loop k) (on_with ms s) m.steps = subst (λ n. Reaches (λ k. loop_run p h this ls line loop k) (on_with ms s) n) same r.reaches in (
             λ i. ap (λ f. loop_sectioned (m.steps + i) f) (reaches.at i)
-            ∙ ap (λ n. loop_done (record { locals = ms; listed = s.listed; steps = n })) (let left : (m.steps + i) - i ≡ k - j = omega arith in left)
-            ∙ d,
+                ∙ ap (λ n. loop_done (record { locals = ms; listed = s.listed; steps = n })) (let left : (m.steps + i) - i ≡ k - j = omega arith in left)
+                ∙ d,
             omega arith,
           )
       from (gives_back v s j) run d = cc

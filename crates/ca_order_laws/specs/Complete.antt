@@ -31,4 +31,4 @@ abbrev pub RunsEndAlike : Type 0
 RunsEndAlike =
     (p : PlainProgram) (h : List Object) (is : List Invocation) (k : ℕ) (after : List Object) (steps : ℕ) → RunsTo p h is k after steps →
     (budget : ℕ) → (steps ≤ budget → RunsTo p h is budget after steps) ×
-        ((last : List Object) (taken : ℕ) → RunsTo p h is budget last taken → (last ≡ after) × (taken ≡ steps) × (steps ≤ budget))
+    ((last : List Object) (taken : ℕ) → RunsTo p h is budget last taken → (last ≡ after) × (taken ≡ steps) × (steps ≤ budget))

@@ -41,7 +41,9 @@ fn copies_a_heap(rt: HostRuntime) -> Result<(), Fail> {
     let Slot::Many(items) = slot.copy()? else {
         return Err(Fail::from("an array"));
     };
-    assert!(rt; items.copy()?.as_slice() == [Value::Long(0), Value::Long(0), Value::Long(7)].as_slice());
+    assert!(rt;
+        items.copy()?.as_slice() == [Value::Long(0), Value::Long(0), Value::Long(7)].as_slice()
+    );
     Ok(())
 }
 
