@@ -5,4 +5,3 @@ pub mod Turning
 pub mod Stepping
 pub mod Looping
 pub mod Fitting
-pub mod Answering
