@@ -5,6 +5,7 @@ use Rattle.std.specs.Int.{int_wrap}
 use Rattle.std.proofs.lemmas.Bool.Decides.{nat_tests}
 use Rattle.std.proofs.lemmas.Int.{SFits-int_wrap, int_wrap_fits, to_z-of_z}
 use Rattle.std.proofs.Math.Nat.{mod-eq_of_lt}
+use lib.IntN.{+ℤ_idl}
 use Rattle.ca_tree.specs.declared.tree.BinaryOp.TheVariants as op
 use Rattle.ca_tree.specs.declared.tree.UnaryOp.TheVariants as sign
 use Rattle.ca_model.specs.declared.value.Value.{Value as Datum}
@@ -74,7 +75,7 @@ pub product_word : (d e : Datum) → IsLong d → IsLong e → Alike (word_of (o
 product_word d e g h = rw (g.is, h.is) (alike_trans (alike_eq (word_wrap (g.number *ℤ h.number))) (word_mul g.number h.number))
 
 negation : (z : ℤ) → neg_ℤ z ≡ pos 0 -ℤ z
-negation z = omega arith
+negation z = sym (+ℤ_idl (neg_ℤ z))
 
 none_before : (n : ℕ) → 0 % (2 ^ 64) + n ≡ n
 none_before n = omega arith

@@ -1,5 +1,5 @@
 -- What the rules of normal forms come to under a valuation.
-use Rattle.std.proofs.Common.{◌≡◌, ℕ, ◌+◌, ◌-◌, ◌*◌, ◌%◌, ◌^◌, ◌<◌, Bool, true, false, Option, Some, None, [], ◌∷◌, ◌++◌, Ordering, Less, Equal, Greater, refl, sym, ap, ap₂, ◌∙◌, arith, FitsSigned, w64, of_z, mod-lt, pow_pos}
+use Rattle.std.proofs.Common.{◌≡◌, ℕ, ◌+◌, ◌-◌, ◌*◌, ◌%◌, ◌^◌, ◌<◌, Bool, true, false, Option, Some, None, [], ◌∷◌, ◌++◌, Ordering, Less, Equal, Greater, refl, sym, ap, ap₂, ◌∙◌, arith, FitsSigned, w64, of_z, to_z, mod-lt, pow_pos}
 use Rattle.std.specs.Prelude.{nat_eq, int_lt, ℤ}
 use Rattle.std.proofs.lemmas.Bool.Decides.{nat_tests}
 use Rattle.std.proofs.lemmas.Int.{to_z-of_z}
@@ -84,7 +84,7 @@ module _ (v : Valuation) where
 
   tied_value : (o : Ordering) (f g : PlainPolynomial) → polynomial_cmp f g ≡ o → total (monomial_value v) (unless_tied o (alone (is_less f g))) ≡ bit (is_below (polynomial_value v f) (polynomial_value v g))
   tied_value Less f g e = alone_value (is_less f g)
-  tied_value Equal f g e = ap bit (sym (not_below_itself _)) ∙ ap (λ h. bit (is_below (polynomial_value v h) (polynomial_value v g))) (sym (polynomial_same f g e))
+  tied_value Equal f g e = ap bit (sym (not_below_itself (to_z w64 (polynomial_value v g % (2 ^ 64))))) ∙ ap (λ h. bit (is_below (polynomial_value v h) (polynomial_value v g))) (sym (polynomial_same f g e))
   tied_value Greater f g e = alone_value (is_less f g)
 
   less_at : (j k : Option ℕ) (f g : PlainPolynomial) → HasValue f j → HasValue g k → total (monomial_value v) (less_kinds j k f g) ≡ bit (is_below (polynomial_value v f) (polynomial_value v g))

@@ -51,13 +51,13 @@ object_is (datum.Bool b) = tt
 object_is datum.Null = tt
 object_is (datum.Ref r) = tt
 
-receiver_is : (v : Datum) → IsObject (as_object v)
+pub receiver_is : (v : Datum) → IsObject (as_object v)
 receiver_is (datum.Long n) = tt
 receiver_is (datum.Bool b) = tt
 receiver_is datum.Null = tt
 receiver_is (datum.Ref r) = tt
 
-as_atom_is : (group n : ℕ) (sort : Sort) (v : Datum) → IsOfSort sort (as_atom group n sort v)
+pub as_atom_is : (group n : ℕ) (sort : Sort) (v : Datum) → IsOfSort sort (as_atom group n sort v)
 as_atom_is zero zero Long v = as_sort_is Long v
 as_atom_is zero zero Bool v = as_sort_is Bool v
 as_atom_is zero zero Pointer v = object_is v

@@ -16,7 +16,7 @@ use Rattle.ca_sums.proofs.Algebra.{alike_refl, alike_eq, alike_sym, alike_trans,
 use Rattle.ca_norm.specs.Terms.{PlainTerm, PlainTerms, number, truth, null, atom, add, sub, neg, mul, divide, remainder, less, less_equal, same, not, and, or, choose, read, read_at, result, no_terms, term_and, sort_of, IsWord, IsScalar, IsOf, AreSorted}
 use Rattle.ca_norm.specs.Forms.{expand, pointer_of, arguments_of, same_sum, scalar_at, array_of, form_at, norm}
 use Rattle.ca_meaning.specs.Operators.{signed, same_value}
-use Rattle.ca_norm.specs.Meanings.{Valuation, IsOfSort, operate, chosen, mean, means, bit, word_of, number_in, truth_in, polynomial_value, monomial_value, pointer_mean, scalar_mean, scalars_mean, form_mean}
+use Rattle.ca_norm.specs.Meanings.{Valuation, IsOfSort, operate, chosen, mean, means as means_all, bit, word_of, number_in, truth_in, polynomial_value, monomial_value, pointer_mean, scalar_mean, scalars_mean, form_mean}
 use Rattle.ca_norm.proofs.Words.{word, word_fits, word_small}
 use Rattle.ca_norm.proofs.Operations.{IsLong, IsTruth, IsTyped, sort_typed, wrapped, chosen_typed, sum_word, difference_word, product_word, minus_word, back, less_word, not_more_word, same_word, not_word, and_word, or_word, same_truth_word, chosen_word}
 use Rattle.ca_norm.proofs.Rules.{gathered_value, alone_value, truth_value, less_value, zero_value, quotient_value, modulus_value, product_value, minus_value, equal_words}
@@ -30,7 +30,7 @@ bit_small : (b : Bool) → bit b % (2 ^ 64) ≡ bit b
 bit_small true = refl
 bit_small false = refl
 
-bit_one : (b : Bool) → nat_eq (bit b % (2 ^ 64)) 1 ≡ b
+bit_one : (b : Bool) → nat_eq (bit b) 1 ≡ b
 bit_one true = refl
 bit_one false = refl
 
@@ -77,7 +77,7 @@ module _ (v : Valuation) where
   typed s (choose c a b) i = chosen_typed s (mean v c) (mean v a) (mean v b) (typed Truth c i.1) (typed s a i.2) (typed s b i.3)
   typed s (read r p c f) i = sort_typed s _ (subst (λ z. IsOfSort z (v.read r (mean v p) c f)) i.0 (v.read_sorted r (mean v p) c f))
   typed s (read_at r p c f j) i = sort_typed s _ (subst (λ z. IsOfSort z (v.read_at r (mean v p) c f (mean v j))) i.0 (v.read_at_sorted r (mean v p) c f (mean v j)))
-  typed s (result r m p ts) i = sort_typed s _ (subst (λ z. IsOfSort z (v.result r m (mean v p) (means v ts))) i.0 (v.result_sorted r m (mean v p) (means v ts)))
+  typed s (result r m p ts) i = sort_typed s _ (subst (λ z. IsOfSort z (v.result r m (mean v p) (means_all v ts))) i.0 (v.result_sorted r m (mean v p) (means_all v ts)))
   typed s t i = absurd i
 
   -- what a gathered sum is worth
@@ -207,7 +207,7 @@ module _ (v : Valuation) where
     pointer_means (or a b) i = absurd (subst IsWord (sym i.0) tt)
     pointer_means t i = absurd i
 
-    arguments_mean : (ts : PlainTerms) → AreSorted ts → scalars_mean v (arguments_of ts) ≡ means v ts
+    arguments_mean : (ts : PlainTerms) → AreSorted ts → scalars_mean v (arguments_of ts) ≡ means_all v ts
     arguments_mean no_terms i = refl
     arguments_mean (term_and t ts) i =
         ap₂ (λ x xs. x ∷ xs) (scalar_given (sort_of t) t i.0 i.1 (λ u. expand_means (sort_of t) t u i.1) (λ e. pointer_means t (subst (λ z. IsOf z t) e i.1))) (arguments_mean ts i.2)

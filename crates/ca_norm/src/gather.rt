@@ -148,7 +148,10 @@ fn add_term(
             add_part(alloc, form, Part::call(*sort, *method, receiver, args), factor)?;
             Ok(())
         }
-        _ => Ok(()),
+        Term::Null => Ok(()),
+        Term::Select(_, _) => Ok(()),
+        Term::Put(_, _, _) => Ok(()),
+        Term::AddAt(_, _, _) => Ok(()),
     }
 }
 
