@@ -1,9 +1,10 @@
 -- The orders tie only equal values.
-use Rattle.std.proofs.Common.{◌≡◌, Equal}
+use Rattle.std.proofs.Common.{◌≡◌, ◌↔◌, Bool, true, IsTrue, Ordering, Less, Equal, Greater, is_eq, refl, ap, subst}
+use Rattle.std.proofs.lemmas.Cmp.{tied_itself}
 use Rattle.ca_sums.proofs.Collect.{Exact}
-use Rattle.ca_forms.specs.Plain.{PlainPart, PlainPolynomial, part_code, part_inj, polynomial_code, polynomial_inj, monomial_code, monomial_inj}
+use Rattle.ca_forms.specs.Plain.{PlainPart, PlainPolynomial, PlainPointer, PlainScalar, part_code, part_inj, polynomial_code, polynomial_inj, monomial_code, monomial_inj, pointer_code, pointer_inj, scalar_code, scalar_inj}
 use Rattle.ca_forms.specs.Trees.{tree_exact}
-use Rattle.ca_forms.specs.Compare.{part_cmp, polynomial_cmp, monomial_cmp, monomial_total, polynomial_total}
+use Rattle.ca_forms.specs.Compare.{part_cmp, polynomial_cmp, monomial_cmp, pointer_cmp, scalar_cmp, monomial_total, polynomial_total, scalar_total}
 
 pub part_same : (p q : PlainPart) → part_cmp p q ≡ Equal → p ≡ q
 part_same p q e = part_inj p q (tree_exact (part_code p) (part_code q) e)
@@ -11,8 +12,24 @@ part_same p q e = part_inj p q (tree_exact (part_code p) (part_code q) e)
 pub polynomial_same : (f g : PlainPolynomial) → polynomial_cmp f g ≡ Equal → f ≡ g
 polynomial_same f g e = polynomial_inj f g (tree_exact (polynomial_code f) (polynomial_code g) e)
 
+pub pointer_same : (p q : PlainPointer) → pointer_cmp p q ≡ Equal → p ≡ q
+pointer_same p q e = pointer_inj p q (tree_exact (pointer_code p) (pointer_code q) e)
+
+scalar_same : (x y : PlainScalar) → scalar_cmp x y ≡ Equal → x ≡ y
+scalar_same x y e = scalar_inj x y (tree_exact (scalar_code x) (scalar_code y) e)
+
 pub monomials_exact : Exact monomial_cmp
 monomials_exact = record { order = monomial_total; same = λ m n e. monomial_inj m n (tree_exact (monomial_code m) (monomial_code n) e) }
 
 pub polynomials_exact : Exact polynomial_cmp
 polynomials_exact = record { order = polynomial_total; same = polynomial_same }
+
+is_tie : (o : Ordering) → is_eq o ≡ true → o ≡ Equal
+is_tie Less e = cc
+is_tie Equal e = refl
+is_tie Greater e = cc
+
+-- the order tells whether two forms are equal
+pub scalar_tells : (x y : PlainScalar) → IsTrue (is_eq (scalar_cmp x y)) ↔ (x ≡ y)
+scalar_tells x y =
+    (λ e. scalar_same x y (is_tie (scalar_cmp x y) e), λ e. subst (λ z. is_eq (scalar_cmp x z) ≡ true) e (ap is_eq (tied_itself scalar_total x)))

@@ -73,7 +73,7 @@ adds_same_truths a b k ps qs h =
     adds_same a b k _ _ (append_same _ _ _ _ (same_totals_refl (truth_sum true)) (append_same _ _ _ _ (minus_same _ _ p) (append_same _ _ _ _ (minus_same _ _ q) (scaled_same 2 _ _ (product_same times _ _ _ _ p q))))) h
 
 pub same_numbers_gathered : (ps qs : Sum PlainMonomial) → same_numbers (products_of (gathered ps)) (products_of (gathered qs)) ≡ same_numbers ps qs
-same_numbers_gathered ps qs = ap₂ zero_sum (difference_is ps qs) (difference_is qs ps)
+same_numbers_gathered ps qs = ap zero_sum (difference_is ps qs)
 
 one_times : (t k g : ℕ) → t + k * g ≡ t + 1 * (k * g)
 one_times t k g = omega arith
@@ -88,3 +88,11 @@ adds_scaled a b k d ps h = record {
 
 pub adds_more : (a b end : Sum PlainMonomial) (k : ℕ) (x : PlainMonomial × ℕ) (xs : Sum PlainMonomial) → Adds a b x.0 ((k * x.1) % (2 ^ 64)) → AddsSum b end k xs → AddsSum a end k (x ∷ xs)
 adds_more a b end k x xs h t = adds_both a b end k (x ∷ []) xs (adds_one a b k x.1 x.0 h) t
+
+add_flip : (m n : ℕ) → m + n ≡ n + m
+add_flip m n = omega arith
+
+-- with one product more at the end
+pub adds_last : (a b end : Sum PlainMonomial) (k : ℕ) (x : PlainMonomial × ℕ) (xs : Sum PlainMonomial) → Adds a b x.0 ((k * x.1) % (2 ^ 64)) → AddsSum b end k xs → AddsSum a end k (xs ++ x ∷ [])
+adds_last a b end k x xs h t =
+    adds_same a end k ((x ∷ []) ++ xs) (xs ++ x ∷ []) (record { same = λ f. alike_eq (total_append f (x ∷ []) xs ∙ add_flip (total f (x ∷ [])) (total f xs) ∙ sym (total_append f xs (x ∷ []))) }) (adds_both a b end k (x ∷ []) xs (adds_one a b k x.1 x.0 h) t)

@@ -3,10 +3,10 @@ use Rattle.std.proofs.Common.{◌≡◌, ℕ, suc, ◌+◌, ◌<◌, min, List, 
 use Rattle.std.proofs.lemmas.Bool.Decides.{nat_tests}
 use Rattle.std.specs.Cmp.Lexicographic.{slice_cmp}
 use Rattle.std.specs.Ordering.{ordering_then}
-use Rattle.ca_forms.specs.Plain.{PlainPart, PlainMonomial, polynomial_code, monomial_code}
+use Rattle.ca_forms.specs.Plain.{PlainPart, PlainMonomial, PlainScalar, polynomial_code, monomial_code, scalars_code}
 use Rattle.ca_forms.specs.Trees.{tree_cmp}
-use Rattle.ca_forms.specs.Lists.{monomial_of, powers_of, polynomial_of}
-use Rattle.ca_forms.specs.Compare.{power_cmp, product_cmp}
+use Rattle.ca_forms.specs.Lists.{monomial_of, powers_of, polynomial_of, scalars_of}
+use Rattle.ca_forms.specs.Compare.{power_cmp, product_cmp, scalar_cmp}
 
 pub powers_monomial : (ps : List (PlainPart × ℕ)) → powers_of (monomial_of ps) ≡ ps
 powers_monomial [] = refl
@@ -28,6 +28,12 @@ products_cmp [] [] = refl
 products_cmp [] (y ∷ ys) = refl
 products_cmp (x ∷ xs) [] = refl
 products_cmp (x ∷ xs) (y ∷ ys) = ap (ordering_then (product_cmp x y)) (products_cmp xs ys)
+
+pub arguments_cmp : (xs ys : List PlainScalar) → slice_cmp scalar_cmp xs ys ≡ tree_cmp (scalars_code (scalars_of xs)) (scalars_code (scalars_of ys))
+arguments_cmp [] [] = refl
+arguments_cmp [] (y ∷ ys) = refl
+arguments_cmp (x ∷ xs) [] = refl
+arguments_cmp (x ∷ xs) (y ∷ ys) = ap (ordering_then (scalar_cmp x y)) (arguments_cmp xs ys)
 
 -- two lists that tie at each index so far
 pub passes : {X : Type 0} (R : X → X → Ordering) (xs ys : List X) (i : ℕ) (d : X) → i < length xs → i < length ys → R (get_or xs i d) (get_or ys i d) ≡ Equal → slice_cmp R (drop (i + 1) xs) (drop (i + 1) ys) ≡ slice_cmp R (drop i xs) (drop i ys)

@@ -1,5 +1,3 @@
-pub mod Order
-pub mod OrderLaws
 pub mod Trees
 pub mod Plain
 pub mod Lists

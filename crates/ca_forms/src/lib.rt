@@ -1,15 +1,18 @@
-//! Normal forms as values: monomials with their order, formal polynomials modulo 2^64, and the forms of
-//! pointers, arrays and truth values. They are built product by product in an ordered map, copied and
-//! compared. What a form is the form of, and what it means, stands in ca_norm.
+//! Normal forms as values: polynomials modulo 2^64 over atoms, comparisons, quotients, reads and results, for
+//! numbers and truth values, and the forms of pointers and arrays. They are built product by product in an
+//! ordered map, copied and compared. What a form is the form of, and what it means, stands in ca_norm.
 #![tactic(auto)]
 
+mod copies;
 mod form;
-mod gather;
+mod order;
+pub mod parts;
+pub mod pointers;
 pub mod polynomial;
+mod products;
 pub mod rules;
 mod sort;
 pub mod sums;
 
-pub use crate::form::{Monomial, Normal, Polynomial};
-pub use crate::gather::add_product;
+pub use crate::form::Normal;
 pub use crate::sort::Sort;

@@ -1,19 +1,12 @@
-//! Polynomials as normal forms of numbers and truth values: their types, their order, copies, and products of
-//! monomials. A polynomial stands in parts of others, so each function here recurses as deep as they nest.
+//! Normal forms of numbers, truth values and pointers: their types. Each stands in parts of others, so functions
+//! on them recurse as deep as they nest.
 
-ghost use Rattle.std.specs.Prelude.{◌≡◌, IfOk};
-ghost use Rattle.std.specs.Cmp.Lexicographic.{slice_cmp};
-ghost use Rattle.std.specs.Ordering.{is_eq, as_partial_cmp};
-ghost use Rattle.std.specs.Cmp.{partial_equiv_from_equiv, partial_order_from_agreeing_total};
-ghost use Rattle.std.proofs.lemmas.Cmp.{eq_by_cmp_equiv};
-ghost use Rattle.std.proofs.Common.{refl};
-ghost use Rattle.ca_forms.specs.Plain.{variable, sort_number};
-ghost use Rattle.ca_forms.specs.Compare.{part_cmp, power_cmp, product_cmp, polynomial_cmp, monomial_cmp, monomial_total};
-ghost use Rattle.ca_forms.specs.Products.{is_truth, is_truth_sort, joined, merge, times};
+ghost use Rattle.std.specs.Prelude.{◌≡◌};
+ghost use Rattle.ca_forms.specs.Plain.{number_form, truth_form, pointer_form, no_object};
+ghost use Rattle.ca_forms.specs.Lists.{scalars_of};
+ghost use Rattle.ca_forms.specs.Seen.{part_of, pointer_of, scalar_of};
 
 use crate::sort::Sort;
-use std::alloc::{AllocError, Global};
-use std::cmp::Ordering;
 use std::marker::Model;
 
 /// What isn't taken apart in a normal form. Parts are compared and copied as deep as they nest.
@@ -32,6 +25,18 @@ pub(crate) enum Node {
     Less(Polynomial, Polynomial),
     /// Whether it is zero.
     Zero(Polynomial),
+    /// Whether both are equal.
+    SamePointer(Pointer, Pointer),
+    /// Divided by a word that is read as a signed number, and rounded towards zero.
+    Quotient(Polynomial, u64),
+    /// What that leaves, with the sign of what is divided.
+    Modulus(Polynomial, u64),
+    /// A field of another object: its sort, the object, the field's class and number.
+    Field(Sort, Pointer, u32, u32),
+    /// The item of such a field at an index.
+    Item(Sort, Pointer, u32, u32, Polynomial),
+    /// What a value method gives: its sort, its number, the receiver and the arguments.
+    Result(Sort, u32, Pointer, Scalars),
 }
 
 /// A part several times over.
@@ -64,6 +69,44 @@ pub struct Polynomial {
     pub(crate) products: Vec<Product>,
 }
 
+/// The form of a pointer.
+#[cycle(polynomial)]
+#[derive(Drop, Debug)]
+pub struct Pointer {
+    pub(crate) node: PointerNode,
+}
+
+#[cycle(polynomial)]
+#[derive(Drop, Debug)]
+pub(crate) enum PointerNode {
+    Null,
+    Part(Box<Part>),
+    /// The first pointer where the truth value holds, and else the second.
+    Choice(Box<Polynomial>, Box<Pointer>, Box<Pointer>),
+}
+
+/// The form of a number, a truth value or a pointer.
+#[cycle(polynomial)]
+#[derive(Drop, Debug)]
+pub struct Scalar {
+    pub(crate) node: ScalarNode,
+}
+
+#[cycle(polynomial)]
+#[derive(Drop, Debug)]
+pub(crate) enum ScalarNode {
+    Number(Polynomial),
+    Truth(Polynomial),
+    Pointer(Pointer),
+}
+
+/// The forms of the arguments of a call.
+#[cycle(polynomial)]
+#[derive(Drop, Debug)]
+pub struct Scalars {
+    pub(crate) items: Vec<Scalar>,
+}
+
 impl Model for Part {
     ghost use Rattle.ca_forms.specs.Plain.{PlainPart, coded_part};
 
@@ -72,7 +115,8 @@ impl Model for Part {
     ghost coded = { coded_part };
 
     ghost use Rattle.ca_forms.specs.Lists.{part_size};
-    ghost use Rattle.ca_forms.specs.Seen.{part_of};
+    ghost use Rattle.ca_forms.specs.Lists.{scalars_of};
+ghost use Rattle.ca_forms.specs.Seen.{part_of};
 
     ghost view = { λ a. part_of a.node };
 
@@ -153,351 +197,122 @@ impl Model for Polynomial {
     ghost size_decreases = { λ a h. omega (arith, most_products a.products.items) };
 }
 
-impl Part {
-    /// By the order of their codes.
-    #[cycle(compare)]
-    pub fn compare(&self, other: &Part) -> Ordering
-        ensures { result ≡ part_cmp self.now other.now }
+impl Model for Pointer {
+    ghost use Rattle.ca_forms.specs.Plain.{PlainPointer, coded_pointer};
+
+    ghost Value = { PlainPointer };
+
+    ghost coded = { coded_pointer };
+
+    ghost use Rattle.ca_forms.specs.Lists.{pointer_size};
+    ghost use Rattle.ca_forms.specs.Seen.{pointer_of};
+
+    ghost view = { λ a. pointer_of a.node };
+
+    ghost size = { pointer_size };
+
+    ghost use Rattle.ca_forms.specs.Falls.{pointer_falls};
+
+    ghost size_decreases = { λ a h. pointer_falls a.node };
+}
+
+impl Model for Scalar {
+    ghost use Rattle.ca_forms.specs.Plain.{PlainScalar, coded_scalar};
+
+    ghost Value = { PlainScalar };
+
+    ghost coded = { coded_scalar };
+
+    ghost use Rattle.ca_forms.specs.Lists.{scalar_size};
+    ghost use Rattle.ca_forms.specs.Seen.{scalar_of};
+
+    ghost view = { λ a. scalar_of a.node };
+
+    ghost size = { scalar_size };
+
+    ghost use Rattle.ca_forms.specs.Falls.{scalar_falls};
+
+    ghost size_decreases = { λ a h. scalar_falls a.node };
+}
+
+impl Model for Scalars {
+    ghost use Rattle.ca_forms.specs.Plain.{PlainScalars, coded_scalars};
+    ghost use Rattle.ca_forms.specs.Lists.{scalars_of, scalars_size, most_scalars};
+
+    ghost Value = { PlainScalars };
+
+    ghost coded = { coded_scalars };
+
+    ghost view = { λ a. scalars_of a.items.items };
+
+    ghost size = { scalars_size };
+
+    ghost use Rattle.std.proofs.Common.{arith};
+
+    ghost size_decreases = { λ a h. omega (arith, most_scalars a.items.items) };
+}
+
+impl Node {
+    pub(crate) fn part(self) -> Part
+        ensures { result ≡ part_of self }
     {
-        match &self.node {
-            Node::Variable(s, g, n) => match &other.node {
-                Node::Variable(t, h, m) => variables(*s, *g, *n, *t, *h, *m),
-                Node::Less(_, _) => Ordering::Less,
-                Node::Zero(_) => Ordering::Less,
-            },
-            Node::Less(a, b) => match &other.node {
-                Node::Variable(_, _, _) => Ordering::Greater,
-                Node::Less(c, d) => match a.compare(c) {
-                    Ordering::Equal => b.compare(d),
-                    order => order,
-                },
-                Node::Zero(_) => Ordering::Less,
-            },
-            Node::Zero(a) => match &other.node {
-                Node::Variable(_, _, _) => Ordering::Greater,
-                Node::Less(_, _) => Ordering::Greater,
-                Node::Zero(c) => a.compare(c),
-            },
-        }
+        Part { node: self }
     }
 }
 
-/// The place of a sort among the sorts.
-fn number_of(sort: Sort) -> u32
-    ensures { result ≡ sort_number sort }
-{
-    match sort {
-        Sort::Long => 0,
-        Sort::Bool => 1,
-        Sort::Pointer => 2,
-        Sort::LongArray => 3,
-        Sort::BoolArray => 4,
-        Sort::PointerArray => 5,
-    }
-}
-
-/// Atoms, by sort, group and number.
-fn variables(s: Sort, g: u32, n: u32, t: Sort, h: u32, m: u32) -> Ordering
-    ensures { result ≡ part_cmp (variable s g n) (variable t h m) }
-{
-    match number_of(s).cmp(&number_of(t)) {
-        Ordering::Equal => match g.cmp(&h) {
-            Ordering::Equal => n.cmp(&m),
-            order => order,
-        },
-        order => order,
-    }
-}
-
-impl Power {
-    #[cycle(compare)]
-    fn compare(&self, other: &Power) -> Ordering
-        ensures { result ≡ power_cmp self.now other.now }
+impl PointerNode {
+    pub(crate) fn pointer(self) -> Pointer
+        ensures { result ≡ pointer_of self }
     {
-        match self.part.compare(&other.part) {
-            Ordering::Equal => self.exponent.cmp(&other.exponent),
-            order => order,
-        }
+        Pointer { node: self }
     }
 }
 
-impl Product {
-    #[cycle(compare)]
-    fn compare(&self, other: &Product) -> Ordering
-        ensures { result ≡ product_cmp self.now other.now }
+impl ScalarNode {
+    pub(crate) fn scalar(self) -> Scalar
+        ensures { result ≡ scalar_of self }
     {
-        match self.monomial.compare(&other.monomial) {
-            Ordering::Equal => self.coefficient.cmp(&other.coefficient),
-            order => order,
-        }
+        Scalar { node: self }
     }
 }
 
-impl Monomial {
-    /// By the order of their codes.
-    #[cycle(compare)]
-    pub fn compare(&self, other: &Monomial) -> Ordering
-        ensures { result ≡ monomial_cmp self.now other.now }
+impl Scalar {
+    /// The form of a number.
+    pub fn number(polynomial: Polynomial) -> Scalar
+        ensures { result ≡ number_form polynomial }
     {
-        compare_powers(&self.powers, &other.powers)
+        ScalarNode::Number(polynomial).scalar()
     }
-}
 
-#[cycle(compare)]
-fn compare_powers(a: &[Power], b: &[Power]) -> Ordering
-    ensures { result ≡ slice_cmp power_cmp a.now b.now }
-{
-    let count = a.len().min(b.len());
-    for i in 0..count {
-        match a[i].compare(&b[i]) {
-            Ordering::Equal => {}
-            order => return order,
-        }
-    }
-    a.len().cmp(&b.len())
-}
-
-impl Polynomial {
-    /// By the order of their codes.
-    #[cycle(compare)]
-    pub fn compare(&self, other: &Polynomial) -> Ordering
-        ensures { result ≡ polynomial_cmp self.now other.now }
+    /// The form of a truth value.
+    pub fn truth(polynomial: Polynomial) -> Scalar
+        ensures { result ≡ truth_form polynomial }
     {
-        compare_products(&self.products, &other.products)
+        ScalarNode::Truth(polynomial).scalar()
     }
-}
 
-#[cycle(compare)]
-fn compare_products(a: &[Product], b: &[Product]) -> Ordering
-    ensures { result ≡ slice_cmp product_cmp a.now b.now }
-{
-    let count = a.len().min(b.len());
-    for i in 0..count {
-        match a[i].compare(&b[i]) {
-            Ordering::Equal => {}
-            order => return order,
-        }
-    }
-    a.len().cmp(&b.len())
-}
-
-impl PartialEq for Monomial {
-    ghost eq = { λ a b. is_eq (monomial_cmp a b) };
-
-    ghost laws = { partial_equiv_from_equiv (eq_by_cmp_equiv monomial_total) };
-
-    fn eq(&self, other: &Monomial) -> bool {
-        self.compare(other) == Ordering::Equal
-    }
-}
-
-impl Eq for Monomial {
-    ghost laws = { eq_by_cmp_equiv monomial_total };
-}
-
-impl PartialOrd for Monomial {
-    ghost partial_cmp = { as_partial_cmp monomial_cmp };
-
-    ghost laws = { partial_order_from_agreeing_total monomial_cmp monomial_total (λ x y. refl) (λ x y. refl) };
-
-    fn partial_cmp(&self, other: &Monomial) -> Option<Ordering> {
-        Some(self.compare(other))
-    }
-}
-
-impl Ord for Monomial {
-    ghost cmp = { monomial_cmp };
-
-    ghost total = { monomial_total };
-
-    ghost matches_partial_cmp = { λ x y. refl };
-
-    ghost matches_eq = { λ x y. refl };
-
-    fn cmp(&self, other: &Monomial) -> Ordering {
-        self.compare(other)
-    }
-}
-
-impl Part {
-    /// The same part once more.
-    #[cycle(copy)]
-    pub fn copy(&self, alloc: Global) -> Result<Part, AllocError>
-        ensures { IfOk result (λ p. p ≡ self.now) }
+    /// The form of a pointer.
+    pub fn pointer(pointer: Pointer) -> Scalar
+        ensures { result ≡ pointer_form pointer }
     {
-        match &self.node {
-            Node::Variable(s, g, n) => Ok(Part {
-                node: Node::Variable(*s, *g, *n),
-            }),
-            Node::Less(a, b) => {
-                let first = a.copy(alloc)?;
-                let second = b.copy(alloc)?;
-                Ok(Part {
-                    node: Node::Less(first, second),
-                })
-            }
-            Node::Zero(a) => {
-                let form = a.copy(alloc)?;
-                Ok(Part {
-                    node: Node::Zero(form),
-                })
-            }
-        }
+        ScalarNode::Pointer(pointer).scalar()
     }
 }
 
-impl Power {
-    #[cycle(copy)]
-    fn copy(&self, alloc: Global) -> Result<Power, AllocError>
-        ensures { IfOk result (λ p. p ≡ self.now) }
+impl Pointer {
+    /// The form of null.
+    pub fn null() -> Pointer
+        ensures { result ≡ no_object }
     {
-        let part = self.part.copy(alloc)?;
-        Ok(Power {
-            part,
-            exponent: self.exponent,
-        })
+        PointerNode::Null.pointer()
     }
 }
 
-impl Monomial {
-    /// The same monomial once more.
-    #[cycle(copy)]
-    pub fn copy(&self, alloc: Global) -> Result<Monomial, AllocError>
-        ensures { IfOk result (λ m. m ≡ self.now) }
+impl Scalars {
+    /// The forms of arguments, one by one.
+    pub fn of(items: Vec<Scalar>) -> Scalars
+        ensures { result ≡ scalars_of items.items }
     {
-        let powers = copy_powers(alloc, &self.powers)?;
-        Ok(Monomial { powers })
-    }
-}
-
-#[cycle(copy)]
-fn copy_powers(alloc: Global, powers: &[Power]) -> Result<Vec<Power>, AllocError>
-    ensures { IfOk result (λ v. v.items ≡ powers.now) }
-{
-    let mut copies = Vec::new(alloc);
-    for power in powers {
-        copies.push(power.copy(alloc)?)?;
-    }
-    Ok(copies)
-}
-
-impl Product {
-    #[cycle(copy)]
-    fn copy(&self, alloc: Global) -> Result<Product, AllocError>
-        ensures { IfOk result (λ p. p ≡ self.now) }
-    {
-        let monomial = self.monomial.copy(alloc)?;
-        Ok(Product {
-            monomial,
-            coefficient: self.coefficient,
-        })
-    }
-}
-
-impl Polynomial {
-    /// The same polynomial once more.
-    #[cycle(copy)]
-    pub fn copy(&self, alloc: Global) -> Result<Polynomial, AllocError>
-        ensures { IfOk result (λ f. f ≡ self.now) }
-    {
-        let products = copy_products(alloc, &self.products)?;
-        Ok(Polynomial { products })
-    }
-}
-
-#[cycle(copy)]
-fn copy_products(alloc: Global, products: &[Product]) -> Result<Vec<Product>, AllocError>
-    ensures { IfOk result (λ v. v.items ≡ products.now) }
-{
-    let mut copies = Vec::new(alloc);
-    for product in products {
-        copies.push(product.copy(alloc)?)?;
-    }
-    Ok(copies)
-}
-
-fn is_truth_sort(sort: Sort) -> bool
-    ensures { result ≡ is_truth_sort sort }
-{
-    match sort {
-        Sort::Bool => true,
-        _ => false,
-    }
-}
-
-impl Part {
-    /// Whether the part is a truth value.
-    fn is_truth(&self) -> bool
-        ensures { result ≡ is_truth self.now }
-    {
-        match &self.node {
-            Node::Variable(s, _, _) => is_truth_sort(*s),
-            Node::Less(_, _) => true,
-            Node::Zero(_) => true,
-        }
-    }
-}
-
-/// Two powers of one part. An exponent that has no room in 64 bits is want of memory.
-fn joined(alloc: Global, a: &Power, b: &Power) -> Result<Power, AllocError>
-    ensures { IfOk result (λ p. p ≡ joined a.now b.now) }
-{
-    let exponent = if a.part.is_truth() {
-        a.exponent
-    } else {
-        match a.exponent.checked_add(b.exponent) {
-            Some(sum) => sum,
-            None => return Err(AllocError),
-        }
-    };
-    let part = a.part.copy(alloc)?;
-    Ok(Power { part, exponent })
-}
-
-/// The powers of both, by rising parts.
-fn merged(alloc: Global, a: &[Power], b: &[Power]) -> Result<Vec<Power>, AllocError>
-    ensures { IfOk result (λ v. v.items ≡ merge a.now b.now) }
-{
-    let mut powers = Vec::new(alloc);
-    let mut i = 0;
-    let mut j = 0;
-    while i < a.len() && j < b.len() {
-        let x = &a[i];
-        let y = &b[j];
-        match x.part.compare(&y.part) {
-            Ordering::Less => {
-                powers.push(x.copy(alloc)?)?;
-                i += 1;
-            }
-            Ordering::Equal => {
-                powers.push(joined(alloc, x, y)?)?;
-                i += 1;
-                j += 1;
-            }
-            Ordering::Greater => {
-                powers.push(y.copy(alloc)?)?;
-                j += 1;
-            }
-        }
-    }
-    while i < a.len() {
-        powers.push(a[i].copy(alloc)?)?;
-        i += 1;
-    }
-    while j < b.len() {
-        powers.push(b[j].copy(alloc)?)?;
-        j += 1;
-    }
-    Ok(powers)
-}
-
-impl Monomial {
-    /// The product of two monomials.
-    #[inline(never)]
-    pub fn times(&self, alloc: Global, other: &Monomial) -> Result<Monomial, AllocError>
-        ensures { IfOk result (λ m. m ≡ times self.now other.now) }
-    {
-        let powers = merged(alloc, &self.powers, &other.powers)?;
-        Ok(Monomial { powers })
+        Scalars { items }
     }
 }

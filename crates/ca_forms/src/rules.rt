@@ -3,34 +3,21 @@
 
 ghost use Rattle.std.specs.Prelude.{◌≡◌, OnOk};
 ghost use Rattle.ca_sums.specs.Sums.{NoZero, AddsSum};
-ghost use Rattle.ca_forms.specs.Plain.{variable};
 ghost use Rattle.ca_forms.specs.Lists.{polynomial_of, products_of};
-ghost use Rattle.ca_forms.specs.Seen.{part_of};
-ghost use Rattle.ca_forms.specs.Rules.{alone, constant, truth_sum, chosen, either, is_one, constancy, is_below, less_sum, smaller, zero_sum, same_numbers, same_truths};
+ghost use Rattle.ca_forms.specs.Rules.{alone, constant, truth_sum, chosen, either, is_one, constancy, is_below, less_sum, zero_sum, same_numbers, same_truths, divided, left_over, quotient_sum, modulus_sum};
 
 use crate::polynomial::{Monomial, Node, Part, Polynomial, Power, Product};
-use crate::sort::Sort;
-use crate::sums::{add_polynomial, add_product, add_product_of, difference};
+use crate::sums::{add_polynomial, add_product, add_product_of, apart, difference, smaller_sign};
 use std::alloc::{AllocError, Global};
 use std::cmp::Ordering;
 use std::collections::BTreeMap;
 
 impl Polynomial {
     /// The word that the polynomial is, if it is a number.
-    fn constant(&self) -> Option<u64>
+    pub(crate) fn constant(&self) -> Option<u64>
         ensures { result ≡ constancy self.now }
     {
         constant_of(&self.products)
-    }
-
-    /// The smaller of two polynomials.
-    fn smaller(self, other: Polynomial) -> Polynomial
-        ensures { result ≡ smaller self other }
-    {
-        match self.compare(&other) {
-            Ordering::Greater => other,
-            _ => self,
-        }
     }
 }
 
@@ -106,40 +93,20 @@ pub fn add_truth(
 
 /// Adds a part alone, times the factor.
 #[inline(never)]
-fn add_part(
+pub fn add_part(
     alloc: Global,
     form: &mut BTreeMap<Monomial, u64>,
-    node: Node,
+    part: Part,
     factor: u64,
 ) -> Result<(), AllocError>
     requires { NoZero form.old.entries }
     ensures nonzero { NoZero form.new.entries }
-    ensures added { OnOk result (AddsSum form.old.entries form.new.entries factor (alone (part_of node))) }
+    ensures added { OnOk result (AddsSum form.old.entries form.new.entries factor (alone part)) }
 {
     let mut powers = Vec::new(alloc);
-    powers.push(Power {
-        part: Part { node },
-        exponent: 1,
-    })?;
+    powers.push(Power { part, exponent: 1 })?;
     add_product(form, Monomial { powers }, factor)?;
     Ok(())
-}
-
-/// Adds an atom, times the factor.
-#[inline(never)]
-pub fn add_atom(
-    alloc: Global,
-    form: &mut BTreeMap<Monomial, u64>,
-    sort: Sort,
-    group: u32,
-    number: u32,
-    factor: u64,
-) -> Result<(), AllocError>
-    requires { NoZero form.old.entries }
-    ensures nonzero { NoZero form.new.entries }
-    ensures added { OnOk result (AddsSum form.old.entries form.new.entries factor (alone (variable sort group number))) }
-{
-    add_part(alloc, form, Node::Variable(sort, group, number), factor)
 }
 
 /// Adds whether one polynomial is less than another, times the factor.
@@ -162,26 +129,29 @@ pub fn add_less(
     }
     match f.compare(&g) {
         Ordering::Equal => Ok(()),
-        _ => add_part(alloc, form, Node::Less(f, g), factor),
+        _ => add_part(alloc, form, Node::Less(f, g).part(), factor),
     }
 }
 
-/// Adds whether a difference is zero, times the factor. Its polynomial and that of its negation are given.
+/// Adds whether a number is zero, times the factor.
 #[inline(never)]
 fn add_zero(
     alloc: Global,
     form: &mut BTreeMap<Monomial, u64>,
     f: Polynomial,
-    g: Polynomial,
     factor: u64,
 ) -> Result<(), AllocError>
     requires { NoZero form.old.entries }
     ensures nonzero { NoZero form.new.entries }
-    ensures added { OnOk result (AddsSum form.old.entries form.new.entries factor (zero_sum f g)) }
+    ensures added { OnOk result (AddsSum form.old.entries form.new.entries factor (zero_sum f)) }
 {
     match f.constant() {
         Some(n) => add_truth(alloc, form, n == 0, factor),
-        None => add_part(alloc, form, Node::Zero(f.smaller(g)), factor),
+        None => {
+            let nearer = smaller_sign(alloc, f)?;
+            add_part(alloc, form, Node::Zero(nearer).part(), factor)?;
+            Ok(())
+        }
     }
 }
 
@@ -190,17 +160,16 @@ fn add_zero(
 pub fn add_same(
     alloc: Global,
     form: &mut BTreeMap<Monomial, u64>,
-    f: &Polynomial,
-    g: &Polynomial,
+    f: Polynomial,
+    g: Polynomial,
     factor: u64,
 ) -> Result<(), AllocError>
     requires { NoZero form.old.entries }
     ensures nonzero { NoZero form.new.entries }
-    ensures added { OnOk result (AddsSum form.old.entries form.new.entries factor (same_numbers (products_of f.now) (products_of g.now))) }
+    ensures added { OnOk result (AddsSum form.old.entries form.new.entries factor (same_numbers (products_of f) (products_of g))) }
 {
-    let there = difference(alloc, f, g)?;
-    let back = difference(alloc, g, f)?;
-    add_zero(alloc, form, there, back, factor)?;
+    let between = apart(alloc, f, g)?;
+    add_zero(alloc, form, between, factor)?;
     Ok(())
 }
 
@@ -262,4 +231,62 @@ pub fn add_chosen(
     add_polynomial(alloc, form, h, factor)?;
     add_product_of(alloc, form, f, &apart, factor)?;
     Ok(())
+}
+
+fn divided(m: u64, n: i64) -> u64
+    ensures { result ≡ divided m n }
+{
+    if n == 0 {
+        0
+    } else {
+        m.cast_signed().wrapping_div(n).cast_unsigned()
+    }
+}
+
+fn left_over(m: u64, n: i64) -> u64
+    ensures { result ≡ left_over m n }
+{
+    if n == 0 {
+        0
+    } else {
+        m.cast_signed().wrapping_rem(n).cast_unsigned()
+    }
+}
+
+/// Adds a number divided by another and rounded towards zero, times the factor.
+#[inline(never)]
+pub fn add_quotient(
+    alloc: Global,
+    form: &mut BTreeMap<Monomial, u64>,
+    f: Polynomial,
+    n: i64,
+    factor: u64,
+) -> Result<(), AllocError>
+    requires { NoZero form.old.entries }
+    ensures nonzero { NoZero form.new.entries }
+    ensures added { OnOk result (AddsSum form.old.entries form.new.entries factor (quotient_sum f n)) }
+{
+    match f.constant() {
+        Some(m) => add_number(alloc, form, divided(m, n), factor),
+        None => add_part(alloc, form, Node::Quotient(f, n.cast_unsigned()).part(), factor),
+    }
+}
+
+/// Adds what that division leaves, times the factor.
+#[inline(never)]
+pub fn add_modulus(
+    alloc: Global,
+    form: &mut BTreeMap<Monomial, u64>,
+    f: Polynomial,
+    n: i64,
+    factor: u64,
+) -> Result<(), AllocError>
+    requires { NoZero form.old.entries }
+    ensures nonzero { NoZero form.new.entries }
+    ensures added { OnOk result (AddsSum form.old.entries form.new.entries factor (modulus_sum f n)) }
+{
+    match f.constant() {
+        Some(m) => add_number(alloc, form, left_over(m, n), factor),
+        None => add_part(alloc, form, Node::Modulus(f, n.cast_unsigned()).part(), factor),
+    }
 }

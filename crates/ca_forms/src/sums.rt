@@ -1,19 +1,20 @@
 //! Sums of products, gathered in an ordered map. What is added is told by what becomes of every total, so no
 //! clause names an order of adding.
 
-ghost use Rattle.std.specs.Prelude.{◌≡◌, ◌+◌, ◌%◌, ◌^◌, ◌++◌, IfOk, OnOk};
+ghost use Rattle.std.specs.Prelude.{◌≡◌, ◌+◌, ◌*◌, ◌-◌, ◌%◌, ◌^◌, ◌++◌, IfOk, OnOk};
 ghost use Rattle.std.specs.Option.{unwrap_or};
 ghost use Rattle.std.specs.Map.{lookup};
 ghost use Rattle.std.specs.BTreeMap.{is_at, IsOrdered};
 ghost use Rattle.ca_sums.specs.Sums.{NoZero, Adds, AddsSum};
 ghost use Rattle.ca_sums.specs.Products.{row, product};
 ghost use Rattle.ca_forms.specs.Lists.{polynomial_of, products_of};
-ghost use Rattle.ca_forms.specs.Compare.{monomial_cmp};
+ghost use Rattle.ca_forms.specs.Compare.{monomial_cmp, polynomial_cmp};
 ghost use Rattle.ca_forms.specs.Products.{times};
-ghost use Rattle.ca_forms.specs.Rules.{gathered, minus};
+ghost use Rattle.ca_forms.specs.Rules.{gathered, minus, opposite, smaller};
 
 use crate::polynomial::{Monomial, Polynomial, Product};
 use std::alloc::{AllocError, Global};
+use std::cmp::Ordering;
 use std::collections::BTreeMap;
 
 fn sum_at(form: &BTreeMap<Monomial, u64>, monomial: &Monomial, coefficient: u64) -> u64
@@ -154,8 +155,7 @@ pub fn add_polynomial(
     Ok(())
 }
 
-/// The difference of two polynomials. Each side of a comparison is brought into its form once: a chain of
-/// comparisons would else be walked twice at each level.
+/// The difference of two polynomials.
 #[inline(never)]
 pub fn difference(alloc: Global, f: &Polynomial, g: &Polynomial) -> Result<Polynomial, AllocError>
     ensures { IfOk result (λ d. d ≡ gathered (products_of f.now ++ minus (products_of g.now))) }
@@ -164,4 +164,91 @@ pub fn difference(alloc: Global, f: &Polynomial, g: &Polynomial) -> Result<Polyn
     add_polynomial(alloc, &mut form, f, 1)?;
     add_polynomial(alloc, &mut form, g, u64::MAX)?;
     finish(alloc, form)
+}
+
+fn products_in(f: Polynomial) -> Vec<Product>
+    ensures { result.items ≡ products_of f }
+{
+    f.products
+}
+
+/// Adds products, times the factor, without a copy.
+fn add_owned(
+    form: &mut BTreeMap<Monomial, u64>,
+    products: Vec<Product>,
+    factor: u64,
+) -> Result<(), AllocError>
+    requires { NoZero form.old.entries }
+    ensures nonzero { NoZero form.new.entries }
+    ensures added { OnOk result (AddsSum form.old.entries form.new.entries factor products.items) }
+{
+    let mut rest = products;
+    while let Some(product) = rest.pop() {
+        let Product {
+            monomial,
+            coefficient,
+        } = product;
+        add_product(form, monomial, factor.wrapping_mul(coefficient))?;
+    }
+    Ok(())
+}
+
+/// The difference of two polynomials that are not needed any more. Nothing is copied: a chain of comparisons
+/// would else be copied once a level.
+#[inline(never)]
+pub fn apart(alloc: Global, f: Polynomial, g: Polynomial) -> Result<Polynomial, AllocError>
+    ensures { IfOk result (λ d. d ≡ gathered (products_of f ++ minus (products_of g))) }
+{
+    let mut form = BTreeMap::new(alloc);
+    add_owned(&mut form, products_in(f), 1)?;
+    add_owned(&mut form, products_in(g), u64::MAX)?;
+    finish(alloc, form)
+}
+
+fn turned(product: Product) -> Product
+    ensures { result ≡ (product.0, (product.1 * (2 ^ 64 - 1)) % (2 ^ 64)) }
+{
+    let Product {
+        monomial,
+        coefficient,
+    } = product;
+    Product {
+        monomial,
+        coefficient: coefficient.wrapping_mul(u64::MAX),
+    }
+}
+
+fn opposite(alloc: Global, f: Polynomial) -> Result<Polynomial, AllocError>
+    ensures { IfOk result (λ g. g ≡ opposite f) }
+{
+    let products = products_in(f)
+        .into_iter()
+        .map(|product| turned(product))
+        .collect(alloc)?;
+    Ok(Polynomial { products })
+}
+
+/// How a polynomial compares with its negation: both have the same monomials.
+fn against_opposite(products: &[Product]) -> Ordering
+    ensures { result ≡ polynomial_cmp (polynomial_of products.now) (opposite (polynomial_of products.now)) }
+{
+    for product in products {
+        let negated = product.coefficient.wrapping_mul(u64::MAX);
+        match product.coefficient.cmp(&negated) {
+            Ordering::Equal => {}
+            order => return order,
+        }
+    }
+    Ordering::Equal
+}
+
+/// The smaller of a polynomial and its negation.
+#[inline(never)]
+pub fn smaller_sign(alloc: Global, f: Polynomial) -> Result<Polynomial, AllocError>
+    ensures { IfOk result (λ g. g ≡ smaller f (opposite f)) }
+{
+    match against_opposite(&f.products) {
+        Ordering::Greater => opposite(alloc, f),
+        _ => Ok(f),
+    }
 }

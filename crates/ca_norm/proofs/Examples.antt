@@ -1,44 +1,101 @@
 -- Weights and forms of short terms, and a valuation.
-use Rattle.std.proofs.Common.{◌≡◌, ◌∷◌, [], pos, negsuc, refl}
+use Rattle.std.proofs.Common.{◌≡◌, [], ◌∷◌, pos, negsuc, true, false, refl}
 use Rattle.std.specs.Int.{int_wrap}
 use Rattle.ca_model.specs.declared.value.Value.TheVariants as datum
-use Rattle.ca_forms.specs.declared.sort.Sort.TheVariants.{Long, Pointer}
-use Rattle.ca_forms.specs.declared.form.Monomial.TheVariants as monomial
+use Rattle.ca_forms.specs.declared.sort.Sort.TheVariants.{Long, Bool as Truth, Pointer, LongArray}
 use Rattle.ca_forms.specs.declared.form.Normal.TheVariants as normal
-use Rattle.ca_norm.specs.Terms.{PlainTerm, number, null, atom, add, sub}
-use Rattle.ca_norm.specs.Weights.{weight_of}
-use Rattle.ca_norm.specs.Forms.{norm, coefficient}
+use Rattle.ca_forms.specs.Plain.{variable, no_powers, power_and, no_products, product_and, number_form, truth_form, pointer_form, pointer_part}
+use Rattle.ca_norm.specs.Terms.{PlainTerm, number, truth, null, atom, add, sub, mul, divide, remainder, less, same, and, choose, select, put}
+use Rattle.ca_norm.specs.Weights.{spread, weight_of}
+use Rattle.ca_norm.specs.Forms.{norm}
 use Rattle.ca_norm.specs.Meanings.{Valuation, mean}
 use Rattle.ca_norm.proofs.Valuations.{valuation_of}
 
--- the first operation's first parameter, and what the second field holds at the start
+-- the first operation's first parameter, what the second field holds at the start, and a condition
 p : PlainTerm
 p = atom Long 1 0
 
 s : PlainTerm
 s = atom Long 3 1
 
+c : PlainTerm
+c = atom Truth 2 0
+
 four_leaves : weight_of (add (add (add s p) p) p) ≡ 64
 unfolding s p
 four_leaves = refl
 
-one_cancelled : norm (sub (add s p) p) ≡ normal.Polynomial ((monomial.Atom 3 1, 1) ∷ [])
+-- an item of an array with another item put: the item, and twice the array's own
+item_put : spread (select (put (atom LongArray 3 0) p s) p) ≡ 4
+unfolding s p
+item_put = refl
+
+truths_compared : spread (same c c) ≡ 4
+unfolding c
+truths_compared = refl
+
+one_cancelled : norm (sub (add s p) p) ≡ normal.Scalar (number_form (product_and (power_and (variable Long 3 1) 1 no_powers) 1 no_products))
 unfolding s p
 one_cancelled = refl
 
-least_number_twice : norm (add (number (negsuc 9223372036854775807)) (number (negsuc 9223372036854775807))) ≡ normal.Polynomial []
+least_number_twice : norm (add (number (negsuc 9223372036854775807)) (number (negsuc 9223372036854775807))) ≡ normal.Scalar (number_form no_products)
 least_number_twice = refl
 
-like_gathered : norm (sub (number (pos 1)) (add (add s p) s)) ≡ normal.Polynomial ((monomial.One, 1) ∷ (monomial.Atom 1 0, 18446744073709551615) ∷ (monomial.Atom 3 1, 18446744073709551614) ∷ [])
-unfolding s p
-like_gathered = refl
+squared : norm (mul s s) ≡ normal.Scalar (number_form (product_and (power_and (variable Long 3 1) 2 no_powers) 1 no_products))
+unfolding s
+squared = refl
 
-twice : coefficient (add s (add p s)) (monomial.Atom 3 1) ≡ pos 2
-unfolding s p
-twice = refl
+truth_once : norm (and c c) ≡ normal.Scalar (truth_form (product_and (power_and (variable Truth 2 0) 1 no_powers) 1 no_products))
+unfolding c
+truth_once = refl
 
-pointer : norm (atom Pointer 1 0) ≡ normal.Atom Pointer 1 0
+wrapped_away : norm (mul (number (pos 2)) (mul (number (pos 4611686018427387904)) (mul (number (pos 2)) s))) ≡ normal.Scalar (number_form no_products)
+unfolding s
+wrapped_away = refl
+
+same_branches : norm (choose c p p) ≡ normal.Scalar (number_form (product_and (power_and (variable Long 1 0) 1 no_powers) 1 no_products))
+unfolding c p
+same_branches = refl
+
+-- what the receiver's first field holds at the start, and the receiver
+q : PlainTerm
+q = atom Pointer 3 0
+
+this : PlainTerm
+this = atom Pointer 0 0
+
+pointer : norm q ≡ normal.Scalar (pointer_form (pointer_part (variable Pointer 3 0)))
+unfolding q
 pointer = refl
+
+receiver_is_no_null : norm (same this null) ≡ normal.Scalar (truth_form no_products)
+unfolding this
+receiver_is_no_null = refl
+
+itself : norm (same q q) ≡ norm (truth true)
+unfolding q
+itself = refl
+
+either_order : norm (same q null) ≡ norm (same null q)
+unfolding q
+either_order = refl
+
+no_choice_left : norm (choose (truth false) q null) ≡ norm null
+unfolding q
+no_choice_left = refl
+
+rounded_to_zero : norm (divide (number (negsuc 6)) (pos 2)) ≡ norm (number (negsuc 2))
+rounded_to_zero = refl
+
+sign_of_the_dividend : norm (remainder (number (negsuc 6)) (pos 2)) ≡ norm (number (negsuc 0))
+sign_of_the_dividend = refl
+
+least_number_divided : norm (divide (number (negsuc 9223372036854775807)) (negsuc 0)) ≡ norm (number (negsuc 9223372036854775807))
+least_number_divided = refl
+
+not_less_than_itself : norm (less s (add s (number (pos 0)))) ≡ norm (truth false)
+unfolding s
+not_less_than_itself = refl
 
 -- each atom stands for its number in its group
 numbered : Valuation

@@ -1,7 +1,12 @@
 pub mod Examples
 pub mod Words
+pub mod Operations
+pub mod Monomials
+pub mod Rules
 pub mod Polynomials
 pub mod Valuations
 pub mod Values
+pub mod Pointers
+pub mod Quotients
 pub mod Shapes
 pub mod Counts

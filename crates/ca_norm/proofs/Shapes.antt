@@ -6,6 +6,9 @@ use Rattle.ca_forms.specs.declared.sort.Sort.{Sort}
 use Rattle.ca_norm.specs.declared.term.Term.{Term, Row_of-Term, end_of-Term, more_of-Term, items-the_row-Term, items_hidden-the_row-Term-0}
 use Rattle.ca_norm.specs.declared.term.Term.TheBlock.{hidden-the_row-Term-0}
 use Rattle.ca_norm.specs.declared.term.Term.TheVariants as term
+use Rattle.ca_forms.specs.Plain.{scalar_and}
+use Rattle.ca_forms.specs.Lists.{scalars_of}
+use Rattle.ca_norm.specs.Forms.{scalar_of, arguments_of}
 use Rattle.ca_norm.specs.Terms.{PlainTerm, result, term_and, shape, row_shape, terms_of}
 use Rattle.ca_norm.specs.Weights.{spread, spreads, nodes, all_nodes, depth, most_depth}
 
@@ -35,3 +38,7 @@ nodes_more (u ∷ ts) t = omega (arith, nodes_more ts t)
 pub depth_more : (ts : List PlainTerm) (t : PlainTerm) → most_depth (terms_of (ts ++ t ∷ [])) ≡ max (most_depth (terms_of ts)) (depth t)
 depth_more [] t = omega arith
 depth_more (u ∷ ts) t = omega (arith, depth_more ts t)
+
+pub arguments_forms : (ts : List PlainTerm) → scalars_of (map scalar_of ts) ≡ arguments_of (terms_of ts)
+arguments_forms [] = refl
+arguments_forms (t ∷ ts) = ap (scalar_and (scalar_of t)) (arguments_forms ts)

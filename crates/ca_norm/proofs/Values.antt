@@ -1,111 +1,252 @@
 -- A normal form means what its term means.
-use Rattle.std.proofs.Common.{◌≡◌, ℕ, ◌+◌, ◌-◌, ◌*◌, ◌^◌, [], ◌∷◌, pos, ◌+ℤ◌, ◌-ℤ◌, ◌*ℤ◌, FitsSigned, refl, sym, ap, ap₂, ◌∙◌, arith, subst, w64, of_z}
-use Rattle.std.specs.Int.{int_wrap}
-use Rattle.std.proofs.lemmas.Int.{SFits-int_wrap, int_wrap_fits}
-use Rattle.ca_tree.specs.declared.tree.BinaryOp.TheVariants.{Plus, Minus}
+use Rattle.std.proofs.Common.{◌≡◌, ℕ, ◌+◌, ◌-◌, ◌*◌, ◌%◌, ◌^◌, ◌<◌, ◌++◌, ◌∷◌, Bool, true, false, refl, sym, ap, ap₂, ◌∙◌, arith, subst, w64, of_z, to_z}
+use Rattle.std.specs.Prelude.{nat_eq}
+use Rattle.ca_tree.specs.declared.tree.BinaryOp.TheVariants as op
+use Rattle.ca_tree.specs.declared.tree.UnaryOp.TheVariants as sign
 use Rattle.ca_model.specs.declared.value.Value.{Value as Datum}
 use Rattle.ca_model.specs.declared.value.Value.TheVariants as datum
-use Rattle.ca_forms.specs.Order.{monomial_cmp}
 use Rattle.ca_forms.specs.declared.sort.Sort.{Sort}
-use Rattle.ca_forms.specs.declared.sort.Sort.TheVariants.{Long, Bool, Pointer, LongArray, BoolArray, PointerArray}
-use Rattle.ca_forms.specs.declared.form.Monomial.{Monomial}
-use Rattle.ca_forms.specs.declared.form.Monomial.TheVariants as monomial
-use Rattle.ca_sums.specs.Sums.{Sum, total, Alike, scale, collect}
-use Rattle.ca_norm.specs.Terms.{PlainTerm, number, null, atom, add, sub, sort_of, IsSorted, LiteralsFit}
-use Rattle.ca_norm.specs.Forms.{expand, norm}
-use Rattle.ca_norm.specs.Meanings.{operate, IsOfSort, Valuation, mean, number_of, monomial_value, polynomial_value, form_mean}
+use Rattle.ca_forms.specs.declared.sort.Sort.TheVariants.{Long, Bool as Truth, Pointer, LongArray, BoolArray, PointerArray}
+use Rattle.ca_forms.specs.Plain.{PlainPolynomial, PlainMonomial, variable, field_of, item_of, result_of}
+use Rattle.ca_forms.specs.Products.{times}
+use Rattle.ca_forms.specs.Rules.{truth_sum, minus, gathered, less_sum}
+use Rattle.ca_sums.specs.Sums.{Sum, total, Alike, scale}
+use Rattle.ca_sums.specs.Products.{product}
 use Rattle.ca_sums.proofs.Algebra.{alike_refl, alike_eq, alike_sym, alike_trans, alike_add, alike_mul, total_append, total_scale}
-use Rattle.ca_sums.proofs.Collect.{total_collect}
-use Rattle.ca_forms.proofs.Monomials.{monomials_exact}
-use Rattle.ca_norm.proofs.Words.{word, word_fits, word_wrap, word_pos, word_add, word_sub, word_times, word_same}
-use Rattle.ca_norm.proofs.Polynomials.{norm_number}
-
-long_is : (d : Datum) → IsOfSort Long d → d ≡ datum.Long (number_of d)
-long_is (datum.Long n) h = refl
-long_is (datum.Bool b) h = absurd h
-long_is datum.Null h = absurd h
-long_is (datum.Ref r) h = absurd h
-
-long_fits : (d : Datum) → IsOfSort Long d → FitsSigned w64 (number_of d)
-long_fits (datum.Long n) h = h
-long_fits (datum.Bool b) h = absurd h
-long_fits datum.Null h = absurd h
-long_fits (datum.Ref r) h = absurd h
+use Rattle.ca_norm.specs.Terms.{PlainTerm, PlainTerms, number, truth, null, atom, add, sub, neg, mul, divide, remainder, less, less_equal, same, not, and, or, choose, read, read_at, result, no_terms, term_and, sort_of, IsWord, IsScalar, IsOf, AreSorted}
+use Rattle.ca_norm.specs.Forms.{expand, pointer_of, arguments_of, same_sum, scalar_at, array_of, form_at, norm}
+use Rattle.ca_meaning.specs.Operators.{signed, same_value}
+use Rattle.ca_norm.specs.Meanings.{Valuation, IsOfSort, operate, chosen, mean, means as means_all, bit, word_of, number_in, truth_in, polynomial_value, monomial_value, pointer_mean, scalar_mean, scalars_mean, form_mean}
+use Rattle.ca_norm.proofs.Words.{word, word_fits, word_small}
+use Rattle.ca_norm.proofs.Operations.{IsLong, IsTruth, IsTyped, sort_typed, wrapped, chosen_typed, sum_word, difference_word, product_word, minus_word, back, less_word, not_more_word, same_word, not_word, and_word, or_word, same_truth_word, chosen_word}
+use Rattle.ca_norm.proofs.Rules.{gathered_value, alone_value, truth_value, less_value, zero_value, quotient_value, modulus_value, product_value, minus_value, equal_words}
+use Rattle.ca_norm.proofs.Pointers.{same_pointers_value, chosen_pointer_means}
+use Rattle.ca_norm.proofs.Quotients.{quotient_typed, remainder_typed, quotient_word, remainder_word}
 
 times_one : (k : ℕ) → k ≡ k * 1 + 0
 times_one k = omega arith
 
-once : (k : ℕ) → k ≡ 1 * k + 0
-once k = omega arith
+bit_small : (b : Bool) → bit b % (2 ^ 64) ≡ bit b
+bit_small true = refl
+bit_small false = refl
+
+bit_one : (b : Bool) → nat_eq (bit b) 1 ≡ b
+bit_one true = refl
+bit_one false = refl
+
+-- whether two pointers are equal
+pointers_equal : (d e : Datum) → IsOfSort Pointer d → IsOfSort Pointer e → operate op.Equal d e ≡ datum.Bool (same_value d e)
+pointers_equal (datum.Long n) e g h = absurd g
+pointers_equal (datum.Bool b) e g h = absurd g
+pointers_equal datum.Null (datum.Long n) g h = absurd h
+pointers_equal datum.Null (datum.Bool b) g h = absurd h
+pointers_equal datum.Null datum.Null g h = refl
+pointers_equal datum.Null (datum.Ref r) g h = refl
+pointers_equal (datum.Ref q) (datum.Long n) g h = absurd h
+pointers_equal (datum.Ref q) (datum.Bool b) g h = absurd h
+pointers_equal (datum.Ref q) datum.Null g h = refl
+pointers_equal (datum.Ref q) (datum.Ref r) g h = refl
 
 module _ (v : Valuation) where
-  atom_sorted : (sort : Sort) (group n : ℕ) → sort ≡ Long → IsOfSort Long (v.value sort group n)
-  atom_sorted sort group n e = subst (λ s. IsOfSort s (v.value sort group n)) e (v.sorted sort group n)
+  same_typed : (s : Sort) (a b : PlainTerm) → IsScalar s → IsTyped s (mean v a) → IsTyped s (mean v b) → IsTruth (operate op.Equal (mean v a) (mean v b))
+  same_typed Long a b w g h = record { truth = _; is = ap₂ (operate op.Equal) g.is h.is }
+  same_typed Truth a b w g h = record { truth = _; is = ap₂ (operate op.Equal) g.is h.is }
+  same_typed Pointer a b w g h = record { truth = _; is = pointers_equal (mean v a) (mean v b) g h }
+  same_typed s a b w g h = absurd w
 
-  -- the word of each monomial
-  abbrev words : Monomial → ℕ
-  words m = word (monomial_value v m)
+  abbrev worth : Sum PlainMonomial → ℕ
+  worth ps = total (monomial_value v) ps
 
-  value_is : (ps : Sum Monomial) → Alike (word (polynomial_value v ps)) (total words ps)
-  value_is [] = alike_eq (word_pos 0)
-  value_is (p ∷ ps) =
-      alike_trans (word_add (pos p.1 *ℤ monomial_value v p.0) (polynomial_value v ps)) (alike_add (word_times p.1 (monomial_value v p.0)) (value_is ps))
+  pub typed : (s : Sort) (t : PlainTerm) → IsOf s t → IsTyped s (mean v t)
+  typed s (number n) i = subst (λ z. IsTyped z (datum.Long n)) (sym i.0) (record { number = n; fits = i.1; is = refl })
+  typed s (truth b) i = subst (λ z. IsTyped z (datum.Bool b)) (sym i) (record { truth = b; is = refl })
+  typed s null i = subst (λ z. IsTyped z datum.Null) (sym i) tt
+  typed s (atom r g n) i = sort_typed s _ (subst (λ z. IsOfSort z (v.value r g n)) i (v.sorted r g n))
+  typed s (add a b) i = subst (λ z. IsTyped z (mean v (add a b))) (sym i.0) (let g = typed Long a i.1 in let h = typed Long b i.2 in wrapped _ _ (ap₂ (operate op.Plus) g.is h.is))
+  typed s (sub a b) i = subst (λ z. IsTyped z (mean v (sub a b))) (sym i.0) (let g = typed Long a i.1 in let h = typed Long b i.2 in wrapped _ _ (ap₂ (operate op.Minus) g.is h.is))
+  typed s (neg a) i = subst (λ z. IsTyped z (mean v (neg a))) (sym i.0) (let g = typed Long a i.1 in wrapped _ _ (ap (signed sign.Minus) g.is))
+  typed s (mul a b) i = subst (λ z. IsTyped z (mean v (mul a b))) (sym i.0) (let g = typed Long a i.1 in let h = typed Long b i.2 in wrapped _ _ (ap₂ (operate op.Times) g.is h.is))
+  typed s (divide a n) i = subst (λ z. IsTyped z (mean v (divide a n))) (sym i.0) (quotient_typed (mean v a) n (typed Long a i.1) i.3)
+  typed s (remainder a n) i = subst (λ z. IsTyped z (mean v (remainder a n))) (sym i.0) (remainder_typed (mean v a) n (typed Long a i.1) i.2 i.3)
+  typed s (less a b) i = subst (λ z. IsTyped z (mean v (less a b))) (sym i.0) (let g = typed Long a i.1 in let h = typed Long b i.2 in record { truth = _; is = ap₂ (operate op.Less) g.is h.is })
+  typed s (less_equal a b) i = subst (λ z. IsTyped z (mean v (less_equal a b))) (sym i.0) (let g = typed Long a i.1 in let h = typed Long b i.2 in record { truth = _; is = ap₂ (operate op.LessEqual) g.is h.is })
+  typed s (same a b) i = subst (λ z. IsTyped z (mean v (same a b))) (sym i.0) (same_typed (sort_of a) a b i.1 (typed (sort_of a) a i.2) (typed (sort_of a) b i.3))
+  typed s (not a) i = subst (λ z. IsTyped z (mean v (not a))) (sym i.0) (let g = typed Truth a i.1 in record { truth = _; is = ap (signed sign.Not) g.is })
+  typed s (and a b) i = subst (λ z. IsTyped z (mean v (and a b))) (sym i.0) (let g = typed Truth a i.1 in let h = typed Truth b i.2 in record { truth = _; is = ap₂ (operate op.And) g.is h.is })
+  typed s (or a b) i = subst (λ z. IsTyped z (mean v (or a b))) (sym i.0) (let g = typed Truth a i.1 in let h = typed Truth b i.2 in record { truth = _; is = ap₂ (operate op.Or) g.is h.is })
+  typed s (choose c a b) i = chosen_typed s (mean v c) (mean v a) (mean v b) (typed Truth c i.1) (typed s a i.2) (typed s b i.3)
+  typed s (read r p c f) i = sort_typed s _ (subst (λ z. IsOfSort z (v.read r (mean v p) c f)) i.0 (v.read_sorted r (mean v p) c f))
+  typed s (read_at r p c f j) i = sort_typed s _ (subst (λ z. IsOfSort z (v.read_at r (mean v p) c f (mean v j))) i.0 (v.read_at_sorted r (mean v p) c f (mean v j)))
+  typed s (result r m p ts) i = sort_typed s _ (subst (λ z. IsOfSort z (v.result r m (mean v p) (means_all v ts))) i.0 (v.result_sorted r m (mean v p) (means_all v ts)))
+  typed s t i = absurd i
 
-  -- a number means a number
-  number_is : (t : PlainTerm) → sort_of t ≡ Long → IsSorted t → mean v t ≡ datum.Long (number_of (mean v t))
-  number_is (number n) e s = refl
-  number_is null e s = absurd cc
-  number_is (atom sort group n) e s = long_is (v.value sort group n) (atom_sorted sort group n e)
-  number_is (add a b) e s = rw (number_is a s.0 s.2, number_is b s.1 s.3) refl
-  number_is (sub a b) e s = rw (number_is a s.0 s.2, number_is b s.1 s.3) refl
-  number_is t e s = absurd s
+  -- what a gathered sum is worth
+  given : (t : PlainTerm) → Alike (word_of (mean v t)) (worth (expand t)) → Alike (polynomial_value v (gathered (expand t))) (word_of (mean v t))
+  given t h = alike_trans (gathered_value v (expand t)) (alike_sym h)
 
-  sum_is : (a b : PlainTerm) → IsSorted (add a b) → number_of (mean v (add a b)) ≡ int_wrap w64 (number_of (mean v a) +ℤ number_of (mean v b))
-  sum_is a b s = ap₂ (λ x y. number_of (operate Plus x y)) (number_is a s.0 s.2) (number_is b s.1 s.3)
+  apart : (a b : PlainTerm) → Alike (word_of (mean v a)) (worth (expand a)) → Alike (word_of (mean v b)) (worth (expand b)) → Alike (polynomial_value v (gathered (expand a ++ minus (expand b)))) (word_of (mean v a) + (2 ^ 64 - 1) * word_of (mean v b))
+  apart a b h k = alike_trans (gathered_value v (expand a ++ minus (expand b))) (alike_trans (alike_eq (minus_value v (expand a) (expand b))) (alike_add (alike_sym h) (alike_mul (alike_refl (2 ^ 64 - 1)) (alike_sym k))))
 
-  difference_is : (a b : PlainTerm) → IsSorted (sub a b) → number_of (mean v (sub a b)) ≡ int_wrap w64 (number_of (mean v a) -ℤ number_of (mean v b))
-  difference_is a b s = ap₂ (λ x y. number_of (operate Minus x y)) (number_is a s.0 s.2) (number_is b s.1 s.3)
+  small : (d : Datum) → IsLong d → word_of d < 2 ^ 64
+  small d g = subst (λ z. word_of z < 2 ^ 64) (sym g.is) (word_small g.number)
 
-  fits : (t : PlainTerm) → sort_of t ≡ Long → IsSorted t → LiteralsFit t → FitsSigned w64 (number_of (mean v t))
-  fits (number n) e s f = f
-  fits null e s f = absurd cc
-  fits (atom sort group n) e s f = long_fits (v.value sort group n) (atom_sorted sort group n e)
-  fits (add a b) e s f = subst (FitsSigned w64) (sym (sum_is a b s)) (SFits-int_wrap w64 (number_of (mean v a) +ℤ number_of (mean v b)))
-  fits (sub a b) e s f = subst (FitsSigned w64) (sym (difference_is a b s)) (SFits-int_wrap w64 (number_of (mean v a) -ℤ number_of (mean v b)))
-  fits t e s f = absurd s
+  -- as a word, for a number or a truth value
+  abbrev IsWorth : Sort → PlainTerm → Type 0
+  IsWorth s t = IsWord s → Alike (word_of (mean v t)) (worth (expand t))
 
-  mean_is : (t : PlainTerm) → sort_of t ≡ Long → IsSorted t → LiteralsFit t → Alike (word (number_of (mean v t))) (total words (expand t))
-  mean_is (number n) e s f = alike_eq (word_fits n f ∙ times_one (of_z w64 n) ∙ ap (λ k. of_z w64 n * k + 0) (sym (word_pos 1)))
-  mean_is null e s f = absurd cc
-  mean_is (atom sort group n) e s f = alike_eq (ap (λ r. word (number_of (v.value r group n))) e ∙ once (words (monomial.Atom group n)))
-  mean_is (add a b) e s f =
-      alike_trans (alike_eq (ap word (sum_is a b s) ∙ word_wrap (number_of (mean v a) +ℤ number_of (mean v b)))) (alike_trans (word_add (number_of (mean v a)) (number_of (mean v b)))
-      (alike_trans (alike_add (mean_is a s.0 s.2 f.0) (mean_is b s.1 s.3 f.1)) (alike_eq (sym (total_append words (expand a) (expand b))))))
-  mean_is (sub a b) e s f =
-      alike_trans (alike_eq (ap word (difference_is a b s) ∙ word_wrap (number_of (mean v a) -ℤ number_of (mean v b)))) (alike_trans (word_sub (number_of (mean v a)) (number_of (mean v b)))
-      (alike_trans (alike_add (mean_is a s.0 s.2 f.0) (alike_mul (alike_refl (2 ^ 64 - 1)) (mean_is b s.1 s.3 f.1)))
-      (alike_eq (ap (λ z. total words (expand a) + z) (sym (total_scale words (2 ^ 64 - 1) (expand b))) ∙ sym (total_append words (expand a) (scale (2 ^ 64 - 1) (expand b)))))))
-  mean_is t e s f = absurd s
+  -- as a pointer
+  abbrev Points : Sort → PlainTerm → Type 0
+  Points s t = s ≡ Pointer → pointer_mean v (pointer_of t) ≡ mean v t
 
-  number_means : (t : PlainTerm) → sort_of t ≡ Long → IsSorted t → LiteralsFit t → form_mean v (norm t) ≡ mean v t
-  number_means t e s f =
-      let ps : Sum Monomial = collect monomial_cmp (expand t) in
-      let same : Alike (word (polynomial_value v ps)) (word (number_of (mean v t))) = alike_trans (value_is ps) (alike_trans (total_collect monomial_cmp monomials_exact words (expand t)) (alike_sym (mean_is t e s f))) in
-      ap (form_mean v) (norm_number t e) ∙ ap datum.Long (word_same (polynomial_value v ps) (number_of (mean v t)) same ∙ int_wrap_fits w64 (number_of (mean v t)) (fits t e s f)) ∙ sym (number_is t e s)
+  same_means : (s : Sort) (a b : PlainTerm) → IsScalar s → IsTyped s (mean v a) → IsTyped s (mean v b) → IsWorth s a → IsWorth s b → Points s a → Points s b → Alike (word_of (operate op.Equal (mean v a) (mean v b))) (worth (same_sum s (expand a) (expand b) (pointer_of a) (pointer_of b)))
+  same_means Long a b w g h i j k l =
+      let x : ℕ = word_of (mean v a) in
+      let y : ℕ = word_of (mean v b) in
+      let f : PlainPolynomial = gathered (expand a ++ minus (expand b)) in
+      let one : nat_eq x y ≡ nat_eq (polynomial_value v f % (2 ^ 64)) 0 = equal_words x y (small (mean v a) g) (small (mean v b) h) ∙ ap (λ z. nat_eq z 0) (sym (apart a b (i tt) (j tt)).alike) in
+      alike_eq (same_word (mean v a) (mean v b) g h ∙ ap bit one ∙ sym (zero_value v f))
+  same_means Truth a b w g h i j k l =
+      let ps : Sum PlainMonomial = expand a in
+      let qs : Sum PlainMonomial = expand b in
+      let parts : worth (minus ps ++ (minus qs ++ scale 2 (product times ps qs))) ≡ (2 ^ 64 - 1) * worth ps + ((2 ^ 64 - 1) * worth qs + 2 * worth (product times ps qs)) =
+          total_append (monomial_value v) (minus ps) (minus qs ++ scale 2 (product times ps qs)) ∙ ap₂ (λ m n. m + n) (total_scale (monomial_value v) (2 ^ 64 - 1) ps) (total_append (monomial_value v) (minus qs) (scale 2 (product times ps qs)) ∙ ap₂ (λ m n. m + n) (total_scale (monomial_value v) (2 ^ 64 - 1) qs) (total_scale (monomial_value v) 2 (product times ps qs))) in
+      let inner : Alike (word_of (mean v a) * word_of (mean v b)) (worth (product times ps qs)) = alike_trans (alike_mul (i tt) (j tt)) (alike_sym (product_value v ps qs)) in
+      alike_trans (same_truth_word (mean v a) (mean v b) g h) (alike_trans (alike_add (alike_refl 1) (alike_add (alike_mul (alike_refl (2 ^ 64 - 1)) (i tt)) (alike_add (alike_mul (alike_refl (2 ^ 64 - 1)) (j tt)) (alike_mul (alike_refl 2) inner))))
+      (alike_eq (ap (λ z. 1 + z) (sym parts) ∙ sym (total_append (monomial_value v) (truth_sum true) (minus ps ++ (minus qs ++ scale 2 (product times ps qs)))))))
+  same_means Pointer a b w g h i j k l =
+      let x : IsOfSort Pointer (pointer_mean v (pointer_of a)) = subst (IsOfSort Pointer) (sym (k refl)) g in
+      let y : IsOfSort Pointer (pointer_mean v (pointer_of b)) = subst (IsOfSort Pointer) (sym (l refl)) h in
+      alike_eq (ap word_of (pointers_equal (mean v a) (mean v b) g h) ∙ ap₂ (λ d e. bit (same_value d e)) (sym (k refl)) (sym (l refl)) ∙ sym (same_pointers_value v (pointer_of a) (pointer_of b) x y))
+  same_means s a b w g h i j k l = absurd w
 
-  pub means : (t : PlainTerm) → IsSorted t → LiteralsFit t → form_mean v (norm t) ≡ mean v t
-  means (number n) s f = number_means (number n) refl s f
-  means null s f = refl
-  means (atom Long group n) s f = number_means (atom Long group n) refl s f
-  means (atom Bool group n) s f = refl
-  means (atom Pointer group n) s f = refl
-  means (atom LongArray group n) s f = refl
-  means (atom BoolArray group n) s f = refl
-  means (atom PointerArray group n) s f = refl
-  means (add a b) s f = number_means (add a b) refl s f
-  means (sub a b) s f = number_means (sub a b) refl s f
-  means t s f = absurd s
+  number_given : (t : PlainTerm) → IsOf Long t → IsWorth Long t → number_in (polynomial_value v (gathered (expand t))) ≡ mean v t
+  number_given t i h =
+      let g = typed Long t i in
+      ap datum.Long (ap (to_z w64) ((given t (h tt)).alike ∙ ap (λ z. word_of z % (2 ^ 64)) g.is) ∙ back g.number g.fits) ∙ sym g.is
+
+  truth_word : (t : PlainTerm) (g : IsTruth (mean v t)) → IsWorth Truth t → polynomial_value v (gathered (expand t)) % (2 ^ 64) ≡ bit g.truth
+  truth_word t g h = (given t (h tt)).alike ∙ ap (λ z. word_of z % (2 ^ 64)) g.is ∙ bit_small g.truth
+
+  truth_given : (t : PlainTerm) (g : IsTruth (mean v t)) → IsWorth Truth t → truth_in (polynomial_value v (gathered (expand t))) ≡ datum.Bool g.truth
+  truth_given t g h = ap (λ z. datum.Bool (nat_eq z 1)) (truth_word t g h) ∙ ap datum.Bool (bit_one g.truth)
+
+  scalar_given : (s : Sort) (t : PlainTerm) → IsScalar s → IsOf s t → IsWorth s t → Points s t → scalar_mean v (scalar_at s (expand t) (pointer_of t)) ≡ mean v t
+  scalar_given Long t w i h k = number_given t i h
+  scalar_given Truth t w i h k = let g = typed Truth t i in truth_given t g h ∙ sym g.is
+  scalar_given Pointer t w i h k = k refl
+  scalar_given s t w i h k = absurd w
+
+
+  mutual
+    pub expand_means : (s : Sort) (t : PlainTerm) → IsWord s → IsOf s t → Alike (word_of (mean v t)) (worth (expand t))
+    expand_means s (number n) w i = alike_eq (word_fits n i.1 ∙ times_one (of_z w64 n))
+    expand_means s (truth b) w i = alike_eq (sym (truth_value v b))
+    expand_means s null w i = absurd (subst IsWord i w)
+    expand_means s (atom r g n) w i = alike_eq (sym (alone_value v (variable r g n)))
+    expand_means s (add a b) w i = alike_trans (sum_word (mean v a) (mean v b) (typed Long a i.1) (typed Long b i.2)) (alike_trans (alike_add (expand_means Long a tt i.1) (expand_means Long b tt i.2)) (alike_eq (sym (total_append (monomial_value v) (expand a) (expand b)))))
+    expand_means s (sub a b) w i = alike_trans (difference_word (mean v a) (mean v b) (typed Long a i.1) (typed Long b i.2)) (alike_trans (alike_add (expand_means Long a tt i.1) (alike_mul (alike_refl (2 ^ 64 - 1)) (expand_means Long b tt i.2))) (alike_eq (sym (minus_value v (expand a) (expand b)))))
+    expand_means s (neg a) w i = alike_trans (minus_word (mean v a) (typed Long a i.1)) (alike_trans (alike_mul (alike_refl (2 ^ 64 - 1)) (expand_means Long a tt i.1)) (alike_eq (sym (total_scale (monomial_value v) (2 ^ 64 - 1) (expand a)))))
+    expand_means s (mul a b) w i = alike_trans (product_word (mean v a) (mean v b) (typed Long a i.1) (typed Long b i.2)) (alike_trans (alike_mul (expand_means Long a tt i.1) (expand_means Long b tt i.2)) (alike_sym (product_value v (expand a) (expand b))))
+    expand_means s (divide a n) w i =
+        alike_eq (quotient_word (mean v a) n _ (typed Long a i.1) i.3 (given a (expand_means Long a tt i.1)) ∙ sym (quotient_value v (gathered (expand a)) n i.2))
+    expand_means s (remainder a n) w i =
+        alike_eq (remainder_word (mean v a) n _ (typed Long a i.1) i.2 i.3 (given a (expand_means Long a tt i.1)) ∙ sym (modulus_value v (gathered (expand a)) n i.2))
+    expand_means s (less a b) w i =
+        alike_eq (less_word (mean v a) (mean v b) _ _ (typed Long a i.1) (typed Long b i.2) (given a (expand_means Long a tt i.1)) (given b (expand_means Long b tt i.2)) ∙ sym (less_value v (gathered (expand a)) (gathered (expand b))))
+    expand_means s (less_equal a b) w i =
+        let f : PlainPolynomial = gathered (expand a) in
+        let g : PlainPolynomial = gathered (expand b) in
+        alike_trans (not_more_word (mean v a) (mean v b) _ _ (typed Long a i.1) (typed Long b i.2) (given a (expand_means Long a tt i.1)) (given b (expand_means Long b tt i.2)))
+        (alike_eq (ap (λ z. 1 + (2 ^ 64 - 1) * z) (sym (less_value v g f)) ∙ sym (minus_value v (truth_sum true) (less_sum g f))))
+    expand_means s (same a b) w i =
+        same_means (sort_of a) a b i.1 (typed (sort_of a) a i.2) (typed (sort_of a) b i.3) (λ u. expand_means (sort_of a) a u i.2) (λ u. expand_means (sort_of a) b u i.3) (λ e. pointer_means a (subst (λ z. IsOf z a) e i.2)) (λ e. pointer_means b (subst (λ z. IsOf z b) e i.3))
+    expand_means s (not a) w i = alike_trans (not_word (mean v a) (typed Truth a i.1)) (alike_trans (alike_add (alike_refl 1) (alike_mul (alike_refl (2 ^ 64 - 1)) (expand_means Truth a tt i.1))) (alike_eq (sym (minus_value v (truth_sum true) (expand a)))))
+    expand_means s (and a b) w i = alike_trans (alike_eq (and_word (mean v a) (mean v b) (typed Truth a i.1) (typed Truth b i.2))) (alike_trans (alike_mul (expand_means Truth a tt i.1) (expand_means Truth b tt i.2)) (alike_sym (product_value v (expand a) (expand b))))
+    expand_means s (or a b) w i =
+        let ps : Sum PlainMonomial = expand a in
+        let qs : Sum PlainMonomial = expand b in
+        let inner : Alike (word_of (mean v a) * word_of (mean v b)) (worth (product times ps qs)) = alike_trans (alike_mul (expand_means Truth a tt i.1) (expand_means Truth b tt i.2)) (alike_sym (product_value v ps qs)) in
+        alike_trans (or_word (mean v a) (mean v b) (typed Truth a i.1) (typed Truth b i.2)) (alike_trans (alike_add (expand_means Truth a tt i.1) (alike_add (expand_means Truth b tt i.2) (alike_mul (alike_refl (2 ^ 64 - 1)) inner)))
+        (alike_eq (ap (λ z. worth ps + z) (sym (minus_value v qs (product times ps qs))) ∙ sym (total_append (monomial_value v) ps (qs ++ minus (product times ps qs))))))
+    expand_means s (choose c a b) w i =
+        let one = expand_means s a w i.2 in
+        let other = expand_means s b w i.3 in
+        let inner : Alike (word_of (mean v c) * (word_of (mean v a) + (2 ^ 64 - 1) * word_of (mean v b))) (worth (product times (expand c) (expand a ++ minus (expand b)))) =
+            alike_trans (alike_mul (expand_means Truth c tt i.1) (alike_trans (alike_add one (alike_mul (alike_refl (2 ^ 64 - 1)) other)) (alike_eq (sym (minus_value v (expand a) (expand b)))))) (alike_sym (product_value v (expand c) (expand a ++ minus (expand b)))) in
+        alike_trans (chosen_word (mean v c) (mean v a) (mean v b) (typed Truth c i.1)) (alike_trans (alike_add other inner) (alike_eq (sym (total_append (monomial_value v) (expand b) (product times (expand c) (expand a ++ minus (expand b)))))))
+    expand_means s (read r p c f) w i = alike_eq (sym (alone_value v (field_of r (pointer_of p) c f) ∙ ap (λ z. word_of (v.read r z c f)) (pointer_means p i.2)))
+    expand_means s (read_at r p c f j) w i =
+        alike_eq (sym (alone_value v (item_of r (pointer_of p) c f (gathered (expand j))) ∙ ap₂ (λ y z. word_of (v.read_at r y c f z)) (pointer_means p i.2) (number_given j i.3 (λ u. expand_means Long j u i.3))))
+    expand_means s (result r m p ts) w i =
+        alike_eq (sym (alone_value v (result_of r m (pointer_of p) (arguments_of ts)) ∙ ap₂ (λ y z. word_of (v.result r m y z)) (pointer_means p i.2) (arguments_mean ts i.3)))
+    expand_means s t w i = absurd i
+
+    pub pointer_means : (t : PlainTerm) → IsOf Pointer t → pointer_mean v (pointer_of t) ≡ mean v t
+    pointer_means null i = refl
+    pointer_means (atom r g n) i = refl
+    pointer_means (choose c a b) i =
+        let g = typed Truth c i.1 in
+        let h : IsWorth Truth c = λ u. expand_means Truth c u i.1 in
+        chosen_pointer_means v (gathered (expand c)) (pointer_of a) (pointer_of b) g.truth (truth_word c g h) (truth_given c g h) ∙ ap₂ (chosen (datum.Bool g.truth)) (pointer_means a i.2) (pointer_means b i.3) ∙ ap (λ z. chosen z (mean v a) (mean v b)) (sym g.is)
+    pointer_means (read r p c f) i = ap (λ z. v.read r z c f) (pointer_means p i.2)
+    pointer_means (read_at r p c f j) i = ap₂ (λ y z. v.read_at r y c f z) (pointer_means p i.2) (number_given j i.3 (λ u. expand_means Long j u i.3))
+    pointer_means (result r m p ts) i = ap₂ (λ y z. v.result r m y z) (pointer_means p i.2) (arguments_mean ts i.3)
+    pointer_means (number n) i = absurd (subst IsWord (sym i.0) tt)
+    pointer_means (truth b) i = absurd (subst IsWord (sym i) tt)
+    pointer_means (add a b) i = absurd (subst IsWord (sym i.0) tt)
+    pointer_means (sub a b) i = absurd (subst IsWord (sym i.0) tt)
+    pointer_means (neg a) i = absurd (subst IsWord (sym i.0) tt)
+    pointer_means (mul a b) i = absurd (subst IsWord (sym i.0) tt)
+    pointer_means (divide a n) i = absurd (subst IsWord (sym i.0) tt)
+    pointer_means (remainder a n) i = absurd (subst IsWord (sym i.0) tt)
+    pointer_means (less a b) i = absurd (subst IsWord (sym i.0) tt)
+    pointer_means (less_equal a b) i = absurd (subst IsWord (sym i.0) tt)
+    pointer_means (same a b) i = absurd (subst IsWord (sym i.0) tt)
+    pointer_means (not a) i = absurd (subst IsWord (sym i.0) tt)
+    pointer_means (and a b) i = absurd (subst IsWord (sym i.0) tt)
+    pointer_means (or a b) i = absurd (subst IsWord (sym i.0) tt)
+    pointer_means t i = absurd i
+
+    arguments_mean : (ts : PlainTerms) → AreSorted ts → scalars_mean v (arguments_of ts) ≡ means_all v ts
+    arguments_mean no_terms i = refl
+    arguments_mean (term_and t ts) i =
+        ap₂ (λ x xs. x ∷ xs) (scalar_given (sort_of t) t i.0 i.1 (λ u. expand_means (sort_of t) t u i.1) (λ e. pointer_means t (subst (λ z. IsOf z t) e i.1))) (arguments_mean ts i.2)
+
+  -- an array is an atom
+  array_means : (s : Sort) (t : PlainTerm) → (IsScalar s → ⊥) → IsOf s t → form_mean v (array_of t) ≡ mean v t
+  array_means s (atom r g n) h i = refl
+  array_means s null h i = absurd (h (subst IsScalar (sym i) tt))
+  array_means s (number n) h i = absurd (h (subst IsScalar (sym i.0) tt))
+  array_means s (truth b) h i = absurd (h (subst IsScalar (sym i) tt))
+  array_means s (add a b) h i = absurd (h (subst IsScalar (sym i.0) tt))
+  array_means s (sub a b) h i = absurd (h (subst IsScalar (sym i.0) tt))
+  array_means s (neg a) h i = absurd (h (subst IsScalar (sym i.0) tt))
+  array_means s (mul a b) h i = absurd (h (subst IsScalar (sym i.0) tt))
+  array_means s (divide a n) h i = absurd (h (subst IsScalar (sym i.0) tt))
+  array_means s (remainder a n) h i = absurd (h (subst IsScalar (sym i.0) tt))
+  array_means s (less a b) h i = absurd (h (subst IsScalar (sym i.0) tt))
+  array_means s (less_equal a b) h i = absurd (h (subst IsScalar (sym i.0) tt))
+  array_means s (same a b) h i = absurd (h (subst IsScalar (sym i.0) tt))
+  array_means s (not a) h i = absurd (h (subst IsScalar (sym i.0) tt))
+  array_means s (and a b) h i = absurd (h (subst IsScalar (sym i.0) tt))
+  array_means s (or a b) h i = absurd (h (subst IsScalar (sym i.0) tt))
+  array_means s (choose c a b) h i = absurd (h i.0)
+  array_means s (read r p c f) h i = absurd (h (subst IsScalar i.0 i.1))
+  array_means s (read_at r p c f j) h i = absurd (h (subst IsScalar i.0 i.1))
+  array_means s (result r m p ts) h i = absurd (h (subst IsScalar i.0 i.1))
+  array_means s t h i = absurd i
+
+  means_at : (s : Sort) (t : PlainTerm) → IsOf s t → form_mean v (form_at s t) ≡ mean v t
+  means_at Long t i = number_given t i (λ u. expand_means Long t u i)
+  means_at Truth t i = let g = typed Truth t i in truth_given t g (λ u. expand_means Truth t u i) ∙ sym g.is
+  means_at Pointer t i = pointer_means t i
+  means_at LongArray t i = array_means LongArray t (λ w. w) i
+  means_at BoolArray t i = array_means BoolArray t (λ w. w) i
+  means_at PointerArray t i = array_means PointerArray t (λ w. w) i
+
+  pub means : (t : PlainTerm) → IsOf (sort_of t) t → form_mean v (norm t) ≡ mean v t
+  means t i = means_at (sort_of t) t i
 
   -- terms of one form mean the same
-  pub same_forms : (t u : PlainTerm) → IsSorted t → IsSorted u → LiteralsFit t → LiteralsFit u → norm t ≡ norm u → mean v t ≡ mean v u
-  same_forms t u s r f g e = sym (means t s f) ∙ ap (form_mean v) e ∙ means u r g
+  pub same_forms : (t u : PlainTerm) → IsOf (sort_of t) t → IsOf (sort_of u) u → norm t ≡ norm u → mean v t ≡ mean v u
+  same_forms t u i j e = sym (means t i) ∙ ap (form_mean v) e ∙ means u j

@@ -3,7 +3,7 @@ use Rattle.std.proofs.Common.{rules, ◌≡◌, ℕ, ◌+◌, ◌-◌, ◌*◌, 
 use Rattle.std.specs.Int.{int_wrap}
 use Rattle.std.proofs.lemmas.Int.{SFits-int_wrap, int_wrap_fits, to_z-of_z, of_z-to_z, wrapping_add-bits, wrapping_sub-bits, wrapping_mul-bits, int_wrap-add_left, int_wrap-add_right, int_wrap-sub_right, int_wrap-mul_left, int_wrap-mul_right}
 use Rattle.ca_sums.specs.Sums.{Alike}
-use Rattle.ca_sums.proofs.Algebra.{alike_refl, alike_eq, alike_trans, alike_mul, alike_mod}
+use Rattle.ca_sums.proofs.Algebra.{alike_eq, alike_trans, alike_mod}
 
 abbrev pub word : ℤ → ℕ
 word z = of_z w64 (int_wrap w64 z)
@@ -49,17 +49,10 @@ fit_mul a b f g =
     let e : int_wrap w64 (a *ℤ b) ≡ to_z w64 ((of_z w64 a * of_z w64 b) % (2 ^ 64)) = ap₂ (λ x y. int_wrap w64 (x *ℤ y)) (sym (to_z-of_z w64 a f)) (sym (to_z-of_z w64 b g)) ∙ sym (wrapping_mul-bits w64 (of_z w64 a) (of_z w64 b) (small a f) (small b g)) in
     alike_trans (alike_eq (ap (of_z w64) e ∙ of_z-to_z w64 ((of_z w64 a * of_z w64 b) % (2 ^ 64)) (mod-lt (of_z w64 a * of_z w64 b) (pow_pos 64)))) (alike_mod (of_z w64 a * of_z w64 b))
 
-pub word_times : (c : ℕ) (x : ℤ) → Alike (word (pos c *ℤ x)) (c * word x)
-word_times c x =
-    let e : int_wrap w64 (pos c *ℤ x) ≡ int_wrap w64 (int_wrap w64 (pos c) *ℤ int_wrap w64 x) = sym (int_wrap-mul_right w64 (int_wrap w64 (pos c)) x ∙ int_wrap-mul_left w64 (pos c) x) in
-    alike_trans (alike_eq (ap (of_z w64) e)) (alike_trans (fit_mul (int_wrap w64 (pos c)) (int_wrap w64 x) (SFits-int_wrap w64 (pos c)) (SFits-int_wrap w64 x)) (alike_mul (alike_trans (alike_eq (word_pos c)) (alike_mod c)) (alike_refl (word x))))
+pub word_mul : (a b : ℤ) → Alike (word (a *ℤ b)) (word a * word b)
+word_mul a b =
+    let e : int_wrap w64 (a *ℤ b) ≡ int_wrap w64 (int_wrap w64 a *ℤ int_wrap w64 b) = sym (int_wrap-mul_right w64 (int_wrap w64 a) b ∙ int_wrap-mul_left w64 a b) in
+    alike_trans (alike_eq (ap (of_z w64) e)) (fit_mul (int_wrap w64 a) (int_wrap w64 b) (SFits-int_wrap w64 a) (SFits-int_wrap w64 b))
 
-below_same : (m n : ℕ) → m < 2 ^ 64 → n < 2 ^ 64 → Alike m n → m ≡ n
-below_same m n p q h = omega (arith, h.alike)
-
--- integers that leave one word wrap round to one integer
-pub word_same : (a b : ℤ) → Alike (word a) (word b) → int_wrap w64 a ≡ int_wrap w64 b
-word_same a b h =
-    let fa : FitsSigned w64 (int_wrap w64 a) = SFits-int_wrap w64 a in
-    let fb : FitsSigned w64 (int_wrap w64 b) = SFits-int_wrap w64 b in
-    sym (to_z-of_z w64 (int_wrap w64 a) fa) ∙ ap (to_z w64) (below_same (word a) (word b) (small (int_wrap w64 a) fa) (small (int_wrap w64 b) fb) h) ∙ to_z-of_z w64 (int_wrap w64 b) fb
+pub word_small : (z : ℤ) → word z < 2 ^ 64
+word_small z = small (int_wrap w64 z) (SFits-int_wrap w64 z)

@@ -1,56 +1,111 @@
 -- The normal form of a term, and the formal polynomial that it shows.
-use Rattle.std.specs.Prelude.{◌≡◌, ℕ, ◌-◌, ◌^◌, [], ◌∷◌, ◌++◌, ℤ, pos, ◌+ℤ◌, ◌-ℤ◌, nat_eq, ◌&&◌, if◌then◌else◌}
-use Rattle.std.specs.Int.{int_wrap, cast_unsigned, w64}
+use Rattle.std.specs.Prelude.{◌≡◌, ℕ, ◌%◌, ◌^◌, [], ◌++◌}
+use Rattle.std.specs.Int.{cast_unsigned, w64}
 use Rattle.std.specs.List.Sorted.{IsStrictlySortedBy}
 use Rattle.std.specs.Map.{keys_of, lookup}
 use Rattle.std.specs.BTreeMap.{is_at}
 use Rattle.std.specs.Option.{unwrap_or}
 use Rattle.ca_forms.specs.declared.sort.Sort.{Sort}
-use Rattle.ca_forms.specs.declared.sort.Sort.TheVariants.{Long}
-use Rattle.ca_forms.specs.declared.form.Monomial.{Monomial}
-use Rattle.ca_forms.specs.declared.form.Monomial.TheVariants as monomial
+use Rattle.ca_forms.specs.declared.sort.Sort.TheVariants.{Long, Bool as Truth, Pointer}
 use Rattle.ca_forms.specs.declared.form.Normal.{Normal}
 use Rattle.ca_forms.specs.declared.form.Normal.TheVariants as normal
-use Rattle.ca_sums.specs.Sums.{Sum, scale, collect, NoZero}
-use Rattle.ca_norm.specs.Terms.{PlainTerm, number, atom, add, sub, sort_of}
-use Rattle.ca_forms.specs.Order.{monomial_cmp}
+use Rattle.ca_forms.specs.Plain.{PlainMonomial, PlainPointer, PlainScalar, PlainScalars, variable, field_of, item_of, result_of, no_object, pointer_part, number_form, truth_form, pointer_form, no_scalars, scalar_and}
+use Rattle.ca_forms.specs.Lists.{products_of}
+use Rattle.ca_forms.specs.Compare.{monomial_cmp}
+use Rattle.ca_forms.specs.Products.{times}
+use Rattle.ca_forms.specs.Rules.{alone, constant, truth_sum, minus, negated, either, chosen, gathered, less_sum, same_numbers, same_truths, same_pointers, quotient_sum, modulus_sum, chosen_pointer}
+use Rattle.ca_sums.specs.Sums.{Sum, total, is_tied, NoZero}
+use Rattle.ca_sums.specs.Products.{product}
+use Rattle.ca_norm.specs.Terms.{PlainTerm, PlainTerms, number, truth, atom, add, sub, neg, mul, divide, remainder, less, less_equal, same, not, and, or, choose, read, read_at, result, no_terms, term_and, sort_of}
 
--- A number as a sum of products, in the order in which they are written. Minus one is 2^64 - 1.
-abbrev pub expand : PlainTerm → Sum Monomial
-expand (number n) = (monomial.One, cast_unsigned w64 n) ∷ []
-expand (atom sort group n) = (monomial.Atom group n, 1) ∷ []
-expand (add a b) = expand a ++ expand b
-expand (sub a b) = expand a ++ scale (2 ^ 64 - 1) (expand b)
-expand t = []
+-- `same` by the sort of its sides, from what these are as words and as pointers
+abbrev pub same_sum : Sort → Sum PlainMonomial → Sum PlainMonomial → PlainPointer → PlainPointer → Sum PlainMonomial
+same_sum Long a b p q = same_numbers a b
+same_sum Truth a b p q = same_truths a b
+same_sum Pointer a b p q = same_pointers p q
+same_sum sort a b p q = []
 
--- the form of a term of that sort, the monomials in their order
+-- the form of a value of the sort
+abbrev pub scalar_at : Sort → Sum PlainMonomial → PlainPointer → PlainScalar
+scalar_at Truth ps p = truth_form (gathered ps)
+scalar_at Pointer ps p = pointer_form p
+scalar_at sort ps p = number_form (gathered ps)
+
+abbrev mutual
+  -- A number or a truth value as a sum of products, in the order in which they are written. Any other term, and
+  -- one whose form is not built yet, has none.
+  pub expand : PlainTerm → Sum PlainMonomial
+  expand (number n) = constant (cast_unsigned w64 n)
+  expand (truth b) = truth_sum b
+  expand (atom sort group n) = alone (variable sort group n)
+  expand (add a b) = expand a ++ expand b
+  expand (sub a b) = expand a ++ minus (expand b)
+  expand (neg a) = minus (expand a)
+  expand (mul a b) = product times (expand a) (expand b)
+  expand (divide a n) = quotient_sum (gathered (expand a)) n
+  expand (remainder a n) = modulus_sum (gathered (expand a)) n
+  expand (less a b) = less_sum (gathered (expand a)) (gathered (expand b))
+  expand (less_equal a b) = negated (less_sum (gathered (expand b)) (gathered (expand a)))
+  expand (same a b) = same_sum (sort_of a) (expand a) (expand b) (pointer_of a) (pointer_of b)
+  expand (not a) = negated (expand a)
+  expand (and a b) = product times (expand a) (expand b)
+  expand (or a b) = either (expand a) (expand b)
+  expand (choose c a b) = chosen (expand c) (expand a) (expand b)
+  expand (read sort p c f) = alone (field_of sort (pointer_of p) c f)
+  expand (read_at sort p c f i) = alone (item_of sort (pointer_of p) c f (gathered (expand i)))
+  expand (result sort m p ts) = alone (result_of sort m (pointer_of p) (arguments_of ts))
+  expand t = []
+
+  -- The form of a pointer; any other term, and one whose form is not built yet, has that of null.
+  pub pointer_of : PlainTerm → PlainPointer
+  pointer_of (atom sort group n) = pointer_part (variable sort group n)
+  pointer_of (choose c a b) = chosen_pointer (gathered (expand c)) (pointer_of a) (pointer_of b)
+  pointer_of (read sort p c f) = pointer_part (field_of sort (pointer_of p) c f)
+  pointer_of (read_at sort p c f i) = pointer_part (item_of sort (pointer_of p) c f (gathered (expand i)))
+  pointer_of (result sort m p ts) = pointer_part (result_of sort m (pointer_of p) (arguments_of ts))
+  pointer_of t = no_object
+
+  pub arguments_of : PlainTerms → PlainScalars
+  arguments_of no_terms = no_scalars
+  arguments_of (term_and t ts) = scalar_and (scalar_at (sort_of t) (expand t) (pointer_of t)) (arguments_of ts)
+
+-- the form of a number, a truth value or a pointer
+abbrev pub scalar_of : PlainTerm → PlainScalar
+scalar_of t = scalar_at (sort_of t) (expand t) (pointer_of t)
+
+-- the form of an array, that of null where it is not built yet
+abbrev pub array_of : PlainTerm → Normal
+array_of (atom sort group n) = normal.Array sort group n
+array_of t = normal.Scalar (pointer_form no_object)
+
+-- the form of a term of that sort
 abbrev pub form_at : Sort → PlainTerm → Normal
-form_at Long t = normal.Polynomial (collect monomial_cmp (expand t))
-form_at sort (atom s group n) = normal.Atom s group n
-form_at sort t = normal.Null
+form_at Long t = normal.Scalar (number_form (gathered (expand t)))
+form_at Truth t = normal.Scalar (truth_form (gathered (expand t)))
+form_at Pointer t = normal.Scalar (pointer_form (pointer_of t))
+form_at sort t = array_of t
 
--- The form of a number is its products, gathered. Any other term is its own form.
 abbrev pub norm : PlainTerm → Normal
 norm t = form_at (sort_of t) t
 
--- the coefficient of a monomial in the formal polynomial of a number
-abbrev pub coefficient : PlainTerm → Monomial → ℤ
-coefficient (number n) monomial.One = n
-coefficient (atom sort group n) (monomial.Atom g i) = if nat_eq g group && nat_eq i n then pos 1 else pos 0
-coefficient (add a b) m = coefficient a m +ℤ coefficient b m
-coefficient (sub a b) m = coefficient a m -ℤ coefficient b m
-coefficient t m = pos 0
+-- what the products with this monomial sum to, modulo 2^64
+abbrev pub coefficient : PlainTerm → PlainMonomial → ℕ
+coefficient t m = total (λ n. is_tied (monomial_cmp m n)) (expand t) % (2 ^ 64)
 
--- their coefficients are equal modulo 2^64
+-- their coefficients are equal
 abbrev pub SamePolynomial : PlainTerm → PlainTerm → Type 0
-SamePolynomial t u = (m : Monomial) → int_wrap w64 (coefficient t m) ≡ int_wrap w64 (coefficient u m)
+SamePolynomial t u = (m : PlainMonomial) → coefficient t m ≡ coefficient u m
 
 -- 0 where the monomial does not stand
-abbrev pub coefficient_at : Sum Monomial → Monomial → ℕ
+abbrev pub coefficient_at : Sum PlainMonomial → PlainMonomial → ℕ
 coefficient_at ps m = unwrap_or (lookup (is_at (monomial_cmp m)) ps) 0
+
+abbrev pub IsGatheredOf : Sum PlainMonomial → PlainTerm → Type 0
+IsGatheredOf ps t =
+    IsStrictlySortedBy monomial_cmp (keys_of ps) × NoZero ps × ((m : PlainMonomial) → coefficient_at ps m % (2 ^ 64) ≡ coefficient t m)
 
 -- the finite map from monomials to their coefficients in the term, modulo 2^64 and without zeros
 abbrev pub IsPolynomialOf : Normal → PlainTerm → Type 0
-IsPolynomialOf (normal.Polynomial ps) t =
-    IsStrictlySortedBy monomial_cmp (keys_of ps) × NoZero ps × ((m : Monomial) → int_wrap w64 (pos (coefficient_at ps m)) ≡ int_wrap w64 (coefficient t m))
+IsPolynomialOf (normal.Scalar (number_form f)) t = IsGatheredOf (products_of f) t
+IsPolynomialOf (normal.Scalar (truth_form f)) t = IsGatheredOf (products_of f) t
 IsPolynomialOf form t = ⊥

@@ -3,3 +3,4 @@ pub mod Weights
 pub mod Measures
 pub mod Forms
 pub mod Meanings
+pub mod Environments

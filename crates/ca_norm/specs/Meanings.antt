@@ -1,25 +1,26 @@
 -- What a term and a normal form mean, once it is said what the atoms stand for.
-use Rattle.std.specs.Prelude.{ℕ, [], ◌∷◌, ℤ, pos, ◌+ℤ◌, ◌*ℤ◌, FitsSigned, Result, Ok, Err}
-use Rattle.std.specs.Int.{int_wrap, w64}
+use Rattle.std.specs.Prelude.{ℕ, ◌+◌, ◌*◌, ◌%◌, ◌^◌, ℤ, pos, Bool, true, false, nat_eq, List, [], ◌∷◌, FitsSigned, Result, Ok, Err}
+use Rattle.std.specs.Int.{int_wrap, cast_signed, cast_unsigned, w64}
 use Rattle.ca_tree.specs.declared.tree.BinaryOp.{BinaryOp}
-use Rattle.ca_tree.specs.declared.tree.BinaryOp.TheVariants.{Plus, Minus}
+use Rattle.ca_tree.specs.declared.tree.BinaryOp.TheVariants as op
+use Rattle.ca_tree.specs.declared.tree.UnaryOp.TheVariants as sign
 use Rattle.ca_model.specs.declared.value.Value.{Value as Datum}
 use Rattle.ca_model.specs.declared.value.Value.TheVariants as datum
 use Rattle.ca_model.specs.declared.value.TrapKind.{TrapKind}
-use Rattle.ca_meaning.specs.Operators.{operated}
+use Rattle.ca_meaning.specs.Operators.{operated, signed, same_value}
 use Rattle.ca_forms.specs.declared.sort.Sort.{Sort}
-use Rattle.ca_forms.specs.declared.sort.Sort.TheVariants.{Long, Bool, Pointer, LongArray, BoolArray, PointerArray}
-use Rattle.ca_forms.specs.declared.form.Monomial.{Monomial}
-use Rattle.ca_forms.specs.declared.form.Monomial.TheVariants as monomial
+use Rattle.ca_forms.specs.declared.sort.Sort.TheVariants.{Long, Bool as Truth, Pointer, LongArray, BoolArray, PointerArray}
 use Rattle.ca_forms.specs.declared.form.Normal.{Normal}
 use Rattle.ca_forms.specs.declared.form.Normal.TheVariants as normal
-use Rattle.ca_sums.specs.Sums.{Sum}
-use Rattle.ca_norm.specs.Terms.{PlainTerm, number, atom, add, sub}
+use Rattle.ca_forms.specs.Plain.{PlainPart, PlainPolynomial, PlainMonomial, PlainPointer, PlainScalar, PlainScalars, variable, is_less, is_zero, same_pointer, quotient, modulus, field_of, item_of, result_of, no_products, product_and, no_powers, power_and, no_object, pointer_part, pointer_choice, number_form, truth_form, pointer_form, no_scalars, scalar_and}
+use Rattle.ca_forms.specs.Products.{is_truth}
+use Rattle.ca_forms.specs.Rules.{is_below, divided, left_over}
+use Rattle.ca_norm.specs.Terms.{PlainTerm, PlainTerms, number, truth, atom, add, sub, neg, mul, divide, remainder, less, less_equal, same, not, and, or, choose, read, read_at, result, no_terms, term_and}
 
 -- An array is no single value, so nothing is asked where an atom of an array stands.
 abbrev pub IsOfSort : Sort → Datum → Type 0
 IsOfSort Long (datum.Long n) = FitsSigned w64 n
-IsOfSort Bool (datum.Bool b) = Unit {0}
+IsOfSort Truth (datum.Bool b) = Unit {0}
 IsOfSort Pointer datum.Null = Unit {0}
 IsOfSort Pointer (datum.Ref r) = Unit {0}
 IsOfSort LongArray v = Unit {0}
@@ -27,10 +28,23 @@ IsOfSort BoolArray v = Unit {0}
 IsOfSort PointerArray v = Unit {0}
 IsOfSort sort v = ⊥
 
--- what each atom stands for: a value of its sort
+abbrev pub IsObject : Datum → Type 0
+IsObject (datum.Ref r) = Unit {0}
+IsObject v = ⊥
+
+-- What atoms, reads of other objects and calls of value methods stand for: each a value of its sort. The receiver,
+-- which is atom 0 of group 0, isn't null. A read has the object, the field's class and number, and maybe an index;
+-- a call the method, the receiver and the arguments.
 pub record Valuation : Type 0 where
   pub value : Sort → ℕ → ℕ → Datum
+  pub read : Sort → Datum → ℕ → ℕ → Datum
+  pub read_at : Sort → Datum → ℕ → ℕ → Datum → Datum
+  pub result : Sort → ℕ → Datum → List Datum → Datum
   pub sorted : (sort : Sort) (group n : ℕ) → IsOfSort sort (value sort group n)
+  pub read_sorted : (sort : Sort) (p : Datum) (c f : ℕ) → IsOfSort sort (read sort p c f)
+  pub read_at_sorted : (sort : Sort) (p : Datum) (c f : ℕ) (i : Datum) → IsOfSort sort (read_at sort p c f i)
+  pub result_sorted : (sort : Sort) (m : ℕ) (p : Datum) (xs : List Datum) → IsOfSort sort (result sort m p xs)
+  pub receiver : IsObject (value Pointer 0 0)
 
 -- the value that an operator gives, and null where it gives none
 abbrev pub value_or_null : Result Datum TrapKind → Datum
@@ -40,28 +54,104 @@ value_or_null (Err kind) = datum.Null
 abbrev pub operate : BinaryOp → Datum → Datum → Datum
 operate op a b = value_or_null (operated op a b)
 
--- Numbers wrap round at 64 bits. A term whose normal form is not built yet means null.
-abbrev pub mean : Valuation → PlainTerm → Datum
-mean v (number n) = datum.Long n
-mean v (atom sort group n) = v.value sort group n
-mean v (add a b) = operate Plus (mean v a) (mean v b)
-mean v (sub a b) = operate Minus (mean v a) (mean v b)
-mean v t = datum.Null
+abbrev pub chosen : Datum → Datum → Datum → Datum
+chosen (datum.Bool true) a b = a
+chosen c a b = b
 
-abbrev pub number_of : Datum → ℤ
-number_of (datum.Long n) = n
-number_of v = pos 0
+abbrev mutual
+  -- Numbers wrap round at 64 bits. A term whose normal form is not built yet means null.
+  pub mean : Valuation → PlainTerm → Datum
+  mean v (number n) = datum.Long n
+  mean v (truth b) = datum.Bool b
+  mean v (atom sort group n) = v.value sort group n
+  mean v (add a b) = operate op.Plus (mean v a) (mean v b)
+  mean v (sub a b) = operate op.Minus (mean v a) (mean v b)
+  mean v (neg a) = signed sign.Minus (mean v a)
+  mean v (mul a b) = operate op.Times (mean v a) (mean v b)
+  mean v (divide a n) = operate op.Divide (mean v a) (datum.Long n)
+  mean v (remainder a n) = operate op.Remainder (mean v a) (datum.Long n)
+  mean v (less a b) = operate op.Less (mean v a) (mean v b)
+  mean v (less_equal a b) = operate op.LessEqual (mean v a) (mean v b)
+  mean v (same a b) = operate op.Equal (mean v a) (mean v b)
+  mean v (not a) = signed sign.Not (mean v a)
+  mean v (and a b) = operate op.And (mean v a) (mean v b)
+  mean v (or a b) = operate op.Or (mean v a) (mean v b)
+  mean v (choose c a b) = chosen (mean v c) (mean v a) (mean v b)
+  mean v (read sort p c f) = v.read sort (mean v p) c f
+  mean v (read_at sort p c f i) = v.read_at sort (mean v p) c f (mean v i)
+  mean v (result sort m p ts) = v.result sort m (mean v p) (means v ts)
+  mean v t = datum.Null
 
-abbrev pub monomial_value : Valuation → Monomial → ℤ
-monomial_value v monomial.One = pos 1
-monomial_value v (monomial.Atom group n) = number_of (v.value Long group n)
+  pub means : Valuation → PlainTerms → List Datum
+  means v no_terms = []
+  means v (term_and t ts) = mean v t ∷ means v ts
 
--- each monomial's value times its coefficient, summed
-abbrev pub polynomial_value : Valuation → Sum Monomial → ℤ
-polynomial_value v [] = pos 0
-polynomial_value v (p ∷ ps) = pos p.1 *ℤ monomial_value v p.0 +ℤ polynomial_value v ps
+abbrev pub bit : Bool → ℕ
+bit true = 1
+bit false = 0
+
+-- a number or truth value as a word
+abbrev pub word_of : Datum → ℕ
+word_of (datum.Long n) = cast_unsigned w64 (int_wrap w64 n)
+word_of (datum.Bool b) = bit b
+word_of v = 0
+
+-- the number and the truth value that a word is
+abbrev pub number_in : ℕ → Datum
+number_in n = datum.Long (cast_signed w64 (n % (2 ^ 64)))
+
+abbrev pub truth_in : ℕ → Datum
+truth_in n = datum.Bool (nat_eq (n % (2 ^ 64)) 1)
+
+-- a truth value that stands several times is worth what it is worth once
+abbrev pub power : Bool → ℕ → ℕ → ℕ
+power true x e = x
+power false x e = x ^ e
+
+abbrev mutual
+  -- a part that is a number or a truth value, as a word
+  pub part_value : Valuation → PlainPart → ℕ
+  part_value v (variable sort group n) = word_of (v.value sort group n)
+  part_value v (is_less f g) = bit (is_below (polynomial_value v f) (polynomial_value v g))
+  part_value v (is_zero f) = bit (nat_eq (polynomial_value v f % (2 ^ 64)) 0)
+  part_value v (same_pointer p q) = bit (same_value (pointer_mean v p) (pointer_mean v q))
+  part_value v (quotient f n) = divided (polynomial_value v f) (cast_signed w64 n)
+  part_value v (modulus f n) = left_over (polynomial_value v f) (cast_signed w64 n)
+  part_value v (field_of sort p c f) = word_of (v.read sort (pointer_mean v p) c f)
+  part_value v (item_of sort p c f i) = word_of (v.read_at sort (pointer_mean v p) c f (number_in (polynomial_value v i)))
+  part_value v (result_of sort m p xs) = word_of (v.result sort m (pointer_mean v p) (scalars_mean v xs))
+
+  -- each monomial's value times its coefficient, summed
+  pub polynomial_value : Valuation → PlainPolynomial → ℕ
+  polynomial_value v no_products = 0
+  polynomial_value v (product_and m c f) = c * monomial_value v m + polynomial_value v f
+
+  pub monomial_value : Valuation → PlainMonomial → ℕ
+  monomial_value v no_powers = 1
+  monomial_value v (power_and p e m) = power (is_truth p) (part_value v p) e * monomial_value v m
+
+  -- a part that is a pointer
+  pub part_mean : Valuation → PlainPart → Datum
+  part_mean v (variable sort group n) = v.value sort group n
+  part_mean v (field_of sort p c f) = v.read sort (pointer_mean v p) c f
+  part_mean v (item_of sort p c f i) = v.read_at sort (pointer_mean v p) c f (number_in (polynomial_value v i))
+  part_mean v (result_of sort m p xs) = v.result sort m (pointer_mean v p) (scalars_mean v xs)
+  part_mean v p = datum.Null
+
+  pub pointer_mean : Valuation → PlainPointer → Datum
+  pointer_mean v no_object = datum.Null
+  pointer_mean v (pointer_part p) = part_mean v p
+  pointer_mean v (pointer_choice c p q) = chosen (truth_in (polynomial_value v c)) (pointer_mean v p) (pointer_mean v q)
+
+  pub scalar_mean : Valuation → PlainScalar → Datum
+  scalar_mean v (number_form f) = number_in (polynomial_value v f)
+  scalar_mean v (truth_form f) = truth_in (polynomial_value v f)
+  scalar_mean v (pointer_form p) = pointer_mean v p
+
+  pub scalars_mean : Valuation → PlainScalars → List Datum
+  scalars_mean v no_scalars = []
+  scalars_mean v (scalar_and x xs) = scalar_mean v x ∷ scalars_mean v xs
 
 abbrev pub form_mean : Valuation → Normal → Datum
-form_mean v (normal.Polynomial ps) = datum.Long (int_wrap w64 (polynomial_value v ps))
-form_mean v normal.Null = datum.Null
-form_mean v (normal.Atom sort group n) = v.value sort group n
+form_mean v (normal.Scalar x) = scalar_mean v x
+form_mean v (normal.Array sort group n) = v.value sort group n

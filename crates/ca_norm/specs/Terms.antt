@@ -1,5 +1,5 @@
 -- Terms as plain values: nothing says where they lie in memory.
-use Rattle.std.specs.Prelude.{ℕ, ℤ, ◌≡◌, Bool, FitsSigned, List, [], ◌∷◌}
+use Rattle.std.specs.Prelude.{ℕ, ℤ, pos, ◌≡◌, ◌≢◌, Bool, FitsSigned, List, [], ◌∷◌}
 use Rattle.std.specs.Int.{w64}
 use Rattle.ca_forms.specs.declared.sort.Sort.{Sort}
 use Rattle.ca_forms.specs.declared.sort.Sort.TheVariants.{Long, Bool as Truth, Pointer, LongArray, BoolArray, PointerArray}
@@ -107,18 +107,45 @@ sort_of (select a i) = item_sort (sort_of a)
 sort_of (put a i v) = sort_of a
 sort_of (add_at a i v) = sort_of a
 
--- Well sorted, for terms whose normal form is built: only numbers are added and subtracted.
-abbrev pub IsSorted : PlainTerm → Type 0
-IsSorted (number n) = Unit {0}
-IsSorted null = Unit {0}
-IsSorted (atom sort group n) = Unit {0}
-IsSorted (add a b) = (sort_of a ≡ Long) × (sort_of b ≡ Long) × IsSorted a × IsSorted b
-IsSorted (sub a b) = (sort_of a ≡ Long) × (sort_of b ≡ Long) × IsSorted a × IsSorted b
-IsSorted t = ⊥
+-- numbers and truth values
+abbrev pub IsWord : Sort → Type 0
+IsWord Long = Unit {0}
+IsWord Truth = Unit {0}
+IsWord sort = ⊥
 
--- each number that is written out fits 64 bits
-abbrev pub LiteralsFit : PlainTerm → Type 0
-LiteralsFit (number n) = FitsSigned w64 n
-LiteralsFit (add a b) = LiteralsFit a × LiteralsFit b
-LiteralsFit (sub a b) = LiteralsFit a × LiteralsFit b
-LiteralsFit t = Unit {0}
+-- single values
+abbrev pub IsScalar : Sort → Type 0
+IsScalar Long = Unit {0}
+IsScalar Truth = Unit {0}
+IsScalar Pointer = Unit {0}
+IsScalar sort = ⊥
+
+-- A term of the sort, well sorted inside, whose literals fit 64 bits and whose divisors aren't 0, of those whose
+-- normal form is built.
+abbrev mutual
+  pub IsOf : Sort → PlainTerm → Type 0
+  IsOf sort (number n) = (sort ≡ Long) × FitsSigned w64 n
+  IsOf sort (truth b) = sort ≡ Truth
+  IsOf sort null = sort ≡ Pointer
+  IsOf sort (atom s group n) = s ≡ sort
+  IsOf sort (add a b) = (sort ≡ Long) × IsOf Long a × IsOf Long b
+  IsOf sort (sub a b) = (sort ≡ Long) × IsOf Long a × IsOf Long b
+  IsOf sort (neg a) = (sort ≡ Long) × IsOf Long a
+  IsOf sort (mul a b) = (sort ≡ Long) × IsOf Long a × IsOf Long b
+  IsOf sort (divide a n) = (sort ≡ Long) × IsOf Long a × FitsSigned w64 n × (n ≢ pos 0)
+  IsOf sort (remainder a n) = (sort ≡ Long) × IsOf Long a × FitsSigned w64 n × (n ≢ pos 0)
+  IsOf sort (less a b) = (sort ≡ Truth) × IsOf Long a × IsOf Long b
+  IsOf sort (less_equal a b) = (sort ≡ Truth) × IsOf Long a × IsOf Long b
+  IsOf sort (same a b) = (sort ≡ Truth) × IsScalar (sort_of a) × IsOf (sort_of a) a × IsOf (sort_of a) b
+  IsOf sort (not a) = (sort ≡ Truth) × IsOf Truth a
+  IsOf sort (and a b) = (sort ≡ Truth) × IsOf Truth a × IsOf Truth b
+  IsOf sort (or a b) = (sort ≡ Truth) × IsOf Truth a × IsOf Truth b
+  IsOf sort (choose c a b) = IsScalar sort × IsOf Truth c × IsOf sort a × IsOf sort b
+  IsOf sort (read s p c f) = (s ≡ sort) × IsScalar s × IsOf Pointer p
+  IsOf sort (read_at s p c f i) = (s ≡ sort) × IsScalar s × IsOf Pointer p × IsOf Long i
+  IsOf sort (result s m p ts) = (s ≡ sort) × IsScalar s × IsOf Pointer p × AreSorted ts
+  IsOf sort t = ⊥
+
+  pub AreSorted : PlainTerms → Type 0
+  AreSorted no_terms = Unit {0}
+  AreSorted (term_and t ts) = IsScalar (sort_of t) × IsOf (sort_of t) t × AreSorted ts

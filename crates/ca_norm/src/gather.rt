@@ -1,47 +1,224 @@
-//! The formal polynomial of a term, gathered in an ordered map.
+//! The forms of a term: polynomials, gathered in an ordered map, pointers and arguments.
 
-ghost use Rattle.std.specs.Prelude.{◌≡◌, IfOk, OnOk};
-ghost use Rattle.ca_sums.specs.Sums.{NoZero, AddsSum, collect};
-ghost use Rattle.ca_forms.specs.Order.{monomial_cmp};
-ghost use Rattle.ca_norm.specs.Terms.{shape};
-ghost use Rattle.ca_norm.specs.Forms.{expand};
+ghost use Rattle.std.specs.Prelude.{◌≡◌, map, IfOk, OnOk};
+ghost use Rattle.ca_sums.specs.Sums.{NoZero, AddsSum};
+ghost use Rattle.ca_forms.specs.Lists.{products_of};
+ghost use Rattle.ca_forms.specs.Rules.{gathered};
+ghost use Rattle.ca_norm.specs.Terms.{shape, terms_of};
+ghost use Rattle.ca_norm.specs.Forms.{expand, pointer_of, scalar_of, arguments_of};
 
 use crate::term::Term;
-use ca_forms::{Monomial, Polynomial, add_product};
+use ca_forms::Sort;
+use ca_forms::parts::{both, longer};
+use ca_forms::pointers::{add_same_pointers, chosen_pointer};
+use ca_forms::polynomial::{Monomial, Part, Pointer, Polynomial, Scalar, Scalars};
+use ca_forms::rules::{
+    add_chosen, add_either, add_less, add_modulus, add_number, add_part, add_quotient, add_same, add_same_truths,
+    add_truth,
+};
+use ca_forms::sums::{add_product_of, finish};
 use std::alloc::{AllocError, Global};
 use std::collections::BTreeMap;
 
-/// Adds a term's products, each times the factor.
-fn add_term(form: &mut BTreeMap<Monomial, u64>, term: &Term, factor: u64) -> Result<(), AllocError>
+/// Adds a term's products, each times the factor. It recurses as deep as the term is.
+#[cycle(normal)]
+#[inline(never)]
+fn add_term(
+    alloc: Global,
+    form: &mut BTreeMap<Monomial, u64>,
+    term: &Term,
+    factor: u64,
+) -> Result<(), AllocError>
     requires { NoZero form.old.entries }
     ensures nonzero { NoZero form.new.entries }
     ensures added { OnOk result (AddsSum form.old.entries form.new.entries factor (expand (shape term.now))) }
 {
     match term {
         Term::Number(n) => {
-            add_product(form, Monomial::One, factor.wrapping_mul(n.cast_unsigned()))
+            add_number(alloc, form, n.cast_unsigned(), factor)?;
+            Ok(())
         }
-        Term::Atom(_, group, number) => {
-            add_product(form, Monomial::Atom(*group, *number), factor)
+        Term::Truth(b) => {
+            add_truth(alloc, form, *b, factor)?;
+            Ok(())
+        }
+        Term::Atom(sort, group, number) => {
+            add_part(alloc, form, Part::atom(*sort, *group, *number), factor)?;
+            Ok(())
         }
         Term::Add(a, b) => {
-            add_term(form, a, factor)?;
-            add_term(form, b, factor)
+            add_term(alloc, form, a, factor)?;
+            add_term(alloc, form, b, factor)?;
+            Ok(())
         }
         Term::Sub(a, b) => {
-            add_term(form, a, factor)?;
-            add_term(form, b, factor.wrapping_mul(u64::MAX))
+            add_term(alloc, form, a, factor)?;
+            add_term(alloc, form, b, factor.wrapping_mul(u64::MAX))?;
+            Ok(())
         }
-        _ => Ok(()),
+        Term::Neg(a) => {
+            add_term(alloc, form, a, factor.wrapping_mul(u64::MAX))?;
+            Ok(())
+        }
+        Term::Not(a) => {
+            add_truth(alloc, form, true, factor)?;
+            add_term(alloc, form, a, factor.wrapping_mul(u64::MAX))?;
+            Ok(())
+        }
+        Term::Mul(a, b) => {
+            let f = polynomial_of(alloc, a)?;
+            let g = polynomial_of(alloc, b)?;
+            add_product_of(alloc, form, &f, &g, factor)?;
+            Ok(())
+        }
+        Term::And(a, b) => {
+            let f = polynomial_of(alloc, a)?;
+            let g = polynomial_of(alloc, b)?;
+            add_product_of(alloc, form, &f, &g, factor)?;
+            Ok(())
+        }
+        Term::Less(a, b) => {
+            let f = polynomial_of(alloc, a)?;
+            let g = polynomial_of(alloc, b)?;
+            add_less(alloc, form, f, g, factor)?;
+            Ok(())
+        }
+        Term::LessEqual(a, b) => {
+            let f = polynomial_of(alloc, a)?;
+            let g = polynomial_of(alloc, b)?;
+            add_truth(alloc, form, true, factor)?;
+            add_less(alloc, form, g, f, factor.wrapping_mul(u64::MAX))?;
+            Ok(())
+        }
+        Term::Same(a, b) => match a.sort() {
+            Sort::Long => {
+                let f = polynomial_of(alloc, a)?;
+                let g = polynomial_of(alloc, b)?;
+                add_same(alloc, form, f, g, factor)?;
+                Ok(())
+            }
+            Sort::Bool => {
+                let f = polynomial_of(alloc, a)?;
+                let g = polynomial_of(alloc, b)?;
+                add_same_truths(alloc, form, &f, &g, factor)?;
+                Ok(())
+            }
+            Sort::Pointer => {
+                let (p, q) = both(pointer_of(alloc, a), pointer_of(alloc, b))?;
+                add_same_pointers(alloc, form, p, q, factor)?;
+                Ok(())
+            }
+            _ => Ok(()),
+        },
+        Term::Or(a, b) => {
+            let f = polynomial_of(alloc, a)?;
+            let g = polynomial_of(alloc, b)?;
+            add_either(alloc, form, &f, &g, factor)?;
+            Ok(())
+        }
+        Term::Choose(c, a, b) => {
+            let f = polynomial_of(alloc, c)?;
+            let g = polynomial_of(alloc, a)?;
+            let h = polynomial_of(alloc, b)?;
+            add_chosen(alloc, form, &f, &g, &h, factor)?;
+            Ok(())
+        }
+        Term::Divide(a, n) => {
+            let f = polynomial_of(alloc, a)?;
+            add_quotient(alloc, form, f, *n, factor)?;
+            Ok(())
+        }
+        Term::Remainder(a, n) => {
+            let f = polynomial_of(alloc, a)?;
+            add_modulus(alloc, form, f, *n, factor)?;
+            Ok(())
+        }
+        Term::Read(sort, p, class, field) => {
+            let object = pointer_of(alloc, p)?;
+            add_part(alloc, form, Part::field(*sort, object, *class, *field), factor)?;
+            Ok(())
+        }
+        Term::ReadAt(sort, p, class, field, i) => {
+            let (object, index) = both(pointer_of(alloc, p), polynomial_of(alloc, i))?;
+            add_part(alloc, form, Part::item(*sort, object, *class, *field, index), factor)?;
+            Ok(())
+        }
+        Term::Result(sort, method, p, args) => {
+            let (receiver, args) = both(pointer_of(alloc, p), arguments_of(alloc, args))?;
+            add_part(alloc, form, Part::call(*sort, *method, receiver, args), factor)?;
+            Ok(())
+        }
+        Term::Null => Ok(()),
+        Term::Select(_, _) => Ok(()),
+        Term::Put(_, _, _) => Ok(()),
+        Term::AddAt(_, _, _) => Ok(()),
     }
 }
 
-/// The formal polynomial of a term, which is to be a number. It recurses as deep as the term is.
+/// The polynomial of a term, which is to be a number or a truth value. It recurses as deep as the term is.
+#[cycle(normal)]
 #[inline(never)]
 pub fn polynomial_of(alloc: Global, term: &Term) -> Result<Polynomial, AllocError>
-    ensures { IfOk result (λ p. p ≡ collect monomial_cmp (expand (shape term.now))) }
+    ensures { IfOk result (λ f. f ≡ gathered (expand (shape term.now))) }
 {
     let mut form = BTreeMap::new(alloc);
-    add_term(&mut form, term, 1)?;
-    Polynomial::gathered(alloc, form)
+    add_term(alloc, &mut form, term, 1)?;
+    finish(alloc, form)
+}
+
+/// The form of a term that is to be a pointer. It recurses as deep as the term is.
+#[cycle(normal)]
+#[inline(never)]
+pub fn pointer_of(alloc: Global, term: &Term) -> Result<Pointer, AllocError>
+    ensures { IfOk result (λ p. p ≡ pointer_of (shape term.now)) }
+{
+    match term {
+        Term::Atom(sort, group, number) => {
+            Ok(Pointer::of(alloc, Part::atom(*sort, *group, *number))?)
+        }
+        Term::Choose(c, a, b) => {
+            let f = polynomial_of(alloc, c)?;
+            let (p, q) = both(pointer_of(alloc, a), pointer_of(alloc, b))?;
+            Ok(chosen_pointer(alloc, f, p, q)?)
+        }
+        Term::Read(sort, p, class, field) => {
+            let object = pointer_of(alloc, p)?;
+            Ok(Pointer::of(alloc, Part::field(*sort, object, *class, *field))?)
+        }
+        Term::ReadAt(sort, p, class, field, i) => {
+            let (object, index) = both(pointer_of(alloc, p), polynomial_of(alloc, i))?;
+            Ok(Pointer::of(alloc, Part::item(*sort, object, *class, *field, index))?)
+        }
+        Term::Result(sort, method, p, args) => {
+            let (receiver, args) = both(pointer_of(alloc, p), arguments_of(alloc, args))?;
+            Ok(Pointer::of(alloc, Part::call(*sort, *method, receiver, args))?)
+        }
+        _ => Ok(Pointer::null()),
+    }
+}
+
+/// The form of a term that is to be a number, a truth value or a pointer.
+#[cycle(normal)]
+#[inline(never)]
+pub fn scalar_of(alloc: Global, term: &Term) -> Result<Scalar, AllocError>
+    ensures { IfOk result (λ x. x ≡ scalar_of (shape term.now)) }
+{
+    match term.sort() {
+        Sort::Pointer => Ok(Scalar::pointer(pointer_of(alloc, term)?)),
+        Sort::Bool => Ok(Scalar::truth(polynomial_of(alloc, term)?)),
+        _ => Ok(Scalar::number(polynomial_of(alloc, term)?)),
+    }
+}
+
+#[cycle(normal)]
+#[inline(never)]
+fn arguments_of(alloc: Global, terms: &[Term]) -> Result<Scalars, AllocError>
+    ensures { IfOk result (λ xs. xs ≡ arguments_of (terms_of (map shape terms.now))) }
+{
+    let mut items = Vec::new(alloc);
+    for term in terms {
+        let (so_far, item) = both(Ok(items), scalar_of(alloc, term))?;
+        items = longer(so_far, item)?;
+    }
+    Ok(Scalars::of(items))
 }

@@ -2,18 +2,18 @@
 //! leave behind.
 //!
 //! A term is what an expression comes to over the atoms of two operations and a receiver;
-//! `specs/Terms.antt` has it without its places in memory. Normal forms are built of numbers, null, atoms,
-//! sums and differences so far; any other term has the form of null or of zero, and no law speaks of it. Its weight bounds the work on it, and `normal` promises the normal
-//! form of each term of at most `MOST_WEIGHT`, unless memory runs out, and `Large` for each other.
+//! `specs/Terms.antt` has it without its places in memory. Its weight bounds the work on it, and `normal`
+//! promises the normal form of each term of at most `MOST_WEIGHT`, unless memory runs out, and `Large` for each
+//! other. The forms of arrays are not built yet, but for atoms: any other array, and an item of one, has the form
+//! of null or of zero, and no law of meaning speaks of it.
 //! What a term and a form mean under a valuation of the atoms stands in `specs/Meanings.antt`.
 //!
 //! The laws say that a form means what its term means, and that terms of equal formal polynomials
-//! have equal forms: so equal forms are equal values, and `same` finds each equation of sums.
+//! have equal forms: so equal forms are equal values, and `same` finds each equation of sums and products.
 #![tactic(auto)]
 
-mod gather;
+pub mod gather;
 pub mod laws;
-mod parts;
 mod term;
 mod weigh;
 
@@ -21,12 +21,13 @@ ghost use Rattle.std.specs.Prelude.{◌≡◌, ◌<◌, ◌↔◌, Err, IfOk, Is
 ghost use Rattle.ca_norm.specs.declared.NormalError.TheVariants.{Large, Memory};
 ghost use Rattle.ca_norm.specs.Terms.{shape};
 ghost use Rattle.ca_norm.specs.Weights.{weight_of};
-ghost use Rattle.ca_norm.specs.Forms.{norm};
+ghost use Rattle.ca_norm.specs.Forms.{array_of, norm};
 
-use crate::gather::polynomial_of;
+use crate::gather::{pointer_of, polynomial_of};
 pub use crate::term::Term;
 pub use crate::weigh::weight;
-pub use ca_forms::{Monomial, Normal, Polynomial, Sort};
+use ca_forms::polynomial::{Pointer, Scalar};
+pub use ca_forms::{Normal, Sort};
 use std::alloc::{AllocError, Global};
 use thiserror::Error;
 
@@ -61,11 +62,19 @@ pub fn normal(alloc: Global, term: &Term) -> Result<Normal, NormalError>
         return Err(NormalError::Large);
     }
     match term.sort() {
-        Sort::Long => Ok(Normal::Polynomial(polynomial_of(alloc, term)?)),
-        sort => match term {
-            Term::Atom(_, group, number) => Ok(Normal::Atom(sort, *group, *number)),
-            _ => Ok(Normal::Null),
-        },
+        Sort::Long => Ok(Normal::Scalar(Scalar::number(polynomial_of(alloc, term)?))),
+        Sort::Bool => Ok(Normal::Scalar(Scalar::truth(polynomial_of(alloc, term)?))),
+        Sort::Pointer => Ok(Normal::Scalar(Scalar::pointer(pointer_of(alloc, term)?))),
+        _ => Ok(array_of(term)),
+    }
+}
+
+fn array_of(term: &Term) -> Normal
+    ensures { result ≡ array_of (shape term.now) }
+{
+    match term {
+        Term::Atom(sort, group, number) => Normal::Array(*sort, *group, *number),
+        _ => Normal::Scalar(Scalar::pointer(Pointer::null())),
     }
 }
 
@@ -74,9 +83,8 @@ pub fn same(a: &Normal, b: &Normal) -> bool
     ensures { IsTrue result ↔ (a.now ≡ b.now) }
 {
     match (a, b) {
-        (Normal::Polynomial(p), Normal::Polynomial(q)) => p.same(q),
-        (Normal::Null, Normal::Null) => true,
-        (Normal::Atom(s, g, n), Normal::Atom(t, h, m)) => s == t && g == h && n == m,
+        (Normal::Scalar(x), Normal::Scalar(y)) => x.same(y),
+        (Normal::Array(s, g, n), Normal::Array(t, h, m)) => s == t && g == h && n == m,
         _ => false,
     }
 }

@@ -4,8 +4,8 @@ ghost use Rattle.std.specs.Prelude.{◌≡◌, map, IfOk};
 ghost use Rattle.ca_forms.specs.declared.sort.Sort.{Sort};
 ghost use Rattle.ca_norm.specs.Terms.{PlainTerm, add, sub, shape, sort_of, item_sort};
 
-use crate::parts::{both, longer, one_box, three_boxes, two_boxes};
 use ca_forms::Sort;
+use ca_forms::parts::{both, longer, one_box, three_boxes, two_boxes};
 use std::alloc::{AllocError, Global};
 
 /// A term. An atom has a sort, a group and a number in the group. Group 0 is the receiver, 1 and 2

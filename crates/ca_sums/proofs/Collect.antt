@@ -7,7 +7,7 @@ use Rattle.std.specs.List.Sorted.{IsStrictlySortedBy}
 use Rattle.std.specs.Map.{keys_of, lookup}
 use Rattle.std.specs.BTreeMap.{is_at}
 use Rattle.std.proofs.lemmas.Cmp.{tied_itself}
-use Rattle.ca_sums.specs.Sums.{Sum, total, Alike, put_if, insert_at, insert, collect, NoZero}
+use Rattle.ca_sums.specs.Sums.{Sum, total, is_tied, Alike, put_if, insert_at, insert, collect, NoZero}
 use Rattle.ca_sums.proofs.Algebra.{alike_refl, alike_eq, alike_sym, alike_trans, alike_add, alike_mul, alike_mod, alike_cancel}
 
 -- the monomials of the sum are above m
@@ -17,12 +17,6 @@ Above R m ps = AllByRecursion (λ n. R m n ≡ Less) (keys_of ps)
 -- gathered: the monomials rise, and each coefficient is a word other than zero
 abbrev pub Gathered : {M : Type 0} → (M → M → Ordering) → Sum M → Type 0
 Gathered R ps = IsStrictlySortedBy R (keys_of ps) × NoZero ps
-
--- 1 where two monomials are tied, else 0
-abbrev pub is_tied : Ordering → ℕ
-is_tied Less = 0
-is_tied Equal = 1
-is_tied Greater = 0
 
 -- a total order that ties only equal monomials
 pub record Exact {M : Type 0} (R : M → M → Ordering) : Type 0 where

@@ -14,7 +14,9 @@ use Rattle.ca_model.specs.declared.value.Slot.TheVariants.{One}
 use Rattle.ca_model.specs.declared.value.Object.{Object}
 use Rattle.ca_meaning.specs.Sections.{done, over, section}
 use Rattle.ca_forms.specs.declared.sort.Sort.TheVariants.{Long, Pointer}
-use Rattle.ca_forms.specs.declared.form.Normal.TheVariants.{Atom}
+use Rattle.ca_forms.specs.declared.form.Normal.{Normal}
+use Rattle.ca_forms.specs.declared.form.Normal.TheVariants.{Scalar}
+use Rattle.ca_forms.specs.Plain.{variable, pointer_part, pointer_form}
 use Rattle.ca_norm.specs.Terms.{atom, add, sub}
 use Rattle.ca_symbolic.specs.declared.verdicts.Verdict.TheVariants.{Commutes, Unproved}
 use Rattle.ca_symbolic.specs.declared.verdicts.Reason.TheVariants.{FieldDiffers}
@@ -80,6 +82,10 @@ made_by_a_difference = refl
 sums_commute : VerdictOf program (op 0) (op 0) Commutes
 sums_commute = (refl, refl)
 
+-- the form of the only parameter of the first or the second operation, where that is a pointer
+abbrev pointed : ℕ → Normal
+pointed group = Scalar (pointer_form (pointer_part (variable Pointer group 0)))
+
 -- the last of two puts of a pointer stands
-ties_differ : VerdictOf program (op 1) (op 1) (Unproved (FieldDiffers (record { class = acc; field = 1 }) (Atom Pointer 2 0) (Atom Pointer 1 0)))
+ties_differ : VerdictOf program (op 1) (op 1) (Unproved (FieldDiffers (record { class = acc; field = 1 }) (pointed 2) (pointed 1)))
 ties_differ = (refl, (refl, record { before = refl; first = refl; second = refl; differ = λ e. cc }))

@@ -22,7 +22,7 @@ use Rattle.ca_symbolic.specs.Symbolic.{starts, fields_after, after}
 use Rattle.ca_symbolic.specs.Verdicts.{after_both}
 use Rattle.ca_symbolic.proofs.Puts.{own_puts}
 use Rattle.ca_symbolic.proofs.Slots.{write}
-use Rattle.ca_symbolic.proofs.Sorts.{AllGood, starts_good, after_good}
+use Rattle.ca_symbolic.proofs.Sorts.{own_sort, AllGood, starts_good, after_good}
 use Rattle.ca_symbolic.proofs.Values.{parameter_means, starts_mean, after_means}
 
 -- Lengths
@@ -48,7 +48,7 @@ same_means v (f ∷ fs) (t ∷ ts) [] a b e = absurd b
 same_means v (f ∷ fs) (t ∷ ts) (u ∷ us) a b e =
     let here : norm t ≡ norm u = cc in
     let rest : map norm ts ≡ map norm us = cc in
-    ap₂ (λ x xs. x ∷ xs) (same_forms v t u a.0.sorted b.0.sorted a.0.fits b.0.fits here) (same_means v fs ts us a.1 b.1 rest)
+    ap₂ (λ x xs. x ∷ xs) (same_forms v t u (own_sort a.0) (own_sort b.0) here) (same_means v fs ts us a.1 b.1 rest)
 
 -- The valuation of an object and the arguments of two operations
 

@@ -1,5 +1,5 @@
 -- The terms that typed puts make are well sorted, and each has the sort of its field.
-use Rattle.std.proofs.Common.{◌≡◌, ℕ, zero, suc, ◌+◌, List, [], ◌∷◌, Option, Some, None, refl, ap, sym, ◌∙◌, slice_set}
+use Rattle.std.proofs.Common.{◌≡◌, ℕ, zero, suc, ◌+◌, List, [], ◌∷◌, Option, Some, None, refl, ap, sym, ◌∙◌, subst, slice_set}
 use Rattle.std.specs.Prelude.{slice_get}
 use Rattle.ca_tree.specs.declared.tree.AssignOp.TheVariants.{Put}
 use Rattle.ca_tree.specs.declared.tree.BinaryOp.TheVariants.{Plus, Minus}
@@ -11,14 +11,16 @@ use Rattle.ca_program.specs.Plain.{Expression, Statements, local, own, binary, p
 use Rattle.ca_program.specs.Plain as plain
 use Rattle.ca_small.specs.TypedPuts.{IsScalar, ValueTyped, PutTyped, PutsTyped}
 use Rattle.ca_forms.specs.declared.sort.Sort.{Sort}
-use Rattle.ca_norm.specs.Terms.{PlainTerm, sort_of, IsSorted, LiteralsFit}
+use Rattle.ca_norm.specs.Terms.{PlainTerm, sort_of, IsOf}
 use Rattle.ca_symbolic.specs.Symbolic.{sort_of_type, sort_of_slot, starts, parameter, or_null, term_of, fields_after}
 
 -- a well sorted term of the sort
 pub record IsGood (s : Sort) (t : PlainTerm) : Type 0 where
   pub sort : sort_of t ≡ s
-  pub sorted : IsSorted t
-  pub fits : LiteralsFit t
+  pub is : IsOf s t
+
+pub own_sort : {s : Sort} {t : PlainTerm} → IsGood s t → IsOf (sort_of t) t
+own_sort {s} {t} g = subst (λ z. IsOf z t) (sym g.sort) g.is
 
 -- a good term for each field
 abbrev pub AllGood : List FieldInfo → List PlainTerm → Type 0
@@ -28,11 +30,11 @@ AllGood _ _ = ⊥
 
 pub starts_good : (n : ℕ) (fs : List FieldInfo) → AllGood fs (starts n fs)
 starts_good n [] = tt
-starts_good n (f ∷ fs) = (record { sort = refl; sorted = tt; fits = tt }, starts_good (n + 1) fs)
+starts_good n (f ∷ fs) = (record { sort = refl; is = refl }, starts_good (n + 1) fs)
 
 parameter_good : (g n : ℕ) (o : Option ValueType) (ty : ValueType) → o ≡ Some ty → IsGood (sort_of_type ty) (parameter g n o)
 parameter_good g n None ty e = cc
-parameter_good g n (Some u) ty e = let same : u ≡ ty = cc in record { sort = ap sort_of_type same; sorted = tt; fits = tt }
+parameter_good g n (Some u) ty e = let same : u ≡ ty = cc in record { sort = ap sort_of_type same; is = ap sort_of_type same }
 
 slot_sort : (u ty : ValueType) (n : Option ℕ) → u ≡ ty → n ≡ None → sort_of_slot u n ≡ sort_of_type ty
 slot_sort u ty None e f = ap sort_of_type e
@@ -42,30 +44,32 @@ field_good : (fs : List FieldInfo) (ts : List PlainTerm) (f : ℕ) (ty : ValueTy
 field_good [] [] f ty a i = absurd i
 field_good [] (t ∷ ts) f ty a i = absurd i
 field_good (x ∷ fs) [] f ty a i = absurd a
-field_good (x ∷ fs) (t ∷ ts) zero ty a i = record { sort = a.0.sort ∙ slot_sort x.ty ty x.length i.0 i.1; sorted = a.0.sorted; fits = a.0.fits }
+field_good (x ∷ fs) (t ∷ ts) zero ty a i =
+    let e : sort_of_slot x.ty x.length ≡ sort_of_type ty = slot_sort x.ty ty x.length i.0 i.1 in record { sort = a.0.sort ∙ e; is = subst (λ z. IsOf z t) e a.0.is }
 field_good (x ∷ fs) (t ∷ ts) (suc f) ty a i = field_good fs ts f ty a.1 i
 
 module _ (c : ClassId) (fs : List FieldInfo) (g : ℕ) (locals : List ValueType) where
   pub term_good : (e : Expression) (ty : ValueType) (ts : List PlainTerm) → AllGood fs ts → ValueTyped c fs locals e ty → IsGood (sort_of_type ty) (term_of g locals ts e)
-  term_good (plain.number n) type.Long ts a t = record { sort = refl; sorted = tt; fits = t }
-  term_good plain.null (type.Pointer d) ts a t = record { sort = refl; sorted = tt; fits = tt }
+  term_good (plain.number n) type.Long ts a t = record { sort = refl; is = (refl, t) }
+  term_good plain.null (type.Pointer d) ts a t = record { sort = refl; is = refl }
   term_good (local l) ty ts a t = parameter_good g l.0 (slice_get locals l.0) ty t
   term_good (own f) ty ts a t = field_good fs ts f.field ty a t.1
   term_good (binary Plus x y) type.Long ts a t =
       let p = term_good x type.Long ts a t.0 in
       let q = term_good y type.Long ts a t.1 in
-      record { sort = refl; sorted = (p.sort, q.sort, p.sorted, q.sorted); fits = (p.fits, q.fits) }
+      record { sort = refl; is = (refl, p.is, q.is) }
   term_good (binary Minus x y) type.Long ts a t =
       let p = term_good x type.Long ts a t.0 in
       let q = term_good y type.Long ts a t.1 in
-      record { sort = refl; sorted = (p.sort, q.sort, p.sorted, q.sorted); fits = (p.fits, q.fits) }
+      record { sort = refl; is = (refl, p.is, q.is) }
   term_good e ty ts a t = absurd t
 
   set_good : (gs : List FieldInfo) (ts : List PlainTerm) (f : ℕ) (ty : ValueType) (t : PlainTerm) → AllGood gs ts → IsScalar (slice_get gs f) ty → IsGood (sort_of_type ty) t → AllGood gs (slice_set ts f t)
   set_good [] [] f ty t a i w = a
   set_good [] (u ∷ ts) f ty t a i w = absurd i
   set_good (x ∷ gs) [] f ty t a i w = a
-  set_good (x ∷ gs) (u ∷ ts) zero ty t a i w = (record { sort = w.sort ∙ sym (slot_sort x.ty ty x.length i.0 i.1); sorted = w.sorted; fits = w.fits }, a.1)
+  set_good (x ∷ gs) (u ∷ ts) zero ty t a i w =
+      let e : sort_of_type ty ≡ sort_of_slot x.ty x.length = sym (slot_sort x.ty ty x.length i.0 i.1) in (record { sort = w.sort ∙ e; is = subst (λ z. IsOf z t) e w.is }, a.1)
   set_good (x ∷ gs) (u ∷ ts) (suc f) ty t a i w = (a.0, set_good gs ts f ty t a.1 i w)
 
   -- what a typed put says: a type that is the field's and the value's

@@ -1,0 +1,7 @@
+use Rattle.std.proofs.Common.{arith}
+use Rattle.ca_forms.proofs.Divisions.{divided_is}
+use Rattle.ca_forms.proofs.rules.divided.Goals as goal
+
+pub returns-else-n-eq0 : goal.returns-else-n-eq0
+returns-else-n-eq0 c =
+    divided_is c.args.m c.args.n c.cast_signed.result c.wrapping_div.result c.cast_unsigned.result (omega arith) c.ranges.n (record { sfits = c.cast_signed.type_inv }) (record { sfits = c.wrapping_div.type_inv }) c.if-n-eq0.false c.cast_signed.ensures c.wrapping_div.ensures c.cast_unsigned.ensures

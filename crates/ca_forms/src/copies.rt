@@ -1,0 +1,172 @@
+//! Copies of forms.
+
+ghost use Rattle.std.specs.Prelude.{◌≡◌, IfOk};
+
+use crate::parts::{both, one_box, two_boxes};
+use crate::polynomial::{
+    Monomial, Node, Part, Pointer, PointerNode, Polynomial, Power, Product, Scalar, ScalarNode, Scalars,
+};
+use std::alloc::{AllocError, Global};
+
+impl Part {
+    /// The same part once more.
+    #[cycle(copy)]
+    #[inline(never)]
+    pub fn copy(&self, alloc: Global) -> Result<Part, AllocError>
+        ensures { IfOk result (λ p. p ≡ self.now) }
+    {
+        match &self.node {
+            Node::Variable(s, g, n) => Ok(Node::Variable(*s, *g, *n).part()),
+            Node::Less(a, b) => {
+                let (first, second) = both(a.copy(alloc), b.copy(alloc))?;
+                Ok(Node::Less(first, second).part())
+            }
+            Node::Zero(a) => Ok(Node::Zero(a.copy(alloc)?).part()),
+            Node::SamePointer(p, q) => {
+                let (first, second) = both(p.copy(alloc), q.copy(alloc))?;
+                Ok(Node::SamePointer(first, second).part())
+            }
+            Node::Quotient(a, n) => Ok(Node::Quotient(a.copy(alloc)?, *n).part()),
+            Node::Modulus(a, n) => Ok(Node::Modulus(a.copy(alloc)?, *n).part()),
+            Node::Field(s, p, c, f) => Ok(Node::Field(*s, p.copy(alloc)?, *c, *f).part()),
+            Node::Item(s, p, c, f, i) => {
+                let (object, index) = both(p.copy(alloc), i.copy(alloc))?;
+                Ok(Node::Item(*s, object, *c, *f, index).part())
+            }
+            Node::Result(s, m, p, xs) => {
+                let (receiver, args) = both(p.copy(alloc), xs.copy(alloc))?;
+                Ok(Node::Result(*s, *m, receiver, args).part())
+            }
+        }
+    }
+}
+
+impl Power {
+    /// The same power once more.
+    #[cycle(copy)]
+    pub fn copy(&self, alloc: Global) -> Result<Power, AllocError>
+        ensures { IfOk result (λ p. p ≡ self.now) }
+    {
+        let part = self.part.copy(alloc)?;
+        Ok(Power {
+            part,
+            exponent: self.exponent,
+        })
+    }
+}
+
+impl Monomial {
+    /// The same monomial once more.
+    #[cycle(copy)]
+    pub fn copy(&self, alloc: Global) -> Result<Monomial, AllocError>
+        ensures { IfOk result (λ m. m ≡ self.now) }
+    {
+        let powers = copy_powers(alloc, &self.powers)?;
+        Ok(Monomial { powers })
+    }
+}
+
+#[cycle(copy)]
+fn copy_powers(alloc: Global, powers: &[Power]) -> Result<Vec<Power>, AllocError>
+    ensures { IfOk result (λ v. v.items ≡ powers.now) }
+{
+    let mut copies = Vec::new(alloc);
+    for power in powers {
+        copies.push(power.copy(alloc)?)?;
+    }
+    Ok(copies)
+}
+
+impl Product {
+    #[cycle(copy)]
+    fn copy(&self, alloc: Global) -> Result<Product, AllocError>
+        ensures { IfOk result (λ p. p ≡ self.now) }
+    {
+        let monomial = self.monomial.copy(alloc)?;
+        Ok(Product {
+            monomial,
+            coefficient: self.coefficient,
+        })
+    }
+}
+
+impl Polynomial {
+    /// The same polynomial once more.
+    #[cycle(copy)]
+    pub fn copy(&self, alloc: Global) -> Result<Polynomial, AllocError>
+        ensures { IfOk result (λ f. f ≡ self.now) }
+    {
+        let products = copy_products(alloc, &self.products)?;
+        Ok(Polynomial { products })
+    }
+}
+
+#[cycle(copy)]
+fn copy_products(alloc: Global, products: &[Product]) -> Result<Vec<Product>, AllocError>
+    ensures { IfOk result (λ v. v.items ≡ products.now) }
+{
+    let mut copies = Vec::new(alloc);
+    for product in products {
+        copies.push(product.copy(alloc)?)?;
+    }
+    Ok(copies)
+}
+
+impl Pointer {
+    /// The same pointer once more.
+    #[cycle(copy)]
+    #[inline(never)]
+    pub fn copy(&self, alloc: Global) -> Result<Pointer, AllocError>
+        ensures { IfOk result (λ p. p ≡ self.now) }
+    {
+        match &self.node {
+            PointerNode::Null => Ok(PointerNode::Null.pointer()),
+            PointerNode::Part(part) => {
+                let part = one_box(alloc, part.copy(alloc))?;
+                Ok(PointerNode::Part(part).pointer())
+            }
+            PointerNode::Choice(a, p, q) => {
+                let sides = two_boxes(alloc, p.copy(alloc), q.copy(alloc));
+                let (condition, (first, second)) = both(one_box(alloc, a.copy(alloc)), sides)?;
+                Ok(PointerNode::Choice(condition, first, second).pointer())
+            }
+        }
+    }
+}
+
+impl Scalar {
+    /// The same form once more.
+    #[cycle(copy)]
+    #[inline(never)]
+    pub fn copy(&self, alloc: Global) -> Result<Scalar, AllocError>
+        ensures { IfOk result (λ x. x ≡ self.now) }
+    {
+        match &self.node {
+            ScalarNode::Number(a) => Ok(ScalarNode::Number(a.copy(alloc)?).scalar()),
+            ScalarNode::Truth(a) => Ok(ScalarNode::Truth(a.copy(alloc)?).scalar()),
+            ScalarNode::Pointer(p) => Ok(ScalarNode::Pointer(p.copy(alloc)?).scalar()),
+        }
+    }
+}
+
+impl Scalars {
+    #[cycle(copy)]
+    fn copy(&self, alloc: Global) -> Result<Scalars, AllocError>
+        ensures { IfOk result (λ xs. xs ≡ self.now) }
+    {
+        let items = copy_scalars(alloc, &self.items)?;
+        Ok(Scalars { items })
+    }
+}
+
+#[cycle(copy)]
+#[inline(never)]
+fn copy_scalars(alloc: Global, scalars: &[Scalar]) -> Result<Vec<Scalar>, AllocError>
+    ensures { IfOk result (λ v. v.items ≡ scalars.now) }
+{
+    let mut copies = Vec::new(alloc);
+    for scalar in scalars {
+        copies.push(scalar.copy(alloc)?)?;
+    }
+    Ok(copies)
+}

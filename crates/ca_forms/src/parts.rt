@@ -1,0 +1,67 @@
+//! Parts of a term or a form, in boxes and in lists. Where memory runs out they are dropped here, in functions for values
+//! of all types, since a drop written out for a term or a form takes in each of its kinds.
+
+ghost use Rattle.std.specs.Prelude.{◌≡◌, ◌++◌, ◌∷◌, [], Ok, IfOk, box_value};
+
+use std::alloc::{AllocError, Global};
+
+/// The part in a box.
+pub fn one_box<T: Drop>(alloc: Global, part: Result<T, AllocError>) -> Result<Box<T>, AllocError>
+    ensures { IfOk result (λ b. part ≡ Ok (box_value b)) }
+{
+    let part = part?;
+    Ok(Box::new(alloc, part)?)
+}
+
+/// Both, or what is missing.
+pub fn both<T: Drop, U: Drop>(
+    first: Result<T, AllocError>,
+    second: Result<U, AllocError>,
+) -> Result<(T, U), AllocError>
+    ensures first { IfOk result (λ p. first ≡ Ok p.0) }
+    ensures second { IfOk result (λ p. second ≡ Ok p.1) }
+{
+    let first = first?;
+    let second = second?;
+    Ok((first, second))
+}
+
+/// Each of the two in a box.
+pub fn two_boxes<T: Drop>(
+    alloc: Global,
+    first: Result<T, AllocError>,
+    second: Result<T, AllocError>,
+) -> Result<(Box<T>, Box<T>), AllocError>
+    ensures first { IfOk result (λ p. first ≡ Ok (box_value p.0)) }
+    ensures second { IfOk result (λ p. second ≡ Ok (box_value p.1)) }
+{
+    let first = one_box(alloc, first)?;
+    let second = one_box(alloc, second)?;
+    Ok((first, second))
+}
+
+/// Each of the three in a box.
+pub fn three_boxes<T: Drop>(
+    alloc: Global,
+    first: Result<T, AllocError>,
+    second: Result<T, AllocError>,
+    third: Result<T, AllocError>,
+) -> Result<(Box<T>, Box<T>, Box<T>), AllocError>
+    ensures first { IfOk result (λ p. first ≡ Ok (box_value p.0)) }
+    ensures second { IfOk result (λ p. second ≡ Ok (box_value p.1)) }
+    ensures third { IfOk result (λ p. third ≡ Ok (box_value p.2)) }
+{
+    let first = one_box(alloc, first)?;
+    let second = one_box(alloc, second)?;
+    let third = one_box(alloc, third)?;
+    Ok((first, second, third))
+}
+
+/// The items and one more behind them.
+pub fn longer<T: Drop>(items: Vec<T>, item: T) -> Result<Vec<T>, AllocError>
+    ensures { IfOk result (λ v. v.items ≡ items.items ++ item ∷ []) }
+{
+    let mut more = items;
+    more.push(item)?;
+    Ok(more)
+}
