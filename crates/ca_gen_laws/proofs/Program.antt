@@ -16,7 +16,7 @@ use Rattle.ca_program.specs.declared.program.FirstPart.TheVariants.{Declares}
 use Rattle.ca_program.specs.Plain.{PlainProgram, PlainClass, PlainMethod, Statement, Statements, number, truth, local, own, own_item, read_item, unary, binary, no_expressions, expression_and, block, put_local, put_field, new_local, new_item, invoke, if_else, for_loop, no_statements, statement_and}
 use Rattle.ca_parse.specs.Grammar.{statements}
 use Rattle.ca_resolve.specs.Judged.{fine, both, within}
-use Rattle.ca_types.specs.Statements.{Standing, behind, behind_all, judge_statements, statements_in}
+use Rattle.ca_types.specs.Statements.{Env, behind, behind_all, judge_statements, statements_in}
 use Rattle.ca_types.specs.Classes.{Parts, first_class, judge_classes, main_begin, program_of, judge}
 use Rattle.ca_resolve.specs.Scopes.{classes_of}
 use Rattle.ca_gen_laws.proofs.NodeTree.{node_tree}
@@ -152,7 +152,7 @@ module _ (size : ℕ) (a b f : ℕ → Token) (links : List Link) (h : ℕ → T
   whole = text_tree size a b f links h
 
   -- where its links stand
-  abbrev within_main : Standing
+  abbrev within_main : Env
   within_main = behind (main_begin whole) (begin_tree f)
 
   links_fine : (xs : List Link) (front : List Statement)
