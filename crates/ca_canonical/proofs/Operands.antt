@@ -1,5 +1,5 @@
 -- Each expression that the tokens of a text derive is read back.
-use Rattle.std.proofs.Common.{◌≡◌, ℕ, ◌+◌, ◌<◌, List, [], ◌∷◌, ◌++◌, Bool, true, false, refl, sym, ap, ◌∙◌, subst, arith, append_assoc}
+use Rattle.std.proofs.Common.{◌≡◌, ℕ, ◌+◌, List, [], ◌∷◌, ◌++◌, Bool, true, false, refl, sym, ap, ◌∙◌, subst, arith, append_assoc}
 use Rattle.std.specs.Prelude.{nat_lt}
 use Rattle.ca_tree.specs.declared.name.Place.{Place}
 use Rattle.ca_tree.specs.declared.token.Kind.{Kind}

@@ -1,5 +1,5 @@
 -- What a terminal that was read says of the token that stands there, and of every other test of it.
-use Rattle.std.proofs.Common.{◌≡◌, ℕ, ℤ, pos, List, [], ◌∷◌, Bool, true, false, cond, nat_eq, Option, Some, None, refl, sym, ◌∙◌, ap}
+use Rattle.std.proofs.Common.{◌≡◌, ℕ, ℤ, pos, List, [], Bool, true, false, cond, nat_eq, Option, Some, None, refl, ◌∙◌, ap}
 use Rattle.std.proofs.lemmas.Bool.{eq-eqb}
 use Rattle.ca_descent.specs.Exact.{Unlimited, Sees, sees, head_of}
 use Rattle.ca_descent.proofs.Exact.{sees_default}

@@ -3,7 +3,7 @@
 use crate::sources::tree;
 use ca_program::{ClassId, Expr, LocalId};
 use ca_resolve::{
-    ClassTable, Locals, Scope, Ty, Target, VisibleLocal, and_one, check_call, check_for,
+    ClassTable, Locals, Scope, Target, Ty, VisibleLocal, and_one, check_call, check_for,
     check_target, check_value,
 };
 use ca_tree::{ClassNode, Name, StmtKind, StmtNode};
