@@ -10,6 +10,7 @@ ghost use Rattle.ca_meaning.specs.Functions.{value_in};
 ghost use Rattle.ca_serial.specs.Resume.{rest_of, AtOnce, Puts};
 
 use crate::bodies::Mode;
+use crate::expressions::is_call;
 use crate::machine::Machine;
 use crate::work::Work;
 use ca_model::Value;
@@ -67,7 +68,10 @@ impl<'a> Machine<'a> {
     {
         match e {
             Expr::Number(number) => Some(Value::Long(*number)),
-            Expr::Binary(op, _, _) => {
+            Expr::Binary(op, _, right) => {
+                if is_call(right) {
+                    return None;
+                }
                 if !gives_number(*op) {
                     return self.value_of(program, line, e);
                 }

@@ -5,7 +5,7 @@ ghost use Rattle.ca_program.specs.View.{program_view, method_view, expression_vi
 ghost use Rattle.ca_model.specs.declared.value.Value.{Value as Datum};
 ghost use Rattle.ca_meaning.specs.Functions.{body_of};
 ghost use Rattle.ca_meaning.specs.Flows.{gives_back};
-ghost use Rattle.ca_serial.specs.Resume.{rest_of, world_of, runs, back_of, unwound, handed_back, begins, after, target_method, target_mode, others_in};
+ghost use Rattle.ca_serial.specs.Resume.{rest_of, world_of, runs, back_in, back_of, resume, unwound, handed_back, begins, after, target_method, target_mode, others_in};
 
 use crate::bodies::Mode;
 use crate::expressions::calls;
@@ -97,22 +97,38 @@ impl<'a> Machine<'a> {
     fn begin_body(&mut self, program: &'a Program, ss: &'a [Stmt]) -> Result<Next, Memory>
         ensures { IfOk result (λ next. (ps : List Datum) → rest_of (program_view program.now) (Work.Seq ss.entry ∷ Work.Leave ∷ self.old.todo) self.old ps ≡ after (program_view program.now) self.new ps next) }
     {
+        if let Some(value) = self.gives(program, ss) {
+            let next = self.hand_back(program, value)?;
+            return Ok(next);
+        }
         let rest = self.do_all(program, ss);
         if rest.is_empty() {
             let next = self.leave(program)?;
             return Ok(next);
         }
-        if let Mode::InFunction = self.bodies.mode() {
-            if let Some((first, _)) = rest.split_first() {
-                if let Some(value) = self.given_back(program, first.line, first) {
-                    let next = self.hand_back(program, value)?;
-                    return Ok(next);
-                }
+        if rest.len() < ss.len() {
+            if let Some(value) = self.gives(program, rest) {
+                let next = self.hand_back(program, value)?;
+                return Ok(next);
             }
         }
         self.todo.push(Work::Leave)?;
         let next = self.put_off(program, rest)?;
         Ok(next)
+    }
+
+    /// The value that a list of statements of a value method gives back, where its first one does so at once.
+    #[inline]
+    fn gives(&self, program: &Program, ss: &[Stmt]) -> Option<Value>
+        ensures { IfSome result (λ v. (todo : List Work) (ps : List Datum) → rest_of (program_view program.now) (Work.Seq ss.entry ∷ Work.Leave ∷ todo) self.now ps ≡ back_in self.now.bodies.below (world_of self.now ps) (λ g below. resume (program_view program.now) todo (v ∷ self.now.values) g below (world_of self.now ps) self.now.left)) }
+    {
+        if let Mode::InOperation = self.bodies.mode() {
+            return None;
+        }
+        match ss.split_first() {
+            Some((first, _)) => self.given_back(program, first.line, first),
+            None => None,
+        }
     }
 
     /// Makes the first statement of a list the next piece of work, and what is behind it the one after that.
