@@ -10,13 +10,14 @@
 //! which the workers' steps may fall: gathered histories are legal, and they have the noted entries, each once and at
 //! its place, and no others.
 //!
-//! `add` has the whole change that a task makes to a history, `rule` what all steps keep (`specs/Rule.antt`), and
+//! `adding` has the whole change that a task makes to a history, `rule` what all steps keep (`specs/Rule.antt`), and
 //! `cells` the cells and seats: `making`, `claims`, `applying` and `gathering` have their calls.
 #![tactic(auto)]
 
-pub mod add;
+pub mod adding;
 pub mod cells;
+mod copies;
 pub mod rule;
 
-pub use add::{Added, add};
+pub use adding::{Added, add};
 pub use cells::{Applied, Cells, Refused, Seat};

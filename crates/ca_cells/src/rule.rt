@@ -12,7 +12,8 @@ use std::collections::LinkedList;
 use std::snapshot::Snapshot;
 
 /// What the cells of a round are for: the program, the extent, the heap that sections read, and the heap that the
-/// round begins with. It exists in contracts alone.
+/// round begins with. It takes no bytes: only contracts see it.
+#[derive(Drop)]
 pub struct Given {
     pub program: Snapshot<Program>,
     pub extent: Snapshot<Extent>,

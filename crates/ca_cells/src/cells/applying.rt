@@ -6,7 +6,7 @@ ghost use Rattle.ca_cells.specs.Rounds.{MayRun, program_of, frozen_of};
 ghost use Rattle.ca_cells.specs.Seats.{IsOf, IsSameSeat, Applies, cells_key, notes_of, kept_of};
 
 use super::{Applied, Cells, Refused, Seat};
-use crate::add::{Added, add};
+use crate::adding::{Added, add};
 use ca_base::Gate;
 use ca_logs::Task;
 use ca_model::Heap;

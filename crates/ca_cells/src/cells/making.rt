@@ -1,15 +1,17 @@
 //! Making the cells of a round, and a seat for each worker.
 
-ghost use Rattle.std.specs.Prelude.{◌≡◌, ◌<◌, ◌≤◌, true, [], length, replicate, slice_get, Contains, IfOk};
+ghost use Rattle.std.specs.Prelude.{◌≡◌, ◌<◌, ◌≤◌, true, [], length, replicate, Contains, IfOk};
 ghost use Rattle.ca_program.specs.declared.program.OpId.{OpId};
 ghost use Rattle.ca_program.specs.View.{program_view};
 ghost use Rattle.ca_model.specs.Typed.{TypedHeap};
 ghost use Rattle.ca_meaning.specs.ProgramTyped.{ProgramTyped};
 ghost use Rattle.ca_order_laws.specs.Order.{StandsFor};
 ghost use Rattle.ca_cells.specs.Rounds.{IsGiven, SeparableIn};
+ghost use Rattle.ca_cells.specs.Slots.{AreOpened};
 ghost use Rattle.ca_cells.specs.Seats.{AreAll, AreNumbered, all_of, cells_key, kept_of, notes_of};
 
 use super::{Cells, Inner, Seat};
+use crate::copies::copy_object;
 use crate::rule::{Cut, Given};
 use atomic_table::{Refused, Table};
 use ca_base::Memory;
@@ -68,11 +70,13 @@ impl Cells {
             Ok(made) => made,
             Err(Refused { slots: _ }) => return Err(Memory),
         };
-        for worker in 0..workers - 1 {
+        let mut worker = 0;
+        while worker + 1 < workers {
             let seat = table.shared.split_seat::<Cut>(&mut inner);
             seats.push_reserved(Seat::of(worker, seat));
+            worker += 1;
         }
-        seats.push_reserved(Seat::of(workers - 1, inner));
+        seats.push_reserved(Seat::of(worker, inner));
         Ok((Cells { table, room }, seats))
     }
 }
@@ -84,12 +88,27 @@ fn zero_words(alloc: Global, count: usize) -> Result<Vec<u64>, AllocError>
     vec![in alloc; 0; count]
 }
 
+/// A history without entries of the object.
+fn open(alloc: Global, object: &Object) -> Result<CellLog, Memory>
+    ensures { IfOk result (λ log. (log.entries ≡ []) × (log.object ≡ object.now) × (log.opened.value ≡ object.now)) }
+{
+    Ok(CellLog {
+        opened: Snapshot::of(object),
+        object: copy_object(alloc, object)?,
+        entries: Entries::none(alloc),
+    })
+}
+
 /// A history without entries for each object.
 fn open_slots(alloc: Global, now: &Heap) -> Result<Vec<Option<CellLog>>, Memory>
+    ensures { IfOk result (λ slots. (length slots.items ≡ length now.now) × AreOpened now.now slots.items) }
 {
     let mut slots = Vec::with_capacity(alloc, now.len() as usize)?;
-    for cell in 0..now.len() {
-        slots.push_reserved(Some(open(alloc, now.get(cell))?));
+    let mut cell = 0;
+    while cell < now.len() {
+        let log = open(alloc, now.get(cell))?;
+        slots.push(Some(log))?;
+        cell += 1;
     }
     Ok(slots)
 }
