@@ -50,10 +50,27 @@ loop-worker-preserved c = let i = c.loop-worker.invariant in let e = c.split_sea
     }
 
 pub returns-clause-all : goal.returns-clause-all
-returns-clause-all c = ?
+returns-clause-all c = let i = c.loop-worker.invariant in let first : Seat = c.of-5.result in let m = c.in-Ok.ensures.ok in
+    let s : first.inner ≡ c.loop-worker.inner = c.of-5.ensures.0 in
+    let of : Given → Seat → Type 0 = λ (k : Given) (x : Seat). (seat_table x ≡ c.in-Ok.made.0.shared.table_id) × ((view_of x).given ≡ Some k) in
+    let key : Given = record { program = c.of.result; extent = c.of-2.result; frozen = c.of-3.result; now = c.of-4.result } in
+    let all : All (of key) (c.loop-worker.seats.items ++ first ∷ []) = all_more (of key) c.loop-worker.seats.items first i.table.1 (ap (λ x. x.table_id) s ∙ i.table.0, ap (λ x. x.me.0.given) s ∙ i.chief.4) in record {
+      others = c.loop-worker.seats.items;
+      first = first;
+      all = c.push_reserved-2.ensures.items;
+      of = subst (All (of c.in-Ok.made.0.shared.key)) (sym c.push_reserved-2.ensures.items) (subst (λ (k : Given). All (of k) (c.loop-worker.seats.items ++ first ∷ [])) (sym m.5) all);
+      boss = ap (λ x. x.me.0.boss) s ∙ i.chief.0;
+      out = λ f. i.out f ∙ sym (ap (λ x. weight f x.me.0.out) s);
+    }
 
 pub returns-clause-workers : goal.returns-clause-workers
-returns-clause-workers c = ?
+returns-clause-workers c = let i = c.loop-worker.invariant in let first : Seat = c.of-5.result in let p = c.push_reserved-2.ensures.items in (
+  ap length p ∙ (length-append c.loop-worker.seats.items (first ∷ []) ∙ (let a = i.numbers.0 in let b = i.numbers.2 in let e = c.loop-worker-test.false in omega arith)),
+  subst AreNumbered (sym p) (numbered_more c.loop-worker.seats.items first i.numbers.1 (c.of-5.ensures.1 ∙ sym i.numbers.0)),
+)
 
 pub returns-clause-nothing_noted : goal.returns-clause-nothing_noted
-returns-clause-nothing_noted c = ?
+returns-clause-nothing_noted c = let i = c.loop-worker.invariant in let first : Seat = c.of-5.result in let p = c.push_reserved-2.ensures.items in let s = c.of-5.ensures.0 in (
+  ap (all_of notes_of) p ∙ none_more notes_of c.loop-worker.seats.items first (ap (λ x. x.me.0.noted) s ∙ i.empty.0) i.empty.2,
+  ap (all_of kept_of) p ∙ none_more kept_of c.loop-worker.seats.items first (ap (λ x. x.me.0.kept) s ∙ i.empty.1) i.empty.3,
+)
