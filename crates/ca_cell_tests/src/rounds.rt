@@ -8,12 +8,13 @@ ghost use Rattle.ca_cell_tests.specs.Counters.{IsSet, counters, starts, twice};
 
 use crate::counters::{heap, let_go, program};
 use ca_base::{Memory, OpenGate};
-use ca_cells::{Added, Applied, Cells, Desk, Seat, add};
+use ca_cells::{Added, Applied, Cells, Seat, add};
 use ca_extent::extent_of;
 use ca_logs::{RoundLog, Stop, Task};
 use ca_model::{Heap, Object, Slot, Value, Values};
 use ca_parallel::Op;
 use ca_program::{OpId, Program};
+use ca_sections::Desk;
 use std::alloc::Global;
 use std::sync::Wait;
 use std::test::Fail;

@@ -1,5 +1,4 @@
 pub mod Histories
-pub mod SectionAnswers
 pub mod Adds
 pub mod Rounds
 pub mod Notes

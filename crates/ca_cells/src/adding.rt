@@ -16,12 +16,12 @@ ghost use Rattle.ca_cells.specs.Rounds.{SeparableIn};
 ghost use Rattle.ca_cells.specs.Adds.{Adds, IsRan};
 ghost use Rattle.ca_cells.specs.declared.adding.Added.TheVariants.{Stuck};
 
-use crate::sections::{Desk, SectionAnswer, section};
 use ca_base::Memory;
 use ca_logs::{CellLog, Entry, Ops, Stop, Task};
 use ca_model::Heap;
 use ca_parallel::Op;
 use ca_program::Program;
+use ca_sections::{Desk, SectionAnswer, section};
 use std::alloc::{AllocError, Global};
 
 /// What a task did to a history.

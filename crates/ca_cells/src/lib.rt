@@ -17,8 +17,6 @@
 pub mod adding;
 pub mod cells;
 pub mod rule;
-mod sections;
 
 pub use adding::{Added, add};
 pub use cells::{Applied, Cells, Refused, Seat};
-pub use sections::Desk;

@@ -21,6 +21,8 @@ mod runs;
 #[cfg(test)]
 mod scenes;
 #[cfg(test)]
+mod sections;
+#[cfg(test)]
 mod separable;
 #[cfg(test)]
 mod values;

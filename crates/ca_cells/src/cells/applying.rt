@@ -7,11 +7,11 @@ ghost use Rattle.ca_cells.specs.Seats.{IsOf, IsSameSeat, Applies, cells_key, not
 
 use super::{Applied, Cells, Refused, Seat};
 use crate::adding::{Added, add};
-use crate::sections::Desk;
 use ca_base::Gate;
 use ca_logs::Task;
 use ca_model::Heap;
 use ca_program::Program;
+use ca_sections::Desk;
 use std::alloc::Global;
 use std::snapshot::Snapshot;
 use std::sync::Wait;

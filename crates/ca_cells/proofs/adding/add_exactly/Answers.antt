@@ -6,9 +6,9 @@ use Rattle.ca_parallel.specs.declared.op.Op.{Op}
 use Rattle.ca_logs.specs.declared.log.Task.{Task}
 use Rattle.ca_logs.specs.declared.log.Entry.{Entry}
 use Rattle.ca_logs.specs.Entries.{task_after}
-use Rattle.ca_cells.specs.SectionAnswers.{SectionIs}
-use Rattle.ca_cells.specs.declared.sections.SectionAnswer.{SectionAnswer}
-use Rattle.ca_cells.specs.declared.sections.SectionAnswer.TheVariants.{Done}
+use Rattle.ca_sections.specs.Answers.{SectionIs}
+use Rattle.ca_sections.specs.declared.operations.SectionAnswer.{SectionAnswer}
+use Rattle.ca_sections.specs.declared.operations.SectionAnswer.TheVariants.{Done}
 use Rattle.ca_cells.proofs.Histories.{ran_exactly}
 use Rattle.ca_cells.proofs.adding.add_exactly.Goals as goal
 
