@@ -109,12 +109,14 @@ module _ (s : Setting) where
 
   -- where no other pass is out, an empty deque tells that what was taken is what was pushed
   pub finds : (port : ℕ) (v : Hand) → Finds Rule port v (v.boss ≡ true → Drains v)
-  finds port v hands o me is none_out = record { weighed = λ h. let e = is_first [] hands o port v me is in
-      let nobody : weight (out_weight (λ _. 1)) hands ≡ 0 = o.alive (λ _. 1) ∙ ap (weight (λ _. 1)) (ap (λ (y : Hand). y.out) (sym e) ∙ none_out) in
-      let dead : (j : ℕ) (u : Hand) → j ≢ port → get_elem? hands j ≡ some u → weight h u.taken ≡ 0 = λ j u ne at. ap (weight h) (o.idle j u at (by_bool (u.live ≡ false) u.live
-      (λ used. let no : u.boss ≡ false = by_bool (u.boss ≡ false) u.boss (λ b. absurd (ne (o.one_owner j u at b ∙ sym (o.one_owner port v me is)))) (λ b. b) in absurd (omega (arith, term_le (out_weight (λ _. 1)) hands j u at, other_weighs (λ _. 1) u no used)))
-      (λ n. n))) in
-      omega (arith, ap (λ (y : Hand). weight h y.pushed) e, o.balance h, weight_one (λ (x : Hand). weight h x.taken) hands port v me dead) }
+  finds port v hands o me is none_out = record {
+    weighed = λ h. let e = is_first [] hands o port v me is in
+        let nobody : weight (out_weight (λ _. 1)) hands ≡ 0 = o.alive (λ _. 1) ∙ ap (weight (λ _. 1)) (ap (λ (y : Hand). y.out) (sym e) ∙ none_out) in
+        let dead : (j : ℕ) (u : Hand) → j ≢ port → get_elem? hands j ≡ some u → weight h u.taken ≡ 0 = λ j u ne at. ap (weight h) (o.idle j u at (by_bool (u.live ≡ false) u.live
+        (λ used. let no : u.boss ≡ false = by_bool (u.boss ≡ false) u.boss (λ b. absurd (ne (o.one_owner j u at b ∙ sym (o.one_owner port v me is)))) (λ b. b) in absurd (omega (arith, term_le (out_weight (λ _. 1)) hands j u at, other_weighs (λ _. 1) u no used)))
+        (λ n. n))) in
+        omega (arith, ap (λ (y : Hand). weight h y.pushed) e, o.balance h, weight_one (λ (x : Hand). weight h x.taken) hands port v me dead);
+  }
 
   pub forks : (port : ℕ) (v : Hand) → IsOwners v → Forks Rule port v (with_one_out v) (new_hand v)
   forks port v is items hands o me = let w = with_one_out v in let u = new_hand v in let vs : List Hand = set hands port w in

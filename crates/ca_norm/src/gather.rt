@@ -13,8 +13,8 @@ use ca_forms::parts::{both, longer};
 use ca_forms::pointers::{add_same_pointers, chosen_pointer};
 use ca_forms::polynomial::{Monomial, Part, Pointer, Polynomial, Scalar, Scalars};
 use ca_forms::rules::{
-    add_chosen, add_either, add_less, add_modulus, add_number, add_part, add_quotient, add_same, add_same_truths,
-    add_truth,
+    add_chosen, add_either, add_less, add_modulus, add_number, add_part, add_quotient, add_same,
+    add_same_truths, add_truth,
 };
 use ca_forms::sums::{add_product_of, finish};
 use std::alloc::{AllocError, Global};
@@ -135,17 +135,32 @@ fn add_term(
         }
         Term::Read(sort, p, class, field) => {
             let object = pointer_of(alloc, p)?;
-            add_part(alloc, form, Part::field(*sort, object, *class, *field), factor)?;
+            add_part(
+                alloc,
+                form,
+                Part::field(*sort, object, *class, *field),
+                factor,
+            )?;
             Ok(())
         }
         Term::ReadAt(sort, p, class, field, i) => {
             let (object, index) = both(pointer_of(alloc, p), polynomial_of(alloc, i))?;
-            add_part(alloc, form, Part::item(*sort, object, *class, *field, index), factor)?;
+            add_part(
+                alloc,
+                form,
+                Part::item(*sort, object, *class, *field, index),
+                factor,
+            )?;
             Ok(())
         }
         Term::Result(sort, method, p, args) => {
             let (receiver, args) = both(pointer_of(alloc, p), arguments_of(alloc, args))?;
-            add_part(alloc, form, Part::call(*sort, *method, receiver, args), factor)?;
+            add_part(
+                alloc,
+                form,
+                Part::call(*sort, *method, receiver, args),
+                factor,
+            )?;
             Ok(())
         }
         Term::Null => Ok(()),

@@ -39,7 +39,11 @@ fn product(alloc: Global, a: Term, b: Term) -> Result<Term, AllocError> {
 }
 
 fn sum_of_two(alloc: Global) -> Result<Term, AllocError> {
-    Term::add(alloc, Term::Atom(Sort::Long, 1, 0), Term::Atom(Sort::Long, 1, 1))
+    Term::add(
+        alloc,
+        Term::Atom(Sort::Long, 1, 0),
+        Term::Atom(Sort::Long, 1, 1),
+    )
 }
 
 /// Sixteen sums multiplied weigh exactly the most, and one more addend is too much.

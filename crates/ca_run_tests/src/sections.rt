@@ -44,7 +44,8 @@ fn call(alloc: Global, receiver: u32, op: u32, argument: i64) -> Result<Op, Fail
 }
 
 /// Two nodes, of which the second points to the first.
-const GRAPH: &str = "class Graph { public: bool mark; long value; long sum; Graph *left; Graph *right;
+const GRAPH: &str =
+    "class Graph { public: bool mark; long value; long sum; Graph *left; Graph *right;
     void init(long v, Graph *l, Graph *r) { value = v; left = l; right = r; }
     void visit(long p) { sum = sum + p; if (!mark) { mark = true;
       if (left != nullptr) left->visit(value); if (right != nullptr) right->visit(value); } } };
