@@ -3,12 +3,13 @@
 use crate::tests::calls::Call;
 use crate::tests::sources::{
     ACCUMULATOR, BINS, DEEP_THEN_HIT, FIRST, FIRST_HEAP, GRAPH_HEAP, GRAPH_VISIT, HIT_THEN_DEEP,
-    LONG_LIST, PRINTED, PRINTS, TWO_BINS, WRAPPING_SUM,
+    LONG_LIST, PRINTED, PRINTS, STEPS_IN_A_LIST, STEPS_IN_A_LOOP, TRAP_IN_A_LIST, TRAP_IN_A_LOOP,
+    TWO_BINS, WRAPPING_SUM,
 };
 use std::alloc::AllocError;
 
 /// Runs to their ends, with the words, the text, the status and what is written.
-const RUNS: [(&str, &str, u8, &str); 33] = [
+const RUNS: [(&str, &str, u8, &str); 43] = [
     ("run 1 100", FIRST, 0, FIRST_HEAP),
     ("run 1 4", FIRST, 0, FIRST_HEAP),
     ("run 1 3", FIRST, 4, "spent 3\n"),
@@ -134,6 +135,17 @@ const RUNS: [(&str, &str, u8, &str); 33] = [
         0,
         "false\n2\n3\n4\n#0 A\n",
     ),
+    // an operation whose second statement is not done at once, in the middle of a list and of a loop
+    ("run 1 7", STEPS_IN_A_LIST, 0, "#0 A n=28\n"),
+    ("run 1 6", STEPS_IN_A_LIST, 4, "spent 6\n"),
+    ("run 1 4", STEPS_IN_A_LIST, 4, "spent 4\n"),
+    ("run 1 10", STEPS_IN_A_LOOP, 0, "#0 A n=22\n"),
+    ("run 1 9", STEPS_IN_A_LOOP, 4, "spent 9\n"),
+    ("run 1 6", STEPS_IN_A_LOOP, 4, "spent 6\n"),
+    ("run 1 3", TRAP_IN_A_LIST, 3, "trap 7 ZeroDivisor\n"),
+    ("run 1 2", TRAP_IN_A_LIST, 4, "spent 2\n"),
+    ("run 1 5", TRAP_IN_A_LOOP, 3, "trap 7 ZeroDivisor\n"),
+    ("run 1 4", TRAP_IN_A_LOOP, 4, "spent 4\n"),
 ];
 
 /// Runs to the heap, a trap or a spent budget.

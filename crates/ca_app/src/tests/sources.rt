@@ -46,3 +46,17 @@ pub const PRINTS: &str =
     "class Bin { public: long n; void add(long v) { n = n + v; } }; int main() { Bin *b = new Bin(); for (long i = 0; i < 3; i++) { b->add(i); print(i); } print(true); }\n";
 
 pub const PRINTED: &str = "0\n1\n2\ntrue\n#0 Bin n=3\n";
+
+/// Calls in a list, and in the body of a loop, of an operation whose second statement takes a step.
+pub const STEPS_IN_A_LIST: &str =
+    "class A {\npublic:\n  long n;\n  long part(long v) { return 12 / v; }\n  void add(long v) {\n    n += v;\n    n += part(v);\n  }\n  void three(long v) {\n    add(1);\n    add(v);\n    add(2);\n  }\n  void turns(long v) {\n    for (long i = 0; i < 3; i++) add(v - i);\n  }\n};\nint main() {\n  A *a = new A();\n  a->three(3);\n}\n";
+
+pub const STEPS_IN_A_LOOP: &str =
+    "class A {\npublic:\n  long n;\n  long part(long v) { return 12 / v; }\n  void add(long v) {\n    n += v;\n    n += part(v);\n  }\n  void three(long v) {\n    add(1);\n    add(v);\n    add(2);\n  }\n  void turns(long v) {\n    for (long i = 0; i < 3; i++) add(v - i);\n  }\n};\nint main() {\n  A *a = new A();\n  a->turns(4);\n}\n";
+
+/// The same, with a second statement that traps at the second call.
+pub const TRAP_IN_A_LIST: &str =
+    "class A {\npublic:\n  long n;\n  long part(long v) { return 12 / v; }\n  void add(long v) {\n    n += v;\n    n += 12 / v;\n  }\n  void three(long v) {\n    add(1);\n    add(v);\n    add(2);\n  }\n  void turns(long v) {\n    for (long i = 0; i < 3; i++) add(v - i);\n  }\n};\nint main() {\n  A *a = new A();\n  a->three(0);\n}\n";
+
+pub const TRAP_IN_A_LOOP: &str =
+    "class A {\npublic:\n  long n;\n  long part(long v) { return 12 / v; }\n  void add(long v) {\n    n += v;\n    n += 12 / v;\n  }\n  void three(long v) {\n    add(1);\n    add(v);\n    add(2);\n  }\n  void turns(long v) {\n    for (long i = 0; i < 3; i++) add(v - i);\n  }\n};\nint main() {\n  A *a = new A();\n  a->turns(1);\n}\n";
