@@ -7,4 +7,3 @@ pub mod Items
 pub mod Stacks
 pub mod AtOnce
 pub mod Returns
-pub mod Beginnings

@@ -269,9 +269,9 @@ pub fn calls(e: &Expr) -> bool {
     }
 }
 
-/// Whether an expression is a call. It decides only which way is taken.
+/// Whether an expression is a call.
 #[inline]
-pub fn is_call(e: &Expr) -> bool {
+fn is_call(e: &Expr) -> bool {
     match e {
         Expr::Value(_, _, _) => true,
         _ => false,

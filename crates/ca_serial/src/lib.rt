@@ -22,7 +22,6 @@ mod print;
 mod puts;
 mod running;
 mod stack;
-mod starts;
 mod statements;
 mod step;
 mod work;

@@ -1,0 +1,20 @@
+use Rattle.std.proofs.Common.{◌∙◌, ◌≡◌, [], sym}
+use Rattle.std.proofs.lemmas.Bool.{eqb-true}
+use Rattle.std.proofs.lemmas.List.{nil_from_length}
+use Rattle.ca_program.specs.View.{program_view}
+use Rattle.ca_serial.specs.Resume.{world_of}
+use Rattle.ca_serial.proofs.Steps.{list_runs, last_runs}
+use Rattle.ca_serial.proofs.machine.Machine.go_through.Goals as goal
+
+pub returns-then-is_empty : goal.returns-then-is_empty
+returns-then-is_empty c = λ ps.
+    let m = c.args.self.now in
+    let none : c.in-Some.rest.now ≡ [] = nil_from_length c.in-Some.rest.now (eqb-true _ 0 (sym c.if-is_empty.ensures)) in
+    last_runs (program_view c.args.program.now) m.bodies.current (world_of m ps) c.in-Some.first.now c.in-Some.rest.now c.args.ss.now m.left _ _ c.in-Some.ensures.cases.0 none
+    ∙ c.in_ok-next-in-Some.ensures ps
+
+pub returns-in_ok-next-in-Some-2 : goal.returns-in_ok-next-in-Some-2
+returns-in_ok-next-in-Some-2 c = λ ps.
+    let m = c.args.self.now in
+    list_runs (program_view c.args.program.now) m.bodies.current (world_of m ps) c.in-Some.first.now c.in-Some.rest.now c.args.ss.now m.left _ _ c.in-Some.ensures.cases.0
+    ∙ rw c.in_ok-push-in-Some.ensures at c.in_ok-next-in-Some-2.ensures ps
