@@ -2,17 +2,20 @@
 
 ghost use Rattle.std.specs.Prelude.{IfOk, OnErr, ◌≡◌, []};
 ghost use Rattle.ca_program.specs.View.{program_view, statement_view};
+ghost use Rattle.ca_meaning.specs.Flows.{line_of};
 ghost use Rattle.ca_meaning.specs.Sections.{loop_section};
 ghost use Rattle.ca_parallel.specs.Bodies.{targets_of};
 ghost use Rattle.ca_sections.specs.declared.desk.Own.TheVariants.{Frozen};
 ghost use Rattle.ca_sections.specs.Answers.{LoopIs, LocalsAre, locals_after};
+ghost use Rattle.ca_sections.specs.Sites.{loop_at, receiver_of};
 
 use crate::desk::{Desk, Own, Receiver};
+use crate::find::loop_in;
 use crate::operations::SectionAnswer;
 use ca_base::Memory;
 use ca_model::{Heap, Value};
 use ca_parallel::Op;
-use ca_program::{Program, Stmt};
+use ca_program::{LoopId, Program, Stmt};
 use std::alloc::Global;
 use std::mem;
 
@@ -80,4 +83,39 @@ pub fn section_of_loop<'a>(
         mem::swap(&mut desk.state.locals, locals);
     }
     Ok(answer)
+}
+
+/// The section of the loop with this number, of operations or of `main`, within a budget of steps, where its
+/// receiver, which `main` hasn't, and its locals have these values. It is found by a walk over the program;
+/// where there is none, nothing is done in 0 steps.
+///
+/// Done puts what it lists behind what stands in `out`. On each other answer, and where memory is wanting,
+/// `out` is as before.
+pub fn section_loop<'a>(
+    desk: &mut Desk<'a>,
+    alloc: Global,
+    program: &'a Program,
+    frozen: &Heap,
+    receiver: Option<u32>,
+    locals: &[Value],
+    site: LoopId,
+    left: u64,
+    out: &mut Vec<Op>,
+) -> Result<SectionAnswer, Memory>
+    ensures answer { targets_of (loop_at (program_view program.now) site) ≡ [] → IfOk result (λ answer. LoopIs answer (loop_section (program_view program.now) frozen.now (receiver_of receiver) locals.now (line_of (loop_at (program_view program.now) site)) (loop_at (program_view program.now) site) left) out.old.items out.new.items) }
+    ensures kept { OnErr result (out.new.items ≡ out.old.items) }
+{
+    let Some(s) = loop_in(program, site) else {
+        return Ok(SectionAnswer::Done { steps: 0 });
+    };
+    let this = match receiver {
+        Some(id) => Value::Ref(id),
+        None => Value::Null,
+    };
+    let receiver = Receiver {
+        alloc,
+        this,
+        own: Own::Frozen,
+    };
+    desk.run_loop(program, frozen, receiver, locals, s.line, s, left, out)
 }
