@@ -13,7 +13,7 @@ use Rattle.ca_order_laws.proofs.Weights.{weight_append}
 use Rattle.ca_logs.specs.declared.log.Task.{Task}
 use Rattle.ca_deques.specs.Settings.{Setting, Fits, AllFit}
 use Rattle.ca_deques.specs.declared.rule.Hand.{Hand}
-use Rattle.ca_deques.specs.Hands.{tasks_of, first_hand, spent_hand, with_one_out, new_hand, strike, joined, pushing, taking, Drains, IsOwners, out_weight, only, Ruled}
+use Rattle.ca_deques.specs.Hands.{tasks_of, first_hand, spent_hand, with_one_out, new_hand, strike, joined, pushing, dealing, taking, Drains, IsOwners, out_weight, only, Ruled}
 use Rattle.ca_deques.proofs.Sums.{weight_set, term_le, weight_one, only_here, only_else, struck, struck_less, tasks_append, weight_tasks, by_bool, there_is}
 
 pub left : {A : Type 0} (P : A → Type 0) (xs ys : List A) → All P (xs ++ ys) → All P xs
@@ -89,6 +89,17 @@ module _ (s : Setting) where
   pushes port v xs is fit items hands o me = let w = pushing v (tasks_of xs) in (
     w,
     moved items (items ++ xs) hands o port v w me (same_pushing v (tasks_of xs)) is.1 (λ no. absurd (true≢false (sym is.0 ∙ no)))
+        (λ h. omega (arith, weight_tasks h items xs, weight_append h v.pushed (tasks_of xs))) (subst (All (Fits s)) (sym (tasks_append items xs)) (All-append (Fits s) (tasks_of items) (tasks_of xs) o.fits fit)),
+    refl,
+  )
+
+  same_dealing : (v : Hand) (ts : List Task) → SamePass v (dealing v ts)
+  same_dealing v ts = record { boss = refl; live = refl; number = refl; out = refl; next = refl }
+
+  pub deals : (port : ℕ) (v : Hand) (xs : List Item) → IsOwners v → AllFit s (tasks_of xs) → Pushes Rule port v xs (λ w. w ≡ dealing v (tasks_of xs))
+  deals port v xs is fit items hands o me = let w = dealing v (tasks_of xs) in (
+    w,
+    moved items (items ++ xs) hands o port v w me (same_dealing v (tasks_of xs)) is.1 (λ no. absurd (true≢false (sym is.0 ∙ no)))
         (λ h. omega (arith, weight_tasks h items xs, weight_append h v.pushed (tasks_of xs))) (subst (All (Fits s)) (sym (tasks_append items xs)) (All-append (Fits s) (tasks_of items) (tasks_of xs) o.fits fit)),
     refl,
   )

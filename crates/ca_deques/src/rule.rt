@@ -2,7 +2,7 @@
 
 ghost use Rattle.std.specs.Prelude.{◌≡◌, true, List};
 ghost use Rattle.ca_deques.specs.Settings.{Setting, no_setting, AllFit};
-ghost use Rattle.ca_deques.specs.Hands.{Ruled, first_hand, spent_hand, with_one_out, new_hand, joined, pushing, taking, tasks_of, Drains};
+ghost use Rattle.ca_deques.specs.Hands.{Ruled, first_hand, spent_hand, with_one_out, new_hand, joined, pushing, dealing, taking, tasks_of, Drains};
 
 use crate::item::Item;
 use ca_logs::Task;
@@ -20,13 +20,14 @@ impl Round for Brand {
 }
 
 // What was done with a pass: whether it is the owner's and in use, its number, the numbers that are out and the next
-// one, and the tasks that were pushed and taken with it. No value of it is made.
+// one, and the tasks that were pushed and taken with it; `dealt` has the first tasks of the round among the pushed ones. No value of it is made.
 pub struct Hand {
     pub boss: bool,
     pub live: bool,
     pub number: u64,
     pub out: LinkedList<u64>,
     pub next: u64,
+    pub dealt: LinkedList<Task>,
     pub pushed: LinkedList<Task>,
     pub taken: LinkedList<Task>,
 }
@@ -62,6 +63,13 @@ pub struct Pushes;
 
 impl Outcome<Item, Hand> for Pushes {
     ghost then = { λ v items w. w ≡ pushing v (tasks_of items) };
+}
+
+// The push of a first task of the round.
+pub struct Deals;
+
+impl Outcome<Item, Hand> for Deals {
+    ghost then = { λ v items w. w ≡ dealing v (tasks_of items) };
 }
 
 // A pop that finds nothing, when no other pass is out, tells that what was taken is what was pushed.
