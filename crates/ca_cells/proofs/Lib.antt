@@ -1,0 +1,7 @@
+pub mod Sums
+pub mod Turned
+pub mod Steps
+pub mod Joining
+pub mod Opening
+pub mod Applies
+pub mod Gathers
