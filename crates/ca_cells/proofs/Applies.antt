@@ -30,6 +30,7 @@ use Rattle.ca_cells.specs.Rounds.{SeparableIn, program_of, extent_of, frozen_of,
 use Rattle.ca_cells.specs.Notes.{IsKept, last_place, InOrder}
 use Rattle.ca_cells.specs.Plays.{LegalBy, Grows, GrowsBy}
 use Rattle.ca_cells.specs.Seats.{IsStop}
+use Rattle.ca_cells.proofs.Histories.{same_ran}
 use Rattle.ca_cells.specs.declared.adding.Added.{Added}
 use Rattle.ca_cells.specs.declared.adding.Added.TheVariants.{Ran, Stuck, Kept}
 use Rattle.ca_cells.specs.declared.rule.Given.{Given}
@@ -39,11 +40,6 @@ abbrev pub RanBy : Bool → Sectioned → Task → CellLog → CellLog → List 
 RanBy closed s task old new made n =
     (closed ≡ false) × (m : Outcome) × (s ≡ done m) × (new ≡ with_entry old (ran_entry task (next_clock old task.after) m.steps (map op_of m.listed)) m.object)
     × (made ≡ map (task_after (next_clock old task.after)) (map op_of m.listed)) × (n ≡ m.steps)
-
-same_ran : (answer : Added) (a b : List Task) (n k : ℕ) → IsRan answer a n → IsRan answer b k → (a ≡ b) × (n ≡ k)
-same_ran (Ran tasks steps) a b n k h g = (sym h.0 ∙ g.0, sym h.1 ∙ g.1)
-same_ran (Stuck why) a b n k h g = absurd h
-same_ran Kept a b n k h g = absurd h
 
 pub by_ran : (closed : Bool) (s : Sectioned) (task : Task) (old new : CellLog) (answer : Added) (made : List Task) (n : ℕ) → AddsBy closed s task old new answer → IsRan answer made n → RanBy closed s task old new made n
 by_ran true s task old new answer made n a r = absurd (subst (λ (x : Added). IsRan x made n) a.0 r)
@@ -145,7 +141,7 @@ pub in_order_more : (xs : List Note) (note : Note) → InOrder xs → All (λ (x
 in_order_more xs note r h i j x y l a b same = ⊎_elim
     (λ (q : slice_get xs j ≡ Some y). ⊎_elim (λ (p : slice_get xs i ≡ Some x). r i j x y l p q same) (λ (p : (i ≡ length xs) × (note ≡ x)). let k = there_is xs j y q in absurd (omega (arith, p.0))) (get_more xs note x i a))
     (λ (q : (j ≡ length xs) × (note ≡ y)). ⊎_elim (λ (p : slice_get xs i ≡ Some x). subst (λ (z : Note). x.place < z.place) q.1 (all_at (λ (x : Note). x.cell ≡ note.cell → x.place < note.place) xs h i x p (same ∙ ap (λ (z : Note). z.cell) (sym q.1))))
-        (λ (p : (i ≡ length xs) × (note ≡ x)). absurd (omega (arith, p.0, q.0))) (get_more xs note x i a)) (get_more xs note y j b)
+    (λ (p : (i ≡ length xs) × (note ≡ x)). absurd (omega (arith, p.0, q.0))) (get_more xs note x i a)) (get_more xs note y j b)
 
 -- the same of the history that was found and the round that is given
 pub exact_of : (key : Given) (p : PlainProgram) (frozen : List Object) (task : Task) (left : ℕ) (found old new : CellLog) (answer : Added) → found ≡ old → program_of key ≡ p → frozen_of key ≡ frozen
@@ -188,11 +184,10 @@ pub record MayAdd (p : PlainProgram) (frozen : List Object) (task : Task) (log :
   pub heap : TypedHeap p frozen
   pub legal : LegalCell p frozen task.op.receiver log
   pub typed : WellTyped p frozen (call_of task)
-  pub separable : (x : Extent) × SeparableIn p x task.op.op × AgreesAt x.written log.object frozen task.op.receiver
 
 pub may_add : (key : Given) (p : PlainProgram) (frozen : List Object) (task : Task) (log : CellLog) → program_of key ≡ p → frozen_of key ≡ frozen → MayRun key task → IsRound key × IsLegal key task.op.receiver log → MayAdd p frozen task log
 may_add key p frozen task log a b m r = subst (λ (q : PlainProgram). MayAdd q frozen task log) a (subst (λ (h : List Object). MayAdd (program_of key) h task log) b
-    (record { program = r.0.program; heap = r.0.frozen; legal = r.1.legal; typed = m.typed; separable = (extent_of key, r.0.separable task.op.op m.inside, r.1.agrees) }))
+    (record { program = r.0.program; heap = r.0.frozen; legal = r.1.legal; typed = m.typed }))
 
 -- what adding promises of the history
 abbrev pub Adding : PlainProgram → List Object → Task → CellLog → CellLog → Type 0

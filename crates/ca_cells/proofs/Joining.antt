@@ -41,10 +41,10 @@ splits given id v is_boss live s o me = let w : View = cut v in let u : View = f
     let outs : (n : ℕ) → weight (only n) v.out ≡ weight (only n) o.boss.out = λ n. ap (λ (y : View). weight (only n) y.out) same in
     let nexts : v.next ≡ o.boss.next = ap (λ (y : View). y.next) same in
     let one_more : (n : ℕ) → weight (only n) w.out ≤ 1 = λ n. dite (ℕ_discrete v.next n)
-        (λ e. let a = outs n in let b = o.unused n (omega (arith, e, nexts)) in let c = only_one_at n v.next in omega arith)
-        (λ ne. let a = outs n in let b = o.distinct n in let c = only_else n v.next ne in omega arith) in
+    (λ e. let a = outs n in let b = o.unused n (omega (arith, e, nexts)) in let c = only_one_at n v.next in omega arith)
+    (λ ne. let a = outs n in let b = o.distinct n in let c = only_else n v.next ne in omega arith) in
     let none_later : (n : ℕ) → w.next ≤ n → weight (only n) w.out ≡ 0 = λ n l.
-        let a = outs n in let b = o.unused n (omega (arith, l, nexts)) in let c = only_else n v.next (λ e. omega (arith, l, e)) in omega arith in record {
+    let a = outs n in let b = o.unused n (omega (arith, l, nexts)) in let c = only_else n v.next (λ e. omega (arith, l, e)) in omega arith in record {
       logs = o.logs;
       boss = w;
       round = o.round;

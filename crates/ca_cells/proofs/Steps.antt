@@ -1,6 +1,5 @@
 -- Claims and releases keep the rule.
 use Rattle.std.proofs.Common.{◌≡◌, ◌≢◌, ℕ, zero, suc, ◌+◌, ◌*◌, ◌/◌, ◌%◌, ◌<◌, ◌≤◌, Bool, true, false, true≢false, eqb, cond, List, [], ◌∷◌, ◌++◌, All, length, take, get_or, Option, Some, sym, refl, ap, ◌∙◌, subst, arith, length-append, eq-eqb, ne_eqb}
-use Rattle.std.specs.Prelude.{max, ◌||◌}
 use mathlib.Core.Option as maybe
 use mathlib.Core.Option.{some, none}
 use Rattle.std.specs.List.{slice_get as std_get}
@@ -12,11 +11,9 @@ use Rattle.std.specs.declared.snapshot.Snapshot.{Snapshot}
 use Rattle.ca_model.specs.declared.value.Object.{Object}
 use Rattle.ca_order_laws.proofs.Weights.{weight_append}
 use Rattle.ca_logs.specs.Legal.{Ran}
-use Rattle.ca_logs.specs.Entries.{is_stuck, last_clock}
 use Rattle.ca_logs.specs.declared.log.Entry.{Entry}
 use Rattle.ca_logs.specs.declared.log.CellLog.{CellLog}
 use Rattle.ca_logs.proofs.Growing.{not_stuck}
-use Rattle.ca_cells.specs.Histories.{is_closed, is_last_clock}
 use Rattle.ca_cells.specs.Rounds.{program_of, frozen_of, IsLegal}
 use Rattle.ca_cells.specs.Notes.{IsNoted, IsKept, note_of, last_place, place_weight, below}
 use Rattle.ca_cells.specs.Rule.{noted_weight, has_cell, Knows, Ruled}
@@ -25,6 +22,7 @@ use Rattle.ca_cells.specs.declared.rule.Note.{Note}
 use Rattle.ca_cells.specs.declared.rule.Given.{Given}
 use Rattle.ca_cells.specs.declared.rule.Place.{Place}
 use Rattle.ca_cells.specs.declared.rule.View.{View}
+use Rattle.ca_cells.proofs.Histories.{not_closed}
 use Rattle.ca_cells.proofs.Sums.{term_le, terms_le, get_longer, take_longer, get_last, take_all, last_same, below_more}
 use Rattle.ca_cells.proofs.Turned.{Slot, has_yes, has_no, pointed, pointed_here, Goes, unmoved, Noted, notes_known, Kept, kept_known, knowing, still_knows, turned}
 
@@ -56,10 +54,6 @@ claims given n id m i old new said inside even next none_held live s o wide me _
     ))
     (λ miss. (m.0, keeps, tt, unmoved given s o i id m me, ((λ hit. absurd (miss hit)), λ _. refl)))
 
-first_false : (a b : Bool) → (a || b) ≡ false → a ≡ false
-first_false true b e = e
-first_false false b e = refl
-
 one_of : {A : Type 0} (P : A → Type 0) (x : A) → P x → All P (x ∷ [])
 one_of P x h zero d l = h
 one_of P x h (suc k) d l = absurd (omega arith)
@@ -78,10 +72,6 @@ notes_stay given i old new entry c note h = (
 
 kept_stay : (given : Given) (i : ℕ) (old new : CellLog) (entry : Entry) → Grows given i old entry new → (place : Place) → IsKept old place → IsKept new place
 kept_stay given i old new entry c place h = (h.0, ap (λ (l : List Entry). std_get l place.place) c.entries ∙ get_longer old.entries (entry ∷ []) place.place h.0 h.1, h.2)
-
--- a history that takes an entry has no stop
-pub not_closed : (log : CellLog) (after : ℕ) → is_closed log after ≡ false → is_stuck log ≡ false
-not_closed log after e = first_false (is_stuck log) (is_last_clock (max (last_clock log) after)) e
 
 -- the entry that is added is noted with the object that the entries before it leave
 new_noted : (given : Given) (i : ℕ) (old new : CellLog) (entry : Entry) → Grows given i old entry new → IsLegal given i old → IsNoted given new (note_of i old entry)
@@ -119,12 +109,12 @@ releases given n id v i new old log entry more inside live has history grown wor
     let own : (f : ℕ → ℕ) → place_weight f i note ≡ f (length old.entries) = λ f. ap (λ b. cond b (f (length old.entries)) 0) (eq-eqb i i refl) in
     let other : (f : ℕ → ℕ) (r : ℕ) → r ≢ i → place_weight f r note ≡ 0 = λ f r ne. ap (λ b. cond b (f (length old.entries)) 0) (ne_eqb i r (λ e. ne (sym e))) in
     let parted : Knows given (pointed o.logs i log) (length s.homes) w = knowing given (pointed o.logs i log) (length s.homes) w
-      knows.of_round
-      (λ r e. absurd (omega arith))
-      (All-append (Noted given (pointed o.logs i log) (length s.homes)) v.noted (note ∷ []) (notes_known given o.logs (length s.homes) i log stay v.noted knows.noted)
-          (one_of (Noted given (pointed o.logs i log) (length s.homes)) note (near, subst (λ (l : CellLog). IsNoted given l note) (sym here) noted)))
-      (kept_known o.logs (length s.homes) i log stay_kept v.kept knows.kept)
-      (λ dead. absurd (true≢false (sym live ∙ dead))) in (
+    knows.of_round
+    (λ r e. absurd (omega arith))
+    (All-append (Noted given (pointed o.logs i log) (length s.homes)) v.noted (note ∷ []) (notes_known given o.logs (length s.homes) i log stay v.noted knows.noted)
+    (one_of (Noted given (pointed o.logs i log) (length s.homes)) note (near, subst (λ (l : CellLog). IsNoted given l note) (sym here) noted)))
+    (kept_known o.logs (length s.homes) i log stay_kept v.kept knows.kept)
+    (λ dead. absurd (true≢false (sym live ∙ dead))) in (
       w,
       gives,
       tt,
@@ -183,12 +173,12 @@ releases_kept given n id v i new old more inside live has history closing word s
       tt,
       turned given s o id i new v w (some (Some old)) old me near (let z = has_no i w (λ e. omega arith) in omega arith) (λ r ne. has_no r w (λ e. omega arith) ∙ sym (has_no r v (λ e. ne (omega arith))))
           (λ _. refl) (λ e. absurd (omega arith)) (omega arith) legal (λ f. ap (λ (x : ℕ). noted_weight f i v + below f x) half) (λ f r ne. refl) (refl, refl, refl, refl) (λ f. refl) (knowing given (pointed o.logs i old) (length s.homes) w
-            knows.of_round
-            (λ r e. absurd (omega arith))
-            (notes_known given o.logs (length s.homes) i old stay v.noted knows.noted)
-            (All-append (Kept (pointed o.logs i old) (length s.homes)) v.kept (place ∷ []) (kept_known o.logs (length s.homes) i old stay_kept v.kept knows.kept)
-                (one_of (Kept (pointed o.logs i old) (length s.homes)) place (near, subst (λ (l : CellLog). IsKept l place) (sym here) closing)))
-            (λ dead. absurd (true≢false (sym live ∙ dead)))) stay stay_kept
+          knows.of_round
+          (λ r e. absurd (omega arith))
+          (notes_known given o.logs (length s.homes) i old stay v.noted knows.noted)
+          (All-append (Kept (pointed o.logs i old) (length s.homes)) v.kept (place ∷ []) (kept_known o.logs (length s.homes) i old stay_kept v.kept knows.kept)
+          (one_of (Kept (pointed o.logs i old) (length s.homes)) place (near, subst (λ (l : CellLog). IsKept l place) (sym here) closing)))
+          (λ dead. absurd (true≢false (sym live ∙ dead)))) stay stay_kept
           (λ k u ne e at. let theirs = has_yes i u at in absurd (omega (arith, terms_le (has_cell i) s.views id k v u ne me e))),
       (λ old' h₁ h₂ h₃. let p : old ≡ old' = same_in_some old old' (sym history ∙ h₁) in λ k. (keeping v (last_place i (p k)), more)),
     )

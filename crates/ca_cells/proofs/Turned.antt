@@ -80,11 +80,11 @@ knowing given logs cells v a b c d e = record { of_round = a; holds = b; noted =
 pub still_knows : (given : Given) (logs : ℕ → CellLog) (cells i : ℕ) (log : CellLog) (u : View) → ((note : Note) → IsNoted given (logs i) note → IsNoted given log note) → ((place : Place) → IsKept (logs i) place → IsKept log place) → (u.at ≡ i + 1 → logs i ≡ log)
     → Knows given logs cells u → Knows given (pointed logs i log) cells u
 still_knows given logs cells i log u notes kept same k = knowing given (pointed logs i log) cells u
-  k.of_round
-  (λ r e. dite (ℕ_discrete r i) (λ is. k.holds r e ∙ ap Some (ap logs is ∙ (same (e ∙ ap (λ (x : ℕ). x + 1) is) ∙ sym (pointed_here logs i log r is)))) (λ ne. k.holds r e ∙ ap Some (sym (pointed_else logs i log r ne))))
-  (notes_known given logs cells i log notes u.noted k.noted)
-  (kept_known logs cells i log kept u.kept k.kept)
-  k.dead
+    k.of_round
+    (λ r e. dite (ℕ_discrete r i) (λ is. k.holds r e ∙ ap Some (ap logs is ∙ (same (e ∙ ap (λ (x : ℕ). x + 1) is) ∙ sym (pointed_here logs i log r is)))) (λ ne. k.holds r e ∙ ap Some (sym (pointed_else logs i log r ne))))
+    (notes_known given logs cells i log notes u.noted k.noted)
+    (kept_known logs cells i log kept u.kept k.kept)
+    k.dead
 
 pub there_is : (vs : List View) (j : ℕ) (v : View) → get_elem? vs j ≡ some v → j < length vs
 there_is [] j v e = absurd (some-ne-none v (sym e))

@@ -1,4 +1,5 @@
 pub mod Histories
+pub mod SectionAnswers
 pub mod Adds
 pub mod Rounds
 pub mod Notes

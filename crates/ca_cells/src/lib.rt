@@ -16,8 +16,9 @@
 
 pub mod adding;
 pub mod cells;
-mod copies;
 pub mod rule;
+mod sections;
 
 pub use adding::{Added, add};
 pub use cells::{Applied, Cells, Refused, Seat};
+pub use sections::Desk;

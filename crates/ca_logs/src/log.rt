@@ -16,6 +16,18 @@ pub struct Task {
     pub after: u64,
 }
 
+impl Task {
+    /// The same task once more.
+    pub fn copy(&self) -> Result<Task, AllocError>
+        ensures { IfOk result (λ task. task ≡ self.now) }
+    {
+        Ok(Task {
+            op: self.op.copy()?,
+            after: self.after,
+        })
+    }
+}
+
 /// Why a section didn't end.
 #[derive(Clone, Copy, PartialEq, Eq, Debug)]
 pub enum Stop {

@@ -10,6 +10,7 @@
 //! a mark that it rules out, a whole program with its extents and a sound mark, and what a small run hands on.
 #![tactic(auto)]
 
+mod copies;
 pub mod laws;
 mod marks;
 mod op;

@@ -7,6 +7,7 @@ ghost use Rattle.ca_cells.specs.Seats.{IsOf, IsSameSeat, Applies, cells_key, not
 
 use super::{Applied, Cells, Refused, Seat};
 use crate::adding::{Added, add};
+use crate::sections::Desk;
 use ca_base::Gate;
 use ca_logs::Task;
 use ca_model::Heap;
@@ -23,12 +24,13 @@ impl Cells {
     /// complete within `left` steps; the section's calls come as tasks that may run after the entry. It is `Stuck` where
     /// that section stops, and `Kept` where the cell's last entry has a stop, or its clock or the task's is the last
     /// one. Without memory the task comes back, and the cell is as it was.
-    pub fn apply<R: Wait, G: Gate>(
+    pub fn apply<'a, R: Wait, G: Gate>(
         &self,
         rt: &R,
         alloc: Global,
+        desk: &mut Desk<'a>,
         worker: &mut Seat,
-        program: &Program,
+        program: &'a Program,
         frozen: &Heap,
         task: Task,
         left: u64,
@@ -46,7 +48,7 @@ impl Cells {
         let mut log = self.claim(rt, inner, cell);
         let found = Snapshot::of(&log);
         gate.inside(worker.worker, task.op.receiver);
-        match add(&mut log, alloc, program, frozen, &task, left) {
+        match add(desk, &mut log, alloc, program, frozen, &task, left) {
             Ok(Added::Ran { tasks, steps }) => {
                 self.release(inner, cell, log, &found);
                 Ok(Applied::Ran { tasks, steps })

@@ -11,7 +11,6 @@ ghost use Rattle.ca_cells.specs.Slots.{AreOpened};
 ghost use Rattle.ca_cells.specs.Seats.{AreAll, AreNumbered, all_of, cells_key, kept_of, notes_of};
 
 use super::{Cells, Inner, Seat};
-use crate::copies::copy_object;
 use crate::rule::{Cut, Given};
 use atomic_table::{Refused, Table};
 use ca_base::Memory;
@@ -94,7 +93,7 @@ fn open(alloc: Global, object: &Object) -> Result<CellLog, Memory>
 {
     Ok(CellLog {
         opened: Snapshot::of(object),
-        object: copy_object(alloc, object)?,
+        object: object.copy()?,
         entries: Entries::none(alloc),
     })
 }

@@ -38,23 +38,19 @@ pub add-requires-clause-typed : goal.add-requires-clause-typed
 add-requires-clause-typed g c = let key = cells_key c.args.self.now in
     (may_add key _ _ c.args.task c.claim-log.result c.requires.given.0 c.requires.given.1 c.requires.may_run (told key _ c.args.task.op.receiver c.claim-log.result c.requires.place.1 c.claim-log.ensures.legal)).typed
 
-pub add-requires-clause-separable : goal.add-requires-clause-separable
-add-requires-clause-separable g c = let key = cells_key c.args.self.now in
-    (may_add key _ _ c.args.task c.claim-log.result c.requires.given.0 c.requires.given.1 c.requires.may_run (told key _ c.args.task.op.receiver c.claim-log.result c.requires.place.1 c.claim-log.ensures.legal)).separable
-
 pub release-requires-clause-next : goal.release-requires-clause-next
 release-requires-clause-next g c = let key = cells_key c.args.self.now in let found = c.of-found.result.value in let n = c.args.task.op.receiver in let q = c.requires.given in let e = c.in-Ok-Ran.ensures in
     let ran = ran_of key (program_view c.args.program.now) c.args.frozen.now c.args.task c.args.left found c.claim-log.result c.add.new.log _ c.in-Ok-Ran.tasks.items c.in-Ok-Ran.steps c.of-found.ensures q.0 q.1 e.exact
-        (subst (λ (a : Added). IsRan a c.in-Ok-Ran.tasks.items c.in-Ok-Ran.steps) (sym c.in-Ok-Ran.field-0-is) (refl, refl)) in
+    (subst (λ (a : Added). IsRan a c.in-Ok-Ran.tasks.items c.in-Ok-Ran.steps) (sym c.in-Ok-Ran.field-0-is) (refl, refl)) in
     let was = told key _ n c.claim-log.result c.requires.place.1 c.claim-log.ensures.legal in
     let legal = still_legal key (program_view c.args.program.now) c.args.frozen.now c.args.task c.claim-log.result c.add.new.log q.0 q.1 c.requires.may_run was
-        (ap (λ (l : CellLog). l.opened) ran.3 ∙ ap (λ (l : CellLog). l.opened) c.of-found.ensures) (e.legal, e.agrees) in
+    (ap (λ (l : CellLog). l.opened) ran.3 ∙ ap (λ (l : CellLog). l.opened) c.of-found.ensures) (e.legal, e.agrees) in
     (the_ran c.args.task found ran.1, grows_by key c.claim-log.new.seat.me.0.given n found c.add.new.log _ (ap (λ (m : Mine). m.0.given) c.claim-log.ensures.held ∙ c.requires.place.1) (ran_grows key _ c.args.task found c.add.new.log _ _ ran legal))
 
 pub invariant_of-worker : goal.invariant_of-worker
 invariant_of-worker g c = let key = cells_key c.args.self.now in let found = c.of-found.result.value in let n = c.args.task.op.receiver in let q = c.requires.given in let e = c.in-Ok-Ran.ensures in
     let ran = ran_of key (program_view c.args.program.now) c.args.frozen.now c.args.task c.args.left found c.claim-log.result c.add.new.log _ c.in-Ok-Ran.tasks.items c.in-Ok-Ran.steps c.of-found.ensures q.0 q.1 e.exact
-        (subst (λ (a : Added). IsRan a c.in-Ok-Ran.tasks.items c.in-Ok-Ran.steps) (sym c.in-Ok-Ran.field-0-is) (refl, refl)) in
+    (subst (λ (a : Added). IsRan a c.in-Ok-Ran.tasks.items c.in-Ok-Ran.steps) (sym c.in-Ok-Ran.field-0-is) (refl, refl)) in
     let entry = the_ran c.args.task found ran.1 in let note : Note = note_of n found entry in
     let me = c.release.ensures.noted entry (ap (λ (l : CellLog). l.entries) ran.3) in
     let held = c.claim-log.ensures.held in
@@ -71,7 +67,7 @@ release-requires-in-Ok-Stuck-clause-next g c = let key = cells_key c.args.self.n
     let stuck = stuck_of key (program_view c.args.program.now) c.args.frozen.now c.args.task c.args.left found c.claim-log.result c.add.new.log _ c.in-Ok-Stuck.stop c.of-found.ensures q.0 q.1 e.exact c.in-Ok-Stuck.field-0-is in
     let was = told key _ n c.claim-log.result c.requires.place.1 c.claim-log.ensures.legal in
     let legal = still_legal key (program_view c.args.program.now) c.args.frozen.now c.args.task c.claim-log.result c.add.new.log q.0 q.1 c.requires.may_run was
-        (ap (λ (l : CellLog). l.opened) stuck.2 ∙ ap (λ (l : CellLog). l.opened) c.of-found.ensures) (e.legal, e.agrees) in
+    (ap (λ (l : CellLog). l.opened) stuck.2 ∙ ap (λ (l : CellLog). l.opened) c.of-found.ensures) (e.legal, e.agrees) in
     (stuck_entry c.args.task (next_clock found c.args.task.after) c.in-Ok-Stuck.stop, grows_by key c.claim-log.new.seat.me.0.given n found c.add.new.log _ (ap (λ (m : Mine). m.0.given) c.claim-log.ensures.held ∙ c.requires.place.1) (stuck_grows key c.args.task found c.add.new.log _ stuck.0 stuck.2 legal))
 
 pub invariant_of-worker-in-Ok-Stuck : goal.invariant_of-worker-in-Ok-Stuck
@@ -132,7 +128,7 @@ returns-after-task-clause-applied g c = let key = cells_key c.args.self.now in l
     let kept = by_kept (is_closed old c.args.task.after) (section (program_view c.args.program.now) c.args.frozen.now n old.object c.args.task.op.op c.args.task.op.args c.args.left) c.args.task old c.add.new.log _ c.in-Ok-Kept.ensures.exact c.in-Ok-Kept.field-0-is in
     let was = (told key _ n old c.requires.place.1 c.claim-log.ensures.legal).1 in let held = c.claim-log.ensures.held in
     elim c.if-task.branch [
-      then-task w ↦ record {
+      | then-task w ↦ record {
         same = refl;
         found = old;
         legal = was;

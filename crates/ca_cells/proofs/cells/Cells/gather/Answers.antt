@@ -33,7 +33,7 @@ pub returns-clause-inside : goal.returns-clause-inside
 returns-clause-inside c = let f = c.close_with.ensures.values in let n = c.join_all-inner.ensures.noted ∙ (sym (notes_last notes_of c.pop.new.self.items c.in-Some.first) ∙ ap (all_of notes_of) (sym c.in-Some.ensures.items)) in
     let count : length (slots_items c.close_with.result.slots) ≡ length (now_of (cells_key c.args.self)) = let z = slots_counts c.close_with.result.slots in let y = c.close_with.ensures.counts.1 in let x = c.args.self.words.0 in omega (arith, z.0, z.1) in
     subst (λ (ns : List Note). All (λ (note : Note). note.cell < length (now_of (cells_key c.args.self))) ns) n
-        (subst (λ (k : ℕ). All (λ (note : Note). note.cell < k) c.join_all-inner.result.me.0.noted) count (closes_inside _ _ _ _ _ f.2))
+    (subst (λ (k : ℕ). All (λ (note : Note). note.cell < k) c.join_all-inner.result.me.0.noted) count (closes_inside _ _ _ _ _ f.2))
 
 -- of each history
 pub returns-clause-legal : goal.returns-clause-legal
@@ -52,11 +52,11 @@ returns-clause-noted c = let v = c.join_all-inner.ensures.view in let f = c.clos
     let n = c.join_all-inner.ensures.noted ∙ (sym (notes_last notes_of c.pop.new.self.items c.in-Some.first) ∙ ap (all_of notes_of) (sym c.in-Some.ensures.items)) in
     λ i log e. let at = c.drain.ensures.from i log e in let t = closes _ _ _ _ _ v.0 v.1 v.2 f.2 i at.0 in
     subst (λ (ns : List Note). All (λ (note : Note). note.cell ≡ i → IsNoted key log note) ns) n
-        (subst (λ (l : CellLog). All (λ (note : Note). note.cell ≡ i → IsNoted key l note) c.join_all-inner.result.me.0.noted) (sym (at_get _ i t.0 log t.1 at.1)) t.4)
+    (subst (λ (l : CellLog). All (λ (note : Note). note.cell ≡ i → IsNoted key l note) c.join_all-inner.result.me.0.noted) (sym (at_get _ i t.0 log t.1 at.1)) t.4)
 
 pub returns-clause-kept : goal.returns-clause-kept
 returns-clause-kept c = let v = c.join_all-inner.ensures.view in let f = c.close_with.ensures.values in
     let k = c.join_all-inner.ensures.kept ∙ (sym (notes_last kept_of c.pop.new.self.items c.in-Some.first) ∙ ap (all_of kept_of) (sym c.in-Some.ensures.items)) in
     λ i log e. let at = c.drain.ensures.from i log e in let t = closes _ _ _ _ _ v.0 v.1 v.2 f.2 i at.0 in
     subst (λ (ps : List Place). All (λ (place : Place). place.cell ≡ i → IsKept log place) ps) k
-        (subst (λ (l : CellLog). All (λ (place : Place). place.cell ≡ i → IsKept l place) c.join_all-inner.result.me.0.kept) (sym (at_get _ i t.0 log t.1 at.1)) t.5)
+    (subst (λ (l : CellLog). All (λ (place : Place). place.cell ≡ i → IsKept l place) c.join_all-inner.result.me.0.kept) (sym (at_get _ i t.0 log t.1 at.1)) t.5)

@@ -19,7 +19,7 @@ new-requires c = let key : Given = record { program = c.of.result; extent = c.of
     let o = c.in_ok-slots.ensures in let w = c.as_slice.ensures.value ∙ c.in_ok-words.ensures in
     let round = round_of key _ _ _ _ (ap program_view c.of.ensures, c.of-2.ensures, c.of-3.ensures, c.of-4.ensures) c.requires.program c.requires.separable c.requires.frozen c.requires.now in
     starts key _ _ round (let a = ap length w in let b = long_zero (c.len.result + 1) in let d = c.len.ensures.value in let e = o.0 in omega arith) (subst (All (λ (x : ℕ). x ≡ 0)) (sym w) (all_zero (c.len.result + 1)))
-        (opens key _ round (subst (λ (h : List Object). AreOpened h c.in_ok-slots.slots.items) (sym c.of-4.ensures) o.1))
+    (opens key _ round (subst (λ (h : List Object). AreOpened h c.in_ok-slots.slots.items) (sym c.of-4.ensures) o.1))
 
 pub split_seat-seat-requires : goal.split_seat-seat-requires
 split_seat-seat-requires c = let i = c.loop-worker.invariant in let w = c.as_slice.ensures.value ∙ c.in_ok-words.ensures in
