@@ -112,9 +112,9 @@ empty_of xs (y ∷ ys) e n = absurd (let z = ap length e in omega (arith, n, z))
 
 pub put_all : (cells : Option Cells) (owners₀ owners : List OwnerView) (thieves₀ thieves : List (List ThiefView)) (seats₀ seats : List Seat) (parts : List PartKey) → owners ≡ [] → Putting cells owners₀ thieves₀ seats₀ owners thieves seats parts → Assembled owners₀ thieves₀ seats₀ parts
 put_all cells owners₀ owners thieves₀ thieves seats₀ seats parts e i = record {
-  owners = moved_all owner_key (λ (q : PartKey). q.owner) owners₀ owners parts e i.owner_keys;
-  thieves = moved_all (λ (ts : List ThiefView). map key_of ts) (λ (q : PartKey). q.thieves) thieves₀ thieves parts (empty_of owners thieves e i.count.0) i.thief_keys;
-  seats = moved_all seat_key (λ (q : PartKey). q.seat) seats₀ seats parts (empty_of owners seats e i.count.1) i.seat_keys;
+  owner_keys = moved_all owner_key (λ (q : PartKey). q.owner) owners₀ owners parts e i.owner_keys;
+  thief_keys = moved_all (λ (ts : List ThiefView). map key_of ts) (λ (q : PartKey). q.thieves) thieves₀ thieves parts (empty_of owners thieves e i.count.0) i.thief_keys;
+  seat_keys = moved_all seat_key (λ (q : PartKey). q.seat) seats₀ seats parts (empty_of owners seats e i.count.1) i.seat_keys;
 }
 
 -- all parts but these were taken apart
@@ -170,9 +170,9 @@ tear_one s cells at_most parts₀ parts parts' owners owners' thieves thieves' s
 pub tear_all : (s : Setting) (cells : Option Cells) (at_most : ℕ) (parts₀ parts : List PartKey) (owners : List OwnerView) (thieves : List (List ThiefView)) (seats : List Seat) (rest₀ rest : List Task) → parts ≡ [] → Tearing s cells at_most parts₀ parts owners thieves seats rest₀ rest → Torn s cells at_most parts₀ owners thieves seats rest₀ rest
 tear_all s cells at_most parts₀ parts owners thieves seats rest₀ rest e i = record {
   assembled = record {
-    owners = mirrored _ _ (moved_all (λ (q : PartKey). q.owner) owner_key parts₀ parts owners e i.owner_keys);
-    thieves = mirrored _ _ (moved_all (λ (q : PartKey). q.thieves) (λ (ts : List ThiefView). map key_of ts) parts₀ parts thieves e i.thief_keys);
-    seats = mirrored _ _ (moved_all (λ (q : PartKey). q.seat) seat_key parts₀ parts seats e i.seat_keys);
+    owner_keys = mirrored _ _ (moved_all (λ (q : PartKey). q.owner) owner_key parts₀ parts owners e i.owner_keys);
+    thief_keys = mirrored _ _ (moved_all (λ (q : PartKey). q.thieves) (λ (ts : List ThiefView). map key_of ts) parts₀ parts thieves e i.thief_keys);
+    seat_keys = mirrored _ _ (moved_all (λ (q : PartKey). q.seat) seat_key parts₀ parts seats e i.seat_keys);
   };
   seats_of = i.seats_of;
   stops = i.stops;

@@ -1,2 +1,3 @@
 pub mod Performs
 pub mod Assembles
+pub mod Sends

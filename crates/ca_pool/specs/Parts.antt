@@ -53,9 +53,9 @@ pub record Performed (s : Setting) (cells : Option Cells) (left : ℕ) (task : T
 
 -- The parts are those of these owners, passes and seats, from the last worker to the first.
 pub record Assembled (owners : List OwnerView) (thieves : List (List ThiefView)) (seats : List Seat) (parts : List PartKey) : Type 0 where
-  pub owners : map owner_key owners ≡ reverse (map (λ (p : PartKey). p.owner) parts)
-  pub thieves : map (λ (ts : List ThiefView). map key_of ts) thieves ≡ reverse (map (λ (p : PartKey). p.thieves) parts)
-  pub seats : map seat_key seats ≡ reverse (map (λ (p : PartKey). p.seat) parts)
+  pub owner_keys : map owner_key owners ≡ reverse (map (λ (p : PartKey). p.owner) parts)
+  pub thief_keys : map (λ (ts : List ThiefView). map key_of ts) thieves ≡ reverse (map (λ (p : PartKey). p.thieves) parts)
+  pub seat_keys : map seat_key seats ≡ reverse (map (λ (p : PartKey). p.seat) parts)
 
 -- What the parts were made of, from the first worker to the last, and the equation of all workers. The shares came
 -- into the rest.

@@ -6,6 +6,7 @@
 //! its part (`specs/Parts.antt`), and `running` the loop over all workers by halves.
 #![tactic(auto)]
 
+pub mod assembling;
 pub mod part;
 pub mod performing;
 pub mod running;

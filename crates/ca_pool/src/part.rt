@@ -14,7 +14,7 @@ use crate::performing::{Turn, perform};
 use crate::taking::take_any;
 use crate::work::Work;
 use ca_base::Gate;
-use ca_cells::{Cells, Seat};
+use ca_cells::{Cells, Desk, Seat};
 use ca_deques::{Owner, Round, Thieves};
 use ca_logs::Task;
 use ca_model::Heap;
@@ -115,11 +115,12 @@ impl<N: Round, K: Work> Part<N, K> {
     }
 
     /// Takes a task and runs it. `false` where it found none, or where it is the last one of this round.
-    fn step<R: Wait, G: Gate>(
+    fn step<'a, R: Wait, G: Gate>(
         &mut self,
         rt: &R,
+        desk: &mut Desk<'a>,
         cells: &Cells,
-        program: &Program,
+        program: &'a Program,
         frozen: &Heap,
         gate: &G,
     ) -> bool
@@ -135,6 +136,7 @@ impl<N: Round, K: Work> Part<N, K> {
         let turn = perform(
             rt,
             alloc,
+            desk,
             cells,
             program,
             frozen,
@@ -168,8 +170,12 @@ impl<N: Round, K: Work> Part<N, K> {
         requires cells { K.cells ≡ Some cells.now }
         ensures { self.new ≡ self.old }
     {
+        let Ok(mut desk) = Desk::new(self.alloc) else {
+            self.short = true;
+            return;
+        };
         for _ in 0..self.quota {
-            if !self.step(rt, cells, program, frozen, gate) {
+            if !self.step(rt, &mut desk, cells, program, frozen, gate) {
                 return;
             }
         }

@@ -9,7 +9,7 @@ ghost use Rattle.ca_pool.specs.Parts.{Performed};
 
 use crate::taking::{keep, push_all};
 use ca_base::Gate;
-use ca_cells::{Applied, Cells, Seat};
+use ca_cells::{Applied, Cells, Desk, Seat};
 use ca_deques::{Owner, Round};
 use ca_logs::Task;
 use ca_model::Heap;
@@ -27,11 +27,12 @@ pub enum Turn {
 }
 
 /// Runs a task in its cell. Tasks that its section lists are pushed; a task that is kept goes into the share.
-pub fn perform<N: Round, R: Wait, G: Gate>(
+pub fn perform<'a, N: Round, R: Wait, G: Gate>(
     rt: &R,
     alloc: Global,
+    desk: &mut Desk<'a>,
     cells: &Cells,
-    program: &Program,
+    program: &'a Program,
     frozen: &Heap,
     gate: &G,
     owner: &mut Owner<N>,
@@ -46,7 +47,7 @@ pub fn perform<N: Round, R: Wait, G: Gate>(
     requires fits { Fits N.setting task }
     ensures { Performed N.setting (Some cells.now) left task owner.old owner.new seat.old seat.new share.old.items share.new.items result }
 {
-    match cells.apply(rt, alloc, seat, program, frozen, task, left, gate) {
+    match cells.apply(rt, alloc, desk, seat, program, frozen, task, left, gate) {
         Ok(Applied::Ran { tasks, steps: _ }) => {
             if push_all(owner, share, tasks) {
                 Turn::GoesOn
