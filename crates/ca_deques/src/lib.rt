@@ -16,7 +16,7 @@ pub mod settling;
 pub mod thieves;
 
 pub use handles::{Owner, Thief};
-pub use opening::{open_owners, open_thieves};
+pub use opening::{deal, open_owners, open_thieves};
 pub use rule::Round;
 pub use settling::settle;
 pub use thieves::Thieves;
