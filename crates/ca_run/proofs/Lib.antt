@@ -1,0 +1,5 @@
+pub mod Present
+pub mod Going
+pub mod Answering
+pub mod Turning
+pub mod Running

@@ -1,0 +1,23 @@
+//! Engines.
+//!
+//! `OneWorker` runs the operations of a parallel extent one at a time, in an order of its own: each as its section, and
+//! then what that lists waits with the others. It needs no runtime and always returns. Its answers are those of the
+//! serial run: done with its heap and its steps exactly where that is done, by the laws of `ca_order_laws`, which say
+//! that any order ends alike.
+//!
+//! The heap that the operations were handed with stays as it is until the end, and serves as the frozen one. An object
+//! is copied beside it when it is first changed (`Beside`), and only a run that is done puts these into the heap. So a
+//! run costs what it touches, and one that isn't done has nothing to put back. `run_round` runs a limited number of waiting
+//! operations; its clause is a run of the pending machine, from where it began to where it ended.
+//! `specs/Beside.antt` says what heap the changed objects stand for, `specs/Rounds.antt` what a round leaves.
+#![tactic(auto)]
+
+mod beside;
+mod one_worker;
+mod passing;
+mod rounds;
+
+pub use beside::{Beside, Changed};
+pub use one_worker::OneWorker;
+pub use passing::Passes;
+pub use rounds::{Round, run_round};
