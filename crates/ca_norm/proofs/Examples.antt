@@ -1,5 +1,5 @@
 -- Weights and forms of short terms, and a valuation.
-use Rattle.std.proofs.Common.{◌≡◌, [], ◌∷◌, pos, negsuc, true, false, refl}
+use Rattle.std.proofs.Common.{◌≡◌, pos, negsuc, true, false, refl}
 use Rattle.std.specs.Int.{int_wrap}
 use Rattle.ca_model.specs.declared.value.Value.TheVariants as datum
 use Rattle.ca_forms.specs.declared.sort.Sort.TheVariants.{Long, Bool as Truth, Pointer, LongArray}

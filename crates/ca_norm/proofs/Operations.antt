@@ -1,9 +1,9 @@
 -- What the operators leave as words.
-use Rattle.std.proofs.Common.{◌≡◌, ℕ, suc, ◌+◌, ◌-◌, ◌*◌, ◌%◌, ◌^◌, ◌<◌, ℤ, pos, negsuc, ◌+ℤ◌, ◌-ℤ◌, ◌*ℤ◌, neg_ℤ, Bool, true, false, FitsSigned, refl, sym, ap, ap₂, ◌∙◌, arith, subst, w64, of_z, to_z, eqb}
+use Rattle.std.proofs.Common.{◌≡◌, ℕ, ◌+◌, ◌-◌, ◌*◌, ◌%◌, ◌^◌, ℤ, pos, negsuc, ◌+ℤ◌, ◌-ℤ◌, ◌*ℤ◌, neg_ℤ, Bool, true, false, FitsSigned, refl, sym, ap, ap₂, ◌∙◌, arith, subst, w64, to_z, eqb}
 use Rattle.std.specs.Prelude.{nat_eq, int_lt}
 use Rattle.std.specs.Int.{int_wrap}
 use Rattle.std.proofs.lemmas.Bool.Decides.{nat_tests}
-use Rattle.std.proofs.lemmas.Int.{SFits-int_wrap, int_wrap_fits, to_z-of_z}
+use Rattle.std.proofs.lemmas.Int.{SFits-int_wrap, to_z-of_z}
 use Rattle.std.proofs.Math.Nat.{mod-eq_of_lt}
 use lib.IntN.{+ℤ_idl}
 use Rattle.ca_tree.specs.declared.tree.BinaryOp.TheVariants as op
@@ -15,7 +15,7 @@ use Rattle.ca_forms.specs.declared.sort.Sort.{Sort}
 use Rattle.ca_forms.specs.declared.sort.Sort.TheVariants.{Long, Bool as Truth, Pointer, LongArray, BoolArray, PointerArray}
 use Rattle.ca_forms.specs.Rules.{is_below}
 use Rattle.ca_sums.specs.Sums.{Alike}
-use Rattle.ca_sums.proofs.Algebra.{alike_refl, alike_eq, alike_trans, alike_add, alike_mul}
+use Rattle.ca_sums.proofs.Algebra.{alike_eq, alike_trans}
 use Rattle.ca_norm.specs.Meanings.{IsOfSort, operate, chosen, bit, word_of}
 use Rattle.ca_norm.proofs.Words.{word, word_fits, word_wrap, word_pos, word_add, word_sub, word_mul, word_small}
 

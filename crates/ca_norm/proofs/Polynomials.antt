@@ -1,19 +1,19 @@
 -- The form of a number or a truth value has the coefficients of its formal polynomial.
-use Rattle.std.proofs.Common.{◌≡◌, ℕ, ◌%◌, ◌^◌, sym, ap, ◌∙◌, subst}
+use Rattle.std.proofs.Common.{◌≡◌, sym, ap, ◌∙◌, subst}
 use Rattle.ca_forms.specs.declared.sort.Sort.{Sort}
-use Rattle.ca_forms.specs.declared.sort.Sort.TheVariants.{Long, Bool as Truth, Pointer, LongArray, BoolArray, PointerArray}
+use Rattle.ca_forms.specs.declared.sort.Sort.TheVariants.{Long, Bool as Truth}
 use Rattle.ca_forms.specs.declared.form.Normal.TheVariants as normal
-use Rattle.ca_forms.specs.Plain.{PlainPolynomial, PlainMonomial, number_form, truth_form}
+use Rattle.ca_forms.specs.Plain.{PlainMonomial, number_form, truth_form}
 use Rattle.ca_forms.specs.Lists.{polynomial_of, products_of}
 use Rattle.ca_forms.specs.Compare.{monomial_cmp}
 use Rattle.ca_forms.specs.Rules.{gathered}
 use Rattle.ca_forms.proofs.Exact.{monomials_exact}
 use Rattle.ca_forms.proofs.Gathered.{products_polynomial}
-use Rattle.ca_sums.specs.Sums.{Sum, total, is_tied, Alike, collect}
+use Rattle.ca_sums.specs.Sums.{Sum, collect}
 use Rattle.ca_sums.proofs.Algebra.{alike_eq, alike_trans}
 use Rattle.ca_sums.proofs.Collect.{SameCoefficients, collect_same, gathered_collect, total_collect, found}
 use Rattle.ca_norm.specs.Terms.{PlainTerm, sort_of, IsWord}
-use Rattle.ca_norm.specs.Forms.{expand, form_at, norm, coefficient, SamePolynomial, coefficient_at, IsGatheredOf, IsPolynomialOf}
+use Rattle.ca_norm.specs.Forms.{expand, form_at, norm, SamePolynomial, IsGatheredOf, IsPolynomialOf}
 
 same_gathered : (t u : PlainTerm) → SamePolynomial t u → gathered (expand t) ≡ gathered (expand u)
 unfolding SameCoefficients

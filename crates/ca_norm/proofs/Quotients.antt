@@ -1,5 +1,5 @@
 -- What divisions leave as words.
-use Rattle.std.proofs.Common.{◌≡◌, ◌≢◌, ℕ, zero, suc, ◌%◌, ◌^◌, ℤ, pos, negsuc, int_div, int_rem, Bool, true, false, cond, FitsSigned, Ok, Err, refl, sym, ap, ◌∙◌, arith, w64, of_z, to_z}
+use Rattle.std.proofs.Common.{◌≡◌, ◌≢◌, ℕ, zero, suc, ◌%◌, ◌^◌, ℤ, pos, negsuc, int_div, int_rem, false, cond, FitsSigned, Ok, Err, refl, sym, ap, ◌∙◌, arith, w64, of_z, to_z}
 use Rattle.std.specs.Int.{int_wrapping_div, cast_signed, cast_unsigned}
 use Rattle.std.proofs.lemmas.Int.{ints, rem_below, fits_signed_from_abs}
 use Rattle.ca_tree.specs.declared.tree.BinaryOp.TheVariants as op
@@ -10,7 +10,7 @@ use Rattle.ca_meaning.specs.Operators.{is_zero}
 use Rattle.ca_forms.specs.Rules.{is_nought, divided, left_over}
 use Rattle.ca_sums.specs.Sums.{Alike}
 use Rattle.ca_norm.specs.Meanings.{value_or_null, operate, word_of}
-use Rattle.ca_norm.proofs.Words.{word, word_fits}
+use Rattle.ca_norm.proofs.Words.{word_fits}
 use Rattle.ca_norm.proofs.Operations.{IsLong, back}
 
 none : (n : ℤ) → n ≢ pos 0 → is_zero n ≡ false

@@ -1,16 +1,16 @@
 -- What the rules of normal forms come to under a valuation.
-use Rattle.std.proofs.Common.{◌≡◌, ℕ, ◌+◌, ◌-◌, ◌*◌, ◌%◌, ◌^◌, ◌<◌, Bool, true, false, Option, Some, None, [], ◌∷◌, ◌++◌, Ordering, Less, Equal, Greater, refl, sym, ap, ap₂, ◌∙◌, arith, FitsSigned, w64, of_z, to_z, mod-lt, pow_pos}
+use Rattle.std.proofs.Common.{◌≡◌, ℕ, ◌+◌, ◌-◌, ◌*◌, ◌%◌, ◌^◌, ◌<◌, Bool, true, false, Option, Some, None, [], ◌∷◌, ◌++◌, Ordering, Less, Equal, Greater, refl, sym, ap, ap₂, ◌∙◌, arith, FitsSigned, w64, of_z, to_z}
 use Rattle.std.specs.Prelude.{nat_eq, int_lt, ℤ}
 use Rattle.std.proofs.lemmas.Bool.Decides.{nat_tests}
 use Rattle.std.proofs.lemmas.Int.{to_z-of_z}
-use Rattle.std.proofs.Math.Nat.{pow-suc, pow-zero, one-mul, mod-mod}
-use Rattle.ca_sums.specs.Sums.{Sum, total, Alike, scale, collect}
+use Rattle.std.proofs.Math.Nat.{pow-suc, pow-zero, one-mul}
+use Rattle.ca_sums.specs.Sums.{Sum, total, Alike, collect}
 use Rattle.ca_sums.specs.Products.{product}
-use Rattle.ca_sums.proofs.Algebra.{alike_refl, alike_eq, alike_sym, alike_trans, alike_add, alike_mul, alike_mod, total_append, total_scale}
+use Rattle.ca_sums.proofs.Algebra.{alike_refl, alike_eq, alike_trans, alike_add, alike_mul, alike_mod, total_append, total_scale}
 use Rattle.ca_sums.proofs.Collect.{total_collect}
 use Rattle.ca_sums.proofs.Products.{product_means}
 use Rattle.ca_forms.specs.Plain.{PlainPart, PlainPolynomial, PlainMonomial, is_less, is_zero, quotient, modulus, no_products, product_and, no_powers, power_and}
-use Rattle.ca_forms.specs.Lists.{polynomial_of, products_of}
+use Rattle.ca_forms.specs.Lists.{polynomial_of}
 use Rattle.ca_forms.specs.Compare.{monomial_cmp, polynomial_cmp}
 use Rattle.ca_forms.specs.Products.{is_truth, times}
 use Rattle.ca_forms.specs.Rules.{alone, constancy, is_below, truth_sum, unless_tied, less_kinds, less_sum, smaller_at, smaller, opposite, zero_kind, zero_sum, minus, gathered, constant, divided, left_over, quotient_kind, quotient_sum, modulus_kind, modulus_sum}

@@ -17,7 +17,7 @@ use Rattle.ca_norm.specs.Terms.{PlainTerm, PlainTerms, number, truth, null, atom
 use Rattle.ca_norm.specs.Forms.{expand, pointer_of, arguments_of, same_sum, scalar_at, array_of, form_at, norm}
 use Rattle.ca_meaning.specs.Operators.{signed, same_value}
 use Rattle.ca_norm.specs.Meanings.{Valuation, IsOfSort, operate, chosen, mean, means as means_all, bit, word_of, number_in, truth_in, polynomial_value, monomial_value, pointer_mean, scalar_mean, scalars_mean, form_mean}
-use Rattle.ca_norm.proofs.Words.{word, word_fits, word_small}
+use Rattle.ca_norm.proofs.Words.{word_fits, word_small}
 use Rattle.ca_norm.proofs.Operations.{IsLong, IsTruth, IsTyped, sort_typed, wrapped, chosen_typed, sum_word, difference_word, product_word, minus_word, back, less_word, not_more_word, same_word, not_word, and_word, or_word, same_truth_word, chosen_word}
 use Rattle.ca_norm.proofs.Rules.{gathered_value, alone_value, truth_value, less_value, zero_value, quotient_value, modulus_value, product_value, minus_value, equal_words}
 use Rattle.ca_norm.proofs.Pointers.{same_pointers_value, chosen_pointer_means}

@@ -1,5 +1,5 @@
 -- The normal form of a term, and the formal polynomial that it shows.
-use Rattle.std.specs.Prelude.{◌≡◌, ℕ, ◌%◌, ◌^◌, [], ◌++◌}
+use Rattle.std.specs.Prelude.{◌≡◌, ℕ, ◌%◌, ◌^◌, Bool, true, false, [], ◌++◌}
 use Rattle.std.specs.Int.{cast_unsigned, w64}
 use Rattle.std.specs.List.Sorted.{IsStrictlySortedBy}
 use Rattle.std.specs.Map.{keys_of, lookup}
@@ -9,7 +9,7 @@ use Rattle.ca_forms.specs.declared.sort.Sort.{Sort}
 use Rattle.ca_forms.specs.declared.sort.Sort.TheVariants.{Long, Bool as Truth, Pointer}
 use Rattle.ca_forms.specs.declared.form.Normal.{Normal}
 use Rattle.ca_forms.specs.declared.form.Normal.TheVariants as normal
-use Rattle.ca_forms.specs.Plain.{PlainMonomial, PlainPointer, PlainScalar, PlainScalars, variable, field_of, item_of, result_of, no_object, pointer_part, number_form, truth_form, pointer_form, no_scalars, scalar_and}
+use Rattle.ca_forms.specs.Plain.{PlainPart, PlainMonomial, PlainPointer, PlainScalar, PlainScalars, variable, field_of, item_of, result_of, no_object, pointer_part, number_form, truth_form, pointer_form, no_scalars, scalar_and}
 use Rattle.ca_forms.specs.Lists.{products_of}
 use Rattle.ca_forms.specs.Compare.{monomial_cmp}
 use Rattle.ca_forms.specs.Products.{times}
@@ -68,6 +68,44 @@ abbrev mutual
   pub arguments_of : PlainTerms → PlainScalars
   arguments_of no_terms = no_scalars
   arguments_of (term_and t ts) = scalar_and (scalar_at (sort_of t) (expand t) (pointer_of t)) (arguments_of ts)
+
+-- the part that an atom, a read or a result is
+abbrev pub part_of : PlainTerm → PlainPart
+part_of (atom sort group n) = variable sort group n
+part_of (read sort p c f) = field_of sort (pointer_of p) c f
+part_of (read_at sort p c f i) = item_of sort (pointer_of p) c f (gathered (expand i))
+part_of (result sort m p ts) = result_of sort m (pointer_of p) (arguments_of ts)
+part_of t = variable Long 0 0
+
+-- Kinds of terms that are brought into their form by a function of their own.
+abbrev pub is_product : PlainTerm → Bool
+is_product (mul a b) = true
+is_product (and a b) = true
+is_product (or a b) = true
+is_product t = false
+
+abbrev pub is_comparison : PlainTerm → Bool
+is_comparison (less a b) = true
+is_comparison (less_equal a b) = true
+is_comparison t = false
+
+abbrev pub is_equation : PlainTerm → Bool
+is_equation (same a b) = true
+is_equation t = false
+
+abbrev pub is_choice : PlainTerm → Bool
+is_choice (choose c a b) = true
+is_choice t = false
+
+abbrev pub is_division : PlainTerm → Bool
+is_division (divide a n) = true
+is_division (remainder a n) = true
+is_division t = false
+
+-- the term's products, if it is of the kind
+abbrev pub expand_if : Bool → PlainTerm → Sum PlainMonomial
+expand_if true t = expand t
+expand_if false t = []
 
 -- the form of a number, a truth value or a pointer
 abbrev pub scalar_of : PlainTerm → PlainScalar

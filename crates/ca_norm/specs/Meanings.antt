@@ -1,5 +1,5 @@
 -- What a term and a normal form mean, once it is said what the atoms stand for.
-use Rattle.std.specs.Prelude.{ℕ, ◌+◌, ◌*◌, ◌%◌, ◌^◌, ℤ, pos, Bool, true, false, nat_eq, List, [], ◌∷◌, FitsSigned, Result, Ok, Err}
+use Rattle.std.specs.Prelude.{ℕ, ◌+◌, ◌*◌, ◌%◌, ◌^◌, Bool, true, false, nat_eq, List, [], ◌∷◌, FitsSigned, Result, Ok, Err}
 use Rattle.std.specs.Int.{int_wrap, cast_signed, cast_unsigned, w64}
 use Rattle.ca_tree.specs.declared.tree.BinaryOp.{BinaryOp}
 use Rattle.ca_tree.specs.declared.tree.BinaryOp.TheVariants as op

@@ -3,9 +3,10 @@
 ghost use Rattle.std.specs.Prelude.{◌≡◌, map, IfOk, OnOk};
 ghost use Rattle.ca_sums.specs.Sums.{NoZero, AddsSum};
 ghost use Rattle.ca_forms.specs.Lists.{products_of};
-ghost use Rattle.ca_forms.specs.Rules.{gathered};
 ghost use Rattle.ca_norm.specs.Terms.{shape, terms_of};
-ghost use Rattle.ca_norm.specs.Forms.{expand, pointer_of, scalar_of, arguments_of};
+ghost use Rattle.ca_forms.specs.Plain.{pointer_part};
+ghost use Rattle.ca_forms.specs.Rules.{alone, gathered};
+ghost use Rattle.ca_norm.specs.Forms.{expand, expand_if, is_product, is_comparison, is_equation, is_choice, is_division, part_of, pointer_of, scalar_of, arguments_of};
 
 use crate::term::Term;
 use ca_forms::Sort;
@@ -13,14 +14,15 @@ use ca_forms::parts::{both, longer};
 use ca_forms::pointers::{add_same_pointers, chosen_pointer};
 use ca_forms::polynomial::{Monomial, Part, Pointer, Polynomial, Scalar, Scalars};
 use ca_forms::rules::{
-    add_chosen, add_either, add_less, add_modulus, add_number, add_part, add_quotient, add_same,
-    add_same_truths, add_truth,
+    add_chosen, add_either, add_less, add_modulus, add_number, add_part, add_quotient, add_same, add_same_truths,
+    add_truth,
 };
 use ca_forms::sums::{add_product_of, finish};
 use std::alloc::{AllocError, Global};
 use std::collections::BTreeMap;
 
-/// Adds a term's products, each times the factor. It recurses as deep as the term is.
+/// Adds a term's products, each times the factor. It recurses as deep as the term is, so kinds of terms that need
+/// room for polynomials have functions of their own.
 #[cycle(normal)]
 #[inline(never)]
 fn add_term(
@@ -42,10 +44,6 @@ fn add_term(
             add_truth(alloc, form, *b, factor)?;
             Ok(())
         }
-        Term::Atom(sort, group, number) => {
-            add_part(alloc, form, Part::atom(*sort, *group, *number), factor)?;
-            Ok(())
-        }
         Term::Add(a, b) => {
             add_term(alloc, form, a, factor)?;
             add_term(alloc, form, b, factor)?;
@@ -65,6 +63,79 @@ fn add_term(
             add_term(alloc, form, a, factor.wrapping_mul(u64::MAX))?;
             Ok(())
         }
+        Term::Mul(_, _) => {
+            add_multiplied(alloc, form, term, factor)?;
+            Ok(())
+        }
+        Term::And(_, _) => {
+            add_multiplied(alloc, form, term, factor)?;
+            Ok(())
+        }
+        Term::Or(_, _) => {
+            add_multiplied(alloc, form, term, factor)?;
+            Ok(())
+        }
+        Term::Less(_, _) => {
+            add_compared(alloc, form, term, factor)?;
+            Ok(())
+        }
+        Term::LessEqual(_, _) => {
+            add_compared(alloc, form, term, factor)?;
+            Ok(())
+        }
+        Term::Same(_, _) => {
+            add_equated(alloc, form, term, factor)?;
+            Ok(())
+        }
+        Term::Choose(_, _, _) => {
+            add_choice(alloc, form, term, factor)?;
+            Ok(())
+        }
+        Term::Divide(_, _) => {
+            add_divided(alloc, form, term, factor)?;
+            Ok(())
+        }
+        Term::Remainder(_, _) => {
+            add_divided(alloc, form, term, factor)?;
+            Ok(())
+        }
+        Term::Atom(_, _, _) => {
+            add_own_part(alloc, form, term, factor)?;
+            Ok(())
+        }
+        Term::Read(_, _, _, _) => {
+            add_own_part(alloc, form, term, factor)?;
+            Ok(())
+        }
+        Term::ReadAt(_, _, _, _, _) => {
+            add_own_part(alloc, form, term, factor)?;
+            Ok(())
+        }
+        Term::Result(_, _, _, _) => {
+            add_own_part(alloc, form, term, factor)?;
+            Ok(())
+        }
+        Term::Null => Ok(()),
+        Term::Select(_, _) => Ok(()),
+        Term::Put(_, _, _) => Ok(()),
+        Term::AddAt(_, _, _) => Ok(()),
+    }
+}
+
+/// Adds a product, or two truth values of which both or one holds, times the factor; nothing for any other term.
+#[cycle(normal)]
+#[inline(never)]
+fn add_multiplied(
+    alloc: Global,
+    form: &mut BTreeMap<Monomial, u64>,
+    term: &Term,
+    factor: u64,
+) -> Result<(), AllocError>
+    requires { NoZero form.old.entries }
+    ensures nonzero { NoZero form.new.entries }
+    ensures added { OnOk result (AddsSum form.old.entries form.new.entries factor (expand_if (is_product (shape term.now)) (shape term.now))) }
+{
+    match term {
         Term::Mul(a, b) => {
             let f = polynomial_of(alloc, a)?;
             let g = polynomial_of(alloc, b)?;
@@ -77,6 +148,30 @@ fn add_term(
             add_product_of(alloc, form, &f, &g, factor)?;
             Ok(())
         }
+        Term::Or(a, b) => {
+            let f = polynomial_of(alloc, a)?;
+            let g = polynomial_of(alloc, b)?;
+            add_either(alloc, form, &f, &g, factor)?;
+            Ok(())
+        }
+        _ => Ok(()),
+    }
+}
+
+/// Adds whether a number is less than another, or at most it, times the factor; nothing for any other term.
+#[cycle(normal)]
+#[inline(never)]
+fn add_compared(
+    alloc: Global,
+    form: &mut BTreeMap<Monomial, u64>,
+    term: &Term,
+    factor: u64,
+) -> Result<(), AllocError>
+    requires { NoZero form.old.entries }
+    ensures nonzero { NoZero form.new.entries }
+    ensures added { OnOk result (AddsSum form.old.entries form.new.entries factor (expand_if (is_comparison (shape term.now)) (shape term.now))) }
+{
+    match term {
         Term::Less(a, b) => {
             let f = polynomial_of(alloc, a)?;
             let g = polynomial_of(alloc, b)?;
@@ -90,6 +185,24 @@ fn add_term(
             add_less(alloc, form, g, f, factor.wrapping_mul(u64::MAX))?;
             Ok(())
         }
+        _ => Ok(()),
+    }
+}
+
+/// Adds whether two values are equal, times the factor; nothing for any other term.
+#[cycle(normal)]
+#[inline(never)]
+fn add_equated(
+    alloc: Global,
+    form: &mut BTreeMap<Monomial, u64>,
+    term: &Term,
+    factor: u64,
+) -> Result<(), AllocError>
+    requires { NoZero form.old.entries }
+    ensures nonzero { NoZero form.new.entries }
+    ensures added { OnOk result (AddsSum form.old.entries form.new.entries factor (expand_if (is_equation (shape term.now)) (shape term.now))) }
+{
+    match term {
         Term::Same(a, b) => match a.sort() {
             Sort::Long => {
                 let f = polynomial_of(alloc, a)?;
@@ -110,12 +223,24 @@ fn add_term(
             }
             _ => Ok(()),
         },
-        Term::Or(a, b) => {
-            let f = polynomial_of(alloc, a)?;
-            let g = polynomial_of(alloc, b)?;
-            add_either(alloc, form, &f, &g, factor)?;
-            Ok(())
-        }
+        _ => Ok(()),
+    }
+}
+
+/// Adds a choice of numbers or truth values, times the factor; nothing for any other term.
+#[cycle(normal)]
+#[inline(never)]
+fn add_choice(
+    alloc: Global,
+    form: &mut BTreeMap<Monomial, u64>,
+    term: &Term,
+    factor: u64,
+) -> Result<(), AllocError>
+    requires { NoZero form.old.entries }
+    ensures nonzero { NoZero form.new.entries }
+    ensures added { OnOk result (AddsSum form.old.entries form.new.entries factor (expand_if (is_choice (shape term.now)) (shape term.now))) }
+{
+    match term {
         Term::Choose(c, a, b) => {
             let f = polynomial_of(alloc, c)?;
             let g = polynomial_of(alloc, a)?;
@@ -123,6 +248,24 @@ fn add_term(
             add_chosen(alloc, form, &f, &g, &h, factor)?;
             Ok(())
         }
+        _ => Ok(()),
+    }
+}
+
+/// Adds a quotient, or what a division leaves, times the factor; nothing for any other term.
+#[cycle(normal)]
+#[inline(never)]
+fn add_divided(
+    alloc: Global,
+    form: &mut BTreeMap<Monomial, u64>,
+    term: &Term,
+    factor: u64,
+) -> Result<(), AllocError>
+    requires { NoZero form.old.entries }
+    ensures nonzero { NoZero form.new.entries }
+    ensures added { OnOk result (AddsSum form.old.entries form.new.entries factor (expand_if (is_division (shape term.now)) (shape term.now))) }
+{
+    match term {
         Term::Divide(a, n) => {
             let f = polynomial_of(alloc, a)?;
             add_quotient(alloc, form, f, *n, factor)?;
@@ -133,40 +276,49 @@ fn add_term(
             add_modulus(alloc, form, f, *n, factor)?;
             Ok(())
         }
+        _ => Ok(()),
+    }
+}
+
+/// Adds an atom, a read or a result, times the factor.
+#[cycle(normal)]
+#[inline(never)]
+fn add_own_part(
+    alloc: Global,
+    form: &mut BTreeMap<Monomial, u64>,
+    term: &Term,
+    factor: u64,
+) -> Result<(), AllocError>
+    requires { NoZero form.old.entries }
+    ensures nonzero { NoZero form.new.entries }
+    ensures added { OnOk result (AddsSum form.old.entries form.new.entries factor (alone (part_of (shape term.now)))) }
+{
+    let part = part_of(alloc, term)?;
+    add_part(alloc, form, part, factor)?;
+    Ok(())
+}
+
+/// The part that an atom, a read or a result is; some atom for any other term.
+#[cycle(normal)]
+#[inline(never)]
+fn part_of(alloc: Global, term: &Term) -> Result<Part, AllocError>
+    ensures { IfOk result (λ p. p ≡ part_of (shape term.now)) }
+{
+    match term {
+        Term::Atom(sort, group, number) => Ok(Part::atom(*sort, *group, *number)),
         Term::Read(sort, p, class, field) => {
             let object = pointer_of(alloc, p)?;
-            add_part(
-                alloc,
-                form,
-                Part::field(*sort, object, *class, *field),
-                factor,
-            )?;
-            Ok(())
+            Ok(Part::field(*sort, object, *class, *field))
         }
         Term::ReadAt(sort, p, class, field, i) => {
             let (object, index) = both(pointer_of(alloc, p), polynomial_of(alloc, i))?;
-            add_part(
-                alloc,
-                form,
-                Part::item(*sort, object, *class, *field, index),
-                factor,
-            )?;
-            Ok(())
+            Ok(Part::item(*sort, object, *class, *field, index))
         }
         Term::Result(sort, method, p, args) => {
             let (receiver, args) = both(pointer_of(alloc, p), arguments_of(alloc, args))?;
-            add_part(
-                alloc,
-                form,
-                Part::call(*sort, *method, receiver, args),
-                factor,
-            )?;
-            Ok(())
+            Ok(Part::call(*sort, *method, receiver, args))
         }
-        Term::Null => Ok(()),
-        Term::Select(_, _) => Ok(()),
-        Term::Put(_, _, _) => Ok(()),
-        Term::AddAt(_, _, _) => Ok(()),
+        _ => Ok(Part::atom(Sort::Long, 0, 0)),
     }
 }
 
@@ -181,6 +333,15 @@ pub fn polynomial_of(alloc: Global, term: &Term) -> Result<Polynomial, AllocErro
     finish(alloc, form)
 }
 
+#[cycle(normal)]
+#[inline(never)]
+fn own_pointer(alloc: Global, term: &Term) -> Result<Pointer, AllocError>
+    ensures { IfOk result (λ p. p ≡ pointer_part (part_of (shape term.now))) }
+{
+    let part = part_of(alloc, term)?;
+    Ok(Pointer::of(alloc, part)?)
+}
+
 /// The form of a term that is to be a pointer. It recurses as deep as the term is.
 #[cycle(normal)]
 #[inline(never)]
@@ -188,26 +349,15 @@ pub fn pointer_of(alloc: Global, term: &Term) -> Result<Pointer, AllocError>
     ensures { IfOk result (λ p. p ≡ pointer_of (shape term.now)) }
 {
     match term {
-        Term::Atom(sort, group, number) => {
-            Ok(Pointer::of(alloc, Part::atom(*sort, *group, *number))?)
-        }
         Term::Choose(c, a, b) => {
             let f = polynomial_of(alloc, c)?;
             let (p, q) = both(pointer_of(alloc, a), pointer_of(alloc, b))?;
             Ok(chosen_pointer(alloc, f, p, q)?)
         }
-        Term::Read(sort, p, class, field) => {
-            let object = pointer_of(alloc, p)?;
-            Ok(Pointer::of(alloc, Part::field(*sort, object, *class, *field))?)
-        }
-        Term::ReadAt(sort, p, class, field, i) => {
-            let (object, index) = both(pointer_of(alloc, p), polynomial_of(alloc, i))?;
-            Ok(Pointer::of(alloc, Part::item(*sort, object, *class, *field, index))?)
-        }
-        Term::Result(sort, method, p, args) => {
-            let (receiver, args) = both(pointer_of(alloc, p), arguments_of(alloc, args))?;
-            Ok(Pointer::of(alloc, Part::call(*sort, *method, receiver, args))?)
-        }
+        Term::Atom(_, _, _) => Ok(own_pointer(alloc, term)?),
+        Term::Read(_, _, _, _) => Ok(own_pointer(alloc, term)?),
+        Term::ReadAt(_, _, _, _, _) => Ok(own_pointer(alloc, term)?),
+        Term::Result(_, _, _, _) => Ok(own_pointer(alloc, term)?),
         _ => Ok(Pointer::null()),
     }
 }

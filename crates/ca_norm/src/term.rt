@@ -1,11 +1,11 @@
 //! Terms over the atoms of two operations and a receiver.
 
-ghost use Rattle.std.specs.Prelude.{◌≡◌, map, IfOk};
+ghost use Rattle.std.specs.Prelude.{◌≡◌, map, IfOk, box_value};
 ghost use Rattle.ca_forms.specs.declared.sort.Sort.{Sort};
 ghost use Rattle.ca_norm.specs.Terms.{PlainTerm, add, sub, shape, sort_of, item_sort};
 
 use ca_forms::Sort;
-use ca_forms::parts::{both, longer, one_box, three_boxes, two_boxes};
+use ca_forms::parts::{both, longer, one_box, two_boxes};
 use std::alloc::{AllocError, Global};
 
 /// A term. An atom has a sort, a group and a number in the group. Group 0 is the receiver, 1 and 2
@@ -89,6 +89,7 @@ impl Term {
 
     /// The same term once more. It recurses as deep as the term is.
     #[cycle(copy)]
+    #[inline(never)]
     pub fn copy(&self, alloc: Global) -> Result<Term, AllocError>
         ensures { IfOk result (λ t. shape t ≡ shape self.now) }
     {
@@ -97,86 +98,83 @@ impl Term {
             Term::Truth(b) => Ok(Term::Truth(*b)),
             Term::Null => Ok(Term::Null),
             Term::Atom(sort, group, number) => Ok(Term::Atom(*sort, *group, *number)),
-            Term::Neg(a) => Ok(Term::Neg(one_box(alloc, a.copy(alloc))?)),
-            Term::Divide(a, n) => Ok(Term::Divide(one_box(alloc, a.copy(alloc))?, *n)),
-            Term::Remainder(a, n) => Ok(Term::Remainder(one_box(alloc, a.copy(alloc))?, *n)),
-            Term::Not(a) => Ok(Term::Not(one_box(alloc, a.copy(alloc))?)),
+            Term::Neg(a) => Ok(Term::Neg(a.boxed(alloc)?)),
+            Term::Divide(a, n) => Ok(Term::Divide(a.boxed(alloc)?, *n)),
+            Term::Remainder(a, n) => Ok(Term::Remainder(a.boxed(alloc)?, *n)),
+            Term::Not(a) => Ok(Term::Not(a.boxed(alloc)?)),
             Term::Add(a, b) => {
-                let (first, second) = two_boxes(alloc, a.copy(alloc), b.copy(alloc))?;
+                let (first, second) = both(a.boxed(alloc), b.boxed(alloc))?;
                 Ok(Term::Add(first, second))
             }
             Term::Sub(a, b) => {
-                let (first, second) = two_boxes(alloc, a.copy(alloc), b.copy(alloc))?;
+                let (first, second) = both(a.boxed(alloc), b.boxed(alloc))?;
                 Ok(Term::Sub(first, second))
             }
             Term::Mul(a, b) => {
-                let (first, second) = two_boxes(alloc, a.copy(alloc), b.copy(alloc))?;
+                let (first, second) = both(a.boxed(alloc), b.boxed(alloc))?;
                 Ok(Term::Mul(first, second))
             }
             Term::Less(a, b) => {
-                let (first, second) = two_boxes(alloc, a.copy(alloc), b.copy(alloc))?;
+                let (first, second) = both(a.boxed(alloc), b.boxed(alloc))?;
                 Ok(Term::Less(first, second))
             }
             Term::LessEqual(a, b) => {
-                let (first, second) = two_boxes(alloc, a.copy(alloc), b.copy(alloc))?;
+                let (first, second) = both(a.boxed(alloc), b.boxed(alloc))?;
                 Ok(Term::LessEqual(first, second))
             }
             Term::Same(a, b) => {
-                let (first, second) = two_boxes(alloc, a.copy(alloc), b.copy(alloc))?;
+                let (first, second) = both(a.boxed(alloc), b.boxed(alloc))?;
                 Ok(Term::Same(first, second))
             }
             Term::And(a, b) => {
-                let (first, second) = two_boxes(alloc, a.copy(alloc), b.copy(alloc))?;
+                let (first, second) = both(a.boxed(alloc), b.boxed(alloc))?;
                 Ok(Term::And(first, second))
             }
             Term::Or(a, b) => {
-                let (first, second) = two_boxes(alloc, a.copy(alloc), b.copy(alloc))?;
+                let (first, second) = both(a.boxed(alloc), b.boxed(alloc))?;
                 Ok(Term::Or(first, second))
             }
             Term::Select(a, i) => {
-                let (first, second) = two_boxes(alloc, a.copy(alloc), i.copy(alloc))?;
+                let (first, second) = both(a.boxed(alloc), i.boxed(alloc))?;
                 Ok(Term::Select(first, second))
             }
             Term::Choose(c, a, b) => {
-                let (first, second, third) = three_boxes(
-                    alloc,
-                    c.copy(alloc),
-                    a.copy(alloc),
-                    b.copy(alloc),
-                )?;
+                let sides = both(a.boxed(alloc), b.boxed(alloc));
+                let (first, (second, third)) = both(c.boxed(alloc), sides)?;
                 Ok(Term::Choose(first, second, third))
             }
             Term::Put(a, i, v) => {
-                let (first, second, third) = three_boxes(
-                    alloc,
-                    a.copy(alloc),
-                    i.copy(alloc),
-                    v.copy(alloc),
-                )?;
+                let sides = both(i.boxed(alloc), v.boxed(alloc));
+                let (first, (second, third)) = both(a.boxed(alloc), sides)?;
                 Ok(Term::Put(first, second, third))
             }
             Term::AddAt(a, i, v) => {
-                let (first, second, third) = three_boxes(
-                    alloc,
-                    a.copy(alloc),
-                    i.copy(alloc),
-                    v.copy(alloc),
-                )?;
+                let sides = both(i.boxed(alloc), v.boxed(alloc));
+                let (first, (second, third)) = both(a.boxed(alloc), sides)?;
                 Ok(Term::AddAt(first, second, third))
             }
             Term::Read(sort, p, class, field) => {
-                let object = one_box(alloc, p.copy(alloc))?;
+                let object = p.boxed(alloc)?;
                 Ok(Term::Read(*sort, object, *class, *field))
             }
             Term::ReadAt(sort, p, class, field, i) => {
-                let (object, index) = two_boxes(alloc, p.copy(alloc), i.copy(alloc))?;
+                let (object, index) = both(p.boxed(alloc), i.boxed(alloc))?;
                 Ok(Term::ReadAt(*sort, object, *class, *field, index))
             }
             Term::Result(sort, function, p, args) => {
-                let (receiver, args) = both(one_box(alloc, p.copy(alloc)), copy_all(alloc, args))?;
+                let (receiver, args) = both(p.boxed(alloc), copy_all(alloc, args))?;
                 Ok(Term::Result(*sort, *function, receiver, args))
             }
         }
+    }
+
+    /// The same term once more in a box, so that `copy`, which recurses, keeps no terms in its frame.
+    #[cycle(copy)]
+    #[inline(never)]
+    fn boxed(&self, alloc: Global) -> Result<Box<Term>, AllocError>
+        ensures { IfOk result (λ b. shape (box_value b) ≡ shape self.now) }
+    {
+        one_box(alloc, self.copy(alloc))
     }
 }
 

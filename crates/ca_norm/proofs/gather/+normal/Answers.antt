@@ -1,17 +1,17 @@
-use Rattle.std.proofs.Common.{rules, ◌≡◌, ◌-◌, ◌^◌, ◌++◌, ◌∙◌, IfOk, ◌≤◌, List, [], length, map, take, ap, ap₂, sym, subst, true}
+use Rattle.std.proofs.Common.{rules, ◌≡◌, ◌-◌, ◌^◌, ◌∙◌, IfOk, ◌≤◌, List, [], length, map, take, ap, ap₂, sym, subst, true}
 use Rattle.std.proofs.lemmas.List.{take_all}
 use Rattle.ca_sums.specs.Sums.{Sum, AddsSum, collect}
 use Rattle.ca_sums.proofs.Additions.{adds_both}
 use Rattle.ca_sums.proofs.Entries.{gathered_is}
 use Rattle.ca_forms.specs.declared.sort.Sort.TheVariants.{Long, Bool as Truth}
-use Rattle.ca_forms.specs.Plain.{PlainPart, PlainMonomial, result_of, pointer_part}
+use Rattle.ca_forms.specs.Plain.{PlainMonomial, result_of}
 use Rattle.ca_forms.specs.Lists.{polynomial_of, products_of, scalars_of}
 use Rattle.ca_forms.specs.Compare.{monomial_cmp}
-use Rattle.ca_forms.specs.Rules.{alone, gathered, minus, truth_sum, less_sum, same_numbers, same_truths}
+use Rattle.ca_forms.specs.Rules.{gathered, minus, truth_sum, less_sum, same_numbers, same_truths}
 use Rattle.ca_forms.proofs.Exact.{monomials_exact}
 use Rattle.ca_forms.proofs.Gathered.{adds_gathered, adds_chosen, adds_scaled, adds_either, adds_same_truths, same_numbers_gathered}
 use Rattle.ca_norm.specs.Terms.{PlainTerm, result, shape, sort_of, terms_of}
-use Rattle.ca_norm.specs.Forms.{expand, pointer_of, scalar_of, arguments_of}
+use Rattle.ca_norm.specs.Forms.{expand, part_of, pointer_of, scalar_of, arguments_of}
 use Rattle.ca_norm.proofs.Shapes.{call_is, arguments_forms}
 use Rattle.ca_norm.proofs.gather.+normal.Goals as goal
 
@@ -33,27 +33,27 @@ add_term-returns-in_ok-add_term-in-Not-clause-added t c =
     let a : Sum PlainMonomial = expand (shape c.deref-in-Not.result.now) in
     rw (c.in-Not.is, ← c.deref-in-Not.ensures) (adds_both c.args.form.now.entries c.add_truth-in-Not.new.form.entries c.add_term-in-Not.new.form.entries c.args.factor (truth_sum true) (minus a) c.in_ok-add_truth-in-Not.ensures.added (adds_scaled c.add_truth-in-Not.new.form.entries c.add_term-in-Not.new.form.entries c.args.factor (2 ^ 64 - 1) a c.in_ok-add_term-in-Not.ensures.added))
 
-pub add_term-returns-in_ok-add_product_of-in-Mul-clause-added : goal.add_term-returns-in_ok-add_product_of-in-Mul-clause-added
-add_term-returns-in_ok-add_product_of-in-Mul-clause-added t c =
-    rw (c.in-Mul.is, ← c.deref-in-Mul.ensures, ← c.deref-in-Mul-2.ensures) (adds_gathered c.args.form.now.entries c.add_product_of.new.form.entries c.args.factor (expand (shape c.deref-in-Mul.result.now)) (expand (shape c.deref-in-Mul-2.result.now)) (rw (← c.in_ok-f-in-Mul.ensures, ← c.in_ok-g-in-Mul.ensures) c.in_ok-add_product_of-in-Mul.ensures.added))
+pub add_multiplied-returns-in_ok-add_product_of-in-Mul-clause-added : goal.add_multiplied-returns-in_ok-add_product_of-in-Mul-clause-added
+add_multiplied-returns-in_ok-add_product_of-in-Mul-clause-added t c =
+    rw (c.in-Mul.is, ← c.deref.ensures, ← c.deref-in-Mul.ensures) (adds_gathered c.args.form.now.entries c.add_product_of.new.form.entries c.args.factor (expand (shape c.deref.result.now)) (expand (shape c.deref-in-Mul.result.now)) (rw (← c.in_ok-f-in-Mul.ensures, ← c.in_ok-g-in-Mul.ensures) c.in_ok-add_product_of-in-Mul.ensures.added))
 
-pub add_term-returns-in_ok-add_product_of-in-And-clause-added : goal.add_term-returns-in_ok-add_product_of-in-And-clause-added
-add_term-returns-in_ok-add_product_of-in-And-clause-added t c =
+pub add_multiplied-returns-in_ok-add_product_of-in-And-clause-added : goal.add_multiplied-returns-in_ok-add_product_of-in-And-clause-added
+add_multiplied-returns-in_ok-add_product_of-in-And-clause-added t c =
     rw (c.in-And.is, ← c.deref-in-And.ensures, ← c.deref-in-And-2.ensures) (adds_gathered c.args.form.now.entries c.add_product_of-in-And.new.form.entries c.args.factor (expand (shape c.deref-in-And.result.now)) (expand (shape c.deref-in-And-2.result.now)) (rw (← c.in_ok-f-in-And.ensures, ← c.in_ok-g-in-And.ensures) c.in_ok-add_product_of-in-And.ensures.added))
 
-pub add_term-returns-in_ok-add_less-in-LessEqual-clause-added : goal.add_term-returns-in_ok-add_less-in-LessEqual-clause-added
-add_term-returns-in_ok-add_less-in-LessEqual-clause-added t c =
+pub add_compared-returns-in_ok-add_less-in-LessEqual-clause-added : goal.add_compared-returns-in_ok-add_less-in-LessEqual-clause-added
+add_compared-returns-in_ok-add_less-in-LessEqual-clause-added t c =
     let f = gathered (expand (shape c.deref-in-LessEqual.result.now)) in
     let g = gathered (expand (shape c.deref-in-LessEqual-2.result.now)) in
-    rw (c.in-LessEqual.is, ← c.deref-in-LessEqual.ensures, ← c.deref-in-LessEqual-2.ensures) (adds_both c.args.form.now.entries c.add_truth-in-LessEqual.new.form.entries c.add_less-in-LessEqual.new.form.entries c.args.factor (truth_sum true) (minus (less_sum g f)) c.in_ok-add_truth-in-LessEqual.ensures.added (adds_scaled c.add_truth-in-LessEqual.new.form.entries c.add_less-in-LessEqual.new.form.entries c.args.factor (2 ^ 64 - 1) (less_sum g f) (rw (← c.in_ok-f-in-LessEqual.ensures, ← c.in_ok-g-in-LessEqual.ensures) c.in_ok-add_less-in-LessEqual.ensures.added)))
+    rw (c.in-LessEqual.is, ← c.deref-in-LessEqual.ensures, ← c.deref-in-LessEqual-2.ensures) (adds_both c.args.form.now.entries c.add_truth.new.form.entries c.add_less-in-LessEqual.new.form.entries c.args.factor (truth_sum true) (minus (less_sum g f)) c.in_ok-add_truth-in-LessEqual.ensures.added (adds_scaled c.add_truth.new.form.entries c.add_less-in-LessEqual.new.form.entries c.args.factor (2 ^ 64 - 1) (less_sum g f) (rw (← c.in_ok-f-in-LessEqual.ensures, ← c.in_ok-g-in-LessEqual.ensures) c.in_ok-add_less-in-LessEqual.ensures.added)))
 
-pub add_term-returns-in_ok-add_either-in-Or-clause-added : goal.add_term-returns-in_ok-add_either-in-Or-clause-added
-add_term-returns-in_ok-add_either-in-Or-clause-added t c =
+pub add_multiplied-returns-in_ok-add_either-in-Or-clause-added : goal.add_multiplied-returns-in_ok-add_either-in-Or-clause-added
+add_multiplied-returns-in_ok-add_either-in-Or-clause-added t c =
     rw (c.in-Or.is, ← c.deref-in-Or.ensures, ← c.deref-in-Or-2.ensures) (adds_either c.args.form.now.entries c.add_either.new.form.entries c.args.factor (expand (shape c.deref-in-Or.result.now)) (expand (shape c.deref-in-Or-2.result.now)) (rw (← c.in_ok-f-in-Or.ensures, ← c.in_ok-g-in-Or.ensures) c.in_ok-add_either-in-Or.ensures.added))
 
-pub add_term-returns-in_ok-add_chosen-in-Choose-clause-added : goal.add_term-returns-in_ok-add_chosen-in-Choose-clause-added
-add_term-returns-in_ok-add_chosen-in-Choose-clause-added t c =
-    rw (c.in-Choose.is, ← c.deref-in-Choose.ensures, ← c.deref-in-Choose-2.ensures, ← c.deref-in-Choose-3.ensures) (adds_chosen c.args.form.now.entries c.add_chosen.new.form.entries c.args.factor (expand (shape c.deref-in-Choose.result.now)) (expand (shape c.deref-in-Choose-2.result.now)) (expand (shape c.deref-in-Choose-3.result.now)) (rw (← c.in_ok-f-in-Choose.ensures, ← c.in_ok-g-in-Choose.ensures, ← c.in_ok-h-in-Choose.ensures) c.in_ok-add_chosen-in-Choose.ensures.added))
+pub add_choice-returns-in_ok-add_chosen-in-Choose-clause-added : goal.add_choice-returns-in_ok-add_chosen-in-Choose-clause-added
+add_choice-returns-in_ok-add_chosen-in-Choose-clause-added t c =
+    rw (c.in-Choose.is, ← c.deref.ensures, ← c.deref-in-Choose.ensures, ← c.deref-in-Choose-2.ensures) (adds_chosen c.args.form.now.entries c.add_chosen.new.form.entries c.args.factor (expand (shape c.deref.result.now)) (expand (shape c.deref-in-Choose.result.now)) (expand (shape c.deref-in-Choose-2.result.now)) (rw (← c.in_ok-f-in-Choose.ensures, ← c.in_ok-g-in-Choose.ensures, ← c.in_ok-h-in-Choose.ensures) c.in_ok-add_chosen-in-Choose.ensures.added))
 
 pub polynomial_of-returns : goal.polynomial_of-returns
 polynomial_of-returns t c =
@@ -62,31 +62,30 @@ polynomial_of-returns t c =
     let e : es ≡ collect monomial_cmp (expand (shape c.args.term.now)) = gathered_is monomial_cmp monomials_exact es (expand (shape c.args.term.now)) c.finish.ensures.ordered c.in_ok-add_term.ensures.nonzero added in
     subst (λ (z : Sum PlainMonomial). IfOk c.finish.result (λ f. f ≡ polynomial_of z)) e c.finish.ensures.value
 
-pub add_term-returns-in_ok-add_same-in-Long-clause-added : goal.add_term-returns-in_ok-add_same-in-Long-clause-added
-add_term-returns-in_ok-add_same-in-Long-clause-added t c =
+pub add_equated-returns-in_ok-add_same-in-Long-clause-added : goal.add_equated-returns-in_ok-add_same-in-Long-clause-added
+add_equated-returns-in_ok-add_same-in-Long-clause-added t c =
     let a : PlainTerm = shape c.deref-in-Long.result.now in
     let b : PlainTerm = shape c.deref-in-Long-2.result.now in
-    let kind : sort_of a ≡ Long = ap (λ x. sort_of (shape x)) (c.deref-in-Long.ensures ∙ sym c.deref-in-Same.ensures) ∙ sym c.sort.ensures ∙ c.in-Long.is in
+    let kind : sort_of a ≡ Long = ap (λ x. sort_of (shape x)) (c.deref-in-Long.ensures ∙ sym c.deref.ensures) ∙ sym c.sort.ensures ∙ c.in-Long.is in
     let parts : AddsSum c.args.form.now.entries c.add_same.new.form.entries c.args.factor (same_numbers (products_of (gathered (expand a))) (products_of (gathered (expand b)))) = rw (← c.in_ok-f-in-Long.ensures, ← c.in_ok-g-in-Long.ensures) c.in_ok-add_same-in-Long.ensures.added in
     let whole : AddsSum c.args.form.now.entries c.add_same.new.form.entries c.args.factor (same_numbers (expand a) (expand b)) = subst (λ (z : Sum PlainMonomial). AddsSum c.args.form.now.entries c.add_same.new.form.entries c.args.factor z) (same_numbers_gathered (expand a) (expand b)) parts in
     rw (c.in-Same.is, ← c.deref-in-Long.ensures, ← c.deref-in-Long-2.ensures, kind) whole
 
-pub add_term-returns-in_ok-add_same_truths-in-Bool-clause-added : goal.add_term-returns-in_ok-add_same_truths-in-Bool-clause-added
-add_term-returns-in_ok-add_same_truths-in-Bool-clause-added t c =
+pub add_equated-returns-in_ok-add_same_truths-in-Bool-clause-added : goal.add_equated-returns-in_ok-add_same_truths-in-Bool-clause-added
+add_equated-returns-in_ok-add_same_truths-in-Bool-clause-added t c =
     let a : PlainTerm = shape c.deref-in-Bool.result.now in
     let b : PlainTerm = shape c.deref-in-Bool-2.result.now in
-    let kind : sort_of a ≡ Truth = ap (λ x. sort_of (shape x)) (c.deref-in-Bool.ensures ∙ sym c.deref-in-Same.ensures) ∙ sym c.sort.ensures ∙ c.in-Bool.is in
+    let kind : sort_of a ≡ Truth = ap (λ x. sort_of (shape x)) (c.deref-in-Bool.ensures ∙ sym c.deref.ensures) ∙ sym c.sort.ensures ∙ c.in-Bool.is in
     let parts : AddsSum c.args.form.now.entries c.add_same_truths.new.form.entries c.args.factor (same_truths (products_of (gathered (expand a))) (products_of (gathered (expand b)))) = rw (← c.in_ok-f-in-Bool.ensures, ← c.in_ok-g-in-Bool.ensures) c.in_ok-add_same_truths-in-Bool.ensures.added in
     rw (c.in-Same.is, ← c.deref-in-Bool.ensures, ← c.deref-in-Bool-2.ensures, kind) (adds_same_truths c.args.form.now.entries c.add_same_truths.new.form.entries c.args.factor (expand a) (expand b) parts)
 
-pub add_term-returns-in_ok-add_part-in-Result-clause-added : goal.add_term-returns-in_ok-add_part-in-Result-clause-added
-add_term-returns-in_ok-add_part-in-Result-clause-added t c =
+pub part_of-returns-in_ok-receiver-in-Result : goal.part_of-returns-in_ok-receiver-in-Result
+part_of-returns-in_ok-receiver-in-Result t c =
     let ts : List PlainTerm = map shape c.in-Result.args.items in
     let receiver : c.in_ok-receiver-in-Result.receiver ≡ pointer_of (shape c.in-Result.p.value) = search rules in
     let args : c.in_ok-receiver-in-Result.args ≡ arguments_of (terms_of ts) = search rules in
     let is : result c.in-Result.sort c.in-Result.method (shape c.in-Result.p.value) (terms_of ts) ≡ shape c.args.term.now = sym (call_is c.in-Result.sort c.in-Result.method c.in-Result.p c.in-Result.args) ∙ sym (ap shape c.in-Result.is) in
-    let part : c.call.result ≡ result_of c.in-Result.sort c.in-Result.method (pointer_of (shape c.in-Result.p.value)) (arguments_of (terms_of ts)) = c.call.ensures ∙ ap₂ (result_of c.in-Result.sort c.in-Result.method) receiver args in
-    subst (λ (x : PlainTerm). AddsSum c.args.form.now.entries c.add_part-in-Result.new.form.entries c.args.factor (expand x)) is (subst (λ (x : PlainPart). AddsSum c.args.form.now.entries c.add_part-in-Result.new.form.entries c.args.factor (alone x)) part c.in_ok-add_part-in-Result.ensures.added)
+    c.call.ensures ∙ ap₂ (result_of c.in-Result.sort c.in-Result.method) receiver args ∙ ap part_of is
 
 pub arguments_of-returns : goal.arguments_of-returns
 arguments_of-returns t c =
@@ -94,11 +93,3 @@ arguments_of-returns t c =
     let so_far : c.loop-term.items.items ≡ map scalar_of (map shape (take c.loop-term.term-index c.args.terms.now)) = c.loop-term.invariant in
     let all : c.loop-term.items.items ≡ map scalar_of (map shape c.args.terms.now) = so_far ∙ ap (λ xs. map scalar_of (map shape xs)) (take_all c.loop-term.term-index c.args.terms.now end) in
     c.of.ensures ∙ ap scalars_of all ∙ arguments_forms (map shape c.args.terms.now)
-
-pub pointer_of-returns-in_ok-of-in-Result : goal.pointer_of-returns-in_ok-of-in-Result
-pointer_of-returns-in_ok-of-in-Result t c =
-    let ts : List PlainTerm = map shape c.in-Result.args.items in
-    let receiver : c.in_ok-receiver-in-Result.receiver ≡ pointer_of (shape c.in-Result.p.value) = search rules in
-    let args : c.in_ok-receiver-in-Result.args ≡ arguments_of (terms_of ts) = search rules in
-    let is : result c.in-Result.sort c.in-Result.method (shape c.in-Result.p.value) (terms_of ts) ≡ shape c.args.term.now = sym (call_is c.in-Result.sort c.in-Result.method c.in-Result.p c.in-Result.args) ∙ sym (ap shape c.in-Result.is) in
-    c.in_ok-of-in-Result.ensures ∙ ap pointer_part (c.call.ensures ∙ ap₂ (result_of c.in-Result.sort c.in-Result.method) receiver args) ∙ ap pointer_of is
