@@ -1,5 +1,6 @@
 -- Seats that stay the same seats while they note: one after more tasks, and all of them.
 use Rattle.std.proofs.Common.{◌≡◌, ℕ, zero, suc, ◌<◌, List, [], ◌∷◌, ◌++◌, length, get_or, refl, sym, ap, ◌∙◌, subst, arith, All, Some}
+use Rattle.std.specs.Prelude.{slice_get}
 use Rattle.ca_meaning.specs.Multisets.{weight}
 use Rattle.ca_cells.specs.Seats.{IsOf, IsSameSeat, AreAll, view_of, seat_table, cells_table, cells_key}
 use Rattle.ca_cells.specs.declared.cells.Cells.{Cells}
@@ -56,3 +57,21 @@ all_still cells old new same a = let l = last_apart a.others a.first new (subst 
   boss = l.is.boss ∙ a.boss;
   out = λ f. sym (same_numbers f l.same) ∙ (a.out f ∙ sym (ap (weight f) l.is.out));
 }
+
+-- where the last one alone noted
+pub last_noted : (ss : List Seat) (s t : Seat) → IsSameSeat s t → Same (ss ++ s ∷ []) (ss ++ t ∷ [])
+last_noted [] s t a = seats s t [] [] a no_seats
+last_noted (x ∷ ss) s t a = seats x x (ss ++ s ∷ []) (ss ++ t ∷ []) (same_seat x) (last_noted ss s t a)
+
+pub last_holds : (P : Seat → Type 0) (ss : List Seat) (s : Seat) → All P (ss ++ s ∷ []) → P s
+last_holds P [] s h = h 0 s (omega arith)
+last_holds P (x ∷ ss) s h = last_holds P ss s (λ k d l. h (suc k) d (omega arith))
+
+-- a list of one has its last item at its first place
+pub one_alone : {A : Type 0} (rest : List A) (x : A) (all : List A) → all ≡ rest ++ x ∷ [] → length all ≡ 1 → slice_get all 0 ≡ Some x
+one_alone rest x all e l = subst (λ xs. slice_get xs 0 ≡ Some x) (sym e) (at_first rest (sym (ap length e) ∙ l))
+  where
+    at_first : (ys : List _) → length (ys ++ x ∷ []) ≡ 1 → slice_get (ys ++ x ∷ []) 0 ≡ Some x
+    at_first [] l = refl
+    at_first (y ∷ []) l = absurd (omega (arith, l))
+    at_first (y ∷ z ∷ ys) l = absurd (omega (arith, l))

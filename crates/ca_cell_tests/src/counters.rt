@@ -3,9 +3,11 @@
 ghost use Rattle.std.specs.Prelude.{◌≡◌, [], IfOk};
 ghost use Rattle.ca_program.specs.Plain.{this, no_expressions, invoke, no_statements, statement_and};
 ghost use Rattle.ca_program.specs.View.{class_view, method_view, program_view, statement_view, statements_view};
-ghost use Rattle.ca_cell_tests.specs.Counters.{add, counter_class, counters, counts, counts_one, method, starts};
+ghost use Rattle.ca_cell_tests.specs.Counters.{add, counter_class, counters, counts, counts_one, method, starts, twice};
 
-use ca_model::Heap;
+use ca_logs::Task;
+use ca_model::{Heap, Values};
+use ca_parallel::Op;
 use ca_program::{
     Body, Class, ClassId, Expr, FieldId, FieldInfo, Method, OpId, Program, Stmt, StmtForm,
     ValueType,
@@ -120,6 +122,20 @@ pub fn heap(alloc: Global, program: &Program, count: u32) -> Result<Heap, Fail>
         }
     }
     Ok(heap)
+}
+
+/// The task that counts twice on an object.
+pub fn twice(alloc: Global, object: u32) -> Task
+    ensures { result ≡ record { op = record { receiver = object; op = twice; args = [] }; after = 0 } }
+{
+    Task {
+        op: Op {
+            receiver: object,
+            op: OpId(1),
+            args: Values::new(alloc),
+        },
+        after: 0,
+    }
 }
 
 /// Lets a value go, by one call.

@@ -7,4 +7,6 @@
 #[cfg(test)]
 mod counters;
 #[cfg(test)]
+mod histories;
+#[cfg(test)]
 mod rounds;

@@ -1,38 +1,23 @@
 //! Rounds over counting objects.
 
-ghost use Rattle.std.specs.Prelude.{◌≡◌, ◌<◌, ◌≤◌, []};
+ghost use Rattle.std.specs.Prelude.{◌≡◌, ◌<◌, ◌≤◌};
 ghost use Rattle.std.specs.Thread.{IsSync};
 ghost use Rattle.ca_program.specs.View.{program_view};
 ghost use Rattle.ca_cells.specs.Seats.{AreAll, IsOf, IsSameSeat, cells_key};
-ghost use Rattle.ca_cell_tests.specs.Counters.{IsSet, counters, starts, twice};
+ghost use Rattle.ca_cell_tests.specs.Counters.{IsSet, counters, starts};
 
-use crate::counters::{heap, let_go, program};
-use ca_base::{Memory, OpenGate};
-use ca_cells::{Added, Applied, Cells, Seat, add};
+use crate::counters::{heap, let_go, program, twice};
+use ca_base::OpenGate;
+use ca_cells::{Applied, Cells, Seat};
 use ca_extent::extent_of;
-use ca_logs::{RoundLog, Stop, Task};
-use ca_model::{Heap, Object, Slot, Value, Values};
-use ca_parallel::Op;
+use ca_logs::RoundLog;
+use ca_model::{Heap, Object, Slot, Value};
 use ca_program::{OpId, Program};
 use ca_sections::Desk;
 use std::alloc::Global;
 use std::sync::Wait;
 use std::test::Fail;
 use std::thread::{self, Threads};
-
-/// The task that counts twice on an object.
-fn twice(alloc: Global, object: u32) -> Task
-    ensures { result ≡ record { op = record { receiver = object; op = twice; args = [] }; after = 0 } }
-{
-    Task {
-        op: Op {
-            receiver: object,
-            op: OpId(1),
-            args: Values::new(alloc),
-        },
-        after: 0,
-    }
-}
 
 /// Counts twice on an object, by two tasks, and tells whether both ran.
 fn count_twice<'a, R: Wait>(
