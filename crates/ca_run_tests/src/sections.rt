@@ -1,6 +1,7 @@
 //! Sections of operations and of loops.
 
 use crate::programs::{let_go, program};
+use ca_base::Memory;
 use ca_model::{Heap, Object, Slot, Slots, Trap, TrapKind, Value, Values};
 use ca_parallel::Op;
 use ca_program::{ClassId, OpId, Program};
@@ -11,15 +12,23 @@ use std::test::Fail;
 /// What is put into an object: the field, the item and the value.
 type Put = (u32, u32, Value);
 
+/// Adds an object of a class.
+fn create(heap: &mut Heap, program: &Program, class: u32) -> Result<(), Memory> {
+    match heap.create(program, ClassId(class)) {
+        Ok(_) => Ok(()),
+        Err(_) => Err(Memory),
+    }
+}
+
 /// An object of a class, with these values.
-fn object(alloc: Global, program: &Program, class: u32, puts: &[Put]) -> Result<Object, Fail> {
+fn object(alloc: Global, program: &Program, class: u32, puts: &[Put]) -> Result<Object, Memory> {
     let Some(fields) = program.classes.get(class as usize) else {
-        return Err(Fail::from("a class"));
+        return Err(Memory);
     };
     let mut slots = Slots::start(alloc, &fields.fields)?;
     for (field, item, value) in puts {
         if !slots.has(*field, *item) {
-            return Err(Fail::from("a slot"));
+            return Err(Memory);
         }
         slots.put(*field, *item, *value);
     }
@@ -36,7 +45,7 @@ fn one(object: &Object, field: u32) -> Option<Value> {
 }
 
 /// An operation that is called with a number.
-fn call(alloc: Global, receiver: u32, op: u32, argument: i64) -> Result<Op, Fail> {
+fn call(alloc: Global, receiver: u32, op: u32, argument: i64) -> Result<Op, Memory> {
     let mut args = Values::new(alloc);
     args.push(Value::Long(argument))?;
     let op = OpId(op);
@@ -55,10 +64,10 @@ fn visit(
     alloc: Global,
     program: &Program,
     left: u64,
-) -> Result<(SectionAnswer, Object, Vec<Op>), Fail> {
+) -> Result<(SectionAnswer, Object, Vec<Op>), Memory> {
     let mut heap = Heap::new(alloc);
-    heap.create(program, ClassId(0))?;
-    heap.create(program, ClassId(0))?;
+    create(&mut heap, program, 0)?;
+    create(&mut heap, program, 0)?;
     let puts = [(1, 0, Value::Long(5)), (3, 0, Value::Ref(0))];
     let mut object = object(alloc, program, 0, puts.as_slice())?;
     let mut out = Vec::new(alloc);
@@ -112,14 +121,14 @@ fn bins(
     alloc: Global,
     program: &Program,
     left: u64,
-) -> Result<(SectionAnswer, Vec<Value>, Vec<Op>), Fail> {
+) -> Result<(SectionAnswer, Vec<Value>, Vec<Op>), Memory> {
     let mut heap = Heap::new(alloc);
     for class in [1, 0, 0] {
-        heap.create(program, ClassId(class))?;
+        create(&mut heap, program, class)?;
     }
     for item in [0, 1] {
         if !heap.has_slot(0, 0, item) {
-            return Err(Fail::from("a slot"));
+            return Err(Memory);
         }
         heap.store(0, 0, item, Value::Ref(item + 1));
     }
@@ -129,7 +138,7 @@ fn bins(
     let mut out = Vec::new(alloc);
     let mut desk = Desk::new(alloc)?;
     let Some(s) = program.main.stmts.last() else {
-        return Err(Fail::from("a loop"));
+        return Err(Memory);
     };
     let answer = section_of_loop(
         &mut desk,
@@ -187,9 +196,9 @@ fn ran(
     op: u32,
     argument: i64,
     left: u64,
-) -> Result<(SectionAnswer, Object), Fail> {
+) -> Result<(SectionAnswer, Object), Memory> {
     let mut heap = Heap::new(alloc);
-    heap.create(program, ClassId(0))?;
+    create(&mut heap, program, 0)?;
     let mut object = object(alloc, program, 0, [].as_slice())?;
     let mut out = Vec::new(alloc);
     let mut desk = Desk::new(alloc)?;

@@ -5,7 +5,7 @@ use Rattle.ca_program.specs.Plain.{PlainProgram, Statement, Statements, statemen
 use Rattle.ca_program.specs.View.{statement_view}
 use Rattle.ca_model.specs.declared.value.Value.{Value as Datum}
 use Rattle.ca_model.specs.declared.value.Object.{Object}
-use Rattle.ca_meaning.specs.Flows.{Flow, goes_on, gives_back, stops, runs_out, and_on, line_of, exec_all, turn}
+use Rattle.ca_meaning.specs.Flows.{Flow, goes_on, and_on, line_of, exec_all, turn}
 use Rattle.ca_meaning.specs.Sections.{Section, section_parts, loops_of}
 use Rattle.ca_meaning.proofs.Fix.{section_loop_runs}
 use Rattle.ca_section.proofs.HeldCalls.{line_is}

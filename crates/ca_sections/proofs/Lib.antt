@@ -5,3 +5,4 @@ pub mod Turning
 pub mod Stepping
 pub mod Looping
 pub mod Fitting
+pub mod Sites

@@ -5,6 +5,8 @@ use Rattle.ca_model.specs.declared.value.Object.{Object}
 use Rattle.ca_meaning.specs.Sections.{Sectioned, done, stopped, over, LoopSectioned, loop_done, loop_stopped, loop_over}
 use Rattle.ca_parallel.specs.declared.op.Op.{Op}
 use Rattle.ca_parallel.specs.Calls.{invocations_of}
+use Rattle.ca_section.specs.Olds.{put_back, AllThere}
+use Rattle.ca_sections.specs.declared.desk.Desk.{Desk}
 use Rattle.ca_sections.specs.declared.operations.SectionAnswer.{SectionAnswer}
 use Rattle.ca_sections.specs.declared.operations.SectionAnswer.TheVariants.{Done, Trapped, Spent}
 
@@ -33,3 +35,9 @@ LocalsAre answer is ls = Unit {0}
 abbrev pub locals_after : LoopSectioned → List Datum → List Datum
 locals_after (loop_done m) ls = m.locals
 locals_after is ls = ls
+
+-- The old values on a desk put an object back to what it was before.
+pub record CanUndo (desk : Desk) (now before : Object) : Type 0 where
+  pub there : AllThere desk.state.olds now.slots
+  pub back : put_back desk.state.olds now.slots ≡ before.slots
+  pub class : now.class ≡ before.class

@@ -1,13 +1,15 @@
 //! Sections of operations.
 
-ghost use Rattle.std.specs.Prelude.{◌≡◌, ◌≤◌, [], Some, IfOk, OnErr, slice_get};
+ghost use Rattle.std.specs.Prelude.{◌≡◌, ◌≤◌, ℕ, [], Some, IfOk, OnErr, slice_get};
 ghost use Rattle.ca_program.specs.View.{program_view, method_view, statements_view};
 ghost use Rattle.ca_meaning.specs.Functions.{body_of};
 ghost use Rattle.ca_meaning.specs.Sections.{section};
 ghost use Rattle.ca_parallel.specs.Calls.{invocations_of};
 ghost use Rattle.ca_section.specs.Olds.{put_back, AllThere};
 ghost use Rattle.ca_values.specs.Resume.{others_in};
-ghost use Rattle.ca_sections.specs.Answers.{SectionIs};
+ghost use Rattle.ca_model.specs.declared.value.Object.{Object};
+ghost use Rattle.ca_sections.specs.declared.operations.SectionAnswer.TheVariants.{Done};
+ghost use Rattle.ca_sections.specs.Answers.{SectionIs, CanUndo};
 ghost use Rattle.ca_sections.specs.Running.{Settled};
 
 use crate::desk::{Desk, Own, Receiver, State};
@@ -75,6 +77,7 @@ impl State {
         ensures settled { IfOk result (λ answer. Settled ran answer left self.old self.new.slots out.old.items out.new.items) }
         ensures kept { OnErr result ((self.new.slots ≡ put_back self.old.olds self.old.slots) × (out.new.items ≡ out.old.items)) }
         ensures locals { self.new.locals ≡ self.old.locals }
+        ensures olds { IfOk result (λ answer. (steps : ℕ) → answer ≡ Done steps → self.new.olds ≡ self.old.olds) }
     {
         if let Ok(()) = ran {
             let steps = left - self.left;
@@ -89,6 +92,16 @@ impl State {
             Err(Stop::Spent) => Ok(SectionAnswer::Spent),
             _ => Err(Memory),
         }
+    }
+}
+
+impl<'a> Desk<'a> {
+    /// Puts the object of the desk's last section back, which was done, as it was before. It takes no memory.
+    pub fn undo(&mut self, object: &mut Object)
+        requires { (before : Object) × CanUndo self.old object.old before }
+        ensures { (before : Object) → CanUndo self.old object.old before → object.new ≡ before }
+    {
+        self.state.olds.put_back(&mut object.slots);
     }
 }
 
@@ -109,6 +122,7 @@ pub fn section<'a>(
 ) -> Result<SectionAnswer, Memory>
     ensures answer { IfOk result (λ answer. SectionIs answer (section (program_view program.now) frozen.now op.now.receiver object.old op.now.op op.now.args left) object.old object.new out.old.items out.new.items) }
     ensures kept { OnErr result ((object.new ≡ object.old) × (out.new.items ≡ out.old.items)) }
+    ensures undo { IfOk result (λ answer. (steps : ℕ) → answer ≡ Done steps → CanUndo desk.new object.new object.old) }
 {
     if left == 0 {
         return Ok(SectionAnswer::Spent);

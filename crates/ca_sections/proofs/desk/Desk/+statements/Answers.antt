@@ -1,6 +1,6 @@
-use Rattle.std.proofs.Common.{◌≡◌, ◌<◌, length, sym, subst, arith}
+use Rattle.std.proofs.Common.{◌<◌, length, sym, subst, arith}
 use Rattle.std.proofs.lemmas.Result.{err_from_is_err_and}
-use Rattle.ca_program.specs.View.{program_view, form_view, statement_view, expression_view}
+use Rattle.ca_program.specs.View.{program_view, form_view, statement_view}
 use Rattle.ca_parallel.specs.Bodies.{targets_of}
 use Rattle.ca_sections.specs.Running.{runs, Ran, Fits}
 use Rattle.ca_sections.proofs.Fitting.{handed}
@@ -111,7 +111,7 @@ pub exec-fors-init : goal.exec-fors-init
 exec-fors-init t c =
     let i = c.in-For in
     let ran = c.in_ok-exec-in-For.ensures in (
-      for_begins (program_view c.args.program.now) c.args.frozen.now c.args.line c.args.self.now.state c.exec-in-For.new.self.state c.args.s.now i.field-0 i.field-1 i.first i.condition i.next i.body i.is ran.keeps
+      for_begins (program_view c.args.program.now) c.args.frozen.now c.args.line c.args.self.now.state c.exec-in-For.new.self.state c.args.s.now _ _ i.first i.condition i.next i.body i.is ran.keeps
       (rw c.deref-in-For.ensures at ran.means),
       ran.keeps,
     )
@@ -121,7 +121,7 @@ pub exec-returns-in_err-exec-in-For-clause-means :
 exec-returns-in_err-exec-in-For-clause-means t c =
     let i = c.in-For in
     let err = err_from_is_err_and c.from_residual-in_err-exec-in-For.result c.from_residual-in_err-exec-in-For.ensures.1 in
-    rw (err.1, err.2) (first_stops_for (program_view c.args.program.now) c.args.frozen.now c.args.line c.args.self.now.state c.exec-in-For.new.self.state c.in_err-exec-in-For.field-0.0 c.args.s.now i.field-0 i.field-1 i.first i.condition i.next i.body i.is
+    rw (err.1, err.2) (first_stops_for (program_view c.args.program.now) c.args.frozen.now c.args.line c.args.self.now.state c.exec-in-For.new.self.state c.in_err-exec-in-For.field-0.0 c.args.s.now _ _ i.first i.condition i.next i.body i.is
     (rw c.deref-in-For.ensures at c.in_err-exec-in-For.ensures.means))
 
 pub exec-fors-preserved : goal.exec-fors-preserved
@@ -139,7 +139,7 @@ exec-fors-preserved t c =
     let ran = c.in_ok-exec-in-For-2.ensures in
     let next = c.in_ok-exec-in-For-3.ensures in
     let k2 = keeps_left w behind turned.same turned.falls in (
-      for_next p h c.args.line old w behind after now s i.field-0 i.field-1 i.first i.condition i.next i.body i.is c.fors.invariant.1 k2 ran.keeps next.keeps c.fors.invariant.0
+      for_next p h c.args.line old w behind after now s _ _ i.first i.condition i.next i.body i.is c.fors.invariant.1 k2 ran.keeps next.keeps c.fors.invariant.0
       (rw c.if-branch-3.true at turned.means (for_body p h c.args.line w i.body.value i.next.value) (statement_view s))
       (rw (c.deref-in-fors.ensures, c.deref-in-fors-2.ensures) at ran.means)
       (rw c.deref-in-fors-3.ensures at next.means),
@@ -157,7 +157,7 @@ exec-returns-in_err-exec-in-For-2-clause-means t c =
     let s = c.args.s.now in
     let turned = c.in_ok-begins_turn-in-For.ensures in
     let err = err_from_is_err_and c.from_residual-in_err-exec-in-For-2.result c.from_residual-in_err-exec-in-For-2.ensures.1 in
-    rw (err.1, err.2) (body_stops_for p h c.args.line c.args.self.now.state w behind c.exec-in-fors.new.self.state c.in_err-exec-in-For-2.field-0.0 s i.field-0 i.field-1 i.first i.condition i.next i.body i.is c.fors.invariant.1 (keeps_left w behind turned.same turned.falls) c.fors.invariant.0
+    rw (err.1, err.2) (body_stops_for p h c.args.line c.args.self.now.state w behind c.exec-in-fors.new.self.state c.in_err-exec-in-For-2.field-0.0 s _ _ i.first i.condition i.next i.body i.is c.fors.invariant.1 (keeps_left w behind turned.same turned.falls) c.fors.invariant.0
     (rw c.if-branch-3.true at turned.means (for_body p h c.args.line w i.body.value i.next.value) (statement_view s))
     (rw (c.deref-in-fors.ensures, c.deref-in-fors-2.ensures) at c.in_err-exec-in-For-2.ensures.means))
 
@@ -173,7 +173,7 @@ exec-returns-in_err-exec-in-For-3-clause-means t c =
     let turned = c.in_ok-begins_turn-in-For.ensures in
     let ran = c.in_ok-exec-in-For-2.ensures in
     let err = err_from_is_err_and c.from_residual-in_err-exec-in-For-3.result c.from_residual-in_err-exec-in-For-3.ensures.1 in
-    rw (err.1, err.2) (next_stops_for p h c.args.line c.args.self.now.state w behind c.exec-in-fors.new.self.state c.exec-in-fors-2.new.self.state c.in_err-exec-in-For-3.field-0.0 s i.field-0 i.field-1 i.first i.condition i.next i.body i.is c.fors.invariant.1 (keeps_left w behind turned.same turned.falls) ran.keeps c.fors.invariant.0
+    rw (err.1, err.2) (next_stops_for p h c.args.line c.args.self.now.state w behind c.exec-in-fors.new.self.state c.exec-in-fors-2.new.self.state c.in_err-exec-in-For-3.field-0.0 s _ _ i.first i.condition i.next i.body i.is c.fors.invariant.1 (keeps_left w behind turned.same turned.falls) ran.keeps c.fors.invariant.0
     (rw c.if-branch-3.true at turned.means (for_body p h c.args.line w i.body.value i.next.value) (statement_view s))
     (rw (c.deref-in-fors.ensures, c.deref-in-fors-2.ensures) at ran.means)
     (rw c.deref-in-fors-3.ensures at c.in_err-exec-in-For-3.ensures.means))
