@@ -6,3 +6,4 @@ pub mod Joining
 pub mod Opening
 pub mod Applies
 pub mod Gathers
+pub mod Examples

@@ -9,9 +9,9 @@ ghost use Rattle.ca_meaning.specs.WellTyped.{WellTyped, AllWellTyped};
 ghost use Rattle.ca_parallel.specs.Extents.{Extent};
 ghost use Rattle.ca_order_laws.specs.Order.{AllInside};
 ghost use Rattle.ca_logs.specs.declared.log.Task.{Task};
-ghost use Rattle.ca_logs.specs.Entries.{call_of, task_after, task_calls};
+ghost use Rattle.ca_logs.specs.Entries.{call_of, task_after, task_calls, with_entry};
 ghost use Rattle.ca_logs.specs.Legal.{LegalCell};
-ghost use Rattle.ca_cells.specs.Histories.{is_closed, next_clock, with_stuck};
+ghost use Rattle.ca_cells.specs.Histories.{is_closed, next_clock, ran_entry, with_stuck};
 ghost use Rattle.ca_cells.specs.Rounds.{SeparableIn};
 ghost use Rattle.ca_cells.specs.Adds.{Adds, IsRan};
 ghost use Rattle.ca_cells.specs.declared.adding.Added.TheVariants.{Stuck};
@@ -91,7 +91,32 @@ fn stick(
     Ok(Added::Stuck(stop))
 }
 
-/// Adds an entry, by its definition.
+/// Adds the entry of a complete section, which has left its object, and gives what it listed as tasks.
+fn grow(
+    log: &mut CellLog,
+    alloc: Global,
+    task: &Task,
+    clock: u64,
+    steps: u64,
+    listed: Vec<Op>,
+) -> Result<Vec<Task>, Memory>
+    ensures tasks { IfOk result (λ tasks. tasks.items ≡ map (task_after clock) listed.items) }
+    ensures added { IfOk result (λ _. log.new ≡ with_entry log.old (ran_entry task.now clock steps listed.items) log.old.object) }
+    ensures kept { OnErr result (log.new ≡ log.old) }
+{
+    let tasks = tasks_after(alloc, clock, listed.as_slice())?;
+    let entry = Entry {
+        task: task.copy()?,
+        clock,
+        steps,
+        invoked: Ops::of(listed),
+        stop: None,
+    };
+    log.entries.push(entry)?;
+    Ok(tasks)
+}
+
+/// Adds an entry, by its definition. The section works on the history's object in place.
 fn add_exactly<'a>(
     desk: &mut Desk<'a>,
     log: &mut CellLog,
@@ -107,31 +132,25 @@ fn add_exactly<'a>(
     let Some(clock) = next_clock(log, task.after) else {
         return Ok(Added::Kept);
     };
-    let mut object = log.object.copy()?;
     let mut listed = Vec::new(alloc);
+    let object = &mut log.object;
     match section(
         desk,
         alloc,
         program,
         frozen,
-        &mut object,
+        object,
         &task.op,
         left,
         &mut listed,
     )? {
-        SectionAnswer::Done { steps } => {
-            let tasks = tasks_after(alloc, clock, listed.as_slice())?;
-            let entry = Entry {
-                task: task.copy()?,
-                clock,
-                steps,
-                invoked: Ops::of(listed),
-                stop: None,
-            };
-            log.entries.push(entry)?;
-            log.object = object;
-            Ok(Added::Ran { tasks, steps })
-        }
+        SectionAnswer::Done { steps } => match grow(log, alloc, task, clock, steps, listed) {
+            Ok(tasks) => Ok(Added::Ran { tasks, steps }),
+            Err(cause) => {
+                desk.undo(&mut log.object);
+                Err(cause)
+            }
+        },
         SectionAnswer::Trapped(trap) => stick(log, alloc, task, clock, Stop::Trapped(trap)),
         SectionAnswer::Spent => stick(log, alloc, task, clock, Stop::Spent),
     }
