@@ -16,7 +16,7 @@ int main() {
     head = k;
   }
   long total = 0;
-  for (long r = 0; r < 30; r++) {
+  for (long r = 0; r < 60; r++) {
     Link *at = head;
     while (at != nullptr) {
       total = total + at->n;

@@ -16,7 +16,7 @@ def main():
         k.set(head, i % 10)
         head = k
     total = 0
-    for r in range(30):
+    for r in range(60):
         at = head
         while at is not None:
             total = total + at.n

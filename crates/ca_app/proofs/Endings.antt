@@ -11,19 +11,19 @@ use Rattle.ca_meaning.specs.Output.{Reply, output, reply_of, prints_text, trap_t
 use Rattle.ca_serial.specs.Runs.{prints_of}
 use Rattle.ca_symbolic.specs.declared.verdicts.Verdict.{Verdict}
 use Rattle.ca_words.specs.declared.Command.{Command}
-use Rattle.ca_words.specs.declared.Command.TheVariants.{Run, Pairs}
+use Rattle.ca_words.specs.declared.Command.TheVariants.{Run, Pairs, Gen}
 use Rattle.ca_words.specs.Words.{Names, reads}
 use Rattle.ca_words.proofs.OneCommand.{one_command}
 use Rattle.ca_small.specs.SmallShape.{is_small_text}
 use Rattle.ca_app.specs.Accepted.{BeginsAt}
 use Rattle.ca_app.specs.Refusals.{refusal_reply}
 use Rattle.ca_app.specs.Reading.{HasOneTree, IsProgramOf, IsRefusalOf}
-use Rattle.ca_app.specs.Reply.{ProgramReplies, runs, pairs, not_built, CommandReplies, refuses, serves, Replies, usage, named, usage_reply, not_built_reply}
+use Rattle.ca_app.specs.Reply.{ProgramReplies, runs, pairs, not_built, CommandReplies, refuses, serves, Replies, usage, generates, named, usage_reply, generated_reply, not_built_reply}
 use Rattle.ca_app.specs.Ends.{Ends, whole, write_fault, Unreplied, EndsWith, status_after}
 use Rattle.ca_app.specs.Pairs.{AreVerdicts, pairs_text}
 use Rattle.ca_app.proofs.OneProgram.{one_start}
-use Rattle.ca_app.proofs.OneReply.{program_reply, command_reply, one_reply}
-use Rattle.ca_app.specs.Causes.{IsUsageFault, ReadsNothing}
+use Rattle.ca_app.proofs.OneReply.{program_reply, command_reply, other_reads, one_reply}
+use Rattle.ca_app.specs.Causes.{IsUsageFault, ReadsNothing, ReadsSource}
 
 -- what came of writing a reply
 pub ends_written : {T E : Type 0} (r : Result T E) (status ended : ℕ) (bytes : List ℕ) (old now : Option (List ℕ)) → Writes old now r bytes → ended ≡ status_after r status → Ends (record { status = status; bytes = bytes }) ended old now
@@ -112,23 +112,47 @@ module _ {words : List (List ℕ)} {text : List ℕ} {status : ℕ} {old now : O
   pub ends_usage : IsUsageFault words → Ends usage_reply status old now → EndsWith (Replies words text) status old now
   ends_usage fault = only_reply (Replies words text) usage_reply (usage fault) (λ reply this. one_reply this (usage fault))
 
-  pub ends_named : (command : Command) → Names words command → EndsWith (CommandReplies command text) status old now → EndsWith (Replies words text) status old now
-  ends_named command names ends = record { some = some ends.some; each = each }
+  pub ends_generated : (seed size : ℕ) → Names words (Gen seed size) → Ends (generated_reply seed size) status old now → EndsWith (Replies words text) status old now
+  ends_generated seed size names = only_reply (Replies words text) (generated_reply seed size) (generates names) (λ reply this. one_reply this (generates names))
+
+  -- a command that reads nothing is `gen`
+  pub ends_unread : (command : Command) → Names words command → reads command ≡ false → ((seed size : ℕ) → command ≡ Gen seed size → Ends (generated_reply seed size) status old now)
+      → EndsWith (Replies words text) status old now
+  ends_unread (Run workers budget) names unread ends = absurd cc
+  ends_unread Pairs names unread ends = absurd cc
+  ends_unread (Gen seed size) names unread ends = ends_generated seed size names (ends seed size refl)
+
+  pub ends_named : (command : Command) → Names words command → reads command ≡ true → EndsWith (CommandReplies command text) status old now → EndsWith (Replies words text) status old now
+  ends_named command names reading ends = record { some = some ends.some; each = each }
     where
       some : Unreplied status old now ⊎ ((reply : Reply) × CommandReplies command text reply) → Unreplied status old now ⊎ ((reply : Reply) × Replies words text reply)
       some (inl u) = inl u
-      some (inr s) = inr (s.0, named names s.1)
+      some (inr s) = inr (s.0, named names reading s.1)
 
       each : (reply : Reply) → Replies words text reply → Ends reply status old now
       each reply (usage fault) = absurd (fault _ names)
-      each reply (named {command = other} names' replies) =
+      each reply (generates {seed = x} {size = n} names') = absurd (other_reads command x n names names' reading)
+      each reply (named {command = other} names' reading' replies) =
           let P : Command → Type 0 = λ c. CommandReplies c text reply in
           ends.each reply (subst P (one_command _ other command names' names) replies)
 
--- each command so far reads its source
-each_reads : (command : Command) → reads command ≡ false → ⊥
-each_reads (Run workers budget) e = cc
-each_reads Pairs e = cc
+-- the text of one seed and size is that of another that the same command has
+pub ends_generated_text : {x n y m status : ℕ} {old now : Option (List ℕ)} → Gen x n ≡ Gen y m → Ends (generated_reply x n) status old now → Ends (generated_reply y m) status old now
+ends_generated_text {x} {n} {y} {m} {status} {old} {now} is ends =
+    let first : x ≡ y = cc in
+    let second : n ≡ m = cc in
+    let P : ℕ → Type 0 = λ z. Ends (generated_reply z n) status old now in
+    let Q : ℕ → Type 0 = λ z. Ends (generated_reply y z) status old now in
+    subst Q second (subst P first ends)
 
-pub some_read : {words : List (List ℕ)} (command : Command) → Names words command → ReadsNothing words → ⊥
-some_read command names nothing = each_reads command (nothing command names)
+-- words that name a command that reads its source don't name one that reads nothing
+pub some_read : {words : List (List ℕ)} (command : Command) → Names words command → reads command ≡ true → ReadsNothing words → ⊥
+some_read command names reading nothing = let not : reads command ≡ false = nothing command names in cc
+
+-- and the other way round
+pub none_read : {words : List (List ℕ)} (command : Command) → Names words command → reads command ≡ false → ReadsSource words → ⊥
+none_read {words} command names unread source =
+    let P : Command → Type 0 = λ c. reads c ≡ false in
+    let not : reads source.0 ≡ false = subst P (one_command words command source.0 names source.1) unread in
+    let reading : reads source.0 ≡ true = source.2 in
+    cc

@@ -2,6 +2,7 @@ pub mod AcceptedTyped
 pub mod Endings
 mod Examples
 pub mod ExtentTexts
+pub mod GeneratedRuns
 pub mod OneProgram
 pub mod OneRefusal
 pub mod OneReply

@@ -1,5 +1,5 @@
 -- Words and a text have one reply at most.
-use Rattle.std.proofs.Common.{◌≡◌, ℕ, List, refl, ap, ◌∙◌, subst}
+use Rattle.std.proofs.Common.{◌≡◌, ℕ, true, List, refl, ap, ◌∙◌, subst}
 use Rattle.ca_tree.specs.declared.name.Place.{Place}
 use Rattle.ca_tree.specs.Plain.{TextTree}
 use Rattle.ca_program.specs.Plain.{PlainProgram}
@@ -7,11 +7,13 @@ use Rattle.ca_parse.proofs.OneTree.{tree_is_one}
 use Rattle.ca_meaning.specs.Output.{Reply}
 use Rattle.ca_symbolic.specs.declared.verdicts.Verdict.{Verdict}
 use Rattle.ca_words.specs.declared.Command.{Command}
+use Rattle.ca_words.specs.declared.Command.TheVariants.{Gen}
+use Rattle.ca_words.specs.Words.{Names, reads}
 use Rattle.ca_words.proofs.OneCommand.{one_command}
 use Rattle.ca_app.specs.Accepted.{HasTree, Accepted}
 use Rattle.ca_app.specs.Refusals.{RefusedAt, too_long, no_token, wrong_token, deep_token, violates, refusal_reply}
 use Rattle.ca_app.specs.Reading.{HasOneTree, IsProgramOf, IsRefusalOf}
-use Rattle.ca_app.specs.Reply.{ProgramReplies, runs, pairs, not_built, CommandReplies, refuses, serves, Replies, usage, named}
+use Rattle.ca_app.specs.Reply.{ProgramReplies, runs, pairs, not_built, CommandReplies, refuses, serves, Replies, usage, generates, named, generated_reply}
 use Rattle.ca_app.specs.Pairs.{pairs_text}
 use Rattle.ca_app.proofs.OneVerdict.{one_list}
 use Rattle.ca_app.proofs.OneProgram.{derived_by, one_start}
@@ -53,10 +55,30 @@ command_reply {command} {r = r} (serves {p = p} accepted begins replies) (serves
     let R : Place → Type 0 = λ x. ProgramReplies x accepted.tree p command r in
     program_reply (subst P ((is_program accepted').only p accepted) (subst Q ((has_one accepted'.has_tree).only accepted.tree accepted.has_tree) (subst R (one_start begins begins') replies))) replies'
 
+-- words that name `gen` name no command that reads its source
+pub other_reads : {words : List (List ℕ)} (command : Command) (seed size : ℕ) → Names words command → Names words (Gen seed size) → reads command ≡ true → ⊥
+other_reads {words} command seed size names gen reading =
+    let P : Command → Type 0 = λ c. reads c ≡ true in
+    let bad : reads (Gen seed size) ≡ true = subst P (one_command words command (Gen seed size) names gen) reading in
+    cc
+
+-- words name one seed and one size
+one_generated : {words : List (List ℕ)} (x n y m : ℕ) → Names words (Gen x n) → Names words (Gen y m) → generated_reply x n ≡ generated_reply y m
+one_generated {words} x n y m names names' =
+    let same : Gen x n ≡ Gen y m = one_command words (Gen x n) (Gen y m) names names' in
+    let seed : x ≡ y = cc in
+    let size : n ≡ m = cc in
+    ap (λ z. generated_reply z n) seed ∙ ap (λ z. generated_reply y z) size
+
 pub one_reply : {words : List (List ℕ)} {text : List ℕ} {r s : Reply} → Replies words text r → Replies words text s → r ≡ s
 one_reply (usage fault) (usage fault') = refl
-one_reply (usage fault) (named names replies) = absurd (fault _ names)
-one_reply (named names replies) (usage fault) = absurd (fault _ names)
-one_reply {words} {text} {r = r} (named {command = c} names replies) (named {command = d} names' replies') =
+one_reply (usage fault) (generates names) = absurd (fault _ names)
+one_reply (usage fault) (named names reading replies) = absurd (fault _ names)
+one_reply (generates names) (usage fault) = absurd (fault _ names)
+one_reply (generates {seed = x} {size = n} names) (generates {seed = y} {size = m} names') = one_generated x n y m names names'
+one_reply (generates {seed = x} {size = n} names) (named {command = d} names' reading replies) = absurd (other_reads d x n names' names reading)
+one_reply (named names reading replies) (usage fault) = absurd (fault _ names)
+one_reply (named {command = c} names reading replies) (generates {seed = x} {size = n} names') = absurd (other_reads c x n names names' reading)
+one_reply {words} {text} {r = r} (named {command = c} names reading replies) (named {command = d} names' reading' replies') =
     let P : Command → Type 0 = λ x. CommandReplies x text r in
     command_reply (subst P (one_command words c d names names') replies) replies'

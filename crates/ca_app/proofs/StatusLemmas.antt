@@ -20,10 +20,10 @@ use Rattle.ca_words.specs.declared.Command.{Command}
 use Rattle.ca_words.specs.declared.Command.TheVariants.{Run, Pairs}
 use Rattle.ca_words.specs.Words.{Names}
 use Rattle.ca_app.specs.Accepted.{Accepted}
-use Rattle.ca_app.specs.Reply.{ProgramReplies, runs, pairs, not_built, refuses, serves, Replies, usage, named}
+use Rattle.ca_app.specs.Reply.{ProgramReplies, runs, pairs, not_built, refuses, serves, Replies, usage, generates, named}
 use Rattle.ca_app.specs.Pairs.{AreVerdicts, pairs_text}
 use Rattle.ca_app.specs.Ends.{Ends, whole, no_memory, read_fault, write_fault, Unreplied, EndsWith, Complete}
-use Rattle.ca_app.specs.Causes.{IsRefused, IsNotBuilt, RunEnds, PairsEnd, IsDone, IsTrapped, IsSpent}
+use Rattle.ca_app.specs.Causes.{IsRefused, IsNotBuilt, RunEnds, PairsEnd, Generates, IsDone, IsTrapped, IsSpent}
 
 -- A reply that was given whole.
 record Given (replies : Reply → Type 0) (status : ℕ) (old now : Option (List ℕ)) : Type 0 where
@@ -146,17 +146,19 @@ module _ {words : List (List ℕ)} {text : List ℕ} where
 
   error_status : {reply : Reply} → Replies words text reply → 1 ≡ reply.status → IsRefused false text ⊎ IsNotBuilt words text
   error_status (usage fault) e = absurd (omega arith)
-  error_status (named names (refuses {at = at} {code = code} refused)) e =
+  error_status (generates names) e = absurd (omega arith)
+  error_status (named names reading (refuses {at = at} {code = code} refused)) e =
       inl (record { at = at; code = code; refused = refused; kind = kind_of false (is_limit_code code) e })
-  error_status (named {command = command} {reply = reply} names (serves {p = p} {at = at} accepted begins replies)) e =
+  error_status (named {command = command} {reply = reply} names reading (serves {p = p} {at = at} accepted begins replies)) e =
       let is = not_built_at at accepted.tree p command reply replies e in
       inr (record { named = let P : Command → Type 0 = λ c. Names words c in subst P is.0 names; program = p; accepted = accepted; large = is.1 })
 
   limit_status : {reply : Reply} → Replies words text reply → 8 ≡ reply.status → IsRefused true text
   limit_status (usage fault) e = absurd (omega arith)
-  limit_status (named names (refuses {at = at} {code = code} refused)) e =
+  limit_status (generates names) e = absurd (omega arith)
+  limit_status (named names reading (refuses {at = at} {code = code} refused)) e =
       record { at = at; code = code; refused = refused; kind = kind_of true (is_limit_code code) e }
-  limit_status (named {command = command} {reply = reply} names (serves {p = p} {at = at} accepted begins replies)) e =
+  limit_status (named {command = command} {reply = reply} names reading (serves {p = p} {at = at} accepted begins replies)) e =
       absurd (no_limit_at at accepted.tree p command reply replies e)
 
   -- the end of the run is the one with this status
@@ -164,29 +166,31 @@ module _ {words : List (List ℕ)} {text : List ℕ} where
       → ((p : PlainProgram) (b : ℕ) (end : Ended) → status ≡ (reply_of p b end).status → End end)
       → {reply : Reply} → Replies words text reply → status ≡ reply.status → RunEnds words text End
   run_status status End zero one two eight ends (usage fault) e = absurd (two e)
-  run_status status End zero one two eight ends (named names (refuses {code = code} refused)) e = absurd (at (is_limit_code code) e)
+  run_status status End zero one two eight ends (generates names) e = absurd (zero e)
+  run_status status End zero one two eight ends (named names reading (refuses {code = code} refused)) e = absurd (at (is_limit_code code) e)
     where
       at : (b : Bool) → status ≡ refusal_status b → ⊥
       at true e = eight e
       at false e = one e
-  run_status status End zero one two eight ends (named {command = command} {reply = reply} names (serves {p = p} {at = at} accepted begins replies)) e =
+  run_status status End zero one two eight ends (named {command = command} {reply = reply} names reading (serves {p = p} {at = at} accepted begins replies)) e =
       run_ends status End ends names accepted (run_at at accepted.tree p command reply status zero one replies e)
 
-  -- the end of status 0 is that of a run, or of pairs
+  -- the end of status 0 is that of a run, of pairs or of gen
   done_status : {old now : Option (List ℕ)} {reply : Reply} → Replies words text reply → 0 ≡ reply.status → now ≡ grown old reply.bytes
-      → RunEnds words text IsDone ⊎ PairsEnd words text old now
+      → RunEnds words text IsDone ⊎ (PairsEnd words text old now ⊎ Generates words old now)
   done_status (usage fault) e told = absurd (omega arith)
-  done_status (named names (refuses {code = code} refused)) e told = absurd (at (is_limit_code code) e)
+  done_status (generates {seed = x} {size = n} names) e told = inr (inr (record { seed = x; size = n; named = names; bytes = told }))
+  done_status (named names reading (refuses {code = code} refused)) e told = absurd (at (is_limit_code code) e)
     where
       at : (b : Bool) → 0 ≡ refusal_status b → ⊥
       at true e = omega arith
       at false e = omega arith
-  done_status {old} {now} (named {command = command} {reply = reply} names (serves {p = p} {at = at} accepted begins replies)) e told =
+  done_status {old} {now} (named {command = command} {reply = reply} names reading (serves {p = p} {at = at} accepted begins replies)) e told =
       ends (done_at at accepted.tree p command reply old now replies e told)
     where
-      ends : IsRun p command 0 ⊎ IsPairs accepted.tree p command old now → RunEnds words text IsDone ⊎ PairsEnd words text old now
+      ends : IsRun p command 0 ⊎ IsPairs accepted.tree p command old now → RunEnds words text IsDone ⊎ (PairsEnd words text old now ⊎ Generates words old now)
       ends (inl run) = inl (run_ends 0 IsDone done_end names accepted run)
-      ends (inr is) = inr (record {
+      ends (inr is) = inr (inl (record {
         program = p;
         verdicts = is.verdicts;
         named = let P : Command → Type 0 = λ c. Names words c in subst P is.is names;
@@ -195,10 +199,10 @@ module _ {words : List (List ℕ)} {text : List ℕ} where
         verdicts_are = is.are;
         bytes = is.bytes;
         commute = do_commute p is.verdicts (program_is_small accepted.tree p is.small) is.are;
-      })
+      }))
 
 module _ {words : List (List ℕ)} {text : List ℕ} {status : ℕ} {old now : Option (List ℕ)} (headline : EndsWith (Replies words text) status old now) where
-  pub when_0 : status ≡ 0 → RunEnds words text IsDone ⊎ PairsEnd words text old now
+  pub when_0 : status ≡ 0 → RunEnds words text IsDone ⊎ (PairsEnd words text old now ⊎ Generates words old now)
   when_0 is = let s = given headline (λ e. omega arith) (λ e. omega arith) (λ e. omega arith) in
       done_status s.is_one (sym is ∙ s.same) s.bytes
 

@@ -10,10 +10,11 @@ use Rattle.ca_lex.specs.Faults.{most_tokens}
 use Rattle.ca_parse.specs.Grammar.{DerivesWithin}
 use Rattle.ca_resolve.specs.Judged.{fine}
 use Rattle.ca_types.specs.Classes.{judge}
+use Rattle.ca_app.specs.declared.serving.TheConstants.{MOST_BYTES}
 
 -- the most bytes of a source
 abbrev pub most_bytes : ℕ
-most_bytes = 1048576
+most_bytes = MOST_BYTES
 
 -- The text isn't too long, and these are its tokens, of which there are not too many.
 pub record HasTokens (text : List ℕ) (tokens : List Token) : Type 0 where

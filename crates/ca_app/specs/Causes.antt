@@ -11,8 +11,9 @@ use Rattle.ca_model.specs.declared.value.Value.{Value as Datum}
 use Rattle.ca_meaning.specs.Serial.{Ended, done, trapped, spent, serial}
 use Rattle.ca_meaning.specs.Commuting.{Commutes as DoCommute}
 use Rattle.ca_words.specs.declared.Command.{Command}
-use Rattle.ca_words.specs.declared.Command.TheVariants.{Run, Pairs}
+use Rattle.ca_words.specs.declared.Command.TheVariants.{Run, Pairs, Gen}
 use Rattle.ca_words.specs.Words.{Names, reads}
+use Rattle.ca_gen.specs.Generated.{generated}
 use Rattle.ca_symbolic.specs.declared.verdicts.Verdict.{Verdict}
 use Rattle.ca_symbolic.specs.declared.verdicts.Verdict.TheVariants.{Commutes}
 use Rattle.ca_app.specs.Accepted.{Accepted}
@@ -65,6 +66,13 @@ pub record PairsEnd (words : List (List ℕ)) (text : List ℕ) (old now : Optio
   pub verdicts_are : AreVerdicts program verdicts
   pub bytes : now ≡ grown old (pairs_text program verdicts)
   pub commute : (n : ℕ) → slice_get verdicts n ≡ Some Commutes → (written : List FieldId) → DoCommute program written (record { 0 = n }) (record { 0 = n })
+
+-- The words name `gen`, and what was written is the text of its seed and its size.
+pub record Generates (words : List (List ℕ)) (old now : Option (List ℕ)) : Type 0 where
+  pub seed : ℕ
+  pub size : ℕ
+  pub named : Names words (Gen seed size)
+  pub bytes : now ≡ grown old (generated seed size)
 
 abbrev pub IsDone : Ended → Type 0
 IsDone e = (prints : List Datum) × (heap : List Object) × (steps : ℕ) × (e ≡ done prints heap steps)

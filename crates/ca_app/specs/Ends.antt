@@ -2,17 +2,18 @@
 use Rattle.std.specs.Prelude.{ℕ, ◌≡◌, ◌≤◌, ◌⊎◌, List, Option, Result, Ok, Err}
 use Rattle.ca_base.specs.Devices.{Rose, grown, Began}
 use Rattle.ca_meaning.specs.Output.{Reply}
+use Rattle.ca_app.specs.declared.serving.TheConstants.{DONE, REFUSED, TRAPPED, SPENT, NO_MEMORY, READ_FAULT, WRITE_FAULT}
 
 -- The reply was given whole; or memory was wanting, a read failed or a write failed, and the status says which.
 pub data Ends (reply : Reply) (status : ℕ) (old now : Option (List ℕ)) : Type 0 where
   whole : status ≡ reply.status → now ≡ grown old reply.bytes → Ends reply status old now
-  no_memory : status ≡ 5 → Began old now reply.bytes → Ends reply status old now
-  read_fault : status ≡ 6 → now ≡ old → Ends reply status old now
-  write_fault : status ≡ 7 → Began old now reply.bytes → Ends reply status old now
+  no_memory : status ≡ NO_MEMORY → Began old now reply.bytes → Ends reply status old now
+  read_fault : status ≡ READ_FAULT → now ≡ old → Ends reply status old now
+  write_fault : status ≡ WRITE_FAULT → Began old now reply.bytes → Ends reply status old now
 
 -- Memory was wanting or a read failed before there was a reply, and nothing was written.
 pub record Unreplied (status : ℕ) (old now : Option (List ℕ)) : Type 0 where
-  pub cause : (status ≡ 5) ⊎ (status ≡ 6)
+  pub cause : (status ≡ NO_MEMORY) ⊎ (status ≡ READ_FAULT)
   pub same : now ≡ old
 
 -- There is a reply of this kind, or nothing was written before there was one; and the call ended with any that there is.
@@ -20,20 +21,20 @@ pub record EndsWith (replies : Reply → Type 0) (status : ℕ) (old now : Optio
   pub some : Unreplied status old now ⊎ ((reply : Reply) × replies reply)
   pub each : (reply : Reply) → replies reply → Ends reply status old now
 
--- status 7 comes only where the count of the sink's faults rose, and the count never falls
+-- a failed write is told only where the count of the sink's faults rose, and the count never falls
 pub record SinkCause (status faults faults' : ℕ) : Type 0 where
   pub later : faults ≤ faults'
-  pub rose : status ≡ 7 → Rose faults faults'
+  pub rose : status ≡ WRITE_FAULT → Rose faults faults'
 
 -- the reply was given whole, or memory was wanting
 abbrev pub Complete : Reply → ℕ → Option (List ℕ) → Option (List ℕ) → Type 0
-Complete reply status old now = (status ≡ 5) ⊎ ((status ≡ reply.status) × (now ≡ grown old reply.bytes))
+Complete reply status old now = (status ≡ NO_MEMORY) ⊎ ((status ≡ reply.status) × (now ≡ grown old reply.bytes))
 
 -- the status of a reply that was to be written
 abbrev pub status_after : {T E : Type 0} → Result T E → ℕ → ℕ
 status_after (Ok x) status = status
-status_after (Err e) status = 7
+status_after (Err e) status = WRITE_FAULT
 
 -- the statuses behind which the source is read to its end
 abbrev pub IsReadToEnd : ℕ → Type 0
-IsReadToEnd status = ((status ≡ 0) ⊎ (status ≡ 1)) ⊎ ((status ≡ 3) ⊎ (status ≡ 4))
+IsReadToEnd status = ((status ≡ DONE) ⊎ (status ≡ REFUSED)) ⊎ ((status ≡ TRAPPED) ⊎ (status ≡ SPENT))

@@ -4,11 +4,13 @@
 //! text of the depth-first serial run; or it answers want of memory, or a failed read or write of a
 //! device whose count of faults rose in this call. It holds for every source and sink, since it is
 //! stated on what they tell. It serves `run 1 BUDGET` for every accepted text, by `ca_serial`, and
-//! `pairs` for those of the small form, by the verdicts of `ca_symbolic`.
+//! `pairs` for those of the small form, by the verdicts of `ca_symbolic`. `gen SEED SIZE` reads no text:
+//! it writes the one that `generate` gives, which is accepted and runs to its end.
 //! `specs/Accepted.antt` and `specs/Refusals.antt` say which texts are accepted and where the others
 //! are refused, `specs/Reply.antt` has the replies, and `specs/Ends.antt` how a call ends.
 #![tactic(auto)]
 
+mod generating;
 mod laws;
 mod lines;
 mod pairs;
@@ -18,5 +20,6 @@ mod serving;
 #[cfg(test)]
 mod tests;
 
+pub use generating::generate;
 pub use laws::{accepted_programs_are_typed, one_reply};
 pub use serving::top;

@@ -7,6 +7,7 @@ ghost use Rattle.ca_program.specs.View.{program_view};
 ghost use Rattle.ca_small.specs.SmallShape.{is_small_text};
 ghost use Rattle.ca_app.specs.Accepted.{HasTokens, BeginsAt, token_place};
 ghost use Rattle.ca_app.specs.Reading.{HasOneTree, IsProgramOf, IsCauseFor};
+ghost use Rattle.ca_app.specs.declared.serving.TheConstants.{MOST_BYTES};
 
 use crate::refusals::{NO_TOKEN, Refusal, TOO_DEEP, TOO_GREAT, TOO_MANY, WRONG_TOKEN};
 use ca_lex::{LexError, end_place, lex};
@@ -44,7 +45,7 @@ impl Reading {
 
 /// Reads a text that isn't too long.
 pub fn read_program(alloc: Global, text: &[u8]) -> Result<Reading, NoProgram>
-    requires { length text.now ≤ 1048576 }
+    requires { length text.now ≤ MOST_BYTES }
     ensures program { IfOk result (λ r. IsProgramOf text.now (program_view r.program)) }
     ensures tree { IfOk result (λ r. HasOneTree text.now (tree_view r.tree)) }
     ensures begins { IfOk result (λ r. BeginsAt text.now r.start) }
@@ -67,7 +68,7 @@ pub fn read_program(alloc: Global, text: &[u8]) -> Result<Reading, NoProgram>
 
 /// The tokens of a text.
 fn tokens_of(alloc: Global, text: &[u8]) -> Result<Vec<Token>, NoProgram>
-    requires { length text.now ≤ 1048576 }
+    requires { length text.now ≤ MOST_BYTES }
     ensures tokens { IfOk result (λ tokens. HasTokens text.now tokens.items) }
     ensures cause { IfErr result (IsCauseFor text.now) }
 {
@@ -105,7 +106,7 @@ fn tree_of(alloc: Global, text: &[u8], tokens: &[Token]) -> Result<Tree, NoProgr
 
 /// The place of a token, or the place behind the last byte where there is no such token.
 fn token_place(text: &[u8], tokens: &[Token], k: usize) -> Place
-    requires { length text.now ≤ 1048576 }
+    requires { length text.now ≤ MOST_BYTES }
     ensures { result ≡ token_place text.now tokens.now k }
 {
     match tokens.get(k) {

@@ -4,16 +4,18 @@ ghost use Rattle.std.specs.Prelude.{◌≡◌};
 ghost use Rattle.ca_base.specs.Devices.{HasCause, Writes};
 ghost use Rattle.ca_app.specs.Refusals.{is_limit_code, leading_zero, refusal_word, refusal_status, refusal_text};
 
+use crate::serving::{PAST_LIMIT, REFUSED};
 use ca_base::{Failed, Sink};
 use ca_model::line::write_line;
 use ca_resolve::Code;
+use ca_resolve::codes::{FIRST_LIMIT, LAST_LIMIT};
 use ca_tree::Place;
 use itoa::Buffer;
 
-// The codes that `ca_types::check` doesn't tell. Its own limits are 50 to 57.
+// The codes that `ca_types::check` doesn't tell. Its own limits are `FIRST_LIMIT` to `LAST_LIMIT`.
 
 /// The command isn't built for the source's program.
-const NOT_BUILT: Code = Code(0);
+pub const NOT_BUILT: Code = Code(0);
 /// A byte that is part of no token.
 pub const NO_TOKEN: Code = Code(1);
 /// A number that is too great.
@@ -21,7 +23,7 @@ pub const TOO_GREAT: Code = Code(2);
 /// A token too many.
 pub const TOO_MANY: Code = Code(3);
 /// The number of bytes of the source passes the limit. Such a refusal has no place in the source.
-const TOO_LONG: Code = Code(4);
+pub const TOO_LONG: Code = Code(4);
 /// A token that the grammar doesn't allow.
 pub const WRONG_TOKEN: Code = Code(10);
 /// A token that is nested too deeply.
@@ -44,7 +46,7 @@ impl Refusal {
     /// The refusal of a program, of a text that begins at `start`, for which the command isn't built.
     pub fn not_built(start: Place) -> Refusal
         ensures at { result.at ≡ start }
-        ensures code { result.code.0 ≡ 0 }
+        ensures code { result.code ≡ NOT_BUILT }
     {
         Refusal {
             at: start,
@@ -56,7 +58,7 @@ impl Refusal {
     pub fn status(self) -> u8
         ensures { result ≡ refusal_status (is_limit_code self.code.0) }
     {
-        if self.is_limit() { 8 } else { 1 }
+        if self.is_limit() { PAST_LIMIT } else { REFUSED }
     }
 
     /// Whether the code is that of a limit.
@@ -64,7 +66,10 @@ impl Refusal {
         ensures { result ≡ is_limit_code self.code.0 }
     {
         let code = self.code.0;
-        code == TOO_MANY.0 || code == TOO_LONG.0 || code == TOO_DEEP.0 || (50 <= code && code <= 57)
+        code == TOO_MANY.0
+            || code == TOO_LONG.0
+            || code == TOO_DEEP.0
+            || (FIRST_LIMIT <= code && code <= LAST_LIMIT)
     }
 
     /// The word in front of the place.

@@ -8,12 +8,13 @@ ghost use Rattle.ca_meaning.specs.Output.{Reply, output, prints_text};
 ghost use Rattle.ca_meaning.specs.ProgramTyped.{ProgramTyped};
 ghost use Rattle.ca_meaning.specs.Serial.{serial};
 ghost use Rattle.ca_serial.specs.Runs.{run_with, prints_of, OnWrite};
-ghost use Rattle.ca_words.specs.Words.{texts};
-ghost use Rattle.ca_app.specs.Causes.{IsUsageFault, ReadsNothing, ReadsSource, IsRefused, IsNotBuilt, RunEnds, PairsEnd, IsDone, IsTrapped, IsSpent};
+ghost use Rattle.ca_words.specs.Words.{texts, reads};
+ghost use Rattle.ca_app.specs.Causes.{IsUsageFault, ReadsNothing, ReadsSource, IsRefused, IsNotBuilt, RunEnds, PairsEnd, Generates, IsDone, IsTrapped, IsSpent};
 ghost use Rattle.ca_app.specs.Ends.{Ends, EndsWith, SinkCause, Complete, IsReadToEnd, status_after};
 ghost use Rattle.ca_app.specs.Refusals.{refusal_reply};
 ghost use Rattle.ca_app.specs.Reply.{ProgramReplies, CommandReplies, Replies};
 
+use crate::generating::serve_unread;
 use crate::lines::{write_spent, write_trap};
 use crate::pairs::{verdicts_of, write_pairs};
 use crate::reading::{NoProgram, Reading, read_program};
@@ -29,30 +30,44 @@ use std::sync::Wait;
 use std::thread::Threads;
 
 /// The most bytes of a source.
-const MOST_BYTES: u64 = 1_048_576;
+pub const MOST_BYTES: u64 = 1_048_576;
 
-// The exit statuses. `Refusal::status` tells those of refusals, 1 and 8.
+// The exit statuses.
 
-const DONE: u8 = 0;
+/// The reply was written, and no refusal.
+pub const DONE: u8 = 0;
 
-const USAGE: u8 = 2;
+/// The text is refused by a rule, or the command isn't built for it.
+pub const REFUSED: u8 = 1;
 
-const TRAPPED: u8 = 3;
+/// The words name no command.
+pub const USAGE: u8 = 2;
 
-const SPENT: u8 = 4;
+/// The run trapped.
+pub const TRAPPED: u8 = 3;
 
-const NO_MEMORY: u8 = 5;
+/// The budget was spent.
+pub const SPENT: u8 = 4;
 
-const READ_FAULT: u8 = 6;
+/// Memory was wanting.
+pub const NO_MEMORY: u8 = 5;
 
-const WRITE_FAULT: u8 = 7;
+/// A read failed.
+pub const READ_FAULT: u8 = 6;
+
+/// A write failed.
+pub const WRITE_FAULT: u8 = 7;
+
+/// The text is refused by a limit.
+pub const PAST_LIMIT: u8 = 8;
 
 /// Serves the words, which stand behind the program's name, over a source and a sink, and answers
 /// the exit status.
 ///
-/// A command that reads its source reads the whole of it before anything is written. Status 5 is want of memory, 6 a failed
-/// read, 7 a failed write; every other status is that of the reply. The gate is for the workers of a
-/// parallel run: so far nothing passes it.
+/// A command that reads its source reads the whole of it before anything is written.
+/// `NO_MEMORY` is want of memory, `READ_FAULT` a failed read, `WRITE_FAULT` a failed write; every
+/// other status is that of the reply. The gate is for the workers of a parallel run: so far nothing
+/// passes it.
 pub fn top<R: AllocGlobal + Threads + Wait + Sync, S: Source, K: Sink, G: Gate>(
     rt: &R,
     words: &[String],
@@ -65,11 +80,11 @@ pub fn top<R: AllocGlobal + Threads + Wait + Sync, S: Source, K: Sink, G: Gate>(
     ensures headline { (text : List ℕ) → S.left source.old ≡ Some text → EndsWith (Replies (texts words.now) text) result (K.written sink.old) (K.written sink.new) }
 
     // What each of its statuses says of the text and its serial run.
-    ensures done { (text : List ℕ) → S.left source.old ≡ Some text → result ≡ 0 → RunEnds (texts words.now) text IsDone ⊎ PairsEnd (texts words.now) text (K.written sink.old) (K.written sink.new) }
-    ensures refused { (text : List ℕ) → S.left source.old ≡ Some text → result ≡ 1 → IsRefused false text ⊎ IsNotBuilt (texts words.now) text }
-    ensures trapped { (text : List ℕ) → S.left source.old ≡ Some text → result ≡ 3 → RunEnds (texts words.now) text IsTrapped }
-    ensures spent { (text : List ℕ) → S.left source.old ≡ Some text → result ≡ 4 → RunEnds (texts words.now) text IsSpent }
-    ensures limit { (text : List ℕ) → S.left source.old ≡ Some text → result ≡ 8 → IsRefused true text }
+    ensures done { (text : List ℕ) → S.left source.old ≡ Some text → result ≡ DONE → RunEnds (texts words.now) text IsDone ⊎ (PairsEnd (texts words.now) text (K.written sink.old) (K.written sink.new) ⊎ Generates (texts words.now) (K.written sink.old) (K.written sink.new)) }
+    ensures refused { (text : List ℕ) → S.left source.old ≡ Some text → result ≡ REFUSED → IsRefused false text ⊎ IsNotBuilt (texts words.now) text }
+    ensures trapped { (text : List ℕ) → S.left source.old ≡ Some text → result ≡ TRAPPED → RunEnds (texts words.now) text IsTrapped }
+    ensures spent { (text : List ℕ) → S.left source.old ≡ Some text → result ≡ SPENT → RunEnds (texts words.now) text IsSpent }
+    ensures limit { (text : List ℕ) → S.left source.old ≡ Some text → result ≡ PAST_LIMIT → IsRefused true text }
 
     // Where neither device failed, the reply was given whole, or memory was wanting.
     ensures complete { (text : List ℕ) → S.left source.old ≡ Some text → (Rose (S.faults source.old) (S.faults source.new) → ⊥) → (Rose (K.faults sink.old) (K.faults sink.new) → ⊥)
@@ -79,26 +94,29 @@ pub fn top<R: AllocGlobal + Threads + Wait + Sync, S: Source, K: Sink, G: Gate>(
     // the reply is told whether or not the source tells its bytes.
     ensures unread { ReadsNothing (texts words.now) → source.new ≡ source.old }
     ensures unread_headline { ReadsNothing (texts words.now) → (text : List ℕ) → EndsWith (Replies (texts words.now) text) result (K.written sink.old) (K.written sink.new) }
-    ensures unread_fault { ReadsNothing (texts words.now) → result ≡ 6 → ⊥ }
+    ensures unread_fault { ReadsNothing (texts words.now) → result ≡ READ_FAULT → ⊥ }
 
-    // Status 2 comes only where the words name no command. Then memory is never wanting.
-    ensures usage_status { IsUsageFault (texts words.now) → (result ≡ 2) ⊎ (result ≡ 7) }
-    ensures usage_only { result ≡ 2 → IsUsageFault (texts words.now) }
+    // `USAGE` comes only where the words name no command. Then memory is never wanting.
+    ensures usage_status { IsUsageFault (texts words.now) → (result ≡ USAGE) ⊎ (result ≡ WRITE_FAULT) }
+    ensures usage_only { result ≡ USAGE → IsUsageFault (texts words.now) }
 
-    // Statuses 6 and 7 come only where the device failed in this call.
-    ensures read_fault { result ≡ 6 → Rose (S.faults source.old) (S.faults source.new) }
+    // `READ_FAULT` and `WRITE_FAULT` come only where the device failed in this call.
+    ensures read_fault { result ≡ READ_FAULT → Rose (S.faults source.old) (S.faults source.new) }
     ensures write_fault { SinkCause result (K.faults sink.old) (K.faults sink.new) }
     ensures source_later { S.faults source.old ≤ S.faults source.new }
     ensures read_to_end { ReadsSource (texts words.now) → IsReadToEnd result → S.left source.new ≡ at_end (S.left source.old) }
-    ensures limit_read_to_end { (text : List ℕ) → S.left source.old ≡ Some text → length text ≤ 1048576 → result ≡ 8 → S.left source.new ≡ at_end (S.left source.old) }
+    ensures limit_read_to_end { (text : List ℕ) → S.left source.old ≡ Some text → length text ≤ MOST_BYTES → result ≡ PAST_LIMIT → S.left source.new ≡ at_end (S.left source.old) }
 {
     let Some(command) = command_of(words) else {
         return finish(write_all(sink, usage_line()), USAGE);
     };
-    serve(rt, rt.alloc(), command, source, sink)
+    if command.reads() {
+        return serve(rt, rt.alloc(), command, source, sink);
+    }
+    serve_unread(rt.alloc(), command, sink)
 }
 
-/// Serves a command on the text that the source has.
+/// Serves a command that reads its source, on the text that the source has.
 fn serve<R: Threads + Wait + Sync, S: Source, K: Sink>(
     rt: &R,
     alloc: Global,
@@ -106,13 +124,14 @@ fn serve<R: Threads + Wait + Sync, S: Source, K: Sink>(
     source: &mut S,
     sink: &mut K,
 ) -> u8
+    requires { reads command ≡ true }
     ensures headline { (text : List ℕ) → S.left source.old ≡ Some text → EndsWith (CommandReplies command text) result (K.written sink.old) (K.written sink.new) }
-    ensures read_fault { result ≡ 6 → Rose (S.faults source.old) (S.faults source.new) }
+    ensures read_fault { result ≡ READ_FAULT → Rose (S.faults source.old) (S.faults source.new) }
     ensures write_fault { SinkCause result (K.faults sink.old) (K.faults sink.new) }
     ensures source_later { S.faults source.old ≤ S.faults source.new }
     ensures read_to_end { IsReadToEnd result → S.left source.new ≡ at_end (S.left source.old) }
-    ensures limit_read_to_end { (text : List ℕ) → S.left source.old ≡ Some text → length text ≤ 1048576 → result ≡ 8 → S.left source.new ≡ at_end (S.left source.old) }
-    ensures no_usage { result ≡ 2 → ⊥ }
+    ensures limit_read_to_end { (text : List ℕ) → S.left source.old ≡ Some text → length text ≤ MOST_BYTES → result ≡ PAST_LIMIT → S.left source.new ≡ at_end (S.left source.old) }
+    ensures no_usage { result ≡ USAGE → ⊥ }
 {
     match read_all(alloc, source, MOST_BYTES) {
         Ok(text) => serve_text(rt, alloc, command, &text, sink),
@@ -130,11 +149,12 @@ fn serve_text<R: Threads + Wait + Sync, K: Sink>(
     text: &[u8],
     sink: &mut K,
 ) -> u8
-    requires { length text.now ≤ 1048576 }
+    requires short { length text.now ≤ MOST_BYTES }
+    requires reading { reads command ≡ true }
     ensures ends { EndsWith (CommandReplies command text.now) result (K.written sink.old) (K.written sink.new) }
     ensures write_fault { SinkCause result (K.faults sink.old) (K.faults sink.new) }
-    ensures no_read_fault { result ≡ 6 → ⊥ }
-    ensures no_usage { result ≡ 2 → ⊥ }
+    ensures no_read_fault { result ≡ READ_FAULT → ⊥ }
+    ensures no_usage { result ≡ USAGE → ⊥ }
 {
     match read_program(alloc, text) {
         Ok(reading) => serve_program(rt, alloc, command, &reading, sink),
@@ -151,15 +171,17 @@ fn serve_program<R: Threads + Wait + Sync, K: Sink>(
     reading: &Reading,
     sink: &mut K,
 ) -> u8
-    requires { ProgramTyped (program_view reading.now.program) }
+    requires typed { ProgramTyped (program_view reading.now.program) }
+    requires reading { reads command ≡ true }
     ensures ends { EndsWith (ProgramReplies reading.now.start (tree_view reading.now.tree) (program_view reading.now.program) command) result (K.written sink.old) (K.written sink.new) }
     ensures write_fault { SinkCause result (K.faults sink.old) (K.faults sink.new) }
-    ensures no_read_fault { result ≡ 6 → ⊥ }
-    ensures no_usage { result ≡ 2 → ⊥ }
+    ensures no_read_fault { result ≡ READ_FAULT → ⊥ }
+    ensures no_usage { result ≡ USAGE → ⊥ }
 {
     match command {
         Command::Run { budget, .. } => run_program(rt, alloc, &reading.program, budget, sink),
         Command::Pairs => pair_program(alloc, reading, sink),
+        Command::Gen { .. } => unreachable!(),
     }
 }
 
@@ -167,8 +189,8 @@ fn serve_program<R: Threads + Wait + Sync, K: Sink>(
 fn refuse<K: Sink>(refusal: Refusal, sink: &mut K) -> u8
     ensures ends { Ends (refusal_reply refusal.at refusal.code.0) result (K.written sink.old) (K.written sink.new) }
     ensures write_fault { SinkCause result (K.faults sink.old) (K.faults sink.new) }
-    ensures no_read_fault { result ≡ 6 → ⊥ }
-    ensures no_usage { result ≡ 2 → ⊥ }
+    ensures no_read_fault { result ≡ READ_FAULT → ⊥ }
+    ensures no_usage { result ≡ USAGE → ⊥ }
 {
     finish(refusal.write(sink), refusal.status())
 }
@@ -177,8 +199,8 @@ fn refuse<K: Sink>(refusal: Refusal, sink: &mut K) -> u8
 fn pair_program<K: Sink>(alloc: Global, reading: &Reading, sink: &mut K) -> u8
     ensures ends { EndsWith (ProgramReplies reading.now.start (tree_view reading.now.tree) (program_view reading.now.program) Command.Pairs) result (K.written sink.old) (K.written sink.new) }
     ensures write_fault { SinkCause result (K.faults sink.old) (K.faults sink.new) }
-    ensures no_read_fault { result ≡ 6 → ⊥ }
-    ensures no_usage { result ≡ 2 → ⊥ }
+    ensures no_read_fault { result ≡ READ_FAULT → ⊥ }
+    ensures no_usage { result ≡ USAGE → ⊥ }
 {
     let program = &reading.program;
     if !reading.is_small() {
@@ -201,8 +223,8 @@ fn run_program<R: Threads + Wait + Sync, K: Sink>(
     requires { ProgramTyped (program_view program.now) }
     ensures ends { Ends (output (program_view program.now) budget) result (K.written sink.old) (K.written sink.new) }
     ensures write_fault { SinkCause result (K.faults sink.old) (K.faults sink.new) }
-    ensures no_read_fault { result ≡ 6 → ⊥ }
-    ensures no_usage { result ≡ 2 → ⊥ }
+    ensures no_read_fault { result ≡ READ_FAULT → ⊥ }
+    ensures no_usage { result ≡ USAGE → ⊥ }
 {
     match run_unmarked(rt, alloc, program, u64::from(budget), sink) {
         Ok(Outcome::Done { heap, .. }) => finish(print_heap(program, &heap, sink), DONE),
@@ -232,7 +254,7 @@ fn run_unmarked<R: Threads + Wait + Sync, K: Sink>(
 }
 
 /// The status where the reply was written, and that of a failed write where one failed.
-fn finish(written: Result<(), Failed>, status: u8) -> u8
+pub fn finish(written: Result<(), Failed>, status: u8) -> u8
     ensures { result ≡ status_after written status }
 {
     match written {

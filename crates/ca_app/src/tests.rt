@@ -2,6 +2,7 @@
 
 mod calls;
 mod devices;
+mod generated;
 mod pairs;
 mod refusals;
 mod refused;

@@ -39,3 +39,13 @@ pub record SinkState : Type 0 where
 -- how many bytes still fit
 abbrev pub free_room : SinkState → ℕ
 free_room sink = sink.room - length sink.written
+
+-- a source in memory that gives at most so many bytes a read
+pub record SourcePieces : Type 0 where
+  pub source : SourceState
+  pub piece : ℕ
+
+-- a sink in memory that takes at most so many bytes a write
+pub record SinkPieces : Type 0 where
+  pub sink : SinkState
+  pub piece : ℕ

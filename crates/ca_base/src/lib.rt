@@ -4,8 +4,8 @@
 //! counts its faults. So every crate above can promise its callers two things: which bytes were read
 //! or written, where the device tells them, and that an answer `Failed` comes only where the count of
 //! the device that was handed in rose. `read_all` reads a source to its end under a limit, and
-//! `write_all` writes a whole piece. Beside them stand devices in memory, which fail at chosen calls,
-//! devices that never fail, and standard input and output, which tell no bytes and are trusted. A gate
+//! `write_all` writes a whole piece. Beside them stand devices in memory, which fail at chosen calls and may
+//! give and take a piece at a time, devices that never fail, and standard input and output, which tell no bytes and are trusted. A gate
 //! is where a test can hold the workers of a parallel run.
 #![tactic(auto)]
 
@@ -14,6 +14,7 @@ mod cursor;
 mod faults;
 mod gates;
 mod in_memory;
+mod pieces;
 mod read_to_end;
 mod sinks;
 mod sources;
@@ -24,6 +25,7 @@ mod write_whole;
 pub use faults::{Failed, Memory};
 pub use gates::{Gate, OpenGate};
 pub use in_memory::{MemSink, MemSource};
+pub use pieces::{PieceSink, PieceSource};
 pub use read_to_end::{ReadError, read_all};
 pub use sinks::Sink;
 pub use sources::Source;

@@ -1,6 +1,6 @@
 -- The optional end of `main`: which statements are spelled `return 0 ;`.
 use Rattle.std.proofs.Common.{◌≡◌, ◌+◌, ◌-◌, ◌≤◌, List, [], ◌∷◌, ◌++◌, length, take, Bool, true, false, refl, sym, ap, ◌∙◌, arith, length-append}
-use Rattle.std.specs.Prelude.{pos, cond, nat_eq, nat_lt, ◌&&◌, Some, None, is_some}
+use Rattle.std.specs.Prelude.{pos, cond, nat_lt, ◌&&◌, Some, None, is_some}
 use Rattle.std.specs.Ordering.{int_eq}
 use Rattle.std.proofs.Math.Seq.{take-append_seam}
 use Rattle.ca_tree.specs.declared.name.Place.{Place}
@@ -12,11 +12,12 @@ use Rattle.ca_tree.specs.declared.token.Sign.TheVariants as sign
 use Rattle.ca_tree.specs.declared.token.Token.{Token}
 use Rattle.ca_tree.specs.declared.tree.TypeNode.{TypeNode}
 use Rattle.ca_tree.specs.declared.tree.TypeNode.TheVariants.{Long, Bool as BoolType, Pointer}
+use Rattle.ca_tree.specs.Codes.{same_key, same_sign}
+use Rattle.ca_tree.specs.Operators.{level, unary_level, binary_sign, unary_sign, assign_sign}
 use Rattle.ca_tree.specs.Plain.{Expression, Statement, number, truth, null, this, named, call, field, method, index, unary, binary, empty, block, local, assign, call_statement, if_only, if_else, while_loop, for_loop, return_value, print_value}
-use Rattle.ca_expressions.specs.Terminals.{key_of, key_code, sign_of, sign_code, zero_of}
+use Rattle.ca_expressions.specs.Terminals.{key_of, sign_of, zero_of}
 use Rattle.ca_parse.specs.Grammar.{read, is_return_zero}
-use Rattle.ca_canonical.specs.Operators.{strength, binary_sign, unary_sign, assign_sign}
-use Rattle.ca_canonical.specs.Spell.{binds, bracketed, in_parentheses, spell_expression, spell_list, spell_truth, spell_type, spell_right, spell_start, spell_header, ended, spell_statement, spell_statements, is_zero, returns_zero}
+use Rattle.ca_canonical.specs.Spell.{tail_level, binds, bracketed, in_parentheses, spell_expression, spell_list, spell_truth, spell_type, spell_right, spell_start, spell_header, ended, spell_statement, spell_statements, is_zero, returns_zero}
 use Rattle.ca_canonical.specs.Bare.{nowhere}
 use Rattle.ca_canonical.proofs.Texts.{kinds}
 use Rattle.ca_canonical.proofs.Fronts.{Front, front_is}
@@ -34,7 +35,7 @@ some_cond true a b = refl
 some_cond false a b = refl
 
 key_anywhere : (k : Kind) (at : Place) → is_some (key_of key.Return k at) ≡ is_some (key_of key.Return k nowhere)
-key_anywhere (Key w) at = some_cond (nat_eq (key_code w) 10) at nowhere
+key_anywhere (Key w) at = some_cond (same_key w key.Return) at nowhere
 key_anywhere (Sign s) at = refl
 key_anywhere (Word n) at = refl
 key_anywhere (Number n) at = refl
@@ -46,7 +47,7 @@ zero_anywhere (Word n) at = refl
 zero_anywhere (Key k) at = refl
 
 sign_anywhere : (k : Kind) (at : Place) → is_some (sign_of sign.Semicolon k at) ≡ is_some (sign_of sign.Semicolon k nowhere)
-sign_anywhere (Sign s) at = some_cond (nat_eq (sign_code s) 6) at nowhere
+sign_anywhere (Sign s) at = some_cond (same_sign s sign.Semicolon) at nowhere
 sign_anywhere (Key w) at = refl
 sign_anywhere (Word n) at = refl
 sign_anywhere (Number n) at = refl
@@ -104,11 +105,11 @@ called (null at) = refl
 called (this at) = refl
 called (named at n) = refl
 called (call at n es) = first_no (Word n) (in_parentheses (spell_list es) ++ Sign sign.Semicolon ∷ []) refl
-called (field at e n) = inside (bracketed (nat_lt (binds e) 8) (spell_expression e)) (Word n ∷ []) sign.Arrow
-called (method at e n es) = inside (bracketed (nat_lt (binds e) 8) (spell_expression e)) (Word n ∷ in_parentheses (spell_list es)) sign.Arrow
-called (index at e i) = inside (bracketed (nat_lt (binds e) 8) (spell_expression e)) (spell_expression i ++ Sign sign.CloseBracket ∷ []) sign.OpenBracket
-called (unary at o e) = first_no (Sign (unary_sign o)) (bracketed (nat_lt (binds e) 6) (spell_expression e) ++ Sign sign.Semicolon ∷ []) refl
-called (binary at o a b) = inside (bracketed (nat_lt (binds a) (strength o)) (spell_expression a)) (bracketed (nat_lt (binds b) (strength o + 1)) (spell_expression b)) (binary_sign o)
+called (field at e n) = inside (bracketed (nat_lt (binds e) tail_level) (spell_expression e)) (Word n ∷ []) sign.Arrow
+called (method at e n es) = inside (bracketed (nat_lt (binds e) tail_level) (spell_expression e)) (Word n ∷ in_parentheses (spell_list es)) sign.Arrow
+called (index at e i) = inside (bracketed (nat_lt (binds e) tail_level) (spell_expression e)) (spell_expression i ++ Sign sign.CloseBracket ∷ []) sign.OpenBracket
+called (unary at o e) = first_no (Sign (unary_sign o)) (bracketed (nat_lt (binds e) unary_level) (spell_expression e) ++ Sign sign.Semicolon ∷ []) refl
+called (binary at o a b) = inside (bracketed (nat_lt (binds a) (level o)) (spell_expression a)) (bracketed (nat_lt (binds b) (level o + 1)) (spell_expression b)) (binary_sign o)
 
 abbrev Implies : Bool → Bool → Type 0
 Implies a b = a ≡ true → b ≡ true
@@ -131,11 +132,11 @@ returned (null at) = refuted refl
 returned (this at) = refuted refl
 returned (named at n) = refuted refl
 returned (call at n es) = refuted (second_no (Key key.Return) (Word n) (in_parentheses (spell_list es) ++ Sign sign.Semicolon ∷ []) refl)
-returned (field at e n) = refuted (returned_inside (bracketed (nat_lt (binds e) 8) (spell_expression e)) (Word n ∷ []) sign.Arrow)
-returned (method at e n es) = refuted (returned_inside (bracketed (nat_lt (binds e) 8) (spell_expression e)) (Word n ∷ in_parentheses (spell_list es)) sign.Arrow)
-returned (index at e i) = refuted (returned_inside (bracketed (nat_lt (binds e) 8) (spell_expression e)) (spell_expression i ++ Sign sign.CloseBracket ∷ []) sign.OpenBracket)
-returned (unary at o e) = refuted (second_no (Key key.Return) (Sign (unary_sign o)) (bracketed (nat_lt (binds e) 6) (spell_expression e) ++ Sign sign.Semicolon ∷ []) refl)
-returned (binary at o a b) = refuted (returned_inside (bracketed (nat_lt (binds a) (strength o)) (spell_expression a)) (bracketed (nat_lt (binds b) (strength o + 1)) (spell_expression b)) (binary_sign o))
+returned (field at e n) = refuted (returned_inside (bracketed (nat_lt (binds e) tail_level) (spell_expression e)) (Word n ∷ []) sign.Arrow)
+returned (method at e n es) = refuted (returned_inside (bracketed (nat_lt (binds e) tail_level) (spell_expression e)) (Word n ∷ in_parentheses (spell_list es)) sign.Arrow)
+returned (index at e i) = refuted (returned_inside (bracketed (nat_lt (binds e) tail_level) (spell_expression e)) (spell_expression i ++ Sign sign.CloseBracket ∷ []) sign.OpenBracket)
+returned (unary at o e) = refuted (second_no (Key key.Return) (Sign (unary_sign o)) (bracketed (nat_lt (binds e) unary_level) (spell_expression e) ++ Sign sign.Semicolon ∷ []) refl)
+returned (binary at o a b) = refuted (returned_inside (bracketed (nat_lt (binds a) (level o)) (spell_expression a)) (bracketed (nat_lt (binds b) (level o + 1)) (spell_expression b)) (binary_sign o))
 
 declared : (ty : TypeNode) (ks : List Kind) → is_end ((spell_type ty ++ ks) ++ Sign sign.Semicolon ∷ []) ≡ false
 declared Long ks = first_no (Key key.Long) (ks ++ Sign sign.Semicolon ∷ []) refl

@@ -7,10 +7,12 @@ use Rattle.ca_tree.specs.declared.name.Place.{Place}
 use Rattle.ca_tree.specs.declared.token.Sign.TheVariants.{OpenParenthesis, CloseParenthesis}
 use Rattle.ca_tree.specs.declared.token.Token.{Token}
 use Rattle.ca_tree.specs.declared.tree.BinaryOp.{BinaryOp}
+use Rattle.ca_tree.specs.declared.operators.TheConstants.{LEVELS}
+use Rattle.ca_tree.specs.Operators.{unary_level}
 use Rattle.ca_tree.specs.Plain.{Expression, binary}
 use Rattle.ca_expressions.specs.Terminals.{sign, operator}
 use Rattle.ca_expressions.specs.Grammar.{Level, operands, one_operand, Operands, operands_end, operands_more, Unary, unary_last, Primary, a_chain, in_brackets, Chain, this_chain, name_chain, call_chain, Tails, tails_end, tails_more, Tail}
-use Rattle.ca_canonical.specs.Spell.{binds, bracketed, in_parentheses, spell_expression}
+use Rattle.ca_canonical.specs.Spell.{literal_level, tail_level, binds, bracketed, in_parentheses, spell_expression}
 use Rattle.ca_canonical.specs.Bare.{bare_expression}
 use Rattle.ca_canonical.proofs.Texts.{AllWritable}
 use Rattle.ca_canonical.proofs.Fronts.{Spelled, seq, under}
@@ -43,37 +45,37 @@ one_operand_more : {k : ℕ} {a b x : Expression} {s m m2 r : List Token} {o : B
 one_operand_more operands_end d e = operands_more d e operands_end
 one_operand_more (operands_more d1 e1 us) d e = operands_more d1 e1 (one_operand_more us d e)
 
-pub level_more : {k : ℕ} {b x : Expression} {s m m2 r : List Token} {o : BinaryOp × Place} → k < 6 → Level k s x m → Sees (operator k) m o m2 → Level (k + 1) m2 b r → Level k s (binary o.1 o.0 x b) r
+pub level_more : {k : ℕ} {b x : Expression} {s m m2 r : List Token} {o : BinaryOp × Place} → k < LEVELS → Level k s x m → Sees (operator k) m o m2 → Level (k + 1) m2 b r → Level k s (binary o.1 o.0 x b) r
 level_more low (operands h a us) d e = operands h a (one_operand_more us d e)
 level_more low (one_operand h u) d e = absurd (omega (arith, low, h))
 
--- what binds more strongly stands at a weaker level too
-down : (d n k : ℕ) {s r : List Token} {x : Expression} → k ≡ d + n → k ≤ 6 → Level k s x r → Level n s x r
+-- what binds more tightly stands at a weaker level too
+down : (d n k : ℕ) {s r : List Token} {x : Expression} → k ≡ d + n → k ≤ LEVELS → Level k s x r → Level n s x r
 down zero n k {s = s} {r = r} {x = x} e h l = let same : k ≡ n = omega (arith, e) in subst (λ m. Level m s x r) same l
 down (suc d) n k e h l = operands (omega (arith, e, h)) (down d (n + 1) k (omega (arith, e)) h l) operands_end
 
-pub level_down : (n k : ℕ) {s r : List Token} {x : Expression} → n ≤ k → k ≤ 6 → Level k s x r → Level n s x r
+pub level_down : (n k : ℕ) {s r : List Token} {x : Expression} → n ≤ k → k ≤ LEVELS → Level k s x r → Level n s x r
 level_down n k low h l = down (k - n) n k (omega (arith, low)) h l
 
-pub unary_at : (n : ℕ) {s r : List Token} {x : Expression} → n ≤ 6 → Unary s x r → Level n s x r
-unary_at n h u = level_down n 6 h (omega arith) (one_operand (omega arith) u)
+pub unary_at : (n : ℕ) {s r : List Token} {x : Expression} → n ≤ LEVELS → Unary s x r → Level n s x r
+unary_at n h u = level_down n unary_level h (omega arith) (one_operand (omega arith) u)
 
-pub unary_of_level : {s r : List Token} {x : Expression} → Level 6 s x r → Unary s x r
+pub unary_of_level : {s r : List Token} {x : Expression} → Level unary_level s x r → Unary s x r
 unary_of_level (operands h a us) = absurd (omega (arith, h))
 unary_of_level (one_operand h u) = u
 
--- an expression that binds so strongly
+-- an expression that binds so tightly
 pub data At : ℕ → List Token → Expression → List Token → Type 0 where
-  at_level : {k : ℕ} {s r : List Token} {x : Expression} → k ≤ 6 → Level k s x r → At k s x r
-  at_primary : {s r : List Token} {x : Expression} → Primary s x r → At 7 s x r
-  at_head : {s r : List Token} {x : Expression} → Headed s x r → At 8 s x r
+  at_level : {k : ℕ} {s r : List Token} {x : Expression} → k ≤ LEVELS → Level k s x r → At k s x r
+  at_primary : {s r : List Token} {x : Expression} → Primary s x r → At literal_level s x r
+  at_head : {s r : List Token} {x : Expression} → Headed s x r → At tail_level s x r
 
-pub at_least : (n k : ℕ) {s r : List Token} {x : Expression} → n ≤ k → n ≤ 6 → At k s x r → Level n s x r
+pub at_least : (n k : ℕ) {s r : List Token} {x : Expression} → n ≤ k → n ≤ LEVELS → At k s x r → Level n s x r
 at_least n k h low (at_level i l) = level_down n k h i l
 at_least n k h low (at_primary p) = unary_at n low (unary_last p)
 at_least n k h low (at_head p) = unary_at n low (unary_last (headed_primary p))
 
-pub at_most : (k : ℕ) {s r : List Token} {x : Expression} → 8 ≤ k → At k s x r → Headed s x r
+pub at_most : (k : ℕ) {s r : List Token} {x : Expression} → tail_level ≤ k → At k s x r → Headed s x r
 at_most k h (at_level i l) = absurd (omega (arith, h, i))
 at_most k h (at_primary p) = absurd (omega (arith, h))
 at_most k h (at_head p) = p
@@ -97,16 +99,16 @@ brackets x g =
     under (λ y. y.1.0) (λ y s r w d. brackets_head d.first d.second.first d.second.second tails_end) (λ y w. w.1.0)
     (seq (a_sign OpenParenthesis) (seq (at_level_zero x g) (a_sign CloseParenthesis)))
 
-pub operand : (n : ℕ) (x : Expression) → n ≤ 6 → Good x → Spelled (Level n) (Like x) (bracketed (nat_lt (binds x) n) (spell_expression x))
+pub operand : (n : ℕ) (x : Expression) → n ≤ LEVELS → Good x → Spelled (Level n) (Like x) (bracketed (nat_lt (binds x) n) (spell_expression x))
 operand n x low g = at (nat_lt (binds x) n) refl
   where
     at : (t : Bool) → nat_lt (binds x) n ≡ t → Spelled (Level n) (Like x) (bracketed t (spell_expression x))
     at true e = under (λ y. y) (λ y s r w d. unary_at n low (unary_last (headed_primary d))) (λ y w. w) (brackets x g)
     at false e = under (λ y. y) (λ y s r w d. at_least n (binds x) (ltb-false (binds x) n e) low d) (λ y w. w) g.reads
 
-pub head : (x : Expression) → Good x → Spelled Headed (Like x) (bracketed (nat_lt (binds x) 8) (spell_expression x))
-head x g = at (nat_lt (binds x) 8) refl
+pub head : (x : Expression) → Good x → Spelled Headed (Like x) (bracketed (nat_lt (binds x) tail_level) (spell_expression x))
+head x g = at (nat_lt (binds x) tail_level) refl
   where
-    at : (t : Bool) → nat_lt (binds x) 8 ≡ t → Spelled Headed (Like x) (bracketed t (spell_expression x))
+    at : (t : Bool) → nat_lt (binds x) tail_level ≡ t → Spelled Headed (Like x) (bracketed t (spell_expression x))
     at true e = brackets x g
-    at false e = under (λ y. y) (λ y s r w d. at_most (binds x) (ltb-false (binds x) 8 e) d) (λ y w. w) g.reads
+    at false e = under (λ y. y) (λ y s r w d. at_most (binds x) (ltb-false (binds x) tail_level e) d) (λ y w. w) g.reads

@@ -16,7 +16,7 @@ use Rattle.ca_tree.specs.Plain.{Expression, RightSide, Statement, number, truth,
 use Rattle.ca_expressions.specs.Terminals as terminal
 use Rattle.ca_expressions.specs.Grammar.{OuterExpression, is_call, is_target}
 use Rattle.ca_parse.specs.Grammar.{statements, first_place, is_open, TypeName, long, bool, pointer, Right, expression, creation, creation_call, Local, declares, begins, Compound, plus_assign, minus_assign, times_assign, Change, puts, changes, increments, decrements, Assign, assigns, AssignLine, assign_line, First, first_local, first_assign, Stmt, nothing, a_block, an_assign, a_call, an_if, an_if_else, a_while, a_for, a_return, a_print, Item, a_local, a_statement, Items, items_end, items_and}
-use Rattle.ca_canonical.specs.Operators.{assign_sign}
+use Rattle.ca_tree.specs.Operators.{assign_sign}
 use Rattle.ca_canonical.specs.Spell.{spell_expression, spell_type, spell_right, spell_header, spell_statement, spell_statements, ended, condition}
 use Rattle.ca_canonical.specs.Bare.{bare_expression, bare_type, bare_right, bare_start, bare_statement, bare_statements, nowhere}
 use Rattle.ca_canonical.proofs.ReadBack.{IsName}

@@ -1,5 +1,5 @@
 -- Each expression that the tokens of a text derive is read back.
-use Rattle.std.proofs.Common.{◌≡◌, ℕ, ◌+◌, ◌<◌, List, [], ◌∷◌, ◌++◌, Bool, true, false, refl, sym, ap, ◌∙◌, subst, arith, append_assoc}
+use Rattle.std.proofs.Common.{◌≡◌, ℕ, ◌+◌, List, [], ◌∷◌, ◌++◌, Bool, true, false, refl, sym, ap, ◌∙◌, subst, arith, append_assoc}
 use Rattle.std.specs.Prelude.{nat_lt}
 use Rattle.ca_tree.specs.declared.name.Place.{Place}
 use Rattle.ca_tree.specs.declared.token.Kind.{Kind}
@@ -8,12 +8,12 @@ use Rattle.ca_tree.specs.declared.token.Keyword.TheVariants.{This}
 use Rattle.ca_tree.specs.declared.token.Sign.TheVariants.{OpenParenthesis, CloseParenthesis, OpenBracket, CloseBracket, Comma, Arrow}
 use Rattle.ca_tree.specs.declared.token.Token.{Token}
 use Rattle.ca_tree.specs.declared.tree.BinaryOp.{BinaryOp}
-use Rattle.ca_tree.specs.declared.tree.BinaryOp.TheVariants as binary_op
 use Rattle.ca_tree.specs.declared.tree.UnaryOp.{UnaryOp}
+use Rattle.ca_tree.specs.Operators.{level, unary_level}
+use Rattle.ca_tree.proofs.Table.{level_below}
 use Rattle.ca_tree.specs.Plain.{Expression, Expressions, this, named, call, field, method, index, unary, binary, no_expressions, expression_and}
 use Rattle.ca_expressions.specs.Grammar.{expressions, Level, operands, one_operand, Operands, operands_end, operands_more, Unary, unary_first, unary_last, Primary, a_literal, a_chain, in_brackets, Chain, this_chain, name_chain, call_chain, Tails, tails_end, tails_more, Tail, field_tail, method_tail, index_tail, Args, args, Listed, listed_none, listed, Further, further_none, further}
-use Rattle.ca_canonical.specs.Operators.{strength}
-use Rattle.ca_canonical.specs.Spell.{binds, bracketed, in_parentheses, spell_expression, spell_list, spell_others, spell_truth}
+use Rattle.ca_canonical.specs.Spell.{tail_level, binds, bracketed, in_parentheses, spell_expression, spell_list, spell_others, spell_truth}
 use Rattle.ca_canonical.specs.Bare.{bare_expression, bare_expressions, nowhere}
 use Rattle.ca_canonical.proofs.ReadBack.{IsName}
 use Rattle.ca_canonical.proofs.Texts.{AllWritable}
@@ -35,39 +35,24 @@ writable_bracketed false ks a = a
 
 -- operators
 
-most_strength : (o : BinaryOp) → strength o < 6
-most_strength binary_op.Or = omega arith
-most_strength binary_op.And = omega arith
-most_strength binary_op.Equal = omega arith
-most_strength binary_op.NotEqual = omega arith
-most_strength binary_op.Less = omega arith
-most_strength binary_op.Greater = omega arith
-most_strength binary_op.LessEqual = omega arith
-most_strength binary_op.GreaterEqual = omega arith
-most_strength binary_op.Plus = omega arith
-most_strength binary_op.Minus = omega arith
-most_strength binary_op.Times = omega arith
-most_strength binary_op.Divide = omega arith
-most_strength binary_op.Remainder = omega arith
-
 good_binary : (at : Place) (o : BinaryOp) (a b : Expression) → Good a → Good b → Good (binary at o a b)
 good_binary at o a b g h =
-    let low = most_strength o in
+    let low = level_below o in
     record {
-      writable = writable_both (bracketed (nat_lt (binds a) (strength o)) (spell_expression a)) _ (writable_bracketed (nat_lt (binds a) (strength o)) (spell_expression a) g.writable)
-          (tt, writable_bracketed (nat_lt (binds b) (strength o + 1)) (spell_expression b) h.writable);
+      writable = writable_both (bracketed (nat_lt (binds a) (level o)) (spell_expression a)) _ (writable_bracketed (nat_lt (binds a) (level o)) (spell_expression a) g.writable)
+          (tt, writable_bracketed (nat_lt (binds b) (level o + 1)) (spell_expression b) h.writable);
       reads = under (λ y. binary y.1.0.1 y.1.0.0 y.0 y.1.1)
           (λ y s r w d. at_level (omega (arith, low)) (level_more low d.first d.second.first d.second.second))
           (λ y w. ap (λ x. binary nowhere y.1.0.0 x (bare_expression y.1.1)) w.0 ∙ ap (λ p. binary nowhere p (bare_expression a) (bare_expression y.1.1)) w.1.0 ∙ ap (λ x. binary nowhere o (bare_expression a) x) w.1.1)
-          (seq (operand (strength o) a (omega (arith, low)) g) (seq (an_operator o) (operand (strength o + 1) b (omega (arith, low)) h)));
+          (seq (operand (level o) a (omega (arith, low)) g) (seq (an_operator o) (operand (level o + 1) b (omega (arith, low)) h)));
     }
 
 good_unary : (at : Place) (o : UnaryOp) (a : Expression) → Good a → Good (unary at o a)
 good_unary at o a g = record {
-  writable = (tt, writable_bracketed (nat_lt (binds a) 6) (spell_expression a) g.writable);
+  writable = (tt, writable_bracketed (nat_lt (binds a) unary_level) (spell_expression a) g.writable);
   reads = under (λ y. unary y.0.1 y.0.0 y.1) (λ y s r w d. at_level (omega arith) (one_operand (omega arith) (unary_first d.first (unary_of_level d.second))))
       (λ y w. ap (λ p. unary nowhere p (bare_expression y.1)) w.0 ∙ ap (λ x. unary nowhere o x) w.1)
-      (seq (a_unary o) (operand 6 a (omega arith) g));
+      (seq (a_unary o) (operand unary_level a (omega arith) g));
 }
 
 pub good_literal : {x : Expression} → Literal x → Good x
@@ -140,7 +125,7 @@ spelled_index D more at x i ks g h =
     (λ y w. ap (λ z. index nowhere z (bare_expression y.1.1.0)) w.0 ∙ ap (λ z. index nowhere (bare_expression x) z) w.1.1.0)
     (seq h (seq (a_sign OpenBracket) (seq (whole_expression g) (a_sign CloseBracket))))
 
-headed : (x : Expression) {ks : List Kind} → Spelled Headed (Like x) ks → Spelled (At 8) (Like x) ks
+headed : (x : Expression) {ks : List Kind} → Spelled Headed (Like x) ks → Spelled (At tail_level) (Like x) ks
 headed x h = under (λ y. y) (λ y s r w d. at_head d) (λ y w. w) h
 
 after_head : (x y : Expression) (s m r : List Token) → Headed s x m → Tail x m y r → Headed s y r
@@ -154,27 +139,27 @@ field_writable : (t : Bool) (x : Expression) (n : List ℕ) → AllWritable (spe
 field_writable t x n a h = writable_both (bracketed t (spell_expression x)) _ (writable_bracketed t (spell_expression x) a) (tt, (h, tt))
 
 good_field : (at : Place) (x : Expression) (n : List ℕ) → Good x → IsName n → Good (field at x n)
-good_field at x n g h = record { writable = field_writable (nat_lt (binds x) 8) x n g.writable h; reads = headed (field at x n) (spelled_field Headed after_head at x n _ (head x g)) }
+good_field at x n g h = record { writable = field_writable (nat_lt (binds x) tail_level) x n g.writable h; reads = headed (field at x n) (spelled_field Headed after_head at x n _ (head x g)) }
 
 good_method : (at : Place) (x : Expression) (n : List ℕ) (es : Expressions) → Good x → IsName n → GoodList es → Good (method at x n es)
 good_method at x n es g h l = record {
-  writable = writable_both (bracketed (nat_lt (binds x) 8) (spell_expression x)) _ (writable_bracketed (nat_lt (binds x) 8) (spell_expression x) g.writable) (tt, (h, writable_brackets (spell_list es) l.writable));
+  writable = writable_both (bracketed (nat_lt (binds x) tail_level) (spell_expression x)) _ (writable_bracketed (nat_lt (binds x) tail_level) (spell_expression x) g.writable) (tt, (h, writable_brackets (spell_list es) l.writable));
   reads = headed (method at x n es) (spelled_method Headed after_head at x n es _ l (head x g));
 }
 
 good_index : (at : Place) (x i : Expression) → Good x → Good i → Good (index at x i)
 good_index at x i g h = record {
-  writable = writable_both (bracketed (nat_lt (binds x) 8) (spell_expression x)) _ (writable_bracketed (nat_lt (binds x) 8) (spell_expression x) g.writable) (tt, writable_both (spell_expression i) _ h.writable (tt, tt));
+  writable = writable_both (bracketed (nat_lt (binds x) tail_level) (spell_expression x)) _ (writable_bracketed (nat_lt (binds x) tail_level) (spell_expression x) g.writable) (tt, writable_both (spell_expression i) _ h.writable (tt, tt));
   reads = headed (index at x i) (spelled_index Headed after_head at x i _ h (head x g));
 }
 
 -- a chain that is read back as one
 pub record GoodChain (x : Expression) : Type 0 where
   pub good : Good x
-  pub strong : binds x ≡ 8
+  pub strong : binds x ≡ tail_level
   pub chain : Spelled Chain (Like x) (spell_expression x)
 
-from_chain : (x : Expression) → binds x ≡ 8 → AllWritable (spell_expression x) → Spelled Chain (Like x) (spell_expression x) → GoodChain x
+from_chain : (x : Expression) → binds x ≡ tail_level → AllWritable (spell_expression x) → Spelled Chain (Like x) (spell_expression x) → GoodChain x
 from_chain x e a h = record {
   good = record { writable = a; reads = subst (λ k. Spelled (At k) (Like x) (spell_expression x)) (sym e) (headed x (under (λ y. y) (λ y s r w d. chain_head d) (λ y w. w) h)) };
   strong = e;
@@ -182,8 +167,8 @@ from_chain x e a h = record {
 }
 
 -- a chain has no brackets before a tail
-plain_head : (x : Expression) → GoodChain x → Spelled Chain (Like x) (bracketed (nat_lt (binds x) 8) (spell_expression x))
-plain_head x g = subst (λ k. Spelled Chain (Like x) (bracketed (nat_lt k 8) (spell_expression x))) (sym g.strong) g.chain
+plain_head : (x : Expression) → GoodChain x → Spelled Chain (Like x) (bracketed (nat_lt (binds x) tail_level) (spell_expression x))
+plain_head x g = subst (λ k. Spelled Chain (Like x) (bracketed (nat_lt k tail_level) (spell_expression x))) (sym g.strong) g.chain
 
 chain_this : (at : Place) → GoodChain (this at)
 chain_this at = from_chain (this at) refl (tt, tt) (under (λ p. this p) (λ p s r w d. this_chain d tails_end) (λ p w. refl) (a_key This))

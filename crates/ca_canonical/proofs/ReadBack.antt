@@ -18,9 +18,9 @@ use Rattle.ca_tree.specs.declared.token.Keyword.TheVariants as key
 use Rattle.ca_tree.specs.declared.token.Sign.{Sign as TheSign}
 use Rattle.ca_tree.specs.declared.token.Sign.TheVariants as sign
 use Rattle.ca_lex.specs.Bytes.{is_blank, is_letter, is_name_byte, value_of}
-use Rattle.ca_lex.specs.Spellings.{keyword_of}
+use Rattle.ca_tree.specs.Spellings.{keyword_of, keyword_text, sign_text}
 use Rattle.ca_lex.specs.Pieces.{Piece, token_of, refused, too_great, letter_behind, piece_of, begins, kind_of_word, word_piece, digits_piece}
-use Rattle.ca_canonical.specs.Spellings.{key_text, sign_text, kind_text}
+use Rattle.ca_canonical.specs.Texts.{kind_text}
 
 -- every byte passes
 abbrev pub Passes : (ℕ → Bool) → List ℕ → Type 0
@@ -182,107 +182,19 @@ number_back m line rest small = digits_back (decimal m) m line rest (decimal_num
 
 -- key words and signs
 
-key_back : (k : Keyword) (line : Bool) (rest : List ℕ) → piece_of (key_text k ++ gap line ∷ rest) ≡ token_of (length (key_text k)) (Key k)
+key_back : (k : Keyword) (line : Bool) (rest : List ℕ) → piece_of (keyword_text k ++ gap line ∷ rest) ≡ token_of (length (keyword_text k)) (Key k)
 unfolding piece_of
 key_back key.Class true rest = refl
 key_back key.Class false rest = refl
-key_back key.Public true rest = refl
-key_back key.Public false rest = refl
-key_back key.Long true rest = refl
-key_back key.Long false rest = refl
-key_back key.Bool true rest = refl
-key_back key.Bool false rest = refl
-key_back key.Int true rest = refl
-key_back key.Int false rest = refl
-key_back key.Void true rest = refl
-key_back key.Void false rest = refl
-key_back key.If true rest = refl
-key_back key.If false rest = refl
-key_back key.Else true rest = refl
-key_back key.Else false rest = refl
-key_back key.While true rest = refl
-key_back key.While false rest = refl
-key_back key.For true rest = refl
-key_back key.For false rest = refl
-key_back key.Return true rest = refl
-key_back key.Return false rest = refl
-key_back key.New true rest = refl
-key_back key.New false rest = refl
-key_back key.Nullptr true rest = refl
-key_back key.Nullptr false rest = refl
-key_back key.This true rest = refl
-key_back key.This false rest = refl
-key_back key.True true rest = refl
-key_back key.True false rest = refl
-key_back key.False true rest = refl
-key_back key.False false rest = refl
-key_back key.Print true rest = refl
-key_back key.Print false rest = refl
-key_back key.Main true rest = refl
-key_back key.Main false rest = refl
+key_back other true rest = refl
+key_back other false rest = refl
 
 sign_back : (s : TheSign) (line : Bool) (rest : List ℕ) → piece_of (sign_text s ++ gap line ∷ rest) ≡ token_of (length (sign_text s)) (Sign s)
 unfolding piece_of
 sign_back sign.OpenBrace true rest = refl
 sign_back sign.OpenBrace false rest = refl
-sign_back sign.CloseBrace true rest = refl
-sign_back sign.CloseBrace false rest = refl
-sign_back sign.OpenParenthesis true rest = refl
-sign_back sign.OpenParenthesis false rest = refl
-sign_back sign.CloseParenthesis true rest = refl
-sign_back sign.CloseParenthesis false rest = refl
-sign_back sign.OpenBracket true rest = refl
-sign_back sign.OpenBracket false rest = refl
-sign_back sign.CloseBracket true rest = refl
-sign_back sign.CloseBracket false rest = refl
-sign_back sign.Semicolon true rest = refl
-sign_back sign.Semicolon false rest = refl
-sign_back sign.Comma true rest = refl
-sign_back sign.Comma false rest = refl
-sign_back sign.Colon true rest = refl
-sign_back sign.Colon false rest = refl
-sign_back sign.Assign true rest = refl
-sign_back sign.Assign false rest = refl
-sign_back sign.Equal true rest = refl
-sign_back sign.Equal false rest = refl
-sign_back sign.NotEqual true rest = refl
-sign_back sign.NotEqual false rest = refl
-sign_back sign.Less true rest = refl
-sign_back sign.Less false rest = refl
-sign_back sign.Greater true rest = refl
-sign_back sign.Greater false rest = refl
-sign_back sign.LessEqual true rest = refl
-sign_back sign.LessEqual false rest = refl
-sign_back sign.GreaterEqual true rest = refl
-sign_back sign.GreaterEqual false rest = refl
-sign_back sign.Plus true rest = refl
-sign_back sign.Plus false rest = refl
-sign_back sign.Minus true rest = refl
-sign_back sign.Minus false rest = refl
-sign_back sign.Times true rest = refl
-sign_back sign.Times false rest = refl
-sign_back sign.Divide true rest = refl
-sign_back sign.Divide false rest = refl
-sign_back sign.Remainder true rest = refl
-sign_back sign.Remainder false rest = refl
-sign_back sign.Not true rest = refl
-sign_back sign.Not false rest = refl
-sign_back sign.And true rest = refl
-sign_back sign.And false rest = refl
-sign_back sign.Or true rest = refl
-sign_back sign.Or false rest = refl
-sign_back sign.Arrow true rest = refl
-sign_back sign.Arrow false rest = refl
-sign_back sign.PlusAssign true rest = refl
-sign_back sign.PlusAssign false rest = refl
-sign_back sign.MinusAssign true rest = refl
-sign_back sign.MinusAssign false rest = refl
-sign_back sign.TimesAssign true rest = refl
-sign_back sign.TimesAssign false rest = refl
-sign_back sign.Increment true rest = refl
-sign_back sign.Increment false rest = refl
-sign_back sign.Decrement true rest = refl
-sign_back sign.Decrement false rest = refl
+sign_back other true rest = refl
+sign_back other false rest = refl
 
 pub read_back : (k : Kind) (line : Bool) (rest : List ℕ) → Writable k → piece_of (kind_text k ++ gap line ∷ rest) ≡ token_of (length (kind_text k)) k
 read_back (Word w) line rest h = name_back w line rest h

@@ -11,13 +11,13 @@ use Rattle.ca_tree.specs.declared.token.Keyword.TheVariants as key
 use Rattle.ca_tree.specs.declared.token.Sign.{Sign as TheSign}
 use Rattle.ca_tree.specs.declared.token.Token.{Token}
 use Rattle.ca_tree.specs.declared.tree.BinaryOp.{BinaryOp}
-use Rattle.ca_tree.specs.declared.tree.BinaryOp.TheVariants as binary
 use Rattle.ca_tree.specs.declared.tree.UnaryOp.{UnaryOp}
-use Rattle.ca_tree.specs.declared.tree.UnaryOp.TheVariants as unary
+use Rattle.ca_tree.specs.Codes.{key_code, sign_code}
+use Rattle.ca_tree.specs.Operators.{level, binary_sign, unary_sign}
+use Rattle.ca_tree.proofs.Table.{binary_back, unary_back}
 use Rattle.ca_tree.specs.Plain.{Expression, number, truth, null}
 use Rattle.ca_expressions.specs.Terminals as terminal
-use Rattle.ca_expressions.specs.Terminals.{key_of, sign_of, key_code, sign_code, name_of, number_of, literal_of, literal_of_key, operator_of, unary_of}
-use Rattle.ca_canonical.specs.Operators.{strength, binary_sign, unary_sign}
+use Rattle.ca_expressions.specs.Terminals.{key_of, sign_of, name_of, number_of, literal_of, literal_of_key, with_place, of_level, operator_of, unary_of}
 use Rattle.ca_canonical.specs.Spell.{spell_truth}
 use Rattle.ca_canonical.specs.Bare.{bare_expression, nowhere}
 use Rattle.ca_canonical.proofs.ReadBack.{Writable, IsName}
@@ -46,27 +46,14 @@ a_truth false = one terminal.literal (λ x. bare_expression x ≡ truth nowhere 
 pub a_null : Spelled (Sees terminal.literal) (λ x. bare_expression x ≡ null nowhere) (Key key.Nullptr ∷ [])
 a_null = one terminal.literal (λ x. bare_expression x ≡ null nowhere) (Key key.Nullptr) (λ t e. (null t.at, refl, ap (λ z. literal_of z t.at) e))
 
-known_operator : (o : BinaryOp) (at : Place) → operator_of (strength o) (Sign (binary_sign o)) at ≡ Some (o, at)
-known_operator binary.Or at = refl
-known_operator binary.And at = refl
-known_operator binary.Equal at = refl
-known_operator binary.NotEqual at = refl
-known_operator binary.Less at = refl
-known_operator binary.Greater at = refl
-known_operator binary.LessEqual at = refl
-known_operator binary.GreaterEqual at = refl
-known_operator binary.Plus at = refl
-known_operator binary.Minus at = refl
-known_operator binary.Times at = refl
-known_operator binary.Divide at = refl
-known_operator binary.Remainder at = refl
+known_operator : (o : BinaryOp) (at : Place) → operator_of (level o) (Sign (binary_sign o)) at ≡ Some (o, at)
+known_operator o at = ap (λ p. with_place at (of_level (level o) p)) (binary_back o) ∙ ap (λ t. with_place at (cond t (Some o) None)) (eq-eqb (level o) (level o) refl)
 
-pub an_operator : (o : BinaryOp) → Spelled (Sees (terminal.operator (strength o))) (λ a. a.0 ≡ o) (Sign (binary_sign o) ∷ [])
-an_operator o = one (terminal.operator (strength o)) (λ a. a.0 ≡ o) (Sign (binary_sign o)) (λ t e. ((o, t.at), refl, ap (λ z. operator_of (strength o) z t.at) e ∙ known_operator o t.at))
+pub an_operator : (o : BinaryOp) → Spelled (Sees (terminal.operator (level o))) (λ a. a.0 ≡ o) (Sign (binary_sign o) ∷ [])
+an_operator o = one (terminal.operator (level o)) (λ a. a.0 ≡ o) (Sign (binary_sign o)) (λ t e. ((o, t.at), refl, ap (λ z. operator_of (level o) z t.at) e ∙ known_operator o t.at))
 
 known_unary : (o : UnaryOp) (at : Place) → unary_of (Sign (unary_sign o)) at ≡ Some (o, at)
-known_unary unary.Minus at = refl
-known_unary unary.Not at = refl
+known_unary o at = ap (with_place at) (unary_back o)
 
 pub a_unary : (o : UnaryOp) → Spelled (Sees terminal.unary_operator) (λ a. a.0 ≡ o) (Sign (unary_sign o) ∷ [])
 a_unary o = one terminal.unary_operator (λ a. a.0 ≡ o) (Sign (unary_sign o)) (λ t e. ((o, t.at), refl, ap (λ z. unary_of z t.at) e ∙ known_unary o t.at))
@@ -106,24 +93,10 @@ pub data Literal : Expression → Type 0 where
   null_literal : {at : Place} → Literal (null at)
 
 key_literal : (k : Keyword) (at : Place) (x : Expression) → literal_of_key k at ≡ Some x → Literal x
-key_literal key.Class at x e = cc
-key_literal key.Public at x e = cc
-key_literal key.Long at x e = cc
-key_literal key.Bool at x e = cc
-key_literal key.Int at x e = cc
-key_literal key.Void at x e = cc
-key_literal key.If at x e = cc
-key_literal key.Else at x e = cc
-key_literal key.While at x e = cc
-key_literal key.For at x e = cc
-key_literal key.Return at x e = cc
-key_literal key.New at x e = cc
 key_literal key.Nullptr at x e = subst Literal (some_is e) (null_literal {at = at})
-key_literal key.This at x e = cc
 key_literal key.True at x e = subst Literal (some_is e) (truth_literal {at = at} {b = true})
 key_literal key.False at x e = subst Literal (some_is e) (truth_literal {at = at} {b = false})
-key_literal key.Print at x e = cc
-key_literal key.Main at x e = cc
+key_literal other at x e = cc
 
 literal_by : (k : Kind) (at : Place) (x : Expression) → literal_of k at ≡ Some x → Writable k → Literal x
 literal_by (Number n) at x e h = subst Literal (some_is e) (number_literal {at = at} {n = n} h)

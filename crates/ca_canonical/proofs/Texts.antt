@@ -12,8 +12,7 @@ use Rattle.ca_tree.specs.declared.token.Token.{Token}
 use Rattle.ca_lex.specs.Places.{advance, start}
 use Rattle.ca_lex.specs.Pieces.{piece_of, blank_of}
 use Rattle.ca_lex.specs.Tokens.{TokensFrom, at_end, blank, token}
-use Rattle.ca_canonical.specs.Spellings.{kind_text}
-use Rattle.ca_canonical.specs.Texts.{behind, behind_brace, gap_behind, gap_before, depth_behind, semicolon_first, text_from, text_of}
+use Rattle.ca_canonical.specs.Texts.{kind_text, behind, behind_brace, gap_behind, gap_before, depth_behind, semicolon_first, text_from, text_of}
 use Rattle.ca_canonical.proofs.ReadBack.{Writable, gap, read_back}
 
 abbrev pub kinds : List Token → List Kind
@@ -42,35 +41,10 @@ semicolon_gap false next = record { line = false; is = refl }
 
 sign_gap : (depth : ℕ) (s : TheSign) (next : List Kind) → IsGap (gap_before (gap_behind depth s) next)
 sign_gap depth sign.OpenBrace next = record { line = true; is = refl }
-sign_gap depth sign.CloseBrace next = record { line = line_behind_brace (semicolon_first next); is = brace_gap (semicolon_first next) }
-sign_gap depth sign.OpenParenthesis next = record { line = false; is = refl }
-sign_gap depth sign.CloseParenthesis next = record { line = false; is = refl }
-sign_gap depth sign.OpenBracket next = record { line = false; is = refl }
-sign_gap depth sign.CloseBracket next = record { line = false; is = refl }
-sign_gap depth sign.Semicolon next = semicolon_gap (depth == 0) next
-sign_gap depth sign.Comma next = record { line = false; is = refl }
 sign_gap depth sign.Colon next = record { line = true; is = refl }
-sign_gap depth sign.Assign next = record { line = false; is = refl }
-sign_gap depth sign.Equal next = record { line = false; is = refl }
-sign_gap depth sign.NotEqual next = record { line = false; is = refl }
-sign_gap depth sign.Less next = record { line = false; is = refl }
-sign_gap depth sign.Greater next = record { line = false; is = refl }
-sign_gap depth sign.LessEqual next = record { line = false; is = refl }
-sign_gap depth sign.GreaterEqual next = record { line = false; is = refl }
-sign_gap depth sign.Plus next = record { line = false; is = refl }
-sign_gap depth sign.Minus next = record { line = false; is = refl }
-sign_gap depth sign.Times next = record { line = false; is = refl }
-sign_gap depth sign.Divide next = record { line = false; is = refl }
-sign_gap depth sign.Remainder next = record { line = false; is = refl }
-sign_gap depth sign.Not next = record { line = false; is = refl }
-sign_gap depth sign.And next = record { line = false; is = refl }
-sign_gap depth sign.Or next = record { line = false; is = refl }
-sign_gap depth sign.Arrow next = record { line = false; is = refl }
-sign_gap depth sign.PlusAssign next = record { line = false; is = refl }
-sign_gap depth sign.MinusAssign next = record { line = false; is = refl }
-sign_gap depth sign.TimesAssign next = record { line = false; is = refl }
-sign_gap depth sign.Increment next = record { line = false; is = refl }
-sign_gap depth sign.Decrement next = record { line = false; is = refl }
+sign_gap depth sign.Semicolon next = semicolon_gap (depth == 0) next
+sign_gap depth sign.CloseBrace next = record { line = line_behind_brace (semicolon_first next); is = brace_gap (semicolon_first next) }
+sign_gap depth other next = record { line = false; is = refl }
 
 kind_gap : (depth : ℕ) (k : Kind) (next : List Kind) → IsGap (behind depth k next)
 kind_gap depth (Sign s) next = sign_gap depth s next

@@ -11,27 +11,29 @@ use Rattle.ca_tree.specs.declared.tree.TypeNode.TheVariants.{Long, Bool as BoolT
 use Rattle.ca_tree.specs.declared.tree.FieldNode.{FieldNode}
 use Rattle.ca_tree.specs.declared.tree.ParamNode.{ParamNode}
 use Rattle.ca_tree.specs.Plain.{Expression, Expressions, RightSide, Statement, Statements, MethodTree, MemberTree, ClassTree, TextTree, number, truth, null, this, named, call, field, method, index, unary, binary, no_expressions, expression_and, value, new, empty, block, local, assign, call_statement, if_only, if_else, while_loop, for_loop, return_value, print_value, no_statements, statement_and, field_member, method_member}
-use Rattle.ca_canonical.specs.Operators.{strength, unary_strength, tail_strength, binary_sign, unary_sign, assign_sign}
+use Rattle.ca_tree.specs.Operators.{level, unary_level, binary_sign, unary_sign, assign_sign}
 
--- How strongly the outermost operator of an expression binds. A literal binds less than `->` and an index, before which it
--- has round brackets; what they may follow without any binds as they do.
+-- A literal binds more tightly than a unary operator and less than `->` and an index, before which it has round brackets.
+abbrev pub literal_level : ℕ
+literal_level = unary_level + 1
+
+-- `->` and an index bind most tightly
+abbrev pub tail_level : ℕ
+tail_level = unary_level + 2
+
+-- how tightly the outermost operator of an expression binds; what a tail may follow without brackets binds as tails do
 abbrev pub binds : Expression → ℕ
-binds (binary at o a b) = strength o
-binds (unary at o e) = 6
-binds (number at n) = 7
-binds (truth at b) = 7
-binds (null at) = 7
-binds (this at) = 8
-binds (named at n) = 8
-binds (call at n es) = 8
-binds (field at e n) = 8
-binds (method at e n es) = 8
-binds (index at e i) = 8
+binds (binary at o a b) = level o
+binds (unary at o e) = unary_level
+binds (number at n) = literal_level
+binds (truth at b) = literal_level
+binds (null at) = literal_level
+binds other = tail_level
 
 abbrev pub in_parentheses : List Kind → List Kind
 in_parentheses ks = Sign sign.OpenParenthesis ∷ (ks ++ Sign sign.CloseParenthesis ∷ [])
 
--- an operand, in round brackets where its operator binds less than is asked
+-- an operand, in round brackets where its operator binds less tightly than is asked
 abbrev pub bracketed : Bool → List Kind → List Kind
 bracketed true ks = in_parentheses ks
 bracketed false ks = ks
@@ -40,7 +42,7 @@ abbrev pub spell_truth : Bool → Kind
 spell_truth true = Key key.True
 spell_truth false = Key key.False
 
--- A left operand is to bind as strongly as its operator, a right operand more strongly.
+-- A left operand is to bind as tightly as its operator, a right operand more tightly.
 abbrev mutual
   pub spell_expression : Expression → List Kind
   spell_expression (number at n) = Number n ∷ []
@@ -49,11 +51,11 @@ abbrev mutual
   spell_expression (this at) = Key key.This ∷ []
   spell_expression (named at n) = Word n ∷ []
   spell_expression (call at n es) = Word n ∷ in_parentheses (spell_list es)
-  spell_expression (field at e n) = bracketed (nat_lt (binds e) tail_strength) (spell_expression e) ++ (Sign sign.Arrow ∷ Word n ∷ [])
-  spell_expression (method at e n es) = bracketed (nat_lt (binds e) tail_strength) (spell_expression e) ++ (Sign sign.Arrow ∷ Word n ∷ in_parentheses (spell_list es))
-  spell_expression (index at e i) = bracketed (nat_lt (binds e) tail_strength) (spell_expression e) ++ (Sign sign.OpenBracket ∷ (spell_expression i ++ Sign sign.CloseBracket ∷ []))
-  spell_expression (unary at o e) = Sign (unary_sign o) ∷ bracketed (nat_lt (binds e) unary_strength) (spell_expression e)
-  spell_expression (binary at o a b) = bracketed (nat_lt (binds a) (strength o)) (spell_expression a) ++ (Sign (binary_sign o) ∷ bracketed (nat_lt (binds b) (strength o + 1)) (spell_expression b))
+  spell_expression (field at e n) = bracketed (nat_lt (binds e) tail_level) (spell_expression e) ++ (Sign sign.Arrow ∷ Word n ∷ [])
+  spell_expression (method at e n es) = bracketed (nat_lt (binds e) tail_level) (spell_expression e) ++ (Sign sign.Arrow ∷ Word n ∷ in_parentheses (spell_list es))
+  spell_expression (index at e i) = bracketed (nat_lt (binds e) tail_level) (spell_expression e) ++ (Sign sign.OpenBracket ∷ (spell_expression i ++ Sign sign.CloseBracket ∷ []))
+  spell_expression (unary at o e) = Sign (unary_sign o) ∷ bracketed (nat_lt (binds e) unary_level) (spell_expression e)
+  spell_expression (binary at o a b) = bracketed (nat_lt (binds a) (level o)) (spell_expression a) ++ (Sign (binary_sign o) ∷ bracketed (nat_lt (binds b) (level o + 1)) (spell_expression b))
 
   -- with commas between them
   pub spell_list : Expressions → List Kind

@@ -1,11 +1,19 @@
 -- The canonical text of some tokens.
 use Prim.Native.Char.{code}
 use Rattle.std.specs.Prelude.{ℕ, ◌+◌, ◌-◌, List, [], ◌∷◌, ◌++◌, Bool, true, false, ◌==◌, if◌then◌else◌, Option, Some, None}
+use Rattle.std.specs.Fmt.{signed_decimal}
 use Rattle.ca_tree.specs.declared.token.Kind.{Kind}
 use Rattle.ca_tree.specs.declared.token.Kind.TheVariants.{Word, Number, Key, Sign}
 use Rattle.ca_tree.specs.declared.token.Sign.{Sign as TheSign}
 use Rattle.ca_tree.specs.declared.token.Sign.TheVariants as sign
-use Rattle.ca_canonical.specs.Spellings.{kind_text}
+use Rattle.ca_tree.specs.Spellings.{keyword_text, sign_text}
+
+-- a name as its bytes, a number in decimal digits
+abbrev pub kind_text : Kind → List ℕ
+kind_text (Word name) = name
+kind_text (Number n) = signed_decimal n
+kind_text (Key k) = keyword_text k
+kind_text (Sign s) = sign_text s
 
 abbrev pub is_semicolon : TheSign → Bool
 is_semicolon sign.Semicolon = true

@@ -6,7 +6,7 @@ ghost use Rattle.ca_tree.specs.View.{expression_view, expressions_view};
 ghost use Rattle.ca_canonical.specs.Spell.{binds, bracketed, in_parentheses, spell_expression, spell_list, spell_truth};
 ghost use Rattle.ca_canonical.specs.Pens.{Writes};
 
-use crate::operators::{TAIL_STRENGTH, UNARY_STRENGTH, binary_sign, binds, strength, unary_sign};
+use crate::operators::{TAIL_LEVEL, binds};
 use crate::pen::Pen;
 use ca_tree::{ExprKind, ExprNode, Keyword, Sign};
 use std::alloc::AllocError;
@@ -27,31 +27,31 @@ pub(crate) fn write_expression(pen: &mut Pen, e: &ExprNode) -> Result<(), AllocE
             write_arguments(pen, arguments)?;
         }
         ExprKind::Field(object, name) => {
-            write_operand(pen, object, TAIL_STRENGTH)?;
+            write_operand(pen, object, TAIL_LEVEL)?;
             pen.sign(Sign::Arrow)?;
             pen.name(name)?;
         }
         ExprKind::Method(object, name, arguments) => {
-            write_operand(pen, object, TAIL_STRENGTH)?;
+            write_operand(pen, object, TAIL_LEVEL)?;
             pen.sign(Sign::Arrow)?;
             pen.name(name)?;
             write_arguments(pen, arguments)?;
         }
         ExprKind::Index(array, index) => {
-            write_operand(pen, array, TAIL_STRENGTH)?;
+            write_operand(pen, array, TAIL_LEVEL)?;
             pen.sign(Sign::OpenBracket)?;
             write_expression(pen, index)?;
             pen.sign(Sign::CloseBracket)?;
         }
         ExprKind::Unary(op, operand) => {
-            pen.sign(unary_sign(*op))?;
-            write_operand(pen, operand, UNARY_STRENGTH)?;
+            pen.sign(op.sign())?;
+            write_operand(pen, operand, op.level())?;
         }
         ExprKind::Binary(op, left, right) => {
-            let strength = strength(*op);
-            write_operand(pen, left, strength)?;
-            pen.sign(binary_sign(*op))?;
-            write_operand(pen, right, strength + 1)?;
+            let level = op.level();
+            write_operand(pen, left, level)?;
+            pen.sign(op.sign())?;
+            write_operand(pen, right, level + 1)?;
         }
     }
     Ok(())
@@ -64,9 +64,9 @@ fn truth_key(truth: bool) -> Keyword
     if truth { Keyword::True } else { Keyword::False }
 }
 
-/// Writes an operand, in round brackets where its operator binds less than `least`.
+/// Writes an operand, in round brackets where its operator binds less tightly than `least`.
 #[cycle(expression)]
-fn write_operand(pen: &mut Pen, e: &ExprNode, least: u32) -> Result<(), AllocError>
+fn write_operand(pen: &mut Pen, e: &ExprNode, least: usize) -> Result<(), AllocError>
     ensures { IfOk result (λ _. Writes pen.old pen.new (bracketed (nat_lt (binds (expression_view e.now)) least) (spell_expression (expression_view e.now)))) }
 {
     if binds(e) < least {

@@ -11,7 +11,6 @@ mod expressions;
 pub mod laws;
 mod operators;
 mod pen;
-mod spellings;
 mod statements;
 
 ghost use Rattle.std.specs.Prelude.{◌≡◌, IfOk};

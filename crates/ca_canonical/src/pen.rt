@@ -5,7 +5,6 @@ ghost use Rattle.ca_tree.specs.declared.token.Kind.TheVariants.{Word, Number, Ke
 ghost use Rattle.ca_canonical.specs.Texts.{depth_behind_sign, gap_behind, is_semicolon};
 ghost use Rattle.ca_canonical.specs.Pens.{Writes, put, waiting, whole};
 
-use crate::spellings::{key_text, sign_text};
 use ca_tree::{Keyword, Name, Sign};
 use itoa::Buffer;
 use std::alloc::{AllocError, Global};
@@ -123,7 +122,7 @@ impl Pen {
     pub fn key(&mut self, key: Keyword) -> Result<(), AllocError>
         ensures { IfOk result (λ _. Writes self.old self.new (Key key ∷ [])) }
     {
-        self.put(false, key_text(key).as_bytes(), Some(b' '))?;
+        self.put(false, key.text().as_bytes(), Some(b' '))?;
         Ok(())
     }
 
@@ -132,7 +131,7 @@ impl Pen {
         ensures { IfOk result (λ _. Writes self.old self.new (SignKind sign ∷ [])) }
     {
         let gap = gap_behind(self.depth, sign);
-        self.put(is_semicolon(sign), sign_text(sign).as_bytes(), gap)?;
+        self.put(is_semicolon(sign), sign.text().as_bytes(), gap)?;
         self.depth = depth_behind(self.depth, sign);
         Ok(())
     }

@@ -6,7 +6,6 @@ ghost use Rattle.ca_canonical.specs.Spell.{condition, ended, spell_expression, s
 ghost use Rattle.ca_canonical.specs.Pens.{Writes};
 
 use crate::expressions::write_expression;
-use crate::operators::assign_sign;
 use crate::pen::Pen;
 use ca_tree::{ExprNode, Keyword, Right, Sign, StmtKind, StmtNode, TypeNode};
 use std::alloc::AllocError;
@@ -62,7 +61,7 @@ fn write_header(pen: &mut Pen, s: &StmtNode) -> Result<(), AllocError>
         }
         StmtKind::Assign { target, op, right } => {
             write_expression(pen, target)?;
-            pen.sign(assign_sign(*op))?;
+            pen.sign(op.sign())?;
             write_right(pen, right)?;
         }
         _ => {}

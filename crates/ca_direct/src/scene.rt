@@ -98,6 +98,7 @@ impl<'a> Scene<'a> {
     }
 
     /// The value of an expression without operators.
+    #[inline(always)]
     pub(crate) fn read(&self, e: &Expr) -> Option<Value>
         ensures { IfSome result (λ v. seen self.now (expression_view e.now) ≡ gives v 0) }
     {

@@ -2,7 +2,7 @@
 
 ghost use Rattle.std.specs.Prelude.{◌≡◌, IfSome, None, Ok};
 ghost use Rattle.ca_program.specs.View.{expression_view};
-ghost use Rattle.ca_program.specs.Plain.{binary};
+ghost use Rattle.ca_program.specs.Plain.{binary, null};
 ghost use Rattle.ca_model.specs.declared.value.Value.TheVariants.{Bool as Truth};
 ghost use Rattle.ca_meaning.specs.Expressions.{gives, decided};
 ghost use Rattle.ca_meaning.specs.Operators.{operated, operated_longs};
@@ -17,12 +17,12 @@ use ca_program::{BinaryOp, Expr, UnaryOp};
 impl<'a> Scene<'a> {
     /// The value of an expression that is a truth value.
     #[cycle(truth)]
-    #[inline]
+    #[inline(always)]
     pub fn truth_of(&self, e: &Expr) -> Option<bool>
         ensures { IfSome result (λ b. seen self.now (expression_view e.now) ≡ gives (Truth b) 0) }
     {
         match e {
-            Expr::Binary(op, a, b) => match self.compare_leaves(*op, a, b) {
+            Expr::Binary(op, a, b) => match self.compare_short(*op, a, b) {
                 Some(truth) => Some(truth),
                 None => self.other_truth_of(e),
             },
@@ -30,7 +30,7 @@ impl<'a> Scene<'a> {
         }
     }
 
-    /// The value of an expression that is a truth value and no comparison of two leaves.
+    /// The value of an expression that is a truth value and no short comparison.
     #[cycle(truth)]
     #[inline(never)]
     fn other_truth_of(&self, e: &Expr) -> Option<bool>
@@ -59,6 +59,28 @@ impl<'a> Scene<'a> {
                 Some(value) => truth(value),
                 None => None,
             },
+        }
+    }
+
+    /// Whether a comparison of a pointer with null, or of two leaves, holds.
+    #[inline(always)]
+    fn compare_short(&self, op: BinaryOp, a: &Expr, b: &Expr) -> Option<bool>
+        ensures { IfSome result (λ t. seen self.now (binary op (expression_view a.now) (expression_view b.now)) ≡ gives (Truth t) 0) }
+    {
+        match b {
+            Expr::Null => self.compare_null(op, a),
+            _ => self.compare_leaves(op, a, b),
+        }
+    }
+
+    /// Whether a comparison of a pointer with null holds.
+    #[inline(never)]
+    fn compare_null(&self, op: BinaryOp, a: &Expr) -> Option<bool>
+        ensures { IfSome result (λ t. seen self.now (binary op (expression_view a.now) null) ≡ gives (Truth t) 0) }
+    {
+        match self.pointer_of(a) {
+            Some(pointer) => same_pointers(op, pointer, None),
+            None => None,
         }
     }
 

@@ -9,6 +9,7 @@ use Rattle.ca_tree.specs.declared.token.Token.{Token}
 use Rattle.ca_tree.specs.declared.token.Kind.TheVariants.{Sign as SignKind}
 use Rattle.ca_tree.specs.declared.token.Keyword.TheVariants.{This}
 use Rattle.ca_tree.specs.declared.token.Sign.TheVariants.{OpenParenthesis, CloseParenthesis, OpenBracket, CloseBracket, Comma, Arrow}
+use Rattle.ca_tree.specs.Operators.{unary_level}
 use Rattle.ca_tree.specs.Plain.{Expression, this, named, call, field, method, index}
 use Rattle.ca_expressions.specs.Terminals.{key, key_of, sign, sign_of, goes_on, goes_on_of, tail_front}
 use Rattle.ca_expressions.specs.Grammar.{expressions, Chain, this_chain, name_chain, call_chain, Tails, tails_end, tails_more, Tail, field_tail, method_tail, index_tail, Args, args, Listed, listed_none, listed, Further, further_none, further, Expr}
@@ -22,11 +23,11 @@ use Rattle.ca_expressions.proofs.Rules.{a_level, more_tails}
 abbrev pub this_parts : Part Token Expression
 this_parts = word This ⨾ λ p. more_tails (this p)
 
-this_split : (b : Place) (free : ℕ) (s r : List Token) (x : Expression) → Seen (key This) b (Closed 6 Chain) free s x r
+this_split : (b : Place) (free : ℕ) (s r : List Token) (x : Expression) → Seen (key This) b (Closed unary_level Chain) free s x r
     → this_parts.C free s x r
 this_split b free s r x c = at s r x c.it.it c.it.stop c.seen
   where
-    at : (s r : List Token) (x : Expression) → Chain s x r → head_of (goes_on 6) r ≡ None → head_of (key This) s ≡ Some b
+    at : (s r : List Token) (x : Expression) → Chain s x r → head_of (goes_on unary_level) r ≡ None → head_of (key This) s ≡ Some b
         → this_parts.C free s x r
     at s r x (this_chain d t) h g = upto d (record { it = t; stop = h })
     at s r x (name_chain n t) h g = let m = name_gives (key_of This) n in absurd cc
@@ -36,7 +37,7 @@ this_join : (free : ℕ) (s r : List Token) (x : Expression) → this_parts.D fr
 this_join free s r x (then d t) = this_chain d t
 
 pub this_answer : {b : Place} {s : List Token} {o : Answer Token Expression} → head_of (key This) s ≡ Some b
-    → Exact this_parts.D this_parts.C s o → Exact (Unlimited Chain) (Closed 6 Chain) s o
+    → Exact this_parts.D this_parts.C s o → Exact (Unlimited Chain) (Closed unary_level Chain) s o
 this_answer {b} h d = seen h (exact_map this_join (this_split b) d)
 
 -- what stands behind the name that a chain begins with
@@ -48,17 +49,17 @@ pub data NameRest (n : List ℕ × Place) : List Token → Expression → List T
 abbrev pub name_rest : List ℕ × Place → Part Token Expression
 name_rest n = record {
   D = Unlimited (NameRest n);
-  C = Closed 6 (NameRest n);
+  C = Closed unary_level (NameRest n);
   some = record { more = []; tree = named n.1 n.0; reads = λ free r h. plain_name tails_end };
 }
 
 abbrev pub name_parts : Part Token Expression
 name_parts = a_name ⨾ λ n. name_rest n
 
-name_split : (free : ℕ) (s r : List Token) (x : Expression) → Unseen (key This) (Closed 6 Chain) free s x r → name_parts.C free s x r
+name_split : (free : ℕ) (s r : List Token) (x : Expression) → Unseen (key This) (Closed unary_level Chain) free s x r → name_parts.C free s x r
 name_split free s r x c = at s r x c.it.it c.it.stop c.unseen
   where
-    at : (s r : List Token) (x : Expression) → Chain s x r → head_of (goes_on 6) r ≡ None → head_of (key This) s ≡ None
+    at : (s r : List Token) (x : Expression) → Chain s x r → head_of (goes_on unary_level) r ≡ None → head_of (key This) s ≡ None
         → name_parts.C free s x r
     at s r x (name_chain n t) h g = upto n (record { it = plain_name t; stop = h })
     at s r x (call_chain n a t) h g = upto n (record { it = called_name a t; stop = h })
@@ -69,22 +70,22 @@ name_join free s r x (then n (plain_name t)) = name_chain n t
 name_join free s r x (then n (called_name a t)) = call_chain n a t
 
 pub name_answer : {s : List Token} {o : Answer Token Expression} → head_of (key This) s ≡ None
-    → Exact name_parts.D name_parts.C s o → Exact (Unlimited Chain) (Closed 6 Chain) s o
+    → Exact name_parts.D name_parts.C s o → Exact (Unlimited Chain) (Closed unary_level Chain) s o
 name_answer h d = unseen h (exact_map name_join name_split d)
 
 -- no bracket: the name alone, and its tails
 plain_split : (n : List ℕ × Place) (free : ℕ) (s r : List Token) (x : Expression)
-    → Unseen (sign OpenParenthesis) (Closed 6 (NameRest n)) free s x r → (more_tails (named n.1 n.0)).C free s x r
+    → Unseen (sign OpenParenthesis) (Closed unary_level (NameRest n)) free s x r → (more_tails (named n.1 n.0)).C free s x r
 plain_split n free s r x c = at s r x c.it.it c.it.stop c.unseen
   where
-    at : (s r : List Token) (x : Expression) → NameRest n s x r → head_of (goes_on 6) r ≡ None → head_of (sign OpenParenthesis) s ≡ None
+    at : (s r : List Token) (x : Expression) → NameRest n s x r → head_of (goes_on unary_level) r ≡ None → head_of (sign OpenParenthesis) s ≡ None
         → (more_tails (named n.1 n.0)).C free s x r
     at s r x (plain_name t) h g = record { it = t; stop = h }
     at s r x (called_name (args o l) t) h g = let m = sees_head (sign OpenParenthesis) o in absurd cc
 
 pub plain_answer : (n : List ℕ × Place) {s : List Token} {o : Answer Token Expression} → head_of (sign OpenParenthesis) s ≡ None
-    → Exact (Unlimited (Tails (named n.1 n.0))) (Closed 6 (Tails (named n.1 n.0))) s o
-    → Exact (Unlimited (NameRest n)) (Closed 6 (NameRest n)) s o
+    → Exact (Unlimited (Tails (named n.1 n.0))) (Closed unary_level (Tails (named n.1 n.0))) s o
+    → Exact (Unlimited (NameRest n)) (Closed unary_level (NameRest n)) s o
 plain_answer n h d = unseen h (exact_map (λ free s r x t. plain_name t) (plain_split n) d)
 
 -- arguments
@@ -103,10 +104,10 @@ abbrev pub called_parts : (n : List ℕ × Place) → Part Token Expression
 called_parts n = some_args ⨾ λ xs. more_tails (call n.1 n.0 (expressions xs))
 
 called_split : (n : List ℕ × Place) (b : Place) (free : ℕ) (s r : List Token) (x : Expression)
-    → Seen (sign OpenParenthesis) b (Closed 6 (NameRest n)) free s x r → (called_parts n).C free s x r
+    → Seen (sign OpenParenthesis) b (Closed unary_level (NameRest n)) free s x r → (called_parts n).C free s x r
 called_split n b free s r x c = at s r x c.it.it c.it.stop c.seen
   where
-    at : (s r : List Token) (x : Expression) → NameRest n s x r → head_of (goes_on 6) r ≡ None → head_of (sign OpenParenthesis) s ≡ Some b
+    at : (s r : List Token) (x : Expression) → NameRest n s x r → head_of (goes_on unary_level) r ≡ None → head_of (sign OpenParenthesis) s ≡ Some b
         → (called_parts n).C free s x r
     at s r x (called_name a t) h g = upto a (record { it = t; stop = h })
     at s r x (plain_name t) h g = let m = tails_follow t h in absurd cc
@@ -116,7 +117,7 @@ called_join n free s r x (then a t) = called_name a t
 
 pub called_answer : (n : List ℕ × Place) {b : Place} {s : List Token} {o : Answer Token Expression}
     → head_of (sign OpenParenthesis) s ≡ Some b → Exact (called_parts n).D (called_parts n).C s o
-    → Exact (Unlimited (NameRest n)) (Closed 6 (NameRest n)) s o
+    → Exact (Unlimited (NameRest n)) (Closed unary_level (NameRest n)) s o
 called_answer n {b} h d = seen h (exact_map (called_join n) (called_split n b) d)
 
 -- a tail, and more of them
@@ -130,10 +131,10 @@ abbrev pub TailsEnded : Expression → Grammar Token Expression
 TailsEnded a = Upto (TailClosed a) (λ b. (more_tails b).C)
 
 tails_split : (a : Expression) (b : Place) (free : ℕ) (s r : List Token) (x : Expression)
-    → Seen tail_front b (Closed 6 (Tails a)) free s x r → TailsEnded a free s x r
+    → Seen tail_front b (Closed unary_level (Tails a)) free s x r → TailsEnded a free s x r
 tails_split a b free s r x c = at s r x c.it.it c.it.stop c.seen
   where
-    at : (s r : List Token) (x : Expression) → Tails a s x r → head_of (goes_on 6) r ≡ None → head_of tail_front s ≡ Some b
+    at : (s r : List Token) (x : Expression) → Tails a s x r → head_of (goes_on unary_level) r ≡ None → head_of tail_front s ≡ Some b
         → TailsEnded a free s x r
     at s r x (tails_more t m) h g = upto (record { it = t; stop = tails_follow m h }) (record { it = m; stop = h })
     at s r x tails_end h g = absurd (tail_goes_on s b g h)
@@ -142,12 +143,12 @@ tails_join : (a : Expression) (free : ℕ) (s r : List Token) (x : Expression) �
 tails_join a free s r x (then t m) = tails_more t m
 
 pub tails_answer : (a : Expression) {b : Place} {s : List Token} {o : Answer Token Expression} → head_of tail_front s ≡ Some b
-    → Exact (TailsRead a) (TailsEnded a) s o → Exact (Unlimited (Tails a)) (Closed 6 (Tails a)) s o
+    → Exact (TailsRead a) (TailsEnded a) s o → Exact (Unlimited (Tails a)) (Closed unary_level (Tails a)) s o
 tails_answer a {b} h d = seen h (exact_map (tails_join a) (tails_split a b) d)
 
 -- no tail
 pub tails_stop : (a : Expression) {s : List Token} → head_of tail_front s ≡ None
-    → Exact (Unlimited (Tails a)) (Closed 6 (Tails a)) s (Got a s)
+    → Exact (Unlimited (Tails a)) (Closed unary_level (Tails a)) s (Got a s)
 tails_stop a h = unseen h (got_nothing (λ free r. tails_end) (λ free s' r y c. tails_nothing c.it.it c.unseen))
 
 -- an index

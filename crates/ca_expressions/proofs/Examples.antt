@@ -10,6 +10,7 @@ use Rattle.ca_tree.specs.declared.token.Sign.{Sign}
 use Rattle.ca_tree.specs.declared.token.Sign.TheVariants.{Minus, Less, Arrow, OpenParenthesis, CloseParenthesis}
 use Rattle.ca_tree.specs.declared.tree.BinaryOp.TheVariants.{Minus as MinusOp, Less as LessOp}
 use Rattle.ca_tree.specs.declared.tree.UnaryOp.TheVariants.{Minus as MinusSign}
+use Rattle.ca_tree.specs.Operators.{unary_level}
 use Rattle.ca_tree.specs.Plain.{Expression, truth, named, method, unary, binary, no_expressions}
 use Rattle.ca_tree.specs.Plain.{number as number_tree}
 use Rattle.ca_expressions.specs.Terminals.{literal, operator, goes_on}
@@ -35,7 +36,7 @@ minus_binds = refl
 less_is_weaker : (operator 3 (mark Less 2) ≡ Some (LessOp, place 2)) × (goes_on 4 (mark Less 2) ≡ None)
 less_is_weaker = (refl, refl)
 
-arrow_goes_on : goes_on 6 (mark Arrow 2) ≡ Some (place 2)
+arrow_goes_on : goes_on unary_level (mark Arrow 2) ≡ Some (place 2)
 arrow_goes_on = refl
 
 true_is_literal : literal (record { kind = KeyKind True; at = place 1; start = 0; len = 0 }) ≡ Some (truth (place 1) true)
@@ -55,7 +56,7 @@ differences = operands (omega arith) (operand 1 _)
     (operands_more (sees refl) (operand 5 _) (operands_more (sees refl) (operand 9 _) operands_end))
 
 -- -1: a unary node round a literal
-negated : Level 6 (mark Minus 1 ∷ one 2 ∷ []) (unary (place 1) MinusSign (number_tree (place 2) (pos 1))) []
+negated : Level unary_level (mark Minus 1 ∷ one 2 ∷ []) (unary (place 1) MinusSign (number_tree (place 2) (pos 1))) []
 negated = one_operand (omega arith) (unary_first (sees refl) (unary_last (a_literal (sees refl))))
 
 -- a->b(): a call of a method, and no target

@@ -8,13 +8,14 @@ use Rattle.ca_tree.specs.declared.token.Kind.{Kind}
 use Rattle.ca_tree.specs.declared.token.Kind.TheVariants.{Word, Number}
 use Rattle.ca_tree.specs.declared.token.Kind.TheVariants.{Key as KeyKind, Sign as SignKind}
 use Rattle.ca_tree.specs.declared.token.Keyword.{Keyword}
-use Rattle.ca_tree.specs.declared.token.Keyword.TheVariants.{Class, Public, Long, Bool as BoolKey, Int, Void, If, Else, While, For, Return, New, Nullptr, This, True, False, Print, Main}
+use Rattle.ca_tree.specs.declared.token.Keyword.TheVariants.{Nullptr, This, True, False}
 use Rattle.ca_tree.specs.declared.token.Sign.{Sign}
-use Rattle.ca_tree.specs.declared.token.Sign.TheVariants.{OpenBrace, CloseBrace, OpenParenthesis, CloseParenthesis, OpenBracket, CloseBracket, Semicolon, Comma, Colon, Assign, Equal, NotEqual, Less, Greater, LessEqual, GreaterEqual, Plus, Minus, Times, Divide, Remainder, Not, And, Or, Arrow, PlusAssign, MinusAssign, TimesAssign, Increment, Decrement}
+use Rattle.ca_tree.specs.declared.token.Sign.TheVariants.{OpenParenthesis, OpenBracket, Minus, Not, Arrow}
 use Rattle.ca_tree.specs.declared.tree.UnaryOp.{UnaryOp}
 use Rattle.ca_tree.specs.declared.tree.BinaryOp.{BinaryOp}
 use Rattle.ca_tree.specs.Plain.{Expression}
-use Rattle.ca_expressions.specs.Terminals.{sign, sign_of, literal_of_key, literal_of, unary_sign, unary_of, Binding, joins, tails, ends, binding, joining, with_place, of_level, operator_of, binds, goes_on_of, tail_of, literal, unary_operator, operator, goes_on, tail_front}
+use Rattle.ca_tree.specs.Operators.{level, unary_level, binary_of_sign, unary_of_sign}
+use Rattle.ca_expressions.specs.Terminals.{sign, sign_of, literal_of_key, literal_of, unary_of, with_place, of_level, operator_of, is_tail_sign, binds, goes_on_of, tail_of, literal, unary_operator, operator, goes_on, tail_front}
 use Rattle.ca_expressions.specs.Grammar.{Level, operands, one_operand, Operands, operands_end, operands_more, Unary, unary_first, unary_last, Primary, a_literal, a_chain, in_brackets, Chain, this_chain, name_chain, call_chain, Tails, tails_end, tails_more, Tail, field_tail, method_tail, index_tail}
 use Rattle.ca_expressions.proofs.Terminals.{test, sign_kind, key_gives, sign_gives, name_gives}
 
@@ -42,24 +43,10 @@ module _ {A : Type 0} (f : Kind → Place → Option A) where
   chain_front h (call_chain {n = n} d a t) = name_gives f d ∙ h.word n.0 n.1
 
   literal_key : NoFront f → (w : Keyword) (at : Place) (x : Expression) → literal_of_key w at ≡ Some x → f (KeyKind w) at ≡ None
-  literal_key h Class at x e = absurd cc
-  literal_key h Public at x e = absurd cc
-  literal_key h Long at x e = absurd cc
-  literal_key h BoolKey at x e = absurd cc
-  literal_key h Int at x e = absurd cc
-  literal_key h Void at x e = absurd cc
-  literal_key h If at x e = absurd cc
-  literal_key h Else at x e = absurd cc
-  literal_key h While at x e = absurd cc
-  literal_key h For at x e = absurd cc
-  literal_key h Return at x e = absurd cc
-  literal_key h New at x e = absurd cc
   literal_key h Nullptr at x e = h.null at
-  literal_key h This at x e = absurd cc
   literal_key h True at x e = h.truth at
   literal_key h False at x e = h.falsehood at
-  literal_key h Print at x e = absurd cc
-  literal_key h Main at x e = absurd cc
+  literal_key h other at x e = absurd cc
 
   literal_kind : NoFront f → (k : Kind) (at : Place) (x : Expression) → literal_of k at ≡ Some x → f k at ≡ None
   literal_kind h (Number n) at x e = h.number n at
@@ -70,38 +57,11 @@ module _ {A : Type 0} (f : Kind → Place → Option A) where
   literal_front : NoFront f → {s r : List Token} {x : Expression} → Sees literal s x r → head_of (test f) s ≡ None
   literal_front h (sees {t = t} {a = x} e) = literal_kind h t.kind t.at x e
 
-  unary_at_sign : NoFront f → (w : Sign) (at : Place) (o : UnaryOp × Place) → with_place at (unary_sign w) ≡ Some o
+  unary_at_sign : NoFront f → (w : Sign) (at : Place) (o : UnaryOp × Place) → with_place at (unary_of_sign w) ≡ Some o
       → f (SignKind w) at ≡ None
-  unary_at_sign h OpenBrace at o e = absurd cc
-  unary_at_sign h CloseBrace at o e = absurd cc
-  unary_at_sign h OpenParenthesis at o e = absurd cc
-  unary_at_sign h CloseParenthesis at o e = absurd cc
-  unary_at_sign h OpenBracket at o e = absurd cc
-  unary_at_sign h CloseBracket at o e = absurd cc
-  unary_at_sign h Semicolon at o e = absurd cc
-  unary_at_sign h Comma at o e = absurd cc
-  unary_at_sign h Colon at o e = absurd cc
-  unary_at_sign h Assign at o e = absurd cc
-  unary_at_sign h Equal at o e = absurd cc
-  unary_at_sign h NotEqual at o e = absurd cc
-  unary_at_sign h Less at o e = absurd cc
-  unary_at_sign h Greater at o e = absurd cc
-  unary_at_sign h LessEqual at o e = absurd cc
-  unary_at_sign h GreaterEqual at o e = absurd cc
-  unary_at_sign h Plus at o e = absurd cc
   unary_at_sign h Minus at o e = h.minus at
-  unary_at_sign h Times at o e = absurd cc
-  unary_at_sign h Divide at o e = absurd cc
-  unary_at_sign h Remainder at o e = absurd cc
   unary_at_sign h Not at o e = h.negation at
-  unary_at_sign h And at o e = absurd cc
-  unary_at_sign h Or at o e = absurd cc
-  unary_at_sign h Arrow at o e = absurd cc
-  unary_at_sign h PlusAssign at o e = absurd cc
-  unary_at_sign h MinusAssign at o e = absurd cc
-  unary_at_sign h TimesAssign at o e = absurd cc
-  unary_at_sign h Increment at o e = absurd cc
-  unary_at_sign h Decrement at o e = absurd cc
+  unary_at_sign h other at o e = absurd cc
 
   unary_at_kind : NoFront f → (k : Kind) (at : Place) (o : UnaryOp × Place) → unary_of k at ≡ Some o → f k at ≡ None
   unary_at_kind h (SignKind w) at o e = unary_at_sign h w at o e
@@ -155,26 +115,27 @@ pub literal_no_bracket : {s r : List Token} {x : Expression} → Sees literal s 
 literal_no_bracket (sees {t = t} {a = x} e) = literal_sign t.kind t.at x e
 
 -- an operator of a level goes on with what binds as tightly, and not with what binds more tightly
-binds_at : (k : ℕ) (b : Binding) (o : BinaryOp) → of_level k (joining b) ≡ Some o → (binds k b ≡ true) × (binds (k + 1) b ≡ false)
-binds_at k tails o e = absurd cc
-binds_at k ends o e = absurd cc
-binds_at k (joins l p) o e = at (nat_eq l k) refl e
+binds_at : (k : ℕ) (b : Option BinaryOp) (tail : Bool) (o : BinaryOp) → of_level k b ≡ Some o
+    → (binds k b tail ≡ true) × (binds (k + 1) b tail ≡ false)
+binds_at k None tail o e = absurd cc
+binds_at k (Some p) tail o e = at (nat_eq (level p) k) refl e
   where
-    at : (b : Bool) → nat_eq l k ≡ b → cond b (Some p) None ≡ Some o → (nat_le k l ≡ true) × (nat_le (k + 1) l ≡ false)
+    at : (b : Bool) → nat_eq (level p) k ≡ b → cond b (Some p) None ≡ Some o → (nat_le k (level p) ≡ true) × (nat_le (k + 1) (level p) ≡ false)
     at false h e = absurd cc
-    at true h e = let m = eqb-true l k h in (le-leb k l (omega (arith, m)), lt-leb (k + 1) l (omega (arith, m)))
+    at true h e =
+        let m = eqb-true (level p) k h in (le-leb k (level p) (omega (arith, m)), lt-leb (k + 1) (level p) (omega (arith, m)))
 
 operator_binds : (k : ℕ) (x : Kind) (at : Place) (o : BinaryOp × Place) → operator_of k x at ≡ Some o
     → (goes_on_of k x at ≡ Some at) × (goes_on_of (k + 1) x at ≡ None)
 operator_binds k (KeyKind w) at o e = absurd cc
 operator_binds k (Word w) at o e = absurd cc
 operator_binds k (Number w) at o e = absurd cc
-operator_binds k (SignKind w) at o e = go (of_level k (joining (binding w))) refl e
+operator_binds k (SignKind w) at o e = go (of_level k (binary_of_sign w)) refl e
   where
-    go : (m : Option BinaryOp) → of_level k (joining (binding w)) ≡ m → with_place at m ≡ Some o
-        → (cond (binds k (binding w)) (Some at) None ≡ Some at) × (cond (binds (k + 1) (binding w)) (Some at) None ≡ None)
+    go : (m : Option BinaryOp) → of_level k (binary_of_sign w) ≡ m → with_place at m ≡ Some o
+        → (goes_on_of k (SignKind w) at ≡ Some at) × (goes_on_of (k + 1) (SignKind w) at ≡ None)
     go None h e = absurd cc
-    go (Some p) h e = let b = binds_at k (binding w) p h in (rw b.0 refl, rw b.1 refl)
+    go (Some p) h e = let b = binds_at k (binary_of_sign w) (is_tail_sign w) p h in (rw b.0 refl, rw b.1 refl)
 
 pub operator_above : (k : ℕ) {s r : List Token} {o : BinaryOp × Place} → Sees (operator k) s o r → head_of (goes_on (k + 1)) s ≡ None
 operator_above k (sees {t = t} {a = o} e) = (operator_binds k t.kind t.at o e).1
@@ -185,20 +146,19 @@ operator_goes_on k [] o e h = absurd cc
 operator_goes_on k (t ∷ s) o e h = let b = (operator_binds k t.kind t.at o e).0 in cc
 
 -- what does not go on with an expression does not with what binds more tightly
-binds_lower : (k : ℕ) (b : Binding) → binds k b ≡ false → binds (k + 1) b ≡ false
-binds_lower k tails h = absurd cc
-binds_lower k ends h = refl
-binds_lower k (joins l o) h = let n = leb-false k l h in lt-leb (k + 1) l (omega (arith, n))
+binds_lower : (k : ℕ) (b : Option BinaryOp) (tail : Bool) → binds k b tail ≡ false → binds (k + 1) b tail ≡ false
+binds_lower k None tail h = h
+binds_lower k (Some o) tail h = let n = leb-false k (level o) h in lt-leb (k + 1) (level o) (omega (arith, n))
 
 goes_on_lower : (k : ℕ) (x : Kind) (at : Place) → goes_on_of k x at ≡ None → goes_on_of (k + 1) x at ≡ None
 goes_on_lower k (KeyKind w) at h = refl
 goes_on_lower k (Word w) at h = refl
 goes_on_lower k (Number w) at h = refl
-goes_on_lower k (SignKind w) at h = go (binds k (binding w)) refl h
+goes_on_lower k (SignKind w) at h = go (binds k (binary_of_sign w) (is_tail_sign w)) refl h
   where
-    go : (b : Bool) → binds k (binding w) ≡ b → cond b (Some at) None ≡ None → cond (binds (k + 1) (binding w)) (Some at) None ≡ None
+    go : (b : Bool) → binds k (binary_of_sign w) (is_tail_sign w) ≡ b → cond b (Some at) None ≡ None → goes_on_of (k + 1) (SignKind w) at ≡ None
     go true e h = absurd cc
-    go false e h = rw (binds_lower k (binding w) e) refl
+    go false e h = rw (binds_lower k (binary_of_sign w) (is_tail_sign w) e) refl
 
 pub lower : (k : ℕ) (s : List Token) → head_of (goes_on k) s ≡ None → head_of (goes_on (k + 1)) s ≡ None
 lower k [] h = refl
@@ -211,50 +171,21 @@ operands_follow {k = k} {s = s} operands_end h = lower k s h
 operands_follow {k = k} (operands_more o l m) h = operator_above k o
 
 -- the first token of tails
-tail_goes_on_at : (x : Kind) (at p : Place) → tail_of x at ≡ Some p → goes_on_of 6 x at ≡ Some at
-tail_goes_on_at (KeyKind w) at p e = absurd cc
-tail_goes_on_at (Word w) at p e = absurd cc
-tail_goes_on_at (Number w) at p e = absurd cc
-tail_goes_on_at (SignKind OpenBrace) at p e = absurd cc
-tail_goes_on_at (SignKind CloseBrace) at p e = absurd cc
-tail_goes_on_at (SignKind OpenParenthesis) at p e = absurd cc
-tail_goes_on_at (SignKind CloseParenthesis) at p e = absurd cc
-tail_goes_on_at (SignKind OpenBracket) at p e = refl
-tail_goes_on_at (SignKind CloseBracket) at p e = absurd cc
-tail_goes_on_at (SignKind Semicolon) at p e = absurd cc
-tail_goes_on_at (SignKind Comma) at p e = absurd cc
-tail_goes_on_at (SignKind Colon) at p e = absurd cc
-tail_goes_on_at (SignKind Assign) at p e = absurd cc
-tail_goes_on_at (SignKind Equal) at p e = absurd cc
-tail_goes_on_at (SignKind NotEqual) at p e = absurd cc
-tail_goes_on_at (SignKind Less) at p e = absurd cc
-tail_goes_on_at (SignKind Greater) at p e = absurd cc
-tail_goes_on_at (SignKind LessEqual) at p e = absurd cc
-tail_goes_on_at (SignKind GreaterEqual) at p e = absurd cc
-tail_goes_on_at (SignKind Plus) at p e = absurd cc
-tail_goes_on_at (SignKind Minus) at p e = absurd cc
-tail_goes_on_at (SignKind Times) at p e = absurd cc
-tail_goes_on_at (SignKind Divide) at p e = absurd cc
-tail_goes_on_at (SignKind Remainder) at p e = absurd cc
-tail_goes_on_at (SignKind Not) at p e = absurd cc
-tail_goes_on_at (SignKind And) at p e = absurd cc
-tail_goes_on_at (SignKind Or) at p e = absurd cc
+tail_goes_on_at : (x : Kind) (at p : Place) → tail_of x at ≡ Some p → goes_on_of unary_level x at ≡ Some at
 tail_goes_on_at (SignKind Arrow) at p e = refl
-tail_goes_on_at (SignKind PlusAssign) at p e = absurd cc
-tail_goes_on_at (SignKind MinusAssign) at p e = absurd cc
-tail_goes_on_at (SignKind TimesAssign) at p e = absurd cc
-tail_goes_on_at (SignKind Increment) at p e = absurd cc
-tail_goes_on_at (SignKind Decrement) at p e = absurd cc
+tail_goes_on_at (SignKind OpenBracket) at p e = refl
+tail_goes_on_at (SignKind other) at p e = absurd cc
+tail_goes_on_at other at p e = absurd cc
 
-pub tail_goes_on : (s : List Token) (p : Place) → head_of tail_front s ≡ Some p → head_of (goes_on 6) s ≡ None → ⊥
+pub tail_goes_on : (s : List Token) (p : Place) → head_of tail_front s ≡ Some p → head_of (goes_on unary_level) s ≡ None → ⊥
 tail_goes_on [] p e h = absurd cc
 tail_goes_on (t ∷ s) p e h = let b = tail_goes_on_at t.kind t.at p e in cc
 
-bracket_goes_on_at : (x : Kind) (at : Place) → goes_on_of 6 x at ≡ None → (o : Option Place) → sign_of OpenParenthesis x at ≡ o → o ≡ None
+bracket_goes_on_at : (x : Kind) (at : Place) → goes_on_of unary_level x at ≡ None → (o : Option Place) → sign_of OpenParenthesis x at ≡ o → o ≡ None
 bracket_goes_on_at x at h None e = refl
-bracket_goes_on_at x at h (Some p) e = let b = sign_kind (goes_on_of 6) OpenParenthesis x at p e in absurd cc
+bracket_goes_on_at x at h (Some p) e = let b = sign_kind (goes_on_of unary_level) OpenParenthesis x at p e in absurd cc
 
-pub no_bracket : (s : List Token) → head_of (goes_on 6) s ≡ None → head_of (sign OpenParenthesis) s ≡ None
+pub no_bracket : (s : List Token) → head_of (goes_on unary_level) s ≡ None → head_of (sign OpenParenthesis) s ≡ None
 no_bracket [] h = refl
 no_bracket (t ∷ s) h = bracket_goes_on_at t.kind t.at h (sign_of OpenParenthesis t.kind t.at) refl
 
@@ -270,7 +201,7 @@ tail_begins (method_tail {p = p} d n a) = (p, sign_gives tail_of Arrow d, sign_g
 tail_begins (index_tail {p = p} d i c) = (p, sign_gives tail_of OpenBracket d, sign_gives (sign_of OpenParenthesis) OpenBracket d)
 
 -- no bracket stands behind a tail of a chain, or in front of its tails
-pub tails_follow : {a x : Expression} {s r : List Token} → Tails a s x r → head_of (goes_on 6) r ≡ None
+pub tails_follow : {a x : Expression} {s r : List Token} → Tails a s x r → head_of (goes_on unary_level) r ≡ None
     → head_of (sign OpenParenthesis) s ≡ None
 tails_follow {s = s} tails_end h = no_bracket s h
 tails_follow (tails_more t m) h = (tail_begins t).2

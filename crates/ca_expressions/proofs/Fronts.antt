@@ -1,5 +1,5 @@
 -- What the code has found in front of the tokens is the terminal.
-use Rattle.std.proofs.Common.{◌≡◌, ◌≤◌, ◌-◌, ℕ, List, [], ◌∷◌, Bool, true, false, cond, nat_eq, Option, Some, None, is_some, refl, sym, ◌∙◌, ap, subst, take, drop, get_or, length, arith}
+use Rattle.std.proofs.Common.{◌≡◌, ◌≤◌, ◌-◌, ℕ, List, [], ◌∷◌, Bool, true, false, cond, Option, Some, None, is_some, refl, sym, ◌∙◌, ap, subst, take, drop, get_or, length, arith}
 use Rattle.std.proofs.Math.Seq.{take-length}
 use Rattle.std.proofs.lemmas.Bool.{eq-eqb}
 use Rattle.ca_descent.specs.Exact.{Sees, sees, head_of}
@@ -9,14 +9,13 @@ use Rattle.ca_tree.specs.declared.token.Kind.{Kind}
 use Rattle.ca_tree.specs.declared.token.Kind.TheVariants.{Word, Number}
 use Rattle.ca_tree.specs.declared.token.Kind.TheVariants.{Key as KeyKind, Sign as SignKind}
 use Rattle.ca_tree.specs.declared.token.Keyword.{Keyword}
-use Rattle.ca_tree.specs.declared.token.Keyword.TheVariants.{Class, Public, Long, Bool as BoolKey, Int, Void, If, Else, While, For, Return, New, Nullptr, This, True, False, Print, Main}
+use Rattle.ca_tree.specs.declared.token.Keyword.TheVariants.{Nullptr, True, False}
 use Rattle.ca_tree.specs.declared.token.Sign.{Sign}
-use Rattle.ca_tree.specs.declared.token.Sign.TheVariants.{OpenBrace, CloseBrace, OpenParenthesis, CloseParenthesis, OpenBracket, CloseBracket, Semicolon, Comma, Colon, Assign, Equal, NotEqual, Less, Greater, LessEqual, GreaterEqual, Plus, Minus, Times, Divide, Remainder, Not, And, Or, Arrow, PlusAssign, MinusAssign, TimesAssign, Increment, Decrement}
-use Rattle.ca_tree.specs.contracts.token.Sign.{the_type}
-use denote.Enum.Declared.{tag_of}
-use denote.Enum.Bare.{sameb}
+use Rattle.ca_tree.specs.declared.token.Sign.TheVariants.{Minus, Not}
 use Rattle.ca_tree.specs.declared.tree.BinaryOp.{BinaryOp}
-use Rattle.ca_expressions.specs.Terminals.{sign_code, key_of, sign_of, name_of, number_of, literal_of_key, literal_of, unary_sign, unary_of, joining, binding, of_level, with_place, operator_of, key, sign, number, literal, unary_operator}
+use Rattle.ca_tree.specs.Codes.{same_sign}
+use Rattle.ca_tree.specs.Operators.{level, binary_of_sign, unary_of_sign}
+use Rattle.ca_expressions.specs.Terminals.{key_of, sign_of, name_of, number_of, literal_of_key, literal_of, unary_of, of_level, with_place, operator_of, key, sign, number, literal, unary_operator}
 
 -- how a test of the code tells
 pub some_of : {A : Type 0} (o : Option A) → is_some o ≡ true → (a : A) × (o ≡ Some a)
@@ -76,45 +75,9 @@ sign_carries k (KeyKind w) at h = absurd cc
 sign_carries k (Word n) at h = absurd cc
 sign_carries k (Number n) at h = absurd cc
 
--- the derived equality of signs is that of their numbers
-sign_tag : (a : Sign) → tag_of the_type a ≡ sign_code a
-sign_tag OpenBrace = refl
-sign_tag CloseBrace = refl
-sign_tag OpenParenthesis = refl
-sign_tag CloseParenthesis = refl
-sign_tag OpenBracket = refl
-sign_tag CloseBracket = refl
-sign_tag Semicolon = refl
-sign_tag Comma = refl
-sign_tag Colon = refl
-sign_tag Assign = refl
-sign_tag Equal = refl
-sign_tag NotEqual = refl
-sign_tag Less = refl
-sign_tag Greater = refl
-sign_tag LessEqual = refl
-sign_tag GreaterEqual = refl
-sign_tag Plus = refl
-sign_tag Minus = refl
-sign_tag Times = refl
-sign_tag Divide = refl
-sign_tag Remainder = refl
-sign_tag Not = refl
-sign_tag And = refl
-sign_tag Or = refl
-sign_tag Arrow = refl
-sign_tag PlusAssign = refl
-sign_tag MinusAssign = refl
-sign_tag TimesAssign = refl
-sign_tag Increment = refl
-sign_tag Decrement = refl
-
-pub same_sign : (a b : Sign) → sameb the_type a b ≡ nat_eq (sign_code a) (sign_code b)
-same_sign a b = ap (λ z. nat_eq z (tag_of the_type b)) (sign_tag a) ∙ ap (λ z. nat_eq (sign_code a) z) (sign_tag b)
-
 pub sign_is : (k : Sign) (t : Token) (w : Sign) → t.kind ≡ SignKind w
-    → is_some (sign k t) ≡ nat_eq (sign_code w) (sign_code k)
-sign_is k t w e = ap (λ z. is_some (sign_of k z t.at)) e ∙ told (nat_eq (sign_code w) (sign_code k)) t.at
+    → is_some (sign k t) ≡ same_sign w k
+sign_is k t w e = ap (λ z. is_some (sign_of k z t.at)) e ∙ told (same_sign w k) t.at
   where
     told : (b : Bool) (p : Place) → is_some (cond b (Some p) None) ≡ b
     told true p = refl
@@ -123,24 +86,10 @@ sign_is k t w e = ap (λ z. is_some (sign_of k z t.at)) e ∙ told (nat_eq (sign
 -- no literal stands there, if none of the four does
 key_no_literal : (w : Keyword) (at : Place) → key_of True (KeyKind w) at ≡ None → key_of False (KeyKind w) at ≡ None
     → key_of Nullptr (KeyKind w) at ≡ None → literal_of_key w at ≡ None
-key_no_literal Class at t f n = refl
-key_no_literal Public at t f n = refl
-key_no_literal Long at t f n = refl
-key_no_literal BoolKey at t f n = refl
-key_no_literal Int at t f n = refl
-key_no_literal Void at t f n = refl
-key_no_literal If at t f n = refl
-key_no_literal Else at t f n = refl
-key_no_literal While at t f n = refl
-key_no_literal For at t f n = refl
-key_no_literal Return at t f n = refl
-key_no_literal New at t f n = refl
-key_no_literal Nullptr at t f n = absurd cc
-key_no_literal This at t f n = refl
 key_no_literal True at t f n = absurd cc
 key_no_literal False at t f n = absurd cc
-key_no_literal Print at t f n = refl
-key_no_literal Main at t f n = refl
+key_no_literal Nullptr at t f n = absurd cc
+key_no_literal other at t f n = refl
 
 no_literal_kind : (x : Kind) (at : Place) → number_of x at ≡ None → key_of True x at ≡ None → key_of False x at ≡ None
     → key_of Nullptr x at ≡ None → literal_of x at ≡ None
@@ -156,37 +105,10 @@ no_literal (u ∷ s) d t f n = no_literal_kind u.kind u.at d t f n
 
 -- no unary operator stands there, if none of the two does
 sign_no_unary : (w : Sign) (at : Place) → sign_of Minus (SignKind w) at ≡ None → sign_of Not (SignKind w) at ≡ None
-    → unary_sign w ≡ None
-sign_no_unary OpenBrace at m n = refl
-sign_no_unary CloseBrace at m n = refl
-sign_no_unary OpenParenthesis at m n = refl
-sign_no_unary CloseParenthesis at m n = refl
-sign_no_unary OpenBracket at m n = refl
-sign_no_unary CloseBracket at m n = refl
-sign_no_unary Semicolon at m n = refl
-sign_no_unary Comma at m n = refl
-sign_no_unary Colon at m n = refl
-sign_no_unary Assign at m n = refl
-sign_no_unary Equal at m n = refl
-sign_no_unary NotEqual at m n = refl
-sign_no_unary Less at m n = refl
-sign_no_unary Greater at m n = refl
-sign_no_unary LessEqual at m n = refl
-sign_no_unary GreaterEqual at m n = refl
-sign_no_unary Plus at m n = refl
+    → unary_of_sign w ≡ None
 sign_no_unary Minus at m n = absurd cc
-sign_no_unary Times at m n = refl
-sign_no_unary Divide at m n = refl
-sign_no_unary Remainder at m n = refl
 sign_no_unary Not at m n = absurd cc
-sign_no_unary And at m n = refl
-sign_no_unary Or at m n = refl
-sign_no_unary Arrow at m n = refl
-sign_no_unary PlusAssign at m n = refl
-sign_no_unary MinusAssign at m n = refl
-sign_no_unary TimesAssign at m n = refl
-sign_no_unary Increment at m n = refl
-sign_no_unary Decrement at m n = refl
+sign_no_unary other at m n = refl
 
 no_unary_kind : (x : Kind) (at : Place) → sign_of Minus x at ≡ None → sign_of Not x at ≡ None → unary_of x at ≡ None
 no_unary_kind (SignKind w) at m n = ap (with_place at) (sign_no_unary w at m n)
@@ -199,9 +121,9 @@ no_unary [] m n = refl
 no_unary (u ∷ s) m n = no_unary_kind u.kind u.at m n
 
 -- the operator that the table gives for the sign is of the level, or not
-pub operator_is : (k : ℕ) (x : Kind) (w : Sign) (o : Option (ℕ × BinaryOp)) (at : Place) → x ≡ SignKind w → o ≡ joining (binding w)
+pub operator_is : (k : ℕ) (x : Kind) (w : Sign) (o : Option BinaryOp) (at : Place) → x ≡ SignKind w → o ≡ binary_of_sign w
     → operator_of k x at ≡ with_place at (of_level k o)
 operator_is k x w o at e h = ap (λ z. operator_of k z at) e ∙ ap (λ z. with_place at (of_level k z)) (sym h)
 
-pub of_the_level : (k n : ℕ) (o : BinaryOp) (at : Place) → n ≡ k → with_place at (of_level k (Some (n, o))) ≡ Some (o, at)
-of_the_level k n o at e = rw (eq-eqb n k e) refl
+pub of_the_level : (k : ℕ) (o : BinaryOp) (at : Place) → level o ≡ k → with_place at (of_level k (Some o)) ≡ Some (o, at)
+of_the_level k o at e = rw (eq-eqb (level o) k e) refl

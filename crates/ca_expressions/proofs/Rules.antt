@@ -10,6 +10,8 @@ use Rattle.ca_tree.specs.declared.token.Kind.TheVariants.{Number}
 use Rattle.ca_tree.specs.declared.token.Sign.TheVariants.{OpenParenthesis, CloseParenthesis}
 use Rattle.ca_tree.specs.declared.tree.UnaryOp.{UnaryOp}
 use Rattle.ca_tree.specs.declared.tree.BinaryOp.{BinaryOp}
+use Rattle.ca_tree.specs.declared.operators.TheConstants.{LEVELS}
+use Rattle.ca_tree.specs.Operators.{unary_level}
 use Rattle.ca_tree.specs.Plain.{Expression, number, unary, binary}
 use Rattle.ca_expressions.specs.Terminals.{sign, literal, literal_of, unary_operator, operator, goes_on, goes_on_of}
 use Rattle.ca_expressions.specs.Grammar.{Level, operands, one_operand, Operands, operands_end, operands_more, Unary, unary_first, unary_last, Primary, a_literal, a_chain, in_brackets, Chain, Tails, tails_end}
@@ -24,11 +26,11 @@ a_number_tree = number start (pos 0)
 pub primary_number : (r : List Token) → Primary (token (Number (pos 0)) ∷ r) a_number_tree r
 primary_number r = a_literal (sees refl)
 
-pub level_number : (n k : ℕ) → 6 ≤ k + n → (r : List Token) → Level k (token (Number (pos 0)) ∷ r) a_number_tree r
+pub level_number : (n k : ℕ) → LEVELS ≤ k + n → (r : List Token) → Level k (token (Number (pos 0)) ∷ r) a_number_tree r
 level_number zero k h r = one_operand (omega (arith, h)) (unary_last (primary_number r))
-level_number (suc n) k h r = at (level_number n (k + 1) (omega (arith, h)) r) (cases_lt k 6)
+level_number (suc n) k h r = at (level_number n (k + 1) (omega (arith, h)) r) (cases_lt k LEVELS)
   where
-    at : Level (k + 1) (token (Number (pos 0)) ∷ r) a_number_tree r → (k < 6) ⊎ (6 ≤ k)
+    at : Level (k + 1) (token (Number (pos 0)) ∷ r) a_number_tree r → (k < LEVELS) ⊎ (LEVELS ≤ k)
         → Level k (token (Number (pos 0)) ∷ r) a_number_tree r
     at l (inl g) = operands g l operands_end
     at l (inr g) = one_operand g (unary_last (primary_number r))
@@ -42,7 +44,7 @@ abbrev pub a_level : ℕ → Part Token Expression
 a_level k = record {
   D = Unlimited (Level k);
   C = Closed k (Level k);
-  some = with_number (Level k) (level_number 6 k (omega arith));
+  some = with_number (Level k) (level_number LEVELS k (omega arith));
 }
 
 abbrev pub more_operands : ℕ → Expression → Part Token Expression
@@ -53,12 +55,12 @@ more_operands k a = record {
 }
 
 abbrev pub a_unary : Part Token Expression
-a_unary = record { D = Unlimited Unary; C = Closed 6 Unary; some = with_number Unary (λ r. unary_last (primary_number r)) }
+a_unary = record { D = Unlimited Unary; C = Closed unary_level Unary; some = with_number Unary (λ r. unary_last (primary_number r)) }
 
 abbrev pub more_tails : Expression → Part Token Expression
 more_tails a = record {
   D = Unlimited (Tails a);
-  C = Closed 6 (Tails a);
+  C = Closed unary_level (Tails a);
   some = record { more = []; tree = a; reads = λ free r h. tails_end };
 }
 
@@ -66,22 +68,22 @@ more_tails a = record {
 abbrev pub level_parts : ℕ → Part Token Expression
 level_parts k = a_level (k + 1) ⨾ λ a. more_operands k a
 
-level_split : (k free : ℕ) (s r : List Token) (x : Expression) → k < 6 → Closed k (Level k) free s x r → (level_parts k).C free s x r
+level_split : (k free : ℕ) (s r : List Token) (x : Expression) → k < LEVELS → Closed k (Level k) free s x r → (level_parts k).C free s x r
 level_split k free s r x h c = at s r x c.it c.stop
   where
     at : (s r : List Token) (x : Expression) → Level k s x r → head_of (goes_on k) r ≡ None → (level_parts k).C free s x r
     at s r x (operands g l m) e = upto (record { it = l; stop = operands_follow m e }) (record { it = m; stop = e })
     at s r x (one_operand g u) e = absurd (omega (arith, g, h))
 
-level_join : (k free : ℕ) (s r : List Token) (x : Expression) → k < 6 → (level_parts k).D free s x r → Level k s x r
+level_join : (k free : ℕ) (s r : List Token) (x : Expression) → k < LEVELS → (level_parts k).D free s x r → Level k s x r
 level_join k free s r x h (then l m) = operands h l m
 
-pub level_answer : {k : ℕ} {s : List Token} {o : Answer Token Expression} → k < 6 → Exact (level_parts k).D (level_parts k).C s o
+pub level_answer : {k : ℕ} {s : List Token} {o : Answer Token Expression} → k < LEVELS → Exact (level_parts k).D (level_parts k).C s o
     → Exact (Unlimited (Level k)) (Closed k (Level k)) s o
 level_answer {k = k} h d = exact_map (λ free s r x e. level_join k free s r x h e) (λ free s r x c. level_split k free s r x h c) d
 
 -- what fails at a level fails at those that bind less tightly
-pub level_failed : (n k : ℕ) {s : List Token} (f : Failure Token) → k + n ≤ 6
+pub level_failed : (n k : ℕ) {s : List Token} (f : Failure Token) → k + n ≤ LEVELS
     → Exact (Unlimited (Level (k + n))) (Closed (k + n) (Level (k + n))) s (Failed f)
     → Exact (Unlimited (Level k)) (Closed k (Level k)) s (Failed f)
 level_failed zero k {s} f h d =
@@ -91,14 +93,14 @@ level_failed (suc n) k {s} f h d =
     level_answer (omega (arith, h)) (and_failed f (level_failed n (k + 1) f (omega (arith, h))
     (subst (λ z. Exact (Unlimited (Level z)) (Closed z (Level z)) s (Failed f)) e d)))
 
-pub above_failed : (k l : ℕ) {s : List Token} (f : Failure Token) → k ≤ l → l ≤ 6
+pub above_failed : (k l : ℕ) {s : List Token} (f : Failure Token) → k ≤ l → l ≤ LEVELS
     → Exact (Unlimited (Level l)) (Closed l (Level l)) s (Failed f) → Exact (Unlimited (Level k)) (Closed k (Level k)) s (Failed f)
 above_failed k l {s} f h g d =
     let e : l ≡ k + (l - k) = omega (arith, h) in
     level_failed (l - k) k f (omega (arith, h, g)) (subst (λ z. Exact (Unlimited (Level z)) (Closed z (Level z)) s (Failed f)) e d)
 
 -- an operand of a level and the operators of the level below it
-pub level_below : (l : ℕ) {s q : List Token} {a : Expression} {o : Answer Token Expression} → 0 < l → l ≤ 6
+pub level_below : (l : ℕ) {s q : List Token} {a : Expression} {o : Answer Token Expression} → 0 < l → l ≤ LEVELS
     → Exact (Unlimited (Level l)) (Closed l (Level l)) s (Got a q)
     → Exact (Unlimited (Operands (l - 1) a)) (Closed (l - 1) (Operands (l - 1) a)) q o
     → Exact (Unlimited (Level (l - 1))) (Closed (l - 1) (Level (l - 1))) s o
@@ -106,16 +108,16 @@ level_below l {s} {q} {a} h g d m =
     let e : l ≡ (l - 1) + 1 = omega (arith, h) in
     level_answer (omega (arith, h, g)) (and_ok (subst (λ z. Exact (Unlimited (Level z)) (Closed z (Level z)) s (Got a q)) e d) m)
 
--- level 6 is Unary
-level_unary : (free : ℕ) (s r : List Token) (x : Expression) → Closed 6 (Level 6) free s x r → Closed 6 Unary free s x r
+-- the level of unary operators is Unary
+level_unary : (free : ℕ) (s r : List Token) (x : Expression) → Closed unary_level (Level unary_level) free s x r → Closed unary_level Unary free s x r
 level_unary free s r x c = at s r x c.it c.stop
   where
-    at : (s r : List Token) (x : Expression) → Level 6 s x r → head_of (goes_on 6) r ≡ None → Closed 6 Unary free s x r
+    at : (s r : List Token) (x : Expression) → Level unary_level s x r → head_of (goes_on unary_level) r ≡ None → Closed unary_level Unary free s x r
     at s r x (one_operand g u) e = record { it = u; stop = e }
     at s r x (operands g l m) e = absurd (omega (arith, g))
 
-pub unary_answer : {s : List Token} {o : Answer Token Expression} → Exact (Unlimited Unary) (Closed 6 Unary) s o
-    → Exact (Unlimited (Level 6)) (Closed 6 (Level 6)) s o
+pub unary_answer : {s : List Token} {o : Answer Token Expression} → Exact (Unlimited Unary) (Closed unary_level Unary) s o
+    → Exact (Unlimited (Level unary_level)) (Closed unary_level (Level unary_level)) s o
 unary_answer d = exact_map (λ free s r x u. one_operand (omega arith) u) level_unary d
 
 -- an operator of the level, an operand, and more of them
@@ -165,11 +167,11 @@ UnaryRead = Then (Unlimited (Sees unary_operator)) (λ o. (unary_parts o).D) (λ
 abbrev pub UnaryEnded : Grammar Token Expression
 UnaryEnded = Upto (Unlimited (Sees unary_operator)) (λ o. (unary_parts o).C)
 
-unary_split : (b : UnaryOp × Place) (free : ℕ) (s r : List Token) (x : Expression) → Seen unary_operator b (Closed 6 Unary) free s x r
+unary_split : (b : UnaryOp × Place) (free : ℕ) (s r : List Token) (x : Expression) → Seen unary_operator b (Closed unary_level Unary) free s x r
     → UnaryEnded free s x r
 unary_split b free s r x c = at s r x c.it.it c.it.stop c.seen
   where
-    at : (s r : List Token) (x : Expression) → Unary s x r → head_of (goes_on 6) r ≡ None → head_of unary_operator s ≡ Some b
+    at : (s r : List Token) (x : Expression) → Unary s x r → head_of (goes_on unary_level) r ≡ None → head_of unary_operator s ≡ Some b
         → UnaryEnded free s x r
     at s r x (unary_first o u) h g = upto o (upto (record { it = u; stop = h }) done)
     at s r x (unary_last p) h g = let n = primary_no_unary p in absurd cc
@@ -178,20 +180,20 @@ unary_join : (free : ℕ) (s r : List Token) (x : Expression) → UnaryRead free
 unary_join free s r x (then o (then u done)) = unary_first o u
 
 pub sign_answer : {b : UnaryOp × Place} {s : List Token} {o : Answer Token Expression} → head_of unary_operator s ≡ Some b
-    → Exact UnaryRead UnaryEnded s o → Exact (Unlimited Unary) (Closed 6 Unary) s o
+    → Exact UnaryRead UnaryEnded s o → Exact (Unlimited Unary) (Closed unary_level Unary) s o
 sign_answer {b} h d = seen h (exact_map unary_join (unary_split b) d)
 
-primary_split : (free : ℕ) (s r : List Token) (x : Expression) → Unseen unary_operator (Closed 6 Unary) free s x r
-    → Closed 6 Primary free s x r
+primary_split : (free : ℕ) (s r : List Token) (x : Expression) → Unseen unary_operator (Closed unary_level Unary) free s x r
+    → Closed unary_level Primary free s x r
 primary_split free s r x c = at s r x c.it.it c.it.stop c.unseen
   where
-    at : (s r : List Token) (x : Expression) → Unary s x r → head_of (goes_on 6) r ≡ None → head_of unary_operator s ≡ None
-        → Closed 6 Primary free s x r
+    at : (s r : List Token) (x : Expression) → Unary s x r → head_of (goes_on unary_level) r ≡ None → head_of unary_operator s ≡ None
+        → Closed unary_level Primary free s x r
     at s r x (unary_last p) h g = record { it = p; stop = h }
     at s r x (unary_first o u) h g = let n = sees_head unary_operator o in absurd cc
 
 pub primary_answer : {s : List Token} {o : Answer Token Expression} → head_of unary_operator s ≡ None
-    → Exact (Unlimited Primary) (Closed 6 Primary) s o → Exact (Unlimited Unary) (Closed 6 Unary) s o
+    → Exact (Unlimited Primary) (Closed unary_level Primary) s o → Exact (Unlimited Unary) (Closed unary_level Unary) s o
 primary_answer h d = unseen h (exact_map (λ free s r x p. unary_last p) primary_split d)
 
 -- a literal
@@ -201,7 +203,7 @@ LiteralRead = Then (Unlimited (Sees literal)) (λ x. (finish x).D) (λ x. (finis
 abbrev pub LiteralEnded : Grammar Token Expression
 LiteralEnded = Upto (Unlimited (Sees literal)) (λ x. (finish x).C)
 
-literal_split : (b : Expression) (free : ℕ) (s r : List Token) (x : Expression) → Seen literal b (Closed 6 Primary) free s x r
+literal_split : (b : Expression) (free : ℕ) (s r : List Token) (x : Expression) → Seen literal b (Closed unary_level Primary) free s x r
     → LiteralEnded free s x r
 literal_split b free s r x c = at s r x c.it.it c.seen
   where
@@ -214,7 +216,7 @@ literal_join : (free : ℕ) (s r : List Token) (x : Expression) → LiteralRead 
 literal_join free s r x (then d done) = a_literal d
 
 pub literal_answer : {b : Expression} {s : List Token} {o : Answer Token Expression} → head_of literal s ≡ Some b
-    → Exact LiteralRead LiteralEnded s o → Exact (Unlimited Primary) (Closed 6 Primary) s o
+    → Exact LiteralRead LiteralEnded s o → Exact (Unlimited Primary) (Closed unary_level Primary) s o
 literal_answer {b} h d = seen h (exact_map literal_join (literal_split b) d)
 
 -- an expression in brackets, and its tails
@@ -222,10 +224,10 @@ abbrev pub bracket_parts : Part Token Expression
 bracket_parts = mark OpenParenthesis ⨾ λ o. a_level 0 ⨾ λ a. mark CloseParenthesis ⨾ λ c. more_tails a
 
 bracket_split : (b : Place) (free : ℕ) (s r : List Token) (x : Expression)
-    → Seen (sign OpenParenthesis) b (Closed 6 Primary) free s x r → bracket_parts.C free s x r
+    → Seen (sign OpenParenthesis) b (Closed unary_level Primary) free s x r → bracket_parts.C free s x r
 bracket_split b free s r x c = at s r x c.it.it c.it.stop c.seen
   where
-    at : (s r : List Token) (x : Expression) → Primary s x r → head_of (goes_on 6) r ≡ None → head_of (sign OpenParenthesis) s ≡ Some b
+    at : (s r : List Token) (x : Expression) → Primary s x r → head_of (goes_on unary_level) r ≡ None → head_of (sign OpenParenthesis) s ≡ Some b
         → bracket_parts.C free s x r
     at s r x (in_brackets o l c t) h g =
         upto o (upto (record { it = l; stop = sign_gives (goes_on_of 0) CloseParenthesis c }) (upto c (record { it = t; stop = h })))
@@ -236,20 +238,20 @@ bracket_join : (free : ℕ) (s r : List Token) (x : Expression) → bracket_part
 bracket_join free s r x (then o (then l (then c t))) = in_brackets o l c t
 
 pub bracket_answer : {b : Place} {s : List Token} {o : Answer Token Expression} → head_of (sign OpenParenthesis) s ≡ Some b
-    → Exact bracket_parts.D bracket_parts.C s o → Exact (Unlimited Primary) (Closed 6 Primary) s o
+    → Exact bracket_parts.D bracket_parts.C s o → Exact (Unlimited Primary) (Closed unary_level Primary) s o
 bracket_answer {b} h d = seen h (exact_map bracket_join (bracket_split b) d)
 
 -- a chain, where neither a literal nor a bracket stands
 chain_split : (free : ℕ) (s r : List Token) (x : Expression)
-    → Unseen (sign OpenParenthesis) (Unseen literal (Closed 6 Primary)) free s x r → Closed 6 Chain free s x r
+    → Unseen (sign OpenParenthesis) (Unseen literal (Closed unary_level Primary)) free s x r → Closed unary_level Chain free s x r
 chain_split free s r x c = at s r x c.it.it.it c.it.it.stop c.it.unseen c.unseen
   where
-    at : (s r : List Token) (x : Expression) → Primary s x r → head_of (goes_on 6) r ≡ None → head_of literal s ≡ None
-        → head_of (sign OpenParenthesis) s ≡ None → Closed 6 Chain free s x r
+    at : (s r : List Token) (x : Expression) → Primary s x r → head_of (goes_on unary_level) r ≡ None → head_of literal s ≡ None
+        → head_of (sign OpenParenthesis) s ≡ None → Closed unary_level Chain free s x r
     at s r x (a_chain d) h l b = record { it = d; stop = h }
     at s r x (a_literal d) h l b = let n = sees_head literal d in absurd cc
     at s r x (in_brackets o e c t) h l b = let n = sees_head (sign OpenParenthesis) o in absurd cc
 
 pub chain_answer : {s : List Token} {o : Answer Token Expression} → head_of literal s ≡ None → head_of (sign OpenParenthesis) s ≡ None
-    → Exact (Unlimited Chain) (Closed 6 Chain) s o → Exact (Unlimited Primary) (Closed 6 Primary) s o
+    → Exact (Unlimited Chain) (Closed unary_level Chain) s o → Exact (Unlimited Primary) (Closed unary_level Primary) s o
 chain_answer h g d = unseen h (unseen g (exact_map (λ free s r x c. a_chain c) chain_split d))

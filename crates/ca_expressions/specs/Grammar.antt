@@ -13,8 +13,8 @@
 --   Tail    = "->" name [ Args ] | "[" Expr "]"
 --   Args    = "(" [ Expr { "," Expr } ] ")"
 --
--- The first six lines are one rule, `Level`, with the table `binding` of signs: Expr is level 0, Prod level 5, and Unary
--- stands at level 6. Operators of a level associate to the left. The place of a unary or binary node is its operator's,
+-- The first six lines are one rule, `Level`, with the levels of the operators and their signs: Expr is level 0, Prod the
+-- last of the LEVELS, and Unary stands behind them. Operators of a level associate to the left. The place of a unary or binary node is its operator's,
 -- of a field or method that of `->`, of an index that of `[`, and of any other node that of its first token. Brackets
 -- round an expression leave no node.
 use Rattle.std.specs.Prelude.{ℕ, ◌+◌, ◌<◌, ◌≤◌, List, [], ◌∷◌, Bool, true, false}
@@ -25,7 +25,10 @@ use Rattle.ca_tree.specs.declared.token.Keyword.TheVariants.{This}
 use Rattle.ca_tree.specs.declared.token.Sign.TheVariants.{OpenParenthesis, CloseParenthesis, OpenBracket, CloseBracket, Comma, Arrow}
 use Rattle.ca_tree.specs.declared.tree.UnaryOp.{UnaryOp}
 use Rattle.ca_tree.specs.declared.tree.BinaryOp.{BinaryOp}
+use Rattle.ca_tree.specs.declared.operators.TheConstants.{LEVELS}
+use Rattle.ca_tree.specs.Operators.{unary_level}
 use Rattle.ca_tree.specs.Plain.{Expression, Expressions, number, truth, null, this, named, call, field, method, index, unary, binary, no_expressions, expression_and}
+use Rattle.ca_expressions.specs.declared.expressions.TheConstants.{MOST_IN_EXPRESSION}
 use Rattle.ca_expressions.specs.Terminals.{key, sign, name, literal, unary_operator, operator, goes_on}
 
 -- the arguments as the tree has them
@@ -36,9 +39,9 @@ expressions (e ∷ es) = expression_and e (expressions es)
 mutual
   -- operands of level k + 1 with operators of level k between them
   pub data Level : ℕ → List Token → Expression → List Token → Type 0 where
-    operands : {k : ℕ} {s s1 r : List Token} {a x : Expression} → k < 6 → Level (k + 1) s a s1 → Operands k a s1 x r
+    operands : {k : ℕ} {s s1 r : List Token} {a x : Expression} → k < LEVELS → Level (k + 1) s a s1 → Operands k a s1 x r
         → Level k s x r
-    one_operand : {k : ℕ} {s r : List Token} {x : Expression} → 6 ≤ k → Unary s x r → Level k s x r
+    one_operand : {k : ℕ} {s r : List Token} {x : Expression} → LEVELS ≤ k → Unary s x r → Level k s x r
 
   -- { operator Level } behind the operand a, to the left
   pub data Operands : ℕ → Expression → List Token → Expression → List Token → Type 0 where
@@ -99,17 +102,17 @@ Expr = Level 0
 
 -- An expression or chain that stands in no other has at most 1,000 tokens: the next one passes the limit.
 abbrev pub OuterExpression : Grammar Token Expression
-OuterExpression = Short 1000 Expr
+OuterExpression = Short MOST_IN_EXPRESSION Expr
 
 abbrev pub OuterChain : Grammar Token Expression
-OuterChain = Short 1000 Chain
+OuterChain = Short MOST_IN_EXPRESSION Chain
 
 -- with what may follow: no token that goes on with it
 abbrev pub ExpressionEnded : Grammar Token Expression
 ExpressionEnded = Before (goes_on 0) OuterExpression
 
 abbrev pub ChainEnded : Grammar Token Expression
-ChainEnded = Before (goes_on 6) OuterChain
+ChainEnded = Before (goes_on unary_level) OuterChain
 
 -- whether the last part of a chain is a call
 abbrev pub is_call : Expression → Bool

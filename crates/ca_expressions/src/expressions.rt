@@ -1,6 +1,6 @@
 //! Expressions and chains that stand in no other, with their limit of tokens.
 
-ghost use Rattle.std.specs.Prelude.{◌≡◌, ◌<◌, ◌≤◌, length, take, drop, IfOk};
+ghost use Rattle.std.specs.Prelude.{◌≡◌, ◌<◌, ◌≤◌, ◌+◌, length, take, drop, IfOk};
 ghost use Rattle.ca_descent.specs.Exact.{Exact, widened};
 ghost use Rattle.ca_tree.specs.View.{expression_view};
 ghost use Rattle.ca_expressions.specs.Grammar.{OuterExpression, ExpressionEnded, OuterChain, ChainEnded, is_call as is_call_tree, is_target as is_target_tree};
@@ -12,13 +12,13 @@ use ca_tree::{ExprKind, ExprNode, Token};
 use std::alloc::Global;
 
 /// How many tokens an expression or chain has at most that stands in no other.
-const LIMIT: usize = 1000;
+pub const MOST_IN_EXPRESSION: usize = 1000;
 
 /// The tokens that are looked at: with the one behind the last that may be read.
 fn first_tokens(tokens: &[Token]) -> &[Token]
-    ensures { result.now ≡ take 1001 tokens.now }
+    ensures { result.now ≡ take (MOST_IN_EXPRESSION + 1) tokens.now }
 {
-    let (head, _) = tokens.split_at((LIMIT + 1).min(tokens.len()));
+    let (head, _) = tokens.split_at((MOST_IN_EXPRESSION + 1).min(tokens.len()));
     head
 }
 
@@ -29,22 +29,22 @@ fn limited<'a>(
     head: &'a [Token],
     inner: Result<(ExprNode, &'a [Token]), Fault<'a>>,
 ) -> Result<(ExprNode, &'a [Token]), Fault<'a>>
-    requires { head.now ≡ take 1001 tokens.now }
-    ensures answer { answer expression_view result ≡ widened 1000 tokens.now (answer expression_view inner.entry) }
+    requires { head.now ≡ take (MOST_IN_EXPRESSION + 1) tokens.now }
+    ensures answer { answer expression_view result ≡ widened MOST_IN_EXPRESSION tokens.now (answer expression_view inner.entry) }
     ensures shorter { IfOk inner.entry (λ p. length p.1.now < length head.now) → IfOk result (λ p. length p.1.now < length tokens.now) }
 {
     match inner {
         Ok((node, left)) => {
             let read = head.len().saturating_sub(left.len());
-            if read > LIMIT {
-                return Err(Fault::TooDeep(behind(tokens, LIMIT)));
+            if read > MOST_IN_EXPRESSION {
+                return Err(Fault::TooDeep(behind(tokens, MOST_IN_EXPRESSION)));
             }
             Ok((node, behind(tokens, read)))
         }
         Err(Fault::Wrong(left)) => {
             let read = head.len().saturating_sub(left.len());
-            if read > LIMIT {
-                return Err(Fault::TooDeep(behind(tokens, LIMIT)));
+            if read > MOST_IN_EXPRESSION {
+                return Err(Fault::TooDeep(behind(tokens, MOST_IN_EXPRESSION)));
             }
             Err(Fault::Wrong(behind(tokens, read)))
         }

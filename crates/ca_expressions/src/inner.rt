@@ -3,6 +3,7 @@
 ghost use Rattle.std.specs.Prelude.{◌≡◌, ◌<◌, ◌≤◌, length, map, IfOk};
 ghost use Rattle.ca_descent.specs.Exact.{Exact, Unlimited, Before};
 ghost use Rattle.ca_tree.specs.View.{expression_view};
+ghost use Rattle.ca_tree.specs.Operators.{unary_level};
 ghost use Rattle.ca_expressions.specs.Terminals.{sign, goes_on};
 ghost use Rattle.ca_expressions.specs.Grammar.{Level, Operands, Unary, Primary, Chain, Tails, Tail, Args};
 ghost use Rattle.ca_expressions.specs.Readers.{answer, Closed};
@@ -13,11 +14,8 @@ use crate::tokens::{
     Fault, is_sign, is_tail, key_at, literal_at, operator_at, sign_at, take_name, take_sign,
     together, unary_at,
 };
-use ca_tree::{ExprKind, ExprNode, Keyword, Sign, Token};
+use ca_tree::{ExprKind, ExprNode, Keyword, LEVELS, Sign, Token};
 use std::alloc::Global;
-
-/// The level at which an operand has no binary operator outside of brackets.
-const UNARY_LEVEL: usize = 6;
 
 /// An expression whose operators outside of brackets are of the level or bind more tightly.
 #[cycle(expression)]
@@ -26,12 +24,12 @@ pub fn parse_level<'a>(
     level: usize,
     tokens: &'a [Token],
 ) -> Result<(ExprNode, &'a [Token]), Fault<'a>>
-    requires { level ≤ 6 }
+    requires { level ≤ LEVELS }
     ensures answer { Exact (Unlimited (Level level)) (Closed level (Level level)) tokens.now (answer expression_view result) }
     ensures shorter { IfOk result (λ p. length p.1.now < length tokens.now) }
 {
     let (mut front, mut rest) = parse_unary(alloc, tokens)?;
-    let mut reached = UNARY_LEVEL;
+    let mut reached = LEVELS;
     'levels: while reached > level {
         reached -= 1;
         (front, rest) = parse_operands(alloc, reached, front, rest)?;
@@ -47,7 +45,7 @@ fn parse_operands<'a>(
     first: ExprNode,
     tokens: &'a [Token],
 ) -> Result<(ExprNode, &'a [Token]), Fault<'a>>
-    requires { level < 6 }
+    requires { level < LEVELS }
     ensures answer { Exact (Unlimited (Operands level (expression_view first))) (Closed level (Operands level (expression_view first))) tokens.now (answer expression_view result) }
     ensures shorter { IfOk result (λ p. length p.1.now ≤ length tokens.now) }
 {
@@ -63,7 +61,7 @@ fn parse_operands<'a>(
 
 #[cycle(expression)]
 fn parse_unary<'a>(alloc: Global, tokens: &'a [Token]) -> Result<(ExprNode, &'a [Token]), Fault<'a>>
-    ensures answer { Exact (Unlimited Unary) (Closed 6 Unary) tokens.now (answer expression_view result) }
+    ensures answer { Exact (Unlimited Unary) (Closed unary_level Unary) tokens.now (answer expression_view result) }
     ensures shorter { IfOk result (λ p. length p.1.now < length tokens.now) }
 {
     let Some(((op, at), rest)) = unary_at(tokens) else {
@@ -79,7 +77,7 @@ fn parse_primary<'a>(
     alloc: Global,
     tokens: &'a [Token],
 ) -> Result<(ExprNode, &'a [Token]), Fault<'a>>
-    ensures answer { Exact (Unlimited Primary) (Closed 6 Primary) tokens.now (answer expression_view result) }
+    ensures answer { Exact (Unlimited Primary) (Closed unary_level Primary) tokens.now (answer expression_view result) }
     ensures shorter { IfOk result (λ p. length p.1.now < length tokens.now) }
 {
     if let Some((literal, rest)) = literal_at(tokens) {
@@ -99,7 +97,7 @@ pub fn parse_inner_chain<'a>(
     alloc: Global,
     tokens: &'a [Token],
 ) -> Result<(ExprNode, &'a [Token]), Fault<'a>>
-    ensures answer { Exact (Unlimited Chain) (Closed 6 Chain) tokens.now (answer expression_view result) }
+    ensures answer { Exact (Unlimited Chain) (Closed unary_level Chain) tokens.now (answer expression_view result) }
     ensures shorter { IfOk result (λ p. length p.1.now < length tokens.now) }
 {
     if let Some((at, rest)) = key_at(tokens, Keyword::This) {
@@ -123,7 +121,7 @@ fn parse_tails<'a>(
     first: ExprNode,
     tokens: &'a [Token],
 ) -> Result<(ExprNode, &'a [Token]), Fault<'a>>
-    ensures answer { Exact (Unlimited (Tails (expression_view first))) (Closed 6 (Tails (expression_view first))) tokens.now (answer expression_view result) }
+    ensures answer { Exact (Unlimited (Tails (expression_view first))) (Closed unary_level (Tails (expression_view first))) tokens.now (answer expression_view result) }
     ensures shorter { IfOk result (λ p. length p.1.now ≤ length tokens.now) }
 {
     let mut front = first;

@@ -3,7 +3,7 @@
 ghost use Rattle.std.specs.Prelude.{◌≡◌, ◌<◌, length, IfSome, IfNone, IfOk, IfErr, None, Ok, Err, is_some};
 ghost use Rattle.ca_descent.specs.Exact.{Unlimited, Exact, Sees, head_of};
 ghost use Rattle.ca_tree.specs.View.{expression_view};
-ghost use Rattle.ca_expressions.specs.Terminals.{key, sign, name, number, zero, tail_front, literal, unary_operator, binding, joining, operator};
+ghost use Rattle.ca_expressions.specs.Terminals.{key, sign, name, number, zero, tail_front, literal, unary_operator, operator};
 ghost use Rattle.ca_expressions.specs.Readers.{answer};
 ghost use Rattle.ca_expressions.specs.declared.tokens.Fault.TheVariants.{Memory};
 
@@ -180,44 +180,6 @@ pub fn unary_at(tokens: &[Token]) -> Option<((UnaryOp, Place), &[Token])>
     None
 }
 
-/// The level at which a binary operator binds, and which operator the sign is.
-fn operator_of(sign: Sign) -> Option<(usize, BinaryOp)>
-    ensures { result ≡ joining (binding sign) }
-{
-    match sign {
-        Sign::Or => Some((0, BinaryOp::Or)),
-        Sign::And => Some((1, BinaryOp::And)),
-        Sign::Equal => Some((2, BinaryOp::Equal)),
-        Sign::NotEqual => Some((2, BinaryOp::NotEqual)),
-        Sign::Less => Some((3, BinaryOp::Less)),
-        Sign::Greater => Some((3, BinaryOp::Greater)),
-        Sign::LessEqual => Some((3, BinaryOp::LessEqual)),
-        Sign::GreaterEqual => Some((3, BinaryOp::GreaterEqual)),
-        Sign::Plus => Some((4, BinaryOp::Plus)),
-        Sign::Minus => Some((4, BinaryOp::Minus)),
-        Sign::Times => Some((5, BinaryOp::Times)),
-        Sign::Divide => Some((5, BinaryOp::Divide)),
-        Sign::Remainder => Some((5, BinaryOp::Remainder)),
-        Sign::OpenBrace
-        | Sign::CloseBrace
-        | Sign::OpenParenthesis
-        | Sign::CloseParenthesis
-        | Sign::OpenBracket
-        | Sign::CloseBracket
-        | Sign::Semicolon
-        | Sign::Comma
-        | Sign::Colon
-        | Sign::Assign
-        | Sign::Not
-        | Sign::Arrow
-        | Sign::PlusAssign
-        | Sign::MinusAssign
-        | Sign::TimesAssign
-        | Sign::Increment
-        | Sign::Decrement => None,
-    }
-}
-
 /// The binary operator of the level in front with its place, and what stands behind it.
 pub fn operator_at(tokens: &[Token], level: usize) -> Option<((BinaryOp, Place), &[Token])>
     ensures some { IfSome result (λ p. Sees (operator level) tokens.now p.0 p.1.now) }
@@ -230,9 +192,10 @@ pub fn operator_at(tokens: &[Token], level: usize) -> Option<((BinaryOp, Place),
     let Kind::Sign(sign) = &token.kind else {
         return None;
     };
-    let Some((found, op)) = operator_of(*sign) else {
+    let Some(op) = sign.binary() else {
         return None;
     };
+    let found = op.level();
     if found != level {
         return None;
     }

@@ -4,7 +4,8 @@ ghost use Rattle.std.specs.Prelude.{◌≡◌, IfOk};
 
 use crate::parts::{both, one_box, two_boxes};
 use crate::polynomial::{
-    Monomial, Node, Part, Pointer, PointerNode, Polynomial, Power, Product, Scalar, ScalarNode, Scalars,
+    Monomial, Node, Part, Pointer, PointerNode, Polynomial, Power, Product, Scalar, ScalarNode,
+    Scalars,
 };
 use std::alloc::{AllocError, Global};
 

@@ -10,7 +10,8 @@ ghost use Rattle.ca_forms.specs.Plain.{sort_number};
 ghost use Rattle.ca_forms.specs.Compare.{part_cmp, power_cmp, product_cmp, polynomial_cmp, monomial_cmp, pointer_cmp, scalar_cmp, scalars_cmp, name_cmp, monomial_total};
 
 use crate::polynomial::{
-    Monomial, Node, Part, Pointer, PointerNode, Polynomial, Power, Product, Scalar, ScalarNode, Scalars,
+    Monomial, Node, Part, Pointer, PointerNode, Polynomial, Power, Product, Scalar, ScalarNode,
+    Scalars,
 };
 use crate::sort::Sort;
 use std::cmp::Ordering;
@@ -25,7 +26,14 @@ impl Part {
         match &self.node {
             Node::Variable(s, g, n) => match &other.node {
                 Node::Variable(t, h, m) => names(*s, *g, *n, *t, *h, *m),
-                Node::Less(_, _) | Node::Zero(_) | Node::SamePointer(_, _) | Node::Quotient(_, _) | Node::Modulus(_, _) | Node::Field(_, _, _, _) | Node::Item(_, _, _, _, _) | Node::Result(_, _, _, _) => Ordering::Less,
+                Node::Less(_, _)
+                | Node::Zero(_)
+                | Node::SamePointer(_, _)
+                | Node::Quotient(_, _)
+                | Node::Modulus(_, _)
+                | Node::Field(_, _, _, _)
+                | Node::Item(_, _, _, _, _)
+                | Node::Result(_, _, _, _) => Ordering::Less,
             },
             Node::Less(a, b) => match &other.node {
                 Node::Variable(_, _, _) => Ordering::Greater,
@@ -33,12 +41,23 @@ impl Part {
                     Ordering::Equal => b.compare(d),
                     order => order,
                 },
-                Node::Zero(_) | Node::SamePointer(_, _) | Node::Quotient(_, _) | Node::Modulus(_, _) | Node::Field(_, _, _, _) | Node::Item(_, _, _, _, _) | Node::Result(_, _, _, _) => Ordering::Less,
+                Node::Zero(_)
+                | Node::SamePointer(_, _)
+                | Node::Quotient(_, _)
+                | Node::Modulus(_, _)
+                | Node::Field(_, _, _, _)
+                | Node::Item(_, _, _, _, _)
+                | Node::Result(_, _, _, _) => Ordering::Less,
             },
             Node::Zero(a) => match &other.node {
                 Node::Variable(_, _, _) | Node::Less(_, _) => Ordering::Greater,
                 Node::Zero(c) => a.compare(c),
-                Node::SamePointer(_, _) | Node::Quotient(_, _) | Node::Modulus(_, _) | Node::Field(_, _, _, _) | Node::Item(_, _, _, _, _) | Node::Result(_, _, _, _) => Ordering::Less,
+                Node::SamePointer(_, _)
+                | Node::Quotient(_, _)
+                | Node::Modulus(_, _)
+                | Node::Field(_, _, _, _)
+                | Node::Item(_, _, _, _, _)
+                | Node::Result(_, _, _, _) => Ordering::Less,
             },
             Node::SamePointer(a, b) => match &other.node {
                 Node::Variable(_, _, _) | Node::Less(_, _) | Node::Zero(_) => Ordering::Greater,
@@ -46,26 +65,46 @@ impl Part {
                     Ordering::Equal => b.compare(d),
                     order => order,
                 },
-                Node::Quotient(_, _) | Node::Modulus(_, _) | Node::Field(_, _, _, _) | Node::Item(_, _, _, _, _) | Node::Result(_, _, _, _) => Ordering::Less,
+                Node::Quotient(_, _)
+                | Node::Modulus(_, _)
+                | Node::Field(_, _, _, _)
+                | Node::Item(_, _, _, _, _)
+                | Node::Result(_, _, _, _) => Ordering::Less,
             },
             Node::Quotient(a, n) => match &other.node {
-                Node::Variable(_, _, _) | Node::Less(_, _) | Node::Zero(_) | Node::SamePointer(_, _) => Ordering::Greater,
+                Node::Variable(_, _, _)
+                | Node::Less(_, _)
+                | Node::Zero(_)
+                | Node::SamePointer(_, _) => Ordering::Greater,
                 Node::Quotient(c, m) => match a.compare(c) {
                     Ordering::Equal => n.cmp(m),
                     order => order,
                 },
-                Node::Modulus(_, _) | Node::Field(_, _, _, _) | Node::Item(_, _, _, _, _) | Node::Result(_, _, _, _) => Ordering::Less,
+                Node::Modulus(_, _)
+                | Node::Field(_, _, _, _)
+                | Node::Item(_, _, _, _, _)
+                | Node::Result(_, _, _, _) => Ordering::Less,
             },
             Node::Modulus(a, n) => match &other.node {
-                Node::Variable(_, _, _) | Node::Less(_, _) | Node::Zero(_) | Node::SamePointer(_, _) | Node::Quotient(_, _) => Ordering::Greater,
+                Node::Variable(_, _, _)
+                | Node::Less(_, _)
+                | Node::Zero(_)
+                | Node::SamePointer(_, _)
+                | Node::Quotient(_, _) => Ordering::Greater,
                 Node::Modulus(c, m) => match a.compare(c) {
                     Ordering::Equal => n.cmp(m),
                     order => order,
                 },
-                Node::Field(_, _, _, _) | Node::Item(_, _, _, _, _) | Node::Result(_, _, _, _) => Ordering::Less,
+                Node::Field(_, _, _, _) | Node::Item(_, _, _, _, _) | Node::Result(_, _, _, _) =>
+                    Ordering::Less,
             },
             Node::Field(s, a, g, n) => match &other.node {
-                Node::Variable(_, _, _) | Node::Less(_, _) | Node::Zero(_) | Node::SamePointer(_, _) | Node::Quotient(_, _) | Node::Modulus(_, _) => Ordering::Greater,
+                Node::Variable(_, _, _)
+                | Node::Less(_, _)
+                | Node::Zero(_)
+                | Node::SamePointer(_, _)
+                | Node::Quotient(_, _)
+                | Node::Modulus(_, _) => Ordering::Greater,
                 Node::Field(t, c, h, m) => match names(*s, *g, *n, *t, *h, *m) {
                     Ordering::Equal => a.compare(c),
                     order => order,
@@ -73,7 +112,13 @@ impl Part {
                 Node::Item(_, _, _, _, _) | Node::Result(_, _, _, _) => Ordering::Less,
             },
             Node::Item(s, a, g, n, i) => match &other.node {
-                Node::Variable(_, _, _) | Node::Less(_, _) | Node::Zero(_) | Node::SamePointer(_, _) | Node::Quotient(_, _) | Node::Modulus(_, _) | Node::Field(_, _, _, _) => Ordering::Greater,
+                Node::Variable(_, _, _)
+                | Node::Less(_, _)
+                | Node::Zero(_)
+                | Node::SamePointer(_, _)
+                | Node::Quotient(_, _)
+                | Node::Modulus(_, _)
+                | Node::Field(_, _, _, _) => Ordering::Greater,
                 Node::Item(t, c, h, m, j) => match names(*s, *g, *n, *t, *h, *m) {
                     Ordering::Equal => match a.compare(c) {
                         Ordering::Equal => i.compare(j),
@@ -84,7 +129,14 @@ impl Part {
                 Node::Result(_, _, _, _) => Ordering::Less,
             },
             Node::Result(s, n, a, b) => match &other.node {
-                Node::Variable(_, _, _) | Node::Less(_, _) | Node::Zero(_) | Node::SamePointer(_, _) | Node::Quotient(_, _) | Node::Modulus(_, _) | Node::Field(_, _, _, _) | Node::Item(_, _, _, _, _) => Ordering::Greater,
+                Node::Variable(_, _, _)
+                | Node::Less(_, _)
+                | Node::Zero(_)
+                | Node::SamePointer(_, _)
+                | Node::Quotient(_, _)
+                | Node::Modulus(_, _)
+                | Node::Field(_, _, _, _)
+                | Node::Item(_, _, _, _, _) => Ordering::Greater,
                 Node::Result(t, m, c, d) => match names(*s, *n, 0, *t, *m, 0) {
                     Ordering::Equal => match a.compare(c) {
                         Ordering::Equal => b.compare(d),

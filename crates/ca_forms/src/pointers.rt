@@ -166,13 +166,7 @@ pub fn chosen_pointer(
     match first.compare(&second) {
         Ordering::Equal => Ok(first),
         _ => match condition.constant() {
-            Some(n) => {
-                if n == 0 {
-                    Ok(second)
-                } else {
-                    Ok(first)
-                }
-            }
+            Some(n) => { if n == 0 { Ok(second) } else { Ok(first) } }
             None => choice(alloc, condition, first, second),
         },
     }

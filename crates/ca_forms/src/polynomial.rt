@@ -116,7 +116,7 @@ impl Model for Part {
 
     ghost use Rattle.ca_forms.specs.Lists.{part_size};
     ghost use Rattle.ca_forms.specs.Lists.{scalars_of};
-ghost use Rattle.ca_forms.specs.Seen.{part_of};
+    ghost use Rattle.ca_forms.specs.Seen.{part_of};
 
     ghost view = { λ a. part_of a.node };
 

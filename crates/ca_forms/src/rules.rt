@@ -268,7 +268,12 @@ pub fn add_quotient(
 {
     match f.constant() {
         Some(m) => add_number(alloc, form, divided(m, n), factor),
-        None => add_part(alloc, form, Node::Quotient(f, n.cast_unsigned()).part(), factor),
+        None => add_part(
+            alloc,
+            form,
+            Node::Quotient(f, n.cast_unsigned()).part(),
+            factor,
+        ),
     }
 }
 
@@ -287,6 +292,11 @@ pub fn add_modulus(
 {
     match f.constant() {
         Some(m) => add_number(alloc, form, left_over(m, n), factor),
-        None => add_part(alloc, form, Node::Modulus(f, n.cast_unsigned()).part(), factor),
+        None => add_part(
+            alloc,
+            form,
+            Node::Modulus(f, n.cast_unsigned()).part(),
+            factor,
+        ),
     }
 }

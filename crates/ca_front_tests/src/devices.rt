@@ -1,7 +1,8 @@
 //! Reading and writing over devices in memory and over the standard streams.
 
 use ca_base::{
-    Failed, MemSink, MemSource, StdSink, StdSource, SureSink, SureSource, read_all, write_all,
+    Failed, MemSink, MemSource, PieceSink, PieceSource, StdSink, StdSource, SureSink, SureSource,
+    read_all, write_all,
 };
 use std::test::Fail;
 
@@ -27,6 +28,20 @@ fn writes_what_fits(rt: HostRuntime) -> Result<(), Fail> {
     assert!(rt; write_all(&mut sink, b"def") == Err(Failed));
     assert!(rt; sink.bytes() == b"abcde".as_slice());
     assert!(rt; write_all(&mut SureSink::new(), b"abc") == Ok(()));
+    Ok(())
+}
+
+/// A byte is given and taken at a time, and the fourth write fails behind three of them.
+#[test]
+fn goes_by_pieces(rt: HostRuntime) -> Result<(), Fail> {
+    let alloc = rt.alloc();
+    let bytes = Vec::from_slice(alloc, b"class")?;
+    let mut source = PieceSource::new(bytes, 1, Vec::new(alloc));
+    let read = read_all(alloc, &mut source, 5)?;
+    assert!(rt; read.as_slice() == b"class".as_slice());
+    let mut sink = PieceSink::new(alloc, 1, 5, vec![in alloc; 4u64; 1]?)?;
+    assert!(rt; write_all(&mut sink, read.as_slice()) == Err(Failed));
+    assert!(rt; sink.bytes() == b"cla".as_slice());
     Ok(())
 }
 

@@ -12,6 +12,8 @@ mod devices;
 #[cfg(test)]
 mod expressions;
 #[cfg(test)]
+mod generated;
+#[cfg(test)]
 mod lexer;
 #[cfg(test)]
 mod resolve;

@@ -3,7 +3,7 @@
 use crate::sources::tree;
 use ca_program::{ClassId, Expr, LocalId};
 use ca_resolve::{
-    ClassTable, Locals, Scope, Sort, Target, VisibleLocal, and_one, check_call, check_for,
+    ClassTable, Locals, Scope, Target, Ty, VisibleLocal, and_one, check_call, check_for,
     check_target, check_value,
 };
 use ca_tree::{ClassNode, Name, StmtKind, StmtNode};
@@ -13,9 +13,9 @@ use std::test::Fail;
 /// Whether the expression of the statement resolves as the text below says.
 fn is_right(alloc: Global, scope: &Scope, stmt: &StmtNode) -> bool {
     match &stmt.kind {
-        StmtKind::Print(e) => matches!(check_value(alloc, scope, e), Ok((_, Sort::Long))),
+        StmtKind::Print(e) => matches!(check_value(alloc, scope, e), Ok((_, Ty::Long))),
         StmtKind::Return(e) => {
-            matches!(check_for(alloc, scope, Sort::Long, e), Ok(Expr::Local(_)))
+            matches!(check_for(alloc, scope, Ty::Long, e), Ok(Expr::Local(_)))
         }
         StmtKind::Assign { target, .. } => {
             matches!(
@@ -39,7 +39,7 @@ fn are_right<'a>(
     locals.push(VisibleLocal {
         name: x,
         id: LocalId(0),
-        sort: Sort::Long,
+        ty: Ty::Long,
     })?;
     let table = ClassTable::new(alloc, classes)?;
     let scope = Scope {

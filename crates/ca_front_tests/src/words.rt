@@ -15,6 +15,19 @@ fn names_commands(rt: HostRuntime) -> Result<(), Fail> {
                 budget: 100,
             }),
         ),
+        ("gen 7 3", Some(Command::Gen { seed: 7, size: 3 })),
+        (
+            "gen 18446744073709551615 20000",
+            Some(Command::Gen {
+                seed: 18_446_744_073_709_551_615,
+                size: 20_000,
+            }),
+        ),
+        ("gen 18446744073709551616 1", None),
+        ("gen 0 0", None),
+        ("gen 0 20001", None),
+        ("gen 07 3", None),
+        ("gen 7", None),
         ("run 2 5", None),
         ("run 1 05", None),
         ("--help", None),
@@ -23,7 +36,11 @@ fn names_commands(rt: HostRuntime) -> Result<(), Fail> {
         for word in line.split_whitespace() {
             words.push(String::from_str(rt.alloc(), word)?)?;
         }
-        assert!(rt; command_of(&words) == named, "{line}");
+        let command = command_of(&words);
+        assert!(rt; command == named, "{line}");
+        if let Some(command) = command {
+            assert!(rt; command.reads() == !line.starts_with("gen"), "{line}");
+        }
     }
     assert!(rt; usage_line().starts_with(b"usage: "));
     Ok(())

@@ -11,7 +11,7 @@ use Rattle.ca_tree.specs.declared.token.Kind.{Kind}
 use Rattle.ca_tree.specs.declared.token.Kind.TheVariants.{Number}
 use Rattle.ca_tree.specs.declared.token.Sign.{Sign}
 use Rattle.ca_lex.specs.Bytes.{is_blank, is_letter, is_name_byte, value_of}
-use Rattle.ca_lex.specs.Spellings.{keyword_of, double_sign, single_sign}
+use Rattle.ca_tree.specs.Spellings.{keyword_of, double_sign, single_sign}
 use Rattle.ca_lex.specs.Pieces.{Piece, blank_of, comment_of, token_of, too_great, letter_behind, refused, piece_of, begins, kind_of_word, word_piece, digits_piece, number_piece, slash_piece, sign_piece, longer_sign, closed_comment, close_len}
 use Rattle.ca_lex.proofs.Sizes.{token_size}
 

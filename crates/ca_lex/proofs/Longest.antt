@@ -9,7 +9,7 @@ use Rattle.ca_tree.specs.declared.token.Kind.{Kind}
 use Rattle.ca_tree.specs.declared.token.Kind.TheVariants.{Number}
 use Rattle.ca_tree.specs.declared.token.Sign.{Sign}
 use Rattle.ca_lex.specs.Bytes.{is_blank, is_letter, is_name_byte, value_of}
-use Rattle.ca_lex.specs.Spellings.{double_sign, single_sign}
+use Rattle.ca_tree.specs.Spellings.{double_sign, single_sign}
 use Rattle.ca_lex.specs.Pieces.{Piece, blank_of, comment_of, token_of, too_great, letter_behind, refused, piece_of, begins, number_piece, slash_piece, sign_piece, longer_sign, closed_comment, close_len}
 
 -- where both are tokens, the second takes no more bytes than the first

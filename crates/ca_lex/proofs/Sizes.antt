@@ -10,7 +10,7 @@ use Rattle.ca_tree.specs.declared.token.Kind.{Kind}
 use Rattle.ca_tree.specs.declared.token.Kind.TheVariants.{Number}
 use Rattle.ca_tree.specs.declared.token.Sign.{Sign}
 use Rattle.ca_lex.specs.Bytes.{is_blank, is_letter, is_name_byte, is_no_line_feed, value_of}
-use Rattle.ca_lex.specs.Spellings.{double_sign, single_sign}
+use Rattle.ca_tree.specs.Spellings.{double_sign, single_sign}
 use Rattle.ca_lex.specs.Pieces.{Piece, blank_of, comment_of, token_of, too_great, letter_behind, refused, piece_of, begins, word_piece, number_piece, slash_piece, sign_piece, longer_sign, closed_comment, close_len}
 use Rattle.ca_lex.proofs.Comments.{close_len-le}
 

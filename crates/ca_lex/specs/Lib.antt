@@ -1,6 +1,5 @@
 pub mod Places
 pub mod Bytes
-pub mod Spellings
 pub mod Pieces
 pub mod Fronts
 pub mod Tokens

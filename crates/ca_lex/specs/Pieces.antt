@@ -8,7 +8,7 @@ use Rattle.ca_tree.specs.declared.token.Sign.{Sign as TheSign}
 use Rattle.ca_tree.specs.declared.token.Kind.{Kind}
 use Rattle.ca_tree.specs.declared.token.Kind.TheVariants.{Word, Number, Key, Sign}
 use Rattle.ca_lex.specs.Bytes.{is_blank, is_letter, is_name_byte, is_no_line_feed, value_of}
-use Rattle.ca_lex.specs.Spellings.{keyword_of, double_sign, single_sign}
+use Rattle.ca_tree.specs.Spellings.{keyword_of, double_sign, single_sign}
 
 -- A blank, a comment or a token, with the number of its bytes, or else what may not stand there: a number that is too
 -- great, so many digits with a letter directly behind them, or anything else.

@@ -7,8 +7,7 @@ ghost use Rattle.ca_lex.specs.Pieces.{close_len, closes, number_piece, piece_of,
 ghost use Rattle.ca_lex.specs.Fronts.{piece_at};
 
 use crate::bytes::{digits_len, is_blank, is_letter, line_len, name_len};
-use crate::spellings::{double_sign, keyword_of, single_sign};
-use ca_tree::{Kind, Name};
+use ca_tree::{Keyword, Kind, Name, Sign};
 use std::alloc::{AllocError, Global};
 
 /// What stands in front: a blank, a comment or a token, with the number of its bytes, or else what
@@ -50,7 +49,7 @@ fn word(alloc: Global, text: &[u8]) -> Result<Front, AllocError>
     ensures { IfOk result (λ front. piece_at front ≡ word_piece text.now) }
 {
     let (bytes, _rest) = text.split_at(name_len(text));
-    match keyword_of(bytes) {
+    match Keyword::spelled(bytes) {
         Some(keyword) => Ok(Front::Token(bytes.len(), Kind::Key(keyword))),
         None => Ok(Front::Token(bytes.len(), Kind::Word(Name::new(alloc, bytes)?))),
     }
@@ -135,11 +134,11 @@ fn sign(first: u8, rest: &[u8]) -> Front
     ensures { piece_at result ≡ sign_piece first rest.now }
 {
     if let [second, ..] = rest {
-        if let Some(sign) = double_sign(first, *second) {
+        if let Some(sign) = Sign::double(first, *second) {
             return Front::Token(2, Kind::Sign(sign));
         }
     }
-    match single_sign(first) {
+    match Sign::single(first) {
         Some(sign) => Front::Token(1, Kind::Sign(sign)),
         None => Front::Refused,
     }

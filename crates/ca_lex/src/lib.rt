@@ -14,9 +14,8 @@ mod bytes;
 mod front;
 pub mod laws;
 mod place;
-mod spellings;
 
-ghost use Rattle.std.specs.Prelude.{◌≡◌, ◌≤◌, ◌^◌, length, Err, IfOk};
+ghost use Rattle.std.specs.Prelude.{◌≡◌, ◌≤◌, length, Err, IfOk};
 ghost use Rattle.ca_tree.specs.declared.name.Place.{Place};
 ghost use Rattle.ca_tree.specs.declared.token.Token.{Token};
 ghost use Rattle.ca_lex.specs.declared.LexError.TheVariants.{BadByte, WideNumber, Limit, Memory};
@@ -29,6 +28,9 @@ use crate::place::{START, place_behind};
 use ca_tree::{Place, Token};
 use std::alloc::{AllocError, AllocFailed, Global};
 use thiserror::Error;
+
+/// The most bytes of a text whose places are told.
+pub const LONGEST_TEXT: usize = 1_073_741_824;
 
 /// The most tokens that a text may have.
 pub const MOST_TOKENS: usize = 262_144;
@@ -70,7 +72,7 @@ impl<T: Drop> From<AllocFailed<T>> for LexError {
 /// The tokens of a text. It is refused where it has more than `MOST_TOKENS` tokens or a byte that
 /// lies in no token, blank or comment. The first refused place decides.
 pub fn lex(alloc: Global, text: &[u8]) -> Result<Vec<Token>, LexError>
-    requires { length text.now ≤ 2 ^ 30 }
+    requires { length text.now ≤ LONGEST_TEXT }
     ensures tokens { IfOk result (λ v. Tokens text.now v.items) }
     ensures few { IfOk result (λ v. length v.items ≤ most_tokens) }
     ensures bad_byte { (p : Place) → result ≡ Err (BadByte p) → LexFault text.now p bad_byte }
@@ -118,7 +120,7 @@ pub fn lex(alloc: Global, text: &[u8]) -> Result<Vec<Token>, LexError>
 
 /// The place behind the last byte.
 pub fn end_place(text: &[u8]) -> Place
-    requires { length text.now ≤ 2 ^ 30 }
+    requires { length text.now ≤ LONGEST_TEXT }
     ensures { result ≡ advance start text.now }
 {
     place_behind(START, text)

@@ -1,17 +1,31 @@
 //! Tasks, entries and histories, as plain data.
 
-ghost use Rattle.std.specs.Prelude.{◌≡◌, [], ◌∷◌, ◌++◌, IfOk, OnErr};
+ghost use Rattle.std.specs.Prelude.{◌≡◌, [], ◌∷◌, ◌++◌, length, IfOk, OnErr, option_copied};
+ghost use Rattle.ca_logs.specs.Lasts.{last_of};
 
 use ca_model::{Object, Trap};
 use ca_parallel::Op;
 use std::alloc::{AllocError, Global};
 use std::marker::Model;
+use std::snapshot::Snapshot;
 
 /// An operation that is to run, with the clock of the entry that listed it, or 0.
 #[derive(Drop, Debug)]
 pub struct Task {
     pub op: Op,
     pub after: u64,
+}
+
+impl Task {
+    /// The same task once more.
+    pub fn copy(&self) -> Result<Task, AllocError>
+        ensures { IfOk result (λ task. task ≡ self.now) }
+    {
+        Ok(Task {
+            op: self.op.copy()?,
+            after: self.after,
+        })
+    }
 }
 
 /// Why a section didn't end.
@@ -88,18 +102,37 @@ impl Entries {
         self.items.push(entry)?;
         Ok(())
     }
+
+    /// How many there are.
+    pub fn len(&self) -> usize
+        ensures { result ≡ length self.now }
+    {
+        self.items.len()
+    }
+
+    /// The newest one.
+    pub fn last(&self) -> Option<&Entry>
+        ensures { option_copied result ≡ last_of self.now }
+    {
+        let count = self.items.len();
+        if count == 0 {
+            return None;
+        }
+        Some(&self.items[count - 1])
+    }
 }
 
-/// A cell's history: the object as it was opened, the object as its entries left it, and these.
-#[derive(Drop, Debug)]
+/// A cell's history: the object as it was opened, which only contracts see, the object as its entries left it, and
+/// these.
+#[derive(Drop)]
 pub struct CellLog {
-    pub opened: Object,
+    pub opened: Snapshot<Object>,
     pub object: Object,
     pub entries: Entries,
 }
 
 /// A history for each object, by its number.
-#[derive(Drop, Debug)]
+#[derive(Drop)]
 pub struct RoundLog {
     pub cells: Vec<CellLog>,
 }

@@ -27,9 +27,9 @@ use Rattle.ca_meaning_laws.proofs.FunctionTypes.{serial_place, calls_typed}
 abbrev pub WorldFlow : PlainProgram → Scope → Datum → List Object → Flow World → Type 0
 WorldFlow p s r h a = FlowTyped heap_of (WorldTyped p s r) s h a
 
-record OperationsTyped (p : PlainProgram) (o : Operations) : Type 0 where
-  invokes : (i : Invocation) (w : World) (k : ℕ) → TypedHeap p w.heap → WellTyped p w.heap i → KeepsHeap p w.heap (o.invoke i w k)
-  agains : (s : Scope) (r : Datum) (h : List Object) (line : ℕ) (ls : List Datum) (w : World) (x : Statement) (k : ℕ) → WorldTyped p s r w → Extends h w.heap → ValuesTyped w.heap ls s.locals → StatementTyped p s x → WorldFlow p s r h (o.again r line ls w x k)
+pub record OperationsTyped (p : PlainProgram) (o : Operations) : Type 0 where
+  pub invokes : (i : Invocation) (w : World) (k : ℕ) → TypedHeap p w.heap → WellTyped p w.heap i → KeepsHeap p w.heap (o.invoke i w k)
+  pub agains : (s : Scope) (r : Datum) (h : List Object) (line : ℕ) (ls : List Datum) (w : World) (x : Statement) (k : ℕ) → WorldTyped p s r w → Extends h w.heap → ValuesTyped w.heap ls s.locals → StatementTyped p s x → WorldFlow p s r h (o.again r line ls w x k)
 
 -- the world with a heap that has all objects of the old one
 moved : (p : PlainProgram) (s : Scope) (r : Datum) (w : World) (v : World) → WorldTyped p s r w → TypedHeap p v.heap → Extends w.heap v.heap → WorldTyped p s r v
@@ -39,13 +39,13 @@ moved p s r w v good t ext = record { heap = t; receiver = receiver_kept w.heap 
 goes_to : (p : PlainProgram) (s : Scope) (r : Datum) (h : List Object) (w v : World) (ls : List Datum) (k : ℕ) → WorldTyped p s r w → Extends h w.heap → TypedHeap p v.heap → Extends w.heap v.heap → ValuesTyped v.heap ls s.locals → WorldFlow p s r h (goes_on ls v k)
 goes_to p s r h w v ls k good ext t more vs = goes_on_typed ls v k (moved p s r w v good t more) (extends_then h w.heap v.heap ext more) vs
 
-came_typed : (p : PlainProgram) (s : Scope) (r : Datum) (h : List Object) (w : World) (ls : List Datum) → WorldTyped p s r w → Extends h w.heap → ValuesTyped w.heap ls s.locals → (a : Flow World) → KeepsHeap p w.heap a → WorldFlow p s r h (came_back ls a)
+pub came_typed : (p : PlainProgram) (s : Scope) (r : Datum) (h : List Object) (w : World) (ls : List Datum) → WorldTyped p s r w → Extends h w.heap → ValuesTyped w.heap ls s.locals → (a : Flow World) → KeepsHeap p w.heap a → WorldFlow p s r h (came_back ls a)
 came_typed p s r h w ls good ext vs (goes_on _ v k) (goes_on_kept _ _ _ t more) = goes_to p s r h w v ls k good ext t more (values_kept w.heap v.heap more ls s.locals vs)
 came_typed p s r h w ls good ext vs (gives_back _ v k) (gives_back_kept _ _ _ t more) = runs_out_typed v (moved p s r w v good t more) (extends_then h w.heap v.heap ext more)
 came_typed p s r h w ls good ext vs (stops u v) (stops_kept _ _ t more) = stops_typed u v (moved p s r w v good t more) (extends_then h w.heap v.heap ext more)
 came_typed p s r h w ls good ext vs (runs_out v) (runs_out_kept _ t more) = runs_out_typed v (moved p s r w v good t more) (extends_then h w.heap v.heap ext more)
 
-run_typed : (p : PlainProgram) (o : Operations) → OperationsTyped p o → (s : Scope) (r : Datum) (h : List Object) (ls : List Datum) (i : Invocation) (w : World) (k : ℕ) → WorldTyped p s r w → Extends h w.heap → ValuesTyped w.heap ls s.locals → WellTyped p w.heap i → WorldFlow p s r h (run_call o ls i w k)
+pub run_typed : (p : PlainProgram) (o : Operations) → OperationsTyped p o → (s : Scope) (r : Datum) (h : List Object) (ls : List Datum) (i : Invocation) (w : World) (k : ℕ) → WorldTyped p s r w → Extends h w.heap → ValuesTyped w.heap ls s.locals → WellTyped p w.heap i → WorldFlow p s r h (run_call o ls i w k)
 run_typed p o all s r h ls i w k good ext vs t =
     typed_step heap_of (WorldTyped p s r) s h w k _ good ext (λ j. came_typed p s r h w ls good ext vs (o.invoke i w j) (all.invokes i w j good.heap t))
 
@@ -138,7 +138,7 @@ module _ (p : PlainProgram) (typed : ProgramTyped p) where
   act_typed s r h line ls w (for_loop l site part first c next b) k good ext vs t = goes_on_typed ls w k good ext vs
   act_typed s r h line ls w (return_value l e) k good ext vs t = goes_on_typed ls w k good ext vs
 
-  parts_typed : (o : Operations) → OperationsTyped p o → (s : Scope) (r : Datum) → PartsTyped heap_of (WorldTyped p s r) p s (operation_parts p o r)
+  pub parts_typed : (o : Operations) → OperationsTyped p o → (s : Scope) (r : Datum) → PartsTyped heap_of (WorldTyped p s r) p s (operation_parts p o r)
   parts_typed o all s r = record {
     values = λ line ls w e ty k good v t. serial_value s r w line ls e ty k good v t;
     acts = λ h line ls w y k good ext v t. act_typed s r h line ls w y k good ext v t;
@@ -166,7 +166,7 @@ module _ (p : PlainProgram) (typed : ProgramTyped p) where
       (all_exec_typed heap_of (WorldTyped p (scope_of m) (Ref r)) p (scope_of m) (operation_parts p o (Ref r)) (parts_typed o all (scope_of m) (Ref r)) w.heap m.body.statements mm.body _ w k
       (record { heap = t; receiver = c.0 }) (extends_self w.heap) (frame_typed w.heap vs m.params m.body.locals c.1))
 
-  operations_typed : (n : ℕ) → OperationsTyped p (operations n p)
+  pub operations_typed : (n : ℕ) → OperationsTyped p (operations n p)
   operations_typed zero = record {
     invokes = λ i w k t well. runs_out_kept w t (extends_self w.heap);
     agains = λ s r h line ls w x k good ext v t. runs_out_typed w good ext;
@@ -178,7 +178,7 @@ module _ (p : PlainProgram) (typed : ProgramTyped p) where
         agains = λ s r h line ls w x k good ext v t. turn_typed heap_of (WorldTyped p s r) p s (operation_parts p (operations n p) r) (parts_typed (operations n p) all s r) h x t line ls w k good ext v;
       }
 
-  all_operations_typed : OperationsTyped p (operations_of p)
+  pub all_operations_typed : OperationsTyped p (operations_of p)
   all_operations_typed = record {
     invokes = λ i w k t well. (operations_typed (suc k)).invokes i w k t well;
     agains = λ s r h line ls w x k good ext v t. (operations_typed (suc k)).agains s r h line ls w x k good ext v t;

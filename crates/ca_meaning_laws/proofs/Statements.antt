@@ -34,7 +34,7 @@ module _ {S : Type 0} (heap : S → List Object) (Good : S → Type 0) (s : Scop
   typed_on h (stops t x) f (stops_typed _ _ good ext) r = stops_typed t x good ext
   typed_on h (runs_out x) f (runs_out_typed _ good ext) r = runs_out_typed x good ext
 
-  typed_choose : (h : List Object) (v : Datum) (a b : Flow S) → FlowTyped heap Good s h a → FlowTyped heap Good s h b → FlowTyped heap Good s h (choose v a b)
+  pub typed_choose : (h : List Object) (v : Datum) (a b : Flow S) → FlowTyped heap Good s h a → FlowTyped heap Good s h b → FlowTyped heap Good s h (choose v a b)
   typed_choose h (Truth true) a b x y = x
   typed_choose h (Truth false) a b x y = y
   typed_choose h (Long n) a b x y = y

@@ -40,9 +40,9 @@ fn fields_of(program: &Program, class: ClassId) -> &[FieldInfo]
 /// All objects, in the order of their creation. An object's number is its place.
 #[derive(Drop)]
 pub struct Heap {
-    alloc: Global,
-    objects: Vec<Object>,
-    values: u32,
+    pub(crate) alloc: Global,
+    pub(crate) objects: Vec<Object>,
+    pub(crate) values: u32,
 }
 
 impl Model for Heap {

@@ -8,6 +8,7 @@
 //! lists of objects alone. What a program does with a heap is told by the crates above.
 #![tactic(auto)]
 
+mod copies;
 pub mod heap;
 pub mod line;
 pub mod print;

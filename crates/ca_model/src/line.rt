@@ -1,6 +1,6 @@
 //! A buffer on the stack for what goes out in one write.
 
-ghost use Rattle.std.specs.Prelude.{◌≡◌, ◌++◌, [], if◌then◌else◌, IfOk};
+ghost use Rattle.std.specs.Prelude.{◌≡◌, ◌++◌, [], codes, if◌then◌else◌, IfOk};
 ghost use Rattle.ca_base.specs.Devices.{HasCause, Writes};
 ghost use Rattle.ca_model.specs.Lines.{Adds, joined};
 
@@ -51,6 +51,37 @@ impl Line {
             return Ok(());
         }
         write_all(sink, piece)
+    }
+
+    /// Adds a space, the name of a field and `=`, as one piece.
+    pub fn add_name<K: Sink>(&mut self, sink: &mut K, name: &[u8]) -> Result<(), Failed>
+        ensures bytes { Adds (K.written sink.old) (K.written sink.new) self.old self.new result (codes " " ++ name.now ++ codes "=") }
+        ensures cause { HasCause (K.faults sink.old) (K.faults sink.new) result }
+    {
+        if self.place_name(name) {
+            return Ok(());
+        }
+        if let Err(failed) = self.add(sink, b" ") {
+            return Err(failed);
+        }
+        if let Err(failed) = self.add(sink, name) {
+            return Err(failed);
+        }
+        self.add(sink, b"=")
+    }
+
+    /// Adds a space, the name of a field and `=`, if there is room for all three.
+    fn place_name(&mut self, name: &[u8]) -> bool
+        ensures { self.new ≡ (if result then self.old ++ (codes " " ++ name.now ++ codes "=") else self.old) }
+    {
+        let room = self.pending.remaining_capacity();
+        if room < 2 || name.len() > room - 2 {
+            return false;
+        }
+        self.pending.push(b' ');
+        self.pending.try_extend_from_slice(name).unwrap();
+        self.pending.push(b'=');
+        true
     }
 
     /// Adds the bytes if there is room for them.

@@ -109,13 +109,7 @@ fn add_field<K: Sink>(
     ensures bytes { Adds (K.written sink.old) (K.written sink.new) line.old line.new result (field_text field.now slot.now) }
     ensures cause { HasCause (K.faults sink.old) (K.faults sink.new) result }
 {
-    if let Err(failed) = line.add(sink, b" ") {
-        return Err(failed);
-    }
-    if let Err(failed) = line.add(sink, field.name.as_bytes()) {
-        return Err(failed);
-    }
-    if let Err(failed) = line.add(sink, b"=") {
+    if let Err(failed) = line.add_name(sink, field.name.as_bytes()) {
         return Err(failed);
     }
     add_slot(slot, line, sink)

@@ -19,7 +19,7 @@ pub enum Value {
 /// A list of values.
 #[derive(Drop, Debug)]
 pub struct Values {
-    items: Vec<Value>,
+    pub(crate) items: Vec<Value>,
 }
 
 impl Model for Values {
@@ -122,7 +122,7 @@ impl Slot {
 /// The slots of an object, in the order of its fields.
 #[derive(Drop, Debug)]
 pub struct Slots {
-    items: Vec<Slot>,
+    pub(crate) items: Vec<Slot>,
 }
 
 impl Model for Slots {

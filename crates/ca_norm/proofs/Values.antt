@@ -109,7 +109,7 @@ module _ (v : Valuation) where
       let ps : Sum PlainMonomial = expand a in
       let qs : Sum PlainMonomial = expand b in
       let parts : worth (minus ps ++ (minus qs ++ scale 2 (product times ps qs))) ≡ (2 ^ 64 - 1) * worth ps + ((2 ^ 64 - 1) * worth qs + 2 * worth (product times ps qs)) =
-          total_append (monomial_value v) (minus ps) (minus qs ++ scale 2 (product times ps qs)) ∙ ap₂ (λ m n. m + n) (total_scale (monomial_value v) (2 ^ 64 - 1) ps) (total_append (monomial_value v) (minus qs) (scale 2 (product times ps qs)) ∙ ap₂ (λ m n. m + n) (total_scale (monomial_value v) (2 ^ 64 - 1) qs) (total_scale (monomial_value v) 2 (product times ps qs))) in
+      total_append (monomial_value v) (minus ps) (minus qs ++ scale 2 (product times ps qs)) ∙ ap₂ (λ m n. m + n) (total_scale (monomial_value v) (2 ^ 64 - 1) ps) (total_append (monomial_value v) (minus qs) (scale 2 (product times ps qs)) ∙ ap₂ (λ m n. m + n) (total_scale (monomial_value v) (2 ^ 64 - 1) qs) (total_scale (monomial_value v) 2 (product times ps qs))) in
       let inner : Alike (word_of (mean v a) * word_of (mean v b)) (worth (product times ps qs)) = alike_trans (alike_mul (i tt) (j tt)) (alike_sym (product_value v ps qs)) in
       alike_trans (same_truth_word (mean v a) (mean v b) g h) (alike_trans (alike_add (alike_refl 1) (alike_add (alike_mul (alike_refl (2 ^ 64 - 1)) (i tt)) (alike_add (alike_mul (alike_refl (2 ^ 64 - 1)) (j tt)) (alike_mul (alike_refl 2) inner))))
       (alike_eq (ap (λ z. 1 + z) (sym parts) ∙ sym (total_append (monomial_value v) (truth_sum true) (minus ps ++ (minus qs ++ scale 2 (product times ps qs)))))))
@@ -135,7 +135,6 @@ module _ (v : Valuation) where
   scalar_given Truth t w i h k = let g = typed Truth t i in truth_given t g h ∙ sym g.is
   scalar_given Pointer t w i h k = k refl
   scalar_given s t w i h k = absurd w
-
 
   mutual
     pub expand_means : (s : Sort) (t : PlainTerm) → IsWord s → IsOf s t → Alike (word_of (mean v t)) (worth (expand t))
@@ -172,7 +171,7 @@ module _ (v : Valuation) where
         let one = expand_means s a w i.2 in
         let other = expand_means s b w i.3 in
         let inner : Alike (word_of (mean v c) * (word_of (mean v a) + (2 ^ 64 - 1) * word_of (mean v b))) (worth (product times (expand c) (expand a ++ minus (expand b)))) =
-            alike_trans (alike_mul (expand_means Truth c tt i.1) (alike_trans (alike_add one (alike_mul (alike_refl (2 ^ 64 - 1)) other)) (alike_eq (sym (minus_value v (expand a) (expand b)))))) (alike_sym (product_value v (expand c) (expand a ++ minus (expand b)))) in
+        alike_trans (alike_mul (expand_means Truth c tt i.1) (alike_trans (alike_add one (alike_mul (alike_refl (2 ^ 64 - 1)) other)) (alike_eq (sym (minus_value v (expand a) (expand b)))))) (alike_sym (product_value v (expand c) (expand a ++ minus (expand b)))) in
         alike_trans (chosen_word (mean v c) (mean v a) (mean v b) (typed Truth c i.1)) (alike_trans (alike_add other inner) (alike_eq (sym (total_append (monomial_value v) (expand b) (product times (expand c) (expand a ++ minus (expand b)))))))
     expand_means s (read r p c f) w i = alike_eq (sym (alone_value v (field_of r (pointer_of p) c f) ∙ ap (λ z. word_of (v.read r z c f)) (pointer_means p i.2)))
     expand_means s (read_at r p c f j) w i =

@@ -14,8 +14,8 @@ use ca_forms::parts::{both, longer};
 use ca_forms::pointers::{add_same_pointers, chosen_pointer};
 use ca_forms::polynomial::{Monomial, Part, Pointer, Polynomial, Scalar, Scalars};
 use ca_forms::rules::{
-    add_chosen, add_either, add_less, add_modulus, add_number, add_part, add_quotient, add_same, add_same_truths,
-    add_truth,
+    add_chosen, add_either, add_less, add_modulus, add_number, add_part, add_quotient, add_same,
+    add_same_truths, add_truth,
 };
 use ca_forms::sums::{add_product_of, finish};
 use std::alloc::{AllocError, Global};

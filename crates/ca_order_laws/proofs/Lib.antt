@@ -27,5 +27,6 @@ pub mod ThenListed
 pub mod Standing
 pub mod SerialOrder
 pub mod Loops
+pub mod Complete
 pub mod Examples
 mod IllTyped

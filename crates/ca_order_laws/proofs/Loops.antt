@@ -109,7 +109,7 @@ module _ (written : List FieldId) (ops : List OpId) where
   body_calls p s (return_value l e) c ty within = absurd c
   body_calls p s (print_value l e) c ty within = absurd c
 
-  loop_kept : (p : PlainProgram) (s : Scope) (loop : Statement) → IsCallLoop loop → StatementTyped p s loop → Within ops (calls_of loop) → IsKept written ops loop × (s.result ≡ None)
+  pub loop_kept : (p : PlainProgram) (s : Scope) (loop : Statement) → IsCallLoop loop → StatementTyped p s loop → Within ops (calls_of loop) → IsKept written ops loop × (s.result ≡ None)
   loop_kept p s (for_loop l site part first c next x) f ty within =
       let rest : Within ops (calls_of next ++ calls_of x) = within_right ops (calls_of first) (calls_of next ++ calls_of x) within in
       let b = body_calls p s x f.calls ty.3 (within_right ops (calls_of next) (calls_of x) rest) in

@@ -50,7 +50,7 @@ outcome_object e = cc
 outcome_listed : {m n : Outcome} → done m ≡ done n → m.listed ≡ n.listed
 outcome_listed e = cc
 
-outcome_steps : {m n : Outcome} → done m ≡ done n → m.steps ≡ n.steps
+pub outcome_steps : {m n : Outcome} → done m ≡ done n → m.steps ≡ n.steps
 outcome_steps e = cc
 
 pub leaves_by : (p : PlainProgram) (h : List Object) (i : Invocation) (o : Object) (m : Outcome) → Leaves p h i o m → LeavesBy p h i o m

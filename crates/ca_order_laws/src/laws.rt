@@ -1,5 +1,6 @@
 //! The laws of order.
 
+ghost use Rattle.ca_order_laws.specs.Complete.{LoopSectionsEndAlike, RunsEndAlike, SectionsEndAlike};
 ghost use Rattle.ca_order_laws.specs.Order.{AnyFrozenHeap, DepthFirst, Diamond, Finishes, LoopThenList, OneEnd, Rounds, RunsStay, SectionThenList};
 
 /// A section reads constants of the frozen heap alone, so whoever runs sections may keep any heap that
@@ -50,4 +51,21 @@ pub fn a_call_loop_is_its_section_and_its_list()
 /// it an engine that runs the operations of a parallel extent in an order of its own answers what the serial run would.
 pub fn depth_first_is_a_complete_run()
     ensures { DepthFirst }
+{}
+
+/// A complete section is so, with one outcome, within each budget that has its steps and within no other: an engine may
+/// run it within whatever is left.
+pub fn sections_end_alike()
+    ensures { SectionsEndAlike }
+{}
+
+/// So is the section of a loop of serial code: what it did within the budget of a run it does within that of another.
+pub fn loop_sections_end_alike()
+    ensures { LoopSectionsEndAlike }
+{}
+
+/// So is the serial run of operations in order: what an engine answers within a budget holds of each that has the steps,
+/// and there is one such answer.
+pub fn serial_runs_end_alike()
+    ensures { RunsEndAlike }
 {}

@@ -7,3 +7,6 @@ pub mod Parallel
 pub mod Marks
 pub mod Calls
 pub mod Lists
+pub mod Notes
+pub mod Accounts
+pub mod Scoped

@@ -13,6 +13,7 @@ use Rattle.ca_tree.specs.declared.tree.TypeNode.{TypeNode}
 use Rattle.ca_tree.specs.declared.tree.TypeNode.TheVariants.{Long, Bool as BoolType, Pointer}
 use Rattle.ca_tree.specs.declared.tree.AssignOp.{AssignOp}
 use Rattle.ca_tree.specs.declared.tree.AssignOp.TheVariants.{Put, Add, Sub, Mul}
+use Rattle.ca_tree.specs.Operators.{unary_level}
 use Rattle.ca_tree.specs.Plain.{Expression, RightSide, Statement, number as number_tree, value, new, local, assign}
 use Rattle.ca_expressions.specs.Terminals.{key, key_of, sign, sign_of, goes_on, goes_on_of}
 use Rattle.ca_expressions.specs.Grammar.{OuterExpression, is_target}
@@ -447,16 +448,16 @@ abbrev pub put_to : Expression → Part Token Statement
 put_to y = record { D = AssignTo y; C = AssignToClosed y; some = default_of (assign_to_parts y).D (AssignTo y) (assign_to_join y) (assign_to_parts y).some }
 
 -- what stands behind a target does not go on with it
-pub change_ended : (free : ℕ) (s r : List Token) (c : AssignOp × RightSide) → Change free s c r → head_of (goes_on 6) s ≡ None
-change_ended free s r c (puts a v) = sign_gives (goes_on_of 6) AssignSign a
-change_ended free s r c (increments d) = sign_gives (goes_on_of 6) Increment d
-change_ended free s r c (decrements d) = sign_gives (goes_on_of 6) Decrement d
+pub change_ended : (free : ℕ) (s r : List Token) (c : AssignOp × RightSide) → Change free s c r → head_of (goes_on unary_level) s ≡ None
+change_ended free s r c (puts a v) = sign_gives (goes_on_of unary_level) AssignSign a
+change_ended free s r c (increments d) = sign_gives (goes_on_of unary_level) Increment d
+change_ended free s r c (decrements d) = sign_gives (goes_on_of unary_level) Decrement d
 change_ended free s r c (changes o e) = compound_ended _ _ _ o
   where
-    compound_ended : (s r : List Token) (o : AssignOp) → Compound s o r → head_of (goes_on 6) s ≡ None
-    compound_ended s r o (plus_assign d) = sign_gives (goes_on_of 6) PlusAssign d
-    compound_ended s r o (minus_assign d) = sign_gives (goes_on_of 6) MinusAssign d
-    compound_ended s r o (times_assign d) = sign_gives (goes_on_of 6) TimesAssign d
+    compound_ended : (s r : List Token) (o : AssignOp) → Compound s o r → head_of (goes_on unary_level) s ≡ None
+    compound_ended s r o (plus_assign d) = sign_gives (goes_on_of unary_level) PlusAssign d
+    compound_ended s r o (minus_assign d) = sign_gives (goes_on_of unary_level) MinusAssign d
+    compound_ended s r o (times_assign d) = sign_gives (goes_on_of unary_level) TimesAssign d
 
 -- a target
 abbrev pub a_target : Part Token Expression

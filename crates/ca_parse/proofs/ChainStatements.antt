@@ -14,6 +14,7 @@ use Rattle.ca_tree.specs.declared.tree.AssignOp.TheVariants.{Add}
 use Rattle.ca_tree.specs.declared.tree.StmtNode.{StmtNode}
 use Rattle.ca_tree.specs.View.{statement_view, statements_view}
 use Rattle.ca_tree.specs.declared.tree.TypeNode.{TypeNode}
+use Rattle.ca_tree.specs.Operators.{unary_level}
 use Rattle.ca_tree.specs.Plain.{Expression, RightSide, Statement, number as number_tree, truth, null, this, named, call, field, method, index, unary, binary, value, assign, statement_and, call_statement}
 use Rattle.ca_expressions.specs.Terminals.{key, key_of, sign, sign_of, name, name_of, goes_on_of}
 use Rattle.ca_expressions.specs.Grammar.{Chain, this_chain, name_chain, call_chain, args, Tails, tails_end, tails_more, Tail, field_tail, method_tail, index_tail, OuterChain, is_call, is_target}
@@ -92,7 +93,7 @@ simple_join free s r x (then c u) = at _ _ _ _ x r (use_is c.tree _ c.picked) c.
 
 pub simple_split : (free : ℕ) (s r : List Token) (x : Statement) → Simple free s x r → chain_parts.C free s x r
 simple_split free s r x (simple_call c h e) =
-    upto (record { tree = _; it = record { it = c; stop = sign_gives (goes_on_of 6) Semicolon e }; picked = call_use _ h }) (called e)
+    upto (record { tree = _; it = record { it = c; stop = sign_gives (goes_on_of unary_level) Semicolon e }; picked = call_use _ h }) (called e)
 simple_split free s r x (simple_put (assign_line (assigns c h d) e)) =
     upto (record { tree = _; it = record { it = c; stop = change_ended _ _ _ _ d }; picked = put_use _ h }) (put (assign_to d) e)
 

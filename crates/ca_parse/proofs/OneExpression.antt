@@ -9,6 +9,8 @@ use Rattle.ca_tree.specs.declared.token.Token.{Token}
 use Rattle.ca_tree.specs.declared.token.Keyword.TheVariants.{This}
 use Rattle.ca_tree.specs.declared.token.Sign.TheVariants.{OpenParenthesis, CloseParenthesis, OpenBracket, CloseBracket, Comma, Arrow}
 use Rattle.ca_tree.specs.declared.tree.BinaryOp.{BinaryOp}
+use Rattle.ca_tree.specs.declared.operators.TheConstants.{LEVELS}
+use Rattle.ca_tree.specs.Operators.{unary_level}
 use Rattle.ca_tree.specs.Plain.{Expression}
 use Rattle.ca_expressions.specs.Terminals.{key, key_of, sign, sign_of, goes_on, goes_on_of, literal, unary_operator, operator, tail_front, tail_of}
 use Rattle.ca_expressions.specs.Grammar.{Level, operands, one_operand, Operands, operands_end, operands_more, Unary, unary_first, unary_last, Primary, a_literal, a_chain, in_brackets, Chain, this_chain, name_chain, call_chain, Tails, tails_end, tails_more, Tail, field_tail, method_tail, index_tail, Args, args, Listed, listed_none, listed, Further, further_none, further, Expr, OuterExpression, ExpressionEnded, OuterChain, ChainEnded}
@@ -27,7 +29,7 @@ no_operator k s h = at (head_of (operator k) s) refl
     at None e = e
     at (Some b) e = absurd (operator_goes_on k s b e h)
 
-no_tail : (s : List Token) → head_of (goes_on 6) s ≡ None → head_of tail_front s ≡ None
+no_tail : (s : List Token) → head_of (goes_on unary_level) s ≡ None → head_of tail_front s ≡ None
 no_tail s h = at (head_of tail_front s) refl
   where
     at : (o : Option Place) → head_of tail_front s ≡ o → head_of tail_front s ≡ None
@@ -47,41 +49,41 @@ further_follow (further_none c) = sign_gives (goes_on_of 0) CloseParenthesis c
 further_follow (further c l m) = sign_gives (goes_on_of 0) Comma c
 
 mutual
-  pub level_tells : (k : ℕ) {s r : List Token} {x : Expression} → k ≤ 6 → Level k s x r → head_of (goes_on k) r ≡ None
+  pub level_tells : (k : ℕ) {s r : List Token} {x : Expression} → k ≤ LEVELS → Level k s x r → head_of (goes_on k) r ≡ None
       → Exact (Unlimited (Level k)) (Closed k (Level k)) s (Got x r)
   level_tells k h (operands g l m) e = level_answer g (and_ok (level_tells (k + 1) (omega (arith, g)) l (operands_follow m e)) (operands_tells k g m e))
   level_tells k {s} {r} {x} h (one_operand g u) e =
-      let f : 6 ≡ k = omega (arith, g, h) in
+      let f : LEVELS ≡ k = omega (arith, g, h) in
       subst (λ z. Exact (Unlimited (Level z)) (Closed z (Level z)) s (Got x r)) f
       (unary_answer (unary_tells u (subst (λ z. head_of (goes_on z) r ≡ None) (sym f) e)))
 
-  operands_tells : (k : ℕ) {a x : Expression} {s r : List Token} → k < 6 → Operands k a s x r → head_of (goes_on k) r ≡ None
+  operands_tells : (k : ℕ) {a x : Expression} {s r : List Token} → k < LEVELS → Operands k a s x r → head_of (goes_on k) r ≡ None
       → Exact (Unlimited (Operands k a)) (Closed k (Operands k a)) s (Got x r)
   operands_tells k {a} {s = s} g operands_end e = operands_stop k a (no_operator k s e)
   operands_tells k {a} g (operands_more o l m) e = operand_answer k a (sees_head (operator k) o) (and_ok (sees_got o)
       (and_ok (level_tells (k + 1) (omega (arith, g)) l (operands_follow m e)) (operands_tells k g m e)))
 
-  unary_tells : {s r : List Token} {x : Expression} → Unary s x r → head_of (goes_on 6) r ≡ None
-      → Exact (Unlimited Unary) (Closed 6 Unary) s (Got x r)
+  unary_tells : {s r : List Token} {x : Expression} → Unary s x r → head_of (goes_on unary_level) r ≡ None
+      → Exact (Unlimited Unary) (Closed unary_level Unary) s (Got x r)
   unary_tells (unary_first o u) e = sign_answer (sees_head unary_operator o) (and_ok (sees_got o) (and_ok (unary_tells u e) and_done))
   unary_tells (unary_last p) e = primary_answer (primary_no_unary p) (primary_tells p e)
 
-  primary_tells : {s r : List Token} {x : Expression} → Primary s x r → head_of (goes_on 6) r ≡ None
-      → Exact (Unlimited Primary) (Closed 6 Primary) s (Got x r)
+  primary_tells : {s r : List Token} {x : Expression} → Primary s x r → head_of (goes_on unary_level) r ≡ None
+      → Exact (Unlimited Primary) (Closed unary_level Primary) s (Got x r)
   primary_tells (a_literal d) e = literal_answer (sees_head literal d) (and_ok (sees_got d) and_done)
   primary_tells (a_chain c) e = chain_answer (chain_no_literal c) (chain_no_bracket c) (chain_tells c e)
   primary_tells (in_brackets o l c t) e = bracket_answer (sees_head (sign OpenParenthesis) o) (and_ok (sees_got o)
       (and_ok (level_tells 0 (omega arith) l (sign_gives (goes_on_of 0) CloseParenthesis c)) (and_ok (sees_got c) (tails_tells t e))))
 
-  pub chain_tells : {s r : List Token} {x : Expression} → Chain s x r → head_of (goes_on 6) r ≡ None
-      → Exact (Unlimited Chain) (Closed 6 Chain) s (Got x r)
+  pub chain_tells : {s r : List Token} {x : Expression} → Chain s x r → head_of (goes_on unary_level) r ≡ None
+      → Exact (Unlimited Chain) (Closed unary_level Chain) s (Got x r)
   chain_tells (this_chain d t) e = this_answer (sees_head (key This) d) (and_ok (sees_got d) (tails_tells t e))
   chain_tells (name_chain n t) e = name_answer (name_gives (key_of This) n) (and_ok (sees_got n) (plain_answer _ (tails_follow t e) (tails_tells t e)))
   chain_tells (call_chain n a t) e = name_answer (name_gives (key_of This) n) (and_ok (sees_got n)
       (called_answer _ (args_head a).1 (and_ok (args_tells a) (tails_tells t e))))
 
-  tails_tells : {a x : Expression} {s r : List Token} → Tails a s x r → head_of (goes_on 6) r ≡ None
-      → Exact (Unlimited (Tails a)) (Closed 6 (Tails a)) s (Got x r)
+  tails_tells : {a x : Expression} {s r : List Token} → Tails a s x r → head_of (goes_on unary_level) r ≡ None
+      → Exact (Unlimited (Tails a)) (Closed unary_level (Tails a)) s (Got x r)
   tails_tells {a} {s = s} tails_end e = tails_stop a (no_tail s e)
   tails_tells {a} (tails_more t m) e = tails_answer a (tail_head t).1 (and_ok (tail_tells t (tails_follow m e)) (tails_tells m e))
 
@@ -113,7 +115,7 @@ expression_alone free s r x d h = record {
       (record { it = subst (λ z. Level 0 z y q) (sym c.it.cut) (c.it.derives q); stop = c.stop });
 }
 
-pub chain_alone : (free : ℕ) (s r : List Token) (x : Expression) → OuterChain free s x r → head_of (goes_on 6) r ≡ None → Alone ChainEnded s x r
+pub chain_alone : (free : ℕ) (s r : List Token) (x : Expression) → OuterChain free s x r → head_of (goes_on unary_level) r ≡ None → Alone ChainEnded s x r
 chain_alone free s r x d h = record {
   only = λ free' q y c. (exact_alone (chain_tells (subst (λ z. Chain z x r) (sym d.cut) (d.derives r)) h)).only 0 q y
       (record { it = subst (λ z. Chain z y q) (sym c.it.cut) (c.it.derives q); stop = c.stop });

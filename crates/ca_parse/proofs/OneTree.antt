@@ -13,6 +13,7 @@ use Rattle.ca_tree.specs.declared.token.Sign.TheVariants.{OpenBrace, CloseBrace,
 use Rattle.ca_tree.specs.declared.tree.TypeNode.{TypeNode}
 use Rattle.ca_tree.specs.declared.tree.AssignOp.{AssignOp}
 use Rattle.ca_tree.specs.declared.tree.ParamNode.{ParamNode}
+use Rattle.ca_tree.specs.Operators.{unary_level}
 use Rattle.ca_tree.specs.Plain.{Expression, RightSide, Statement, MemberTree, ClassTree, TextTree, call_statement, if_only}
 use Rattle.ca_expressions.specs.Terminals.{key, key_of, sign, sign_of, goes_on, goes_on_of}
 use Rattle.ca_expressions.specs.Grammar.{OuterChain}
@@ -120,7 +121,7 @@ used_put x s m r y e a d = record { only = λ free q z c. at free s q z a c }
 
 simple_tells : (free : ℕ) (s r : List Token) (x : Statement) → Simple free s x r → Alone Simple s x r
 simple_tells free s r x (simple_call c h e) = fewer_alone (λ free q y d. simple_split free s q y d)
-    (then_alone (picked_alone (call_use _ h) (target_alone _ _ _ _ c (sign_gives (goes_on_of 6) Semicolon e))) (used_call _ _ _ _ e))
+    (then_alone (picked_alone (call_use _ h) (target_alone _ _ _ _ c (sign_gives (goes_on_of unary_level) Semicolon e))) (used_call _ _ _ _ e))
 simple_tells free s r x (simple_put (assign_line (assigns c h d) e)) = fewer_alone (λ free q y k. simple_split free s q y k)
     (then_alone (picked_alone (put_use _ h) (target_alone _ _ _ _ c (change_ended _ _ _ _ d)))
     (used_put _ _ _ _ _ _ (assign_to_alone _ (then_alone (change_tells _ _ _ _ d (ended_sign Semicolon e (λ at. refl))) done_alone)) e))

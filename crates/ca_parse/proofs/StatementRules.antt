@@ -11,6 +11,7 @@ use Rattle.ca_tree.specs.declared.token.Sign.TheVariants.{OpenBrace, CloseBrace,
 use Rattle.ca_tree.specs.Plain.{Expression, Statement, empty, block, if_only, if_else, while_loop, for_loop, return_value, print_value}
 use Rattle.ca_expressions.specs.Terminals.{key, key_of, sign, sign_of}
 use Rattle.ca_expressions.proofs.Terminals.{token, key_gives, sign_gives, word, mark}
+use Rattle.ca_parse.specs.declared.statements.TheConstants.{DEEPEST}
 use Rattle.ca_parse.specs.Grammar.{First, first_assign, Nested, Stmt, nothing, a_block, an_assign, a_call, an_if, an_if_else, a_while, a_for, a_return, a_print, Items, items_end, is_open, statements}
 use Rattle.ca_parse.specs.Closed.{StmtClosed, Otherwise, with_else, without, OtherwiseClosed, Condition, condition, ReturnRest, return_rest, PrintRest, print_rest, IfRest, if_rest, IfRestClosed, WhileRest, while_rest, WhileRestClosed, ForRest, for_rest, ForRestClosed, is_nested}
 use Rattle.ca_parse.proofs.Alone.{Alone, fewer_alone}
@@ -181,16 +182,16 @@ for_part depth at = record { D = ForRest depth at; C = ForRestClosed depth at; s
 abbrev pub block_parts : (depth : ℕ) → Part Token Statement
 block_parts depth = mark OpenBrace ⨾ λ p. items_part (depth + 1) ⨾ λ xs. finish (block p (statements xs))
 
-block_join : (depth free : ℕ) (s r : List Token) (x : Statement) → Limited (depth < 200) (block_parts depth).D free s x r → Stmt depth free s x r
+block_join : (depth free : ℕ) (s r : List Token) (x : Statement) → Limited (depth < DEEPEST) (block_parts depth).D free s x r → Stmt depth free s x r
 block_join depth free s r x m = at s r x m.it m.asked
   where
     at : (s r : List Token) (x : Statement) → (block_parts depth).D free s x r → Nested depth free s → Stmt depth free s x r
     at s r x (then d (then i done)) n = a_block n d i
 
-pub block_split : (depth : ℕ) (a : Place) (free : ℕ) (s r : List Token) (x : Statement) → Seen (sign OpenBrace) a (StmtClosed depth) free s x r → Limited (depth < 200) (block_parts depth).C free s x r
+pub block_split : (depth : ℕ) (a : Place) (free : ℕ) (s r : List Token) (x : Statement) → Seen (sign OpenBrace) a (StmtClosed depth) free s x r → Limited (depth < DEEPEST) (block_parts depth).C free s x r
 block_split depth a free s r x c = at free s r x c.it.it c.it.shut c.seen
   where
-    at : (free : ℕ) (s r : List Token) (x : Statement) → Stmt depth free s x r → (is_some (head_of (key Else) r) ≡ true → is_open x ≡ false) → head_of (sign OpenBrace) s ≡ Some a → Limited (depth < 200) (block_parts depth).C free s x r
+    at : (free : ℕ) (s r : List Token) (x : Statement) → Stmt depth free s x r → (is_some (head_of (key Else) r) ≡ true → is_open x ≡ false) → head_of (sign OpenBrace) s ≡ Some a → Limited (depth < DEEPEST) (block_parts depth).C free s x r
     at free s r x (a_block n d i) h g = record { it = upto d (upto i done); asked = n }
     at free s r x (nothing d) h g = let f = sign_gives (sign_of OpenBrace) Semicolon d in absurd cc
     at free s r x (an_if n d o e c y) h g = let f = key_gives (sign_of OpenBrace) If d in absurd cc
@@ -202,13 +203,13 @@ block_split depth a free s r x c = at free s r x c.it.it c.it.shut c.seen
     at free s r x (an_assign a) h g = let f = assign_front (sign_of OpenBrace) (λ p. refl) (λ n p. refl) _ _ _ _ a in absurd cc
     at free s r x (a_call c t e) h g = let f = chain_front (sign_of OpenBrace) (λ p. refl) (λ n p. refl) _ _ _ _ c in absurd cc
 
-pub block_answer : (depth : ℕ) {a : Place} {s : List Token} {o : Answer Token Statement} → depth < 200 → head_of (sign OpenBrace) s ≡ Some a → Exact (block_parts depth).D (block_parts depth).C s o → Exact (Stmt depth) (StmtClosed depth) s o
+pub block_answer : (depth : ℕ) {a : Place} {s : List Token} {o : Answer Token Statement} → depth < DEEPEST → head_of (sign OpenBrace) s ≡ Some a → Exact (block_parts depth).D (block_parts depth).C s o → Exact (Stmt depth) (StmtClosed depth) s o
 block_answer depth {a} k h d = seen {want = sign OpenBrace} h (exact_map (block_join depth) (block_split depth a) (limited_ok k d))
 
 pub block_alone : (depth : ℕ) {a : Place} {s r : List Token} {x : Statement} → head_of (sign OpenBrace) s ≡ Some a → Alone (block_parts depth).C s x r → Alone (StmtClosed depth) s x r
 block_alone depth {a} {s = s} h d = fewer_alone (λ free q y c. (block_split depth a free s q y (record { it = c; seen = h })).it) d
 
-pub block_deep : (depth : ℕ) {a : Place} (s : List Token) → (depth < 200 → ⊥) → head_of (sign OpenBrace) s ≡ Some a → Exact (Stmt depth) (StmtClosed depth) s (Failed (TooDeep s))
+pub block_deep : (depth : ℕ) {a : Place} (s : List Token) → (depth < DEEPEST → ⊥) → head_of (sign OpenBrace) s ≡ Some a → Exact (Stmt depth) (StmtClosed depth) s (Failed (TooDeep s))
 block_deep depth {a} [] k h = absurd cc
 block_deep depth {a} (t ∷ q) k h = seen {want = sign OpenBrace} h (exact_map (block_join depth) (block_split depth a)
     (limited_deep k refl (default_from {want = sign OpenBrace} (block_parts depth).D h (λ free s r y d. d))))
@@ -216,17 +217,17 @@ block_deep depth {a} (t ∷ q) k h = seen {want = sign OpenBrace} h (exact_map (
 abbrev pub if_parts : (depth : ℕ) → Part Token Statement
 if_parts depth = word If ⨾ λ p. if_part depth p
 
-if_join : (depth free : ℕ) (s r : List Token) (x : Statement) → Limited (depth < 200) (if_parts depth).D free s x r → Stmt depth free s x r
+if_join : (depth free : ℕ) (s r : List Token) (x : Statement) → Limited (depth < DEEPEST) (if_parts depth).D free s x r → Stmt depth free s x r
 if_join depth free s r x m = at s r x m.it m.asked
   where
     at : (s r : List Token) (x : Statement) → (if_parts depth).D free s x r → Nested depth free s → Stmt depth free s x r
     at s r x (then d (if_rest (condition o e c) y without)) n = an_if n d o e c y
     at s r x (then d (if_rest (condition o e c) y (with_else h k z))) n = an_if_else n d o e c y h k z
 
-pub if_split : (depth : ℕ) (a : Place) (free : ℕ) (s r : List Token) (x : Statement) → Seen (key If) a (StmtClosed depth) free s x r → Limited (depth < 200) (if_parts depth).C free s x r
+pub if_split : (depth : ℕ) (a : Place) (free : ℕ) (s r : List Token) (x : Statement) → Seen (key If) a (StmtClosed depth) free s x r → Limited (depth < DEEPEST) (if_parts depth).C free s x r
 if_split depth a free s r x c = at free s r x c.it.it c.it.shut c.seen
   where
-    at : (free : ℕ) (s r : List Token) (x : Statement) → Stmt depth free s x r → (is_some (head_of (key Else) r) ≡ true → is_open x ≡ false) → head_of (key If) s ≡ Some a → Limited (depth < 200) (if_parts depth).C free s x r
+    at : (free : ℕ) (s r : List Token) (x : Statement) → Stmt depth free s x r → (is_some (head_of (key Else) r) ≡ true → is_open x ≡ false) → head_of (key If) s ≡ Some a → Limited (depth < DEEPEST) (if_parts depth).C free s x r
     at free s r x (an_if n d o e c y) h g = record { it = upto d (record { it = if_rest (condition o e c) y without; shut = h }); asked = n }
     at free s r x (an_if_else n d o e c y k l z) h g = record { it = upto d (record { it = if_rest (condition o e c) y (with_else k l z); shut = h }); asked = n }
     at free s r x (nothing d) h g = let f = sign_gives (key_of If) Semicolon d in absurd cc
@@ -238,13 +239,13 @@ if_split depth a free s r x c = at free s r x c.it.it c.it.shut c.seen
     at free s r x (an_assign a) h g = let f = assign_front (key_of If) (λ p. refl) (λ n p. refl) _ _ _ _ a in absurd cc
     at free s r x (a_call c t e) h g = let f = chain_front (key_of If) (λ p. refl) (λ n p. refl) _ _ _ _ c in absurd cc
 
-pub if_answer : (depth : ℕ) {a : Place} {s : List Token} {o : Answer Token Statement} → depth < 200 → head_of (key If) s ≡ Some a → Exact (if_parts depth).D (if_parts depth).C s o → Exact (Stmt depth) (StmtClosed depth) s o
+pub if_answer : (depth : ℕ) {a : Place} {s : List Token} {o : Answer Token Statement} → depth < DEEPEST → head_of (key If) s ≡ Some a → Exact (if_parts depth).D (if_parts depth).C s o → Exact (Stmt depth) (StmtClosed depth) s o
 if_answer depth {a} k h d = seen {want = key If} h (exact_map (if_join depth) (if_split depth a) (limited_ok k d))
 
 pub if_alone : (depth : ℕ) {a : Place} {s r : List Token} {x : Statement} → head_of (key If) s ≡ Some a → Alone (if_parts depth).C s x r → Alone (StmtClosed depth) s x r
 if_alone depth {a} {s = s} h d = fewer_alone (λ free q y c. (if_split depth a free s q y (record { it = c; seen = h })).it) d
 
-pub if_deep : (depth : ℕ) {a : Place} (s : List Token) → (depth < 200 → ⊥) → head_of (key If) s ≡ Some a → Exact (Stmt depth) (StmtClosed depth) s (Failed (TooDeep s))
+pub if_deep : (depth : ℕ) {a : Place} (s : List Token) → (depth < DEEPEST → ⊥) → head_of (key If) s ≡ Some a → Exact (Stmt depth) (StmtClosed depth) s (Failed (TooDeep s))
 if_deep depth {a} [] k h = absurd cc
 if_deep depth {a} (t ∷ q) k h = seen {want = key If} h (exact_map (if_join depth) (if_split depth a)
     (limited_deep k refl (default_from {want = key If} (if_parts depth).D h (λ free s r y d. d))))
@@ -252,16 +253,16 @@ if_deep depth {a} (t ∷ q) k h = seen {want = key If} h (exact_map (if_join dep
 abbrev pub while_parts : (depth : ℕ) → Part Token Statement
 while_parts depth = word While ⨾ λ p. while_part depth p
 
-while_join : (depth free : ℕ) (s r : List Token) (x : Statement) → Limited (depth < 200) (while_parts depth).D free s x r → Stmt depth free s x r
+while_join : (depth free : ℕ) (s r : List Token) (x : Statement) → Limited (depth < DEEPEST) (while_parts depth).D free s x r → Stmt depth free s x r
 while_join depth free s r x m = at s r x m.it m.asked
   where
     at : (s r : List Token) (x : Statement) → (while_parts depth).D free s x r → Nested depth free s → Stmt depth free s x r
     at s r x (then d (while_rest (condition o e c) y)) n = a_while n d o e c y
 
-pub while_split : (depth : ℕ) (a : Place) (free : ℕ) (s r : List Token) (x : Statement) → Seen (key While) a (StmtClosed depth) free s x r → Limited (depth < 200) (while_parts depth).C free s x r
+pub while_split : (depth : ℕ) (a : Place) (free : ℕ) (s r : List Token) (x : Statement) → Seen (key While) a (StmtClosed depth) free s x r → Limited (depth < DEEPEST) (while_parts depth).C free s x r
 while_split depth a free s r x c = at free s r x c.it.it c.it.shut c.seen
   where
-    at : (free : ℕ) (s r : List Token) (x : Statement) → Stmt depth free s x r → (is_some (head_of (key Else) r) ≡ true → is_open x ≡ false) → head_of (key While) s ≡ Some a → Limited (depth < 200) (while_parts depth).C free s x r
+    at : (free : ℕ) (s r : List Token) (x : Statement) → Stmt depth free s x r → (is_some (head_of (key Else) r) ≡ true → is_open x ≡ false) → head_of (key While) s ≡ Some a → Limited (depth < DEEPEST) (while_parts depth).C free s x r
     at free s r x (a_while n d o e c y) h g = record { it = upto d (record { it = while_rest (condition o e c) y; shut = h }); asked = n }
     at free s r x (nothing d) h g = let f = sign_gives (key_of While) Semicolon d in absurd cc
     at free s r x (a_block n d i) h g = let f = sign_gives (key_of While) OpenBrace d in absurd cc
@@ -273,13 +274,13 @@ while_split depth a free s r x c = at free s r x c.it.it c.it.shut c.seen
     at free s r x (an_assign a) h g = let f = assign_front (key_of While) (λ p. refl) (λ n p. refl) _ _ _ _ a in absurd cc
     at free s r x (a_call c t e) h g = let f = chain_front (key_of While) (λ p. refl) (λ n p. refl) _ _ _ _ c in absurd cc
 
-pub while_answer : (depth : ℕ) {a : Place} {s : List Token} {o : Answer Token Statement} → depth < 200 → head_of (key While) s ≡ Some a → Exact (while_parts depth).D (while_parts depth).C s o → Exact (Stmt depth) (StmtClosed depth) s o
+pub while_answer : (depth : ℕ) {a : Place} {s : List Token} {o : Answer Token Statement} → depth < DEEPEST → head_of (key While) s ≡ Some a → Exact (while_parts depth).D (while_parts depth).C s o → Exact (Stmt depth) (StmtClosed depth) s o
 while_answer depth {a} k h d = seen {want = key While} h (exact_map (while_join depth) (while_split depth a) (limited_ok k d))
 
 pub while_alone : (depth : ℕ) {a : Place} {s r : List Token} {x : Statement} → head_of (key While) s ≡ Some a → Alone (while_parts depth).C s x r → Alone (StmtClosed depth) s x r
 while_alone depth {a} {s = s} h d = fewer_alone (λ free q y c. (while_split depth a free s q y (record { it = c; seen = h })).it) d
 
-pub while_deep : (depth : ℕ) {a : Place} (s : List Token) → (depth < 200 → ⊥) → head_of (key While) s ≡ Some a → Exact (Stmt depth) (StmtClosed depth) s (Failed (TooDeep s))
+pub while_deep : (depth : ℕ) {a : Place} (s : List Token) → (depth < DEEPEST → ⊥) → head_of (key While) s ≡ Some a → Exact (Stmt depth) (StmtClosed depth) s (Failed (TooDeep s))
 while_deep depth {a} [] k h = absurd cc
 while_deep depth {a} (t ∷ q) k h = seen {want = key While} h (exact_map (while_join depth) (while_split depth a)
     (limited_deep k refl (default_from {want = key While} (while_parts depth).D h (λ free s r y d. d))))
@@ -287,16 +288,16 @@ while_deep depth {a} (t ∷ q) k h = seen {want = key While} h (exact_map (while
 abbrev pub for_parts : (depth : ℕ) → Part Token Statement
 for_parts depth = word For ⨾ λ p. for_part depth p
 
-for_join : (depth free : ℕ) (s r : List Token) (x : Statement) → Limited (depth < 200) (for_parts depth).D free s x r → Stmt depth free s x r
+for_join : (depth free : ℕ) (s r : List Token) (x : Statement) → Limited (depth < DEEPEST) (for_parts depth).D free s x r → Stmt depth free s x r
 for_join depth free s r x m = at s r x m.it m.asked
   where
     at : (s r : List Token) (x : Statement) → (for_parts depth).D free s x r → Nested depth free s → Stmt depth free s x r
     at s r x (then d (for_rest o i e m a c y)) n = a_for n d o i e m a c y
 
-pub for_split : (depth : ℕ) (a : Place) (free : ℕ) (s r : List Token) (x : Statement) → Seen (key For) a (StmtClosed depth) free s x r → Limited (depth < 200) (for_parts depth).C free s x r
+pub for_split : (depth : ℕ) (a : Place) (free : ℕ) (s r : List Token) (x : Statement) → Seen (key For) a (StmtClosed depth) free s x r → Limited (depth < DEEPEST) (for_parts depth).C free s x r
 for_split depth a free s r x c = at free s r x c.it.it c.it.shut c.seen
   where
-    at : (free : ℕ) (s r : List Token) (x : Statement) → Stmt depth free s x r → (is_some (head_of (key Else) r) ≡ true → is_open x ≡ false) → head_of (key For) s ≡ Some a → Limited (depth < 200) (for_parts depth).C free s x r
+    at : (free : ℕ) (s r : List Token) (x : Statement) → Stmt depth free s x r → (is_some (head_of (key Else) r) ≡ true → is_open x ≡ false) → head_of (key For) s ≡ Some a → Limited (depth < DEEPEST) (for_parts depth).C free s x r
     at free s r x (a_for n d o i e m a c y) h g = record { it = upto d (record { it = for_rest o i e m a c y; shut = h }); asked = n }
     at free s r x (nothing d) h g = let f = sign_gives (key_of For) Semicolon d in absurd cc
     at free s r x (a_block n d i) h g = let f = sign_gives (key_of For) OpenBrace d in absurd cc
@@ -308,19 +309,19 @@ for_split depth a free s r x c = at free s r x c.it.it c.it.shut c.seen
     at free s r x (an_assign a) h g = let f = assign_front (key_of For) (λ p. refl) (λ n p. refl) _ _ _ _ a in absurd cc
     at free s r x (a_call c t e) h g = let f = chain_front (key_of For) (λ p. refl) (λ n p. refl) _ _ _ _ c in absurd cc
 
-pub for_answer : (depth : ℕ) {a : Place} {s : List Token} {o : Answer Token Statement} → depth < 200 → head_of (key For) s ≡ Some a → Exact (for_parts depth).D (for_parts depth).C s o → Exact (Stmt depth) (StmtClosed depth) s o
+pub for_answer : (depth : ℕ) {a : Place} {s : List Token} {o : Answer Token Statement} → depth < DEEPEST → head_of (key For) s ≡ Some a → Exact (for_parts depth).D (for_parts depth).C s o → Exact (Stmt depth) (StmtClosed depth) s o
 for_answer depth {a} k h d = seen {want = key For} h (exact_map (for_join depth) (for_split depth a) (limited_ok k d))
 
 pub for_alone : (depth : ℕ) {a : Place} {s r : List Token} {x : Statement} → head_of (key For) s ≡ Some a → Alone (for_parts depth).C s x r → Alone (StmtClosed depth) s x r
 for_alone depth {a} {s = s} h d = fewer_alone (λ free q y c. (for_split depth a free s q y (record { it = c; seen = h })).it) d
 
-pub for_deep : (depth : ℕ) {a : Place} (s : List Token) → (depth < 200 → ⊥) → head_of (key For) s ≡ Some a → Exact (Stmt depth) (StmtClosed depth) s (Failed (TooDeep s))
+pub for_deep : (depth : ℕ) {a : Place} (s : List Token) → (depth < DEEPEST → ⊥) → head_of (key For) s ≡ Some a → Exact (Stmt depth) (StmtClosed depth) s (Failed (TooDeep s))
 for_deep depth {a} [] k h = absurd cc
 for_deep depth {a} (t ∷ q) k h = seen {want = key For} h (exact_map (for_join depth) (for_split depth a)
     (limited_deep k refl (default_from {want = key For} (for_parts depth).D h (λ free s r y d. d))))
 
 -- a statement that would pass the limit
-pub nested_deep : (depth : ℕ) (s : List Token) → (depth < 200 → ⊥) → is_nested s ≡ true → Exact (Stmt depth) (StmtClosed depth) s (Failed (TooDeep s))
+pub nested_deep : (depth : ℕ) (s : List Token) → (depth < DEEPEST → ⊥) → is_nested s ≡ true → Exact (Stmt depth) (StmtClosed depth) s (Failed (TooDeep s))
 nested_deep depth s k h = at (head_of (sign OpenBrace) s) (head_of (key If) s) (head_of (key While) s) (head_of (key For) s) refl refl refl refl h
   where
     at : (a b c d : Option Place) → head_of (sign OpenBrace) s ≡ a → head_of (key If) s ≡ b → head_of (key While) s ≡ c → head_of (key For) s ≡ d

@@ -41,6 +41,7 @@ use Rattle.ca_tree.specs.declared.tree.AssignOp.TheVariants.{Put, Add, Sub, Mul}
 use Rattle.ca_tree.specs.Plain.{Expression, RightSide, Statement, Statements, MemberTree, ClassTree, TextTree, number as number_tree, truth, null, this, named, call, field, method, index, unary, binary, value, new, empty, block, local, assign, call_statement, if_only, if_else, while_loop, for_loop, return_value, print_value, no_statements, statement_and, field_member, method_member}
 use Rattle.ca_expressions.specs.Terminals.{key, sign, name, number, zero}
 use Rattle.ca_expressions.specs.Grammar.{OuterExpression, OuterChain, is_call, is_target}
+use Rattle.ca_parse.specs.declared.statements.TheConstants.{DEEPEST}
 
 abbrev pub Deriving : Type 0 → Type 1
 Deriving A = Grammar Token A
@@ -134,7 +135,7 @@ is_open (print_value at e) = false
 -- A block, `if`, `while` or `for` that begins here in so many others makes at most 200 with them, or no limit is asked.
 -- The first token that passes the limit is the first token of one of these, so it is asked nowhere else.
 abbrev pub Nested : ℕ → ℕ → List Token → Type 0
-Nested depth free s = Asked (depth < 200) free s
+Nested depth free s = Asked (depth < DEEPEST) free s
 
 -- statements in so many blocks, ifs and loops, the body of a method or of `main` included
 mutual

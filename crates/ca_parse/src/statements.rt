@@ -21,7 +21,7 @@ use ca_tree::{ExprNode, Keyword, Place, Sign, StmtKind, StmtNode, Token};
 use std::alloc::{AllocError, Global};
 
 /// How many blocks, ifs and loops a token may stand in.
-const DEEPEST: usize = 200;
+pub const DEEPEST: usize = 200;
 
 /// An `if` without `else`.
 fn if_only(at: Place, cond: ExprNode, yes: Box<StmtNode>) -> StmtNode
@@ -180,7 +180,7 @@ fn parse_nested<'a>(
     depth: usize,
     tokens: &'a [Token],
 ) -> Result<(StmtNode, &'a [Token]), Fault<'a>>
-    requires room { depth < 200 }
+    requires room { depth < DEEPEST }
     requires nested { is_nested tokens.now ≡ true }
     ensures answer { Exact (Stmt depth) (StmtClosed depth) tokens.now (answer statement_view result) }
     ensures shut { IfOk result (λ p. is_some (head_of (key Else) p.1.now) ≡ true → is_open (statement_view p.0) ≡ false) }
@@ -209,7 +209,7 @@ fn parse_statement<'a>(
     depth: usize,
     tokens: &'a [Token],
 ) -> Result<(StmtNode, &'a [Token]), Fault<'a>>
-    requires { depth ≤ 200 }
+    requires { depth ≤ DEEPEST }
     ensures answer { Exact (Stmt depth) (StmtClosed depth) tokens.now (answer statement_view result) }
     ensures shut { IfOk result (λ p. is_some (head_of (key Else) p.1.now) ≡ true → is_open (statement_view p.0) ≡ false) }
 {
@@ -239,7 +239,7 @@ pub fn parse_item<'a>(
     depth: usize,
     tokens: &'a [Token],
 ) -> Result<(StmtNode, &'a [Token]), Fault<'a>>
-    requires { depth ≤ 200 }
+    requires { depth ≤ DEEPEST }
     ensures answer { Exact (Item depth) (ItemClosed depth) tokens.now (answer statement_view result) }
 {
     if begins_local(tokens) {
@@ -255,7 +255,7 @@ pub fn parse_items<'a>(
     depth: usize,
     tokens: &'a [Token],
 ) -> Result<(Vec<StmtNode>, &'a [Token]), Fault<'a>>
-    requires { depth ≤ 200 }
+    requires { depth ≤ DEEPEST }
     ensures answer { Exact (Items depth) (Items depth) tokens.now (answer (λ v. map statement_view v.items) result) }
 {
     let mut out = Vec::new(alloc);
@@ -277,7 +277,7 @@ fn parse_if<'a>(
     at: Place,
     tokens: &'a [Token],
 ) -> Result<(StmtNode, &'a [Token]), Fault<'a>>
-    requires { depth < 200 }
+    requires { depth < DEEPEST }
     ensures answer { Exact (IfRest depth at) (IfRestClosed depth at) tokens.now (answer statement_view result) }
     ensures shut { IfOk result (λ p. is_some (head_of (key Else) p.1.now) ≡ true → is_open (statement_view p.0) ≡ false) }
 {
@@ -303,7 +303,7 @@ fn parse_while<'a>(
     at: Place,
     tokens: &'a [Token],
 ) -> Result<(StmtNode, &'a [Token]), Fault<'a>>
-    requires { depth < 200 }
+    requires { depth < DEEPEST }
     ensures answer { Exact (WhileRest depth at) (WhileRestClosed depth at) tokens.now (answer statement_view result) }
     ensures shut { IfOk result (λ p. is_some (head_of (key Else) p.1.now) ≡ true → is_open (statement_view p.0) ≡ false) }
 {
@@ -321,7 +321,7 @@ fn parse_for<'a>(
     at: Place,
     tokens: &'a [Token],
 ) -> Result<(StmtNode, &'a [Token]), Fault<'a>>
-    requires { depth < 200 }
+    requires { depth < DEEPEST }
     ensures answer { Exact (ForRest depth at) (ForRestClosed depth at) tokens.now (answer statement_view result) }
     ensures shut { IfOk result (λ p. is_some (head_of (key Else) p.1.now) ≡ true → is_open (statement_view p.0) ≡ false) }
 {

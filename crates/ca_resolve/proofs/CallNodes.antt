@@ -10,18 +10,18 @@ use Rattle.ca_tree.specs.View.{kind_view, expression_view as node_view, expressi
 use Rattle.ca_tree.proofs.Rows.{call_is}
 use Rattle.ca_program.specs.declared.program.Expr.{Expr}
 use Rattle.ca_resolve.specs.declared.errors.CheckError.{CheckError}
-use Rattle.ca_resolve.specs.declared.sorts.Sort.{Sort as CodeSort}
+use Rattle.ca_resolve.specs.declared.types.Ty.{Ty as CodeTy}
 use Rattle.ca_resolve.specs.declared.found.Found.{Found as CodeFound}
 use Rattle.ca_resolve.specs.declared.found.Invocation.{Invocation as CodeInvocation}
 use Rattle.ca_resolve.specs.Judged.{Judged, each, Answers}
-use Rattle.ca_resolve.specs.Scopes.{Sort, Callee, Scope}
+use Rattle.ca_resolve.specs.Scopes.{Ty, Callee, Scope}
 use Rattle.ca_resolve.specs.Values.{judge_found, judge_value, judge_arguments, judge_own_call, judge_method_call, judge_call, call_value, value_of, parameters_of, count_of}
-use Rattle.ca_resolve.specs.LocalView.{sort_view}
+use Rattle.ca_resolve.specs.LocalView.{ty_view}
 use Rattle.ca_resolve.specs.View.{found_view, values_view, invocation_view}
 use Rattle.ca_resolve.proofs.InMemory.{method_is, count_is}
 
-pub arguments_known : (s : Scope) (params : List CodeSort) (args : List ExprNode) (k : Judged (Callee × List Sort)) (r : Result (Vec Expr Global) CheckError)
-    → map sort_view params ≡ parameters_of k (length args) → Answers values_view r (each (judge_arguments s (map sort_view params) (nodes_view args)))
+pub arguments_known : (s : Scope) (params : List CodeTy) (args : List ExprNode) (k : Judged (Callee × List Ty)) (r : Result (Vec Expr Global) CheckError)
+    → map ty_view params ≡ parameters_of k (length args) → Answers values_view r (each (judge_arguments s (map ty_view params) (nodes_view args)))
     → Answers values_view r (each (judge_arguments s (parameters_of k (count_of (nodes_view args))) (nodes_view args)))
 arguments_known s params args k r p h =
     subst (λ ts. Answers values_view r (each (judge_arguments s ts (nodes_view args)))) (p ∙ ap (parameters_of k) (sym (count_is args))) h

@@ -20,7 +20,7 @@ use Rattle.ca_program.specs.declared.program.ClassId.{ClassId}
 use Rattle.ca_program.specs.declared.program.FieldId.{FieldId}
 use Rattle.ca_program.specs.Plain as program
 use Rattle.ca_resolve.specs.Judged.{Violation, fine, violations}
-use Rattle.ca_resolve.specs.Scopes.{Sort, long, pointer, VisibleLocal, Scope, classes_of, to_item}
+use Rattle.ca_resolve.specs.Scopes.{Ty, long, pointer, VisibleLocal, Scope, classes_of, to_item}
 use Rattle.ca_resolve.specs.Scopes as scopes
 use Rattle.ca_resolve.specs.Values.{judge_value, judge_target}
 
@@ -49,9 +49,9 @@ first_class = record { 0 = 0 }
 
 abbrev locals : List VisibleLocal
 locals =
-    record { name = 112 ∷ []; id = record { 0 = 2 }; sort = pointer first_class }
-    ∷ record { name = 120 ∷ []; id = record { 0 = 1 }; sort = long }
-    ∷ record { name = 120 ∷ []; id = record { 0 = 0 }; sort = scopes.truth } ∷ []
+    record { name = 112 ∷ []; id = record { 0 = 2 }; ty = pointer first_class }
+    ∷ record { name = 120 ∷ []; id = record { 0 = 1 }; ty = long }
+    ∷ record { name = 120 ∷ []; id = record { 0 = 0 }; ty = scopes.truth } ∷ []
 
 abbrev inside : Scope
 inside = record { classes = classes_of (class_a ∷ []); class = Some first_class; locals = locals }

@@ -4,6 +4,7 @@ use Rattle.std.specs.List.{Contains, AllByRecursion}
 use Rattle.std.specs.declared.vec.Vec.{Vec}
 use Rattle.std.specs.Global.{Global}
 use Rattle.ca_tree.specs.declared.name.Place.{Place}
+use Rattle.ca_resolve.specs.declared.codes.TheConstants.{FIRST_LIMIT, LAST_LIMIT}
 use Rattle.ca_resolve.specs.declared.errors.CheckError.{CheckError}
 use Rattle.ca_resolve.specs.declared.errors.CheckError.TheVariants.{Violation as Tells_violation, Limit as Tells_limit, Memory}
 
@@ -74,7 +75,7 @@ pub record IsLeast (v : Violation) (vs : List Violation) : Type 0 where
 
 -- the codes of limits
 abbrev pub is_limit : ℕ → Bool
-is_limit code = nat_le 50 code && nat_le code 57
+is_limit code = nat_le FIRST_LIMIT code && nat_le code LAST_LIMIT
 
 -- the violation that an error tells; want of memory tells none
 abbrev pub told : CheckError → Option Violation

@@ -21,33 +21,33 @@ abbrev pub number_of : List (List ℕ) → List ℕ → Option ℕ
 number_of names name = position_from (λ n. same_name n name) 0 names
 
 -- the type of a value: of a pointer by its class, of a pointer to a class that isn't defined by the name, and of `nullptr` one of its own
-pub data Sort : Type 0 where
-  long : Sort
-  truth : Sort
-  pointer : ClassId → Sort
-  undefined : List ℕ → Sort
-  no_object : Sort
+pub data Ty : Type 0 where
+  long : Ty
+  truth : Ty
+  pointer : ClassId → Ty
+  undefined : List ℕ → Ty
+  no_object : Ty
 
-abbrev pub pointer_to : List ℕ → Option ℕ → Sort
+abbrev pub pointer_to : List ℕ → Option ℕ → Ty
 pointer_to name (Some n) = pointer (record { 0 = n })
 pointer_to name None = undefined name
 
 -- the type of what is declared so, among classes of these names
-abbrev pub sort_of : List (List ℕ) → TypeNode → Sort
-sort_of names Long = long
-sort_of names Truth = truth
-sort_of names (Pointer name at) = pointer_to name (number_of names name)
+abbrev pub ty_of : List (List ℕ) → TypeNode → Ty
+ty_of names Long = long
+ty_of names Truth = truth
+ty_of names (Pointer name at) = pointer_to name (number_of names name)
 
 -- a method that a call may name: an operation, or a value method with the type of its values
 pub data Callee : Type 0 where
   operation : OpId → Callee
-  function : FunctionId → Sort → Callee
+  function : FunctionId → Ty → Callee
 
 -- what the name of a member means: a field, which may be an array, with the type of its values; or a method, with the types of its parameters
 pub data Meaning : Type 0 where
-  scalar : FieldId → Sort → Meaning
-  items : FieldId → Sort → Meaning
-  method : Callee → List Sort → Meaning
+  scalar : FieldId → Ty → Meaning
+  items : FieldId → Ty → Meaning
+  method : Callee → List Ty → Meaning
 
 -- the numbers that the next field, the next operation and the next value method have
 pub record Numbers : Type 0 where
@@ -58,16 +58,16 @@ pub record Numbers : Type 0 where
 -- fields are numbered in their class
 abbrev pub field_meaning : List (List ℕ) → ℕ → Numbers → TypeNode → Bool → Meaning
 field_meaning names class n ty is_array =
-    cond is_array (items (record { class = record { 0 = class }; field = n.field }) (sort_of names ty)) (scalar (record { class = record { 0 = class }; field = n.field }) (sort_of names ty))
+    cond is_array (items (record { class = record { 0 = class }; field = n.field }) (ty_of names ty)) (scalar (record { class = record { 0 = class }; field = n.field }) (ty_of names ty))
 
 -- operations and value methods are numbered in the whole text
 abbrev pub callee_meaning : List (List ℕ) → Numbers → Option TypeNode → Callee
 callee_meaning names n None = operation (record { 0 = n.operation })
-callee_meaning names n (Some ty) = function (record { 0 = n.function }) (sort_of names ty)
+callee_meaning names n (Some ty) = function (record { 0 = n.function }) (ty_of names ty)
 
 abbrev pub meaning_of : List (List ℕ) → ℕ → Numbers → MemberTree → Meaning
 meaning_of names class n (field_member f) = field_meaning names class n f.ty (is_some f.length)
-meaning_of names class n (method_member m) = method (callee_meaning names n m.result) (map (λ p. sort_of names p.ty) m.params)
+meaning_of names class n (method_member m) = method (callee_meaning names n m.result) (map (λ p. ty_of names p.ty) m.params)
 
 abbrev pub after_method : Numbers → Option TypeNode → Numbers
 after_method n None = record { field = n.field; operation = n.operation + 1; function = n.function }
@@ -122,7 +122,7 @@ find_member classes class name = find_among (slice_get classes.members class.0) 
 pub record VisibleLocal : Type 0 where
   pub name : List ℕ
   pub id : LocalId
-  pub sort : Sort
+  pub ty : Ty
 
 -- the innermost local of the name, where the list begins with the innermost
 abbrev pub find_local : List VisibleLocal → List ℕ → Option VisibleLocal
@@ -145,8 +145,8 @@ own_member s name = member_in s.classes s.class name
 
 -- what an expression is: a value, or a whole array field of an object
 pub data Found : Type 0 where
-  a_value : program.Expression → Sort → Found
-  an_array : program.Expression → FieldId → Sort → Found
+  a_value : program.Expression → Ty → Found
+  an_array : program.Expression → FieldId → Ty → Found
 
 -- what a statement may put to: a local, an own field, or an item of an own array field
 pub data Target : Type 0 where

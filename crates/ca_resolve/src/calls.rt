@@ -5,25 +5,26 @@ ghost use Rattle.ca_tree.specs.View.{expression_view as node_view};
 ghost use Rattle.ca_program.specs.Plain.{Expression};
 ghost use Rattle.ca_program.specs.View.{expression_view};
 ghost use Rattle.ca_resolve.specs.Judged.{Answers, Judged, each};
-ghost use Rattle.ca_resolve.specs.Scopes.{Sort as PlainSort, Callee as PlainCallee, Invocation as PlainInvocation};
+ghost use Rattle.ca_resolve.specs.Scopes.{Ty as PlainTy, Callee as PlainCallee, Invocation as PlainInvocation};
 ghost use Rattle.ca_resolve.specs.Rules.{is_method};
 ghost use Rattle.ca_resolve.specs.Values as values;
-ghost use Rattle.ca_resolve.specs.LocalView.{sort_view};
+ghost use Rattle.ca_resolve.specs.LocalView.{ty_view};
 ghost use Rattle.ca_resolve.specs.View.{found_view, value_view, values_view, meaning_view, method_view, invocation_view, scope_view};
 
 use crate::classes::Meaning;
+use crate::codes::{UNKNOWN_NAME, WRONG_CALL, WRONG_COUNT};
 use crate::errors::{CheckError, both, violation};
 use crate::found::{Found, Invocation};
 use crate::nodes::{receiver_member, whole_value};
 use crate::scope::Scope;
-use crate::sorts::{Callee, Sort};
+use crate::types::{Callee, Ty};
 use crate::values::{check_found, check_method_call, check_own_call};
 use ca_program::Expr;
 use ca_tree::{ExprKind, ExprNode, Name, Place};
 use std::alloc::Global;
 
 /// A method, with the types of its parameters.
-type Method<'s, 'a> = (Callee<'a>, &'s [Sort<'a>]);
+type Method<'s, 'a> = (Callee<'a>, &'s [Ty<'a>]);
 
 /// The call that the expression is.
 pub fn check_call<'a>(
@@ -50,7 +51,7 @@ pub fn check_call<'a>(
         | ExprKind::Unary(..)
         | ExprKind::Binary(..) => {
             whole_value(check_found(alloc, scope, e), e)?;
-            Err(violation(at, 28))
+            Err(violation(at, WRONG_CALL))
         }
     }
 }
@@ -61,7 +62,7 @@ fn as_method<'s, 'a>(meaning: &'s Meaning<'a>, at: Place) -> Result<Method<'s, '
 {
     match meaning {
         Meaning::Method(callee, params) => Ok((*callee, params.as_slice())),
-        Meaning::Scalar(..) | Meaning::Items(..) => Err(violation(at, 24)),
+        Meaning::Scalar(..) | Meaning::Items(..) => Err(violation(at, UNKNOWN_NAME)),
     }
 }
 
@@ -75,21 +76,21 @@ pub(crate) fn own_method<'s, 'a>(
 {
     match scope.own_member(name) {
         Some(meaning) => as_method(meaning, at),
-        None => Err(violation(at, 24)),
+        None => Err(violation(at, UNKNOWN_NAME)),
     }
 }
 
 /// The method of the object's class.
 pub(crate) fn method_through<'s, 'a>(
     scope: &Scope<'s, 'a>,
-    object: &Result<(Expr, Sort<'a>), CheckError>,
+    object: &Result<(Expr, Ty<'a>), CheckError>,
     name: &Name,
     at: Place,
 ) -> Result<Method<'s, 'a>, CheckError>
-    ensures { (j : Judged (Expression × PlainSort)) → Answers value_view object.now j → Answers method_view result (values.method_through (scope_view scope.now) j name.now at) }
+    ensures { (j : Judged (Expression × PlainTy)) → Answers value_view object.now j → Answers method_view result (values.method_through (scope_view scope.now) j name.now at) }
 {
     match object {
-        Ok((_, sort)) => as_method(receiver_member(scope, sort, name, at)?, at),
+        Ok((_, ty)) => as_method(receiver_member(scope, ty, name, at)?, at),
         Err(e) => Err(*e),
     }
 }
@@ -98,8 +99,8 @@ pub(crate) fn method_through<'s, 'a>(
 pub(crate) fn parameters_of<'s, 'a>(
     callee: &Result<Method<'s, 'a>, CheckError>,
     count: usize,
-) -> Result<&'s [Sort<'a>], CheckError>
-    ensures known { IfOk result (λ params. (j : Judged (PlainCallee × List PlainSort)) → Answers method_view callee.now j → map sort_view params.now ≡ values.parameters_of j count) }
+) -> Result<&'s [Ty<'a>], CheckError>
+    ensures known { IfOk result (λ params. (j : Judged (PlainCallee × List PlainTy)) → Answers method_view callee.now j → map ty_view params.now ≡ values.parameters_of j count) }
     ensures memory { IfErr result (λ e. e ≡ CheckError.Memory) }
 {
     match callee {
@@ -115,8 +116,8 @@ pub(crate) fn parameters_of<'s, 'a>(
     }
 }
 
-pub(crate) fn object_of(object: Result<(Expr, Sort), CheckError>) -> Result<Expr, CheckError>
-    ensures { (j : Judged (Expression × PlainSort)) → Answers value_view object.entry j → Answers expression_view result (values.object_of j) }
+pub(crate) fn object_of(object: Result<(Expr, Ty), CheckError>) -> Result<Expr, CheckError>
+    ensures { (j : Judged (Expression × PlainTy)) → Answers value_view object.entry j → Answers expression_view result (values.object_of j) }
 {
     let (object, _) = object?;
     Ok(object)
@@ -129,12 +130,12 @@ pub(crate) fn invocation<'a>(
     arguments: Result<Vec<Expr>, CheckError>,
     at: Place,
 ) -> Result<Invocation<'a>, CheckError>
-    ensures { (j : Judged Expression) (k : Judged (PlainCallee × List PlainSort)) (js : List (Judged Expression)) → Answers expression_view receiver j → Answers method_view callee.entry k → Answers values_view arguments (each js) → Answers invocation_view result (values.judge_invocation j k js at) }
+    ensures { (j : Judged Expression) (k : Judged (PlainCallee × List PlainTy)) (js : List (Judged Expression)) → Answers expression_view receiver j → Answers method_view callee.entry k → Answers values_view arguments (each js) → Answers invocation_view result (values.judge_invocation j k js at) }
 {
     let (receiver, arguments) = both(receiver, arguments)?;
     let (callee, params) = callee?;
     if arguments.len() != params.len() {
-        return Err(violation(at, 26));
+        return Err(violation(at, WRONG_COUNT));
     }
     Ok(Invocation {
         receiver,
@@ -153,10 +154,10 @@ pub(crate) fn call_value<'a>(
 {
     let call = call?;
     match call.callee {
-        Callee::Operation(_) => Err(violation(at, 28)),
-        Callee::Function(id, sort) => {
+        Callee::Operation(_) => Err(violation(at, WRONG_CALL)),
+        Callee::Function(id, ty) => {
             let receiver = Box::new(alloc, call.receiver)?;
-            Ok(Found::Value(Expr::Value(receiver, id, call.arguments), sort))
+            Ok(Found::Value(Expr::Value(receiver, id, call.arguments), ty))
         }
     }
 }

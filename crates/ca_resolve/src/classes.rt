@@ -3,13 +3,13 @@
 ghost use Rattle.std.specs.Prelude.{◌≡◌, IfOk, map, slice_get, Some};
 ghost use Rattle.std.specs.Option.{option_copied, option_map};
 ghost use Rattle.ca_tree.specs.View.{class_view};
-ghost use Rattle.ca_resolve.specs.Scopes.{classes_of, find_member, find_among, sort_of, class_names};
-ghost use Rattle.ca_resolve.specs.LocalView.{sort_view};
+ghost use Rattle.ca_resolve.specs.Scopes.{classes_of, find_member, find_among, ty_of, class_names};
+ghost use Rattle.ca_resolve.specs.LocalView.{ty_view};
 ghost use Rattle.ca_resolve.specs.View.{classes_view, members_view, meaning_view};
 
 use crate::members::{Numbers, member_table};
 use crate::names::Names;
-use crate::sorts::{Callee, Sort};
+use crate::types::{Callee, Ty};
 use ca_program::{ClassId, FieldId};
 use ca_tree::{ClassNode, Name, TypeNode};
 use std::alloc::{AllocError, Global};
@@ -18,9 +18,9 @@ use std::alloc::{AllocError, Global};
 /// a method, with the types of its parameters.
 #[derive(Drop)]
 pub enum Meaning<'a> {
-    Scalar(FieldId, Sort<'a>),
-    Items(FieldId, Sort<'a>),
-    Method(Callee<'a>, Vec<Sort<'a>>),
+    Scalar(FieldId, Ty<'a>),
+    Items(FieldId, Ty<'a>),
+    Method(Callee<'a>, Vec<Ty<'a>>),
 }
 
 /// The members of a class in order.
@@ -73,10 +73,10 @@ impl<'a> ClassTable<'a> {
     }
 
     /// The type of what is declared so.
-    pub fn sort_of(&self, ty: &'a TypeNode) -> Sort<'a>
-        ensures { sort_view result ≡ sort_of (classes_view self.now).names ty.now }
+    pub fn ty_of(&self, ty: &'a TypeNode) -> Ty<'a>
+        ensures { ty_view result ≡ ty_of (classes_view self.now).names ty.now }
     {
-        sort_of(&self.names, ty)
+        ty_of(&self.names, ty)
     }
 
     /// The first member of the name in the class.
@@ -101,15 +101,15 @@ fn at<T>(items: &[T], i: usize) -> Option<&T>
 }
 
 /// The type of what is declared so, among classes of these names.
-pub(crate) fn sort_of<'a>(names: &Names<'a>, ty: &'a TypeNode) -> Sort<'a>
-    ensures { sort_view result ≡ sort_of names.now ty.now }
+pub(crate) fn ty_of<'a>(names: &Names<'a>, ty: &'a TypeNode) -> Ty<'a>
+    ensures { ty_view result ≡ ty_of names.now ty.now }
 {
     match ty {
-        TypeNode::Long => Sort::Long,
-        TypeNode::Bool => Sort::Truth,
+        TypeNode::Long => Ty::Long,
+        TypeNode::Bool => Ty::Truth,
         TypeNode::Pointer(name, _) => match names.number(name) {
-            Some(number) => Sort::Pointer(ClassId(number)),
-            None => Sort::Undefined(name),
+            Some(number) => Ty::Pointer(ClassId(number)),
+            None => Ty::Undefined(name),
         },
     }
 }

@@ -1,13 +1,13 @@
 //! What expressions come to.
 
-use crate::sorts::{Callee, Sort};
+use crate::types::{Callee, Ty};
 use ca_program::{Expr, FieldId, LocalId};
 
 /// What an expression is: a value, or a whole array field of an object.
 #[derive(Drop)]
 pub enum Found<'a> {
-    Value(Expr, Sort<'a>),
-    Array(Expr, FieldId, Sort<'a>),
+    Value(Expr, Ty<'a>),
+    Array(Expr, FieldId, Ty<'a>),
 }
 
 /// What a statement may put to: a local, an own field, or an item of an own array field.

@@ -12,6 +12,7 @@
 
 mod calls;
 mod classes;
+pub mod codes;
 mod errors;
 mod found;
 mod locals;
@@ -19,8 +20,8 @@ mod members;
 mod names;
 mod nodes;
 mod scope;
-mod sorts;
 mod targets;
+mod types;
 mod values;
 
 pub use calls::check_call;
@@ -31,6 +32,6 @@ pub use locals::{Locals, VisibleLocal};
 pub use members::{member_name, one_more};
 pub use names::Names;
 pub use scope::Scope;
-pub use sorts::{Callee, Sort};
 pub use targets::check_target;
+pub use types::{Callee, Ty};
 pub use values::{check_for, check_value};

@@ -5,7 +5,7 @@ ghost use Rattle.std.specs.Option.{option_map};
 ghost use Rattle.ca_resolve.specs.Scopes.{find_local};
 ghost use Rattle.ca_resolve.specs.LocalView.{local_view};
 
-use crate::sorts::Sort;
+use crate::types::Ty;
 use ca_program::LocalId;
 use ca_tree::Name;
 use std::alloc::{AllocError, Global};
@@ -17,7 +17,7 @@ use std::marker::Model;
 pub struct VisibleLocal<'a> {
     pub name: &'a Name,
     pub id: LocalId,
-    pub sort: Sort<'a>,
+    pub ty: Ty<'a>,
 }
 
 /// A visible local, with the number of the local of its name that it hides.

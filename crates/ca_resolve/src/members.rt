@@ -2,13 +2,13 @@
 
 ghost use Rattle.std.specs.Prelude.{◌≡◌, ◌+◌, IfOk, map, is_some};
 ghost use Rattle.ca_tree.specs.View.{member_view};
-ghost use Rattle.ca_resolve.specs.Scopes.{after_class, after_member, callee_meaning, field_meaning, meaning_of, meanings, member_name, sort_of};
-ghost use Rattle.ca_resolve.specs.LocalView.{sort_view};
+ghost use Rattle.ca_resolve.specs.Scopes.{after_class, after_member, callee_meaning, field_meaning, meaning_of, meanings, member_name, ty_of};
+ghost use Rattle.ca_resolve.specs.LocalView.{ty_view};
 ghost use Rattle.ca_resolve.specs.View.{members_view, meaning_view, callee_view, numbers_view};
 
-use crate::classes::{Meaning, MemberTable, sort_of};
+use crate::classes::{Meaning, MemberTable, ty_of};
 use crate::names::Names;
-use crate::sorts::{Callee, Sort};
+use crate::types::{Callee, Ty};
 use ca_program::{ClassId, FieldId, FunctionId, OpId};
 use ca_tree::{FieldNode, Member, MethodNode, Name, ParamNode};
 use std::alloc::{AllocError, Global};
@@ -114,7 +114,7 @@ fn meaning_of<'a>(
     match member {
         Member::Field(field) => Ok(field_meaning(classes, numbers, field)),
         Member::Method(method) => {
-            let params = param_sorts(alloc, classes, &method.params)?;
+            let params = param_tys(alloc, classes, &method.params)?;
             Ok(Meaning::Method(callee_of(classes, numbers, method), params))
         }
     }
@@ -127,11 +127,11 @@ fn field_meaning<'a>(classes: &Names<'a>, numbers: Numbers, field: &'a FieldNode
         class: ClassId(numbers.class),
         field: numbers.field,
     };
-    let sort = sort_of(classes, &field.ty);
+    let ty = ty_of(classes, &field.ty);
     if field.length.is_some() {
-        Meaning::Items(id, sort)
+        Meaning::Items(id, ty)
     } else {
-        Meaning::Scalar(id, sort)
+        Meaning::Scalar(id, ty)
     }
 }
 
@@ -140,20 +140,20 @@ fn callee_of<'a>(classes: &Names<'a>, numbers: Numbers, method: &'a MethodNode) 
 {
     match &method.result {
         None => Callee::Operation(OpId(numbers.operation)),
-        Some(ty) => Callee::Function(FunctionId(numbers.function), sort_of(classes, ty)),
+        Some(ty) => Callee::Function(FunctionId(numbers.function), ty_of(classes, ty)),
     }
 }
 
-fn param_sorts<'a>(
+fn param_tys<'a>(
     alloc: Global,
     classes: &Names<'a>,
     params: &'a [ParamNode],
-) -> Result<Vec<Sort<'a>>, AllocError>
-    ensures { IfOk result (λ v. map sort_view v.items ≡ map (λ p. sort_of classes.now p.ty) params.now) }
+) -> Result<Vec<Ty<'a>>, AllocError>
+    ensures { IfOk result (λ v. map ty_view v.items ≡ map (λ p. ty_of classes.now p.ty) params.now) }
 {
-    let mut sorts = Vec::new(alloc);
+    let mut types = Vec::new(alloc);
     for param in params {
-        sorts.push(sort_of(classes, &param.ty))?;
+        types.push(ty_of(classes, &param.ty))?;
     }
-    Ok(sorts)
+    Ok(types)
 }

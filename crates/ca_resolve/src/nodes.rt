@@ -5,17 +5,18 @@ ghost use Rattle.ca_tree.specs.View.{expression_view as node_view};
 ghost use Rattle.ca_program.specs.Plain.{Expression};
 ghost use Rattle.ca_program.specs.View.{expression_view};
 ghost use Rattle.ca_resolve.specs.Judged.{Answers, Judged, within};
-ghost use Rattle.ca_resolve.specs.Scopes.{Sort as PlainSort, Found as PlainFound, find_local};
+ghost use Rattle.ca_resolve.specs.Scopes.{Ty as PlainTy, Found as PlainFound, find_local};
 ghost use Rattle.ca_resolve.specs.Rules as rules;
 ghost use Rattle.ca_resolve.specs.Values.{as_value, judge_this, judge_named, judge_field, judge_item, judge_unary, judge_binary, field_of, item_of, member_read, place_of, value_for, value_of};
 ghost use Rattle.ca_resolve.specs.View.{found_view, value_view, meaning_view, scope_view, wanted_view};
-ghost use Rattle.ca_resolve.specs.LocalView.{sort_view};
+ghost use Rattle.ca_resolve.specs.LocalView.{ty_view};
 
 use crate::classes::Meaning;
+use crate::codes::{THIS_IN_MAIN, TYPES_DISAGREE, UNKNOWN_NAME, WRONG_INDEX};
 use crate::errors::{CheckError, both, violation};
 use crate::found::Found;
 use crate::scope::Scope;
-use crate::sorts::{Sort, binary_sort, takes_binary, takes_unary, unary_sort};
+use crate::types::{Ty, binary_ty, takes_binary, takes_unary, unary_ty};
 use ca_program::{Expr, FieldId};
 use ca_tree::{BinaryOp, ExprNode, Name, Place, UnaryOp};
 use std::alloc::{AllocError, Global};
@@ -25,8 +26,8 @@ pub(crate) fn this<'a>(scope: &Scope<'_, 'a>, at: Place) -> Result<Found<'a>, Ch
     ensures { Answers found_view result (within (judge_this (scope_view scope.now) at) as_value) }
 {
     match scope.class {
-        Some(class) => Ok(Found::Value(Expr::This, Sort::Pointer(class))),
-        None => Err(violation(at, 32)),
+        Some(class) => Ok(Found::Value(Expr::This, Ty::Pointer(class))),
+        None => Err(violation(at, THIS_IN_MAIN)),
     }
 }
 
@@ -40,11 +41,11 @@ pub(crate) fn named<'a>(
     ensures { Answers found_view result (judge_named (scope_view scope.now) (find_local (scope_view scope.now).locals name.now) name.now at) }
 {
     if let Some(local) = scope.locals.find(name) {
-        return Ok(Found::Value(Expr::Local(local.id), local.sort));
+        return Ok(Found::Value(Expr::Local(local.id), local.ty));
     }
     match scope.own_member(name) {
         Some(meaning) => member_read(alloc, Expr::This, meaning, at),
-        None => Err(violation(at, 24)),
+        None => Err(violation(at, UNKNOWN_NAME)),
     }
 }
 
@@ -58,9 +59,9 @@ fn member_read<'a>(
     ensures { Answers found_view result (member_read (expression_view object) (meaning_view meaning.now) at) }
 {
     match meaning {
-        Meaning::Scalar(id, sort) => Ok(Found::Value(field_of(alloc, object, *id)?, *sort)),
-        Meaning::Items(id, sort) => Ok(Found::Array(object, *id, *sort)),
-        Meaning::Method(..) => Err(violation(at, 24)),
+        Meaning::Scalar(id, ty) => Ok(Found::Value(field_of(alloc, object, *id)?, *ty)),
+        Meaning::Items(id, ty) => Ok(Found::Array(object, *id, *ty)),
+        Meaning::Method(..) => Err(violation(at, UNKNOWN_NAME)),
     }
 }
 
@@ -98,19 +99,19 @@ fn item_of(alloc: Global, object: Expr, id: FieldId, index: Expr) -> Result<Expr
 /// The member of the receiver's class.
 pub(crate) fn receiver_member<'s, 'a>(
     scope: &Scope<'s, 'a>,
-    sort: &Sort<'a>,
+    ty: &Ty<'a>,
     name: &Name,
     at: Place,
 ) -> Result<&'s Meaning<'a>, CheckError>
-    ensures { Answers (λ m. meaning_view m.now) result (rules.receiver_member (scope_view scope.now).classes (sort_view sort.now) name.now at) }
+    ensures { Answers (λ m. meaning_view m.now) result (rules.receiver_member (scope_view scope.now).classes (ty_view ty.now) name.now at) }
 {
-    match sort {
-        Sort::Pointer(class) => match scope.classes.find_member(*class, name) {
+    match ty {
+        Ty::Pointer(class) => match scope.classes.find_member(*class, name) {
             Some(meaning) => Ok(meaning),
-            None => Err(violation(at, 24)),
+            None => Err(violation(at, UNKNOWN_NAME)),
         },
-        Sort::Undefined(_) => Err(violation(at, 24)),
-        Sort::Long | Sort::Truth | Sort::NoObject => Err(violation(at, 25)),
+        Ty::Undefined(_) => Err(violation(at, UNKNOWN_NAME)),
+        Ty::Long | Ty::Truth | Ty::NoObject => Err(violation(at, TYPES_DISAGREE)),
     }
 }
 
@@ -118,14 +119,14 @@ pub(crate) fn receiver_member<'s, 'a>(
 pub(crate) fn field<'a>(
     alloc: Global,
     scope: &Scope<'_, 'a>,
-    object: Result<(Expr, Sort<'a>), CheckError>,
+    object: Result<(Expr, Ty<'a>), CheckError>,
     name: &Name,
     at: Place,
 ) -> Result<Found<'a>, CheckError>
-    ensures { (j : Judged (Expression × PlainSort)) → Answers value_view object.entry j → Answers found_view result (judge_field (scope_view scope.now) j name.now at) }
+    ensures { (j : Judged (Expression × PlainTy)) → Answers value_view object.entry j → Answers found_view result (judge_field (scope_view scope.now) j name.now at) }
 {
-    let (object, sort) = object?;
-    let meaning = receiver_member(scope, &sort, name, at)?;
+    let (object, ty) = object?;
+    let meaning = receiver_member(scope, &ty, name, at)?;
     member_read(alloc, object, meaning, at)
 }
 
@@ -133,12 +134,12 @@ pub(crate) fn field<'a>(
 pub(crate) fn whole_value<'a>(
     found: Result<Found<'a>, CheckError>,
     e: &ExprNode,
-) -> Result<(Expr, Sort<'a>), CheckError>
+) -> Result<(Expr, Ty<'a>), CheckError>
     ensures { (j : Judged PlainFound) → Answers found_view found.entry j → Answers value_view result (value_of (node_view e.now) j) }
 {
     match found? {
-        Found::Value(value, sort) => Ok((value, sort)),
-        Found::Array(..) => Err(violation(place_of(e), 31)),
+        Found::Value(value, ty) => Ok((value, ty)),
+        Found::Array(..) => Err(violation(place_of(e), WRONG_INDEX)),
     }
 }
 
@@ -160,30 +161,27 @@ pub(crate) fn item<'a>(
 {
     let (array, index) = both(array, index)?;
     match array {
-        Found::Array(object, id, sort) => Ok(Found::Value(
-            item_of(alloc, object, id, index)?,
-            sort,
-        )),
-        Found::Value(..) => Err(violation(at, 31)),
+        Found::Array(object, id, ty) => Ok(Found::Value(item_of(alloc, object, id, index)?, ty)),
+        Found::Value(..) => Err(violation(at, WRONG_INDEX)),
     }
 }
 
 /// A value that a target is to hold, where its type is known.
 pub(crate) fn value_for(
-    target: Option<Sort>,
-    value: Result<(Expr, Sort), CheckError>,
+    target: Option<Ty>,
+    value: Result<(Expr, Ty), CheckError>,
     e: &ExprNode,
 ) -> Result<Expr, CheckError>
-    ensures { (j : Judged (Expression × PlainSort)) → Answers value_view value.entry j → Answers expression_view result (value_for (wanted_view target.entry) j (place_of (node_view e.now))) }
+    ensures { (j : Judged (Expression × PlainTy)) → Answers value_view value.entry j → Answers expression_view result (value_for (wanted_view target.entry) j (place_of (node_view e.now))) }
 {
-    let (value, sort) = value?;
+    let (value, ty) = value?;
     match target {
         None => Ok(value),
         Some(target) => {
-            if target.can_hold(&sort) {
+            if target.can_hold(&ty) {
                 Ok(value)
             } else {
-                Err(violation(place_of(e), 25))
+                Err(violation(place_of(e), TYPES_DISAGREE))
             }
         }
     }
@@ -193,33 +191,33 @@ pub(crate) fn value_for(
 pub(crate) fn unary<'a>(
     alloc: Global,
     op: UnaryOp,
-    operand: Result<(Expr, Sort<'a>), CheckError>,
+    operand: Result<(Expr, Ty<'a>), CheckError>,
     at: Place,
 ) -> Result<Found<'a>, CheckError>
-    ensures { (j : Judged (Expression × PlainSort)) → Answers value_view operand.entry j → Answers found_view result (judge_unary at op j) }
+    ensures { (j : Judged (Expression × PlainTy)) → Answers value_view operand.entry j → Answers found_view result (judge_unary at op j) }
 {
-    let (operand, sort) = operand?;
-    if !takes_unary(op, &sort) {
-        return Err(violation(at, 25));
+    let (operand, ty) = operand?;
+    if !takes_unary(op, &ty) {
+        return Err(violation(at, TYPES_DISAGREE));
     }
     let operand = Box::new(alloc, operand)?;
-    Ok(Found::Value(Expr::Unary(op, operand), unary_sort(op)))
+    Ok(Found::Value(Expr::Unary(op, operand), unary_ty(op)))
 }
 
 /// An operator between its operands.
 pub(crate) fn binary<'a>(
     alloc: Global,
     op: BinaryOp,
-    left: Result<(Expr, Sort<'a>), CheckError>,
-    right: Result<(Expr, Sort<'a>), CheckError>,
+    left: Result<(Expr, Ty<'a>), CheckError>,
+    right: Result<(Expr, Ty<'a>), CheckError>,
     at: Place,
 ) -> Result<Found<'a>, CheckError>
-    ensures { (j k : Judged (Expression × PlainSort)) → Answers value_view left.entry j → Answers value_view right.entry k → Answers found_view result (judge_binary at op j k) }
+    ensures { (j k : Judged (Expression × PlainTy)) → Answers value_view left.entry j → Answers value_view right.entry k → Answers found_view result (judge_binary at op j k) }
 {
-    let ((left, left_sort), (right, right_sort)) = both(left, right)?;
-    if !takes_binary(op, &left_sort, &right_sort) {
-        return Err(violation(at, 25));
+    let ((left, left_ty), (right, right_ty)) = both(left, right)?;
+    if !takes_binary(op, &left_ty, &right_ty) {
+        return Err(violation(at, TYPES_DISAGREE));
     }
     let (left, right) = boxes(alloc, left, right)?;
-    Ok(Found::Value(Expr::Binary(op, left, right), binary_sort(op)))
+    Ok(Found::Value(Expr::Binary(op, left, right), binary_ty(op)))
 }

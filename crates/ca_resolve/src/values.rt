@@ -2,12 +2,12 @@
 
 ghost use Rattle.std.specs.Prelude.{◌≡◌, map, slice_get};
 ghost use Rattle.ca_program.specs.Plain.{Expression};
-ghost use Rattle.ca_resolve.specs.Scopes.{Sort as PlainSort};
+ghost use Rattle.ca_resolve.specs.Scopes.{Ty as PlainTy};
 ghost use Rattle.ca_tree.specs.View.{expression_view as node_view, expressions_view as nodes_view};
 ghost use Rattle.ca_program.specs.View.{expression_view};
 ghost use Rattle.ca_resolve.specs.Judged.{Answers, Judged, each};
 ghost use Rattle.ca_resolve.specs.Values.{judge_arguments, judge_for, judge_found, judge_method_call, judge_own_call, judge_value};
-ghost use Rattle.ca_resolve.specs.LocalView.{sort_view};
+ghost use Rattle.ca_resolve.specs.LocalView.{ty_view};
 ghost use Rattle.ca_resolve.specs.View.{found_view, value_view, values_view, invocation_view, scope_view};
 
 use crate::calls::{call_value, invocation, method_through, object_of, own_method, parameters_of};
@@ -15,7 +15,7 @@ use crate::errors::{CheckError, and_one};
 use crate::found::{Found, Invocation};
 use crate::nodes::{binary, field, item, named, this, unary, value_for, whole_value};
 use crate::scope::Scope;
-use crate::sorts::Sort;
+use crate::types::Ty;
 use ca_program::Expr;
 use ca_tree::{ExprKind, ExprNode, Name, Place};
 use std::alloc::Global;
@@ -25,20 +25,15 @@ pub fn check_value<'a>(
     alloc: Global,
     scope: &Scope<'_, 'a>,
     e: &ExprNode,
-) -> Result<(Expr, Sort<'a>), CheckError>
+) -> Result<(Expr, Ty<'a>), CheckError>
     ensures { Answers value_view result (judge_value (scope_view scope.now) (node_view e.now)) }
 {
     whole_value(check_found(alloc, scope, e), e)
 }
 
 /// The value of the expression, which a target of the type is to hold.
-pub fn check_for(
-    alloc: Global,
-    scope: &Scope,
-    target: Sort,
-    e: &ExprNode,
-) -> Result<Expr, CheckError>
-    ensures { Answers expression_view result (judge_for (scope_view scope.now) (sort_view target.entry) (node_view e.now)) }
+pub fn check_for(alloc: Global, scope: &Scope, target: Ty, e: &ExprNode) -> Result<Expr, CheckError>
+    ensures { Answers expression_view result (judge_for (scope_view scope.now) (ty_view target.entry) (node_view e.now)) }
 {
     value_for(Some(target), check_value(alloc, scope, e), e)
 }
@@ -54,9 +49,9 @@ pub(crate) fn check_found<'a>(
 {
     let at = e.at;
     match &e.kind {
-        ExprKind::Number(n) => Ok(Found::Value(Expr::Number(*n), Sort::Long)),
-        ExprKind::Truth(b) => Ok(Found::Value(Expr::Truth(*b), Sort::Truth)),
-        ExprKind::Null => Ok(Found::Value(Expr::Null, Sort::NoObject)),
+        ExprKind::Number(n) => Ok(Found::Value(Expr::Number(*n), Ty::Long)),
+        ExprKind::Truth(b) => Ok(Found::Value(Expr::Truth(*b), Ty::Truth)),
+        ExprKind::Null => Ok(Found::Value(Expr::Null, Ty::NoObject)),
         ExprKind::This => this(scope, at),
         ExprKind::Named(name) => named(alloc, scope, name, at),
         ExprKind::Call(name, args) => {
@@ -77,7 +72,7 @@ pub(crate) fn check_found<'a>(
         ExprKind::Index(array, index) => {
             let array = check_found(alloc, scope, array);
             let number = whole_value(check_found(alloc, scope, index), index);
-            item(alloc, array, value_for(Some(Sort::Long), number, index), at)
+            item(alloc, array, value_for(Some(Ty::Long), number, index), at)
         }
         ExprKind::Unary(op, operand) => {
             let value = whole_value(check_found(alloc, scope, operand), operand);
@@ -113,12 +108,12 @@ pub(crate) fn check_own_call<'a>(
 pub(crate) fn check_method_call<'a>(
     alloc: Global,
     scope: &Scope<'_, 'a>,
-    object: Result<(Expr, Sort<'a>), CheckError>,
+    object: Result<(Expr, Ty<'a>), CheckError>,
     name: &Name,
     args: &[ExprNode],
     at: Place,
 ) -> Result<Invocation<'a>, CheckError>
-    ensures { (j : Judged (Expression × PlainSort)) → Answers value_view object.entry j → Answers invocation_view result (judge_method_call (scope_view scope.now) j name.now (nodes_view args.now) at) }
+    ensures { (j : Judged (Expression × PlainTy)) → Answers value_view object.entry j → Answers invocation_view result (judge_method_call (scope_view scope.now) j name.now (nodes_view args.now) at) }
 {
     let callee = method_through(scope, &object, name, at);
     let params = parameters_of(&callee, args.len())?;
@@ -131,10 +126,10 @@ pub(crate) fn check_method_call<'a>(
 fn check_arguments<'a>(
     alloc: Global,
     scope: &Scope<'_, 'a>,
-    params: &[Sort<'a>],
+    params: &[Ty<'a>],
     args: &[ExprNode],
 ) -> Result<Vec<Expr>, CheckError>
-    ensures { Answers values_view result (each (judge_arguments (scope_view scope.now) (map sort_view params.now) (nodes_view args.now))) }
+    ensures { Answers values_view result (each (judge_arguments (scope_view scope.now) (map ty_view params.now) (nodes_view args.now))) }
 {
     let mut values = Ok(Vec::new(alloc));
     for (i, arg) in args.iter().enumerate() {
@@ -146,7 +141,7 @@ fn check_arguments<'a>(
 }
 
 /// The type of this parameter, where there are parameters.
-fn type_at<'a>(params: &[Sort<'a>], i: usize) -> Option<Sort<'a>>
+fn type_at<'a>(params: &[Ty<'a>], i: usize) -> Option<Ty<'a>>
     ensures { result ≡ slice_get params.now i }
 {
     if i < params.len() {

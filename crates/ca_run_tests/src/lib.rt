@@ -5,6 +5,8 @@
 #![tactic(auto)]
 
 #[cfg(test)]
+mod copies;
+#[cfg(test)]
 mod extents;
 #[cfg(test)]
 mod forms;
@@ -18,6 +20,8 @@ mod programs;
 mod runs;
 #[cfg(test)]
 mod scenes;
+#[cfg(test)]
+mod sections;
 #[cfg(test)]
 mod separable;
 #[cfg(test)]

@@ -101,6 +101,13 @@ impl Olds {
         Ok(())
     }
 
+    /// Forgets all, and keeps the memory.
+    pub fn forget(&mut self)
+        ensures { self.new ≡ [] }
+    {
+        self.items.clear();
+    }
+
     /// Puts all old values back, and forgets them.
     pub fn put_back(&mut self, slots: &mut Slots)
         requires { AllThere self.old slots.old }

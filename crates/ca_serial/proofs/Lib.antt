@@ -7,3 +7,4 @@ pub mod Items
 pub mod Stacks
 pub mod AtOnce
 pub mod Returns
+pub mod Beginnings

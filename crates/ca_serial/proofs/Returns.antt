@@ -71,3 +71,8 @@ pub left_at_once : (p : PlainProgram) (m : Machine) (todo : List Work) (x : Stmt
 left_at_once p m todo x xs ss v ps is mode given =
     list_runs p m.bodies.current (world_of m ps) x xs ss m.left _ _ is
     ∙ rw given (rw mode refl)
+
+-- what the statements of a value method give back at once, if the first does
+pub gives_at_once : (p : PlainProgram) (m : Machine) (x : Stmt) (xs ss : List Stmt) (o : Option Datum) → ss ≡ x ∷ xs → m.bodies.current.mode ≡ InFunction → Gives p m x.line x o → IfSome o (λ v. (todo : List Work) (ps : List Datum) → all_before p (Leave ∷ todo) (statements_view ss) m ps ≡ back_in m.bodies.below (world_of m ps) (λ g below. resume p todo (v ∷ m.values) g below (world_of m ps) m.left))
+gives_at_once p m x xs ss None is mode given = tt
+gives_at_once p m x xs ss (Some v) is mode given = λ todo ps. left_at_once p m todo x xs ss v ps is mode (given ps)

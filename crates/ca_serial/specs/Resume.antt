@@ -1,7 +1,9 @@
 -- What is left to do, as a meaning.
 use Rattle.std.specs.Prelude.{◌≡◌, ◌<◌, ◌≤◌, Bool, true, false, ℕ, zero, suc, pos, IsSome, List, [], ◌∷◌, ◌++◌, Option, Some, None, slice_get, slice_set, drop}
 use Rattle.ca_program.specs.declared.program.FieldId.{FieldId}
+use Rattle.std.specs.Borrow.{Bor}
 use Rattle.ca_program.specs.declared.program.Expr.{Expr}
+use Rattle.ca_program.specs.declared.program.Stmt.{Stmt}
 use Rattle.ca_program.specs.Plain.{PlainProgram, PlainMethod, Expression, Statement, Statements, while_loop, for_loop}
 use Rattle.ca_program.specs.View.{expression_view, expressions_view, statement_view, statements_view}
 use Rattle.ca_model.specs.declared.value.Value.{Value as Datum}
@@ -24,7 +26,8 @@ use Rattle.ca_serial.specs.declared.work.Work.TheVariants.{Evaluate, Take, Colle
 use Rattle.ca_serial.specs.declared.work.Taker.{Taker}
 use Rattle.ca_serial.specs.declared.work.Taker.TheVariants.{ReadField, CheckObject, ReadItem, Sign, CheckLeft, Apply, PutLocal, PutField, CheckIndex, PutItem, NewItem, Print, Choose, Turn as TakeTurn, GiveBack}
 use Rattle.ca_serial.specs.declared.work.Left.{Left}
-use Rattle.ca_serial.specs.declared.work.Left.TheVariants.{Nothing, Statement as OneLeft, Statements as SomeLeft}
+use Rattle.ca_serial.specs.declared.work.Left.TheVariants.{Nothing, Statement as OneLeft, Call as CallLeft, Body as BodyLeft}
+use Rattle.ca_serial.specs.declared.work.Rest.{Rest}
 use Rattle.ca_serial.specs.declared.work.Turn.{Turn}
 use Rattle.ca_serial.specs.declared.work.Turn.TheVariants.{Whole, Ends}
 use Rattle.ca_serial.specs.declared.work.Next.{Next}
@@ -233,10 +236,19 @@ abbrev pub takes : PlainProgram → Taker → Datum → Machine → List Datum �
 takes p taker v m ps =
     used p taker v m.values m.bodies.current (world_of m ps) m.left (λ vs f w k. resume p m.todo vs f m.bodies.below w k) (λ v w k. by_mode m.bodies.current.mode (unwind p m.todo m.values m.bodies.below w k v) (runs_out w))
 
+-- that begins a call with so many values, and then does this work
+abbrev pub begins_before : PlainProgram → List Work → ℕ → Target → ℕ → Machine → List Datum → Flow World
+begins_before p todo line t n m ps =
+    taken n m.values [] (world_of m ps) (λ xs v vs. called p t line v xs vs m.bodies.current (world_of m ps) m.left (λ vs w k. resume p todo vs m.bodies.current m.bodies.below w k))
+
 -- that begins a call with so many values
 abbrev pub begins : PlainProgram → ℕ → Target → ℕ → Machine → List Datum → Flow World
-begins p line t n m ps =
-    taken n m.values [] (world_of m ps) (λ xs v vs. called p t line v xs vs m.bodies.current (world_of m ps) m.left (λ vs w k. resume p m.todo vs m.bodies.current m.bodies.below w k))
+begins p line t n m ps = begins_before p m.todo line t n m ps
+
+-- that calls with this receiver and these arguments, and then does this work
+abbrev pub receives : PlainProgram → List Work → ℕ → Target → Datum → List Expr → Machine → List Datum → Flow World
+receives p todo line t v arguments m ps =
+    collected p line t arguments 0 (v ∷ m.values) m.bodies.current (world_of m ps) m.left (λ vs w k. resume p todo vs m.bodies.current m.bodies.below w k)
 
 -- after a piece of work
 abbrev pub after : PlainProgram → Machine → List Datum → Next → Flow World
@@ -259,7 +271,17 @@ Puts false p line s old new = new ≡ old
 abbrev pub pieces : Left → List Work → List Work
 pieces Nothing todo = todo
 pieces (OneLeft line s) todo = Exec line s ∷ todo
-pieces (SomeLeft ss) todo = Seq ss ∷ todo
+pieces (CallLeft line op arguments n) todo = Collect line (Operation op) arguments n ∷ todo
+pieces (BodyLeft ss) todo = Seq ss ∷ Leave ∷ todo
+
+-- other statements, if there are any, before other work
+abbrev pub others_before : Option (Bor (List Stmt)) → List Work → List Work
+others_before None todo = todo
+others_before (Some ss) todo = Seq ss ∷ todo
+
+-- the work that is left of a list of statements, before other work
+abbrev pub rest_pieces : Rest → List Work → List Work
+rest_pieces rest todo = pieces rest.left (others_before rest.others todo)
 
 -- after a turn of a loop: the loop comes again, or the work ended so
 abbrev pub behind : PlainProgram → Work → Machine → List Datum → Turn → Flow World

@@ -1,6 +1,6 @@
 //! The bodies that run, each called by the one below it.
 
-ghost use Rattle.std.specs.Prelude.{◌≡◌, [], ◌∷◌, ◌++◌, map, slice_set, IfOk};
+ghost use Rattle.std.specs.Prelude.{◌≡◌, [], ◌∷◌, ◌++◌, false, map, slice_set, IfOk};
 ghost use Rattle.ca_model.specs.Slots.{start_of};
 ghost use Rattle.ca_meaning.specs.Expressions.{value_at};
 
@@ -137,7 +137,8 @@ impl Bodies {
 
     /// Goes back to the body below, if there is one.
     pub fn leave(&mut self) -> bool
-        ensures { Went result self.old self.new }
+        ensures went { Went result self.old self.new }
+        ensures stays { result ≡ false → self.new ≡ self.old }
     {
         match self.below.pop() {
             Some(entry) => {

@@ -5,7 +5,7 @@ ghost use Rattle.ca_program.specs.View.{program_view, method_view, expression_vi
 ghost use Rattle.ca_model.specs.declared.value.Value.{Value as Datum};
 ghost use Rattle.ca_meaning.specs.Functions.{body_of};
 ghost use Rattle.ca_meaning.specs.Flows.{gives_back};
-ghost use Rattle.ca_serial.specs.Resume.{rest_of, world_of, runs, back_of, unwound, handed_back, begins, after, target_method, target_mode, others_in};
+ghost use Rattle.ca_serial.specs.Resume.{rest_of, world_of, runs, back_in, back_of, resume, unwound, handed_back, begins, after, target_method, target_mode, others_in};
 
 use crate::bodies::Mode;
 use crate::expressions::calls;
@@ -27,20 +27,41 @@ impl<'a> Machine<'a> {
     ) -> Result<Next, Memory>
         ensures { IfOk result (λ next. (ps : List Datum) → rest_of (program_view program.now) (Work.Collect line target arguments.entry first ∷ self.old.todo) self.old ps ≡ after (program_view program.now) self.new ps next) }
     {
+        let count = self.gather(program, line, target, arguments, first)?;
+        if count < arguments.len() {
+            self.todo
+                .push(Work::Collect(line, target, arguments, count + 1))?;
+            self.todo.push(Work::Evaluate(line, &arguments[count]))?;
+            return Ok(Next::GoesOn);
+        }
+        let next = self.begin(program, line, target, count)?;
+        Ok(next)
+    }
+
+    /// Puts the values of a call's arguments on the stack from one of them on, up to the first that isn't found
+    /// at once. Answers how many of the arguments are values then.
+    #[inline]
+    pub fn gather(
+        &mut self,
+        program: &'a Program,
+        line: u32,
+        target: Target,
+        arguments: &'a [Expr],
+        first: usize,
+    ) -> Result<usize, Memory>
+        ensures todo { self.new.todo ≡ self.old.todo }
+        ensures steps { self.new.left ≡ self.old.left }
+        ensures gathers { IfOk result (λ count. (todo : List Work) (ps : List Datum) → rest_of (program_view program.now) (Work.Collect line target arguments.entry first ∷ todo) self.old ps ≡ rest_of (program_view program.now) (Work.Collect line target arguments.entry count ∷ todo) self.new ps) }
+    {
         let mut index = first;
         while index < arguments.len() {
             match self.value_now(program, line, &arguments[index]) {
                 Some(value) => self.values.push(value)?,
-                None => {
-                    self.todo
-                        .push(Work::Collect(line, target, arguments, index + 1))?;
-                    self.todo.push(Work::Evaluate(line, &arguments[index]))?;
-                    return Ok(Next::GoesOn);
-                }
+                None => return Ok(index),
             }
             index += 1;
         }
-        self.begin(program, line, target, index)
+        Ok(index)
     }
 
     /// Begins a call whose arguments are the top values, so many of them, with the receiver below them.
@@ -76,17 +97,19 @@ impl<'a> Machine<'a> {
     fn begin_body(&mut self, program: &'a Program, ss: &'a [Stmt]) -> Result<Next, Memory>
         ensures { IfOk result (λ next. (ps : List Datum) → rest_of (program_view program.now) (Work.Seq ss.entry ∷ Work.Leave ∷ self.old.todo) self.old ps ≡ after (program_view program.now) self.new ps next) }
     {
+        if let Some(value) = self.gives(program, ss) {
+            let next = self.hand_back(program, value)?;
+            return Ok(next);
+        }
         let rest = self.do_all(program, ss);
         if rest.is_empty() {
             let next = self.leave(program)?;
             return Ok(next);
         }
-        if let Mode::InFunction = self.bodies.mode() {
-            if let Some((first, _)) = rest.split_first() {
-                if let Some(value) = self.given_back(program, first.line, first) {
-                    let next = self.hand_back(program, value)?;
-                    return Ok(next);
-                }
+        if rest.len() < ss.len() {
+            if let Some(value) = self.gives(program, rest) {
+                let next = self.hand_back(program, value)?;
+                return Ok(next);
             }
         }
         self.todo.push(Work::Leave)?;
@@ -94,9 +117,23 @@ impl<'a> Machine<'a> {
         Ok(next)
     }
 
+    /// The value that a list of statements of a value method gives back, where its first one does so at once.
+    #[inline]
+    fn gives(&self, program: &Program, ss: &[Stmt]) -> Option<Value>
+        ensures { IfSome result (λ v. (todo : List Work) (ps : List Datum) → rest_of (program_view program.now) (Work.Seq ss.entry ∷ Work.Leave ∷ todo) self.now ps ≡ back_in self.now.bodies.below (world_of self.now ps) (λ g below. resume (program_view program.now) todo (v ∷ self.now.values) g below (world_of self.now ps) self.now.left)) }
+    {
+        if let Mode::InOperation = self.bodies.mode() {
+            return None;
+        }
+        match ss.split_first() {
+            Some((first, _)) => self.given_back(program, first.line, first),
+            None => None,
+        }
+    }
+
     /// Makes the first statement of a list the next piece of work, and what is behind it the one after that.
     #[inline]
-    fn put_off(&mut self, program: &'a Program, ss: &'a [Stmt]) -> Result<Next, Memory>
+    pub fn put_off(&mut self, program: &'a Program, ss: &'a [Stmt]) -> Result<Next, Memory>
         ensures { IfOk result (λ next. (ps : List Datum) → rest_of (program_view program.now) (Work.Seq ss.entry ∷ self.old.todo) self.old ps ≡ after (program_view program.now) self.new ps next) }
     {
         match ss.split_first() {
@@ -209,7 +246,7 @@ pub struct Called<'a> {
 }
 
 /// The body of what is called, and nothing where there is no such method.
-fn body_of<'a>(program: &'a Program, target: Target) -> Called<'a>
+pub fn body_of<'a>(program: &'a Program, target: Target) -> Called<'a>
     ensures stmts { statements_view result.stmts.now ≡ body_of (target_method (program_view program.now) target) }
     ensures others { result.others.now ≡ others_in (target_method (program_view program.now) target) }
 {

@@ -269,9 +269,9 @@ pub fn calls(e: &Expr) -> bool {
     }
 }
 
-/// Whether an expression is a call.
+/// Whether an expression is a call. It decides only which way is taken.
 #[inline]
-fn is_call(e: &Expr) -> bool {
+pub fn is_call(e: &Expr) -> bool {
     match e {
         Expr::Value(_, _, _) => true,
         _ => false,

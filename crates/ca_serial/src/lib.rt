@@ -22,6 +22,7 @@ mod print;
 mod puts;
 mod running;
 mod stack;
+mod starts;
 mod statements;
 mod step;
 mod work;

@@ -99,26 +99,32 @@ impl<'a> Machine<'a> {
         }
         self.left -= 1;
         match &s.kind {
-            StmtForm::While(_, body) => match self.start(program, body.line, body) {
-                Left::Nothing => Ok(Turn::Whole),
-                left => {
-                    self.todo.push(Work::Again(line, s))?;
-                    let next = self.go_on(program, left)?;
-                    Ok(Turn::Ends(next))
+            StmtForm::While(_, body) => {
+                let rest = self.start_body(program, body)?;
+                match rest.left {
+                    Left::Nothing => Ok(Turn::Whole),
+                    _ => {
+                        self.todo.push(Work::Again(line, s))?;
+                        let next = self.go_on(program, rest)?;
+                        Ok(Turn::Ends(next))
+                    }
                 }
-            },
-            StmtForm::For(_, _, _, _, next, body) => match self.start(program, body.line, body) {
-                Left::Nothing => {
-                    let turn = self.follow(program, line, s, next)?;
-                    Ok(turn)
+            }
+            StmtForm::For(_, _, _, _, next, body) => {
+                let rest = self.start_body(program, body)?;
+                match rest.left {
+                    Left::Nothing => {
+                        let turn = self.follow(program, line, s, next)?;
+                        Ok(turn)
+                    }
+                    _ => {
+                        self.todo.push(Work::Again(line, s))?;
+                        self.todo.push(Work::Exec(line, next))?;
+                        let next = self.go_on(program, rest)?;
+                        Ok(Turn::Ends(next))
+                    }
                 }
-                left => {
-                    self.todo.push(Work::Again(line, s))?;
-                    self.todo.push(Work::Exec(line, next))?;
-                    let next = self.go_on(program, left)?;
-                    Ok(Turn::Ends(next))
-                }
-            },
+            }
             _ => Ok(Turn::Ends(Next::GoesOn)),
         }
     }
@@ -141,22 +147,5 @@ impl<'a> Machine<'a> {
         self.todo.push(Work::Again(line, s))?;
         let next = self.exec(program, line, next)?;
         Ok(Turn::Ends(next))
-    }
-
-    /// Goes on with what is left of a statement.
-    fn go_on(&mut self, program: &'a Program, left: Left<'a>) -> Result<Next, Memory>
-        ensures { IfOk result (λ next. (ps : List Datum) → rest_of (program_view program.now) (pieces left.entry self.old.todo) self.old ps ≡ after (program_view program.now) self.new ps next) }
-    {
-        match left {
-            Left::Nothing => Ok(Next::GoesOn),
-            Left::Statement(line, s) => {
-                let next = self.exec(program, line, s)?;
-                Ok(next)
-            }
-            Left::Statements(ss) => {
-                let next = self.go_through(program, ss)?;
-                Ok(next)
-            }
-        }
     }
 }

@@ -13,8 +13,9 @@ ghost use Rattle.ca_serial.specs.Bodies.{with_locals};
 ghost use Rattle.ca_serial.specs.Resume.{takes, does, after, looked_up, HasOwn, PassesPlaces};
 
 use crate::bodies::Mode;
+use crate::expressions::calls;
 use crate::machine::{Found, Machine, field_of, item_of, put, store, trapped};
-use crate::work::{Next, Taker};
+use crate::work::{Next, Taker, Work};
 use ca_base::Memory;
 use ca_meaning::assign;
 use ca_model::{CreateError, TrapKind, Value};
@@ -33,16 +34,15 @@ impl<'a> Machine<'a> {
     ) -> Result<Next, Memory>
         ensures { IfOk result (λ next. (own : ℕ) (ps : List Datum) → does (program_view program.now) line (put_local own local op (expression_view e.now)) self.old ps ≡ after (program_view program.now) self.new ps next) }
     {
-        match self.value_of(program, line, e) {
-            Some(value) => {
+        if !calls(e) {
+            if let Some(value) = self.value_of(program, line, e) {
                 self.assign_local(local, op, value);
-                Ok(Next::GoesOn)
-            }
-            None => {
-                self.then(Taker::PutLocal(local, op), line, e)?;
-                Ok(Next::GoesOn)
+                return Ok(Next::GoesOn);
             }
         }
+        self.todo.push(Work::Take(Taker::PutLocal(local, op)))?;
+        let next = self.evaluate(program, line, e)?;
+        Ok(next)
     }
 
     /// Puts what an operator gives for the old value and a value into a local.
@@ -78,16 +78,15 @@ impl<'a> Machine<'a> {
         if let Mode::InFunction = self.bodies.mode() {
             return Ok(Next::GoesOn);
         }
-        match self.value_of(program, line, e) {
-            Some(value) => {
+        if !calls(e) {
+            if let Some(value) = self.value_of(program, line, e) {
                 self.assign_field(field, op, value);
-                Ok(Next::GoesOn)
-            }
-            None => {
-                self.then(Taker::PutField(field, op), line, e)?;
-                Ok(Next::GoesOn)
+                return Ok(Next::GoesOn);
             }
         }
+        self.todo.push(Work::Take(Taker::PutField(field, op)))?;
+        let next = self.evaluate(program, line, e)?;
+        Ok(next)
     }
 
     /// Puts what an operator gives for the old value and a value into an own field.

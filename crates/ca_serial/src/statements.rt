@@ -55,28 +55,9 @@ impl<'a> Machine<'a> {
     pub fn seq(&mut self, program: &'a Program, ss: &'a [Stmt]) -> Result<Next, Memory>
         ensures { IfOk result (λ next. (ps : List Datum) → rest_of (program_view program.now) (Work.Seq ss.entry ∷ self.old.todo) self.old ps ≡ after (program_view program.now) self.new ps next) }
     {
-        let rest = self.do_all(program, ss);
-        let next = self.go_through(program, rest)?;
+        let rest = self.start_all(program, ss)?;
+        let next = self.go_on(program, rest)?;
         Ok(next)
-    }
-
-    /// Goes on with a list of statements, of which the first is to be run.
-    #[inline]
-    pub fn go_through(&mut self, program: &'a Program, ss: &'a [Stmt]) -> Result<Next, Memory>
-        ensures { IfOk result (λ next. (ps : List Datum) → rest_of (program_view program.now) (Work.Seq ss.entry ∷ self.old.todo) self.old ps ≡ after (program_view program.now) self.new ps next) }
-    {
-        match ss.split_first() {
-            Some((first, rest)) => {
-                if rest.is_empty() {
-                    let next = self.exec(program, first.line, first)?;
-                    return Ok(next);
-                }
-                self.todo.push(Work::Seq(rest))?;
-                let next = self.exec(program, first.line, first)?;
-                Ok(next)
-            }
-            None => Ok(Next::GoesOn),
-        }
     }
 
     /// Calls an operation.

@@ -82,7 +82,18 @@ pub enum Left<'a> {
     Nothing,
     /// A statement on a line.
     Statement(u32, &'a Stmt),
-    Statements(&'a [Stmt]),
+    /// A call of an operation whose receiver and first arguments are values, so many of them.
+    Call(u32, OpId, &'a [Expr], usize),
+    /// The last statements of a body that was entered, and its end.
+    Body(&'a [Stmt]),
+}
+
+/// What is left of a list of statements whose beginning was done at once: of one of them, and those
+/// behind it, if it isn't the last.
+#[derive(Clone, Copy)]
+pub struct Rest<'a> {
+    pub left: Left<'a>,
+    pub others: Option<&'a [Stmt]>,
 }
 
 /// How a turn of a loop ends: whole, so that the loop comes again, or as a piece of work ends.

@@ -8,3 +8,6 @@ pub mod Comparisons
 pub mod Pairs
 pub mod Unique
 mod Examples
+mod ExecutionExamples
+pub mod Alike
+pub mod CallLoops

@@ -3,3 +3,9 @@ pub mod Verdicts
 pub mod Laws
 pub mod Weighing
 pub mod Codes
+pub mod States
+pub mod Same
+pub mod Execution
+pub mod Demands
+pub mod Made
+pub mod OtherLoops

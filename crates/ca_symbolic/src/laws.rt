@@ -1,8 +1,19 @@
 //! Laws of verdicts.
 
-ghost use Rattle.ca_symbolic.specs.Laws.{OneVerdict};
+ghost use Rattle.ca_symbolic.specs.Laws.{AlikeIsEqual, CallLoopsAreTold, OneVerdict};
 
 /// No pair has two verdicts, so a text that is made of verdicts is determined too.
 pub fn one_verdict()
     ensures { OneVerdict }
+{}
+
+/// The index of a put and that of the item on its right side are compared as they are written, so a sum at an item
+/// is told without a proof about values.
+pub fn alike_is_equal()
+    ensures { AlikeIsEqual }
+{}
+
+/// Whether a loop is a loop of calls is a test, so a verdict can tell the first loop that is none.
+pub fn call_loops_are_told()
+    ensures { CallLoopsAreTold }
 {}

@@ -1,2 +1,5 @@
 pub mod Plain
 pub mod View
+pub mod Codes
+pub mod Spellings
+pub mod Operators

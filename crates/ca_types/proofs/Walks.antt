@@ -7,17 +7,17 @@ use Rattle.ca_tree.specs.View.{statement_view, statements_view}
 use Rattle.ca_program.specs.Plain as program
 use Rattle.ca_resolve.specs.Judged.{Judged, fine}
 use Rattle.ca_resolve.proofs.Tables.{next_read}
-use Rattle.ca_types.specs.Statements.{Standing, behind, behind_all, added, judge_statement, judge_statements}
+use Rattle.ca_types.specs.Statements.{Env, behind, behind_all, added, judge_statement, judge_statements}
 
 next_statement : (xs : List StmtNode) (i : ℕ) (s : StmtNode) → i < length xs → s ≡ get_or xs i s → statements_view (drop i xs) ≡ statement_and (statement_view s) (statements_view (drop (i + 1) xs))
 next_statement xs i s h e = ap statements_view (next_read xs i s h e)
 
 -- the statements of a list from i on, behind others that gave `front`, are all that is left of the whole
-pub record Left (c0 : Standing) (all : Statements) (c : Standing) (front : Judged (List program.Statement)) (rest : Statements) : Type 0 where
+pub record Left (c0 : Env) (all : Statements) (c : Env) (front : Judged (List program.Statement)) (rest : Statements) : Type 0 where
   pub judged : judge_statements c0 (fine []) all ≡ judge_statements c front rest
   pub standing : behind_all c0 all ≡ behind_all c rest
 
-pub step : (c0 c c' : Standing) (all : Statements) (front : Judged (List program.Statement)) (xs : List StmtNode) (i : ℕ) (s : StmtNode) → i < length xs → s ≡ get_or xs i s
+pub step : (c0 c c' : Env) (all : Statements) (front : Judged (List program.Statement)) (xs : List StmtNode) (i : ℕ) (s : StmtNode) → i < length xs → s ≡ get_or xs i s
     → c' ≡ behind c (statement_view s) → Left c0 all c front (statements_view (drop i xs))
     → Left c0 all c' (added front (judge_statement c (statement_view s))) (statements_view (drop (i + 1) xs))
 step c0 c c' all front xs i s h e b l =
@@ -28,7 +28,7 @@ step c0 c c' all front xs i s h e b l =
       standing = l.standing ∙ (ap (behind_all c) n ∙ ap (λ d. behind_all d rest) (sym b));
     }
 
-pub ended : (c0 c : Standing) (all : Statements) (front : Judged (List program.Statement)) (xs : List StmtNode) (i : ℕ) → length xs ≤ i → Left c0 all c front (statements_view (drop i xs))
+pub ended : (c0 c : Env) (all : Statements) (front : Judged (List program.Statement)) (xs : List StmtNode) (i : ℕ) → length xs ≤ i → Left c0 all c front (statements_view (drop i xs))
     → (judge_statements c0 (fine []) all ≡ front) × (behind_all c0 all ≡ c)
 ended c0 c all front xs i h l =
     let e = ap statements_view (drop_all i xs h) in

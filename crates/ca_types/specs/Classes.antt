@@ -10,9 +10,9 @@ use Rattle.ca_program.specs.declared.program.FieldInfo.{FieldInfo}
 use Rattle.ca_program.specs.declared.program.ValueType.{ValueType}
 use Rattle.ca_program.specs.Plain as program
 use Rattle.ca_resolve.specs.Judged.{Violation, Judged, fine, faulty, both, within, unless, beside, violations}
-use Rattle.ca_resolve.specs.Scopes.{Sort, sort_of, find_local, Classes, classes_of, Numbers, after_member, member_name}
+use Rattle.ca_resolve.specs.Scopes.{Ty, ty_of, find_local, Classes, classes_of, Numbers, after_member, member_name}
 use Rattle.ca_types.specs.Rules.{class_once, member_once, local_once, ends_with_return, length_stands, class_limit, field_limit, operation_limit, function_limit, parameter_limit, local_limit, length_limit}
-use Rattle.ca_types.specs.Statements.{Standing, declaring, behind_all, judge_type, judge_statements, statements_in}
+use Rattle.ca_types.specs.Statements.{Env, declare, behind_all, judge_type, judge_statements, statements_in}
 
 -- a walk over a list, by where the next item stands and what an item adds: where it ends, and what it gives behind `front`
 abbrev pub walked : {S T : Type 0} → (S → T → S) → S → List T → S
@@ -26,7 +26,7 @@ gathered next add s front (x ∷ xs) = gathered next add (next s x) (add s front
 -- bodies
 
 -- where a body begins, behind so many `for` statements
-abbrev pub beginning : Classes → Option ClassId → ℕ → Option Sort → Standing
+abbrev pub beginning : Classes → Option ClassId → ℕ → Option Ty → Env
 beginning classes class loops result = record {
   scope = record { classes = classes; class = class; locals = [] };
   in_block = 0;
@@ -37,29 +37,29 @@ beginning classes class loops result = record {
 }
 
 -- a parameter is a local of the body's block
-abbrev pub behind_parameter : Standing → ParamNode → Standing
-behind_parameter c p = declaring c (sort_of c.scope.classes.names p.ty) p.name
+abbrev pub behind_parameter : Env → ParamNode → Env
+behind_parameter c p = declare c (ty_of c.scope.classes.names p.ty) p.name
 
-abbrev pub behind_parameters : Standing → List ParamNode → Standing
+abbrev pub behind_parameters : Env → List ParamNode → Env
 behind_parameters = walked behind_parameter
 
-abbrev pub judge_parameter : Standing → ParamNode → Judged ValueType
+abbrev pub judge_parameter : Env → ParamNode → Judged ValueType
 judge_parameter c p =
     within (beside (parameter_limit (length c.locals) p.at) (beside (local_limit (length c.locals) p.at) (judge_type c.scope.classes.names p.ty)))
     (λ t. unless (local_once c.first (find_local c.scope.locals p.name) p.at) t)
 
 -- only the violations of parameters count
-abbrev pub add_parameter : Standing → Judged (Unit {0}) → ParamNode → Judged (Unit {0})
+abbrev pub add_parameter : Env → Judged (Unit {0}) → ParamNode → Judged (Unit {0})
 add_parameter c front p = within (both front (judge_parameter c p)) (λ r. fine r.0)
 
-abbrev pub judge_parameters : Standing → List ParamNode → Judged (Unit {0})
+abbrev pub judge_parameters : Env → List ParamNode → Judged (Unit {0})
 judge_parameters c ps = gathered behind_parameter add_parameter c (fine tt) ps
 
 -- members
 
 -- where a member stands: in the class of this number, among members of these names, the member of this number, and behind
 -- so many fields of the class and operations, value methods and `for` statements of the program
-pub record MemberStanding : Type 0 where
+pub record MemberEnv : Type 0 where
   pub classes : Classes
   pub class : ClassId
   pub names : List (List ℕ)
@@ -71,7 +71,7 @@ abbrev pub item_count : Option ℤ → Option ℕ
 item_count None = None
 item_count (Some n) = Some (unsigned_abs n)
 
-abbrev pub judge_field_member : MemberStanding → FieldNode → Judged FieldInfo
+abbrev pub judge_field_member : MemberEnv → FieldNode → Judged FieldInfo
 judge_field_member c f =
     within (beside (field_limit c.numbers.field f.at) (beside (length_limit f.length f.at) (judge_type c.classes.names f.ty)))
     (λ t. beside (member_once c.names c.number f.name f.at) (unless (length_stands f.length f.at) (record { name = f.name; ty = t; length = item_count f.length })))
@@ -80,25 +80,25 @@ abbrev pub judge_result_type : List (List ℕ) → Option TypeNode → Judged (O
 judge_result_type names None = fine None
 judge_result_type names (Some ty) = within (judge_type names ty) (λ t. fine (Some t))
 
-abbrev pub result_sort : List (List ℕ) → Option TypeNode → Option Sort
-result_sort names None = None
-result_sort names (Some ty) = Some (sort_of names ty)
+abbrev pub result_ty : List (List ℕ) → Option TypeNode → Option Ty
+result_ty names None = None
+result_ty names (Some ty) = Some (ty_of names ty)
 
 -- an operation where there is no result, else a value method
 abbrev pub method_limit : Numbers → Option TypeNode → Place → Option Violation
 method_limit n None at = operation_limit n.operation at
 method_limit n (Some ty) at = function_limit n.function at
 
-abbrev pub method_begin : MemberStanding → MethodTree → Standing
-method_begin c m = beginning c.classes (Some c.class) c.loops (result_sort c.classes.names m.result)
+abbrev pub method_begin : MemberEnv → MethodTree → Env
+method_begin c m = beginning c.classes (Some c.class) c.loops (result_ty c.classes.names m.result)
 
-abbrev pub body_begin : MemberStanding → MethodTree → Standing
+abbrev pub body_begin : MemberEnv → MethodTree → Env
 body_begin c m = behind_parameters (method_begin c m) m.params
 
-abbrev pub method_end : MemberStanding → MethodTree → Standing
+abbrev pub method_end : MemberEnv → MethodTree → Env
 method_end c m = behind_all (body_begin c m) m.body
 
-abbrev pub method_of : MemberStanding → MethodTree → Option ValueType → List program.Statement → program.PlainMethod
+abbrev pub method_of : MemberEnv → MethodTree → Option ValueType → List program.Statement → program.PlainMethod
 method_of c m result body = record {
   class = c.class;
   name = m.name;
@@ -108,12 +108,12 @@ method_of c m result body = record {
 }
 
 -- a method of its judged parts: its result's type, its parameters and its statements
-abbrev pub judge_parts : MemberStanding → MethodTree → Judged (Option ValueType × (Unit {0} × List program.Statement)) → Judged program.PlainMethod
+abbrev pub judge_parts : MemberEnv → MethodTree → Judged (Option ValueType × (Unit {0} × List program.Statement)) → Judged program.PlainMethod
 judge_parts c m parts =
     within (beside (method_limit c.numbers m.result m.at) parts)
     (λ p. beside (member_once c.names c.number m.name m.at) (unless (ends_with_return (is_some m.result) m.body m.at) (method_of c m p.0 p.1.1)))
 
-abbrev pub judge_method : MemberStanding → MethodTree → Judged program.PlainMethod
+abbrev pub judge_method : MemberEnv → MethodTree → Judged program.PlainMethod
 judge_method c m = judge_parts c m (both (judge_result_type c.classes.names m.result) (both (judge_parameters (method_begin c m) m.params) (judge_statements (body_begin c m) (fine []) m.body)))
 
 -- what members and classes resolve to: fields of a class, operations and value methods, in order
@@ -130,11 +130,11 @@ abbrev pub with_method : Members → Option ValueType → program.PlainMethod �
 with_method p None m = record { fields = p.fields; ops = p.ops ++ m ∷ []; functions = p.functions }
 with_method p (Some t) m = record { fields = p.fields; ops = p.ops; functions = p.functions ++ m ∷ [] }
 
-abbrev pub loops_behind : MemberStanding → MemberTree → ℕ
+abbrev pub loops_behind : MemberEnv → MemberTree → ℕ
 loops_behind c (field_member f) = c.loops
 loops_behind c (method_member m) = (method_end c m).loops
 
-abbrev pub behind_member : MemberStanding → MemberTree → MemberStanding
+abbrev pub behind_member : MemberEnv → MemberTree → MemberEnv
 behind_member c m = record {
   classes = c.classes;
   class = c.class;
@@ -144,29 +144,29 @@ behind_member c m = record {
   loops = loops_behind c m;
 }
 
-abbrev pub behind_members : MemberStanding → List MemberTree → MemberStanding
+abbrev pub behind_members : MemberEnv → List MemberTree → MemberEnv
 behind_members = walked behind_member
 
-abbrev pub add_member : MemberStanding → Judged Members → MemberTree → Judged Members
+abbrev pub add_member : MemberEnv → Judged Members → MemberTree → Judged Members
 add_member c front (field_member f) = within (both front (judge_field_member c f)) (λ p. fine (with_field p.0 p.1))
 add_member c front (method_member m) = within (both front (judge_method c m)) (λ p. fine (with_method p.0 p.1.result p.1))
 
 abbrev pub no_members : Members
 no_members = record { fields = []; ops = []; functions = [] }
 
-abbrev pub judge_members : MemberStanding → List MemberTree → Judged Members
+abbrev pub judge_members : MemberEnv → List MemberTree → Judged Members
 judge_members c ms = gathered behind_member add_member c (fine no_members) ms
 
 -- classes
 
 -- behind so many classes, operations, value methods and `for` statements
-pub record ClassStanding : Type 0 where
+pub record ClassEnv : Type 0 where
   pub classes : Classes
   pub number : ℕ
   pub numbers : Numbers
   pub loops : ℕ
 
-abbrev pub class_begin : ClassStanding → List MemberTree → MemberStanding
+abbrev pub class_begin : ClassEnv → List MemberTree → MemberEnv
 class_begin c members = record {
   classes = c.classes;
   class = record { 0 = c.number };
@@ -176,15 +176,15 @@ class_begin c members = record {
   loops = c.loops;
 }
 
-abbrev pub behind_class : ClassStanding → ClassTree → ClassStanding
+abbrev pub behind_class : ClassEnv → ClassTree → ClassEnv
 behind_class c t =
     let last = behind_members (class_begin c t.members) t.members in
     record { classes = c.classes; number = c.number + 1; numbers = last.numbers; loops = last.loops }
 
-abbrev pub behind_classes : ClassStanding → List ClassTree → ClassStanding
+abbrev pub behind_classes : ClassEnv → List ClassTree → ClassEnv
 behind_classes = walked behind_class
 
-abbrev pub judge_class : ClassStanding → ClassTree → Judged Members
+abbrev pub judge_class : ClassEnv → ClassTree → Judged Members
 judge_class c t =
     within (beside (class_limit c.number t.at) (judge_members (class_begin c t.members) t.members))
     (λ p. unless (class_once c.classes.names c.number t.name t.at) p)
@@ -198,22 +198,22 @@ pub record Parts : Type 0 where
 abbrev pub with_class : Parts → List ℕ → Members → Parts
 with_class p name m = record { classes = p.classes ++ record { name = name; fields = m.fields } ∷ []; ops = p.ops ++ m.ops; functions = p.functions ++ m.functions }
 
-abbrev pub add_class : ClassStanding → Judged Parts → ClassTree → Judged Parts
+abbrev pub add_class : ClassEnv → Judged Parts → ClassTree → Judged Parts
 add_class c front t = within (both front (judge_class c t)) (λ p. fine (with_class p.0 t.name p.1))
 
 abbrev pub no_parts : Parts
 no_parts = record { classes = []; ops = []; functions = [] }
 
-abbrev pub judge_classes : ClassStanding → List ClassTree → Judged Parts
+abbrev pub judge_classes : ClassEnv → List ClassTree → Judged Parts
 judge_classes c ts = gathered behind_class add_class c (fine no_parts) ts
 
 -- the whole
 
-abbrev pub first_class : Classes → ClassStanding
+abbrev pub first_class : Classes → ClassEnv
 first_class classes = record { classes = classes; number = 0; numbers = record { field = 0; operation = 0; function = 0 }; loops = 0 }
 
 -- `main` stands behind all classes
-abbrev pub main_begin : TextTree → Standing
+abbrev pub main_begin : TextTree → Env
 main_begin t = beginning (classes_of t.classes) None (behind_classes (first_class (classes_of t.classes)) t.classes).loops None
 
 abbrev pub program_of : List ValueType → Parts × List program.Statement → program.PlainProgram

@@ -1,7 +1,7 @@
 -- What the walk keeps, as the definitions see it.
 use Rattle.std.specs.Prelude.{List, map}
 use Rattle.std.specs.Option.{option_map}
-use Rattle.ca_resolve.specs.LocalView.{sort_view}
+use Rattle.ca_resolve.specs.LocalView.{ty_view}
 use Rattle.ca_resolve.specs.View.{classes_view}
 use Rattle.std.specs.Prelude.{Result, Ok, Err, Option}
 use Rattle.ca_resolve.specs.declared.errors.CheckError.{CheckError}
@@ -22,18 +22,18 @@ use Rattle.ca_types.specs.declared.classes.Members.{Members as CodeMembers}
 use Rattle.ca_types.specs.declared.classes.Parts.{Parts as CodeParts}
 use Rattle.ca_types.specs.declared.classes.ClassWalk.{ClassWalk}
 use Rattle.ca_program.specs.View.{class_view, method_view}
-use Rattle.ca_types.specs.Classes.{MemberStanding, ClassStanding, Members, Parts}
-use Rattle.ca_types.specs.Statements.{Standing, Source, of_value, of_new}
+use Rattle.ca_types.specs.Classes.{MemberEnv, ClassEnv, Members, Parts}
+use Rattle.ca_types.specs.Statements.{Env, Source, of_value, of_new}
 use Rattle.ca_types.specs.declared.walk.Walk.{Walk}
 
-abbrev pub standing_view : Walk → Standing
-standing_view w = record {
+abbrev pub env_view : Walk → Env
+env_view w = record {
   scope = record { classes = classes_view w.classes.now; class = w.class; locals = w.visible };
   in_block = w.in_block;
   first = w.first;
   locals = w.locals.items;
   loops = w.loops;
-  result = option_map sort_view w.result;
+  result = option_map ty_view w.result;
 }
 
 abbrev pub source_view : CodeSource → Source
@@ -61,8 +61,8 @@ boxed_view b = statement_view b.value
 abbrev pub counts_view : Counts → Numbers
 counts_view n = record { field = n.fields; operation = n.operations; function = n.functions }
 
-abbrev pub member_standing : MemberWalk → MemberStanding
-member_standing w = record {
+abbrev pub member_env : MemberWalk → MemberEnv
+member_env w = record {
   classes = classes_view w.classes.now;
   class = w.class;
   names = w.names;
@@ -71,8 +71,8 @@ member_standing w = record {
   loops = w.loops;
 }
 
-abbrev pub class_standing : ClassWalk → ClassStanding
-class_standing w = record {
+abbrev pub class_env : ClassWalk → ClassEnv
+class_env w = record {
   classes = classes_view w.classes.now;
   number = w.number;
   numbers = counts_view w.counts;

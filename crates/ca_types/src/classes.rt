@@ -10,12 +10,13 @@ ghost use Rattle.ca_resolve.specs.Judged.{Answers, Finds, Judged, Violation, fin
 ghost use Rattle.ca_resolve.specs.Scopes.{member_name, after_method};
 ghost use Rattle.ca_types.specs.Rules.{listed, class_once};
 ghost use Rattle.ca_types.specs.Classes.{behind_member, behind_members, add_member, judge_members, class_begin, behind_class, behind_classes, judge_class, judge_classes, first_class, with_field, with_method, with_class, Members as PlainMembers, Parts as PlainParts};
-ghost use Rattle.ca_types.specs.View.{member_standing, class_standing, counts_view, members_view, parts_view};
+ghost use Rattle.ca_types.specs.View.{member_env, class_env, counts_view, members_view, parts_view};
 
 use crate::limits::{MOST_CLASSES, bound};
 use crate::members::{Counts, MemberWalk, check_field, check_method};
 use crate::rules::{Answer, rule};
 use ca_program::{Class, ClassId, FieldInfo, Method};
+use ca_resolve::codes::{CLASS_TWICE, TOO_MANY_CLASSES};
 use ca_resolve::{ClassTable, Names, both, member_name, one_more};
 use ca_tree::{ClassNode, Member, Name, TypeNode};
 use std::alloc::{AllocError, Global};
@@ -97,8 +98,8 @@ fn check_member<'a>(
     front: Answer<Members>,
     member: &'a Member,
 ) -> Result<Answer<Members>, AllocError>
-    ensures judged { (j : Judged PlainMembers) → Answers members_view front j → IfOk result (λ a. Answers members_view a (add_member (member_standing standing.old) j (member_view member.now))) }
-    ensures behind { OnOk result (member_standing standing.new ≡ behind_member (member_standing standing.old) (member_view member.now)) }
+    ensures judged { (j : Judged PlainMembers) → Answers members_view front j → IfOk result (λ a. Answers members_view a (add_member (member_env standing.old) j (member_view member.now))) }
+    ensures behind { OnOk result (member_env standing.new ≡ behind_member (member_env standing.old) (member_view member.now)) }
 {
     let number = one_more(standing.number)?;
     match member {
@@ -126,8 +127,8 @@ fn check_members<'a>(
     standing: &mut MemberWalk<'_, 'a>,
     members: &'a [Member],
 ) -> Result<Answer<Members>, AllocError>
-    ensures judged { IfOk result (λ a. Answers members_view a (judge_members (member_standing standing.old) (map member_view members.now))) }
-    ensures behind { OnOk result (member_standing standing.new ≡ behind_members (member_standing standing.old) (map member_view members.now)) }
+    ensures judged { IfOk result (λ a. Answers members_view a (judge_members (member_env standing.old) (map member_view members.now))) }
+    ensures behind { OnOk result (member_env standing.new ≡ behind_members (member_env standing.old) (map member_view members.now)) }
 {
     let mut answers = Ok(Members {
         fields: Vec::new(alloc),
@@ -142,10 +143,10 @@ fn check_members<'a>(
 
 /// Whether the class of this number is the first of its name.
 fn class_once(walk: &ClassWalk, class: &ClassNode) -> Answer<()>
-    ensures { Finds result (listed (class_once (class_standing walk.now).classes.names (class_standing walk.now).number class.now.name class.now.at)) }
+    ensures { Finds result (listed (class_once (class_env walk.now).classes.names (class_env walk.now).number class.now.name class.now.at)) }
 {
     let first = walk.classes.names().number(&class.name);
-    rule(first != Some(walk.number), class.at, 20)
+    rule(first != Some(walk.number), class.at, CLASS_TWICE)
 }
 
 /// A class.
@@ -154,11 +155,11 @@ fn check_class<'a>(
     walk: &mut ClassWalk<'_, 'a>,
     class: &'a ClassNode,
 ) -> Result<Answer<Members>, AllocError>
-    ensures judged { IfOk result (λ a. Answers members_view a (judge_class (class_standing walk.old) (class_view class.now))) }
-    ensures behind { OnOk result (class_standing walk.new ≡ behind_class (class_standing walk.old) (class_view class.now)) }
+    ensures judged { IfOk result (λ a. Answers members_view a (judge_class (class_env walk.old) (class_view class.now))) }
+    ensures behind { OnOk result (class_env walk.new ≡ behind_class (class_env walk.old) (class_view class.now)) }
 {
     let number = one_more(walk.number)?;
-    let passed = bound(walk.number == MOST_CLASSES, class.at, 50);
+    let passed = bound(walk.number == MOST_CLASSES, class.at, TOO_MANY_CLASSES);
     let again = class_once(walk, class);
     let mut standing = MemberWalk {
         classes: walk.classes,

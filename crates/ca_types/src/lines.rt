@@ -5,33 +5,34 @@ ghost use Rattle.std.specs.Option.{option_map};
 ghost use Rattle.ca_tree.specs.View.{expression_view};
 ghost use Rattle.ca_program.specs.View as program;
 ghost use Rattle.ca_resolve.specs.Judged.{Answers};
-ghost use Rattle.ca_resolve.specs.LocalView.{sort_view};
+ghost use Rattle.ca_resolve.specs.LocalView.{ty_view};
 ghost use Rattle.ca_resolve.specs.View.{scope_view, callee_view};
 ghost use Rattle.ca_types.specs.Rules.{called_operation, has_text};
 ghost use Rattle.ca_types.specs.Statements.{judge_condition, judge_call_statement, judge_return, judge_printed, judge_print};
-ghost use Rattle.ca_types.specs.View.{standing_view};
+ghost use Rattle.ca_types.specs.View.{env_view};
 
 use crate::puts::check_wanted;
 use crate::rules::Answer;
 use crate::walk::Walk;
 use ca_program::{Expr, OpId, Stmt, StmtForm};
-use ca_resolve::{Callee, Scope, Sort, check_call, check_value, violation};
+use ca_resolve::codes::{TYPES_DISAGREE, VALUE_METHOD_ACTS, WRONG_CALL, WRONG_RETURN};
+use ca_resolve::{Callee, Scope, Ty, check_call, check_value, violation};
 use ca_tree::{ExprNode, Place};
 use std::alloc::Global;
 
 /// The operation that a statement calls.
-fn called_operation(returned: &Option<Sort>, callee: &Callee, at: Place) -> Answer<OpId>
-    ensures { Answers (λ o. o) result (called_operation (option_map sort_view returned.now) (callee_view callee.now) at) }
+fn called_operation(returned: &Option<Ty>, callee: &Callee, at: Place) -> Answer<OpId>
+    ensures { Answers (λ o. o) result (called_operation (option_map ty_view returned.now) (callee_view callee.now) at) }
 {
     match callee {
         Callee::Operation(op) => {
             if returned.is_some() {
-                Err(violation(at, 29))
+                Err(violation(at, VALUE_METHOD_ACTS))
             } else {
                 Ok(*op)
             }
         }
-        Callee::Function(..) => Err(violation(at, 28)),
+        Callee::Function(..) => Err(violation(at, WRONG_CALL)),
     }
 }
 
@@ -42,7 +43,7 @@ pub(crate) fn check_call_statement(
     at: Place,
     e: &ExprNode,
 ) -> Answer<Stmt>
-    ensures { Answers program.statement_view result (judge_call_statement (standing_view walk.now) at (expression_view e.now)) }
+    ensures { Answers program.statement_view result (judge_call_statement (env_view walk.now) at (expression_view e.now)) }
 {
     let call = check_call(alloc, &walk.scope(), e)?;
     let op = called_operation(&walk.result, &call.callee, e.at)?;
@@ -56,21 +57,21 @@ pub(crate) fn check_call_statement(
 pub(crate) fn check_condition(alloc: Global, scope: &Scope, e: &ExprNode) -> Answer<Expr>
     ensures { Answers program.expression_view result (judge_condition (scope_view scope.now) (expression_view e.now)) }
 {
-    let (value, sort) = check_value(alloc, scope, e)?;
-    if sort.is_truth() {
+    let (value, ty) = check_value(alloc, scope, e)?;
+    if ty.is_truth() {
         Ok(value)
     } else {
-        Err(violation(e.at, 25))
+        Err(violation(e.at, TYPES_DISAGREE))
     }
 }
 
 /// A `return`.
 pub(crate) fn check_return(alloc: Global, walk: &Walk, at: Place, e: &ExprNode) -> Answer<Stmt>
-    ensures { Answers program.statement_view result (judge_return (standing_view walk.now) at (expression_view e.now)) }
+    ensures { Answers program.statement_view result (judge_return (env_view walk.now) at (expression_view e.now)) }
 {
     let value = check_wanted(alloc, &walk.scope(), walk.result, e)?;
     if walk.result.is_none() {
-        return Err(violation(at, 30));
+        return Err(violation(at, WRONG_RETURN));
     }
     Ok(Stmt {
         line: at.line,
@@ -79,31 +80,31 @@ pub(crate) fn check_return(alloc: Global, walk: &Walk, at: Place, e: &ExprNode) 
 }
 
 /// Whether values of the type have a text.
-fn has_text(sort: &Sort) -> bool
-    ensures { result ≡ has_text (sort_view sort.now) }
+fn has_text(ty: &Ty) -> bool
+    ensures { result ≡ has_text (ty_view ty.now) }
 {
-    sort.is_long() || sort.is_truth()
+    ty.is_long() || ty.is_truth()
 }
 
 /// A number or a truth value, to be printed.
 fn check_printed(alloc: Global, scope: &Scope, e: &ExprNode) -> Answer<Expr>
     ensures { Answers program.expression_view result (judge_printed (scope_view scope.now) (expression_view e.now)) }
 {
-    let (value, sort) = check_value(alloc, scope, e)?;
-    if has_text(&sort) {
+    let (value, ty) = check_value(alloc, scope, e)?;
+    if has_text(&ty) {
         Ok(value)
     } else {
-        Err(violation(e.at, 25))
+        Err(violation(e.at, TYPES_DISAGREE))
     }
 }
 
 /// A `print`.
 pub(crate) fn check_print(alloc: Global, walk: &Walk, at: Place, e: &ExprNode) -> Answer<Stmt>
-    ensures { Answers program.statement_view result (judge_print (standing_view walk.now) at (expression_view e.now)) }
+    ensures { Answers program.statement_view result (judge_print (env_view walk.now) at (expression_view e.now)) }
 {
     let value = check_printed(alloc, &walk.scope(), e)?;
     if walk.result.is_some() {
-        return Err(violation(at, 29));
+        return Err(violation(at, VALUE_METHOD_ACTS));
     }
     Ok(Stmt {
         line: at.line,

@@ -6,11 +6,11 @@ ghost use Rattle.ca_tree.specs.View.{statement_view, statements_view, method_vie
 ghost use Rattle.ca_program.specs.View.{method_view};
 ghost use Rattle.ca_program.specs.Plain.{Statement};
 ghost use Rattle.ca_resolve.specs.Judged.{Answers, Finds, Judged, fine, both, within};
-ghost use Rattle.ca_resolve.specs.LocalView.{sort_view};
+ghost use Rattle.ca_resolve.specs.LocalView.{ty_view};
 ghost use Rattle.ca_resolve.specs.View.{classes_view};
 ghost use Rattle.ca_types.specs.Rules.{listed, returns, last_returns, member_once, ends_with_return, length_stands, length_limit};
-ghost use Rattle.ca_types.specs.Classes.{behind_parameters, judge_parameter, judge_parameters, item_count, judge_field_member, judge_result_type, result_sort, method_limit, method_begin, body_begin, method_end, judge_method, judge_parts};
-ghost use Rattle.ca_types.specs.View.{standing_view, member_standing, all_view, method_parts_view};
+ghost use Rattle.ca_types.specs.Classes.{behind_parameters, judge_parameter, judge_parameters, item_count, judge_field_member, judge_result_type, result_ty, method_limit, method_begin, body_begin, method_end, judge_method, judge_parts};
+ghost use Rattle.ca_types.specs.View.{env_view, member_env, all_view, method_parts_view};
 ghost use Rattle.ca_program.specs.declared.program.ValueType.{ValueType as PlainType};
 
 use crate::limits::{
@@ -20,7 +20,11 @@ use crate::rules::{Answer, check_type, rule};
 use crate::statements::check_statements;
 use crate::walk::Walk;
 use ca_program::{Body, ClassId, FieldInfo, Method, Stmt, ValueType};
-use ca_resolve::{ClassTable, Names, Sort, both};
+use ca_resolve::codes::{
+    EMPTY_ARRAY, MEMBER_TWICE, TOO_LONG_ARRAY, TOO_MANY_FIELDS, TOO_MANY_FUNCTIONS,
+    TOO_MANY_LOCALS, TOO_MANY_OPERATIONS, TOO_MANY_PARAMETERS, WRONG_RETURN,
+};
+use ca_resolve::{ClassTable, Names, Ty, both};
 use ca_tree::{FieldNode, MethodNode, Name, ParamNode, Place, StmtKind, StmtNode, TypeNode};
 use std::alloc::{AllocError, Global};
 
@@ -48,10 +52,14 @@ pub(crate) struct MemberWalk<'s, 'a> {
 
 /// A parameter, before it is declared.
 fn check_parameter(walk: &Walk, param: &ParamNode) -> Answer<ValueType>
-    ensures { Answers (λ t. t) result (judge_parameter (standing_view walk.now) param.now) }
+    ensures { Answers (λ t. t) result (judge_parameter (env_view walk.now) param.now) }
 {
-    let many = bound(walk.count() == MOST_PARAMETERS, param.at, 54);
-    let full = bound(walk.count() == MOST_LOCALS, param.at, 55);
+    let many = bound(
+        walk.count() == MOST_PARAMETERS,
+        param.at,
+        TOO_MANY_PARAMETERS,
+    );
+    let full = bound(walk.count() == MOST_LOCALS, param.at, TOO_MANY_LOCALS);
     let written = check_type(walk.classes, &param.ty);
     let (_, (_, ty)) = both(many, both(full, written))?;
     walk.local_once(&param.name, param.at)?;
@@ -63,14 +71,14 @@ fn check_parameters<'a>(
     walk: &mut Walk<'_, 'a>,
     params: &'a [ParamNode],
 ) -> Result<Answer<()>, AllocError>
-    ensures judged { IfOk result (λ a. Answers (λ u. u) a (judge_parameters (standing_view walk.old) params.now)) }
-    ensures behind { OnOk result (standing_view walk.new ≡ behind_parameters (standing_view walk.old) params.now) }
+    ensures judged { IfOk result (λ a. Answers (λ u. u) a (judge_parameters (env_view walk.old) params.now)) }
+    ensures behind { OnOk result (env_view walk.new ≡ behind_parameters (env_view walk.old) params.now) }
 {
     let mut answers = Ok(());
     for param in params {
         let answer = check_parameter(walk, param);
-        let sort = walk.classes.sort_of(&param.ty);
-        walk.declare(sort, &param.name)?;
+        let ty = walk.classes.ty_of(&param.ty);
+        walk.declare(ty, &param.name)?;
         answers = and_also(answers, answer);
     }
     Ok(answers)
@@ -86,9 +94,13 @@ fn and_also(front: Answer<()>, one: Answer<ValueType>) -> Answer<()>
 
 /// Whether the member of this number is the first of its name.
 fn member_once(standing: &MemberWalk, name: &Name, at: Place) -> Answer<()>
-    ensures { Finds result (listed (member_once (member_standing standing.now).names (member_standing standing.now).number name.now at)) }
+    ensures { Finds result (listed (member_once (member_env standing.now).names (member_env standing.now).number name.now at)) }
 {
-    rule(standing.names.number(name) != Some(standing.number), at, 22)
+    rule(
+        standing.names.number(name) != Some(standing.number),
+        at,
+        MEMBER_TWICE,
+    )
 }
 
 /// An array has at least one item.
@@ -97,7 +109,7 @@ fn length_stands(length: Option<i64>, at: Place) -> Answer<()>
 {
     match length {
         None => Ok(()),
-        Some(n) => rule(n <= 0, at, 33),
+        Some(n) => rule(n <= 0, at, EMPTY_ARRAY),
     }
 }
 
@@ -107,7 +119,7 @@ fn length_limit(length: Option<i64>, at: Place) -> Answer<()>
 {
     match length {
         None => Ok(()),
-        Some(n) => bound(n > MOST_ITEMS, at, 56),
+        Some(n) => bound(n > MOST_ITEMS, at, TOO_LONG_ARRAY),
     }
 }
 
@@ -130,9 +142,13 @@ pub(crate) fn check_field(
     standing: &MemberWalk,
     field: &FieldNode,
 ) -> Answer<FieldInfo>
-    ensures { Answers (λ f. f) result (judge_field_member (member_standing standing.now) field.now) }
+    ensures { Answers (λ f. f) result (judge_field_member (member_env standing.now) field.now) }
 {
-    let many = bound(standing.counts.fields == MOST_FIELDS, field.at, 51);
+    let many = bound(
+        standing.counts.fields == MOST_FIELDS,
+        field.at,
+        TOO_MANY_FIELDS,
+    );
     let long = length_limit(field.length, field.at);
     let written = check_type(standing.classes, &field.ty);
     let (_, (_, ty)) = both(many, both(long, written))?;
@@ -198,22 +214,30 @@ fn check_result_type(classes: &ClassTable, written: &Option<TypeNode>) -> Answer
     }
 }
 
-fn result_sort<'a>(classes: &ClassTable<'a>, written: &'a Option<TypeNode>) -> Option<Sort<'a>>
-    ensures { option_map sort_view result ≡ result_sort (classes_view classes.now).names written.now }
+fn result_ty<'a>(classes: &ClassTable<'a>, written: &'a Option<TypeNode>) -> Option<Ty<'a>>
+    ensures { option_map ty_view result ≡ result_ty (classes_view classes.now).names written.now }
 {
     match written {
         None => None,
-        Some(ty) => Some(classes.sort_of(ty)),
+        Some(ty) => Some(classes.ty_of(ty)),
     }
 }
 
 /// Not too many operations, and not too many value methods.
 fn method_limit(standing: &MemberWalk, method: &MethodNode) -> Answer<()>
-    ensures { Finds result (listed (method_limit (member_standing standing.now).numbers method.now.result method.now.at)) }
+    ensures { Finds result (listed (method_limit (member_env standing.now).numbers method.now.result method.now.at)) }
 {
     match &method.result {
-        None => bound(standing.counts.operations == MOST_OPERATIONS, method.at, 52),
-        Some(_) => bound(standing.counts.functions == MOST_FUNCTIONS, method.at, 53),
+        None => bound(
+            standing.counts.operations == MOST_OPERATIONS,
+            method.at,
+            TOO_MANY_OPERATIONS,
+        ),
+        Some(_) => bound(
+            standing.counts.functions == MOST_FUNCTIONS,
+            method.at,
+            TOO_MANY_FUNCTIONS,
+        ),
     }
 }
 
@@ -224,7 +248,7 @@ fn ends_with_return(method: &MethodNode) -> Answer<()>
     rule(
         method.result.is_some() && !last_returns(&method.body),
         method.at,
-        30,
+        WRONG_RETURN,
     )
 }
 
@@ -234,16 +258,16 @@ pub(crate) fn check_method<'a>(
     standing: &MemberWalk<'_, 'a>,
     method: &'a MethodNode,
 ) -> Result<(Answer<Method>, u32), AllocError>
-    ensures judged { IfOk result (λ p. Answers method_view p.0 (judge_method (member_standing standing.now) (tree_method method.now))) }
-    ensures loops { IfOk result (λ p. p.1 ≡ (method_end (member_standing standing.now) (tree_method method.now)).loops) }
+    ensures judged { IfOk result (λ p. Answers method_view p.0 (judge_method (member_env standing.now) (tree_method method.now))) }
+    ensures loops { IfOk result (λ p. p.1 ≡ (method_end (member_env standing.now) (tree_method method.now)).loops) }
 {
-    let sort = result_sort(standing.classes, &method.result);
+    let ty = result_ty(standing.classes, &method.result);
     let mut walk = Walk::new(
         alloc,
         standing.classes,
         Some(standing.class),
         standing.loops,
-        sort,
+        ty,
     );
     let params = check_parameters(&mut walk, &method.params)?;
     let stmts = check_statements(alloc, &mut walk, &method.body)?;
@@ -272,7 +296,7 @@ fn method_of(
     locals: Vec<ValueType>,
     parts: Answer<MethodParts>,
 ) -> Answer<Method>
-    ensures { (j : Judged (Option PlainType × (Unit {0} × List Statement))) → Answers method_parts_view parts j → locals.items ≡ (method_end (member_standing standing.now) (tree_method method.now)).locals → Answers method_view result (judge_parts (member_standing standing.now) (tree_method method.now) j) }
+    ensures { (j : Judged (Option PlainType × (Unit {0} × List Statement))) → Answers method_parts_view parts j → locals.items ≡ (method_end (member_env standing.now) (tree_method method.now)).locals → Answers method_view result (judge_parts (member_env standing.now) (tree_method method.now) j) }
 {
     let limit = method_limit(standing, method);
     let (_, (result_type, (_, stmts))) = both(limit, parts)?;

@@ -6,19 +6,20 @@ ghost use Rattle.ca_tree.specs.View.{expression_view, right_view, option_right_v
 ghost use Rattle.ca_program.specs.View as program;
 ghost use Rattle.ca_program.specs.declared.program.ValueType.{ValueType as PlainType};
 ghost use Rattle.ca_resolve.specs.Judged.{Answers, Finds, Judged, Violation};
-ghost use Rattle.ca_resolve.specs.Scopes.{Target as PlainTarget, Sort as PlainSort};
-ghost use Rattle.ca_resolve.specs.LocalView.{sort_view};
+ghost use Rattle.ca_resolve.specs.Scopes.{Target as PlainTarget, Ty as PlainTy};
+ghost use Rattle.ca_resolve.specs.LocalView.{ty_view};
 ghost use Rattle.ca_resolve.specs.View.{scope_view, target_view};
 ghost use Rattle.ca_types.specs.Rules.{listed, is_own, is_put, compound_agrees, writes_no_field, creates_nothing};
-ghost use Rattle.ca_types.specs.Statements.{Source as PlainSource, creates, start_creates, start_value, put, judge_wanted, judge_right, judge_put_target, judge_assignment, judge_assign, judge_start, judge_declaration, judge_local, right_sort};
-ghost use Rattle.ca_types.specs.View.{standing_view, source_view, local_parts_view, Tells_something};
+ghost use Rattle.ca_types.specs.Statements.{Source as PlainSource, creates, start_creates, start_value, put, judge_wanted, judge_right, judge_put_target, judge_assignment, judge_assign, judge_start, judge_declaration, judge_local, right_ty};
+ghost use Rattle.ca_types.specs.View.{env_view, source_view, local_parts_view, Tells_something};
 
 use crate::limits::{MOST_LOCALS, bound};
 use crate::rules::{Answer, check_type, class_defined, rule};
 use crate::walk::Walk;
 use ca_program::{AssignOp, ClassId, Expr, Stmt, StmtForm, ValueType};
+use ca_resolve::codes::{TOO_MANY_LOCALS, TYPES_DISAGREE, VALUE_METHOD_ACTS};
 use ca_resolve::{
-    CheckError, Scope, Sort, Target, both, check_for, check_target, check_value, violation,
+    CheckError, Scope, Target, Ty, both, check_for, check_target, check_value, violation,
 };
 use ca_tree::{ExprNode, Name, Place, Right, TypeNode};
 use std::alloc::{AllocError, Global};
@@ -34,10 +35,10 @@ pub(crate) enum Source {
 pub(crate) fn check_wanted(
     alloc: Global,
     scope: &Scope,
-    wanted: Option<Sort>,
+    wanted: Option<Ty>,
     e: &ExprNode,
 ) -> Answer<Expr>
-    ensures { Answers program.expression_view result (judge_wanted (scope_view scope.now) (option_map sort_view wanted.entry) (expression_view e.now)) }
+    ensures { Answers program.expression_view result (judge_wanted (scope_view scope.now) (option_map ty_view wanted.entry) (expression_view e.now)) }
 {
     match wanted {
         Some(wanted) => check_for(alloc, scope, wanted, e),
@@ -49,8 +50,8 @@ pub(crate) fn check_wanted(
 }
 
 /// The right side of a target, whose type may be known.
-fn check_right(alloc: Global, scope: &Scope, wanted: Option<Sort>, right: &Right) -> Answer<Source>
-    ensures { Answers source_view result (judge_right (scope_view scope.now) (option_map sort_view wanted.entry) (right_view right.now)) }
+fn check_right(alloc: Global, scope: &Scope, wanted: Option<Ty>, right: &Right) -> Answer<Source>
+    ensures { Answers source_view result (judge_right (scope_view scope.now) (option_map ty_view wanted.entry) (right_view right.now)) }
 {
     match right {
         Right::Value(e) => {
@@ -61,10 +62,10 @@ fn check_right(alloc: Global, scope: &Scope, wanted: Option<Sort>, right: &Right
             let class = class_defined(scope.classes, name, *at)?;
             match wanted {
                 Some(wanted) => {
-                    if wanted.can_hold(&Sort::Pointer(class)) {
+                    if wanted.can_hold(&Ty::Pointer(class)) {
                         Ok(Source::New(class))
                     } else {
-                        Err(violation(*at, 25))
+                        Err(violation(*at, TYPES_DISAGREE))
                     }
                 }
                 None => Ok(Source::New(class)),
@@ -84,7 +85,7 @@ fn creates(right: &Right) -> bool
 }
 
 /// Whether the target is the receiver's.
-fn is_own(target: &(Target, Sort)) -> bool
+fn is_own(target: &(Target, Ty)) -> bool
     ensures { result ≡ is_own (target_view target.now).0 }
 {
     match target.0 {
@@ -103,7 +104,7 @@ fn is_put(op: AssignOp) -> bool
 }
 
 /// The statement that puts.
-fn put(line: u32, target: (Target, Sort), op: AssignOp, source: Source) -> Stmt
+fn put(line: u32, target: (Target, Ty), op: AssignOp, source: Source) -> Stmt
     ensures { program.statement_view result ≡ put line (target_view target.entry).0 op (source_view source) }
 {
     let (target, _) = target;
@@ -123,24 +124,24 @@ fn put(line: u32, target: (Target, Sort), op: AssignOp, source: Source) -> Stmt
 }
 
 /// A compound assignment is to a number.
-fn compound_agrees(op: AssignOp, target: &(Target, Sort), at: Place) -> Answer<()>
+fn compound_agrees(op: AssignOp, target: &(Target, Ty), at: Place) -> Answer<()>
     ensures { Finds result (listed (compound_agrees op (target_view target.now).1 at)) }
 {
-    rule(!is_put(op) && !target.1.is_long(), at, 25)
+    rule(!is_put(op) && !target.1.is_long(), at, TYPES_DISAGREE)
 }
 
 /// A value method writes no field.
-fn writes_no_field(returned: &Option<Sort>, target: &(Target, Sort), at: Place) -> Answer<()>
-    ensures { Finds result (listed (writes_no_field (option_map sort_view returned.now) (target_view target.now).0 at)) }
+fn writes_no_field(returned: &Option<Ty>, target: &(Target, Ty), at: Place) -> Answer<()>
+    ensures { Finds result (listed (writes_no_field (option_map ty_view returned.now) (target_view target.now).0 at)) }
 {
-    rule(returned.is_some() && is_own(target), at, 29)
+    rule(returned.is_some() && is_own(target), at, VALUE_METHOD_ACTS)
 }
 
 /// A value method creates nothing.
-fn creates_nothing(returned: &Option<Sort>, creates: bool, at: Place) -> Answer<()>
-    ensures { Finds result (listed (creates_nothing (option_map sort_view returned.now) creates at)) }
+fn creates_nothing(returned: &Option<Ty>, creates: bool, at: Place) -> Answer<()>
+    ensures { Finds result (listed (creates_nothing (option_map ty_view returned.now) creates at)) }
 {
-    rule(returned.is_some() && creates, at, 29)
+    rule(returned.is_some() && creates, at, VALUE_METHOD_ACTS)
 }
 
 /// The target of an assignment, and the type of its values.
@@ -149,8 +150,8 @@ fn check_put_target<'a>(
     walk: &Walk<'_, 'a>,
     op: AssignOp,
     e: &ExprNode,
-) -> Answer<(Target, Sort<'a>)>
-    ensures { Answers target_view result (judge_put_target (standing_view walk.now) op (expression_view e.now)) }
+) -> Answer<(Target, Ty<'a>)>
+    ensures { Answers target_view result (judge_put_target (env_view walk.now) op (expression_view e.now)) }
 {
     let target = check_target(alloc, &walk.scope(), e)?;
     let compound = compound_agrees(op, &target, e.at);
@@ -170,13 +171,13 @@ fn told<T: Drop>(answer: Answer<T>) -> Result<Answer<T>, AllocError>
 }
 
 /// The type that the right side is to have, where it is known.
-fn right_sort<'a>(op: AssignOp, target: &Answer<(Target, Sort<'a>)>) -> Option<Sort<'a>>
-    ensures { (j : Judged (PlainTarget × PlainSort)) → Tells_something target.now → Answers target_view target.now j → option_map sort_view result ≡ right_sort op j }
+fn right_ty<'a>(op: AssignOp, target: &Answer<(Target, Ty<'a>)>) -> Option<Ty<'a>>
+    ensures { (j : Judged (PlainTarget × PlainTy)) → Tells_something target.now → Answers target_view target.now j → option_map ty_view result ≡ right_ty op j }
 {
     match op {
-        AssignOp::Add | AssignOp::Sub | AssignOp::Mul => Some(Sort::Long),
+        AssignOp::Add | AssignOp::Sub | AssignOp::Mul => Some(Ty::Long),
         AssignOp::Put => match target {
-            Ok((_, sort)) => Some(*sort),
+            Ok((_, ty)) => Some(*ty),
             Err(_) => None,
         },
     }
@@ -184,14 +185,14 @@ fn right_sort<'a>(op: AssignOp, target: &Answer<(Target, Sort<'a>)>) -> Option<S
 
 /// An assignment of judged parts.
 fn assignment(
-    returned: &Option<Sort>,
+    returned: &Option<Ty>,
     creates: bool,
     at: Place,
     op: AssignOp,
-    target: Answer<(Target, Sort)>,
+    target: Answer<(Target, Ty)>,
     source: Answer<Source>,
 ) -> Answer<Stmt>
-    ensures { (j : Judged (PlainTarget × PlainSort)) (k : Judged PlainSource) → Answers target_view target.entry j → Answers source_view source k → Answers program.statement_view result (judge_assignment (option_map sort_view returned.now) creates at op j k) }
+    ensures { (j : Judged (PlainTarget × PlainTy)) (k : Judged PlainSource) → Answers target_view target.entry j → Answers source_view source k → Answers program.statement_view result (judge_assignment (option_map ty_view returned.now) creates at op j k) }
 {
     let (target, source) = both(target, source)?;
     creates_nothing(returned, creates, at)?;
@@ -207,32 +208,32 @@ pub(crate) fn check_assign(
     op: AssignOp,
     right: &Right,
 ) -> Answer<Stmt>
-    ensures { Answers program.statement_view result (judge_assign (standing_view walk.now) at (judge_put_target (standing_view walk.now) op (expression_view target.now)) op (right_view right.now)) }
+    ensures { Answers program.statement_view result (judge_assign (env_view walk.now) at (judge_put_target (env_view walk.now) op (expression_view target.now)) op (right_view right.now)) }
 {
     let target = told(check_put_target(alloc, walk, op, target))?;
-    let wanted = right_sort(op, &target);
+    let wanted = right_ty(op, &target);
     let source = check_right(alloc, &walk.scope(), wanted, right);
     assignment(&walk.result, creates(right), at, op, target, source)
 }
 
 /// What a local that is declared without a value is put to.
-fn start_value(sort: &Sort) -> Expr
-    ensures { program.expression_view result ≡ start_value (sort_view sort.now) }
+fn start_value(ty: &Ty) -> Expr
+    ensures { program.expression_view result ≡ start_value (ty_view ty.now) }
 {
-    match sort {
-        Sort::Long => Expr::Number(0),
-        Sort::Truth => Expr::Truth(false),
-        Sort::Pointer(_) | Sort::Undefined(_) | Sort::NoObject => Expr::Null,
+    match ty {
+        Ty::Long => Expr::Number(0),
+        Ty::Truth => Expr::Truth(false),
+        Ty::Pointer(_) | Ty::Undefined(_) | Ty::NoObject => Expr::Null,
     }
 }
 
 /// The initial value of a local.
-fn check_start(alloc: Global, scope: &Scope, sort: Sort, value: &Option<Right>) -> Answer<Source>
-    ensures { Answers source_view result (judge_start (scope_view scope.now) (sort_view sort.entry) (option_right_view value.now)) }
+fn check_start(alloc: Global, scope: &Scope, ty: Ty, value: &Option<Right>) -> Answer<Source>
+    ensures { Answers source_view result (judge_start (scope_view scope.now) (ty_view ty.entry) (option_right_view value.now)) }
 {
     match value {
-        None => Ok(Source::Value(start_value(&sort))),
-        Some(right) => check_right(alloc, scope, Some(sort), right),
+        None => Ok(Source::Value(start_value(&ty))),
+        Some(right) => check_right(alloc, scope, Some(ty), right),
     }
 }
 
@@ -248,7 +249,7 @@ fn start_creates(value: &Option<Right>) -> bool
 /// A local of its judged type and first value.
 fn declaration(
     line: u32,
-    target: (Target, Sort),
+    target: (Target, Ty),
     created: Answer<()>,
     again: Answer<()>,
     parts: Answer<((), (ValueType, Source))>,
@@ -270,15 +271,21 @@ pub(crate) fn check_local<'a>(
     name_at: Place,
     value: &Option<Right>,
 ) -> Answer<Stmt>
-    ensures { Answers program.statement_view result (judge_local (standing_view walk.now) at ty.now name.now name_at (option_right_view value.now)) }
+    ensures { Answers program.statement_view result (judge_local (env_view walk.now) at ty.now name.now name_at (option_right_view value.now)) }
 {
     let id = walk.next_local()?;
-    let passed = bound(walk.count() == MOST_LOCALS, name_at, 55);
+    let passed = bound(walk.count() == MOST_LOCALS, name_at, TOO_MANY_LOCALS);
     let written = check_type(walk.classes, ty);
-    let sort = walk.classes.sort_of(ty);
-    let start = check_start(alloc, &walk.scope(), sort, value);
+    let declared = walk.classes.ty_of(ty);
+    let start = check_start(alloc, &walk.scope(), declared, value);
     let created = creates_nothing(&walk.result, start_creates(value), at);
     let again = walk.local_once(name, name_at);
     let parts = both(passed, both(written, start));
-    declaration(at.line, (Target::Local(id), sort), created, again, parts)
+    declaration(
+        at.line,
+        (Target::Local(id), declared),
+        created,
+        again,
+        parts,
+    )
 }

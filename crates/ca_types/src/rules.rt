@@ -7,6 +7,7 @@ ghost use Rattle.ca_types.specs.Rules.{listed};
 ghost use Rattle.ca_types.specs.Statements.{class_defined, judge_type};
 
 use ca_program::{ClassId, ValueType};
+use ca_resolve::codes::UNKNOWN_CLASS;
 use ca_resolve::{CheckError, ClassTable, violation};
 use ca_tree::{Name, Place, TypeNode};
 
@@ -31,7 +32,7 @@ pub(crate) fn class_defined(classes: &ClassTable, name: &Name, at: Place) -> Ans
 {
     match classes.names().number(name) {
         Some(number) => Ok(ClassId(number)),
-        None => Err(violation(at, 21)),
+        None => Err(violation(at, UNKNOWN_CLASS)),
     }
 }
 

@@ -6,9 +6,9 @@ ghost use Rattle.ca_tree.specs.Plain as tree;
 ghost use Rattle.ca_program.specs.Plain.{Expression, Statement};
 ghost use Rattle.ca_program.specs.View as program;
 ghost use Rattle.ca_resolve.specs.Judged.{Answers, Judged, fine};
-ghost use Rattle.ca_resolve.specs.Scopes.{sort_of};
-ghost use Rattle.ca_types.specs.Statements.{nothing, first_part, judge_block, judge_if, judge_while, judge_for_loop, judge_statement, judge_statements, judge_local, judge_condition, declaring, behind, behind_all, opened, counted, closed, left};
-ghost use Rattle.ca_types.specs.View.{standing_view, all_view, boxed_view};
+ghost use Rattle.ca_resolve.specs.Scopes.{ty_of};
+ghost use Rattle.ca_types.specs.Statements.{nothing, first_part, judge_block, judge_if, judge_while, judge_for_loop, judge_statement, judge_statements, judge_local, judge_condition, declare, behind, behind_all, enter_block, counted, leave_block, left};
+ghost use Rattle.ca_types.specs.View.{env_view, all_view, boxed_view};
 
 use crate::limits::{MOST_LOOPS, bound};
 use crate::lines::{check_call_statement, check_condition, check_print, check_return};
@@ -16,6 +16,7 @@ use crate::puts::{check_assign, check_local};
 use crate::rules::Answer;
 use crate::walk::{Outer, Walk};
 use ca_program::{Expr, FirstPart, LoopId, Stmt, StmtForm};
+use ca_resolve::codes::TOO_MANY_LOOPS;
 use ca_resolve::{and_one, both};
 use ca_tree::{ExprNode, Name, Place, Right, StmtKind, StmtNode, TypeNode};
 use std::alloc::{AllocError, Global};
@@ -104,7 +105,7 @@ fn for_loop(
 ) -> Answer<Stmt>
     ensures { (f : Judged Statement) (i : Judged Expression) (j k : Judged Statement) → Answers boxed_view head.first f → Answers program.expression_view cond i → Answers boxed_view next j → Answers boxed_view body k → Answers program.statement_view result (judge_for_loop head.at head.site.0 head.part f i j k) }
 {
-    let passed = bound(head.site.0 == MOST_LOOPS, head.at, 57);
+    let passed = bound(head.site.0 == MOST_LOOPS, head.at, TOO_MANY_LOOPS);
     let parts = both(both(head.first, cond), both(next, body));
     let (_, ((first, cond), (next, body))) = both(passed, parts)?;
     Ok(Stmt {
@@ -123,12 +124,12 @@ fn check_declaration<'a>(
     name_at: Place,
     value: &Option<Right>,
 ) -> Result<Answer<Stmt>, AllocError>
-    ensures judged { IfOk result (λ a. Answers program.statement_view a (judge_local (standing_view walk.old) at ty.now name.now name_at (option_right_view value.now))) }
-    ensures behind { OnOk result (standing_view walk.new ≡ declaring (standing_view walk.old) (sort_of (standing_view walk.old).scope.classes.names ty.now) name.now) }
+    ensures judged { IfOk result (λ a. Answers program.statement_view a (judge_local (env_view walk.old) at ty.now name.now name_at (option_right_view value.now))) }
+    ensures behind { OnOk result (env_view walk.new ≡ declare (env_view walk.old) (ty_of (env_view walk.old).scope.classes.names ty.now) name.now) }
 {
     let answer = check_local(alloc, walk, at, ty, name, name_at, value);
-    let sort = walk.classes.sort_of(ty);
-    walk.declare(sort, name).and(Ok(answer))
+    let declared = walk.classes.ty_of(ty);
+    walk.declare(declared, name).and(Ok(answer))
 }
 
 /// A statement. Want of memory ends the walk.
@@ -138,8 +139,8 @@ pub(crate) fn check_statement<'a>(
     walk: &mut Walk<'_, 'a>,
     stmt: &'a StmtNode,
 ) -> Result<Answer<Stmt>, AllocError>
-    ensures judged { IfOk result (λ a. Answers program.statement_view a (judge_statement (standing_view walk.old) (tree_view stmt.now))) }
-    ensures behind { OnOk result (standing_view walk.new ≡ behind (standing_view walk.old) (tree_view stmt.now)) }
+    ensures judged { IfOk result (λ a. Answers program.statement_view a (judge_statement (env_view walk.old) (tree_view stmt.now))) }
+    ensures behind { OnOk result (env_view walk.new ≡ behind (env_view walk.old) (tree_view stmt.now)) }
 {
     let at = stmt.at;
     match &stmt.kind {
@@ -185,12 +186,12 @@ fn check_inner<'a>(
     walk: &mut Walk<'_, 'a>,
     stmt: &'a StmtNode,
 ) -> Result<Answer<Box<Stmt>>, AllocError>
-    ensures judged { IfOk result (λ a. Answers boxed_view a (judge_statement (opened (standing_view walk.old)) (tree_view stmt.now))) }
-    ensures behind { OnOk result (standing_view walk.new ≡ closed (standing_view walk.old) (behind (opened (standing_view walk.old)) (tree_view stmt.now))) }
+    ensures judged { IfOk result (λ a. Answers boxed_view a (judge_statement (enter_block (env_view walk.old)) (tree_view stmt.now))) }
+    ensures behind { OnOk result (env_view walk.new ≡ leave_block (env_view walk.old) (behind (enter_block (env_view walk.old)) (tree_view stmt.now))) }
 {
-    let outer = walk.open();
+    let outer = walk.enter_block();
     let answer = check_statement(alloc, walk, stmt)?;
-    walk.close(outer);
+    walk.leave_block(outer);
     Ok(boxed(alloc, answer))
 }
 
@@ -202,12 +203,12 @@ fn check_block<'a>(
     at: Place,
     stmts: &'a [StmtNode],
 ) -> Result<Answer<Stmt>, AllocError>
-    ensures judged { IfOk result (λ a. Answers program.statement_view a (judge_statement (standing_view walk.old) (tree.block at (tree_views stmts.now)))) }
-    ensures behind { OnOk result (standing_view walk.new ≡ behind (standing_view walk.old) (tree.block at (tree_views stmts.now))) }
+    ensures judged { IfOk result (λ a. Answers program.statement_view a (judge_statement (env_view walk.old) (tree.block at (tree_views stmts.now)))) }
+    ensures behind { OnOk result (env_view walk.new ≡ behind (env_view walk.old) (tree.block at (tree_views stmts.now))) }
 {
-    let outer = walk.open();
+    let outer = walk.enter_block();
     let answer = check_statements(alloc, walk, stmts)?;
-    walk.close(outer);
+    walk.leave_block(outer);
     Ok(block(at.line, answer))
 }
 
@@ -220,8 +221,8 @@ fn check_while<'a>(
     body: &'a StmtNode,
     cond: &ExprNode,
 ) -> Result<Answer<Stmt>, AllocError>
-    ensures judged { IfOk result (λ a. Answers program.statement_view a (judge_statement (standing_view walk.old) (tree.while_loop at (expression_view cond.now) (tree_view body.now)))) }
-    ensures behind { OnOk result (standing_view walk.new ≡ behind (standing_view walk.old) (tree.while_loop at (expression_view cond.now) (tree_view body.now))) }
+    ensures judged { IfOk result (λ a. Answers program.statement_view a (judge_statement (env_view walk.old) (tree.while_loop at (expression_view cond.now) (tree_view body.now)))) }
+    ensures behind { OnOk result (env_view walk.new ≡ behind (env_view walk.old) (tree.while_loop at (expression_view cond.now) (tree_view body.now))) }
 {
     let cond = check_condition(alloc, &walk.scope(), cond);
     let body = check_inner(alloc, walk, body)?;
@@ -236,16 +237,16 @@ fn check_head<'a>(
     at: Place,
     first: &'a StmtNode,
 ) -> Result<(Outer, Head), AllocError>
-    ensures in_block { IfOk result (λ p. p.0.in_block ≡ (standing_view walk.old).in_block) }
-    ensures first { IfOk result (λ p. p.0.first ≡ (standing_view walk.old).first) }
+    ensures in_block { IfOk result (λ p. p.0.in_block ≡ (env_view walk.old).in_block) }
+    ensures first { IfOk result (λ p. p.0.first ≡ (env_view walk.old).first) }
     ensures at { IfOk result (λ p. p.1.at ≡ at) }
-    ensures site { IfOk result (λ p. p.1.site.0 ≡ (standing_view walk.old).loops) }
+    ensures site { IfOk result (λ p. p.1.site.0 ≡ (env_view walk.old).loops) }
     ensures part { IfOk result (λ p. p.1.part ≡ first_part (tree_view first.now)) }
-    ensures judged { IfOk result (λ p. Answers boxed_view p.1.first (judge_statement (opened (counted (standing_view walk.old))) (tree_view first.now))) }
-    ensures behind { OnOk result (standing_view walk.new ≡ behind (opened (counted (standing_view walk.old))) (tree_view first.now)) }
+    ensures judged { IfOk result (λ p. Answers boxed_view p.1.first (judge_statement (enter_block (counted (env_view walk.old))) (tree_view first.now))) }
+    ensures behind { OnOk result (env_view walk.new ≡ behind (enter_block (counted (env_view walk.old))) (tree_view first.now)) }
 {
     let site = walk.count_loop()?;
-    let outer = walk.open();
+    let outer = walk.enter_block();
     let part = first_part(first);
     let first = boxed(alloc, check_statement(alloc, walk, first)?);
     let head = Head {
@@ -266,8 +267,8 @@ fn check_if_only<'a>(
     yes: &'a StmtNode,
     cond: &ExprNode,
 ) -> Result<Answer<Stmt>, AllocError>
-    ensures judged { IfOk result (λ a. Answers program.statement_view a (judge_statement (standing_view walk.old) (tree.if_only at (expression_view cond.now) (tree_view yes.now)))) }
-    ensures behind { OnOk result (standing_view walk.new ≡ behind (standing_view walk.old) (tree.if_only at (expression_view cond.now) (tree_view yes.now))) }
+    ensures judged { IfOk result (λ a. Answers program.statement_view a (judge_statement (env_view walk.old) (tree.if_only at (expression_view cond.now) (tree_view yes.now)))) }
+    ensures behind { OnOk result (env_view walk.new ≡ behind (env_view walk.old) (tree.if_only at (expression_view cond.now) (tree_view yes.now))) }
 {
     let cond = check_condition(alloc, &walk.scope(), cond);
     let yes_part = check_inner(alloc, walk, yes)?;
@@ -285,8 +286,8 @@ fn check_else<'a>(
     cond: &ExprNode,
     yes_part: Answer<Box<Stmt>>,
 ) -> Result<Answer<Stmt>, AllocError>
-    ensures judged { (j : Judged Statement) → Answers boxed_view yes_part j → IfOk result (λ a. Answers program.statement_view a (judge_if at.line (judge_condition (standing_view walk.old).scope (expression_view cond.now)) j (judge_statement (opened (standing_view walk.old)) (tree_view no.now)))) }
-    ensures behind { OnOk result (standing_view walk.new ≡ closed (standing_view walk.old) (behind (opened (standing_view walk.old)) (tree_view no.now))) }
+    ensures judged { (j : Judged Statement) → Answers boxed_view yes_part j → IfOk result (λ a. Answers program.statement_view a (judge_if at.line (judge_condition (env_view walk.old).scope (expression_view cond.now)) j (judge_statement (enter_block (env_view walk.old)) (tree_view no.now)))) }
+    ensures behind { OnOk result (env_view walk.new ≡ leave_block (env_view walk.old) (behind (enter_block (env_view walk.old)) (tree_view no.now))) }
 {
     let cond = check_condition(alloc, &walk.scope(), cond);
     let no_part = check_inner(alloc, walk, no)?;
@@ -304,12 +305,12 @@ fn check_rounds<'a>(
     head: Head,
     next: Answer<Box<Stmt>>,
 ) -> Result<Answer<Stmt>, AllocError>
-    ensures judged { (f j : Judged Statement) → Answers boxed_view head.first f → Answers boxed_view next j → IfOk result (λ a. Answers program.statement_view a (judge_for_loop head.at head.site.0 head.part f (judge_condition (standing_view walk.old).scope (expression_view cond.now)) j (judge_statement (opened (standing_view walk.old)) (tree_view body.now)))) }
-    ensures behind { OnOk result (standing_view walk.new ≡ left (closed (standing_view walk.old) (behind (opened (standing_view walk.old)) (tree_view body.now))) outer.in_block outer.first) }
+    ensures judged { (f j : Judged Statement) → Answers boxed_view head.first f → Answers boxed_view next j → IfOk result (λ a. Answers program.statement_view a (judge_for_loop head.at head.site.0 head.part f (judge_condition (env_view walk.old).scope (expression_view cond.now)) j (judge_statement (enter_block (env_view walk.old)) (tree_view body.now)))) }
+    ensures behind { OnOk result (env_view walk.new ≡ left (leave_block (env_view walk.old) (behind (enter_block (env_view walk.old)) (tree_view body.now))) outer.in_block outer.first) }
 {
     let cond = check_condition(alloc, &walk.scope(), cond);
     let body = check_inner(alloc, walk, body)?;
-    walk.close(outer);
+    walk.leave_block(outer);
     Ok(for_loop(head, cond, next, body))
 }
 
@@ -320,8 +321,8 @@ pub(crate) fn check_statements<'a>(
     walk: &mut Walk<'_, 'a>,
     stmts: &'a [StmtNode],
 ) -> Result<Answer<Vec<Stmt>>, AllocError>
-    ensures judged { IfOk result (λ a. Answers all_view a (judge_statements (standing_view walk.old) (fine []) (tree_views stmts.now))) }
-    ensures behind { OnOk result (standing_view walk.new ≡ behind_all (standing_view walk.old) (tree_views stmts.now)) }
+    ensures judged { IfOk result (λ a. Answers all_view a (judge_statements (env_view walk.old) (fine []) (tree_views stmts.now))) }
+    ensures behind { OnOk result (env_view walk.new ≡ behind_all (env_view walk.old) (tree_views stmts.now)) }
 {
     let mut answers = Ok(Vec::new(alloc));
     for stmt in stmts {

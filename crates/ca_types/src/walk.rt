@@ -2,18 +2,19 @@
 
 ghost use Rattle.std.specs.Prelude.{◌≡◌, ◌+◌, ◌∷◌, [], drop, length, map, IfOk, OnOk};
 ghost use Rattle.std.specs.Option.{option_map};
-ghost use Rattle.ca_resolve.specs.LocalView.{sort_view};
+ghost use Rattle.ca_resolve.specs.LocalView.{ty_view};
 ghost use Rattle.ca_resolve.specs.View.{scope_view, classes_view};
 ghost use Rattle.ca_resolve.specs.Judged.{Finds};
 ghost use Rattle.ca_resolve.specs.Scopes.{find_local};
 ghost use Rattle.ca_types.specs.Rules.{listed, local_once};
-ghost use Rattle.ca_types.specs.Statements.{type_of, declaring, opened, left, counted};
+ghost use Rattle.ca_types.specs.Statements.{type_of, declare, enter_block, left, counted};
 ghost use Rattle.ca_types.specs.Classes.{beginning};
-ghost use Rattle.ca_types.specs.View.{standing_view};
+ghost use Rattle.ca_types.specs.View.{env_view};
 
 use crate::rules::{Answer, rule};
 use ca_program::{ClassId, LocalId, LoopId, ValueType};
-use ca_resolve::{ClassTable, Locals, Scope, Sort, VisibleLocal};
+use ca_resolve::codes::LOCAL_TWICE;
+use ca_resolve::{ClassTable, Locals, Scope, Ty, VisibleLocal};
 use ca_tree::{Name, Place};
 use std::alloc::{AllocError, Global};
 
@@ -31,7 +32,7 @@ pub(crate) struct Walk<'s, 'a> {
     /// None in `main`.
     pub(crate) class: Option<ClassId>,
     /// In a value method, the type of its result.
-    pub(crate) result: Option<Sort<'a>>,
+    pub(crate) result: Option<Ty<'a>>,
     pub(crate) visible: Locals<'a>,
     /// How many of them the innermost block has declared.
     pub(crate) in_block: usize,
@@ -50,9 +51,9 @@ impl<'s, 'a> Walk<'s, 'a> {
         classes: &'s ClassTable<'a>,
         class: Option<ClassId>,
         loops: u32,
-        returned: Option<Sort<'a>>,
+        returned: Option<Ty<'a>>,
     ) -> Walk<'s, 'a>
-        ensures { standing_view result ≡ beginning (classes_view classes.now) class loops (option_map sort_view returned.entry) }
+        ensures { env_view result ≡ beginning (classes_view classes.now) class loops (option_map ty_view returned.entry) }
     {
         Walk {
             classes,
@@ -68,7 +69,7 @@ impl<'s, 'a> Walk<'s, 'a> {
 
     /// What names mean here.
     pub(crate) fn scope(&self) -> Scope<'_, 'a>
-        ensures { scope_view result ≡ (standing_view self.now).scope }
+        ensures { scope_view result ≡ (env_view self.now).scope }
     {
         Scope {
             classes: self.classes,
@@ -79,36 +80,36 @@ impl<'s, 'a> Walk<'s, 'a> {
 
     /// How many locals the body has declared.
     pub(crate) fn count(&self) -> usize
-        ensures { result ≡ length (standing_view self.now).locals }
+        ensures { result ≡ length (env_view self.now).locals }
     {
         self.locals.len()
     }
 
     /// The number of the next local; a body that has none is larger than any memory.
     pub(crate) fn next_local(&self) -> Result<LocalId, AllocError>
-        ensures { IfOk result (λ l. l ≡ record { 0 = length (standing_view self.now).locals }) }
+        ensures { IfOk result (λ l. l ≡ record { 0 = length (env_view self.now).locals }) }
     {
         let number = u32::try_from(self.count()).or(Err(AllocError))?;
         Ok(LocalId(number))
     }
 
     /// Declares a local.
-    pub(crate) fn declare(&mut self, sort: Sort<'a>, name: &'a Name) -> Result<(), AllocError>
-        ensures { OnOk result (standing_view self.new ≡ declaring (standing_view self.old) (sort_view sort.entry) name.now) }
+    pub(crate) fn declare(&mut self, ty: Ty<'a>, name: &'a Name) -> Result<(), AllocError>
+        ensures { OnOk result (env_view self.new ≡ declare (env_view self.old) (ty_view ty.entry) name.now) }
     {
         let id = self.next_local()?;
         let in_block = self.in_block.checked_add(1).ok_or(AllocError)?;
-        self.visible.push(VisibleLocal { name, id, sort })?;
+        self.visible.push(VisibleLocal { name, id, ty })?;
         self.in_block = in_block;
-        self.locals.push(type_of(&sort))?;
+        self.locals.push(type_of(&ty))?;
         Ok(())
     }
 
     /// Begins a block, and gives what the block round it needs at its end.
-    pub(crate) fn open(&mut self) -> Outer
-        ensures opened { standing_view self.new ≡ opened (standing_view self.old) }
-        ensures in_block { result.in_block ≡ (standing_view self.old).in_block }
-        ensures first { result.first ≡ (standing_view self.old).first }
+    pub(crate) fn enter_block(&mut self) -> Outer
+        ensures enter_block { env_view self.new ≡ enter_block (env_view self.old) }
+        ensures in_block { result.in_block ≡ (env_view self.old).in_block }
+        ensures first { result.first ≡ (env_view self.old).first }
     {
         let outer = Outer {
             in_block: self.in_block,
@@ -120,8 +121,8 @@ impl<'s, 'a> Walk<'s, 'a> {
     }
 
     /// Ends a block inside the other.
-    pub(crate) fn close(&mut self, outer: Outer)
-        ensures { standing_view self.new ≡ left (standing_view self.old) outer.in_block outer.first }
+    pub(crate) fn leave_block(&mut self, outer: Outer)
+        ensures { env_view self.new ≡ left (env_view self.old) outer.in_block outer.first }
     {
         leave(&mut self.visible, self.in_block);
         self.in_block = outer.in_block;
@@ -130,8 +131,8 @@ impl<'s, 'a> Walk<'s, 'a> {
 
     /// Counts a `for` statement, and gives its number.
     pub(crate) fn count_loop(&mut self) -> Result<LoopId, AllocError>
-        ensures counted { OnOk result (standing_view self.new ≡ counted (standing_view self.old)) }
-        ensures number { IfOk result (λ l. l.0 ≡ (standing_view self.old).loops) }
+        ensures counted { OnOk result (env_view self.new ≡ counted (env_view self.old)) }
+        ensures number { IfOk result (λ l. l.0 ≡ (env_view self.old).loops) }
     {
         let number = LoopId(self.loops);
         self.loops = self.loops.checked_add(1).ok_or(AllocError)?;
@@ -140,23 +141,23 @@ impl<'s, 'a> Walk<'s, 'a> {
 
     /// A local is declared once in its block.
     pub(crate) fn local_once(&self, name: &Name, at: Place) -> Answer<()>
-        ensures { Finds result (listed (local_once (standing_view self.now).first (find_local (standing_view self.now).scope.locals name.now) at)) }
+        ensures { Finds result (listed (local_once (env_view self.now).first (find_local (env_view self.now).scope.locals name.now) at)) }
     {
         match self.visible.find(name) {
-            Some(local) => rule(self.first <= local.id.0 as usize, at, 23),
+            Some(local) => rule(self.first <= local.id.0 as usize, at, LOCAL_TWICE),
             None => Ok(()),
         }
     }
 }
 
-/// The type of values of the sort; one that names no class stands in no program.
-fn type_of(sort: &Sort) -> ValueType
-    ensures { result ≡ type_of (sort_view sort.now) }
+/// The type of the values in a program; one that names no class stands in no program.
+fn type_of(ty: &Ty) -> ValueType
+    ensures { result ≡ type_of (ty_view ty.now) }
 {
-    match sort {
-        Sort::Long | Sort::Undefined(_) | Sort::NoObject => ValueType::Long,
-        Sort::Truth => ValueType::Bool,
-        Sort::Pointer(class) => ValueType::Pointer(*class),
+    match ty {
+        Ty::Long | Ty::Undefined(_) | Ty::NoObject => ValueType::Long,
+        Ty::Truth => ValueType::Bool,
+        Ty::Pointer(class) => ValueType::Pointer(*class),
     }
 }
 

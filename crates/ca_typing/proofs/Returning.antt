@@ -5,9 +5,9 @@ use Rattle.ca_program.specs.Plain as program
 use Rattle.ca_meaning.specs.ProgramTyped.{Returns, LastReturns}
 use Rattle.ca_resolve.specs.Judged.{fine, both, unless}
 use Rattle.ca_types.specs.Rules.{returns, last_returns, return_stands}
-use Rattle.ca_types.specs.Statements.{Standing, opened, closed, behind, judge_wanted, judge_condition, statements_in, judge_statement, judge_statements}
+use Rattle.ca_types.specs.Statements.{Env, enter_block, leave_block, behind, judge_wanted, judge_condition, statements_in, judge_statement, judge_statements}
 use Rattle.ca_typing.proofs.Judging.{same_fine, within_fine, made_fine, both_fine, unless_fine}
-use Rattle.ca_typing.proofs.Sorts.{and_both}
+use Rattle.ca_typing.proofs.Types.{and_both}
 use Rattle.ca_typing.proofs.Statements.{statements_fine}
 
 last_of : (front : List program.Statement) (x : program.Statement) → Returns x → LastReturns (statements_in (front ++ x ∷ []))
@@ -16,24 +16,24 @@ last_of (y ∷ []) x h = h
 last_of (y ∷ z ∷ ys) x h = last_of (z ∷ ys) x h
 
 mutual
-  statement_returns : (c : Standing) (s : Statement) (x : program.Statement) → judge_statement c s ≡ fine x → returns s ≡ true → Returns x
+  statement_returns : (c : Env) (s : Statement) (x : program.Statement) → judge_statement c s ≡ fine x → returns s ≡ true → Returns x
   statement_returns c (block at ss) x h r =
-      let w = made_fine (judge_statements (opened c) (fine []) ss) (λ all. program.block at.line (statements_in all)) x h in
-      subst Returns w.2 (statements_return (opened c) ss [] w.0 false (λ z. absurd (cc)) w.1 r)
+      let w = made_fine (judge_statements (enter_block c) (fine []) ss) (λ all. program.block at.line (statements_in all)) x h in
+      subst Returns w.2 (statements_return (enter_block c) ss [] w.0 false (λ z. absurd (cc)) w.1 r)
   statement_returns c (if_else at e a b) x h r =
       let test = judge_condition c.scope e in
-      let yes_part = judge_statement (opened c) a in
-      let no_part = judge_statement (opened (closed c (behind (opened c) a))) b in
+      let yes_part = judge_statement (enter_block c) a in
+      let no_part = judge_statement (enter_block (leave_block c (behind (enter_block c) a))) b in
       let w = made_fine (both test (both yes_part no_part)) (λ (r : program.Expression × (program.Statement × program.Statement)). program.if_else at.line r.0 r.1.0 r.1.1) x h in
       let d = both_fine yes_part no_part w.0.1 (both_fine test (both yes_part no_part) w.0 w.1).1 in
       let k = and_both (returns a) (returns b) r in
-      subst Returns w.2 (statement_returns (opened c) a w.0.1.0 d.0 k.0, statement_returns (opened (closed c (behind (opened c) a))) b w.0.1.1 d.1 k.1)
+      subst Returns w.2 (statement_returns (enter_block c) a w.0.1.0 d.0 k.0, statement_returns (enter_block (leave_block c (behind (enter_block c) a))) b w.0.1.1 d.1 k.1)
   statement_returns c (return_value at e) x h r =
       let w = within_fine (judge_wanted c.scope c.result e) (λ v. unless (return_stands c.result at) (program.return_value at.line v)) x h in
       subst Returns (unless_fine (return_stands c.result at) (program.return_value at.line w.0) x w.2) tt
   statement_returns c s x h r = absurd (cc)
 
-  pub statements_return : (c : Standing) (ss : Statements) (front all : List program.Statement) (before : Bool) → (before ≡ true → LastReturns (statements_in front)) → judge_statements c (fine front) ss ≡ fine all
+  pub statements_return : (c : Env) (ss : Statements) (front all : List program.Statement) (before : Bool) → (before ≡ true → LastReturns (statements_in front)) → judge_statements c (fine front) ss ≡ fine all
       → last_returns before ss ≡ true → LastReturns (statements_in all)
   statements_return c no_statements front all before typed h r = subst (λ xs. LastReturns (statements_in xs)) (same_fine front all h) (typed r)
   statements_return c (statement_and s ss) front all before typed h r =

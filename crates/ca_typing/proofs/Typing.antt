@@ -14,7 +14,7 @@ use Rattle.ca_resolve.specs.Judged.{Judged, fine, both, unless, beside}
 use Rattle.ca_resolve.specs.Scopes.{Meaning, Numbers, classes_of, class_names, members_from, meanings, find_among, same_name}
 use Rattle.ca_types.specs.Rules.{class_once, class_limit}
 use Rattle.ca_types.specs.Statements.{judge_statements, behind_all}
-use Rattle.ca_types.specs.Classes.{gathered, Members, no_members, behind_members, judge_members, ClassStanding, class_begin, behind_class, judge_class, Parts, with_class, add_class, no_parts, judge_classes, first_class, main_begin, program_of, judge}
+use Rattle.ca_types.specs.Classes.{gathered, Members, no_members, behind_members, judge_members, ClassEnv, class_begin, behind_class, judge_class, Parts, with_class, add_class, no_parts, judge_classes, first_class, main_begin, program_of, judge}
 use Rattle.ca_typing.proofs.Fits.{ClassFits, LiteralsFit}
 use Rattle.ca_typing.proofs.Lists.{Begins, begins_itself, begins_through, item_there, one_longer, all_append, all_at}
 use Rattle.ca_typing.proofs.Judging.{same_fine, within_fine, made_fine, both_fine, unless_fine, beside_fine, gathered_fine}
@@ -22,12 +22,12 @@ use Rattle.ca_typing.proofs.Values.{MeaningTyped, ClassesTyped}
 use Rattle.ca_typing.proofs.Statements.{Stands, in_order_typed, statements_typed}
 use Rattle.ca_typing.proofs.Members.{RowTyped, row_at, Numbered, numbers_behind, row_typed, MembersTyped, members_typed}
 
-classes_strict : (s : ClassStanding) (j : Judged Parts) (t : ClassTree) (b : Parts) → add_class s j t ≡ fine b → (a : Parts) × (j ≡ fine a)
+pub classes_strict : (s : ClassEnv) (j : Judged Parts) (t : ClassTree) (b : Parts) → add_class s j t ≡ fine b → (a : Parts) × (j ≡ fine a)
 classes_strict s j t b h =
     let w = made_fine (both j (judge_class s t)) (λ (r : Parts × Members). with_class r.0 t.name r.1) b h in
     (w.0.0, (both_fine j (judge_class s t) w.0 w.1).0)
 
-class_added : (c : ClassStanding) (a b : Parts) (t : ClassTree) → add_class c (fine a) t ≡ fine b → (m : Members) × (judge_members (class_begin c t.members) t.members ≡ fine m) × (with_class a t.name m ≡ b)
+pub class_added : (c : ClassEnv) (a b : Parts) (t : ClassTree) → add_class c (fine a) t ≡ fine b → (m : Members) × (judge_members (class_begin c t.members) t.members ≡ fine m) × (with_class a t.name m ≡ b)
 class_added c a b t h =
     let w = made_fine (both (fine a) (judge_class c t)) (λ (r : Parts × Members). with_class r.0 t.name r.1) b h in
     let d = both_fine (fine a) (judge_class c t) w.0 w.1 in
@@ -54,7 +54,7 @@ begin_through a b c h k = record {
   functions = begins_through a.functions b.functions c.functions h.functions k.functions;
 }
 
-classes_begin : (c : ClassStanding) (a all : Parts) (ts : List ClassTree) → gathered behind_class add_class c (fine a) ts ≡ fine all → PartsBegin a all
+classes_begin : (c : ClassEnv) (a all : Parts) (ts : List ClassTree) → gathered behind_class add_class c (fine a) ts ≡ fine all → PartsBegin a all
 classes_begin c a all [] h =
     let itself : PartsBegin a a = record { classes = begins_itself a.classes; ops = begins_itself a.ops; functions = begins_itself a.functions } in
     subst (PartsBegin a) (same_fine a all h) itself
@@ -64,7 +64,7 @@ classes_begin c a all (t ∷ ts) h =
     begin_through a w.0 all (subst (PartsBegin a) d.2 (class_begins a t.name d.0)) (classes_begin (behind_class c t) w.0 all ts w.2)
 
 -- the numbers of a standing are those of the next class, operation and value method
-record Counted (c : ClassStanding) (a : Parts) : Type 0 where
+record Counted (c : ClassEnv) (a : Parts) : Type 0 where
   classes : length a.classes ≡ c.number
   ops : length a.ops ≡ c.numbers.operation
   functions : length a.functions ≡ c.numbers.function
@@ -106,14 +106,14 @@ module _ (p : PlainProgram) where
       one false h = rest name k h
 
   -- the class that is added stands in the program with its number
-  class_there : (c : ClassStanding) (a b all : Parts) (t : ClassTree) (m : Members) → Counted c a → Holding p all → with_class a t.name m ≡ b → PartsBegin b all
+  class_there : (c : ClassEnv) (a b all : Parts) (t : ClassTree) (m : Members) → Counted c a → Holding p all → with_class a t.name m ≡ b → PartsBegin b all
       → slice_get p.classes c.number ≡ Some (record { name = t.name; fields = m.fields })
   class_there c a b all t m n holds e g =
       let k : PlainClass = record { name = t.name; fields = m.fields } in
       let longer = begins_through (a.classes ++ k ∷ []) all.classes p.classes (subst (λ (x : Parts). Begins x.classes all.classes) (sym e) g.classes) holds.classes in
       ap (slice_get p.classes) (sym n.classes) ∙ item_there a.classes p.classes k longer
 
-  class_row : (c : ClassStanding) (a b all : Parts) (t : ClassTree) (m : Members) → Counted c a → Holding p all → judge_members (class_begin c t.members) t.members ≡ fine m → with_class a t.name m ≡ b → PartsBegin b all
+  class_row : (c : ClassEnv) (a b all : Parts) (t : ClassTree) (m : Members) → Counted c a → Holding p all → judge_members (class_begin c t.members) t.members ≡ fine m → with_class a t.name m ≡ b → PartsBegin b all
       → RowTyped p (record { 0 = c.number }) (meanings c.classes.names c.number (class_begin c t.members).numbers t.members) × Numbered a.ops a.functions (behind_members (class_begin c t.members) t.members).numbers m
   class_row c a b all t m n holds h e g =
       let there = class_there c a b all t m n holds e g in
@@ -123,7 +123,7 @@ module _ (p : PlainProgram) where
       record { fields = refl; ops = ap length (append-nil a.ops) ∙ n.ops; functions = ap length (append-nil a.functions) ∙ n.functions } in
       row_typed p a.ops a.functions (class_begin c t.members) no_members m t.members (ap fields_of there) (ops, functions) numbered h
 
-  counted_next : (c : ClassStanding) (a b : Parts) (t : ClassTree) (m : Members) → Counted c a → with_class a t.name m ≡ b → Numbered a.ops a.functions (behind_members (class_begin c t.members) t.members).numbers m
+  counted_next : (c : ClassEnv) (a b : Parts) (t : ClassTree) (m : Members) → Counted c a → with_class a t.name m ≡ b → Numbered a.ops a.functions (behind_members (class_begin c t.members) t.members).numbers m
       → Counted (behind_class c t) b
   counted_next c a b t m n e k =
       let next : Counted (behind_class c t) (with_class a t.name m) =
@@ -131,7 +131,7 @@ module _ (p : PlainProgram) where
       subst (Counted (behind_class c t)) e next
 
   -- what names mean is typed, from a class on
-  names_typed : (c : ClassStanding) (a all : Parts) (ts : List ClassTree) → Counted c a → Holding p all → gathered behind_class add_class c (fine a) ts ≡ fine all
+  names_typed : (c : ClassEnv) (a all : Parts) (ts : List ClassTree) → Counted c a → Holding p all → gathered behind_class add_class c (fine a) ts ≡ fine all
       → RowsTyped p c.number (members_from c.classes.names c.number (record { field = 0; operation = c.numbers.operation; function = c.numbers.function }) ts) × NamesThere p c.number ts
   names_typed c a all [] n holds h = (tt, λ name k e. absurd (cc))
   names_typed c a all (t ∷ ts) n holds h =
@@ -149,7 +149,7 @@ module _ (p : PlainProgram) where
     ops : AllByRecursion (OperationTyped p) a.ops
     functions : AllByRecursion (FunctionTyped p) a.functions
 
-  bodies_typed : (c : ClassStanding) (a all : Parts) (ts : List ClassTree) → ClassesTyped p c.classes → Counted c a → Holding p all → AllByRecursion ClassFits ts → BodiesTyped a
+  bodies_typed : (c : ClassEnv) (a all : Parts) (ts : List ClassTree) → ClassesTyped p c.classes → Counted c a → Holding p all → AllByRecursion ClassFits ts → BodiesTyped a
       → gathered behind_class add_class c (fine a) ts ≡ fine all → BodiesTyped all
   bodies_typed c a all [] classes n holds fits typed h = subst BodiesTyped (same_fine a all h) typed
   bodies_typed c a all (t ∷ ts) classes n holds fits typed h =

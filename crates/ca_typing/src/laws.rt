@@ -1,4 +1,4 @@
-//! Programs of texts without violations are well typed.
+//! Programs of texts without violations are well typed, their loops are numbered, and counters stay in their loops.
 
 ghost use Rattle.std.specs.Prelude.{◌≡◌, ℕ, List};
 ghost use Rattle.ca_tree.specs.declared.token.Token.{Token};
@@ -9,8 +9,22 @@ ghost use Rattle.ca_parse.specs.Grammar.{DerivesWithin};
 ghost use Rattle.ca_resolve.specs.Judged.{fine};
 ghost use Rattle.ca_types.specs.Classes.{judge};
 ghost use Rattle.ca_meaning.specs.ProgramTyped.{ProgramTyped};
+ghost use Rattle.ca_parallel.specs.Scoped.{OperationsScoped};
+ghost use Rattle.ca_typing.specs.Loops.{LoopsNumbered};
 
 /// The program of a text whose tree breaks no rule is well typed.
 pub fn resolved_programs_are_typed()
     ensures { (text : List ℕ) (tokens : List Token) (tree : TextTree) (p : PlainProgram) → Tokens text tokens → DerivesWithin tokens tree → judge tree ≡ fine p → ProgramTyped p }
+{}
+
+/// The loops of a program that a tree resolves to have numbers of their own, which rise in the order of the text: whoever
+/// marks a loop by its number marks that loop alone.
+pub fn loop_numbers_are_different()
+    ensures { (tree : TextTree) (p : PlainProgram) → judge tree ≡ fine p → LoopsNumbered p }
+{}
+
+/// In an operation of a program that a tree resolves to, the local that a `for` declares is named by that loop's condition,
+/// last part and body alone: whoever runs a loop of calls at once may leave its counter as it was.
+pub fn counters_stay_in_their_loops()
+    ensures { (tree : TextTree) (p : PlainProgram) → judge tree ≡ fine p → OperationsScoped p }
 {}

@@ -1,7 +1,7 @@
 -- Worked examples of the words of a command and of the usage line.
-use Rattle.std.proofs.Common.{◌≡◌, [], ◌∷◌, take, drop, codes, refl, arith, true}
+use Rattle.std.proofs.Common.{◌≡◌, [], ◌∷◌, take, drop, codes, refl, arith, true, false}
 use Rattle.std.specs.Fmt.{digits}
-use Rattle.ca_words.specs.declared.Command.TheVariants.{Run}
+use Rattle.ca_words.specs.declared.Command.TheVariants.{Run, Gen}
 use Rattle.ca_words.specs.Words.{words_of, Names, reads, usage_text}
 
 run_with_budget_100 : words_of (Run 1 100) ≡ codes "run" ∷ codes "1" ∷ codes "100" ∷ []
@@ -16,6 +16,10 @@ greatest_names : Names (codes "run" ∷ codes "1" ∷ codes "1000000000" ∷ [])
 unfolding digits
 greatest_names = record { spells = record { spelled = refl; in_range = ((omega arith, omega arith), (omega arith, omega arith)) }; built = refl }
 
+greatest_seed_names : Names (codes "gen" ∷ codes "18446744073709551615" ∷ codes "20000" ∷ []) (Gen 18446744073709551615 20000)
+unfolding digits
+greatest_seed_names = record { spells = record { spelled = refl; in_range = (omega arith, (omega arith, omega arith)) }; built = tt }
+
 usage_begins : take 14 usage_text ≡ codes "usage: commute"
 usage_begins = refl
 
@@ -24,3 +28,6 @@ usage_ends = refl
 
 reads_its_source : reads (Run 1 100) ≡ true
 reads_its_source = refl
+
+reads_nothing : reads (Gen 7 3) ≡ false
+reads_nothing = refl

@@ -1,8 +1,8 @@
 -- What the words of the command line name, and the usage line.
-use Rattle.std.specs.Prelude.{◌≡◌, Bool, true, ℕ, ◌≤◌, List, [], ◌∷◌, map, codes, decimal, String, string_bytes}
+use Rattle.std.specs.Prelude.{◌≡◌, Bool, true, false, ℕ, ◌≤◌, List, [], ◌∷◌, map, codes, decimal, String, string_bytes}
 use Rattle.std.specs.declared.alloc.Global.{Global}
 use Rattle.ca_words.specs.declared.Command.{Command}
-use Rattle.ca_words.specs.declared.Command.TheVariants.{Run, Pairs}
+use Rattle.ca_words.specs.declared.Command.TheVariants.{Run, Pairs, Gen}
 
 -- each word as its bytes
 abbrev pub texts : List (String Global) → List (List ℕ)
@@ -12,6 +12,7 @@ texts words = map string_bytes words
 abbrev pub words_of : Command → List (List ℕ)
 words_of (Run workers budget) = codes "run" ∷ decimal workers ∷ decimal budget ∷ []
 words_of Pairs = codes "pairs" ∷ []
+words_of (Gen seed size) = codes "gen" ∷ decimal seed ∷ decimal size ∷ []
 
 abbrev pub IsWorkers : ℕ → Type 0
 IsWorkers n = (1 ≤ n) × (n ≤ 64)
@@ -19,15 +20,23 @@ IsWorkers n = (1 ≤ n) × (n ≤ 64)
 abbrev pub IsBudget : ℕ → Type 0
 IsBudget n = (1 ≤ n) × (n ≤ 1000000000)
 
+abbrev pub IsSeed : ℕ → Type 0
+IsSeed n = n ≤ 18446744073709551615
+
+abbrev pub IsSize : ℕ → Type 0
+IsSize n = (1 ≤ n) × (n ≤ 20000)
+
 -- each number of the command is in its range
 abbrev pub IsInRange : Command → Type 0
 IsInRange (Run workers budget) = IsWorkers workers × IsBudget budget
 IsInRange Pairs = Unit {0}
+IsInRange (Gen seed size) = IsSeed seed × IsSize size
 
 -- what this program does so far: of runs, those by one worker
 abbrev pub IsBuilt : Command → Type 0
 IsBuilt (Run workers budget) = workers ≡ 1
 IsBuilt Pairs = Unit {0}
+IsBuilt (Gen seed size) = Unit {0}
 
 -- the words are those of the command, and its numbers are in their ranges
 pub record Spells (words : List (List ℕ)) (command : Command) : Type 0 where
@@ -43,6 +52,7 @@ pub record Names (words : List (List ℕ)) (command : Command) : Type 0 where
 abbrev pub reads : Command → Bool
 reads (Run workers budget) = true
 reads Pairs = true
+reads (Gen seed size) = false
 
 abbrev pub usage_text : List ℕ
 usage_text = codes "usage: commute run WORKERS BUDGET | pairs | plan | emit | gen SEED SIZE | load SEED SIZE WORKERS\n"

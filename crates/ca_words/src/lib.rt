@@ -10,7 +10,7 @@
 
 ghost use Rattle.std.specs.Prelude.{◌≡◌, ℕ, ◌<◌, ◌≤◌, ◌↔◌, List, IsTrue, IfSome, IfNone, decimal};
 ghost use Rattle.ca_words.specs.declared.Command.{Command};
-ghost use Rattle.ca_words.specs.Words.{texts, IsBuilt, Spells, Names, usage_text};
+ghost use Rattle.ca_words.specs.Words.{texts, IsBuilt, Spells, Names, reads, usage_text};
 
 /// What the words name.
 #[derive(Clone, Copy, PartialEq, Eq, Debug)]
@@ -20,6 +20,8 @@ pub enum Command {
     Run { workers: u32, budget: u32 },
     /// `pairs`.
     Pairs,
+    /// `gen SEED SIZE`: writes the text that any seed gives, with 1 to 20,000 nodes.
+    Gen { seed: u64, size: u32 },
 }
 
 impl Command {
@@ -27,13 +29,25 @@ impl Command {
 
     const MOST_BUDGET: u32 = 1_000_000_000;
 
+    const MOST_SIZE: u32 = 20_000;
+
+    /// Whether it reads its source.
+    pub fn reads(self) -> bool
+        ensures { result ≡ reads self }
+    {
+        match self {
+            Command::Run { .. } | Command::Pairs => true,
+            Command::Gen { .. } => false,
+        }
+    }
+
     // Whether this program does it so far.
     fn is_built(self) -> bool
         ensures { IsTrue result ↔ IsBuilt self }
     {
         match self {
             Command::Run { workers, .. } => workers == 1,
-            Command::Pairs => true,
+            Command::Pairs | Command::Gen { .. } => true,
         }
     }
 }
@@ -113,6 +127,10 @@ fn spelled(words: &[String]) -> Option<Command>
             budget: count_of(budget.as_str(), Command::MOST_BUDGET)?,
         }),
         [name] if name.as_str() == "pairs" => Some(Command::Pairs),
+        [name, seed, size] if name.as_str() == "gen" => Some(Command::Gen {
+            seed: number_of(seed.as_str(), 0, u64::MAX)?,
+            size: count_of(size.as_str(), Command::MOST_SIZE)?,
+        }),
         _ => None,
     }
 }

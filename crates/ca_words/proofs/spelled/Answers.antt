@@ -20,3 +20,13 @@ returns-in-len1-clause-some c =
     let name = (bytes_eq-Decides c.as_str.result.now (codes "pairs")).0 (sym c.if-eq.ensures) in
     let spelled : texts c.args.words.now ≡ codes "pairs" ∷ [] = rw words cc in
     record { spelled = spelled; in_range = tt }
+
+pub returns-in_ok-count_of-in-len3-2-2-clause-some :
+    goal.returns-in_ok-count_of-in-len3-2-2-clause-some
+returns-in_ok-count_of-in-len3-2-2-clause-some c =
+    let words = three_items c.args.words.now _ _ _ (omega arith) c.name-item-then-words-lt4-2.is c.seed-item.is c.size-item.is in
+    let name = (bytes_eq-Decides c.as_str-then-words-lt4-2.result.now (codes "gen")).0 (sym c.if-eq-3.ensures) in
+    let seed = c.in_ok-number_of-in-len3-2.ensures.some in
+    let size = c.in_ok-count_of-in-len3-2-2.ensures.some in
+    let spelled : texts c.args.words.now ≡ codes "gen" ∷ decimal c.in_ok-number_of-in-len3-2.field-0 ∷ decimal c.in_ok-count_of-in-len3-2-2.field-0 ∷ [] = rw words cc in
+    record { spelled = spelled; in_range = (omega arith, (omega arith, omega arith)) }

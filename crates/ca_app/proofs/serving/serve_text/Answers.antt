@@ -10,4 +10,4 @@ pub returns-in-Ok-clause-ends : goal.returns-in-Ok-clause-ends
 returns-in-Ok-clause-ends g c = ends_program _ _ _ c.in-Ok.ensures.program c.in-Ok.ensures.tree c.in-Ok.ensures.begins c.serve_program.ensures.ends
 
 pub serve_program-requires : goal.serve_program-requires
-serve_program-requires g c = (search rules, accepted_is_typed c.in-Ok.ensures.program.accepted)
+serve_program-requires g c = (search rules, (accepted_is_typed c.in-Ok.ensures.program.accepted, c.requires.reading))

@@ -1,5 +1,5 @@
-use Rattle.std.proofs.Common.{arith}
-use Rattle.ca_app.proofs.Endings.{ends_usage, ends_named, ends_written, after_six, after_seven, some_read}
+use Rattle.std.proofs.Common.{arith, rules, sym, ◌∙◌}
+use Rattle.ca_app.proofs.Endings.{ends_usage, ends_named, ends_written, after_six, after_seven, some_read, none_read, ends_unread}
 use Rattle.ca_app.proofs.StatusLemmas.{when_0, when_1, when_3, when_4, when_8, completely}
 use Rattle.ca_app.proofs.serving.top.Goals as goal
 
@@ -18,21 +18,6 @@ returns-in_default-clause-unread_fault g c = λ nothing. after_six c.write_all.r
 pub returns-in_default-clause-read_to_end : goal.returns-in_default-clause-read_to_end
 returns-in_default-clause-read_to_end g c = λ reads is. absurd (c.in_default.ensures.only reads.0 reads.1)
 
-pub returns-clause-read_to_end : goal.returns-clause-read_to_end
-returns-clause-read_to_end g c = λ reads is. c.serve.ensures.read_to_end is
-
-pub returns-clause-unread : goal.returns-clause-unread
-returns-clause-unread g c = λ nothing. absurd (some_read _ c.in-Some.ensures.named nothing)
-
-pub returns-clause-unread_headline : goal.returns-clause-unread_headline
-returns-clause-unread_headline g c = λ nothing. absurd (some_read _ c.in-Some.ensures.named nothing)
-
-pub returns-clause-unread_fault : goal.returns-clause-unread_fault
-returns-clause-unread_fault g c = λ nothing. absurd (some_read _ c.in-Some.ensures.named nothing)
-
-pub returns-clause-headline : goal.returns-clause-headline
-returns-clause-headline g c = λ text told. ends_named _ c.in-Some.ensures.named (c.serve.ensures.headline text told)
-
 pub returns-in_default-clause-done : goal.returns-in_default-clause-done
 returns-in_default-clause-done g c = λ text told. when_0 (returns-in_default-clause-headline g c text told)
 
@@ -47,6 +32,61 @@ returns-in_default-clause-spent g c = λ text told. when_4 (returns-in_default-c
 
 pub returns-in_default-clause-limit : goal.returns-in_default-clause-limit
 returns-in_default-clause-limit g c = λ text told. when_8 (returns-in_default-clause-headline g c text told)
+
+pub returns-in_default-clause-complete : goal.returns-in_default-clause-complete
+returns-in_default-clause-complete g c = λ text told unread unwritten.
+    completely (returns-in_default-clause-headline g c text told)
+    (after_six c.write_all.result 2 _ c.finish.ensures (λ e. omega arith))
+    (λ seven. unwritten (after_seven _ _ c.write_all.result 2 _ c.write_all.ensures.cause c.finish.ensures (λ e. omega arith) seven))
+
+pub serve-requires : goal.serve-requires
+serve-requires g c = (search rules, sym c.reads.ensures ∙ c.if-reads.true)
+
+pub returns-then-reads-clause-read_to_end : goal.returns-then-reads-clause-read_to_end
+returns-then-reads-clause-read_to_end g c = λ reads is. c.serve.ensures.read_to_end is
+
+pub returns-then-reads-clause-unread : goal.returns-then-reads-clause-unread
+returns-then-reads-clause-unread g c = λ nothing. absurd (some_read _ c.in-Some.ensures.named (sym c.reads.ensures ∙ c.if-reads.true) nothing)
+
+pub returns-then-reads-clause-unread_headline : goal.returns-then-reads-clause-unread_headline
+returns-then-reads-clause-unread_headline g c = λ nothing. absurd (some_read _ c.in-Some.ensures.named (sym c.reads.ensures ∙ c.if-reads.true) nothing)
+
+pub returns-then-reads-clause-unread_fault : goal.returns-then-reads-clause-unread_fault
+returns-then-reads-clause-unread_fault g c = λ nothing. absurd (some_read _ c.in-Some.ensures.named (sym c.reads.ensures ∙ c.if-reads.true) nothing)
+
+pub returns-then-reads-clause-headline : goal.returns-then-reads-clause-headline
+returns-then-reads-clause-headline g c = λ text told. ends_named _ c.in-Some.ensures.named (sym c.reads.ensures ∙ c.if-reads.true) (c.serve.ensures.headline text told)
+
+pub returns-then-reads-clause-done : goal.returns-then-reads-clause-done
+returns-then-reads-clause-done g c = λ text told. when_0 (returns-then-reads-clause-headline g c text told)
+
+pub returns-then-reads-clause-refused : goal.returns-then-reads-clause-refused
+returns-then-reads-clause-refused g c = λ text told. when_1 (returns-then-reads-clause-headline g c text told)
+
+pub returns-then-reads-clause-trapped : goal.returns-then-reads-clause-trapped
+returns-then-reads-clause-trapped g c = λ text told. when_3 (returns-then-reads-clause-headline g c text told)
+
+pub returns-then-reads-clause-spent : goal.returns-then-reads-clause-spent
+returns-then-reads-clause-spent g c = λ text told. when_4 (returns-then-reads-clause-headline g c text told)
+
+pub returns-then-reads-clause-limit : goal.returns-then-reads-clause-limit
+returns-then-reads-clause-limit g c = λ text told. when_8 (returns-then-reads-clause-headline g c text told)
+
+pub returns-then-reads-clause-complete : goal.returns-then-reads-clause-complete
+returns-then-reads-clause-complete g c = λ text told unread unwritten.
+    completely (returns-then-reads-clause-headline g c text told) (λ six. unread (c.serve.ensures.read_fault six)) (λ seven. unwritten (c.serve.ensures.write_fault.rose seven))
+
+pub serve_unread-requires : goal.serve_unread-requires
+serve_unread-requires g c = record { unread = sym c.reads.ensures ∙ c.if-reads.false; in_range = c.in-Some.ensures.named.spells.in_range }
+
+pub returns-clause-unread_headline : goal.returns-clause-unread_headline
+returns-clause-unread_headline g c = λ nothing text. ends_unread _ c.in-Some.ensures.named (sym c.reads.ensures ∙ c.if-reads.false) c.serve_unread.ensures.ends
+
+pub returns-clause-read_to_end : goal.returns-clause-read_to_end
+returns-clause-read_to_end g c = λ reads is. absurd (none_read _ c.in-Some.ensures.named (sym c.reads.ensures ∙ c.if-reads.false) reads)
+
+pub returns-clause-headline : goal.returns-clause-headline
+returns-clause-headline g c = λ text told. ends_unread _ c.in-Some.ensures.named (sym c.reads.ensures ∙ c.if-reads.false) c.serve_unread.ensures.ends
 
 pub returns-clause-done : goal.returns-clause-done
 returns-clause-done g c = λ text told. when_0 (returns-clause-headline g c text told)
@@ -65,10 +105,4 @@ returns-clause-limit g c = λ text told. when_8 (returns-clause-headline g c tex
 
 pub returns-clause-complete : goal.returns-clause-complete
 returns-clause-complete g c = λ text told unread unwritten.
-    completely (returns-clause-headline g c text told) (λ six. unread (c.serve.ensures.read_fault six)) (λ seven. unwritten (c.serve.ensures.write_fault.rose seven))
-
-pub returns-in_default-clause-complete : goal.returns-in_default-clause-complete
-returns-in_default-clause-complete g c = λ text told unread unwritten.
-    completely (returns-in_default-clause-headline g c text told)
-    (after_six c.write_all.result 2 _ c.finish.ensures (λ e. omega arith))
-    (λ seven. unwritten (after_seven _ _ c.write_all.result 2 _ c.write_all.ensures.cause c.finish.ensures (λ e. omega arith) seven))
+    completely (returns-clause-headline g c text told) c.serve_unread.ensures.no_read_fault (λ seven. unwritten (c.serve_unread.ensures.write_fault.rose seven))

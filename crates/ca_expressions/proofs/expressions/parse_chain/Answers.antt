@@ -1,4 +1,5 @@
 use Rattle.std.proofs.Common.{subst}
+use Rattle.ca_tree.specs.Operators.{unary_level}
 use Rattle.ca_descent.specs.Exact.{Unlimited, Exact}
 use Rattle.ca_descent.proofs.Short.{exact_short}
 use Rattle.ca_tree.specs.View.{expression_view}
@@ -10,7 +11,7 @@ pub returns-clause-answer : goal.returns-clause-answer
 returns-clause-answer c =
     let o = answer expression_view c.parse_inner_chain.result in
     let h = c.first_tokens-head.ensures in
-    rw c.limited.ensures.answer (exact_short o (subst (λ z. Exact (Unlimited Chain) (Closed 6 Chain) z o) h c.parse_inner_chain.ensures.answer))
+    rw c.limited.ensures.answer (exact_short o (subst (λ z. Exact (Unlimited Chain) (Closed unary_level Chain) z o) h c.parse_inner_chain.ensures.answer))
 
 pub returns-clause-shorter : goal.returns-clause-shorter
 returns-clause-shorter c = c.limited.ensures.shorter c.parse_inner_chain.ensures.shorter

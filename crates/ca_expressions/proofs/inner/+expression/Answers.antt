@@ -7,6 +7,8 @@ use Rattle.ca_descent.proofs.Parts.{and_ok, and_failed, and_done}
 use Rattle.ca_descent.proofs.Separated.{separated_more}
 use Rattle.ca_tree.specs.declared.token.Keyword.TheVariants.{This}
 use Rattle.ca_tree.specs.declared.token.Sign.TheVariants.{OpenParenthesis, OpenBracket}
+use Rattle.ca_tree.specs.declared.operators.TheConstants.{LEVELS}
+use Rattle.ca_tree.specs.Operators.{unary_level}
 use Rattle.ca_tree.specs.Plain.{call}
 use Rattle.ca_tree.specs.View.{expression_view}
 use Rattle.ca_tree.proofs.Rows.{call_is}
@@ -24,7 +26,7 @@ use Rattle.ca_expressions.proofs.inner.+expression.Goals as goal
 pub parse_level-returns-in_err-front-clause-answer : goal.parse_level-returns-in_err-front-clause-answer
 parse_level-returns-in_err-front-clause-answer t c =
     let p = err_from_is_err_and c.from_residual.result c.from_residual.ensures.1 in
-    rw (p.1, p.2) (above_failed c.args.level 6 (failure c.in_err-front.field-0.0) c.requires (omega arith) (unary_answer c.in_err-front.ensures.answer))
+    rw (p.1, p.2) (above_failed c.args.level LEVELS (failure c.in_err-front.field-0.0) c.requires (omega arith) (unary_answer c.in_err-front.ensures.answer))
 
 pub parse_level-levels-init : goal.parse_level-levels-init
 parse_level-levels-init t c = (unary_answer c.in_ok-front.ensures.answer, c.requires, omega arith, c.in_ok-front.ensures.shorter)
@@ -163,7 +165,7 @@ parse_inner_chain-returns-clause-answer t c =
     ∙ ap (λ z. call c.in_ok-name.at c.in_ok-name.name z) (expressions_are c.in_ok-args.args.items) in
     name_answer c.in_default.ensures.none (and_ok c.in_ok-name.ensures.answer
     (called_answer (c.in_ok-name.name, c.in_ok-name.at) h.1 (and_ok c.in_ok-args.ensures.answer
-    (subst (λ z. Exact (Unlimited (Tails z)) (Closed 6 (Tails z)) c.in_ok-args.rest.now (answer expression_view c.parse_tails-2.result)) e c.parse_tails-2.ensures.answer))))
+    (subst (λ z. Exact (Unlimited (Tails z)) (Closed unary_level (Tails z)) c.in_ok-args.rest.now (answer expression_view c.parse_tails-2.result)) e c.parse_tails-2.ensures.answer))))
 
 -- tails
 pub parse_tails-tails-init : goal.parse_tails-tails-init

@@ -1,6 +1,8 @@
 use Rattle.std.proofs.Common.{◌-◌, ◌<◌, ◌≤◌, ◌+◌, ◌*◌, length, map}
 use Rattle.ca_descent.specs.Exact.{Unlimited, Answer, Got, Exact, Gathers}
 use Rattle.ca_tree.specs.declared.token.Token.{Token}
+use Rattle.ca_tree.specs.declared.operators.TheConstants.{LEVELS}
+use Rattle.ca_tree.specs.Operators.{unary_level}
 use Rattle.ca_tree.specs.Plain.{Expression}
 use Rattle.ca_tree.specs.View.{expression_view}
 use Rattle.ca_expressions.specs.Grammar.{Level, Operands, Tails, Args, Expr}
@@ -43,7 +45,7 @@ decreases-parse_args-more l = length l.rest
 abbrev pub invariant-parse_level-levels : goal.invariant-parse_level-levels
 invariant-parse_level-levels l =
     Exact (Unlimited (Level l.reached)) (Closed l.reached (Level l.reached)) l.tokens (Got (expression_view l.front) l.rest)
-    × (l.level ≤ l.reached) × (l.reached ≤ 6) × (length l.rest < length l.tokens)
+    × (l.level ≤ l.reached) × (l.reached ≤ LEVELS) × (length l.rest < length l.tokens)
 
 abbrev pub decreases-parse_level-levels : goal.decreases-parse_level-levels
 decreases-parse_level-levels l = l.reached - l.level
@@ -59,8 +61,8 @@ decreases-parse_operands-operators l = length l.rest
 
 abbrev pub invariant-parse_tails-tails : goal.invariant-parse_tails-tails
 invariant-parse_tails-tails l =
-    ((o : Answer Token Expression) → Exact (Unlimited (Tails (expression_view l.front))) (Closed 6 (Tails (expression_view l.front))) l.rest o
-    → Exact (Unlimited (Tails (expression_view l.fn.first))) (Closed 6 (Tails (expression_view l.fn.first))) l.tokens o)
+    ((o : Answer Token Expression) → Exact (Unlimited (Tails (expression_view l.front))) (Closed unary_level (Tails (expression_view l.front))) l.rest o
+    → Exact (Unlimited (Tails (expression_view l.fn.first))) (Closed unary_level (Tails (expression_view l.fn.first))) l.tokens o)
     × (length l.rest ≤ length l.tokens)
 
 abbrev pub decreases-parse_tails-tails : goal.decreases-parse_tails-tails

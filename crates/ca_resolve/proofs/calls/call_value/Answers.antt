@@ -5,5 +5,5 @@ use Rattle.ca_resolve.proofs.calls.call_value.Goals as goal
 
 pub returns : goal.returns
 returns c = λ j h.
-    call_value_is c.args.at c.in_ok-call.call c.in_ok-receiver-in-Function.receiver c.in-Function.id c.in-Function.sort j
+    call_value_is c.args.at c.in_ok-call.call c.in_ok-receiver-in-Function.receiver c.in-Function.id c.in-Function.ty j
     (one_fine invocation_view c.args.call c.in_ok-call.call j c.in_ok-call.was h) c.in-Function.is c.in_ok-receiver-in-Function.ensures.ok

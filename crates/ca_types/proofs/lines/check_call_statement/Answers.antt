@@ -7,7 +7,7 @@ use Rattle.ca_resolve.specs.Scopes.{Invocation}
 use Rattle.ca_resolve.specs.Values.{judge_call, place_of, in_order}
 use Rattle.ca_resolve.specs.View.{invocation_view}
 use Rattle.ca_types.specs.Rules.{called_operation}
-use Rattle.ca_types.specs.View.{standing_view}
+use Rattle.ca_types.specs.View.{env_view}
 use Rattle.ca_resolve.proofs.Judging.{within_tells}
 use Rattle.ca_types.proofs.Answering.{own_tells, within_ok}
 use Rattle.ca_resolve.proofs.InMemory.{place_is, in_order_is}
@@ -15,7 +15,7 @@ use Rattle.ca_types.proofs.lines.check_call_statement.Goals as goal
 
 pub returns-in_err-op : goal.returns-in_err-op
 returns-in_err-op c =
-    let s = standing_view c.args.walk.now in
+    let s = env_view c.args.walk.now in
     let e = expression_view c.args.e.now in
     let err = c.in_err-op.field-0.0 in
     let i = invocation_view c.in_ok-call.call in
@@ -28,7 +28,7 @@ returns-in_err-op c =
 
 pub returns : goal.returns
 returns c =
-    let s = standing_view c.args.walk.now in
+    let s = env_view c.args.walk.now in
     let e = expression_view c.args.e.now in
     let i = invocation_view c.in_ok-call.call in
     within_ok (judge_call s.scope e) (λ (i : Invocation). within (called_operation s.result i.callee (place_of e)) (λ o. fine (program.invoke c.args.at.line i.receiver o (in_order i.arguments)))) i

@@ -6,13 +6,13 @@ use Rattle.ca_resolve.specs.Judged.{Answers, fine, beside, unless}
 use Rattle.ca_types.specs.Rules.{member_once, field_limit, length_limit, length_stands}
 use Rattle.ca_types.specs.Statements.{judge_type}
 use Rattle.ca_types.specs.Classes.{item_count}
-use Rattle.ca_types.specs.View.{member_standing}
+use Rattle.ca_types.specs.View.{member_env}
 use Rattle.ca_types.proofs.Answering.{own_tells, besides, beside_exit, pair_breaks}
 use Rattle.ca_types.proofs.members.check_field.Goals as goal
 
 pub returns-in_err-ty : goal.returns-in_err-ty
 returns-in_err-ty c =
-    let s = member_standing c.args.standing.now in
+    let s = member_env c.args.standing.now in
     let f = c.args.field.now in
     let err = c.in_err-ty.field-0.0 in
     let j = judge_type s.classes.names f.ty in
@@ -26,7 +26,7 @@ returns-in_err-ty c =
 
 pub returns-in_err-both : goal.returns-in_err-both
 returns-in_err-both c =
-    let s = member_standing c.args.standing.now in
+    let s = member_env c.args.standing.now in
     let f = c.args.field.now in
     let err = c.in_err-both.field-0.0 in
     let j = judge_type s.classes.names f.ty in

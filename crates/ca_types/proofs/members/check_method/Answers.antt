@@ -5,18 +5,18 @@ use Rattle.ca_program.specs.declared.program.ValueType.{ValueType}
 use Rattle.ca_resolve.specs.Judged.{Answers, fine, both}
 use Rattle.ca_types.specs.Statements.{behind_all, judge_statements}
 use Rattle.ca_types.specs.Classes.{beginning, behind_parameters, judge_parameters, judge_result_type, method_begin, body_begin, method_end}
-use Rattle.ca_types.specs.View.{standing_view, member_standing, all_view}
+use Rattle.ca_types.specs.View.{env_view, member_env, all_view}
 use Rattle.ca_types.proofs.Answering.{joined}
 use Rattle.ca_types.proofs.members.check_method.Goals as goal
 
 pub returns-clause-judged : goal.returns-clause-judged
 returns-clause-judged c =
-    let s = member_standing c.args.standing.now in
+    let s = member_env c.args.standing.now in
     let m = tree_method c.args.method.now in
-    let begun : standing_view c.new-walk.result ≡ method_begin s m = c.new-walk.ensures ∙ ap (λ z. beginning s.classes (Some s.class) s.loops z) c.result_sort-sort.ensures in
-    let entered : standing_view c.check_parameters.new.walk ≡ body_begin s m =
+    let begun : env_view c.new-walk.result ≡ method_begin s m = c.new-walk.ensures ∙ ap (λ z. beginning s.classes (Some s.class) s.loops z) c.result_ty-ty.ensures in
+    let entered : env_view c.check_parameters.new.walk ≡ body_begin s m =
     c.in_ok-params.ensures.behind ∙ (ap (λ z. behind_parameters z c.deref.result.now) begun ∙ ap (λ ps. behind_parameters (method_begin s m) ps) c.deref.ensures.value) in
-    let left : standing_view c.check_statements.new.walk ≡ method_end s m =
+    let left : env_view c.check_statements.new.walk ≡ method_end s m =
     c.in_ok-stmts.ensures.behind ∙ (ap (λ z. behind_all z (statements_view c.deref-2.result.now)) entered ∙ ap (λ ss. behind_all (body_begin s m) (statements_view ss)) c.deref-2.ensures.value) in
     let i = judge_result_type s.classes.names m.result in
     let j = judge_parameters (method_begin s m) m.params in

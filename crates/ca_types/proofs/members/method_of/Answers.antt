@@ -8,7 +8,7 @@ use Rattle.ca_program.specs.Plain as program
 use Rattle.ca_resolve.specs.Judged.{Answers, fine, beside, unless}
 use Rattle.ca_types.specs.Rules.{member_once, ends_with_return}
 use Rattle.ca_types.specs.Classes.{method_limit, method_of}
-use Rattle.ca_types.specs.View.{member_standing, all_view, method_parts_view}
+use Rattle.ca_types.specs.View.{member_env, all_view, method_parts_view}
 use Rattle.ca_types.proofs.Answering.{own_tells, within_ok, besides, beside_exit, pair_breaks, pair_stands}
 use Rattle.ca_types.proofs.Nodes.{statements_are}
 use Rattle.ca_types.proofs.members.method_of.Goals as goal
@@ -25,7 +25,7 @@ made class name name' params params' locals locals' ss ss' result p q t u = rw (
 
 pub returns-in_err-result_type : goal.returns-in_err-result_type
 returns-in_err-result_type c = λ j h l.
-    let s = member_standing c.args.standing.now in
+    let s = member_env c.args.standing.now in
     let m = tree_method c.args.method.now in
     let limit = method_limit s.numbers m.result m.at in
     let once = member_once s.names s.number m.name m.at in
@@ -38,7 +38,7 @@ returns-in_err-result_type c = λ j h l.
 
 pub returns-in_err-both : goal.returns-in_err-both
 returns-in_err-both c = λ j h l.
-    let s = member_standing c.args.standing.now in
+    let s = member_env c.args.standing.now in
     let m = tree_method c.args.method.now in
     let limit = method_limit s.numbers m.result m.at in
     let once = member_once s.names s.number m.name m.at in
@@ -55,7 +55,7 @@ returns-in_err-both c = λ j h l.
 
 pub returns : goal.returns
 returns c = λ j h l.
-    let s = member_standing c.args.standing.now in
+    let s = member_env c.args.standing.now in
     let m = tree_method c.args.method.now in
     let limit = method_limit s.numbers m.result m.at in
     let once = member_once s.names s.number m.name m.at in

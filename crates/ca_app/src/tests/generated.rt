@@ -1,0 +1,42 @@
+//! Large inputs from numbers.
+
+use crate::generate;
+use crate::tests::calls::Call;
+use crate::tests::sources::FIRST;
+use std::alloc::AllocError;
+
+/// Three nodes, linked by the numbers of seed 7.
+const OF_SEED_7: &str =
+    "class Node {\npublic:\n  bool mark;\n  long value;\n  long sum;\n  Node *left;\n  Node *right;\n  void set(long v, Node *l, Node *r) {\n    value = v;\n    left = l;\n    right = r;\n  }\n  void visit(long p) {\n    sum += p;\n    if (!mark) {\n      mark = true;\n      left->visit(value);\n      right->visit(value);\n    }\n  }\n};\nclass Table {\npublic:\n  Node *at[3];\n  void fill() {\n    for (long i = 0; i < 3; i++) at[i] = new Node();\n  }\n  void link(long i, long l, long r) {\n    at[i]->set(i + 1, at[l], at[r]);\n  }\n};\nint main() {\n  Table *t = new Table();\n  t->fill();\n  t->link(0, 1, 2);\n  t->link(1, 2, 0);\n  t->link(2, 2, 2);\n  t->at[0]->visit(1);\n  return 0;\n}\n";
+
+const HEAP_OF_SEED_7: &str =
+    "#0 Table at=[#1,#2,#3]\n#1 Node mark=true value=1 sum=3 left=#2 right=#3\n#2 Node mark=true value=2 sum=1 left=#3 right=#1\n#3 Node mark=true value=3 sum=9 left=#3 right=#3\n";
+
+/// Calls over devices of which the read and the write of these numbers fail, where they are not 0.
+const CALLS: [(&str, &str, (u64, u64), u8, &str); 6] = [
+    ("gen 7 3", FIRST, (0, 0), 0, OF_SEED_7),
+    ("gen 2147483655 3", "", (0, 0), 0, OF_SEED_7),
+    // nothing is read, so no read fails
+    ("gen 7 3", FIRST, (1, 0), 0, OF_SEED_7),
+    ("gen 7 3", FIRST, (0, 1), 7, ""),
+    ("run 1 17", OF_SEED_7, (0, 0), 0, HEAP_OF_SEED_7),
+    ("run 1 16", OF_SEED_7, (0, 0), 4, "spent 16\n"),
+];
+
+/// A text of three nodes, and its runs.
+#[test]
+fn writes_and_runs_generated_texts(rt: HostRuntime) -> Result<(), AllocError> {
+    for (line, text, failing, status, written) in CALLS {
+        let call = Call {
+            failing,
+            ..Call::new(line, text)
+        };
+        let ended = call.writes(&rt, written.as_bytes())?;
+        assert!(rt; ended == (status, true), "of {line}");
+    }
+    let Ok(text) = generate(rt.alloc(), 7, 3) else {
+        return Err(AllocError);
+    };
+    assert!(rt; text.as_slice() == OF_SEED_7.as_bytes());
+    Ok(())
+}

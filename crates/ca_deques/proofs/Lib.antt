@@ -1,0 +1,5 @@
+pub mod Places
+pub mod Sums
+pub mod Moves
+pub mod Backs
+pub mod Bands

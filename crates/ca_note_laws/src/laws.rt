@@ -1,0 +1,14 @@
+//! The laws of notes.
+
+ghost use Rattle.ca_note_laws.specs.Handed.{ListsAreGood, NotesAside};
+
+/// Whatever a run of a typed program with sound marks hands on, an engine may run: its heap is typed, and its operations
+/// are well typed and of a parallel extent. The machine that hands them on owes no more.
+pub fn lists_are_good()
+    ensures { ListsAreGood }
+{}
+
+/// Whoever hands notes on and takes the answers over runs what the serial run does, but for the notes.
+pub fn notes_aside_the_run_is_serial()
+    ensures { NotesAside }
+{}

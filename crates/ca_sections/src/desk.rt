@@ -1,0 +1,126 @@
+//! What a section works with.
+
+ghost use Rattle.std.specs.Prelude.{◌≡◌, ◌++◌, map, IfOk};
+ghost use Rattle.ca_model.specs.Slots.{start_of};
+ghost use Rattle.ca_direct.specs.Direct.{own_in};
+ghost use Rattle.ca_sections.specs.Running.{own_slots, Begun};
+
+use ca_base::Memory;
+use ca_direct::Scene;
+use ca_model::{Heap, Slots, Value, start_of};
+use ca_parallel::Op;
+use ca_program::{FieldInfo, ValueType};
+use ca_section::Olds;
+use ca_values::Evaluator;
+use std::alloc::Global;
+
+/// Where own accesses are made: in slots that are handed in, or in the heap, where they only read.
+#[derive(Clone, Copy)]
+pub enum Own {
+    Handed,
+    Frozen,
+}
+
+/// On whom a section runs, and with which memory.
+#[derive(Clone, Copy)]
+pub struct Receiver {
+    pub alloc: Global,
+    pub this: Value,
+    pub own: Own,
+}
+
+/// How a section stands. The receiver and where own accesses are made stay as they are while it runs; the
+/// slots, their old values, the locals, the operations that are listed and the steps left change.
+#[derive(Drop)]
+pub struct State {
+    pub alloc: Global,
+    pub this: Value,
+    pub own: Own,
+    pub slots: Slots,
+    pub olds: Olds,
+    pub locals: Vec<Value>,
+    pub listed: Vec<Op>,
+    pub left: u64,
+}
+
+/// Serves sections, one behind the other, and keeps the memory that they took. An engine keeps one for each worker.
+#[derive(Drop)]
+pub struct Desk<'a> {
+    pub(crate) evaluator: Evaluator<'a>,
+    pub(crate) state: State,
+}
+
+impl<'a> Desk<'a> {
+    /// A desk.
+    pub fn new(alloc: Global) -> Result<Desk<'a>, Memory> {
+        let fields: &[FieldInfo] = &[];
+        Ok(Desk {
+            evaluator: Evaluator::new(alloc),
+            state: State {
+                alloc,
+                this: Value::Null,
+                own: Own::Frozen,
+                slots: Slots::start(alloc, fields)?,
+                olds: Olds::new(alloc),
+                locals: Vec::new(alloc),
+                listed: Vec::new(alloc),
+                left: 0,
+            },
+        })
+    }
+}
+
+impl State {
+    /// Begins a section on this receiver, whose first locals have these values and whose others have these
+    /// types. The slots stay as they are.
+    pub(crate) fn begin(
+        &mut self,
+        receiver: Receiver,
+        values: &[Value],
+        others: &[ValueType],
+        left: u64,
+    ) -> Result<(), Memory>
+        ensures begun { IfOk result (λ _. Begun receiver (values.now ++ map start_of others.now) left self.new) }
+        ensures slots { self.new.slots ≡ self.old.slots }
+    {
+        self.alloc = receiver.alloc;
+        self.this = receiver.this;
+        self.own = receiver.own;
+        self.olds.forget();
+        self.listed.clear();
+        self.left = left;
+        self.locals.clear();
+        self.locals.extend_from_slice(values)?;
+        add_starts(&mut self.locals, others)
+    }
+
+    /// What expressions are read in.
+    #[inline]
+    pub(crate) fn scene<'s>(&'s self, frozen: &'s Heap) -> Scene<'s>
+        ensures heap { result.heap.now ≡ frozen.now }
+        ensures this { result.this ≡ self.now.this }
+        ensures own { own_in result ≡ own_slots self.now.own frozen.now self.now.this self.now.slots }
+        ensures locals { result.locals.now ≡ self.now.locals.items }
+    {
+        let own = match self.own {
+            Own::Handed => Some(self.slots.as_slice()),
+            Own::Frozen => None,
+        };
+        Scene {
+            heap: frozen,
+            this: self.this,
+            own,
+            locals: self.locals.as_slice(),
+        }
+    }
+}
+
+/// Adds what locals of these types start with.
+fn add_starts(locals: &mut Vec<Value>, types: &[ValueType]) -> Result<(), Memory>
+    ensures { IfOk result (λ _. locals.new.items ≡ locals.old.items ++ map start_of types.now) }
+{
+    for ty in types {
+        locals.push(start_of(*ty))?;
+    }
+    Ok(())
+}

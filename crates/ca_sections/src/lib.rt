@@ -1,0 +1,27 @@
+//! Sections of operations and of call loops, computed.
+//!
+//! The section of an operation is what its body does to the receiver alone: own accesses are made in an object
+//! that is handed in, every other read in a heap that stays as it is, and each call is listed instead of made
+//! (`ca_meaning/specs/Sections.antt`). `section` works on the object in place and puts it back on every answer
+//! but `Done`, by the old values of `ca_section`; so no object is copied. `section_of_loop` does the same for a
+//! call loop of serial code and hands its locals back; `section_loop` finds the loop by its number.
+//! `specs/Answers.antt` has what the answers say, `specs/Running.antt` how a section in memory stands.
+//!
+//! Statements run by recursion over the syntax, whose nesting texts limit, with a loop for each loop. Values are
+//! those of `ca_values`, which reads without a call where it can. A `Desk` keeps what a section needs of memory:
+//! on one that was used before, a section takes memory for what it lists alone.
+#![tactic(auto)]
+
+mod calls;
+mod desk;
+pub mod laws;
+mod loops;
+mod operations;
+mod puts;
+mod statements;
+mod stop;
+mod values;
+
+pub use desk::Desk;
+pub use loops::section_of_loop;
+pub use operations::{SectionAnswer, section};

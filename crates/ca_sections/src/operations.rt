@@ -1,0 +1,129 @@
+//! Sections of operations.
+
+ghost use Rattle.std.specs.Prelude.{◌≡◌, ◌≤◌, [], Some, IfOk, OnErr, slice_get};
+ghost use Rattle.ca_program.specs.View.{program_view, method_view, statements_view};
+ghost use Rattle.ca_meaning.specs.Functions.{body_of};
+ghost use Rattle.ca_meaning.specs.Sections.{section};
+ghost use Rattle.ca_parallel.specs.Calls.{invocations_of};
+ghost use Rattle.ca_section.specs.Olds.{put_back, AllThere};
+ghost use Rattle.ca_values.specs.Resume.{others_in};
+ghost use Rattle.ca_sections.specs.Answers.{SectionIs};
+ghost use Rattle.ca_sections.specs.Running.{Settled};
+
+use crate::desk::{Desk, Own, Receiver, State};
+use crate::stop::Stop;
+use ca_base::Memory;
+use ca_model::{Heap, Object, Trap, Value};
+use ca_parallel::Op;
+use ca_program::{Method, OpId, Program, Stmt, ValueType};
+use std::alloc::Global;
+use std::mem;
+
+/// What a section answers: it is done in so many steps, it traps, or a step is too many.
+#[derive(Clone, Copy, PartialEq, Eq, Debug)]
+pub enum SectionAnswer {
+    Done { steps: u64 },
+    Trapped(Trap),
+    Spent,
+}
+
+/// What is called: its statements, and the types of its locals that are no parameters.
+#[derive(Clone, Copy)]
+struct Called<'a> {
+    stmts: &'a [Stmt],
+    others: &'a [ValueType],
+}
+
+/// The body of an operation, and nothing where there is no such operation.
+fn body_of<'a>(program: &'a Program, op: OpId) -> Called<'a>
+    ensures stmts { statements_view result.stmts.now ≡ body_of (slice_get (program_view program.now).ops op.0) }
+    ensures others { result.others.now ≡ others_in (slice_get (program_view program.now).ops op.0) }
+{
+    if (op.0 as usize) < program.ops.len() {
+        body_in(program.op(op))
+    } else {
+        Called {
+            stmts: &[],
+            others: &[],
+        }
+    }
+}
+
+/// The body of a method.
+fn body_in<'a>(method: &'a Method) -> Called<'a>
+    ensures stmts { statements_view result.stmts.now ≡ body_of (Some (method_view method.now)) }
+    ensures others { result.others.now ≡ others_in (Some (method_view method.now)) }
+{
+    let types = method.body.locals.as_slice();
+    let first = (method.params as usize).min(types.len());
+    Called {
+        stmts: method.body.stmts.as_slice(),
+        others: &types[first..],
+    }
+}
+
+impl State {
+    /// Ends a section: what it listed goes behind what stands in a list, or the slots are put back.
+    pub(crate) fn settle(
+        &mut self,
+        ran: Result<(), Stop>,
+        out: &mut Vec<Op>,
+        left: u64,
+    ) -> Result<SectionAnswer, Memory>
+        requires there { AllThere self.old.olds self.old.slots }
+        requires left { self.old.left ≤ left }
+        ensures settled { IfOk result (λ answer. Settled ran answer left self.old self.new.slots out.old.items out.new.items) }
+        ensures kept { OnErr result ((self.new.slots ≡ put_back self.old.olds self.old.slots) × (out.new.items ≡ out.old.items)) }
+        ensures locals { self.new.locals ≡ self.old.locals }
+    {
+        if let Ok(()) = ran {
+            let steps = left - self.left;
+            if let Ok(()) = out.append(&mut self.listed) {
+                return Ok(SectionAnswer::Done { steps });
+            }
+        }
+        self.olds.put_back(&mut self.slots);
+        match ran {
+            Err(Stop::Trapped(trap)) => Ok(SectionAnswer::Trapped(trap)),
+            Err(Stop::GivesBack(_)) => Ok(SectionAnswer::Spent),
+            Err(Stop::Spent) => Ok(SectionAnswer::Spent),
+            _ => Err(Memory),
+        }
+    }
+}
+
+/// The section of an operation on an object within a budget of steps. The object stands for the operation's
+/// receiver, and all but its own accesses read the frozen heap.
+///
+/// Done leaves the object of the section and puts what it lists behind what stands in `out`. On each other
+/// answer, and where memory is wanting, object and `out` are as before.
+pub fn section<'a>(
+    desk: &mut Desk<'a>,
+    alloc: Global,
+    program: &'a Program,
+    frozen: &Heap,
+    object: &mut Object,
+    op: &Op,
+    left: u64,
+    out: &mut Vec<Op>,
+) -> Result<SectionAnswer, Memory>
+    ensures answer { IfOk result (λ answer. SectionIs answer (section (program_view program.now) frozen.now op.now.receiver object.old op.now.op op.now.args left) object.old object.new out.old.items out.new.items) }
+    ensures kept { OnErr result ((object.new ≡ object.old) × (out.new.items ≡ out.old.items)) }
+{
+    if left == 0 {
+        return Ok(SectionAnswer::Spent);
+    }
+    let receiver = Receiver {
+        alloc,
+        this: Value::Ref(op.receiver),
+        own: Own::Handed,
+    };
+    let called = body_of(program, op.op);
+    desk.state
+        .begin(receiver, op.args.as_slice(), called.others, left - 1)?;
+    mem::swap(&mut desk.state.slots, &mut object.slots);
+    let ran = desk.exec_all(program, frozen, called.stmts);
+    let answer = desk.state.settle(ran, out, left);
+    mem::swap(&mut desk.state.slots, &mut object.slots);
+    answer
+}
