@@ -137,16 +137,16 @@ fn around(alloc: Global, kind: usize, term: Term) -> Result<Term, AllocError> {
     }
 }
 
-/// A term of 6,000 levels of the kind around an atom of the sort.
+/// A term of 5,000 levels of the kind around an atom of the sort.
 fn nested(alloc: Global, kind: usize, sort: Sort) -> Result<Term, AllocError> {
     let mut term = Term::Atom(sort, 3, 0);
-    for _ in 0..6000 {
+    for _ in 0..5000 {
         term = around(alloc, kind, term)?;
     }
     Ok(term)
 }
 
-/// Terms of 6,000 levels have forms, which are copied and compared; everything is dropped without running out of
+/// Terms of 5,000 levels have forms, which are copied and compared; everything is dropped without running out of
 /// stack, and in time that grows with the depth and not with its power.
 #[test]
 fn takes_deep_terms(rt: HostRuntime) -> Result<(), Fail> {
