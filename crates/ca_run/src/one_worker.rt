@@ -61,7 +61,7 @@ impl<'g, G: Passes> OneWorker<'g, G> {
         ensures declined { IfOk result (λ answer. answer ≡ Declined → IsNotDone (program_view program.now) heap.old (invocations_of first.now) left) }
         ensures kept { OnErr result (heap.new ≡ heap.old) }
     {
-        let mut desk = Desk::new(self.alloc);
+        let mut desk = Desk::new(self.alloc)?;
         let mut waiting = copies(self.alloc, first)?;
         self.beside.forget();
         let went = run_round(
