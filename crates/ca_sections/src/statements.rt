@@ -26,8 +26,12 @@ impl<'a> Desk<'a> {
     {
         match &s.kind {
             StmtForm::Block(stmts) => self.exec_all(program, frozen, stmts.as_slice()),
-            StmtForm::PutLocal(local, op, e) => self.put_local(program, frozen, line, *local, *op, e),
-            StmtForm::PutField(field, op, e) => self.put_field(program, frozen, line, *field, *op, e),
+            StmtForm::PutLocal(local, op, e) => self.put_local(
+                program, frozen, line, *local, *op, e,
+            ),
+            StmtForm::PutField(field, op, e) => self.put_field(
+                program, frozen, line, *field, *op, e,
+            ),
             StmtForm::PutItem(field, index, op, e) => {
                 let target = Target {
                     field: *field,

@@ -85,8 +85,8 @@ exec-whiles-preserved t c =
     let ran = c.in_ok-exec-in-While.ensures in
     let k2 = keeps_left w behind turned.same turned.falls in (
       while_next p h c.args.line old w behind now s i.condition i.body i.is c.whiles.invariant.1 k2 ran.keeps c.whiles.invariant.0
-      (rw c.if-branch-2.true at turned.means (while_body p h c.args.line w i.body.value) (statement_view s))
-      (rw (c.deref-in-whiles.ensures, c.deref-in-whiles-2.ensures) at ran.means),
+          (rw c.if-branch-2.true at turned.means (while_body p h c.args.line w i.body.value) (statement_view s))
+          (rw (c.deref-in-whiles.ensures, c.deref-in-whiles-2.ensures) at ran.means),
       keeps_then old behind now (keeps_then old w behind c.whiles.invariant.1 k2) ran.keeps,
     )
 
@@ -112,7 +112,7 @@ exec-fors-init t c =
     let i = c.in-For in
     let ran = c.in_ok-exec-in-For.ensures in (
       for_begins (program_view c.args.program.now) c.args.frozen.now c.args.line c.args.self.now.state c.exec-in-For.new.self.state c.args.s.now _ _ i.first i.condition i.next i.body i.is ran.keeps
-      (rw c.deref-in-For.ensures at ran.means),
+          (rw c.deref-in-For.ensures at ran.means),
       ran.keeps,
     )
 
@@ -140,9 +140,9 @@ exec-fors-preserved t c =
     let next = c.in_ok-exec-in-For-3.ensures in
     let k2 = keeps_left w behind turned.same turned.falls in (
       for_next p h c.args.line old w behind after now s _ _ i.first i.condition i.next i.body i.is c.fors.invariant.1 k2 ran.keeps next.keeps c.fors.invariant.0
-      (rw c.if-branch-3.true at turned.means (for_body p h c.args.line w i.body.value i.next.value) (statement_view s))
-      (rw (c.deref-in-fors.ensures, c.deref-in-fors-2.ensures) at ran.means)
-      (rw c.deref-in-fors-3.ensures at next.means),
+          (rw c.if-branch-3.true at turned.means (for_body p h c.args.line w i.body.value i.next.value) (statement_view s))
+          (rw (c.deref-in-fors.ensures, c.deref-in-fors-2.ensures) at ran.means)
+          (rw c.deref-in-fors-3.ensures at next.means),
       keeps_then old after now (keeps_then old behind after (keeps_then old w behind c.fors.invariant.1 k2) ran.keeps) next.keeps,
     )
 
