@@ -4,8 +4,8 @@ use crate::programs::{let_go, program};
 use ca_base::Memory;
 use ca_model::{Heap, Object, Slot, Slots, Trap, TrapKind, Value, Values};
 use ca_parallel::Op;
-use ca_program::{ClassId, OpId, Program};
-use ca_sections::{Desk, SectionAnswer, section, section_of_loop};
+use ca_program::{ClassId, LoopId, OpId, Program};
+use ca_sections::{Desk, SectionAnswer, section, section_loop, section_of_loop};
 use std::alloc::Global;
 use std::test::Fail;
 
@@ -112,12 +112,47 @@ fn a_visit_lists_the_visit_of_its_left_node(rt: HostRuntime) -> Result<(), Fail>
     Ok(())
 }
 
+/// The sum of a node after a visit that is undone.
+fn undone(alloc: Global, program: &Program) -> Result<Option<Value>, Memory> {
+    let mut heap = Heap::new(alloc);
+    create(&mut heap, program, 0)?;
+    let mut object = object(alloc, program, 0, [].as_slice())?;
+    let mut out = Vec::new(alloc);
+    let mut desk = Desk::new(alloc)?;
+    let op = call(alloc, 0, 1, 3)?;
+    let answer = section(
+        &mut desk,
+        alloc,
+        program,
+        &heap,
+        &mut object,
+        &op,
+        9,
+        &mut out,
+    )?;
+    if let SectionAnswer::Done { .. } = answer {
+        desk.undo(&mut object);
+    }
+    Ok(one(&object, 2))
+}
+
+#[test]
+fn undoes_a_visit(rt: HostRuntime) -> Result<(), Fail> {
+    let alloc = rt.alloc();
+    let program = program(alloc, GRAPH)?;
+    let sum = undone(alloc, &program);
+    let_go(program);
+    assert!(rt; sum? == Some(Value::Long(0)));
+    Ok(())
+}
+
 /// A pair of bins, and a loop that calls each.
 const PAIR: &str = "class Bin { public: long n; void add(long v) { n = n + v; } };
     class Pair { public: Bin *b[2]; void fill() { b[0] = new Bin(); b[1] = new Bin(); } };
     int main() { Pair *s = new Pair(); s->fill(); for (long i = 0; i < 2; i++) s->b[i]->add(i + 1); }";
 
-/// How the section of the loop ends, with the counter behind it.
+/// How the section of the loop ends, with the counter behind it. Where it is done, so is that of the loop by its
+/// number, which lists the calls once more.
 fn bins(
     alloc: Global,
     program: &Program,
@@ -141,6 +176,17 @@ fn bins(
     let Some(s) = program.main.stmts.last() else {
         return Err(Memory);
     };
+    let found = section_loop(
+        &mut desk,
+        alloc,
+        program,
+        &heap,
+        None,
+        locals.as_slice(),
+        LoopId(0),
+        left,
+        &mut out,
+    )?;
     let answer = section_of_loop(
         &mut desk,
         alloc,
@@ -153,6 +199,9 @@ fn bins(
         left,
         &mut out,
     )?;
+    if found != answer {
+        return Err(Memory);
+    }
     Ok((answer, locals, out))
 }
 
@@ -166,11 +215,11 @@ fn a_loop_lists_its_calls(rt: HostRuntime) -> Result<(), Fail> {
     let (answer, locals, out) = done?;
     assert!(rt; answer == SectionAnswer::Done { steps: 2 });
     assert!(rt; locals.as_slice() == [Value::Ref(0), Value::Long(2)].as_slice());
-    assert!(rt; out.len() == 2);
-    assert!(rt; out[0].receiver == 1 && out[0].op == OpId(0));
-    assert!(rt; out[0].args.as_slice() == [Value::Long(1)].as_slice());
-    assert!(rt; out[1].receiver == 2 && out[1].op == OpId(0));
-    assert!(rt; out[1].args.as_slice() == [Value::Long(2)].as_slice());
+    assert!(rt; out.len() == 4);
+    assert!(rt; out[2].receiver == 1 && out[2].op == OpId(0));
+    assert!(rt; out[2].args.as_slice() == [Value::Long(1)].as_slice());
+    assert!(rt; out[3].receiver == 2 && out[3].op == OpId(0));
+    assert!(rt; out[3].args.as_slice() == [Value::Long(2)].as_slice());
     let (answer, locals, out) = spent?;
     assert!(rt; answer == SectionAnswer::Spent);
     assert!(rt; locals.as_slice() == [Value::Ref(0), Value::Long(7)].as_slice());
