@@ -1,0 +1,20 @@
+use Rattle.std.proofs.Common.{◌≡◌, List, length, sym, ap, ◌∙◌, subst}
+use Rattle.ca_program.specs.Plain.{PlainProgram}
+use Rattle.ca_model.specs.declared.value.Object.{Object}
+use Rattle.ca_meaning.specs.ProgramTyped.{ProgramTyped}
+use Rattle.ca_logs.specs.Legal.{LegalCell}
+use Rattle.ca_cells.specs.Rounds.{frozen_of}
+use Rattle.ca_cells.specs.Seats.{cells_key}
+use Rattle.ca_cell_tests.specs.Counters.{counters, starts}
+use Rattle.ca_cell_tests.proofs.Counting.{counters_typed}
+use Rattle.ca_cell_tests.proofs.SameSeats.{one_alone}
+use Rattle.ca_cell_tests.proofs.histories.takes_two.Goals as goal
+
+pub make-requires-clause-program : goal.make-requires-clause-program
+make-requires-clause-program c = subst (λ (p : PlainProgram). ProgramTyped p) (sym c.requires) counters_typed
+
+pub add_twice-requires-clause-legal : goal.add_twice-requires-clause-legal
+add_twice-requires-clause-legal c = let key = cells_key c.in_ok-cells.cells in let k = c.in_ok-cells.ensures.key in let cell = c.in-Some.cell in
+    let long = c.gather-log.ensures.count ∙ ap (λ (h : List Object). length h) (k.3 ∙ c.in_ok-heap.ensures) in
+    let legal = (c.gather-log.ensures.legal 0 cell (one_alone c.pop.new.self.items cell c.gather-log.result.cells.items c.in-Some.ensures.items long)).legal in
+    subst (λ (h : List Object). LegalCell counters h 0 cell) (k.2 ∙ c.in_ok-heap.ensures) (subst (λ (p : PlainProgram). LegalCell p (frozen_of key) 0 cell) (k.0 ∙ c.requires) legal)
