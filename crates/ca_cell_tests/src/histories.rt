@@ -1,0 +1,143 @@
+//! What tasks do to the history of one counting object, and what seats are answered.
+
+ghost use Rattle.std.specs.Prelude.{◌≡◌, [], length};
+ghost use Rattle.ca_program.specs.View.{program_view};
+ghost use Rattle.ca_logs.specs.Legal.{LegalCell};
+ghost use Rattle.ca_cells.specs.Seats.{IsOf, IsSameSeat, cells_key};
+ghost use Rattle.ca_cell_tests.specs.Counters.{IsSet, counters, starts};
+
+use crate::counters::{heap, let_go, program, twice};
+use ca_base::{Memory, OpenGate};
+use ca_cells::{Added, Applied, Cells, Seat, add};
+use ca_extent::extent_of;
+use ca_logs::{CellLog, Stop};
+use ca_model::Heap;
+use ca_program::{OpId, Program};
+use ca_sections::Desk;
+use std::alloc::Global;
+use std::sync::Wait;
+use std::test::Fail;
+
+/// Adds a task that counts twice.
+fn add_twice<'a>(
+    desk: &mut Desk<'a>,
+    log: &mut CellLog,
+    alloc: Global,
+    program: &'a Program,
+    frozen: &Heap,
+    left: u64,
+) -> Result<Added, Memory>
+    requires set { (program_view program.now ≡ counters) × (frozen.now ≡ starts 1) }
+    requires legal { LegalCell counters (starts 1) 0 log.old }
+    ensures { LegalCell counters (starts 1) 0 log.new }
+{
+    let task = twice(alloc, 0);
+    add(desk, log, alloc, program, frozen, &task, left)
+}
+
+/// Whether a fresh history takes a task, then one that is spent, and then none.
+fn takes_two(alloc: Global, program: &Program) -> Result<bool, Fail>
+    requires { program_view program.now ≡ counters }
+{
+    let roots = [OpId(1)];
+    let extent = extent_of(alloc, program, &roots)?;
+    let heap = heap(alloc, program, 1)?;
+    let (cells, seats) = Cells::make(alloc, program, &extent, &heap, &heap, 1)?;
+    let mut log = cells.gather(seats);
+    let Some(mut cell) = log.cells.pop() else {
+        return Ok(false);
+    };
+    let mut desk = Desk::new(alloc)?;
+    let ran = add_twice(&mut desk, &mut cell, alloc, program, &heap, 100)?;
+    let spent = add_twice(&mut desk, &mut cell, alloc, program, &heap, 0)?;
+    let kept = add_twice(&mut desk, &mut cell, alloc, program, &heap, 100)?;
+    Ok(is_ran(&ran) && is_spent(&spent) && is_kept(&kept) && cell.entries.len() == 2)
+}
+
+fn is_ran(answer: &Added) -> bool {
+    match answer {
+        Added::Ran { tasks, steps } => tasks.len() == 1 && *steps == 1,
+        _ => false,
+    }
+}
+
+fn is_spent(answer: &Added) -> bool {
+    match answer {
+        Added::Stuck(Stop::Spent) => true,
+        _ => false,
+    }
+}
+
+fn is_kept(answer: &Added) -> bool {
+    match answer {
+        Added::Kept => true,
+        _ => false,
+    }
+}
+
+#[test]
+fn a_history_takes_no_task_behind_a_stop(rt: HostRuntime) -> Result<(), Fail> {
+    let alloc = rt.alloc();
+    let program = program(alloc)?;
+    let fits = takes_two(alloc, &program);
+    let_go(program);
+    assert!(&rt; fits?);
+    Ok(())
+}
+
+/// Applies a task that counts twice, within so many steps, and tells whether it is spent, and whether it is kept.
+fn apply_twice<'a, R: Wait>(
+    rt: &R,
+    alloc: Global,
+    desk: &mut Desk<'a>,
+    cells: &Cells,
+    seat: &mut Seat,
+    program: &'a Program,
+    frozen: &Heap,
+    left: u64,
+) -> (bool, bool)
+    requires place { IsOf cells.now seat.old }
+    requires set { IsSet (cells_key cells.now) 1 × (program_view program.now ≡ counters) × (frozen.now ≡ starts 1) }
+    ensures { IsSameSeat seat.old seat.new }
+{
+    let task = twice(alloc, 0);
+    let gate = &OpenGate;
+    match cells.apply(rt, alloc, desk, seat, program, frozen, task, left, gate) {
+        Ok(Applied::Stuck(Stop::Spent)) => (true, false),
+        Ok(Applied::Kept(task)) => (false, task.after == 0),
+        _ => (false, false),
+    }
+}
+
+/// Whether a task that is spent closes its cell to the next one.
+fn closes<R: Wait>(rt: &R, alloc: Global, program: &Program) -> Result<bool, Fail>
+    requires { program_view program.now ≡ counters }
+{
+    let roots = [OpId(1)];
+    let extent = extent_of(alloc, program, &roots)?;
+    let heap = heap(alloc, program, 1)?;
+    let (cells, mut seats) = Cells::make(alloc, program, &extent, &heap, &heap, 1)?;
+    let Some(mut seat) = seats.pop() else {
+        return Ok(false);
+    };
+    let mut desk = Desk::new(alloc)?;
+    let first = apply_twice(rt, alloc, &mut desk, &cells, &mut seat, program, &heap, 0);
+    let second = apply_twice(rt, alloc, &mut desk, &cells, &mut seat, program, &heap, 100);
+    seats.push(seat)?;
+    let log = cells.gather(seats);
+    let mut entries = 0;
+    for cell in &log.cells {
+        entries = cell.entries.len();
+    }
+    Ok(first.0 && second.1 && entries == 1)
+}
+
+#[test]
+fn a_cell_takes_no_task_behind_a_stop(rt: HostRuntime) -> Result<(), Fail> {
+    let alloc = rt.alloc();
+    let program = program(alloc)?;
+    let fits = closes(&rt, alloc, &program);
+    let_go(program);
+    assert!(&rt; fits?);
+    Ok(())
+}

@@ -1,0 +1,159 @@
+//! Rounds over counting objects.
+
+ghost use Rattle.std.specs.Prelude.{◌≡◌, ◌<◌, ◌≤◌};
+ghost use Rattle.std.specs.Thread.{IsSync};
+ghost use Rattle.ca_program.specs.View.{program_view};
+ghost use Rattle.ca_cells.specs.Seats.{AreAll, IsOf, IsSameSeat, cells_key};
+ghost use Rattle.ca_cell_tests.specs.Counters.{IsSet, counters, starts};
+
+use crate::counters::{heap, let_go, program, twice};
+use ca_base::OpenGate;
+use ca_cells::{Applied, Cells, Seat};
+use ca_extent::extent_of;
+use ca_logs::RoundLog;
+use ca_model::{Heap, Object, Slot, Value};
+use ca_program::{OpId, Program};
+use ca_sections::Desk;
+use std::alloc::Global;
+use std::sync::Wait;
+use std::test::Fail;
+use std::thread::{self, Threads};
+
+/// Counts twice on an object, by two tasks, and tells whether both ran.
+fn count_twice<'a, R: Wait>(
+    rt: &R,
+    alloc: Global,
+    desk: &mut Desk<'a>,
+    cells: &Cells,
+    seat: &mut Seat,
+    program: &'a Program,
+    frozen: &Heap,
+    object: u32,
+) -> bool
+    requires place { IsOf cells.now seat.old }
+    requires set { IsSet (cells_key cells.now) 10 × (program_view program.now ≡ counters) × (frozen.now ≡ starts 10) }
+    requires object { object < 10 }
+    ensures { IsSameSeat seat.old seat.new }
+{
+    let task = twice(alloc, object);
+    let gate = &OpenGate;
+    match cells.apply(rt, alloc, desk, seat, program, frozen, task, 100, gate) {
+        Ok(Applied::Ran { mut tasks, .. }) => match tasks.pop() {
+            Some(next) => {
+                let again = cells.apply(rt, alloc, desk, seat, program, frozen, next, 100, gate);
+                has_run(again)
+            }
+            None => false,
+        },
+        _ => false,
+    }
+}
+
+/// Whether a task ran.
+fn has_run(answer: Result<Applied, ca_cells::Refused>) -> bool {
+    match answer {
+        Ok(Applied::Ran { .. }) => true,
+        _ => false,
+    }
+}
+
+/// Counts twice on one object after the other, so many times in all.
+fn work<'a, R: Wait>(
+    rt: &R,
+    alloc: Global,
+    cells: &Cells,
+    seat: &mut Seat,
+    program: &'a Program,
+    frozen: &Heap,
+    times: u32,
+)
+    requires place { IsOf cells.now seat.old }
+    requires set { IsSet (cells_key cells.now) 10 × (program_view program.now ≡ counters) × (frozen.now ≡ starts 10) }
+    ensures { IsSameSeat seat.old seat.new }
+{
+    let Ok(mut desk) = Desk::new(alloc) else {
+        return;
+    };
+    let mut n = 0;
+    while n < times {
+        if !count_twice(rt, alloc, &mut desk, cells, seat, program, frozen, n % 10) {
+            return;
+        }
+        n += 1;
+    }
+}
+
+/// Each seat works on a thread of its own.
+fn work_all<R: Threads + Wait + Sync>(
+    rt: &R,
+    alloc: Global,
+    cells: &Cells,
+    seats: &mut [Seat],
+    program: &Program,
+    frozen: &Heap,
+    times: u32,
+)
+    requires all { AreAll cells.now seats.old }
+    requires set { IsSet (cells_key cells.now) 10 × (program_view program.now ≡ counters) × (frozen.now ≡ starts 10) }
+    ensures { AreAll cells.now seats.new }
+{
+    let part = |_: usize, seat: &mut Seat|
+        requires { IsSync R.row × IsOf cells.now seat.now × IsSet (cells_key cells.now) 10 × (program_view program.now ≡ counters) × (frozen.now ≡ starts 10) }
+        ensures { IsSameSeat seat.entry.now seat.exit.now }
+    { work(rt, alloc, cells, seat, program, frozen, times) };
+    thread::for_each_mut(rt, seats, 4, &part);
+}
+
+/// A round of so many workers, each of which counts twice so many times.
+fn round<R: Threads + Wait + Sync>(
+    rt: &R,
+    alloc: Global,
+    program: &Program,
+    workers: u32,
+    times: u32,
+) -> Result<RoundLog, Fail>
+    requires { (program_view program.now ≡ counters) × (0 < workers) × (workers ≤ 64) }
+{
+    let roots = [OpId(1)];
+    let extent = extent_of(alloc, program, &roots)?;
+    let heap = heap(alloc, program, 10)?;
+    let (cells, mut seats) = Cells::make(alloc, program, &extent, &heap, &heap, workers)?;
+    work_all(rt, alloc, &cells, seats.as_mut_slice(), program, &heap, times);
+    Ok(cells.gather(seats))
+}
+
+/// What an object has counted.
+fn counted(object: &Object) -> i64 {
+    match object.slots.get(0) {
+        Some(Slot::One(Value::Long(n))) => *n,
+        _ => -1,
+    }
+}
+
+/// How many entries there are, and whether each object has 1,000 and counted each.
+fn entries(log: &RoundLog) -> (usize, bool) {
+    let mut count: usize = 0;
+    let mut fits = true;
+    for cell in &log.cells {
+        let here = cell.entries.len();
+        if here != 1_000 || counted(&cell.object) != 1_000 {
+            fits = false;
+        }
+        count = count.wrapping_add(here);
+    }
+    (count, fits)
+}
+
+#[test]
+fn four_threads_share_ten_objects(rt: HostRuntime) -> Result<(), Fail> {
+    let alloc = rt.alloc();
+    let program = program(alloc)?;
+    let log = round(&rt, alloc, &program, 4, 1_250);
+    let_go(program);
+    let log = log?;
+    let (count, fits) = entries(&log);
+    assert!(&rt; log.cells.len() == 10);
+    assert!(&rt; count == 10_000);
+    assert!(&rt; fits);
+    Ok(())
+}
