@@ -118,7 +118,15 @@ fn round<R: Threads + Wait + Sync>(
     let extent = extent_of(alloc, program, &roots)?;
     let heap = heap(alloc, program, 10)?;
     let (cells, mut seats) = Cells::make(alloc, program, &extent, &heap, &heap, workers)?;
-    work_all(rt, alloc, &cells, seats.as_mut_slice(), program, &heap, times);
+    work_all(
+        rt,
+        alloc,
+        &cells,
+        seats.as_mut_slice(),
+        program,
+        &heap,
+        times,
+    );
     Ok(cells.gather(seats))
 }
 

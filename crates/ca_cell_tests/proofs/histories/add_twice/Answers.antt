@@ -25,7 +25,7 @@ add-requires-clause-legal c = subst (λ (t : Task). LegalCell (program_view c.ar
 pub add-requires-clause-typed : goal.add-requires-clause-typed
 add-requires-clause-typed c = subst (λ (t : Task). WellTyped (program_view c.args.program.now) c.args.frozen.now (call_of t)) (sym c.twice-task.ensures)
     (subst (λ (p : PlainProgram). WellTyped p c.args.frozen.now (call_of (record { op = record { receiver = 0; op = record { 0 = 1 }; args = [] }; after = 0 }))) (sym c.requires.set.0)
-        (subst (λ (h : List Object). WellTyped counters h (call_of (record { op = record { receiver = 0; op = record { 0 = 1 }; args = [] }; after = 0 }))) (sym c.requires.set.1) (twice_typed 1 0 (omega arith))))
+    (subst (λ (h : List Object). WellTyped counters h (call_of (record { op = record { receiver = 0; op = record { 0 = 1 }; args = [] }; after = 0 }))) (sym c.requires.set.1) (twice_typed 1 0 (omega arith))))
 
 pub returns : goal.returns
 returns c = subst (λ (h : List Object). LegalCell counters h 0 c.add.new.log) c.requires.set.1 (subst (λ (p : PlainProgram). LegalCell p c.args.frozen.now 0 c.add.new.log) c.requires.set.0

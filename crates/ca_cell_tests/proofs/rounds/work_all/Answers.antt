@@ -7,4 +7,4 @@ use Rattle.ca_cell_tests.proofs.rounds.work_all.Goals as goal
 pub returns : goal.returns
 returns g c = let new = c.for_each_mut.new.s in let long : length new ≡ length c.args.seats.now = search rules in
     all_still c.args.cells.now c.args.seats.now new (one_for_one c.args.seats.now new long (λ k d lt. let at = (c.for_each_mut.ensures k d lt).1 in
-        subst (λ (s : Seat). IsSameSeat s (get_or new k d)) at.argument_is (subst (λ (s : Seat). IsSameSeat at.argument.now s) at.left at.call))) c.requires.all
+    subst (λ (s : Seat). IsSameSeat s (get_or new k d)) at.argument_is (subst (λ (s : Seat). IsSameSeat at.argument.now s) at.left at.call))) c.requires.all
