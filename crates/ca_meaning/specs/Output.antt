@@ -32,10 +32,20 @@ trap_text t = codes "trap " ++ decimal t.line ++ codes " " ++ kind_text t.kind +
 abbrev pub spent_text : ℕ → List ℕ
 spent_text budget = codes "spent " ++ decimal budget ++ 10 ∷ []
 
+-- the status of a run to its end, of a trap, and of a budget that is spent
+abbrev pub done_status : ℕ
+done_status = 0
+
+abbrev pub trapped_status : ℕ
+trapped_status = 3
+
+abbrev pub spent_status : ℕ
+spent_status = 4
+
 abbrev pub reply_of : PlainProgram → ℕ → Ended → Reply
-reply_of p budget (done prints heap steps) = record { status = 0; bytes = prints_text prints ++ heap_text p heap }
-reply_of p budget (trapped prints t) = record { status = 3; bytes = prints_text prints ++ trap_text t }
-reply_of p budget (spent prints) = record { status = 4; bytes = prints_text prints ++ spent_text budget }
+reply_of p budget (done prints heap steps) = record { status = done_status; bytes = prints_text prints ++ heap_text p heap }
+reply_of p budget (trapped prints t) = record { status = trapped_status; bytes = prints_text prints ++ trap_text t }
+reply_of p budget (spent prints) = record { status = spent_status; bytes = prints_text prints ++ spent_text budget }
 
 -- the reply of a run with this budget
 abbrev pub output : PlainProgram → ℕ → Reply

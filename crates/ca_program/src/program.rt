@@ -1,6 +1,7 @@
 //! Classes, methods, statements and expressions of a program.
 
 ghost use Rattle.std.specs.Prelude.{◌≡◌, ◌<◌, length, slice_get, Some};
+ghost use Rattle.ca_program.specs.Fields.{same_field};
 
 use ca_tree::{AssignOp, BinaryOp, Name, UnaryOp};
 
@@ -29,6 +30,15 @@ pub struct LocalId(pub u32);
 pub struct FieldId {
     pub class: ClassId,
     pub field: u32,
+}
+
+impl FieldId {
+    /// Whether the other one is this field.
+    pub fn same(self, other: FieldId) -> bool
+        ensures { result ≡ same_field self other }
+    {
+        self.class.0 == other.class.0 && self.field == other.field
+    }
 }
 
 /// The type of a value.

@@ -11,6 +11,7 @@ use Rattle.ca_tree.specs.declared.tree.BinaryOp.TheVariants.{Divide, Remainder}
 use Rattle.ca_program.specs.declared.program.FieldId.{FieldId}
 use Rattle.ca_program.specs.declared.program.FunctionId.{FunctionId}
 use Rattle.ca_program.specs.declared.program.OpId.{OpId}
+use Rattle.ca_program.specs.Fields.{same_field}
 use Rattle.ca_program.specs.Plain.{PlainProgram, Expression, Expressions, number, truth, null, this, local, own, own_item, read, read_item, value_call, unary, binary, no_expressions, expression_and, Statement, Statements, block, put_local, put_field, put_item, new_local, new_field, new_item, invoke, if_else, while_loop, for_loop, return_value, print_value, no_statements, statement_and}
 use Rattle.ca_meaning.specs.Operators.{is_zero, not_of}
 use Rattle.ca_meaning.specs.Flows.{line_of}
@@ -21,9 +22,6 @@ use Rattle.ca_section.specs.declared.offence.Separability.{Separability}
 use Rattle.ca_section.specs.declared.offence.Separability.TheVariants.{Yes, No}
 use Rattle.ca_section.specs.declared.offence.Why.{Why}
 use Rattle.ca_section.specs.declared.offence.Why.TheVariants.{AccessAfterCall, ForeignRead, FunctionRead, Creates, Prints, DividesByVariable}
-
-abbrev pub same_field : FieldId → FieldId → Bool
-same_field f g = nat_eq f.class.0 g.class.0 && nat_eq f.field g.field
 
 abbrev pub is_written : List FieldId → FieldId → Bool
 is_written written f = list_any (same_field f) written

@@ -2,11 +2,12 @@
 
 ghost use Rattle.std.specs.Prelude.{◌≡◌, ◌||◌, true, false, slice_get};
 ghost use Rattle.std.specs.Option.{option_or};
+ghost use Rattle.ca_program.specs.Fields.{same_field};
 ghost use Rattle.ca_program.specs.Plain.{block};
 ghost use Rattle.ca_program.specs.View.{expression_view, expressions_view, statement_view, statements_view};
 ghost use Rattle.ca_parallel.specs.Bodies.{calls_of_all};
 ghost use Rattle.ca_parallel.specs.Separable.{holds_call, is_some_of};
-ghost use Rattle.ca_section.specs.Offences.{same_field, is_written, offence_if, access, foreign_read, function_read, is_nonzero_literal, may_divide_by_zero, division, offence_in, offence_in_all, offence_of, offence_of_all};
+ghost use Rattle.ca_section.specs.Offences.{is_written, offence_if, access, foreign_read, function_read, is_nonzero_literal, may_divide_by_zero, division, offence_in, offence_in_all, offence_of, offence_of_all};
 ghost use Rattle.ca_section.specs.Readers.{is_marked, marked, known};
 ghost use Rattle.ca_section.specs.declared.offence.Why.TheVariants.{Creates};
 
@@ -45,12 +46,6 @@ fn offence_if(is: bool, line: u32, why: Why) -> Option<Offence>
     } else {
         None
     }
-}
-
-fn same_field(f: FieldId, g: FieldId) -> bool
-    ensures { result ≡ same_field f g }
-{
-    f.class.0 == g.class.0 && f.field == g.field
 }
 
 /// The literal is a number other than 0, with or without one minus.
@@ -173,7 +168,7 @@ impl<'a> Known<'a> {
     {
         let written = self.written;
         for f in written {
-            if same_field(field, *f) {
+            if field.same(*f) {
                 return true;
             }
         }

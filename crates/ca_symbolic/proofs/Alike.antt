@@ -11,8 +11,10 @@ use Rattle.ca_tree.specs.declared.tree.UnaryOp.TheVariants as sign
 use Rattle.ca_program.specs.declared.program.FieldId.{FieldId}
 use Rattle.ca_program.specs.declared.program.FunctionId.{FunctionId}
 use Rattle.ca_program.specs.declared.program.LocalId.{LocalId}
+use Rattle.ca_program.specs.Fields.{same_field}
 use Rattle.ca_program.specs.Plain.{Expression, Expressions, number, truth, null, this, local, own, own_item, read, read_item, value_call, unary, binary, no_expressions, expression_and}
-use Rattle.ca_symbolic.specs.Same.{same_truth, same_field, same_sign, place_of, same_expression, same_expressions}
+use Rattle.ca_program.proofs.Fields.{same_fields, same_itself}
+use Rattle.ca_symbolic.specs.Same.{same_truth, same_sign, place_of, same_expression, same_expressions}
 
 truths : (a b : Bool) → same_truth a b ≡ true → a ≡ b
 truths true b e = sym e
@@ -27,13 +29,6 @@ locals l m e = let c : l.0 ≡ m.0 = eqb-true l.0 m.0 e in λ i. record { 0 = c 
 
 functions : (l m : FunctionId) → nat_eq l.0 m.0 ≡ true → l ≡ m
 functions l m e = let c : l.0 ≡ m.0 = eqb-true l.0 m.0 e in λ i. record { 0 = c i }
-
-fields : (f g : FieldId) → same_field f g ≡ true → f ≡ g
-fields f g e =
-    let b = and_parts (nat_eq f.class.0 g.class.0) (nat_eq f.field g.field) e in
-    let c : f.class.0 ≡ g.class.0 = eqb-true f.class.0 g.class.0 b.0 in
-    let d : f.field ≡ g.field = eqb-true f.field g.field b.1 in
-    λ i. record { class = record { 0 = c i }; field = d i }
 
 signs : (o s : UnaryOp) → same_sign o s ≡ true → o ≡ s
 signs sign.Minus sign.Minus e = refl
@@ -73,15 +68,15 @@ mutual
   alike null null s = refl
   alike this this s = refl
   alike (local l) (local m) s = ap local (locals l m s)
-  alike (own f) (own g) s = ap own (fields f g s)
+  alike (own f) (own g) s = ap own (same_fields f g s)
   alike (own_item f i) (own_item g j) s =
-      let b = and_parts (same_field f g) (same_expression i j) s in ap₂ own_item (fields f g b.0) (alike i j b.1)
+      let b = and_parts (same_field f g) (same_expression i j) s in ap₂ own_item (same_fields f g b.0) (alike i j b.1)
   alike (read d f) (read e g) s =
-      let b = and_parts (same_field f g) (same_expression d e) s in ap₂ read (alike d e b.1) (fields f g b.0)
+      let b = and_parts (same_field f g) (same_expression d e) s in ap₂ read (alike d e b.1) (same_fields f g b.0)
   alike (read_item d f i) (read_item e g j) s =
       let b = and_parts (same_field f g) (same_expression d e && same_expression i j) s in
       let c = and_parts (same_expression d e) (same_expression i j) b.1 in
-      let p : f ≡ g = fields f g b.0 in
+      let p : f ≡ g = same_fields f g b.0 in
       let q : d ≡ e = alike d e c.0 in
       let r : i ≡ j = alike i j c.1 in
       cc
@@ -116,9 +111,6 @@ truth_itself false = refl
 number_itself : (n : ℤ) → int_eq n n ≡ true
 number_itself n = (Decides-int_eq n n).1 refl
 
-field_itself : (f : FieldId) → same_field f f ≡ true
-field_itself f = ap (λ b. b && nat_eq f.field f.field) (eq-eqb f.class.0 f.class.0 refl) ∙ eq-eqb f.field f.field refl
-
 sign_itself : (o : UnaryOp) → same_sign o o ≡ true
 sign_itself sign.Minus = refl
 sign_itself sign.Not = refl
@@ -135,11 +127,11 @@ mutual
   itself null = refl
   itself this = refl
   itself (local l) = eq-eqb l.0 l.0 refl
-  itself (own f) = field_itself f
-  itself (own_item f i) = two (same_field f f) (same_expression i i) (field_itself f) (itself i)
-  itself (read e f) = two (same_field f f) (same_expression e e) (field_itself f) (itself e)
+  itself (own f) = same_itself f
+  itself (own_item f i) = two (same_field f f) (same_expression i i) (same_itself f) (itself i)
+  itself (read e f) = two (same_field f f) (same_expression e e) (same_itself f) (itself e)
   itself (read_item e f i) =
-      two (same_field f f) (same_expression e e && same_expression i i) (field_itself f) (two (same_expression e e) (same_expression i i) (itself e) (itself i))
+      two (same_field f f) (same_expression e e && same_expression i i) (same_itself f) (two (same_expression e e) (same_expression i i) (itself e) (itself i))
   itself (value_call e m xs) =
       two (nat_eq m.0 m.0) (same_expression e e && same_expressions xs xs) (eq-eqb m.0 m.0 refl)
       (two (same_expression e e) (same_expressions xs xs) (itself e) (all_themselves xs))

@@ -11,11 +11,12 @@ use Rattle.ca_tree.specs.declared.tree.UnaryOp.TheVariants as sign
 use Rattle.ca_program.specs.declared.program.FieldId.{FieldId}
 use Rattle.ca_program.specs.declared.program.FieldInfo.{FieldInfo}
 use Rattle.ca_program.specs.declared.program.ValueType.{ValueType}
+use Rattle.ca_program.specs.Fields.{same_field}
 use Rattle.ca_program.specs.Plain.{PlainProgram, PlainMethod, Expression, Expressions, this, local, own, own_item, read_item, value_call, unary, binary, no_expressions, expression_and, Statement, Statements, block, put_local, put_field, put_item, new_local, new_field, new_item, invoke, if_else, while_loop, for_loop, return_value, print_value, no_statements, statement_and}
 use Rattle.ca_program.specs.Plain as plain
 use Rattle.ca_meaning.specs.ProgramTyped.{field_info}
 use Rattle.ca_parallel.specs.Bodies.{targets_of}
-use Rattle.ca_symbolic.specs.Same.{same_field, same_expression}
+use Rattle.ca_symbolic.specs.Same.{same_expression}
 use Rattle.ca_forms.specs.declared.sort.Sort.{Sort}
 use Rattle.ca_forms.specs.declared.sort.Sort.TheVariants.{Pointer}
 use Rattle.ca_norm.specs.Terms.{PlainTerm, PlainTerms, number, truth, null, add, sub, neg, mul, divide, remainder, less, less_equal, same, not, and, or, choose, read, read_at, result, select, put, add_at, no_terms, term_and}

@@ -6,15 +6,13 @@ use Rattle.ca_tree.specs.declared.tree.BinaryOp.TheVariants as op
 use Rattle.ca_tree.specs.declared.tree.UnaryOp.{UnaryOp}
 use Rattle.ca_tree.specs.declared.tree.UnaryOp.TheVariants as sign
 use Rattle.ca_program.specs.declared.program.FieldId.{FieldId}
+use Rattle.ca_program.specs.Fields.{same_field}
 use Rattle.ca_program.specs.Plain.{Expression, Expressions, number, truth, null, this, local, own, own_item, read, read_item, value_call, unary, binary, no_expressions, expression_and}
 
 abbrev pub same_truth : Bool → Bool → Bool
 same_truth true b = b
 same_truth false true = false
 same_truth false false = true
-
-abbrev pub same_field : FieldId → FieldId → Bool
-same_field f g = nat_eq f.class.0 g.class.0 && nat_eq f.field g.field
 
 abbrev pub same_sign : UnaryOp → UnaryOp → Bool
 same_sign sign.Minus sign.Minus = true
