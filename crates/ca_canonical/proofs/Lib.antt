@@ -1,6 +1,7 @@
 pub mod Writing
 pub mod Lists
 pub mod Rows
+pub mod Unmarked
 pub mod ReadBack
 pub mod Texts
 pub mod Fronts
