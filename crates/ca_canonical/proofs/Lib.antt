@@ -13,4 +13,6 @@ pub mod Members
 pub mod Ends
 pub mod Inputs
 pub mod Program
+pub mod Erasing
+pub mod Apart
 pub mod Examples

@@ -33,9 +33,9 @@ brace_gap : (t : Bool) → behind_brace t ≡ gap (line_behind_brace t)
 brace_gap true = refl
 brace_gap false = refl
 
-record IsGap (b : ℕ) : Type 0 where
-  line : Bool
-  is : b ≡ gap line
+pub record IsGap (b : ℕ) : Type 0 where
+  pub line : Bool
+  pub is : b ≡ gap line
 
 semicolon_gap : (t : Bool) (next : List Piece) → IsGap (gap_before (if t then Some (code "\n") else Some (code " ")) next)
 semicolon_gap true next = record { line = true; is = refl }
@@ -48,7 +48,7 @@ sign_gap depth sign.Semicolon next = semicolon_gap (depth == 0) next
 sign_gap depth sign.CloseBrace next = record { line = line_behind_brace (semicolon_first next); is = brace_gap (semicolon_first next) }
 sign_gap depth other next = record { line = false; is = refl }
 
-kind_gap : (depth : ℕ) (k : Kind) (next : List Piece) → IsGap (behind depth k next)
+pub kind_gap : (depth : ℕ) (k : Kind) (next : List Piece) → IsGap (behind depth k next)
 kind_gap depth (Sign s) next = sign_gap depth s next
 kind_gap depth (Word w) next = record { line = false; is = refl }
 kind_gap depth (Number n) next = record { line = false; is = refl }

@@ -29,7 +29,7 @@ marks_unmarked (m ∷ ms) = marks_unmarked ms
 behind_tokens : {ls : List Kind} (ks : List Kind) (ps : List Piece) → unmarked ps ≡ ls → unmarked (tokens ks ++ ps) ≡ ks ++ ls
 behind_tokens ks ps e = both_unmarked (tokens ks) ps (tokens_unmarked ks) e
 
-behind_marks : {ls : List Kind} (ms : List Mark) (ps : List Piece) → unmarked ps ≡ ls → unmarked (marks ms ++ ps) ≡ ls
+pub behind_marks : {ls : List Kind} (ms : List Mark) (ps : List Piece) → unmarked ps ≡ ls → unmarked (marks ms ++ ps) ≡ ls
 behind_marks ms ps e = both_unmarked (marks ms) ps (marks_unmarked ms) e
 
 body_unmarked : {ks : List Kind} (ps : List Piece) → unmarked ps ≡ ks → unmarked (in_body ps) ≡ in_braces ks

@@ -4,4 +4,5 @@ pub mod Spell
 pub mod Annotated
 pub mod Pens
 pub mod Bare
+pub mod Erased
 pub mod ReadsBack
