@@ -7,12 +7,18 @@ use Rattle.ca_tree.specs.declared.token.Kind.TheVariants.{Key, Sign}
 use Rattle.ca_tree.specs.declared.token.Keyword.TheVariants as key
 use Rattle.ca_tree.specs.declared.token.Sign.TheVariants as sign
 use Rattle.ca_tree.specs.declared.token.Token.{Token}
-use Rattle.ca_tree.specs.Plain.{Statement, Statements, ClassTree, TextTree, no_statements, statement_and, return_value, number}
+use Rattle.ca_tree.specs.Plain.{Statement, Statements, ClassTree, TextTree, empty, no_statements, statement_and, return_value, number}
 use Rattle.ca_expressions.specs.Terminals as terminal
 use Rattle.ca_lex.specs.Tokens.{Tokens}
 use Rattle.ca_lex.proofs.Derivations.{one_list}
 use Rattle.ca_parse.specs.Grammar.{statements, Item, MainItem, main_item, is_return_zero, kept, One, one, Lines, lines_end, lines_and, Program, program, Derives, DerivesFree, a_statement, a_return}
-use Rattle.ca_canonical.specs.Texts.{text_of}
+use Rattle.ca_canonical.specs.Marks.{Marking, tokens}
+use Rattle.ca_canonical.specs.Annotated.{annotated}
+use Rattle.ca_canonical.specs.Texts.{text_of, text_of_pieces, pieces_from}
+use Rattle.ca_canonical.specs.Erased.{Erased}
+use Rattle.ca_canonical.proofs.Unmarked.{annotated_unmarked}
+use Rattle.ca_canonical.proofs.Erasing.{pieces_erased}
+use Rattle.ca_canonical.proofs.Apart.{annotated_clear}
 use Rattle.ca_canonical.specs.Spell.{spell, spell_statement, spell_statements, spell_classes, spell_end, ends_in_zero, returns_zero}
 use Rattle.ca_canonical.specs.Bare.{bare, bare_statement, bare_statements, bare_class, nowhere}
 use Rattle.ca_canonical.specs.ReadsBack.{DerivesLike}
@@ -189,3 +195,10 @@ read_back text ts us t d e f =
     let g = good_of text ts t d e in
     let l = canonical_tokens (spell t) g.writable in
     derived t (g.reads.at us (ap kinds (one_list f l.tokens l.are) ∙ l.same))
+
+pub erased : (text : List ℕ) (ts : List Token) (t : TextTree) (m : Marking) → Tokens text ts → Derives ts t → ((body : Option Place) (at : Place) → m.before body (empty at) ≡ [])
+    → Erased (text_of_pieces (annotated m t)) (text_of (spell t))
+erased text ts t m d e none =
+    let is = annotated_unmarked m t in
+    subst (λ ks. Erased (text_of_pieces (annotated m t)) (pieces_from 0 (tokens ks))) is
+    (pieces_erased 0 (annotated m t) (subst AllWritable (sym is) (good_of text ts t d e).writable) (annotated_clear m t none))

@@ -101,19 +101,24 @@ condition k e = Key k ∷ in_parentheses (spell_expression e)
 abbrev pub spell_for : Statement → Expression → Statement → List Kind
 spell_for first c next = Key key.For ∷ Sign sign.OpenParenthesis ∷ (ended (spell_header first) ++ (spell_expression c ++ (Sign sign.Semicolon ∷ (spell_header next ++ Sign sign.CloseParenthesis ∷ []))))
 
+-- a statement with no other inside
+abbrev pub spell_line : Statement → List Kind
+spell_line (empty at) = Sign sign.Semicolon ∷ []
+spell_line (local at ty name name_at v) = ended (spell_header (local at ty name name_at v))
+spell_line (assign at target o r) = ended (spell_header (assign at target o r))
+spell_line (call_statement at e) = ended (spell_expression e)
+spell_line (return_value at e) = Key key.Return ∷ ended (spell_expression e)
+spell_line (print_value at e) = ended (condition key.Print e)
+spell_line other = []
+
 abbrev mutual
   pub spell_statement : Statement → List Kind
-  spell_statement (empty at) = Sign sign.Semicolon ∷ []
   spell_statement (block at ss) = in_braces (spell_statements ss)
-  spell_statement (local at ty name name_at v) = ended (spell_header (local at ty name name_at v))
-  spell_statement (assign at target o r) = ended (spell_header (assign at target o r))
-  spell_statement (call_statement at e) = ended (spell_expression e)
   spell_statement (if_only at c s) = condition key.If c ++ spell_statement s
   spell_statement (if_else at c s t) = condition key.If c ++ (spell_statement s ++ (Key key.Else ∷ spell_statement t))
   spell_statement (while_loop at c s) = condition key.While c ++ spell_statement s
   spell_statement (for_loop at first c next s) = spell_for first c next ++ spell_statement s
-  spell_statement (return_value at e) = Key key.Return ∷ ended (spell_expression e)
-  spell_statement (print_value at e) = ended (condition key.Print e)
+  spell_statement other = spell_line other
 
   pub spell_statements : Statements → List Kind
   spell_statements no_statements = []

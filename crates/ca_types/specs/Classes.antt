@@ -29,7 +29,6 @@ gathered next add s front (x ∷ xs) = gathered next add (next s x) (add s front
 abbrev pub beginning : Classes → Option ClassId → ℕ → Option Ty → Env
 beginning classes class loops result = record {
   scope = record { classes = classes; class = class; locals = [] };
-  in_block = 0;
   first = 0;
   locals = [];
   loops = loops;
@@ -114,7 +113,7 @@ judge_parts c m parts =
     (λ p. beside (member_once c.names c.number m.name m.at) (unless (ends_with_return (is_some m.result) m.body m.at) (method_of c m p.0 p.1.1)))
 
 abbrev pub judge_method : MemberEnv → MethodTree → Judged program.PlainMethod
-judge_method c m = judge_parts c m (both (judge_result_type c.classes.names m.result) (both (judge_parameters (method_begin c m) m.params) (judge_statements (body_begin c m) (fine []) m.body)))
+judge_method c m = judge_parts c m (both (judge_result_type c.classes.names m.result) (both (judge_parameters (method_begin c m) m.params) (judge_statements (body_begin c m) m.body)))
 
 -- what members and classes resolve to: fields of a class, operations and value methods, in order
 pub record Members : Type 0 where
@@ -226,7 +225,7 @@ program_of locals p = record {
 
 abbrev pub judge : TextTree → Judged program.PlainProgram
 judge t =
-    within (both (judge_classes (first_class (classes_of t.classes)) t.classes) (judge_statements (main_begin t) (fine []) t.main))
+    within (both (judge_classes (first_class (classes_of t.classes)) t.classes) (judge_statements (main_begin t) t.main))
     (λ p. fine (program_of (behind_all (main_begin t) t.main).locals p))
 
 -- all violations of a tree, passed limits among them

@@ -22,7 +22,7 @@ use Rattle.ca_types.specs.Statements.{Env, enter_block, leave_block, counted, be
 use Rattle.ca_types.specs.Classes.{gathered, behind_parameters, behind_parameter, MemberEnv, body_begin, method_begin, method_end, judge_method, Members, with_method, behind_member, behind_members, add_member, no_members, ClassEnv, class_begin, behind_class, behind_classes, Parts, add_class, no_parts, judge_classes, first_class, main_begin, program_of, judge}
 use Rattle.ca_typing.specs.Loops.{LoopsNumbered}
 use Rattle.ca_typing.proofs.Judging.{same_fine, within_fine, made_fine, both_fine, unless_fine, beside_fine, gathered_fine}
-use Rattle.ca_typing.proofs.Statements.{statements_fine}
+use Rattle.ca_typing.proofs.Statements.{Continues, from_none, none_behind, statements_fine}
 use Rattle.ca_typing.proofs.Methods.{method_fine}
 use Rattle.ca_typing.proofs.Members.{members_strict, field_added, method_added}
 use Rattle.ca_typing.proofs.Typing.{classes_strict, class_added}
@@ -93,8 +93,8 @@ mutual
   statement_numbered : (c : Env) (s : Statement) (x : program.Statement) → judge_statement c s ≡ fine x → Ascends c.loops (fors_in x) (behind c s).loops
   statement_numbered c (empty at) x h = leaf c.loops (nothing at.line) x refl (same_fine (nothing at.line) x h)
   statement_numbered c (block at ss) x h =
-      let w = made_fine (judge_statements (enter_block c) (fine []) ss) (λ all. program.block at.line (statements_in all)) x h in
-      let t = statements_numbered (enter_block c) ss [] w.0 c.loops (let le : c.loops ≤ c.loops = omega arith in le) w.1 in
+      let w = made_fine (judge_statements (enter_block c) ss) (λ all. program.block at.line (statements_in all)) x h in
+      let t = statements_numbered (enter_block c) ss [] w.0 c.loops (let le : c.loops ≤ c.loops = omega arith in le) (from_none (enter_block c) ss w.0 w.1) in
       subst (λ y. Ascends c.loops (fors_in y) (behind_all (enter_block c) ss).loops) w.2 (subst (λ xs. Ascends c.loops xs (behind_all (enter_block c) ss).loops) (sym (in_order_is w.0)) t)
   statement_numbered c (local at ty name name_at right) x h = local_numbered c at ty name name_at right x h
   statement_numbered c (assign at target op right) x h = assign_numbered c at target op right x h
@@ -154,8 +154,8 @@ mutual
   statement_numbered c (return_value at e) x h = return_numbered c at e x h
   statement_numbered c (print_value at e) x h = print_numbered c at e x h
 
-  statements_numbered : (c : Env) (ss : Statements) (front all : List program.Statement) (n : ℕ) → Ascends n (flat_map fors_in front) c.loops → judge_statements c (fine front) ss ≡ fine all → Ascends n (flat_map fors_in all) (behind_all c ss).loops
-  statements_numbered c no_statements front all n asc h = subst (λ xs. Ascends n (flat_map fors_in xs) c.loops) (same_fine front all h) asc
+  statements_numbered : (c : Env) (ss : Statements) (front all : List program.Statement) (n : ℕ) → Ascends n (flat_map fors_in front) c.loops → Continues c front ss all → Ascends n (flat_map fors_in all) (behind_all c ss).loops
+  statements_numbered c no_statements front all n asc h = subst (λ xs. Ascends n (flat_map fors_in xs) c.loops) (none_behind c front all h) asc
   statements_numbered c (statement_and s ss) front all n asc h =
       let d = behind c s in
       let w = statements_fine c front s ss all h in
@@ -173,7 +173,7 @@ method_numbered : (c : MemberEnv) (m : MethodTree) (x : PlainMethod) → judge_m
 method_numbered c m x h =
     let f = method_fine c m x h in
     let start : c.loops ≤ (body_begin c m).loops = let e = parameters_hold_none (method_begin c m) m.params in omega (arith, e) in
-    let t = statements_numbered (body_begin c m) m.body [] f.statements c.loops start f.statements_are in
+    let t = statements_numbered (body_begin c m) m.body [] f.statements c.loops start (from_none (body_begin c m) m.body f.statements f.statements_are) in
     subst (λ (y : PlainMethod). Ascends c.loops (loops_of_method y) (method_end c m).loops) f.is (subst (λ xs. Ascends c.loops xs (method_end c m).loops) (sym (in_order_is f.statements)) t)
 
 abbrev loops_of : List PlainMethod → List program.Statement
@@ -213,14 +213,14 @@ pub loops_are_numbered : (t : TextTree) (p : PlainProgram) → judge t ≡ fine 
 loops_are_numbered t p h =
     let cs = classes_of t.classes in
     let classes = judge_classes (first_class cs) t.classes in
-    let lines = judge_statements (main_begin t) (fine []) t.main in
+    let lines = judge_statements (main_begin t) t.main in
     let locals = (behind_all (main_begin t) t.main).locals in
     let last = (behind_all (main_begin t) t.main).loops in
     let w = made_fine (both classes lines) (λ (r : Parts × List program.Statement). program_of locals r) p h in
     let b = both_fine classes lines w.0 w.1 in
     let start : ℕ = (behind_classes (first_class cs) t.classes).loops in
     let ops = classes_numbered (first_class cs) no_parts w.0.0 t.classes 0 (let le : 0 ≤ 0 = omega arith in le) b.0 in
-    let main = statements_numbered (main_begin t) t.main [] w.0.1 start (let le : start ≤ start = omega arith in le) b.1 in
+    let main = statements_numbered (main_begin t) t.main [] w.0.1 start (let le : start ≤ start = omega arith in le) (from_none (main_begin t) t.main w.0.1 b.1) in
     let all : Ascends 0 (loops_of_program (program_of locals w.0)) last =
     ascends_then 0 (loops_of w.0.0.ops) start (fors_in_all (statements_in w.0.1)) last ops (subst (λ xs. Ascends start xs last) (sym (in_order_is w.0.1)) main) in
     let numbered : LoopsNumbered (program_of locals w.0) =

@@ -1,12 +1,11 @@
 -- In a body that is judged fine the local that a `for` declares is named by the condition, the last part and the body of
 -- that loop alone.
-use Rattle.std.proofs.Common.{◌≡◌, ◌⊎◌, inl, inr, ◌≤◌, ◌<◌, ℕ, suc, ◌+◌, List, [], ◌∷◌, ◌++◌, Bool, true, false, ◌||◌, cond, refl, sym, subst, ap, ◌∙◌, arith}
-use Rattle.std.specs.Prelude.{Option, Some, None, nat_eq, length, Contains}
+use Rattle.std.proofs.Common.{◌≡◌, ◌⊎◌, inl, inr, ◌≤◌, ◌<◌, ℕ, ◌+◌, List, [], ◌∷◌, ◌++◌, Bool, true, false, ◌||◌, cond, refl, sym, subst, ap, ◌∙◌, arith}
+use Rattle.std.specs.Prelude.{Option, Some, None, nat_eq, length}
 use Rattle.std.proofs.lemmas.Bool.{eqb-true, or_cases, or_left, or_right}
 use Rattle.std.proofs.lemmas.List.{length-append}
 use Rattle.ca_tree.specs.declared.name.Place.{Place}
 use Rattle.ca_tree.specs.declared.tree.TypeNode.{TypeNode}
-use Rattle.ca_tree.specs.declared.tree.ParamNode.{ParamNode}
 use Rattle.ca_tree.specs.declared.tree.AssignOp.{AssignOp}
 use Rattle.ca_tree.specs.declared.tree.AssignOp.TheVariants.{Put}
 use Rattle.ca_tree.specs.Plain.{Expression, RightSide, value, new, Statement, Statements, empty, block, local, assign, call_statement, if_only, if_else, while_loop, for_loop, return_value, print_value, no_statements, statement_and}
@@ -19,13 +18,12 @@ use Rattle.ca_program.specs.Plain as program
 use Rattle.ca_parallel.specs.Scoped.{names, any_names, counts, any_counts, names_outside, any_names_outside}
 use Rattle.ca_resolve.specs.Judged.{Judged, fine, both, within, unless, beside}
 use Rattle.ca_resolve.specs.Scopes.{Target, to_local, to_field, to_item, Ty, long, truth, pointer, undefined, no_object, VisibleLocal, Scope, ty_of, find_local}
-use Rattle.ca_resolve.specs.Rules.{value_agrees}
-use Rattle.ca_resolve.specs.Values.{place_of, in_order, value_for, judge_value, judge_for, judge_call, judge_target}
+use Rattle.ca_resolve.specs.Values.{place_of, in_order, judge_value, judge_call, judge_target}
 use Rattle.ca_types.specs.Rules.{local_once, condition_agrees, printed_agrees, compound_agrees, writes_no_field, called_operation, creates_nothing, prints_nothing, return_stands, local_limit, loop_limit}
 use Rattle.ca_types.specs.Statements.{Env, enter_block, leave_block, counted, declare, behind, behind_all, class_defined, judge_type, Source, of_value, of_new, creates, judge_wanted, new_agrees, judge_right, put, judge_put_target, right_ty, judge_assign, start_value, judge_start, start_creates, judge_local, judge_call_statement, judge_condition, judge_return, judge_printed, judge_print, nothing, first_part, type_of, statements_in, judge_statement, judge_statements}
 use Rattle.ca_typing.proofs.Judging.{same_fine, within_fine, made_fine, both_fine, unless_fine, beside_fine}
-use Rattle.ca_typing.proofs.Statements.{statements_fine}
-use Rattle.ca_typing.proofs.Visible.{pick, Visible, Names, AllName, TargetNames, value_names, for_value_names, call_names, target_names}
+use Rattle.ca_typing.proofs.Statements.{Continues, from_none, none_behind, statements_fine}
+use Rattle.ca_typing.proofs.Visible.{pick, Visible, Names, TargetNames, value_names, for_value_names, call_names, target_names}
 
 -- ---- where a statement stands and where the next one does: the visible locals, and how many the body has declared
 
@@ -399,9 +397,9 @@ mutual
   stands : (c : Env) (s : Statement) (x : program.Statement) → BoundedAt c → judge_statement c s ≡ fine x → StandsAt c (behind c s) x
   stands c (empty at) x b h = sees_at c (nothing at.line) x (λ n k. absurd cc) (λ n. refl) (same_fine (nothing at.line) x h)
   stands c (block at ss) x b h =
-      let w = made_fine (judge_statements (enter_block c) (fine []) ss) (λ all. program.block at.line (statements_in all)) x h in
+      let w = made_fine (judge_statements (enter_block c) ss) (λ all. program.block at.line (statements_in all)) x h in
       let inside = behind_all (enter_block c) ss in
-      let t = all_stand (enter_block c) (enter_block c) ss [] w.0 b (stays c.scope.locals (length c.locals) b) (none_stand (enter_block c)) w.1 in
+      let t = all_stand (enter_block c) (enter_block c) ss [] w.0 b (stays c.scope.locals (length c.locals) b) (none_stand (enter_block c)) (from_none (enter_block c) ss w.0 w.1) in
       subst (λ y. StandsAt c (leave_block c inside) y) w.2 (left b t)
   stands c (local at ty name name_at right) x b h = local_stands c (ty_of c.scope.classes.names ty) name x (declared c at ty name name_at right x h)
   stands c (assign at target op right) x b h = assign_stands c at target op right x h
@@ -512,8 +510,8 @@ mutual
       let begun = behind (enter_block (counted c)) first in
       general c.scope.locals begun.scope.locals (length c.locals) (length begun.locals) m b f g (program.for_loop line site Assigns y e next body) y next body e (λ n. refl) (λ n. refl) s t
 
-  pub all_stand : (b0 c : Env) (ss : Statements) (front all : List program.Statement) → BoundedAt b0 → Goes b0 c → AllStand b0 c front → judge_statements c (fine front) ss ≡ fine all → AllStand b0 (behind_all c ss) all
-  all_stand b0 c no_statements front all b o t h = subst (λ xs. AllStand b0 c xs) (same_fine front all h) t
+  pub all_stand : (b0 c : Env) (ss : Statements) (front all : List program.Statement) → BoundedAt b0 → Goes b0 c → AllStand b0 c front → Continues c front ss all → AllStand b0 (behind_all c ss) all
+  all_stand b0 c no_statements front all b o t h = subst (λ xs. AllStand b0 c xs) (none_behind c front all h) t
   all_stand b0 c (statement_and s ss) front all b o t h =
       let d = behind c s in
       let w = statements_fine c front s ss all h in

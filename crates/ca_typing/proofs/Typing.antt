@@ -19,7 +19,7 @@ use Rattle.ca_typing.proofs.Fits.{ClassFits, LiteralsFit}
 use Rattle.ca_typing.proofs.Lists.{Begins, begins_itself, begins_through, item_there, one_longer, all_append, all_at}
 use Rattle.ca_typing.proofs.Judging.{same_fine, within_fine, made_fine, both_fine, unless_fine, beside_fine, gathered_fine}
 use Rattle.ca_typing.proofs.Values.{MeaningTyped, ClassesTyped}
-use Rattle.ca_typing.proofs.Statements.{Stands, in_order_typed, statements_typed}
+use Rattle.ca_typing.proofs.Statements.{Stands, from_none, in_order_typed, statements_typed}
 use Rattle.ca_typing.proofs.Members.{RowTyped, row_at, Numbered, numbers_behind, row_typed, MembersTyped, members_typed}
 
 pub classes_strict : (s : ClassEnv) (j : Judged Parts) (t : ClassTree) (b : Parts) → add_class s j t ≡ fine b → (a : Parts) × (j ≡ fine a)
@@ -169,7 +169,7 @@ pub resolved_is_typed : (t : TextTree) (p : PlainProgram) → LiteralsFit t → 
 resolved_is_typed t p fits h =
     let cs = classes_of t.classes in
     let classes = judge_classes (first_class cs) t.classes in
-    let lines = judge_statements (main_begin t) (fine []) t.main in
+    let lines = judge_statements (main_begin t) t.main in
     let locals = (behind_all (main_begin t) t.main).locals in
     let w = made_fine (both classes lines) (λ (r : Parts × List program.Statement). program_of locals r) p h in
     let b = both_fine classes lines w.0 w.1 in
@@ -181,7 +181,7 @@ resolved_is_typed t p fits h =
     let none : BodiesTyped it no_parts = record { ops = tt; functions = tt } in
     let bodies = bodies_typed it (first_class cs) no_parts w.0.0 t.classes typed n holds fits.classes none b.0 in
     let start : Stands it (main_scope it) (main_begin t) = record { scope = record { classes = typed; class = refl; locals = tt }; result = tt } in
-    let main = (statements_typed it (main_scope it) (main_begin t) t.main [] w.0.1 start fits.main (begins_itself locals) tt b.1).0 in
+    let main = (statements_typed it (main_scope it) (main_begin t) t.main [] w.0.1 start fits.main (begins_itself locals) tt (from_none (main_begin t) t.main w.0.1 b.1)).0 in
     let whole : ProgramTyped it = record {
       ops = λ i m e. all_at (OperationTyped it) it.ops i m bodies.ops e;
       functions = λ i m e. all_at (FunctionTyped it) it.functions i m bodies.functions e;
