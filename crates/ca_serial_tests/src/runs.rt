@@ -4,11 +4,11 @@ ghost use Rattle.std.specs.Prelude.{IfOk};
 ghost use Rattle.ca_program.specs.View.{program_view};
 ghost use Rattle.ca_meaning.specs.ProgramTyped.{ProgramTyped};
 
-use crate::programs::let_go;
 use ca_base::MemSink;
 use ca_parallel::Marks;
 use ca_program::{Body, Expr, Program, Stmt, StmtForm};
 use ca_serial::{NoExtents, Outcome, drive};
+use ca_test_programs::let_go;
 use std::alloc::{AllocError, Global};
 use std::test::Fail;
 

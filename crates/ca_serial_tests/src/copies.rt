@@ -1,9 +1,9 @@
 //! Copies of values, objects, heaps and calls.
 
-use crate::programs::{let_go, program};
 use ca_model::{Heap, Slot, Value, Values};
 use ca_parallel::Op;
 use ca_program::{ClassId, OpId, Program};
+use ca_test_programs::{let_go, program};
 use std::alloc::Global;
 use std::test::Fail;
 

@@ -1,23 +1,26 @@
 //! Sections of operations and of loops.
 
-use crate::programs::{let_go, program};
 use ca_base::Memory;
 use ca_model::{Heap, Object, Slot, Slots, Trap, TrapKind, Value, Values};
 use ca_parallel::Op;
 use ca_program::{ClassId, LoopId, OpId, Program};
 use ca_sections::{Desk, SectionAnswer, section, section_loop, section_of_loop};
+use ca_test_programs::{let_go, program};
 use std::alloc::Global;
 use std::test::Fail;
 
 /// What is put into an object: the field, the item and the value.
 type Put = (u32, u32, Value);
 
-/// Adds an object of a class.
-fn create(heap: &mut Heap, program: &Program, class: u32) -> Result<(), Memory> {
-    match heap.create(program, ClassId(class)) {
-        Ok(_) => Ok(()),
-        Err(_) => Err(Memory),
+/// A heap of new objects of these classes.
+fn heap(alloc: Global, program: &Program, classes: &[u32]) -> Result<Heap, Memory> {
+    let mut heap = Heap::new(alloc);
+    for class in classes {
+        let Ok(_) = heap.create(program, ClassId(*class)) else {
+            return Err(Memory);
+        };
     }
+    Ok(heap)
 }
 
 /// An object of a class, with these values.
@@ -44,12 +47,63 @@ fn one(object: &Object, field: u32) -> Option<Value> {
     }
 }
 
-/// An operation that is called with a number.
-fn call(alloc: Global, receiver: u32, op: u32, argument: i64) -> Result<Op, Memory> {
-    let mut args = Values::new(alloc);
-    args.push(Value::Long(argument))?;
-    let op = OpId(op);
-    Ok(Op { receiver, op, args })
+/// A section of an operation with a number, on a new object of class 0 with these values. It is the last of two
+/// or the only one of its heap.
+#[derive(Clone, Copy)]
+struct Case<'a> {
+    receiver: u32,
+    puts: &'a [Put],
+    op: u32,
+    argument: i64,
+    left: u64,
+    undone: bool,
+}
+
+/// How a section ended, the object that is left, which is undone where that was asked for, and what it listed.
+type Ended = (SectionAnswer, Object, Vec<Op>);
+
+impl<'a> Case<'a> {
+    /// A section with a number on the only object.
+    fn new(op: u32, argument: i64, left: u64) -> Case<'a> {
+        Case {
+            receiver: 0,
+            puts: &[],
+            op,
+            argument,
+            left,
+            undone: false,
+        }
+    }
+
+    /// Runs the section on a new desk.
+    fn run(self, alloc: Global, program: &Program) -> Result<Ended, Memory> {
+        let classes: &[u32] = if self.receiver == 0 { &[0] } else { &[0, 0] };
+        let heap = heap(alloc, program, classes)?;
+        let mut object = object(alloc, program, 0, self.puts)?;
+        let mut out = Vec::new(alloc);
+        let mut desk = Desk::new(alloc)?;
+        let op = Op {
+            receiver: self.receiver,
+            op: OpId(self.op),
+            args: Values::filled(alloc, Value::Long(self.argument), 1)?,
+        };
+        let answer = section(
+            &mut desk,
+            alloc,
+            program,
+            &heap,
+            &mut object,
+            &op,
+            self.left,
+            &mut out,
+        )?;
+        if self.undone {
+            if let SectionAnswer::Done { .. } = answer {
+                desk.undo(&mut object);
+            }
+        }
+        Ok((answer, object, out))
+    }
 }
 
 /// Two nodes, of which the second points to the first.
@@ -60,39 +114,20 @@ const GRAPH: &str =
       if (left != nullptr) left->visit(value); if (right != nullptr) right->visit(value); } } };
     int main() { }";
 
-/// How a section of `visit(3)` on node 1 ends, and what it leaves.
-fn visit(
-    alloc: Global,
-    program: &Program,
-    left: u64,
-) -> Result<(SectionAnswer, Object, Vec<Op>), Memory> {
-    let mut heap = Heap::new(alloc);
-    create(&mut heap, program, 0)?;
-    create(&mut heap, program, 0)?;
-    let puts = [(1, 0, Value::Long(5)), (3, 0, Value::Ref(0))];
-    let mut object = object(alloc, program, 0, puts.as_slice())?;
-    let mut out = Vec::new(alloc);
-    let mut desk = Desk::new(alloc)?;
-    let op = call(alloc, 1, 1, 3)?;
-    let answer = section(
-        &mut desk,
-        alloc,
-        program,
-        &heap,
-        &mut object,
-        &op,
-        left,
-        &mut out,
-    )?;
-    Ok((answer, object, out))
-}
+/// The values of the second node.
+const SECOND: [Put; 2] = [(1, 0, Value::Long(5)), (3, 0, Value::Ref(0))];
 
 #[test]
 fn a_visit_lists_the_visit_of_its_left_node(rt: HostRuntime) -> Result<(), Fail> {
     let alloc = rt.alloc();
     let program = program(alloc, GRAPH)?;
-    let done = visit(alloc, &program, 1);
-    let spent = visit(alloc, &program, 0);
+    let visit = Case {
+        receiver: 1,
+        puts: SECOND.as_slice(),
+        ..Case::new(1, 3, 1)
+    };
+    let done = visit.run(alloc, &program);
+    let spent = Case { left: 0, ..visit }.run(alloc, &program);
     let_go(program);
     let (answer, object, out) = done?;
     assert!(rt; answer == SectionAnswer::Done { steps: 1 });
@@ -112,37 +147,20 @@ fn a_visit_lists_the_visit_of_its_left_node(rt: HostRuntime) -> Result<(), Fail>
     Ok(())
 }
 
-/// The sum of a node after a visit that is undone.
-fn undone(alloc: Global, program: &Program) -> Result<Option<Value>, Memory> {
-    let mut heap = Heap::new(alloc);
-    create(&mut heap, program, 0)?;
-    let mut object = object(alloc, program, 0, [].as_slice())?;
-    let mut out = Vec::new(alloc);
-    let mut desk = Desk::new(alloc)?;
-    let op = call(alloc, 0, 1, 3)?;
-    let answer = section(
-        &mut desk,
-        alloc,
-        program,
-        &heap,
-        &mut object,
-        &op,
-        9,
-        &mut out,
-    )?;
-    if let SectionAnswer::Done { .. } = answer {
-        desk.undo(&mut object);
-    }
-    Ok(one(&object, 2))
-}
-
 #[test]
 fn undoes_a_visit(rt: HostRuntime) -> Result<(), Fail> {
     let alloc = rt.alloc();
     let program = program(alloc, GRAPH)?;
-    let sum = undone(alloc, &program);
+    let visit = Case {
+        undone: true,
+        ..Case::new(1, 3, 9)
+    };
+    let undone = visit.run(alloc, &program);
     let_go(program);
-    assert!(rt; sum? == Some(Value::Long(0)));
+    let (answer, object, _) = undone?;
+    assert!(rt; answer == SectionAnswer::Done { steps: 1 });
+    assert!(rt; one(&object, 0) == Some(Value::Bool(false)));
+    assert!(rt; one(&object, 2) == Some(Value::Long(0)));
     Ok(())
 }
 
@@ -158,10 +176,7 @@ fn bins(
     program: &Program,
     left: u64,
 ) -> Result<(SectionAnswer, Vec<Value>, Vec<Op>), Memory> {
-    let mut heap = Heap::new(alloc);
-    for class in [1, 0, 0] {
-        create(&mut heap, program, class)?;
-    }
+    let mut heap = heap(alloc, program, [1, 0, 0].as_slice())?;
     for item in [0, 1] {
         if !heap.has_slot(0, 0, item) {
             return Err(Memory);
@@ -239,33 +254,6 @@ const LONG: &str = "class A { public: long n; long k; long a[100000];
       A *o = this; k = 10 * k + o->n; } };
     int main() { }";
 
-/// How the section of an operation with a number ends on a new object 0, and the object.
-fn ran(
-    alloc: Global,
-    program: &Program,
-    op: u32,
-    argument: i64,
-    left: u64,
-) -> Result<(SectionAnswer, Object), Memory> {
-    let mut heap = Heap::new(alloc);
-    create(&mut heap, program, 0)?;
-    let mut object = object(alloc, program, 0, [].as_slice())?;
-    let mut out = Vec::new(alloc);
-    let mut desk = Desk::new(alloc)?;
-    let op = call(alloc, 0, op, argument)?;
-    let answer = section(
-        &mut desk,
-        alloc,
-        program,
-        &heap,
-        &mut object,
-        &op,
-        left,
-        &mut out,
-    )?;
-    Ok((answer, object))
-}
-
 /// The first and the last item of the array.
 fn ends_of(object: &Object) -> Option<(Value, Value)> {
     match object.slots.get(2) {
@@ -281,18 +269,18 @@ fn ends_of(object: &Object) -> Option<(Value, Value)> {
 fn long_sections_end(rt: HostRuntime) -> Result<(), Fail> {
     let alloc = rt.alloc();
     let program = program(alloc, LONG)?;
-    let turns = ran(alloc, &program, 0, 1_000_000, 1_000_001);
-    let deep = ran(alloc, &program, 1, 100_000, 1_000_000);
-    let traps = ran(alloc, &program, 2, 100_000, 1_000_000);
-    let reads = ran(alloc, &program, 3, 7, 1);
+    let turns = Case::new(0, 1_000_000, 1_000_001).run(alloc, &program);
+    let deep = Case::new(1, 100_000, 1_000_000).run(alloc, &program);
+    let traps = Case::new(2, 100_000, 1_000_000).run(alloc, &program);
+    let reads = Case::new(3, 7, 1).run(alloc, &program);
     let_go(program);
-    let (answer, object) = turns?;
+    let (answer, object, _) = turns?;
     assert!(rt; answer == SectionAnswer::Done { steps: 1_000_001 });
     assert!(rt; one(&object, 0) == Some(Value::Long(499_999_500_000)));
-    let (answer, object) = deep?;
+    let (answer, object, _) = deep?;
     assert!(rt; answer == SectionAnswer::Done { steps: 100_002 });
     assert!(rt; one(&object, 0) == Some(Value::Long(100_000)));
-    let (answer, object) = traps?;
+    let (answer, object, _) = traps?;
     let past = Trap {
         line: 6,
         kind: TrapKind::OutOfRange,
@@ -300,7 +288,7 @@ fn long_sections_end(rt: HostRuntime) -> Result<(), Fail> {
     assert!(rt; answer == SectionAnswer::Trapped(past));
     assert!(rt; one(&object, 0) == Some(Value::Long(0)));
     assert!(rt; ends_of(&object) == Some((Value::Long(0), Value::Long(0))));
-    let (answer, object) = reads?;
+    let (answer, object, _) = reads?;
     assert!(rt; answer == SectionAnswer::Done { steps: 1 });
     assert!(rt; one(&object, 1) == Some(Value::Long(770)));
     Ok(())

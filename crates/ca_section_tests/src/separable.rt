@@ -1,10 +1,10 @@
 //! Whether operations are separable, and old values.
 
-use crate::programs::{let_go, program};
 use ca_extent::extent_of;
 use ca_model::{Slot, Slots, Value};
 use ca_program::OpId;
 use ca_section::{Olds, Separability, Why, separable};
+use ca_test_programs::{let_go, program};
 use std::alloc::Global;
 use std::test::Fail;
 

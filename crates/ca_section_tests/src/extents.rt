@@ -1,8 +1,8 @@
 //! Extents of operations.
 
-use crate::programs::{let_go, program};
 use ca_extent::extent_of;
 use ca_program::{ClassId, FieldId, FunctionId, OpId};
+use ca_test_programs::{let_go, program};
 use std::test::Fail;
 
 /// What is reached through a loop and from a value method, and what nobody calls.

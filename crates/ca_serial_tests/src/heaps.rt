@@ -1,9 +1,9 @@
 //! The heap and its text.
 
-use crate::programs::{let_go, program};
 use ca_base::MemSink;
 use ca_model::{Heap, Value, Values, print_heap};
 use ca_program::{ClassId, Program};
+use ca_test_programs::{let_go, program};
 use std::alloc::Global;
 use std::test::Fail;
 

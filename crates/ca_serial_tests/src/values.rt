@@ -1,10 +1,10 @@
 //! Values of expressions with value methods.
 
-use crate::programs::{let_go, program};
 use ca_base::Memory;
 use ca_direct::Scene;
 use ca_model::{Heap, Slot, Trap, TrapKind, Value};
 use ca_program::{BinaryOp, ClassId, Expr, FieldId, FunctionId, Program};
+use ca_test_programs::{let_go, program};
 use ca_values::{Evaluator, Found};
 use std::alloc::Global;
 use std::test::Fail;
