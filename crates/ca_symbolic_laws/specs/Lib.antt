@@ -1,0 +1,4 @@
+pub mod Costs
+pub mod Meant
+pub mod Demanded
+pub mod Laws
