@@ -1,0 +1,115 @@
+-- Worked examples of verdicts.
+use Rattle.std.proofs.Common.{ℕ, List, [], ◌∷◌, None, refl, codes}
+use Rattle.ca_tree.specs.declared.tree.AssignOp.TheVariants.{Put}
+use Rattle.ca_tree.specs.declared.tree.BinaryOp.TheVariants.{Plus, Minus}
+use Rattle.ca_program.specs.declared.program.ClassId.{ClassId}
+use Rattle.ca_program.specs.declared.program.FieldId.{FieldId}
+use Rattle.ca_program.specs.declared.program.FieldInfo.{FieldInfo}
+use Rattle.ca_program.specs.declared.program.OpId.{OpId}
+use Rattle.ca_program.specs.declared.program.ValueType.TheVariants as type
+use Rattle.ca_program.specs.Plain.{PlainProgram, PlainMethod, Expression, Statement, Statements, local, own, binary, no_expressions, expression_and, put_field, invoke, if_else, while_loop, block, no_statements, statement_and}
+use Rattle.ca_forms.specs.declared.sort.Sort.TheVariants.{Long, Bool, Pointer}
+use Rattle.ca_forms.specs.declared.form.Normal.{Normal}
+use Rattle.ca_forms.specs.declared.form.Normal.TheVariants.{Scalar}
+use Rattle.ca_forms.specs.Plain.{PlainScalar, variable, no_powers, power_and, no_products, product_and, pointer_part, number_form, truth_form, pointer_form, no_scalars, scalar_and}
+use Rattle.ca_verdicts.specs.declared.kinds.DemandKind.TheVariants.{Invokes}
+use Rattle.ca_verdicts.specs.declared.verdicts.Verdict.TheVariants.{Commutes, Unproved}
+use Rattle.ca_verdicts.specs.declared.verdicts.Reason.TheVariants.{LoopForm, FieldDiffers, DemandsDiffer}
+use Rattle.ca_verdicts.specs.Verdicts.{VerdictOf}
+
+-- class D { public: long n; D *o; bool b; void m(long p, bool q) { .. } };
+abbrev class : ClassId
+class = record { 0 = 0 }
+
+abbrev field : ℕ → FieldId
+field n = record { class = class; field = n }
+
+abbrev fields : List FieldInfo
+fields =
+    record { name = codes "n"; ty = type.Long; length = None } ∷ record { name = codes "o"; ty = type.Pointer class; length = None } ∷
+    record { name = codes "b"; ty = type.Bool; length = None } ∷ []
+
+abbrev operation : Statements → PlainMethod
+operation body = record {
+  class = class;
+  name = codes "m";
+  params = 2;
+  body = record { locals = type.Long ∷ type.Bool ∷ []; statements = body };
+  result = None;
+}
+
+abbrev n : Expression
+n = own (field 0)
+
+abbrev p : Expression
+p = local (record { 0 = 0 })
+
+abbrev op : ℕ → OpId
+op k = record { 0 = k }
+
+-- n = n + p;
+abbrev adds : Statement
+adds = put_field 1 (field 0) Put (binary Plus n p)
+
+-- o->m(n, q);
+abbrev hands_on : Statement
+hands_on = invoke 1 (own (field 1)) (op 2) (expression_and n (expression_and (local (record { 0 = 1 })) no_expressions))
+
+-- n = n + p; and n = p; and n = n + p; o->m(n, q); and while (b) { } and if (b) n = n + p; else n = n - p;
+abbrev program : PlainProgram
+program = record {
+  classes = record { name = codes "D"; fields = fields } ∷ [];
+  ops =
+      operation (statement_and adds no_statements) ∷ operation (statement_and (put_field 1 (field 0) Put p) no_statements) ∷
+      operation (statement_and adds (statement_and hands_on no_statements)) ∷
+      operation (statement_and (while_loop 1 (own (field 2)) (block 1 no_statements)) no_statements) ∷
+      operation (statement_and (if_else 1 (own (field 2)) adds (put_field 1 (field 0) Put (binary Minus n p))) no_statements) ∷ [];
+  functions = [];
+  main = record { locals = []; statements = no_statements };
+}
+
+abbrev written : List FieldId
+written = field 0 ∷ []
+
+-- the forms of the first operation's parameters and of the second one's, and of the fields at the start
+abbrev number_at : ℕ → ℕ → Normal
+number_at group k = Scalar (number_form (product_and (power_and (variable Long group k) 1 no_powers) 1 no_products))
+
+abbrev peer : PlainScalar
+peer = pointer_form (pointer_part (variable Pointer 3 1))
+
+abbrev sum : PlainScalar
+sum = number_form (product_and (power_and (variable Long 1 0) 1 no_powers) 1 (product_and (power_and (variable Long 3 0) 1 no_powers) 1 no_products))
+
+abbrev flag : PlainScalar
+flag = truth_form (product_and (power_and (variable Bool 1 1) 1 no_powers) 1 no_products)
+
+sums_commute : VerdictOf program written (op 0) (op 0) Commutes
+sums_commute = (record { can = record { separable = (((tt, (tt, tt, tt)), tt), ((tt, (tt, tt, tt)), tt)); loops = refl }; light = refl }, refl, λ k. refl)
+
+-- the last of two puts stands
+puts_differ : VerdictOf program written (op 1) (op 1) (Unproved (FieldDiffers (field 0) (number_at 2 0) (number_at 1 0)))
+puts_differ = (
+  record { can = record { separable = (((tt, tt), tt), ((tt, tt), tt)); loops = refl }; light = refl },
+  refl,
+  record { before = refl; first = refl; second = refl; differ = λ e. cc },
+)
+
+-- what is handed on depends on the order, though the sum doesn't: one call of m(n + p, q) in the first order, and none in the second
+calls_differ : VerdictOf program written (op 2) (op 2)
+    (Unproved (DemandsDiffer (Invokes (op 2)) (scalar_and peer (scalar_and sum (scalar_and flag no_scalars)))
+    (Scalar (number_form (product_and no_powers 1 no_products))) (Scalar (number_form no_products))))
+calls_differ = (
+  record { can = record { separable = (((tt, (tt, tt, tt)), ((tt, (tt, (tt, tt))), tt)), ((tt, (tt, tt, tt)), ((tt, (tt, (tt, tt))), tt))); loops = refl }; light = refl },
+  refl,
+  refl,
+  refl,
+  λ e. cc,
+)
+
+a_loop_of_no_calls : VerdictOf program written (op 0) (op 3) (Unproved (LoopForm 1))
+a_loop_of_no_calls = ((((tt, (tt, tt, tt)), tt), ((tt, tt), tt)), refl)
+
+branches_commute : VerdictOf program written (op 4) (op 4) Commutes
+branches_commute =
+    (record { can = record { separable = (((tt, (tt, (tt, tt, tt)), (tt, (tt, tt, tt))), tt), ((tt, (tt, (tt, tt, tt)), (tt, (tt, tt, tt))), tt)); loops = refl }; light = refl }, refl, λ k. refl)

@@ -1,0 +1,7 @@
+pub mod Told
+pub mod Keys
+pub mod Demands
+pub mod Orders
+pub mod Verdicts
+pub mod Analysed
+pub mod Laws
