@@ -117,6 +117,7 @@ impl Bodies {
     }
 
     /// Begins a body whose first locals are the arguments; the others have these types.
+    #[inline(always)]
     pub fn enter(
         &mut self,
         this: Value,
