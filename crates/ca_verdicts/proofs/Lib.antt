@@ -4,5 +4,11 @@ pub mod Looks
 pub mod Conditions
 pub mod MetDemands
 pub mod Kept
+pub mod Multisets
+pub mod Orders
 pub mod Sorts
 pub mod SortedBodies
+pub mod Sound
+pub mod SameSlots
+pub mod FoundLoops
+pub mod VerdictSound
