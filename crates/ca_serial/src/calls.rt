@@ -19,6 +19,7 @@ use ca_program::{Expr, Method, Program, Stmt, StmtForm, ValueType};
 
 impl<'a> Machine<'a> {
     /// Goes on with the arguments of a call from one of them on, and then begins the call.
+    #[inline(always)]
     pub fn collect(
         &mut self,
         program: &'a Program,
@@ -46,7 +47,7 @@ impl<'a> Machine<'a> {
     }
 
     /// Begins a call whose arguments are the top values, so many of them, with the receiver below them.
-    #[inline]
+    #[inline(always)]
     fn begin(
         &mut self,
         program: &'a Program,

@@ -50,7 +50,7 @@ impl<'a> Machine<'a> {
     }
 
     /// Goes on with a call of a value method.
-    #[inline]
+    #[inline(never)]
     fn evaluate_call(
         &mut self,
         program: &'a Program,
