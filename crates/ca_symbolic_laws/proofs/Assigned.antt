@@ -29,7 +29,7 @@ use Rattle.ca_symbolic_laws.specs.Meant.{item_meant}
 use Rattle.ca_symbolic_laws.proofs.Indexes.{number_of}
 use Rattle.ca_symbolic_laws.proofs.Selects.{Selects, Puts}
 
-put_means : (v w : Datum) → assigned assign.Put v w ≡ w
+pub put_means : (v w : Datum) → assigned assign.Put v w ≡ w
 put_means (Long a) (Long b) = refl
 put_means v w = refl
 

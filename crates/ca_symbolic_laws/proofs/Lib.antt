@@ -17,3 +17,9 @@ pub mod Statements
 pub mod Sections
 pub mod Begun
 pub mod Parts
+pub mod Named
+pub mod LoopRuns
+pub mod LoopReads
+pub mod LoopsMeant
+pub mod LoopLaw
+pub mod Stands

@@ -8,6 +8,8 @@ use Rattle.ca_tree.specs.declared.tree.UnaryOp.TheVariants as sign
 use Rattle.ca_program.specs.declared.program.ClassId.{ClassId}
 use Rattle.ca_program.specs.declared.program.FieldId.{FieldId}
 use Rattle.ca_program.specs.declared.program.FieldInfo.{FieldInfo}
+use Rattle.ca_program.specs.declared.program.FirstPart.{FirstPart}
+use Rattle.ca_program.specs.declared.program.LoopId.{LoopId}
 use Rattle.ca_program.specs.declared.program.OpId.{OpId}
 use Rattle.ca_program.specs.declared.program.ValueType.{ValueType}
 use Rattle.ca_program.specs.declared.program.ValueType.TheVariants as type
@@ -177,7 +179,9 @@ module _ (s : Environment) (v : Valuation) (runs : Runs s v) (m : PlainMethod) (
 
   -- what is owed for the loops that stand: where the state stands, they do as they are meant
   abbrev pub LoopsAreMeant : (State → Type 0) → Type 0
-  LoopsAreMeant Stands = loops → (x : Statement) → Contains all x → (called : Bool) → Fit called x → (st : State) → StateTyped s v m st → Stands st → (g : PlainTerm) → mean v g ≡ Truth true → (ls : List Datum) → LocalsAre v t ls st.locals → (l : List Invocation) → (k : ℕ) → k ≤ s.steps → IsMeant st g ls l x k
+  LoopsAreMeant Stands =
+      loops → (own : ℕ) (site : LoopId) (part : FirstPart) (first : Statement) (c : Expression) (next body : Statement) → Contains all (for_loop own site part first c next body) → (called : Bool) → Fit called (for_loop own site part first c next body) →
+      (st : State) → StateTyped s v m st → Stands st → (g : PlainTerm) → mean v g ≡ Truth true → (ls : List Datum) → LocalsAre v t ls st.locals → (l : List Invocation) → (k : ℕ) → k ≤ s.steps → IsMeant st g ls l (for_loop own site part first c next body) k
 
   module _ (Stands : State → Type 0) (stands_behind : (x : Statement) (called : Bool) (st : State) → Fit called x → Stands st → Stands (after p st x)) (loops_are : LoopsAreMeant Stands) where
     put_item_is : (own_line : ℕ) (n : FieldId) (i : Expression) (op : AssignOp) (e : Expression) (called : Bool) → Fit called (put_item own_line n i op e) → (st : State) → StateTyped s v m st → (g : PlainTerm) → mean v g ≡ Truth true → (ls : List Datum) → LocalsAre v t ls st.locals → (l : List Invocation) (k : ℕ) → k ≤ s.steps → IsMeant st g ls l (put_item own_line n i op e) k
@@ -248,7 +252,7 @@ module _ (s : Environment) (v : Valuation) (runs : Runs s v) (m : PlainMethod) (
           ∙ ap (λ z. with_left w (left z k)) (sym (cost_append s v (demands_in p st g c) _))
       exec_is (for_loop own_line site part first c next x) called f st is at g y ls same l k b =
           let loop : Statement = for_loop own_line site part first c next x in
-          loops_are f.speaks loop (f.inside loop (Contains-append_left (loop ∷ []) (fors_in first ++ (fors_in next ++ fors_in x)) loop (Contains-push [] loop))) called f st is at g y ls same l k b
+          loops_are f.speaks own_line site part first c next x (f.inside loop (Contains-append_left (loop ∷ []) (fors_in first ++ (fors_in next ++ fors_in x)) loop (Contains-push [] loop))) called f st is at g y ls same l k b
       exec_is (while_loop own_line c x) called f st is at g y ls same l k b = absurd (let e : Some own_line ≡ None = f.known in cc)
       exec_is (new_local own_line n c) called f st is at g y ls same l k b = absurd f.separated
       exec_is (new_field own_line n c) called f st is at g y ls same l k b = absurd f.separated

@@ -190,6 +190,12 @@ FieldsStayTyped items loops =
     (s : Environment) (written : List FieldId) (op : OpId) (m : PlainMethod) (group : ℕ) (fields : List PlainTerm) → Called s written op m group fields → SpeakAll items loops m.body.statements →
     FieldsTyped s.heap (valuation_in s) (fields_behind s group m fields) (fields_in s m.class)
 
+-- It agrees with the heap on the constants as before.
+abbrev pub ConstantsAreKept : Type 0
+ConstantsAreKept =
+    (s : Environment) (written : List FieldId) (op : OpId) (m : PlainMethod) (group : ℕ) (fields : List PlainTerm) → Called s written op m group fields →
+    AgreesAt written (object_meant s m.class (fields_behind s group m fields)) s.heap s.receiver
+
 -- fields that are no arrays, or any where `items` holds
 abbrev pub Fields : (items : Type 0) → List FieldInfo → Type 0
 Fields items [] = Unit {0}
