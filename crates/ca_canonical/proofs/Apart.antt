@@ -210,7 +210,7 @@ main_apart : (m : Marking) → ((body : Option Place) → SparesEmpty (m.before 
 main_apart m n ss =
     let head = Key key.Int ∷ Key key.Main ∷ in_parentheses [] in
     let inside = marked_all (m.before None) ss in
-    let end = spell_end (ends_in_zero false ss) in
+    let end = spell_end (ends_in_zero ss) in
     apart_both (tokens head) (in_body (inside ++ tokens end)) (apart_tokens head) (body_apart (inside ++ tokens end) (apart_both inside (tokens end) (all_apart (m.before None) (n None) ss) (apart_tokens end)))
 
 pub annotated_clear : (m : Marking) (t : TextTree) → ((body : Option Place) (at : Place) → m.before body (empty at) ≡ []) → Clear (annotated m t)

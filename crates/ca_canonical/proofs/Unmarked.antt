@@ -82,7 +82,7 @@ classes_unmarked m (c ∷ cs) = both_unmarked (marked_class m c) (marked_classes
 
 main_unmarked : (m : Marking) (ss : Statements) → unmarked (marked_main m ss) ≡ spell_main ss
 main_unmarked m ss =
-    let end = spell_end (ends_in_zero false ss) in
+    let end = spell_end (ends_in_zero ss) in
     ap (λ z. Key key.Int ∷ Key key.Main ∷ Sign sign.OpenParenthesis ∷ Sign sign.CloseParenthesis ∷ z)
     (body_unmarked (marked_all (m.before None) ss ++ tokens end)
     (both_unmarked (marked_all (m.before None) ss) (tokens end) (all_unmarked (m.before None) ss) (tokens_unmarked end)))
@@ -151,8 +151,8 @@ only_classes (c ∷ cs) =
 
 only_main : (ss : Statements) → OnlyTokens (marked_main no_marks ss)
 only_main ss =
-    let end = tokens (spell_end (ends_in_zero false ss)) in
-    only_body (marked_all nothing ss ++ end) (only_both (marked_all nothing ss) end (only_all ss) (only_tokens (spell_end (ends_in_zero false ss))))
+    let end = tokens (spell_end (ends_in_zero ss)) in
+    only_body (marked_all nothing ss ++ end) (only_both (marked_all nothing ss) end (only_all ss) (only_tokens (spell_end (ends_in_zero ss))))
 
 pub nothing_annotated : (t : TextTree) → annotated no_marks t ≡ tokens (spell t)
 nothing_annotated t =

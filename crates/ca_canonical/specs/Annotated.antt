@@ -55,7 +55,7 @@ marked_classes m (c ∷ cs) = marked_class m c ++ marked_classes m cs
 abbrev pub marked_main : Marking → Statements → List Piece
 marked_main m ss =
     tokens (Key key.Int ∷ Key key.Main ∷ in_parentheses [])
-    ++ in_body (marked_all (m.before None) ss ++ tokens (spell_end (ends_in_zero false ss)))
+    ++ in_body (marked_all (m.before None) ss ++ tokens (spell_end (ends_in_zero ss)))
 
 abbrev pub annotated : Marking → TextTree → List Piece
 annotated m t = marked_classes m t.classes ++ marked_main m t.main

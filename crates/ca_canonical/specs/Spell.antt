@@ -176,10 +176,11 @@ abbrev pub returns_zero : Statement → Bool
 returns_zero (return_value at e) = is_zero e
 returns_zero other = false
 
--- whether the last of some statements is, where this is said of the one before them
-abbrev pub ends_in_zero : Bool → Statements → Bool
-ends_in_zero before no_statements = before
-ends_in_zero before (statement_and s ss) = ends_in_zero (returns_zero s) ss
+-- whether the last of the statements is
+abbrev pub ends_in_zero : Statements → Bool
+ends_in_zero no_statements = false
+ends_in_zero (statement_and s no_statements) = returns_zero s
+ends_in_zero (statement_and s (statement_and t ss)) = ends_in_zero (statement_and t ss)
 
 -- The optional end of `main` stands where its last statement is itself a `return` of the number 0.
 abbrev pub spell_end : Bool → List Kind
@@ -187,7 +188,7 @@ spell_end false = []
 spell_end true = Key key.Return ∷ Number (pos 0) ∷ Sign sign.Semicolon ∷ []
 
 abbrev pub spell_main : Statements → List Kind
-spell_main ss = Key key.Int ∷ Key key.Main ∷ (in_parentheses [] ++ in_braces (spell_statements ss ++ spell_end (ends_in_zero false ss)))
+spell_main ss = Key key.Int ∷ Key key.Main ∷ (in_parentheses [] ++ in_braces (spell_statements ss ++ spell_end (ends_in_zero ss)))
 
 abbrev pub spell : TextTree → List Kind
 spell t = spell_classes t.classes ++ spell_main t.main

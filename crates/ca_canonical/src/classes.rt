@@ -156,7 +156,7 @@ fn returns_zero(s: &StmtNode) -> bool
 
 /// Whether the last of the statements is.
 fn ends_in_zero(items: &[StmtNode]) -> bool
-    ensures { result ≡ ends_in_zero false (statements_view items.now) }
+    ensures { result ≡ ends_in_zero (statements_view items.now) }
 {
     let mut last = false;
     for s in items {

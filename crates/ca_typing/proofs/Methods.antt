@@ -14,7 +14,9 @@ use Rattle.ca_resolve.specs.Judged.{Judged, fine, both, unless, beside}
 use Rattle.ca_resolve.specs.Scopes.{Ty, ty_of, find_local}
 use Rattle.ca_types.specs.Rules.{member_once, local_once, ends_with_return, parameter_limit, local_limit, last_returns}
 use Rattle.ca_types.specs.Statements.{Env, judge_type, type_of, judge_statements}
-use Rattle.ca_types.specs.Classes.{gathered, behind_parameter, behind_parameters, judge_parameter, add_parameter, judge_parameters, MemberEnv, judge_result_type, result_ty, method_limit, method_begin, body_begin, method_end, method_of, judge_method}
+use Rattle.ca_types.specs.Classes.{behind_parameter, behind_parameters, judge_parameter, judge_parameters, MemberEnv, judge_result_type, result_ty, method_limit, method_begin, body_begin, method_end, method_of, judge_method}
+use Rattle.ca_types.specs.Adding.{gathered, add_parameter}
+use Rattle.ca_types.proofs.Gathered.{parameters_gathered}
 use Rattle.ca_typing.proofs.Fits.{StatementsFit}
 use Rattle.ca_typing.proofs.Lists.{Begins, begins_itself, begins_through, begins_taken, begins_shorter, item_there}
 use Rattle.ca_typing.proofs.Judging.{same_fine, within_fine, made_fine, both_fine, unless_fine, none_broken, beside_fine, not_broken, not_not, gathered_fine}
@@ -69,7 +71,7 @@ pub record MethodFine (c : MemberEnv) (m : MethodTree) (method : PlainMethod) : 
   pub result : Option ValueType
   pub statements : List program.Statement
   pub result_is : judge_result_type c.classes.names m.result ≡ fine result
-  pub parameters_are : judge_parameters (method_begin c m) m.params ≡ fine tt
+  pub parameters_are : gathered behind_parameter add_parameter (method_begin c m) (fine tt) m.params ≡ fine tt
   pub statements_are : judge_statements (body_begin c m) m.body ≡ fine statements
   pub ends : ends_with_return (is_some m.result) m.body m.at ≡ None
   pub is : method_of c m result statements ≡ method
@@ -91,7 +93,7 @@ method_fine c m method h =
       result = w.0.0;
       statements = w.0.1.1;
       result_is = b.0;
-      parameters_are = d.0;
+      parameters_are = sym (parameters_gathered (method_begin c m) m.params) ∙ d.0;
       statements_are = d.1;
       ends = none_broken ends (method_of c m w.0.0 w.0.1.1) method k.1;
       is = unless_fine ends (method_of c m w.0.0 w.0.1.1) method k.1;

@@ -3,10 +3,10 @@ use Rattle.std.proofs.Common.{◌≡◌, List, [], ◌∷◌, true, subst}
 use Rattle.ca_tree.specs.Plain.{Statement, Statements, block, if_else, return_value, no_statements, statement_and}
 use Rattle.ca_program.specs.Plain as program
 use Rattle.ca_meaning.specs.ProgramTyped.{Returns, LastReturns}
-use Rattle.ca_resolve.specs.Judged.{fine, both, unless}
+use Rattle.ca_resolve.specs.Judged.{fine, unless}
 use Rattle.ca_types.specs.Rules.{returns, last_returns, return_stands}
 use Rattle.ca_types.specs.Statements.{Env, enter_block, leave_block, behind, judge_wanted, judge_condition, statements_in, judge_statement, judge_statements}
-use Rattle.ca_typing.proofs.Judging.{within_fine, made_fine, both_fine, unless_fine}
+use Rattle.ca_typing.proofs.Judging.{within_fine, made_fine, unless_fine, if_fine}
 use Rattle.ca_typing.proofs.Types.{and_both}
 use Rattle.ca_typing.proofs.Statements.{from_none, none_behind, statements_fine}
 
@@ -23,10 +23,9 @@ mutual
       let test = judge_condition c.scope e in
       let yes_part = judge_statement (enter_block c) a in
       let no_part = judge_statement (enter_block (leave_block c (behind (enter_block c) a))) b in
-      let w = made_fine (both test (both yes_part no_part)) (λ (r : program.Expression × (program.Statement × program.Statement)). program.if_else at.line r.0 r.1.0 r.1.1) x h in
-      let d = both_fine yes_part no_part w.0.1 (both_fine test (both yes_part no_part) w.0 w.1).1 in
+      let w = if_fine at.line test yes_part no_part x h in
       let k = and_both (returns a) (returns b) r in
-      subst Returns w.2 (statement_returns (enter_block c) a w.0.1.0 d.0 k.0, statement_returns (enter_block (leave_block c (behind (enter_block c) a))) b w.0.1.1 d.1 k.1)
+      subst Returns w.is (statement_returns (enter_block c) a w.one w.one_is k.0, statement_returns (enter_block (leave_block c (behind (enter_block c) a))) b w.other w.other_is k.1)
   statement_returns c (return_value at e) x h r =
       let w = within_fine (judge_wanted c.scope c.result e) (λ v. unless (return_stands c.result at) (program.return_value at.line v)) x h in
       subst Returns (unless_fine (return_stands c.result at) (program.return_value at.line w.0) x w.2) tt

@@ -1,5 +1,5 @@
 -- The operations of a program that a tree resolves to name the counters of their loops inside these alone.
-use Rattle.std.proofs.Common.{◌≡◌, List, [], ◌∷◌, ◌++◌, Bool, true, false, Option, Some, None, refl, subst, arith}
+use Rattle.std.proofs.Common.{◌≡◌, List, [], ◌∷◌, ◌++◌, Bool, true, false, Option, Some, None, refl, sym, subst, ◌∙◌, arith}
 use Rattle.std.specs.Prelude.{Contains, length, slice_index_or}
 use Rattle.std.proofs.lemmas.List.Elements.{Contains-append_cases}
 use Rattle.ca_tree.specs.declared.tree.ParamNode.{ParamNode}
@@ -11,7 +11,9 @@ use Rattle.ca_parallel.specs.Scoped.{any_names_outside, Scoped, OperationsScoped
 use Rattle.ca_resolve.specs.Judged.{fine, both}
 use Rattle.ca_resolve.specs.Scopes.{ty_of, classes_of}
 use Rattle.ca_types.specs.Statements.{Env, behind_all, statements_in, judge_statements}
-use Rattle.ca_types.specs.Classes.{gathered, behind_parameters, behind_parameter, MemberEnv, body_begin, method_begin, judge_method, Members, with_method, behind_member, add_member, no_members, ClassEnv, class_begin, behind_class, Parts, add_class, no_parts, judge_classes, first_class, main_begin, program_of, judge}
+use Rattle.ca_types.specs.Classes.{behind_parameters, behind_parameter, MemberEnv, body_begin, method_begin, judge_method, Members, behind_member, no_members, ClassEnv, class_begin, behind_class, Parts, no_parts, judge_classes, first_class, main_begin, program_of, judge}
+use Rattle.ca_types.specs.Adding.{gathered, with_method, add_member, add_class}
+use Rattle.ca_types.proofs.Gathered.{classes_gathered}
 use Rattle.ca_typing.proofs.Judging.{same_fine, made_fine, both_fine, gathered_fine}
 use Rattle.ca_typing.proofs.Methods.{method_fine}
 use Rattle.ca_typing.proofs.Members.{members_strict, field_added, method_added}
@@ -82,4 +84,4 @@ operations_are_scoped t p h =
     let locals = (behind_all (main_begin t) t.main).locals in
     let w = made_fine (both classes lines) (λ (r : Parts × List program.Statement). program_of locals r) p h in
     let b = both_fine classes lines w.0 w.1 in
-    subst OperationsScoped w.2 (classes_scoped (first_class (classes_of t.classes)) no_parts w.0.0 t.classes (λ m k. absurd (none_there m k)) b.0)
+    subst OperationsScoped w.2 (classes_scoped (first_class (classes_of t.classes)) no_parts w.0.0 t.classes (λ m k. absurd (none_there m k)) (sym (classes_gathered (first_class (classes_of t.classes)) t.classes) ∙ b.0))
