@@ -126,3 +126,6 @@ mutual
 
 abbrev pub coded_term : Coded PlainTerm
 coded_term = record { code = term_code; inj = term_inj }
+
+abbrev pub coded_terms : Coded PlainTerms
+coded_terms = record { code = terms_code; inj = terms_inj }
