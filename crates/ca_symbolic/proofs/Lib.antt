@@ -11,3 +11,11 @@ mod Examples
 mod ExecutionExamples
 pub mod Alike
 pub mod CallLoops
+pub mod Ors
+pub mod Heavier
+pub mod Refusing
+pub mod Blocks
+pub mod Flags
+pub mod Among
+pub mod Joining
+pub mod Bodies

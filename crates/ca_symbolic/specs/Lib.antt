@@ -16,3 +16,4 @@ pub mod Demanded
 pub mod Places
 pub mod Refusals
 pub mod Runs
+pub mod StateCodes

@@ -54,6 +54,10 @@ impl Model for Demands {
 
     ghost Value = { Demanded };
 
+    ghost use Rattle.ca_symbolic.specs.StateCodes.{coded_demanded};
+
+    ghost coded = { coded_demanded };
+
     ghost view = { λ d. record { guard = d.guard; list = demands_of d.closed.items ++ map (demand_of d.guard) d.items.items } };
 
     ghost invariant = { λ d. length (demands_of d.closed.items ++ map (demand_of d.guard) d.items.items) ≤ d.count };

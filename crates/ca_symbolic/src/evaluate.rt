@@ -70,7 +70,12 @@ fn negative(e: &Expr) -> Option<i64>
     }
 }
 
-fn divided(alloc: Global, a: LightTerm, b: LightTerm, n: Option<i64>) -> Result<LightTerm, ExecutionError>
+fn divided(
+    alloc: Global,
+    a: LightTerm,
+    b: LightTerm,
+    n: Option<i64>,
+) -> Result<LightTerm, ExecutionError>
     ensures made { IfOk result (λ t. t ≡ divided divide a b n) }
     ensures light { IfOk result (λ _. is_heavy (divided divide a b n) ≡ false) }
     ensures large { result ≡ Err ExecutionError.Large → is_heavy (divided divide a b n) ≡ true }
@@ -81,7 +86,12 @@ fn divided(alloc: Global, a: LightTerm, b: LightTerm, n: Option<i64>) -> Result<
     }
 }
 
-fn left_over(alloc: Global, a: LightTerm, b: LightTerm, n: Option<i64>) -> Result<LightTerm, ExecutionError>
+fn left_over(
+    alloc: Global,
+    a: LightTerm,
+    b: LightTerm,
+    n: Option<i64>,
+) -> Result<LightTerm, ExecutionError>
     ensures made { IfOk result (λ t. t ≡ divided remainder a b n) }
     ensures light { IfOk result (λ _. is_heavy (divided remainder a b n) ≡ false) }
     ensures large { result ≡ Err ExecutionError.Large → is_heavy (divided remainder a b n) ≡ true }
@@ -267,6 +277,7 @@ fn call(
 }
 
 /// From here on demands come under the condition of a right side, whose left side is this.
+#[tactic(auto, using(crate::proofs::Flags::neither, crate::proofs::Flags::first_of, crate::proofs::Flags::second_of))]
 fn enter_right(
     alloc: Global,
     op: BinaryOp,
@@ -289,6 +300,7 @@ fn enter_right(
 
 /// The term of an expression. What it demands comes behind what was demanded before.
 #[cycle(value)]
+#[tactic(auto, using(crate::proofs::Flags::neither, crate::proofs::Flags::first_of, crate::proofs::Flags::second_of))]
 pub fn value_of(
     alloc: Global,
     program: &Program,
@@ -344,6 +356,7 @@ pub fn value_of(
 
 /// The terms of expressions, from left to right.
 #[cycle(value)]
+#[tactic(auto, using(crate::proofs::Flags::neither, crate::proofs::Flags::first_of, crate::proofs::Flags::second_of))]
 pub fn values_of(
     alloc: Global,
     program: &Program,

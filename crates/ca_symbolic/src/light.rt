@@ -1,8 +1,9 @@
 //! Terms that are not too heavy, shared by all that they stand in.
 
-ghost use Rattle.std.specs.Prelude.{◌≡◌, false, true, IfOk, box_value, map};
+ghost use Rattle.std.specs.Prelude.{◌≡◌, ◌≤◌, false, true, IfOk, box_value, map};
 ghost use Rattle.ca_forms.specs.declared.sort.Sort.{Sort};
 ghost use Rattle.ca_norm.specs.Terms.{number, truth, null, atom, add, sub, neg, mul, divide, remainder, less, less_equal, same, not, and, or, choose, read, read_at, result as call_result, select, put, add_at, shape, sort_of, item_sort, terms_of};
+ghost use Rattle.ca_norm.specs.Weights.{weight_of};
 ghost use Rattle.ca_norm.specs.Forms.{norm};
 ghost use Rattle.ca_norm.specs.Measures.{Measures, MeasuresAll};
 ghost use Rattle.ca_symbolic.specs.Nodes.{node_of};
@@ -127,6 +128,18 @@ fn item_sort(sort: Sort) -> Sort
     }
 }
 
+/// The normal form of a term that is not too heavy.
+fn light_normal(alloc: Global, term: &Term) -> Result<Normal, AllocError>
+    requires { weight_of (shape term.now) ≤ 65536 }
+    ensures { IfOk result (λ n. n ≡ norm (shape term.now)) }
+{
+    match ca_norm::normal(alloc, term) {
+        Ok(normal) => Ok(normal),
+        Err(NormalError::Memory) => Err(AllocError),
+        Err(NormalError::Large) => unreachable!(),
+    }
+}
+
 impl LightTerm {
     /// The node as a term, unless it is too heavy.
     fn made(alloc: Global, node: Node, measure: Measure) -> Result<LightTerm, ExecutionError>
@@ -219,7 +232,13 @@ impl LightTerm {
     }
 
     /// A field of this object, by its sort, its class and its number there.
-    pub fn field(self, alloc: Global, sort: Sort, class: u32, field: u32) -> Result<LightTerm, ExecutionError>
+    pub fn field(
+        self,
+        alloc: Global,
+        sort: Sort,
+        class: u32,
+        field: u32,
+    ) -> Result<LightTerm, ExecutionError>
         ensures made { IfOk result (λ t. t ≡ read sort self class field) }
         ensures light { IfOk result (λ _. is_heavy (read sort self class field) ≡ false) }
         ensures large { result ≡ Err ExecutionError.Large → is_heavy (read sort self class field) ≡ true }
@@ -269,7 +288,11 @@ impl LightTerm {
     }
 
     /// Whether it is less or equal.
-    pub fn less_equal(alloc: Global, a: LightTerm, b: LightTerm) -> Result<LightTerm, ExecutionError>
+    pub fn less_equal(
+        alloc: Global,
+        a: LightTerm,
+        b: LightTerm,
+    ) -> Result<LightTerm, ExecutionError>
         ensures made { IfOk result (λ t. t ≡ less_equal a b) }
         ensures light { IfOk result (λ _. is_heavy (less_equal a b) ≡ false) }
         ensures large { result ≡ Err ExecutionError.Large → is_heavy (less_equal a b) ≡ true }
@@ -338,7 +361,11 @@ impl LightTerm {
         ensures large { result ≡ Err ExecutionError.Large → is_heavy (read_at sort self class field index) ≡ true }
     {
         let measure = self.measure.item(index.measure);
-        LightTerm::made(alloc, Node::ReadAt(sort, self, class, field, index), measure)
+        LightTerm::made(
+            alloc,
+            Node::ReadAt(sort, self, class, field, index),
+            measure,
+        )
     }
 
     /// What a value method of this object gives.
@@ -423,7 +450,8 @@ impl LightTerm {
         ensures { result ≡ sort_of self.now }
     {
         match &*self.node {
-            Node::Number(_) | Node::Neg(_) | Node::Divide(_, _) | Node::Remainder(_, _) => Sort::Long,
+            Node::Number(_) | Node::Neg(_) | Node::Divide(_, _) | Node::Remainder(_, _) =>
+                Sort::Long,
             Node::Add(_, _) | Node::Sub(_, _) | Node::Mul(_, _) => Sort::Long,
             Node::Truth(_) | Node::Not(_) | Node::And(_, _) | Node::Or(_, _) => Sort::Bool,
             Node::Less(_, _) | Node::LessEqual(_, _) | Node::Same(_, _) => Sort::Bool,
@@ -443,20 +471,9 @@ impl LightTerm {
     pub fn normal(&self, alloc: Global) -> Result<Normal, AllocError>
         ensures { IfOk result (λ n. n ≡ norm self.now) }
     {
+        let _measure = self.measure;
         let term = self.unshared(alloc)?;
-        self.normal_of(alloc, &term)
-    }
-
-    /// The normal form of this term, unshared.
-    fn normal_of(&self, alloc: Global, term: &Term) -> Result<Normal, AllocError>
-        requires { shape term.now ≡ self.now }
-        ensures { IfOk result (λ n. n ≡ norm self.now) }
-    {
-        match ca_norm::normal(alloc, term) {
-            Ok(normal) => Ok(normal),
-            Err(NormalError::Memory) => Err(AllocError),
-            Err(NormalError::Large) => unreachable!(),
-        }
+        light_normal(alloc, &term)
     }
 
     /// The term with no part shared: of at most `MOST_WEIGHT` nodes, and as deep as it is.

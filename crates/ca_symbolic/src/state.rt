@@ -29,6 +29,10 @@ impl Model for SymState {
 
     ghost Value = { State };
 
+    ghost use Rattle.ca_symbolic.specs.StateCodes.{coded_state};
+
+    ghost coded = { coded_state };
+
     ghost view = { λ s. record { fields = s.fields.items; locals = s.locals.items } };
 }
 
@@ -98,7 +102,8 @@ fn first_locals(alloc: Global, group: u32, method: &Method) -> Result<Vec<LightT
     let types = method.body.locals.as_slice();
     let count = (method.params as usize).min(types.len());
     let mut terms = parameters(alloc, group, &types[..count])?;
-    for ty in &types[count..] {
+    let others = &types[count..];
+    for ty in others {
         terms.push(start_term(alloc, *ty)?)?;
     }
     Ok(terms)

@@ -21,7 +21,9 @@ use crate::places::{add_fields, add_locals, add_named, marks};
 use crate::same::same_expression;
 use crate::state::SymState;
 use crate::weighed::ExecutionError;
-use ca_program::{AssignOp, BinaryOp, Expr, FieldId, LocalId, LoopId, OpId, Program, Stmt, StmtForm};
+use ca_program::{
+    AssignOp, BinaryOp, Expr, FieldId, LocalId, LoopId, OpId, Program, Stmt, StmtForm,
+};
 use std::alloc::{AllocError, Global};
 
 /// What a put leaves, from what was there before.
@@ -88,6 +90,7 @@ fn is_item(field: FieldId, index: &Expr, e: &Expr) -> bool
 }
 
 /// Looks an item up that isn't made: what it demands alone.
+#[tactic(auto, using(crate::proofs::Flags::neither, crate::proofs::Flags::first_of, crate::proofs::Flags::second_of))]
 fn look_at_item(
     alloc: Global,
     program: &Program,
@@ -112,6 +115,7 @@ fn look_at_item(
 }
 
 /// The array of a field with another item at an index.
+#[tactic(auto, using(crate::proofs::Flags::neither, crate::proofs::Flags::first_of, crate::proofs::Flags::second_of))]
 fn with_item(
     alloc: Global,
     program: &Program,
@@ -132,6 +136,7 @@ fn with_item(
 }
 
 /// With an addend at an index.
+#[tactic(auto, using(crate::proofs::Flags::neither, crate::proofs::Flags::first_of, crate::proofs::Flags::second_of))]
 fn with_addend(
     alloc: Global,
     program: &Program,
@@ -152,6 +157,7 @@ fn with_addend(
 }
 
 /// With the negative of an addend at an index.
+#[tactic(auto, using(crate::proofs::Flags::neither, crate::proofs::Flags::first_of, crate::proofs::Flags::second_of))]
 fn with_negative(
     alloc: Global,
     program: &Program,
@@ -173,6 +179,7 @@ fn with_negative(
 }
 
 /// With an item several times as large at an index.
+#[tactic(auto, using(crate::proofs::Flags::neither, crate::proofs::Flags::first_of, crate::proofs::Flags::second_of))]
 fn with_product(
     alloc: Global,
     program: &Program,
@@ -195,6 +202,7 @@ fn with_product(
 }
 
 /// The array behind a put of an operator's value to an item.
+#[tactic(auto, using(crate::proofs::Flags::neither, crate::proofs::Flags::first_of, crate::proofs::Flags::second_of))]
 fn put_operation(
     alloc: Global,
     program: &Program,
@@ -288,6 +296,7 @@ fn array_term(
 }
 
 /// A put to an item.
+#[tactic(auto, using(crate::proofs::Flags::neither, crate::proofs::Flags::first_of, crate::proofs::Flags::second_of))]
 fn put_item(
     alloc: Global,
     program: &Program,
@@ -311,6 +320,7 @@ fn put_item(
 }
 
 /// A call of an operation.
+#[tactic(auto, using(crate::proofs::Flags::neither, crate::proofs::Flags::first_of, crate::proofs::Flags::second_of))]
 fn invoke(
     alloc: Global,
     program: &Program,
@@ -447,6 +457,7 @@ fn enter_then(
 }
 
 /// From here on they come under that of the second branch.
+#[tactic(auto, using(crate::proofs::Flags::neither, crate::proofs::Flags::first_of, crate::proofs::Flags::second_of))]
 fn enter_else(
     alloc: Global,
     outer: &LightTerm,
@@ -465,6 +476,7 @@ fn enter_else(
 
 /// Runs a statement on the state. What it demands comes behind what was demanded before.
 #[cycle(run)]
+#[tactic(auto, using(crate::proofs::Flags::neither, crate::proofs::Flags::first_of, crate::proofs::Flags::second_of))]
 fn run(
     alloc: Global,
     program: &Program,
@@ -511,6 +523,7 @@ fn run(
 
 /// Runs statements on the state, one behind the other.
 #[cycle(run)]
+#[tactic(auto, using(crate::proofs::Flags::neither, crate::proofs::Flags::first_of, crate::proofs::Flags::second_of))]
 pub fn run_all(
     alloc: Global,
     program: &Program,
