@@ -1,9 +1,9 @@
 -- Lists of numbers tell which fields a statement puts, and which locals it puts or names.
-use Rattle.std.proofs.Common.{◌≡◌, ℕ, zero, suc, ◌+◌, ◌<◌, Bool, true, false, ◌||◌, ◌&&◌, List, [], ◌∷◌, ◌++◌, length, take, refl, sym, ap, ap₂, ◌∙◌, arith}
-use Rattle.std.specs.Prelude.{nat_eq, get_or, slice_set}
+use Rattle.std.proofs.Common.{◌≡◌, ℕ, Bool, ◌||◌, ◌&&◌, List, [], ◌∷◌, ◌++◌, refl, sym, ap₂, ◌∙◌}
+use Rattle.std.specs.Prelude.{nat_eq}
 use Rattle.std.specs.List.{list_any}
 use Rattle.std.proofs.Math.Bool.{or-false}
-use Rattle.std.proofs.lemmas.List.Folds.{list_any-append, list_any_more}
+use Rattle.std.proofs.lemmas.List.Folds.{list_any-append}
 use Rattle.ca_program.specs.declared.program.FieldId.{FieldId}
 use Rattle.ca_program.specs.Plain.{Expression, Expressions, number, truth, null, this, local, own, own_item, read, read_item, value_call, unary, binary, no_expressions, expression_and, Statement, Statements, block, put_local, put_field, put_item, new_local, new_field, new_item, invoke, if_else, while_loop, for_loop, return_value, print_value, no_statements, statement_and}
 use Rattle.ca_meaning.specs.Operators.{not_of}
@@ -11,13 +11,13 @@ use Rattle.ca_parallel.specs.Bodies.{targets_of, targets_of_all, listed, express
 use Rattle.ca_parallel.specs.Scoped.{names, any_names}
 use Rattle.ca_symbolic.specs.Execution.{puts_field, puts_local, any_puts_local, field_target, local_target}
 use Rattle.ca_symbolic.specs.Demands.{is_counter, loop_reads}
-use Rattle.ca_symbolic.specs.Places.{is_among, is_marked, fields_put, fields_put_all, locals_put, locals_put_all, locals_in, locals_in_all, locals_named, locals_named_all, is_read}
+use Rattle.ca_symbolic.specs.Places.{is_among, fields_put, fields_put_all, locals_put, locals_put_all, locals_in, locals_in_all, locals_named, locals_named_all, is_read}
 
 module _ (n : ℕ) where
   in_both : (xs ys : List ℕ) → is_among (xs ++ ys) n ≡ (is_among xs n || is_among ys n)
   in_both xs ys = list_any-append (λ m. nat_eq m n) xs ys
 
-  hits : List FieldId → Bool
+  abbrev hits : List FieldId → Bool
   hits fs = list_any (λ f. nat_eq f.field n) fs
 
   hit_both : (xs ys : List FieldId) → hits (xs ++ ys) ≡ (hits xs || hits ys)
@@ -87,7 +87,7 @@ module _ (n : ℕ) where
     all_names_told no_expressions = refl
     all_names_told (expression_and e es) = ap₂ (λ a b. a || b) (names_told e) (all_names_told es) ∙ sym (in_both (locals_in e) (locals_in_all es))
 
-  some : List Expression → Bool
+  abbrev some : List Expression → Bool
   some es = list_any (λ e. names e n) es
 
   some_listed : (es : Expressions) → some (listed es) ≡ is_among (locals_in_all es) n
@@ -139,12 +139,3 @@ field_targets_told a b = λ i n. (ap₂ (λ x y. x || y) (fields_told n a) (fiel
 
 pub local_targets_told : (a b : Statement) → local_target a b ≡ is_among (locals_put a ++ locals_put b)
 local_targets_told a b = λ i n. (ap₂ (λ x y. x || y) (locals_told n a) (locals_told n b) ∙ sym (in_both n (locals_put a) (locals_put b))) i
-
--- Marks
-
-set_marked : (ms : List Bool) (k n : ℕ) → k < length ms → is_marked (slice_set ms k true) n ≡ (nat_eq k n || is_marked ms n)
-set_marked [] k n h = absurd (omega (arith, h))
-set_marked (m ∷ ms) zero zero h = refl
-set_marked (m ∷ ms) zero (suc n) h = refl
-set_marked (m ∷ ms) (suc k) zero h = refl
-set_marked (m ∷ ms) (suc k) (suc n) h = set_marked ms k n (omega (arith, h))

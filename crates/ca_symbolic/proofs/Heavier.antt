@@ -1,5 +1,5 @@
 -- A term weighs no less than what stands in it, but for an array of which an item is taken.
-use Rattle.std.proofs.Common.{◌≡◌, ℕ, ◌+◌, ◌*◌, ◌<◌, ◌≤◌, zero, Bool, true, arith}
+use Rattle.std.proofs.Common.{◌≡◌, ℕ, ℤ, ◌+◌, ◌*◌, ◌<◌, ◌≤◌, Bool, true, arith}
 use Rattle.std.proofs.Math.Nat.{mul-pos, le-mul_of_pos_right}
 use Rattle.std.proofs.lemmas.Bool.{lt-ltb, ltb-true}
 use Rattle.ca_forms.specs.declared.sort.Sort.{Sort}
@@ -72,10 +72,10 @@ heavier t u p q r h =
 
 -- the left factor, and the right one
 grown : (a b : ℕ) → 0 < b → a ≤ a * b
-grown a b p = le-mul_of_pos_right {b} a p
+grown a b p = le-mul_of_pos_right a p
 
 grown_right : (a b : ℕ) → 0 < a → b ≤ a * b
-grown_right a b p = omega (arith, le-mul_of_pos_right {a} b p)
+grown_right a b p = omega (arith, le-mul_of_pos_right b p)
 
 same_left : (s : Sort) (a b : ℕ) → a ≤ same_spread s a b
 same_left Truth a b = omega arith
@@ -140,12 +140,11 @@ module _ (a b : PlainTerm) where
   pub same_heavier_right : is_heavy b ≡ true → is_heavy (same a b) ≡ true
   same_heavier_right = heavier b (same a b) (same_right (sort_of a) (spread a) (spread b)) (omega arith) (omega arith)
 
-module _ (a : PlainTerm) where
-  pub divide_left : {n : _} → is_heavy a ≡ true → is_heavy (divide a n) ≡ true
-  divide_left {n} = heavier a (divide a n) (omega arith) (omega arith) (omega arith)
+pub divide_left : (a : PlainTerm) (n : ℤ) → is_heavy a ≡ true → is_heavy (divide a n) ≡ true
+divide_left a n = heavier a (divide a n) (omega arith) (omega arith) (omega arith)
 
-  pub remainder_left : {n : _} → is_heavy a ≡ true → is_heavy (remainder a n) ≡ true
-  remainder_left {n} = heavier a (remainder a n) (omega arith) (omega arith) (omega arith)
+pub remainder_left : (a : PlainTerm) (n : ℤ) → is_heavy a ≡ true → is_heavy (remainder a n) ≡ true
+remainder_left a n = heavier a (remainder a n) (omega arith) (omega arith) (omega arith)
 
 module _ (a i x : PlainTerm) where
   pub put_item_heavier : is_heavy x ≡ true → is_heavy (put a i x) ≡ true

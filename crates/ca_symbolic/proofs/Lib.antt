@@ -19,3 +19,5 @@ pub mod Flags
 pub mod Among
 pub mod Joining
 pub mod Bodies
+pub mod Told
+pub mod Groups

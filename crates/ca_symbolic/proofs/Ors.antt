@@ -35,25 +35,29 @@ abbrev pub within : List ℕ → List ℕ → Bool
 within [] ns = true
 within (m ∷ ms) ns = among m ns && within ms ns
 
+right : (x y : Bool) → y ≡ true → (x || y) ≡ true
+right true y e = refl
+right false y e = e
+
+at_first : (f : ℕ → Bool) (m n : ℕ) (ns : List ℕ) → f m ≡ true → (among m ns ≡ true → list_any f ns ≡ true) → (b : Bool) → nat_eq m n ≡ b →
+    (b || among m ns) ≡ true → (f n || list_any f ns) ≡ true
+at_first f m n ns t later true e a = ap (λ x. f x || list_any f ns) (sym (eqb-true m n e)) ∙ ap (λ x. x || list_any f ns) t
+at_first f m n ns t later false e a = right (f n) (list_any f ns) (later a)
+
 found : (f : ℕ → Bool) (m : ℕ) (ns : List ℕ) → among m ns ≡ true → f m ≡ true → list_any f ns ≡ true
 found f m [] a t = absurd cc
-found f m (n ∷ ns) a t = at (nat_eq m n) refl a
-  where
-    at : (b : Bool) → nat_eq m n ≡ b → (b || among m ns) ≡ true → (f n || list_any f ns) ≡ true
-    at true e a = ap (λ x. f x || list_any f ns) (sym (eqb-true m n e)) ∙ ap (λ x. x || list_any f ns) t
-    at false e a = right (f n) (list_any f ns) (found f m ns a t)
+found f m (n ∷ ns) a t = at_first f m n ns t (λ b. found f m ns b t) (nat_eq m n) refl a
 
-    right : (x y : Bool) → y ≡ true → (x || y) ≡ true
-    right true y e = refl
-    right false y e = e
+one_or_more : (f : ℕ → Bool) (m : ℕ) (ms ns : List ℕ) → among m ns ≡ true → (list_any f ms ≡ true → list_any f ns ≡ true) → (x : Bool) → f m ≡ x →
+    (x || list_any f ms) ≡ true → list_any f ns ≡ true
+one_or_more f m ms ns a later true e t = found f m ns a e
+one_or_more f m ms ns a later false e t = later t
 
 carried : (f : ℕ → Bool) (ms ns : List ℕ) → within ms ns ≡ true → list_any f ms ≡ true → list_any f ns ≡ true
 carried f [] ns w t = absurd cc
-carried f (m ∷ ms) ns w t = let b = and_parts (among m ns) (within ms ns) w in at (f m) refl b.0 b.1 t
-  where
-    at : (x : Bool) → f m ≡ x → among m ns ≡ true → within ms ns ≡ true → (x || list_any f ms) ≡ true → list_any f ns ≡ true
-    at true e a w t = found f m ns a e
-    at false e a w t = carried f ms ns w t
+carried f (m ∷ ms) ns w t =
+    let b = and_parts (among m ns) (within ms ns) w in
+    one_or_more f m ms ns b.0 (λ u. carried f ms ns b.1 u) (f m) refl t
 
 alike : (x y : Bool) → (x ≡ true → y ≡ true) → (y ≡ true → x ≡ true) → x ≡ y
 alike true true f g = refl

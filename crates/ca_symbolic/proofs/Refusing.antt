@@ -53,9 +53,9 @@ left_in GreaterEqual a b n = less_equal_right b a
 left_in Plus a b n = add_left a b
 left_in Minus a b n = sub_left a b
 left_in Times a b n = mul_left a b
-left_in Divide a b (Some n) = divide_left a {n}
+left_in Divide a b (Some n) = divide_left a n
 left_in Divide a b None = add_left a b
-left_in Remainder a b (Some n) = remainder_left a {n}
+left_in Remainder a b (Some n) = remainder_left a n
 left_in Remainder a b None = add_left a b
 
 -- a literal is not heavy, and any other right side stands in the term
@@ -95,6 +95,20 @@ guard_is Or g t =
 guard_is op g t = refl
 
 -- In an expression
+
+-- the demands of a call: those of the receiver and of the arguments, the null check and the call
+call_parts : (p : PlainProgram) (s : State) (g : PlainTerm) (e : Expression) (es : Expressions) (d : PlainDemand) → d.parts ≡ term_of p s e ∷ terms_in p s es →
+    P (demands_in p s g e ++ (demands_in_all p s g es ++ (demand g not_null (term_of p s e ∷ []) ∷ d ∷ []))) ≡
+    (P (demands_in p s g e) || (P (demands_in_all p s g es) || (is_heavy (term_of p s e) || (is_heavy (term_of p s e) || (H (terms_in p s es) || false)))))
+call_parts p s g e es d is =
+    let D = P (demands_in p s g e) in
+    let E = P (demands_in_all p s g es) in
+    let t = is_heavy (term_of p s e) in
+    let last : List PlainDemand = demand g not_null (term_of p s e ∷ []) ∷ d ∷ [] in
+    both_parts (demands_in p s g e) (demands_in_all p s g es ++ last)
+    ∙ (ap (λ x. D || x) (both_parts (demands_in_all p s g es) last)
+    ∙ (ap (λ (ts : List PlainTerm). D || (E || (t || H (ts ++ [])))) is
+    ∙ ap (λ x. D || (E || (t || (t || x)))) (both (terms_in p s es) [])))
 
 mutual
   pub refused_is : (p : PlainProgram) (s : State) (g : PlainTerm) (e : Expression) → refused p s g e ≡ ((H (guards_in p s g e) || P (demands_in p s g e)) || is_heavy (term_of p s e))
@@ -195,24 +209,10 @@ mutual
       (either (either (either (v 0) (v 3)) (either (v 1) (v 4))) (either (v 2) (v 5))) refl refl
       ∙ ap₂ (λ x y. (x || y) || (t || u)) (sym (both (guards_in p s g e) (guards_in_all p s g es))) (sym (both_parts (demands_in p s g e) (demands_in_all p s g es))))
 
-  -- the demands of a call: those of the receiver and of the arguments, the null check and the call
-  call_parts : (p : PlainProgram) (s : State) (g : PlainTerm) (e : Expression) (es : Expressions) (d : PlainDemand) → d.parts ≡ term_of p s e ∷ terms_in p s es →
-      P (demands_in p s g e ++ (demands_in_all p s g es ++ (demand g not_null (term_of p s e ∷ []) ∷ d ∷ []))) ≡
-      (P (demands_in p s g e) || (P (demands_in_all p s g es) || (is_heavy (term_of p s e) || (is_heavy (term_of p s e) || (H (terms_in p s es) || false)))))
-  call_parts p s g e es d is =
-      let D = P (demands_in p s g e) in
-      let E = P (demands_in_all p s g es) in
-      let t = is_heavy (term_of p s e) in
-      let last : List PlainDemand = demand g not_null (term_of p s e ∷ []) ∷ d ∷ [] in
-      both_parts (demands_in p s g e) (demands_in_all p s g es ++ last)
-      ∙ (ap (λ x. D || x) (both_parts (demands_in_all p s g es) last)
-      ∙ (ap (λ (ts : List PlainTerm). D || (E || (t || H (ts ++ [])))) is
-      ∙ ap (λ x. D || (E || (t || (t || x)))) (both (terms_in p s es) [])))
-
 -- At a put to an item
 
 module _ (p : PlainProgram) (s : State) (g : PlainTerm) (f : FieldId) where
-  A : PlainTerm
+  abbrev A : PlainTerm
   A = term_at s.fields f.field
 
   item_is : (i a : Expression) → is_item f i a ≡ true → refused_item p s g a ≡ (H (guards_in p s g a) || P (demands_in p s g a))
@@ -308,6 +308,18 @@ module _ (p : PlainProgram) (s : State) (g : PlainTerm) (f : FieldId) where
 
 -- In a statement
 
+put_ends : (p : PlainProgram) (s : State) (g : PlainTerm) (e : Expression) (u : PlainTerm) → (is_heavy (term_of p s e) ≡ true → is_heavy u ≡ true) →
+    (refused p s g e || is_heavy u) ≡ (H (guards_in p s g e ++ u ∷ []) || P (demands_in p s g e))
+put_ends p s g e u more =
+    let G = H (guards_in p s g e) in
+    let D = P (demands_in p s g e) in
+    let t = is_heavy (term_of p s e) in
+    let w = is_heavy u in
+    ap (λ x. x || w) (refused_is p s g e)
+    ∙ (same_ors (G ∷ D ∷ t ∷ w ∷ []) (either (either (either (v 0) (v 1)) (v 2)) (v 3)) (either (either (v 0) (either (either (v 2) (v 3)) none)) (v 1)) refl refl
+    ∙ (ap (λ x. (G || (x || false)) || D) (sym (absorbed t w more))
+    ∙ ap (λ x. x || D) (sym (both (guards_in p s g e) (u ∷ [])))))
+
 mutual
   pub refused_by_is : (p : PlainProgram) (s : State) (g : PlainTerm) (x : Statement) → refused_by p s g x ≡ (H (steps_made p s g x) || P (demanded p s g x))
   refused_by_is p s g (block line ss) = refused_by_all_is p s g ss
@@ -390,18 +402,12 @@ mutual
       ∙ (same_ors (S ∷ D ∷ T ∷ E ∷ []) (either (either (v 0) (v 1)) (either (v 2) (v 3))) (either (either (v 0) (v 2)) (either (v 1) (v 3))) refl refl
       ∙ ap₂ (λ y z. y || z) (sym (both (steps_made p s g x) (steps_made_all p (after p s x) g xs))) (sym (both_parts (demanded p s g x) (demanded_all p (after p s x) g xs))))
 
-  put_ends : (p : PlainProgram) (s : State) (g : PlainTerm) (e : Expression) (u : PlainTerm) → (is_heavy (term_of p s e) ≡ true → is_heavy u ≡ true) →
-      (refused p s g e || is_heavy u) ≡ (H (guards_in p s g e ++ u ∷ []) || P (demands_in p s g e))
-  put_ends p s g e u more =
-      let G = H (guards_in p s g e) in
-      let D = P (demands_in p s g e) in
-      let t = is_heavy (term_of p s e) in
-      let w = is_heavy u in
-      ap (λ x. x || w) (refused_is p s g e)
-      ∙ (same_ors (G ∷ D ∷ t ∷ w ∷ []) (either (either (either (v 0) (v 1)) (v 2)) (v 3)) (either (either (v 0) (either (either (v 2) (v 3)) none)) (v 1)) refl refl
-      ∙ (ap (λ x. (G || (x || false)) || D) (sym (absorbed t w more))
-      ∙ ap (λ x. x || D) (sym (both (guards_in p s g e) (u ∷ [])))))
-
 -- a body is refused exactly where a term that is made on the way is too heavy
 pub refused_exactly : (p : PlainProgram) (s : State) (g : PlainTerm) (xs : Statements) → refused_by_all p s g xs ≡ H (made_by p s g xs)
 refused_exactly p s g xs = refused_by_all_is p s g xs ∙ sym (both (steps_made_all p s g xs) (flat_map (λ d. d.parts) (demanded_all p s g xs)))
+
+pub run_lightly : (p : PlainProgram) (s : State) (g : PlainTerm) (xs : Statements) → refused_by_all p s g xs ≡ false → list_any is_heavy (made_by p s g xs) ≡ false
+run_lightly p s g xs h = sym (refused_exactly p s g xs) ∙ h
+
+pub run_heavily : (p : PlainProgram) (s : State) (g : PlainTerm) (xs : Statements) → refused_by_all p s g xs ≡ true → list_any is_heavy (made_by p s g xs) ≡ true
+run_heavily p s g xs h = sym (refused_exactly p s g xs) ∙ h

@@ -1,8 +1,9 @@
 -- Which fields and locals a statement puts, and which locals it names, by their numbers.
-use Rattle.std.specs.Prelude.{ℕ, Bool, false, ◌&&◌, nat_eq, List, [], ◌∷◌, ◌++◌, get_or}
+use Rattle.std.specs.Prelude.{ℕ, Bool, true, false, ◌&&◌, nat_eq, List, [], ◌∷◌, ◌++◌, get_or}
 use Rattle.std.specs.List.{list_any}
 use Rattle.ca_program.specs.Plain.{Expression, Expressions, number, truth, null, this, local, own, own_item, read, read_item, value_call, unary, binary, no_expressions, expression_and, Statement, Statements, block, put_local, put_field, put_item, new_local, new_field, new_item, invoke, if_else, while_loop, for_loop, return_value, print_value, no_statements, statement_and}
 use Rattle.ca_meaning.specs.Operators.{not_of}
+use Rattle.ca_norm.specs.Terms.{PlainTerm}
 use Rattle.ca_symbolic.specs.Demands.{is_counter}
 
 -- the number is among them
@@ -95,3 +96,7 @@ abbrev mutual
 -- a loop reads the local, and its first part, which is this, doesn't put it
 abbrev pub is_read : Statement → Statement → ℕ → Bool
 is_read loop first n = not_of (is_counter first n) && is_among (locals_named loop) n
+
+abbrev pub one_if : Bool → PlainTerm → List PlainTerm
+one_if true t = t ∷ []
+one_if false t = []

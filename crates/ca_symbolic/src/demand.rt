@@ -49,7 +49,7 @@ pub struct Demands {
 }
 
 impl Model for Demands {
-    ghost use Rattle.std.specs.Prelude.{◌≤◌, ◌++◌, length, map};
+    ghost use Rattle.std.specs.Prelude.{◌≤◌, ◌<◌, ◌^◌, ◌++◌, length, map};
     ghost use Rattle.ca_symbolic.specs.Demanded.{Demanded, demand_of, demands_of};
 
     ghost Value = { Demanded };
@@ -60,7 +60,7 @@ impl Model for Demands {
 
     ghost view = { λ d. record { guard = d.guard; list = demands_of d.closed.items ++ map (demand_of d.guard) d.items.items } };
 
-    ghost invariant = { λ d. length (demands_of d.closed.items ++ map (demand_of d.guard) d.items.items) ≤ d.count };
+    ghost invariant = { λ d. (length (demands_of d.closed.items ++ map (demand_of d.guard) d.items.items) ≤ d.count) × (d.count < 2 ^ 64) };
 }
 
 impl Demands {

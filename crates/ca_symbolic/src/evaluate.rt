@@ -1,6 +1,7 @@
 //! The terms of expressions, and what expressions demand.
 
-ghost use Rattle.std.specs.Prelude.{◌≡◌, [], ◌∷◌, false, true, slice_get, IfOk, OnOk};
+ghost use Rattle.std.specs.Prelude.{◌≡◌, neg_ℤ, [], ◌∷◌, false, true, slice_get, IfOk, OnOk};
+ghost use Rattle.std.specs.Int.{int_wrap, w64};
 ghost use Rattle.ca_program.specs.View.{expression_view, expressions_view, program_view};
 ghost use Rattle.ca_meaning.specs.ProgramTyped.{field_info};
 ghost use Rattle.ca_tree.specs.declared.tree.UnaryOp.TheVariants as sign;
@@ -60,12 +61,19 @@ fn divisor(e: &Expr) -> Option<i64>
     }
 }
 
-/// The negative of a number.
+/// The number with the other sign.
+fn negated(number: i64) -> i64
+    ensures { result ≡ int_wrap w64 (neg_ℤ number) }
+{
+    number.wrapping_neg()
+}
+
+/// The negative of a literal.
 fn negative(e: &Expr) -> Option<i64>
     ensures { result ≡ divisor (unary sign.Minus (expression_view e.now)) }
 {
     match e {
-        Expr::Number(n) => Some(n.wrapping_neg()),
+        Expr::Number(n) => Some(negated(*n)),
         _ => None,
     }
 }

@@ -5,7 +5,7 @@ ghost use Rattle.ca_tree.specs.declared.tree.AssignOp.TheVariants.{Put, Add};
 ghost use Rattle.ca_tree.specs.declared.tree.BinaryOp.TheVariants.{Less, Plus};
 ghost use Rattle.ca_program.specs.declared.program.LocalId.{LocalId};
 ghost use Rattle.ca_program.specs.declared.program.FirstPart.TheVariants.{Declares};
-ghost use Rattle.ca_program.specs.Plain.{Expression, binary, put_local};
+ghost use Rattle.ca_program.specs.Plain.{Expression, binary, put_local, block};
 ghost use Rattle.ca_program.specs.View.{expression_view, statement_view, statements_view};
 ghost use Rattle.ca_symbolic.specs.OtherLoops.{counter_of, compares, counts_up, is_call, are_calls, calls_alone, counts, other_loop, other_loop_in};
 
@@ -71,12 +71,33 @@ fn puts_sum(l: LocalId, a: &Expr, b: &Expr, i: LocalId) -> bool
     }
 }
 
+/// Whether `l = a op b` does.
+fn puts_operation(l: LocalId, op: BinaryOp, a: &Expr, b: &Expr, i: LocalId) -> bool
+    ensures { (line : ℕ) → result ≡ counts_up (put_local line l Put (binary op (expression_view a.now) (expression_view b.now))) i }
+{
+    match op {
+        BinaryOp::Plus => puts_sum(l, a, b, i),
+        _ => false,
+    }
+}
+
 /// Whether `l = e` does.
 fn puts_one_more(l: LocalId, e: &Expr, i: LocalId) -> bool
     ensures { (line : ℕ) → result ≡ counts_up (put_local line l Put (expression_view e.now)) i }
 {
     match e {
-        Expr::Binary(BinaryOp::Plus, a, b) => puts_sum(l, a, b, i),
+        Expr::Binary(op, a, b) => puts_operation(l, *op, a, b, i),
+        _ => false,
+    }
+}
+
+/// Whether a put does.
+fn counts_by(l: LocalId, op: AssignOp, e: &Expr, i: LocalId) -> bool
+    ensures { (line : ℕ) → result ≡ counts_up (put_local line l op (expression_view e.now)) i }
+{
+    match op {
+        AssignOp::Add => adds_one(l, e, i),
+        AssignOp::Put => puts_one_more(l, e, i),
         _ => false,
     }
 }
@@ -86,8 +107,7 @@ fn counts_up(s: &Stmt, i: LocalId) -> bool
     ensures { result ≡ counts_up (statement_view s.now) i }
 {
     match &s.kind {
-        StmtForm::PutLocal(l, AssignOp::Add, e) => adds_one(*l, e, i),
-        StmtForm::PutLocal(l, AssignOp::Put, e) => puts_one_more(*l, e, i),
+        StmtForm::PutLocal(l, op, e) => counts_by(*l, *op, e, i),
         _ => false,
     }
 }
@@ -122,13 +142,24 @@ fn are_calls(stmts: &[Stmt]) -> bool
     true
 }
 
+/// Whether statements are one call or more.
+#[tactic(auto, using(crate::proofs::Blocks::some_calls, crate::proofs::Blocks::no_calls))]
+fn some_calls(stmts: &[Stmt]) -> bool
+    ensures { (line : ℕ) → result ≡ calls_alone (block line (statements_view stmts.now)) }
+{
+    if stmts.len() == 0 {
+        return false;
+    }
+    are_calls(stmts)
+}
+
 /// Whether a body is one call, or a block of one or more.
 fn calls_alone(s: &Stmt) -> bool
     ensures { result ≡ calls_alone (statement_view s.now) }
 {
     match &s.kind {
         StmtForm::Invoke(..) => true,
-        StmtForm::Block(stmts) => !stmts.is_empty() && are_calls(stmts),
+        StmtForm::Block(stmts) => some_calls(stmts),
         _ => false,
     }
 }

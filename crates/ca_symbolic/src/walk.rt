@@ -1,17 +1,18 @@
 //! Symbolic execution of statements.
 
-ghost use Rattle.std.specs.Prelude.{◌≡◌, ℕ, ◌||◌, [], ◌∷◌, false, true, IfOk, OnOk};
+ghost use Rattle.std.specs.Prelude.{◌≡◌, ◌<◌, ◌||◌, ◌&&◌, [], ◌∷◌, ◌++◌, length, false, true, IfOk, OnOk};
 ghost use Rattle.std.specs.List.{list_any};
-ghost use Rattle.ca_program.specs.Plain.{binary, put_item, invoke};
+ghost use Rattle.ca_program.specs.Plain.{binary};
 ghost use Rattle.ca_program.specs.View.{expression_view, expressions_view, statement_view, statements_view, program_view};
 ghost use Rattle.ca_norm.specs.Terms.{add_at, put, neg, not, mul, select};
-ghost use Rattle.ca_symbolic.specs.States.{term_at};
+ghost use Rattle.ca_meaning.specs.Operators.{not_of};
+ghost use Rattle.ca_symbolic.specs.States.{term_at, demand, not_null, in_range, invokes};
 ghost use Rattle.ca_symbolic.specs.Execution.{put_term, is_item, put_right, array_term, with_field, with_local, choose_if, choices, joined_state, term_of, after, after_all};
-ghost use Rattle.ca_symbolic.specs.Demands.{then_guard, else_guard, is_counter, picked, demands_in, demanded, demanded_all};
+ghost use Rattle.ca_symbolic.specs.Demands.{then_guard, else_guard, is_counter, picked, terms_in, demands_in, demands_in_all, demanded, demanded_all};
 ghost use Rattle.ca_symbolic.specs.Made.{targets, joined_terms};
 ghost use Rattle.ca_symbolic.specs.Demanded.{with_demands, under};
-ghost use Rattle.ca_symbolic.specs.Places.{is_among, is_read};
-ghost use Rattle.ca_symbolic.specs.Refusals.{refused, refused_item, refused_put, refused_addend, refused_negative, refused_product, refused_right, refused_array, refused_by, refused_by_all};
+ghost use Rattle.ca_symbolic.specs.Places.{fields_put, locals_put, is_among, is_marked, is_read, one_if};
+ghost use Rattle.ca_symbolic.specs.Refusals.{refused, refused_all, refused_item, refused_put, refused_addend, refused_negative, refused_product, refused_right, refused_array, refused_by, refused_by_all};
 ghost use Rattle.ca_symbolic.specs.Verdicts.{is_heavy};
 
 use crate::demand::{DemandKind, Demands};
@@ -308,9 +309,9 @@ fn put_item(
     out: &mut Demands,
 ) -> Result<(), ExecutionError>
     ensures after { OnOk result (state.new ≡ with_field state.old field.field (array_term (program_view program.now) state.old field (expression_view i.now) op (expression_view e.now))) }
-    ensures demands { OnOk result ((line : ℕ) → out.new ≡ with_demands out.old (demanded (program_view program.now) state.old out.old.guard (put_item line field (expression_view i.now) op (expression_view e.now)))) }
-    ensures light { OnOk result ((line : ℕ) → refused_by (program_view program.now) state.old out.old.guard (put_item line field (expression_view i.now) op (expression_view e.now)) ≡ false) }
-    ensures large { (line : ℕ) → result ≡ Err ExecutionError.Large → refused_by (program_view program.now) state.old out.old.guard (put_item line field (expression_view i.now) op (expression_view e.now)) ≡ true }
+    ensures demands { OnOk result (out.new ≡ with_demands out.old (demands_in (program_view program.now) state.old out.old.guard (expression_view i.now) ++ (demand out.old.guard (in_range field) (term_of (program_view program.now) state.old (expression_view i.now) ∷ []) ∷ demands_in (program_view program.now) state.old out.old.guard (expression_view e.now)))) }
+    ensures light { OnOk result ((refused (program_view program.now) state.old out.old.guard (expression_view i.now) || refused_array (program_view program.now) state.old out.old.guard field (expression_view i.now) op (expression_view e.now)) ≡ false) }
+    ensures large { result ≡ Err ExecutionError.Large → (refused (program_view program.now) state.old out.old.guard (expression_view i.now) || refused_array (program_view program.now) state.old out.old.guard field (expression_view i.now) op (expression_view e.now)) ≡ true }
 {
     let index = value_of(alloc, program, state, i, out)?;
     ask_in_range(alloc, field, &index, out)?;
@@ -330,9 +331,9 @@ fn invoke(
     args: &[Expr],
     out: &mut Demands,
 ) -> Result<(), ExecutionError>
-    ensures demands { OnOk result ((line : ℕ) → out.new ≡ with_demands out.old (demanded (program_view program.now) state.now out.old.guard (invoke line (expression_view e.now) op (expressions_view args.now)))) }
-    ensures light { OnOk result ((line : ℕ) → refused_by (program_view program.now) state.now out.old.guard (invoke line (expression_view e.now) op (expressions_view args.now)) ≡ false) }
-    ensures large { (line : ℕ) → result ≡ Err ExecutionError.Large → refused_by (program_view program.now) state.now out.old.guard (invoke line (expression_view e.now) op (expressions_view args.now)) ≡ true }
+    ensures demands { OnOk result (out.new ≡ with_demands out.old (demands_in (program_view program.now) state.now out.old.guard (expression_view e.now) ++ (demands_in_all (program_view program.now) state.now out.old.guard (expressions_view args.now) ++ (demand out.old.guard not_null (term_of (program_view program.now) state.now (expression_view e.now) ∷ []) ∷ demand out.old.guard (invokes op) (term_of (program_view program.now) state.now (expression_view e.now) ∷ terms_in (program_view program.now) state.now (expressions_view args.now)) ∷ [])))) }
+    ensures light { OnOk result ((refused (program_view program.now) state.now out.old.guard (expression_view e.now) || refused_all (program_view program.now) state.now out.old.guard (expressions_view args.now)) ≡ false) }
+    ensures large { result ≡ Err ExecutionError.Large → (refused (program_view program.now) state.now out.old.guard (expression_view e.now) || refused_all (program_view program.now) state.now out.old.guard (expressions_view args.now)) ≡ true }
 {
     let object = value_of(alloc, program, state, e, out)?;
     let args = values_of(alloc, program, state, args, out)?;
@@ -341,16 +342,43 @@ fn invoke(
 }
 
 /// Whether the first part of a `for` puts this local.
-fn is_counter(first: &Stmt, number: u32) -> bool
+fn is_counter(first: &Stmt, number: usize) -> bool
     ensures { result ≡ is_counter (statement_view first.now) number }
 {
     match &first.kind {
-        StmtForm::PutLocal(id, _, _) => id.0 == number,
+        StmtForm::PutLocal(id, _, _) => id.0 as usize == number,
         _ => false,
     }
 }
 
+/// Whether a place is marked.
+fn is_marked(marks: &[bool], place: usize) -> bool
+    requires { place < length marks.now }
+    ensures { result ≡ is_marked marks.now place }
+{
+    marks[place]
+}
+
+/// Whether a loop reads a local that it names, its first part being this.
+fn is_read(first: &Stmt, number: usize, is_named: bool) -> bool
+    ensures { result ≡ (not_of (is_counter (statement_view first.now) number) && is_named) }
+{
+    !is_counter(first, number) && is_named
+}
+
+/// One more term, where it is read.
+fn add_if(is_added: bool, term: &LightTerm, out: &mut Vec<LightTerm>) -> Result<(), AllocError>
+    ensures added { OnOk result (out.new.items ≡ out.old.items ++ one_if is_added term.now) }
+    ensures light { list_any is_heavy out.old.items ≡ false → OnOk result (list_any is_heavy out.new.items ≡ false) }
+{
+    if is_added {
+        out.push(term.share()?)?;
+    }
+    Ok(())
+}
+
 /// What the locals hold that a loop reads, but for the one that its first part puts.
+#[tactic(auto, using(crate::proofs::Joining::picked_step))]
 fn loop_parts(
     alloc: Global,
     s: &Stmt,
@@ -365,10 +393,9 @@ fn loop_parts(
     let marks = marks(alloc, locals.len(), &names)?;
     let mut parts = Vec::new(alloc);
     for place in 0..locals.len() {
-        if marks[place] && !is_counter(first, place as u32) {
-            let local = &locals[place];
-            parts.push(local.share()?)?;
-        }
+        let local = &locals[place];
+        let is_added = is_read(first, place, is_marked(&marks, place));
+        add_if(is_added, local, &mut parts)?;
     }
     Ok(parts)
 }
@@ -393,6 +420,7 @@ fn chosen(
 }
 
 /// The terms behind two branches, which have these numbers for targets.
+#[tactic(auto, using(crate::proofs::Joining::joined_step, crate::proofs::Joining::joined_light, crate::proofs::Joining::joined_heavy, crate::proofs::Joining::joined_end))]
 fn join_terms(
     alloc: Global,
     condition: &LightTerm,
@@ -410,13 +438,35 @@ fn join_terms(
     for place in 0..count {
         let yes = &first[place];
         let no = &second[place];
-        let term = chosen(alloc, marks[place], condition, yes, no)?;
+        let is_target = is_marked(&marks, place);
+        let term = chosen(alloc, is_target, condition, yes, no)?;
         terms.push(term)?;
     }
     Ok(terms)
 }
 
+/// The fields that two branches put.
+fn fields_of_both(alloc: Global, yes: &Stmt, no: &Stmt) -> Result<Vec<u32>, AllocError>
+    ensures { IfOk result (λ v. v.items ≡ fields_put (statement_view yes.now) ++ fields_put (statement_view no.now)) }
+{
+    let mut fields = Vec::new(alloc);
+    add_fields(yes, &mut fields)?;
+    add_fields(no, &mut fields)?;
+    Ok(fields)
+}
+
+/// The locals that they put.
+fn locals_of_both(alloc: Global, yes: &Stmt, no: &Stmt) -> Result<Vec<u32>, AllocError>
+    ensures { IfOk result (λ v. v.items ≡ locals_put (statement_view yes.now) ++ locals_put (statement_view no.now)) }
+{
+    let mut locals = Vec::new(alloc);
+    add_locals(yes, &mut locals)?;
+    add_locals(no, &mut locals)?;
+    Ok(locals)
+}
+
 /// The state behind two branches, from the states that each of them leaves.
+#[tactic(auto, using(crate::proofs::Told::joined_is, crate::proofs::Told::joins_lightly, crate::proofs::Told::heavy_field, crate::proofs::Told::heavy_local))]
 fn join(
     alloc: Global,
     condition: &LightTerm,
@@ -429,12 +479,8 @@ fn join(
     ensures light { IfOk result (λ s. list_any is_heavy (joined_terms (statement_view yes.now) (statement_view no.now) s) ≡ false) }
     ensures large { result ≡ Err ExecutionError.Large → list_any is_heavy (joined_terms (statement_view yes.now) (statement_view no.now) (joined_state condition.now (statement_view yes.now) (statement_view no.now) first.now second.now)) ≡ true }
 {
-    let mut fields = Vec::new(alloc);
-    add_fields(yes, &mut fields)?;
-    add_fields(no, &mut fields)?;
-    let mut locals = Vec::new(alloc);
-    add_locals(yes, &mut locals)?;
-    add_locals(no, &mut locals)?;
+    let fields = fields_of_both(alloc, yes, no)?;
+    let locals = locals_of_both(alloc, yes, no)?;
     let fields = join_terms(alloc, condition, &fields, first.fields(), second.fields())?;
     let locals = join_terms(alloc, condition, &locals, first.locals(), second.locals())?;
     Ok(SymState::of(fields, locals))
