@@ -1,5 +1,5 @@
 -- Terms behind two branches, and those that a loop reads, one place after the other.
-use Rattle.std.proofs.Common.{◌≡◌, ℕ, suc, ◌+◌, ◌<◌, ◌≤◌, ◌⊎◌, inl, inr, Bool, true, false, ◌||◌, List, [], ◌∷◌, ◌++◌, length, drop, get_or, refl, sym, ap, ap₂, ◌∙◌, subst, arith, append_assoc, append-nil}
+use Rattle.std.proofs.Common.{◌≡◌, ℕ, zero, suc, min, ◌+◌, ◌<◌, ◌≤◌, ◌⊎◌, inl, inr, Bool, true, false, ◌||◌, List, [], ◌∷◌, ◌++◌, length, drop, get_or, refl, sym, ap, ap₂, ◌∙◌, subst, arith, append_assoc, append-nil}
 use Rattle.std.proofs.Math.Seq.{drop-cons}
 use Rattle.std.proofs.lemmas.List.{drop_all}
 use Rattle.std.specs.List.{list_any}
@@ -58,6 +58,17 @@ item_and_rest : {A : Type 0} (xs : List A) (i : ℕ) (x : A) → i < length xs �
 item_and_rest xs i x h e =
     let n : i + 1 ≡ suc i = omega arith in
     drop-cons xs i x h ∙ (ap (λ y. y ∷ drop (suc i) xs) (sym e) ∙ ap (λ m. x ∷ drop m xs) (sym n))
+
+either_or : {A B C D : Type 0} → (A → C) → (B → D) → A ⊎ B → C ⊎ D
+either_or f g (inl a) = inl (f a)
+either_or f g (inr b) = inr (g b)
+
+-- at the end of the shorter one of two
+pub at_end : (a b n : ℕ) → min a b ≤ n → (a ≤ n) ⊎ (b ≤ n)
+at_end zero b n h = inl (omega arith)
+at_end (suc a) zero n h = inr (omega arith)
+at_end (suc a) (suc b) zero h = absurd (omega (arith, h))
+at_end (suc a) (suc b) (suc n) h = either_or (λ i. omega (arith, i)) (λ i. omega (arith, i)) (at_end a b n (omega (arith, h)))
 
 -- behind the last place there is no choice
 no_choice : (f : ℕ → Bool) (n : ℕ) (c : PlainTerm) (ts : List PlainTerm) → choices f n c ts [] ≡ []

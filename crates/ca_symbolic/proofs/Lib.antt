@@ -21,3 +21,4 @@ pub mod Joining
 pub mod Bodies
 pub mod Told
 pub mod Groups
+pub mod Calling

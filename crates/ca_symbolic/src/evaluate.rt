@@ -308,7 +308,7 @@ fn enter_right(
 
 /// The term of an expression. What it demands comes behind what was demanded before.
 #[cycle(value)]
-#[tactic(auto, using(crate::proofs::Flags::neither, crate::proofs::Flags::first_of, crate::proofs::Flags::second_of))]
+#[tactic(auto, using(crate::proofs::Flags::neither, crate::proofs::Flags::first_of, crate::proofs::Flags::second_of, crate::proofs::Calling::terms_are))]
 pub fn value_of(
     alloc: Global,
     program: &Program,
@@ -345,7 +345,8 @@ pub fn value_of(
         Expr::Value(p, method, args) => {
             let object = value_of(alloc, program, state, p, out)?;
             let args = values_of(alloc, program, state, args, out)?;
-            call(alloc, program, object, *method, args, out)
+            let value = call(alloc, program, object, *method, args, out)?;
+            Ok(value)
         }
         Expr::Unary(op, a) => {
             let value = value_of(alloc, program, state, a, out)?;

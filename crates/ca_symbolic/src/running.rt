@@ -64,7 +64,6 @@ pub fn other_loop(program: &Program, op: OpId) -> Option<u32>
 
 /// Runs an operation on a state: it finds the fields as they are, its locals begin anew, and its parameters are the
 /// atoms of its side. What it demands comes behind what was demanded before.
-#[tactic(auto, using(crate::proofs::Refusing::run_lightly, crate::proofs::Refusing::run_heavily))]
 pub fn symbolic(
     alloc: Global,
     program: &Program,
