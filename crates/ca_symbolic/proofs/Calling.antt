@@ -1,11 +1,12 @@
 -- What a call of a value method is the term of, and what it demands.
 use Rattle.std.proofs.Common.{◌≡◌, Bool, true, false, ◌||◌, List, [], ◌∷◌, ◌++◌, refl, sym, ap, ap₂, ◌∙◌, append_assoc}
+use Rattle.std.specs.Prelude.{slice_get}
 use Rattle.ca_program.specs.declared.program.FunctionId.{FunctionId}
 use Rattle.ca_program.specs.Plain.{PlainProgram, Expression, Expressions, value_call, no_expressions, expression_and}
 use Rattle.ca_norm.specs.Terms.{PlainTerm, term_and}
 use Rattle.ca_norm.specs.Terms as term
 use Rattle.ca_symbolic.specs.States.{State, PlainDemand, demand, not_null, calls}
-use Rattle.ca_symbolic.specs.Execution.{term_of, terms_of}
+use Rattle.ca_symbolic.specs.Execution.{sort_of_result, term_of, terms_of}
 use Rattle.ca_symbolic.specs.Demands.{terms_in, demands_in, demands_in_all}
 use Rattle.ca_symbolic.specs.Demanded.{Demanded, with_demands}
 
@@ -31,3 +32,8 @@ call_demands p s d0 d1 d2 d3 e es m t ts a b x y z =
     let list : d3.list ≡ d0.list ++ (D ++ (E ++ last)) =
     ap (λ (d : Demanded). d.list) z ∙ (ap₂ (λ l k. l ++ k) second tail ∙ (append_assoc (d0.list ++ D) E last ∙ append_assoc d0.list D (E ++ last))) in
     ap₂ (λ (k : PlainTerm) (l : List PlainDemand). record { guard = k; list = l }) (ap (λ (d : Demanded). d.guard) z ∙ two) list
+
+pub call_term : (p : PlainProgram) (s : State) (e : Expression) (es : Expressions) (m : FunctionId) (t : PlainTerm) (ts : List PlainTerm) → t ≡ term_of p s e → ts ≡ terms_in p s es →
+    term.result (sort_of_result (slice_get p.functions m.0)) m.0 t (term.terms_of ts) ≡ term_of p s (value_call e m es)
+call_term p s e es m t ts x y =
+    ap₂ (term.result (sort_of_result (slice_get p.functions m.0)) m.0) x (ap term.terms_of y ∙ sym (terms_are p s es))

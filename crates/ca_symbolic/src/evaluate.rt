@@ -308,7 +308,7 @@ fn enter_right(
 
 /// The term of an expression. What it demands comes behind what was demanded before.
 #[cycle(value)]
-#[tactic(auto, using(crate::proofs::Flags::neither, crate::proofs::Flags::first_of, crate::proofs::Flags::second_of, crate::proofs::Calling::terms_are))]
+#[tactic(auto, using(crate::proofs::Flags::neither, crate::proofs::Flags::first_of, crate::proofs::Flags::second_of))]
 pub fn value_of(
     alloc: Global,
     program: &Program,

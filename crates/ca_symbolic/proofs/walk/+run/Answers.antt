@@ -11,7 +11,7 @@ use Rattle.ca_symbolic.proofs.walk.+run.Goals as goal
 
 pub run-returns-in_err-run_all-in-Block-clause-large : goal.run-returns-in_err-run_all-in-Block-clause-large
 run-returns-in_err-run_all-in-Block-clause-large t c =
-    subst (λ x. c.from_residual-in_err-run_all-in-Block.result ≡ Err Large → refused_by (program_view c.args.program.now) c.args.state.now c.args.out.now.guard x ≡ true) (sym (block_view c.args.s.now c.in-Block.stmts c.in-Block.is)) (search rules)
+    subst (λ x. c.from_residual.result ≡ Err Large → refused_by (program_view c.args.program.now) c.args.state.now c.args.out.now.guard x ≡ true) (sym (block_view c.args.s.now c.in-Block.stmts c.in-Block.is)) (search rules)
 
 pub run-returns-in_ok-run_all-in-Block-clause-after : goal.run-returns-in_ok-run_all-in-Block-clause-after
 run-returns-in_ok-run_all-in-Block-clause-after t c =
