@@ -15,6 +15,7 @@ mod demand;
 mod evaluate;
 mod execute;
 mod extent;
+mod formed;
 pub mod laws;
 mod light;
 mod loops;

@@ -1,10 +1,8 @@
 //! Terms that are not too heavy, shared by all that they stand in.
 
-ghost use Rattle.std.specs.Prelude.{◌≡◌, ◌≤◌, false, true, IfOk, box_value, map};
+ghost use Rattle.std.specs.Prelude.{◌≡◌, false, true, IfOk, box_value, map};
 ghost use Rattle.ca_forms.specs.declared.sort.Sort.{Sort};
 ghost use Rattle.ca_norm.specs.Terms.{number, truth, null, atom, add, sub, neg, mul, divide, remainder, less, less_equal, same, not, and, or, choose, read, read_at, result as call_result, select, put, add_at, shape, sort_of, item_sort, terms_of};
-ghost use Rattle.ca_norm.specs.Weights.{weight_of};
-ghost use Rattle.ca_norm.specs.Forms.{norm};
 ghost use Rattle.ca_norm.specs.Measures.{Measures, MeasuresAll};
 ghost use Rattle.ca_symbolic.specs.Nodes.{node_of};
 ghost use Rattle.ca_symbolic.specs.States.{receiver};
@@ -12,7 +10,7 @@ ghost use Rattle.ca_symbolic.specs.Verdicts.{is_heavy};
 
 use crate::weighed::ExecutionError;
 use ca_forms::parts::{both, longer, one_box};
-use ca_norm::{MOST_WEIGHT, Measure, Normal, NormalError, Sort, Term};
+use ca_norm::{MOST_WEIGHT, Measure, Sort, Term};
 use std::alloc::{AllocError, Global};
 use std::marker::Model;
 use std::rc::Rc;
@@ -23,7 +21,7 @@ use std::rc::Rc;
 #[derive(Drop)]
 pub struct LightTerm {
     node: Rc<Node>,
-    measure: Measure,
+    pub(crate) measure: Measure,
 }
 
 /// The arguments of a call.
@@ -125,18 +123,6 @@ fn item_sort(sort: Sort) -> Sort
         Sort::BoolArray => Sort::Bool,
         Sort::PointerArray => Sort::Pointer,
         other => other,
-    }
-}
-
-/// The normal form of a term that is not too heavy.
-fn light_normal(alloc: Global, term: &Term) -> Result<Normal, AllocError>
-    requires { weight_of (shape term.now) ≤ 65536 }
-    ensures { IfOk result (λ n. n ≡ norm (shape term.now)) }
-{
-    match ca_norm::normal(alloc, term) {
-        Ok(normal) => Ok(normal),
-        Err(NormalError::Memory) => Err(AllocError),
-        Err(NormalError::Large) => unreachable!(),
     }
 }
 
@@ -467,19 +453,10 @@ impl LightTerm {
         }
     }
 
-    /// The term's normal form. No term of this type is too heavy for one.
-    pub fn normal(&self, alloc: Global) -> Result<Normal, AllocError>
-        ensures { IfOk result (λ n. n ≡ norm self.now) }
-    {
-        let _measure = self.measure;
-        let term = self.unshared(alloc)?;
-        light_normal(alloc, &term)
-    }
-
     /// The term with no part shared: of at most `MOST_WEIGHT` nodes, and as deep as it is.
     #[cycle(unshared)]
     #[inline(never)]
-    fn unshared(&self, alloc: Global) -> Result<Term, AllocError>
+    pub(crate) fn unshared(&self, alloc: Global) -> Result<Term, AllocError>
         ensures { IfOk result (λ t. shape t ≡ self.now) }
     {
         match &*self.node {
