@@ -1,6 +1,6 @@
 -- Pieces without their marks are the canonical tokens, and where nothing is marked these are all pieces.
 use Rattle.std.proofs.Common.{◌≡◌, List, [], ◌∷◌, ◌++◌, refl, sym, ap, ◌∙◌, append_assoc, append-nil}
-use Rattle.std.specs.Prelude.{Some, None, false}
+use Rattle.std.specs.Prelude.{Some, None}
 use Rattle.ca_tree.specs.declared.token.Kind.{Kind}
 use Rattle.ca_tree.specs.declared.token.Kind.TheVariants.{Word, Key, Sign}
 use Rattle.ca_tree.specs.declared.token.Keyword.TheVariants as key

@@ -1,5 +1,5 @@
 -- The pieces of a tree: its canonical tokens, and the marks between them.
-use Rattle.std.specs.Prelude.{List, [], ◌∷◌, ◌++◌, false, Some, None}
+use Rattle.std.specs.Prelude.{List, [], ◌∷◌, ◌++◌, Some, None}
 use Rattle.ca_tree.specs.declared.token.Kind.TheVariants.{Word, Key, Sign}
 use Rattle.ca_tree.specs.declared.token.Keyword.TheVariants as key
 use Rattle.ca_tree.specs.declared.token.Sign.TheVariants as sign
