@@ -35,8 +35,11 @@ same_key o n a b c = ap (λ (d : DequeId). (d, n.hand.out, n.hand.dealt)) a ∙ 
 pub may_run : (s : Setting) (given : Given) (t : Task) → s ≡ setting_of given → Fits s t → MayRun given t
 may_run s given t e f = let g : Fits (setting_of given) t = subst (λ (x : Setting). Fits x t) e f in record { typed = g.typed; inside = g.inside }
 
-all_fit_from : (given : Given) (ts : List Task) → All (MayRun given) ts → AllFit (setting_of given) ts
+pub all_fit_from : (given : Given) (ts : List Task) → All (MayRun given) ts → AllFit (setting_of given) ts
 all_fit_from given ts h k d l = let m : MayRun given _ = h k d l in record { typed = m.typed; inside = m.inside }
+
+pub fits_may_run : (s : Setting) (given : Given) (ts : List Task) → s ≡ setting_of given → AllFit s ts → All (MayRun given) ts
+fits_may_run s given ts e h k d l = may_run s given _ e (h k d l)
 
 pub all_fit : (s : Setting) (given : Given) (ts : List Task) → s ≡ setting_of given → All (MayRun given) ts → AllFit s ts
 all_fit s given ts e h = subst (λ (x : Setting). AllFit x ts) (sym e) (all_fit_from given ts h)
