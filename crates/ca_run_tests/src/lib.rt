@@ -4,8 +4,6 @@
 #![tactic(auto)]
 
 #[cfg(test)]
-mod branches;
-#[cfg(test)]
 mod forms;
 #[cfg(test)]
 mod programs;
