@@ -21,7 +21,7 @@ pub pairs_same : (ps : Sum PlainMonomial) → map (λ e. (e.0, e.1)) ps ≡ ps
 pairs_same [] = refl
 pairs_same (p ∷ ps) = ap (λ z. p ∷ z) (pairs_same ps)
 
-gathered_same_totals : (ps : Sum PlainMonomial) → SameTotals (products_of (gathered ps)) ps
+pub gathered_same_totals : (ps : Sum PlainMonomial) → SameTotals (products_of (gathered ps)) ps
 gathered_same_totals ps = record { same = λ f. alike_trans (alike_eq (ap (total f) (products_polynomial (collect monomial_cmp ps)))) (total_collect monomial_cmp monomials_exact f ps) }
 
 adds_same : (a b : Sum PlainMonomial) (k : ℕ) (ps qs : Sum PlainMonomial) → SameTotals ps qs → AddsSum a b k ps → AddsSum a b k qs

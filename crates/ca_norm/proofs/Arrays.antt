@@ -1,5 +1,5 @@
 -- What the rules for arrays come to under a valuation, item by item.
-use Rattle.std.proofs.Common.{◌≡◌, ℕ, ◌+◌, ◌-◌, ◌*◌, ◌%◌, ◌^◌, ◌<◌, ℤ, Bool, true, false, cond, [], ◌∷◌, ◌++◌, Ordering, Less, Equal, Greater, is_eq, refl, sym, ap, ap₂, ◌∙◌, arith, subst, w64, to_z, mod-lt, pow_pos}
+use Rattle.std.proofs.Common.{◌≡◌, ℕ, ◌+◌, ◌-◌, ◌*◌, ◌%◌, ◌^◌, ◌<◌, ℤ, Bool, true, false, cond, [], ◌∷◌, ◌++◌, Ordering, Less, Equal, Greater, refl, sym, ap, ap₂, ◌∙◌, arith, subst, w64, to_z, mod-lt, pow_pos}
 use Rattle.std.proofs.lemmas.Int.{of_z-to_z}
 use Rattle.std.specs.Prelude.{nat_eq}
 use Rattle.ca_tree.specs.declared.tree.BinaryOp.TheVariants as op
@@ -8,7 +8,7 @@ use Rattle.ca_model.specs.declared.value.Value.TheVariants as datum
 use Rattle.ca_meaning.specs.Operators.{same_int}
 use Rattle.ca_forms.specs.declared.sort.Sort.{Sort}
 use Rattle.ca_forms.specs.declared.sort.Sort.TheVariants.{Long, Bool as Truth, Pointer, LongArray, BoolArray, PointerArray}
-use Rattle.ca_forms.specs.Plain.{PlainPolynomial, PlainMonomial, PlainPointer, PlainScalar, own_item, no_products, product_and}
+use Rattle.ca_forms.specs.Plain.{PlainPolynomial, PlainMonomial, PlainScalar, own_item, no_products, product_and}
 use Rattle.ca_forms.specs.Lists.{products_of}
 use Rattle.ca_forms.specs.Compare.{polynomial_cmp}
 use Rattle.ca_forms.specs.Products.{times}
@@ -22,7 +22,7 @@ use Rattle.ca_sums.proofs.Algebra.{alike_refl, alike_eq, alike_sym, alike_trans,
 use Rattle.ca_norm.specs.Terms.{IsWord}
 use Rattle.ca_norm.specs.Meanings.{IsOfSort, Valuation, operate, chosen, bit, word_of, number_in, truth_in, index_in, polynomial_value, monomial_value, pointer_mean, scalar_mean, rows_value, array_item}
 use Rattle.ca_norm.proofs.Words.{word, word_fits}
-use Rattle.ca_norm.proofs.Operations.{IsLong, IsTruth, IsTyped, sort_typed, wrapped, chosen_typed, sum_word, back, same_words, chosen_bit}
+use Rattle.ca_norm.proofs.Operations.{IsLong, IsTyped, sort_typed, wrapped, chosen_typed, sum_word, back, same_words, chosen_bit}
 use Rattle.ca_norm.proofs.Quotients.{cast_fits}
 use Rattle.ca_norm.proofs.Rules.{gathered_value, alone_value, zero_value, product_value, minus_value, equal_words}
 use Rattle.ca_norm.proofs.Pointers.{chosen_pointer_means}

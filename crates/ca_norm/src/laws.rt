@@ -1,7 +1,7 @@
 //! Laws of normal forms.
 
 ghost use Rattle.std.specs.Prelude.{◌≡◌, ℤ};
-ghost use Rattle.ca_norm.specs.Terms.{PlainTerm, IsWord, IsArray, IsOf, sort_of};
+ghost use Rattle.ca_norm.specs.Terms.{PlainTerm, add_at, IsWord, IsArray, IsOf, sort_of};
 ghost use Rattle.ca_norm.specs.Forms.{norm, SamePolynomial, IsPolynomialOf};
 ghost use Rattle.ca_norm.specs.Meanings.{Valuation, mean, item_mean, form_mean, form_item};
 
@@ -33,4 +33,9 @@ pub fn same_forms()
 /// Arrays of one normal form have the same items at every number.
 pub fn same_items()
     ensures { (v : Valuation) (t u : PlainTerm) (k : ℤ) → IsArray (sort_of t) → IsArray (sort_of u) → IsOf (sort_of t) t → IsOf (sort_of u) u → norm t ≡ norm u → item_mean v t k ≡ item_mean v u k }
+{}
+
+/// Two sums at items have one normal form in either order, whatever the indexes are.
+pub fn sums_commute()
+    ensures { (a i x j y : PlainTerm) → norm (add_at (add_at a i x) j y) ≡ norm (add_at (add_at a j y) i x) }
 {}
