@@ -21,7 +21,8 @@ impl Part {
             Node::Less(_, _) | Node::Zero(_) | Node::Quotient(_, _) | Node::Modulus(_, _) =>
                 self.copy_operation(alloc),
             Node::SamePointer(_, _) => self.copy_equation(alloc),
-            Node::Field(_, _, _, _) | Node::Item(_, _, _, _, _) => self.copy_read(alloc),
+            Node::Field(_, _, _, _) | Node::Item(_, _, _, _, _) | Node::OwnItem(_, _, _, _) =>
+                self.copy_read(alloc),
             Node::Result(_, _, _, _) => self.copy_result(alloc),
         }
     }
@@ -70,6 +71,7 @@ impl Part {
                 let (object, index) = both(p.copy(alloc), i.copy(alloc))?;
                 Ok(Node::Item(*s, object, *c, *f, index).part())
             }
+            Node::OwnItem(s, g, n, i) => Ok(Node::OwnItem(*s, *g, *n, i.copy(alloc)?).part()),
             _ => Err(AllocError),
         }
     }

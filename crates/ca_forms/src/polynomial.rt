@@ -37,6 +37,8 @@ pub(crate) enum Node {
     Item(Sort, Pointer, u32, u32, Polynomial),
     /// What a value method gives: its sort, its number, the receiver and the arguments.
     Result(Sort, u32, Pointer, Scalars),
+    /// The item at an index of an array that is an atom: its sort, and the atom's group and number.
+    OwnItem(Sort, u32, u32, Polynomial),
 }
 
 /// A part several times over.

@@ -6,6 +6,8 @@ pub mod Rules
 pub mod Polynomials
 pub mod Valuations
 pub mod Values
+pub mod SumsCommute
+pub mod Arrays
 pub mod Pointers
 pub mod Quotients
 pub mod Shapes

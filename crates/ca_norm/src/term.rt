@@ -252,7 +252,7 @@ fn copy_all(alloc: Global, terms: &[Term]) -> Result<Vec<Term>, AllocError>
 }
 
 /// The sort of the items of an array.
-fn item_sort(sort: Sort) -> Sort
+pub(crate) fn item_sort(sort: Sort) -> Sort
     ensures { result ≡ item_sort sort }
 {
     match sort {
