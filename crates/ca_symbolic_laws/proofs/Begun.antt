@@ -96,7 +96,7 @@ module _ (s : Environment) where
   items_mean n ty k [] e t = refl
   items_mean n ty k (d ∷ ds) e t =
       ap₂ (λ a b. a ∷ b) (item_means n ty k d (ap (value_at (items_at n)) (let z : k ≡ k + zero = omega arith in z) ∙ e zero) t.0)
-          (items_mean n ty (suc k) ds (λ i. ap (value_at (items_at n)) (let z : suc k + i ≡ k + suc i = omega arith in z) ∙ e (suc i)) t.1)
+      (items_mean n ty (suc k) ds (λ i. ap (value_at (items_at n)) (let z : suc k + i ≡ k + suc i = omega arith in z) ∙ e (suc i)) t.1)
 
   -- the atom of a field means its slot, and has its type
   slot_means : (n : ℕ) (ty : ValueType) (len : Option ℕ) (x : Slot) → slice_get s.object.slots n ≡ Some x → SlotTyped s.heap x ty len → slot_meant v (atom (sort_of_slot ty len) 3 n) len ≡ x
@@ -113,7 +113,7 @@ module _ (s : Environment) where
   slot_typed n ty (Some k) (One d) i t = absurd t
   slot_typed n ty (Some k) (Many ds) i t =
       λ z. subst (λ (y : Sort). HasType s.heap (as_sort y (own_item_in s 3 n z)) ty) (sym (item_sort_is ty))
-          (index_typed s.heap ty (items_at n) (Long z) (subst (λ o. AllHaveType s.heap (items_in o) ty) (sym i) t.1))
+      (index_typed s.heap ty (items_at n) (Long z) (subst (λ o. AllHaveType s.heap (items_in o) ty) (sym i) t.1))
 
   here : (n : ℕ) (ss : List Slot) → ((k : ℕ) → slice_get s.object.slots (n + k) ≡ slice_get ss k) → slice_get s.object.slots n ≡ slice_get ss zero
   here n ss e = ap (slice_get s.object.slots) (let z : n ≡ n + zero = omega arith in z) ∙ e zero

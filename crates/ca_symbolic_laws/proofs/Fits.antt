@@ -56,7 +56,6 @@ module _ (s : Environment) (m : PlainMethod) (written : List FieldId) (is_counte
   at_head called x xs f = record {
     typed = f.typed.0;
     separated = f.separated.0;
-   
     known = first_none (other_loop x) (other_loop_in xs) f.known;
     puts = λ g c. f.puts g (Contains-append_left (targets_of x) (targets_of_all xs) g c);
     inside = λ y c. f.inside y (Contains-append_left (fors_in x) (fors_in_all xs) y c);
@@ -68,7 +67,6 @@ module _ (s : Environment) (m : PlainMethod) (written : List FieldId) (is_counte
   in_tail called x xs f = record {
     typed = f.typed.1;
     separated = f.separated.1;
-   
     known = second_none (other_loop x) (other_loop_in xs) f.known;
     puts = λ g c. f.puts g (Contains-append_right (targets_of x) (targets_of_all xs) g c);
     inside = λ y c. f.inside y (Contains-append_right (fors_in x) (fors_in_all xs) y c);
@@ -83,7 +81,6 @@ module _ (s : Environment) (m : PlainMethod) (written : List FieldId) (is_counte
   in_then called line c a b f = record {
     typed = f.typed.1;
     separated = f.separated.1;
-   
     known = first_none (other_loop a) (other_loop b) f.known;
     puts = λ g k. f.puts g (Contains-append_left (targets_of a) (targets_of b) g k);
     inside = λ y k. f.inside y (Contains-append_left (fors_in a) (fors_in b) y k);
@@ -95,7 +92,6 @@ module _ (s : Environment) (m : PlainMethod) (written : List FieldId) (is_counte
   in_else called line c a b f = record {
     typed = f.typed.2;
     separated = f.separated.2;
-   
     known = second_none (other_loop a) (other_loop b) f.known;
     puts = λ g k. f.puts g (Contains-append_right (targets_of a) (targets_of b) g k);
     inside = λ y k. f.inside y (Contains-append_right (fors_in a) (fors_in b) y k);

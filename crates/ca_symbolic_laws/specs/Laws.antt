@@ -51,7 +51,7 @@ arguments_in s (suc zero) = s.first
 arguments_in s (suc (suc zero)) = s.second
 arguments_in s (suc (suc (suc n))) = []
 
--- Program and heap are typed, and the receiver names an object of the class of an operation.
+-- The method is an operation, program and heap are typed, and the receiver names an object of its class.
 pub record Typed (s : Environment) (m : PlainMethod) : Type 0 where
   pub operation : m.result ≡ None
   pub program : ProgramTyped s.program
