@@ -5,7 +5,7 @@ use Rattle.ca_forms.specs.Plain.{PlainPart, PlainPolynomial, PlainMonomial, no_p
 use Rattle.ca_forms.specs.Lists.{monomial_of, polynomial_of}
 use Rattle.ca_forms.specs.Rules.{is_one, constancy}
 
-positive : (n : ℕ) → (suc n == 0) ≡ false
+pub positive : (n : ℕ) → (suc n == 0) ≡ false
 positive n = grind (arith, nat_tests)
 
 pub one_of : (ps : List (PlainPart × ℕ)) → (length ps == 0) ≡ is_one (monomial_of ps)

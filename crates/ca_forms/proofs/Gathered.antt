@@ -53,11 +53,25 @@ difference_is ps qs = gathered_same _ _ (append_same _ _ _ _ (gathered_same_tota
 pub adds_by_gathered : (a b : Sum PlainMonomial) (k : ℕ) (ps qs : Sum PlainMonomial) → AddsSum a b k (product times ps (products_of (gathered qs))) → AddsSum a b k (product times ps qs)
 adds_by_gathered a b k ps qs h = adds_same a b k _ _ (product_same times _ _ _ _ (same_totals_refl ps) (gathered_same_totals qs)) h
 
--- a choice of gathered sums is as good as that of the sums
+-- a choice of sums is as good as that of sums of the same totals
+adds_choice : (a b : Sum PlainMonomial) (k : ℕ) (cs ds ps rs qs ss : Sum PlainMonomial) → SameTotals cs ds → SameTotals ps rs → SameTotals qs ss → AddsSum a b k (chosen cs ps qs) → AddsSum a b k (chosen ds rs ss)
+adds_choice a b k cs ds ps rs qs ss e f g h =
+    adds_same a b k _ _ (append_same _ _ _ _ g (product_same times _ _ _ _ e (append_same _ _ _ _ f (minus_same _ _ g)))) h
+
 pub adds_chosen : (a b : Sum PlainMonomial) (k : ℕ) (cs ps qs : Sum PlainMonomial) → AddsSum a b k (chosen (products_of (gathered cs)) (products_of (gathered ps)) (products_of (gathered qs))) → AddsSum a b k (chosen cs ps qs)
-adds_chosen a b k cs ps qs h =
-    let apart = append_same _ _ _ _ (gathered_same_totals ps) (minus_same _ _ (gathered_same_totals qs)) in
-    adds_same a b k _ _ (append_same _ _ _ _ (gathered_same_totals qs) (product_same times _ _ _ _ (gathered_same_totals cs) apart)) h
+adds_chosen a b k cs ps qs h = adds_choice a b k _ _ _ _ _ _ (gathered_same_totals cs) (gathered_same_totals ps) (gathered_same_totals qs) h
+
+-- where the first side stands as it is
+pub adds_put : (a b : Sum PlainMonomial) (k : ℕ) (cs ps qs : Sum PlainMonomial) → AddsSum a b k (chosen (products_of (gathered cs)) ps (products_of (gathered qs))) → AddsSum a b k (chosen cs ps qs)
+adds_put a b k cs ps qs h = adds_choice a b k _ _ _ _ _ _ (gathered_same_totals cs) (same_totals_refl ps) (gathered_same_totals qs) h
+
+-- where the condition stands as it is
+pub adds_sides : (a b : Sum PlainMonomial) (k : ℕ) (cs ps qs : Sum PlainMonomial) → AddsSum a b k (chosen cs (products_of (gathered ps)) (products_of (gathered qs))) → AddsSum a b k (chosen cs ps qs)
+adds_sides a b k cs ps qs h = adds_choice a b k _ _ _ _ _ _ (same_totals_refl cs) (gathered_same_totals ps) (gathered_same_totals qs) h
+
+-- the product of a gathered sum with another
+pub adds_of_gathered : (a b : Sum PlainMonomial) (k : ℕ) (ps qs : Sum PlainMonomial) → AddsSum a b k (product times (products_of (gathered ps)) qs) → AddsSum a b k (product times ps qs)
+adds_of_gathered a b k ps qs h = adds_same a b k _ _ (product_same times _ _ _ _ (gathered_same_totals ps) (same_totals_refl qs)) h
 
 -- so are the tests whether one of two truth values holds and whether two are equal
 pub adds_either : (a b : Sum PlainMonomial) (k : ℕ) (ps qs : Sum PlainMonomial) → AddsSum a b k (either (products_of (gathered ps)) (products_of (gathered qs))) → AddsSum a b k (either ps qs)
@@ -78,8 +92,12 @@ same_numbers_gathered ps qs = ap zero_sum (difference_is ps qs)
 one_times : (t k g : ℕ) → t + k * g ≡ t + 1 * (k * g)
 one_times t k g = omega arith
 
+-- a sum that is added k times
+pub adds_factor : (a b : Sum PlainMonomial) (k : ℕ) (ps : Sum PlainMonomial) → AddsSum a b k ps → AddsSum a b 1 (scale k ps)
+adds_factor a b k ps h = record { added = λ f. alike_trans (h.added f) (alike_eq (one_times (total f a) k (total f ps) ∙ ap (λ z. total f a + 1 * z) (sym (total_scale f k ps)))) }
+
 pub adds_minus_sum : (a b : Sum PlainMonomial) (ps : Sum PlainMonomial) → AddsSum a b (2 ^ 64 - 1) ps → AddsSum a b 1 (minus ps)
-adds_minus_sum a b ps h = record { added = λ f. alike_trans (h.added f) (alike_eq (one_times (total f a) (2 ^ 64 - 1) (total f ps) ∙ ap (λ z. total f a + 1 * z) (sym (total_scale f (2 ^ 64 - 1) ps)))) }
+adds_minus_sum a b ps h = adds_factor a b (2 ^ 64 - 1) ps h
 
 pub adds_scaled : (a b : Sum PlainMonomial) (k d : ℕ) (ps : Sum PlainMonomial) → AddsSum a b ((k * d) % (2 ^ 64)) ps → AddsSum a b k (scale d ps)
 adds_scaled a b k d ps h = record {

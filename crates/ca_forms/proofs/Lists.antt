@@ -7,6 +7,7 @@ use Rattle.ca_forms.specs.Plain.{PlainPart, PlainMonomial, PlainScalar, polynomi
 use Rattle.ca_forms.specs.Trees.{tree_cmp}
 use Rattle.ca_forms.specs.Lists.{monomial_of, powers_of, polynomial_of, scalars_of}
 use Rattle.ca_forms.specs.Compare.{power_cmp, product_cmp, scalar_cmp}
+use Rattle.ca_forms.specs.Arrays.{PlainRows, rows_code, row_cmp}
 
 pub powers_monomial : (ps : List (PlainPart × ℕ)) → powers_of (monomial_of ps) ≡ ps
 powers_monomial [] = refl
@@ -34,6 +35,12 @@ arguments_cmp [] [] = refl
 arguments_cmp [] (y ∷ ys) = refl
 arguments_cmp (x ∷ xs) [] = refl
 arguments_cmp (x ∷ xs) (y ∷ ys) = ap (ordering_then (scalar_cmp x y)) (arguments_cmp xs ys)
+
+pub rows_are : (xs ys : PlainRows) → slice_cmp row_cmp xs ys ≡ tree_cmp (rows_code xs) (rows_code ys)
+rows_are [] [] = refl
+rows_are [] (y ∷ ys) = refl
+rows_are (x ∷ xs) [] = refl
+rows_are (x ∷ xs) (y ∷ ys) = ap (ordering_then (row_cmp x y)) (rows_are xs ys)
 
 -- two lists that tie at each index so far
 pub passes : {X : Type 0} (R : X → X → Ordering) (xs ys : List X) (i : ℕ) (d : X) → i < length xs → i < length ys → R (get_or xs i d) (get_or ys i d) ≡ Equal → slice_cmp R (drop (i + 1) xs) (drop (i + 1) ys) ≡ slice_cmp R (drop i xs) (drop i ys)

@@ -21,6 +21,7 @@ part_falls (node.Modulus a n) = omega arith
 part_falls (node.Field s p c f) = omega arith
 part_falls (node.Item s p c f i) = omega arith
 part_falls (node.Result s m p xs) = omega arith
+part_falls (node.OwnItem s g n i) = omega arith
 
 pub pointer_falls : (n : PointerNode) → max (deep-PointerNode n) 0 ≤ pointer_size (pointer_of n)
 pointer_falls pointer.Null = omega arith

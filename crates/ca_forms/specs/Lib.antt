@@ -2,7 +2,12 @@ pub mod Trees
 pub mod Plain
 pub mod Lists
 pub mod Compare
+pub mod Arrays
 pub mod Seen
+pub mod ArraysSeen
 pub mod Falls
+pub mod ArrayFalls
 pub mod Products
 pub mod Rules
+pub mod ArrayRules
+pub mod Places

@@ -1,9 +1,9 @@
 -- Lists of products as a polynomial, of powers as a monomial, of forms as arguments, and how deep each is.
-use Rattle.std.specs.Prelude.{ℕ, ◌+◌, ◌≤◌, List, [], ◌∷◌}
+use Rattle.std.specs.Prelude.{ℕ, ◌+◌, ◌≤◌, List, [], ◌∷◌, length, max}
 use Rattle.std.proofs.Common.{arith}
 use Rattle.std.specs.Coded.{Coded, coded×, coded_ℕ}
 use denote.Param.Weighed.{most}
-use Rattle.ca_forms.specs.Plain.{PlainPart, PlainPolynomial, PlainMonomial, PlainPointer, PlainScalar, PlainScalars, variable, is_less, is_zero, same_pointer, quotient, modulus, field_of, item_of, result_of, no_products, product_and, no_powers, power_and, no_object, pointer_part, pointer_choice, number_form, truth_form, pointer_form, no_scalars, scalar_and, coded_part, coded_monomial}
+use Rattle.ca_forms.specs.Plain.{PlainPart, PlainPolynomial, PlainMonomial, PlainPointer, PlainScalar, PlainScalars, variable, is_less, is_zero, same_pointer, quotient, modulus, field_of, item_of, result_of, own_item, no_products, product_and, no_powers, power_and, no_object, pointer_part, pointer_choice, number_form, truth_form, pointer_form, no_scalars, scalar_and, coded_part, coded_monomial}
 
 abbrev pub coded_product : Coded (PlainMonomial × ℕ)
 coded_product = coded× coded_monomial coded_ℕ
@@ -27,6 +27,11 @@ abbrev pub products_of : PlainPolynomial → List (PlainMonomial × ℕ)
 products_of no_products = []
 products_of (product_and m c f) = (m, c) ∷ products_of f
 
+-- how many powers the monomial has that has the most of them
+abbrev pub longest : PlainPolynomial → ℕ
+longest no_products = 0
+longest (product_and m c f) = max (length (powers_of m)) (longest f)
+
 abbrev pub scalars_of : List PlainScalar → PlainScalars
 scalars_of [] = no_scalars
 scalars_of (x ∷ xs) = scalar_and x (scalars_of xs)
@@ -42,6 +47,7 @@ abbrev mutual
   part_size (field_of s p c f) = pointer_size p + 1
   part_size (item_of s p c f i) = pointer_size p + polynomial_size i + 1
   part_size (result_of s m p xs) = pointer_size p + scalars_size xs + 1
+  part_size (own_item s g n i) = polynomial_size i + 1
 
   pub polynomial_size : PlainPolynomial → ℕ
   polynomial_size no_products = 1

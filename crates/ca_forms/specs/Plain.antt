@@ -25,6 +25,8 @@ mutual
     item_of : Sort → PlainPointer → ℕ → ℕ → PlainPolynomial → PlainPart
     -- a value method's result: its sort, the method, the receiver and the arguments
     result_of : Sort → ℕ → PlainPointer → PlainScalars → PlainPart
+    -- the item at an index of an array that is an atom: its sort, and the atom's group and number
+    own_item : Sort → ℕ → ℕ → PlainPolynomial → PlainPart
 
   -- products, each a monomial and its coefficient
   pub data PlainPolynomial : Type 0 where
@@ -65,7 +67,7 @@ kind n v = gcons (gnum n) v
 -- by which parts of two kinds are told apart
 abbrev kind_of : Gv → ℕ
 kind_of (gcons (gnum n) v) = n
-kind_of v = 9
+kind_of v = 10
 
 -- a sort and two numbers
 abbrev pub name_code : Sort → ℕ → ℕ → Gv
@@ -83,6 +85,7 @@ abbrev mutual
   part_code (field_of s p c f) = kind 6 (gcons (name_code s c f) (pointer_code p))
   part_code (item_of s p c f i) = kind 7 (gcons (name_code s c f) (gcons (pointer_code p) (polynomial_code i)))
   part_code (result_of s m p xs) = kind 8 (gcons (name_code s m 0) (gcons (pointer_code p) (scalars_code xs)))
+  part_code (own_item s g n i) = kind 9 (gcons (name_code s g n) (polynomial_code i))
 
   pub polynomial_code : PlainPolynomial → Gv
   polynomial_code no_products = gnil
@@ -106,7 +109,7 @@ abbrev mutual
   scalars_code no_scalars = gnil
   scalars_code (scalar_and x xs) = gcons (scalar_code x) (scalars_code xs)
 
-sort_inj : (s t : Sort) → sort_number s ≡ sort_number t → s ≡ t
+pub sort_inj : (s t : Sort) → sort_number s ≡ sort_number t → s ≡ t
 sort_inj Long Long e = refl
 sort_inj Bool Bool e = refl
 sort_inj Pointer Pointer e = refl
@@ -134,6 +137,9 @@ mutual
       let same : s ≡ t = sort_inj s t cc in
       let i : a ≡ b = pointer_inj a b cc in
       let j : xs ≡ ys = scalars_inj xs ys cc in cc
+  part_inj (own_item s g n x) (own_item t h m y) e =
+      let same : s ≡ t = sort_inj s t cc in
+      let j : x ≡ y = polynomial_inj x y cc in cc
   part_inj p q e = let kinds : kind_of (part_code p) ≡ kind_of (part_code q) = ap kind_of e in absurd (omega (arith, kinds))
 
   pub polynomial_inj : (p q : PlainPolynomial) → polynomial_code p ≡ polynomial_code q → p ≡ q

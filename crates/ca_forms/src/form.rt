@@ -2,8 +2,8 @@
 
 ghost use Rattle.std.specs.Prelude.{◌≡◌, ◌↔◌, IfOk, IsTrue};
 
+use crate::array::Array;
 use crate::polynomial::Scalar;
-use crate::sort::Sort;
 use std::alloc::{AllocError, Global};
 use std::cmp::Ordering;
 
@@ -16,12 +16,11 @@ impl Scalar {
     }
 }
 
-/// A normal form: of a number, a truth value or a pointer, or an array that is an atom.
+/// A normal form: of a number, a truth value or a pointer, or of an array.
 #[derive(Drop, Debug)]
 pub enum Normal {
     Scalar(Scalar),
-    /// The atom, by its sort, its group and its number there.
-    Array(Sort, u32, u32),
+    Array(Array),
 }
 
 impl Normal {
@@ -31,7 +30,7 @@ impl Normal {
     {
         match self {
             Normal::Scalar(scalar) => Ok(Normal::Scalar(scalar.copy(alloc)?)),
-            Normal::Array(sort, group, number) => Ok(Normal::Array(*sort, *group, *number)),
+            Normal::Array(array) => Ok(Normal::Array(array.copy(alloc)?)),
         }
     }
 }

@@ -3,6 +3,8 @@
 //! ordered map, copied and compared. What a form is the form of, and what it means, stands in ca_norm.
 #![tactic(auto)]
 
+pub mod array;
+pub mod array_rules;
 mod copies;
 mod form;
 mod order;
@@ -11,6 +13,7 @@ pub mod pointers;
 pub mod polynomial;
 mod products;
 pub mod rules;
+mod selections;
 mod sort;
 pub mod sums;
 

@@ -33,7 +33,8 @@ impl Part {
                 | Node::Modulus(_, _)
                 | Node::Field(_, _, _, _)
                 | Node::Item(_, _, _, _, _)
-                | Node::Result(_, _, _, _) => Ordering::Less,
+                | Node::Result(_, _, _, _)
+                | Node::OwnItem(_, _, _, _) => Ordering::Less,
             },
             Node::Less(a, b) => match &other.node {
                 Node::Variable(_, _, _) => Ordering::Greater,
@@ -47,7 +48,8 @@ impl Part {
                 | Node::Modulus(_, _)
                 | Node::Field(_, _, _, _)
                 | Node::Item(_, _, _, _, _)
-                | Node::Result(_, _, _, _) => Ordering::Less,
+                | Node::Result(_, _, _, _)
+                | Node::OwnItem(_, _, _, _) => Ordering::Less,
             },
             Node::Zero(a) => match &other.node {
                 Node::Variable(_, _, _) | Node::Less(_, _) => Ordering::Greater,
@@ -57,7 +59,8 @@ impl Part {
                 | Node::Modulus(_, _)
                 | Node::Field(_, _, _, _)
                 | Node::Item(_, _, _, _, _)
-                | Node::Result(_, _, _, _) => Ordering::Less,
+                | Node::Result(_, _, _, _)
+                | Node::OwnItem(_, _, _, _) => Ordering::Less,
             },
             Node::SamePointer(a, b) => match &other.node {
                 Node::Variable(_, _, _) | Node::Less(_, _) | Node::Zero(_) => Ordering::Greater,
@@ -69,7 +72,8 @@ impl Part {
                 | Node::Modulus(_, _)
                 | Node::Field(_, _, _, _)
                 | Node::Item(_, _, _, _, _)
-                | Node::Result(_, _, _, _) => Ordering::Less,
+                | Node::Result(_, _, _, _)
+                | Node::OwnItem(_, _, _, _) => Ordering::Less,
             },
             Node::Quotient(a, n) => match &other.node {
                 Node::Variable(_, _, _)
@@ -83,7 +87,8 @@ impl Part {
                 Node::Modulus(_, _)
                 | Node::Field(_, _, _, _)
                 | Node::Item(_, _, _, _, _)
-                | Node::Result(_, _, _, _) => Ordering::Less,
+                | Node::Result(_, _, _, _)
+                | Node::OwnItem(_, _, _, _) => Ordering::Less,
             },
             Node::Modulus(a, n) => match &other.node {
                 Node::Variable(_, _, _)
@@ -95,8 +100,10 @@ impl Part {
                     Ordering::Equal => n.cmp(m),
                     order => order,
                 },
-                Node::Field(_, _, _, _) | Node::Item(_, _, _, _, _) | Node::Result(_, _, _, _) =>
-                    Ordering::Less,
+                Node::Field(_, _, _, _)
+                | Node::Item(_, _, _, _, _)
+                | Node::Result(_, _, _, _)
+                | Node::OwnItem(_, _, _, _) => Ordering::Less,
             },
             Node::Field(s, a, g, n) => match &other.node {
                 Node::Variable(_, _, _)
@@ -109,7 +116,8 @@ impl Part {
                     Ordering::Equal => a.compare(c),
                     order => order,
                 },
-                Node::Item(_, _, _, _, _) | Node::Result(_, _, _, _) => Ordering::Less,
+                Node::Item(_, _, _, _, _) | Node::Result(_, _, _, _) | Node::OwnItem(_, _, _, _) =>
+                    Ordering::Less,
             },
             Node::Item(s, a, g, n, i) => match &other.node {
                 Node::Variable(_, _, _)
@@ -126,7 +134,7 @@ impl Part {
                     },
                     order => order,
                 },
-                Node::Result(_, _, _, _) => Ordering::Less,
+                Node::Result(_, _, _, _) | Node::OwnItem(_, _, _, _) => Ordering::Less,
             },
             Node::Result(s, n, a, b) => match &other.node {
                 Node::Variable(_, _, _)
@@ -142,6 +150,22 @@ impl Part {
                         Ordering::Equal => b.compare(d),
                         order => order,
                     },
+                    order => order,
+                },
+                Node::OwnItem(_, _, _, _) => Ordering::Less,
+            },
+            Node::OwnItem(s, g, n, a) => match &other.node {
+                Node::Variable(_, _, _)
+                | Node::Less(_, _)
+                | Node::Zero(_)
+                | Node::SamePointer(_, _)
+                | Node::Quotient(_, _)
+                | Node::Modulus(_, _)
+                | Node::Field(_, _, _, _)
+                | Node::Item(_, _, _, _, _)
+                | Node::Result(_, _, _, _) => Ordering::Greater,
+                Node::OwnItem(t, h, m, c) => match names(*s, *g, *n, *t, *h, *m) {
+                    Ordering::Equal => a.compare(c),
                     order => order,
                 },
             },
@@ -164,7 +188,7 @@ fn number_of(sort: Sort) -> u32
 }
 
 /// A sort and two numbers, by the sort and then by the numbers.
-fn names(s: Sort, g: u32, n: u32, t: Sort, h: u32, m: u32) -> Ordering
+pub(crate) fn names(s: Sort, g: u32, n: u32, t: Sort, h: u32, m: u32) -> Ordering
     ensures { result ≡ name_cmp s g n t h m }
 {
     match number_of(s).cmp(&number_of(t)) {

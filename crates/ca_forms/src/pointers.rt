@@ -2,7 +2,7 @@
 
 ghost use Rattle.std.specs.Prelude.{◌≡◌, IfOk, OnOk};
 ghost use Rattle.ca_sums.specs.Sums.{NoZero, AddsSum};
-ghost use Rattle.ca_forms.specs.Plain.{variable, field_of, item_of, result_of, pointer_part, pointer_choice};
+ghost use Rattle.ca_forms.specs.Plain.{variable, field_of, item_of, result_of, own_item, pointer_part, pointer_choice};
 ghost use Rattle.ca_forms.specs.Rules.{is_pointer_sort, is_receiver_part, is_receiver, is_no_object, differ, unless_false, same_pointers, chosen_pointer};
 
 use crate::parts::{both, one_box, two_boxes};
@@ -49,6 +49,13 @@ impl Part {
         ensures { result ≡ result_of sort method receiver args }
     {
         Node::Result(sort, method, receiver, args).part()
+    }
+
+    /// The item at an index of an array that is an atom, by its sort, and the atom's group and number.
+    pub fn own_item(sort: Sort, group: u32, number: u32, index: Polynomial) -> Part
+        ensures { result ≡ own_item sort group number index }
+    {
+        Node::OwnItem(sort, group, number, index).part()
     }
 
     fn is_receiver(&self) -> bool

@@ -11,6 +11,7 @@ ghost use Rattle.ca_forms.specs.Lists.{polynomial_of, products_of};
 ghost use Rattle.ca_forms.specs.Compare.{monomial_cmp, polynomial_cmp};
 ghost use Rattle.ca_forms.specs.Products.{times};
 ghost use Rattle.ca_forms.specs.Rules.{gathered, minus, opposite, smaller};
+ghost use Rattle.ca_forms.specs.ArrayRules.{weighed};
 
 use crate::polynomial::{Monomial, Polynomial, Product};
 use std::alloc::{AllocError, Global};
@@ -202,6 +203,32 @@ pub fn apart(alloc: Global, f: Polynomial, g: Polynomial) -> Result<Polynomial, 
     let mut form = BTreeMap::new(alloc);
     add_owned(&mut form, products_in(f), 1)?;
     add_owned(&mut form, products_in(g), u64::MAX)?;
+    finish(alloc, form)
+}
+
+/// The sum of two polynomials that are not needed any more.
+#[inline(never)]
+pub fn together(alloc: Global, f: Polynomial, g: Polynomial) -> Result<Polynomial, AllocError>
+    ensures { IfOk result (λ s. s ≡ gathered (products_of f ++ products_of g)) }
+{
+    let mut form = BTreeMap::new(alloc);
+    add_owned(&mut form, products_in(f), 1)?;
+    add_owned(&mut form, products_in(g), 1)?;
+    finish(alloc, form)
+}
+
+/// The factor times the product of two polynomials.
+#[inline(never)]
+pub fn weighed(
+    alloc: Global,
+    f: &Polynomial,
+    g: &Polynomial,
+    factor: u64,
+) -> Result<Polynomial, AllocError>
+    ensures { IfOk result (λ p. p ≡ weighed factor f.now g.now) }
+{
+    let mut form = BTreeMap::new(alloc);
+    add_product_of(alloc, &mut form, f, g, factor)?;
     finish(alloc, form)
 }
 

@@ -1,14 +1,15 @@
 -- Weights and forms of short terms, and a valuation.
-use Rattle.std.proofs.Common.{◌≡◌, pos, negsuc, true, false, refl}
+use Rattle.std.proofs.Common.{◌≡◌, ℕ, [], ◌∷◌, pos, negsuc, true, false, refl}
 use Rattle.std.specs.Int.{int_wrap}
 use Rattle.ca_model.specs.declared.value.Value.TheVariants as datum
 use Rattle.ca_forms.specs.declared.sort.Sort.TheVariants.{Long, Bool as Truth, Pointer, LongArray}
 use Rattle.ca_forms.specs.declared.form.Normal.TheVariants as normal
-use Rattle.ca_forms.specs.Plain.{variable, no_powers, power_and, no_products, product_and, number_form, truth_form, pointer_form, pointer_part}
-use Rattle.ca_norm.specs.Terms.{PlainTerm, number, truth, null, atom, add, sub, mul, divide, remainder, less, same, and, choose, select, put}
+use Rattle.ca_forms.specs.Plain.{PlainPolynomial, variable, no_powers, power_and, no_products, product_and, number_form, truth_form, pointer_form, pointer_part}
+use Rattle.ca_forms.specs.Arrays.{own_items, put_item, with_sums, array_choice}
+use Rattle.ca_norm.specs.Terms.{PlainTerm, number, truth, null, atom, add, sub, mul, divide, remainder, less, same, and, choose, select, put, add_at}
 use Rattle.ca_norm.specs.Weights.{spread, weight_of}
 use Rattle.ca_norm.specs.Forms.{norm}
-use Rattle.ca_norm.specs.Meanings.{Valuation, mean}
+use Rattle.ca_norm.specs.Meanings.{Valuation, mean, item_mean}
 use Rattle.ca_norm.proofs.Valuations.{valuation_of}
 
 -- the first operation's first parameter, what the second field holds at the start, and a condition
@@ -97,6 +98,49 @@ not_less_than_itself : norm (less s (add s (number (pos 0)))) ≡ norm (truth fa
 unfolding s
 not_less_than_itself = refl
 
+-- what the third field, an array of numbers, holds at the start, and the second operation's second parameter
+a : PlainTerm
+a = atom LongArray 3 2
+
+q1 : PlainTerm
+q1 = atom Long 2 1
+
+-- the polynomial of one atom
+only : ℕ → ℕ → PlainPolynomial
+only g n = product_and (power_and (variable Long g n) 1 no_powers) 1 no_products
+
+gone_again : norm (add_at (add_at a p (number (pos 1))) p (number (negsuc 0))) ≡ norm a
+unfolding a p
+gone_again = refl
+
+sums_commute : norm (add_at (add_at a p s) q1 s) ≡ norm (add_at (add_at a q1 s) p s)
+unfolding a p s q1
+sums_commute = refl
+
+put_behind_a_sum : norm (put (add_at a p s) q1 s) ≡ normal.Array (put_item (with_sums (own_items Long 3 2) ((only 1 0, only 3 1) ∷ [])) (only 2 1) (number_form (only 3 1)))
+unfolding a p s q1 only
+put_behind_a_sum = refl
+
+sum_behind_a_put : norm (add_at (put a q1 s) p s) ≡ normal.Array (with_sums (put_item (own_items Long 3 2) (only 2 1) (number_form (only 3 1))) ((only 1 0, only 3 1) ∷ []))
+unfolding a p s q1 only
+sum_behind_a_put = refl
+
+past_another_constant : norm (select (put a (number (pos 1)) s) (number (pos 2))) ≡ norm (select a (number (pos 2)))
+unfolding a s
+past_another_constant = refl
+
+what_was_put : norm (select (put a p s) p) ≡ norm s
+unfolding a p s
+what_was_put = refl
+
+choice_at_an_item : norm (choose c (add_at a p s) a) ≡ normal.Array (with_sums (own_items Long 3 2) ((only 1 0, product_and (power_and (variable Long 3 1) 1 (power_and (variable Truth 2 0) 1 no_powers)) 1 no_products) ∷ []))
+unfolding a c p s only
+choice_at_an_item = refl
+
+choice_is_kept : norm (choose c (put a p s) a) ≡ normal.Array (array_choice (product_and (power_and (variable Truth 2 0) 1 no_powers) 1 no_products) (put_item (own_items Long 3 2) (only 1 0) (number_form (only 3 1))) (own_items Long 3 2))
+unfolding a c p s only
+choice_is_kept = refl
+
 -- each atom stands for its number in its group
 numbered : Valuation
 numbered = valuation_of (λ group n. datum.Long (pos n))
@@ -108,3 +152,8 @@ sum_of_numbers = refl
 sum_is_no_pointer : mean numbered (add s null) ≡ datum.Null
 unfolding s numbered int_wrap
 sum_is_no_pointer = refl
+
+-- an addend stands at its index alone
+other_item : item_mean numbered (add_at (put a (number (pos 0)) s) (number (pos 1)) s) (pos 0) ≡ datum.Long (pos 1)
+unfolding a s numbered int_wrap
+other_item = refl

@@ -6,6 +6,7 @@ pub mod Rules
 pub mod Polynomials
 pub mod Valuations
 pub mod Values
+pub mod Arrays
 pub mod Pointers
 pub mod Quotients
 pub mod Shapes

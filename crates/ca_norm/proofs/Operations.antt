@@ -16,6 +16,7 @@ use Rattle.ca_forms.specs.declared.sort.Sort.TheVariants.{Long, Bool as Truth, P
 use Rattle.ca_forms.specs.Rules.{is_below}
 use Rattle.ca_sums.specs.Sums.{Alike}
 use Rattle.ca_sums.proofs.Algebra.{alike_eq, alike_trans}
+use Rattle.ca_norm.specs.Terms.{IsArray}
 use Rattle.ca_norm.specs.Meanings.{IsOfSort, operate, chosen, bit, word_of}
 use Rattle.ca_norm.proofs.Words.{word, word_fits, word_wrap, word_pos, word_add, word_sub, word_mul, word_small}
 
@@ -28,12 +29,12 @@ pub record IsTruth (d : Datum) : Type 0 where
   pub truth : Bool
   pub is : d ≡ datum.Bool truth
 
--- a value of the sort, where that is no array
+-- a value of the sort
 abbrev pub IsTyped : Sort → Datum → Type 0
 IsTyped Long d = IsLong d
 IsTyped Truth d = IsTruth d
 IsTyped Pointer d = IsOfSort Pointer d
-IsTyped sort d = Unit {0}
+IsTyped sort d = d ≡ datum.Null
 
 long_typed : (d : Datum) → IsOfSort Long d → IsLong d
 long_typed (datum.Long n) h = record { number = n; fits = h; is = refl }
@@ -47,13 +48,30 @@ truth_typed (datum.Bool b) h = record { truth = b; is = refl }
 truth_typed datum.Null h = absurd h
 truth_typed (datum.Ref r) h = absurd h
 
+null_typed : (s : Sort) → IsArray s → (d : Datum) → IsOfSort s d → d ≡ datum.Null
+null_typed LongArray w datum.Null h = refl
+null_typed BoolArray w datum.Null h = refl
+null_typed PointerArray w datum.Null h = refl
+null_typed LongArray w (datum.Long n) h = absurd h
+null_typed LongArray w (datum.Bool b) h = absurd h
+null_typed LongArray w (datum.Ref r) h = absurd h
+null_typed BoolArray w (datum.Long n) h = absurd h
+null_typed BoolArray w (datum.Bool b) h = absurd h
+null_typed BoolArray w (datum.Ref r) h = absurd h
+null_typed PointerArray w (datum.Long n) h = absurd h
+null_typed PointerArray w (datum.Bool b) h = absurd h
+null_typed PointerArray w (datum.Ref r) h = absurd h
+null_typed Long w d h = absurd w
+null_typed Truth w d h = absurd w
+null_typed Pointer w d h = absurd w
+
 pub sort_typed : (s : Sort) (d : Datum) → IsOfSort s d → IsTyped s d
 sort_typed Long d h = long_typed d h
 sort_typed Truth d h = truth_typed d h
 sort_typed Pointer d h = h
-sort_typed LongArray d h = tt
-sort_typed BoolArray d h = tt
-sort_typed PointerArray d h = tt
+sort_typed LongArray d h = null_typed LongArray tt d h
+sort_typed BoolArray d h = null_typed BoolArray tt d h
+sort_typed PointerArray d h = null_typed PointerArray tt d h
 
 pub wrapped : (d : Datum) (z : ℤ) → d ≡ datum.Long (int_wrap w64 z) → IsLong d
 wrapped d z e = record { number = int_wrap w64 z; fits = SFits-int_wrap w64 z; is = e }
@@ -127,7 +145,7 @@ nat_eq_true a b e = grind (arith, nat_tests)
 nat_eq_itself : (a b : ℕ) → a ≡ b → nat_eq a b ≡ true
 nat_eq_itself a b e = grind (arith, nat_tests)
 
-same_words : (m n : ℤ) → FitsSigned w64 m → FitsSigned w64 n → same_int m n ≡ nat_eq (word m) (word n)
+pub same_words : (m n : ℤ) → FitsSigned w64 m → FitsSigned w64 n → same_int m n ≡ nat_eq (word m) (word n)
 same_words m n f g =
     bools_same (same_int m n) (nat_eq (word m) (word n)) (λ e. nat_eq_itself (word m) (word n) (ap word (same_int_true m n e)))
     (λ e. let w : word m ≡ word n = nat_eq_true (word m) (word n) e in let i : m ≡ n = sym (back m f) ∙ ap (λ z. to_z w64 (z % (2 ^ 64))) w ∙ back n g in subst (λ z. same_int m z ≡ true) i (same_int_itself m))
@@ -170,7 +188,7 @@ first_of x y = record { alike = omega arith }
 second_of : (x y : ℕ) → Alike y (y + 0 * (x + (2 ^ 64 - 1) * y))
 second_of x y = record { alike = omega arith }
 
-chosen_bit : (b : Bool) (d e : Datum) → Alike (word_of (chosen (datum.Bool b) d e)) (word_of e + bit b * (word_of d + (2 ^ 64 - 1) * word_of e))
+pub chosen_bit : (b : Bool) (d e : Datum) → Alike (word_of (chosen (datum.Bool b) d e)) (word_of e + bit b * (word_of d + (2 ^ 64 - 1) * word_of e))
 chosen_bit true d e = first_of (word_of d) (word_of e)
 chosen_bit false d e = second_of (word_of d) (word_of e)
 

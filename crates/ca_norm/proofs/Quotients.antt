@@ -23,7 +23,7 @@ nought (pos zero) h = absurd (h refl)
 nought (pos (suc n)) h = refl
 nought (negsuc n) h = refl
 
-cast_fits : (n : ℕ) → FitsSigned w64 (cast_signed w64 n)
+pub cast_fits : (n : ℕ) → FitsSigned w64 (cast_signed w64 n)
 cast_fits n = omega (arith, ints)
 
 quotient_fits : (a b : ℤ) → FitsSigned w64 (int_wrapping_div w64 a b)

@@ -1,5 +1,5 @@
 -- What atoms, reads of other objects and calls of value methods stand for in a run.
-use Rattle.std.specs.Prelude.{ℕ, zero, suc, pos, List, slice_get}
+use Rattle.std.specs.Prelude.{ℕ, ℤ, zero, suc, pos, List, slice_get}
 use Rattle.ca_program.specs.declared.program.FieldId.{FieldId}
 use Rattle.ca_program.specs.Plain.{PlainProgram}
 use Rattle.ca_model.specs.declared.value.Value.{Value as Datum}
@@ -27,6 +27,15 @@ atom_in s (suc zero) n = value_at s.first n
 atom_in s (suc (suc zero)) n = value_at s.second n
 atom_in s (suc (suc (suc g))) n = one_in (slice_get s.object.slots n)
 
+abbrev item_at : List Datum → Datum → Datum
+item_at vs (Long (pos i)) = value_at vs i
+item_at vs i = Null
+
+-- The items of a field of the receiver that is an array, as they are at the start; any other atom has none.
+abbrev pub own_item_in : Environment → ℕ → ℕ → ℤ → Datum
+own_item_in s (suc (suc (suc g))) n k = item_at (items_in (slice_get s.object.slots n)) (Long k)
+own_item_in s g n k = Null
+
 abbrev field : ℕ → ℕ → FieldId
 field c f = record { class = record { 0 = c }; field = f }
 
@@ -35,10 +44,6 @@ field c f = record { class = record { 0 = c }; field = f }
 abbrev pub read_in : Environment → Datum → ℕ → ℕ → Datum
 read_in s (Ref r) c f = one_in (slot_of s.heap r (field c f))
 read_in s p c f = Null
-
-abbrev item_at : List Datum → Datum → Datum
-item_at vs (Long (pos i)) = value_at vs i
-item_at vs i = Null
 
 abbrev pub read_at_in : Environment → Datum → ℕ → ℕ → Datum → Datum
 read_at_in s (Ref r) c f i = item_at (items_in (slot_of s.heap r (field c f))) i

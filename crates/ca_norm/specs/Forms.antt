@@ -10,13 +10,15 @@ use Rattle.ca_forms.specs.declared.sort.Sort.TheVariants.{Long, Bool as Truth, P
 use Rattle.ca_forms.specs.declared.form.Normal.{Normal}
 use Rattle.ca_forms.specs.declared.form.Normal.TheVariants as normal
 use Rattle.ca_forms.specs.Plain.{PlainPart, PlainMonomial, PlainPointer, PlainScalar, PlainScalars, variable, field_of, item_of, result_of, no_object, pointer_part, number_form, truth_form, pointer_form, no_scalars, scalar_and}
+use Rattle.ca_forms.specs.Arrays.{PlainArray, own_items, put_item}
 use Rattle.ca_forms.specs.Lists.{products_of}
 use Rattle.ca_forms.specs.Compare.{monomial_cmp}
 use Rattle.ca_forms.specs.Products.{times}
 use Rattle.ca_forms.specs.Rules.{alone, constant, truth_sum, minus, negated, either, chosen, gathered, less_sum, same_numbers, same_truths, same_pointers, quotient_sum, modulus_sum, chosen_pointer}
+use Rattle.ca_forms.specs.ArrayRules.{added_at, chosen_array, selected, selected_pointer}
 use Rattle.ca_sums.specs.Sums.{Sum, total, is_tied, NoZero}
 use Rattle.ca_sums.specs.Products.{product}
-use Rattle.ca_norm.specs.Terms.{PlainTerm, PlainTerms, number, truth, atom, add, sub, neg, mul, divide, remainder, less, less_equal, same, not, and, or, choose, read, read_at, result, no_terms, term_and, sort_of}
+use Rattle.ca_norm.specs.Terms.{PlainTerm, PlainTerms, number, truth, atom, add, sub, neg, mul, divide, remainder, less, less_equal, same, not, and, or, choose, read, read_at, result, select, put, add_at, no_terms, term_and, sort_of, item_sort}
 
 -- `same` by the sort of its sides, from what these are as words and as pointers
 abbrev pub same_sum : Sort → Sum PlainMonomial → Sum PlainMonomial → PlainPointer → PlainPointer → Sum PlainMonomial
@@ -32,8 +34,7 @@ scalar_at Pointer ps p = pointer_form p
 scalar_at sort ps p = number_form (gathered ps)
 
 abbrev mutual
-  -- A number or a truth value as a sum of products, in the order in which they are written. Any other term, and
-  -- one whose form is not built yet, has none.
+  -- A number or a truth value as a sum of products, in the order in which they are written. Any other term has none.
   pub expand : PlainTerm → Sum PlainMonomial
   expand (number n) = constant (cast_unsigned w64 n)
   expand (truth b) = truth_sum b
@@ -54,16 +55,26 @@ abbrev mutual
   expand (read sort p c f) = alone (field_of sort (pointer_of p) c f)
   expand (read_at sort p c f i) = alone (item_of sort (pointer_of p) c f (gathered (expand i)))
   expand (result sort m p ts) = alone (result_of sort m (pointer_of p) (arguments_of ts))
+  expand (select a i) = selected (array_of a) (gathered (expand i))
   expand t = []
 
-  -- The form of a pointer; any other term, and one whose form is not built yet, has that of null.
+  -- The form of a pointer; any other term has that of null.
   pub pointer_of : PlainTerm → PlainPointer
   pointer_of (atom sort group n) = pointer_part (variable sort group n)
   pointer_of (choose c a b) = chosen_pointer (gathered (expand c)) (pointer_of a) (pointer_of b)
   pointer_of (read sort p c f) = pointer_part (field_of sort (pointer_of p) c f)
   pointer_of (read_at sort p c f i) = pointer_part (item_of sort (pointer_of p) c f (gathered (expand i)))
   pointer_of (result sort m p ts) = pointer_part (result_of sort m (pointer_of p) (arguments_of ts))
+  pointer_of (select a i) = selected_pointer (array_of a) (gathered (expand i))
   pointer_of t = no_object
+
+  -- The form of an array; any other term has that of some atom.
+  pub array_of : PlainTerm → PlainArray
+  array_of (atom sort group n) = own_items (item_sort sort) group n
+  array_of (choose c a b) = chosen_array (gathered (expand c)) (array_of a) (array_of b)
+  array_of (put a i x) = put_item (array_of a) (gathered (expand i)) (scalar_at (sort_of x) (expand x) (pointer_of x))
+  array_of (add_at a i x) = added_at (array_of a) (gathered (expand i)) (gathered (expand x))
+  array_of t = own_items Long 0 0
 
   pub arguments_of : PlainTerms → PlainScalars
   arguments_of no_terms = no_scalars
@@ -78,6 +89,15 @@ part_of (result sort m p ts) = result_of sort m (pointer_of p) (arguments_of ts)
 part_of t = variable Long 0 0
 
 -- Kinds of terms that are brought into their form by a function of their own.
+abbrev pub is_linear : PlainTerm → Bool
+is_linear (number n) = true
+is_linear (truth b) = true
+is_linear (add a b) = true
+is_linear (sub a b) = true
+is_linear (neg a) = true
+is_linear (not a) = true
+is_linear t = false
+
 abbrev pub is_product : PlainTerm → Bool
 is_product (mul a b) = true
 is_product (and a b) = true
@@ -102,6 +122,10 @@ is_division (divide a n) = true
 is_division (remainder a n) = true
 is_division t = false
 
+abbrev pub is_selection : PlainTerm → Bool
+is_selection (select a i) = true
+is_selection t = false
+
 -- the term's products, if it is of the kind
 abbrev pub expand_if : Bool → PlainTerm → Sum PlainMonomial
 expand_if true t = expand t
@@ -111,17 +135,12 @@ expand_if false t = []
 abbrev pub scalar_of : PlainTerm → PlainScalar
 scalar_of t = scalar_at (sort_of t) (expand t) (pointer_of t)
 
--- the form of an array, that of null where it is not built yet
-abbrev pub array_of : PlainTerm → Normal
-array_of (atom sort group n) = normal.Array sort group n
-array_of t = normal.Scalar (pointer_form no_object)
-
 -- the form of a term of that sort
 abbrev pub form_at : Sort → PlainTerm → Normal
 form_at Long t = normal.Scalar (number_form (gathered (expand t)))
 form_at Truth t = normal.Scalar (truth_form (gathered (expand t)))
 form_at Pointer t = normal.Scalar (pointer_form (pointer_of t))
-form_at sort t = array_of t
+form_at sort t = normal.Array (array_of t)
 
 abbrev pub norm : PlainTerm → Normal
 norm t = form_at (sort_of t) t

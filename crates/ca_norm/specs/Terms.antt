@@ -120,8 +120,14 @@ IsScalar Truth = Unit {0}
 IsScalar Pointer = Unit {0}
 IsScalar sort = ⊥
 
--- A term of the sort, well sorted inside, whose literals fit 64 bits and whose divisors aren't 0, of those whose
--- normal form is built.
+abbrev pub IsArray : Sort → Type 0
+IsArray LongArray = Unit {0}
+IsArray BoolArray = Unit {0}
+IsArray PointerArray = Unit {0}
+IsArray sort = ⊥
+
+-- A term of the sort, well sorted inside, whose literals fit 64 bits and whose divisors aren't 0. An array is an atom,
+-- or made of one by puts, sums at items and choices.
 abbrev mutual
   pub IsOf : Sort → PlainTerm → Type 0
   IsOf sort (number n) = (sort ≡ Long) × FitsSigned w64 n
@@ -140,11 +146,13 @@ abbrev mutual
   IsOf sort (not a) = (sort ≡ Truth) × IsOf Truth a
   IsOf sort (and a b) = (sort ≡ Truth) × IsOf Truth a × IsOf Truth b
   IsOf sort (or a b) = (sort ≡ Truth) × IsOf Truth a × IsOf Truth b
-  IsOf sort (choose c a b) = IsScalar sort × IsOf Truth c × IsOf sort a × IsOf sort b
+  IsOf sort (choose c a b) = IsOf Truth c × IsOf sort a × IsOf sort b
   IsOf sort (read s p c f) = (s ≡ sort) × IsScalar s × IsOf Pointer p
   IsOf sort (read_at s p c f i) = (s ≡ sort) × IsScalar s × IsOf Pointer p × IsOf Long i
   IsOf sort (result s m p ts) = (s ≡ sort) × IsScalar s × IsOf Pointer p × AreSorted ts
-  IsOf sort t = ⊥
+  IsOf sort (select a i) = IsArray (sort_of a) × (sort ≡ item_sort (sort_of a)) × IsOf (sort_of a) a × IsOf Long i
+  IsOf sort (put a i x) = IsArray sort × IsOf sort a × IsOf Long i × IsOf (item_sort sort) x
+  IsOf sort (add_at a i x) = (sort ≡ LongArray) × IsOf LongArray a × IsOf Long i × IsOf Long x
 
   pub AreSorted : PlainTerms → Type 0
   AreSorted no_terms = Unit {0}

@@ -6,10 +6,12 @@ ghost use Rattle.ca_forms.specs.Lists.{products_of};
 ghost use Rattle.ca_norm.specs.Terms.{shape, terms_of};
 ghost use Rattle.ca_forms.specs.Plain.{pointer_part};
 ghost use Rattle.ca_forms.specs.Rules.{alone, gathered};
-ghost use Rattle.ca_norm.specs.Forms.{expand, expand_if, is_product, is_comparison, is_equation, is_choice, is_division, part_of, pointer_of, scalar_of, arguments_of};
+ghost use Rattle.ca_norm.specs.Forms.{expand, expand_if, is_linear, is_product, is_comparison, is_equation, is_choice, is_division, is_selection, part_of, pointer_of, array_of, scalar_of, arguments_of};
 
-use crate::term::Term;
+use crate::term::{Term, item_sort};
 use ca_forms::Sort;
+use ca_forms::array::Array;
+use ca_forms::array_rules::chosen_array;
 use ca_forms::parts::{both, longer};
 use ca_forms::pointers::{add_same_pointers, chosen_pointer};
 use ca_forms::polynomial::{Monomial, Part, Pointer, Polynomial, Scalar, Scalars};
@@ -36,14 +38,43 @@ fn add_term(
     ensures added { OnOk result (AddsSum form.old.entries form.new.entries factor (expand (shape term.now))) }
 {
     match term {
-        Term::Number(n) => {
-            add_number(alloc, form, n.cast_unsigned(), factor)?;
-            Ok(())
-        }
-        Term::Truth(b) => {
-            add_truth(alloc, form, *b, factor)?;
-            Ok(())
-        }
+        Term::Number(_) | Term::Truth(_) | Term::Add(_, _) | Term::Sub(_, _) => add_linear(
+            alloc, form, term, factor,
+        ),
+        Term::Neg(_) | Term::Not(_) => add_linear(alloc, form, term, factor),
+        Term::Mul(_, _) | Term::And(_, _) | Term::Or(_, _) => add_multiplied(
+            alloc, form, term, factor,
+        ),
+        Term::Less(_, _) | Term::LessEqual(_, _) => add_compared(alloc, form, term, factor),
+        Term::Same(_, _) => add_equated(alloc, form, term, factor),
+        Term::Choose(_, _, _) => add_choice(alloc, form, term, factor),
+        Term::Divide(_, _) | Term::Remainder(_, _) => add_divided(alloc, form, term, factor),
+        Term::Atom(_, _, _) | Term::Read(_, _, _, _) => add_own_part(alloc, form, term, factor),
+        Term::ReadAt(_, _, _, _, _) | Term::Result(_, _, _, _) => add_own_part(
+            alloc, form, term, factor,
+        ),
+        Term::Select(_, _) => add_selected(alloc, form, term, factor),
+        Term::Null | Term::Put(_, _, _) | Term::AddAt(_, _, _) => Ok(()),
+    }
+}
+
+/// Adds a literal, a sum or a difference, or what is negated, times the factor; nothing for any other term.
+#[cycle(normal)]
+#[inline(never)]
+fn add_linear(
+    alloc: Global,
+    form: &mut BTreeMap<Monomial, u64>,
+    term: &Term,
+    factor: u64,
+) -> Result<(), AllocError>
+    requires { NoZero form.old.entries }
+    ensures nonzero { NoZero form.new.entries }
+    ensures added { OnOk result (AddsSum form.old.entries form.new.entries factor (expand_if (is_linear (shape term.now)) (shape term.now))) }
+{
+    let opposite = factor.wrapping_mul(u64::MAX);
+    match term {
+        Term::Number(n) => add_number(alloc, form, n.cast_unsigned(), factor),
+        Term::Truth(b) => add_truth(alloc, form, *b, factor),
         Term::Add(a, b) => {
             add_term(alloc, form, a, factor)?;
             add_term(alloc, form, b, factor)?;
@@ -51,74 +82,19 @@ fn add_term(
         }
         Term::Sub(a, b) => {
             add_term(alloc, form, a, factor)?;
-            add_term(alloc, form, b, factor.wrapping_mul(u64::MAX))?;
+            add_term(alloc, form, b, opposite)?;
             Ok(())
         }
         Term::Neg(a) => {
-            add_term(alloc, form, a, factor.wrapping_mul(u64::MAX))?;
+            add_term(alloc, form, a, opposite)?;
             Ok(())
         }
         Term::Not(a) => {
             add_truth(alloc, form, true, factor)?;
-            add_term(alloc, form, a, factor.wrapping_mul(u64::MAX))?;
+            add_term(alloc, form, a, opposite)?;
             Ok(())
         }
-        Term::Mul(_, _) => {
-            add_multiplied(alloc, form, term, factor)?;
-            Ok(())
-        }
-        Term::And(_, _) => {
-            add_multiplied(alloc, form, term, factor)?;
-            Ok(())
-        }
-        Term::Or(_, _) => {
-            add_multiplied(alloc, form, term, factor)?;
-            Ok(())
-        }
-        Term::Less(_, _) => {
-            add_compared(alloc, form, term, factor)?;
-            Ok(())
-        }
-        Term::LessEqual(_, _) => {
-            add_compared(alloc, form, term, factor)?;
-            Ok(())
-        }
-        Term::Same(_, _) => {
-            add_equated(alloc, form, term, factor)?;
-            Ok(())
-        }
-        Term::Choose(_, _, _) => {
-            add_choice(alloc, form, term, factor)?;
-            Ok(())
-        }
-        Term::Divide(_, _) => {
-            add_divided(alloc, form, term, factor)?;
-            Ok(())
-        }
-        Term::Remainder(_, _) => {
-            add_divided(alloc, form, term, factor)?;
-            Ok(())
-        }
-        Term::Atom(_, _, _) => {
-            add_own_part(alloc, form, term, factor)?;
-            Ok(())
-        }
-        Term::Read(_, _, _, _) => {
-            add_own_part(alloc, form, term, factor)?;
-            Ok(())
-        }
-        Term::ReadAt(_, _, _, _, _) => {
-            add_own_part(alloc, form, term, factor)?;
-            Ok(())
-        }
-        Term::Result(_, _, _, _) => {
-            add_own_part(alloc, form, term, factor)?;
-            Ok(())
-        }
-        Term::Null => Ok(()),
-        Term::Select(_, _) => Ok(()),
-        Term::Put(_, _, _) => Ok(()),
-        Term::AddAt(_, _, _) => Ok(()),
+        _ => Ok(()),
     }
 }
 
@@ -280,6 +256,29 @@ fn add_divided(
     }
 }
 
+/// Adds the item of an array of numbers or truth values, times the factor; nothing for any other term.
+#[cycle(normal)]
+#[inline(never)]
+fn add_selected(
+    alloc: Global,
+    form: &mut BTreeMap<Monomial, u64>,
+    term: &Term,
+    factor: u64,
+) -> Result<(), AllocError>
+    requires { NoZero form.old.entries }
+    ensures nonzero { NoZero form.new.entries }
+    ensures added { OnOk result (AddsSum form.old.entries form.new.entries factor (expand_if (is_selection (shape term.now)) (shape term.now))) }
+{
+    match term {
+        Term::Select(a, i) => {
+            let (array, index) = both(array_of(alloc, a), polynomial_of(alloc, i))?;
+            array.add_item(alloc, form, &index, factor)?;
+            Ok(())
+        }
+        _ => Ok(()),
+    }
+}
+
 /// Adds an atom, a read or a result, times the factor.
 #[cycle(normal)]
 #[inline(never)]
@@ -358,7 +357,83 @@ pub fn pointer_of(alloc: Global, term: &Term) -> Result<Pointer, AllocError>
         Term::Read(_, _, _, _) => Ok(own_pointer(alloc, term)?),
         Term::ReadAt(_, _, _, _, _) => Ok(own_pointer(alloc, term)?),
         Term::Result(_, _, _, _) => Ok(own_pointer(alloc, term)?),
+        Term::Select(_, _) => Ok(item_pointer(alloc, term)?),
         _ => Ok(Pointer::null()),
+    }
+}
+
+/// The item of an array of pointers. Each kind has a function of its own, so that the frames are small.
+#[cycle(normal)]
+#[inline(never)]
+fn item_pointer(alloc: Global, term: &Term) -> Result<Pointer, AllocError>
+    ensures { IfOk result (λ p. p ≡ pointer_of (shape term.now)) }
+{
+    match term {
+        Term::Select(a, i) => {
+            let (array, index) = both(array_of(alloc, a), polynomial_of(alloc, i))?;
+            Ok(array.pointer_at(alloc, &index)?)
+        }
+        _ => Err(AllocError),
+    }
+}
+
+/// The form of a term that is to be an array. It recurses as deep as the term is.
+#[cycle(normal)]
+#[inline(never)]
+pub fn array_of(alloc: Global, term: &Term) -> Result<Array, AllocError>
+    ensures { IfOk result (λ a. a ≡ array_of (shape term.now)) }
+{
+    match term {
+        Term::Atom(sort, group, number) => Ok(Array::atom(item_sort(*sort), *group, *number)),
+        Term::Choose(_, _, _) => Ok(array_choice(alloc, term)?),
+        Term::Put(_, _, _) => Ok(array_put(alloc, term)?),
+        Term::AddAt(_, _, _) => Ok(array_added(alloc, term)?),
+        _ => Ok(Array::atom(Sort::Long, 0, 0)),
+    }
+}
+
+#[cycle(normal)]
+#[inline(never)]
+fn array_choice(alloc: Global, term: &Term) -> Result<Array, AllocError>
+    ensures { IfOk result (λ a. a ≡ array_of (shape term.now)) }
+{
+    match term {
+        Term::Choose(c, a, b) => {
+            let sides = both(array_of(alloc, a), array_of(alloc, b));
+            let (condition, (first, second)) = both(polynomial_of(alloc, c), sides)?;
+            Ok(chosen_array(alloc, condition, first, second)?)
+        }
+        _ => Err(AllocError),
+    }
+}
+
+#[cycle(normal)]
+#[inline(never)]
+fn array_put(alloc: Global, term: &Term) -> Result<Array, AllocError>
+    ensures { IfOk result (λ a. a ≡ array_of (shape term.now)) }
+{
+    match term {
+        Term::Put(a, i, x) => {
+            let parts = both(polynomial_of(alloc, i), scalar_of(alloc, x));
+            let (array, (index, item)) = both(array_of(alloc, a), parts)?;
+            Ok(array.put(alloc, index, item)?)
+        }
+        _ => Err(AllocError),
+    }
+}
+
+#[cycle(normal)]
+#[inline(never)]
+fn array_added(alloc: Global, term: &Term) -> Result<Array, AllocError>
+    ensures { IfOk result (λ a. a ≡ array_of (shape term.now)) }
+{
+    match term {
+        Term::AddAt(a, i, x) => {
+            let parts = both(polynomial_of(alloc, i), polynomial_of(alloc, x));
+            let (array, (index, addend)) = both(array_of(alloc, a), parts)?;
+            Ok(array.added_at(alloc, index, addend)?)
+        }
+        _ => Err(AllocError),
     }
 }
 

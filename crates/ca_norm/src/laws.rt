@@ -1,13 +1,18 @@
 //! Laws of normal forms.
 
-ghost use Rattle.std.specs.Prelude.{◌≡◌};
-ghost use Rattle.ca_norm.specs.Terms.{PlainTerm, IsWord, IsOf, sort_of};
+ghost use Rattle.std.specs.Prelude.{◌≡◌, ℤ};
+ghost use Rattle.ca_norm.specs.Terms.{PlainTerm, IsWord, IsArray, IsOf, sort_of};
 ghost use Rattle.ca_norm.specs.Forms.{norm, SamePolynomial, IsPolynomialOf};
-ghost use Rattle.ca_norm.specs.Meanings.{Valuation, mean, form_mean};
+ghost use Rattle.ca_norm.specs.Meanings.{Valuation, mean, item_mean, form_mean, form_item};
 
 /// A normal form means what its term means, whatever the atoms stand for.
 pub fn form_means()
     ensures { (v : Valuation) (t : PlainTerm) → IsOf (sort_of t) t → form_mean v (norm t) ≡ mean v t }
+{}
+
+/// An array's normal form has the items of its term at every number.
+pub fn items_mean()
+    ensures { (v : Valuation) (t : PlainTerm) (k : ℤ) → IsArray (sort_of t) → IsOf (sort_of t) t → form_item v (norm t) k ≡ item_mean v t k }
 {}
 
 /// The form of a number or a truth value is its formal polynomial.
@@ -23,4 +28,9 @@ pub fn same_polynomials()
 /// Terms of one normal form mean the same, whatever the atoms stand for.
 pub fn same_forms()
     ensures { (v : Valuation) (t u : PlainTerm) → IsOf (sort_of t) t → IsOf (sort_of u) u → norm t ≡ norm u → mean v t ≡ mean v u }
+{}
+
+/// Arrays of one normal form have the same items at every number.
+pub fn same_items()
+    ensures { (v : Valuation) (t u : PlainTerm) (k : ℤ) → IsArray (sort_of t) → IsArray (sort_of u) → IsOf (sort_of t) t → IsOf (sort_of u) u → norm t ≡ norm u → item_mean v t k ≡ item_mean v u k }
 {}

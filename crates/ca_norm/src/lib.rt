@@ -4,8 +4,7 @@
 //! A term is what an expression comes to over the atoms of two operations and a receiver;
 //! `specs/Terms.antt` has it without its places in memory. Its weight bounds the work on it, and `normal`
 //! promises the normal form of each term of at most `MOST_WEIGHT`, unless memory runs out, and `Large` for each
-//! other. The forms of arrays are not built yet, but for atoms: any other array, and an item of one, has the form
-//! of null or of zero, and no law of meaning speaks of it.
+//! other.
 //! What a term and a form mean under a valuation of the atoms stands in `specs/Meanings.antt`.
 //!
 //! The laws say that a form means what its term means, and that terms of equal formal polynomials
@@ -21,12 +20,12 @@ ghost use Rattle.std.specs.Prelude.{◌≡◌, ◌<◌, ◌↔◌, Err, IfOk, Is
 ghost use Rattle.ca_norm.specs.declared.NormalError.TheVariants.{Large, Memory};
 ghost use Rattle.ca_norm.specs.Terms.{shape};
 ghost use Rattle.ca_norm.specs.Weights.{weight_of};
-ghost use Rattle.ca_norm.specs.Forms.{array_of, norm};
+ghost use Rattle.ca_norm.specs.Forms.{norm};
 
-use crate::gather::{pointer_of, polynomial_of};
+use crate::gather::{array_of, pointer_of, polynomial_of};
 pub use crate::term::Term;
 pub use crate::weigh::weight;
-use ca_forms::polynomial::{Pointer, Scalar};
+use ca_forms::polynomial::Scalar;
 pub use ca_forms::{Normal, Sort};
 use std::alloc::{AllocError, Global};
 use thiserror::Error;
@@ -65,16 +64,7 @@ pub fn normal(alloc: Global, term: &Term) -> Result<Normal, NormalError>
         Sort::Long => Ok(Normal::Scalar(Scalar::number(polynomial_of(alloc, term)?))),
         Sort::Bool => Ok(Normal::Scalar(Scalar::truth(polynomial_of(alloc, term)?))),
         Sort::Pointer => Ok(Normal::Scalar(Scalar::pointer(pointer_of(alloc, term)?))),
-        _ => Ok(array_of(term)),
-    }
-}
-
-fn array_of(term: &Term) -> Normal
-    ensures { result ≡ array_of (shape term.now) }
-{
-    match term {
-        Term::Atom(sort, group, number) => Normal::Array(*sort, *group, *number),
-        _ => Normal::Scalar(Scalar::pointer(Pointer::null())),
+        _ => Ok(Normal::Array(array_of(alloc, term)?)),
     }
 }
 
@@ -84,7 +74,7 @@ pub fn same(a: &Normal, b: &Normal) -> bool
 {
     match (a, b) {
         (Normal::Scalar(x), Normal::Scalar(y)) => x.same(y),
-        (Normal::Array(s, g, n), Normal::Array(t, h, m)) => s == t && g == h && n == m,
+        (Normal::Array(x), Normal::Array(y)) => x.same(y),
         _ => false,
     }
 }

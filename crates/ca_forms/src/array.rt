@@ -1,0 +1,288 @@
+//! The forms of arrays: their types, their order and their copies. Each stands on the array before its last step, so
+//! functions on them recurse as deep as an array has steps.
+
+ghost use Rattle.std.specs.Prelude.{◌≡◌, ◌↔◌, IfOk, IsTrue};
+ghost use Rattle.std.specs.Cmp.Lexicographic.{slice_cmp};
+ghost use Rattle.ca_forms.specs.Arrays.{own_items, put_item, row_cmp, rows_cmp, array_cmp};
+ghost use Rattle.ca_forms.specs.ArraysSeen.{array_of};
+
+use crate::order::names;
+use crate::parts::{both, one_box};
+use crate::polynomial::{Polynomial, Scalar};
+use crate::sort::Sort;
+use std::alloc::{AllocError, Global};
+use std::cmp::Ordering;
+use std::marker::Model;
+
+/// What is added to the items at an index.
+#[derive(Drop, Debug)]
+pub struct Row {
+    pub(crate) index: Polynomial,
+    pub(crate) addend: Polynomial,
+}
+
+/// Rows by rising indexes, in which nothing that is added is zero.
+#[derive(Drop, Debug)]
+pub struct Rows {
+    pub(crate) items: Vec<Row>,
+}
+
+/// The form of an array.
+#[cycle(array)]
+#[derive(Drop, Debug)]
+pub struct Array {
+    pub(crate) node: ArrayNode,
+}
+
+#[cycle(array)]
+#[derive(Drop, Debug)]
+pub(crate) enum ArrayNode {
+    /// An atom, by the sort of its items, its group and its number there.
+    Items(Sort, u32, u32),
+    /// Another item at an index.
+    Put(Box<Array>, Polynomial, Scalar),
+    /// A gathered sum, which stands on no other.
+    Sums(Box<Array>, Rows),
+    /// The first array where the truth value holds, and else the second.
+    Choice(Polynomial, Box<Array>, Box<Array>),
+}
+
+impl Model for Row {
+    ghost use Rattle.ca_forms.specs.Plain.{PlainPolynomial};
+    ghost use Rattle.ca_forms.specs.Arrays.{coded_row};
+
+    ghost Value = { PlainPolynomial × PlainPolynomial };
+
+    ghost coded = { coded_row };
+
+    ghost view = { λ a. (a.index, a.addend) };
+}
+
+impl Model for Rows {
+    ghost use Rattle.ca_forms.specs.Arrays.{PlainRows, coded_rows};
+
+    ghost Value = { PlainRows };
+
+    ghost coded = { coded_rows };
+
+    ghost view = { λ a. a.items.items };
+}
+
+impl Model for Array {
+    ghost use Rattle.ca_forms.specs.Arrays.{PlainArray, coded_array};
+
+    ghost Value = { PlainArray };
+
+    ghost coded = { coded_array };
+
+    ghost use Rattle.ca_forms.specs.Arrays.{array_size};
+    ghost use Rattle.ca_forms.specs.ArraysSeen.{array_of};
+
+    ghost view = { λ a. array_of a.node };
+
+    ghost size = { array_size };
+
+    ghost use Rattle.ca_forms.specs.ArrayFalls.{array_falls};
+
+    ghost size_decreases = { λ a h. array_falls a.node };
+}
+
+impl ArrayNode {
+    pub(crate) fn array(self) -> Array
+        ensures { result ≡ array_of self }
+    {
+        Array { node: self }
+    }
+}
+
+impl Array {
+    /// The form of an atom, by the sort of its items, its group and its number there.
+    pub fn atom(sort: Sort, group: u32, number: u32) -> Array
+        ensures { result ≡ own_items sort group number }
+    {
+        ArrayNode::Items(sort, group, number).array()
+    }
+
+    /// With another item at an index.
+    #[inline(never)]
+    pub fn put(self, alloc: Global, index: Polynomial, item: Scalar) -> Result<Array, AllocError>
+        ensures { IfOk result (λ a. a ≡ put_item self index item) }
+    {
+        let before = one_box(alloc, Ok(self))?;
+        Ok(ArrayNode::Put(before, index, item).array())
+    }
+
+    /// Whether two forms are equal. It takes no memory.
+    pub fn same(&self, other: &Array) -> bool
+        ensures { IsTrue result ↔ (self.now ≡ other.now) }
+    {
+        self.compare(other) == Ordering::Equal
+    }
+
+    /// By the order of their codes.
+    #[cycle(compare_arrays)]
+    #[inline(never)]
+    pub fn compare(&self, other: &Array) -> Ordering
+        ensures { result ≡ array_cmp self.now other.now }
+    {
+        match &self.node {
+            ArrayNode::Items(s, g, n) => match &other.node {
+                ArrayNode::Items(t, h, m) => names(*s, *g, *n, *t, *h, *m),
+                ArrayNode::Put(_, _, _) | ArrayNode::Sums(_, _) | ArrayNode::Choice(_, _, _) =>
+                    Ordering::Less,
+            },
+            ArrayNode::Put(a, i, x) => match &other.node {
+                ArrayNode::Items(_, _, _) => Ordering::Greater,
+                ArrayNode::Put(b, j, y) => match a.compare(b) {
+                    Ordering::Equal => match i.compare(j) {
+                        Ordering::Equal => x.compare(y),
+                        order => order,
+                    },
+                    order => order,
+                },
+                ArrayNode::Sums(_, _) | ArrayNode::Choice(_, _, _) => Ordering::Less,
+            },
+            ArrayNode::Sums(a, rows) => match &other.node {
+                ArrayNode::Items(_, _, _) | ArrayNode::Put(_, _, _) => Ordering::Greater,
+                ArrayNode::Sums(b, others) => match a.compare(b) {
+                    Ordering::Equal => rows.compare(others),
+                    order => order,
+                },
+                ArrayNode::Choice(_, _, _) => Ordering::Less,
+            },
+            ArrayNode::Choice(c, a, b) => match &other.node {
+                ArrayNode::Items(_, _, _) | ArrayNode::Put(_, _, _) | ArrayNode::Sums(_, _) =>
+                    Ordering::Greater,
+                ArrayNode::Choice(d, x, y) => match c.compare(d) {
+                    Ordering::Equal => match a.compare(x) {
+                        Ordering::Equal => b.compare(y),
+                        order => order,
+                    },
+                    order => order,
+                },
+            },
+        }
+    }
+
+    /// The same form once more.
+    #[cycle(copy_arrays)]
+    #[inline(never)]
+    pub fn copy(&self, alloc: Global) -> Result<Array, AllocError>
+        ensures { IfOk result (λ a. a ≡ self.now) }
+    {
+        match &self.node {
+            ArrayNode::Items(s, g, n) => Ok(ArrayNode::Items(*s, *g, *n).array()),
+            ArrayNode::Put(_, _, _) => self.copy_put(alloc),
+            ArrayNode::Sums(_, _) => self.copy_sums(alloc),
+            ArrayNode::Choice(_, _, _) => self.copy_choice(alloc),
+        }
+    }
+
+    /// A put once more. Each kind of step has a function of its own, so that `copy`, which recurses, keeps no forms in
+    /// its frame.
+    #[cycle(copy_arrays)]
+    #[inline(never)]
+    fn copy_put(&self, alloc: Global) -> Result<Array, AllocError>
+        ensures { IfOk result (λ a. a ≡ self.now) }
+    {
+        match &self.node {
+            ArrayNode::Put(a, i, x) => {
+                let parts = both(i.copy(alloc), x.copy(alloc));
+                let (before, (index, item)) = both(one_box(alloc, a.copy(alloc)), parts)?;
+                Ok(ArrayNode::Put(before, index, item).array())
+            }
+            _ => Err(AllocError),
+        }
+    }
+
+    #[cycle(copy_arrays)]
+    #[inline(never)]
+    fn copy_sums(&self, alloc: Global) -> Result<Array, AllocError>
+        ensures { IfOk result (λ a. a ≡ self.now) }
+    {
+        match &self.node {
+            ArrayNode::Sums(a, rows) => {
+                let (before, rows) = both(one_box(alloc, a.copy(alloc)), rows.copy(alloc))?;
+                Ok(ArrayNode::Sums(before, rows).array())
+            }
+            _ => Err(AllocError),
+        }
+    }
+
+    #[cycle(copy_arrays)]
+    #[inline(never)]
+    fn copy_choice(&self, alloc: Global) -> Result<Array, AllocError>
+        ensures { IfOk result (λ a. a ≡ self.now) }
+    {
+        match &self.node {
+            ArrayNode::Choice(c, a, b) => {
+                let sides = both(one_box(alloc, a.copy(alloc)), one_box(alloc, b.copy(alloc)));
+                let (condition, (first, second)) = both(c.copy(alloc), sides)?;
+                Ok(ArrayNode::Choice(condition, first, second).array())
+            }
+            _ => Err(AllocError),
+        }
+    }
+}
+
+impl Row {
+    #[inline(never)]
+    fn compare(&self, other: &Row) -> Ordering
+        ensures { result ≡ row_cmp self.now other.now }
+    {
+        match self.index.compare(&other.index) {
+            Ordering::Equal => self.addend.compare(&other.addend),
+            order => order,
+        }
+    }
+
+    #[inline(never)]
+    fn copy(&self, alloc: Global) -> Result<Row, AllocError>
+        ensures { IfOk result (λ r. r ≡ self.now) }
+    {
+        let (index, addend) = both(self.index.copy(alloc), self.addend.copy(alloc))?;
+        Ok(Row { index, addend })
+    }
+}
+
+impl Rows {
+    #[inline(never)]
+    fn compare(&self, other: &Rows) -> Ordering
+        ensures { result ≡ rows_cmp self.now other.now }
+    {
+        compare_rows(&self.items, &other.items)
+    }
+
+    #[inline(never)]
+    fn copy(&self, alloc: Global) -> Result<Rows, AllocError>
+        ensures { IfOk result (λ rs. rs ≡ self.now) }
+    {
+        let items = copy_rows(alloc, &self.items)?;
+        Ok(Rows { items })
+    }
+}
+
+fn compare_rows(a: &[Row], b: &[Row]) -> Ordering
+    ensures { result ≡ slice_cmp row_cmp a.now b.now }
+{
+    let count = a.len().min(b.len());
+    for i in 0..count {
+        match a[i].compare(&b[i]) {
+            Ordering::Equal => {}
+            order => return order,
+        }
+    }
+    a.len().cmp(&b.len())
+}
+
+/// The same rows once more.
+#[inline(never)]
+pub(crate) fn copy_rows(alloc: Global, rows: &[Row]) -> Result<Vec<Row>, AllocError>
+    ensures { IfOk result (λ v. v.items ≡ rows.now) }
+{
+    let mut copies = Vec::new(alloc);
+    for row in rows {
+        copies.push(row.copy(alloc)?)?;
+    }
+    Ok(copies)
+}

@@ -1,0 +1,212 @@
+//! Items of arrays by their normal forms.
+
+ghost use Rattle.std.specs.Prelude.{◌≡◌, IfOk, OnOk};
+ghost use Rattle.ca_sums.specs.Sums.{NoZero, AddsSum};
+ghost use Rattle.ca_sums.specs.Products.{product};
+ghost use Rattle.ca_forms.specs.Lists.{products_of};
+ghost use Rattle.ca_forms.specs.Products.{times};
+ghost use Rattle.ca_forms.specs.Rules.{alone, gathered, chosen};
+ghost use Rattle.ca_forms.specs.Plain.{own_item};
+ghost use Rattle.ca_forms.specs.ArrayRules.{same_index, rows_at, products_in, pointer_in, selected, selected_pointer};
+
+use crate::array::{Array, ArrayNode, Row};
+use crate::parts::both;
+use crate::pointers::chosen_pointer;
+use crate::polynomial::{Monomial, Part, Pointer, Polynomial, Scalar, ScalarNode};
+use crate::rules::{add_chosen, add_part, add_same};
+use crate::sort::Sort;
+use crate::sums::{add_product_of, finish};
+use std::alloc::{AllocError, Global};
+use std::collections::BTreeMap;
+
+/// Whether two indexes are equal.
+#[inline(never)]
+fn same_index(alloc: Global, i: &Polynomial, j: &Polynomial) -> Result<Polynomial, AllocError>
+    ensures { IfOk result (λ f. f ≡ gathered (same_index i.now j.now)) }
+{
+    let (i, j) = both(i.copy(alloc), j.copy(alloc))?;
+    let mut form = BTreeMap::new(alloc);
+    add_same(alloc, &mut form, i, j, 1)?;
+    finish(alloc, form)
+}
+
+/// Adds what a row adds to the item at an index, times the factor.
+#[inline(never)]
+fn add_row_at(
+    alloc: Global,
+    form: &mut BTreeMap<Monomial, u64>,
+    row: &Row,
+    index: &Polynomial,
+    factor: u64,
+) -> Result<(), AllocError>
+    requires { NoZero form.old.entries }
+    ensures nonzero { NoZero form.new.entries }
+    ensures added { OnOk result (AddsSum form.old.entries form.new.entries factor (product times (same_index row.now.0 index.now) (products_of row.now.1))) }
+{
+    let same = same_index(alloc, &row.index, index)?;
+    add_product_of(alloc, form, &same, &row.addend, factor)?;
+    Ok(())
+}
+
+/// Adds what rows add to the item at an index, times the factor.
+#[inline(never)]
+fn add_rows_at(
+    alloc: Global,
+    form: &mut BTreeMap<Monomial, u64>,
+    rows: &[Row],
+    index: &Polynomial,
+    factor: u64,
+) -> Result<(), AllocError>
+    requires { NoZero form.old.entries }
+    ensures nonzero { NoZero form.new.entries }
+    ensures added { OnOk result (AddsSum form.old.entries form.new.entries factor (rows_at index.now rows.now)) }
+{
+    for row in rows {
+        add_row_at(alloc, form, row, index, factor)?;
+    }
+    Ok(())
+}
+
+/// Adds the item that was put where the condition holds, and else another, times the factor.
+#[inline(never)]
+fn add_put(
+    alloc: Global,
+    form: &mut BTreeMap<Monomial, u64>,
+    condition: &Polynomial,
+    item: &Scalar,
+    other: &Polynomial,
+    factor: u64,
+) -> Result<(), AllocError>
+    requires { NoZero form.old.entries }
+    ensures nonzero { NoZero form.new.entries }
+    ensures added { OnOk result (AddsSum form.old.entries form.new.entries factor (chosen (products_of condition.now) (products_in item.now) (products_of other.now))) }
+{
+    match &item.node {
+        ScalarNode::Number(f) => add_chosen(alloc, form, condition, f, other, factor),
+        ScalarNode::Truth(f) => add_chosen(alloc, form, condition, f, other, factor),
+        ScalarNode::Pointer(_) => {
+            let none = Polynomial {
+                products: Vec::new(alloc),
+            };
+            add_chosen(alloc, form, condition, &none, other, factor)?;
+            Ok(())
+        }
+    }
+}
+
+/// Adds the item of an atom at an index, times the factor.
+#[inline(never)]
+fn add_own_item(
+    alloc: Global,
+    form: &mut BTreeMap<Monomial, u64>,
+    sort: Sort,
+    group: u32,
+    number: u32,
+    index: &Polynomial,
+    factor: u64,
+) -> Result<(), AllocError>
+    requires { NoZero form.old.entries }
+    ensures nonzero { NoZero form.new.entries }
+    ensures added { OnOk result (AddsSum form.old.entries form.new.entries factor (alone (own_item sort group number index.now))) }
+{
+    let index = index.copy(alloc)?;
+    add_part(
+        alloc,
+        form,
+        Part::own_item(sort, group, number, index),
+        factor,
+    )?;
+    Ok(())
+}
+
+impl Array {
+    /// Adds the item at an index, of an array of numbers or truth values, times the factor. It recurses as deep as the
+    /// array has steps.
+    #[cycle(items)]
+    #[inline(never)]
+    pub fn add_item(
+        &self,
+        alloc: Global,
+        form: &mut BTreeMap<Monomial, u64>,
+        index: &Polynomial,
+        factor: u64,
+    ) -> Result<(), AllocError>
+        requires { NoZero form.old.entries }
+        ensures nonzero { NoZero form.new.entries }
+        ensures added { OnOk result (AddsSum form.old.entries form.new.entries factor (selected self.now index.now)) }
+    {
+        match &self.node {
+            ArrayNode::Items(s, g, n) => {
+                add_own_item(alloc, form, *s, *g, *n, index, factor)?;
+                Ok(())
+            }
+            ArrayNode::Put(a, i, x) => {
+                let other = a.item(alloc, index)?;
+                let same = same_index(alloc, i, index)?;
+                add_put(alloc, form, &same, x, &other, factor)?;
+                Ok(())
+            }
+            ArrayNode::Sums(a, rows) => {
+                a.add_item(alloc, form, index, factor)?;
+                add_rows_at(alloc, form, &rows.items, index, factor)?;
+                Ok(())
+            }
+            ArrayNode::Choice(c, a, b) => {
+                let first = a.item(alloc, index)?;
+                let second = b.item(alloc, index)?;
+                add_chosen(alloc, form, c, &first, &second, factor)?;
+                Ok(())
+            }
+        }
+    }
+
+    #[cycle(items)]
+    #[inline(never)]
+    fn item(&self, alloc: Global, index: &Polynomial) -> Result<Polynomial, AllocError>
+        ensures { IfOk result (λ f. f ≡ gathered (selected self.now index.now)) }
+    {
+        let mut form = BTreeMap::new(alloc);
+        self.add_item(alloc, &mut form, index, 1)?;
+        finish(alloc, form)
+    }
+
+    /// The item at an index, of an array of pointers. It recurses as deep as the array has steps.
+    #[cycle(pointers)]
+    #[inline(never)]
+    pub fn pointer_at(&self, alloc: Global, index: &Polynomial) -> Result<Pointer, AllocError>
+        ensures { IfOk result (λ p. p ≡ selected_pointer self.now index.now) }
+    {
+        match &self.node {
+            ArrayNode::Items(s, g, n) => {
+                let index = index.copy(alloc)?;
+                Ok(Pointer::of(alloc, Part::own_item(*s, *g, *n, index))?)
+            }
+            ArrayNode::Put(a, i, x) => {
+                let other = a.pointer_at(alloc, index);
+                let (item, other) = both(x.pointer_in(alloc), other)?;
+                let same = same_index(alloc, i, index)?;
+                Ok(chosen_pointer(alloc, same, item, other)?)
+            }
+            ArrayNode::Sums(a, _) => Ok(a.pointer_at(alloc, index)?),
+            ArrayNode::Choice(c, a, b) => {
+                let sides = both(a.pointer_at(alloc, index), b.pointer_at(alloc, index));
+                let (condition, (first, second)) = both(c.copy(alloc), sides)?;
+                Ok(chosen_pointer(alloc, condition, first, second)?)
+            }
+        }
+    }
+}
+
+impl Scalar {
+    /// The pointer that it is; null for any other form.
+    #[inline(never)]
+    fn pointer_in(&self, alloc: Global) -> Result<Pointer, AllocError>
+        ensures { IfOk result (λ p. p ≡ pointer_in self.now) }
+    {
+        match &self.node {
+            ScalarNode::Number(_) => Ok(Pointer::null()),
+            ScalarNode::Truth(_) => Ok(Pointer::null()),
+            ScalarNode::Pointer(p) => Ok(p.copy(alloc)?),
+        }
+    }
+}
