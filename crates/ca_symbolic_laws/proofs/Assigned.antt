@@ -27,7 +27,7 @@ use Rattle.ca_symbolic.specs.Execution.{term_of, put_term, is_item, put_right, a
 use Rattle.ca_symbolic.proofs.Alike.{alike_is_equal}
 use Rattle.ca_symbolic_laws.specs.Meant.{item_meant}
 use Rattle.ca_symbolic_laws.proofs.Indexes.{number_of}
-use Rattle.ca_symbolic_laws.proofs.Selects.{Selects, Puts}
+use Rattle.ca_symbolic_laws.proofs.Selects.{by_number, of_choice, of_put, of_add}
 
 pub put_means : (v w : Datum) → assigned assign.Put v w ≡ w
 put_means (Long a) (Long b) = refl
@@ -98,7 +98,7 @@ is_own_item f i (value_call d m es) e = cc
 is_own_item f i (unary op d) e = cc
 is_own_item f i (binary op c d) e = cc
 
-module _ (v : Valuation) (selects : Selects v) (puts : Puts v) (h : List Object) (p : PlainProgram) (scope : Scope) (st : State) (f : FieldId) (i : Expression) (written : List FieldId) (called : Bool) where
+module _ (v : Valuation) (h : List Object) (p : PlainProgram) (scope : Scope) (st : State) (f : FieldId) (i : Expression) (written : List FieldId) (called : Bool) where
   abbrev old : PlainTerm
   old = term_at st.fields f.field
 
@@ -110,22 +110,22 @@ module _ (v : Valuation) (selects : Selects v) (puts : Puts v) (h : List Object)
   Puts_at t d = (z : ℤ) → item_meant v t z ≡ cond (same_int index z) d (item_meant v old z)
 
   added : (x : PlainTerm) (d : Datum) → operate Plus (item_meant v old index) (mean v x) ≡ d → Puts_at (add_at old (term_of p st i) x) d
-  added x d e z = puts.of_add old (term_of p st i) x z ∙ cond_same index z _ d (item_meant v old z) (λ q. ap (λ k. operate Plus (item_meant v old k) (mean v x)) (sym q) ∙ e)
+  added x d e z = of_add v old (term_of p st i) x z ∙ cond_same index z _ d (item_meant v old z) (λ q. ap (λ k. operate Plus (item_meant v old k) (mean v x)) (sym q) ∙ e)
 
   stored : (x : PlainTerm) (d : Datum) → mean v x ≡ d → Puts_at (put old (term_of p st i) x) d
-  stored x d e z = puts.of_put old (term_of p st i) x z ∙ cond_same index z _ d (item_meant v old z) (λ q. e)
+  stored x d e z = of_put v old (term_of p st i) x z ∙ cond_same index z _ d (item_meant v old z) (λ q. e)
 
   module _ (typed : (e : Expression) (ty : ValueType) → ExpressionTyped p scope e ty → IsClean p written called e → HasType h (mean v (term_of p st e)) ty) where
     sum_at : (a b : Expression) (c : Bool) → is_item f i a ≡ c → Puts_at (if c then add_at old (term_of p st i) (term_of p st b) else put old (term_of p st i) (term_of p st (binary Plus a b))) (mean v (term_of p st (binary Plus a b)))
     sum_at a b true e =
         let same : a ≡ own_item f i = is_own_item f i a e in
-        added (term_of p st b) _ (ap (λ d. operate Plus d (mean v (term_of p st b))) (sym (selects.by_number old (term_of p st i))) ∙ ap (λ x. operate Plus (mean v (term_of p st x)) (mean v (term_of p st b))) (sym same))
+        added (term_of p st b) _ (ap (λ d. operate Plus d (mean v (term_of p st b))) (sym (by_number v old (term_of p st i))) ∙ ap (λ x. operate Plus (mean v (term_of p st x)) (mean v (term_of p st b))) (sym same))
     sum_at a b false e = stored (term_of p st (binary Plus a b)) _ refl
 
     difference_at : (a b : Expression) (c : Bool) (ty : ValueType) → ExpressionTyped p scope (binary Minus a b) ty → IsClean p written called (binary Minus a b) → is_item f i a ≡ c → Puts_at (if c then add_at old (term_of p st i) (neg (term_of p st b)) else put old (term_of p st i) (term_of p st (binary Minus a b))) (mean v (term_of p st (binary Minus a b)))
     difference_at a b true ty t k e =
         let same : a ≡ own_item f i = is_own_item f i a e in
-        let one : item_meant v old index ≡ mean v (term_of p st a) = sym (ap (λ x. mean v (term_of p st x)) same ∙ selects.by_number old (term_of p st i)) in
+        let one : item_meant v old index ≡ mean v (term_of p st a) = sym (ap (λ x. mean v (term_of p st x)) same ∙ by_number v old (term_of p st i)) in
         added (neg (term_of p st b)) _ (ap (λ d. operate Plus d (signed sign.Minus (mean v (term_of p st b)))) one
         ∙ less_negated h (mean v (term_of p st a)) (mean v (term_of p st b)) (subst (HasType h (mean v (term_of p st a))) t.1.0 (typed a t.0 t.2 k.1)) (subst (HasType h (mean v (term_of p st b))) t.1.0 (typed b t.0 t.3 k.2)))
     difference_at a b false ty t k e = stored (term_of p st (binary Minus a b)) _ refl
@@ -143,4 +143,4 @@ module _ (v : Valuation) (selects : Selects v) (puts : Puts v) (h : List Object)
         added (neg (term_of p st e)) _ (less_negated h (item_meant v old index) (mean v (term_of p st e)) (subst (HasType h (item_meant v old index)) a (before index)) (subst (HasType h (mean v (term_of p st e))) a (typed e ty t k))
         ∙ sym (difference_means (item_meant v old index) (mean v (term_of p st e))))
     array_is assign.Mul e ty before a t k =
-        stored (mul (select old (term_of p st i)) (term_of p st e)) _ (ap (λ d. operate Times d (mean v (term_of p st e))) (selects.by_number old (term_of p st i)) ∙ sym (product_means (item_meant v old index) (mean v (term_of p st e))))
+        stored (mul (select old (term_of p st i)) (term_of p st e)) _ (ap (λ d. operate Times d (mean v (term_of p st e))) (by_number v old (term_of p st i)) ∙ sym (product_means (item_meant v old index) (mean v (term_of p st e))))

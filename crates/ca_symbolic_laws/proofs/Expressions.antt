@@ -36,7 +36,7 @@ use Rattle.ca_symbolic_laws.proofs.Budgets.{free, plus_none, none_plus, then_val
 use Rattle.ca_symbolic_laws.proofs.Indexes.{number_of, place_of, found_if, no_less, more_less, both_less, ItemsAre, indexed_is}
 use Rattle.ca_symbolic_laws.proofs.Operators.{BothTruths, both_truths, decides_alone, Fine, right_fine, operated_gives, operation_means, signed_means, decided_off, guard_on}
 use Rattle.ca_symbolic_laws.proofs.Runs.{Runs}
-use Rattle.ca_symbolic_laws.proofs.Selects.{Selects}
+use Rattle.ca_symbolic_laws.proofs.Selects.{by_number, of_choice, of_put, of_add}
 use Rattle.ca_symbolic_laws.proofs.Terms.{means_are, own_info, mean_typed, means_typed}
 use Rattle.ca_symbolic_laws.proofs.Demands.{cost_append, asked, one_asked, off_expression}
 
@@ -136,7 +136,7 @@ one_step (suc k) = let e : nat_le 1 (suc k) ≡ true = grind (arith, nat_tests) 
 named_class : (h : List Object) (d : Datum) (c : ClassId) (n : ℕ) → HasType h d (type.Pointer c) → d ≡ Ref n → IsOfClass (slice_get h n) c
 named_class h d c n t e = subst (λ z. HasType h z (type.Pointer c)) e t
 
-module _ (s : Environment) (v : Valuation) (runs : Runs s v) (m : PlainMethod) (typed : Typed s m) (selects : Selects v)
+module _ (s : Environment) (v : Valuation) (runs : Runs s v) (m : PlainMethod) (typed : Typed s m)
     (st : State) (is : StateTyped s v m st) (written : List FieldId) (called : Bool)
     (is_hidden : ℕ → Bool) (ls : List Datum) (same : LocalsAre v is_hidden ls st.locals) (line : ℕ) where
   abbrev p : PlainProgram
@@ -159,12 +159,12 @@ module _ (s : Environment) (v : Valuation) (runs : Runs s v) (m : PlainMethod) (
   side_at op d w None c o k u b e f n = right_at op d w c o k u (n refl)
 
   same_length : (f : FieldId) → Some m.class ≡ Some f.class → length_in (slice_get (fields_in s m.class) f.field) ≡ length_in (field_info p f)
-  same_length f e = own_info s v runs m typed selects st is written called f (λ o. length_in o ≡ length_in (field_info p f)) e refl
+  same_length f e = own_info s v runs m typed st is written called f (λ o. length_in o ≡ length_in (field_info p f)) e refl
 
   own_at : (f : FieldId) (ty : ValueType) → Some m.class ≡ Some f.class → IsArray (field_info p f) ty → (k : ℕ) (d : Datum) →
       value_of (indexed line (items_in (slice_get (slots_meant v st.fields (fields_in s m.class)) f.field)) d k) ≡ with_left (record { place = place_of d; value = item_meant v (term_at st.fields f.field) (number_of d) }) (left (is_index (length_in (field_info p f)) d) k)
   own_at f ty e i k d =
-      own_index s.heap v st.fields (fields_in s m.class) f.field ty is.fields (own_info s v runs m typed selects st is written called f (λ o. IsArray o ty) e i) line k d
+      own_index s.heap v st.fields (fields_in s m.class) f.field ty is.fields (own_info s v runs m typed st is written called f (λ o. IsArray o ty) e i) line k d
       ∙ ap (λ n. with_left (record { place = place_of d; value = item_meant v (term_at st.fields f.field) (number_of d) }) (left (is_index n d) k)) (same_length f e)
 
   abbrev Is : Expression → PlainTerm → ℕ → Type 0
@@ -183,19 +183,19 @@ module _ (s : Environment) (v : Valuation) (runs : Runs s v) (m : PlainMethod) (
     eval_is (local i) ty t c u g y k l =
         ap (λ d. Some (d, k)) (hidden_at is_hidden 0 ls (map (mean v) st.locals) i.0 same (ap is_hidden (let z : 0 + i.0 ≡ i.0 = omega arith in z) ∙ shown is_hidden i.0 u) ∙ local_means v st.locals i.0) ∙ free _ k
     eval_is (own f) ty t c u g y k l =
-        ap (λ d. Some (d, k)) (field_means s.heap v st.fields (fields_in s m.class) f.field ty is.fields (own_info s v runs m typed selects st is written called f (λ o. IsScalar o ty) t.0 t.1)) ∙ free _ k
+        ap (λ d. Some (d, k)) (field_means s.heap v st.fields (fields_in s m.class) f.field ty is.fields (own_info s v runs m typed st is written called f (λ o. IsScalar o ty) t.0 t.1)) ∙ free _ k
     eval_is (own_item f i) ty t c u g y k l =
         let d : Datum = mean v (term_of p st i) in
         let x : Datum = item_meant v (term_at st.fields f.field) (number_of d) in
         let range : Option ℕ = is_index (length_in (field_info p f)) d in
         then_value (eval method here i k) _ d x (cost s v (demands_in p st g i)) range k (eval_is i type.Long t.2 c.1 u g y k l)
         (λ j h. then_value _ (λ item k. gives item.value k) _ x range (Some 0) j (own_at f ty t.0 t.1 j d) (λ a b. free x a) ∙ ap (λ z. with_left x (left z j)) (plus_none _))
-        ∙ ap₂ (λ a b. with_left a (left b k)) (sym (selects.by_number (term_at st.fields f.field) (term_of p st i)))
+        ∙ ap₂ (λ a b. with_left a (left b k)) (sym (by_number v (term_at st.fields f.field) (term_of p st i)))
         (ap (plus (cost s v (demands_in p st g i))) (sym (one_asked s v g (in_range f) (term_of p st i ∷ []) y)) ∙ sym (cost_append s v (demands_in p st g i) _))
     eval_is (plain.read e f) ty t c u g y k l =
         let d : Datum = mean v (term_of p st e) in
         let x : Datum = mean v (term_of p st (plain.read e f)) in
-        let class : HasType s.heap d (type.Pointer f.class) = mean_typed s v runs m typed selects st is written called e (type.Pointer f.class) t.0 c.1 in
+        let class : HasType s.heap d (type.Pointer f.class) = mean_typed s v runs m typed st is written called e (type.Pointer f.class) t.0 c.1 in
         then_value (eval method here e k) _ d x (cost s v (demands_in p st g e)) (names_object d) k (eval_is e (type.Pointer f.class) t.0 c.1 u g y k l)
         (λ j h. pointed_then line j d _ x (Some 0) (λ n a. ap (λ z. Some (z, j)) (sym (ap (λ z. v.read (sort_in (field_info p f)) z f.class.0 f.field) a ∙ runs.read_is n f ty t.1 (named_class s.heap d f.class n class a))) ∙ free x j) ∙ ap (λ z. with_left x (left z j)) (plus_none _))
         ∙ ap (λ b. with_left x (left b k)) (ap (plus (cost s v (demands_in p st g e))) (sym (one_asked s v g not_null (term_of p st e ∷ []) y)) ∙ sym (cost_append s v (demands_in p st g e) _))
@@ -203,8 +203,8 @@ module _ (s : Environment) (v : Valuation) (runs : Runs s v) (m : PlainMethod) (
         let d : Datum = mean v (term_of p st e) in
         let w : Datum = mean v (term_of p st i) in
         let x : Datum = mean v (term_of p st (read_item e f i)) in
-        let class : HasType s.heap d (type.Pointer f.class) = mean_typed s v runs m typed selects st is written called e (type.Pointer f.class) t.0 c.1 in
-        let index : HasType s.heap w type.Long = mean_typed s v runs m typed selects st is written called i type.Long t.2 c.2 in
+        let class : HasType s.heap d (type.Pointer f.class) = mean_typed s v runs m typed st is written called e (type.Pointer f.class) t.0 c.1 in
+        let index : HasType s.heap w type.Long = mean_typed s v runs m typed st is written called i type.Long t.2 c.2 in
         let range : Option ℕ = is_index (length_in (field_info p f)) w in
         let inner : Option ℕ = plus (cost s v (demands_in p st g i)) range in
         then_value (eval method here e k) _ d x (cost s v (demands_in p st g e)) (plus (names_object d) inner) k (eval_is e (type.Pointer f.class) t.0 c.1 (unnamed_left is_hidden (names e) (names i) u) g y k l)
@@ -218,8 +218,8 @@ module _ (s : Environment) (v : Valuation) (runs : Runs s v) (m : PlainMethod) (
         let d : Datum = mean v (term_of p st e) in
         let xs : List Datum = means v (terms_of p st es) in
         let x : Datum = mean v (term_of p st (value_call e n es)) in
-        let class : HasType s.heap d (type.Pointer t.0) = mean_typed s v runs m typed selects st is written called e (type.Pointer t.0) t.3 c.1 in
-        let given : ValuesTyped s.heap xs t.1 = means_typed s v runs m typed selects st is written called es t.1 t.4 c.2 in
+        let class : HasType s.heap d (type.Pointer t.0) = mean_typed s v runs m typed st is written called e (type.Pointer t.0) t.3 c.1 in
+        let given : ValuesTyped s.heap xs t.1 = means_typed s v runs m typed st is written called es t.1 t.4 c.2 in
         let own_cost : Option ℕ = plus (Some 1) (call_cost s n d xs) in
         let both : Option ℕ = plus (names_object d) own_cost in
         then_value (eval method here e k) _ d x (cost s v (demands_in p st g e)) (plus (cost s v (demands_in_all p st g es)) both) k (eval_is e (type.Pointer t.0) t.3 c.1 (unnamed_left is_hidden (names e) (any_names es) u) g y k l)
@@ -241,8 +241,8 @@ module _ (s : Environment) (v : Valuation) (runs : Runs s v) (m : PlainMethod) (
         let d : Datum = mean v (term_of p st a) in
         let w : Datum = mean v (term_of p st b) in
         let r : PlainTerm = right_guard op g (term_of p st a) in
-        let one : HasType s.heap d t.0 = mean_typed s v runs m typed selects st is written called a t.0 t.2 c.1 in
-        let other : HasType s.heap w t.0 = mean_typed s v runs m typed selects st is written called b t.0 t.3 c.2 in
+        let one : HasType s.heap d t.0 = mean_typed s v runs m typed st is written called a t.0 t.2 c.1 in
+        let other : HasType s.heap w t.0 = mean_typed s v runs m typed st is written called b t.0 t.3 c.2 in
         let truths : BothTruths op d w = both_truths s.heap op d w t.0 ty t.1 one other in
         let fine : Fine op w = right_fine p (scope_of m) v st op b t.0 t.3 c.0 in
         then_value (eval method here a k) _ d (operate op d w) (cost s v (demands_in p st g a)) (cost s v (demands_in p st r b)) k (eval_is a t.0 t.2 c.1 (unnamed_left is_hidden (names a) (names b) u) g y k l)

@@ -11,7 +11,6 @@ use Rattle.ca_parallel.specs.Scoped.{names, counts, any_counts, names_outside, a
 use Rattle.ca_parallel.specs.Separable.{holds_call, IsSeparated, AreSeparated}
 use Rattle.ca_norm.specs.Environments.{Environment}
 use Rattle.ca_symbolic.specs.OtherLoops.{other_loop, other_loop_in}
-use Rattle.ca_symbolic_laws.specs.Laws.{Speaks, SpeakAll}
 use Rattle.ca_symbolic_laws.proofs.Choices.{or_false}
 use Rattle.ca_symbolic_laws.proofs.Expressions.{Unnamed}
 
@@ -30,12 +29,11 @@ or_second : (a b : Bool) → b ≡ true → a || b ≡ true
 or_second true b e = refl
 or_second false b e = e
 
-module _ (s : Environment) (m : PlainMethod) (items loops : Type 0) (written : List FieldId) (is_counter : ℕ → Bool) (all : List Statement) where
+module _ (s : Environment) (m : PlainMethod) (written : List FieldId) (is_counter : ℕ → Bool) (all : List Statement) where
   -- a statement before which a call may have come, whose loops are among these
   pub record Fits (called : Bool) (x : Statement) : Type 0 where
     pub typed : StatementTyped s.program (scope_of m) x
     pub separated : IsSeparated s.program written called x
-    pub speaks : Speaks items loops x
     pub known : other_loop x ≡ None
     pub puts : (f : FieldId) → Contains (targets_of x) f → Contains written f
     pub inside : (y : Statement) → Contains (fors_in x) y → Contains all y
@@ -45,7 +43,6 @@ module _ (s : Environment) (m : PlainMethod) (items loops : Type 0) (written : L
   pub record FitAll (called : Bool) (xs : Statements) : Type 0 where
     pub typed : StatementsTyped s.program (scope_of m) xs
     pub separated : AreSeparated s.program written called xs
-    pub speaks : SpeakAll items loops xs
     pub known : other_loop_in xs ≡ None
     pub puts : (f : FieldId) → Contains (targets_of_all xs) f → Contains written f
     pub inside : (y : Statement) → Contains (fors_in_all xs) y → Contains all y
@@ -53,13 +50,12 @@ module _ (s : Environment) (m : PlainMethod) (items loops : Type 0) (written : L
     pub apart : Unnamed is_counter (any_names_outside xs)
 
   pub in_block : (called : Bool) (line : ℕ) (xs : Statements) → Fits called (block line xs) → FitAll called xs
-  in_block called line xs f = record { typed = f.typed; separated = f.separated; speaks = f.speaks; known = f.known; puts = f.puts; inside = f.inside; counted = f.counted; apart = f.apart }
+  in_block called line xs f = record { typed = f.typed; separated = f.separated; known = f.known; puts = f.puts; inside = f.inside; counted = f.counted; apart = f.apart }
 
   pub at_head : (called : Bool) (x : Statement) (xs : Statements) → FitAll called (statement_and x xs) → Fits called x
   at_head called x xs f = record {
     typed = f.typed.0;
     separated = f.separated.0;
-    speaks = f.speaks.0;
     known = first_none (other_loop x) (other_loop_in xs) f.known;
     puts = λ g c. f.puts g (Contains-append_left (targets_of x) (targets_of_all xs) g c);
     inside = λ y c. f.inside y (Contains-append_left (fors_in x) (fors_in_all xs) y c);
@@ -71,7 +67,6 @@ module _ (s : Environment) (m : PlainMethod) (items loops : Type 0) (written : L
   in_tail called x xs f = record {
     typed = f.typed.1;
     separated = f.separated.1;
-    speaks = f.speaks.1;
     known = second_none (other_loop x) (other_loop_in xs) f.known;
     puts = λ g c. f.puts g (Contains-append_right (targets_of x) (targets_of_all xs) g c);
     inside = λ y c. f.inside y (Contains-append_right (fors_in x) (fors_in_all xs) y c);
@@ -86,7 +81,6 @@ module _ (s : Environment) (m : PlainMethod) (items loops : Type 0) (written : L
   in_then called line c a b f = record {
     typed = f.typed.1;
     separated = f.separated.1;
-    speaks = f.speaks.0;
     known = first_none (other_loop a) (other_loop b) f.known;
     puts = λ g k. f.puts g (Contains-append_left (targets_of a) (targets_of b) g k);
     inside = λ y k. f.inside y (Contains-append_left (fors_in a) (fors_in b) y k);
@@ -98,7 +92,6 @@ module _ (s : Environment) (m : PlainMethod) (items loops : Type 0) (written : L
   in_else called line c a b f = record {
     typed = f.typed.2;
     separated = f.separated.2;
-    speaks = f.speaks.1;
     known = second_none (other_loop a) (other_loop b) f.known;
     puts = λ g k. f.puts g (Contains-append_right (targets_of a) (targets_of b) g k);
     inside = λ y k. f.inside y (Contains-append_right (fors_in a) (fors_in b) y k);

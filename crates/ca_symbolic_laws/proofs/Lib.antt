@@ -23,3 +23,4 @@ pub mod LoopReads
 pub mod LoopsMeant
 pub mod LoopLaw
 pub mod Stands
+mod Examples

@@ -56,7 +56,7 @@ use Rattle.ca_symbolic_laws.specs.Meant.{slots_meant}
 use Rattle.ca_symbolic_laws.specs.Demanded.{LoopPlace, loop_at, spread_out, section_at, loop_within}
 use Rattle.ca_symbolic_laws.specs.Laws.{fields_in, Typed, StateTyped, LocalsAre}
 use Rattle.ca_symbolic_laws.proofs.Runs.{Runs}
-use Rattle.ca_symbolic_laws.proofs.Selects.{Selects, Puts}
+use Rattle.ca_symbolic_laws.proofs.Selects.{by_number, of_choice, of_put, of_add}
 use Rattle.ca_symbolic_laws.proofs.Choices.{or_false}
 use Rattle.ca_symbolic_laws.proofs.Demands.{told, one_asked}
 use Rattle.ca_symbolic_laws.proofs.Expressions.{hidden_at}
@@ -97,7 +97,7 @@ body_called (invoke line e op es) c = refl
 body_called (block line (statement_and x xs)) c = some_before (calls_of x) (calls_of_all xs) (call_called x c.0)
 body_called x c = absurd c
 
-module _ (s : Environment) (v : Valuation) (runs : Runs s v) (m : PlainMethod) (typed : Typed s m) (selects : Selects v) (items : Type 0) (puts : items → Puts v) (written : List FieldId) (t : ℕ → Bool) (all : List Statement)
+module _ (s : Environment) (v : Valuation) (runs : Runs s v) (m : PlainMethod) (typed : Typed s m) (written : List FieldId) (t : ℕ → Bool) (all : List Statement)
     (found : (x : Statement) (site : LoopId) → Contains all x → HasSite x site → loop_at s.program.ops site ≡ Some (record { loop = x; locals = length m.body.locals })) where
   abbrev p : PlainProgram
   p = s.program
@@ -112,7 +112,7 @@ module _ (s : Environment) (v : Valuation) (runs : Runs s v) (m : PlainMethod) (
   abbrev pub Stands : State → Type 0
   Stands st = SameConstants m written (slots_meant v st.fields fs) (own_of s.heap me)
 
-  module _ (own : ℕ) (site : LoopId) (at : ℕ) (i : LocalId) (e c : Expression) (next x : Statement) (called : Bool) (f : Fits s m items (Unit {0}) written t all called (for_loop own site Declares (put_local at i Put e) c next x))
+  module _ (own : ℕ) (site : LoopId) (at : ℕ) (i : LocalId) (e c : Expression) (next x : Statement) (called : Bool) (f : Fits s m written t all called (for_loop own site Declares (put_local at i Put e) c next x))
       (ups : CountsUp next i) (calls : CallsAlone x) (st : State) (is : StateTyped s v m st) (stands : Stands st) (ls : List Datum) (same : LocalsAre v t ls st.locals) where
     abbrev loop : Statement
     loop = for_loop own site Declares (put_local at i Put e) c next x
@@ -179,7 +179,7 @@ module _ (s : Environment) (v : Valuation) (runs : Runs s v) (m : PlainMethod) (
         (λ n q. or_left (names c n) _ q) (λ n q. or_right (names c n) _ (or_left (names_outside next n) _ q)) (λ n q. or_right (names c n) _ (or_right (names_outside next n) (names_outside x n) q))
         ls ms k same_long first_same rest_same same
 
-    pub for_is : Contains all loop → (g : PlainTerm) → mean v g ≡ Truth true → (l : List Invocation) (k : ℕ) → k ≤ s.steps → IsMeant s v runs m typed selects items (Unit {0}) puts written t all st g ls l loop k
+    pub for_is : Contains all loop → (g : PlainTerm) → mean v g ≡ Truth true → (l : List Invocation) (k : ℕ) → k ≤ s.steps → IsMeant s v runs m typed written t all st g ls l loop k
     for_is inside g y l k b =
         let a : List Slot = slots_meant v st.fields fs in
         let seen : List Datum = hidden t 0 (map (mean v) st.locals) in
@@ -193,13 +193,13 @@ module _ (s : Environment) (v : Valuation) (runs : Runs s v) (m : PlainMethod) (
         (sym (ap (λ z. z ++ []) (told s v g (loops site) (loop_parts st loop) y) ∙ append-nil _ ∙ ap loop_lists here))
         (sym (one_asked s v g (loops site) (loop_parts st loop) y ∙ ap loop_steps here))
 
-  by_counter : (own : ℕ) (site : LoopId) (part : FirstPart) (first : Statement) (c : Expression) (next x : Statement) (i : LocalId) → Begun i part first → CountsUp next i → CallsAlone x → Contains all (for_loop own site part first c next x) → (called : Bool) → Fits s m items (Unit {0}) written t all called (for_loop own site part first c next x) →
-      (st : State) → StateTyped s v m st → Stands st → (g : PlainTerm) → mean v g ≡ Truth true → (ls : List Datum) → LocalsAre v t ls st.locals → (l : List Invocation) (k : ℕ) → k ≤ s.steps → IsMeant s v runs m typed selects items (Unit {0}) puts written t all st g ls l (for_loop own site part first c next x) k
+  by_counter : (own : ℕ) (site : LoopId) (part : FirstPart) (first : Statement) (c : Expression) (next x : Statement) (i : LocalId) → Begun i part first → CountsUp next i → CallsAlone x → Contains all (for_loop own site part first c next x) → (called : Bool) → Fits s m written t all called (for_loop own site part first c next x) →
+      (st : State) → StateTyped s v m st → Stands st → (g : PlainTerm) → mean v g ≡ Truth true → (ls : List Datum) → LocalsAre v t ls st.locals → (l : List Invocation) (k : ℕ) → k ≤ s.steps → IsMeant s v runs m typed written t all st g ls l (for_loop own site part first c next x) k
   by_counter own site _ _ c next x i (begun at j e q) ups calls inside called f st is stands g y ls same l k b =
       for_is own site at j e c next x called f (subst (CountsUp next) (sym q) ups) calls st is stands ls same inside g y l k b
 
   -- each call loop of the body does what its demand means
-  pub loops_are_meant : LoopsAreMeant s v runs m typed selects items (Unit {0}) puts written t all Stands
-  loops_are_meant _ own site part first c next x inside called f st is stands g y ls same l k b =
+  pub loops_are_meant : LoopsAreMeant s v runs m typed written t all Stands
+  loops_are_meant own site part first c next x inside called f st is stands g y ls same l k b =
       let call : IsCallLoopOf part first c next x = (call_loops_are_told (for_loop own site part first c next x)).0 (told_loop own (is_call_loop (for_loop own site part first c next x)) f.known) in
       by_counter own site part first c next x call.counter (begun_of part first call.counter call.begins) call.counts call.calls inside called f st is stands g y ls same l k b

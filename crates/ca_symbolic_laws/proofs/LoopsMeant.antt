@@ -56,7 +56,7 @@ use Rattle.ca_symbolic_laws.specs.Meant.{slots_meant}
 use Rattle.ca_symbolic_laws.specs.Demanded.{LoopPlace, loop_at, spread_out, section_at, loop_within}
 use Rattle.ca_symbolic_laws.specs.Laws.{fields_in, Typed, StateTyped, LocalsAre}
 use Rattle.ca_symbolic_laws.proofs.Runs.{Runs}
-use Rattle.ca_symbolic_laws.proofs.Selects.{Selects, Puts}
+use Rattle.ca_symbolic_laws.proofs.Selects.{by_number, of_choice, of_put, of_add}
 use Rattle.ca_symbolic_laws.proofs.Choices.{or_false}
 use Rattle.ca_symbolic_laws.proofs.Demands.{told, one_asked}
 use Rattle.ca_symbolic_laws.proofs.Expressions.{hidden_at}

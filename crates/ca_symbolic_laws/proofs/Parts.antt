@@ -24,8 +24,8 @@ use Rattle.ca_symbolic.specs.Demands.{demanded_all}
 use Rattle.ca_symbolic_laws.specs.Costs.{plus, left, with_left, hidden, state_of, outcome_of}
 use Rattle.ca_symbolic_laws.specs.Meant.{slots_meant}
 use Rattle.ca_symbolic_laws.specs.Demanded.{cost, lists}
-use Rattle.ca_symbolic_laws.specs.Laws.{Typed, StateTyped, LocalsAre, SpeakAll, Body, Called, ValuesAreMeant, StatementsAreMeant, StatesStayTyped, SectionsAreMeant, FieldsStayTyped, StartsAreMeant, ConstantsAreKept, fields_in, object_meant, section_meant, arguments_in, begun, operation_demands, fields_behind}
-use Rattle.ca_symbolic_laws.proofs.Selects.{Selects, Puts}
+use Rattle.ca_symbolic_laws.specs.Laws.{Typed, StateTyped, LocalsAre, Body, Called, ValuesAreMeant, StatementsAreMeant, StatesStayTyped, SectionsAreMeant, FieldsStayTyped, StartsAreMeant, ConstantsAreKept, fields_in, object_meant, section_meant, arguments_in, begun, operation_demands, fields_behind}
+use Rattle.ca_symbolic_laws.proofs.Selects.{by_number, of_choice, of_put, of_add}
 use Rattle.ca_symbolic_laws.proofs.Runs.{Runs, runs}
 use Rattle.ca_symbolic_laws.proofs.Expressions.{one_step, eval_is}
 use Rattle.ca_symbolic_laws.proofs.Typings.{typed_behind_all}
@@ -39,78 +39,67 @@ use Rattle.ca_symbolic_laws.proofs.LoopLaw.{Stands, loops_are_meant}
 use Rattle.ca_symbolic_laws.proofs.Stands.{constants_behind, constants_behind_all, agreed, agrees_again}
 use Rattle.ca_symbolic_laws.proofs.Begun.{first_mean, first_typed, starts_are_meant}
 
-chosen_same : (c d : Datum) → d ≡ chosen c d d
-chosen_same (Truth true) d = refl
-chosen_same (Truth false) d = refl
-chosen_same (Long n) d = refl
-chosen_same Null d = refl
-chosen_same (Ref n) d = refl
-
-selects : (v : Valuation) → Selects v
-selects v = record { by_number = λ a i. refl; of_choice = λ c a b z. chosen_same (mean v c) Null }
-
 runs_in : (s : Environment) (m : PlainMethod) → Typed s m → Runs s (valuation_in s)
 runs_in s m typed = runs s typed.program typed.heap
 
 pub values_are_meant : ValuesAreMeant
 values_are_meant s m typed st is e ty t written called c is_hidden u ls same g y line k l =
-    eval_is s (valuation_in s) (runs_in s m typed) m typed (selects (valuation_in s)) st is written called is_hidden ls same line e ty t c u g y k l
+    eval_is s (valuation_in s) (runs_in s m typed) m typed st is written called is_hidden ls same line e ty t c u g y k l
 
--- The law of statements and sections, for puts of items where these are meant item by item
+-- Statements and sections
 
-module _ (items : Type 0) (puts : (v : Valuation) → items → Puts v) where
-  module _ (s : Environment) (m : PlainMethod) (typed : Typed s m) (written : List FieldId) (called : Bool) (xs : Statements) (t : ℕ → Bool)
-      (b : Body s m written xs) (c : AreSeparated s.program written called xs) (q : SpeakAll items (Unit {0}) xs) (counted : (n : ℕ) → any_counts xs n ≡ true → t n ≡ true) (apart : (n : ℕ) → t n ≡ true → any_names_outside xs n ≡ false) where
-    abbrev v : Valuation
-    v = valuation_in s
+module _ (s : Environment) (m : PlainMethod) (typed : Typed s m) (written : List FieldId) (called : Bool) (xs : Statements) (t : ℕ → Bool)
+    (b : Body s m written xs) (c : AreSeparated s.program written called xs) (counted : (n : ℕ) → any_counts xs n ≡ true → t n ≡ true) (apart : (n : ℕ) → t n ≡ true → any_names_outside xs n ≡ false) where
+  abbrev v : Valuation
+  v = valuation_in s
 
-    body_fits : FitAll s m items (Unit {0}) written t (fors_in_all xs) called xs
-    body_fits = record { typed = b.typed; separated = c; speaks = q; known = b.loops; puts = b.puts; inside = λ x i. i; counted = counted; apart = apart }
+  body_fits : FitAll s m written t (fors_in_all xs) called xs
+  body_fits = record { typed = b.typed; separated = c; known = b.loops; puts = b.puts; inside = λ x i. i; counted = counted; apart = apart }
 
-    abbrev Stand : State → Type 0
-    Stand st = Stands s v (runs_in s m typed) m typed (selects v) items (puts v) written t (fors_in_all xs) b.found st
+  abbrev Stand : State → Type 0
+  Stand st = Stands s v (runs_in s m typed) m typed written t (fors_in_all xs) b.found st
 
-    pub body_is : (st : State) → StateTyped s v m st → AgreesAt written (object_meant s m.class st.fields) s.heap s.receiver → (ls : List Datum) → LocalsAre v t ls st.locals → (l : List Invocation) (g : PlainTerm) → mean v g ≡ Truth true → (k : ℕ) → k ≤ s.steps →
-        state_of t (exec_all (section_parts s.program s.heap (Ref s.receiver)) ls (section_meant s m.class st.fields l) xs k)
-        ≡ with_left (hidden t 0 (map (mean v) (after_all s.program st xs).locals), section_meant s m.class (after_all s.program st xs).fields (l ++ lists s v (demanded_all s.program st g xs))) (left (cost s v (demanded_all s.program st g xs)) k)
-    body_is st is agrees ls same l g y k i =
-        exec_all_is s v (runs_in s m typed) m typed (selects v) items (Unit {0}) (puts v) written t (fors_in_all xs) Stand
-        (λ x e st f at. constants_behind s.program m v (fields_in s m.class) written (own_of s.heap (Ref s.receiver)) x st f.typed f.puts at)
-        (loops_are_meant s v (runs_in s m typed) m typed (selects v) items (puts v) written t (fors_in_all xs) b.found)
-        xs called body_fits st is (agreed m written (slots_meant v st.fields (fields_in s m.class)) s.heap s.receiver agrees) g y ls same l k i
+  pub body_is : (st : State) → StateTyped s v m st → AgreesAt written (object_meant s m.class st.fields) s.heap s.receiver → (ls : List Datum) → LocalsAre v t ls st.locals → (l : List Invocation) (g : PlainTerm) → mean v g ≡ Truth true → (k : ℕ) → k ≤ s.steps →
+      state_of t (exec_all (section_parts s.program s.heap (Ref s.receiver)) ls (section_meant s m.class st.fields l) xs k)
+      ≡ with_left (hidden t 0 (map (mean v) (after_all s.program st xs).locals), section_meant s m.class (after_all s.program st xs).fields (l ++ lists s v (demanded_all s.program st g xs))) (left (cost s v (demanded_all s.program st g xs)) k)
+  body_is st is agrees ls same l g y k i =
+      exec_all_is s v (runs_in s m typed) m typed written t (fors_in_all xs) Stand
+      (λ x e st f at. constants_behind s.program m v (fields_in s m.class) written (own_of s.heap (Ref s.receiver)) x st f.typed f.puts at)
+      (loops_are_meant s v (runs_in s m typed) m typed written t (fors_in_all xs) b.found)
+      xs called body_fits st is (agreed m written (slots_meant v st.fields (fields_in s m.class)) s.heap s.receiver agrees) g y ls same l k i
 
-  pub statements_mean : StatementsAreMeant items (Unit {0})
-  statements_mean s m typed written called xs b c q is_counter counted apart st is agrees ls same l g y k i =
-      body_is s m typed written called xs is_counter b c q counted apart st is agrees ls same l g y k i
+pub statements_are_meant : StatementsAreMeant
+statements_are_meant s m typed written called xs b c is_counter counted apart st is agrees ls same l g y k i =
+    body_is s m typed written called xs is_counter b c counted apart st is agrees ls same l g y k i
 
-  pub states_typed : StatesStayTyped items (Unit {0})
-  states_typed s m typed written called xs b c q st is =
-      typed_behind_all s (valuation_in s) (runs_in s m typed) m typed (selects (valuation_in s)) items (Unit {0}) (puts (valuation_in s)) written xs called st is b.typed c q
+pub states_stay_typed : StatesStayTyped
+states_stay_typed s m typed written called xs b c st is =
+    typed_behind_all s (valuation_in s) (runs_in s m typed) m typed written xs called st is b.typed c
 
-  begun_typed : (s : Environment) (written : List FieldId) (op : OpId) (m : PlainMethod) (group : ℕ) (fields : List PlainTerm) → Called s written op m group fields → StateTyped s (valuation_in s) m (begun group m fields)
-  begun_typed s written op m group fields c = record { fields = c.object; locals = first_typed s group m c.arguments }
+begun_typed : (s : Environment) (written : List FieldId) (op : OpId) (m : PlainMethod) (group : ℕ) (fields : List PlainTerm) → Called s written op m group fields → StateTyped s (valuation_in s) m (begun group m fields)
+begun_typed s written op m group fields c = record { fields = c.object; locals = first_typed s group m c.arguments }
 
-  pub fields_typed : FieldsStayTyped items (Unit {0})
-  fields_typed s written op m group fields c q =
-      (states_typed s m c.typed written false m.body.statements c.body c.separable q (begun group m fields) (begun_typed s written op m group fields c)).fields
+pub fields_stay_typed : FieldsStayTyped
+fields_stay_typed s written op m group fields c =
+    (states_stay_typed s m c.typed written false m.body.statements c.body c.separable (begun group m fields) (begun_typed s written op m group fields c)).fields
 
-  -- the section of an operation
-  abbrev run_of : Environment → Object → List Datum → Option PlainMethod → ℕ → Flow Section
-  run_of s o xs m k = with (take_step k) (section_start o.slots) (λ _ k. exec_all (section_parts s.program s.heap (Ref s.receiver)) (locals_of m xs) (section_start o.slots) (body_of m) k)
+-- the section of an operation
+abbrev run_of : Environment → Object → List Datum → Option PlainMethod → ℕ → Flow Section
+run_of s o xs m k = with (take_step k) (section_start o.slots) (λ _ k. exec_all (section_parts s.program s.heap (Ref s.receiver)) (locals_of m xs) (section_start o.slots) (body_of m) k)
 
-  pub sections_mean : SectionsAreMeant items (Unit {0})
-  sections_mean s written op m group fields c q k i =
-      let o : Object = object_meant s m.class fields in
-      let xs : List Datum = arguments_in s group in
-      let st : State = begun group m fields in
-      let counter : ℕ → Bool = any_counts m.body.statements in
-      let ds : List PlainDemand = operation_demands s group m fields in
-      let w : List Datum × Section = (hidden counter 0 (map (mean (valuation_in s)) (after_all s.program st m.body.statements).locals), section_meant s m.class (fields_behind s group m fields) (lists s (valuation_in s) ds)) in
-      let ran : state_of counter (run_of s o xs (Some m) k) ≡ with_left w (left (plus (Some 1) (cost s (valuation_in s) ds)) k) =
-      with_then counter (take_step k) (section_start o.slots) (λ _ k. exec_all (section_parts s.program s.heap (Ref s.receiver)) (locals_of (Some m) xs) (section_start o.slots) m.body.statements k) tt w (Some 1) (cost s (valuation_in s) ds) k (one_step k)
-      (λ j h. body_is s m c.typed written false m.body.statements counter c.body c.separable q (λ n e. e) c.scoped st (begun_typed s written op m group fields c) c.agrees (locals_of (Some m) xs) (ap (hidden counter 0) (sym (first_mean s group m c.arguments))) [] (term.truth true) refl j (omega (arith, h, i))) in
-      ap (λ z. outcome_of (sectioned m.class k (run_of s o xs z k))) c.method
-      ∙ sectioned_is counter m.class k (run_of s o xs (Some m) k) ∙ ap (outcome_at m.class k) ran ∙ outcome_is m.class w (plus (Some 1) (cost s (valuation_in s) ds)) k
+pub sections_are_meant : SectionsAreMeant
+sections_are_meant s written op m group fields c k i =
+    let o : Object = object_meant s m.class fields in
+    let xs : List Datum = arguments_in s group in
+    let st : State = begun group m fields in
+    let counter : ℕ → Bool = any_counts m.body.statements in
+    let ds : List PlainDemand = operation_demands s group m fields in
+    let w : List Datum × Section = (hidden counter 0 (map (mean (valuation_in s)) (after_all s.program st m.body.statements).locals), section_meant s m.class (fields_behind s group m fields) (lists s (valuation_in s) ds)) in
+    let ran : state_of counter (run_of s o xs (Some m) k) ≡ with_left w (left (plus (Some 1) (cost s (valuation_in s) ds)) k) =
+    with_then counter (take_step k) (section_start o.slots) (λ _ k. exec_all (section_parts s.program s.heap (Ref s.receiver)) (locals_of (Some m) xs) (section_start o.slots) m.body.statements k) tt w (Some 1) (cost s (valuation_in s) ds) k (one_step k)
+    (λ j h. body_is s m c.typed written false m.body.statements counter c.body c.separable (λ n e. e) c.scoped st (begun_typed s written op m group fields c) c.agrees (locals_of (Some m) xs) (ap (hidden counter 0) (sym (first_mean s group m c.arguments))) [] (term.truth true) refl j (omega (arith, h, i))) in
+    ap (λ z. outcome_of (sectioned m.class k (run_of s o xs z k))) c.method
+    ∙ sectioned_is counter m.class k (run_of s o xs (Some m) k) ∙ ap (outcome_at m.class k) ran ∙ outcome_is m.class w (plus (Some 1) (cost s (valuation_in s) ds)) k
 
 -- the object behind a section agrees on constants
 pub constants_are_kept : ConstantsAreKept
@@ -119,22 +108,5 @@ constants_are_kept s written op m group fields c =
     (constants_behind_all s.program m (valuation_in s) (fields_in s m.class) written (own_of s.heap (Ref s.receiver)) m.body.statements (begun group m fields) c.body.typed c.body.puts
     (agreed m written (slots_meant (valuation_in s) fields (fields_in s m.class)) s.heap s.receiver c.agrees))
 
--- The law in its part: no items of the receiver are put
-
-no_puts : (v : Valuation) → ⊥ → Puts v
-no_puts v q = absurd q
-
-pub statements_are_meant : StatementsAreMeant ⊥ (Unit {0})
-statements_are_meant = statements_mean ⊥ no_puts
-
-pub states_stay_typed : StatesStayTyped ⊥ (Unit {0})
-states_stay_typed = states_typed ⊥ no_puts
-
-pub fields_stay_typed : FieldsStayTyped ⊥ (Unit {0})
-fields_stay_typed = fields_typed ⊥ no_puts
-
-pub sections_are_meant : SectionsAreMeant ⊥ (Unit {0})
-sections_are_meant = sections_mean ⊥ no_puts
-
-pub starts_mean_the_object : StartsAreMeant ⊥
-starts_mean_the_object s c o q = starts_are_meant s c o q
+pub starts_mean_the_object : StartsAreMeant
+starts_mean_the_object s c o = starts_are_meant s c o

@@ -71,7 +71,7 @@ sort_function (Some m) c tys ty i = ap sort_of_given i.2
 -- Items
 
 -- as in the environment
-abbrev item_at : List Datum → Datum → Datum
+abbrev pub item_at : List Datum → Datum → Datum
 item_at vs (datum.Long (pos i)) = value_at vs i
 item_at vs i = datum.Null
 
@@ -85,7 +85,7 @@ item_typed h ty [] i t = start_as h ty
 item_typed h ty (d ∷ ds) zero t = typed_as h ty d t.0
 item_typed h ty (d ∷ ds) (suc i) t = item_typed h ty ds i t.1
 
-index_typed : (h : List Object) (ty : ValueType) (ds : List Datum) (j : Datum) → AllHaveType h ds ty → HasType h (as_sort (sort_of_type ty) (item_at ds j)) ty
+pub index_typed : (h : List Object) (ty : ValueType) (ds : List Datum) (j : Datum) → AllHaveType h ds ty → HasType h (as_sort (sort_of_type ty) (item_at ds j)) ty
 index_typed h ty ds (datum.Long (pos i)) t = item_typed h ty ds i t
 index_typed h ty ds (datum.Long (negsuc i)) t = start_as h ty
 index_typed h ty ds (datum.Bool b) t = start_as h ty

@@ -14,7 +14,7 @@ use Rattle.ca_norm.specs.Terms.{PlainTerm}
 use Rattle.ca_norm.specs.Meanings.{Valuation, chosen, mean}
 use Rattle.ca_symbolic.specs.Execution.{choose_if, choices}
 use Rattle.ca_symbolic_laws.specs.Meant.{item_meant, items_meant, slot_meant, slots_meant}
-use Rattle.ca_symbolic_laws.proofs.Selects.{Selects}
+use Rattle.ca_symbolic_laws.proofs.Selects.{by_number, of_choice, of_put, of_add}
 
 -- Items
 
@@ -85,30 +85,30 @@ pub data AllSame (v : Valuation) : List PlainTerm → List PlainTerm → Type 0 
   none_same : AllSame v [] []
   more_same : (t u : PlainTerm) (ts us : List PlainTerm) → SameMeant v t u → AllSame v ts us → AllSame v (t ∷ ts) (u ∷ us)
 
-choice_true : (v : Valuation) → Selects v → (b : Bool) (c x y : PlainTerm) → mean v c ≡ Truth true → SameMeant v (choose_if b c x y) x
-choice_true v s true c x y e = record { value = ap (λ d. chosen d (mean v x) (mean v y)) e; items = λ z. s.of_choice c x y z ∙ ap (λ d. chosen d (item_meant v x z) (item_meant v y z)) e }
-choice_true v s false c x y e = same_itself v x
+choice_true : (v : Valuation) (b : Bool) (c x y : PlainTerm) → mean v c ≡ Truth true → SameMeant v (choose_if b c x y) x
+choice_true v true c x y e = record { value = ap (λ d. chosen d (mean v x) (mean v y)) e; items = λ z. of_choice v c x y z ∙ ap (λ d. chosen d (item_meant v x z) (item_meant v y z)) e }
+choice_true v false c x y e = same_itself v x
 
-choice_false : (v : Valuation) → Selects v → (b : Bool) (c x y : PlainTerm) → mean v c ≡ Truth false → (b ≡ false → x ≡ y) → SameMeant v (choose_if b c x y) y
-choice_false v s true c x y e h = record { value = ap (λ d. chosen d (mean v x) (mean v y)) e; items = λ z. s.of_choice c x y z ∙ ap (λ d. chosen d (item_meant v x z) (item_meant v y z)) e }
-choice_false v s false c x y e h = let same : x ≡ y = h refl in rw same (same_itself v y)
+choice_false : (v : Valuation) (b : Bool) (c x y : PlainTerm) → mean v c ≡ Truth false → (b ≡ false → x ≡ y) → SameMeant v (choose_if b c x y) y
+choice_false v true c x y e h = record { value = ap (λ d. chosen d (mean v x) (mean v y)) e; items = λ z. of_choice v c x y z ∙ ap (λ d. chosen d (item_meant v x z) (item_meant v y z)) e }
+choice_false v false c x y e h = let same : x ≡ y = h refl in rw same (same_itself v y)
 
 -- of lists that agree where nothing is put, the choices mean what the chosen list means
-pub choices_true : (v : Valuation) → Selects v → (is_put : ℕ → Bool) (n : ℕ) (c : PlainTerm) (xs ys : List PlainTerm) → length xs ≡ length ys → mean v c ≡ Truth true → AllSame v (choices is_put n c xs ys) xs
-choices_true v s is_put n c [] ys l e = none_same
-choices_true v s is_put n c (x ∷ xs) [] l e = cc
-choices_true v s is_put n c (x ∷ xs) (y ∷ ys) l e = more_same _ x _ xs (choice_true v s (is_put n) c x y e) (choices_true v s is_put (suc n) c xs ys (omega (arith, l)) e)
+pub choices_true : (v : Valuation) (is_put : ℕ → Bool) (n : ℕ) (c : PlainTerm) (xs ys : List PlainTerm) → length xs ≡ length ys → mean v c ≡ Truth true → AllSame v (choices is_put n c xs ys) xs
+choices_true v is_put n c [] ys l e = none_same
+choices_true v is_put n c (x ∷ xs) [] l e = cc
+choices_true v is_put n c (x ∷ xs) (y ∷ ys) l e = more_same _ x _ xs (choice_true v (is_put n) c x y e) (choices_true v is_put (suc n) c xs ys (omega (arith, l)) e)
 
 some_same : {x y : PlainTerm} → Some x ≡ Some y → x ≡ y
 some_same e = cc
 
-pub choices_false : (v : Valuation) → Selects v → (is_put : ℕ → Bool) (n : ℕ) (c : PlainTerm) (xs ys : List PlainTerm) → length xs ≡ length ys → mean v c ≡ Truth false → ((i : ℕ) → is_put (n + i) ≡ false → slice_get xs i ≡ slice_get ys i) → AllSame v (choices is_put n c xs ys) ys
-choices_false v s is_put n c [] [] l e h = none_same
-choices_false v s is_put n c [] (y ∷ ys) l e h = cc
-choices_false v s is_put n c (x ∷ xs) [] l e h = cc
-choices_false v s is_put n c (x ∷ xs) (y ∷ ys) l e h =
-    more_same _ y _ ys (choice_false v s (is_put n) c x y e (λ f. some_same (h zero (ap is_put (let z : n + zero ≡ n = omega arith in z) ∙ f))))
-    (choices_false v s is_put (suc n) c xs ys (omega (arith, l)) e (λ i f. h (suc i) (ap is_put (let z : n + suc i ≡ suc n + i = omega arith in z) ∙ f)))
+pub choices_false : (v : Valuation) (is_put : ℕ → Bool) (n : ℕ) (c : PlainTerm) (xs ys : List PlainTerm) → length xs ≡ length ys → mean v c ≡ Truth false → ((i : ℕ) → is_put (n + i) ≡ false → slice_get xs i ≡ slice_get ys i) → AllSame v (choices is_put n c xs ys) ys
+choices_false v is_put n c [] [] l e h = none_same
+choices_false v is_put n c [] (y ∷ ys) l e h = cc
+choices_false v is_put n c (x ∷ xs) [] l e h = cc
+choices_false v is_put n c (x ∷ xs) (y ∷ ys) l e h =
+    more_same _ y _ ys (choice_false v (is_put n) c x y e (λ f. some_same (h zero (ap is_put (let z : n + zero ≡ n = omega arith in z) ∙ f))))
+    (choices_false v is_put (suc n) c xs ys (omega (arith, l)) e (λ i f. h (suc i) (ap is_put (let z : n + suc i ≡ suc n + i = omega arith in z) ∙ f)))
 
 pub values_same : (v : Valuation) (ts us : List PlainTerm) → AllSame v ts us → map (mean v) ts ≡ map (mean v) us
 values_same v _ _ none_same = refl

@@ -44,7 +44,7 @@ use Rattle.ca_symbolic_laws.proofs.Budgets.{free, plus_none, none_plus, then_val
 use Rattle.ca_symbolic_laws.proofs.Indexes.{number_of, place_of}
 use Rattle.ca_symbolic_laws.proofs.Operators.{IsTruth, is_true, truth_of}
 use Rattle.ca_symbolic_laws.proofs.Runs.{Runs}
-use Rattle.ca_symbolic_laws.proofs.Selects.{Selects, Puts}
+use Rattle.ca_symbolic_laws.proofs.Selects.{by_number, of_choice, of_put, of_add}
 use Rattle.ca_symbolic_laws.proofs.Terms.{means_are, own_info, mean_typed}
 use Rattle.ca_symbolic_laws.proofs.Demands.{cost_append, lists_append, asked, told, Off, off_statement, quiet, quiet_all}
 use Rattle.ca_symbolic_laws.proofs.Expressions.{Unnamed, unnamed_left, unnamed_right, shown, hidden_at, local_means, field_means, own_index, eval_is, evals_are}
@@ -69,7 +69,7 @@ term_there h v (y ∷ ts) [] f ty t i = absurd i
 term_there h v (y ∷ ts) (x ∷ fs) zero ty t i = refl
 term_there h v (y ∷ ts) (x ∷ fs) (suc f) ty t i = term_there h v ts fs f ty t.1 i
 
-module _ (s : Environment) (v : Valuation) (runs : Runs s v) (m : PlainMethod) (typed : Typed s m) (selects : Selects v) (items loops : Type 0) (puts : items → Puts v)
+module _ (s : Environment) (v : Valuation) (runs : Runs s v) (m : PlainMethod) (typed : Typed s m)
     (written : List FieldId) (t : ℕ → Bool) (all : List Statement) where
   abbrev p : PlainProgram
   p = s.program
@@ -99,10 +99,10 @@ module _ (s : Environment) (v : Valuation) (runs : Runs s v) (m : PlainMethod) (
   module _ (called : Bool) (st : State) (is : StateTyped s v m st) (ls : List Datum) (same : LocalsAre v t ls st.locals) (line : ℕ) where
     value_is : (e : Expression) (ty : ValueType) → ExpressionTyped p (scope_of m) e ty → IsClean p written called e → Unnamed t (names e) → (g : PlainTerm) → mean v g ≡ Truth true → (k : ℕ) → k ≤ s.steps →
         value_of (eval (functions_of p.functions s.heap).call (section_place s.heap (Ref s.receiver) (slots_meant v st.fields fs) line ls) e k) ≡ with_left (mean v (term_of p st e)) (left (cost s v (demands_in p st g e)) k)
-    value_is e ty a c u g y k l = eval_is s v runs m typed selects st is written called t ls same line e ty a c u g y k l
+    value_is e ty a c u g y k l = eval_is s v runs m typed st is written called t ls same line e ty a c u g y k l
 
     own_field : (f : FieldId) (P : Option FieldInfo → Type 0) → Some m.class ≡ Some f.class → P (field_info p f) → P (slice_get fs f.field)
-    own_field f P e i = own_info s v runs m typed selects st is written called f P e i
+    own_field f P e i = own_info s v runs m typed st is written called f P e i
 
     local_put : (l : ℕ) (op : AssignOp) (x : PlainTerm) → t l ≡ false → hidden t 0 (slice_set ls l (assigned op (value_at ls l) (mean v x))) ≡ hidden t 0 (map (mean v) (slice_set st.locals l (put_term op (term_at st.locals l) x)))
     local_put l op x e =
@@ -120,7 +120,7 @@ module _ (s : Environment) (v : Valuation) (runs : Runs s v) (m : PlainMethod) (
         ≡ with_left (invocation (object_in (mean v (term_of p st e))) op (means v (terms_of p st es))) (left (plus (cost s v (demands_in p st g e)) (plus (cost s v (demands_in_all p st g es)) (names_object (mean v (term_of p st e))))) k)
     due_is e op es c tys a b clean cleans u g y k l =
         then_value _ _ (mean v (term_of p st e)) _ (cost s v (demands_in p st g e)) _ k (value_is e (type.Pointer c) a clean (unnamed_left t (names e) (any_names es) u) g y k l)
-        (λ j i. then_value _ _ (means v (terms_of p st es)) _ (cost s v (demands_in_all p st g es)) _ j (evals_are s v runs m typed selects st is written called t ls same line es tys b cleans (unnamed_right t (names e) (any_names es) u) g y j (omega (arith, i, l)))
+        (λ j i. then_value _ _ (means v (terms_of p st es)) _ (cost s v (demands_in_all p st g es)) _ j (evals_are s v runs m typed st is written called t ls same line es tys b cleans (unnamed_right t (names e) (any_names es) u) g y j (omega (arith, i, l)))
         (λ r h. pointed_is (mean v (term_of p st e)) (means v (terms_of p st es)) r))
       where
         pointed_is : (d : Datum) (xs : List Datum) (r : ℕ) → value_of (pointed line d r >>= λ n k. gives (invocation n op xs) k) ≡ with_left (invocation (object_in d) op xs) (left (names_object d) r)
@@ -142,8 +142,8 @@ module _ (s : Environment) (v : Valuation) (runs : Runs s v) (m : PlainMethod) (
       ha (then_guard g (term_of p st c)) on
       ∙ ap₂ (λ x z. with_left x (left z k))
       (sym (same_meant (after p st (if_else own_line c a d)) (after p st a) _ _
-      (choices_true v selects (local_target a d) 0 (term_of p st c) (after p st a).locals (after p st d).locals long_locals e)
-      (choices_true v selects (field_target a d) 0 (term_of p st c) (after p st a).fields (after p st d).fields long_fields e)
+      (choices_true v (local_target a d) 0 (term_of p st c) (after p st a).locals (after p st d).locals long_locals e)
+      (choices_true v (field_target a d) 0 (term_of p st c) (after p st a).fields (after p st d).fields long_fields e)
       (ap (λ z. l ++ z) (lists_append s v (demands_in p st g c) _ ∙ ap₂ (λ x z. x ++ z) (quiet s v p st c g) (lists_append s v (demanded p st (then_guard g (term_of p st c)) a) _ ∙ ap (λ z. lists s v (demanded p st (then_guard g (term_of p st c)) a) ++ z) idle.silent ∙ append-nil _)))))
       (sym (cost_append s v (demanded p st (then_guard g (term_of p st c)) a) _ ∙ ap (plus (cost s v (demanded p st (then_guard g (term_of p st c)) a))) idle.free ∙ plus_none _))
   branches own_line c a d st g ls l k y ha hd (Truth false) e u =
@@ -155,8 +155,8 @@ module _ (s : Environment) (v : Valuation) (runs : Runs s v) (m : PlainMethod) (
       hd (else_guard g (term_of p st c)) on
       ∙ ap₂ (λ x z. with_left x (left z k))
       (sym (same_meant (after p st (if_else own_line c a d)) (after p st d) _ _
-      (choices_false v selects (local_target a d) 0 (term_of p st c) (after p st a).locals (after p st d).locals long_locals e (λ n f. let z : (puts_local a n ≡ false) × (puts_local d n ≡ false) = or_false (puts_local a n) (puts_local d n) (ap (local_target a d) (sym (zero-add n)) ∙ f) in (locals_kept p a st).other n z.0 ∙ sym ((locals_kept p d st).other n z.1)))
-      (choices_false v selects (field_target a d) 0 (term_of p st c) (after p st a).fields (after p st d).fields long_fields e (λ n f. let z : (puts_field a n ≡ false) × (puts_field d n ≡ false) = or_false (puts_field a n) (puts_field d n) (ap (field_target a d) (sym (zero-add n)) ∙ f) in (fields_kept p a st).other n z.0 ∙ sym ((fields_kept p d st).other n z.1)))
+      (choices_false v (local_target a d) 0 (term_of p st c) (after p st a).locals (after p st d).locals long_locals e (λ n f. let z : (puts_local a n ≡ false) × (puts_local d n ≡ false) = or_false (puts_local a n) (puts_local d n) (ap (local_target a d) (sym (zero-add n)) ∙ f) in (locals_kept p a st).other n z.0 ∙ sym ((locals_kept p d st).other n z.1)))
+      (choices_false v (field_target a d) 0 (term_of p st c) (after p st a).fields (after p st d).fields long_fields e (λ n f. let z : (puts_field a n ≡ false) × (puts_field d n ≡ false) = or_false (puts_field a n) (puts_field d n) (ap (field_target a d) (sym (zero-add n)) ∙ f) in (fields_kept p a st).other n z.0 ∙ sym ((fields_kept p d st).other n z.1)))
       (ap (λ z. l ++ z) (lists_append s v (demands_in p st g c) _ ∙ ap₂ (λ x z. x ++ z) (quiet s v p st c g) (lists_append s v (demanded p st (then_guard g (term_of p st c)) a) _ ∙ ap (λ z. z ++ lists s v (demanded p st (else_guard g (term_of p st c)) d)) idle.silent)))))
       (sym (cost_append s v (demanded p st (then_guard g (term_of p st c)) a) _ ∙ ap (λ z. plus z (cost s v (demanded p st (else_guard g (term_of p st c)) d))) idle.free ∙ none_plus _))
   branches own_line c a d st g ls l k y ha hd (Long n) e u = absurd u
@@ -175,12 +175,12 @@ module _ (s : Environment) (v : Valuation) (runs : Runs s v) (m : PlainMethod) (
   -- Statements
 
   abbrev pub Fit : Bool → Statement → Type 0
-  Fit called x = Fits s m items loops written t all called x
+  Fit called x = Fits s m written t all called x
 
   -- what is owed for the loops that stand: where the state stands, they do as they are meant
   abbrev pub LoopsAreMeant : (State → Type 0) → Type 0
   LoopsAreMeant Stands =
-      loops → (own : ℕ) (site : LoopId) (part : FirstPart) (first : Statement) (c : Expression) (next body : Statement) → Contains all (for_loop own site part first c next body) → (called : Bool) → Fit called (for_loop own site part first c next body) →
+      (own : ℕ) (site : LoopId) (part : FirstPart) (first : Statement) (c : Expression) (next body : Statement) → Contains all (for_loop own site part first c next body) → (called : Bool) → Fit called (for_loop own site part first c next body) →
       (st : State) → StateTyped s v m st → Stands st → (g : PlainTerm) → mean v g ≡ Truth true → (ls : List Datum) → LocalsAre v t ls st.locals → (l : List Invocation) → (k : ℕ) → k ≤ s.steps → IsMeant st g ls l (for_loop own site part first c next body) k
 
   module _ (Stands : State → Type 0) (stands_behind : (x : Statement) (called : Bool) (st : State) → Fit called x → Stands st → Stands (after p st x)) (loops_are : LoopsAreMeant Stands) where
@@ -203,14 +203,14 @@ module _ (s : Environment) (v : Valuation) (runs : Runs s v) (m : PlainMethod) (
         (λ c within a z. with_then t _ _ _ x w (cost s v (demands_in p st g e)) (Some 0) a (value_is called st is ls same own_line e f.typed.0 f.typed.4.1 f.separated.2 (unnamed_right t (names i) (names e) f.apart) g y a (omega (arith, z, h, b)))
         (λ r q. ap (λ o. Some (o, r)) (ap₂ (λ o u. (o, u)) same (ap₂ (λ o u. record { own = o; listed = u })
         (put_at v st.fields fs n.field f.typed.0 (place_of d) stored old new array (term_there s.heap v st.fields fs n.field f.typed.0 is.fields array)
-        (record { at = λ o. array_behind s v runs m typed selects items loops puts written f.speaks st is called n i op e f.typed.0 f.typed.1.1 f.typed.2 f.typed.4.0 f.typed.4.1 f.separated.2 o ∙ ap (λ u. cond (same_int u o) stored (item_meant v old o)) (in_range_place (length_in (field_info p n)) d c within) }))
+        (record { at = λ o. array_behind s v runs m typed written st is called n i op e f.typed.0 f.typed.1.1 f.typed.2 f.typed.4.0 f.typed.4.1 f.separated.2 o ∙ ap (λ u. cond (same_int u o) stored (item_meant v old o)) (in_range_place (length_in (field_info p n)) d c within) }))
         quiet_list)) ∙ free w r)
         ∙ ap (λ o. with_left w (left o a)) (plus_none _)))
         ∙ ap (λ o. with_left w (left o k)) (sym (put_cost st g n i e y))
 
     mutual
       pub exec_is : (x : Statement) (called : Bool) → Fit called x → (st : State) → StateTyped s v m st → Stands st → (g : PlainTerm) → mean v g ≡ Truth true → (ls : List Datum) → LocalsAre v t ls st.locals → (l : List Invocation) (k : ℕ) → k ≤ s.steps → IsMeant st g ls l x k
-      exec_is (block own_line xs) called f st is at g y ls same l k b = exec_all_is xs called (in_block s m items loops written t all called own_line xs f) st is at g y ls same l k b
+      exec_is (block own_line xs) called f st is at g y ls same l k b = exec_all_is xs called (in_block s m written t all called own_line xs f) st is at g y ls same l k b
       exec_is (put_local own_line n op e) called f st is at g y ls same l k b =
           let d : Datum = mean v (term_of p st e) in
           let w : List Datum × Section = meant (after p st (put_local own_line n op e)) (l ++ lists s v (demands_in p st g e)) in
@@ -242,17 +242,17 @@ module _ (s : Environment) (v : Valuation) (runs : Runs s v) (m : PlainMethod) (
           ∙ ap₂ (λ x z. with_left x (left z k)) (ap (λ z. meant st (l ++ z)) (sym listed)) (sym taken)
       exec_is (if_else own_line c a d) called f st is at g y ls same l k b =
           let w : List Datum × Section = meant (after p st (if_else own_line c a d)) (l ++ lists s v (demanded p st g (if_else own_line c a d))) in
-          let truth : HasType s.heap (mean v (term_of p st c)) type.Bool = mean_typed s v runs m typed selects st is written called c type.Bool f.typed.0 f.separated.0 in
+          let truth : HasType s.heap (mean v (term_of p st c)) type.Bool = mean_typed s v runs m typed st is written called c type.Bool f.typed.0 f.separated.0 in
           with_then t _ _ _ (mean v (term_of p st c)) w (cost s v (demands_in p st g c)) (cost s v (demanded p st (then_guard g (term_of p st c)) a ++ demanded p st (else_guard g (term_of p st c)) d)) k
           (value_is called st is ls same own_line c type.Bool f.typed.0 f.separated.0 (unnamed_left t (names c) (λ n. names_outside a n || names_outside d n) f.apart) g y k b)
           (λ j i. branches own_line c a d st g ls l j y
-          (λ u z. exec_is a called (in_then s m items loops written t all called own_line c a d f) st is at u z ls same l j (omega (arith, i, b)))
-          (λ u z. exec_is d called (in_else s m items loops written t all called own_line c a d f) st is at u z ls same l j (omega (arith, i, b)))
+          (λ u z. exec_is a called (in_then s m written t all called own_line c a d f) st is at u z ls same l j (omega (arith, i, b)))
+          (λ u z. exec_is d called (in_else s m written t all called own_line c a d f) st is at u z ls same l j (omega (arith, i, b)))
           (mean v (term_of p st c)) refl (truth_of s.heap (mean v (term_of p st c)) type.Bool truth refl))
           ∙ ap (λ z. with_left w (left z k)) (sym (cost_append s v (demands_in p st g c) _))
       exec_is (for_loop own_line site part first c next x) called f st is at g y ls same l k b =
           let loop : Statement = for_loop own_line site part first c next x in
-          loops_are f.speaks own_line site part first c next x (f.inside loop (Contains-append_left (loop ∷ []) (fors_in first ++ (fors_in next ++ fors_in x)) loop (Contains-push [] loop))) called f st is at g y ls same l k b
+          loops_are own_line site part first c next x (f.inside loop (Contains-append_left (loop ∷ []) (fors_in first ++ (fors_in next ++ fors_in x)) loop (Contains-push [] loop))) called f st is at g y ls same l k b
       exec_is (while_loop own_line c x) called f st is at g y ls same l k b = absurd (let e : Some own_line ≡ None = f.known in cc)
       exec_is (new_local own_line n c) called f st is at g y ls same l k b = absurd f.separated
       exec_is (new_field own_line n c) called f st is at g y ls same l k b = absurd f.separated
@@ -260,16 +260,16 @@ module _ (s : Environment) (v : Valuation) (runs : Runs s v) (m : PlainMethod) (
       exec_is (return_value own_line e) called f st is at g y ls same l k b = absurd (let r : Some f.typed.0 ≡ None = sym f.typed.1 ∙ typed.operation in cc)
       exec_is (print_value own_line e) called f st is at g y ls same l k b = absurd f.separated
 
-      pub exec_all_is : (xs : Statements) (called : Bool) → FitAll s m items loops written t all called xs → (st : State) → StateTyped s v m st → Stands st → (g : PlainTerm) → mean v g ≡ Truth true → (ls : List Datum) → LocalsAre v t ls st.locals → (l : List Invocation) (k : ℕ) → k ≤ s.steps →
+      pub exec_all_is : (xs : Statements) (called : Bool) → FitAll s m written t all called xs → (st : State) → StateTyped s v m st → Stands st → (g : PlainTerm) → mean v g ≡ Truth true → (ls : List Datum) → LocalsAre v t ls st.locals → (l : List Invocation) (k : ℕ) → k ≤ s.steps →
           state_of t (exec_all (section_parts p s.heap (Ref s.receiver)) ls (section_of st l) xs k) ≡ with_left (meant (after_all p st xs) (l ++ lists s v (demanded_all p st g xs))) (left (cost s v (demanded_all p st g xs)) k)
       exec_all_is no_statements called f st is at g y ls same l k b =
           ap (λ z. Some ((z, section_of st l), k)) same ∙ free (meant st l) k ∙ ap (λ z. with_left (meant st z) (left (Some 0) k)) (sym (append-nil l))
       exec_all_is (statement_and x xs) called f st is at g y ls same l k b =
-          let head : Fit called x = at_head s m items loops written t all called x xs f in
+          let head : Fit called x = at_head s m written t all called x xs f in
           let n : List Invocation = l ++ lists s v (demanded p st g x) in
           let w : List Datum × Section = meant (after_all p (after p st x) xs) (l ++ lists s v (demanded_all p st g (statement_and x xs))) in
           let order : n ++ lists s v (demanded_all p (after p st x) g xs) ≡ l ++ lists s v (demanded_all p st g (statement_and x xs)) = append_assoc l (lists s v (demanded p st g x)) (lists s v (demanded_all p (after p st x) g xs)) ∙ ap (λ z. l ++ z) (sym (lists_append s v (demanded p st g x) _)) in
           on_then t _ _ (hidden t 0 (map (mean v) (after p st x).locals)) (section_of (after p st x) n) w (cost s v (demanded p st g x)) (cost s v (demanded_all p (after p st x) g xs)) k (exec_is x called head st is at g y ls same l k b)
-          (λ hs held j i. exec_all_is xs (called || holds_call x) (in_tail s m items loops written t all called x xs f) (after p st x) (typed_behind s v runs m typed selects items loops puts written x called st is head.typed head.separated head.speaks) (stands_behind x called st head at) g y hs held n j (omega (arith, i, b))
+          (λ hs held j i. exec_all_is xs (called || holds_call x) (in_tail s m written t all called x xs f) (after p st x) (typed_behind s v runs m typed written x called st is head.typed head.separated) (stands_behind x called st head at) g y hs held n j (omega (arith, i, b))
           ∙ ap (λ z. with_left (meant (after_all p (after p st x) xs) z) (left (cost s v (demanded_all p (after p st x) g xs)) j)) order)
           ∙ ap (λ c. with_left w (left c k)) (sym (cost_append s v (demanded p st g x) _))

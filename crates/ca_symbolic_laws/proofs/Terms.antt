@@ -27,7 +27,7 @@ use Rattle.ca_symbolic_laws.specs.Laws.{fields_in, Typed, StateTyped}
 use Rattle.ca_symbolic_laws.proofs.Indexes.{number_of}
 use Rattle.ca_symbolic_laws.proofs.Operators.{operate_typed, operation_means, signed_means, right_fine}
 use Rattle.ca_symbolic_laws.proofs.Runs.{Runs}
-use Rattle.ca_symbolic_laws.proofs.Selects.{Selects}
+use Rattle.ca_symbolic_laws.proofs.Selects.{by_number, of_choice, of_put, of_add}
 
 -- Terms of fields and locals
 
@@ -67,7 +67,7 @@ means_are v p st (expression_and e es) = ap (λ z. mean v (term_of p st e) ∷ z
 class_same : (a b : ClassId) → Some a ≡ Some b → a ≡ b
 class_same a b e = cc
 
-module _ (s : Environment) (v : Valuation) (runs : Runs s v) (m : PlainMethod) (typed : Typed s m) (selects : Selects v)
+module _ (s : Environment) (v : Valuation) (runs : Runs s v) (m : PlainMethod) (typed : Typed s m)
     (st : State) (is : StateTyped s v m st) (written : List FieldId) (called : Bool) where
   abbrev p : PlainProgram
   p = s.program
@@ -86,7 +86,7 @@ module _ (s : Environment) (v : Valuation) (runs : Runs s v) (m : PlainMethod) (
     mean_typed (local l) ty t c = local_has s.heap v st.locals m.body.locals l.0 ty is.locals t
     mean_typed (own f) ty t c = field_has s.heap v st.fields (fields_in s m.class) f.field ty is.fields (own_info f (λ o. IsScalar o ty) t.0 t.1)
     mean_typed (own_item f i) ty t c =
-        subst (λ d. HasType s.heap d ty) (sym (selects.by_number (term_at st.fields f.field) (term_of p st i)))
+        subst (λ d. HasType s.heap d ty) (sym (by_number v (term_at st.fields f.field) (term_of p st i)))
         (item_has s.heap v st.fields (fields_in s m.class) f.field ty is.fields (own_info f (λ o. IsArray o ty) t.0 t.1) (number_of (mean v (term_of p st i))))
     mean_typed (plain.read e f) ty t c = runs.read_typed (mean v (term_of p st e)) f ty t.1 (mean_typed e (type.Pointer f.class) t.0 c.1)
     mean_typed (read_item e f i) ty t c = runs.item_typed (mean v (term_of p st e)) f ty t.1 (mean_typed e (type.Pointer f.class) t.0 c.1) (mean v (term_of p st i))

@@ -20,11 +20,11 @@ use Rattle.ca_norm.specs.Environments.{Environment}
 use Rattle.ca_symbolic.specs.States.{State, term_at}
 use Rattle.ca_symbolic.specs.Execution.{term_of, put_term, array_term, choose_if, choices, field_target, local_target, after, after_all}
 use Rattle.ca_symbolic_laws.specs.Meant.{item_meant, TermTyped, FieldsTyped, LocalsTyped}
-use Rattle.ca_symbolic_laws.specs.Laws.{fields_in, Typed, StateTyped, Speaks, SpeakAll}
+use Rattle.ca_symbolic_laws.specs.Laws.{fields_in, Typed, StateTyped}
 use Rattle.ca_symbolic_laws.proofs.Assigned.{assigned_means, array_is}
 use Rattle.ca_symbolic_laws.proofs.Indexes.{number_of}
 use Rattle.ca_symbolic_laws.proofs.Runs.{Runs}
-use Rattle.ca_symbolic_laws.proofs.Selects.{Selects, Puts}
+use Rattle.ca_symbolic_laws.proofs.Selects.{by_number, of_choice, of_put, of_add}
 use Rattle.ca_symbolic_laws.proofs.Terms.{local_has, field_has, item_has, own_info, mean_typed}
 
 -- Lists of terms
@@ -69,17 +69,17 @@ choice_typed : (h : List Object) (v : Valuation) (z : Bool) (c x y : PlainTerm) 
 choice_typed h v true c x y ty s t = chosen_typed h (mean v c) (mean v x) (mean v y) ty s t
 choice_typed h v false c x y ty s t = s
 
-choice_term : (h : List Object) (v : Valuation) → Selects v → (z : Bool) (c x y : PlainTerm) (ty : ValueType) (len : Option ℕ) → TermTyped h v x ty len → TermTyped h v y ty len → TermTyped h v (choose_if z c x y) ty len
-choice_term h v s z c x y ty None a b = choice_typed h v z c x y ty a b
-choice_term h v s true c x y ty (Some n) a b = λ i. subst (λ d. HasType h d ty) (sym (s.of_choice c x y i)) (chosen_typed h (mean v c) (item_meant v x i) (item_meant v y i) ty (a i) (b i))
-choice_term h v s false c x y ty (Some n) a b = a
+choice_term : (h : List Object) (v : Valuation) (z : Bool) (c x y : PlainTerm) (ty : ValueType) (len : Option ℕ) → TermTyped h v x ty len → TermTyped h v y ty len → TermTyped h v (choose_if z c x y) ty len
+choice_term h v z c x y ty None a b = choice_typed h v z c x y ty a b
+choice_term h v true c x y ty (Some n) a b = λ i. subst (λ d. HasType h d ty) (sym (of_choice v c x y i)) (chosen_typed h (mean v c) (item_meant v x i) (item_meant v y i) ty (a i) (b i))
+choice_term h v false c x y ty (Some n) a b = a
 
-fields_choice : (h : List Object) (v : Valuation) → Selects v → (is_put : ℕ → Bool) (k : ℕ) (c : PlainTerm) (xs ys : List PlainTerm) (fs : List FieldInfo) → FieldsTyped h v xs fs → FieldsTyped h v ys fs → FieldsTyped h v (choices is_put k c xs ys) fs
-fields_choice h v s is_put k c [] ys fs a b = a
-fields_choice h v s is_put k c (x ∷ xs) [] [] a b = absurd a
-fields_choice h v s is_put k c (x ∷ xs) [] (f ∷ fs) a b = absurd b
-fields_choice h v s is_put k c (x ∷ xs) (y ∷ ys) [] a b = absurd a
-fields_choice h v s is_put k c (x ∷ xs) (y ∷ ys) (f ∷ fs) a b = (choice_term h v s (is_put k) c x y f.ty f.length a.0 b.0, fields_choice h v s is_put (suc k) c xs ys fs a.1 b.1)
+fields_choice : (h : List Object) (v : Valuation) (is_put : ℕ → Bool) (k : ℕ) (c : PlainTerm) (xs ys : List PlainTerm) (fs : List FieldInfo) → FieldsTyped h v xs fs → FieldsTyped h v ys fs → FieldsTyped h v (choices is_put k c xs ys) fs
+fields_choice h v is_put k c [] ys fs a b = a
+fields_choice h v is_put k c (x ∷ xs) [] [] a b = absurd a
+fields_choice h v is_put k c (x ∷ xs) [] (f ∷ fs) a b = absurd b
+fields_choice h v is_put k c (x ∷ xs) (y ∷ ys) [] a b = absurd a
+fields_choice h v is_put k c (x ∷ xs) (y ∷ ys) (f ∷ fs) a b = (choice_term h v (is_put k) c x y f.ty f.length a.0 b.0, fields_choice h v is_put (suc k) c xs ys fs a.1 b.1)
 
 locals_choice : (h : List Object) (v : Valuation) (is_put : ℕ → Bool) (k : ℕ) (c : PlainTerm) (xs ys : List PlainTerm) (tys : List ValueType) → LocalsTyped h v xs tys → LocalsTyped h v ys tys → LocalsTyped h v (choices is_put k c xs ys) tys
 locals_choice h v is_put k c [] ys tys a b = a
@@ -94,15 +94,15 @@ cond_typed h false d e ty x y = y
 
 -- Statements
 
-module _ (s : Environment) (v : Valuation) (runs : Runs s v) (m : PlainMethod) (typed : Typed s m) (selects : Selects v) (items loops : Type 0) (puts : items → Puts v) (written : List FieldId) where
+module _ (s : Environment) (v : Valuation) (runs : Runs s v) (m : PlainMethod) (typed : Typed s m) (written : List FieldId) where
   abbrev p : PlainProgram
   p = s.program
 
   term_typed : (st : State) → StateTyped s v m st → (called : Bool) (e : Expression) (ty : ValueType) → ExpressionTyped p (scope_of m) e ty → IsClean p written called e → HasType s.heap (mean v (term_of p st e)) ty
-  term_typed st is called e ty t c = mean_typed s v runs m typed selects st is written called e ty t c
+  term_typed st is called e ty t c = mean_typed s v runs m typed st is written called e ty t c
 
   own_of : (st : State) (is : StateTyped s v m st) (called : Bool) (f : FieldId) (P : Option FieldInfo → Type 0) → Some m.class ≡ Some f.class → P (field_info p f) → P (slice_get (fields_in s m.class) f.field)
-  own_of st is called f P e i = own_info s v runs m typed selects st is written called f P e i
+  own_of st is called f P e i = own_info s v runs m typed st is written called f P e i
 
   -- the term that a put leaves
   put_has : (op : AssignOp) (old t : PlainTerm) (ty : ValueType) → AssignTyped op ty → HasType s.heap (mean v old) ty → HasType s.heap (mean v t) ty → HasType s.heap (mean v (put_term op old t)) ty
@@ -113,49 +113,49 @@ module _ (s : Environment) (v : Valuation) (runs : Runs s v) (m : PlainMethod) (
   items_before st is called f ty e i z = item_has s.heap v st.fields (fields_in s m.class) f.field ty is.fields (own_of st is called f (λ o. IsArray o ty) e i) z
 
   -- the array that a put of an item leaves, item by item
-  pub array_behind : items → (st : State) → StateTyped s v m st → (called : Bool) (f : FieldId) (i : Expression) (op : AssignOp) (e : Expression) (ty : ValueType) → Some m.class ≡ Some f.class → IsArray (field_info p f) ty → AssignTyped op ty → ExpressionTyped p (scope_of m) e ty → IsClean p written called e →
+  pub array_behind : (st : State) → StateTyped s v m st → (called : Bool) (f : FieldId) (i : Expression) (op : AssignOp) (e : Expression) (ty : ValueType) → Some m.class ≡ Some f.class → IsArray (field_info p f) ty → AssignTyped op ty → ExpressionTyped p (scope_of m) e ty → IsClean p written called e →
       (z : ℤ) → item_meant v (array_term p st f i op e) z ≡ cond (same_int (number_of (mean v (term_of p st i))) z) (assigned op (item_meant v (term_at st.fields f.field) (number_of (mean v (term_of p st i)))) (mean v (term_of p st e))) (item_meant v (term_at st.fields f.field) z)
-  array_behind q st is called f i op e ty k a b t c =
-      array_is v selects (puts q) s.heap p (scope_of m) st f i written called (λ x y u k. term_typed st is called x y u k) op e ty (items_before st is called f ty k a) b t c
+  array_behind st is called f i op e ty k a b t c =
+      array_is v s.heap p (scope_of m) st f i written called (λ x y u k. term_typed st is called x y u k) op e ty (items_before st is called f ty k a) b t c
 
   mutual
-    pub typed_behind : (x : Statement) (called : Bool) (st : State) → StateTyped s v m st → StatementTyped p (scope_of m) x → IsSeparated p written called x → Speaks items loops x → StateTyped s v m (after p st x)
-    typed_behind (block line ss) called st is t c q = typed_behind_all ss called st is t c q
-    typed_behind (put_local line l op e) called st is t c q = record {
+    pub typed_behind : (x : Statement) (called : Bool) (st : State) → StateTyped s v m st → StatementTyped p (scope_of m) x → IsSeparated p written called x → StateTyped s v m (after p st x)
+    typed_behind (block line ss) called st is t c = typed_behind_all ss called st is t c
+    typed_behind (put_local line l op e) called st is t c = record {
       fields = is.fields;
       locals = local_set s.heap v st.locals m.body.locals l.0 _ t.0 is.locals t.1
           (put_has op (term_at st.locals l.0) (term_of p st e) t.0 t.2.0 (local_has s.heap v st.locals m.body.locals l.0 t.0 is.locals t.1) (term_typed st is called e t.0 t.2.1 c));
     }
-    typed_behind (put_field line f op e) called st is t c q =
+    typed_behind (put_field line f op e) called st is t c =
         let own : IsScalar (slice_get (fields_in s m.class) f.field) t.0 = own_of st is called f (λ o. IsScalar o t.0) t.1.1 t.2 in
         record {
           fields = scalar_set s.heap v st.fields (fields_in s m.class) f.field _ t.0 is.fields own
               (put_has op (term_at st.fields f.field) (term_of p st e) t.0 t.3.0 (field_has s.heap v st.fields (fields_in s m.class) f.field t.0 is.fields own) (term_typed st is called e t.0 t.3.1 c.1));
           locals = is.locals;
         }
-    typed_behind (put_item line f i op e) called st is t c q =
+    typed_behind (put_item line f i op e) called st is t c =
         let before : (z : ℤ) → HasType s.heap (item_meant v (term_at st.fields f.field) z) t.0 = items_before st is called f t.0 t.1.1 t.2 in
         let index : ℤ = number_of (mean v (term_of p st i)) in
         let old : Datum = item_meant v (term_at st.fields f.field) index in
         record {
           fields = array_set s.heap v st.fields (fields_in s m.class) f.field _ t.0 is.fields (own_of st is called f (λ o. IsArray o t.0) t.1.1 t.2)
-              (λ z. subst (λ d. HasType s.heap d t.0) (sym (array_behind q st is called f i op e t.0 t.1.1 t.2 t.4.0 t.4.1 c.2 z))
+              (λ z. subst (λ d. HasType s.heap d t.0) (sym (array_behind st is called f i op e t.0 t.1.1 t.2 t.4.0 t.4.1 c.2 z))
               (cond_typed s.heap (same_int index z) (assigned op old (mean v (term_of p st e))) (item_meant v (term_at st.fields f.field) z) t.0 (assigned_typed s.heap op old (mean v (term_of p st e)) t.0 t.4.0 (before index) (term_typed st is called e t.0 t.4.1 c.2)) (before z)));
           locals = is.locals;
         }
-    typed_behind (if_else line c a b) called st is t k q = record {
-      fields = fields_choice s.heap v selects (field_target a b) 0 (term_of p st c) _ _ (fields_in s m.class) (typed_behind a called st is t.1 k.1 q.0).fields (typed_behind b called st is t.2 k.2 q.1).fields;
-      locals = locals_choice s.heap v (local_target a b) 0 (term_of p st c) _ _ m.body.locals (typed_behind a called st is t.1 k.1 q.0).locals (typed_behind b called st is t.2 k.2 q.1).locals;
+    typed_behind (if_else line c a b) called st is t k = record {
+      fields = fields_choice s.heap v (field_target a b) 0 (term_of p st c) _ _ (fields_in s m.class) (typed_behind a called st is t.1 k.1).fields (typed_behind b called st is t.2 k.2).fields;
+      locals = locals_choice s.heap v (local_target a b) 0 (term_of p st c) _ _ m.body.locals (typed_behind a called st is t.1 k.1).locals (typed_behind b called st is t.2 k.2).locals;
     }
-    typed_behind (invoke line e op es) called st is t c q = is
-    typed_behind (for_loop line site part first c next b) called st is t k q = is
-    typed_behind (while_loop line c b) called st is t k q = is
-    typed_behind (new_local line l c) called st is t k q = is
-    typed_behind (new_field line f c) called st is t k q = is
-    typed_behind (new_item line f i c) called st is t k q = is
-    typed_behind (return_value line e) called st is t k q = is
-    typed_behind (print_value line e) called st is t k q = is
+    typed_behind (invoke line e op es) called st is t c = is
+    typed_behind (for_loop line site part first c next b) called st is t k = is
+    typed_behind (while_loop line c b) called st is t k = is
+    typed_behind (new_local line l c) called st is t k = is
+    typed_behind (new_field line f c) called st is t k = is
+    typed_behind (new_item line f i c) called st is t k = is
+    typed_behind (return_value line e) called st is t k = is
+    typed_behind (print_value line e) called st is t k = is
 
-    pub typed_behind_all : (xs : Statements) (called : Bool) (st : State) → StateTyped s v m st → StatementsTyped p (scope_of m) xs → AreSeparated p written called xs → SpeakAll items loops xs → StateTyped s v m (after_all p st xs)
-    typed_behind_all no_statements called st is t c q = is
-    typed_behind_all (statement_and x xs) called st is t c q = typed_behind_all xs (called || holds_call x) (after p st x) (typed_behind x called st is t.0 c.0 q.0) t.1 c.1 q.1
+    pub typed_behind_all : (xs : Statements) (called : Bool) (st : State) → StateTyped s v m st → StatementsTyped p (scope_of m) xs → AreSeparated p written called xs → StateTyped s v m (after_all p st xs)
+    typed_behind_all no_statements called st is t c = is
+    typed_behind_all (statement_and x xs) called st is t c = typed_behind_all xs (called || holds_call x) (after p st x) (typed_behind x called st is t.0 c.0) t.1 c.1

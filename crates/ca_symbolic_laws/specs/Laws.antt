@@ -51,7 +51,7 @@ arguments_in s (suc zero) = s.first
 arguments_in s (suc (suc zero)) = s.second
 arguments_in s (suc (suc (suc n))) = []
 
--- Program and heap are typed, and the receiver names an object of the class of an operation.
+-- The method is an operation, program and heap are typed, and the receiver names an object of its class.
 pub record Typed (s : Environment) (m : PlainMethod) : Type 0 where
   pub operation : m.result ≡ None
   pub program : ProgramTyped s.program
@@ -66,27 +66,6 @@ pub record StateTyped (s : Environment) (v : Valuation) (m : PlainMethod) (st : 
 -- the locals are those that the terms mean, but for those that are hidden
 abbrev pub LocalsAre : Valuation → (ℕ → Bool) → List Datum → List PlainTerm → Type 0
 LocalsAre v is_hidden ls ts = hidden is_hidden 0 ls ≡ hidden is_hidden 0 (map (mean v) ts)
-
--- Which statements the law speaks of: puts of items of the receiver where `items` holds, and loops where `loops` holds.
-abbrev mutual
-  pub Speaks : (items loops : Type 0) → Statement → Type 0
-  Speaks items loops (block line ss) = SpeakAll items loops ss
-  Speaks items loops (put_local line l op e) = Unit {0}
-  Speaks items loops (put_field line f op e) = Unit {0}
-  Speaks items loops (put_item line f i op e) = items
-  Speaks items loops (invoke line e op arguments) = Unit {0}
-  Speaks items loops (if_else line c a b) = Speaks items loops a × Speaks items loops b
-  Speaks items loops (for_loop line site part first c next b) = loops
-  Speaks items loops (while_loop line c b) = Unit {0}
-  Speaks items loops (new_local line l c) = Unit {0}
-  Speaks items loops (new_field line f c) = Unit {0}
-  Speaks items loops (new_item line f i c) = Unit {0}
-  Speaks items loops (return_value line e) = Unit {0}
-  Speaks items loops (print_value line e) = Unit {0}
-
-  pub SpeakAll : (items loops : Type 0) → Statements → Type 0
-  SpeakAll items loops no_statements = Unit {0}
-  SpeakAll items loops (statement_and x xs) = Speaks items loops x × SpeakAll items loops xs
 
 -- Values
 
@@ -124,10 +103,10 @@ section_meant s c ts listed = record { own = slots_meant (valuation_in s) ts (fi
 
 -- Where the guard is true, statements of a section leave the locals and the slots that the state behind them means, list
 -- what their demands list, and take what these take. Counters of loops are left out.
-abbrev pub StatementsAreMeant : (items loops : Type 0) → Type 0
-StatementsAreMeant items loops =
+abbrev pub StatementsAreMeant : Type 0
+StatementsAreMeant =
     (s : Environment) (m : PlainMethod) → Typed s m →
-    (written : List FieldId) (called : Bool) (body : Statements) → Body s m written body → AreSeparated s.program written called body → SpeakAll items loops body →
+    (written : List FieldId) (called : Bool) (body : Statements) → Body s m written body → AreSeparated s.program written called body →
     (is_counter : ℕ → Bool) → ((n : ℕ) → any_counts body n ≡ true → is_counter n ≡ true) → ((n : ℕ) → is_counter n ≡ true → any_names_outside body n ≡ false) →
     (st : State) → StateTyped s (valuation_in s) m st → AgreesAt written (object_meant s m.class st.fields) s.heap s.receiver →
     (ls : List Datum) → LocalsAre (valuation_in s) is_counter ls st.locals → (listed : List Invocation) →
@@ -137,10 +116,10 @@ StatementsAreMeant items loops =
     (left (cost s (valuation_in s) (demanded_all s.program st g body)) k)
 
 -- the state behind a body is typed again
-abbrev pub StatesStayTyped : (items loops : Type 0) → Type 0
-StatesStayTyped items loops =
+abbrev pub StatesStayTyped : Type 0
+StatesStayTyped =
     (s : Environment) (m : PlainMethod) → Typed s m →
-    (written : List FieldId) (called : Bool) (body : Statements) → Body s m written body → AreSeparated s.program written called body → SpeakAll items loops body →
+    (written : List FieldId) (called : Bool) (body : Statements) → Body s m written body → AreSeparated s.program written called body →
     (st : State) → StateTyped s (valuation_in s) m st → StateTyped s (valuation_in s) m (after_all s.program st body)
 
 -- Sections
@@ -177,17 +156,17 @@ foretold s group m fields n = record {
 
 -- The section is complete exactly where no demand under a true guard fails and the steps suffice. It then leaves the
 -- object that the state behind the body means, lists what the demands list, and takes one step and those of the demands.
-abbrev pub SectionsAreMeant : (items loops : Type 0) → Type 0
-SectionsAreMeant items loops =
-    (s : Environment) (written : List FieldId) (op : OpId) (m : PlainMethod) (group : ℕ) (fields : List PlainTerm) → Called s written op m group fields → SpeakAll items loops m.body.statements →
+abbrev pub SectionsAreMeant : Type 0
+SectionsAreMeant =
+    (s : Environment) (written : List FieldId) (op : OpId) (m : PlainMethod) (group : ℕ) (fields : List PlainTerm) → Called s written op m group fields →
     (k : ℕ) → k ≤ s.steps →
     outcome_of (section s.program s.heap s.receiver (object_meant s m.class fields) op (arguments_in s group) k)
     ≡ within (plus (Some 1) (cost s (valuation_in s) (operation_demands s group m fields))) k (foretold s group m fields)
 
 -- and the fields behind it are typed again, so that another operation may follow
-abbrev pub FieldsStayTyped : (items loops : Type 0) → Type 0
-FieldsStayTyped items loops =
-    (s : Environment) (written : List FieldId) (op : OpId) (m : PlainMethod) (group : ℕ) (fields : List PlainTerm) → Called s written op m group fields → SpeakAll items loops m.body.statements →
+abbrev pub FieldsStayTyped : Type 0
+FieldsStayTyped =
+    (s : Environment) (written : List FieldId) (op : OpId) (m : PlainMethod) (group : ℕ) (fields : List PlainTerm) → Called s written op m group fields →
     FieldsTyped s.heap (valuation_in s) (fields_behind s group m fields) (fields_in s m.class)
 
 -- It agrees with the heap on the constants as before.
@@ -196,13 +175,8 @@ ConstantsAreKept =
     (s : Environment) (written : List FieldId) (op : OpId) (m : PlainMethod) (group : ℕ) (fields : List PlainTerm) → Called s written op m group fields →
     AgreesAt written (object_meant s m.class (fields_behind s group m fields)) s.heap s.receiver
 
--- fields that are no arrays, or any where `items` holds
-abbrev pub Fields : (items : Type 0) → List FieldInfo → Type 0
-Fields items [] = Unit {0}
-Fields items (f ∷ fs) = (f.length ≡ None ⊎ items) × Fields items fs
-
 -- The atoms with which a first operation begins mean the receiver's object, and are typed.
-abbrev pub StartsAreMeant : (items : Type 0) → Type 0
-StartsAreMeant items =
-    (s : Environment) (c : ClassId) → IsTypedObject s.program s.heap c s.object → Fields items (fields_in s c) →
+abbrev pub StartsAreMeant : Type 0
+StartsAreMeant =
+    (s : Environment) (c : ClassId) → IsTypedObject s.program s.heap c s.object →
     (object_meant s c (starts 0 (fields_in s c)) ≡ s.object) × FieldsTyped s.heap (valuation_in s) (starts 0 (fields_in s c)) (fields_in s c)
