@@ -25,7 +25,7 @@ ghost use Rattle.ca_norm.specs.Forms.{array_of, norm};
 
 use crate::gather::{pointer_of, polynomial_of};
 pub use crate::term::Term;
-pub use crate::weigh::weight;
+pub use crate::weigh::{Measure, weight};
 use ca_forms::polynomial::{Pointer, Scalar};
 pub use ca_forms::{Normal, Sort};
 use std::alloc::{AllocError, Global};

@@ -1,8 +1,8 @@
 //! The weight of a term.
 
-ghost use Rattle.std.specs.Prelude.{◌≡◌, ℕ, ◌+◌, ◌-◌, ◌*◌, ◌^◌, map, max, min};
+ghost use Rattle.std.specs.Prelude.{◌≡◌, ℕ, ◌+◌, ◌-◌, ◌*◌, ◌^◌, List, [], ◌∷◌, ◌++◌, map, max, min};
 ghost use Rattle.ca_forms.specs.declared.sort.Sort.{Sort};
-ghost use Rattle.ca_norm.specs.Terms.{PlainTerm, PlainTerms, add, neg, mul, not, or, same, choose, read_at, result as call_result, select, put, add_at, shape, sort_of, terms_of};
+ghost use Rattle.ca_norm.specs.Terms.{PlainTerm, PlainTerms, null, no_terms, add, neg, mul, not, or, same, choose, read_at, result as call_result, select, put, add_at, shape, sort_of, terms_of};
 ghost use Rattle.ca_norm.specs.Weights.{same_spread, weight_of};
 ghost use Rattle.ca_norm.specs.Measures.{Counts, Measures, MeasuresAll};
 
@@ -10,7 +10,7 @@ use crate::term::Term;
 use ca_forms::Sort;
 
 /// What the weight is made of, each at most `u64::MAX`.
-#[derive(Clone, Copy)]
+#[derive(Clone, Copy, Debug)]
 pub struct Measure {
     spread: u64,
     nodes: u64,
@@ -52,6 +52,36 @@ fn same_spread(sort: Sort, sum: u64, product: u64) -> u64
 }
 
 impl Measure {
+    /// Of a term of one node.
+    pub fn leaf() -> Measure
+        ensures { Measures result null }
+    {
+        LEAF
+    }
+
+    /// Of no terms.
+    pub fn nothing() -> Measure
+        ensures { MeasuresAll result no_terms }
+    {
+        NOTHING
+    }
+
+    /// Of terms with one more behind them.
+    pub fn along(self, last: Measure) -> Measure
+        ensures { (xs : List PlainTerm) (x : PlainTerm) → MeasuresAll self (terms_of xs) → Measures last x → MeasuresAll result (terms_of (xs ++ x ∷ [])) }
+    {
+        self.beside(last)
+    }
+
+    /// The weight of the term, at most `u64::MAX`: the largest of its spread, the number of its nodes and 16 times its
+    /// depth.
+    pub fn weight(self) -> u64
+        ensures { (x : PlainTerm) → Measures self x → result ≡ min (weight_of x) (2 ^ 64 - 1) }
+    {
+        let size = self.spread.max(self.nodes);
+        size.max(self.depth.saturating_mul(16))
+    }
+
     /// Of terms that stand side by side.
     fn beside(self, other: Measure) -> Measure
         ensures spread { result.spread ≡ min (self.spread + other.spread) (2 ^ 64 - 1) }
@@ -82,21 +112,21 @@ impl Measure {
     }
 
     /// Of a negated number.
-    fn negated(self) -> Measure
+    pub fn negated(self) -> Measure
         ensures { (x : PlainTerm) → Measures self x → Measures result (neg x) }
     {
         self.over(self.spread, 1)
     }
 
     /// Of a quotient, a remainder, a negated truth value, or a read.
-    fn single(self) -> Measure
+    pub fn single(self) -> Measure
         ensures { (x : PlainTerm) → Measures self x → Measures result (not x) }
     {
         self.over(self.spread.saturating_add(1), 1)
     }
 
     /// Of a sum, a difference, or a comparison of numbers.
-    fn sum(self, other: Measure) -> Measure
+    pub fn sum(self, other: Measure) -> Measure
         ensures { (x y : PlainTerm) → Measures self x → Measures other y → Measures result (add x y) }
     {
         let parts = self.beside(other);
@@ -104,14 +134,14 @@ impl Measure {
     }
 
     /// Of a product, or of two truth values that both hold.
-    fn product(self, other: Measure) -> Measure
+    pub fn product(self, other: Measure) -> Measure
         ensures { (x y : PlainTerm) → Measures self x → Measures other y → Measures result (mul x y) }
     {
         self.beside(other).over(times(self.spread, other.spread), 1)
     }
 
     /// Of two truth values of which one holds.
-    fn either(self, other: Measure) -> Measure
+    pub fn either(self, other: Measure) -> Measure
         ensures { (x y : PlainTerm) → Measures self x → Measures other y → Measures result (or x y) }
     {
         let parts = self.beside(other);
@@ -122,7 +152,7 @@ impl Measure {
     }
 
     /// Of the test whether two values of this sort are equal.
-    fn same(self, other: Measure, sort: Sort) -> Measure
+    pub fn same(self, other: Measure, sort: Sort) -> Measure
         ensures { (x y : PlainTerm) → Measures self x → Measures other y → sort ≡ sort_of x → Measures result (same x y) }
     {
         let parts = self.beside(other);
@@ -131,7 +161,7 @@ impl Measure {
     }
 
     /// Of a choice of two, by this condition.
-    fn choice(self, yes: Measure, no: Measure) -> Measure
+    pub fn choice(self, yes: Measure, no: Measure) -> Measure
         ensures { (t x y : PlainTerm) → Measures self t → Measures yes x → Measures no y → Measures result (choose t x y) }
     {
         let sides = times(self.spread, yes.spread.saturating_add(no.spread));
@@ -143,7 +173,7 @@ impl Measure {
     }
 
     /// Of the read of an item of another object.
-    fn item(self, index: Measure) -> Measure
+    pub fn item(self, index: Measure) -> Measure
         ensures { (sort : Sort) (c f : ℕ) (x i : PlainTerm) → Measures self x → Measures index i → Measures result (read_at sort x c f i) }
     {
         let parts = self.beside(index);
@@ -151,7 +181,7 @@ impl Measure {
     }
 
     /// Of a call of a value method, with these arguments.
-    fn call(self, args: Measure) -> Measure
+    pub fn call(self, args: Measure) -> Measure
         ensures { (sort : Sort) (m : ℕ) (x : PlainTerm) (ts : PlainTerms) → Measures self x → MeasuresAll args ts → Measures result (call_result sort m x ts) }
     {
         let parts = self.beside(args);
@@ -159,7 +189,7 @@ impl Measure {
     }
 
     /// Of the item of an array at an index.
-    fn selection(self, index: Measure) -> Measure
+    pub fn selection(self, index: Measure) -> Measure
         ensures { (x i : PlainTerm) → Measures self x → Measures index i → Measures result (select x i) }
     {
         let spread = times(index.spread, self.share);
@@ -167,7 +197,7 @@ impl Measure {
     }
 
     /// Of an array with an addend at an index.
-    fn increased(self, index: Measure, addend: Measure) -> Measure
+    pub fn increased(self, index: Measure, addend: Measure) -> Measure
         ensures { (x i v : PlainTerm) → Measures self x → Measures index i → Measures addend v → Measures result (add_at x i v) }
     {
         let share = times(index.spread, addend.spread);
@@ -176,7 +206,7 @@ impl Measure {
     }
 
     /// Of an array with another item at an index.
-    fn replaced(self, index: Measure, item: Measure) -> Measure
+    pub fn replaced(self, index: Measure, item: Measure) -> Measure
         ensures { (x i v : PlainTerm) → Measures self x → Measures index i → Measures item v → Measures result (put x i v) }
     {
         let share = times(index.spread, item.spread);
@@ -218,7 +248,7 @@ fn measure_of_all(terms: &[Term]) -> Measure
 {
     let mut all = NOTHING;
     for term in terms {
-        all = all.beside(measure_of(term));
+        all = all.along(measure_of(term));
     }
     all
 }
@@ -229,7 +259,5 @@ fn measure_of_all(terms: &[Term]) -> Measure
 pub fn weight(term: &Term) -> u64
     ensures { result ≡ min (weight_of (shape term.now)) (2 ^ 64 - 1) }
 {
-    let measure = measure_of(term);
-    let size = measure.spread.max(measure.nodes);
-    size.max(measure.depth.saturating_mul(16))
+    measure_of(term).weight()
 }

@@ -119,10 +119,13 @@ mutual
       let h : b ≡ d = term_inj b d cc in cc
   term_inj t u e = let kinds : kind_of (term_code t) ≡ kind_of (term_code u) = ap kind_of e in absurd (omega (arith, kinds))
 
-  terms_inj : (ts us : PlainTerms) → terms_code ts ≡ terms_code us → ts ≡ us
+  pub terms_inj : (ts us : PlainTerms) → terms_code ts ≡ terms_code us → ts ≡ us
   terms_inj no_terms no_terms e = refl
   terms_inj (term_and t ts) (term_and u us) e = ap₂ term_and (term_inj t u cc) (terms_inj ts us cc)
   terms_inj ts us e = cc
 
 abbrev pub coded_term : Coded PlainTerm
 coded_term = record { code = term_code; inj = term_inj }
+
+abbrev pub coded_terms : Coded PlainTerms
+coded_terms = record { code = terms_code; inj = terms_inj }

@@ -44,10 +44,10 @@ divisor (plain.number n) = Some n
 divisor (unary sign.Minus (plain.number n)) = Some (int_wrap w64 (neg_ℤ n))
 divisor _ = None
 
--- A division by anything else has the term null; no operation that is separable has one.
-abbrev pub divided : (PlainTerm → ℤ → PlainTerm) → PlainTerm → Option ℤ → PlainTerm
-divided by t (Some n) = by t n
-divided by t None = null
+-- A division by anything else has the sum of both sides, so that each is looked at; no operation that is separable has one.
+abbrev pub divided : (PlainTerm → ℤ → PlainTerm) → PlainTerm → PlainTerm → Option ℤ → PlainTerm
+divided by a b (Some n) = by a n
+divided by a b None = add a b
 
 -- `a > b` is `b < a`, and `a >= b` is `b <= a`
 abbrev pub operation : BinaryOp → PlainTerm → PlainTerm → Option ℤ → PlainTerm
@@ -62,8 +62,8 @@ operation GreaterEqual a b n = less_equal b a
 operation Plus a b n = add a b
 operation Minus a b n = sub a b
 operation Times a b n = mul a b
-operation Divide a b n = divided divide a n
-operation Remainder a b n = divided remainder a n
+operation Divide a b n = divided divide a b n
+operation Remainder a b n = divided remainder a b n
 
 abbrev pub signed_term : UnaryOp → PlainTerm → PlainTerm
 signed_term sign.Minus a = neg a

@@ -9,3 +9,11 @@ pub mod Execution
 pub mod Demands
 pub mod Made
 pub mod OtherLoops
+pub mod Sizes
+pub mod Nodes
+pub mod NodeFalls
+pub mod Demanded
+pub mod Places
+pub mod Refusals
+pub mod Runs
+pub mod StateCodes

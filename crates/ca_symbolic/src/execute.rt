@@ -15,7 +15,8 @@ use std::alloc::Global;
 /// The group of the atoms that stand for what the fields hold at the start.
 const FIELDS: u32 = 3;
 
-fn sort_of_type(ty: ValueType) -> Sort
+/// The sort of a value of a type.
+pub fn sort_of_type(ty: ValueType) -> Sort
     ensures { result ≡ sort_of_type ty }
 {
     match ty {
@@ -25,7 +26,8 @@ fn sort_of_type(ty: ValueType) -> Sort
     }
 }
 
-fn sort_of_slot(field: &FieldInfo) -> Sort
+/// The sort of what a field holds.
+pub fn sort_of_slot(field: &FieldInfo) -> Sort
     ensures { result ≡ sort_of_slot field.now.ty field.now.length }
 {
     match (field.length, field.ty) {

@@ -11,10 +11,20 @@
 #![tactic(auto)]
 
 mod compare;
+mod demand;
+mod evaluate;
 mod execute;
 mod extent;
+mod formed;
 pub mod laws;
+mod light;
+mod loops;
+mod places;
+mod running;
+mod same;
+mod state;
 mod verdicts;
+mod walk;
 mod weighed;
 
 ghost use Rattle.std.specs.Prelude.{◌≡◌, ◌<◌, length, slice_get, IfOk};
@@ -25,7 +35,11 @@ ghost use Rattle.ca_small.specs.TypedPuts.{TypedPuts};
 ghost use Rattle.ca_symbolic.specs.Verdicts.{VerdictOf};
 
 use crate::compare::compared;
+pub use crate::demand::{Demand, DemandKind, Demands, Group};
 pub use crate::extent::Extent;
+pub use crate::light::LightTerm;
+pub use crate::running::{Side, SymbolicError, other_loop, symbolic};
+pub use crate::state::SymState;
 pub use crate::verdicts::{Reason, Verdict};
 use crate::weighed::ExecutionError;
 use ca_base::Memory;
@@ -33,7 +47,7 @@ use ca_program::{ClassId, FieldInfo, OpId, Program};
 use std::alloc::Global;
 
 /// The fields of a class; none where the program has no such class.
-fn fields_of(program: &Program, class: ClassId) -> &[FieldInfo]
+pub(crate) fn fields_of(program: &Program, class: ClassId) -> &[FieldInfo]
     ensures { result.now ≡ fields_of (slice_get (program_view program.now).classes class.0) }
 {
     if (class.0 as usize) < program.classes.len() {

@@ -1,7 +1,7 @@
-use Rattle.std.proofs.Common.{◌≡◌, ◌+◌, List, [], ◌∷◌, ◌++◌, map, take, arith, ap, ap₂, sym, ◌∙◌, subst}
+use Rattle.std.proofs.Common.{◌≡◌, ◌+◌, List, [], ◌∷◌, ◌++◌, map, take, ap, ap₂, sym, ◌∙◌, subst}
 use Rattle.ca_norm.specs.Terms.{PlainTerm, result, shape, sort_of, terms_of}
 use Rattle.ca_norm.specs.Measures.{Measures, MeasuresAll}
-use Rattle.ca_norm.proofs.Shapes.{call_is, shapes_more, spreads_more, nodes_more, depth_more}
+use Rattle.ca_norm.proofs.Shapes.{call_is, shapes_more}
 use Rattle.ca_norm.proofs.weigh.+measure.Goals as goal
 
 pub measure_of-returns-in-Add : goal.measure_of-returns-in-Add
@@ -57,6 +57,4 @@ measure_of_all-loop-term-preserved t c =
     let x : PlainTerm = shape c.term-item.result in
     let xs : List PlainTerm = map shape (take c.loop-term.term-index c.args.terms.now) in
     let more : map shape (take (c.loop-term.term-index + 1) c.args.terms.now) ≡ xs ++ x ∷ [] = shapes_more c.args.terms.now c.loop-term.term-index c.term-item.result c.term-item.is c.loop-term-test.true in
-    let all : MeasuresAll c.beside-all.result (terms_of (xs ++ x ∷ [])) =
-    (omega (arith, c.beside-all.ensures.spread, c.loop-term.invariant.0, c.measure_of.ensures.0, spreads_more xs x), omega (arith, c.beside-all.ensures.nodes, c.loop-term.invariant.1, c.measure_of.ensures.1, nodes_more xs x), omega (arith, c.beside-all.ensures.depth, c.loop-term.invariant.2, c.measure_of.ensures.2, depth_more xs x)) in
-    subst (λ (ts : List PlainTerm). MeasuresAll c.beside-all.result (terms_of ts)) (sym more) all
+    subst (λ (ts : List PlainTerm). MeasuresAll c.along-all.result (terms_of ts)) (sym more) (c.along-all.ensures xs x c.loop-term.invariant c.measure_of.ensures)

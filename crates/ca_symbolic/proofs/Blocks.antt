@@ -1,0 +1,42 @@
+-- Statements and calls in memory, and what they are viewed as.
+use Rattle.std.proofs.Common.{◌≡◌, ℕ, ◌<◌, Bool, true, false, ◌&&◌, List, [], ◌∷◌, length, refl, ap, ◌∙◌, arith, Global}
+use Rattle.std.specs.Prelude.{nat_eq}
+use Rattle.std.specs.declared.vec.Vec.{Vec}
+use Rattle.std.specs.declared.boxed.Box.{Box}
+use Rattle.ca_program.specs.declared.program.Expr.{Expr, Value}
+use Rattle.ca_program.specs.declared.program.FunctionId.{FunctionId}
+use Rattle.ca_program.specs.declared.program.Stmt.{Stmt}
+use Rattle.ca_program.specs.declared.program.StmtForm.{Block}
+use Rattle.ca_program.specs.Plain.{Expression, Expressions, block, value_call}
+use Rattle.ca_program.specs.View.{form_view, statement_view, statements_view, expression_view, expressions_view}
+use Rattle.ca_symbolic.specs.OtherLoops.{are_calls, calls_alone}
+use Rattle.ca_symbolic.specs.Same.{same_expression, same_expressions}
+use Rattle.ca_program.proofs.Rows.{block_is, row_is_list}
+
+pub block_view : (s : Stmt) (v : Vec Stmt Global) → s.kind ≡ Block v → statement_view s ≡ block s.line (statements_view v.items)
+block_view s v is = ap (λ k. form_view k s.line) is ∙ block_is s.line v
+
+pub call_view : (e : Expr) (p : Box Expr Global) (m : FunctionId) (v : Vec Expr Global) → e ≡ Value p m v → expression_view e ≡ value_call (expression_view p.value) m (expressions_view v.items)
+call_view e p m v is = ap expression_view is ∙ ap (λ es. value_call (expression_view p.value) m es) (row_is_list v)
+
+pub some_calls : (line : ℕ) (xs : List Stmt) → 0 < length xs → are_calls (statements_view xs) ≡ calls_alone (block line (statements_view xs))
+some_calls line [] h = absurd (omega (arith, h))
+some_calls line (x ∷ xs) h = refl
+
+pub no_calls : (line : ℕ) (xs : List Stmt) → length xs < 1 → false ≡ calls_alone (block line (statements_view xs))
+no_calls line [] h = refl
+no_calls line (x ∷ xs) h = absurd (omega (arith, h))
+
+pub unequal : (xs ys : List Expr) → (length xs ≡ length ys → ⊥) → false ≡ same_expressions (expressions_view xs) (expressions_view ys)
+unequal [] [] h = absurd (h refl)
+unequal [] (y ∷ ys) h = refl
+unequal (x ∷ xs) [] h = refl
+unequal (x ∷ xs) (y ∷ ys) h = differs (same_expression (expression_view x) (expression_view y)) (unequal xs ys (λ e. h (omega (arith, e))))
+  where
+    differs : (b : Bool) → false ≡ same_expressions (expressions_view xs) (expressions_view ys) → false ≡ (b && same_expressions (expressions_view xs) (expressions_view ys))
+    differs true e = e
+    differs false e = refl
+
+pub same_calls : (m n : FunctionId) (d e : Expression) (xs ys : Expressions) (r : Bool) → nat_eq m.0 n.0 ≡ true → same_expression d e ≡ true → r ≡ same_expressions xs ys →
+    r ≡ same_expression (value_call d m xs) (value_call e n ys)
+same_calls m n d e xs ys r p q s = s ∙ (rw (p, q) refl)

@@ -1,0 +1,61 @@
+-- What code finds by numbers of fields and locals is what the definition has.
+use Rattle.std.proofs.Common.{◌≡◌, ℕ, true, false, ◌||◌, List, [], ◌∷◌, ◌++◌, sym, ap, ap₂, ◌∙◌}
+use Rattle.std.specs.List.{list_any}
+use Rattle.std.proofs.lemmas.List.Folds.{list_any-append}
+use Rattle.ca_program.specs.declared.program.FirstPart.{FirstPart}
+use Rattle.ca_program.specs.declared.program.LoopId.{LoopId}
+use Rattle.ca_program.specs.Plain.{PlainProgram, Expression, Statement, for_loop}
+use Rattle.ca_norm.specs.Terms.{PlainTerm}
+use Rattle.ca_symbolic.specs.States.{State, demand, loops}
+use Rattle.ca_symbolic.specs.Execution.{choices, field_target, local_target, joined_state}
+use Rattle.ca_symbolic.specs.Demands.{picked, loop_reads, demanded}
+use Rattle.ca_symbolic.specs.Made.{targets, joined_terms}
+use Rattle.ca_symbolic.specs.Places.{is_among, fields_put, locals_put, is_read}
+use Rattle.ca_symbolic.specs.Refusals.{refused_by}
+use Rattle.ca_symbolic.specs.Verdicts.{is_heavy}
+use Rattle.ca_symbolic.proofs.Among.{reads_told, field_targets_told, local_targets_told}
+use Rattle.ca_symbolic.proofs.Flags.{neither, first_of, second_of}
+
+pub joined_is : (a b : Statement) (c : PlainTerm) (s t : State) (fs ls : List PlainTerm) → fs ≡ choices (is_among (fields_put a ++ fields_put b)) 0 c s.fields t.fields →
+    ls ≡ choices (is_among (locals_put a ++ locals_put b)) 0 c s.locals t.locals → ◌≡◌ {A = State} (record { fields = fs; locals = ls }) (joined_state c a b s t)
+joined_is a b c s t fs ls p q =
+    ap₂ (λ (x y : List PlainTerm). record { fields = x; locals = y }) (p ∙ ap (λ f. choices f 0 c s.fields t.fields) (sym (field_targets_told a b)))
+    (q ∙ ap (λ f. choices f 0 c s.locals t.locals) (sym (local_targets_told a b)))
+
+-- the choices that two branches end in, by numbers
+joined_by_number : (a b : Statement) (s : State) →
+    list_any is_heavy (joined_terms a b s) ≡
+    (list_any is_heavy (targets (is_among (fields_put a ++ fields_put b)) 0 s.fields) || list_any is_heavy (targets (is_among (locals_put a ++ locals_put b)) 0 s.locals))
+joined_by_number a b s =
+    list_any-append is_heavy (targets (field_target a b) 0 s.fields) (targets (local_target a b) 0 s.locals)
+    ∙ ap₂ (λ f g. list_any is_heavy (targets f 0 s.fields) || list_any is_heavy (targets g 0 s.locals)) (field_targets_told a b) (local_targets_told a b)
+
+pub joins_lightly : (a b : Statement) (s : State) → list_any is_heavy (targets (is_among (fields_put a ++ fields_put b)) 0 s.fields) ≡ false →
+    list_any is_heavy (targets (is_among (locals_put a ++ locals_put b)) 0 s.locals) ≡ false → list_any is_heavy (joined_terms a b s) ≡ false
+joins_lightly a b s p q = joined_by_number a b s ∙ neither _ _ p q
+
+pub heavy_field : (a b : Statement) (c : PlainTerm) (s t : State) →
+    list_any is_heavy (targets (is_among (fields_put a ++ fields_put b)) 0 (choices (is_among (fields_put a ++ fields_put b)) 0 c s.fields t.fields)) ≡ true →
+    list_any is_heavy (joined_terms a b (joined_state c a b s t)) ≡ true
+heavy_field a b c s t h =
+    joined_by_number a b (joined_state c a b s t)
+    ∙ first_of _ _ (ap (λ f. list_any is_heavy (targets (is_among (fields_put a ++ fields_put b)) 0 (choices f 0 c s.fields t.fields))) (field_targets_told a b) ∙ h)
+
+pub heavy_local : (a b : Statement) (c : PlainTerm) (s t : State) →
+    list_any is_heavy (targets (is_among (locals_put a ++ locals_put b)) 0 (choices (is_among (locals_put a ++ locals_put b)) 0 c s.locals t.locals)) ≡ true →
+    list_any is_heavy (joined_terms a b (joined_state c a b s t)) ≡ true
+heavy_local a b c s t h =
+    joined_by_number a b (joined_state c a b s t)
+    ∙ second_of _ _ (ap (λ f. list_any is_heavy (targets (is_among (locals_put a ++ locals_put b)) 0 (choices f 0 c s.locals t.locals))) (local_targets_told a b) ∙ h)
+
+-- a loop demands one thing, and is refused for what the locals hold that it reads
+module _ (p : PlainProgram) (s : State) (g : PlainTerm) (x : Statement) (line : ℕ) (site : LoopId) (part : FirstPart) (first : Statement) (c : Expression) (next b : Statement)
+    (is : x ≡ for_loop line site part first c next b) where
+  reads : loop_reads (for_loop line site part first c next b) ≡ is_read x first
+  reads = reads_told line site part first c next b ∙ ap (λ y. is_read y first) (sym is)
+
+  pub loop_told : demanded p s g x ≡ demand g (loops site) (picked (is_read x first) 0 s.locals) ∷ []
+  loop_told = ap (demanded p s g) is ∙ ap (λ f. demand g (loops site) (picked f 0 s.locals) ∷ []) reads
+
+  pub loop_refused : refused_by p s g x ≡ list_any is_heavy (picked (is_read x first) 0 s.locals)
+  loop_refused = ap (refused_by p s g) is ∙ ap (λ f. list_any is_heavy (picked f 0 s.locals)) reads

@@ -1,0 +1,32 @@
+use Rattle.std.proofs.Common.{rules, ◌≡◌, Some, None, Err, sym, ap, ap₂, ◌∙◌}
+use Rattle.ca_program.specs.View.{method_view, program_view, statements_view}
+use Rattle.ca_norm.specs.Terms.{PlainTerm}
+use Rattle.ca_symbolic.specs.States.{State, first_locals}
+use Rattle.ca_symbolic.specs.Refusals.{refused_by_all}
+use Rattle.ca_symbolic.specs.Runs.{group_of, with_locals, first_other_loop}
+use Rattle.ca_symbolic.proofs.Bodies.{heavy_is}
+use Rattle.ca_symbolic.proofs.running.symbolic.Goals as goal
+
+pub returns-in-Ok-clause-light : goal.returns-in-Ok-clause-light
+returns-in-Ok-clause-light c =
+    let m = c.op-method.result.now in
+    let s : State = c.args.state.now in
+    let begun : c.begin.new.self ≡ with_locals s (first_locals (group_of c.args.side) (Some (method_view m))) =
+    c.in_ok-begin.ensures ∙ ap (λ g. with_locals s (first_locals g (Some (method_view m)))) c.group.ensures in
+    heavy_is c.args.program.now c.args.op m c.op-method.ensures (group_of c.args.side) s
+    ∙ (ap₂ (λ (t : State) (g : PlainTerm). refused_by_all (program_view c.args.program.now) t g (statements_view m.body.stmts.items)) (sym begun) (sym c.requires.outside)
+    ∙ (rw c.deref.ensures.value at c.in-Ok.ensures.light))
+
+pub returns-in-Err-Large-clause-large : goal.returns-in-Err-Large-clause-large
+returns-in-Err-Large-clause-large c =
+    let m = c.op-method.result.now in
+    let s : State = c.args.state.now in
+    let begun : c.begin.new.self ≡ with_locals s (first_locals (group_of c.args.side) (Some (method_view m))) =
+    c.in_ok-begin.ensures ∙ ap (λ g. with_locals s (first_locals g (Some (method_view m)))) c.group.ensures in
+    let none : first_other_loop (program_view c.args.program.now) c.args.op ≡ None = search rules in
+    λ e. (
+      none,
+      heavy_is c.args.program.now c.args.op m c.op-method.ensures (group_of c.args.side) s
+          ∙ (ap₂ (λ (t : State) (g : PlainTerm). refused_by_all (program_view c.args.program.now) t g (statements_view m.body.stmts.items)) (sym begun) (sym c.requires.outside)
+          ∙ (rw c.deref.ensures.value at (c.run_all.ensures.large (c.in-Err-Large.is ∙ ap Err c.in-Err-Large.field-0-is)))),
+    )

@@ -1,0 +1,107 @@
+-- Whether an execution is refused for a term that is too heavy, in the order in which it makes its terms.
+use Rattle.std.specs.Prelude.{Bool, false, ◌||◌, if◌then◌else◌}
+use Rattle.std.specs.List.{list_any}
+use Rattle.ca_tree.specs.declared.tree.AssignOp.{AssignOp}
+use Rattle.ca_tree.specs.declared.tree.AssignOp.TheVariants as assign
+use Rattle.ca_tree.specs.declared.tree.BinaryOp.{BinaryOp}
+use Rattle.ca_tree.specs.declared.tree.BinaryOp.TheVariants.{Or, And, Plus, Minus}
+use Rattle.ca_program.specs.declared.program.FieldId.{FieldId}
+use Rattle.ca_program.specs.Plain.{PlainProgram, Expression, Expressions, number, truth, null, this, local, own, own_item, read, read_item, value_call, unary, binary, no_expressions, expression_and, Statement, Statements, block, put_local, put_field, put_item, new_local, new_field, new_item, invoke, if_else, while_loop, for_loop, return_value, print_value, no_statements, statement_and}
+use Rattle.ca_norm.specs.Terms.{PlainTerm, neg, add_at, select, put, mul}
+use Rattle.ca_norm.specs.Terms as term
+use Rattle.ca_symbolic.specs.States.{State, term_at}
+use Rattle.ca_symbolic.specs.Execution.{term_of, signed_term, operation, divisor, put_term, is_item, after}
+use Rattle.ca_symbolic.specs.Demands.{right_guard, then_guard, else_guard, loop_parts}
+use Rattle.ca_symbolic.specs.Made.{joined_terms}
+use Rattle.ca_symbolic.specs.Verdicts.{is_heavy}
+
+-- In an expression: at a term inside it, or at its own
+
+abbrev pub refused_guard : BinaryOp → PlainTerm → PlainTerm → Bool
+refused_guard And g t = is_heavy (right_guard And g t)
+refused_guard Or g t = is_heavy (term.not t) || is_heavy (right_guard Or g t)
+refused_guard op g t = false
+
+abbrev mutual
+  pub refused : PlainProgram → State → PlainTerm → Expression → Bool
+  refused p s g (number n) = false
+  refused p s g (truth b) = false
+  refused p s g null = false
+  refused p s g this = false
+  refused p s g (local l) = is_heavy (term_at s.locals l.0)
+  refused p s g (own f) = is_heavy (term_at s.fields f.field)
+  refused p s g (own_item f i) = refused p s g i || is_heavy (term_of p s (own_item f i))
+  refused p s g (read e f) = refused p s g e || is_heavy (term_of p s (read e f))
+  refused p s g (read_item e f i) = refused p s g e || (refused p s g i || is_heavy (term_of p s (read_item e f i)))
+  refused p s g (value_call e m arguments) =
+      refused p s g e || (refused_all p s g arguments || is_heavy (term_of p s (value_call e m arguments)))
+  refused p s g (unary op e) = refused p s g e || is_heavy (signed_term op (term_of p s e))
+  refused p s g (binary op a b) =
+      refused p s g a || (refused_guard op g (term_of p s a) || (refused p s (right_guard op g (term_of p s a)) b ||
+      is_heavy (operation op (term_of p s a) (term_of p s b) (divisor b))))
+
+  pub refused_all : PlainProgram → State → PlainTerm → Expressions → Bool
+  refused_all p s g no_expressions = false
+  refused_all p s g (expression_and e es) = refused p s g e || refused_all p s g es
+
+-- At a put to an item: where the right side adds to it, the item itself is looked up and not made
+
+abbrev pub refused_item : PlainProgram → State → PlainTerm → Expression → Bool
+refused_item p s g (own_item f i) = refused p s g i
+refused_item p s g e = refused p s g e
+
+-- at an index with this term
+abbrev pub refused_put : PlainProgram → State → PlainTerm → FieldId → PlainTerm → Expression → Bool
+refused_put p s g f t e = refused p s g e || is_heavy (put (term_at s.fields f.field) t (term_of p s e))
+
+abbrev pub refused_addend : PlainProgram → State → PlainTerm → FieldId → PlainTerm → Expression → Bool
+refused_addend p s g f t e = refused p s g e || is_heavy (add_at (term_at s.fields f.field) t (term_of p s e))
+
+abbrev pub refused_negative : PlainProgram → State → PlainTerm → FieldId → PlainTerm → Expression → Bool
+refused_negative p s g f t e =
+    refused p s g e || (is_heavy (neg (term_of p s e)) || is_heavy (add_at (term_at s.fields f.field) t (neg (term_of p s e))))
+
+abbrev pub refused_product : PlainProgram → State → PlainTerm → FieldId → PlainTerm → Expression → Bool
+refused_product p s g f t e =
+    is_heavy (select (term_at s.fields f.field) t) || (refused p s g e || (is_heavy (mul (select (term_at s.fields f.field) t) (term_of p s e)) ||
+    is_heavy (put (term_at s.fields f.field) t (mul (select (term_at s.fields f.field) t) (term_of p s e)))))
+
+abbrev pub refused_right : PlainProgram → State → PlainTerm → FieldId → Expression → Expression → Bool
+refused_right p s g f i (binary Plus a b) =
+    if is_item f i a then refused_item p s g a || refused_addend p s g f (term_of p s i) b
+    else refused_put p s g f (term_of p s i) (binary Plus a b)
+refused_right p s g f i (binary Minus a b) =
+    if is_item f i a then refused_item p s g a || refused_negative p s g f (term_of p s i) b
+    else refused_put p s g f (term_of p s i) (binary Minus a b)
+refused_right p s g f i e = refused_put p s g f (term_of p s i) e
+
+abbrev pub refused_array : PlainProgram → State → PlainTerm → FieldId → Expression → AssignOp → Expression → Bool
+refused_array p s g f i assign.Put e = refused_right p s g f i e
+refused_array p s g f i assign.Add e = refused_addend p s g f (term_of p s i) e
+refused_array p s g f i assign.Sub e = refused_negative p s g f (term_of p s i) e
+refused_array p s g f i assign.Mul e = refused_product p s g f (term_of p s i) e
+
+-- In a statement
+
+abbrev mutual
+  pub refused_by : PlainProgram → State → PlainTerm → Statement → Bool
+  refused_by p s g (block line ss) = refused_by_all p s g ss
+  refused_by p s g (put_local line l op e) = refused p s g e || is_heavy (put_term op (term_at s.locals l.0) (term_of p s e))
+  refused_by p s g (put_field line f op e) = refused p s g e || is_heavy (put_term op (term_at s.fields f.field) (term_of p s e))
+  refused_by p s g (put_item line f i op e) = refused p s g i || refused_array p s g f i op e
+  refused_by p s g (invoke line e op arguments) = refused p s g e || refused_all p s g arguments
+  refused_by p s g (if_else line c a b) =
+      refused p s g c || (is_heavy (then_guard g (term_of p s c)) || (refused_by p s (then_guard g (term_of p s c)) a ||
+      (is_heavy (term.not (term_of p s c)) || (is_heavy (else_guard g (term_of p s c)) || (refused_by p s (else_guard g (term_of p s c)) b ||
+      list_any is_heavy (joined_terms a b (after p s (if_else line c a b))))))))
+  refused_by p s g (for_loop line site part first c next b) = list_any is_heavy (loop_parts s (for_loop line site part first c next b))
+  refused_by p s g (while_loop line c b) = false
+  refused_by p s g (new_local line l c) = false
+  refused_by p s g (new_field line f c) = false
+  refused_by p s g (new_item line f i c) = false
+  refused_by p s g (return_value line e) = false
+  refused_by p s g (print_value line e) = false
+
+  pub refused_by_all : PlainProgram → State → PlainTerm → Statements → Bool
+  refused_by_all p s g no_statements = false
+  refused_by_all p s g (statement_and x xs) = refused_by p s g x || refused_by_all p (after p s x) g xs

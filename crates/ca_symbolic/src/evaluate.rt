@@ -1,0 +1,387 @@
+//! The terms of expressions, and what expressions demand.
+
+ghost use Rattle.std.specs.Prelude.{◌≡◌, neg_ℤ, [], ◌∷◌, false, true, slice_get, IfOk, OnOk};
+ghost use Rattle.std.specs.Int.{int_wrap, w64};
+ghost use Rattle.ca_program.specs.View.{expression_view, expressions_view, program_view};
+ghost use Rattle.ca_meaning.specs.ProgramTyped.{field_info};
+ghost use Rattle.ca_tree.specs.declared.tree.UnaryOp.TheVariants as sign;
+ghost use Rattle.ca_program.specs.Plain.{unary};
+ghost use Rattle.ca_norm.specs.Terms.{not, same, divide, remainder, read, read_at, select, result as call_result, terms_of};
+ghost use Rattle.ca_symbolic.specs.States.{term_at, demand, not_null, in_range, calls};
+ghost use Rattle.ca_symbolic.specs.Execution.{sort_in, sort_of_result, divisor, divided, operation, signed_term, term_of};
+ghost use Rattle.ca_symbolic.specs.Demands.{right_guard, terms_in, demands_in, demands_in_all};
+ghost use Rattle.ca_symbolic.specs.Demanded.{kind_of, with_demands, under};
+ghost use Rattle.ca_symbolic.specs.Refusals.{refused_guard, refused, refused_all};
+ghost use Rattle.ca_symbolic.specs.Verdicts.{is_heavy};
+
+use crate::demand::{DemandKind, Demands};
+use crate::execute::sort_of_type;
+use crate::fields_of;
+use crate::light::LightTerm;
+use crate::state::SymState;
+use crate::weighed::ExecutionError;
+use ca_norm::Sort;
+use ca_program::{BinaryOp, Expr, FieldId, FunctionId, Program, UnaryOp};
+use std::alloc::{AllocError, Global};
+
+/// The sort of what a field holds, or each of its items.
+fn sort_in(program: &Program, id: FieldId) -> Sort
+    ensures { result ≡ sort_in (field_info (program_view program.now) id) }
+{
+    let fields = fields_of(program, id.class);
+    if (id.field as usize) < fields.len() {
+        sort_of_type(fields[id.field as usize].ty)
+    } else {
+        Sort::Pointer
+    }
+}
+
+/// The sort of what a value method gives.
+fn sort_of_result(program: &Program, method: FunctionId) -> Sort
+    ensures { result ≡ sort_of_result (slice_get (program_view program.now).functions method.0) }
+{
+    if (method.0 as usize) < program.functions.len() {
+        match program.function(method).result {
+            Some(ty) => sort_of_type(ty),
+            None => Sort::Pointer,
+        }
+    } else {
+        Sort::Pointer
+    }
+}
+
+/// The divisor on the right side, where it is a number with or without one minus.
+fn divisor(e: &Expr) -> Option<i64>
+    ensures { result ≡ divisor (expression_view e.now) }
+{
+    match e {
+        Expr::Number(n) => Some(*n),
+        Expr::Unary(UnaryOp::Minus, inner) => negative(inner),
+        _ => None,
+    }
+}
+
+/// The number with the other sign.
+fn negated(number: i64) -> i64
+    ensures { result ≡ int_wrap w64 (neg_ℤ number) }
+{
+    number.wrapping_neg()
+}
+
+/// The negative of a literal.
+fn negative(e: &Expr) -> Option<i64>
+    ensures { result ≡ divisor (unary sign.Minus (expression_view e.now)) }
+{
+    match e {
+        Expr::Number(n) => Some(negated(*n)),
+        _ => None,
+    }
+}
+
+fn divided(
+    alloc: Global,
+    a: LightTerm,
+    b: LightTerm,
+    n: Option<i64>,
+) -> Result<LightTerm, ExecutionError>
+    ensures made { IfOk result (λ t. t ≡ divided divide a b n) }
+    ensures light { IfOk result (λ _. is_heavy (divided divide a b n) ≡ false) }
+    ensures large { result ≡ Err ExecutionError.Large → is_heavy (divided divide a b n) ≡ true }
+{
+    match n {
+        Some(n) => a.quotient(alloc, n),
+        None => LightTerm::plus(alloc, a, b),
+    }
+}
+
+fn left_over(
+    alloc: Global,
+    a: LightTerm,
+    b: LightTerm,
+    n: Option<i64>,
+) -> Result<LightTerm, ExecutionError>
+    ensures made { IfOk result (λ t. t ≡ divided remainder a b n) }
+    ensures light { IfOk result (λ _. is_heavy (divided remainder a b n) ≡ false) }
+    ensures large { result ≡ Err ExecutionError.Large → is_heavy (divided remainder a b n) ≡ true }
+{
+    match n {
+        Some(n) => a.modulus(alloc, n),
+        None => LightTerm::plus(alloc, a, b),
+    }
+}
+
+/// Whether two values differ.
+fn not_same(alloc: Global, a: LightTerm, b: LightTerm) -> Result<LightTerm, ExecutionError>
+    ensures made { IfOk result (λ t. t ≡ not (same a b)) }
+    ensures light { IfOk result (λ _. is_heavy (not (same a b)) ≡ false) }
+    ensures large { result ≡ Err ExecutionError.Large → is_heavy (not (same a b)) ≡ true }
+{
+    LightTerm::same(alloc, a, b)?.opposite(alloc)
+}
+
+/// The term of an operator over two terms; the divisor is given where it is a literal.
+fn operation(
+    alloc: Global,
+    op: BinaryOp,
+    a: LightTerm,
+    b: LightTerm,
+    n: Option<i64>,
+) -> Result<LightTerm, ExecutionError>
+    ensures made { IfOk result (λ t. t ≡ operation op a b n) }
+    ensures light { IfOk result (λ _. is_heavy (operation op a b n) ≡ false) }
+    ensures large { result ≡ Err ExecutionError.Large → is_heavy (operation op a b n) ≡ true }
+{
+    match op {
+        BinaryOp::Or => LightTerm::or(alloc, a, b),
+        BinaryOp::And => LightTerm::and(alloc, a, b),
+        BinaryOp::Equal => LightTerm::same(alloc, a, b),
+        BinaryOp::NotEqual => not_same(alloc, a, b),
+        BinaryOp::Less => LightTerm::less(alloc, a, b),
+        BinaryOp::Greater => LightTerm::less(alloc, b, a),
+        BinaryOp::LessEqual => LightTerm::less_equal(alloc, a, b),
+        BinaryOp::GreaterEqual => LightTerm::less_equal(alloc, b, a),
+        BinaryOp::Plus => LightTerm::plus(alloc, a, b),
+        BinaryOp::Minus => LightTerm::minus(alloc, a, b),
+        BinaryOp::Times => LightTerm::times(alloc, a, b),
+        BinaryOp::Divide => divided(alloc, a, b, n),
+        BinaryOp::Remainder => left_over(alloc, a, b, n),
+    }
+}
+
+fn signed(alloc: Global, op: UnaryOp, a: LightTerm) -> Result<LightTerm, ExecutionError>
+    ensures made { IfOk result (λ t. t ≡ signed_term op a) }
+    ensures light { IfOk result (λ _. is_heavy (signed_term op a) ≡ false) }
+    ensures large { result ≡ Err ExecutionError.Large → is_heavy (signed_term op a) ≡ true }
+{
+    match op {
+        UnaryOp::Minus => a.negated(alloc),
+        UnaryOp::Not => a.opposite(alloc),
+    }
+}
+
+/// A list of one term.
+fn one(alloc: Global, term: LightTerm) -> Result<Vec<LightTerm>, AllocError>
+    ensures { IfOk result (λ v. v.items ≡ term ∷ []) }
+{
+    let mut parts = Vec::new(alloc);
+    parts.push(term)?;
+    Ok(parts)
+}
+
+/// A pointer is not to be null.
+pub fn ask_not_null(alloc: Global, object: &LightTerm, out: &mut Demands) -> Result<(), AllocError>
+    ensures { OnOk result (out.new ≡ with_demands out.old (demand out.old.guard not_null (object.now ∷ []) ∷ [])) }
+{
+    let parts = one(alloc, object.share()?)?;
+    out.push(DemandKind::NotNull, parts)?;
+    Ok(())
+}
+
+/// An index is to lie in an array.
+pub fn ask_in_range(
+    alloc: Global,
+    field: FieldId,
+    index: &LightTerm,
+    out: &mut Demands,
+) -> Result<(), AllocError>
+    ensures { OnOk result (out.new ≡ with_demands out.old (demand out.old.guard (in_range field) (index.now ∷ []) ∷ [])) }
+{
+    let parts = one(alloc, index.share()?)?;
+    out.push(DemandKind::InRange(field), parts)?;
+    Ok(())
+}
+
+/// A method of an object is to be called with these arguments.
+pub fn ask_call(
+    alloc: Global,
+    kind: DemandKind,
+    object: &LightTerm,
+    args: &[LightTerm],
+    out: &mut Demands,
+) -> Result<(), AllocError>
+    ensures { OnOk result (out.new ≡ with_demands out.old (demand out.old.guard not_null (object.now ∷ []) ∷ demand out.old.guard (kind_of kind) (object.now ∷ args.now) ∷ [])) }
+{
+    ask_not_null(alloc, object, out)?;
+    let mut parts = one(alloc, object.share()?)?;
+    for arg in args {
+        parts.push(arg.share()?)?;
+    }
+    out.push(kind, parts)?;
+    Ok(())
+}
+
+/// The item of an own field at an index, which is demanded to lie in it.
+fn own_item(
+    alloc: Global,
+    state: &SymState,
+    field: FieldId,
+    index: LightTerm,
+    out: &mut Demands,
+) -> Result<LightTerm, ExecutionError>
+    ensures made { IfOk result (λ t. t ≡ select (term_at state.now.fields field.field) index) }
+    ensures light { IfOk result (λ _. is_heavy (select (term_at state.now.fields field.field) index) ≡ false) }
+    ensures large { result ≡ Err ExecutionError.Large → is_heavy (select (term_at state.now.fields field.field) index) ≡ true }
+    ensures demands { OnOk result (out.new ≡ with_demands out.old (demand out.old.guard (in_range field) (index ∷ []) ∷ [])) }
+{
+    ask_in_range(alloc, field, &index, out)?;
+    let array = state.field(alloc, field.field)?;
+    array.item(alloc, index)
+}
+
+/// A field of an object, which is demanded not to be null.
+fn read(
+    alloc: Global,
+    program: &Program,
+    object: LightTerm,
+    id: FieldId,
+    out: &mut Demands,
+) -> Result<LightTerm, ExecutionError>
+    ensures made { IfOk result (λ t. t ≡ read (sort_in (field_info (program_view program.now) id)) object id.class.0 id.field) }
+    ensures light { IfOk result (λ _. is_heavy (read (sort_in (field_info (program_view program.now) id)) object id.class.0 id.field) ≡ false) }
+    ensures large { result ≡ Err ExecutionError.Large → is_heavy (read (sort_in (field_info (program_view program.now) id)) object id.class.0 id.field) ≡ true }
+    ensures demands { OnOk result (out.new ≡ with_demands out.old (demand out.old.guard not_null (object ∷ []) ∷ [])) }
+{
+    ask_not_null(alloc, &object, out)?;
+    let sort = sort_in(program, id);
+    object.field(alloc, sort, id.class.0, id.field)
+}
+
+/// The item of a field of an object at an index, which is demanded to lie in it.
+fn read_item(
+    alloc: Global,
+    program: &Program,
+    object: LightTerm,
+    id: FieldId,
+    index: LightTerm,
+    out: &mut Demands,
+) -> Result<LightTerm, ExecutionError>
+    ensures made { IfOk result (λ t. t ≡ read_at (sort_in (field_info (program_view program.now) id)) object id.class.0 id.field index) }
+    ensures light { IfOk result (λ _. is_heavy (read_at (sort_in (field_info (program_view program.now) id)) object id.class.0 id.field index) ≡ false) }
+    ensures large { result ≡ Err ExecutionError.Large → is_heavy (read_at (sort_in (field_info (program_view program.now) id)) object id.class.0 id.field index) ≡ true }
+    ensures demands { OnOk result (out.new ≡ with_demands out.old (demand out.old.guard (in_range id) (index ∷ []) ∷ [])) }
+{
+    ask_in_range(alloc, id, &index, out)?;
+    let sort = sort_in(program, id);
+    object.field_item(alloc, sort, id.class.0, id.field, index)
+}
+
+/// A call of a value method.
+fn call(
+    alloc: Global,
+    program: &Program,
+    object: LightTerm,
+    method: FunctionId,
+    args: Vec<LightTerm>,
+    out: &mut Demands,
+) -> Result<LightTerm, ExecutionError>
+    ensures made { IfOk result (λ t. t ≡ call_result (sort_of_result (slice_get (program_view program.now).functions method.0)) method.0 object (terms_of args.items)) }
+    ensures light { IfOk result (λ _. is_heavy (call_result (sort_of_result (slice_get (program_view program.now).functions method.0)) method.0 object (terms_of args.items)) ≡ false) }
+    ensures large { result ≡ Err ExecutionError.Large → is_heavy (call_result (sort_of_result (slice_get (program_view program.now).functions method.0)) method.0 object (terms_of args.items)) ≡ true }
+    ensures demands { OnOk result (out.new ≡ with_demands out.old (demand out.old.guard not_null (object ∷ []) ∷ demand out.old.guard (calls method) (object ∷ args.items) ∷ [])) }
+{
+    ask_call(alloc, DemandKind::Calls(method), &object, &args, out)?;
+    let sort = sort_of_result(program, method);
+    object.called(alloc, sort, method.0, args)
+}
+
+/// From here on demands come under the condition of a right side, whose left side is this.
+#[tactic(auto, using(crate::proofs::Flags::neither, crate::proofs::Flags::first_of, crate::proofs::Flags::second_of))]
+fn enter_right(
+    alloc: Global,
+    op: BinaryOp,
+    left: &LightTerm,
+    out: &mut Demands,
+) -> Result<(), ExecutionError>
+    ensures entered { OnOk result (out.new ≡ under out.old (right_guard op out.old.guard left.now)) }
+    ensures light { OnOk result (refused_guard op out.old.guard left.now ≡ false) }
+    ensures large { result ≡ Err ExecutionError.Large → refused_guard op out.old.guard left.now ≡ true }
+{
+    let condition = match op {
+        BinaryOp::And => left.share()?,
+        BinaryOp::Or => left.share()?.opposite(alloc)?,
+        _ => return Ok(()),
+    };
+    let guard = LightTerm::and(alloc, out.guard()?, condition)?;
+    out.open(alloc, guard)?;
+    Ok(())
+}
+
+/// The term of an expression. What it demands comes behind what was demanded before.
+#[cycle(value)]
+#[tactic(auto, using(crate::proofs::Flags::neither, crate::proofs::Flags::first_of, crate::proofs::Flags::second_of))]
+pub fn value_of(
+    alloc: Global,
+    program: &Program,
+    state: &SymState,
+    e: &Expr,
+    out: &mut Demands,
+) -> Result<LightTerm, ExecutionError>
+    ensures made { IfOk result (λ t. t ≡ term_of (program_view program.now) state.now (expression_view e.now)) }
+    ensures demands { OnOk result (out.new ≡ with_demands out.old (demands_in (program_view program.now) state.now out.old.guard (expression_view e.now))) }
+    ensures light { OnOk result (refused (program_view program.now) state.now out.old.guard (expression_view e.now) ≡ false) }
+    ensures large { result ≡ Err ExecutionError.Large → refused (program_view program.now) state.now out.old.guard (expression_view e.now) ≡ true }
+{
+    match e {
+        Expr::Number(n) => Ok(LightTerm::number(alloc, *n)?),
+        Expr::Truth(b) => Ok(LightTerm::truth(alloc, *b)?),
+        Expr::Null => Ok(LightTerm::null(alloc)?),
+        Expr::This => Ok(LightTerm::receiver(alloc)?),
+        Expr::Local(id) => Ok(state.local(alloc, id.0)?),
+        Expr::Own(id) => Ok(state.field(alloc, id.field)?),
+        Expr::OwnItem(id, i) => {
+            let index = value_of(alloc, program, state, i, out)?;
+            own_item(alloc, state, *id, index, out)
+        }
+        Expr::Read(p, id) => {
+            let object = value_of(alloc, program, state, p, out)?;
+            read(alloc, program, object, *id, out)
+        }
+        Expr::ReadItem(p, id, i) => {
+            let object = value_of(alloc, program, state, p, out)?;
+            ask_not_null(alloc, &object, out)?;
+            let index = value_of(alloc, program, state, i, out)?;
+            read_item(alloc, program, object, *id, index, out)
+        }
+        Expr::Value(p, method, args) => {
+            let object = value_of(alloc, program, state, p, out)?;
+            let args = values_of(alloc, program, state, args, out)?;
+            let value = call(alloc, program, object, *method, args, out)?;
+            Ok(value)
+        }
+        Expr::Unary(op, a) => {
+            let value = value_of(alloc, program, state, a, out)?;
+            signed(alloc, *op, value)
+        }
+        Expr::Binary(op, a, b) => {
+            let left = value_of(alloc, program, state, a, out)?;
+            let outer = out.guard()?;
+            enter_right(alloc, *op, &left, out)?;
+            let right = value_of(alloc, program, state, b, out)?;
+            out.open(alloc, outer)?;
+            operation(alloc, *op, left, right, divisor(b))
+        }
+    }
+}
+
+/// The terms of expressions, from left to right.
+#[cycle(value)]
+#[tactic(auto, using(crate::proofs::Flags::neither, crate::proofs::Flags::first_of, crate::proofs::Flags::second_of))]
+pub fn values_of(
+    alloc: Global,
+    program: &Program,
+    state: &SymState,
+    es: &[Expr],
+    out: &mut Demands,
+) -> Result<Vec<LightTerm>, ExecutionError>
+    ensures made { IfOk result (λ v. v.items ≡ terms_in (program_view program.now) state.now (expressions_view es.now)) }
+    ensures demands { OnOk result (out.new ≡ with_demands out.old (demands_in_all (program_view program.now) state.now out.old.guard (expressions_view es.now))) }
+    ensures light { OnOk result (refused_all (program_view program.now) state.now out.old.guard (expressions_view es.now) ≡ false) }
+    ensures large { result ≡ Err ExecutionError.Large → refused_all (program_view program.now) state.now out.old.guard (expressions_view es.now) ≡ true }
+{
+    let mut values = Vec::new(alloc);
+    for e in es {
+        let value = value_of(alloc, program, state, e, out)?;
+        values.push(value)?;
+    }
+    Ok(values)
+}

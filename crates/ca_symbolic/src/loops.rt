@@ -1,0 +1,208 @@
+//! The first loop of a body that is no loop of calls.
+
+ghost use Rattle.std.specs.Prelude.{◌≡◌, ℕ, ◌&&◌};
+ghost use Rattle.ca_tree.specs.declared.tree.AssignOp.TheVariants.{Put, Add};
+ghost use Rattle.ca_tree.specs.declared.tree.BinaryOp.TheVariants.{Less, Plus};
+ghost use Rattle.ca_program.specs.declared.program.LocalId.{LocalId};
+ghost use Rattle.ca_program.specs.declared.program.FirstPart.TheVariants.{Declares};
+ghost use Rattle.ca_program.specs.Plain.{Expression, binary, put_local, block};
+ghost use Rattle.ca_program.specs.View.{expression_view, statement_view, statements_view};
+ghost use Rattle.ca_symbolic.specs.OtherLoops.{counter_of, compares, counts_up, is_call, are_calls, calls_alone, counts, other_loop, other_loop_in};
+
+use ca_program::{AssignOp, BinaryOp, Expr, FirstPart, LocalId, Stmt, StmtForm};
+
+/// The local that a statement puts, without an operator.
+fn put_by(s: &Stmt) -> Option<LocalId>
+    ensures { result ≡ counter_of Declares (statement_view s.now) }
+{
+    match &s.kind {
+        StmtForm::PutLocal(id, AssignOp::Put, _) => Some(*id),
+        _ => None,
+    }
+}
+
+/// The counter that the first part of a `for` declares.
+fn counter_of(part: FirstPart, first: &Stmt) -> Option<LocalId>
+    ensures { result ≡ counter_of part (statement_view first.now) }
+{
+    match part {
+        FirstPart::Declares => put_by(first),
+        FirstPart::Assigns => None,
+    }
+}
+
+/// Whether it is this local, on the left side of a comparison.
+fn is_left(a: &Expr, i: LocalId) -> bool
+    ensures { (e : Expression) → result ≡ compares (binary Less (expression_view a.now) e) i }
+{
+    match a {
+        Expr::Local(l) => l.0 == i.0,
+        _ => false,
+    }
+}
+
+/// Whether the counter is compared with something.
+fn compares(c: &Expr, i: LocalId) -> bool
+    ensures { result ≡ compares (expression_view c.now) i }
+{
+    match c {
+        Expr::Binary(BinaryOp::Less, a, _) => is_left(a, i),
+        _ => false,
+    }
+}
+
+/// Whether `l += e` adds one to the counter.
+fn adds_one(l: LocalId, e: &Expr, i: LocalId) -> bool
+    ensures { (line : ℕ) → result ≡ counts_up (put_local line l Add (expression_view e.now)) i }
+{
+    match e {
+        Expr::Number(n) => l.0 == i.0 && *n == 1,
+        _ => false,
+    }
+}
+
+/// Whether `l = a + b` does.
+fn puts_sum(l: LocalId, a: &Expr, b: &Expr, i: LocalId) -> bool
+    ensures { (line : ℕ) → result ≡ counts_up (put_local line l Put (binary Plus (expression_view a.now) (expression_view b.now))) i }
+{
+    match (a, b) {
+        (Expr::Local(m), Expr::Number(n)) => l.0 == i.0 && (m.0 == i.0 && *n == 1),
+        _ => false,
+    }
+}
+
+/// Whether `l = a op b` does.
+fn puts_operation(l: LocalId, op: BinaryOp, a: &Expr, b: &Expr, i: LocalId) -> bool
+    ensures { (line : ℕ) → result ≡ counts_up (put_local line l Put (binary op (expression_view a.now) (expression_view b.now))) i }
+{
+    match op {
+        BinaryOp::Plus => puts_sum(l, a, b, i),
+        _ => false,
+    }
+}
+
+/// Whether `l = e` does.
+fn puts_one_more(l: LocalId, e: &Expr, i: LocalId) -> bool
+    ensures { (line : ℕ) → result ≡ counts_up (put_local line l Put (expression_view e.now)) i }
+{
+    match e {
+        Expr::Binary(op, a, b) => puts_operation(l, *op, a, b, i),
+        _ => false,
+    }
+}
+
+/// Whether a put does.
+fn counts_by(l: LocalId, op: AssignOp, e: &Expr, i: LocalId) -> bool
+    ensures { (line : ℕ) → result ≡ counts_up (put_local line l op (expression_view e.now)) i }
+{
+    match op {
+        AssignOp::Add => adds_one(l, e, i),
+        AssignOp::Put => puts_one_more(l, e, i),
+        _ => false,
+    }
+}
+
+/// Whether the last part of a `for` counts up by one.
+fn counts_up(s: &Stmt, i: LocalId) -> bool
+    ensures { result ≡ counts_up (statement_view s.now) i }
+{
+    match &s.kind {
+        StmtForm::PutLocal(l, op, e) => counts_by(*l, *op, e, i),
+        _ => false,
+    }
+}
+
+/// Whether the counter is compared and counted up.
+fn counts(counter: Option<LocalId>, c: &Expr, next: &Stmt) -> bool
+    ensures { result ≡ counts counter (expression_view c.now) (statement_view next.now) }
+{
+    match counter {
+        Some(i) => compares(c, i) && counts_up(next, i),
+        None => false,
+    }
+}
+
+fn is_call(s: &Stmt) -> bool
+    ensures { result ≡ is_call (statement_view s.now) }
+{
+    match &s.kind {
+        StmtForm::Invoke(..) => true,
+        _ => false,
+    }
+}
+
+fn are_calls(stmts: &[Stmt]) -> bool
+    ensures { result ≡ are_calls (statements_view stmts.now) }
+{
+    'statements: for s in stmts {
+        if !is_call(s) {
+            return false;
+        }
+    }
+    true
+}
+
+/// Whether statements are one call or more.
+#[tactic(auto, using(crate::proofs::Blocks::some_calls, crate::proofs::Blocks::no_calls))]
+fn some_calls(stmts: &[Stmt]) -> bool
+    ensures { (line : ℕ) → result ≡ calls_alone (block line (statements_view stmts.now)) }
+{
+    if stmts.len() == 0 {
+        return false;
+    }
+    are_calls(stmts)
+}
+
+/// Whether a body is one call, or a block of one or more.
+fn calls_alone(s: &Stmt) -> bool
+    ensures { result ≡ calls_alone (statement_view s.now) }
+{
+    match &s.kind {
+        StmtForm::Invoke(..) => true,
+        StmtForm::Block(stmts) => some_calls(stmts),
+        _ => false,
+    }
+}
+
+/// Whether the parts are those of a loop of calls.
+fn is_call_loop(part: FirstPart, first: &Stmt, c: &Expr, next: &Stmt, body: &Stmt) -> bool
+    ensures { result ≡ (counts (counter_of part (statement_view first.now)) (expression_view c.now) (statement_view next.now) && calls_alone (statement_view body.now)) }
+{
+    counts(counter_of(part, first), c, next) && calls_alone(body)
+}
+
+/// The line of the first loop in a statement that is no loop of calls.
+#[cycle(other)]
+fn other_loop(s: &Stmt) -> Option<u32>
+    ensures { result ≡ other_loop (statement_view s.now) }
+{
+    match &s.kind {
+        StmtForm::Block(stmts) => other_loop_in(stmts),
+        StmtForm::If(_, yes, no) => match other_loop(yes) {
+            Some(line) => Some(line),
+            None => other_loop(no),
+        },
+        StmtForm::While(..) => Some(s.line),
+        StmtForm::For(_, part, first, c, next, body) => {
+            if is_call_loop(*part, first, c, next, body) {
+                None
+            } else {
+                Some(s.line)
+            }
+        }
+        _ => None,
+    }
+}
+
+/// That of the first of these statements that has one.
+#[cycle(other)]
+pub fn other_loop_in(stmts: &[Stmt]) -> Option<u32>
+    ensures { result ≡ other_loop_in (statements_view stmts.now) }
+{
+    'statements: for s in stmts {
+        if let Some(line) = other_loop(s) {
+            return Some(line);
+        }
+    }
+    None
+}
