@@ -39,7 +39,8 @@ use Rattle.ca_symbolic_laws.specs.Costs.{plus, outcome_of, within}
 use Rattle.ca_symbolic_laws.specs.Demanded.{loop_at, cost, lists}
 use Rattle.ca_symbolic_laws.specs.Meant.{slot_meant, slots_meant, FieldsTyped}
 use Rattle.ca_symbolic_laws.specs.Laws.{fields_in, arguments_in, SpeakAll, Body, object_meant, Called, SectionsAreMeant, FieldsStayTyped, Fields, StartsAreMeant}
-use Rattle.ca_verdicts.specs.Orders.{executed, first_other_loop, start_of}
+use Rattle.ca_symbolic.specs.Runs.{executed, first_other_loop}
+use Rattle.ca_verdicts.specs.Orders.{start_of}
 use Rattle.ca_verdicts.proofs.Looks.{met}
 use Rattle.ca_verdicts.proofs.Kept.{constant_kept}
 use Rattle.ca_verdicts.proofs.Orders.{IsMeant, price_of, left_by, behind_both, asked_by_both, Seen, environment, commutes_on}

@@ -12,7 +12,7 @@ use Rattle.ca_parallel.specs.Extents.{Extent, Invokes, IsExtentOf, Writes, opera
 use Rattle.ca_parallel.specs.Separable.{Separable}
 use Rattle.ca_symbolic_laws.specs.Laws.{Speaks, SpeakAll, SectionsAreMeant, FieldsStayTyped, Fields, StartsAreMeant}
 use Rattle.ca_verdicts.specs.Analysed.{Analysed}
-use Rattle.ca_verdicts.specs.Orders.{first_other_loop}
+use Rattle.ca_symbolic.specs.Runs.{first_other_loop}
 use Rattle.ca_verdicts.specs.Orders.{first_order, second_order}
 use Rattle.ca_verdicts.specs.Verdicts.{VerdictOf}
 use Rattle.ca_verdicts.specs.declared.verdicts.Verdict.TheVariants.{Commutes}
@@ -20,6 +20,7 @@ use Rattle.ca_verdicts.proofs.Sorts.{ArraysSorted}
 use Rattle.ca_verdicts.proofs.Sound.{LoopsFound, Fit, no_loop, commute}
 use Rattle.ca_verdicts.proofs.SameSlots.{ArraysMean, looks_same}
 use Rattle.ca_verdicts.proofs.FoundLoops.{loops_found}
+use Rattle.ca_verdicts.proofs.RisingLoops.{apart}
 
 -- the law speaks of all forms
 abbrev All : Type 0
@@ -60,7 +61,7 @@ module _ (sections : SectionsAreMeant All All) (stay : FieldsStayTyped All All) 
   pub verdict_commutes : (p : PlainProgram) (x : Extent) (a b : OpId) → Analysed p x a b → VerdictOf p x.written a b Commutes →
       length (first_order p a b).demands < 2 ^ 64 → length (second_order p a b).demands < 2 ^ 64 → DoCommute p x.written a b
   verdict_commutes p x a b q v la lb =
-      let found : LoopsFound p = loops_found p q.apart in
+      let found : LoopsFound p = loops_found p (apart p q.numbered) in
       let sa : Separable p x.written a = v.0.can.separable.0 in
       let sb : Separable p x.written b = v.0.can.separable.1 in
       let none : (first_other_loop p a ≡ None) × (first_other_loop p b ≡ None) = no_loop _ _ v.0.can.loops in
