@@ -6,7 +6,7 @@ use Rattle.ca_tree.specs.Plain.{TextTree}
 use Rattle.ca_program.specs.Plain.{PlainProgram}
 use Rattle.ca_lex.specs.Places.{advance, start}
 use Rattle.ca_lex.specs.Tokens.{Tokens}
-use Rattle.ca_lex.specs.Faults.{most_tokens}
+use Rattle.ca_lex.specs.declared.TheConstants.{MOST_TOKENS}
 use Rattle.ca_parse.specs.Grammar.{DerivesWithin}
 use Rattle.ca_resolve.specs.Judged.{fine}
 use Rattle.ca_types.specs.Classes.{judge}
@@ -20,7 +20,7 @@ most_bytes = MOST_BYTES
 pub record HasTokens (text : List ℕ) (tokens : List Token) : Type 0 where
   pub short : length text ≤ most_bytes
   pub lexed : Tokens text tokens
-  pub few : length tokens ≤ most_tokens
+  pub few : length tokens ≤ MOST_TOKENS
 
 -- The text has tokens that derive this tree, and none of them is nested too deeply.
 pub record HasTree (text : List ℕ) (tree : TextTree) : Type 0 where

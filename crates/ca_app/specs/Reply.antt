@@ -21,7 +21,7 @@ usage_reply = record { status = USAGE; bytes = usage_text }
 
 -- what `gen` replies, whatever the text
 abbrev pub generated_reply : ℕ → ℕ → Reply
-generated_reply seed size = record { status = 0; bytes = generated seed size }
+generated_reply seed size = record { status = DONE; bytes = generated seed size }
 
 -- the reply where `pairs` isn't built for a text that begins here
 abbrev pub not_built_reply : Place → Reply

@@ -4,6 +4,7 @@ mod calls;
 mod devices;
 mod generated;
 mod pairs;
+mod pieces;
 mod refusals;
 mod refused;
 mod runs;

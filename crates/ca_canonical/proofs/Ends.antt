@@ -14,13 +14,26 @@ use Rattle.ca_tree.specs.declared.tree.TypeNode.{TypeNode}
 use Rattle.ca_tree.specs.declared.tree.TypeNode.TheVariants.{Long, Bool as BoolType, Pointer}
 use Rattle.ca_tree.specs.Codes.{same_key, same_sign}
 use Rattle.ca_tree.specs.Operators.{level, unary_level, binary_sign, unary_sign, assign_sign}
-use Rattle.ca_tree.specs.Plain.{Expression, Statement, number, truth, null, this, named, call, field, method, index, unary, binary, empty, block, local, assign, call_statement, if_only, if_else, while_loop, for_loop, return_value, print_value}
+use Rattle.ca_tree.specs.Plain.{Expression, Statement, Statements, no_statements, statement_and, number, truth, null, this, named, call, field, method, index, unary, binary, empty, block, local, assign, call_statement, if_only, if_else, while_loop, for_loop, return_value, print_value}
 use Rattle.ca_expressions.specs.Terminals.{key_of, sign_of, zero_of}
 use Rattle.ca_parse.specs.Grammar.{read, is_return_zero}
-use Rattle.ca_canonical.specs.Spell.{tail_level, binds, bracketed, in_parentheses, spell_expression, spell_list, spell_truth, spell_type, spell_right, spell_start, spell_header, ended, spell_statement, spell_statements, is_zero, returns_zero}
+use Rattle.ca_canonical.specs.Spell.{tail_level, binds, bracketed, in_parentheses, spell_expression, spell_list, spell_truth, spell_type, spell_right, spell_start, spell_header, ended, spell_statement, spell_statements, is_zero, returns_zero, ends_in_zero}
 use Rattle.ca_canonical.specs.Bare.{nowhere}
 use Rattle.ca_canonical.proofs.Texts.{kinds}
 use Rattle.ca_canonical.proofs.Fronts.{Front, front_is}
+
+-- whether the last of statements is a return of 0, or with none whether the one before them was
+abbrev pub zero_behind : Bool → Statements → Bool
+zero_behind before no_statements = before
+zero_behind before (statement_and s ss) = zero_behind (returns_zero s) ss
+
+last_is : (before : Bool) (s : Statement) (ss : Statements) → zero_behind before (statement_and s ss) ≡ ends_in_zero (statement_and s ss)
+last_is before s no_statements = refl
+last_is before s (statement_and t ss) = last_is (returns_zero s) t ss
+
+pub all_behind : (ss : Statements) → zero_behind false ss ≡ ends_in_zero ss
+all_behind no_statements = refl
+all_behind (statement_and s ss) = last_is false s ss
 
 -- the same test on kinds
 abbrev is_end : List Kind → Bool

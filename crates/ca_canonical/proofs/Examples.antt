@@ -1,13 +1,18 @@
 -- Canonical texts of some trees.
-use Rattle.std.proofs.Common.{◌≡◌, [], ◌∷◌, refl}
-use Rattle.std.specs.Prelude.{codes, pos, Some, None}
+use Rattle.std.proofs.Common.{◌≡◌, List, [], ◌∷◌, refl}
+use Rattle.std.specs.Prelude.{codes, pos, Option, Some, None}
 use Rattle.std.specs.Fmt.{digits}
 use Rattle.ca_tree.specs.declared.tree.TypeNode.TheVariants.{Long, Pointer}
 use Rattle.ca_tree.specs.declared.tree.AssignOp.TheVariants.{Add}
 use Rattle.ca_tree.specs.declared.tree.BinaryOp.TheVariants.{Plus, Minus, Times, Less}
 use Rattle.ca_tree.specs.declared.tree.UnaryOp.TheVariants as unary_op
 use Rattle.ca_tree.specs.Plain.{Expression, Statement, TextTree, number, named, call, field, method, index, unary, binary, no_expressions, expression_and, value, new, empty, block, local, assign, call_statement, if_only, if_else, return_value, no_statements, statement_and, field_member, method_member}
-use Rattle.ca_canonical.specs.Texts.{text_of}
+use Rattle.ca_tree.specs.declared.name.Place.{Place}
+use Rattle.ca_canonical.specs.declared.marks.Mark.{Mark}
+use Rattle.ca_canonical.specs.declared.marks.Mark.TheVariants.{Lock, Unlock, Spawn, Parallel}
+use Rattle.ca_canonical.specs.Marks.{Marking}
+use Rattle.ca_canonical.specs.Annotated.{annotated}
+use Rattle.ca_canonical.specs.Texts.{text_of, text_of_pieces}
 use Rattle.ca_canonical.specs.Spell.{spell, spell_expression, spell_statement}
 use Rattle.ca_canonical.specs.Bare.{nowhere}
 
@@ -87,3 +92,16 @@ two_adds = record {
 two_adds_text : text_of (spell two_adds) ≡ codes "class A {\npublic :\nlong n ;\nvoid add ( long v ) {\nn += v ;\n}\nvoid two ( long v ) {\nadd ( v ) ;\nadd ( v + 1 ) ;\n}\n} ;\nint main ( ) {\nA * a = new A ( ) ;\na -> two ( 3 ) ;\n}\n"
 unfolding digits
 two_adds_text = refl
+
+-- marks before calls, in the body of a method and in `main`
+abbrev before_calls : Option Place → Statement → List Mark
+before_calls (Some at) (call_statement at2 e) = Unlock ∷ Spawn ∷ []
+before_calls None (call_statement at2 e) = Parallel ∷ []
+before_calls body other = []
+
+abbrev some_marks : Marking
+some_marks = record { before = before_calls; opening = λ at. Lock ∷ []; closing = λ at. Unlock ∷ [] }
+
+two_adds_marked : text_of_pieces (annotated some_marks two_adds) ≡ codes "class A {\npublic :\nlong n ;\nvoid add ( long v ) {\n/*@lock*/ n += v ;\n/*@unlock*/ }\nvoid two ( long v ) {\n/*@lock*/ /*@unlock*/ /*@spawn*/ add ( v ) ;\n/*@unlock*/ /*@spawn*/ add ( v + 1 ) ;\n/*@unlock*/ }\n} ;\nint main ( ) {\nA * a = new A ( ) ;\n/*@parallel*/ a -> two ( 3 ) ;\n}\n"
+unfolding digits
+two_adds_marked = refl

@@ -1,6 +1,7 @@
 pub mod Writing
 pub mod Lists
 pub mod Rows
+pub mod Unmarked
 pub mod ReadBack
 pub mod Texts
 pub mod Fronts
@@ -12,4 +13,6 @@ pub mod Members
 pub mod Ends
 pub mod Inputs
 pub mod Program
+pub mod Erasing
+pub mod Apart
 pub mod Examples

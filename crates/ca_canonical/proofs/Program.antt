@@ -7,12 +7,18 @@ use Rattle.ca_tree.specs.declared.token.Kind.TheVariants.{Key, Sign}
 use Rattle.ca_tree.specs.declared.token.Keyword.TheVariants as key
 use Rattle.ca_tree.specs.declared.token.Sign.TheVariants as sign
 use Rattle.ca_tree.specs.declared.token.Token.{Token}
-use Rattle.ca_tree.specs.Plain.{Statement, Statements, ClassTree, TextTree, no_statements, statement_and, return_value, number}
+use Rattle.ca_tree.specs.Plain.{Statement, Statements, ClassTree, TextTree, empty, no_statements, statement_and, return_value, number}
 use Rattle.ca_expressions.specs.Terminals as terminal
 use Rattle.ca_lex.specs.Tokens.{Tokens}
 use Rattle.ca_lex.proofs.Derivations.{one_list}
 use Rattle.ca_parse.specs.Grammar.{statements, Item, MainItem, main_item, is_return_zero, kept, One, one, Lines, lines_end, lines_and, Program, program, Derives, DerivesFree, a_statement, a_return}
-use Rattle.ca_canonical.specs.Texts.{text_of}
+use Rattle.ca_canonical.specs.Marks.{Marking, tokens}
+use Rattle.ca_canonical.specs.Annotated.{annotated}
+use Rattle.ca_canonical.specs.Texts.{text_of, text_of_pieces, pieces_from}
+use Rattle.ca_canonical.specs.Erased.{Erased}
+use Rattle.ca_canonical.proofs.Unmarked.{annotated_unmarked}
+use Rattle.ca_canonical.proofs.Erasing.{pieces_erased}
+use Rattle.ca_canonical.proofs.Apart.{annotated_clear}
 use Rattle.ca_canonical.specs.Spell.{spell, spell_statement, spell_statements, spell_classes, spell_end, ends_in_zero, returns_zero}
 use Rattle.ca_canonical.specs.Bare.{bare, bare_statement, bare_statements, bare_class, nowhere}
 use Rattle.ca_canonical.specs.ReadsBack.{DerivesLike}
@@ -23,7 +29,7 @@ use Rattle.ca_canonical.proofs.Levels.{whole_expression}
 use Rattle.ca_canonical.proofs.Operands.{writable_both, good_literal, Out}
 use Rattle.ca_canonical.proofs.Lines.{GoodItem, good_item}
 use Rattle.ca_canonical.proofs.Members.{All, all_none, all_and, GoodClasses, class_lines, all_classes}
-use Rattle.ca_canonical.proofs.Ends.{end_tokens, kinds_end, read_front}
+use Rattle.ca_canonical.proofs.Ends.{zero_behind, all_behind, end_tokens, kinds_end, read_front}
 use Rattle.ca_canonical.proofs.Inputs.{text_read}
 
 -- an item of `main` that is read as one, and as its end only where it is a return of 0
@@ -61,8 +67,12 @@ record Kept (xs : List Statement) (before : Bool) (ys : List (Statement × Bool)
   like : bare_statements (statements (kept ys)) ≡ bare_statements (statements xs)
   filled : Filled xs before ys
 
+-- what stands in the body of `main` from some items on, with its end or without
+abbrev spell_ended : List Statement → Bool → List Kind
+spell_ended xs end = (spell_statements (statements xs) ++ spell_end end) ++ Sign sign.CloseBrace ∷ []
+
 abbrev spell_rest : List Statement → Bool → List Kind
-spell_rest xs before = (spell_statements (statements xs) ++ spell_end (ends_in_zero before (statements xs))) ++ Sign sign.CloseBrace ∷ []
+spell_rest xs before = spell_ended xs (zero_behind before (statements xs))
 
 -- `return 0 ;` is an item that is not kept
 zero_item : GoodItem (return_value nowhere (number nowhere (pos 0)))
@@ -116,11 +126,14 @@ main_items (x ∷ xs) before (all_and g gs) =
     let rest = main_items xs (returns_zero x) gs in
     let first = spell_statement x in
     let others = spell_statements (statements xs) in
-    let end = spell_end (ends_in_zero (returns_zero x) (statements xs)) in
+    let end = spell_end (zero_behind (returns_zero x) (statements xs)) in
     let cut : first ++ ((others ++ end) ++ Sign sign.CloseBrace ∷ []) ≡ ((first ++ others) ++ end) ++ Sign sign.CloseBrace ∷ [] =
     sym (append_assoc first (others ++ end) (Sign sign.CloseBrace ∷ [])) ∙ ap (λ z. z ++ Sign sign.CloseBrace ∷ []) (sym (append_assoc first others end)) in
     subst (Spelled (Free (Lines (One MainItem) CloseBrace)) (Kept (x ∷ xs) before)) cut
     (by (λ y. y.0 ++ y.1) (λ y free s r b w d. lines_and d.first d.second) (λ y w. any_before x xs before (y.0 ++ y.1) (pick x xs y.0 y.1 w.0 w.1)) (pair (main_item_spelled x g) rest))
+
+all_items : (xs : List Statement) → All GoodItem xs → Spelled (Free (Lines (One MainItem) CloseBrace)) (Kept xs false) (spell_ended xs (ends_in_zero (statements xs)))
+all_items xs g = subst (λ b. Spelled (Free (Lines (One MainItem) CloseBrace)) (Kept xs false) (spell_ended xs b)) (all_behind (statements xs)) (main_items xs false g)
 
 all_lines : {free : ℕ} {s r : List Token} {ys : List (Statement × Bool)} → AllRead s → Lines (One MainItem) CloseBrace free s ys r → Out (All (λ y. GoodItem y.0) ys) r
 all_lines h (lines_end d) = record { good = all_none; rest = behind h d }
@@ -158,14 +171,14 @@ a_text cs ss = record { classes = cs; main = ss }
 good_text : (cs : List ClassTree) (xs : List Statement) → GoodClasses cs → All GoodItem xs → GoodText (a_text cs (statements xs))
 good_text cs xs c g =
     let ss = statements xs in
-    let tail : List Kind = Key key.Main ∷ Sign sign.OpenParenthesis ∷ Sign sign.CloseParenthesis ∷ Sign sign.OpenBrace ∷ spell_rest xs false in
+    let tail : List Kind = Key key.Main ∷ Sign sign.OpenParenthesis ∷ Sign sign.CloseParenthesis ∷ Sign sign.OpenBrace ∷ spell_ended xs (ends_in_zero ss) in
     record {
-      writable = writable_both (spell_classes cs) _ c.writable (tt, (tt, (tt, (tt, (tt, writable_both (spell_statements ss ++ spell_end (ends_in_zero false ss)) _ (writable_both (spell_statements ss) _ (writable_items xs g) (writable_end (ends_in_zero false ss))) (tt, tt))))));
+      writable = writable_both (spell_classes cs) _ c.writable (tt, (tt, (tt, (tt, (tt, writable_both (spell_statements ss ++ spell_end (ends_in_zero ss)) _ (writable_both (spell_statements ss) _ (writable_items xs g) (writable_end (ends_in_zero ss))) (tt, tt))))));
       reads = subst (Spelled (Free Program) (λ u. bare u ≡ bare (a_text cs ss))) (append_assoc (spell_classes cs) (Key key.Int ∷ []) tail)
           (by (λ y. record { classes = y.0; main = statements (kept y.1.1.1.1.1) })
           (λ y free s r b w d. program d.first d.second.first d.second.second.first d.second.second.second.first d.second.second.second.second.first d.second.second.second.second.second)
           (λ y w. ap (λ z. a_text z (bare_statements (statements (kept y.1.1.1.1.1)))) w.0 ∙ ap (λ z. a_text (map bare_class cs) z) w.1.1.1.1.1.like)
-          (pair c.reads (pair (lift (a_key key.Main)) (pair (lift (a_sign sign.OpenParenthesis)) (pair (lift (a_sign sign.CloseParenthesis)) (pair (lift (a_sign sign.OpenBrace)) (main_items xs false g)))))));
+          (pair c.reads (pair (lift (a_key key.Main)) (pair (lift (a_sign sign.OpenParenthesis)) (pair (lift (a_sign sign.CloseParenthesis)) (pair (lift (a_sign sign.OpenBrace)) (all_items xs g)))))));
     }
 
 text_good : {free : ℕ} {s r : List Token} {t : TextTree} → AllRead s → Program free s t r → GoodText t
@@ -189,3 +202,10 @@ read_back text ts us t d e f =
     let g = good_of text ts t d e in
     let l = canonical_tokens (spell t) g.writable in
     derived t (g.reads.at us (ap kinds (one_list f l.tokens l.are) ∙ l.same))
+
+pub erased : (text : List ℕ) (ts : List Token) (t : TextTree) (m : Marking) → Tokens text ts → Derives ts t → ((body : Option Place) (at : Place) → m.before body (empty at) ≡ [])
+    → Erased (text_of_pieces (annotated m t)) (text_of (spell t))
+erased text ts t m d e none =
+    let is = annotated_unmarked m t in
+    subst (λ ks. Erased (text_of_pieces (annotated m t)) (pieces_from 0 (tokens ks))) is
+    (pieces_erased 0 (annotated m t) (subst AllWritable (sym is) (good_of text ts t d e).writable) (annotated_clear m t none))

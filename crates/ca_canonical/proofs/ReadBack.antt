@@ -93,9 +93,9 @@ name_back (b ∷ w) line rest h =
 
 -- numbers
 
-record IsNumber (n : ℕ) (ds : List ℕ) : Type 0 where
+pub record IsNumber (n : ℕ) (ds : List ℕ) : Type 0 where
   some : 0 < length ds
-  digits : Passes is_ascii_digit ds
+  pub digits : Passes is_ascii_digit ds
   value : value_of ds ≡ n
 
 one_digit : (d : ℕ) → d < 10 → is_ascii_digit (48 + d) ≡ true
@@ -105,7 +105,7 @@ passes_last : (p : ℕ → Bool) (w : List ℕ) (b : ℕ) → Passes p w → p b
 passes_last p [] b a e = (e, tt)
 passes_last p (c ∷ w) b a e = (a.0, passes_last p w b a.1 e)
 
-decimal_number : (n : ℕ) → n < 2 ^ 64 → IsNumber n (decimal n)
+pub decimal_number : (n : ℕ) → n < 2 ^ 64 → IsNumber n (decimal n)
 decimal_number = decimal_by_steps IsNumber
     (λ n h. record { some = omega arith; digits = (one_digit n h, tt); value = omega arith })
     (λ n ds h i.

@@ -12,7 +12,9 @@ use Rattle.ca_tree.specs.declared.token.Token.{Token}
 use Rattle.ca_lex.specs.Places.{advance, start}
 use Rattle.ca_lex.specs.Pieces.{piece_of, blank_of}
 use Rattle.ca_lex.specs.Tokens.{TokensFrom, at_end, blank, token}
-use Rattle.ca_canonical.specs.Texts.{kind_text, behind, behind_brace, gap_behind, gap_before, depth_behind, semicolon_first, text_from, text_of}
+use Rattle.ca_canonical.specs.Marks.{Piece}
+use Rattle.ca_canonical.specs.Marks as piece
+use Rattle.ca_canonical.specs.Texts.{kind_text, behind, behind_brace, gap_behind, gap_before, depth_behind, semicolon_first, pieces_from, text_of}
 use Rattle.ca_canonical.proofs.ReadBack.{Writable, gap, read_back}
 
 abbrev pub kinds : List Token → List Kind
@@ -31,22 +33,22 @@ brace_gap : (t : Bool) → behind_brace t ≡ gap (line_behind_brace t)
 brace_gap true = refl
 brace_gap false = refl
 
-record IsGap (b : ℕ) : Type 0 where
-  line : Bool
-  is : b ≡ gap line
+pub record IsGap (b : ℕ) : Type 0 where
+  pub line : Bool
+  pub is : b ≡ gap line
 
-semicolon_gap : (t : Bool) (next : List Kind) → IsGap (gap_before (if t then Some (code "\n") else Some (code " ")) next)
+semicolon_gap : (t : Bool) (next : List Piece) → IsGap (gap_before (if t then Some (code "\n") else Some (code " ")) next)
 semicolon_gap true next = record { line = true; is = refl }
 semicolon_gap false next = record { line = false; is = refl }
 
-sign_gap : (depth : ℕ) (s : TheSign) (next : List Kind) → IsGap (gap_before (gap_behind depth s) next)
+sign_gap : (depth : ℕ) (s : TheSign) (next : List Piece) → IsGap (gap_before (gap_behind depth s) next)
 sign_gap depth sign.OpenBrace next = record { line = true; is = refl }
 sign_gap depth sign.Colon next = record { line = true; is = refl }
 sign_gap depth sign.Semicolon next = semicolon_gap (depth == 0) next
 sign_gap depth sign.CloseBrace next = record { line = line_behind_brace (semicolon_first next); is = brace_gap (semicolon_first next) }
 sign_gap depth other next = record { line = false; is = refl }
 
-kind_gap : (depth : ℕ) (k : Kind) (next : List Kind) → IsGap (behind depth k next)
+pub kind_gap : (depth : ℕ) (k : Kind) (next : List Piece) → IsGap (behind depth k next)
 kind_gap depth (Sign s) next = sign_gap depth s next
 kind_gap depth (Word w) next = record { line = false; is = refl }
 kind_gap depth (Number n) next = record { line = false; is = refl }
@@ -75,12 +77,12 @@ one_token p n k line rest ks w more =
     let behind : TokensFrom q (n + len) (drop len s) others.tokens = subst (λ z. TokensFrom q (n + len) z others.tokens) (sym (drop-append_seam text (gap line ∷ rest))) gone in
     record { tokens = record { kind = k; at = p; start = n; len = len } ∷ others.tokens; are = token (read_back k line rest w) behind; same = ap (λ z. k ∷ z) others.same }
 
-lexed : (depth : ℕ) (ks : List Kind) (p : Place) (n : ℕ) → AllWritable ks → Lexed p n (text_from depth ks) ks
+lexed : (depth : ℕ) (ks : List Kind) (p : Place) (n : ℕ) → AllWritable ks → Lexed p n (pieces_from depth (piece.tokens ks)) ks
 lexed depth [] p n a = record { tokens = []; are = at_end; same = refl }
 lexed depth (k ∷ ks) p n a =
-    let g = kind_gap depth k ks in
-    subst (λ b. Lexed p n (kind_text k ++ b ∷ text_from (depth_behind depth k) ks) (k ∷ ks)) (sym g.is)
-    (one_token p n k g.line (text_from (depth_behind depth k) ks) ks a.0 (λ q m. lexed (depth_behind depth k) ks q m a.1))
+    let g = kind_gap depth k (piece.tokens ks) in
+    subst (λ b. Lexed p n (kind_text k ++ b ∷ pieces_from (depth_behind depth k) (piece.tokens ks)) (k ∷ ks)) (sym g.is)
+    (one_token p n k g.line (pieces_from (depth_behind depth k) (piece.tokens ks)) ks a.0 (λ q m. lexed (depth_behind depth k) ks q m a.1))
 
 pub canonical_tokens : (ks : List Kind) → AllWritable ks → Lexed start 0 (text_of ks) ks
 canonical_tokens ks a = lexed 0 ks start 0 a

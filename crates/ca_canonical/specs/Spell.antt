@@ -101,19 +101,24 @@ condition k e = Key k ∷ in_parentheses (spell_expression e)
 abbrev pub spell_for : Statement → Expression → Statement → List Kind
 spell_for first c next = Key key.For ∷ Sign sign.OpenParenthesis ∷ (ended (spell_header first) ++ (spell_expression c ++ (Sign sign.Semicolon ∷ (spell_header next ++ Sign sign.CloseParenthesis ∷ []))))
 
+-- a statement with no other inside
+abbrev pub spell_line : Statement → List Kind
+spell_line (empty at) = Sign sign.Semicolon ∷ []
+spell_line (local at ty name name_at v) = ended (spell_header (local at ty name name_at v))
+spell_line (assign at target o r) = ended (spell_header (assign at target o r))
+spell_line (call_statement at e) = ended (spell_expression e)
+spell_line (return_value at e) = Key key.Return ∷ ended (spell_expression e)
+spell_line (print_value at e) = ended (condition key.Print e)
+spell_line other = []
+
 abbrev mutual
   pub spell_statement : Statement → List Kind
-  spell_statement (empty at) = Sign sign.Semicolon ∷ []
   spell_statement (block at ss) = in_braces (spell_statements ss)
-  spell_statement (local at ty name name_at v) = ended (spell_header (local at ty name name_at v))
-  spell_statement (assign at target o r) = ended (spell_header (assign at target o r))
-  spell_statement (call_statement at e) = ended (spell_expression e)
   spell_statement (if_only at c s) = condition key.If c ++ spell_statement s
   spell_statement (if_else at c s t) = condition key.If c ++ (spell_statement s ++ (Key key.Else ∷ spell_statement t))
   spell_statement (while_loop at c s) = condition key.While c ++ spell_statement s
   spell_statement (for_loop at first c next s) = spell_for first c next ++ spell_statement s
-  spell_statement (return_value at e) = Key key.Return ∷ ended (spell_expression e)
-  spell_statement (print_value at e) = ended (condition key.Print e)
+  spell_statement other = spell_line other
 
   pub spell_statements : Statements → List Kind
   spell_statements no_statements = []
@@ -171,10 +176,11 @@ abbrev pub returns_zero : Statement → Bool
 returns_zero (return_value at e) = is_zero e
 returns_zero other = false
 
--- whether the last of some statements is, where this is said of the one before them
-abbrev pub ends_in_zero : Bool → Statements → Bool
-ends_in_zero before no_statements = before
-ends_in_zero before (statement_and s ss) = ends_in_zero (returns_zero s) ss
+-- whether the last of the statements is
+abbrev pub ends_in_zero : Statements → Bool
+ends_in_zero no_statements = false
+ends_in_zero (statement_and s no_statements) = returns_zero s
+ends_in_zero (statement_and s (statement_and t ss)) = ends_in_zero (statement_and t ss)
 
 -- The optional end of `main` stands where its last statement is itself a `return` of the number 0.
 abbrev pub spell_end : Bool → List Kind
@@ -182,7 +188,7 @@ spell_end false = []
 spell_end true = Key key.Return ∷ Number (pos 0) ∷ Sign sign.Semicolon ∷ []
 
 abbrev pub spell_main : Statements → List Kind
-spell_main ss = Key key.Int ∷ Key key.Main ∷ (in_parentheses [] ++ in_braces (spell_statements ss ++ spell_end (ends_in_zero false ss)))
+spell_main ss = Key key.Int ∷ Key key.Main ∷ (in_parentheses [] ++ in_braces (spell_statements ss ++ spell_end (ends_in_zero ss)))
 
 abbrev pub spell : TextTree → List Kind
 spell t = spell_classes t.classes ++ spell_main t.main

@@ -1,4 +1,4 @@
--- The canonical text of some tokens.
+-- The text of pieces, and the canonical text of some tokens.
 use Prim.Native.Char.{code}
 use Rattle.std.specs.Prelude.{ℕ, ◌+◌, ◌-◌, List, [], ◌∷◌, ◌++◌, Bool, true, false, ◌==◌, if◌then◌else◌, Option, Some, None}
 use Rattle.std.specs.Fmt.{signed_decimal}
@@ -7,6 +7,7 @@ use Rattle.ca_tree.specs.declared.token.Kind.TheVariants.{Word, Number, Key, Sig
 use Rattle.ca_tree.specs.declared.token.Sign.{Sign as TheSign}
 use Rattle.ca_tree.specs.declared.token.Sign.TheVariants as sign
 use Rattle.ca_tree.specs.Spellings.{keyword_text, sign_text}
+use Rattle.ca_canonical.specs.Marks.{Piece, token, mark, tokens, mark_text}
 
 -- a name as its bytes, a number in decimal digits
 abbrev pub kind_text : Kind → List ℕ
@@ -19,13 +20,17 @@ abbrev pub is_semicolon : TheSign → Bool
 is_semicolon sign.Semicolon = true
 is_semicolon other = false
 
+abbrev pub semicolon : Kind → Bool
+semicolon (Sign s) = is_semicolon s
+semicolon (Word name) = false
+semicolon (Number n) = false
+semicolon (Key k) = false
+
 -- whether a `;` comes first
-abbrev pub semicolon_first : List Kind → Bool
+abbrev pub semicolon_first : List Piece → Bool
 semicolon_first [] = false
-semicolon_first (Word name ∷ ks) = false
-semicolon_first (Number n ∷ ks) = false
-semicolon_first (Key k ∷ ks) = false
-semicolon_first (Sign s ∷ ks) = is_semicolon s
+semicolon_first (token k ∷ ps) = semicolon k
+semicolon_first (mark m ∷ ps) = false
 
 -- a line feed stands behind a `}` that no `;` follows, else one space
 abbrev pub behind_brace : Bool → ℕ
@@ -40,13 +45,13 @@ gap_behind depth sign.Semicolon = if depth == 0 then Some (code "\n") else Some 
 gap_behind depth sign.CloseBrace = None
 gap_behind depth other = Some (code " ")
 
--- the byte itself, where next are the tokens behind the sign
-abbrev pub gap_before : Option ℕ → List Kind → ℕ
+-- the byte itself, where next are the pieces behind the sign
+abbrev pub gap_before : Option ℕ → List Piece → ℕ
 gap_before (Some b) next = b
 gap_before None next = behind_brace (semicolon_first next)
 
 -- the byte behind a token
-abbrev pub behind : ℕ → Kind → List Kind → ℕ
+abbrev pub behind : ℕ → Kind → List Piece → ℕ
 behind depth (Sign s) next = gap_before (gap_behind depth s) next
 behind depth (Word name) next = code " "
 behind depth (Number n) next = code " "
@@ -64,10 +69,14 @@ depth_behind depth (Word name) = depth
 depth_behind depth (Number n) = depth
 depth_behind depth (Key k) = depth
 
--- the text of tokens within so many round brackets
-abbrev pub text_from : ℕ → List Kind → List ℕ
-text_from depth [] = []
-text_from depth (k ∷ ks) = kind_text k ++ behind depth k ks ∷ text_from (depth_behind depth k) ks
+-- the text of pieces within so many round brackets; one space stands behind a mark
+abbrev pub pieces_from : ℕ → List Piece → List ℕ
+pieces_from depth [] = []
+pieces_from depth (token k ∷ ps) = kind_text k ++ behind depth k ps ∷ pieces_from (depth_behind depth k) ps
+pieces_from depth (mark m ∷ ps) = mark_text m ++ code " " ∷ pieces_from depth ps
+
+abbrev pub text_of_pieces : List Piece → List ℕ
+text_of_pieces ps = pieces_from 0 ps
 
 abbrev pub text_of : List Kind → List ℕ
-text_of ks = text_from 0 ks
+text_of ks = text_of_pieces (tokens ks)

@@ -1,10 +1,13 @@
 //! Classes and `main`.
 
-ghost use Rattle.std.specs.Prelude.{◌≡◌, map, false, IfOk};
+ghost use Rattle.std.specs.Prelude.{◌≡◌, ◌∷◌, ◌++◌, map, false, IfOk};
+ghost use Rattle.ca_tree.specs.declared.token.Kind.TheVariants.{Word};
 ghost use Rattle.ca_tree.specs.View.{class_view, member_view, method_view, statement_view, statements_view};
-ghost use Rattle.ca_canonical.specs.Spell.{ends_in_zero, in_parentheses, returns_zero, spell_class, spell_classes, spell_end, spell_field, spell_length, spell_main, spell_member, spell_members, spell_method, spell_params, spell_result};
-ghost use Rattle.ca_canonical.specs.Pens.{Writes};
+ghost use Rattle.ca_canonical.specs.Annotated.{marked_class, marked_classes, marked_main, marked_member, marked_members, marked_method};
+ghost use Rattle.ca_canonical.specs.Spell.{ends_in_zero, in_parentheses, returns_zero, spell_end, spell_field, spell_length, spell_params, spell_result};
+ghost use Rattle.ca_canonical.specs.Pens.{Writes, WritesPieces};
 
+use crate::marks::Marks;
 use crate::pen::Pen;
 use crate::statements::{write_statements, write_type};
 use ca_tree::{
@@ -65,61 +68,75 @@ fn write_result(pen: &mut Pen, ty: &Option<TypeNode>) -> Result<(), AllocError>
     Ok(())
 }
 
-/// Writes a method.
-fn write_method(pen: &mut Pen, method: &MethodNode) -> Result<(), AllocError>
-    ensures { IfOk result (λ _. Writes pen.old pen.new (spell_method (method_view method.now))) }
+/// Writes what stands before the body of a method.
+fn write_signature(pen: &mut Pen, method: &MethodNode) -> Result<(), AllocError>
+    ensures { IfOk result (λ _. Writes pen.old pen.new (spell_result method.now.result ++ (Word method.now.name ∷ in_parentheses (spell_params method.now.params.items)))) }
 {
     write_result(pen, &method.result)?;
     pen.name(&method.name)?;
     write_params(pen, &method.params)?;
+    Ok(())
+}
+
+/// Writes a method, with the marks in its body.
+fn write_method<M: Marks>(pen: &mut Pen, marks: &M, method: &MethodNode) -> Result<(), AllocError>
+    ensures { IfOk result (λ _. WritesPieces pen.old pen.new (marked_method (M.marking marks.now) (method_view method.now))) }
+{
+    write_signature(pen, method)?;
     pen.sign(Sign::OpenBrace)?;
-    write_statements(pen, &method.body)?;
+    pen.marks(marks.opening(method.at))?;
+    write_statements(pen, marks, Some(method.at), &method.body)?;
+    pen.marks(marks.closing(method.at))?;
     pen.sign(Sign::CloseBrace)?;
     Ok(())
 }
 
 /// Writes a member.
-fn write_member(pen: &mut Pen, member: &Member) -> Result<(), AllocError>
-    ensures { IfOk result (λ _. Writes pen.old pen.new (spell_member (member_view member.now))) }
+fn write_member<M: Marks>(pen: &mut Pen, marks: &M, member: &Member) -> Result<(), AllocError>
+    ensures { IfOk result (λ _. WritesPieces pen.old pen.new (marked_member (M.marking marks.now) (member_view member.now))) }
 {
     match member {
         Member::Field(field) => write_field(pen, field)?,
-        Member::Method(method) => write_method(pen, method)?,
+        Member::Method(method) => write_method(pen, marks, method)?,
     }
     Ok(())
 }
 
 /// Writes a class.
-fn write_class(pen: &mut Pen, class: &ClassNode) -> Result<(), AllocError>
-    ensures { IfOk result (λ _. Writes pen.old pen.new (spell_class (class_view class.now))) }
+fn write_class<M: Marks>(pen: &mut Pen, marks: &M, class: &ClassNode) -> Result<(), AllocError>
+    ensures { IfOk result (λ _. WritesPieces pen.old pen.new (marked_class (M.marking marks.now) (class_view class.now))) }
 {
     pen.key(Keyword::Class)?;
     pen.name(&class.name)?;
     pen.sign(Sign::OpenBrace)?;
     pen.key(Keyword::Public)?;
     pen.sign(Sign::Colon)?;
-    write_members(pen, &class.members)?;
+    write_members(pen, marks, &class.members)?;
     pen.sign(Sign::CloseBrace)?;
     pen.sign(Sign::Semicolon)?;
     Ok(())
 }
 
 /// Writes members, one behind the other.
-fn write_members(pen: &mut Pen, members: &[Member]) -> Result<(), AllocError>
-    ensures { IfOk result (λ _. Writes pen.old pen.new (spell_members (map member_view members.now))) }
+fn write_members<M: Marks>(pen: &mut Pen, marks: &M, members: &[Member]) -> Result<(), AllocError>
+    ensures { IfOk result (λ _. WritesPieces pen.old pen.new (marked_members (M.marking marks.now) (map member_view members.now))) }
 {
     'members: for member in members {
-        write_member(pen, member)?;
+        write_member(pen, marks, member)?;
     }
     Ok(())
 }
 
 /// Writes classes, one behind the other.
-pub(crate) fn write_classes(pen: &mut Pen, classes: &[ClassNode]) -> Result<(), AllocError>
-    ensures { IfOk result (λ _. Writes pen.old pen.new (spell_classes (map class_view classes.now))) }
+pub(crate) fn write_classes<M: Marks>(
+    pen: &mut Pen,
+    marks: &M,
+    classes: &[ClassNode],
+) -> Result<(), AllocError>
+    ensures { IfOk result (λ _. WritesPieces pen.old pen.new (marked_classes (M.marking marks.now) (map class_view classes.now))) }
 {
     'classes: for class in classes {
-        write_class(pen, class)?;
+        write_class(pen, marks, class)?;
     }
     Ok(())
 }
@@ -139,7 +156,7 @@ fn returns_zero(s: &StmtNode) -> bool
 
 /// Whether the last of the statements is.
 fn ends_in_zero(items: &[StmtNode]) -> bool
-    ensures { result ≡ ends_in_zero false (statements_view items.now) }
+    ensures { result ≡ ends_in_zero (statements_view items.now) }
 {
     let mut last = false;
     for s in items {
@@ -149,15 +166,19 @@ fn ends_in_zero(items: &[StmtNode]) -> bool
 }
 
 /// Writes `main`, with its optional end where its last statement is `return` of the number 0.
-pub(crate) fn write_main(pen: &mut Pen, items: &[StmtNode]) -> Result<(), AllocError>
-    ensures { IfOk result (λ _. Writes pen.old pen.new (spell_main (statements_view items.now))) }
+pub(crate) fn write_main<M: Marks>(
+    pen: &mut Pen,
+    marks: &M,
+    items: &[StmtNode],
+) -> Result<(), AllocError>
+    ensures { IfOk result (λ _. WritesPieces pen.old pen.new (marked_main (M.marking marks.now) (statements_view items.now))) }
 {
     pen.key(Keyword::Int)?;
     pen.key(Keyword::Main)?;
     pen.sign(Sign::OpenParenthesis)?;
     pen.sign(Sign::CloseParenthesis)?;
     pen.sign(Sign::OpenBrace)?;
-    write_statements(pen, items)?;
+    write_statements(pen, marks, None, items)?;
     write_end(pen, ends_in_zero(items))?;
     pen.sign(Sign::CloseBrace)?;
     Ok(())

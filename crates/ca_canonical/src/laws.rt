@@ -1,11 +1,15 @@
-//! Laws of the canonical text.
+//! Laws of the canonical and of the annotated text.
 
-ghost use Rattle.std.specs.Prelude.{ℕ, List};
+ghost use Rattle.std.specs.Prelude.{◌≡◌, ℕ, List, [], Option};
+ghost use Rattle.ca_tree.specs.declared.name.Place.{Place};
 ghost use Rattle.ca_tree.specs.declared.token.Token.{Token};
-ghost use Rattle.ca_tree.specs.Plain.{TextTree};
+ghost use Rattle.ca_tree.specs.Plain.{TextTree, empty};
 ghost use Rattle.ca_lex.specs.Tokens.{Tokens};
 ghost use Rattle.ca_parse.specs.Grammar.{Derives};
-ghost use Rattle.ca_canonical.specs.Texts.{text_of};
+ghost use Rattle.ca_canonical.specs.Annotated.{annotated};
+ghost use Rattle.ca_canonical.specs.Marks.{Marking, no_marks, tokens, unmarked};
+ghost use Rattle.ca_canonical.specs.Erased.{Erased};
+ghost use Rattle.ca_canonical.specs.Texts.{text_of, text_of_pieces};
 ghost use Rattle.ca_canonical.specs.Spell.{spell};
 ghost use Rattle.ca_canonical.specs.ReadsBack.{DerivesLike};
 
@@ -14,4 +18,17 @@ ghost use Rattle.ca_canonical.specs.ReadsBack.{DerivesLike};
 pub fn canonical_text_reads_back()
     ensures tokens { (text : List ℕ) (ts : List Token) (t : TextTree) → Tokens text ts → Derives ts t → (us : List Token) × Tokens (text_of (spell t)) us }
     ensures tree { (text : List ℕ) (ts us : List Token) (t : TextTree) → Tokens text ts → Derives ts t → Tokens (text_of (spell t)) us → DerivesLike us t }
+{}
+
+/// Without its marks an annotated tree is its canonical tokens, and these are all of it where nothing
+/// is marked.
+pub fn annotated_trees_are_canonical()
+    ensures marked { (m : Marking) (t : TextTree) → unmarked (annotated m t) ≡ spell t }
+    ensures unmarked { (t : TextTree) → annotated no_marks t ≡ tokens (spell t) }
+{}
+
+/// The annotated text of a tree that the tokens of some text derive is, without its marks, the
+/// canonical text, where no mark stands before an empty statement.
+pub fn annotated_texts_are_erased()
+    ensures { (text : List ℕ) (ts : List Token) (t : TextTree) (m : Marking) → Tokens text ts → Derives ts t → ((body : Option Place) (at : Place) → m.before body (empty at) ≡ []) → Erased (text_of_pieces (annotated m t)) (text_of (spell t)) }
 {}

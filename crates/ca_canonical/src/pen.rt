@@ -3,14 +3,16 @@
 ghost use Rattle.std.specs.Prelude.{◌≡◌, ◌<◌, ◌^◌, [], ◌∷◌, ◌++◌, false, IfOk};
 ghost use Rattle.ca_tree.specs.declared.token.Kind.TheVariants.{Word, Number, Key, Sign as SignKind};
 ghost use Rattle.ca_canonical.specs.Texts.{depth_behind_sign, gap_behind, is_semicolon};
-ghost use Rattle.ca_canonical.specs.Pens.{Writes, put, waiting, whole};
+ghost use Rattle.ca_canonical.specs.Marks.{marks};
+ghost use Rattle.ca_canonical.specs.Pens.{Writes, WritesPieces, put, waiting, whole};
 
+use crate::marks::Mark;
 use ca_tree::{Keyword, Name, Sign};
 use itoa::Buffer;
 use std::alloc::{AllocError, Global};
 use std::marker::Model;
 
-/// The text of some tokens, and what decides on the byte behind the last of them.
+/// The text of some pieces, and what decides on the byte behind the last of them.
 #[derive(Drop)]
 pub(crate) struct Pen {
     text: Vec<u8>,
@@ -88,7 +90,7 @@ impl Pen {
         Ok(())
     }
 
-    /// Writes a token of this text, a `;` or not, and the byte behind it unless it waits.
+    /// Writes a piece of this text, a `;` or not, and the byte behind it unless it waits.
     fn put(&mut self, semicolon: bool, text: &[u8], gap: Option<u8>) -> Result<(), AllocError>
         ensures { IfOk result (λ _. self.new ≡ put semicolon text.now gap self.old) }
     {
@@ -133,6 +135,24 @@ impl Pen {
         let gap = gap_behind(self.depth, sign);
         self.put(is_semicolon(sign), sign.text().as_bytes(), gap)?;
         self.depth = depth_behind(self.depth, sign);
+        Ok(())
+    }
+
+    /// Writes a mark.
+    fn mark(&mut self, mark: Mark) -> Result<(), AllocError>
+        ensures { IfOk result (λ _. WritesPieces self.old self.new (marks (mark ∷ []))) }
+    {
+        self.put(false, mark.text().as_bytes(), Some(b' '))?;
+        Ok(())
+    }
+
+    /// Writes marks.
+    pub fn marks(&mut self, all: &[Mark]) -> Result<(), AllocError>
+        ensures { IfOk result (λ _. WritesPieces self.old self.new (marks all.now)) }
+    {
+        'marks: for one in all {
+            self.mark(*one)?;
+        }
         Ok(())
     }
 

@@ -2,12 +2,14 @@
 
 ghost use Rattle.std.specs.Prelude.{IfOk};
 ghost use Rattle.ca_tree.specs.View.{expression_view, right_view, statement_view, statements_view};
-ghost use Rattle.ca_canonical.specs.Spell.{condition, ended, spell_expression, spell_for, spell_header, spell_right, spell_statement, spell_statements, spell_type};
-ghost use Rattle.ca_canonical.specs.Pens.{Writes};
+ghost use Rattle.ca_canonical.specs.Annotated.{marked, marked_all};
+ghost use Rattle.ca_canonical.specs.Spell.{condition, ended, spell_expression, spell_for, spell_header, spell_line, spell_right, spell_type};
+ghost use Rattle.ca_canonical.specs.Pens.{Writes, WritesPieces};
 
 use crate::expressions::write_expression;
+use crate::marks::Marks;
 use crate::pen::Pen;
-use ca_tree::{ExprNode, Keyword, Right, Sign, StmtKind, StmtNode, TypeNode};
+use ca_tree::{ExprNode, Keyword, Place, Right, Sign, StmtKind, StmtNode, TypeNode};
 use std::alloc::AllocError;
 
 /// Writes a type.
@@ -117,41 +119,14 @@ fn write_for(
     Ok(())
 }
 
-/// Writes a statement.
-#[cycle(statement)]
-fn write_statement(pen: &mut Pen, s: &StmtNode) -> Result<(), AllocError>
-    ensures { IfOk result (λ _. Writes pen.old pen.new (spell_statement (statement_view s.now))) }
+/// Writes a statement with no other inside, and nothing of one with others.
+fn write_line(pen: &mut Pen, s: &StmtNode) -> Result<(), AllocError>
+    ensures { IfOk result (λ _. Writes pen.old pen.new (spell_line (statement_view s.now))) }
 {
     match &s.kind {
         StmtKind::Empty => pen.sign(Sign::Semicolon)?,
-        StmtKind::Block(items) => {
-            pen.sign(Sign::OpenBrace)?;
-            write_statements(pen, items)?;
-            pen.sign(Sign::CloseBrace)?;
-        }
         StmtKind::Local { .. } | StmtKind::Assign { .. } => write_ended_header(pen, s)?,
         StmtKind::Call(e) => write_ended(pen, e)?,
-        StmtKind::If { cond, yes, no } => {
-            write_condition(pen, Keyword::If, cond)?;
-            write_statement(pen, yes)?;
-            if let Some(no) = no {
-                pen.key(Keyword::Else)?;
-                write_statement(pen, no)?;
-            }
-        }
-        StmtKind::While { cond, body } => {
-            write_condition(pen, Keyword::While, cond)?;
-            write_statement(pen, body)?;
-        }
-        StmtKind::For {
-            first,
-            cond,
-            next,
-            body,
-        } => {
-            write_for(pen, first, cond, next)?;
-            write_statement(pen, body)?;
-        }
         StmtKind::Return(e) => {
             pen.key(Keyword::Return)?;
             write_ended(pen, e)?;
@@ -160,17 +135,71 @@ fn write_statement(pen: &mut Pen, s: &StmtNode) -> Result<(), AllocError>
             write_condition(pen, Keyword::Print, e)?;
             pen.sign(Sign::Semicolon)?;
         }
+        _ => {}
     }
     Ok(())
 }
 
-/// Writes statements, one behind the other.
+/// Writes a statement of a body behind the marks before it.
 #[cycle(statement)]
-pub(crate) fn write_statements(pen: &mut Pen, items: &[StmtNode]) -> Result<(), AllocError>
-    ensures { IfOk result (λ _. Writes pen.old pen.new (spell_statements (statements_view items.now))) }
+fn write_statement<M: Marks>(
+    pen: &mut Pen,
+    marks: &M,
+    body: Option<Place>,
+    s: &StmtNode,
+) -> Result<(), AllocError>
+    ensures { IfOk result (λ _. WritesPieces pen.old pen.new (marked ((M.marking marks.now).before body) (statement_view s.now))) }
+{
+    pen.marks(marks.before(body, s))?;
+    match &s.kind {
+        StmtKind::Block(items) => {
+            pen.sign(Sign::OpenBrace)?;
+            write_statements(pen, marks, body, items)?;
+            pen.sign(Sign::CloseBrace)?;
+        }
+        StmtKind::If { cond, yes, no } => {
+            write_condition(pen, Keyword::If, cond)?;
+            write_statement(pen, marks, body, yes)?;
+            if let Some(no) = no {
+                pen.key(Keyword::Else)?;
+                write_statement(pen, marks, body, no)?;
+            }
+        }
+        StmtKind::While { cond, body: turn } => {
+            write_condition(pen, Keyword::While, cond)?;
+            write_statement(pen, marks, body, turn)?;
+        }
+        StmtKind::For {
+            first,
+            cond,
+            next,
+            body: turn,
+        } => {
+            write_for(pen, first, cond, next)?;
+            write_statement(pen, marks, body, turn)?;
+        }
+        StmtKind::Empty => write_line(pen, s)?,
+        StmtKind::Local { .. } => write_line(pen, s)?,
+        StmtKind::Assign { .. } => write_line(pen, s)?,
+        StmtKind::Call(_) => write_line(pen, s)?,
+        StmtKind::Return(_) => write_line(pen, s)?,
+        StmtKind::Print(_) => write_line(pen, s)?,
+    }
+    Ok(())
+}
+
+/// Writes statements of a body, one behind the other, each behind its marks.
+#[cycle(statement)]
+pub(crate) fn write_statements<M: Marks>(
+    pen: &mut Pen,
+    marks: &M,
+    body: Option<Place>,
+    items: &[StmtNode],
+) -> Result<(), AllocError>
+    ensures { IfOk result (λ _. WritesPieces pen.old pen.new (marked_all ((M.marking marks.now).before body) (statements_view items.now))) }
 {
     'items: for s in items {
-        write_statement(pen, s)?;
+        write_statement(pen, marks, body, s)?;
     }
     Ok(())
 }

@@ -10,7 +10,7 @@ use Rattle.atomic_table.proofs.Lists.{at_set, set_here, set_else, at_snoc, at_lo
 use Rattle.ca_meaning.specs.Multisets.{weight}
 use Rattle.ca_order_laws.proofs.Weights.{weight_append}
 use Rattle.ca_logs.specs.declared.log.CellLog.{CellLog}
-use Rattle.ca_cells.specs.Rounds.{IsLegal}
+use Rattle.ca_cells.specs.Rounds.{IsRound, IsLegal}
 use Rattle.ca_cells.specs.Notes.{IsNoted, IsKept, place_weight, below}
 use Rattle.ca_cells.specs.Rule.{cut, fresh_seat, spent, joined, noted_weight, has_cell, out_weight, only, Knows, Ruled}
 use Rattle.ca_cells.specs.declared.rule.Note.{Note}
@@ -130,3 +130,7 @@ closes given ws xs id v is_boss none_out none_held fin i l = let s : St = fin.0 
 pub closes_inside : (given : Given) (ws : List ℕ) (xs : List Slot) (id : ℕ) (v : View) → Final (Seen (Ruled given) id v) ws xs → All (λ (note : Note). note.cell < length xs) v.noted
 closes_inside given ws xs id v fin = let s : St = fin.0 in let o : Ruled given s = fin.1.0 in let e = fin.3 in
     All-weaker (Noted given o.logs (length s.homes)) (λ (note : Note). note.cell < length xs) (λ note h. let l = h.0 in omega arith) v.noted (o.each id v fin.1.1).noted
+
+-- the round can be run
+pub closes_round : (given : Given) (ws : List ℕ) (xs : List Slot) (id : ℕ) (v : View) → Final (Seen (Ruled given) id v) ws xs → IsRound given
+closes_round given ws xs id v fin = let o : Ruled given fin.0 = fin.1.0 in o.round

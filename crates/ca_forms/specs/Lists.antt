@@ -1,5 +1,5 @@
 -- Lists of products as a polynomial, of powers as a monomial, of forms as arguments, and how deep each is.
-use Rattle.std.specs.Prelude.{ℕ, ◌+◌, ◌≤◌, List, [], ◌∷◌}
+use Rattle.std.specs.Prelude.{ℕ, ◌+◌, ◌≤◌, List, [], ◌∷◌, length, max}
 use Rattle.std.proofs.Common.{arith}
 use Rattle.std.specs.Coded.{Coded, coded×, coded_ℕ}
 use denote.Param.Weighed.{most}
@@ -26,6 +26,11 @@ polynomial_of (p ∷ ps) = product_and p.0 p.1 (polynomial_of ps)
 abbrev pub products_of : PlainPolynomial → List (PlainMonomial × ℕ)
 products_of no_products = []
 products_of (product_and m c f) = (m, c) ∷ products_of f
+
+-- how many powers the monomial has that has the most of them
+abbrev pub longest : PlainPolynomial → ℕ
+longest no_products = 0
+longest (product_and m c f) = max (length (powers_of m)) (longest f)
 
 abbrev pub scalars_of : List PlainScalar → PlainScalars
 scalars_of [] = no_scalars

@@ -18,26 +18,73 @@ impl Part {
     {
         match &self.node {
             Node::Variable(s, g, n) => Ok(Node::Variable(*s, *g, *n).part()),
+            Node::Less(_, _) | Node::Zero(_) | Node::Quotient(_, _) | Node::Modulus(_, _) =>
+                self.copy_operation(alloc),
+            Node::SamePointer(_, _) => self.copy_equation(alloc),
+            Node::Field(_, _, _, _) | Node::Item(_, _, _, _, _) => self.copy_read(alloc),
+            Node::Result(_, _, _, _) => self.copy_result(alloc),
+        }
+    }
+
+    /// A comparison of numbers or a division once more. Each kind has a function of its own, so that `copy`, which
+    /// recurses, keeps no parts in its frame.
+    #[cycle(copy)]
+    #[inline(never)]
+    fn copy_operation(&self, alloc: Global) -> Result<Part, AllocError>
+        ensures { IfOk result (λ p. p ≡ self.now) }
+    {
+        match &self.node {
             Node::Less(a, b) => {
                 let (first, second) = both(a.copy(alloc), b.copy(alloc))?;
                 Ok(Node::Less(first, second).part())
             }
             Node::Zero(a) => Ok(Node::Zero(a.copy(alloc)?).part()),
+            Node::Quotient(a, n) => Ok(Node::Quotient(a.copy(alloc)?, *n).part()),
+            Node::Modulus(a, n) => Ok(Node::Modulus(a.copy(alloc)?, *n).part()),
+            _ => Err(AllocError),
+        }
+    }
+
+    #[cycle(copy)]
+    #[inline(never)]
+    fn copy_equation(&self, alloc: Global) -> Result<Part, AllocError>
+        ensures { IfOk result (λ p. p ≡ self.now) }
+    {
+        match &self.node {
             Node::SamePointer(p, q) => {
                 let (first, second) = both(p.copy(alloc), q.copy(alloc))?;
                 Ok(Node::SamePointer(first, second).part())
             }
-            Node::Quotient(a, n) => Ok(Node::Quotient(a.copy(alloc)?, *n).part()),
-            Node::Modulus(a, n) => Ok(Node::Modulus(a.copy(alloc)?, *n).part()),
+            _ => Err(AllocError),
+        }
+    }
+
+    #[cycle(copy)]
+    #[inline(never)]
+    fn copy_read(&self, alloc: Global) -> Result<Part, AllocError>
+        ensures { IfOk result (λ p. p ≡ self.now) }
+    {
+        match &self.node {
             Node::Field(s, p, c, f) => Ok(Node::Field(*s, p.copy(alloc)?, *c, *f).part()),
             Node::Item(s, p, c, f, i) => {
                 let (object, index) = both(p.copy(alloc), i.copy(alloc))?;
                 Ok(Node::Item(*s, object, *c, *f, index).part())
             }
+            _ => Err(AllocError),
+        }
+    }
+
+    #[cycle(copy)]
+    #[inline(never)]
+    fn copy_result(&self, alloc: Global) -> Result<Part, AllocError>
+        ensures { IfOk result (λ p. p ≡ self.now) }
+    {
+        match &self.node {
             Node::Result(s, m, p, xs) => {
                 let (receiver, args) = both(p.copy(alloc), xs.copy(alloc))?;
                 Ok(Node::Result(*s, *m, receiver, args).part())
             }
+            _ => Err(AllocError),
         }
     }
 }

@@ -6,6 +6,7 @@ ghost use Rattle.std.specs.Prelude.{◌≡◌, ◌++◌, ◌∷◌, [], Ok, IfOk
 use std::alloc::{AllocError, Global};
 
 /// The part in a box.
+#[inline(never)]
 pub fn one_box<T: Drop>(alloc: Global, part: Result<T, AllocError>) -> Result<Box<T>, AllocError>
     ensures { IfOk result (λ b. part ≡ Ok (box_value b)) }
 {
@@ -14,6 +15,7 @@ pub fn one_box<T: Drop>(alloc: Global, part: Result<T, AllocError>) -> Result<Bo
 }
 
 /// Both, or what is missing.
+#[inline(never)]
 pub fn both<T: Drop, U: Drop>(
     first: Result<T, AllocError>,
     second: Result<U, AllocError>,
@@ -27,6 +29,7 @@ pub fn both<T: Drop, U: Drop>(
 }
 
 /// Each of the two in a box.
+#[inline(never)]
 pub fn two_boxes<T: Drop>(
     alloc: Global,
     first: Result<T, AllocError>,
@@ -41,6 +44,7 @@ pub fn two_boxes<T: Drop>(
 }
 
 /// Each of the three in a box.
+#[inline(never)]
 pub fn three_boxes<T: Drop>(
     alloc: Global,
     first: Result<T, AllocError>,
@@ -58,6 +62,7 @@ pub fn three_boxes<T: Drop>(
 }
 
 /// The items and one more behind them.
+#[inline(never)]
 pub fn longer<T: Drop>(items: Vec<T>, item: T) -> Result<Vec<T>, AllocError>
     ensures { IfOk result (λ v. v.items ≡ items.items ++ item ∷ []) }
 {

@@ -1,9 +1,9 @@
 //! Normal forms of numbers, truth values and pointers: their types. Each stands in parts of others, so functions
 //! on them recurse as deep as they nest.
 
-ghost use Rattle.std.specs.Prelude.{◌≡◌};
+ghost use Rattle.std.specs.Prelude.{◌≡◌, length};
 ghost use Rattle.ca_forms.specs.Plain.{number_form, truth_form, pointer_form, no_object};
-ghost use Rattle.ca_forms.specs.Lists.{scalars_of};
+ghost use Rattle.ca_forms.specs.Lists.{longest, polynomial_of, powers_of, scalars_of};
 ghost use Rattle.ca_forms.specs.Seen.{part_of, pointer_of, scalar_of};
 
 use crate::sort::Sort;
@@ -314,5 +314,33 @@ impl Scalars {
         ensures { result ≡ scalars_of items.items }
     {
         Scalars { items }
+    }
+}
+
+impl Polynomial {
+    /// How many powers the monomial has that has the most of them.
+    pub fn longest(&self) -> usize
+        ensures { result ≡ longest self.now }
+    {
+        longest_of(&self.products)
+    }
+}
+
+fn longest_of(products: &[Product]) -> usize
+    ensures { result ≡ longest (polynomial_of products.now) }
+{
+    let mut most = 0;
+    for product in products {
+        most = most.max(product.monomial.count());
+    }
+    most
+}
+
+impl Monomial {
+    /// How many powers it has.
+    fn count(&self) -> usize
+        ensures { result ≡ length (powers_of self.now) }
+    {
+        self.powers.len()
     }
 }

@@ -1,5 +1,5 @@
 -- The program of a generated text.
-use Rattle.std.proofs.Common.{◌≡◌, ℕ, ◌≤◌, true, false, List, [], ◌∷◌, ◌++◌, map, refl, ap, ◌∙◌, append_assoc, arith}
+use Rattle.std.proofs.Common.{◌≡◌, ℕ, ◌≤◌, true, false, List, [], ◌∷◌, ◌++◌, map, refl, ap, ◌∙◌, arith}
 use Rattle.std.specs.Prelude.{Some, None, pos, codes, int_lt, int_le}
 use Rattle.std.proofs.lemmas.Bool.{lt-leb, le-ltb}
 use Rattle.ca_tree.specs.declared.token.Token.{Token}
@@ -15,7 +15,7 @@ use Rattle.ca_program.specs.declared.program.ValueType.TheVariants.{Long as Long
 use Rattle.ca_program.specs.declared.program.FirstPart.TheVariants.{Declares}
 use Rattle.ca_program.specs.Plain.{PlainProgram, PlainClass, PlainMethod, Statement, Statements, number, truth, local, own, own_item, read_item, unary, binary, no_expressions, expression_and, block, put_local, put_field, new_local, new_item, invoke, if_else, for_loop, no_statements, statement_and}
 use Rattle.ca_parse.specs.Grammar.{statements}
-use Rattle.ca_resolve.specs.Judged.{fine, both, within}
+use Rattle.ca_resolve.specs.Judged.{Judged, fine, both, within}
 use Rattle.ca_types.specs.Statements.{Env, behind, behind_all, judge_statements, statements_in}
 use Rattle.ca_types.specs.Classes.{Parts, first_class, judge_classes, main_begin, program_of, judge}
 use Rattle.ca_resolve.specs.Scopes.{classes_of}
@@ -155,14 +155,16 @@ module _ (size : ℕ) (a b f : ℕ → Token) (links : List Link) (h : ℕ → T
   abbrev within_main : Env
   within_main = behind (main_begin whole) (begin_tree f)
 
-  links_fine : (xs : List Link) (front : List Statement)
-      → judge_statements within_main (fine front) (statements (map link_tree xs ++ visit_tree h ∷ [])) ≡ fine (front ++ (map link_plain xs ++ visit_plain h ∷ []))
-  links_fine [] front = refl
-  links_fine (x ∷ xs) front =
-      links_fine xs (front ++ link_plain x ∷ []) ∙ ap (λ z. fine z) (append_assoc front (link_plain x ∷ []) (map link_plain xs ++ visit_plain h ∷ []))
+  -- statements behind one that is judged so
+  abbrev behind_one : Statement → Judged (List Statement) → Judged (List Statement)
+  behind_one x j = within (both (fine x) j) (λ (p : Statement × List Statement). fine (p.0 ∷ p.1))
 
-  main_fine : judge_statements (main_begin whole) (fine []) whole.main ≡ fine (main_plain f links h)
-  main_fine = links_fine links (begin_plain f ∷ fill_plain f ∷ [])
+  links_fine : (xs : List Link) → judge_statements within_main (statements (map link_tree xs ++ visit_tree h ∷ [])) ≡ fine (map link_plain xs ++ visit_plain h ∷ [])
+  links_fine [] = refl
+  links_fine (x ∷ xs) = ap (behind_one (link_plain x)) (links_fine xs)
+
+  main_fine : judge_statements (main_begin whole) whole.main ≡ fine (main_plain f links h)
+  main_fine = ap (λ j. behind_one (begin_plain f) (behind_one (fill_plain f) j)) (links_fine links)
 
   links_keep : (xs : List Link) → (behind_all within_main (statements (map link_tree xs ++ visit_tree h ∷ []))).locals ≡ PointerType table ∷ []
   links_keep [] = refl
@@ -171,6 +173,6 @@ module _ (size : ℕ) (a b f : ℕ → Token) (links : List Link) (h : ℕ → T
   pub text_resolves : 1 ≤ size → size ≤ 20000 → judge whole ≡ fine (the_program size a b (statements_in (main_plain f links h)))
   text_resolves least most =
       let main = statements_in (main_plain f links h) in
-      ap (λ j. within (both j (judge_statements (main_begin whole) (fine []) whole.main)) (λ p. fine (program_of (behind_all (main_begin whole) whole.main).locals p))) (classes_fine size a b least most)
+      ap (λ j. within (both j (judge_statements (main_begin whole) whole.main)) (λ p. fine (program_of (behind_all (main_begin whole) whole.main).locals p))) (classes_fine size a b least most)
       ∙ ap (λ j. within (both (fine (parts size a b)) j) (λ p. fine (program_of (behind_all (main_begin whole) whole.main).locals p))) main_fine
       ∙ ap (λ l. fine (program_of l (parts size a b, main_plain f links h))) (links_keep links)

@@ -4,7 +4,7 @@ use Rattle.ca_tree.specs.declared.token.Token.{Token}
 use Rattle.ca_tree.specs.Plain.{TextTree}
 use Rattle.ca_program.specs.Plain.{PlainProgram}
 use Rattle.ca_lex.specs.Tokens.{Tokens}
-use Rattle.ca_lex.specs.Faults.{most_tokens}
+use Rattle.ca_lex.specs.declared.TheConstants.{MOST_TOKENS}
 use Rattle.ca_parse.specs.Grammar.{DerivesWithin}
 use Rattle.ca_resolve.specs.Judged.{fine}
 use Rattle.ca_types.specs.Classes.{judge}
@@ -17,7 +17,7 @@ pub record RunsWithin (most_bytes budget : ℕ) (text : List ℕ) : Type 0 where
   pub short : length text ≤ most_bytes
   pub tokens : List Token
   pub lexed : Tokens text tokens
-  pub few : length tokens ≤ most_tokens
+  pub few : length tokens ≤ MOST_TOKENS
   pub tree : TextTree
   pub derived : DerivesWithin tokens tree
   pub program : PlainProgram

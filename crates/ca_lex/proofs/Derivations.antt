@@ -7,7 +7,8 @@ use Rattle.ca_lex.specs.Places.{advance}
 use Rattle.ca_lex.specs.Pieces.{Piece, piece_of, blank_of, comment_of, token_of, too_great, letter_behind, refused}
 use Rattle.ca_lex.specs.Tokens.{TokensFrom, at_end, blank, comment, token}
 use Rattle.ca_lex.specs.Faults as fault
-use Rattle.ca_lex.specs.Faults.{FaultFrom, Refusal, bad_byte, wide_number, token_limit, most_tokens}
+use Rattle.ca_lex.specs.declared.TheConstants.{MOST_TOKENS}
+use Rattle.ca_lex.specs.Faults.{FaultFrom, Refusal, bad_byte, wide_number, token_limit}
 
 -- what is left to derive behind the piece
 abbrev pub Behind : Place → ℕ → List ℕ → List Token → Piece → Type 0
@@ -36,7 +37,7 @@ one_list {p = p} {n = n} {s = s} (token {k = k} {x = x} e d) b f =
 
 -- the two cases of a token and of digits with a letter behind them: A is what stands below the limit
 abbrev Counted : Place → ℕ → Place → Refusal → Type 0 → Type 0
-Counted p n q f A = ((n < most_tokens) × A) ⊎ ((most_tokens ≤ n) × (q ≡ p) × (f ≡ token_limit))
+Counted p n q f A = ((n < MOST_TOKENS) × A) ⊎ ((MOST_TOKENS ≤ n) × (q ≡ p) × (f ≡ token_limit))
 
 -- what is left to refuse behind the piece, or is refused here
 abbrev pub Refuses : Place → ℕ → List ℕ → Place → Refusal → Piece → Type 0
@@ -60,11 +61,11 @@ refuses {p = p} {q = q} {n = n} {s = s} {f = f} (fault.bad e) = subst (Refuses p
 abbrev Same : Place → Refusal → Place → Refusal → Type 0
 Same p f q g = (p ≡ q) × (f ≡ g)
 
-below : {p q : Place} {n : ℕ} {f : Refusal} (A : Type 0) → n < most_tokens → Counted p n q f A → A
+below : {p q : Place} {n : ℕ} {f : Refusal} (A : Type 0) → n < MOST_TOKENS → Counted p n q f A → A
 below A h (inl a) = a.1
 below A h (inr b) = absurd (omega (arith, h, b.0))
 
-above : {p q : Place} {n : ℕ} {f : Refusal} (A : Type 0) → most_tokens ≤ n → Counted p n q f A → (q ≡ p) × (f ≡ token_limit)
+above : {p q : Place} {n : ℕ} {f : Refusal} (A : Type 0) → MOST_TOKENS ≤ n → Counted p n q f A → (q ≡ p) × (f ≡ token_limit)
 above A h (inl a) = absurd (omega (arith, h, a.0))
 above A h (inr b) = (b.1, b.2)
 
@@ -94,7 +95,7 @@ one_fault {p = p} {n = n} (fault.bad {b = b} {s = s} e) r g h =
     (sym o.0, sym o.1)
 
 -- bytes in which something is refused have no tokens within the limit
-pub no_tokens : {p q : Place} {n : ℕ} {s : List ℕ} {f : Refusal} → FaultFrom p n s q f → (m : ℕ) (ts : List Token) → TokensFrom p m s ts → n + length ts ≤ most_tokens → ⊥
+pub no_tokens : {p q : Place} {n : ℕ} {s : List ℕ} {f : Refusal} → FaultFrom p n s q f → (m : ℕ) (ts : List Token) → TokensFrom p m s ts → n + length ts ≤ MOST_TOKENS → ⊥
 no_tokens {p = p} {s = s} (fault.blank e d) m ts t few = no_tokens d _ ts (subst (Behind p m s ts) e (behind t)) few
 no_tokens {p = p} {s = s} (fault.comment e d) m ts t few = no_tokens d _ ts (subst (Behind p m s ts) e (behind t)) few
 no_tokens {p = p} {s = s} (fault.token {k = k} {x = x} e h d) m ts t few =

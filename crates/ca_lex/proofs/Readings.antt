@@ -7,7 +7,8 @@ use Rattle.ca_lex.specs.Places.{advance}
 use Rattle.ca_lex.specs.Pieces.{piece_of, blank_of, comment_of, token_of, refused}
 use Rattle.ca_lex.specs.Tokens.{Tokens, TokensFrom, at_end, blank, comment, token}
 use Rattle.ca_lex.specs.Faults as fault
-use Rattle.ca_lex.specs.Faults.{LexFault, FaultFrom, Refusal, bad_byte, wide_number, token_limit, most_tokens}
+use Rattle.ca_lex.specs.declared.TheConstants.{MOST_TOKENS}
+use Rattle.ca_lex.specs.Faults.{LexFault, FaultFrom, Refusal, bad_byte, wide_number, token_limit}
 use Rattle.ca_lex.proofs.Sizes.{blank_size, comment_size, token_size}
 
 -- The tokens of the text are those that are out and then those of the bytes s, which begin at the place p and the number
@@ -22,7 +23,7 @@ past_blank k r e = record { reads = λ us d. r.reads us (blank e d); refuses = �
 pub past_comment : {text s : List ℕ} {out : List Token} {p : Place} {n : ℕ} (k : ℕ) → Reading text out p n s → piece_of s ≡ comment_of k → Reading text out (advance p (take k s)) (n + k) (drop k s)
 past_comment k r e = record { reads = λ us d. r.reads us (comment e d); refuses = λ q f d. r.refuses q f (fault.comment e d) }
 
-pub past_token : {text s : List ℕ} {out : List Token} {p : Place} {n : ℕ} (k : ℕ) (x : Kind) → Reading text out p n s → piece_of s ≡ token_of k x → length out < most_tokens → Reading text (out ++ record { kind = x; at = p; start = n; len = k } ∷ []) (advance p (take k s)) (n + k) (drop k s)
+pub past_token : {text s : List ℕ} {out : List Token} {p : Place} {n : ℕ} (k : ℕ) (x : Kind) → Reading text out p n s → piece_of s ≡ token_of k x → length out < MOST_TOKENS → Reading text (out ++ record { kind = x; at = p; start = n; len = k } ∷ []) (advance p (take k s)) (n + k) (drop k s)
 past_token {text = text} {s = s} {out = out} {p = p} {n = n} k x r e few =
     let t : Token = record { kind = x; at = p; start = n; len = k } in
     record {
@@ -34,16 +35,16 @@ past_token {text = text} {s = s} {out = out} {p = p} {n = n} k x r e few =
 pub record Passed (text : List ℕ) (out : List Token) (p : Place) (n : ℕ) (s : List ℕ) (k : ℕ) : Type 0 where
   pub some : 0 < k
   pub fits : k ≤ length s
-  pub few : length out ≤ most_tokens
+  pub few : length out ≤ MOST_TOKENS
   pub reading : Reading text out (advance p (take k s)) (n + k) (drop k s)
 
-pub passed_blank : {text s : List ℕ} {out : List Token} {p : Place} {n : ℕ} (k : ℕ) → Reading text out p n s → piece_of s ≡ blank_of k → length out ≤ most_tokens → Passed text out p n s k
+pub passed_blank : {text s : List ℕ} {out : List Token} {p : Place} {n : ℕ} (k : ℕ) → Reading text out p n s → piece_of s ≡ blank_of k → length out ≤ MOST_TOKENS → Passed text out p n s k
 passed_blank {s = s} k r e few = let size = blank_size s e in record { some = size.0; fits = size.1; few = few; reading = past_blank k r e }
 
-pub passed_comment : {text s : List ℕ} {out : List Token} {p : Place} {n : ℕ} (k : ℕ) → Reading text out p n s → piece_of s ≡ comment_of k → length out ≤ most_tokens → Passed text out p n s k
+pub passed_comment : {text s : List ℕ} {out : List Token} {p : Place} {n : ℕ} (k : ℕ) → Reading text out p n s → piece_of s ≡ comment_of k → length out ≤ MOST_TOKENS → Passed text out p n s k
 passed_comment {s = s} k r e few = let size = comment_size s e in record { some = size.0; fits = size.1; few = few; reading = past_comment k r e }
 
-pub passed_token : {text s : List ℕ} {out : List Token} {p : Place} {n : ℕ} (k : ℕ) (x : Kind) → Reading text out p n s → piece_of s ≡ token_of k x → length out < most_tokens → Passed text (out ++ record { kind = x; at = p; start = n; len = k } ∷ []) p n s k
+pub passed_token : {text s : List ℕ} {out : List Token} {p : Place} {n : ℕ} (k : ℕ) (x : Kind) → Reading text out p n s → piece_of s ≡ token_of k x → length out < MOST_TOKENS → Passed text (out ++ record { kind = x; at = p; start = n; len = k } ∷ []) p n s k
 passed_token {s = s} {out = out} {p = p} {n = n} k x r e few =
     let size = token_size s e in
     let more = length-append out (record { kind = x; at = p; start = n; len = k } ∷ []) in

@@ -6,7 +6,8 @@ ghost use Rattle.ca_tree.specs.declared.token.Kind.{Kind};
 ghost use Rattle.ca_tree.specs.declared.token.Token.{Token};
 ghost use Rattle.ca_lex.specs.Pieces.{piece_of, token_of};
 ghost use Rattle.ca_lex.specs.Tokens.{Tokens};
-ghost use Rattle.ca_lex.specs.Faults.{LexFault, Refusal, most_tokens};
+ghost use Rattle.ca_lex.specs.declared.TheConstants.{MOST_TOKENS};
+ghost use Rattle.ca_lex.specs.Faults.{LexFault, Refusal};
 
 /// A text has one list of tokens.
 pub fn one_list_of_tokens()
@@ -23,7 +24,7 @@ pub fn one_refusal()
 /// exactly where there are some within the limit, and a refusal exactly where it stands, unless
 /// memory runs out.
 pub fn refused_texts_have_no_tokens()
-    ensures { (text : List ℕ) (p : Place) (f : Refusal) (ts : List Token) → LexFault text p f → Tokens text ts → length ts ≤ most_tokens → ⊥ }
+    ensures { (text : List ℕ) (p : Place) (f : Refusal) (ts : List Token) → LexFault text p f → Tokens text ts → length ts ≤ MOST_TOKENS → ⊥ }
 {}
 
 /// At each place the longest token is taken: its bytes are that token by themselves, and no front

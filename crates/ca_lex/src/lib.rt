@@ -21,7 +21,7 @@ ghost use Rattle.ca_tree.specs.declared.token.Token.{Token};
 ghost use Rattle.ca_lex.specs.declared.LexError.TheVariants.{BadByte, WideNumber, Limit, Memory};
 ghost use Rattle.ca_lex.specs.Places.{advance, start};
 ghost use Rattle.ca_lex.specs.Tokens.{Tokens};
-ghost use Rattle.ca_lex.specs.Faults.{LexFault, bad_byte, most_tokens, token_limit, wide_number};
+ghost use Rattle.ca_lex.specs.Faults.{LexFault, bad_byte, token_limit, wide_number};
 
 use crate::front::{Front, front_of};
 use crate::place::{START, place_behind};
@@ -74,7 +74,7 @@ impl<T: Drop> From<AllocFailed<T>> for LexError {
 pub fn lex(alloc: Global, text: &[u8]) -> Result<Vec<Token>, LexError>
     requires { length text.now ≤ LONGEST_TEXT }
     ensures tokens { IfOk result (λ v. Tokens text.now v.items) }
-    ensures few { IfOk result (λ v. length v.items ≤ most_tokens) }
+    ensures few { IfOk result (λ v. length v.items ≤ MOST_TOKENS) }
     ensures bad_byte { (p : Place) → result ≡ Err (BadByte p) → LexFault text.now p bad_byte }
     ensures wide_number { (p : Place) → result ≡ Err (WideNumber p) → LexFault text.now p wide_number }
     ensures limit { (p : Place) → result ≡ Err (Limit p) → LexFault text.now p token_limit }

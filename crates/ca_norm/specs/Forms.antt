@@ -78,6 +78,15 @@ part_of (result sort m p ts) = result_of sort m (pointer_of p) (arguments_of ts)
 part_of t = variable Long 0 0
 
 -- Kinds of terms that are brought into their form by a function of their own.
+abbrev pub is_linear : PlainTerm → Bool
+is_linear (number n) = true
+is_linear (truth b) = true
+is_linear (add a b) = true
+is_linear (sub a b) = true
+is_linear (neg a) = true
+is_linear (not a) = true
+is_linear t = false
+
 abbrev pub is_product : PlainTerm → Bool
 is_product (mul a b) = true
 is_product (and a b) = true

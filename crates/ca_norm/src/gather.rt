@@ -6,7 +6,7 @@ ghost use Rattle.ca_forms.specs.Lists.{products_of};
 ghost use Rattle.ca_norm.specs.Terms.{shape, terms_of};
 ghost use Rattle.ca_forms.specs.Plain.{pointer_part};
 ghost use Rattle.ca_forms.specs.Rules.{alone, gathered};
-ghost use Rattle.ca_norm.specs.Forms.{expand, expand_if, is_product, is_comparison, is_equation, is_choice, is_division, part_of, pointer_of, scalar_of, arguments_of};
+ghost use Rattle.ca_norm.specs.Forms.{expand, expand_if, is_linear, is_product, is_comparison, is_equation, is_choice, is_division, part_of, pointer_of, scalar_of, arguments_of};
 
 use crate::term::Term;
 use ca_forms::Sort;
@@ -36,14 +36,42 @@ fn add_term(
     ensures added { OnOk result (AddsSum form.old.entries form.new.entries factor (expand (shape term.now))) }
 {
     match term {
-        Term::Number(n) => {
-            add_number(alloc, form, n.cast_unsigned(), factor)?;
-            Ok(())
-        }
-        Term::Truth(b) => {
-            add_truth(alloc, form, *b, factor)?;
-            Ok(())
-        }
+        Term::Number(_) | Term::Truth(_) | Term::Add(_, _) | Term::Sub(_, _) => add_linear(
+            alloc, form, term, factor,
+        ),
+        Term::Neg(_) | Term::Not(_) => add_linear(alloc, form, term, factor),
+        Term::Mul(_, _) | Term::And(_, _) | Term::Or(_, _) => add_multiplied(
+            alloc, form, term, factor,
+        ),
+        Term::Less(_, _) | Term::LessEqual(_, _) => add_compared(alloc, form, term, factor),
+        Term::Same(_, _) => add_equated(alloc, form, term, factor),
+        Term::Choose(_, _, _) => add_choice(alloc, form, term, factor),
+        Term::Divide(_, _) | Term::Remainder(_, _) => add_divided(alloc, form, term, factor),
+        Term::Atom(_, _, _) | Term::Read(_, _, _, _) => add_own_part(alloc, form, term, factor),
+        Term::ReadAt(_, _, _, _, _) | Term::Result(_, _, _, _) => add_own_part(
+            alloc, form, term, factor,
+        ),
+        Term::Null | Term::Select(_, _) | Term::Put(_, _, _) | Term::AddAt(_, _, _) => Ok(()),
+    }
+}
+
+/// Adds a literal, a sum or a difference, or what is negated, times the factor; nothing for any other term.
+#[cycle(normal)]
+#[inline(never)]
+fn add_linear(
+    alloc: Global,
+    form: &mut BTreeMap<Monomial, u64>,
+    term: &Term,
+    factor: u64,
+) -> Result<(), AllocError>
+    requires { NoZero form.old.entries }
+    ensures nonzero { NoZero form.new.entries }
+    ensures added { OnOk result (AddsSum form.old.entries form.new.entries factor (expand_if (is_linear (shape term.now)) (shape term.now))) }
+{
+    let opposite = factor.wrapping_mul(u64::MAX);
+    match term {
+        Term::Number(n) => add_number(alloc, form, n.cast_unsigned(), factor),
+        Term::Truth(b) => add_truth(alloc, form, *b, factor),
         Term::Add(a, b) => {
             add_term(alloc, form, a, factor)?;
             add_term(alloc, form, b, factor)?;
@@ -51,74 +79,19 @@ fn add_term(
         }
         Term::Sub(a, b) => {
             add_term(alloc, form, a, factor)?;
-            add_term(alloc, form, b, factor.wrapping_mul(u64::MAX))?;
+            add_term(alloc, form, b, opposite)?;
             Ok(())
         }
         Term::Neg(a) => {
-            add_term(alloc, form, a, factor.wrapping_mul(u64::MAX))?;
+            add_term(alloc, form, a, opposite)?;
             Ok(())
         }
         Term::Not(a) => {
             add_truth(alloc, form, true, factor)?;
-            add_term(alloc, form, a, factor.wrapping_mul(u64::MAX))?;
+            add_term(alloc, form, a, opposite)?;
             Ok(())
         }
-        Term::Mul(_, _) => {
-            add_multiplied(alloc, form, term, factor)?;
-            Ok(())
-        }
-        Term::And(_, _) => {
-            add_multiplied(alloc, form, term, factor)?;
-            Ok(())
-        }
-        Term::Or(_, _) => {
-            add_multiplied(alloc, form, term, factor)?;
-            Ok(())
-        }
-        Term::Less(_, _) => {
-            add_compared(alloc, form, term, factor)?;
-            Ok(())
-        }
-        Term::LessEqual(_, _) => {
-            add_compared(alloc, form, term, factor)?;
-            Ok(())
-        }
-        Term::Same(_, _) => {
-            add_equated(alloc, form, term, factor)?;
-            Ok(())
-        }
-        Term::Choose(_, _, _) => {
-            add_choice(alloc, form, term, factor)?;
-            Ok(())
-        }
-        Term::Divide(_, _) => {
-            add_divided(alloc, form, term, factor)?;
-            Ok(())
-        }
-        Term::Remainder(_, _) => {
-            add_divided(alloc, form, term, factor)?;
-            Ok(())
-        }
-        Term::Atom(_, _, _) => {
-            add_own_part(alloc, form, term, factor)?;
-            Ok(())
-        }
-        Term::Read(_, _, _, _) => {
-            add_own_part(alloc, form, term, factor)?;
-            Ok(())
-        }
-        Term::ReadAt(_, _, _, _, _) => {
-            add_own_part(alloc, form, term, factor)?;
-            Ok(())
-        }
-        Term::Result(_, _, _, _) => {
-            add_own_part(alloc, form, term, factor)?;
-            Ok(())
-        }
-        Term::Null => Ok(()),
-        Term::Select(_, _) => Ok(()),
-        Term::Put(_, _, _) => Ok(()),
-        Term::AddAt(_, _, _) => Ok(()),
+        _ => Ok(()),
     }
 }
 

@@ -98,10 +98,29 @@ impl Term {
             Term::Truth(b) => Ok(Term::Truth(*b)),
             Term::Null => Ok(Term::Null),
             Term::Atom(sort, group, number) => Ok(Term::Atom(*sort, *group, *number)),
+            Term::Add(_, _) | Term::Sub(_, _) | Term::Mul(_, _) => self.copy_number(alloc),
+            Term::Neg(_) | Term::Divide(_, _) | Term::Remainder(_, _) => self.copy_number(alloc),
+            Term::Less(_, _) | Term::LessEqual(_, _) | Term::Same(_, _) => self.copy_truth(alloc),
+            Term::Not(_) | Term::And(_, _) | Term::Or(_, _) => self.copy_truth(alloc),
+            Term::Choose(_, _, _) | Term::Put(_, _, _) | Term::AddAt(_, _, _) => self.copy_three(
+                alloc,
+            ),
+            Term::Read(_, _, _, _) | Term::ReadAt(_, _, _, _, _) | Term::Select(_, _) =>
+                self.copy_read(alloc),
+            Term::Result(_, _, _, _) => self.copy_result(alloc),
+        }
+    }
+
+    /// A number over others once more. Each kind has a function of its own, so that the frames are small.
+    #[cycle(copy)]
+    #[inline(never)]
+    fn copy_number(&self, alloc: Global) -> Result<Term, AllocError>
+        ensures { IfOk result (λ t. shape t ≡ shape self.now) }
+    {
+        match self {
             Term::Neg(a) => Ok(Term::Neg(a.boxed(alloc)?)),
             Term::Divide(a, n) => Ok(Term::Divide(a.boxed(alloc)?, *n)),
             Term::Remainder(a, n) => Ok(Term::Remainder(a.boxed(alloc)?, *n)),
-            Term::Not(a) => Ok(Term::Not(a.boxed(alloc)?)),
             Term::Add(a, b) => {
                 let (first, second) = both(a.boxed(alloc), b.boxed(alloc))?;
                 Ok(Term::Add(first, second))
@@ -114,6 +133,17 @@ impl Term {
                 let (first, second) = both(a.boxed(alloc), b.boxed(alloc))?;
                 Ok(Term::Mul(first, second))
             }
+            _ => Err(AllocError),
+        }
+    }
+
+    #[cycle(copy)]
+    #[inline(never)]
+    fn copy_truth(&self, alloc: Global) -> Result<Term, AllocError>
+        ensures { IfOk result (λ t. shape t ≡ shape self.now) }
+    {
+        match self {
+            Term::Not(a) => Ok(Term::Not(a.boxed(alloc)?)),
             Term::Less(a, b) => {
                 let (first, second) = both(a.boxed(alloc), b.boxed(alloc))?;
                 Ok(Term::Less(first, second))
@@ -134,10 +164,16 @@ impl Term {
                 let (first, second) = both(a.boxed(alloc), b.boxed(alloc))?;
                 Ok(Term::Or(first, second))
             }
-            Term::Select(a, i) => {
-                let (first, second) = both(a.boxed(alloc), i.boxed(alloc))?;
-                Ok(Term::Select(first, second))
-            }
+            _ => Err(AllocError),
+        }
+    }
+
+    #[cycle(copy)]
+    #[inline(never)]
+    fn copy_three(&self, alloc: Global) -> Result<Term, AllocError>
+        ensures { IfOk result (λ t. shape t ≡ shape self.now) }
+    {
+        match self {
             Term::Choose(c, a, b) => {
                 let sides = both(a.boxed(alloc), b.boxed(alloc));
                 let (first, (second, third)) = both(c.boxed(alloc), sides)?;
@@ -153,6 +189,16 @@ impl Term {
                 let (first, (second, third)) = both(a.boxed(alloc), sides)?;
                 Ok(Term::AddAt(first, second, third))
             }
+            _ => Err(AllocError),
+        }
+    }
+
+    #[cycle(copy)]
+    #[inline(never)]
+    fn copy_read(&self, alloc: Global) -> Result<Term, AllocError>
+        ensures { IfOk result (λ t. shape t ≡ shape self.now) }
+    {
+        match self {
             Term::Read(sort, p, class, field) => {
                 let object = p.boxed(alloc)?;
                 Ok(Term::Read(*sort, object, *class, *field))
@@ -161,10 +207,25 @@ impl Term {
                 let (object, index) = both(p.boxed(alloc), i.boxed(alloc))?;
                 Ok(Term::ReadAt(*sort, object, *class, *field, index))
             }
+            Term::Select(a, i) => {
+                let (first, second) = both(a.boxed(alloc), i.boxed(alloc))?;
+                Ok(Term::Select(first, second))
+            }
+            _ => Err(AllocError),
+        }
+    }
+
+    #[cycle(copy)]
+    #[inline(never)]
+    fn copy_result(&self, alloc: Global) -> Result<Term, AllocError>
+        ensures { IfOk result (λ t. shape t ≡ shape self.now) }
+    {
+        match self {
             Term::Result(sort, function, p, args) => {
                 let (receiver, args) = both(p.boxed(alloc), copy_all(alloc, args))?;
                 Ok(Term::Result(*sort, *function, receiver, args))
             }
+            _ => Err(AllocError),
         }
     }
 

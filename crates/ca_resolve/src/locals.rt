@@ -1,6 +1,6 @@
 //! The locals that are visible.
 
-ghost use Rattle.std.specs.Prelude.{◌≡◌, ◌∷◌, [], drop, slice_get, IfOk};
+ghost use Rattle.std.specs.Prelude.{◌≡◌, ◌∷◌, [], drop, length, slice_get, IfOk};
 ghost use Rattle.std.specs.Option.{option_map};
 ghost use Rattle.ca_resolve.specs.Scopes.{find_local};
 ghost use Rattle.ca_resolve.specs.LocalView.{local_view};
@@ -56,6 +56,13 @@ impl<'a> Locals<'a> {
             all: Vec::new(alloc),
             innermost: BTreeMap::new(alloc),
         }
+    }
+
+    /// How many are visible.
+    pub fn len(&self) -> usize
+        ensures { result ≡ length self.now }
+    {
+        self.all.len()
     }
 
     /// A local inside all others.

@@ -1,7 +1,7 @@
 //! Weights and normal forms of terms.
 
 use ca_forms::parts::{both, longer, one_box, three_boxes};
-use ca_norm::gather::scalar_of;
+use ca_norm::gather::{polynomial_of, scalar_of};
 use ca_norm::{MOST_WEIGHT, NormalError, Sort, Term, normal, same, weight};
 use std::alloc::{AllocError, Global};
 use std::test::Fail;
@@ -76,7 +76,8 @@ fn wraps_coefficients(rt: HostRuntime) -> Result<(), Fail> {
     Ok(())
 }
 
-/// A power of 8,192 times the square of a sum of 127 is found quickly, since a monomial keeps each part once.
+/// A power of 8,192 times the square of a sum of 127 is found quickly, since a monomial keeps each part once: it has at
+/// most 320 powers.
 #[test]
 fn keeps_powers(rt: HostRuntime) -> Result<(), Fail> {
     let alloc = rt.alloc();
@@ -92,8 +93,10 @@ fn keeps_powers(rt: HostRuntime) -> Result<(), Fail> {
     let again = sum.copy(alloc)?;
     let square = product(alloc, sum, again)?;
     let (one, other) = (square.copy(alloc)?, power.copy(alloc)?);
-    let form = normal(alloc, &product(alloc, power, square)?)?;
+    let term = product(alloc, power, square)?;
+    let form = normal(alloc, &term)?;
     assert!(rt; same(&form, &normal(alloc, &product(alloc, one, other)?)?));
+    assert!(rt; polynomial_of(alloc, &term)?.longest() <= 320);
     Ok(())
 }
 
@@ -137,26 +140,41 @@ fn around(alloc: Global, kind: usize, term: Term) -> Result<Term, AllocError> {
     }
 }
 
-/// A term of 5,000 levels of the kind around an atom of the sort.
-fn nested(alloc: Global, kind: usize, sort: Sort) -> Result<Term, AllocError> {
+/// A term of so many levels of the kind around an atom of the sort.
+fn nested(alloc: Global, kind: usize, sort: Sort, levels: u32) -> Result<Term, AllocError> {
     let mut term = Term::Atom(sort, 3, 0);
-    for _ in 0..5000 {
+    for _ in 0..levels {
         term = around(alloc, kind, term)?;
     }
     Ok(term)
 }
 
-/// Terms of 5,000 levels have forms, which are copied and compared; everything is dropped without running out of
+/// Terms of 6,000 levels have forms, which are copied and compared; everything is dropped without running out of
 /// stack, and in time that grows with the depth and not with its power.
 #[test]
 fn takes_deep_terms(rt: HostRuntime) -> Result<(), Fail> {
     let alloc = rt.alloc();
     for kind in 0..KINDS {
         for sort in [Sort::Long, Sort::Pointer] {
-            let term = nested(alloc, kind, sort)?.copy(alloc)?;
+            let term = nested(alloc, kind, sort, 6000)?.copy(alloc)?;
             let form = scalar_of(alloc, &term)?;
             let copy = form.copy(alloc)?;
             assert!(rt; form.same(&copy) && weight(&term) > MOST_WEIGHT);
+        }
+    }
+    Ok(())
+}
+
+/// Comparisons inside comparisons are found in time that grows with their number: with twice the time a level none of
+/// these would end.
+#[test]
+fn compares_in_linear_time(rt: HostRuntime) -> Result<(), Fail> {
+    let alloc = rt.alloc();
+    for levels in [1000, 2000, 4000] {
+        for kind in 7..10 {
+            let term = nested(alloc, kind, Sort::Long, levels)?;
+            let form = normal(alloc, &term)?;
+            assert!(rt; same(&form, &form.copy(alloc)?));
         }
     }
     Ok(())

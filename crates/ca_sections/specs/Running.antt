@@ -1,7 +1,7 @@
 -- How a section in memory stands, as the state of the definition, and how a piece of it ends.
 use Rattle.std.specs.Prelude.{◌≡◌, ◌≤◌, ◌-◌, ◌++◌, ℕ, Bool, true, false, List, [], Result, Ok, Err}
 use Rattle.ca_program.specs.declared.program.FieldId.{FieldId}
-use Rattle.ca_program.specs.Plain.{PlainProgram, Expression, Expressions, Statement, Statements}
+use Rattle.ca_program.specs.Plain.{PlainProgram, Expression, Expressions, Statement, Statements, block, if_else, while_loop, for_loop}
 use Rattle.ca_model.specs.declared.value.Value.{Value as Datum}
 use Rattle.ca_model.specs.declared.value.Slot.{Slot}
 use Rattle.ca_model.specs.declared.value.Object.{Object}
@@ -48,6 +48,14 @@ runs_all p h st ss = exec_all (section_parts p h st.this) st.locals.items (secti
 
 abbrev pub comes_again : PlainProgram → List Object → State → ℕ → Statement → Flow Section
 comes_again p h st line loop = turn (section_parts p h st.this) line st.locals.items (section_at h st) loop st.left
+
+-- whether a statement has statements in it
+abbrev pub has_statements : Statement → Bool
+has_statements (block line ss) = true
+has_statements (if_else line c a b) = true
+has_statements (while_loop line c s) = true
+has_statements (for_loop line site part first c next s) = true
+has_statements s = false
 
 -- How a piece ends, where it means this: with what it gives and the steps that are left, by a trap, or with a step too
 -- many. Nothing is said where memory is wanting.

@@ -7,11 +7,11 @@ ghost use Rattle.ca_sections.specs.Running.{own_slots, Begun};
 
 use ca_base::Memory;
 use ca_direct::Scene;
-use ca_model::{Heap, Slots, Value, start_of};
+use ca_model::{Heap, Slots, Value};
 use ca_parallel::Op;
 use ca_program::{FieldInfo, ValueType};
 use ca_section::Olds;
-use ca_values::Evaluator;
+use ca_values::{Evaluator, add_starts};
 use std::alloc::Global;
 
 /// Where own accesses are made: in slots that are handed in, or in the heap, where they only read.
@@ -113,14 +113,4 @@ impl State {
             locals: self.locals.as_slice(),
         }
     }
-}
-
-/// Adds what locals of these types start with.
-fn add_starts(locals: &mut Vec<Value>, types: &[ValueType]) -> Result<(), Memory>
-    ensures { IfOk result (λ _. locals.new.items ≡ locals.old.items ++ map start_of types.now) }
-{
-    for ty in types {
-        locals.push(start_of(*ty))?;
-    }
-    Ok(())
 }

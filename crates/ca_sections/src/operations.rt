@@ -1,7 +1,7 @@
 //! Sections of operations.
 
-ghost use Rattle.std.specs.Prelude.{◌≡◌, ◌≤◌, ℕ, [], Some, IfOk, OnErr, slice_get};
-ghost use Rattle.ca_program.specs.View.{program_view, method_view, statements_view};
+ghost use Rattle.std.specs.Prelude.{◌≡◌, ◌≤◌, ℕ, IfOk, OnErr, slice_get};
+ghost use Rattle.ca_program.specs.View.{program_view, statements_view};
 ghost use Rattle.ca_meaning.specs.Functions.{body_of};
 ghost use Rattle.ca_meaning.specs.Sections.{section};
 ghost use Rattle.ca_parallel.specs.Calls.{invocations_of};
@@ -17,7 +17,8 @@ use crate::stop::Stop;
 use ca_base::Memory;
 use ca_model::{Heap, Object, Trap, Value};
 use ca_parallel::Op;
-use ca_program::{Method, OpId, Program, Stmt, ValueType};
+use ca_program::{OpId, Program};
+use ca_values::{Called, body_in};
 use std::alloc::Global;
 use std::mem;
 
@@ -29,13 +30,6 @@ pub enum SectionAnswer {
     Spent,
 }
 
-/// What is called: its statements, and the types of its locals that are no parameters.
-#[derive(Clone, Copy)]
-struct Called<'a> {
-    stmts: &'a [Stmt],
-    others: &'a [ValueType],
-}
-
 /// The body of an operation, and nothing where there is no such operation.
 fn body_of<'a>(program: &'a Program, op: OpId) -> Called<'a>
     ensures stmts { statements_view result.stmts.now ≡ body_of (slice_get (program_view program.now).ops op.0) }
@@ -44,23 +38,7 @@ fn body_of<'a>(program: &'a Program, op: OpId) -> Called<'a>
     if (op.0 as usize) < program.ops.len() {
         body_in(program.op(op))
     } else {
-        Called {
-            stmts: &[],
-            others: &[],
-        }
-    }
-}
-
-/// The body of a method.
-fn body_in<'a>(method: &'a Method) -> Called<'a>
-    ensures stmts { statements_view result.stmts.now ≡ body_of (Some (method_view method.now)) }
-    ensures others { result.others.now ≡ others_in (Some (method_view method.now)) }
-{
-    let types = method.body.locals.as_slice();
-    let first = (method.params as usize).min(types.len());
-    Called {
-        stmts: method.body.stmts.as_slice(),
-        others: &types[first..],
+        Called::nothing()
     }
 }
 

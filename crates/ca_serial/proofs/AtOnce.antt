@@ -65,7 +65,7 @@ pub one_before : (p : PlainProgram) (todo : List Work) (m : Machine) (ss : List 
 one_before p todo m ss x xs ps is none = last_runs p m.bodies.current (world_of m ps) x.now xs ss m.left _ _ is (nil_from_length xs none)
 
 abbrev pub stepped : Machine → Machine
-stepped m = record { todo = m.todo; values = m.values; bodies = m.bodies; heap = m.heap; left = m.left - 1 }
+stepped m = record { todo = m.todo; values = m.values; bodies = m.bodies; heap = m.heap; left = m.left - 1; shown = m.shown; trap = m.trap }
 
 -- the body of a turn of a `while` was begun at once
 pub while_started : (p : PlainProgram) (old new : Machine) (ps : List Datum) (line : ℕ) (s : Bor Stmt) (c : Expr) (b : Box Stmt Global) (l : ℕ) (x : Bor Stmt) (o : Left) → 0 < old.left → s.now.kind ≡ While c b → l ≡ b.value.line → x.now ≡ b.value → new.todo ≡ old.todo → ((todo : List Work) (ps : List Datum) → rest_of p (Exec l x ∷ todo) (stepped old) ps ≡ rest_of p (pieces o todo) new ps) → takes p (Turn line s) (Truth true) old ps ≡ rest_of p (pieces o (Again line s ∷ new.todo)) new ps

@@ -6,4 +6,4 @@ pub mod CallSteps
 pub mod Items
 pub mod Stacks
 pub mod AtOnce
-pub mod Returns
+pub mod Tellings

@@ -19,7 +19,7 @@ use Rattle.ca_serial.specs.declared.bodies.Mode.TheVariants.{InFunction, InOpera
 use Rattle.ca_serial.specs.declared.work.Target.{Target}
 use Rattle.ca_serial.specs.declared.work.Target.TheVariants.{Function, Operation}
 use Rattle.ca_serial.specs.declared.work.Work.{Work}
-use Rattle.ca_serial.specs.declared.work.Work.TheVariants.{Evaluate, Take, Collect, Exec, Seq, Again, Leave}
+use Rattle.ca_serial.specs.declared.work.Work.TheVariants.{Evaluate, Take, Collect, Exec, Seq, Again, Leave, Back}
 use Rattle.ca_serial.specs.declared.work.Taker.{Taker}
 use Rattle.ca_serial.specs.declared.work.Taker.TheVariants.{ReadField, CheckObject, ReadItem, Sign, CheckLeft, Apply, PutLocal, PutField, CheckIndex, PutItem, NewItem, Print, Choose, Turn, GiveBack}
 use Rattle.ca_serial.specs.Bodies.{Body, with_locals}
@@ -296,6 +296,7 @@ mutual
   resume_grows p (Again line loop ∷ todo) vs f below w k =
       grows_go (comes_again p f.mode f w line (statement_view loop.now) k) _ _ (again_grows p f.mode f w line (statement_view loop.now) k) (λ ls x k l. from _ l (resume_grows p todo vs _ below x k)) (λ v x k l. from _ l (grows_mode f.mode _ (unwind_grows p todo vs below x k v)))
   resume_grows p (Leave ∷ todo) vs f below w k = grows_back below _ (λ g below. resume_grows p todo _ g below w k)
+  resume_grows p (Back ∷ todo) vs f below w k = grows_pop vs _ (λ v vs. grows_back below _ (λ g below. resume_grows p todo (v ∷ vs) g below w k))
 
   unwind_grows : (p : PlainProgram) (todo : List Work) (vs : List Datum) (below : List Body) (w : World) (k : ℕ) (v : Datum) → Grows w (unwind p todo vs below w k v)
   unwind_grows p [] vs below w k v = grows (stays w)
@@ -306,3 +307,4 @@ mutual
   unwind_grows p (Exec line s ∷ todo) vs below w k v = unwind_grows p todo vs below w k v
   unwind_grows p (Seq ss ∷ todo) vs below w k v = unwind_grows p todo vs below w k v
   unwind_grows p (Again line loop ∷ todo) vs below w k v = unwind_grows p todo vs below w k v
+  unwind_grows p (Back ∷ todo) vs below w k v = unwind_grows p todo vs below w k v

@@ -20,7 +20,7 @@ use Rattle.ca_serial.specs.declared.bodies.Mode.TheVariants.{InFunction, InOpera
 use Rattle.ca_serial.specs.declared.work.Target.{Target}
 use Rattle.ca_serial.specs.declared.work.Target.TheVariants.{Function, Operation}
 use Rattle.ca_serial.specs.declared.work.Work.{Work}
-use Rattle.ca_serial.specs.declared.work.Work.TheVariants.{Evaluate, Take, Collect, Exec, Seq, Again, Leave}
+use Rattle.ca_serial.specs.declared.work.Work.TheVariants.{Evaluate, Take, Collect, Exec, Seq, Again, Leave, Back}
 use Rattle.ca_serial.specs.declared.work.Taker.{Taker}
 use Rattle.ca_serial.specs.declared.work.Taker.TheVariants.{ReadField, CheckObject, ReadItem, Sign, CheckLeft, Apply, PutLocal, PutField, CheckIndex, PutItem, NewItem, Print, Choose, Turn as TakeTurn, GiveBack}
 use Rattle.ca_serial.specs.declared.work.Left.{Left}
@@ -167,6 +167,8 @@ abbrev mutual
       go_on (comes_again p f.mode f w line (statement_view loop.now) k) (λ ls w k. resume p todo vs (with_locals f ls) below w k) (λ v w k. by_mode f.mode (unwind p todo vs below w k v) (runs_out w))
   resume p (Leave ∷ todo) vs f below w k =
       back_in below w (λ g below. resume p todo (by_mode f.mode (Null ∷ vs) vs) g below w k)
+  resume p (Back ∷ todo) vs f below w k =
+      pop vs w (λ v vs. back_in below w (λ g below. resume p todo (v ∷ vs) g below w k))
 
   -- a value method gives a value back: what is left of its body is dropped
   pub unwind : PlainProgram → List Work → List Datum → List Body → World → ℕ → Datum → Flow World
@@ -241,8 +243,8 @@ begins p line t n m ps =
 -- after a piece of work
 abbrev pub after : PlainProgram → Machine → List Datum → Next → Flow World
 after p m ps GoesOn = rest_of p m.todo m ps
-after p m ps (Printed v) = rest_of p m.todo m (ps ++ v ∷ [])
-after p m ps (Trapped t) = stops t (world_of m ps)
+after p m ps Printed = rest_of p m.todo m (ps ++ m.shown ∷ [])
+after p m ps Trapped = stops m.trap (world_of m ps)
 after p m ps Spent = runs_out (world_of m ps)
 
 -- a piece of work was done at once: then all is as before but for what it means

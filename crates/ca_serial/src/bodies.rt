@@ -117,6 +117,7 @@ impl Bodies {
     }
 
     /// Begins a body whose first locals are the arguments; the others have these types.
+    #[inline(always)]
     pub fn enter(
         &mut self,
         this: Value,
@@ -128,9 +129,9 @@ impl Bodies {
         ensures below { IfOk result (λ _. self.new.below ≡ self.old.current ∷ self.old.below) }
     {
         let base = self.locals.len();
-        self.locals.extend_from_slice(arguments)?;
+        add_all(&mut self.locals, arguments)?;
         add_starts(&mut self.locals, others)?;
-        self.below.push(self.current)?;
+        add(&mut self.below, self.current)?;
         self.current = Entry { this, mode, base };
         Ok(())
     }
@@ -148,6 +149,29 @@ impl Bodies {
             None => false,
         }
     }
+}
+
+/// Adds an item behind the others. It asks for memory only where the vector is full.
+#[inline(always)]
+fn add<T: Drop>(items: &mut Vec<T>, item: T) -> Result<(), Memory>
+    ensures { IfOk result (λ _. items.new.items ≡ items.old.items ++ item ∷ []) }
+{
+    if items.len() == items.capacity() {
+        items.reserve(1)?;
+    }
+    items.push_reserved(item);
+    Ok(())
+}
+
+/// Adds values behind the others.
+#[inline]
+fn add_all(items: &mut Vec<Value>, values: &[Value]) -> Result<(), Memory>
+    ensures { IfOk result (λ _. items.new.items ≡ items.old.items ++ values.now) }
+{
+    for value in values {
+        add(items, *value)?;
+    }
+    Ok(())
 }
 
 /// Adds what locals of these types start with.

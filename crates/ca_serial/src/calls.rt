@@ -1,22 +1,25 @@
 //! The steps of calls.
 
-ghost use Rattle.std.specs.Prelude.{◌≡◌, ◌∷◌, ℕ, List, IfOk, IfSome, Some};
-ghost use Rattle.ca_program.specs.View.{program_view, method_view, expression_view, expressions_view, statement_view, statements_view};
+ghost use Rattle.std.specs.Prelude.{◌≡◌, ◌∷◌, ◌++◌, List, map, take, drop, reverse, IfOk, Some};
+ghost use Rattle.ca_program.specs.View.{program_view, method_view, statements_view};
 ghost use Rattle.ca_model.specs.declared.value.Value.{Value as Datum};
 ghost use Rattle.ca_meaning.specs.Functions.{body_of};
-ghost use Rattle.ca_meaning.specs.Flows.{gives_back};
-ghost use Rattle.ca_serial.specs.Resume.{rest_of, world_of, runs, back_of, unwound, handed_back, begins, after, target_method, target_mode, others_in};
+ghost use Rattle.ca_model.specs.Slots.{start_of};
+ghost use Rattle.ca_serial.specs.Resume.{rest_of, back_of, unwound, handed_back, begins, after, target_method, target_mode, others_in};
+ghost use Rattle.ca_serial.specs.Answers.{Told};
 
+use crate::answers::{Answer, answer_of};
 use crate::bodies::Mode;
-use crate::expressions::calls;
-use crate::machine::{Machine, trapped};
+use crate::machine::Machine;
 use crate::work::{Next, Target, Work};
 use ca_base::Memory;
+use ca_direct::Scene;
 use ca_model::{TrapKind, Value};
 use ca_program::{Expr, Method, Program, Stmt, StmtForm, ValueType};
 
 impl<'a> Machine<'a> {
     /// Goes on with the arguments of a call from one of them on, and then begins the call.
+    #[inline(always)]
     pub fn collect(
         &mut self,
         program: &'a Program,
@@ -44,7 +47,7 @@ impl<'a> Machine<'a> {
     }
 
     /// Begins a call whose arguments are the top values, so many of them, with the receiver below them.
-    #[inline]
+    #[inline(always)]
     fn begin(
         &mut self,
         program: &'a Program,
@@ -54,40 +57,76 @@ impl<'a> Machine<'a> {
     ) -> Result<Next, Memory>
         ensures { IfOk result (λ next. (ps : List Datum) → begins (program_view program.now) line target count self.old ps ≡ after (program_view program.now) self.new ps next) }
     {
+        let called = body_of(program, target);
+        let told = self.told(target, called, count);
         let Some(top) = self.values.top(count) else {
             return Ok(Next::Spent);
         };
         let Value::Ref(_) = top.below else {
-            return Ok(trapped(line, TrapKind::NullPointer));
+            return Ok(self.stop(line, TrapKind::NullPointer));
         };
         if self.left == 0 {
             return Ok(Next::Spent);
         }
-        let called = body_of(program, target);
-        self.bodies
-            .enter(top.below, mode_of(target), top.items, called.others)?;
-        self.values.cut(count);
-        self.left -= 1;
-        let next = self.begin_body(program, called.stmts)?;
-        Ok(next)
+        match told {
+            Answer::Gives(value) => {
+                self.values.cut(count);
+                self.left -= 1;
+                self.values.push(value)?;
+                Ok(Next::GoesOn)
+            }
+            Answer::Rest(ss) => {
+                self.bodies
+                    .enter(top.below, mode_of(target), top.items, called.others)?;
+                self.values.cut(count);
+                self.left -= 1;
+                let next = self.begin_body(program, ss)?;
+                Ok(next)
+            }
+        }
+    }
+
+    /// What the beginning of a body tells before it is entered, with the top values as its arguments, so many
+    /// of them, and its receiver below them. That of an operation isn't looked at.
+    #[inline(always)]
+    fn told(&self, target: Target, called: Called<'a>, count: usize) -> Answer<'a>
+        ensures { (v : Datum) (arguments rest : List Datum) → drop count self.now.values ≡ v ∷ rest → arguments ≡ reverse (take count self.now.values) → Told self.now (record { this = v; locals = arguments ++ map start_of called.entry.others.now; mode = target_mode target }) (statements_view called.entry.stmts.now) result }
+    {
+        let Target::Function(_) = target else {
+            return Answer::Rest(called.stmts);
+        };
+        if !called.others.is_empty() {
+            return Answer::Rest(called.stmts);
+        }
+        let Some(top) = self.values.top(count) else {
+            return Answer::Rest(called.stmts);
+        };
+        let scene = Scene {
+            heap: &self.heap,
+            this: top.below,
+            own: None,
+            locals: top.items,
+        };
+        answer_of(&scene, called.stmts)
     }
 
     /// Begins a body that was entered. One that is done at once is left again with no work on the stack.
     fn begin_body(&mut self, program: &'a Program, ss: &'a [Stmt]) -> Result<Next, Memory>
         ensures { IfOk result (λ next. (ps : List Datum) → rest_of (program_view program.now) (Work.Seq ss.entry ∷ Work.Leave ∷ self.old.todo) self.old ps ≡ after (program_view program.now) self.new ps next) }
     {
+        if let Mode::InFunction = self.bodies.mode() {
+            if let Some((first, _)) = ss.split_first() {
+                if let StmtForm::Return(e) = &first.kind {
+                    self.todo.push(Work::Back)?;
+                    self.todo.push(Work::Evaluate(first.line, e))?;
+                    return Ok(Next::GoesOn);
+                }
+            }
+        }
         let rest = self.do_all(program, ss);
         if rest.is_empty() {
             let next = self.leave(program)?;
             return Ok(next);
-        }
-        if let Mode::InFunction = self.bodies.mode() {
-            if let Some((first, _)) = rest.split_first() {
-                if let Some(value) = self.given_back(program, first.line, first) {
-                    let next = self.hand_back(program, value)?;
-                    return Ok(next);
-                }
-            }
         }
         self.todo.push(Work::Leave)?;
         let next = self.put_off(program, rest)?;
@@ -110,30 +149,6 @@ impl<'a> Machine<'a> {
                 Ok(Next::GoesOn)
             }
             None => Ok(Next::GoesOn),
-        }
-    }
-
-    /// The value that a statement on a line gives back, where it does so at once and changes nothing.
-    fn given_back(&self, program: &Program, line: u32, s: &Stmt) -> Option<Value>
-        ensures { IfSome result (λ v. (ps : List Datum) → runs (program_view program.now) self.now.bodies.current.mode self.now.bodies.current (world_of self.now ps) line (statement_view s.now) self.now.left ≡ gives_back v (world_of self.now ps) self.now.left) }
-    {
-        match &s.kind {
-            StmtForm::Return(e) => {
-                if calls(e) {
-                    return None;
-                }
-                self.value_of(program, line, e)
-            }
-            StmtForm::If(c, a, b) => match self.truth_of(program, line, c) {
-                Some(true) => self.given_back(program, a.line, a),
-                Some(false) => self.given_back(program, b.line, b),
-                None => None,
-            },
-            StmtForm::Block(ss) => match ss.as_slice().split_first() {
-                Some((first, _)) => self.given_back(program, first.line, first),
-                None => None,
-            },
-            _ => None,
         }
     }
 
@@ -163,7 +178,7 @@ impl<'a> Machine<'a> {
 
     /// Goes back to the caller of a value method with a value.
     #[inline]
-    fn hand_back(&mut self, program: &'a Program, value: Value) -> Result<Next, Memory>
+    pub fn hand_back(&mut self, program: &'a Program, value: Value) -> Result<Next, Memory>
         ensures { IfOk result (λ next. (ps : List Datum) → handed_back (program_view program.now) self.old ps value ≡ after (program_view program.now) self.new ps next) }
     {
         if !self.bodies.leave() {

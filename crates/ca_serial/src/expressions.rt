@@ -7,7 +7,7 @@ ghost use Rattle.ca_model.specs.declared.value.Value.{Value as Datum};
 ghost use Rattle.ca_meaning.specs.Expressions.{decided};
 ghost use Rattle.ca_serial.specs.Resume.{rest_of, takes, evaluates, after};
 
-use crate::machine::{Machine, field_of, trapped};
+use crate::machine::{Machine, field_of};
 use crate::work::{Next, Taker, Target, Work};
 use ca_base::Memory;
 use ca_meaning::{operate, operate_unary};
@@ -50,7 +50,7 @@ impl<'a> Machine<'a> {
     }
 
     /// Goes on with a call of a value method.
-    #[inline]
+    #[inline(never)]
     fn evaluate_call(
         &mut self,
         program: &'a Program,
@@ -147,7 +147,7 @@ impl<'a> Machine<'a> {
         ensures { IfOk result (λ next. (ps : List Datum) → takes (program_view program.now) (Taker.ReadField line field) object self.old ps ≡ after (program_view program.now) self.new ps next) }
     {
         let Value::Ref(_) = object else {
-            return Ok(trapped(line, TrapKind::NullPointer));
+            return Ok(self.stop(line, TrapKind::NullPointer));
         };
         let value = field_of(&self.heap, object, field);
         self.values.push(value)?;
@@ -166,7 +166,7 @@ impl<'a> Machine<'a> {
         ensures { IfOk result (λ next. (ps : List Datum) → takes (program_view program.now) (Taker.CheckObject line field index.entry) object self.old ps ≡ after (program_view program.now) self.new ps next) }
     {
         let Value::Ref(_) = object else {
-            return Ok(trapped(line, TrapKind::NullPointer));
+            return Ok(self.stop(line, TrapKind::NullPointer));
         };
         self.then(Taker::ReadItem(line, object, field), line, index)?;
         Ok(Next::GoesOn)
@@ -188,7 +188,7 @@ impl<'a> Machine<'a> {
                 self.values.push(item.value)?;
                 Ok(Next::GoesOn)
             }
-            None => Ok(trapped(line, TrapKind::OutOfRange)),
+            None => Ok(self.stop(line, TrapKind::OutOfRange)),
         }
     }
 
@@ -243,7 +243,7 @@ impl<'a> Machine<'a> {
                 self.values.push(value)?;
                 Ok(Next::GoesOn)
             }
-            Err(kind) => Ok(trapped(line, kind)),
+            Err(kind) => Ok(self.stop(line, kind)),
         }
     }
 }

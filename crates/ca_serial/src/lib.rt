@@ -11,6 +11,7 @@
 //! `specs/Resume.antt` says what a stack of work still means, which is the one clause of every step.
 #![tactic(auto)]
 
+mod answers;
 mod at_once;
 mod bodies;
 mod calls;

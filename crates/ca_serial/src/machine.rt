@@ -19,7 +19,8 @@ use ca_model::{Heap, Slot, Trap, TrapKind, Value};
 use ca_program::{Expr, FieldId, Program};
 use std::alloc::Global;
 
-/// The work that is left, the values that it takes, the bodies that run, the heap, and the steps left.
+/// The work that is left, the values that it takes, the bodies that run, the heap, and the steps left; and
+/// the last printed value and the trap that stops it, which stand here so that `Next` carries nothing.
 #[derive(Drop)]
 pub struct Machine<'a> {
     pub todo: Stack<Work<'a>>,
@@ -27,6 +28,8 @@ pub struct Machine<'a> {
     pub bodies: Bodies,
     pub heap: Heap,
     pub left: u64,
+    pub shown: Value,
+    pub trap: Trap,
 }
 
 impl<'a> Machine<'a> {
@@ -44,7 +47,23 @@ impl<'a> Machine<'a> {
             bodies: Bodies::new(alloc, program.main.locals.as_slice())?,
             heap: Heap::new(alloc),
             left: budget,
+            shown: Value::Null,
+            trap: Trap {
+                line: 0,
+                kind: TrapKind::NullPointer,
+            },
         })
+    }
+
+    /// Stops with a trap on a line.
+    #[inline]
+    pub fn stop(&mut self, line: u32, kind: TrapKind) -> Next
+        ensures stops { result ≡ Trapped }
+        ensures trap { self.new.trap ≡ record { line = line; kind = kind } }
+        ensures heap { self.new.heap ≡ self.old.heap }
+    {
+        self.trap = Trap { line, kind };
+        Next::Trapped
     }
 
     /// What expressions are read in.
@@ -190,12 +209,4 @@ pub fn store(heap: &mut Heap, object: Value, field: FieldId, item: u32, value: V
     if let Value::Ref(id) = object {
         heap.store(id, field.field, item, value);
     }
-}
-
-/// A trap on a line.
-#[inline]
-pub fn trapped(line: u32, kind: TrapKind) -> Next
-    ensures { result ≡ Trapped (record { line = line; kind = kind }) }
-{
-    Next::Trapped(Trap { line, kind })
 }

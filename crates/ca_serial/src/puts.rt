@@ -13,8 +13,9 @@ ghost use Rattle.ca_serial.specs.Bodies.{with_locals};
 ghost use Rattle.ca_serial.specs.Resume.{takes, does, after, looked_up, HasOwn, PassesPlaces};
 
 use crate::bodies::Mode;
-use crate::machine::{Found, Machine, field_of, item_of, put, store, trapped};
-use crate::work::{Next, Taker};
+use crate::expressions::calls;
+use crate::machine::{Found, Machine, field_of, item_of, put, store};
+use crate::work::{Next, Taker, Work};
 use ca_base::Memory;
 use ca_meaning::assign;
 use ca_model::{CreateError, TrapKind, Value};
@@ -33,6 +34,11 @@ impl<'a> Machine<'a> {
     ) -> Result<Next, Memory>
         ensures { IfOk result (λ next. (own : ℕ) (ps : List Datum) → does (program_view program.now) line (put_local own local op (expression_view e.now)) self.old ps ≡ after (program_view program.now) self.new ps next) }
     {
+        if calls(e) {
+            self.todo.push(Work::Take(Taker::PutLocal(local, op)))?;
+            let next = self.evaluate(program, line, e)?;
+            return Ok(next);
+        }
         match self.value_of(program, line, e) {
             Some(value) => {
                 self.assign_local(local, op, value);
@@ -77,6 +83,11 @@ impl<'a> Machine<'a> {
     {
         if let Mode::InFunction = self.bodies.mode() {
             return Ok(Next::GoesOn);
+        }
+        if calls(e) {
+            self.todo.push(Work::Take(Taker::PutField(field, op)))?;
+            let next = self.evaluate(program, line, e)?;
+            return Ok(next);
         }
         match self.value_of(program, line, e) {
             Some(value) => {
@@ -151,7 +162,7 @@ impl<'a> Machine<'a> {
                     Ok(Next::GoesOn)
                 }
             },
-            None => Ok(trapped(line, TrapKind::OutOfRange)),
+            None => Ok(self.stop(line, TrapKind::OutOfRange)),
         }
     }
 
@@ -174,7 +185,7 @@ impl<'a> Machine<'a> {
                 self.assign_item(field, item, op, value);
                 Next::GoesOn
             }
-            None => trapped(line, TrapKind::OutOfRange),
+            None => self.stop(line, TrapKind::OutOfRange),
         }
     }
 
@@ -212,7 +223,7 @@ impl<'a> Machine<'a> {
                 self.bodies.set(local.0, Value::Ref(id));
                 Ok(Next::GoesOn)
             }
-            Err(CreateError::Full) => Ok(trapped(line, TrapKind::HeapFull)),
+            Err(CreateError::Full) => Ok(self.stop(line, TrapKind::HeapFull)),
             Err(CreateError::Memory) => Err(Memory),
         }
     }
@@ -236,7 +247,7 @@ impl<'a> Machine<'a> {
                 put(&mut self.heap, self.bodies.this(), field, Value::Ref(id));
                 Ok(Next::GoesOn)
             }
-            Err(CreateError::Full) => Ok(trapped(line, TrapKind::HeapFull)),
+            Err(CreateError::Full) => Ok(self.stop(line, TrapKind::HeapFull)),
             Err(CreateError::Memory) => Err(Memory),
         }
     }
@@ -289,10 +300,10 @@ impl<'a> Machine<'a> {
                     );
                     Ok(Next::GoesOn)
                 }
-                Err(CreateError::Full) => Ok(trapped(line, TrapKind::HeapFull)),
+                Err(CreateError::Full) => Ok(self.stop(line, TrapKind::HeapFull)),
                 Err(CreateError::Memory) => Err(Memory),
             },
-            None => Ok(trapped(line, TrapKind::OutOfRange)),
+            None => Ok(self.stop(line, TrapKind::OutOfRange)),
         }
     }
 }

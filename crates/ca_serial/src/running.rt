@@ -99,12 +99,12 @@ fn run_on<'a, R: Wait, K: Sink>(
         };
         match next {
             Next::GoesOn => {}
-            Next::Printed(value) => {
-                if let Err(_) = print_line(value, sink) {
+            Next::Printed => {
+                if let Err(_) = print_line(machine.shown, sink) {
                     return Err(RunError::Write);
                 }
             }
-            Next::Trapped(trap) => return Ok(Outcome::Trapped(trap)),
+            Next::Trapped => return Ok(Outcome::Trapped(machine.trap)),
             Next::Spent => return Ok(Outcome::Spent),
         }
     }

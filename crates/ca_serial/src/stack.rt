@@ -30,7 +30,7 @@ impl<T> Stack<T> {
     }
 
     /// Takes the top item, if there is one.
-    #[inline]
+    #[inline(always)]
     pub fn pop(&mut self) -> Option<T>
         ensures { MatchOption result ((self.old ≡ []) × (self.new ≡ [])) (λ x. self.old ≡ x ∷ self.new) }
     {
@@ -40,7 +40,7 @@ impl<T> Stack<T> {
 
 impl<T: Drop> Stack<T> {
     /// Puts an item on top. It asks for memory only where the vector is full.
-    #[inline]
+    #[inline(always)]
     pub fn push(&mut self, item: T) -> Result<(), AllocError>
         ensures { IfOk result (λ _. self.new ≡ item ∷ self.old) }
     {
@@ -61,7 +61,7 @@ pub struct Top<'a, T> {
 
 impl<T: Copy> Stack<T> {
     /// So many top items and the one below them, if there are as many.
-    #[inline]
+    #[inline(always)]
     pub fn top(&self, count: usize) -> Option<Top<'_, T>>
         ensures { MatchOption result (drop count self.now ≡ []) (λ t. (drop count self.now ≡ t.below ∷ drop (count + 1) self.now) × (t.items.now ≡ reverse (take count self.now))) }
     {
@@ -78,7 +78,7 @@ impl<T: Copy> Stack<T> {
     }
 
     /// Drops so many top items and the one below them.
-    #[inline]
+    #[inline(always)]
     pub fn cut(&mut self, count: usize)
         ensures { self.new ≡ drop (count + 1) self.old }
     {

@@ -172,7 +172,10 @@ impl<'a> Machine<'a> {
             return Ok(Next::GoesOn);
         }
         match self.value_of(program, line, e) {
-            Some(value) => Ok(Next::Printed(value)),
+            Some(value) => {
+                self.shown = value;
+                Ok(Next::Printed)
+            }
             None => {
                 self.then(Taker::Print, line, e)?;
                 Ok(Next::GoesOn)

@@ -26,6 +26,10 @@ impl<'a> Machine<'a> {
                 self.collect(program, line, target, arguments, first)
             }
             Work::Leave => self.leave(program),
+            Work::Back => match self.values.pop() {
+                Some(value) => self.hand_back(program, value),
+                None => Ok(Next::Spent),
+            },
             Work::Take(taker) => match self.values.pop() {
                 Some(value) => self.take(program, taker, value),
                 None => Ok(Next::Spent),
@@ -66,7 +70,10 @@ impl<'a> Machine<'a> {
             Taker::NewItem(line, field, class) => {
                 self.fill_item(program, line, field, class, value)
             }
-            Taker::Print => Ok(Next::Printed(value)),
+            Taker::Print => {
+                self.shown = value;
+                Ok(Next::Printed)
+            }
             Taker::Choose(a, b) => self.choose(program, a, b, value),
             Taker::Turn(line, s) => self.enter_turn(program, line, s, value),
             Taker::GiveBack => self.give_back(program, value),

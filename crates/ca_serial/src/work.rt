@@ -1,6 +1,6 @@
 //! What is left to do.
 
-use ca_model::{Trap, Value};
+use ca_model::Value;
 use ca_program::{
     AssignOp, BinaryOp, ClassId, Expr, FieldId, FunctionId, LocalId, OpId, Stmt, UnaryOp,
 };
@@ -65,14 +65,17 @@ pub enum Work<'a> {
     Again(u32, &'a Stmt),
     /// The end of a body that was called.
     Leave,
+    /// The end of the body of a value method, which gives back the value on top of the stack.
+    Back,
 }
 
-/// How a piece of work ends: the run goes on, where it printed a value behind that print, or it stops.
+/// How a piece of work ends: the run goes on, where it printed a value behind that print, or it stops. The
+/// printed value and the trap stand in the machine.
 #[derive(Clone, Copy)]
 pub enum Next {
     GoesOn,
-    Printed(Value),
-    Trapped(Trap),
+    Printed,
+    Trapped,
     Spent,
 }
 

@@ -1,11 +1,9 @@
 -- How right answers for parts make right answers for the whole.
-use Rattle.std.proofs.Common.{◌≡◌, List, [], ◌∷◌, ◌++◌, Option, Some, None, Result, Ok, Err, map, Vec, Global, refl, sym, subst, ◌∙◌, ap}
-use Rattle.std.proofs.lemmas.List.{map-append}
+use Rattle.std.proofs.Common.{◌≡◌, [], ◌∷◌, Option, Some, None, Result, Ok, Err, refl, sym, subst, ap}
 use Rattle.ca_resolve.specs.declared.errors.CheckError.{CheckError}
-use Rattle.ca_resolve.specs.Judged.{Violation, Judged, fine, violations, both, within, unless, beside, Tells, Answers, Finds, Joins, Extends}
+use Rattle.ca_resolve.specs.Judged.{Violation, Judged, fine, violations, both, within, unless, beside, Tells, Answers, Finds, Joins}
 use Rattle.ca_resolve.proofs.Judging.{both_violations, finds, within_tells}
 use Rattle.ca_types.specs.Rules.{listed}
-use Rattle.ca_types.specs.Statements.{added}
 
 pub within_ok : {A B : Type 0} (j : Judged A) (rule : A → Judged B) (a : A) → j ≡ fine a → within j rule ≡ rule a
 within_ok j rule a h = ap (λ k. within k rule) h
@@ -24,17 +22,6 @@ besides f a b (Ok p) None k h x y = subst (λ z. Answers f z k) h.1 y
 besides f a b (Ok p) (Some v) k h x y = let x2 = subst (λ z. Finds z (v ∷ [])) h.0 x in absurd (cc)
 besides f a b (Err e) None k h x y = h [] (violations k) x (finds f b k y)
 besides f a b (Err e) (Some v) k h x y = h (v ∷ []) (violations k) x (finds f b k y)
-
-pub extended : {T A : Type 0} (f : T → A) (a : Result (Vec T Global) CheckError) (b : Result T CheckError) (r : Result (Vec T Global) CheckError) (j : Judged (List A)) (k : Judged A)
-    → Extends a b r → Answers (λ (v : Vec T Global). map f v.items) a j → Answers f b k → Answers (λ (v : Vec T Global). map f v.items) r (added j k)
-extended f a b (Ok w) j k h x y =
-    let x2 = subst (λ z. Answers (λ (v : Vec _ Global). map f v.items) z j) h.2 x in
-    let y2 = subst (λ z. Answers f z k) h.3 y in
-    let e : map f w.items ≡ map f h.0.items ++ f h.1 ∷ [] = ap (map f) h.4 ∙ map-append f h.0.items (h.1 ∷ []) in
-    rw x2 (rw y2 (ap (λ (zs : List _). fine zs) (sym e)))
-extended f a b (Err e) j k h x y =
-    within_tells e (both j k) (λ p. fine (p.0 ++ p.1 ∷ []))
-    (subst (λ vs. Tells e vs) (sym (both_violations j k)) (h (violations j) (violations k) (finds (λ (v : Vec _ Global). map f v.items) a j x) (finds f b k y)))
 
 -- the rule of a node's own
 pub stands : {T A : Type 0} (a : Result T CheckError) (t : T) (v : Option Violation) (x : A) → Finds a (listed v) → a ≡ Ok t → unless v x ≡ fine x

@@ -132,8 +132,8 @@ loop = refl
 abbrev return_one : Statement
 return_one = return_value (place 1 1) (number (place 1 8) (pos 1))
 
-both_branches_return : last_returns false (statement_and (if_else (place 1 1) (truth (place 1 5) true) return_one (block (place 1 20) (statement_and return_one no_statements))) no_statements) ≡ true
+both_branches_return : last_returns (statement_and (if_else (place 1 1) (truth (place 1 5) true) return_one (block (place 1 20) (statement_and return_one no_statements))) no_statements) ≡ true
 both_branches_return = refl
 
-empty_at_the_end : last_returns false (statement_and return_one (statement_and (empty (place 1 11)) no_statements)) ≡ false
+empty_at_the_end : last_returns (statement_and return_one (statement_and (empty (place 1 11)) no_statements)) ≡ false
 empty_at_the_end = refl

@@ -3,4 +3,5 @@ pub mod Blocks
 pub mod Nodes
 pub mod Walks
 pub mod Lists
+pub mod Gathered
 pub mod Examples

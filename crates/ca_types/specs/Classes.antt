@@ -9,19 +9,19 @@ use Rattle.ca_program.specs.declared.program.ClassId.{ClassId}
 use Rattle.ca_program.specs.declared.program.FieldInfo.{FieldInfo}
 use Rattle.ca_program.specs.declared.program.ValueType.{ValueType}
 use Rattle.ca_program.specs.Plain as program
-use Rattle.ca_resolve.specs.Judged.{Violation, Judged, fine, faulty, both, within, unless, beside, violations}
+use Rattle.ca_resolve.specs.Judged.{Violation, Judged, fine, faulty, both, within, unless, beside, each, violations}
 use Rattle.ca_resolve.specs.Scopes.{Ty, ty_of, find_local, Classes, classes_of, Numbers, after_member, member_name}
 use Rattle.ca_types.specs.Rules.{class_once, member_once, local_once, ends_with_return, length_stands, class_limit, field_limit, operation_limit, function_limit, parameter_limit, local_limit, length_limit}
 use Rattle.ca_types.specs.Statements.{Env, declare, behind_all, judge_type, judge_statements, statements_in}
 
--- a walk over a list, by where the next item stands and what an item adds: where it ends, and what it gives behind `front`
+-- a walk over a list, by where the next item stands: where it ends, and what each item is judged to be
 abbrev pub walked : {S T : Type 0} → (S → T → S) → S → List T → S
 walked next s [] = s
 walked next s (x ∷ xs) = walked next (next s x) xs
 
-abbrev pub gathered : {S T A : Type 0} → (S → T → S) → (S → Judged A → T → Judged A) → S → Judged A → List T → Judged A
-gathered next add s front [] = front
-gathered next add s front (x ∷ xs) = gathered next add (next s x) (add s front x) xs
+abbrev pub along : {S T A : Type 0} → (S → T → S) → (S → T → Judged A) → S → List T → List (Judged A)
+along next judge s [] = []
+along next judge s (x ∷ xs) = judge s x ∷ along next judge (next s x) xs
 
 -- bodies
 
@@ -29,7 +29,6 @@ gathered next add s front (x ∷ xs) = gathered next add (next s x) (add s front
 abbrev pub beginning : Classes → Option ClassId → ℕ → Option Ty → Env
 beginning classes class loops result = record {
   scope = record { classes = classes; class = class; locals = [] };
-  in_block = 0;
   first = 0;
   locals = [];
   loops = loops;
@@ -49,11 +48,8 @@ judge_parameter c p =
     (λ t. unless (local_once c.first (find_local c.scope.locals p.name) p.at) t)
 
 -- only the violations of parameters count
-abbrev pub add_parameter : Env → Judged (Unit {0}) → ParamNode → Judged (Unit {0})
-add_parameter c front p = within (both front (judge_parameter c p)) (λ r. fine r.0)
-
 abbrev pub judge_parameters : Env → List ParamNode → Judged (Unit {0})
-judge_parameters c ps = gathered behind_parameter add_parameter c (fine tt) ps
+judge_parameters c ps = within (each (along behind_parameter judge_parameter c ps)) (λ ts. fine tt)
 
 -- members
 
@@ -114,21 +110,18 @@ judge_parts c m parts =
     (λ p. beside (member_once c.names c.number m.name m.at) (unless (ends_with_return (is_some m.result) m.body m.at) (method_of c m p.0 p.1.1)))
 
 abbrev pub judge_method : MemberEnv → MethodTree → Judged program.PlainMethod
-judge_method c m = judge_parts c m (both (judge_result_type c.classes.names m.result) (both (judge_parameters (method_begin c m) m.params) (judge_statements (body_begin c m) (fine []) m.body)))
+judge_method c m = judge_parts c m (both (judge_result_type c.classes.names m.result) (both (judge_parameters (method_begin c m) m.params) (judge_statements (body_begin c m) m.body)))
+
+-- what a member resolves to
+pub data Member : Type 0 where
+  a_field : FieldInfo → Member
+  a_method : program.PlainMethod → Member
 
 -- what members and classes resolve to: fields of a class, operations and value methods, in order
 pub record Members : Type 0 where
   pub fields : List FieldInfo
   pub ops : List program.PlainMethod
   pub functions : List program.PlainMethod
-
-abbrev pub with_field : Members → FieldInfo → Members
-with_field p f = record { fields = p.fields ++ f ∷ []; ops = p.ops; functions = p.functions }
-
--- an operation has no result
-abbrev pub with_method : Members → Option ValueType → program.PlainMethod → Members
-with_method p None m = record { fields = p.fields; ops = p.ops ++ m ∷ []; functions = p.functions }
-with_method p (Some t) m = record { fields = p.fields; ops = p.ops; functions = p.functions ++ m ∷ [] }
 
 abbrev pub loops_behind : MemberEnv → MemberTree → ℕ
 loops_behind c (field_member f) = c.loops
@@ -147,15 +140,28 @@ behind_member c m = record {
 abbrev pub behind_members : MemberEnv → List MemberTree → MemberEnv
 behind_members = walked behind_member
 
-abbrev pub add_member : MemberEnv → Judged Members → MemberTree → Judged Members
-add_member c front (field_member f) = within (both front (judge_field_member c f)) (λ p. fine (with_field p.0 p.1))
-add_member c front (method_member m) = within (both front (judge_method c m)) (λ p. fine (with_method p.0 p.1.result p.1))
-
 abbrev pub no_members : Members
 no_members = record { fields = []; ops = []; functions = [] }
 
+abbrev pub field_and : FieldInfo → Members → Members
+field_and f p = record { fields = f ∷ p.fields; ops = p.ops; functions = p.functions }
+
+-- an operation has no result
+abbrev pub method_and : Option ValueType → program.PlainMethod → Members → Members
+method_and None m p = record { fields = p.fields; ops = m ∷ p.ops; functions = p.functions }
+method_and (Some t) m p = record { fields = p.fields; ops = p.ops; functions = m ∷ p.functions }
+
+abbrev pub members_of : List Member → Members
+members_of [] = no_members
+members_of (a_field f ∷ ms) = field_and f (members_of ms)
+members_of (a_method m ∷ ms) = method_and m.result m (members_of ms)
+
+abbrev pub judge_member : MemberEnv → MemberTree → Judged Member
+judge_member c (field_member f) = within (judge_field_member c f) (λ i. fine (a_field i))
+judge_member c (method_member m) = within (judge_method c m) (λ x. fine (a_method x))
+
 abbrev pub judge_members : MemberEnv → List MemberTree → Judged Members
-judge_members c ms = gathered behind_member add_member c (fine no_members) ms
+judge_members c ms = within (each (along behind_member judge_member c ms)) (λ xs. fine (members_of xs))
 
 -- classes
 
@@ -195,17 +201,22 @@ pub record Parts : Type 0 where
   pub ops : List program.PlainMethod
   pub functions : List program.PlainMethod
 
-abbrev pub with_class : Parts → List ℕ → Members → Parts
-with_class p name m = record { classes = p.classes ++ record { name = name; fields = m.fields } ∷ []; ops = p.ops ++ m.ops; functions = p.functions ++ m.functions }
-
-abbrev pub add_class : ClassEnv → Judged Parts → ClassTree → Judged Parts
-add_class c front t = within (both front (judge_class c t)) (λ p. fine (with_class p.0 t.name p.1))
-
 abbrev pub no_parts : Parts
 no_parts = record { classes = []; ops = []; functions = [] }
 
+-- a class by its name and members, before others
+abbrev pub class_and : List ℕ × Members → Parts → Parts
+class_and c p = record { classes = record { name = c.0; fields = c.1.fields } ∷ p.classes; ops = c.1.ops ++ p.ops; functions = c.1.functions ++ p.functions }
+
+abbrev pub parts_of : List (List ℕ × Members) → Parts
+parts_of [] = no_parts
+parts_of (c ∷ cs) = class_and c (parts_of cs)
+
+abbrev pub judge_named : ClassEnv → ClassTree → Judged (List ℕ × Members)
+judge_named c t = within (judge_class c t) (λ m. fine (t.name, m))
+
 abbrev pub judge_classes : ClassEnv → List ClassTree → Judged Parts
-judge_classes c ts = gathered behind_class add_class c (fine no_parts) ts
+judge_classes c ts = within (each (along behind_class judge_named c ts)) (λ cs. fine (parts_of cs))
 
 -- the whole
 
@@ -226,7 +237,7 @@ program_of locals p = record {
 
 abbrev pub judge : TextTree → Judged program.PlainProgram
 judge t =
-    within (both (judge_classes (first_class (classes_of t.classes)) t.classes) (judge_statements (main_begin t) (fine []) t.main))
+    within (both (judge_classes (first_class (classes_of t.classes)) t.classes) (judge_statements (main_begin t) t.main))
     (λ p. fine (program_of (behind_all (main_begin t) t.main).locals p))
 
 -- all violations of a tree, passed limits among them

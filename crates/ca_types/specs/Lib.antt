@@ -1,4 +1,5 @@
 pub mod Rules
 pub mod Statements
 pub mod Classes
+pub mod Adding
 pub mod View

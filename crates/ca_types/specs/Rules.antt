@@ -90,7 +90,7 @@ abbrev mutual
   -- a statement returns if it is a `return`, a block whose last statement returns, or an `if` with both branches returning
   pub returns : Statement → Bool
   returns (empty at) = false
-  returns (block at ss) = last_returns false ss
+  returns (block at ss) = last_returns ss
   returns (local at ty name name_at right) = false
   returns (assign at target op right) = false
   returns (call_statement at e) = false
@@ -101,14 +101,15 @@ abbrev mutual
   returns (return_value at e) = true
   returns (print_value at e) = false
 
-  -- whether the last of the statements returns, or with none whether the one before did
-  pub last_returns : Bool → Statements → Bool
-  last_returns before no_statements = before
-  last_returns before (statement_and s ss) = last_returns (returns s) ss
+  -- whether the last of the statements returns
+  pub last_returns : Statements → Bool
+  last_returns no_statements = false
+  last_returns (statement_and s no_statements) = returns s
+  last_returns (statement_and s (statement_and t ss)) = last_returns (statement_and t ss)
 
 -- 30, at the method's name: a value method can't end without a `return`
 abbrev pub ends_with_return : Bool → Statements → Place → Option Violation
-ends_with_return has_result body at = broken_if (has_result && not (last_returns false body)) at WRONG_RETURN
+ends_with_return has_result body at = broken_if (has_result && not (last_returns body)) at WRONG_RETURN
 
 -- 33, at the field's name: an array has at least one item
 abbrev pub length_stands : Option ℤ → Place → Option Violation

@@ -1,5 +1,5 @@
 -- Statements: where each stands, what it resolves to, and the violations in it.
-use Rattle.std.specs.Prelude.{ℕ, ◌+◌, pos, Bool, true, false, List, [], ◌∷◌, ◌++◌, Option, Some, None, length, drop}
+use Rattle.std.specs.Prelude.{ℕ, ◌+◌, pos, Bool, true, false, List, [], ◌∷◌, ◌++◌, Option, Some, None, length}
 use Rattle.ca_tree.specs.declared.name.Place.{Place}
 use Rattle.ca_tree.specs.declared.tree.TypeNode.{TypeNode}
 use Rattle.ca_tree.specs.declared.tree.TypeNode.TheVariants.{Long, Bool as Truth, Pointer}
@@ -13,18 +13,17 @@ use Rattle.ca_program.specs.declared.program.FirstPart.{FirstPart}
 use Rattle.ca_program.specs.declared.program.FirstPart.TheVariants.{Declares, Assigns}
 use Rattle.ca_program.specs.Plain as program
 use Rattle.ca_resolve.specs.declared.codes.TheConstants.{UNKNOWN_CLASS}
-use Rattle.ca_resolve.specs.Judged.{Violation, Judged, fine, faulty, both, within, unless, found, beside}
+use Rattle.ca_resolve.specs.Judged.{Violation, Judged, fine, faulty, both, within, unless, found, beside, each}
 use Rattle.ca_resolve.specs.Scopes.{Ty, long, truth, pointer, undefined, no_object, ty_of, number_of, find_local, Scope, Target, to_local, to_field, to_item}
 use Rattle.ca_resolve.specs.Rules.{value_agrees}
 use Rattle.ca_resolve.specs.Values.{judge_value, judge_for, judge_target, judge_call, place_of, in_order}
 use Rattle.ca_types.specs.Rules.{local_once, condition_agrees, printed_agrees, compound_agrees, writes_no_field, called_operation, creates_nothing, prints_nothing, return_stands, local_limit, loop_limit}
 
--- where a statement stands: what names mean there, how many of the visible locals its own block has declared, the number of
--- the first local that is the block's, the types of all locals that the body has declared, parameters first, how many `for`
--- statements the program has before, and the type of the result, in a value method
+-- where a statement stands: what names mean there, the number of the first local that is its own block's, the types of all
+-- locals that the body has declared, parameters first, how many `for` statements the program has before, and the type of the
+-- result, in a value method
 pub record Env : Type 0 where
   pub scope : Scope
-  pub in_block : ℕ
   pub first : ℕ
   pub locals : List ValueType
   pub loops : ℕ
@@ -32,26 +31,15 @@ pub record Env : Type 0 where
 
 -- where a block begins
 abbrev pub enter_block : Env → Env
-enter_block c = record { scope = c.scope; in_block = 0; first = length c.locals; locals = c.locals; loops = c.loops; result = c.result }
+enter_block c = record { scope = c.scope; first = length c.locals; locals = c.locals; loops = c.loops; result = c.result }
 
 -- behind a block that began at the first, and whose last statement ends at the second
 abbrev pub leave_block : Env → Env → Env
-leave_block c inside = record { scope = c.scope; in_block = c.in_block; first = c.first; locals = inside.locals; loops = inside.loops; result = c.result }
-
--- what the end of a block leaves, inside a block that has declared so many locals and whose first has this number
-abbrev pub left : Env → ℕ → ℕ → Env
-left d in_block first = record {
-  scope = record { classes = d.scope.classes; class = d.scope.class; locals = drop d.in_block d.scope.locals };
-  in_block = in_block;
-  first = first;
-  locals = d.locals;
-  loops = d.loops;
-  result = d.result;
-}
+leave_block c inside = record { scope = c.scope; first = c.first; locals = inside.locals; loops = inside.loops; result = c.result }
 
 -- behind the word `for`
 abbrev pub counted : Env → Env
-counted c = record { scope = c.scope; in_block = c.in_block; first = c.first; locals = c.locals; loops = c.loops + 1; result = c.result }
+counted c = record { scope = c.scope; first = c.first; locals = c.locals; loops = c.loops + 1; result = c.result }
 
 -- types
 
@@ -77,7 +65,6 @@ type_of no_object = LongValue
 abbrev pub declare : Env → Ty → List ℕ → Env
 declare c ty name = record {
   scope = record { classes = c.scope.classes; class = c.scope.class; locals = record { name = name; id = record { 0 = length c.locals }; ty = ty } ∷ c.scope.locals };
-  in_block = c.in_block + 1;
   first = c.first;
   locals = c.locals ++ type_of ty ∷ [];
   loops = c.loops;
@@ -238,14 +225,10 @@ judge_for_loop at number part first cond next body =
     within (beside (loop_limit number at) (both (both first cond) (both next body)))
     (λ p. fine (program.for_loop at.line (record { 0 = number }) part p.0.0 p.0.1 p.1.0 p.1.1))
 
--- these and one more
-abbrev pub added : {A : Type 0} → Judged (List A) → Judged A → Judged (List A)
-added front j = within (both front j) (λ p. fine (p.0 ++ p.1 ∷ []))
-
 abbrev mutual
   pub judge_statement : Env → Statement → Judged program.Statement
   judge_statement c (empty at) = fine (nothing at.line)
-  judge_statement c (block at ss) = judge_block at.line (judge_statements (enter_block c) (fine []) ss)
+  judge_statement c (block at ss) = judge_block at.line (each (judge_each (enter_block c) ss))
   judge_statement c (local at ty name name_at right) = judge_local c at ty name name_at right
   judge_statement c (assign at target op right) = judge_assign c at (judge_put_target c op target) op right
   judge_statement c (call_statement at e) = judge_call_statement c at e
@@ -260,7 +243,11 @@ abbrev mutual
   judge_statement c (return_value at e) = judge_return c at e
   judge_statement c (print_value at e) = judge_print c at e
 
-  -- statements behind others, which gave `front`
-  pub judge_statements : Env → Judged (List program.Statement) → Statements → Judged (List program.Statement)
-  judge_statements c front no_statements = front
-  judge_statements c front (statement_and s ss) = judge_statements (behind c s) (added front (judge_statement c s)) ss
+  -- each of the statements, where it stands
+  pub judge_each : Env → Statements → List (Judged program.Statement)
+  judge_each c no_statements = []
+  judge_each c (statement_and s ss) = judge_statement c s ∷ judge_each (behind c s) ss
+
+-- statements in order
+abbrev pub judge_statements : Env → Statements → Judged (List program.Statement)
+judge_statements c ss = each (judge_each c ss)

@@ -1,5 +1,5 @@
 -- What the walk keeps, as the definitions see it.
-use Rattle.std.specs.Prelude.{List, map}
+use Rattle.std.specs.Prelude.{ℕ, ◌-◌, List, map, length, drop}
 use Rattle.std.specs.Option.{option_map}
 use Rattle.ca_resolve.specs.LocalView.{ty_view}
 use Rattle.ca_resolve.specs.View.{classes_view}
@@ -29,11 +29,21 @@ use Rattle.ca_types.specs.declared.walk.Walk.{Walk}
 abbrev pub env_view : Walk → Env
 env_view w = record {
   scope = record { classes = classes_view w.classes.now; class = w.class; locals = w.visible };
-  in_block = w.in_block;
   first = w.first;
   locals = w.locals.items;
   loops = w.loops;
   result = option_map ty_view w.result;
+}
+
+-- what the walk leaves at the end of a block: so many locals are visible outside, and the first local of the block round it
+-- has this number
+abbrev pub left : Env → ℕ → ℕ → Env
+left d visible first = record {
+  scope = record { classes = d.scope.classes; class = d.scope.class; locals = drop (length d.scope.locals - visible) d.scope.locals };
+  first = first;
+  locals = d.locals;
+  loops = d.loops;
+  result = d.result;
 }
 
 abbrev pub source_view : CodeSource → Source

@@ -192,7 +192,7 @@ fn returns(stmt: &StmtNode) -> bool
 /// Whether the last statement does.
 #[cycle(returns)]
 fn last_returns(stmts: &[StmtNode]) -> bool
-    ensures { result ≡ last_returns false (statements_view stmts.now) }
+    ensures { result ≡ last_returns (statements_view stmts.now) }
 {
     let mut last = false;
     for stmt in stmts {

@@ -1,14 +1,14 @@
 //! Statements.
 
-ghost use Rattle.std.specs.Prelude.{◌≡◌, List, ◌∷◌, [], map, IfOk, OnOk};
+ghost use Rattle.std.specs.Prelude.{◌≡◌, List, ◌∷◌, [], map, length, IfOk, OnOk};
 ghost use Rattle.ca_tree.specs.View.{statement_view as tree_view, statements_view as tree_views, expression_view, option_right_view};
 ghost use Rattle.ca_tree.specs.Plain as tree;
 ghost use Rattle.ca_program.specs.Plain.{Expression, Statement};
 ghost use Rattle.ca_program.specs.View as program;
 ghost use Rattle.ca_resolve.specs.Judged.{Answers, Judged, fine};
 ghost use Rattle.ca_resolve.specs.Scopes.{ty_of};
-ghost use Rattle.ca_types.specs.Statements.{nothing, first_part, judge_block, judge_if, judge_while, judge_for_loop, judge_statement, judge_statements, judge_local, judge_condition, declare, behind, behind_all, enter_block, counted, leave_block, left};
-ghost use Rattle.ca_types.specs.View.{env_view, all_view, boxed_view};
+ghost use Rattle.ca_types.specs.Statements.{nothing, first_part, judge_block, judge_if, judge_while, judge_for_loop, judge_statement, judge_statements, judge_local, judge_condition, declare, behind, behind_all, enter_block, counted, leave_block};
+ghost use Rattle.ca_types.specs.View.{env_view, left, all_view, boxed_view};
 
 use crate::limits::{MOST_LOOPS, bound};
 use crate::lines::{check_call_statement, check_condition, check_print, check_return};
@@ -237,7 +237,7 @@ fn check_head<'a>(
     at: Place,
     first: &'a StmtNode,
 ) -> Result<(Outer, Head), AllocError>
-    ensures in_block { IfOk result (λ p. p.0.in_block ≡ (env_view walk.old).in_block) }
+    ensures visible { IfOk result (λ p. p.0.visible ≡ length (env_view walk.old).scope.locals) }
     ensures first { IfOk result (λ p. p.0.first ≡ (env_view walk.old).first) }
     ensures at { IfOk result (λ p. p.1.at ≡ at) }
     ensures site { IfOk result (λ p. p.1.site.0 ≡ (env_view walk.old).loops) }
@@ -306,7 +306,7 @@ fn check_rounds<'a>(
     next: Answer<Box<Stmt>>,
 ) -> Result<Answer<Stmt>, AllocError>
     ensures judged { (f j : Judged Statement) → Answers boxed_view head.first f → Answers boxed_view next j → IfOk result (λ a. Answers program.statement_view a (judge_for_loop head.at head.site.0 head.part f (judge_condition (env_view walk.old).scope (expression_view cond.now)) j (judge_statement (enter_block (env_view walk.old)) (tree_view body.now)))) }
-    ensures behind { OnOk result (env_view walk.new ≡ left (leave_block (env_view walk.old) (behind (enter_block (env_view walk.old)) (tree_view body.now))) outer.in_block outer.first) }
+    ensures behind { OnOk result (env_view walk.new ≡ left (leave_block (env_view walk.old) (behind (enter_block (env_view walk.old)) (tree_view body.now))) outer.visible outer.first) }
 {
     let cond = check_condition(alloc, &walk.scope(), cond);
     let body = check_inner(alloc, walk, body)?;
@@ -321,7 +321,7 @@ pub(crate) fn check_statements<'a>(
     walk: &mut Walk<'_, 'a>,
     stmts: &'a [StmtNode],
 ) -> Result<Answer<Vec<Stmt>>, AllocError>
-    ensures judged { IfOk result (λ a. Answers all_view a (judge_statements (env_view walk.old) (fine []) (tree_views stmts.now))) }
+    ensures judged { IfOk result (λ a. Answers all_view a (judge_statements (env_view walk.old) (tree_views stmts.now))) }
     ensures behind { OnOk result (env_view walk.new ≡ behind_all (env_view walk.old) (tree_views stmts.now)) }
 {
     let mut answers = Ok(Vec::new(alloc));

@@ -7,9 +7,9 @@ ghost use Rattle.ca_resolve.specs.View.{scope_view, classes_view};
 ghost use Rattle.ca_resolve.specs.Judged.{Finds};
 ghost use Rattle.ca_resolve.specs.Scopes.{find_local};
 ghost use Rattle.ca_types.specs.Rules.{listed, local_once};
-ghost use Rattle.ca_types.specs.Statements.{type_of, declare, enter_block, left, counted};
+ghost use Rattle.ca_types.specs.Statements.{type_of, declare, enter_block, counted};
 ghost use Rattle.ca_types.specs.Classes.{beginning};
-ghost use Rattle.ca_types.specs.View.{env_view};
+ghost use Rattle.ca_types.specs.View.{env_view, left};
 
 use crate::rules::{Answer, rule};
 use ca_program::{ClassId, LocalId, LoopId, ValueType};
@@ -18,10 +18,10 @@ use ca_resolve::{ClassTable, Locals, Scope, Ty, VisibleLocal};
 use ca_tree::{Name, Place};
 use std::alloc::{AllocError, Global};
 
-/// How many locals the block round another has declared, and the number of its first.
+/// How many locals are visible outside a block, and the number of the first local of the block round it.
 #[derive(Clone, Copy)]
 pub(crate) struct Outer {
-    pub(crate) in_block: usize,
+    pub(crate) visible: usize,
     pub(crate) first: usize,
 }
 
@@ -34,8 +34,6 @@ pub(crate) struct Walk<'s, 'a> {
     /// In a value method, the type of its result.
     pub(crate) result: Option<Ty<'a>>,
     pub(crate) visible: Locals<'a>,
-    /// How many of them the innermost block has declared.
-    pub(crate) in_block: usize,
     /// The number of the first local that is this block's.
     pub(crate) first: usize,
     /// The types of all locals of the body so far, parameters first.
@@ -60,7 +58,6 @@ impl<'s, 'a> Walk<'s, 'a> {
             class,
             result: returned,
             visible: Locals::new(alloc),
-            in_block: 0,
             first: 0,
             locals: Vec::new(alloc),
             loops,
@@ -98,9 +95,7 @@ impl<'s, 'a> Walk<'s, 'a> {
         ensures { OnOk result (env_view self.new ≡ declare (env_view self.old) (ty_view ty.entry) name.now) }
     {
         let id = self.next_local()?;
-        let in_block = self.in_block.checked_add(1).ok_or(AllocError)?;
         self.visible.push(VisibleLocal { name, id, ty })?;
-        self.in_block = in_block;
         self.locals.push(type_of(&ty))?;
         Ok(())
     }
@@ -108,24 +103,23 @@ impl<'s, 'a> Walk<'s, 'a> {
     /// Begins a block, and gives what the block round it needs at its end.
     pub(crate) fn enter_block(&mut self) -> Outer
         ensures enter_block { env_view self.new ≡ enter_block (env_view self.old) }
-        ensures in_block { result.in_block ≡ (env_view self.old).in_block }
+        ensures visible { result.visible ≡ length (env_view self.old).scope.locals }
         ensures first { result.first ≡ (env_view self.old).first }
     {
         let outer = Outer {
-            in_block: self.in_block,
+            visible: self.visible.len(),
             first: self.first,
         };
-        self.in_block = 0;
         self.first = self.count();
         outer
     }
 
     /// Ends a block inside the other.
     pub(crate) fn leave_block(&mut self, outer: Outer)
-        ensures { env_view self.new ≡ left (env_view self.old) outer.in_block outer.first }
+        ensures { env_view self.new ≡ left (env_view self.old) outer.visible outer.first }
     {
-        leave(&mut self.visible, self.in_block);
-        self.in_block = outer.in_block;
+        let declared = self.visible.len().saturating_sub(outer.visible);
+        leave(&mut self.visible, declared);
         self.first = outer.first;
     }
 

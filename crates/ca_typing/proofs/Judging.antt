@@ -3,7 +3,11 @@ use Rattle.std.proofs.Common.{◌≡◌, ℕ, List, [], ◌∷◌, Bool, true, f
 use Rattle.std.specs.Prelude.{not, Option, Some, None}
 use Rattle.ca_tree.specs.declared.name.Place.{Place}
 use Rattle.ca_resolve.specs.Judged.{Violation, Judged, fine, faulty, both, within, unless, found, broken_if, beside}
-use Rattle.ca_types.specs.Classes.{gathered}
+use Rattle.ca_program.specs.declared.program.FirstPart.{FirstPart}
+use Rattle.ca_program.specs.Plain as program
+use Rattle.ca_types.specs.Rules.{loop_limit}
+use Rattle.ca_types.specs.Statements.{judge_if, judge_for_loop}
+use Rattle.ca_types.specs.Adding.{gathered}
 
 pub same_fine : {A : Type 0} (a b : A) → fine a ≡ fine b → a ≡ b
 same_fine a b h = cc
@@ -50,6 +54,45 @@ not_not false h = absurd (cc)
 
 pub kept : {A : Type 0} (agrees : Bool) (at : Place) (code : ℕ) (a b : A) → unless (broken_if (not agrees) at code) a ≡ fine b → (agrees ≡ true) × (a ≡ b)
 kept agrees at code a b h = (not_not agrees (not_broken (not agrees) at code (none_broken (broken_if (not agrees) at code) a b h)), unless_fine (broken_if (not agrees) at code) a b h)
+
+-- an `if` and a `for` whose parts are judged
+pub record IfFine (line : ℕ) (i : Judged program.Expression) (j k : Judged program.Statement) (x : program.Statement) : Type 0 where
+  pub cond : program.Expression
+  pub one : program.Statement
+  pub other : program.Statement
+  pub cond_is : i ≡ fine cond
+  pub one_is : j ≡ fine one
+  pub other_is : k ≡ fine other
+  pub is : program.if_else line cond one other ≡ x
+
+pub if_fine : (line : ℕ) (i : Judged program.Expression) (j k : Judged program.Statement) (x : program.Statement) → judge_if line i j k ≡ fine x → IfFine line i j k x
+if_fine line i j k x h =
+    let w = made_fine (both i (both j k)) (λ (r : program.Expression × (program.Statement × program.Statement)). program.if_else line r.0 r.1.0 r.1.1) x h in
+    let a = both_fine i (both j k) w.0 w.1 in
+    let d = both_fine j k w.0.1 a.1 in
+    record { cond = w.0.0; one = w.0.1.0; other = w.0.1.1; cond_is = a.0; one_is = d.0; other_is = d.1; is = w.2 }
+
+pub record ForFine (at : Place) (number : ℕ) (part : FirstPart) (f : Judged program.Statement) (i : Judged program.Expression) (j k : Judged program.Statement) (x : program.Statement) : Type 0 where
+  pub first : program.Statement
+  pub cond : program.Expression
+  pub next : program.Statement
+  pub body : program.Statement
+  pub first_is : f ≡ fine first
+  pub cond_is : i ≡ fine cond
+  pub next_is : j ≡ fine next
+  pub body_is : k ≡ fine body
+  pub is : program.for_loop at.line (record { 0 = number }) part first cond next body ≡ x
+
+pub for_fine : (at : Place) (number : ℕ) (part : FirstPart) (f : Judged program.Statement) (i : Judged program.Expression) (j k : Judged program.Statement) (x : program.Statement)
+    → judge_for_loop at number part f i j k ≡ fine x → ForFine at number part f i j k x
+for_fine at number part f i j k x h =
+    let all = both (both f i) (both j k) in
+    let made = λ (r : (program.Statement × program.Expression) × (program.Statement × program.Statement)). program.for_loop at.line (record { 0 = number }) part r.0.0 r.0.1 r.1.0 r.1.1 in
+    let w = made_fine (beside (loop_limit number at) all) made x h in
+    let u = both_fine (both f i) (both j k) w.0 (beside_fine (loop_limit number at) all w.0 w.1).1 in
+    let a = both_fine f i w.0.0 u.0 in
+    let b = both_fine j k w.0.1 u.1 in
+    record { first = w.0.0.0; cond = w.0.0.1; next = w.0.1.0; body = w.0.1.1; first_is = a.0; cond_is = a.1; next_is = b.0; body_is = b.1; is = w.2 }
 
 -- a walk over a list that asks what comes in front to be fine
 module _ {S T A : Type 0} (next : S → T → S) (add : S → Judged A → T → Judged A) (strict : (s : S) (j : Judged A) (x : T) (b : A) → add s j x ≡ fine b → (a : A) × (j ≡ fine a)) where

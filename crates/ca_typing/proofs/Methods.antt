@@ -1,5 +1,5 @@
 -- A method that is judged fine is well typed, and its parameters and its result have the types that calls are judged by.
-use Rattle.std.proofs.Common.{◌≡◌, ℕ, List, [], ◌∷◌, ◌++◌, true, false, length, map, take, refl, sym, subst, ap, ◌∙◌, arith}
+use Rattle.std.proofs.Common.{◌≡◌, ℕ, List, [], ◌∷◌, ◌++◌, true, length, map, take, refl, sym, subst, ap, ◌∙◌, arith}
 use Rattle.std.specs.Prelude.{Option, Some, None, is_some, not, ◌&&◌}
 use Rattle.std.proofs.lemmas.List.{append_assoc, append-nil, length-map}
 use Rattle.ca_tree.specs.declared.tree.TypeNode.{TypeNode}
@@ -14,13 +14,15 @@ use Rattle.ca_resolve.specs.Judged.{Judged, fine, both, unless, beside}
 use Rattle.ca_resolve.specs.Scopes.{Ty, ty_of, find_local}
 use Rattle.ca_types.specs.Rules.{member_once, local_once, ends_with_return, parameter_limit, local_limit, last_returns}
 use Rattle.ca_types.specs.Statements.{Env, judge_type, type_of, judge_statements}
-use Rattle.ca_types.specs.Classes.{gathered, behind_parameter, behind_parameters, judge_parameter, add_parameter, judge_parameters, MemberEnv, judge_result_type, result_ty, method_limit, method_begin, body_begin, method_end, method_of, judge_method}
+use Rattle.ca_types.specs.Classes.{behind_parameter, behind_parameters, judge_parameter, judge_parameters, MemberEnv, judge_result_type, result_ty, method_limit, method_begin, body_begin, method_end, method_of, judge_method}
+use Rattle.ca_types.specs.Adding.{gathered, add_parameter}
+use Rattle.ca_types.proofs.Gathered.{parameters_gathered}
 use Rattle.ca_typing.proofs.Fits.{StatementsFit}
 use Rattle.ca_typing.proofs.Lists.{Begins, begins_itself, begins_through, begins_taken, begins_shorter, item_there}
 use Rattle.ca_typing.proofs.Judging.{same_fine, within_fine, made_fine, both_fine, unless_fine, none_broken, beside_fine, not_broken, not_not, gathered_fine}
 use Rattle.ca_typing.proofs.Types.{Declared, type_declared}
 use Rattle.ca_typing.proofs.Values.{AllDeclared, ClassesTyped}
-use Rattle.ca_typing.proofs.Statements.{ResultTyped, Stands, all_grow, in_order_typed, statements_typed}
+use Rattle.ca_typing.proofs.Statements.{ResultTyped, Stands, from_none, all_grow, in_order_typed, statements_typed}
 use Rattle.ca_typing.proofs.Returning.{statements_return}
 
 abbrev pub parameter_tys : List (List ℕ) → List ParamNode → List Ty
@@ -69,8 +71,8 @@ pub record MethodFine (c : MemberEnv) (m : MethodTree) (method : PlainMethod) : 
   pub result : Option ValueType
   pub statements : List program.Statement
   pub result_is : judge_result_type c.classes.names m.result ≡ fine result
-  pub parameters_are : judge_parameters (method_begin c m) m.params ≡ fine tt
-  pub statements_are : judge_statements (body_begin c m) (fine []) m.body ≡ fine statements
+  pub parameters_are : gathered behind_parameter add_parameter (method_begin c m) (fine tt) m.params ≡ fine tt
+  pub statements_are : judge_statements (body_begin c m) m.body ≡ fine statements
   pub ends : ends_with_return (is_some m.result) m.body m.at ≡ None
   pub is : method_of c m result statements ≡ method
 
@@ -78,7 +80,7 @@ pub method_fine : (c : MemberEnv) (m : MethodTree) (method : PlainMethod) → ju
 method_fine c m method h =
     let results = judge_result_type c.classes.names m.result in
     let parameters = judge_parameters (method_begin c m) m.params in
-    let statements = judge_statements (body_begin c m) (fine []) m.body in
+    let statements = judge_statements (body_begin c m) m.body in
     let parts = both results (both parameters statements) in
     let limit = method_limit c.numbers m.result m.at in
     let once = member_once c.names c.number m.name m.at in
@@ -91,7 +93,7 @@ method_fine c m method h =
       result = w.0.0;
       statements = w.0.1.1;
       result_is = b.0;
-      parameters_are = d.0;
+      parameters_are = sym (parameters_gathered (method_begin c m) m.params) ∙ d.0;
       statements_are = d.1;
       ends = none_broken ends (method_of c m w.0.0 w.0.1.1) method k.1;
       is = unless_fine ends (method_of c m w.0.0 w.0.1.1) method k.1;
@@ -133,7 +135,7 @@ module _ (c : MemberEnv) (m : MethodTree) (method : PlainMethod) (f : MethodFine
       let grown = all_grow (body_begin c m) m.body in
       let start : Stands p q begin = record { scope = record { classes = classes; class = refl; locals = tt }; result = result_typed c.classes.names m.result f.result f.result_is } in
       let stands = parameters_stand p q begin m.params start (parameters_declared begin m.params tt tt f.parameters_are) grown in
-      let body = (statements_typed p q (body_begin c m) m.body [] f.statements stands fits (begins_itself (method_end c m).locals) tt f.statements_are).0 in
+      let body = (statements_typed p q (body_begin c m) m.body [] f.statements stands fits (begins_itself (method_end c m).locals) tt (from_none (body_begin c m) m.body f.statements f.statements_are)).0 in
       let few = begins_shorter (body_begin c m).locals (method_end c m).locals grown in
       let many = as_many in
       let typed : MethodTyped p made = record { class = class; parameters = omega (arith, few, many); body = in_order_typed p q f.statements body } in
@@ -142,6 +144,6 @@ module _ (c : MemberEnv) (m : MethodTree) (method : PlainMethod) (f : MethodFine
   -- a value method can't end without a `return`
   pub method_returns : is_some m.result ≡ true → LastReturns method.body.statements
   method_returns some =
-      let ends = not_broken (is_some m.result && not (last_returns false m.body)) m.at 30 f.ends in
-      let last : last_returns false m.body ≡ true = not_not (last_returns false m.body) (ap (λ b. b && not (last_returns false m.body)) (sym some) ∙ ends) in
-      subst (λ (x : PlainMethod). LastReturns x.body.statements) f.is (statements_return (body_begin c m) m.body [] f.statements false (λ z. absurd (cc)) f.statements_are last)
+      let ends = not_broken (is_some m.result && not (last_returns m.body)) m.at 30 f.ends in
+      let last : last_returns m.body ≡ true = not_not (last_returns m.body) (ap (λ b. b && not (last_returns m.body)) (sym some) ∙ ends) in
+      subst (λ (x : PlainMethod). LastReturns x.body.statements) f.is (statements_return (body_begin c m) m.body f.statements f.statements_are last)

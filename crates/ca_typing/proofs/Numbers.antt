@@ -17,12 +17,14 @@ use Rattle.ca_parallel.specs.Marks.{loops_of_method, loops_of_program}
 use Rattle.ca_resolve.specs.Judged.{Judged, fine, both, within, unless, beside}
 use Rattle.ca_resolve.specs.Scopes.{Target, to_local, to_field, to_item, Ty, ty_of, find_local, classes_of}
 use Rattle.ca_resolve.specs.Values.{place_of, in_order, judge_call}
-use Rattle.ca_types.specs.Rules.{local_once, called_operation, creates_nothing, prints_nothing, return_stands, local_limit, loop_limit}
+use Rattle.ca_types.specs.Rules.{local_once, called_operation, creates_nothing, prints_nothing, return_stands, local_limit}
 use Rattle.ca_types.specs.Statements.{Env, enter_block, leave_block, counted, behind, behind_all, judge_type, Source, of_value, of_new, creates, judge_wanted, judge_right, put, judge_put_target, right_ty, judge_assign, judge_start, start_creates, judge_local, judge_call_statement, judge_condition, judge_return, judge_printed, judge_print, nothing, first_part, statements_in, judge_statement, judge_statements}
-use Rattle.ca_types.specs.Classes.{gathered, behind_parameters, behind_parameter, MemberEnv, body_begin, method_begin, method_end, judge_method, Members, with_method, behind_member, behind_members, add_member, no_members, ClassEnv, class_begin, behind_class, behind_classes, Parts, add_class, no_parts, judge_classes, first_class, main_begin, program_of, judge}
+use Rattle.ca_types.specs.Classes.{behind_parameters, behind_parameter, MemberEnv, body_begin, method_begin, method_end, judge_method, Members, behind_member, behind_members, no_members, ClassEnv, class_begin, behind_class, behind_classes, Parts, no_parts, judge_classes, first_class, main_begin, program_of, judge}
+use Rattle.ca_types.specs.Adding.{gathered, with_method, add_member, add_class}
+use Rattle.ca_types.proofs.Gathered.{classes_gathered}
 use Rattle.ca_typing.specs.Loops.{LoopsNumbered}
-use Rattle.ca_typing.proofs.Judging.{same_fine, within_fine, made_fine, both_fine, unless_fine, beside_fine, gathered_fine}
-use Rattle.ca_typing.proofs.Statements.{statements_fine}
+use Rattle.ca_typing.proofs.Judging.{same_fine, within_fine, made_fine, both_fine, unless_fine, beside_fine, gathered_fine, for_fine, if_fine}
+use Rattle.ca_typing.proofs.Statements.{Continues, from_none, none_behind, statements_fine}
 use Rattle.ca_typing.proofs.Methods.{method_fine}
 use Rattle.ca_typing.proofs.Members.{members_strict, field_added, method_added}
 use Rattle.ca_typing.proofs.Typing.{classes_strict, class_added}
@@ -93,8 +95,8 @@ mutual
   statement_numbered : (c : Env) (s : Statement) (x : program.Statement) → judge_statement c s ≡ fine x → Ascends c.loops (fors_in x) (behind c s).loops
   statement_numbered c (empty at) x h = leaf c.loops (nothing at.line) x refl (same_fine (nothing at.line) x h)
   statement_numbered c (block at ss) x h =
-      let w = made_fine (judge_statements (enter_block c) (fine []) ss) (λ all. program.block at.line (statements_in all)) x h in
-      let t = statements_numbered (enter_block c) ss [] w.0 c.loops (let le : c.loops ≤ c.loops = omega arith in le) w.1 in
+      let w = made_fine (judge_statements (enter_block c) ss) (λ all. program.block at.line (statements_in all)) x h in
+      let t = statements_numbered (enter_block c) ss [] w.0 c.loops (let le : c.loops ≤ c.loops = omega arith in le) (from_none (enter_block c) ss w.0 w.1) in
       subst (λ y. Ascends c.loops (fors_in y) (behind_all (enter_block c) ss).loops) w.2 (subst (λ xs. Ascends c.loops xs (behind_all (enter_block c) ss).loops) (sym (in_order_is w.0)) t)
   statement_numbered c (local at ty name name_at right) x h = local_numbered c at ty name name_at right x h
   statement_numbered c (assign at target op right) x h = assign_numbered c at target op right x h
@@ -104,11 +106,10 @@ mutual
       let yes_part = judge_statement (enter_block c) s in
       let no_part : Judged program.Statement = fine (nothing at.line) in
       let last = behind (enter_block c) s in
-      let w = made_fine (both test (both yes_part no_part)) (λ (r : program.Expression × (program.Statement × program.Statement)). program.if_else at.line r.0 r.1.0 r.1.1) x h in
-      let d = both_fine yes_part no_part w.0.1 (both_fine test (both yes_part no_part) w.0 w.1).1 in
-      let two = statement_numbered (enter_block c) s w.0.1.0 d.0 in
-      let three = leaf last.loops (nothing at.line) w.0.1.1 refl (same_fine (nothing at.line) w.0.1.1 d.1) in
-      subst (λ y. Ascends c.loops (fors_in y) last.loops) w.2 (ascends_then c.loops (fors_in w.0.1.0) last.loops (fors_in w.0.1.1) last.loops two three)
+      let w = if_fine at.line test yes_part no_part x h in
+      let two = statement_numbered (enter_block c) s w.one w.one_is in
+      let three = leaf last.loops (nothing at.line) w.other refl (same_fine (nothing at.line) w.other w.other_is) in
+      subst (λ y. Ascends c.loops (fors_in y) last.loops) w.is (ascends_then c.loops (fors_in w.one) last.loops (fors_in w.other) last.loops two three)
   statement_numbered c (if_else at e a b) x h =
       let first = behind (enter_block c) a in
       let other = enter_block (leave_block c first) in
@@ -116,11 +117,10 @@ mutual
       let test = judge_condition c.scope e in
       let yes_part = judge_statement (enter_block c) a in
       let no_part = judge_statement other b in
-      let w = made_fine (both test (both yes_part no_part)) (λ (r : program.Expression × (program.Statement × program.Statement)). program.if_else at.line r.0 r.1.0 r.1.1) x h in
-      let d = both_fine yes_part no_part w.0.1 (both_fine test (both yes_part no_part) w.0 w.1).1 in
-      let two = statement_numbered (enter_block c) a w.0.1.0 d.0 in
-      let three = statement_numbered other b w.0.1.1 d.1 in
-      subst (λ y. Ascends c.loops (fors_in y) last.loops) w.2 (ascends_then c.loops (fors_in w.0.1.0) first.loops (fors_in w.0.1.1) last.loops two three)
+      let w = if_fine at.line test yes_part no_part x h in
+      let two = statement_numbered (enter_block c) a w.one w.one_is in
+      let three = statement_numbered other b w.other w.other_is in
+      subst (λ y. Ascends c.loops (fors_in y) last.loops) w.is (ascends_then c.loops (fors_in w.one) first.loops (fors_in w.other) last.loops two three)
   statement_numbered c (while_loop at e s) x h =
       let test = judge_condition c.scope e in
       let body = judge_statement (enter_block c) s in
@@ -137,25 +137,20 @@ mutual
       let test = judge_condition begun.scope e in
       let step = judge_statement (enter_block begun) next in
       let body = judge_statement turn s in
-      let all = both (both first_part_j test) (both step body) in
-      let made = λ (r : (program.Statement × program.Expression) × (program.Statement × program.Statement)). program.for_loop at.line (record { 0 = c.loops }) (first_part first) r.0.0 r.0.1 r.1.0 r.1.1 in
-      let w = made_fine (beside (loop_limit c.loops at) all) made x h in
-      let u = both_fine (both first_part_j test) (both step body) w.0 (beside_fine (loop_limit c.loops at) all w.0 w.1).1 in
-      let a = both_fine first_part_j test w.0.0 u.0 in
-      let b = both_fine step body w.0.1 u.1 in
-      let one : Ascends (c.loops + 1) (fors_in w.0.0.0) begun.loops = statement_numbered begin first w.0.0.0 a.0 in
-      let two = statement_numbered (enter_block begun) next w.0.1.0 b.0 in
-      let three = statement_numbered turn s w.0.1.1 b.1 in
-      let rest : Ascends (c.loops + 1) (fors_in w.0.0.0 ++ (fors_in w.0.1.0 ++ fors_in w.0.1.1)) last.loops =
-      ascends_then (c.loops + 1) (fors_in w.0.0.0) begun.loops (fors_in w.0.1.0 ++ fors_in w.0.1.1) last.loops one
-      (ascends_then begun.loops (fors_in w.0.1.0) stepped.loops (fors_in w.0.1.1) last.loops two three) in
-      subst (λ y. Ascends c.loops (fors_in y) last.loops) w.2
-      (let le : c.loops ≤ c.loops = omega arith in le, ascends_earlier (suc c.loops) (c.loops + 1) (fors_in w.0.0.0 ++ (fors_in w.0.1.0 ++ fors_in w.0.1.1)) last.loops (let le : suc c.loops ≤ c.loops + 1 = omega arith in le) rest)
+      let w = for_fine at c.loops (first_part first) first_part_j test step body x h in
+      let one : Ascends (c.loops + 1) (fors_in w.first) begun.loops = statement_numbered begin first w.first w.first_is in
+      let two = statement_numbered (enter_block begun) next w.next w.next_is in
+      let three = statement_numbered turn s w.body w.body_is in
+      let rest : Ascends (c.loops + 1) (fors_in w.first ++ (fors_in w.next ++ fors_in w.body)) last.loops =
+      ascends_then (c.loops + 1) (fors_in w.first) begun.loops (fors_in w.next ++ fors_in w.body) last.loops one
+      (ascends_then begun.loops (fors_in w.next) stepped.loops (fors_in w.body) last.loops two three) in
+      subst (λ y. Ascends c.loops (fors_in y) last.loops) w.is
+      (let le : c.loops ≤ c.loops = omega arith in le, ascends_earlier (suc c.loops) (c.loops + 1) (fors_in w.first ++ (fors_in w.next ++ fors_in w.body)) last.loops (let le : suc c.loops ≤ c.loops + 1 = omega arith in le) rest)
   statement_numbered c (return_value at e) x h = return_numbered c at e x h
   statement_numbered c (print_value at e) x h = print_numbered c at e x h
 
-  statements_numbered : (c : Env) (ss : Statements) (front all : List program.Statement) (n : ℕ) → Ascends n (flat_map fors_in front) c.loops → judge_statements c (fine front) ss ≡ fine all → Ascends n (flat_map fors_in all) (behind_all c ss).loops
-  statements_numbered c no_statements front all n asc h = subst (λ xs. Ascends n (flat_map fors_in xs) c.loops) (same_fine front all h) asc
+  statements_numbered : (c : Env) (ss : Statements) (front all : List program.Statement) (n : ℕ) → Ascends n (flat_map fors_in front) c.loops → Continues c front ss all → Ascends n (flat_map fors_in all) (behind_all c ss).loops
+  statements_numbered c no_statements front all n asc h = subst (λ xs. Ascends n (flat_map fors_in xs) c.loops) (none_behind c front all h) asc
   statements_numbered c (statement_and s ss) front all n asc h =
       let d = behind c s in
       let w = statements_fine c front s ss all h in
@@ -173,7 +168,7 @@ method_numbered : (c : MemberEnv) (m : MethodTree) (x : PlainMethod) → judge_m
 method_numbered c m x h =
     let f = method_fine c m x h in
     let start : c.loops ≤ (body_begin c m).loops = let e = parameters_hold_none (method_begin c m) m.params in omega (arith, e) in
-    let t = statements_numbered (body_begin c m) m.body [] f.statements c.loops start f.statements_are in
+    let t = statements_numbered (body_begin c m) m.body [] f.statements c.loops start (from_none (body_begin c m) m.body f.statements f.statements_are) in
     subst (λ (y : PlainMethod). Ascends c.loops (loops_of_method y) (method_end c m).loops) f.is (subst (λ xs. Ascends c.loops xs (method_end c m).loops) (sym (in_order_is f.statements)) t)
 
 abbrev loops_of : List PlainMethod → List program.Statement
@@ -213,14 +208,14 @@ pub loops_are_numbered : (t : TextTree) (p : PlainProgram) → judge t ≡ fine 
 loops_are_numbered t p h =
     let cs = classes_of t.classes in
     let classes = judge_classes (first_class cs) t.classes in
-    let lines = judge_statements (main_begin t) (fine []) t.main in
+    let lines = judge_statements (main_begin t) t.main in
     let locals = (behind_all (main_begin t) t.main).locals in
     let last = (behind_all (main_begin t) t.main).loops in
     let w = made_fine (both classes lines) (λ (r : Parts × List program.Statement). program_of locals r) p h in
     let b = both_fine classes lines w.0 w.1 in
     let start : ℕ = (behind_classes (first_class cs) t.classes).loops in
-    let ops = classes_numbered (first_class cs) no_parts w.0.0 t.classes 0 (let le : 0 ≤ 0 = omega arith in le) b.0 in
-    let main = statements_numbered (main_begin t) t.main [] w.0.1 start (let le : start ≤ start = omega arith in le) b.1 in
+    let ops = classes_numbered (first_class cs) no_parts w.0.0 t.classes 0 (let le : 0 ≤ 0 = omega arith in le) (sym (classes_gathered (first_class cs) t.classes) ∙ b.0) in
+    let main = statements_numbered (main_begin t) t.main [] w.0.1 start (let le : start ≤ start = omega arith in le) (from_none (main_begin t) t.main w.0.1 b.1) in
     let all : Ascends 0 (loops_of_program (program_of locals w.0)) last =
     ascends_then 0 (loops_of w.0.0.ops) start (fors_in_all (statements_in w.0.1)) last ops (subst (λ xs. Ascends start xs last) (sym (in_order_is w.0.1)) main) in
     let numbered : LoopsNumbered (program_of locals w.0) =

@@ -1,5 +1,5 @@
 -- The operations of a program that a tree resolves to name the counters of their loops inside these alone.
-use Rattle.std.proofs.Common.{◌≡◌, ◌⊎◌, ℕ, List, [], ◌∷◌, ◌++◌, Bool, true, false, Option, Some, None, refl, sym, subst, ap, arith}
+use Rattle.std.proofs.Common.{◌≡◌, List, [], ◌∷◌, ◌++◌, Bool, true, false, Option, Some, None, refl, sym, subst, ◌∙◌, arith}
 use Rattle.std.specs.Prelude.{Contains, length, slice_index_or}
 use Rattle.std.proofs.lemmas.List.Elements.{Contains-append_cases}
 use Rattle.ca_tree.specs.declared.tree.ParamNode.{ParamNode}
@@ -7,16 +7,19 @@ use Rattle.ca_tree.specs.Plain.{MethodTree, MemberTree, ClassTree, TextTree, fie
 use Rattle.ca_program.specs.declared.program.ValueType.{ValueType}
 use Rattle.ca_program.specs.Plain as program
 use Rattle.ca_program.specs.Plain.{PlainProgram, PlainMethod}
-use Rattle.ca_parallel.specs.Scoped.{any_counts, any_names_outside, Scoped, OperationsScoped}
-use Rattle.ca_resolve.specs.Judged.{Judged, fine, both}
+use Rattle.ca_parallel.specs.Scoped.{any_names_outside, Scoped, OperationsScoped}
+use Rattle.ca_resolve.specs.Judged.{fine, both}
 use Rattle.ca_resolve.specs.Scopes.{ty_of, classes_of}
 use Rattle.ca_types.specs.Statements.{Env, behind_all, statements_in, judge_statements}
-use Rattle.ca_types.specs.Classes.{gathered, behind_parameters, behind_parameter, MemberEnv, body_begin, method_begin, judge_method, Members, with_method, behind_member, behind_members, add_member, no_members, ClassEnv, class_begin, behind_class, Parts, add_class, no_parts, judge_classes, first_class, main_begin, program_of, judge}
+use Rattle.ca_types.specs.Classes.{behind_parameters, behind_parameter, MemberEnv, body_begin, method_begin, judge_method, Members, behind_member, no_members, ClassEnv, class_begin, behind_class, Parts, no_parts, judge_classes, first_class, main_begin, program_of, judge}
+use Rattle.ca_types.specs.Adding.{gathered, with_method, add_member, add_class}
+use Rattle.ca_types.proofs.Gathered.{classes_gathered}
 use Rattle.ca_typing.proofs.Judging.{same_fine, made_fine, both_fine, gathered_fine}
 use Rattle.ca_typing.proofs.Methods.{method_fine}
 use Rattle.ca_typing.proofs.Members.{members_strict, field_added, method_added}
 use Rattle.ca_typing.proofs.Typing.{classes_strict, class_added}
-use Rattle.ca_typing.proofs.Visible.{pick, Visible}
+use Rattle.ca_typing.proofs.Visible.{pick}
+use Rattle.ca_typing.proofs.Statements.{from_none}
 use Rattle.ca_typing.proofs.Scoping.{BoundedAt, declares, stays, none_stand, all_stand}
 
 parameters_bounded : (c : Env) (ps : List ParamNode) → BoundedAt c → BoundedAt (behind_parameters c ps)
@@ -32,7 +35,7 @@ method_scoped c m x h =
     let f = method_fine c m x h in
     let begin = body_begin c m in
     let b : BoundedAt begin = parameters_bounded (method_begin c m) m.params (λ n v. absurd v) in
-    let t = all_stand begin begin m.body [] f.statements b (stays begin.scope.locals (length begin.locals) b) (none_stand begin) f.statements_are in
+    let t = all_stand begin begin m.body [] f.statements b (stays begin.scope.locals (length begin.locals) b) (none_stand begin) (from_none begin m.body f.statements f.statements_are) in
     subst (λ (y : PlainMethod). Scoped y.body.statements) f.is (λ n q. not_true (any_names_outside (statements_in f.statements) n) (λ p. t.apart n q p))
 
 -- all of these are
@@ -77,8 +80,8 @@ classes_scoped c a all (t ∷ ts) f h =
 pub operations_are_scoped : (t : TextTree) (p : PlainProgram) → judge t ≡ fine p → OperationsScoped p
 operations_are_scoped t p h =
     let classes = judge_classes (first_class (classes_of t.classes)) t.classes in
-    let lines = judge_statements (main_begin t) (fine []) t.main in
+    let lines = judge_statements (main_begin t) t.main in
     let locals = (behind_all (main_begin t) t.main).locals in
     let w = made_fine (both classes lines) (λ (r : Parts × List program.Statement). program_of locals r) p h in
     let b = both_fine classes lines w.0 w.1 in
-    subst OperationsScoped w.2 (classes_scoped (first_class (classes_of t.classes)) no_parts w.0.0 t.classes (λ m k. absurd (none_there m k)) b.0)
+    subst OperationsScoped w.2 (classes_scoped (first_class (classes_of t.classes)) no_parts w.0.0 t.classes (λ m k. absurd (none_there m k)) (sym (classes_gathered (first_class (classes_of t.classes)) t.classes) ∙ b.0))

@@ -1,12 +1,11 @@
 -- In a body that is judged fine the local that a `for` declares is named by the condition, the last part and the body of
 -- that loop alone.
-use Rattle.std.proofs.Common.{◌≡◌, ◌⊎◌, inl, inr, ◌≤◌, ◌<◌, ℕ, suc, ◌+◌, List, [], ◌∷◌, ◌++◌, Bool, true, false, ◌||◌, cond, refl, sym, subst, ap, ◌∙◌, arith}
-use Rattle.std.specs.Prelude.{Option, Some, None, nat_eq, length, Contains}
+use Rattle.std.proofs.Common.{◌≡◌, ◌⊎◌, inl, inr, ◌≤◌, ◌<◌, ℕ, ◌+◌, List, [], ◌∷◌, ◌++◌, Bool, true, false, ◌||◌, cond, refl, sym, subst, ap, ◌∙◌, arith}
+use Rattle.std.specs.Prelude.{Option, Some, None, nat_eq, length}
 use Rattle.std.proofs.lemmas.Bool.{eqb-true, or_cases, or_left, or_right}
 use Rattle.std.proofs.lemmas.List.{length-append}
 use Rattle.ca_tree.specs.declared.name.Place.{Place}
 use Rattle.ca_tree.specs.declared.tree.TypeNode.{TypeNode}
-use Rattle.ca_tree.specs.declared.tree.ParamNode.{ParamNode}
 use Rattle.ca_tree.specs.declared.tree.AssignOp.{AssignOp}
 use Rattle.ca_tree.specs.declared.tree.AssignOp.TheVariants.{Put}
 use Rattle.ca_tree.specs.Plain.{Expression, RightSide, value, new, Statement, Statements, empty, block, local, assign, call_statement, if_only, if_else, while_loop, for_loop, return_value, print_value, no_statements, statement_and}
@@ -19,13 +18,12 @@ use Rattle.ca_program.specs.Plain as program
 use Rattle.ca_parallel.specs.Scoped.{names, any_names, counts, any_counts, names_outside, any_names_outside}
 use Rattle.ca_resolve.specs.Judged.{Judged, fine, both, within, unless, beside}
 use Rattle.ca_resolve.specs.Scopes.{Target, to_local, to_field, to_item, Ty, long, truth, pointer, undefined, no_object, VisibleLocal, Scope, ty_of, find_local}
-use Rattle.ca_resolve.specs.Rules.{value_agrees}
-use Rattle.ca_resolve.specs.Values.{place_of, in_order, value_for, judge_value, judge_for, judge_call, judge_target}
-use Rattle.ca_types.specs.Rules.{local_once, condition_agrees, printed_agrees, compound_agrees, writes_no_field, called_operation, creates_nothing, prints_nothing, return_stands, local_limit, loop_limit}
+use Rattle.ca_resolve.specs.Values.{place_of, in_order, judge_value, judge_call, judge_target}
+use Rattle.ca_types.specs.Rules.{local_once, condition_agrees, printed_agrees, compound_agrees, writes_no_field, called_operation, creates_nothing, prints_nothing, return_stands, local_limit}
 use Rattle.ca_types.specs.Statements.{Env, enter_block, leave_block, counted, declare, behind, behind_all, class_defined, judge_type, Source, of_value, of_new, creates, judge_wanted, new_agrees, judge_right, put, judge_put_target, right_ty, judge_assign, start_value, judge_start, start_creates, judge_local, judge_call_statement, judge_condition, judge_return, judge_printed, judge_print, nothing, first_part, type_of, statements_in, judge_statement, judge_statements}
-use Rattle.ca_typing.proofs.Judging.{same_fine, within_fine, made_fine, both_fine, unless_fine, beside_fine}
-use Rattle.ca_typing.proofs.Statements.{statements_fine}
-use Rattle.ca_typing.proofs.Visible.{pick, Visible, Names, AllName, TargetNames, value_names, for_value_names, call_names, target_names}
+use Rattle.ca_typing.proofs.Judging.{same_fine, within_fine, made_fine, both_fine, unless_fine, beside_fine, for_fine, if_fine}
+use Rattle.ca_typing.proofs.Statements.{Continues, from_none, none_behind, statements_fine}
+use Rattle.ca_typing.proofs.Visible.{pick, Visible, Names, TargetNames, value_names, for_value_names, call_names, target_names}
 
 -- ---- where a statement stands and where the next one does: the visible locals, and how many the body has declared
 
@@ -399,9 +397,9 @@ mutual
   stands : (c : Env) (s : Statement) (x : program.Statement) → BoundedAt c → judge_statement c s ≡ fine x → StandsAt c (behind c s) x
   stands c (empty at) x b h = sees_at c (nothing at.line) x (λ n k. absurd cc) (λ n. refl) (same_fine (nothing at.line) x h)
   stands c (block at ss) x b h =
-      let w = made_fine (judge_statements (enter_block c) (fine []) ss) (λ all. program.block at.line (statements_in all)) x h in
+      let w = made_fine (judge_statements (enter_block c) ss) (λ all. program.block at.line (statements_in all)) x h in
       let inside = behind_all (enter_block c) ss in
-      let t = all_stand (enter_block c) (enter_block c) ss [] w.0 b (stays c.scope.locals (length c.locals) b) (none_stand (enter_block c)) w.1 in
+      let t = all_stand (enter_block c) (enter_block c) ss [] w.0 b (stays c.scope.locals (length c.locals) b) (none_stand (enter_block c)) (from_none (enter_block c) ss w.0 w.1) in
       subst (λ y. StandsAt c (leave_block c inside) y) w.2 (left b t)
   stands c (local at ty name name_at right) x b h = local_stands c (ty_of c.scope.classes.names ty) name x (declared c at ty name name_at right x h)
   stands c (assign at target op right) x b h = assign_stands c at target op right x h
@@ -411,17 +409,15 @@ mutual
       let yes_part = judge_statement (enter_block c) s in
       let no_part : Judged program.Statement = fine (nothing at.line) in
       let last = behind (enter_block c) s in
-      let w = made_fine (both test (both yes_part no_part)) (λ (r : program.Expression × (program.Statement × program.Statement)). program.if_else at.line r.0 r.1.0 r.1.1) x h in
-      let a = both_fine test (both yes_part no_part) w.0 w.1 in
-      let d = both_fine yes_part no_part w.0.1 a.1 in
-      let seen = condition_names c.scope e w.0.0 a.0 in
-      let two = left b (stands (enter_block c) s w.0.1.0 b d.0) in
+      let w = if_fine at.line test yes_part no_part x h in
+      let seen = condition_names c.scope e w.cond w.cond_is in
+      let two = left b (stands (enter_block c) s w.one b w.one_is) in
       let g = back c last b (goes (enter_block c) s b).grows in
-      let none : Told (names_outside w.0.1.1) ≡ Told (names_outside (nothing at.line)) = ap (λ y. Told (names_outside y)) (sym (same_fine (nothing at.line) w.0.1.1 d.1)) in
-      let three : Stands c.scope.locals (length last.locals) c.scope.locals (length last.locals) (Told (names_outside w.0.1.1)) (Told (counts w.0.1.1)) =
-      subst (λ y. Stands c.scope.locals (length last.locals) c.scope.locals (length last.locals) (Told (names_outside y)) (Told (counts y))) (same_fine (nothing at.line) w.0.1.1 d.1) (leaf (nothing at.line) (λ n k. absurd cc) (λ n. refl)) in
-      subst (λ y. StandsAt c (leave_block c last) y) w.2
-      (narrow (λ n p. rest_told w.0.0 w.0.1.0 w.0.1.1 n p) (λ n q. inr (pick (or_cases (counts w.0.1.0 n) (counts w.0.1.1 n) q) (λ j. inl j) (λ j. inr j)))
+      let none : Told (names_outside w.other) ≡ Told (names_outside (nothing at.line)) = ap (λ y. Told (names_outside y)) (sym (same_fine (nothing at.line) w.other w.other_is)) in
+      let three : Stands c.scope.locals (length last.locals) c.scope.locals (length last.locals) (Told (names_outside w.other)) (Told (counts w.other)) =
+      subst (λ y. Stands c.scope.locals (length last.locals) c.scope.locals (length last.locals) (Told (names_outside y)) (Told (counts y))) (same_fine (nothing at.line) w.other w.other_is) (leaf (nothing at.line) (λ n k. absurd cc) (λ n. refl)) in
+      subst (λ y. StandsAt c (leave_block c last) y) w.is
+      (narrow (λ n p. rest_told w.cond w.one w.other n p) (λ n q. inr (pick (or_cases (counts w.one n) (counts w.other n) q) (λ j. inl j) (λ j. inr j)))
       (join b (stays c.scope.locals (length c.locals) b) g (reads seen) (join b g (stays c.scope.locals (length last.locals) g.bounded) two three)))
   stands c (if_else at e first other) x b h =
       let one = behind (enter_block c) first in
@@ -430,18 +426,16 @@ mutual
       let test = judge_condition c.scope e in
       let yes_part = judge_statement (enter_block c) first in
       let no_part = judge_statement turned other in
-      let w = made_fine (both test (both yes_part no_part)) (λ (r : program.Expression × (program.Statement × program.Statement)). program.if_else at.line r.0 r.1.0 r.1.1) x h in
-      let a = both_fine test (both yes_part no_part) w.0 w.1 in
-      let d = both_fine yes_part no_part w.0.1 a.1 in
-      let seen = condition_names c.scope e w.0.0 a.0 in
-      let two = left b (stands (enter_block c) first w.0.1.0 b d.0) in
+      let w = if_fine at.line test yes_part no_part x h in
+      let seen = condition_names c.scope e w.cond w.cond_is in
+      let two = left b (stands (enter_block c) first w.one b w.one_is) in
       let g = back c one b (goes (enter_block c) first b).grows in
       let k = goes turned other g.bounded in
-      let three = left g.bounded (stands turned other w.0.1.1 g.bounded d.1) in
+      let three = left g.bounded (stands turned other w.other g.bounded w.other_is) in
       let h2 = leaves c.scope.locals (length one.locals) last.scope.locals (length last.locals) g.bounded k.grows in
       let whole = then c.scope.locals (length c.locals) c.scope.locals (length one.locals) c.scope.locals (length last.locals) g h2 in
-      subst (λ y. StandsAt c (leave_block c last) y) w.2
-      (narrow (λ n p. rest_told w.0.0 w.0.1.0 w.0.1.1 n p) (λ n q. inr (pick (or_cases (counts w.0.1.0 n) (counts w.0.1.1 n) q) (λ j. inl j) (λ j. inr j)))
+      subst (λ y. StandsAt c (leave_block c last) y) w.is
+      (narrow (λ n p. rest_told w.cond w.one w.other n p) (λ n q. inr (pick (or_cases (counts w.one n) (counts w.other n) q) (λ j. inl j) (λ j. inr j)))
       (join b (stays c.scope.locals (length c.locals) b) whole (reads seen) (join b g h2 two three)))
   stands c (while_loop at e s) x b h =
       let test = judge_condition c.scope e in
@@ -463,23 +457,18 @@ mutual
       let test = judge_condition begun.scope e in
       let step = judge_statement (enter_block begun) next in
       let body = judge_statement turn s in
-      let all = both (both first_j test) (both step body) in
-      let made = λ (r : (program.Statement × program.Expression) × (program.Statement × program.Statement)). program.for_loop at.line (record { 0 = c.loops }) (first_part first) r.0.0 r.0.1 r.1.0 r.1.1 in
-      let w = made_fine (beside (loop_limit c.loops at) all) made x h in
-      let u = both_fine (both first_j test) (both step body) w.0 (beside_fine (loop_limit c.loops at) all w.0 w.1).1 in
-      let p = both_fine first_j test w.0.0 u.0 in
-      let q = both_fine step body w.0.1 u.1 in
+      let w = for_fine at c.loops (first_part first) first_j test step body x h in
       let f = goes begin first b in
       let g = back begun stepped f.bounded (goes (enter_block begun) next f.bounded).grows in
       let k = goes turn s g.bounded in
       let m = leaves begun.scope.locals (length stepped.locals) last.scope.locals (length last.locals) g.bounded k.grows in
       let turned = then begun.scope.locals (length begun.locals) begun.scope.locals (length stepped.locals) begun.scope.locals (length last.locals) g m in
-      let tested = reads (condition_names begun.scope e w.0.0.1 p.1) in
-      let two = left f.bounded (stands (enter_block begun) next w.0.1.0 f.bounded q.0) in
-      let three = left g.bounded (stands turn s w.0.1.1 g.bounded q.1) in
+      let tested = reads (condition_names begun.scope e w.cond w.cond_is) in
+      let two = left f.bounded (stands (enter_block begun) next w.next f.bounded w.next_is) in
+      let three = left g.bounded (stands turn s w.body g.bounded w.body_is) in
       let rest = join f.bounded (stays begun.scope.locals (length begun.locals) f.bounded) turned tested (join f.bounded g m two three) in
-      subst (λ y. StandsAt c (leave_block c last) y) w.2
-      (loop_stands c at.line (record { 0 = c.loops }) first w.0.0.0 w.0.0.1 w.0.1.0 w.0.1.1 (length last.locals) b f turned p.0 (stands begin first w.0.0.0 b p.0) rest)
+      subst (λ y. StandsAt c (leave_block c last) y) w.is
+      (loop_stands c at.line (record { 0 = c.loops }) first w.first w.cond w.next w.body (length last.locals) b f turned w.first_is (stands begin first w.first b w.first_is) rest)
   stands c (return_value at e) x b h = return_stands_at c at e x h
   stands c (print_value at e) x b h = print_stands c at e x h
 
@@ -512,8 +501,8 @@ mutual
       let begun = behind (enter_block (counted c)) first in
       general c.scope.locals begun.scope.locals (length c.locals) (length begun.locals) m b f g (program.for_loop line site Assigns y e next body) y next body e (λ n. refl) (λ n. refl) s t
 
-  pub all_stand : (b0 c : Env) (ss : Statements) (front all : List program.Statement) → BoundedAt b0 → Goes b0 c → AllStand b0 c front → judge_statements c (fine front) ss ≡ fine all → AllStand b0 (behind_all c ss) all
-  all_stand b0 c no_statements front all b o t h = subst (λ xs. AllStand b0 c xs) (same_fine front all h) t
+  pub all_stand : (b0 c : Env) (ss : Statements) (front all : List program.Statement) → BoundedAt b0 → Goes b0 c → AllStand b0 c front → Continues c front ss all → AllStand b0 (behind_all c ss) all
+  all_stand b0 c no_statements front all b o t h = subst (λ xs. AllStand b0 c xs) (none_behind c front all h) t
   all_stand b0 c (statement_and s ss) front all b o t h =
       let d = behind c s in
       let w = statements_fine c front s ss all h in

@@ -1,5 +1,5 @@
 -- A statement that is judged fine is well typed among the locals of its whole body.
-use Rattle.std.proofs.Common.{◌≡◌, ℕ, List, [], ◌∷◌, ◌++◌, Bool, true, false, length, refl, sym, subst, ap, ◌∙◌, arith}
+use Rattle.std.proofs.Common.{◌≡◌, ℕ, List, [], ◌∷◌, ◌++◌, Bool, true, false, length, refl, sym, subst, ap, ◌∙◌, append_assoc, append-nil, arith}
 use Rattle.std.specs.Prelude.{◌⊎◌, Option, Some, None, slice_get, is_some, not, ◌&&◌, pos}
 use Rattle.std.specs.Int.{w64}
 use Rattle.std.specs.List.{AllByRecursion}
@@ -21,11 +21,11 @@ use Rattle.ca_resolve.specs.Scopes.{Ty, long, truth, pointer, undefined, no_obje
 use Rattle.ca_resolve.specs.Scopes as scopes
 use Rattle.ca_resolve.specs.Rules.{is_target, is_item_target, can_hold, is_long, is_truth}
 use Rattle.ca_resolve.specs.Values.{place_of, in_order, judge_found, judge_value, judge_for, judge_target, judge_call}
-use Rattle.ca_types.specs.Rules.{local_once, condition_agrees, printed_agrees, compound_agrees, writes_no_field, called_operation, creates_nothing, prints_nothing, return_stands, local_limit, loop_limit, is_own, has_text}
-use Rattle.ca_types.specs.Statements.{Env, enter_block, leave_block, counted, declare, behind, behind_all, class_defined, judge_type, type_of, Source, of_value, of_new, creates, judge_wanted, new_agrees, judge_right, put, judge_put_target, right_ty, judge_assign, start_value, judge_start, start_creates, judge_local, judge_call_statement, judge_condition, judge_return, judge_printed, judge_print, nothing, first_part, statements_in, added, judge_statement, judge_statements}
+use Rattle.ca_types.specs.Rules.{local_once, condition_agrees, printed_agrees, compound_agrees, writes_no_field, called_operation, creates_nothing, prints_nothing, return_stands, local_limit, is_own, has_text}
+use Rattle.ca_types.specs.Statements.{Env, enter_block, leave_block, counted, declare, behind, behind_all, class_defined, judge_type, type_of, Source, of_value, of_new, creates, judge_wanted, new_agrees, judge_right, put, judge_put_target, right_ty, judge_assign, start_value, judge_start, start_creates, judge_local, judge_call_statement, judge_condition, judge_return, judge_printed, judge_print, nothing, first_part, statements_in, judge_statement, judge_statements}
 use Rattle.ca_typing.proofs.Fits.{NumbersFit, RightFits, StartFits, StatementFits, StatementsFit}
 use Rattle.ca_typing.proofs.Lists.{Begins, begins_itself, begins_through, item_there, all_append}
-use Rattle.ca_typing.proofs.Judging.{same_fine, within_fine, made_fine, both_fine, unless_fine, none_broken, beside_fine, not_broken, not_not, kept}
+use Rattle.ca_typing.proofs.Judging.{same_fine, within_fine, made_fine, both_fine, unless_fine, none_broken, beside_fine, not_broken, not_not, kept, for_fine, if_fine}
 use Rattle.ca_typing.proofs.Types.{Holds, Declared, declared_holds, class_found, type_declared, one_type, long_type, truth_type, text_type}
 use Rattle.ca_typing.proofs.Values.{ScopeTyped, MeaningTyped, FoundTyped, own_class, value_fits, found_typed, value_typed, call_typed}
 
@@ -60,24 +60,26 @@ mutual
   all_grow c no_statements = begins_itself c.locals
   all_grow c (statement_and s ss) = begins_through c.locals (behind c s).locals (behind_all (behind c s) ss).locals (grows c s) (all_grow (behind c s) ss)
 
--- statements that are judged fine behind others, which were
-pub front_fine : (c : Env) (j : Judged (List program.Statement)) (ss : Statements) (all : List program.Statement) → judge_statements c j ss ≡ fine all → (front : List program.Statement) × (j ≡ fine front)
-front_fine c j no_statements all h = (all, h)
-front_fine c j (statement_and s ss) all h =
-    let f = front_fine (behind c s) (added j (judge_statement c s)) ss all h in
-    let w = made_fine (both j (judge_statement c s)) (λ (r : List program.Statement × program.Statement). r.0 ++ r.1 ∷ []) f.0 f.1 in
-    (w.0.0, (both_fine j (judge_statement c s) w.0 w.1).0)
+-- statements that are judged fine, and these behind others
+pub record Continues (c : Env) (front : List program.Statement) (ss : Statements) (all : List program.Statement) : Type 0 where
+  pub these : List program.Statement
+  pub judged : judge_statements c ss ≡ fine these
+  pub is : front ++ these ≡ all
+
+pub from_none : (c : Env) (ss : Statements) (all : List program.Statement) → judge_statements c ss ≡ fine all → Continues c [] ss all
+from_none c ss all h = record { these = all; judged = h; is = refl }
+
+pub none_behind : (c : Env) (front all : List program.Statement) → Continues c front no_statements all → front ≡ all
+none_behind c front all h = sym (append-nil front) ∙ (ap (λ xs. front ++ xs) (same_fine [] h.these h.judged) ∙ h.is)
 
 -- the first of them, and the rest behind it
-pub statements_fine : (c : Env) (front : List program.Statement) (s : Statement) (ss : Statements) (all : List program.Statement) → judge_statements c (fine front) (statement_and s ss) ≡ fine all
-    → (x : program.Statement) × (judge_statement c s ≡ fine x) × (judge_statements (behind c s) (fine (front ++ x ∷ [])) ss ≡ fine all)
+pub statements_fine : (c : Env) (front : List program.Statement) (s : Statement) (ss : Statements) (all : List program.Statement) → Continues c front (statement_and s ss) all
+    → (x : program.Statement) × (judge_statement c s ≡ fine x) × Continues (behind c s) (front ++ x ∷ []) ss all
 statements_fine c front s ss all h =
-    let f = front_fine (behind c s) (added (fine front) (judge_statement c s)) ss all h in
-    let w = made_fine (both (fine front) (judge_statement c s)) (λ (r : List program.Statement × program.Statement). r.0 ++ r.1 ∷ []) f.0 f.1 in
-    let b = both_fine (fine front) (judge_statement c s) w.0 w.1 in
-    let e : f.0 ≡ front ++ w.0.1 ∷ [] = sym w.2 ∙ ap (λ (xs : List program.Statement). xs ++ w.0.1 ∷ []) (sym (same_fine front w.0.0 b.0)) in
-    let g = f.1 ∙ ap (λ (xs : List program.Statement). fine xs) e in
-    (w.0.1, b.1, ap (λ j. judge_statements (behind c s) j ss) (sym g) ∙ h)
+    let more = judge_statements (behind c s) ss in
+    let w = made_fine (both (judge_statement c s) more) (λ (r : program.Statement × List program.Statement). r.0 ∷ r.1) h.these h.judged in
+    let b = both_fine (judge_statement c s) more w.0 w.1 in
+    (w.0.0, b.0, record { these = w.0.1; judged = b.1; is = append_assoc front (w.0.0 ∷ []) w.0.1 ∙ (ap (λ xs. front ++ xs) w.2 ∙ h.is) })
 
 operation_fine : (result : Option Ty) (callee : Callee) (at : Place) (o : OpId) → called_operation result callee at ≡ fine o → (callee ≡ operation o) × (is_some result ≡ false)
 operation_fine result (operation u) at o h =
@@ -299,8 +301,8 @@ module _ (p : PlainProgram) (q : TypesOf) where
         → StatementTyped p q x × Stands (behind c s)
     statement_typed c (empty at) x here fits g h = (subst (StatementTyped p q) (same_fine (nothing at.line) x h) tt, here)
     statement_typed c (block at ss) x here fits g h =
-        let w = made_fine (judge_statements (enter_block c) (fine []) ss) (λ all. program.block at.line (statements_in all)) x h in
-        let t = statements_typed (enter_block c) ss [] w.0 (entered_stands c here) fits g tt w.1 in
+        let w = made_fine (judge_statements (enter_block c) ss) (λ all. program.block at.line (statements_in all)) x h in
+        let t = statements_typed (enter_block c) ss [] w.0 (entered_stands c here) fits g tt (from_none (enter_block c) ss w.0 w.1) in
         (subst (StatementTyped p q) w.2 (in_order_typed w.0 t.0), left_stands c (behind_all (enter_block c) ss) here)
     statement_typed c (local at ty name name_at right) x here fits g h = local_typed c here at ty name name_at right x fits g h
     statement_typed c (assign at target op right) x here fits g h = (assign_typed c here at target op right x fits.0 fits.1 h, here)
@@ -309,26 +311,22 @@ module _ (p : PlainProgram) (q : TypesOf) where
         let test = judge_condition c.scope e in
         let yes_part = judge_statement (enter_block c) s in
         let no_part : Judged program.Statement = fine (nothing at.line) in
-        let w = made_fine (both test (both yes_part no_part)) (λ (r : program.Expression × (program.Statement × program.Statement)). program.if_else at.line r.0 r.1.0 r.1.1) x h in
-        let b = both_fine test (both yes_part no_part) w.0 w.1 in
-        let d = both_fine yes_part no_part w.0.1 b.1 in
-        let one = condition_typed c here c.scope e w.0.0 here.scope fits.0 b.0 in
-        let two = statement_typed (enter_block c) s w.0.1.0 (entered_stands c here) fits.1 g d.0 in
-        let three = subst (StatementTyped p q) (same_fine (nothing at.line) w.0.1.1 d.1) tt in
-        (subst (StatementTyped p q) w.2 (one, two.0, three), left_stands c (behind (enter_block c) s) here)
+        let w = if_fine at.line test yes_part no_part x h in
+        let one = condition_typed c here c.scope e w.cond here.scope fits.0 w.cond_is in
+        let two = statement_typed (enter_block c) s w.one (entered_stands c here) fits.1 g w.one_is in
+        let three = subst (StatementTyped p q) (same_fine (nothing at.line) w.other w.other_is) tt in
+        (subst (StatementTyped p q) w.is (one, two.0, three), left_stands c (behind (enter_block c) s) here)
     statement_typed c (if_else at e a b) x here fits g h =
         let first = behind (enter_block c) a in
         let other = enter_block (leave_block c first) in
         let test = judge_condition c.scope e in
         let yes_part = judge_statement (enter_block c) a in
         let no_part = judge_statement other b in
-        let w = made_fine (both test (both yes_part no_part)) (λ (r : program.Expression × (program.Statement × program.Statement)). program.if_else at.line r.0 r.1.0 r.1.1) x h in
-        let u = both_fine test (both yes_part no_part) w.0 w.1 in
-        let d = both_fine yes_part no_part w.0.1 u.1 in
-        let one = condition_typed c here c.scope e w.0.0 here.scope fits.0 u.0 in
-        let two = statement_typed (enter_block c) a w.0.1.0 (entered_stands c here) fits.1 (begins_through first.locals (behind other b).locals q.locals (grows other b) g) d.0 in
-        let three = statement_typed other b w.0.1.1 (entered_stands (leave_block c first) (left_stands c first here)) fits.2 g d.1 in
-        (subst (StatementTyped p q) w.2 (one, two.0, three.0), left_stands c (behind other b) here)
+        let w = if_fine at.line test yes_part no_part x h in
+        let one = condition_typed c here c.scope e w.cond here.scope fits.0 w.cond_is in
+        let two = statement_typed (enter_block c) a w.one (entered_stands c here) fits.1 (begins_through first.locals (behind other b).locals q.locals (grows other b) g) w.one_is in
+        let three = statement_typed other b w.other (entered_stands (leave_block c first) (left_stands c first here)) fits.2 g w.other_is in
+        (subst (StatementTyped p q) w.is (one, two.0, three.0), left_stands c (behind other b) here)
     statement_typed c (while_loop at e s) x here fits g h =
         let test = judge_condition c.scope e in
         let body = judge_statement (enter_block c) s in
@@ -347,25 +345,20 @@ module _ (p : PlainProgram) (q : TypesOf) where
         let test = judge_condition begun.scope e in
         let step = judge_statement (enter_block begun) next in
         let body = judge_statement turn s in
-        let all = both (both first_part_j test) (both step body) in
-        let made = λ (r : (program.Statement × program.Expression) × (program.Statement × program.Statement)). program.for_loop at.line (record { 0 = c.loops }) (first_part first) r.0.0 r.0.1 r.1.0 r.1.1 in
-        let w = made_fine (beside (loop_limit c.loops at) all) made x h in
-        let u = both_fine (both first_part_j test) (both step body) w.0 (beside_fine (loop_limit c.loops at) all w.0 w.1).1 in
-        let a = both_fine first_part_j test w.0.0 u.0 in
-        let b = both_fine step body w.0.1 u.1 in
+        let w = for_fine at c.loops (first_part first) first_part_j test step body x h in
         let to_step = begins_through stepped.locals last.locals q.locals (grows turn s) g in
         let to_begun = begins_through begun.locals stepped.locals q.locals (grows (enter_block begun) next) to_step in
-        let one = statement_typed begin first w.0.0.0 (counted_stands c here) fits.0 to_begun a.0 in
-        let two = condition_typed begun one.1 begun.scope e w.0.0.1 one.1.scope fits.1 a.1 in
-        let three = statement_typed (enter_block begun) next w.0.1.0 (entered_stands begun one.1) fits.2 to_step b.0 in
-        let four = statement_typed turn s w.0.1.1 (entered_stands (leave_block begun stepped) (left_stands begun stepped one.1)) fits.3 g b.1 in
-        (subst (StatementTyped p q) w.2 (one.0, two, three.0, four.0), left_stands c last here)
+        let one = statement_typed begin first w.first (counted_stands c here) fits.0 to_begun w.first_is in
+        let two = condition_typed begun one.1 begun.scope e w.cond one.1.scope fits.1 w.cond_is in
+        let three = statement_typed (enter_block begun) next w.next (entered_stands begun one.1) fits.2 to_step w.next_is in
+        let four = statement_typed turn s w.body (entered_stands (leave_block begun stepped) (left_stands begun stepped one.1)) fits.3 g w.body_is in
+        (subst (StatementTyped p q) w.is (one.0, two, three.0, four.0), left_stands c last here)
     statement_typed c (return_value at e) x here fits g h = (return_typed c here at e x fits h, here)
     statement_typed c (print_value at e) x here fits g h = (print_typed c here at e x fits h, here)
 
     pub statements_typed : (c : Env) (ss : Statements) (front all : List program.Statement) → Stands c → StatementsFit ss → Begins (behind_all c ss).locals q.locals → AllByRecursion (StatementTyped p q) front
-        → judge_statements c (fine front) ss ≡ fine all → AllByRecursion (StatementTyped p q) all × Stands (behind_all c ss)
-    statements_typed c no_statements front all here fits g typed h = (subst (AllByRecursion (StatementTyped p q)) (same_fine front all h) typed, here)
+        → Continues c front ss all → AllByRecursion (StatementTyped p q) all × Stands (behind_all c ss)
+    statements_typed c no_statements front all here fits g typed h = (subst (AllByRecursion (StatementTyped p q)) (none_behind c front all h) typed, here)
     statements_typed c (statement_and s ss) front all here fits g typed h =
         let d = behind c s in
         let w = statements_fine c front s ss all h in

@@ -4,7 +4,7 @@ use Rattle.std.specs.Prelude.{Some, ◌&&◌, ◌⊎◌}
 use Rattle.ca_tree.specs.declared.tree.UnaryOp.{UnaryOp}
 use Rattle.ca_tree.specs.declared.tree.UnaryOp.TheVariants as sign
 use Rattle.ca_tree.specs.declared.tree.BinaryOp.{BinaryOp}
-use Rattle.ca_tree.specs.declared.tree.BinaryOp.TheVariants.{Or, And, Equal, NotEqual, Less, Greater, LessEqual, GreaterEqual, Plus, Minus, Times, Divide, Remainder}
+use Rattle.ca_tree.specs.declared.tree.BinaryOp.TheVariants.{Or, And, Equal, NotEqual}
 use Rattle.ca_tree.specs.declared.tree.TypeNode.{TypeNode}
 use Rattle.ca_tree.specs.declared.tree.TypeNode.TheVariants.{Long, Bool as Truth, Pointer}
 use Rattle.ca_program.specs.declared.program.ClassId.{ClassId}
@@ -115,15 +115,7 @@ sides_typed Or a b P Q p q h = let w = both_truth a b P Q p q h in (TruthValue, 
 sides_typed And a b P Q p q h = let w = both_truth a b P Q p q h in (TruthValue, (refl, refl), w.0, w.1)
 sides_typed Equal a b P Q p q h = let w = compared a b P Q p q h in (w.0, refl, w.1, w.2)
 sides_typed NotEqual a b P Q p q h = let w = compared a b P Q p q h in (w.0, refl, w.1, w.2)
-sides_typed Less a b P Q p q h = let w = both_long a b P Q p q h in (LongValue, (refl, refl), w.0, w.1)
-sides_typed Greater a b P Q p q h = let w = both_long a b P Q p q h in (LongValue, (refl, refl), w.0, w.1)
-sides_typed LessEqual a b P Q p q h = let w = both_long a b P Q p q h in (LongValue, (refl, refl), w.0, w.1)
-sides_typed GreaterEqual a b P Q p q h = let w = both_long a b P Q p q h in (LongValue, (refl, refl), w.0, w.1)
-sides_typed Plus a b P Q p q h = let w = both_long a b P Q p q h in (LongValue, (refl, refl), w.0, w.1)
-sides_typed Minus a b P Q p q h = let w = both_long a b P Q p q h in (LongValue, (refl, refl), w.0, w.1)
-sides_typed Times a b P Q p q h = let w = both_long a b P Q p q h in (LongValue, (refl, refl), w.0, w.1)
-sides_typed Divide a b P Q p q h = let w = both_long a b P Q p q h in (LongValue, (refl, refl), w.0, w.1)
-sides_typed Remainder a b P Q p q h = let w = both_long a b P Q p q h in (LongValue, (refl, refl), w.0, w.1)
+sides_typed other a b P Q p q h = let w = both_long a b P Q p q h in (LongValue, (refl, refl), w.0, w.1)
 
 pub signed_typed : (op : UnaryOp) (t : Ty) (P : ValueType → Type 0) → Holds t P → takes_unary op t ≡ true → P (signed_type op)
 signed_typed sign.Minus t P p h = long_type t P p h
@@ -135,15 +127,4 @@ unary_declared sign.Not = (tt, refl)
 
 pub binary_declared : (op : BinaryOp) → Declared (binary_ty op)
 binary_declared Or = tt
-binary_declared And = tt
-binary_declared Equal = tt
-binary_declared NotEqual = tt
-binary_declared Less = tt
-binary_declared Greater = tt
-binary_declared LessEqual = tt
-binary_declared GreaterEqual = tt
-binary_declared Plus = tt
-binary_declared Minus = tt
-binary_declared Times = tt
-binary_declared Divide = tt
-binary_declared Remainder = tt
+binary_declared other = tt

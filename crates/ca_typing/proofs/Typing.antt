@@ -14,12 +14,14 @@ use Rattle.ca_resolve.specs.Judged.{Judged, fine, both, unless, beside}
 use Rattle.ca_resolve.specs.Scopes.{Meaning, Numbers, classes_of, class_names, members_from, meanings, find_among, same_name}
 use Rattle.ca_types.specs.Rules.{class_once, class_limit}
 use Rattle.ca_types.specs.Statements.{judge_statements, behind_all}
-use Rattle.ca_types.specs.Classes.{gathered, Members, no_members, behind_members, judge_members, ClassEnv, class_begin, behind_class, judge_class, Parts, with_class, add_class, no_parts, judge_classes, first_class, main_begin, program_of, judge}
+use Rattle.ca_types.specs.Classes.{Members, no_members, behind_member, behind_members, judge_members, ClassEnv, class_begin, behind_class, judge_class, Parts, no_parts, judge_classes, first_class, main_begin, program_of, judge}
+use Rattle.ca_types.specs.Adding.{gathered, add_member, with_class, add_class}
+use Rattle.ca_types.proofs.Gathered.{members_gathered, classes_gathered}
 use Rattle.ca_typing.proofs.Fits.{ClassFits, LiteralsFit}
 use Rattle.ca_typing.proofs.Lists.{Begins, begins_itself, begins_through, item_there, one_longer, all_append, all_at}
 use Rattle.ca_typing.proofs.Judging.{same_fine, within_fine, made_fine, both_fine, unless_fine, beside_fine, gathered_fine}
 use Rattle.ca_typing.proofs.Values.{MeaningTyped, ClassesTyped}
-use Rattle.ca_typing.proofs.Statements.{Stands, in_order_typed, statements_typed}
+use Rattle.ca_typing.proofs.Statements.{Stands, from_none, in_order_typed, statements_typed}
 use Rattle.ca_typing.proofs.Members.{RowTyped, row_at, Numbered, numbers_behind, row_typed, MembersTyped, members_typed}
 
 pub classes_strict : (s : ClassEnv) (j : Judged Parts) (t : ClassTree) (b : Parts) → add_class s j t ≡ fine b → (a : Parts) × (j ≡ fine a)
@@ -27,7 +29,7 @@ classes_strict s j t b h =
     let w = made_fine (both j (judge_class s t)) (λ (r : Parts × Members). with_class r.0 t.name r.1) b h in
     (w.0.0, (both_fine j (judge_class s t) w.0 w.1).0)
 
-pub class_added : (c : ClassEnv) (a b : Parts) (t : ClassTree) → add_class c (fine a) t ≡ fine b → (m : Members) × (judge_members (class_begin c t.members) t.members ≡ fine m) × (with_class a t.name m ≡ b)
+pub class_added : (c : ClassEnv) (a b : Parts) (t : ClassTree) → add_class c (fine a) t ≡ fine b → (m : Members) × (gathered behind_member add_member (class_begin c t.members) (fine no_members) t.members ≡ fine m) × (with_class a t.name m ≡ b)
 class_added c a b t h =
     let w = made_fine (both (fine a) (judge_class c t)) (λ (r : Parts × Members). with_class r.0 t.name r.1) b h in
     let d = both_fine (fine a) (judge_class c t) w.0 w.1 in
@@ -36,7 +38,7 @@ class_added c a b t h =
     let once = class_once c.classes.names c.number t.name t.at in
     let u = within_fine (beside limit members) (λ m. unless once m) w.0.1 d.1 in
     let same = unless_fine once u.0 w.0.1 u.2 in
-    (u.0, (beside_fine limit members u.0 u.1).1, ap (λ m. with_class a t.name m) same ∙ (ap (λ x. with_class x t.name w.0.1) (same_fine a w.0.0 d.0) ∙ w.2))
+    (u.0, sym (members_gathered (class_begin c t.members) t.members) ∙ (beside_fine limit members u.0 u.1).1, ap (λ m. with_class a t.name m) same ∙ (ap (λ x. with_class x t.name w.0.1) (same_fine a w.0.0 d.0) ∙ w.2))
 
 -- each list of the second begins with that of the first
 record PartsBegin (a b : Parts) : Type 0 where
@@ -113,7 +115,7 @@ module _ (p : PlainProgram) where
       let longer = begins_through (a.classes ++ k ∷ []) all.classes p.classes (subst (λ (x : Parts). Begins x.classes all.classes) (sym e) g.classes) holds.classes in
       ap (slice_get p.classes) (sym n.classes) ∙ item_there a.classes p.classes k longer
 
-  class_row : (c : ClassEnv) (a b all : Parts) (t : ClassTree) (m : Members) → Counted c a → Holding p all → judge_members (class_begin c t.members) t.members ≡ fine m → with_class a t.name m ≡ b → PartsBegin b all
+  class_row : (c : ClassEnv) (a b all : Parts) (t : ClassTree) (m : Members) → Counted c a → Holding p all → gathered behind_member add_member (class_begin c t.members) (fine no_members) t.members ≡ fine m → with_class a t.name m ≡ b → PartsBegin b all
       → RowTyped p (record { 0 = c.number }) (meanings c.classes.names c.number (class_begin c t.members).numbers t.members) × Numbered a.ops a.functions (behind_members (class_begin c t.members) t.members).numbers m
   class_row c a b all t m n holds h e g =
       let there = class_there c a b all t m n holds e g in
@@ -169,19 +171,20 @@ pub resolved_is_typed : (t : TextTree) (p : PlainProgram) → LiteralsFit t → 
 resolved_is_typed t p fits h =
     let cs = classes_of t.classes in
     let classes = judge_classes (first_class cs) t.classes in
-    let lines = judge_statements (main_begin t) (fine []) t.main in
+    let lines = judge_statements (main_begin t) t.main in
     let locals = (behind_all (main_begin t) t.main).locals in
     let w = made_fine (both classes lines) (λ (r : Parts × List program.Statement). program_of locals r) p h in
     let b = both_fine classes lines w.0 w.1 in
+    let first = sym (classes_gathered (first_class cs) t.classes) ∙ b.0 in
     let it = program_of locals w.0 in
     let n : Counted (first_class cs) no_parts = record { classes = refl; ops = refl; functions = refl } in
     let holds : Holding it w.0.0 = record { classes = begins_itself w.0.0.classes; ops = begins_itself w.0.0.ops; functions = begins_itself w.0.0.functions } in
-    let names = names_typed it (first_class cs) no_parts w.0.0 t.classes n holds b.0 in
+    let names = names_typed it (first_class cs) no_parts w.0.0 t.classes n holds first in
     let typed : ClassesTyped it cs = record { members = λ c name m e. member_found it cs.members c name m names.0 e; names = λ name k e. names.1 name k e } in
     let none : BodiesTyped it no_parts = record { ops = tt; functions = tt } in
-    let bodies = bodies_typed it (first_class cs) no_parts w.0.0 t.classes typed n holds fits.classes none b.0 in
+    let bodies = bodies_typed it (first_class cs) no_parts w.0.0 t.classes typed n holds fits.classes none first in
     let start : Stands it (main_scope it) (main_begin t) = record { scope = record { classes = typed; class = refl; locals = tt }; result = tt } in
-    let main = (statements_typed it (main_scope it) (main_begin t) t.main [] w.0.1 start fits.main (begins_itself locals) tt b.1).0 in
+    let main = (statements_typed it (main_scope it) (main_begin t) t.main [] w.0.1 start fits.main (begins_itself locals) tt (from_none (main_begin t) t.main w.0.1 b.1)).0 in
     let whole : ProgramTyped it = record {
       ops = λ i m e. all_at (OperationTyped it) it.ops i m bodies.ops e;
       functions = λ i m e. all_at (FunctionTyped it) it.functions i m bodies.functions e;

@@ -1,6 +1,6 @@
 -- An expression that is judged fine names locals that are visible where it stands, and no others.
-use Rattle.std.proofs.Common.{◌≡◌, ◌⊎◌, inl, inr, ℕ, List, [], ◌∷◌, Bool, true, false, ◌||◌, cond, refl, sym, subst, ap, ◌∙◌}
-use Rattle.std.specs.Prelude.{Option, Some, None, nat_eq, length}
+use Rattle.std.proofs.Common.{◌≡◌, ◌⊎◌, inl, inr, ℕ, List, [], ◌∷◌, Bool, true, false, ◌||◌, cond, refl, subst, ap, ◌∙◌}
+use Rattle.std.specs.Prelude.{Option, Some, None, length}
 use Rattle.std.proofs.lemmas.Bool.{eqb-true, eq-eqb, or_cases}
 use Rattle.std.proofs.lemmas.Option.{same_Some}
 use Rattle.ca_tree.specs.declared.name.Place.{Place}
@@ -9,11 +9,11 @@ use Rattle.ca_program.specs.declared.program.FieldId.{FieldId}
 use Rattle.ca_program.specs.declared.program.FunctionId.{FunctionId}
 use Rattle.ca_program.specs.Plain as program
 use Rattle.ca_parallel.specs.Scoped.{names, any_names}
-use Rattle.ca_resolve.specs.declared.codes.TheConstants.{UNKNOWN_NAME, WRONG_CALL}
+use Rattle.ca_resolve.specs.declared.codes.TheConstants.{WRONG_CALL}
 use Rattle.ca_resolve.specs.Judged.{Judged, fine, both, within, unless, broken, each}
 use Rattle.ca_resolve.specs.Scopes.{Ty, long, pointer, no_object, Callee, operation, function, Meaning, scalar, items, VisibleLocal, Scope, Found, a_value, an_array, Target, to_local, to_field, to_item, Invocation, find_local, own_member, same_name}
 use Rattle.ca_resolve.specs.Scopes as scopes
-use Rattle.ca_resolve.specs.Rules.{member_known, is_method, receiver_member, operand_agrees, operands_agree, value_agrees, as_many, unary_ty, binary_ty, is_value_method, has_index, is_array, this_known, is_target, is_item_target}
+use Rattle.ca_resolve.specs.Rules.{member_known, receiver_member, operand_agrees, operands_agree, value_agrees, as_many, unary_ty, binary_ty, is_value_method, has_index, is_array, this_known, is_target, is_item_target}
 use Rattle.ca_resolve.specs.Values.{place_of, field_of, item_of, in_order, member_read, judge_named, judge_this, as_value, judge_field, own_method, method_through, count_of, parameters_of, rest_of, value_for, judge_invocation, call_value, object_of, value_of, judge_found, judge_arguments, judge_value, judge_for, judge_call, judge_target}
 use Rattle.ca_typing.proofs.Judging.{same_fine, within_fine, made_fine, both_fine, unless_fine}
 

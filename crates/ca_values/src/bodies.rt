@@ -125,7 +125,7 @@ impl Bodies {
 }
 
 /// Adds what locals of these types start with.
-fn add_starts(locals: &mut Vec<Value>, types: &[ValueType]) -> Result<(), Memory>
+pub fn add_starts(locals: &mut Vec<Value>, types: &[ValueType]) -> Result<(), Memory>
     ensures { IfOk result (λ _. locals.new.items ≡ locals.old.items ++ map start_of types.now) }
 {
     for ty in types {

@@ -1,6 +1,6 @@
 //! The steps of calls.
 
-ghost use Rattle.std.specs.Prelude.{◌≡◌, ◌∷◌, ◌+◌, Some, IfOk, slice_get};
+ghost use Rattle.std.specs.Prelude.{◌≡◌, [], ◌∷◌, ◌+◌, Some, IfOk, slice_get};
 ghost use Rattle.ca_program.specs.View.{program_view, method_view, statements_view};
 ghost use Rattle.ca_meaning.specs.Functions.{body_of};
 ghost use Rattle.ca_values.specs.Cost.{weights, Falls};
@@ -126,6 +126,19 @@ pub struct Called<'a> {
     pub others: &'a [ValueType],
 }
 
+impl<'a> Called<'a> {
+    /// What is called where there is no such method.
+    pub fn nothing() -> Called<'a>
+        ensures stmts { result.stmts.now ≡ [] }
+        ensures others { result.others.now ≡ [] }
+    {
+        Called {
+            stmts: &[],
+            others: &[],
+        }
+    }
+}
+
 /// The body of a value method, and nothing where there is no such method.
 fn body_of<'a>(program: &'a Program, method: FunctionId) -> Called<'a>
     ensures stmts { statements_view result.stmts.now ≡ body_of (slice_get (program_view program.now).functions method.0) }
@@ -134,15 +147,12 @@ fn body_of<'a>(program: &'a Program, method: FunctionId) -> Called<'a>
     if (method.0 as usize) < program.functions.len() {
         body_in(program.function(method))
     } else {
-        Called {
-            stmts: &[],
-            others: &[],
-        }
+        Called::nothing()
     }
 }
 
 /// The body of a method.
-fn body_in<'a>(method: &'a Method) -> Called<'a>
+pub fn body_in<'a>(method: &'a Method) -> Called<'a>
     ensures stmts { statements_view result.stmts.now ≡ body_of (Some (method_view method.now)) }
     ensures others { result.others.now ≡ others_in (Some (method_view method.now)) }
 {

@@ -22,5 +22,7 @@ mod statements;
 mod step;
 mod work;
 
+pub use bodies::add_starts;
+pub use calls::{Called, body_in};
 pub use machine::Evaluator;
 pub use work::Found;

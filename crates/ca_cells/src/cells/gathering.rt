@@ -4,7 +4,7 @@ ghost use Rattle.std.specs.Prelude.{◌≡◌, ℕ, ◌<◌, ◌≤◌, true, []
 ghost use Rattle.std.specs.Slots.{slots_items, slots_len, IsFull};
 ghost use Rattle.std.specs.Vec.{vec_capacity};
 ghost use Rattle.ca_meaning.specs.Multisets.{weight};
-ghost use Rattle.ca_cells.specs.Rounds.{AreLegal, now_of};
+ghost use Rattle.ca_cells.specs.Rounds.{AreLegal, IsRound, now_of};
 ghost use Rattle.ca_cells.specs.Notes.{AreKept, AreNoted, EachOnce};
 ghost use Rattle.ca_cells.specs.Seats.{AreAll, all_of, cells_key, kept_of, notes_of, seat_table, view_of};
 ghost use Rattle.ca_cells.specs.Slots.{AreThere, AreFrom};
@@ -43,11 +43,12 @@ impl Cells {
 
     /// Ends the round: takes in all seats, and gives the history of each object. It takes no memory.
     ///
-    /// The histories are legal. They have the entries that the seats noted, each once, at the place and with the object
+    /// The round is one that can be run. The histories are legal. They have the entries that the seats noted, each once, at the place and with the object
     /// that the seat noted, and no others. At each place that a seat noted for a kept task stands an entry behind which
     /// none comes.
     pub fn gather(self, mut seats: Vec<Seat>) -> RoundLog
         requires all { AreAll self seats.items }
+        ensures round { IsRound (cells_key self) }
         ensures count { length result.cells.items ≡ length (now_of (cells_key self)) }
         ensures legal { AreLegal (cells_key self) result.cells.items }
         ensures inside { All (λ (note : Note). note.cell < length (now_of (cells_key self))) (all_of notes_of seats.items) }

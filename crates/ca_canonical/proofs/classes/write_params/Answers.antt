@@ -1,13 +1,14 @@
 use Rattle.std.proofs.Common.{arith}
 use Rattle.ca_canonical.specs.Spell.{spell_params}
+use Rattle.ca_canonical.specs.Marks.{tokens}
 use Rattle.ca_canonical.specs.Pens.{Writes}
-use Rattle.ca_canonical.proofs.Writing.{nothing, then, all_left, none_left}
+use Rattle.ca_canonical.proofs.Writing.{nothing, then, all_left, no_token_left}
 use Rattle.ca_canonical.proofs.Lists.{comma, param_written, no_param_left}
 use Rattle.ca_canonical.proofs.classes.write_params.Goals as goal
 use Rattle.ca_canonical.proofs.classes.write_params.Goals.{then-begun+in_ok-sign-2, else-begun}
 
 pub params-init : goal.params-init
-params-init c = all_left c.sign.new.self (spell_params c.args.params.now)
+params-init c = all_left c.sign.new.self (tokens (spell_params c.args.params.now))
 
 pub params-preserved : goal.params-preserved
 params-preserved c =
@@ -18,4 +19,4 @@ params-preserved c =
     param_written c.params.begun c.args.params.now c.params.param-index c.param-item.result (omega arith) c.param-item.is c.params.invariant before (then c.in_ok-write_type.ensures c.in_ok-name.ensures)
 
 pub returns : goal.returns
-returns c = then c.in_ok-sign.ensures (then (none_left c.params.invariant (no_param_left c.params.begun c.args.params.now c.params.param-index (omega arith))) c.in_ok-sign-3.ensures)
+returns c = then c.in_ok-sign.ensures (then (no_token_left c.params.invariant (no_param_left c.params.begun c.args.params.now c.params.param-index (omega arith))) c.in_ok-sign-3.ensures)

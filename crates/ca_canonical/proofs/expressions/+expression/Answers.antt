@@ -3,15 +3,16 @@ use Rattle.ca_tree.specs.Plain.{call, method, field, index}
 use Rattle.ca_tree.specs.View.{kind_view, expression_view, expressions_view}
 use Rattle.ca_tree.proofs.Rows.{call_is}
 use Rattle.ca_canonical.specs.Spell.{spell_expression, spell_list}
+use Rattle.ca_canonical.specs.Marks.{tokens}
 use Rattle.ca_canonical.specs.Pens.{Writes}
-use Rattle.ca_canonical.proofs.Writing.{nothing, then, all_left, none_left}
+use Rattle.ca_canonical.proofs.Writing.{nothing, then, all_left, no_token_left}
 use Rattle.ca_canonical.proofs.Lists.{comma, argument_written, no_argument_left}
 use Rattle.ca_canonical.proofs.Rows.{method_is}
 use Rattle.ca_canonical.proofs.expressions.+expression.Goals as goal
 use Rattle.ca_canonical.proofs.expressions.+expression.Goals.{write_arguments-then-begun+in_ok-sign-2, write_arguments-else-begun}
 
 pub write_arguments-arguments-init : goal.write_arguments-arguments-init
-write_arguments-arguments-init t c = all_left c.sign.new.self (spell_list (expressions_view c.args.arguments.now))
+write_arguments-arguments-init t c = all_left c.sign.new.self (tokens (spell_list (expressions_view c.args.arguments.now)))
 
 pub write_arguments-arguments-preserved : goal.write_arguments-arguments-preserved
 write_arguments-arguments-preserved t c =
@@ -22,7 +23,7 @@ write_arguments-arguments-preserved t c =
     argument_written c.arguments.begun c.args.arguments.now c.arguments.e-index c.e-item.result (omega arith) c.e-item.is c.arguments.invariant before c.in_ok-write_expression.ensures
 
 pub write_arguments-returns : goal.write_arguments-returns
-write_arguments-returns t c = then c.in_ok-sign.ensures (then (none_left c.arguments.invariant (no_argument_left c.arguments.begun c.args.arguments.now c.arguments.e-index (omega arith))) c.in_ok-sign-3.ensures)
+write_arguments-returns t c = then c.in_ok-sign.ensures (then (no_token_left c.arguments.invariant (no_argument_left c.arguments.begun c.args.arguments.now c.arguments.e-index (omega arith))) c.in_ok-sign-3.ensures)
 
 pub write_expression-returns-in_ok-write_arguments-in-Call : goal.write_expression-returns-in_ok-write_arguments-in-Call
 write_expression-returns-in_ok-write_arguments-in-Call t c =

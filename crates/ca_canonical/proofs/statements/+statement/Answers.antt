@@ -1,25 +1,102 @@
-use Rattle.std.proofs.Common.{◌≡◌, sym, ap, ◌∙◌, subst, arith}
-use Rattle.ca_tree.specs.Plain.{block}
-use Rattle.ca_tree.specs.View.{form_view, statement_view, statements_view}
+use Rattle.std.proofs.Common.{◌≡◌, refl, ap, ◌∙◌, arith}
+use Rattle.ca_tree.specs.Plain.{block, if_else, while_loop, for_loop}
+use Rattle.ca_tree.specs.View.{form_view, expression_view, statement_view, statements_view}
+use Rattle.ca_tree.specs.declared.tree.StmtKind.{If}
 use Rattle.ca_tree.proofs.Rows.{block_is}
-use Rattle.ca_canonical.specs.Spell.{spell_statement, spell_statements}
-use Rattle.ca_canonical.specs.Pens.{Writes}
-use Rattle.ca_canonical.proofs.Writing.{then, all_left, none_left}
-use Rattle.ca_canonical.proofs.Lists.{statement_written, no_statement_left}
+use Rattle.ca_canonical.specs.Marks.{marks}
+use Rattle.ca_canonical.specs.Annotated.{marked_all}
+use Rattle.ca_canonical.specs.Pens.{WritesPieces}
+use Rattle.ca_canonical.proofs.Writing.{after, as_pieces, all_left, none_left}
+use Rattle.ca_canonical.proofs.Lists.{with_marks, line_with_marks, statement_written, no_statement_left}
 use Rattle.ca_canonical.proofs.statements.+statement.Goals as goal
 
 pub write_statement-returns-in_ok-sign-in-Block-2 : goal.write_statement-returns-in_ok-sign-in-Block-2
-write_statement-returns-in_ok-sign-in-Block-2 t c =
+write_statement-returns-in_ok-sign-in-Block-2 g t c =
     let at = c.args.s.now.at in
+    let f = (g.M.Marks.marking c.args.marks.now).before c.args.body in
     let is : statement_view c.args.s.now ≡ block at (statements_view c.in-Block.items.items) = ap (λ k. form_view k at) c.in-Block.is ∙ block_is at c.in-Block.items in
-    subst (λ x. Writes c.args.pen.now c.sign-in-Block-2.new.self (spell_statement x)) (sym is)
-    (then c.in_ok-sign-in-Block.ensures (then (rw c.deref.ensures.value at c.in_ok-write_statements-in-Block.ensures) c.in_ok-sign-in-Block-2.ensures))
+    let before : WritesPieces c.args.pen.now c.marks.new.self (marks (f (statement_view c.args.s.now))) = rw c.before-2.ensures at c.in_ok-marks.ensures in
+    with_marks f (statement_view c.args.s.now) (block at (statements_view c.in-Block.items.items)) is before
+    (after (as_pieces c.in_ok-sign-in-Block.ensures) (after (rw c.deref.ensures.value at c.in_ok-write_statements-in-Block.ensures) (as_pieces c.in_ok-sign-in-Block-2.ensures)))
+
+pub write_statement-returns-in_ok-write_statement-in-If-2 : goal.write_statement-returns-in_ok-write_statement-in-If-2
+write_statement-returns-in_ok-write_statement-in-If-2 g t c =
+    let at = c.args.s.now.at in
+    let f = (g.M.Marks.marking c.args.marks.now).before c.args.body in
+    let is : statement_view c.args.s.now ≡ if_else at (expression_view c.in-If.cond) (statement_view c.in-If.yes.value) (statement_view c.in-Some.no.value) = ap (λ k. form_view k at) (c.in-If.is ∙ ap (λ o. If c.in-If.cond c.in-If.yes o) c.in-Some.is) in
+    let before : WritesPieces c.args.pen.now c.marks.new.self (marks (f (statement_view c.args.s.now))) = rw c.before-2.ensures at c.in_ok-marks.ensures in
+    with_marks f (statement_view c.args.s.now) (if_else at (expression_view c.in-If.cond) (statement_view c.in-If.yes.value) (statement_view c.in-Some.no.value)) is before
+    (after (as_pieces c.in_ok-write_condition-in-If.ensures) (after (rw c.deref-in-If.ensures at c.in_ok-write_statement-in-If.ensures) (after (as_pieces c.in_ok-key-in-If.ensures) (rw c.deref-in-Some.ensures at c.in_ok-write_statement-in-If-2.ensures))))
+
+pub write_statement-returns-in_ok-write_statement-in-While : goal.write_statement-returns-in_ok-write_statement-in-While
+write_statement-returns-in_ok-write_statement-in-While g t c =
+    let at = c.args.s.now.at in
+    let f = (g.M.Marks.marking c.args.marks.now).before c.args.body in
+    let is : statement_view c.args.s.now ≡ while_loop at (expression_view c.in-While.cond) (statement_view c.in-While.turn.value) = ap (λ k. form_view k at) c.in-While.is in
+    let before : WritesPieces c.args.pen.now c.marks.new.self (marks (f (statement_view c.args.s.now))) = rw c.before-2.ensures at c.in_ok-marks.ensures in
+    with_marks f (statement_view c.args.s.now) (while_loop at (expression_view c.in-While.cond) (statement_view c.in-While.turn.value)) is before
+    (after (as_pieces c.in_ok-write_condition-in-While.ensures) (rw c.deref-in-While.ensures at c.in_ok-write_statement-in-While.ensures))
+
+pub write_statement-returns-in_ok-write_statement-in-For : goal.write_statement-returns-in_ok-write_statement-in-For
+write_statement-returns-in_ok-write_statement-in-For g t c =
+    let at = c.args.s.now.at in
+    let f = (g.M.Marks.marking c.args.marks.now).before c.args.body in
+    let is : statement_view c.args.s.now ≡ for_loop at (statement_view c.in-For.first.value) (expression_view c.in-For.cond) (statement_view c.in-For.next.value) (statement_view c.in-For.turn.value) = ap (λ k. form_view k at) c.in-For.is in
+    let before : WritesPieces c.args.pen.now c.marks.new.self (marks (f (statement_view c.args.s.now))) = rw c.before-2.ensures at c.in_ok-marks.ensures in
+    with_marks f (statement_view c.args.s.now) (for_loop at (statement_view c.in-For.first.value) (expression_view c.in-For.cond) (statement_view c.in-For.next.value) (statement_view c.in-For.turn.value)) is before
+    (after (as_pieces (rw (c.deref-in-For.ensures, c.deref-in-For-2.ensures) at c.in_ok-write_for-in-For.ensures)) (rw c.deref-in-For-3.ensures at c.in_ok-write_statement-in-For.ensures))
+
+pub write_statement-returns-in_ok-write_line-in-Empty : goal.write_statement-returns-in_ok-write_line-in-Empty
+write_statement-returns-in_ok-write_line-in-Empty g t c =
+    let at = c.args.s.now.at in
+    let f = (g.M.Marks.marking c.args.marks.now).before c.args.body in
+    let before : WritesPieces c.args.pen.now c.marks.new.self (marks (f (statement_view c.args.s.now))) = rw c.before-2.ensures at c.in_ok-marks.ensures in
+    line_with_marks f (statement_view c.args.s.now) _ (ap (λ k. form_view k at) c.in-Empty.is) refl before c.in_ok-write_line-in-Empty.ensures
+
+pub write_statement-returns-in_ok-write_line-in-Local : goal.write_statement-returns-in_ok-write_line-in-Local
+write_statement-returns-in_ok-write_line-in-Local g t c =
+    let at = c.args.s.now.at in
+    let f = (g.M.Marks.marking c.args.marks.now).before c.args.body in
+    let before : WritesPieces c.args.pen.now c.marks.new.self (marks (f (statement_view c.args.s.now))) = rw c.before-2.ensures at c.in_ok-marks.ensures in
+    line_with_marks f (statement_view c.args.s.now) _ (ap (λ k. form_view k at) c.in-Local.is) refl before c.in_ok-write_line-in-Local.ensures
+
+pub write_statement-returns-in_ok-write_line-in-Assign : goal.write_statement-returns-in_ok-write_line-in-Assign
+write_statement-returns-in_ok-write_line-in-Assign g t c =
+    let at = c.args.s.now.at in
+    let f = (g.M.Marks.marking c.args.marks.now).before c.args.body in
+    let before : WritesPieces c.args.pen.now c.marks.new.self (marks (f (statement_view c.args.s.now))) = rw c.before-2.ensures at c.in_ok-marks.ensures in
+    line_with_marks f (statement_view c.args.s.now) _ (ap (λ k. form_view k at) c.in-Assign.is) refl before c.in_ok-write_line-in-Assign.ensures
+
+pub write_statement-returns-in_ok-write_line-in-Call : goal.write_statement-returns-in_ok-write_line-in-Call
+write_statement-returns-in_ok-write_line-in-Call g t c =
+    let at = c.args.s.now.at in
+    let f = (g.M.Marks.marking c.args.marks.now).before c.args.body in
+    let before : WritesPieces c.args.pen.now c.marks.new.self (marks (f (statement_view c.args.s.now))) = rw c.before-2.ensures at c.in_ok-marks.ensures in
+    line_with_marks f (statement_view c.args.s.now) _ (ap (λ k. form_view k at) c.in-Call.is) refl before c.in_ok-write_line-in-Call.ensures
+
+pub write_statement-returns-in_ok-write_line-in-Return : goal.write_statement-returns-in_ok-write_line-in-Return
+write_statement-returns-in_ok-write_line-in-Return g t c =
+    let at = c.args.s.now.at in
+    let f = (g.M.Marks.marking c.args.marks.now).before c.args.body in
+    let before : WritesPieces c.args.pen.now c.marks.new.self (marks (f (statement_view c.args.s.now))) = rw c.before-2.ensures at c.in_ok-marks.ensures in
+    line_with_marks f (statement_view c.args.s.now) _ (ap (λ k. form_view k at) c.in-Return.is) refl before c.in_ok-write_line-in-Return.ensures
+
+pub write_statement-returns-in_ok-write_line-in-Print : goal.write_statement-returns-in_ok-write_line-in-Print
+write_statement-returns-in_ok-write_line-in-Print g t c =
+    let at = c.args.s.now.at in
+    let f = (g.M.Marks.marking c.args.marks.now).before c.args.body in
+    let before : WritesPieces c.args.pen.now c.marks.new.self (marks (f (statement_view c.args.s.now))) = rw c.before-2.ensures at c.in_ok-marks.ensures in
+    line_with_marks f (statement_view c.args.s.now) _ (ap (λ k. form_view k at) c.in-Print.is) refl before c.in_ok-write_line-in-Print.ensures
 
 pub write_statements-items-init : goal.write_statements-items-init
-write_statements-items-init t c = all_left c.args.pen.now (spell_statements (statements_view c.args.items.now))
+write_statements-items-init g t c = all_left c.args.pen.now (marked_all ((g.M.Marks.marking c.args.marks.now).before c.args.body) (statements_view c.args.items.now))
 
 pub write_statements-items-preserved : goal.write_statements-items-preserved
-write_statements-items-preserved t c = statement_written c.args.items.now c.items.s-index c.s-item.result (omega arith) c.s-item.is c.items.invariant c.in_ok-write_statement.ensures
+write_statements-items-preserved g t c =
+    let f = (g.M.Marks.marking c.args.marks.now).before c.args.body in
+    statement_written f c.args.items.now c.items.s-index c.s-item.result (omega arith) c.s-item.is c.items.invariant c.in_ok-write_statement.ensures
 
 pub write_statements-returns : goal.write_statements-returns
-write_statements-returns t c = none_left c.items.invariant (no_statement_left c.args.items.now c.items.s-index (omega arith))
+write_statements-returns g t c =
+    let f = (g.M.Marks.marking c.args.marks.now).before c.args.body in
+    none_left c.items.invariant (no_statement_left f c.args.items.now c.items.s-index (omega arith))

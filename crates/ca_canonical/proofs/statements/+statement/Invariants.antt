@@ -1,8 +1,10 @@
 use Rattle.std.proofs.Common.{drop}
 use Rattle.ca_tree.specs.View.{statements_view}
-use Rattle.ca_canonical.specs.Spell.{spell_statements}
+use Rattle.ca_canonical.specs.Annotated.{marked_all}
 use Rattle.ca_canonical.proofs.Writing.{Leaves}
 use Rattle.ca_canonical.proofs.statements.+statement.Given as goal
 
 abbrev pub invariant-write_statements-items : goal.invariant-write_statements-items
-invariant-write_statements-items l = Leaves l.initial.pen (spell_statements (statements_view l.items)) l.pen (spell_statements (statements_view (drop l.s-index l.items)))
+invariant-write_statements-items g l =
+    let f = (g.M.Marks.marking l.marks).before l.body in
+    Leaves l.initial.pen (marked_all f (statements_view l.items)) l.pen (marked_all f (statements_view (drop l.s-index l.items)))

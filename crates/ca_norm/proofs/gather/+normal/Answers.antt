@@ -15,21 +15,21 @@ use Rattle.ca_norm.specs.Forms.{expand, part_of, pointer_of, scalar_of, argument
 use Rattle.ca_norm.proofs.Shapes.{call_is, arguments_forms}
 use Rattle.ca_norm.proofs.gather.+normal.Goals as goal
 
-pub add_term-returns-in_ok-add_term-in-Add-2-clause-added : goal.add_term-returns-in_ok-add_term-in-Add-2-clause-added
-add_term-returns-in_ok-add_term-in-Add-2-clause-added t c =
+pub add_linear-returns-in_ok-add_term-in-Add-2-clause-added : goal.add_linear-returns-in_ok-add_term-in-Add-2-clause-added
+add_linear-returns-in_ok-add_term-in-Add-2-clause-added t c =
     rw (c.in-Add.is, ← c.deref.ensures, ← c.deref-in-Add.ensures) (adds_both c.args.form.now.entries c.add_term.new.form.entries c.add_term-in-Add.new.form.entries c.args.factor (expand (shape c.deref.result.now)) (expand (shape c.deref-in-Add.result.now)) c.in_ok-add_term-in-Add.ensures.added c.in_ok-add_term-in-Add-2.ensures.added)
 
-pub add_term-returns-in_ok-add_term-in-Sub-2-clause-added : goal.add_term-returns-in_ok-add_term-in-Sub-2-clause-added
-add_term-returns-in_ok-add_term-in-Sub-2-clause-added t c =
+pub add_linear-returns-in_ok-add_term-in-Sub-2-clause-added : goal.add_linear-returns-in_ok-add_term-in-Sub-2-clause-added
+add_linear-returns-in_ok-add_term-in-Sub-2-clause-added t c =
     let b : Sum PlainMonomial = expand (shape c.deref-in-Sub-2.result.now) in
     rw (c.in-Sub.is, ← c.deref-in-Sub.ensures, ← c.deref-in-Sub-2.ensures) (adds_both c.args.form.now.entries c.add_term-in-Sub.new.form.entries c.add_term-in-Sub-2.new.form.entries c.args.factor (expand (shape c.deref-in-Sub.result.now)) (minus b) c.in_ok-add_term-in-Sub.ensures.added (adds_scaled c.add_term-in-Sub.new.form.entries c.add_term-in-Sub-2.new.form.entries c.args.factor (2 ^ 64 - 1) b c.in_ok-add_term-in-Sub-2.ensures.added))
 
-pub add_term-returns-in_ok-add_term-in-Neg-clause-added : goal.add_term-returns-in_ok-add_term-in-Neg-clause-added
-add_term-returns-in_ok-add_term-in-Neg-clause-added t c =
+pub add_linear-returns-in_ok-add_term-in-Neg-clause-added : goal.add_linear-returns-in_ok-add_term-in-Neg-clause-added
+add_linear-returns-in_ok-add_term-in-Neg-clause-added t c =
     rw (c.in-Neg.is, ← c.deref-in-Neg.ensures) (adds_scaled c.args.form.now.entries c.add_term-in-Neg.new.form.entries c.args.factor (2 ^ 64 - 1) (expand (shape c.deref-in-Neg.result.now)) c.in_ok-add_term-in-Neg.ensures.added)
 
-pub add_term-returns-in_ok-add_term-in-Not-clause-added : goal.add_term-returns-in_ok-add_term-in-Not-clause-added
-add_term-returns-in_ok-add_term-in-Not-clause-added t c =
+pub add_linear-returns-in_ok-add_term-in-Not-clause-added : goal.add_linear-returns-in_ok-add_term-in-Not-clause-added
+add_linear-returns-in_ok-add_term-in-Not-clause-added t c =
     let a : Sum PlainMonomial = expand (shape c.deref-in-Not.result.now) in
     rw (c.in-Not.is, ← c.deref-in-Not.ensures) (adds_both c.args.form.now.entries c.add_truth-in-Not.new.form.entries c.add_term-in-Not.new.form.entries c.args.factor (truth_sum true) (minus a) c.in_ok-add_truth-in-Not.ensures.added (adds_scaled c.add_truth-in-Not.new.form.entries c.add_term-in-Not.new.form.entries c.args.factor (2 ^ 64 - 1) a c.in_ok-add_term-in-Not.ensures.added))
 

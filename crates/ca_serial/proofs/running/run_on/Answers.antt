@@ -16,7 +16,7 @@ returns-in-Err-clause-prints g c =
     let p = program_view c.args.program.now in
     let e = rw c.in-Printed.is at c.in-Ok.ensures i.0 in
     let m = c.step.new.self in
-    let v = c.in-Printed.value in
+    let v = m.shown in
     let is : ended c.args.budget (rest_of p m.todo m (i.0 ++ v ∷ [])) ≡ serial p c.args.budget = ap (ended c.args.budget) (sym e) ∙ rw c.in-Some-pop.ensures at i.1 in
     record { whole = tt; part = began_value p c.args.budget m.todo m i.0 v _ _ _ is i.2 c.in-Err.ensures.bytes.part }
 
@@ -26,6 +26,6 @@ loop-preserved g c =
     let p = program_view c.args.program.now in
     let e = rw c.in-Printed.is at c.in-Ok.ensures i.0 in
     let m = c.step.new.self in
-    let v = c.in-Printed.value in
+    let v = m.shown in
     let is : ended c.args.budget (rest_of p m.todo m (i.0 ++ v ∷ [])) ≡ serial p c.args.budget = ap (ended c.args.budget) (sym e) ∙ rw c.in-Some-pop.ensures at i.1 in
     (i.0 ++ v ∷ [], is, told_more _ _ _ i.0 v i.2 c.in_default-print_line.ensures.bytes.whole, omega (arith, i.3, c.in_default-print_line.ensures.cause.later))

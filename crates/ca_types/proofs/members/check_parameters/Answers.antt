@@ -3,8 +3,10 @@ use Rattle.std.proofs.lemmas.List.{drop_all}
 use Rattle.ca_resolve.specs.Judged.{Answers, fine}
 use Rattle.ca_resolve.proofs.Tables.{next_read}
 use Rattle.ca_types.specs.Statements.{declare}
-use Rattle.ca_types.specs.Classes.{behind_parameter, add_parameter, judge_parameter}
+use Rattle.ca_types.specs.Classes.{behind_parameter, judge_parameter}
+use Rattle.ca_types.specs.Adding.{add_parameter}
 use Rattle.ca_types.specs.View.{env_view}
+use Rattle.ca_types.proofs.Gathered.{parameters_gathered}
 use Rattle.ca_types.proofs.Lists.{rest_start, rest_step, rest_end}
 use Rattle.ca_types.proofs.members.check_parameters.Goals as goal
 
@@ -26,7 +28,7 @@ loop-param-preserved c =
 pub returns-clause-judged : goal.returns-clause-judged
 returns-clause-judged c =
     let e = rest_end behind_parameter add_parameter (env_view c.args.walk.now) (env_view c.loop-param.walk) (fine tt) c.loop-param.invariant.0 c.args.params.now _ (drop_all c.loop-param.param-index c.args.params.now c.loop-param-test.false) c.loop-param.invariant.2 in
-    subst (λ j. Answers (λ u. u) c.loop-param.answers j) (sym e.0) c.loop-param.invariant.1
+    subst (λ j. Answers (λ u. u) c.loop-param.answers j) (sym (parameters_gathered (env_view c.args.walk.now) c.args.params.now ∙ e.0)) c.loop-param.invariant.1
 
 pub returns-clause-behind : goal.returns-clause-behind
 returns-clause-behind c =

@@ -1,4 +1,4 @@
-use Rattle.std.proofs.Common.{◌≡◌, [], None, map, subst, ◌∙◌, ap}
+use Rattle.std.proofs.Common.{◌≡◌, None, map, subst, ◌∙◌, ap}
 use Rattle.ca_tree.specs.View.{class_view, statements_view, tree_view}
 use Rattle.ca_program.specs.View.{program_view}
 use Rattle.ca_resolve.specs.Judged.{Answers, fine, both, within}
@@ -23,10 +23,10 @@ returns c =
     c.in_ok-parts.ensures.loops ∙ (ap (λ z. (behind_classes (first_class z) (map class_view c.deref-2.result.now)).loops) table ∙ ap (λ xs. (behind_classes first (map class_view xs)).loops) c.deref-2.ensures.value) in
     let begun : env_view c.new-walk.result ≡ main_begin t =
     c.new-walk.ensures ∙ (ap (λ z. beginning z None c.in_ok-parts.loops None) table ∙ ap (λ n. beginning (classes_of t.classes) None n None) loops) in
-    let k = judge_statements (main_begin t) (fine []) t.main in
+    let k = judge_statements (main_begin t) t.main in
     let stmts : Answers all_view c.in_ok-stmts.stmts k =
-    subst (λ ss. Answers all_view c.in_ok-stmts.stmts (judge_statements (main_begin t) (fine []) (statements_view ss))) c.deref-3.ensures.value
-    (subst (λ z. Answers all_view c.in_ok-stmts.stmts (judge_statements z (fine []) (statements_view c.deref-3.result.now))) begun c.in_ok-stmts.ensures.judged) in
+    subst (λ ss. Answers all_view c.in_ok-stmts.stmts (judge_statements (main_begin t) (statements_view ss))) c.deref-3.ensures.value
+    (subst (λ z. Answers all_view c.in_ok-stmts.stmts (judge_statements z (statements_view c.deref-3.result.now))) begun c.in_ok-stmts.ensures.judged) in
     let left : env_view c.check_statements.new.walk ≡ behind_all (main_begin t) t.main =
     c.in_ok-stmts.ensures.behind ∙ (ap (λ z. behind_all z (statements_view c.deref-3.result.now)) begun ∙ ap (λ ss. behind_all (main_begin t) (statements_view ss)) c.deref-3.ensures.value) in
     let all = joined parts_view all_view c.in_ok-parts.parts c.in_ok-stmts.stmts c.both.result j k c.both.ensures parts stmts in

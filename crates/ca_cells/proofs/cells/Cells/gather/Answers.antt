@@ -9,7 +9,7 @@ use Rattle.ca_cells.specs.declared.rule.Note.{Note}
 use Rattle.ca_cells.specs.declared.rule.Place.{Place}
 use Rattle.ca_cells.specs.declared.cells.Seat.{Seat}
 use Rattle.std.proofs.lemmas.List.Elements.{All-weaker}
-use Rattle.ca_cells.proofs.Joining.{closes, closes_inside}
+use Rattle.ca_cells.proofs.Joining.{closes, closes_inside, closes_round}
 use Rattle.ca_cells.proofs.Gathers.{at_get, notes_last, same_last, last_of, first_of_all}
 use Rattle.ca_cells.proofs.cells.Cells.gather.Goals as goal
 
@@ -28,6 +28,9 @@ join_all-inner-requires-clause-out c = λ f. let a = c.requires.all in let s = s
 pub drain-requires-clause-full : goal.drain-requires-clause-full
 drain-requires-clause-full c = let v = c.join_all-inner.ensures.view in let f = c.close_with.ensures.values in
     (f.1, λ i l. let t = closes _ _ _ _ _ v.0 v.1 v.2 f.2 i l in (t.0, t.1))
+
+pub returns-clause-round : goal.returns-clause-round
+returns-clause-round c = let f = c.close_with.ensures.values in closes_round _ _ _ _ _ f.2
 
 pub returns-clause-inside : goal.returns-clause-inside
 returns-clause-inside c = let f = c.close_with.ensures.values in let n = c.join_all-inner.ensures.noted ∙ (sym (notes_last notes_of c.pop.new.self.items c.in-Some.first) ∙ ap (all_of notes_of) (sym c.in-Some.ensures.items)) in

@@ -1,9 +1,7 @@
-use Rattle.std.proofs.Common.{rules, ◌≡◌, ◌∙◌, ◌∷◌, sym}
+use Rattle.std.proofs.Common.{◌∙◌, ◌∷◌, sym}
 use Rattle.std.proofs.lemmas.Bool.{eqb-true}
 use Rattle.ca_program.specs.View.{program_view}
 use Rattle.ca_serial.specs.declared.work.Work.TheVariants.{Leave}
-use Rattle.ca_serial.specs.declared.bodies.Mode.TheVariants.{InFunction}
-use Rattle.ca_serial.proofs.Returns.{left_at_once}
 use Rattle.ca_serial.proofs.AtOnce.{nothing_before}
 use Rattle.ca_serial.proofs.machine.Machine.begin_body.Goals as goal
 
@@ -15,14 +13,3 @@ returns-then-is_empty c = λ ps.
     done.ensures.left todo ps
     ∙ nothing_before p todo done.new.self done.result.now ps (eqb-true _ 0 (sym c.if-is_empty.ensures))
     ∙ (rw done.ensures.todo at c.in_ok-next.ensures ps)
-
-pub returns-in-Some-given_back : goal.returns-in-Some-given_back
-returns-in-Some-given_back c = λ ps.
-    let p = program_view c.args.program.now in
-    let done = c.do_all-rest in
-    let m = done.new.self in
-    let mode : m.bodies.current.mode ≡ InFunction = search rules in
-    let is : done.result.now ≡ c.in-Some.first.now ∷ c.in-Some.field-0-1.now = search rules in
-    done.ensures.left (Leave ∷ c.args.self.now.todo) ps
-    ∙ left_at_once p m c.args.self.now.todo c.in-Some.first.now c.in-Some.field-0-1.now done.result.now c.in-Some-given_back.value ps is mode (c.in-Some-given_back.ensures ps)
-    ∙ (rw done.ensures.todo at c.in_ok-next-2.ensures ps)

@@ -1,0 +1,40 @@
+-- Marks, the pieces of a text, and which marks stand where.
+use Rattle.std.specs.Prelude.{ℕ, List, [], ◌∷◌, map, Option, codes}
+use Rattle.ca_tree.specs.declared.name.Place.{Place}
+use Rattle.ca_tree.specs.declared.token.Kind.{Kind}
+use Rattle.ca_tree.specs.Plain.{Statement}
+use Rattle.ca_canonical.specs.declared.marks.Mark.{Mark}
+use Rattle.ca_canonical.specs.declared.marks.Mark.TheVariants.{Lock, Unlock, Spawn, Parallel}
+
+abbrev pub mark_text : Mark → List ℕ
+mark_text Lock = codes "/*@lock*/"
+mark_text Unlock = codes "/*@unlock*/"
+mark_text Spawn = codes "/*@spawn*/"
+mark_text Parallel = codes "/*@parallel*/"
+
+-- what a text is made of
+pub data Piece : Type 0 where
+  token : Kind → Piece
+  mark : Mark → Piece
+
+abbrev pub tokens : List Kind → List Piece
+tokens ks = map token ks
+
+abbrev pub marks : List Mark → List Piece
+marks ms = map mark ms
+
+-- the tokens among pieces
+abbrev pub unmarked : List Piece → List Kind
+unmarked [] = []
+unmarked (token k ∷ ps) = k ∷ unmarked ps
+unmarked (mark m ∷ ps) = unmarked ps
+
+-- Which marks stand before each statement of a body, behind the `{` of a method's body and before its `}`. A body is named
+-- by the place of its method's name, and that of `main` by none.
+pub record Marking : Type 0 where
+  pub before : Option Place → Statement → List Mark
+  pub opening : Place → List Mark
+  pub closing : Place → List Mark
+
+abbrev pub no_marks : Marking
+no_marks = record { before = λ body s. []; opening = λ body. []; closing = λ body. [] }

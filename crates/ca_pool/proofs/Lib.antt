@@ -1,0 +1,9 @@
+pub mod Performs
+pub mod Assembles
+pub mod WorkDone
+pub mod Told
+pub mod Stuck
+pub mod Gathers
+pub mod OneMore
+pub mod Walks
+pub mod Rounds

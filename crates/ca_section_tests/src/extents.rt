@@ -1,0 +1,35 @@
+//! Extents of operations.
+
+use ca_extent::extent_of;
+use ca_program::{ClassId, FieldId, FunctionId, OpId};
+use ca_test_programs::{let_go, program};
+use std::test::Fail;
+
+/// What is reached through a loop and from a value method, and what nobody calls.
+#[test]
+fn finds_extents(rt: HostRuntime) -> Result<(), Fail> {
+    let alloc = rt.alloc();
+    let text = "class A { public: long n; long m; long f() { return g(); } long g() { return n; }\
+        void a(long p) { while (p > 0) { b(); p = p - 1; } } void b() { m = m + f(); b(); }\
+        void c() { n = 1; } }; int main() { }";
+    let program = program(alloc, text)?;
+    let first = extent_of(alloc, &program, [OpId(0)].as_slice());
+    let last = extent_of(alloc, &program, [OpId(2), OpId(2)].as_slice());
+    let_go(program);
+    let (first, last) = (first?, last?);
+    let n = FieldId {
+        class: ClassId(0),
+        field: 0,
+    };
+    let m = FieldId {
+        class: ClassId(0),
+        field: 1,
+    };
+    assert!(rt; first.ops() == [OpId(0), OpId(1)].as_slice());
+    assert!(rt; first.functions() == [FunctionId(0), FunctionId(1)].as_slice());
+    assert!(rt; first.written() == [m].as_slice());
+    assert!(rt; first.is_constant(n) && !first.is_constant(m));
+    assert!(rt; last.ops() == [OpId(2)].as_slice());
+    assert!(rt; last.is_constant(m) && !last.is_constant(n));
+    Ok(())
+}

@@ -1,0 +1,45 @@
+-- What the beginning of a value method's body tells.
+use Rattle.std.specs.Prelude.{◌≡◌, ℕ, List}
+use Rattle.ca_program.specs.Plain.{PlainProgram, PlainMethod, Statement, Statements}
+use Rattle.ca_program.specs.View.{statements_view}
+use Rattle.ca_model.specs.declared.value.Value.{Value as Datum}
+use Rattle.ca_meaning.specs.Flows.{Flow, goes_on, gives_back, exec, exec_all}
+use Rattle.ca_meaning.specs.Functions.{own_of, functions_of, function_parts}
+use Rattle.ca_direct.specs.declared.scene.Scene.{Scene}
+use Rattle.ca_direct.specs.Direct.{own_in}
+use Rattle.ca_serial.specs.declared.bodies.Mode.TheVariants.{InFunction}
+use Rattle.ca_serial.specs.declared.machine.Machine.{Machine}
+use Rattle.ca_serial.specs.declared.answers.Answer.{Answer}
+use Rattle.ca_serial.specs.declared.answers.Answer.TheVariants.{Gives, Rest}
+use Rattle.ca_serial.specs.declared.answers.Look.{Look}
+use Rattle.ca_serial.specs.declared.answers.Look.TheVariants.{Gives as Shown, Passes, Stays}
+use Rattle.ca_serial.specs.Bodies.{Body}
+use Rattle.ca_serial.specs.Resume.{runs_all, world_of}
+
+-- the scene's receiver has its slots in the heap
+abbrev pub OwnsSlots : Scene → Type 0
+OwnsSlots s = own_in s ≡ own_of s.heap.now s.this
+
+-- a statement of a value method in a scene
+abbrev pub runs_in : List PlainMethod → Scene → ℕ → Statement → ℕ → Flow (Unit {0})
+runs_in ms s line x k = exec (function_parts (functions_of ms s.heap.now) s.heap.now s.this) line s.locals.now tt x k
+
+-- and statements
+abbrev pub all_run_in : List PlainMethod → Scene → Statements → ℕ → Flow (Unit {0})
+all_run_in ms s xs k = exec_all (function_parts (functions_of ms s.heap.now) s.heap.now s.this) s.locals.now tt xs k
+
+-- what a look at a statement shows
+abbrev pub Shows : Scene → Statement → Look → Type 0
+Shows s x (Shown v) = OwnsSlots s → (ms : List PlainMethod) (line k : ℕ) → runs_in ms s line x k ≡ gives_back v tt k
+Shows s x Passes = OwnsSlots s → (ms : List PlainMethod) (line k : ℕ) → runs_in ms s line x k ≡ goes_on s.locals.now tt k
+Shows s x Stays = Unit {0}
+
+-- what the beginning of statements tells
+abbrev pub Tells : Scene → Statements → Answer → Type 0
+Tells s xs (Gives v) = OwnsSlots s → (ms : List PlainMethod) (k : ℕ) → all_run_in ms s xs k ≡ gives_back v tt k
+Tells s xs (Rest ys) = OwnsSlots s → (ms : List PlainMethod) (k : ℕ) → all_run_in ms s xs k ≡ all_run_in ms s (statements_view ys.now) k
+
+-- the same of a body that a machine is to enter
+abbrev pub Told : Machine → Body → Statements → Answer → Type 0
+Told m f xs (Gives v) = (f.mode ≡ InFunction) × ((p : PlainProgram) (ps : List Datum) (k : ℕ) → runs_all p f.mode f (world_of m ps) xs k ≡ gives_back v (world_of m ps) k)
+Told m f xs (Rest ys) = (p : PlainProgram) (ps : List Datum) (k : ℕ) → runs_all p f.mode f (world_of m ps) xs k ≡ runs_all p f.mode f (world_of m ps) (statements_view ys.now) k
