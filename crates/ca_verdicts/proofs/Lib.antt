@@ -15,3 +15,4 @@ pub mod RisingLoops
 pub mod VerdictSound
 pub mod MarkSums
 pub mod Comparing
+pub mod Settled

@@ -81,6 +81,10 @@ abbrev pub AreSettled : List PlainPolynomial → List PlainPolynomial → List (
 AreSettled fs gs [] = Unit {0}
 AreSettled fs gs (e ∷ es) = IsSettled fs gs e.1 × AreSettled fs gs es
 
+abbrev pub AllSettled : List PlainPolynomial → List PlainPolynomial → List Marks → Type 0
+AllSettled fs gs [] = Unit {0}
+AllSettled fs gs (m ∷ ms) = IsSettled fs gs m × AllSettled fs gs ms
+
 -- each entry of a table has the marks of both orders under its key
 abbrev pub EachMarked : List Group → List Group → List (Key × Marks) → Type 0
 EachMarked ones twos [] = Unit {0}

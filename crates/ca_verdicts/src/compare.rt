@@ -1,6 +1,6 @@
 //! Both orders, compared.
 
-ghost use Rattle.std.specs.Prelude.{◌≡◌, ◌<◌, ◌^◌, ℕ, true, false, length, map, slice_get, None, Err, IfOk, IfSome, IfNone};
+ghost use Rattle.std.specs.Prelude.{◌≡◌, ◌<◌, ◌^◌, ℕ, List, true, false, length, map, slice_get, None, Err, IsTrue, IfOk, OnOk, IfSome, IfNone};
 ghost use Rattle.ca_program.specs.View.{program_view};
 ghost use Rattle.ca_meaning.specs.WellTyped.{IsMethodOf};
 ghost use Rattle.ca_norm.specs.Forms.{norm};
@@ -10,10 +10,11 @@ ghost use Rattle.ca_symbolic.specs.Symbolic.{starts};
 ghost use Rattle.ca_symbolic.specs.declared.running.SymbolicError.TheVariants.{LoopForm, Large};
 ghost use Rattle.ca_verdicts.specs.Orders.{in_order};
 ghost use Rattle.ca_forms.specs.Rules.{gathered};
+ghost use Rattle.ca_forms.specs.Plain.{PlainPolynomial};
 ghost use Rattle.ca_verdicts.specs.Comparisons.{FieldsDiffer, TellsKey, TellsFirst, TellsSecond, TellsApart, DemandsDiffer, IsCompared};
 ghost use Rattle.ca_verdicts.specs.Demands.{SameDemands};
 ghost use Rattle.ca_verdicts.specs.Keys.{Key};
-ghost use Rattle.ca_verdicts.specs.Marks.{found, marks_at, marks_in, summed_up, IsSettled, EachMarked};
+ghost use Rattle.ca_verdicts.specs.Marks.{found, marks_at, marks_in, summed_up, IsSettled, AllSettled, EachMarked};
 ghost use Rattle.ca_sums.proofs.Products.{SameTotals};
 ghost use Rattle.ca_symbolic.specs.declared.running.Side.TheVariants as side;
 
@@ -26,7 +27,7 @@ use ca_norm::{Normal, same};
 use ca_program::{ClassId, FieldId, FieldInfo, OpId, Program};
 use ca_symbolic::{Demands, Group, LightTerm, Side, SymState, SymbolicError, symbolic};
 use std::alloc::{AllocError, Global};
-use std::collections::BTreeMap;
+use std::collections::{BTreeMap, BTreeSet};
 
 /// What an order of two operations leaves and demands.
 #[derive(Drop)]
@@ -144,6 +145,49 @@ fn demand_differs(
     }
 }
 
+/// Whether marks are among those of which it is known that both orders name conditions of the same sum.
+fn is_settled(known: &BTreeSet<Marks>, marks: &Marks) -> bool
+    ensures { (fs gs : List PlainPolynomial) → AllSettled fs gs known.now.keys → IsTrue result → IsSettled fs gs marks.now }
+{
+    known.contains(marks)
+}
+
+fn settle(known: &mut BTreeSet<Marks>, marks: Marks) -> Result<(), AllocError>
+    ensures { OnOk result ((fs gs : List PlainPolynomial) → AllSettled fs gs known.old.keys → IsSettled fs gs marks → AllSettled fs gs known.new.keys) }
+{
+    known.insert(marks)?;
+    Ok(())
+}
+
+/// As `demand_differs`; what is settled is kept, so that the sums of heavy conditions are not made for each demand.
+fn demand_tested(
+    alloc: Global,
+    first: &[Polynomial],
+    second: &[Polynomial],
+    known: &mut BTreeSet<Marks>,
+    key: Key,
+    marks: Marks,
+) -> Result<Option<Reason>, AllocError>
+    ensures key { IfOk result (λ r. IfSome r (TellsKey key)) }
+    ensures first { IfOk result (λ r. IfSome r (TellsFirst (gathered (summed_up first.now marks.first.items)))) }
+    ensures second { IfOk result (λ r. IfSome r (TellsSecond (gathered (summed_up second.now marks.second.items)))) }
+    ensures differ { IfOk result (λ r. IfSome r TellsApart) }
+    ensures same { IfOk result (λ r. IfNone r (AllSettled first.now second.now known.old.keys → IsSettled first.now second.now marks)) }
+    ensures kept { IfOk result (λ r. IfNone r (AllSettled first.now second.now known.old.keys → AllSettled first.now second.now known.new.keys)) }
+{
+    if is_settled(known, &marks) {
+        return Ok(None);
+    }
+    let told = demand_differs(alloc, first, second, key, &marks)?;
+    match told {
+        Some(reason) => Ok(Some(reason)),
+        None => {
+            settle(known, marks)?;
+            Ok(None)
+        }
+    }
+}
+
 /// What the two orders demand under different conditions, with the two sums of these.
 fn demands_differ(
     alloc: Global,
@@ -156,8 +200,16 @@ fn demands_differ(
     let one = conditions_of(alloc, first)?;
     let other = conditions_of(alloc, second)?;
     let mut entries = table_of(alloc, first, second)?;
+    let mut known = BTreeSet::new(alloc);
     while let Some((key, marks)) = entries.pop() {
-        let told = demand_differs(alloc, one.as_slice(), other.as_slice(), key, &marks)?;
+        let told = demand_tested(
+            alloc,
+            one.as_slice(),
+            other.as_slice(),
+            &mut known,
+            key,
+            marks,
+        )?;
         match told {
             Some(reason) => return Ok(Some(reason)),
             None => {}

@@ -8,10 +8,13 @@ use Rattle.ca_verdicts.specs.Keys.{Key}
 use Rattle.ca_verdicts.specs.declared.marks.Marks.{Marks}
 use Rattle.ca_verdicts.specs.declared.verdicts.Reason.{Reason}
 use Rattle.ca_verdicts.specs.Comparisons.{TellsKey, TellsFirst, TellsSecond, TellsApart, DemandsDiffer}
-use Rattle.ca_verdicts.specs.Marks.{marks_in, condition_of, summed_up, IsSettled, AreSettled, EachMarked}
+use Rattle.ca_verdicts.specs.Marks.{marks_in, condition_of, summed_up, IsSettled, AreSettled, AllSettled, EachMarked}
 use Rattle.ca_verdicts.proofs.Comparing.{told_of}
 use Rattle.ca_verdicts.proofs.MarkSums.{demanded_is, each_front, each_last, settled_more, all_settled}
 use Rattle.ca_verdicts.proofs.compare.demands_differ.Goals as goal
+
+pub loop-key-init : goal.loop-key-init
+loop-key-init c = (c.in_ok-entries.ensures.each, λ s. s, subst (AllSettled (map condition_of c.args.first.now) (map condition_of c.args.second.now)) (sym c.new-known.ensures.empty) tt)
 
 pub loop-key-preserved : goal.loop-key-preserved
 loop-key-preserved c =
@@ -21,11 +24,18 @@ loop-key-preserved c =
     let each : EachMarked c.args.first.now c.args.second.now (left ++ e ∷ []) = subst (EachMarked c.args.first.now c.args.second.now) items c.loop-key.invariant.0 in
     let fs : List PlainPolynomial = map condition_of c.args.first.now in
     let gs : List PlainPolynomial = map condition_of c.args.second.now in
-    let here : IsSettled c.as_slice.result.now c.as_slice-in-Some.result.now c.in-Some.marks = subst (λ (z : _). IfNone z (IsSettled c.as_slice.result.now c.as_slice-in-Some.result.now c.in-Some.marks)) c.in-None.is c.in_ok-told.ensures.same in
-    let settled : IsSettled fs gs c.in-Some.marks =
-    subst (λ z. IsSettled z gs c.in-Some.marks) (c.as_slice.ensures.value ∙ c.in_ok-one.ensures)
-    (subst (λ z. IsSettled c.as_slice.result.now z c.in-Some.marks) (c.as_slice-in-Some.ensures.value ∙ c.in_ok-other.ensures) here) in
-    (each_front c.args.first.now c.args.second.now left e each, λ s. c.loop-key.invariant.1 (subst (AreSettled fs gs) (sym items) (settled_more fs gs left e s settled)))
+    let one : c.as_slice.result.now ≡ fs = c.as_slice.ensures.value ∙ c.in_ok-one.ensures in
+    let other : c.as_slice-in-Some.result.now ≡ gs = c.as_slice-in-Some.ensures.value ∙ c.in_ok-other.ensures in
+    let before : AllSettled c.as_slice.result.now c.as_slice-in-Some.result.now c.loop-key.known.keys =
+    subst (λ z. AllSettled z c.as_slice-in-Some.result.now c.loop-key.known.keys) (sym one) (subst (λ z. AllSettled fs z c.loop-key.known.keys) (sym other) c.loop-key.invariant.2) in
+    let here : IsSettled c.as_slice.result.now c.as_slice-in-Some.result.now c.in-Some.marks =
+    subst (λ (z : _). IfNone z (AllSettled c.as_slice.result.now c.as_slice-in-Some.result.now c.loop-key.known.keys → IsSettled c.as_slice.result.now c.as_slice-in-Some.result.now c.in-Some.marks)) c.in-None.is c.in_ok-told.ensures.same before in
+    let kept : AllSettled c.as_slice.result.now c.as_slice-in-Some.result.now c.demand_tested.new.known.keys =
+    subst (λ (z : _). IfNone z (AllSettled c.as_slice.result.now c.as_slice-in-Some.result.now c.loop-key.known.keys → AllSettled c.as_slice.result.now c.as_slice-in-Some.result.now c.demand_tested.new.known.keys)) c.in-None.is c.in_ok-told.ensures.kept before in
+    let settled : IsSettled fs gs c.in-Some.marks = subst (λ z. IsSettled z gs c.in-Some.marks) one (subst (λ z. IsSettled c.as_slice.result.now z c.in-Some.marks) other here) in
+    let known : AllSettled fs gs c.demand_tested.new.known.keys =
+    subst (λ z. AllSettled z gs c.demand_tested.new.known.keys) one (subst (λ z. AllSettled c.as_slice.result.now z c.demand_tested.new.known.keys) other kept) in
+    (each_front c.args.first.now c.args.second.now left e each, λ s. c.loop-key.invariant.1 (subst (AreSettled fs gs) (sym items) (settled_more fs gs left e s settled)), known)
 
 pub returns-in-Some-told-clause-differ : goal.returns-in-Some-told-clause-differ
 returns-in-Some-told-clause-differ c =
