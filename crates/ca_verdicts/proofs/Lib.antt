@@ -12,6 +12,7 @@ pub mod Sound
 pub mod SameSlots
 pub mod FoundLoops
 pub mod RisingLoops
+pub mod ArrayTerms
 pub mod VerdictSound
 pub mod MarkSums
 pub mod Comparing

@@ -17,7 +17,9 @@ ghost use Rattle.std.specs.Prelude.{◌≡◌, ◌<◌, ◌^◌, ℕ, List, true
 ghost use Rattle.ca_program.specs.declared.program.FieldId.{FieldId};
 ghost use Rattle.ca_program.specs.View.{program_view};
 ghost use Rattle.ca_model.specs.Heaps.{fields_of};
+ghost use Rattle.ca_meaning.specs.Commuting.{Commutes as DoCommute};
 ghost use Rattle.ca_symbolic.specs.declared.running.SymbolicError.TheVariants.{LoopForm, Large};
+ghost use Rattle.ca_verdicts.specs.Analysed.{Analysed};
 ghost use Rattle.ca_verdicts.specs.declared.verdicts.Verdict.TheVariants.{Commutes};
 ghost use Rattle.ca_verdicts.specs.Comparisons.{OffenceTold};
 ghost use Rattle.ca_verdicts.specs.Orders.{first_order, second_order};
@@ -132,6 +134,7 @@ pub fn verdict(
     requires first { a.0 < length program.now.ops.items }
     requires second { b.0 < length program.now.ops.items }
     ensures exact { IfOk result (λ v. VerdictOf (program_view program.now) extent.now.written a b v) }
+    ensures sound { Analysed (program_view program.now) extent.now a b → IfOk result (λ v. v ≡ Commutes → DoCommute (program_view program.now) extent.now.written a b) }
 {
     decided(alloc, program, extent, a, b)
 }
