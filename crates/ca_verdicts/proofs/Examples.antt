@@ -12,7 +12,7 @@ use Rattle.ca_forms.specs.declared.sort.Sort.TheVariants.{Long, Bool, Pointer}
 use Rattle.ca_forms.specs.declared.form.Normal.{Normal}
 use Rattle.ca_forms.specs.declared.form.Normal.TheVariants.{Scalar}
 use Rattle.ca_forms.specs.Plain.{PlainScalar, variable, no_powers, power_and, no_products, product_and, pointer_part, number_form, truth_form, pointer_form, no_scalars, scalar_and}
-use Rattle.ca_verdicts.specs.declared.kinds.DemandKind.TheVariants.{Invokes}
+use Rattle.ca_symbolic.specs.declared.demand.DemandKind.TheVariants.{Invokes}
 use Rattle.ca_verdicts.specs.declared.verdicts.Verdict.TheVariants.{Commutes, Unproved}
 use Rattle.ca_verdicts.specs.declared.verdicts.Reason.TheVariants.{LoopForm, FieldDiffers, DemandsDiffer}
 use Rattle.ca_verdicts.specs.Verdicts.{VerdictOf}

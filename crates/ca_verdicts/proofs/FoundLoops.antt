@@ -12,7 +12,6 @@ use Rattle.ca_parallel.specs.Lists.{has_site}
 use Rattle.ca_parallel.specs.Marks.{HasSite}
 use Rattle.ca_section.proofs.Members.{none}
 use Rattle.ca_symbolic_laws.specs.Demanded.{LoopPlace, loop_among, loop_at}
-use Rattle.ca_verdicts.specs.Analysed.{LoopsApart}
 use Rattle.ca_verdicts.proofs.Sound.{LoopsFound}
 
 sited : (x : Statement) (id : LoopId) → HasSite x id → has_site x id ≡ true
@@ -37,7 +36,7 @@ site_of (print_value line e) id h = cc
 abbrev place : Statement → ℕ → Option LoopPlace
 place x n = Some (record { loop = x; locals = n })
 
-at_head : (y x : Statement) (ys : List Statement) → Contains (y ∷ ys) x → (y ≡ x) ⊎ Contains ys x
+pub at_head : (y x : Statement) (ys : List Statement) → Contains (y ∷ ys) x → (y ≡ x) ⊎ Contains ys x
 at_head y x ys c = split (Contains-append_cases (y ∷ []) ys x c)
   where
     head : Contains [] x ⊎ (y ≡ x) → (y ≡ x) ⊎ Contains ys x
@@ -48,7 +47,7 @@ at_head y x ys c = split (Contains-append_cases (y ∷ []) ys x c)
     split (inl i) = head (Contains-push_cases [] y x i)
     split (inr i) = inr i
 
-here : (y : Statement) (ys : List Statement) → Contains (y ∷ ys) y
+pub here : (y : Statement) (ys : List Statement) → Contains (y ∷ ys) y
 here y ys = Contains-append_left (y ∷ []) ys y (Contains-push [] y)
 
 later : (y x : Statement) (ys : List Statement) → Contains ys x → Contains (y ∷ ys) x
@@ -72,7 +71,7 @@ among_none n id (y ∷ ys) h = at (has_site y id) refl (among_none n id ys (λ z
     at false e r = r
 
 -- a number names at most one `for` of these
-abbrev Apart : List PlainMethod → Type 0
+abbrev pub Apart : List PlainMethod → Type 0
 Apart ms = (i j : ℕ) (m n : PlainMethod) (x y : Statement) (id : LoopId) → slice_get ms i ≡ Some m → slice_get ms j ≡ Some n → Contains (fors_in_all m.body.statements) x → Contains (fors_in_all n.body.statements) y → HasSite x id → HasSite y id → (i ≡ j) × (x ≡ y)
 
 found_in : (ms : List PlainMethod) (i : ℕ) (m : PlainMethod) (x : Statement) (id : LoopId) → Apart ms → slice_get ms i ≡ Some m → Contains (fors_in_all m.body.statements) x → HasSite x id → loop_at ms id ≡ place x (length m.body.locals)
@@ -86,6 +85,5 @@ found_in (q ∷ ms) (suc i) m x id h e c s =
     ap (λ z. option_or z (loop_at ms id)) (among_none (length q.body.locals) id (fors_in_all q.body.statements) (λ y d t. let z : 0 ≡ suc i = (h 0 (suc i) q m y x id refl e d c t s).0 in omega (arith, z)))
     ∙ found_in ms i m x id (λ j k a b y z w f g d u t v. let r = h (suc j) (suc k) a b y z w f g d u t v in (let n : j ≡ k = omega (arith, r.0) in n, r.1)) e c s
 
-pub loops_found : (p : PlainProgram) → LoopsApart p → LoopsFound p
-loops_found p h = λ op m e x site c s.
-    found_in p.ops op.0 m x site (λ i j a b y z w f g d u t v. let r = h.one (record { 0 = i }) (record { 0 = j }) a b y z w f g d u t v in (ap (λ (k : OpId). k.0) r.0, r.1)) e c s
+pub loops_found : (p : PlainProgram) → Apart p.ops → LoopsFound p
+loops_found p h = λ op m e x site c s. found_in p.ops op.0 m x site h e c s

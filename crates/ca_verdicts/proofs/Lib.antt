@@ -11,4 +11,9 @@ pub mod SortedBodies
 pub mod Sound
 pub mod SameSlots
 pub mod FoundLoops
+pub mod RisingLoops
+pub mod ArrayTerms
 pub mod VerdictSound
+pub mod MarkSums
+pub mod Comparing
+pub mod Settled

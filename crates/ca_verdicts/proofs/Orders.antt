@@ -19,7 +19,7 @@ use Rattle.ca_symbolic_laws.specs.Costs.{plus, outcome_of, if_within, within}
 use Rattle.ca_symbolic_laws.specs.Demanded.{cost, lists}
 use Rattle.ca_symbolic_laws.specs.Laws.{object_meant}
 use Rattle.ca_symbolic_laws.proofs.Demands.{cost_append, lists_append}
-use Rattle.ca_verdicts.specs.Orders.{executed, demanded_by}
+use Rattle.ca_symbolic.specs.Runs.{executed, demanded_by}
 use Rattle.ca_verdicts.proofs.Looks.{met}
 use Rattle.ca_verdicts.proofs.Multisets.{cost_same, lists_same}
 

@@ -26,7 +26,8 @@ use Rattle.ca_symbolic.specs.States.{first_locals}
 use Rattle.ca_symbolic.specs.Execution.{after_all}
 use Rattle.ca_symbolic.specs.Demands.{demanded_all}
 use Rattle.ca_symbolic_laws.specs.Meant.{items_meant, slot_meant, slots_meant}
-use Rattle.ca_verdicts.specs.Orders.{executed, demanded_by, fields_at, start_of, first_order, second_order}
+use Rattle.ca_symbolic.specs.Runs.{executed, demanded_by}
+use Rattle.ca_verdicts.specs.Orders.{fields_at, start_of, first_order, second_order}
 use Rattle.ca_verdicts.specs.Verdicts.{SameFields}
 use Rattle.ca_verdicts.specs.Demands.{SameDemands}
 use Rattle.ca_verdicts.proofs.MetDemands.{DemandsSorted, met_same}

@@ -38,8 +38,10 @@ use Rattle.ca_symbolic.specs.OtherLoops.{other_loop_in}
 use Rattle.ca_symbolic_laws.specs.Costs.{plus, outcome_of, within}
 use Rattle.ca_symbolic_laws.specs.Demanded.{loop_at, cost, lists}
 use Rattle.ca_symbolic_laws.specs.Meant.{slot_meant, slots_meant, FieldsTyped}
-use Rattle.ca_symbolic_laws.specs.Laws.{fields_in, arguments_in, SpeakAll, Body, object_meant, Called, SectionsAreMeant, FieldsStayTyped, Fields, StartsAreMeant}
-use Rattle.ca_verdicts.specs.Orders.{executed, first_other_loop, start_of}
+use Rattle.ca_symbolic_laws.specs.Laws.{fields_in, arguments_in, Body, object_meant, Called}
+use Rattle.ca_symbolic_laws.proofs.Parts.{sections_are_meant, fields_stay_typed, starts_mean_the_object}
+use Rattle.ca_symbolic.specs.Runs.{executed, first_other_loop}
+use Rattle.ca_verdicts.specs.Orders.{start_of}
 use Rattle.ca_verdicts.proofs.Looks.{met}
 use Rattle.ca_verdicts.proofs.Kept.{constant_kept}
 use Rattle.ca_verdicts.proofs.Orders.{IsMeant, price_of, left_by, behind_both, asked_by_both, Seen, environment, commutes_on}
@@ -113,15 +115,13 @@ module _ (s : Environment) (written : List FieldId) (op : OpId) (m : PlainMethod
   behind_at : (executed s.program op g fields).fields ≡ (after_all s.program (record { fields = fields; locals = first_locals g (Some m) }) m.body.statements).fields
   behind_at = ap (λ z. (after_all s.program (record { fields = fields; locals = first_locals g z }) (body_of z)).fields) at
 
-module _ (items loops : Type 0) (sections : SectionsAreMeant items loops) (stay : FieldsStayTyped items loops) (begin : StartsAreMeant items)
-    (p : PlainProgram) (x : Extent) (typed : ProgramTyped p) (found : LoopsFound p) where
+module _ (p : PlainProgram) (x : Extent) (typed : ProgramTyped p) (found : LoopsFound p) where
   -- what is known of an operation of the extent
   pub record Fit (op : OpId) : Type 0 where
     pub puts : (f : FieldId) → Contains (targets_of_all (operation_body p op)) f → Contains x.written f
     pub separable : Separable p x.written op
     pub no_loops : first_other_loop p op ≡ None
     pub scoped : Scoped (operation_body p op)
-    pub speaks : SpeakAll items loops (operation_body p op)
 
   module _ (h : List Object) (heap : TypedHeap p h) (r : ℕ) (o : Object) (xs ys : List Datum) (c : ClassId) (k : ℕ) where
     abbrev env : Environment
@@ -153,18 +153,15 @@ module _ (items loops : Type 0) (sections : SectionsAreMeant items loops) (stay 
         scoped = subst (λ z. Scoped (body_of z)) q.at fit.scoped;
       }
 
-      says : SpeakAll items loops q.m.body.statements
-      says = subst (λ z. SpeakAll items loops (body_of z)) q.at fit.speaks
-
       is_meant : (fields : List PlainTerm) → Ready fields → IsMeant env c op g (arguments_in env g) fields
       is_meant fields w = λ j l. subst (λ z.
           outcome_of (section p h r (object_meant env z fields) op (arguments_in env g) j) ≡ within (plus (Some 1) (price_of env op g fields)) j (left_by env z op g fields)) q.class
-          (meant_at env x.written op q.m q.at g fields q.m.class j (sections env x.written op q.m g fields (called fields w) says j l))
+          (meant_at env x.written op q.m q.at g fields q.m.class j (sections_are_meant env x.written op q.m g fields (called fields w) j l))
 
       typed_behind : (fields : List PlainTerm) → Ready fields → FieldsTyped h (valuation_in env) (executed p op g fields).fields (fields_in env c)
       typed_behind fields w =
           subst (λ z. FieldsTyped h (valuation_in env) z (fields_in env c)) (sym (behind_at env x.written op q.m q.at g fields))
-          (subst (λ (z : ClassId). FieldsTyped h (valuation_in env) (after_all p (record { fields = fields; locals = first_locals g (Some q.m) }) q.m.body.statements).fields (fields_in env z)) q.class (stay env x.written op q.m g fields (called fields w) says))
+          (subst (λ (z : ClassId). FieldsTyped h (valuation_in env) (after_all p (record { fields = fields; locals = first_locals g (Some q.m) }) q.m.body.statements).fields (fields_in env z)) q.class (fields_stay_typed env x.written op q.m g fields (called fields w)))
 
       agrees_behind : (fields : List PlainTerm) → Ready fields → AgreesAt x.written (object_meant env c (executed p op g fields).fields) h r
       agrees_behind fields w = record {
@@ -198,15 +195,15 @@ module _ (items loops : Type 0) (sections : SectionsAreMeant items loops) (stay 
   start_is a c (Some m) e i = rw e (ap (λ (d : ClassId). starts 0 (fields_of (slice_get p.classes d.0))) i)
 
   -- Operations that look the same in each environment commute.
-  pub commute : (a b : OpId) → Fit a → Fit b → ((c : ClassId) → IsMethodOf (slice_get p.ops a.0) c → Fields items (fields_of (slice_get p.classes c.0))) →
+  pub commute : (a b : OpId) → Fit a → Fit b →
       ((c : ClassId) → IsMethodOf (slice_get p.ops a.0) c → IsMethodOf (slice_get p.ops b.0) c → (h : List Object) (r : ℕ) (o : Object) (xs ys : List Datum) (k : ℕ) → LooksSame (environment p h r o xs ys k) c (start_of p a) a b) → Commutes p x.written a b
-  commute a b fa fb fields same = λ c ia ib h heap r xs ys wa wb o object agrees.
+  commute a b fa fb same = λ c ia ib h heap r xs ys wa wb o object agrees.
       let qa : MethodAt p h r a c xs = method_at p h r a c xs _ refl ia wa in
       let qb : MethodAt p h r b c ys = method_at p h r b c ys _ refl ib wb in
       let is : start_of p a ≡ starts 0 (fields_of (slice_get p.classes c.0)) = start_is a c _ refl ia in
-      let begun : (k : ℕ) → object_meant (environment p h r o xs ys k) c (start_of p a) ≡ o = λ k. ap (object_meant (environment p h r o xs ys k) c) is ∙ (begin (environment p h r o xs ys k) c object (fields c ia)).0 in
+      let begun : (k : ℕ) → object_meant (environment p h r o xs ys k) c (start_of p a) ≡ o = λ k. ap (object_meant (environment p h r o xs ys k) c) is ∙ (starts_mean_the_object (environment p h r o xs ys k) c object).0 in
       let ready : (k : ℕ) → Ready h heap r o xs ys c k (start_of p a) = λ k. record {
-        holds = subst (λ z. FieldsTyped h (valuation_in (environment p h r o xs ys k)) z (fields_of (slice_get p.classes c.0))) (sym is) (begin (environment p h r o xs ys k) c object (fields c ia)).1;
+        holds = subst (λ z. FieldsTyped h (valuation_in (environment p h r o xs ys k)) z (fields_of (slice_get p.classes c.0))) (sym is) (starts_mean_the_object (environment p h r o xs ys k) c object).1;
         agrees = subst (λ z. AgreesAt x.written z h r) (sym (begun k)) agrees;
       } in
       commutes_on p h r o xs ys c (start_of p a) a b begun (λ k. seen h heap r o xs ys c k (start_of p a) a b fa fb qa qb (ready k) (same c ia ib h r o xs ys k))

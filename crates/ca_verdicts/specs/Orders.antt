@@ -1,40 +1,13 @@
 -- What one operation leaves and demands on terms of the fields, and what one and then another do.
-use Rattle.std.specs.Prelude.{ℕ, Bool, true, ◌||◌, List, [], ◌++◌, Option, Some, None, slice_get}
-use Rattle.std.specs.List.{list_any}
+use Rattle.std.specs.Prelude.{ℕ, Bool, ◌||◌, List, [], ◌++◌, Option, Some, None, slice_get}
 use Rattle.ca_program.specs.declared.program.FieldInfo.{FieldInfo}
 use Rattle.ca_program.specs.declared.program.OpId.{OpId}
 use Rattle.ca_program.specs.Plain.{PlainProgram, PlainMethod}
 use Rattle.ca_model.specs.Heaps.{fields_of}
-use Rattle.ca_parallel.specs.Extents.{operation_body}
-use Rattle.ca_norm.specs.Terms.{PlainTerm, truth}
+use Rattle.ca_norm.specs.Terms.{PlainTerm}
 use Rattle.ca_symbolic.specs.Symbolic.{starts}
-use Rattle.ca_symbolic.specs.States.{State, PlainDemand, first_locals}
-use Rattle.ca_symbolic.specs.Execution.{after_all}
-use Rattle.ca_symbolic.specs.Demands.{demanded_all}
-use Rattle.ca_symbolic.specs.Made.{made_by}
-use Rattle.ca_symbolic.specs.OtherLoops.{other_loop_in}
-use Rattle.ca_symbolic.specs.Verdicts.{is_heavy}
-
--- One operation
-
--- the state in which it begins on these terms of the fields, where its parameters are the atoms of group g
-abbrev pub begins : PlainProgram → OpId → ℕ → List PlainTerm → State
-begins p op g fields = record { fields = fields; locals = first_locals g (slice_get p.ops op.0) }
-
-abbrev pub executed : PlainProgram → OpId → ℕ → List PlainTerm → State
-executed p op g fields = after_all p (begins p op g fields) (operation_body p op)
-
-abbrev pub demanded_by : PlainProgram → OpId → ℕ → List PlainTerm → List PlainDemand
-demanded_by p op g fields = demanded_all p (begins p op g fields) (truth true) (operation_body p op)
-
--- a term that is made on the way weighs too much
-abbrev pub is_heavy_by : PlainProgram → OpId → ℕ → List PlainTerm → Bool
-is_heavy_by p op g fields = list_any is_heavy (made_by p (begins p op g fields) (truth true) (operation_body p op))
-
-abbrev pub first_other_loop : PlainProgram → OpId → Option ℕ
-first_other_loop p op = other_loop_in (operation_body p op)
-
--- Two operations
+use Rattle.ca_symbolic.specs.States.{PlainDemand}
+use Rattle.ca_symbolic.specs.Runs.{executed, demanded_by, is_heavy_by}
 
 -- the terms of the fields in the end, what is demanded, and whether a term that is made on the way weighs too much
 pub record Effect : Type 0 where

@@ -13,13 +13,14 @@ use Rattle.ca_section.specs.Offences.{FirstOffence}
 use Rattle.ca_forms.specs.declared.form.Normal.TheVariants.{Scalar}
 use Rattle.ca_forms.specs.Plain.{number_form}
 use Rattle.ca_norm.specs.Forms.{norm}
+use Rattle.ca_symbolic.specs.Runs.{first_other_loop}
 use Rattle.ca_symbolic.specs.Verdicts.{FirstDifference}
 use Rattle.ca_verdicts.specs.declared.verdicts.Verdict.{Verdict}
 use Rattle.ca_verdicts.specs.declared.verdicts.Verdict.TheVariants.{Commutes, Unproved}
 use Rattle.ca_verdicts.specs.declared.verdicts.Reason.TheVariants.{NotSeparable, LoopForm, Large, FieldDiffers, DemandsDiffer}
-use Rattle.ca_verdicts.specs.Told.{kind_of}
+use Rattle.ca_symbolic.specs.Demanded.{kind_of}
 use Rattle.ca_verdicts.specs.Demands.{demanded_at, SameDemands}
-use Rattle.ca_verdicts.specs.Orders.{Effect, first_other_loop, first_order, second_order}
+use Rattle.ca_verdicts.specs.Orders.{Effect, first_order, second_order}
 
 -- the first offence of a, or of b where a has none
 abbrev pub Offends : PlainProgram → List FieldId → OpId → OpId → OpId → Offence → Type 0

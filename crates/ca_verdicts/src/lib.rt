@@ -2,12 +2,139 @@
 //!
 //! `specs/Verdicts.antt` says which verdict a pair has: the first reason why it isn't shown to commute, or that it
 //! does. Both operations are executed symbolically in both orders (`specs/Orders.antt`), and what the fields hold in
-//! the end and what the orders demand (`specs/Demands.antt`) is compared by normal forms.
+//! the end and what the orders demand (`specs/Demands.antt`) is compared by normal forms. `compare` runs the orders
+//! and compares them, `marks` sorts demands by what is demanded, and `sums` sums up the conditions under which.
 #![tactic(auto)]
 
-mod kinds;
+mod compare;
+mod key;
 pub mod laws;
+mod marks;
+mod sums;
 mod verdicts;
 
-pub use crate::kinds::DemandKind;
+ghost use Rattle.std.specs.Prelude.{◌≡◌, ◌<◌, ◌^◌, ℕ, List, true, length, slice_get, Some, None, Err, IfOk, IfSome, IfNone};
+ghost use Rattle.ca_program.specs.declared.program.FieldId.{FieldId};
+ghost use Rattle.ca_program.specs.View.{program_view};
+ghost use Rattle.ca_model.specs.Heaps.{fields_of};
+ghost use Rattle.ca_meaning.specs.Commuting.{Commutes as DoCommute};
+ghost use Rattle.ca_symbolic.specs.declared.running.SymbolicError.TheVariants.{LoopForm, Large};
+ghost use Rattle.ca_verdicts.specs.Analysed.{Analysed};
+ghost use Rattle.ca_verdicts.specs.declared.verdicts.Verdict.TheVariants.{Commutes};
+ghost use Rattle.ca_verdicts.specs.Comparisons.{OffenceTold};
+ghost use Rattle.ca_verdicts.specs.Orders.{first_order, second_order};
+ghost use Rattle.ca_verdicts.specs.Verdicts.{BothSeparable, loop_of_both, CanExecute, is_large, VerdictOf};
+
+use crate::compare::{compare_orders, run_order};
 pub use crate::verdicts::{Reason, Verdict};
+use ca_base::Memory;
+use ca_extent::Extent;
+use ca_program::{ClassId, FieldInfo, OpId, Program};
+use ca_section::{Readers, Separability};
+use ca_symbolic::{Side, SymbolicError, other_loop};
+use std::alloc::Global;
+
+/// The fields of a class; none where the program has no such class.
+fn fields_of(program: &Program, class: ClassId) -> &[FieldInfo]
+    ensures { result.now ≡ fields_of (slice_get (program_view program.now).classes class.0) }
+{
+    if (class.0 as usize) < program.classes.len() {
+        program.class(class).fields.as_slice()
+    } else {
+        &[]
+    }
+}
+
+/// The first of the two that isn't separable, with its first offence.
+fn offence(
+    alloc: Global,
+    program: &Program,
+    extent: &Extent,
+    a: OpId,
+    b: OpId,
+) -> Result<Option<Reason>, Memory>
+    ensures told { IfOk result (λ r. IfSome r (OffenceTold (program_view program.now) extent.now.written a b)) }
+    ensures separable { IfOk result (λ r. IfNone r (BothSeparable (program_view program.now) extent.now.written a b)) }
+{
+    let readers = Readers::of(alloc, program, extent)?;
+    if let Separability::No { line, why } = readers.separable(program, extent, a) {
+        return Ok(Some(Reason::NotSeparable { op: a, line, why }));
+    }
+    if let Separability::No { line, why } = readers.separable(program, extent, b) {
+        return Ok(Some(Reason::NotSeparable { op: b, line, why }));
+    }
+    Ok(None)
+}
+
+/// The line of the first loop that is no call loop, of the first of the two that has one.
+fn loop_of_both(program: &Program, a: OpId, b: OpId) -> Option<u32>
+    requires first { a.0 < length program.now.ops.items }
+    requires second { b.0 < length program.now.ops.items }
+    ensures { result ≡ loop_of_both (program_view program.now) a b }
+{
+    match other_loop(program, a) {
+        Some(line) => Some(line),
+        None => other_loop(program, b),
+    }
+}
+
+/// The verdict on two operations that are separable and have no loops but call loops.
+fn compared(alloc: Global, program: &Program, a: OpId, b: OpId) -> Result<Verdict, SymbolicError>
+    requires first { a.0 < length program.now.ops.items }
+    requires second { b.0 < length program.now.ops.items }
+    requires loops { loop_of_both (program_view program.now) a b ≡ None }
+    ensures verdict { (written : List FieldId) → CanExecute (program_view program.now) written a b → IfOk result (λ v. VerdictOf (program_view program.now) written a b v) }
+    ensures few { IfOk result (λ _. (length (first_order (program_view program.now) a b).demands < 2 ^ 64) × (length (second_order (program_view program.now) a b).demands < 2 ^ 64)) }
+    ensures large { result ≡ Err Large → is_large (program_view program.now) a b ≡ true }
+    ensures call_loops { (n : ℕ) → result ≡ Err (LoopForm n) → ⊥ }
+{
+    let class = program.op(a).class;
+    let fields = fields_of(program, class);
+    let first = run_order(alloc, program, fields, a, Side::First, b, Side::Second)?;
+    let second = run_order(alloc, program, fields, b, Side::Second, a, Side::First)?;
+    Ok(compare_orders(alloc, class, &first, &second)?)
+}
+
+/// The verdict, and that little is demanded where it is Commutes.
+fn decided(
+    alloc: Global,
+    program: &Program,
+    extent: &Extent,
+    a: OpId,
+    b: OpId,
+) -> Result<Verdict, Memory>
+    requires first { a.0 < length program.now.ops.items }
+    requires second { b.0 < length program.now.ops.items }
+    ensures exact { IfOk result (λ v. VerdictOf (program_view program.now) extent.now.written a b v) }
+    ensures few { IfOk result (λ v. v ≡ Commutes → (length (first_order (program_view program.now) a b).demands < 2 ^ 64) × (length (second_order (program_view program.now) a b).demands < 2 ^ 64)) }
+{
+    if let Some(reason) = offence(alloc, program, extent, a, b)? {
+        return Ok(Verdict::Unproved(reason));
+    }
+    if let Some(line) = loop_of_both(program, a, b) {
+        return Ok(Verdict::Unproved(Reason::LoopForm(line)));
+    }
+    match compared(alloc, program, a, b) {
+        Ok(verdict) => Ok(verdict),
+        Err(SymbolicError::Large) => Ok(Verdict::Unproved(Reason::Large)),
+        Err(SymbolicError::LoopForm(_)) => unreachable!(),
+        Err(SymbolicError::Memory) => Err(Memory),
+    }
+}
+
+/// The verdict on two operations in an extent: the first reason why they aren't shown to commute, or Commutes. Two
+/// operations with the verdict Commutes do commute, for every receiver and all arguments.
+pub fn verdict(
+    alloc: Global,
+    program: &Program,
+    extent: &Extent,
+    a: OpId,
+    b: OpId,
+) -> Result<Verdict, Memory>
+    requires first { a.0 < length program.now.ops.items }
+    requires second { b.0 < length program.now.ops.items }
+    ensures exact { IfOk result (λ v. VerdictOf (program_view program.now) extent.now.written a b v) }
+    ensures sound { Analysed (program_view program.now) extent.now a b → IfOk result (λ v. v ≡ Commutes → DoCommute (program_view program.now) extent.now.written a b) }
+{
+    decided(alloc, program, extent, a, b)
+}

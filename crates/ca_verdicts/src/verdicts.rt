@@ -1,10 +1,10 @@
 //! Verdicts on pairs of operations.
 
-use crate::kinds::DemandKind;
 use ca_forms::polynomial::Scalars;
 use ca_norm::Normal;
 use ca_program::{FieldId, OpId};
 use ca_section::Why;
+use ca_symbolic::DemandKind;
 
 /// What is said of two operations of one class.
 #[derive(Drop, Debug)]

@@ -1,0 +1,9 @@
+use Rattle.std.proofs.Common.{drop}
+use Rattle.ca_sums.specs.Sums.{Sum, NoZero, AddsSum}
+use Rattle.ca_forms.specs.Plain.{PlainMonomial}
+use Rattle.ca_verdicts.specs.Marks.{summed_up}
+use Rattle.ca_verdicts.proofs.sums.sum_of.Given as goal
+
+abbrev pub invariant-loop-mark : goal.invariant-loop-mark
+invariant-loop-mark l =
+    NoZero l.form.entries × ((end : Sum PlainMonomial) → AddsSum l.form.entries end 1 (summed_up l.conditions (drop l.mark-index l.marks)) → AddsSum l.initial.form.entries end 1 (summed_up l.conditions l.marks))
