@@ -1,3 +1,4 @@
+pub mod Checked
 pub mod Pairs
 pub mod Plans
 pub mod Texts

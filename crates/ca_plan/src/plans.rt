@@ -1,7 +1,13 @@
 //! What a plan says.
 
-use ca_program::OpId;
+ghost use Rattle.std.specs.Prelude.{◌≡◌};
+
+use ca_extent::Extent;
+use ca_parallel::Marks;
+use ca_program::{LoopId, OpId};
 use ca_verdicts::Verdict;
+use std::marker::Model;
+use std::rc::Rc;
 
 /// Two operations of one class in an extent, of which the first doesn't come behind the second, and the verdict on them.
 #[derive(Drop, Debug)]
@@ -9,4 +15,78 @@ pub struct PairVerdict {
     pub a: OpId,
     pub b: OpId,
     pub verdict: Verdict,
+}
+
+/// An extent, with a verdict on each of its pairs.
+#[derive(Drop, Debug)]
+pub struct Judged {
+    pub(crate) extent: Extent,
+    pub(crate) pairs: Vec<PairVerdict>,
+}
+
+impl Model for Judged {
+    ghost use Rattle.ca_plan.specs.Plans.{Judged as PlainJudged};
+
+    ghost Value = { PlainJudged };
+
+    ghost view = { λ j. record { extent = j.extent; pairs = j.pairs.items } };
+}
+
+impl Judged {
+    /// The extent.
+    pub fn extent(&self) -> &Extent
+        ensures { result.now ≡ self.now.extent }
+    {
+        &self.extent
+    }
+
+    /// The verdicts on its pairs, by the first of the two and then by the second.
+    pub fn pairs(&self) -> &[PairVerdict]
+        ensures { result.now ≡ self.now.pairs }
+    {
+        self.pairs.as_slice()
+    }
+}
+
+/// A loop of calls by its number and its line, with the extent of its calls.
+#[derive(Drop, Debug)]
+pub struct JudgedLoop {
+    pub(crate) site: LoopId,
+    pub(crate) line: u32,
+    pub(crate) judged: Rc<Judged>,
+}
+
+impl Model for JudgedLoop {
+    ghost use Rattle.ca_plan.specs.Plans.{JudgedLoop as PlainLoop};
+
+    ghost Value = { PlainLoop };
+
+    ghost view = { λ l. record { site = l.site; line = l.line; judged = l.judged.value } };
+}
+
+/// The plan of a program: for each operation and for each loop of calls the extent with its verdicts, and the marks on
+/// those whose calls may run in any order. Equal extents are one value in memory.
+#[derive(Drop, Debug)]
+pub struct Plan {
+    pub(crate) marks: Marks,
+    pub(crate) ops: Vec<Rc<Judged>>,
+    pub(crate) loops: Vec<JudgedLoop>,
+}
+
+impl Model for Plan {
+    ghost use Rattle.std.specs.Prelude.{map};
+    ghost use Rattle.ca_plan.specs.Plans.{PlainPlan};
+
+    ghost Value = { PlainPlan };
+
+    ghost view = { λ p. record { marks = p.marks; ops = map (λ j. j.value) p.ops.items; loops = p.loops.items } };
+}
+
+impl Plan {
+    /// The marks.
+    pub fn marks(&self) -> &Marks
+        ensures { result.now ≡ self.now.marks }
+    {
+        &self.marks
+    }
 }
