@@ -1,27 +1,27 @@
 -- What was given is the one reply that there is.
 use Rattle.std.proofs.Common.{◌≡◌, ℕ, true, false, List, ◌++◌, Option, Result, Ok, Err, ◌⊎◌, inl, inr, refl, ap, sym, ◌∙◌, subst, arith}
-use Rattle.ca_tree.specs.declared.name.Place.{Place}
 use Rattle.ca_tree.specs.Plain.{TextTree}
 use Rattle.ca_base.specs.Devices.{Rose, HasCause, Writes, Began, grown}
 use Rattle.ca_base.proofs.Writing.{began_more, writes_after}
+use Rattle.ca_tree.specs.declared.name.Place.{Place}
 use Rattle.ca_program.specs.Plain.{PlainProgram}
 use Rattle.ca_model.specs.Texts.{heap_text}
 use Rattle.ca_meaning.specs.Serial.{Ended, done, trapped, spent, serial}
 use Rattle.ca_meaning.specs.Output.{Reply, output, reply_of, prints_text, trap_text, spent_text}
+use Rattle.ca_parallel.specs.Marks.{SoundMarks}
 use Rattle.ca_serial.specs.Runs.{prints_of}
-use Rattle.ca_symbolic.specs.declared.verdicts.Verdict.{Verdict}
 use Rattle.ca_words.specs.declared.Command.{Command}
-use Rattle.ca_words.specs.declared.Command.TheVariants.{Run, Pairs, Gen}
+use Rattle.ca_words.specs.declared.Command.TheVariants.{Run, Pairs, Plan, Emit, Gen}
 use Rattle.ca_words.specs.Words.{Names, reads}
 use Rattle.ca_words.proofs.OneCommand.{one_command}
-use Rattle.ca_small.specs.SmallShape.{is_small_text}
-use Rattle.ca_app.specs.Accepted.{BeginsAt}
+use Rattle.ca_plan.specs.Plans.{PlainPlan, PlanOf, CommuteAsTold}
+use Rattle.ca_plan.specs.Texts.{pairs_text, plan_text}
+use Rattle.ca_emit.specs.Annotations.{annotated_text}
 use Rattle.ca_app.specs.Refusals.{refusal_reply}
 use Rattle.ca_app.specs.Reading.{HasOneTree, IsProgramOf, IsRefusalOf}
-use Rattle.ca_app.specs.Reply.{ProgramReplies, runs, pairs, not_built, CommandReplies, refuses, serves, Replies, usage, generates, named, usage_reply, generated_reply, not_built_reply}
-use Rattle.ca_app.specs.Ends.{Ends, whole, write_fault, Unreplied, EndsWith, status_after}
-use Rattle.ca_app.specs.Pairs.{AreVerdicts, pairs_text}
-use Rattle.ca_app.proofs.OneProgram.{one_start}
+use Rattle.ca_app.specs.Reply.{ProgramReplies, runs, tells, CommandReplies, refuses, serves, Replies, usage, generates, named, usage_reply, generated_reply}
+use Rattle.ca_app.specs.Ends.{Ends, whole, no_memory, read_fault, write_fault, Unreplied, EndsWith, status_after}
+use Rattle.ca_app.specs.Told.{Tells, verdicts, marks, annotated, tells_plan, ProgramTold, CommandTold}
 use Rattle.ca_app.proofs.OneReply.{program_reply, command_reply, other_reads, one_reply}
 use Rattle.ca_app.specs.Causes.{IsUsageFault, ReadsNothing, ReadsSource}
 
@@ -51,25 +51,32 @@ module _ {command : Command} {text : List ℕ} {status : ℕ} {old now : Option 
   pub ends_refused : {at : Place} {code : ℕ} → IsRefusalOf text at code → Ends (refusal_reply at code) status old now → EndsWith (CommandReplies command text) status old now
   ends_refused is = only_reply (CommandReplies command text) _ (refuses is.refused) (λ reply this. command_reply this (refuses is.refused))
 
-  pub ends_program : (p : PlainProgram) (tree : TextTree) (at : Place) → IsProgramOf text p → HasOneTree text tree → BeginsAt text at → EndsWith (ProgramReplies at tree p command) status old now → EndsWith (CommandReplies command text) status old now
-  ends_program p tree at is one begins ends = record {
+  pub ends_program : (p : PlainProgram) (tree : TextTree) → IsProgramOf text p → HasOneTree text tree → EndsWith (ProgramReplies tree p command) status old now → EndsWith (CommandReplies command text) status old now
+  ends_program p tree is one ends = record {
     some = some ends.some;
     each = each;
   }
     where
-      some : Unreplied status old now ⊎ ((reply : Reply) × ProgramReplies at tree p command reply) → Unreplied status old now ⊎ ((reply : Reply) × CommandReplies command text reply)
+      some : Unreplied status old now ⊎ ((reply : Reply) × ProgramReplies tree p command reply) → Unreplied status old now ⊎ ((reply : Reply) × CommandReplies command text reply)
       some (inl u) = inl u
       some (inr s) =
-          let P : TextTree → Type 0 = λ t. ProgramReplies at t p command s.0 in
-          inr (s.0, serves is.accepted begins (subst P (sym (one.only is.accepted.tree is.accepted.has_tree)) s.1))
+          let P : TextTree → Type 0 = λ t. ProgramReplies t p command s.0 in
+          inr (s.0, serves is.accepted (subst P (sym (one.only is.accepted.tree is.accepted.has_tree)) s.1))
 
       each : (reply : Reply) → CommandReplies command text reply → Ends reply status old now
       each reply (refuses {at = q} {code = d} refused) = absurd (is.unrefused q d refused)
-      each reply (serves {p = q} {at = other} accepted' begins' replies) =
-          let P : PlainProgram → Type 0 = λ x. ProgramReplies at tree x command reply in
-          let Q : TextTree → Type 0 = λ x. ProgramReplies at x q command reply in
-          let R : Place → Type 0 = λ x. ProgramReplies x accepted'.tree q command reply in
-          ends.each reply (subst P (is.only q accepted') (subst Q (one.only accepted'.tree accepted'.has_tree) (subst R (one_start begins' begins) replies)))
+      each reply (serves {p = q} accepted' replies) =
+          let P : PlainProgram → Type 0 = λ x. ProgramReplies tree x command reply in
+          let Q : TextTree → Type 0 = λ x. ProgramReplies x q command reply in
+          ends.each reply (subst P (is.only q accepted') (subst Q (one.only accepted'.tree accepted'.has_tree) replies))
+
+  -- what was told of the program was told of the text
+  pub told_of_text : (p : PlainProgram) (tree : TextTree) → IsProgramOf text p → HasOneTree text tree → ProgramTold tree p command old now → CommandTold command text old now
+  told_of_text p tree is one told = record {
+    program = p;
+    accepted = is.accepted;
+    told = let P : TextTree → Type 0 = λ t. ProgramTold t p command old now in subst P (sym (one.only is.accepted.tree is.accepted.has_tree)) told;
+  }
 
 -- what a run replies begins with its prints
 abbrev rest_of_reply : PlainProgram → ℕ → Ended → List ℕ
@@ -99,14 +106,40 @@ ends_run_written p b e r status ended rest old mid now is reply told written sta
     (ends_written r status ended (prints_text (prints_of e) ++ rest) old now (writes_after old mid now r (prints_text (prints_of e)) rest told written) status_is)
 
 module _ {status : ℕ} {old now : Option (List ℕ)} where
-  pub ends_not_built : (at : Place) (tree : TextTree) (p : PlainProgram) → is_small_text tree p ≡ false → Ends (not_built_reply at) status old now → EndsWith (ProgramReplies at tree p Pairs) status old now
-  ends_not_built at tree p large = only_reply _ _ (not_built large) (λ reply this. program_reply this (not_built large))
+  pub ends_run : (tree : TextTree) (p : PlainProgram) (workers budget : ℕ) → Ends (output p budget) status old now → EndsWith (ProgramReplies tree p (Run workers budget)) status old now
+  ends_run tree p workers budget = only_reply _ _ runs (λ reply this. program_reply this runs)
 
-  pub ends_run : (at : Place) (tree : TextTree) (p : PlainProgram) (workers budget : ℕ) → Ends (output p budget) status old now → EndsWith (ProgramReplies at tree p (Run workers budget)) status old now
-  ends_run at tree p workers budget = only_reply _ _ runs (λ reply this. program_reply this runs)
+  -- what a command tells of some plan of the program is its reply
+  pub ends_told : (tree : TextTree) (p : PlainProgram) (plan : PlainPlan) (command : Command) → PlanOf p plan → tells_plan command ≡ true
+      → ((bytes : List ℕ) → Tells tree p plan command bytes → Ends (record { status = 0; bytes = bytes }) status old now) → EndsWith (ProgramReplies tree p command) status old now
+  ends_told tree p plan command is telling ends =
+      let t = some_telling command telling in
+      only_reply _ _ (tells is t.1) (λ reply this. program_reply this (tells is t.1)) (ends t.0 t.1)
+    where
+      some_telling : (c : Command) → tells_plan c ≡ true → (bytes : List ℕ) × Tells tree p plan c bytes
+      some_telling Pairs e = (_, verdicts)
+      some_telling Plan e = (_, marks)
+      some_telling Emit e = (_, annotated)
+      some_telling (Run w b) e = absurd cc
+      some_telling (Gen x n) e = absurd cc
 
-  pub ends_pairs : (at : Place) (tree : TextTree) (p : PlainProgram) (vs : List Verdict) → is_small_text tree p ≡ true → AreVerdicts p vs → Ends (record { status = 0; bytes = pairs_text p vs }) status old now → EndsWith (ProgramReplies at tree p Pairs) status old now
-  ends_pairs at tree p vs small are = only_reply _ _ (pairs small are) (λ reply this. program_reply this (pairs small are))
+  -- and where the status is 0 it was written whole
+  pub was_told : (tree : TextTree) (p : PlainProgram) (plan : PlainPlan) (command : Command) → PlanOf p plan → SoundMarks p plan.marks → CommuteAsTold p plan → tells_plan command ≡ true
+      → ((bytes : List ℕ) → Tells tree p plan command bytes → Ends (record { status = 0; bytes = bytes }) status old now) → status ≡ 0 → ProgramTold tree p command old now
+  was_told tree p plan command is sound commute telling ends zero = at command telling ends
+    where
+      written : {bytes : List ℕ} → Ends (record { status = 0; bytes = bytes }) status old now → now ≡ grown old bytes
+      written (whole e w) = w
+      written (no_memory e w) = absurd (omega (arith, zero, e))
+      written (read_fault e w) = absurd (omega (arith, zero, e))
+      written (write_fault e w) = absurd (omega (arith, zero, e))
+
+      at : (c : Command) → tells_plan c ≡ true → ((bytes : List ℕ) → Tells tree p plan c bytes → Ends (record { status = 0; bytes = bytes }) status old now) → ProgramTold tree p c old now
+      at Pairs e f = record { plan = plan; is = is; bytes = pairs_text p plan; tells = verdicts; written = written (f _ verdicts); sound = sound; commute = commute }
+      at Plan e f = record { plan = plan; is = is; bytes = plan_text p plan; tells = marks; written = written (f _ marks); sound = sound; commute = commute }
+      at Emit e f = record { plan = plan; is = is; bytes = annotated_text p plan tree; tells = annotated; written = written (f _ annotated); sound = sound; commute = commute }
+      at (Run w b) e f = absurd cc
+      at (Gen x n) e f = absurd cc
 
 module _ {words : List (List ℕ)} {text : List ℕ} {status : ℕ} {old now : Option (List ℕ)} where
   pub ends_usage : IsUsageFault words → Ends usage_reply status old now → EndsWith (Replies words text) status old now
@@ -120,6 +153,8 @@ module _ {words : List (List ℕ)} {text : List ℕ} {status : ℕ} {old now : O
       → EndsWith (Replies words text) status old now
   ends_unread (Run workers budget) names unread ends = absurd cc
   ends_unread Pairs names unread ends = absurd cc
+  ends_unread Plan names unread ends = absurd cc
+  ends_unread Emit names unread ends = absurd cc
   ends_unread (Gen seed size) names unread ends = ends_generated seed size names (ends seed size refl)
 
   pub ends_named : (command : Command) → Names words command → reads command ≡ true → EndsWith (CommandReplies command text) status old now → EndsWith (Replies words text) status old now
@@ -156,3 +191,11 @@ none_read {words} command names unread source =
     let not : reads source.0 ≡ false = subst P (one_command words command source.0 names source.1) unread in
     let reading : reads source.0 ≡ true = source.2 in
     cc
+
+-- a command that tells a plan reads its source
+pub tells_reads : (command : Command) → tells_plan command ≡ true → reads command ≡ true
+tells_reads Pairs e = refl
+tells_reads Plan e = refl
+tells_reads Emit e = refl
+tells_reads (Run w b) e = absurd cc
+tells_reads (Gen x n) e = absurd cc

@@ -1,10 +1,8 @@
 pub mod AcceptedTyped
 pub mod Endings
 mod Examples
-pub mod ExtentTexts
 pub mod GeneratedRuns
 pub mod OneProgram
 pub mod OneRefusal
 pub mod OneReply
-pub mod OneVerdict
 pub mod StatusLemmas

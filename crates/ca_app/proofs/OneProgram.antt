@@ -1,6 +1,5 @@
--- A text has one list of tokens, and one program where it has one tree, and it begins at one place.
+-- A text has one list of tokens, and one program where it has one tree.
 use Rattle.std.proofs.Common.{◌≡◌, ℕ, List, subst, ap, sym, ◌∙◌}
-use Rattle.ca_tree.specs.declared.name.Place.{Place}
 use Rattle.ca_tree.specs.declared.token.Token.{Token}
 use Rattle.ca_tree.specs.Plain.{TextTree}
 use Rattle.ca_program.specs.Plain.{PlainProgram}
@@ -8,7 +7,7 @@ use Rattle.ca_lex.proofs.Derivations.{one_list}
 use Rattle.ca_parse.specs.Grammar.{DerivesWithin}
 use Rattle.ca_resolve.specs.Judged.{fine}
 use Rattle.ca_types.specs.Classes.{judge}
-use Rattle.ca_app.specs.Accepted.{HasTokens, HasTree, Accepted, BeginsAt, token_place}
+use Rattle.ca_app.specs.Accepted.{HasTokens, HasTree, Accepted}
 use Rattle.ca_app.specs.Reading.{HasOneTree}
 
 pub one_tokens : {text : List ℕ} {a b : List Token} → HasTokens text a → HasTokens text b → a ≡ b
@@ -24,6 +23,3 @@ one_program {tree = tree} {p = p} t is q s =
     let same : judge s.tree ≡ judge tree = ap judge (t.only s.tree s.has_tree) in
     let both : fine q ≡ fine p = sym s.resolved ∙ (same ∙ is) in
     cc
-
-pub one_start : {text : List ℕ} {p q : Place} → BeginsAt text p → BeginsAt text q → p ≡ q
-one_start {text = text} s t = s.first ∙ (ap (λ ts. token_place text ts 0) (one_list s.lexed t.tokens t.lexed) ∙ sym t.first)

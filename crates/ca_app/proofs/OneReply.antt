@@ -5,18 +5,19 @@ use Rattle.ca_tree.specs.Plain.{TextTree}
 use Rattle.ca_program.specs.Plain.{PlainProgram}
 use Rattle.ca_parse.proofs.OneTree.{tree_is_one}
 use Rattle.ca_meaning.specs.Output.{Reply}
-use Rattle.ca_symbolic.specs.declared.verdicts.Verdict.{Verdict}
 use Rattle.ca_words.specs.declared.Command.{Command}
-use Rattle.ca_words.specs.declared.Command.TheVariants.{Gen}
+use Rattle.ca_words.specs.declared.Command.TheVariants.{Run, Pairs, Plan, Emit, Gen}
 use Rattle.ca_words.specs.Words.{Names, reads}
 use Rattle.ca_words.proofs.OneCommand.{one_command}
+use Rattle.ca_plan.specs.Plans.{PlainPlan, PlanOf}
+use Rattle.ca_plan.proofs.OnePlan.{one_pairs_text, one_plan_text}
+use Rattle.ca_emit.proofs.OneText.{one_annotated_text}
 use Rattle.ca_app.specs.Accepted.{HasTree, Accepted}
 use Rattle.ca_app.specs.Refusals.{RefusedAt, too_long, no_token, wrong_token, deep_token, violates, refusal_reply}
 use Rattle.ca_app.specs.Reading.{HasOneTree, IsProgramOf, IsRefusalOf}
-use Rattle.ca_app.specs.Reply.{ProgramReplies, runs, pairs, not_built, CommandReplies, refuses, serves, Replies, usage, generates, named, generated_reply}
-use Rattle.ca_app.specs.Pairs.{pairs_text}
-use Rattle.ca_app.proofs.OneVerdict.{one_list}
-use Rattle.ca_app.proofs.OneProgram.{derived_by, one_start}
+use Rattle.ca_app.specs.Reply.{ProgramReplies, runs, tells, CommandReplies, refuses, serves, Replies, usage, generates, named, generated_reply}
+use Rattle.ca_app.specs.Told.{Tells, verdicts, marks, annotated}
+use Rattle.ca_app.proofs.OneProgram.{derived_by}
 use Rattle.ca_app.proofs.OneRefusal.{refused_as_long, refused_no_token, refused_wrong, refused_deep, refused_violation, program_of_tree}
 
 -- a text has one tree at most
@@ -33,27 +34,38 @@ is_refusal (violates {v = v} tree least) = refused_violation v (has_one tree) le
 is_program : {text : List ℕ} {p : PlainProgram} → Accepted text p → IsProgramOf text p
 is_program accepted = program_of_tree (has_one accepted.has_tree) accepted.resolved
 
+-- what a command tells of a program is one, whichever plan it is told of
+one_telling : {tree : TextTree} {p : PlainProgram} {command : Command} {bytes others : List ℕ} (x y : PlainPlan) → PlanOf p x → PlanOf p y
+    → Tells tree p x command bytes → Tells tree p y command others → bytes ≡ others
+one_telling {p = p} x y is other verdicts verdicts = one_pairs_text p x y is other
+one_telling {p = p} x y is other marks marks = one_plan_text p x y is other
+one_telling {tree = tree} {p = p} x y is other annotated annotated = one_annotated_text p tree x y is other
+
+-- a run tells no plan
+no_run : {tree : TextTree} {p : PlainProgram} {plan : PlainPlan} {workers budget : ℕ} {bytes : List ℕ} (command : Command) → command ≡ Run workers budget → Tells tree p plan command bytes → ⊥
+no_run Pairs e verdicts = cc
+no_run Plan e marks = cc
+no_run Emit e annotated = cc
+
 -- a command has one reply to a program
-pub program_reply : {at : Place} {tree : TextTree} {p : PlainProgram} {command : Command} {r s : Reply} → ProgramReplies at tree p command r → ProgramReplies at tree p command s → r ≡ s
+pub program_reply : {tree : TextTree} {p : PlainProgram} {command : Command} {r s : Reply} → ProgramReplies tree p command r → ProgramReplies tree p command s → r ≡ s
 program_reply runs runs = refl
-program_reply {p = p} (pairs {vs = vs} small are) (pairs {vs = ws} small' others) =
-    let P : List Verdict → Reply = λ z. record { status = 0; bytes = pairs_text p z } in ap P (one_list p vs ws are others)
-program_reply (pairs small are) (not_built large) = absurd cc
-program_reply (not_built large) (pairs small are) = absurd cc
-program_reply (not_built large) (not_built large') = refl
+program_reply runs (tells is t) = absurd (no_run _ refl t)
+program_reply (tells is t) runs = absurd (no_run _ refl t)
+program_reply (tells {plan = x} is t) (tells {plan = y} other u) =
+    let P : List ℕ → Reply = λ z. record { status = 0; bytes = z } in ap P (one_telling x y is other t u)
 
 -- and one to a text
 pub command_reply : {command : Command} {text : List ℕ} {r s : Reply} → CommandReplies command text r → CommandReplies command text s → r ≡ s
 command_reply (refuses {at = p} {code = c} one) (refuses {at = q} {code = d} other) =
     let is = is_refusal other in
     ap (λ x. refusal_reply x c) (is.place p c one) ∙ ap (λ x. refusal_reply q x) (is.number p c one)
-command_reply (refuses refused) (serves accepted begins replies) = absurd ((is_refusal refused).unaccepted _ accepted)
-command_reply (serves accepted begins replies) (refuses {at = q} {code = d} refused) = absurd ((is_program accepted).unrefused q d refused)
-command_reply {command} {r = r} (serves {p = p} accepted begins replies) (serves {p = q} {at = at} accepted' begins' replies') =
-    let P : PlainProgram → Type 0 = λ x. ProgramReplies at accepted'.tree x command r in
-    let Q : TextTree → Type 0 = λ x. ProgramReplies at x p command r in
-    let R : Place → Type 0 = λ x. ProgramReplies x accepted.tree p command r in
-    program_reply (subst P ((is_program accepted').only p accepted) (subst Q ((has_one accepted'.has_tree).only accepted.tree accepted.has_tree) (subst R (one_start begins begins') replies))) replies'
+command_reply (refuses refused) (serves accepted replies) = absurd ((is_refusal refused).unaccepted _ accepted)
+command_reply (serves accepted replies) (refuses {at = q} {code = d} refused) = absurd ((is_program accepted).unrefused q d refused)
+command_reply {command} {r = r} (serves {p = p} accepted replies) (serves {p = q} accepted' replies') =
+    let P : PlainProgram → Type 0 = λ x. ProgramReplies accepted'.tree x command r in
+    let Q : TextTree → Type 0 = λ x. ProgramReplies x p command r in
+    program_reply (subst P ((is_program accepted').only p accepted) (subst Q ((has_one accepted'.has_tree).only accepted.tree accepted.has_tree) replies)) replies'
 
 -- words that name `gen` name no command that reads its source
 pub other_reads : {words : List (List ℕ)} (command : Command) (seed size : ℕ) → Names words command → Names words (Gen seed size) → reads command ≡ true → ⊥

@@ -1,29 +1,40 @@
 -- What each status says of the reply that was given.
-use Rattle.std.proofs.Common.{◌≡◌, ℕ, ◌⊎◌, ◌&&◌, Bool, true, false, List, Option, Some, refl, sym, ◌∙◌, subst, arith, inl, inr}
-use Rattle.ca_tree.specs.declared.name.Place.{Place}
+use Rattle.std.proofs.Common.{◌≡◌, ℕ, ◌⊎◌, Bool, true, false, List, Option, refl, sym, ◌∙◌, subst, arith, inl, inr}
 use Rattle.ca_tree.specs.Plain.{TextTree}
-use Rattle.std.specs.Prelude.{slice_get}
 use Rattle.ca_base.specs.Devices.{grown}
-use Rattle.ca_program.specs.declared.program.FieldId.{FieldId}
 use Rattle.ca_program.specs.Plain.{PlainProgram}
-use Rattle.ca_small.specs.SmallForm.{is_small}
-use Rattle.ca_small.specs.SmallShape.{has_small_shape, is_small_text}
-use Rattle.ca_small.proofs.Typed.{small_is_typed}
 use Rattle.ca_meaning.specs.Output.{Reply, reply_of}
 use Rattle.ca_meaning.specs.Serial.{Ended, done, trapped, spent, serial}
-use Rattle.ca_meaning.specs.Commuting.{Commutes as DoCommute}
-use Rattle.ca_symbolic.specs.declared.verdicts.Verdict.{Verdict}
-use Rattle.ca_symbolic.specs.declared.verdicts.Verdict.TheVariants.{Commutes}
-use Rattle.ca_symbolic.proofs.Pairs.{commutes_from_verdict}
-use Rattle.ca_app.specs.Refusals.{is_limit_code, refusal_status}
 use Rattle.ca_words.specs.declared.Command.{Command}
-use Rattle.ca_words.specs.declared.Command.TheVariants.{Run, Pairs}
-use Rattle.ca_words.specs.Words.{Names}
+use Rattle.ca_words.specs.declared.Command.TheVariants.{Run}
+use Rattle.ca_words.specs.Words.{Names, reads}
+use Rattle.ca_words.proofs.OneCommand.{one_command}
+use Rattle.ca_plan.specs.Plans.{PlainPlan}
 use Rattle.ca_app.specs.Accepted.{Accepted}
-use Rattle.ca_app.specs.Reply.{ProgramReplies, runs, pairs, not_built, refuses, serves, Replies, usage, generates, named}
-use Rattle.ca_app.specs.Pairs.{AreVerdicts, pairs_text}
+use Rattle.ca_app.specs.Refusals.{is_limit_code, refusal_status}
+use Rattle.ca_app.specs.Reply.{ProgramReplies, runs, tells, refuses, serves, Replies, usage, generates, named}
+use Rattle.ca_app.specs.Told.{Tells, verdicts, marks, annotated, tells_plan, CommandTold}
 use Rattle.ca_app.specs.Ends.{Ends, whole, no_memory, read_fault, write_fault, Unreplied, EndsWith, Complete}
-use Rattle.ca_app.specs.Causes.{IsRefused, IsNotBuilt, RunEnds, PairsEnd, Generates, IsDone, IsTrapped, IsSpent}
+use Rattle.ca_app.specs.Causes.{IsRefused, RunEnds, PlanTold, Generates, IsDone, IsTrapped, IsSpent}
+use Rattle.ca_app.proofs.Endings.{tells_reads}
+
+-- the words name a command that tells a plan
+abbrev pub TellsPlan : List (List ℕ) → Type 0
+TellsPlan words = (c : Command) × Names words c × (tells_plan c ≡ true)
+
+-- words that name a command which tells no plan
+pub tells_none : {words : List (List ℕ)} {A : Type 0} (command : Command) → Names words command → reads command ≡ false → TellsPlan words → A
+tells_none {words} command names unread n =
+    let same = one_command words n.0 command n.1 names in
+    let P : Command → Type 0 = λ c. reads c ≡ true in
+    let reading : reads command ≡ true = subst P same (tells_reads n.0 n.2) in
+    absurd cc
+
+-- what was told is told of the words
+pub words_told : {words : List (List ℕ)} {text : List ℕ} {old now : Option (List ℕ)} (command : Command) → Names words command → (tells_plan command ≡ true → CommandTold command text old now) → TellsPlan words → PlanTold words text old now
+words_told {words} command names told n =
+    let P : Command → Type 0 = λ c. tells_plan c ≡ true in
+    record { command = command; named = names; told = told (subst P (one_command words n.0 command n.1 names) n.2) }
 
 -- A reply that was given whole.
 record Given (replies : Reply → Type 0) (status : ℕ) (old now : Option (List ℕ)) : Type 0 where
@@ -59,19 +70,6 @@ kind_of true false e = absurd (omega arith)
 kind_of false true e = absurd (omega arith)
 kind_of false false e = refl
 
--- the program of a text of the small form passes the program's test
-program_is_small : (tree : TextTree) (p : PlainProgram) → is_small_text tree p ≡ true → is_small p ≡ true
-program_is_small tree p h = at (has_small_shape tree) (is_small p) h
-  where
-    at : (a b : Bool) → (a && b) ≡ true → b ≡ true
-    at true b e = e
-    at false b e = absurd (cc)
-
--- operations of which the verdict says that they commute do so
-do_commute : (p : PlainProgram) (vs : List Verdict) → is_small p ≡ true → AreVerdicts p vs → (n : ℕ) → slice_get vs n ≡ Some Commutes
-    → (written : List FieldId) → DoCommute p written (record { 0 = n }) (record { 0 = n })
-do_commute p vs small are n here written = commutes_from_verdict p (small_is_typed p small) written (record { 0 = n }) (record { 0 = n }) Commutes (are.each n Commutes here) refl
-
 -- how a run ends, by its status
 done_end : (p : PlainProgram) (b : ℕ) (end : Ended) → 0 ≡ (reply_of p b end).status → IsDone end
 done_end p b (done prints heap steps) e = (prints, heap, steps, refl)
@@ -100,36 +98,25 @@ record IsRun (p : PlainProgram) (command : Command) (status : ℕ) : Type 0 wher
   pub is : command ≡ Run workers budget
   pub same : status ≡ (reply_of p budget (serial p budget)).status
 
--- The command is `pairs`, and these are the verdicts and what was written of them.
-record IsPairs (tree : TextTree) (p : PlainProgram) (command : Command) (old now : Option (List ℕ)) : Type 0 where
-  pub verdicts : List Verdict
-  pub is : command ≡ Pairs
-  pub small : is_small_text tree p ≡ true
-  pub are : AreVerdicts p verdicts
-  pub bytes : now ≡ grown old (pairs_text p verdicts)
-
 -- what a command replied to a program, by its status
-not_built_at : (at : Place) (tree : TextTree) (p : PlainProgram) (command : Command) (reply : Reply) → ProgramReplies at tree p command reply → 1 ≡ reply.status → (command ≡ Pairs) × (is_small_text tree p ≡ false)
-not_built_at at tree p command reply (runs {budget = b}) e = absurd ((refusals_end p b (serial p b)).0 (sym e))
-not_built_at at tree p command reply (pairs small are) e = absurd (omega arith)
-not_built_at at tree p command reply (not_built large) e = (refl, large)
+no_refusal_at : (tree : TextTree) (p : PlainProgram) (command : Command) (reply : Reply) → ProgramReplies tree p command reply → (1 ≡ reply.status → ⊥) × (8 ≡ reply.status → ⊥)
+no_refusal_at tree p command reply (runs {budget = b}) = (λ e. (refusals_end p b (serial p b)).0 (sym e), λ e. (refusals_end p b (serial p b)).1 (sym e))
+no_refusal_at tree p command reply (tells is t) = (λ e. omega arith, λ e. omega arith)
 
-no_limit_at : (at : Place) (tree : TextTree) (p : PlainProgram) (command : Command) (reply : Reply) → ProgramReplies at tree p command reply → 8 ≡ reply.status → ⊥
-no_limit_at at tree p command reply (runs {budget = b}) e = (refusals_end p b (serial p b)).1 (sym e)
-no_limit_at at tree p command reply (pairs small are) e = omega arith
-no_limit_at at tree p command reply (not_built large) e = omega arith
+run_at : (tree : TextTree) (p : PlainProgram) (command : Command) (reply : Reply) (status : ℕ) → (status ≡ 0 → ⊥)
+    → ProgramReplies tree p command reply → status ≡ reply.status → IsRun p command status
+run_at tree p command reply status zero (runs {workers = w} {budget = b}) e = record { workers = w; budget = b; is = refl; same = e }
+run_at tree p command reply status zero (tells is t) e = absurd (zero e)
 
-run_at : (at : Place) (tree : TextTree) (p : PlainProgram) (command : Command) (reply : Reply) (status : ℕ) → (status ≡ 0 → ⊥) → (status ≡ 1 → ⊥)
-    → ProgramReplies at tree p command reply → status ≡ reply.status → IsRun p command status
-run_at at tree p command reply status zero one (runs {workers = w} {budget = b}) e = record { workers = w; budget = b; is = refl; same = e }
-run_at at tree p command reply status zero one (pairs small are) e = absurd (zero e)
-run_at at tree p command reply status zero one (not_built large) e = absurd (one e)
+tells_is : {tree : TextTree} {p : PlainProgram} {plan : PlainPlan} {command : Command} {bytes : List ℕ} → Tells tree p plan command bytes → tells_plan command ≡ true
+tells_is verdicts = refl
+tells_is marks = refl
+tells_is annotated = refl
 
-done_at : (at : Place) (tree : TextTree) (p : PlainProgram) (command : Command) (reply : Reply) (old now : Option (List ℕ))
-    → ProgramReplies at tree p command reply → 0 ≡ reply.status → now ≡ grown old reply.bytes → IsRun p command 0 ⊎ IsPairs tree p command old now
-done_at at tree p command reply old now (runs {workers = w} {budget = b}) e told = inl (record { workers = w; budget = b; is = refl; same = e })
-done_at at tree p command reply old now (pairs {vs = vs} small are) e told = inr (record { verdicts = vs; is = refl; small = small; are = are; bytes = told })
-done_at at tree p command reply old now (not_built large) e told = absurd (omega arith)
+done_at : (tree : TextTree) (p : PlainProgram) (command : Command) (reply : Reply)
+    → ProgramReplies tree p command reply → 0 ≡ reply.status → IsRun p command 0 ⊎ (tells_plan command ≡ true)
+done_at tree p command reply (runs {workers = w} {budget = b}) e = inl (record { workers = w; budget = b; is = refl; same = e })
+done_at tree p command reply (tells is t) e = inr (tells_is t)
 
 module _ {words : List (List ℕ)} {text : List ℕ} where
   run_ends : (status : ℕ) (End : Ended → Type 0) {p : PlainProgram} {command : Command}
@@ -144,22 +131,21 @@ module _ {words : List (List ℕ)} {text : List ℕ} where
     ends = ends p run.budget (serial p run.budget) run.same;
   }
 
-  error_status : {reply : Reply} → Replies words text reply → 1 ≡ reply.status → IsRefused false text ⊎ IsNotBuilt words text
+  error_status : {reply : Reply} → Replies words text reply → 1 ≡ reply.status → IsRefused false text
   error_status (usage fault) e = absurd (omega arith)
   error_status (generates names) e = absurd (omega arith)
   error_status (named names reading (refuses {at = at} {code = code} refused)) e =
-      inl (record { at = at; code = code; refused = refused; kind = kind_of false (is_limit_code code) e })
-  error_status (named {command = command} {reply = reply} names reading (serves {p = p} {at = at} accepted begins replies)) e =
-      let is = not_built_at at accepted.tree p command reply replies e in
-      inr (record { named = let P : Command → Type 0 = λ c. Names words c in subst P is.0 names; program = p; accepted = accepted; large = is.1 })
+      record { at = at; code = code; refused = refused; kind = kind_of false (is_limit_code code) e }
+  error_status (named {command = command} {reply = reply} names reading (serves {p = p} accepted replies)) e =
+      absurd ((no_refusal_at accepted.tree p command reply replies).0 e)
 
   limit_status : {reply : Reply} → Replies words text reply → 8 ≡ reply.status → IsRefused true text
   limit_status (usage fault) e = absurd (omega arith)
   limit_status (generates names) e = absurd (omega arith)
   limit_status (named names reading (refuses {at = at} {code = code} refused)) e =
       record { at = at; code = code; refused = refused; kind = kind_of true (is_limit_code code) e }
-  limit_status (named {command = command} {reply = reply} names reading (serves {p = p} {at = at} accepted begins replies)) e =
-      absurd (no_limit_at at accepted.tree p command reply replies e)
+  limit_status (named {command = command} {reply = reply} names reading (serves {p = p} accepted replies)) e =
+      absurd ((no_refusal_at accepted.tree p command reply replies).1 e)
 
   -- the end of the run is the one with this status
   run_status : (status : ℕ) (End : Ended → Type 0) → (status ≡ 0 → ⊥) → (status ≡ 1 → ⊥) → (status ≡ 2 → ⊥) → (status ≡ 8 → ⊥)
@@ -172,41 +158,32 @@ module _ {words : List (List ℕ)} {text : List ℕ} where
       at : (b : Bool) → status ≡ refusal_status b → ⊥
       at true e = eight e
       at false e = one e
-  run_status status End zero one two eight ends (named {command = command} {reply = reply} names reading (serves {p = p} {at = at} accepted begins replies)) e =
-      run_ends status End ends names accepted (run_at at accepted.tree p command reply status zero one replies e)
+  run_status status End zero one two eight ends (named {command = command} {reply = reply} names reading (serves {p = p} accepted replies)) e =
+      run_ends status End ends names accepted (run_at accepted.tree p command reply status zero replies e)
 
-  -- the end of status 0 is that of a run, of pairs or of gen
-  done_status : {old now : Option (List ℕ)} {reply : Reply} → Replies words text reply → 0 ≡ reply.status → now ≡ grown old reply.bytes
-      → RunEnds words text IsDone ⊎ (PairsEnd words text old now ⊎ Generates words old now)
-  done_status (usage fault) e told = absurd (omega arith)
-  done_status (generates {seed = x} {size = n} names) e told = inr (inr (record { seed = x; size = n; named = names; bytes = told }))
-  done_status (named names reading (refuses {code = code} refused)) e told = absurd (at (is_limit_code code) e)
+  -- the end of status 0 is that of a run, of a plan that was told, or of gen
+  done_status : {old now : Option (List ℕ)} {reply : Reply} → (TellsPlan words → PlanTold words text old now) → Replies words text reply → 0 ≡ reply.status → now ≡ grown old reply.bytes
+      → RunEnds words text IsDone ⊎ (PlanTold words text old now ⊎ Generates words old now)
+  done_status told (usage fault) e bytes = absurd (omega arith)
+  done_status told (generates {seed = x} {size = n} names) e bytes = inr (inr (record { seed = x; size = n; named = names; bytes = bytes }))
+  done_status told (named names reading (refuses {code = code} refused)) e bytes = absurd (at (is_limit_code code) e)
     where
       at : (b : Bool) → 0 ≡ refusal_status b → ⊥
       at true e = omega arith
       at false e = omega arith
-  done_status {old} {now} (named {command = command} {reply = reply} names reading (serves {p = p} {at = at} accepted begins replies)) e told =
-      ends (done_at at accepted.tree p command reply old now replies e told)
+  done_status {old} {now} told (named {command = command} {reply = reply} names reading (serves {p = p} accepted replies)) e bytes =
+      ends (done_at accepted.tree p command reply replies e)
     where
-      ends : IsRun p command 0 ⊎ IsPairs accepted.tree p command old now → RunEnds words text IsDone ⊎ (PairsEnd words text old now ⊎ Generates words old now)
+      ends : IsRun p command 0 ⊎ (tells_plan command ≡ true) → RunEnds words text IsDone ⊎ (PlanTold words text old now ⊎ Generates words old now)
       ends (inl run) = inl (run_ends 0 IsDone done_end names accepted run)
-      ends (inr is) = inr (inl (record {
-        program = p;
-        verdicts = is.verdicts;
-        named = let P : Command → Type 0 = λ c. Names words c in subst P is.is names;
-        accepted = accepted;
-        small = is.small;
-        verdicts_are = is.are;
-        bytes = is.bytes;
-        commute = do_commute p is.verdicts (program_is_small accepted.tree p is.small) is.are;
-      }))
+      ends (inr is) = inr (inl (told (command, names, is)))
 
 module _ {words : List (List ℕ)} {text : List ℕ} {status : ℕ} {old now : Option (List ℕ)} (headline : EndsWith (Replies words text) status old now) where
-  pub when_0 : status ≡ 0 → RunEnds words text IsDone ⊎ (PairsEnd words text old now ⊎ Generates words old now)
-  when_0 is = let s = given headline (λ e. omega arith) (λ e. omega arith) (λ e. omega arith) in
-      done_status s.is_one (sym is ∙ s.same) s.bytes
+  pub when_0 : (TellsPlan words → status ≡ 0 → PlanTold words text old now) → status ≡ 0 → RunEnds words text IsDone ⊎ (PlanTold words text old now ⊎ Generates words old now)
+  when_0 told is = let s = given headline (λ e. omega arith) (λ e. omega arith) (λ e. omega arith) in
+      done_status (λ n. told n is) s.is_one (sym is ∙ s.same) s.bytes
 
-  pub when_1 : status ≡ 1 → IsRefused false text ⊎ IsNotBuilt words text
+  pub when_1 : status ≡ 1 → IsRefused false text
   when_1 is = let s = given headline (λ e. omega arith) (λ e. omega arith) (λ e. omega arith) in error_status s.is_one (sym is ∙ s.same)
 
   pub when_3 : status ≡ 3 → RunEnds words text IsTrapped

@@ -41,9 +41,3 @@ place_or_end text None = advance start text
 
 abbrev pub token_place : List ℕ → List Token → ℕ → Place
 token_place text tokens k = place_or_end text (slice_get tokens k)
-
--- the place of the text's first token
-pub record BeginsAt (text : List ℕ) (at : Place) : Type 0 where
-  pub tokens : List Token
-  pub lexed : Tokens text tokens
-  pub first : at ≡ token_place text tokens 0

@@ -1,6 +1,6 @@
 pub mod Accepted
 pub mod Refusals
-pub mod Pairs
+pub mod Told
 pub mod Reply
 pub mod Ends
 pub mod Causes

@@ -4,8 +4,7 @@ ghost use Rattle.std.specs.Prelude.{◌≡◌, ◌≤◌, length, IfOk};
 ghost use Rattle.std.specs.Result.{IfErr};
 ghost use Rattle.ca_tree.specs.View.{tree_view};
 ghost use Rattle.ca_program.specs.View.{program_view};
-ghost use Rattle.ca_small.specs.SmallShape.{is_small_text};
-ghost use Rattle.ca_app.specs.Accepted.{HasTokens, BeginsAt, token_place};
+ghost use Rattle.ca_app.specs.Accepted.{HasTokens, token_place};
 ghost use Rattle.ca_app.specs.Reading.{HasOneTree, IsProgramOf, IsCauseFor};
 ghost use Rattle.ca_app.specs.declared.serving.TheConstants.{MOST_BYTES};
 
@@ -14,7 +13,6 @@ use ca_lex::{LexError, end_place, lex};
 use ca_parse::{ParseError, parse};
 use ca_program::Program;
 use ca_resolve::CheckError;
-use ca_small::{has_small_shape, is_small};
 use ca_tree::{Place, Token, Tree};
 use ca_types::check;
 use std::alloc::Global;
@@ -26,21 +24,11 @@ pub enum NoProgram {
     Memory,
 }
 
-/// The program and the tree of a text, and the place of the text's first token.
+/// The program and the tree of a text.
 #[derive(Drop)]
 pub struct Reading {
     pub program: Program,
     pub tree: Tree,
-    pub start: Place,
-}
-
-impl Reading {
-    /// Whether the text is of the small form.
-    pub fn is_small(&self) -> bool
-        ensures { result ≡ is_small_text (tree_view self.now.tree) (program_view self.now.program) }
-    {
-        has_small_shape(&self.tree) && is_small(&self.program)
-    }
 }
 
 /// Reads a text that isn't too long.
@@ -48,18 +36,12 @@ pub fn read_program(alloc: Global, text: &[u8]) -> Result<Reading, NoProgram>
     requires { length text.now ≤ MOST_BYTES }
     ensures program { IfOk result (λ r. IsProgramOf text.now (program_view r.program)) }
     ensures tree { IfOk result (λ r. HasOneTree text.now (tree_view r.tree)) }
-    ensures begins { IfOk result (λ r. BeginsAt text.now r.start) }
     ensures cause { IfErr result (IsCauseFor text.now) }
 {
     let tokens = tokens_of(alloc, text)?;
     let tree = tree_of(alloc, text, &tokens)?;
-    let start = token_place(text, &tokens, 0);
     match check(alloc, &tree) {
-        Ok(program) => Ok(Reading {
-            program,
-            tree,
-            start,
-        }),
+        Ok(program) => Ok(Reading { program, tree }),
         Err(CheckError::Violation(at, code)) => Err(NoProgram::Refused(Refusal { at, code })),
         Err(CheckError::Limit(at, code)) => Err(NoProgram::Refused(Refusal { at, code })),
         Err(CheckError::Memory) => Err(NoProgram::Memory),

@@ -14,8 +14,6 @@ use itoa::Buffer;
 
 // The codes that `ca_types::check` doesn't tell. Its own limits are `FIRST_LIMIT` to `LAST_LIMIT`.
 
-/// The command isn't built for the source's program.
-pub const NOT_BUILT: Code = Code(0);
 /// A byte that is part of no token.
 pub const NO_TOKEN: Code = Code(1);
 /// A number that is too great.
@@ -42,17 +40,6 @@ impl Refusal {
         at: Place { line: 0, column: 0 },
         code: TOO_LONG,
     };
-
-    /// The refusal of a program, of a text that begins at `start`, for which the command isn't built.
-    pub fn not_built(start: Place) -> Refusal
-        ensures at { result.at ≡ start }
-        ensures code { result.code ≡ NOT_BUILT }
-    {
-        Refusal {
-            at: start,
-            code: NOT_BUILT,
-        }
-    }
 
     /// The status with which a call ends that tells this refusal.
     pub fn status(self) -> u8

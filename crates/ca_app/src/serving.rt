@@ -9,16 +9,18 @@ ghost use Rattle.ca_meaning.specs.ProgramTyped.{ProgramTyped};
 ghost use Rattle.ca_meaning.specs.Serial.{serial};
 ghost use Rattle.ca_serial.specs.Runs.{run_with, prints_of, OnWrite};
 ghost use Rattle.ca_words.specs.Words.{texts, reads};
-ghost use Rattle.ca_app.specs.Causes.{IsUsageFault, ReadsNothing, ReadsSource, IsRefused, IsNotBuilt, RunEnds, PairsEnd, Generates, IsDone, IsTrapped, IsSpent};
+ghost use Rattle.ca_app.specs.Causes.{IsUsageFault, ReadsNothing, ReadsSource, IsRefused, RunEnds, PlanTold, Generates, IsDone, IsTrapped, IsSpent};
 ghost use Rattle.ca_app.specs.Ends.{Ends, EndsWith, SinkCause, Complete, IsReadToEnd, status_after};
 ghost use Rattle.ca_app.specs.Refusals.{refusal_reply};
 ghost use Rattle.ca_app.specs.Reply.{ProgramReplies, CommandReplies, Replies};
+ghost use Rattle.ca_app.specs.Told.{ProgramTold, CommandTold, tells_plan};
+ghost use Rattle.ca_plan.specs.Checked.{Checked};
 
 use crate::generating::serve_unread;
 use crate::lines::{write_spent, write_trap};
-use crate::pairs::{verdicts_of, write_pairs};
 use crate::reading::{NoProgram, Reading, read_program};
 use crate::refusals::Refusal;
+use crate::telling::tell_plan;
 use ca_base::{Failed, Gate, ReadError, Sink, Source, read_all, write_all};
 use ca_model::print_heap;
 use ca_parallel::Marks;
@@ -37,7 +39,7 @@ pub const MOST_BYTES: u64 = 1_048_576;
 /// The reply was written, and no refusal.
 pub const DONE: u8 = 0;
 
-/// The text is refused by a rule, or the command isn't built for it.
+/// The text is refused by a rule.
 pub const REFUSED: u8 = 1;
 
 /// The words name no command.
@@ -80,8 +82,8 @@ pub fn top<R: AllocGlobal + Threads + Wait + Sync, S: Source, K: Sink, G: Gate>(
     ensures headline { (text : List ℕ) → S.left source.old ≡ Some text → EndsWith (Replies (texts words.now) text) result (K.written sink.old) (K.written sink.new) }
 
     // What each of its statuses says of the text and its serial run.
-    ensures done { (text : List ℕ) → S.left source.old ≡ Some text → result ≡ DONE → RunEnds (texts words.now) text IsDone ⊎ (PairsEnd (texts words.now) text (K.written sink.old) (K.written sink.new) ⊎ Generates (texts words.now) (K.written sink.old) (K.written sink.new)) }
-    ensures refused { (text : List ℕ) → S.left source.old ≡ Some text → result ≡ REFUSED → IsRefused false text ⊎ IsNotBuilt (texts words.now) text }
+    ensures done { (text : List ℕ) → S.left source.old ≡ Some text → result ≡ DONE → RunEnds (texts words.now) text IsDone ⊎ (PlanTold (texts words.now) text (K.written sink.old) (K.written sink.new) ⊎ Generates (texts words.now) (K.written sink.old) (K.written sink.new)) }
+    ensures refused { (text : List ℕ) → S.left source.old ≡ Some text → result ≡ REFUSED → IsRefused false text }
     ensures trapped { (text : List ℕ) → S.left source.old ≡ Some text → result ≡ TRAPPED → RunEnds (texts words.now) text IsTrapped }
     ensures spent { (text : List ℕ) → S.left source.old ≡ Some text → result ≡ SPENT → RunEnds (texts words.now) text IsSpent }
     ensures limit { (text : List ℕ) → S.left source.old ≡ Some text → result ≡ PAST_LIMIT → IsRefused true text }
@@ -126,6 +128,7 @@ fn serve<R: Threads + Wait + Sync, S: Source, K: Sink>(
 ) -> u8
     requires { reads command ≡ true }
     ensures headline { (text : List ℕ) → S.left source.old ≡ Some text → EndsWith (CommandReplies command text) result (K.written sink.old) (K.written sink.new) }
+    ensures told { (text : List ℕ) → S.left source.old ≡ Some text → tells_plan command ≡ true → result ≡ DONE → CommandTold command text (K.written sink.old) (K.written sink.new) }
     ensures read_fault { result ≡ READ_FAULT → Rose (S.faults source.old) (S.faults source.new) }
     ensures write_fault { SinkCause result (K.faults sink.old) (K.faults sink.new) }
     ensures source_later { S.faults source.old ≤ S.faults source.new }
@@ -152,6 +155,7 @@ fn serve_text<R: Threads + Wait + Sync, K: Sink>(
     requires short { length text.now ≤ MOST_BYTES }
     requires reading { reads command ≡ true }
     ensures ends { EndsWith (CommandReplies command text.now) result (K.written sink.old) (K.written sink.new) }
+    ensures told { tells_plan command ≡ true → result ≡ DONE → CommandTold command text.now (K.written sink.old) (K.written sink.new) }
     ensures write_fault { SinkCause result (K.faults sink.old) (K.faults sink.new) }
     ensures no_read_fault { result ≡ READ_FAULT → ⊥ }
     ensures no_usage { result ≡ USAGE → ⊥ }
@@ -171,16 +175,17 @@ fn serve_program<R: Threads + Wait + Sync, K: Sink>(
     reading: &Reading,
     sink: &mut K,
 ) -> u8
-    requires typed { ProgramTyped (program_view reading.now.program) }
+    requires checked { Checked (program_view reading.now.program) }
     requires reading { reads command ≡ true }
-    ensures ends { EndsWith (ProgramReplies reading.now.start (tree_view reading.now.tree) (program_view reading.now.program) command) result (K.written sink.old) (K.written sink.new) }
+    ensures ends { EndsWith (ProgramReplies (tree_view reading.now.tree) (program_view reading.now.program) command) result (K.written sink.old) (K.written sink.new) }
+    ensures told { tells_plan command ≡ true → result ≡ DONE → ProgramTold (tree_view reading.now.tree) (program_view reading.now.program) command (K.written sink.old) (K.written sink.new) }
     ensures write_fault { SinkCause result (K.faults sink.old) (K.faults sink.new) }
     ensures no_read_fault { result ≡ READ_FAULT → ⊥ }
     ensures no_usage { result ≡ USAGE → ⊥ }
 {
     match command {
         Command::Run { budget, .. } => run_program(rt, alloc, &reading.program, budget, sink),
-        Command::Pairs => pair_program(alloc, reading, sink),
+        Command::Pairs | Command::Plan | Command::Emit => tell_plan(alloc, command, reading, sink),
         Command::Gen { .. } => unreachable!(),
     }
 }
@@ -193,23 +198,6 @@ fn refuse<K: Sink>(refusal: Refusal, sink: &mut K) -> u8
     ensures no_usage { result ≡ USAGE → ⊥ }
 {
     finish(refusal.write(sink), refusal.status())
-}
-
-/// Writes the verdicts of a program, for which they are built where its text is of the small form.
-fn pair_program<K: Sink>(alloc: Global, reading: &Reading, sink: &mut K) -> u8
-    ensures ends { EndsWith (ProgramReplies reading.now.start (tree_view reading.now.tree) (program_view reading.now.program) Command.Pairs) result (K.written sink.old) (K.written sink.new) }
-    ensures write_fault { SinkCause result (K.faults sink.old) (K.faults sink.new) }
-    ensures no_read_fault { result ≡ READ_FAULT → ⊥ }
-    ensures no_usage { result ≡ USAGE → ⊥ }
-{
-    let program = &reading.program;
-    if !reading.is_small() {
-        return refuse(Refusal::not_built(reading.start), sink);
-    }
-    match verdicts_of(alloc, program) {
-        Ok(verdicts) => finish(write_pairs(program, &verdicts, sink), DONE),
-        Err(_) => NO_MEMORY,
-    }
 }
 
 /// Runs a program. What it prints is written as it comes.

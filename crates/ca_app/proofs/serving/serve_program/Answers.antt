@@ -6,4 +6,4 @@ use Rattle.ca_app.proofs.serving.serve_program.Goals as goal
 pub returns-in-Run-clause-ends : goal.returns-in-Run-clause-ends
 returns-in-Run-clause-ends g c =
     rw c.in-Run.is
-    (ends_run c.args.reading.now.start (tree_view c.args.reading.now.tree) (program_view c.args.reading.now.program) c.in-Run.workers c.in-Run.budget c.run_program.ensures.ends)
+    (ends_run (tree_view c.args.reading.now.tree) (program_view c.args.reading.now.program) c.in-Run.workers c.in-Run.budget c.run_program.ensures.ends)

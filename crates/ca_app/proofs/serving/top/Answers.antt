@@ -1,6 +1,6 @@
 use Rattle.std.proofs.Common.{arith, rules, sym, ◌∙◌}
 use Rattle.ca_app.proofs.Endings.{ends_usage, ends_named, ends_written, after_six, after_seven, some_read, none_read, ends_unread}
-use Rattle.ca_app.proofs.StatusLemmas.{when_0, when_1, when_3, when_4, when_8, completely}
+use Rattle.ca_app.proofs.StatusLemmas.{tells_none, words_told, when_0, when_1, when_3, when_4, when_8, completely}
 use Rattle.ca_app.proofs.serving.top.Goals as goal
 
 pub returns-in_default-clause-unread_headline : goal.returns-in_default-clause-unread_headline
@@ -19,7 +19,7 @@ pub returns-in_default-clause-read_to_end : goal.returns-in_default-clause-read_
 returns-in_default-clause-read_to_end g c = λ reads is. absurd (c.in_default.ensures.only reads.0 reads.1)
 
 pub returns-in_default-clause-done : goal.returns-in_default-clause-done
-returns-in_default-clause-done g c = λ text told. when_0 (returns-in_default-clause-headline g c text told)
+returns-in_default-clause-done g c = λ text told. when_0 (returns-in_default-clause-headline g c text told) (λ n is. absurd (c.in_default.ensures.only n.0 n.1))
 
 pub returns-in_default-clause-refused : goal.returns-in_default-clause-refused
 returns-in_default-clause-refused g c = λ text told. when_1 (returns-in_default-clause-headline g c text told)
@@ -59,6 +59,7 @@ returns-then-reads-clause-headline g c = λ text told. ends_named _ c.in-Some.en
 
 pub returns-then-reads-clause-done : goal.returns-then-reads-clause-done
 returns-then-reads-clause-done g c = λ text told. when_0 (returns-then-reads-clause-headline g c text told)
+    (λ n is. words_told _ c.in-Some.ensures.named (λ tells. c.serve.ensures.told text told tells is) n)
 
 pub returns-then-reads-clause-refused : goal.returns-then-reads-clause-refused
 returns-then-reads-clause-refused g c = λ text told. when_1 (returns-then-reads-clause-headline g c text told)
@@ -90,6 +91,7 @@ returns-clause-headline g c = λ text told. ends_unread _ c.in-Some.ensures.name
 
 pub returns-clause-done : goal.returns-clause-done
 returns-clause-done g c = λ text told. when_0 (returns-clause-headline g c text told)
+    (λ n is. tells_none _ c.in-Some.ensures.named (sym c.reads.ensures ∙ c.if-reads.false) n)
 
 pub returns-clause-refused : goal.returns-clause-refused
 returns-clause-refused g c = λ text told. when_1 (returns-clause-headline g c text told)
