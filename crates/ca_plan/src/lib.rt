@@ -11,7 +11,7 @@ ghost use Rattle.ca_base.specs.Devices.{HasCause, Writes};
 ghost use Rattle.ca_program.specs.View.{program_view};
 ghost use Rattle.ca_parallel.specs.Marks.{SoundMarks};
 ghost use Rattle.ca_plan.specs.Checked.{Checked};
-ghost use Rattle.ca_plan.specs.Plans.{PlanOf};
+ghost use Rattle.ca_plan.specs.Plans.{CommuteAsTold, PlanOf};
 ghost use Rattle.ca_plan.specs.Texts.{pairs_text, plan_text};
 
 use ca_base::{Failed, Memory, Sink};
@@ -22,6 +22,7 @@ use std::alloc::Global;
 /// The plan of a program. Its marks are sound where the program is one of the checker.
 pub fn plan(alloc: Global, program: &Program) -> Result<Plan, Memory>
     ensures exact { IfOk result (λ plan. PlanOf (program_view program.now) plan) }
+    ensures commute { Checked (program_view program.now) → IfOk result (λ plan. CommuteAsTold (program_view program.now) plan) }
     ensures sound { Checked (program_view program.now) → IfOk result (λ plan. SoundMarks (program_view program.now) plan.marks) }
 {
     Err(Memory)
