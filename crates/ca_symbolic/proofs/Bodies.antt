@@ -1,5 +1,5 @@
 -- What the run of an operation in memory leaves, demands and makes.
-use Rattle.std.proofs.Common.{◌≡◌, ℕ, Bool, true, false, List, Some, refl, sym, ap, ap₂, ◌∙◌}
+use Rattle.std.proofs.Common.{◌≡◌, ℕ, true, Some, refl, sym, ap, ap₂, ◌∙◌}
 use Rattle.std.specs.Prelude.{slice_get}
 use Rattle.std.proofs.lemmas.Option.{slice_get-map}
 use Rattle.ca_program.specs.declared.program.Method.{Method}
@@ -8,7 +8,7 @@ use Rattle.ca_program.specs.declared.program.Program.{Program}
 use Rattle.ca_program.specs.View.{method_view, program_view, statements_view}
 use Rattle.ca_meaning.specs.Functions.{body_of}
 use Rattle.ca_parallel.specs.Extents.{operation_body}
-use Rattle.ca_norm.specs.Terms.{PlainTerm, truth}
+use Rattle.ca_norm.specs.Terms.{truth}
 use Rattle.ca_symbolic.specs.States.{State, first_locals}
 use Rattle.ca_symbolic.specs.Execution.{after_all}
 use Rattle.ca_symbolic.specs.Demands.{demanded_all}

@@ -1,12 +1,10 @@
 -- The test whether a statement is a call loop decides it.
-use Rattle.std.proofs.Common.{◌≡◌, Bool, true, false, ◌&&◌, ◌↔◌, refl, sym, ap, ap₂, ◌∙◌, subst, ℤ, pos, Some, None}
+use Rattle.std.proofs.Common.{◌≡◌, Bool, true, false, ◌&&◌, ◌↔◌, refl, ap, ◌∙◌, pos, Some, None}
 use Rattle.std.specs.Prelude.{nat_eq, Option}
 use Rattle.std.specs.Ordering.{int_eq}
 use Rattle.std.proofs.lemmas.Bool.{eqb-true, eq-eqb, and_parts}
 use Rattle.std.proofs.lemmas.Bool.Decides.{Decides-int_eq}
-use Rattle.ca_tree.specs.declared.tree.AssignOp.{AssignOp}
-use Rattle.ca_tree.specs.declared.tree.AssignOp.TheVariants.{Put, Add, Sub, Mul}
-use Rattle.ca_tree.specs.declared.tree.BinaryOp.{BinaryOp}
+use Rattle.ca_tree.specs.declared.tree.AssignOp.TheVariants.{Put, Add}
 use Rattle.ca_tree.specs.declared.tree.BinaryOp.TheVariants.{Less, Plus}
 use Rattle.ca_program.specs.declared.program.LocalId.{LocalId}
 use Rattle.ca_program.specs.declared.program.FirstPart.{FirstPart}

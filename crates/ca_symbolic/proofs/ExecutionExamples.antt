@@ -2,23 +2,20 @@
 use Rattle.std.proofs.Common.{◌≡◌, ℕ, true, false, List, [], ◌∷◌, None, Some, refl, codes, pos}
 use Rattle.ca_tree.specs.declared.tree.AssignOp.TheVariants.{Put, Add}
 use Rattle.ca_tree.specs.declared.tree.BinaryOp.TheVariants.{And, Less, Plus, Minus, Greater, Divide}
-use Rattle.ca_tree.specs.declared.tree.UnaryOp.TheVariants as sign
 use Rattle.ca_program.specs.declared.program.ClassId.{ClassId}
 use Rattle.ca_program.specs.declared.program.FieldId.{FieldId}
 use Rattle.ca_program.specs.declared.program.FieldInfo.{FieldInfo}
 use Rattle.ca_program.specs.declared.program.FirstPart.TheVariants.{Declares, Assigns}
 use Rattle.ca_program.specs.declared.program.FunctionId.{FunctionId}
-use Rattle.ca_program.specs.declared.program.LocalId.{LocalId}
-use Rattle.ca_program.specs.declared.program.LoopId.{LoopId}
 use Rattle.ca_program.specs.declared.program.OpId.{OpId}
 use Rattle.ca_program.specs.declared.program.ValueType.TheVariants as type
 use Rattle.ca_program.specs.Plain.{PlainProgram, PlainMethod, Expression, Statement, Statements, null, local, own, own_item, value_call, unary, binary, no_expressions, expression_and, block, put_local, put_field, put_item, invoke, if_else, while_loop, for_loop, return_value, no_statements, statement_and}
 use Rattle.ca_program.specs.Plain as plain
 use Rattle.ca_forms.specs.declared.sort.Sort.TheVariants.{Long, Bool, Pointer, LongArray}
-use Rattle.ca_norm.specs.Terms.{PlainTerm, number, truth, atom, add, sub, less, divide, not, and, choose, result, put, add_at, select, neg, no_terms}
+use Rattle.ca_norm.specs.Terms.{PlainTerm, truth, atom, add, sub, less, divide, not, and, choose, result, put, add_at, select, neg, no_terms}
 use Rattle.ca_symbolic.specs.Symbolic.{starts}
 use Rattle.ca_symbolic.specs.States.{State, not_null, in_range, calls, invokes, loops, demand, first_locals, receiver}
-use Rattle.ca_symbolic.specs.Execution.{term_of, after, after_all}
+use Rattle.ca_symbolic.specs.Execution.{term_of, after}
 use Rattle.ca_symbolic.specs.Demands.{demanded, demanded_all}
 use Rattle.ca_symbolic.specs.Made.{made_by}
 use Rattle.ca_symbolic.specs.OtherLoops.{is_call_loop, other_loop_in}

@@ -1,5 +1,5 @@
 -- Groups of demands, with one more behind them.
-use Rattle.std.proofs.Common.{◌≡◌, List, [], ◌∷◌, ◌++◌, map, refl, sym, ap, ap₂, ◌∙◌, append_assoc, append-nil}
+use Rattle.std.proofs.Common.{◌≡◌, List, [], ◌∷◌, ◌++◌, map, sym, ap, ap₂, ◌∙◌, append_assoc, append-nil}
 use Rattle.ca_norm.specs.Terms.{PlainTerm}
 use Rattle.ca_symbolic.specs.declared.demand.Demand.{Demand}
 use Rattle.ca_symbolic.specs.declared.demand.Group.{Group}

@@ -1,11 +1,11 @@
 -- A term weighs no less than what stands in it, but for an array of which an item is taken.
-use Rattle.std.proofs.Common.{◌≡◌, ℕ, ℤ, ◌+◌, ◌*◌, ◌<◌, ◌≤◌, Bool, true, arith}
+use Rattle.std.proofs.Common.{◌≡◌, ℕ, ℤ, ◌*◌, ◌<◌, ◌≤◌, true, arith}
 use Rattle.std.proofs.Math.Nat.{mul-pos, le-mul_of_pos_right}
 use Rattle.std.proofs.lemmas.Bool.{lt-ltb, ltb-true}
 use Rattle.ca_forms.specs.declared.sort.Sort.{Sort}
 use Rattle.ca_forms.specs.declared.sort.Sort.TheVariants.{Bool as Truth}
-use Rattle.ca_norm.specs.Terms.{PlainTerm, PlainTerms, number, truth, null, atom, add, sub, neg, mul, divide, remainder, less, less_equal, same, not, and, or, choose, read, read_at, result, select, put, add_at, no_terms, term_and, sort_of}
-use Rattle.ca_norm.specs.Weights.{same_spread, spread, spreads, share, nodes, depth, weight_of}
+use Rattle.ca_norm.specs.Terms.{PlainTerm, number, truth, null, atom, add, sub, neg, mul, divide, remainder, less, less_equal, same, not, and, or, choose, read, read_at, result, select, put, add_at, sort_of}
+use Rattle.ca_norm.specs.Weights.{same_spread, spread, share, nodes, depth, weight_of}
 use Rattle.ca_symbolic.specs.Verdicts.{is_heavy}
 
 some_same : (s : Sort) (a b : ℕ) → 0 < a → 0 < same_spread s a b

@@ -1,5 +1,5 @@
 -- An execution is refused exactly where a term that it makes is too heavy.
-use Rattle.std.proofs.Common.{◌≡◌, ℕ, Bool, true, false, ◌||◌, List, [], ◌∷◌, ◌++◌, Option, Some, None, refl, sym, ap, ap₂, ◌∙◌}
+use Rattle.std.proofs.Common.{◌≡◌, Bool, true, false, ◌||◌, List, [], ◌∷◌, ◌++◌, Option, Some, None, refl, sym, ap, ap₂, ◌∙◌}
 use Rattle.std.specs.Prelude.{if◌then◌else◌, flat_map, ℤ}
 use Rattle.std.specs.List.{list_any}
 use Rattle.std.proofs.lemmas.Grind.{flat_map-append}
@@ -13,7 +13,7 @@ use Rattle.ca_tree.specs.declared.tree.UnaryOp.TheVariants as sign
 use Rattle.ca_program.specs.declared.program.FieldId.{FieldId}
 use Rattle.ca_program.specs.Plain.{PlainProgram, Expression, Expressions, number, truth, null, this, local, own, own_item, read, read_item, value_call, unary, binary, no_expressions, expression_and, Statement, Statements, block, put_local, put_field, put_item, new_local, new_field, new_item, invoke, if_else, while_loop, for_loop, return_value, print_value, no_statements, statement_and}
 use Rattle.ca_norm.specs.Terms.{PlainTerm, neg, not, and, same, divide, remainder, add_at, select, put, mul}
-use Rattle.ca_symbolic.specs.States.{State, PlainDemand, demand, not_null, in_range, calls, invokes, loops, term_at}
+use Rattle.ca_symbolic.specs.States.{State, PlainDemand, demand, not_null, in_range, calls, invokes, term_at}
 use Rattle.ca_symbolic.specs.Execution.{term_of, signed_term, operation, divisor, divided, put_term, is_item, put_right, array_term, after}
 use Rattle.ca_symbolic.specs.Demands.{right_guard, then_guard, else_guard, terms_in, demands_in, demands_in_all, loop_parts, demanded, demanded_all}
 use Rattle.ca_symbolic.specs.Made.{new_guard, guards_in, guards_in_all, joined_terms, steps_made, steps_made_all, made_by}

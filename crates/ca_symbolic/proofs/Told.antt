@@ -1,12 +1,12 @@
 -- What code finds by numbers of fields and locals is what the definition has.
-use Rattle.std.proofs.Common.{◌≡◌, ℕ, Bool, true, false, ◌||◌, List, [], ◌∷◌, ◌++◌, refl, sym, ap, ap₂, ◌∙◌}
+use Rattle.std.proofs.Common.{◌≡◌, ℕ, true, false, ◌||◌, List, [], ◌∷◌, ◌++◌, sym, ap, ap₂, ◌∙◌}
 use Rattle.std.specs.List.{list_any}
 use Rattle.std.proofs.lemmas.List.Folds.{list_any-append}
 use Rattle.ca_program.specs.declared.program.FirstPart.{FirstPart}
 use Rattle.ca_program.specs.declared.program.LoopId.{LoopId}
 use Rattle.ca_program.specs.Plain.{PlainProgram, Expression, Statement, for_loop}
 use Rattle.ca_norm.specs.Terms.{PlainTerm}
-use Rattle.ca_symbolic.specs.States.{State, PlainDemand, demand, loops}
+use Rattle.ca_symbolic.specs.States.{State, demand, loops}
 use Rattle.ca_symbolic.specs.Execution.{choices, field_target, local_target, joined_state}
 use Rattle.ca_symbolic.specs.Demands.{picked, loop_reads, demanded}
 use Rattle.ca_symbolic.specs.Made.{targets, joined_terms}

@@ -1,19 +1,15 @@
 -- What a body demands, each under the condition of the path to it, in the order of evaluation.
-use Rattle.std.specs.Prelude.{ℕ, suc, Bool, true, false, ◌&&◌, ◌||◌, nat_eq, if◌then◌else◌, List, [], ◌∷◌, ◌++◌}
+use Rattle.std.specs.Prelude.{ℕ, suc, Bool, false, ◌&&◌, nat_eq, if◌then◌else◌, List, [], ◌∷◌, ◌++◌}
 use Rattle.std.specs.List.{list_any}
 use Rattle.ca_tree.specs.declared.tree.BinaryOp.{BinaryOp}
 use Rattle.ca_tree.specs.declared.tree.BinaryOp.TheVariants.{Or, And}
-use Rattle.ca_program.specs.declared.program.FieldId.{FieldId}
-use Rattle.ca_program.specs.declared.program.OpId.{OpId}
-use Rattle.ca_program.specs.declared.program.LocalId.{LocalId}
-use Rattle.ca_program.specs.declared.program.LoopId.{LoopId}
 use Rattle.ca_program.specs.Plain.{PlainProgram, Expression, Expressions, number, truth, null, this, local, own, own_item, read, read_item, value_call, unary, binary, no_expressions, expression_and, Statement, Statements, block, put_local, put_field, put_item, new_local, new_field, new_item, invoke, if_else, while_loop, for_loop, return_value, print_value, no_statements, statement_and}
 use Rattle.ca_meaning.specs.Operators.{not_of}
 use Rattle.ca_parallel.specs.Bodies.{expressions_of}
 use Rattle.ca_parallel.specs.Scoped.{names}
 use Rattle.ca_norm.specs.Terms.{PlainTerm}
 use Rattle.ca_norm.specs.Terms as term
-use Rattle.ca_symbolic.specs.States.{State, DemandKind, not_null, in_range, calls, invokes, loops, PlainDemand, demand}
+use Rattle.ca_symbolic.specs.States.{State, not_null, in_range, calls, invokes, loops, PlainDemand, demand}
 use Rattle.ca_symbolic.specs.Execution.{term_of, after}
 
 -- the term of each expression

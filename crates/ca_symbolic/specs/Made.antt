@@ -5,9 +5,9 @@ use Rattle.ca_tree.specs.declared.tree.BinaryOp.{BinaryOp}
 use Rattle.ca_tree.specs.declared.tree.BinaryOp.TheVariants.{Or, And}
 use Rattle.ca_program.specs.Plain.{PlainProgram, Expression, Expressions, number, truth, null, this, local, own, own_item, read, read_item, value_call, unary, binary, no_expressions, expression_and, Statement, Statements, block, put_local, put_field, put_item, new_local, new_field, new_item, invoke, if_else, while_loop, for_loop, return_value, print_value, no_statements, statement_and}
 use Rattle.ca_norm.specs.Terms.{PlainTerm}
-use Rattle.ca_symbolic.specs.States.{State, PlainDemand, term_at}
+use Rattle.ca_symbolic.specs.States.{State, term_at}
 use Rattle.ca_symbolic.specs.Execution.{term_of, put_term, array_term, field_target, local_target, after}
-use Rattle.ca_symbolic.specs.Demands.{right_guard, then_guard, else_guard, demanded, demanded_all}
+use Rattle.ca_symbolic.specs.Demands.{right_guard, then_guard, else_guard, demanded_all}
 
 -- the condition of a right side that isn't always evaluated
 abbrev pub new_guard : BinaryOp → PlainTerm → PlainTerm → List PlainTerm

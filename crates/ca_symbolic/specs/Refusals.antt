@@ -1,5 +1,5 @@
 -- Whether an execution is refused for a term that is too heavy, in the order in which it makes its terms.
-use Rattle.std.specs.Prelude.{ℕ, Bool, false, ◌||◌, if◌then◌else◌}
+use Rattle.std.specs.Prelude.{Bool, false, ◌||◌, if◌then◌else◌}
 use Rattle.std.specs.List.{list_any}
 use Rattle.ca_tree.specs.declared.tree.AssignOp.{AssignOp}
 use Rattle.ca_tree.specs.declared.tree.AssignOp.TheVariants as assign

@@ -1,4 +1,4 @@
-use Rattle.std.proofs.Common.{rules, ◌≡◌, true, length, arith}
+use Rattle.std.proofs.Common.{rules, ◌≡◌, true, arith}
 use Rattle.std.specs.Prelude.{nat_eq}
 use Rattle.ca_program.specs.View.{expression_view, expressions_view}
 use Rattle.ca_symbolic.specs.Same.{same_expression, same_expressions}
