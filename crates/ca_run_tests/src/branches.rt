@@ -15,7 +15,8 @@ struct Row {
     is_same: bool,
 }
 
-const TWO: &str = "class C { public: long x; bool b; void t(long p) { if (b) x = x + p; else x = x - p; }\
+const TWO: &str =
+    "class C { public: long x; bool b; void t(long p) { if (b) x = x + p; else x = x - p; }\
     void s(bool q) { b = b || q; } }; int main() { }";
 
 const ROWS: [Row; 9] = [
