@@ -1,16 +1,15 @@
 //! Terms that are not too heavy, shared by all that they stand in.
 
-ghost use Rattle.std.specs.Prelude.{◌≡◌, false, true, IfOk, box_value, map};
+ghost use Rattle.std.specs.Prelude.{◌≡◌, false, true, IfOk};
 ghost use Rattle.ca_forms.specs.declared.sort.Sort.{Sort};
-ghost use Rattle.ca_norm.specs.Terms.{number, truth, null, atom, add, sub, neg, mul, divide, remainder, less, less_equal, same, not, and, or, choose, read, read_at, result as call_result, select, put, add_at, shape, sort_of, item_sort, terms_of};
+ghost use Rattle.ca_norm.specs.Terms.{number, truth, null, atom, add, sub, neg, mul, divide, remainder, less, less_equal, same, not, and, or, choose, read, read_at, result as call_result, select, put, add_at, sort_of, item_sort, terms_of};
 ghost use Rattle.ca_norm.specs.Measures.{Measures, MeasuresAll};
 ghost use Rattle.ca_symbolic.specs.Nodes.{node_of};
 ghost use Rattle.ca_symbolic.specs.States.{receiver};
 ghost use Rattle.ca_symbolic.specs.Verdicts.{is_heavy};
 
 use crate::weighed::ExecutionError;
-use ca_forms::parts::{both, longer, one_box};
-use ca_norm::{MOST_WEIGHT, Measure, Sort, Term};
+use ca_norm::{MOST_WEIGHT, Measure, Sort};
 use std::alloc::{AllocError, Global};
 use std::marker::Model;
 use std::rc::Rc;
@@ -20,21 +19,21 @@ use std::rc::Rc;
 #[cycle(light)]
 #[derive(Drop)]
 pub struct LightTerm {
-    node: Rc<Node>,
+    pub(crate) node: Rc<Node>,
     pub(crate) measure: Measure,
 }
 
 /// The arguments of a call.
 #[cycle(light)]
 #[derive(Drop)]
-struct Arguments {
-    items: Vec<LightTerm>,
+pub(crate) struct Arguments {
+    pub(crate) items: Vec<LightTerm>,
 }
 
 /// As `ca_norm::Term` has them.
 #[cycle(light)]
 #[derive(Drop)]
-enum Node {
+pub(crate) enum Node {
     Number(i64),
     Truth(bool),
     Null,
@@ -451,108 +450,5 @@ impl LightTerm {
             Node::AddAt(a, _, _) => a.sort(),
             Node::Select(a, _) => item_sort(a.sort()),
         }
-    }
-
-    /// The term with no part shared: of at most `MOST_WEIGHT` nodes, and as deep as it is.
-    #[cycle(unshared)]
-    #[inline(never)]
-    pub(crate) fn unshared(&self, alloc: Global) -> Result<Term, AllocError>
-        ensures { IfOk result (λ t. shape t ≡ self.now) }
-    {
-        match &*self.node {
-            Node::Number(n) => Ok(Term::Number(*n)),
-            Node::Truth(b) => Ok(Term::Truth(*b)),
-            Node::Null => Ok(Term::Null),
-            Node::Atom(sort, group, number) => Ok(Term::Atom(*sort, *group, *number)),
-            Node::Neg(a) => Ok(Term::Neg(a.boxed(alloc)?)),
-            Node::Divide(a, n) => Ok(Term::Divide(a.boxed(alloc)?, *n)),
-            Node::Remainder(a, n) => Ok(Term::Remainder(a.boxed(alloc)?, *n)),
-            Node::Not(a) => Ok(Term::Not(a.boxed(alloc)?)),
-            Node::Add(a, b) => {
-                let (first, second) = both(a.boxed(alloc), b.boxed(alloc))?;
-                Ok(Term::Add(first, second))
-            }
-            Node::Sub(a, b) => {
-                let (first, second) = both(a.boxed(alloc), b.boxed(alloc))?;
-                Ok(Term::Sub(first, second))
-            }
-            Node::Mul(a, b) => {
-                let (first, second) = both(a.boxed(alloc), b.boxed(alloc))?;
-                Ok(Term::Mul(first, second))
-            }
-            Node::Less(a, b) => {
-                let (first, second) = both(a.boxed(alloc), b.boxed(alloc))?;
-                Ok(Term::Less(first, second))
-            }
-            Node::LessEqual(a, b) => {
-                let (first, second) = both(a.boxed(alloc), b.boxed(alloc))?;
-                Ok(Term::LessEqual(first, second))
-            }
-            Node::Same(a, b) => {
-                let (first, second) = both(a.boxed(alloc), b.boxed(alloc))?;
-                Ok(Term::Same(first, second))
-            }
-            Node::And(a, b) => {
-                let (first, second) = both(a.boxed(alloc), b.boxed(alloc))?;
-                Ok(Term::And(first, second))
-            }
-            Node::Or(a, b) => {
-                let (first, second) = both(a.boxed(alloc), b.boxed(alloc))?;
-                Ok(Term::Or(first, second))
-            }
-            Node::Select(a, b) => {
-                let (first, second) = both(a.boxed(alloc), b.boxed(alloc))?;
-                Ok(Term::Select(first, second))
-            }
-            Node::Choose(a, b, c) => {
-                let sides = both(b.boxed(alloc), c.boxed(alloc));
-                let (first, (second, third)) = both(a.boxed(alloc), sides)?;
-                Ok(Term::Choose(first, second, third))
-            }
-            Node::Put(a, b, c) => {
-                let sides = both(b.boxed(alloc), c.boxed(alloc));
-                let (first, (second, third)) = both(a.boxed(alloc), sides)?;
-                Ok(Term::Put(first, second, third))
-            }
-            Node::AddAt(a, b, c) => {
-                let sides = both(b.boxed(alloc), c.boxed(alloc));
-                let (first, (second, third)) = both(a.boxed(alloc), sides)?;
-                Ok(Term::AddAt(first, second, third))
-            }
-            Node::Read(sort, p, class, field) => {
-                let object = p.boxed(alloc)?;
-                Ok(Term::Read(*sort, object, *class, *field))
-            }
-            Node::ReadAt(sort, p, class, field, i) => {
-                let (object, index) = both(p.boxed(alloc), i.boxed(alloc))?;
-                Ok(Term::ReadAt(*sort, object, *class, *field, index))
-            }
-            Node::Result(sort, method, p, args) => {
-                let (receiver, args) = both(p.boxed(alloc), args.unshared(alloc))?;
-                Ok(Term::Result(*sort, *method, receiver, args))
-            }
-        }
-    }
-
-    #[cycle(unshared)]
-    #[inline(never)]
-    fn boxed(&self, alloc: Global) -> Result<Box<Term>, AllocError>
-        ensures { IfOk result (λ b. shape (box_value b) ≡ self.now) }
-    {
-        one_box(alloc, self.unshared(alloc))
-    }
-}
-
-impl Arguments {
-    #[cycle(unshared)]
-    fn unshared(&self, alloc: Global) -> Result<Vec<Term>, AllocError>
-        ensures { IfOk result (λ v. terms_of (map shape v.items) ≡ self.now) }
-    {
-        let mut terms = Vec::new(alloc);
-        for item in &self.items {
-            let (so_far, term) = both(Ok(terms), item.unshared(alloc))?;
-            terms = longer(so_far, term)?;
-        }
-        Ok(terms)
     }
 }

@@ -4,8 +4,8 @@ use Rattle.ca_norm.proofs.Shapes.{call_is}
 use Rattle.ca_symbolic.specs.Nodes.{node_of}
 use Rattle.ca_symbolic.proofs.light.+unshared.Goals as goal
 
-pub LightTerm::unshared-returns-in_ok-receiver-in-Result : goal.LightTerm::unshared-returns-in_ok-receiver-in-Result
-LightTerm::unshared-returns-in_ok-receiver-in-Result t c =
+pub LightTerm::unshared_call-returns-in_ok-receiver-in-Result : goal.LightTerm::unshared_call-returns-in_ok-receiver-in-Result
+LightTerm::unshared_call-returns-in_ok-receiver-in-Result t c =
     let r = c.in_ok-receiver-in-Result in
     let object : shape r.receiver.value ≡ c.in-Result.p = search rules in
     let list : terms_of (map shape r.args.items) ≡ c.in-Result.args = search rules in
