@@ -16,5 +16,6 @@ mod state;
 mod walk;
 
 pub use crate::demand::{Demand, DemandKind, Demands, Group};
+pub use crate::loops::is_call_loop;
 pub use crate::running::{Side, SymbolicError, other_loop, symbolic};
 pub use crate::state::SymState;
