@@ -1,9 +1,0 @@
-//! Tests of verdicts: each call that takes memory, and an answer of each other, where there is ample memory. What the
-//! calls answer is proved where they stand. The tests have a crate of their own so that those crates are proved once,
-//! and not with tests again.
-#![tactic(auto)]
-
-#[cfg(test)]
-mod programs;
-#[cfg(test)]
-mod verdicts;

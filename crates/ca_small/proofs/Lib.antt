@@ -1,3 +1,0 @@
-mod ShapeExamples
-pub mod Shapes
-pub mod Typed

@@ -1,3 +1,0 @@
-pub mod SmallForm
-pub mod SmallShape
-pub mod TypedPuts
