@@ -9,7 +9,7 @@ mod devices;
 #[cfg(test)]
 mod generated;
 #[cfg(test)]
-mod pairs;
+mod plans;
 #[cfg(test)]
 mod pieces;
 #[cfg(test)]
