@@ -1,6 +1,8 @@
 #!/usr/bin/env python3
 """Texts with what `pairs`, `plan` and `emit` write of them, told by hand: the reference has to say the same."""
 
+import sys
+
 from analysis import Plan
 from annotated import BadMark, annotated, canonical, erase
 from reader import tree_of
@@ -239,6 +241,30 @@ VERDICTS = [
 ]
 
 
+POWER = " * ".join(["(f + h)"] * 16)
+DOUBLED = "void m(long p) { long v = p; " + "v = v + v; " * 15
+
+# The same at the limit on weights: 65,536 nodes, products, and 4,096 levels, and one more each.
+LIMITS = [
+    (f"long g; {DOUBLED} g = -v; }}", "FieldDiffers g"),
+    (f"long g; {DOUBLED} g = - -v; }}", "Large"),
+    (f"long f; long h; long g; void m(long p) {{ g = {POWER}; }}", None),
+    (f"long f; long h; long g; void m(long p) {{ g = {POWER} + 1; }}", "Large"),
+    ("long f; long g; void m() { " + "f = f % 7; " * 2047 + "g = -f; }", None),
+    ("long f; long g; void m() { " + "f = f % 7; " * 2047 + "g = - -f; }", "Large"),
+    ("bool f; bool g; void m() { " + "f = !f; " * 2047 + "g = !f; }", None),
+]
+
+
+def small_text(members):
+    return f"class A {{ public: {members} }}; int main() {{ }}"
+
+
+def texts():
+    """All texts of the rows."""
+    return [text for text, _ in PAIRS + PLANS + EMITTED] + [small_text(m) for m, _ in VERDICTS + LIMITS]
+
+
 def differences():
     """What the reference says otherwise."""
     for text, due in PAIRS:
@@ -249,8 +275,8 @@ def differences():
         tree = tree_of(text)
         yield from told(annotated(tree, Plan(tree)), due)
         yield from told(erase(due.encode()).decode(), canonical(tree))
-    for members, due in VERDICTS:
-        plan = Plan(tree_of(f"class A {{ public: {members} }}; int main() {{ }}"))
+    for members, due in VERDICTS + LIMITS:
+        plan = Plan(tree_of(small_text(members)))
         a = next(op for op in plan.program.ops if op.name == "m")
         b = next((op for op in plan.program.ops if op.name == "n"), a)
         yield from told(dict(plan.ops)[a].reason(a, b), due)
@@ -266,6 +292,7 @@ def told(found, due):
 
 
 if __name__ == "__main__":
+    sys.setrecursionlimit(100000)
     found = list(differences())
     print("\n".join(found) or "all rows alike")
     raise SystemExit(len(found) > 0)
