@@ -1,6 +1,10 @@
 #!/usr/bin/env python3
-"""Texts with what `pairs`, `plan` and `emit` write of them, told by hand: the reference has to say the same."""
+"""Texts with what `pairs`, `plan` and `emit` write of them, told by hand: the reference has to say the same.
 
+So it has to of the samples, whose texts `samples/NAME.pairs` and `samples/NAME.plan` were read by people.
+"""
+
+import pathlib
 import sys
 
 from analysis import Plan
@@ -256,13 +260,25 @@ LIMITS = [
 ]
 
 
+SAMPLES = pathlib.Path(__file__).parent.parent / "samples"
+
+
+def samples():
+    """The plan of each sample, and what it is said to be."""
+    for path in sorted(SAMPLES.glob("*.pairs")):
+        plan = Plan(tree_of(path.with_suffix(".cc").read_text()))
+        yield plan.pairs_text(), path.read_text()
+        yield plan.plan_text(), path.with_suffix(".plan").read_text()
+
+
 def small_text(members):
     return f"class A {{ public: {members} }}; int main() {{ }}"
 
 
 def texts():
     """All texts of the rows."""
-    return [text for text, _ in PAIRS + PLANS + EMITTED] + [small_text(m) for m, _ in VERDICTS + LIMITS]
+    shown = [text for text, _ in PAIRS + PLANS + EMITTED] + [path.read_text() for path in SAMPLES.glob("*.cc")]
+    return shown + [small_text(members) for members, _ in VERDICTS + LIMITS]
 
 
 def differences():
@@ -271,6 +287,8 @@ def differences():
         yield from told(Plan(tree_of(text)).pairs_text(), due)
     for text, due in PLANS:
         yield from told(Plan(tree_of(text)).plan_text(), due)
+    for found, due in samples():
+        yield from told(found, due)
     for text, due in EMITTED:
         tree = tree_of(text)
         yield from told(annotated(tree, Plan(tree)), due)
