@@ -59,7 +59,8 @@ class Objects(Program):
 
     def values(self):
         """Value methods; c is careful, and w reads anything."""
-        return [self.method_of(f"{letter}{i}", letter) for i, letter in enumerate(self.rng.choice(["c", "cw", "cc", ""]))]
+        letters = self.rng.choice(["c", "cw", "cc", ""])
+        return [self.method_of(f"{letter}{i}", letter) for i, letter in enumerate(letters)]
 
     def method_of(self, name, letter):
         result = self.rng.choice([LONG, LONG, BOOL, self.rng.choice(self.classes).name])
@@ -108,7 +109,9 @@ class Objects(Program):
         return [s for s in found if s is not None]
 
     def update(self, names, depth):
-        kind = self.rng.choice("ssstlaavp" + "i" * (depth > 0))
+        kind = self.rng.choice("ssstlaavpn" + "i" * (depth > 0))
+        if kind == "n":
+            return ("block", self.neutral(names))
         if kind == "v":
             return self.local(names, 0)
         if kind == "p":
@@ -131,10 +134,61 @@ class Objects(Program):
         index = self.expr(LONG, names, 1) if length and self.chance(0.6) else self.index(length, names, 1)
         old, e = ("read", None, field, index, length), self.expr(LONG, names, 2)
         op = "*" if kind == "t" else self.rng.choice("+-")
-        right = self.rng.choice([("binary", op, old, e), ("binary", op, old, e) if op == "-" else ("binary", op, e, old)])
-        if length and right[2] != old:
-            right = ("binary", op, old, e)
+        is_turned = op != "-" and not length and self.chance(0.3)
+        right = ("binary", op, e, old) if is_turned else ("binary", op, old, e)
         return self.rng.choice([put(field, f"{op}=", e, index, length), put(field, "=", right, index, length)])
+
+    # What leaves all as it was, or does the same on each path, whatever others have written
+
+    def neutral(self, names):
+        ways = [self.to_and_fro, self.on_each_path, self.twice_negated, self.same_pointer]
+        return self.rng.choice(ways)(names) or []
+
+    def condition(self, names):
+        """A condition on written fields, which asks for nothing else."""
+        fields = [own(f[0]) for f in self.fields_of("stld") if f[1] == BOOL]
+        numbers = [own(f[0]) for f in self.fields_of("st")] + [("number", 3)]
+        op = self.rng.choice(["<", "<=", "==", "!=", ">", ">="])
+        compared = ("binary", op, self.rng.choice(numbers), self.leaf(LONG, names, 0))
+        found = self.rng.choice(fields + [compared])
+        return ("unary", "!", found) if self.chance(0.3) else found
+
+    def change(self, names):
+        """A field that is added to, what is added, and its place in it."""
+        fields = self.fields_of("sa")
+        name, _, length = self.rng.choice(fields) if fields else (None, None, None)
+        return name, self.expr(LONG, names, 1), self.index(length, names, 0), length
+
+    def to_and_fro(self, names):
+        name, e, index, length = self.change(names)
+        return name and [put(name, op, e, index, length) for op in self.rng.choice([("+=", "-="), ("-=", "+=")])]
+
+    def on_each_path(self, names):
+        name, e, index, length = self.change(names)
+        if name is None:
+            return []
+        condition, added = self.condition(names), put(name, "+=", e, index, length)
+        if self.chance(0.5):
+            return [("if", condition, [added], [added])]
+        return [("if", condition, [added], None), ("if", ("unary", "!", condition), [added], None)]
+
+    def twice_negated(self, names):
+        fields = [f for f in self.fields_of("stld") if f[2] is None]
+        if not fields:
+            return []
+        name, ty, _ = self.rng.choice(fields)
+        it, yes, no = own(name), ("truth", True), ("truth", False)
+        if ty == LONG:
+            same = [("unary", "-", ("unary", "-", it)), ("binary", "*", it, ("number", 1))]
+        else:
+            pairs = [("&&", it), ("||", it), ("==", yes), ("!=", no), ("&&", yes), ("||", no)]
+            same = [("unary", "!", ("unary", "!", it))] + [("binary", op, it, other) for op, other in pairs]
+        return [put(name, "=", self.rng.choice(same))]
+
+    def same_pointer(self, names):
+        c = self.rng.choice(self.classes).name
+        e, v = self.expr(c, names, 0), self.new_name("v")
+        return [("local", v, c, e), ("if", self.condition(names), [("put", v, "=", e)], None)]
 
     def once(self):
         """What is done under a mark; it names nothing that depends on the call."""
