@@ -1,14 +1,13 @@
-//! Plans that are told: `pairs`, `plan` and `emit`.
+//! Plans that are told: `pairs` and `plan`.
 
 use crate::calls::Call;
-use crate::sources::{ACCUMULATOR, BOUND, CELLS, FIRST, GRAPH_VISIT, PAIR, SETS, STACK, TWO_SUMS};
+use crate::sources::{ACCUMULATOR, BOUND, CELLS, FIRST, GRAPH_VISIT, PAIR, SETS, STACK};
 use std::alloc::{AllocError, Global};
 
 /// A text without classes, and three that have one tree but for places.
-const TOLD_OF_SMALL_TEXTS: [(&str, &str, &str); 8] = [
+const TOLD_OF_SMALL_TEXTS: [(&str, &str, &str); 6] = [
     ("pairs", "int main() { print(1); }", ""),
     ("plan", "int main() { print(1); }", ""),
-    ("emit", "int main() { print(1); }", "int main ( ) {\nprint ( 1 ) ;\n}\n"),
     (
         "pairs",
         "class A { public: long f; long g; void m(long x) { f = f + x; } }; int main() { A *a = new A(); a->m(1); }",
@@ -18,11 +17,6 @@ const TOLD_OF_SMALL_TEXTS: [(&str, &str, &str); 8] = [
         "pairs",
         "class A; // again\nclass A { public: long f, g; void m(long x) { f = (f + x); } }; int main() { A *a = new A; /* on a */ a->m(1); return 0; }",
         "extent A::m\nA::m A::m commutes\n",
-    ),
-    (
-        "emit",
-        "class A; // again\nclass A { public: long f, g; void m(long x) { f = (f + x); } }; int main() { A *a = new A; /* on a */ a->m(1); return 0; }",
-        "class A {\npublic :\nlong f ;\nlong g ;\nvoid m ( long x ) {\nf = f + x ;\n}\n} ;\nint main ( ) {\nA * a = new A ( ) ;\na -> m ( 1 ) ;\n}\n",
     ),
     (
         "pairs",
@@ -82,14 +76,9 @@ const TOLD: [(&str, &str, &str); 13] = [
     ),
     ("plan", PAIR, "op Bin::add serial\nop Pair::fill serial\nloop 14 parallel\n"),
     ("pairs", BOUND, "extent M::up\nM::up M::up unproved FieldDiffers x\n"),
-    (
-        "emit",
-        TWO_SUMS,
-        "class A {\npublic :\nlong n ;\nvoid add ( long v ) {\n/*@lock*/ n += v ;\n/*@unlock*/ }\nvoid two ( long v ) {\n/*@lock*/ /*@unlock*/ /*@spawn*/ add ( v ) ;\n/*@unlock*/ /*@spawn*/ add ( v + 1 ) ;\n/*@unlock*/ }\n} ;\nint main ( ) {\nA * a = new A ( ) ;\n/*@parallel*/ a -> two ( 3 ) ;\n}\n",
-    ),
 ];
 
-/// Verdicts, marks and annotated texts.
+/// Verdicts and marks.
 #[test]
 fn tells_plans(rt: HostRuntime) -> Result<(), AllocError> {
     for (line, text, written) in TOLD_OF_SMALL_TEXTS {

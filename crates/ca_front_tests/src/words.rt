@@ -9,7 +9,7 @@ fn names_commands(rt: HostRuntime) -> Result<(), Fail> {
     for (line, named) in [
         ("pairs", Some(Command::Pairs)),
         ("plan", Some(Command::Plan)),
-        ("emit", Some(Command::Emit)),
+        ("emit", None),
         ("plans", None),
         (
             "run 1 100",
