@@ -31,7 +31,7 @@ const TOLD_OF_SMALL_TEXTS: [(&str, &str, &str); 6] = [
 ];
 
 /// What is told of longer texts.
-const TOLD: [(&str, &str, &str); 13] = [
+const TOLD: [(&str, &str, &str); 12] = [
     (
         "pairs",
         FIRST,
