@@ -117,7 +117,7 @@ summed_append : (gs : List PlainPolynomial) (ms ns : Sum ℕ) → summed_up gs (
 summed_append gs [] ns = refl
 summed_append gs (m ∷ ms) ns = ap (λ z. scale m.1 (products_at gs m.0) ++ z) (summed_append gs ms ns) ∙ sym (append_assoc (scale m.1 (products_at gs m.0)) (summed_up gs ms) (summed_up gs ns))
 
-conditions_append : (k : Key) (ds es : List PlainDemand) → conditions k (ds ++ es) ≡ conditions k ds ++ conditions k es
+pub conditions_append : (k : Key) (ds es : List PlainDemand) → conditions k (ds ++ es) ≡ conditions k ds ++ conditions k es
 conditions_append k [] es = refl
 conditions_append k (d ∷ ds) es = ap (λ z. (if is_eq (key_cmp k (key_of d)) then expand d.guard else []) ++ z) (conditions_append k ds es) ∙ sym (append_assoc _ (conditions k ds) (conditions k es))
 
