@@ -35,7 +35,7 @@ demands_flip : (k : Key) (ds es : List PlainDemand) → demanded_at k (ds ++ es)
 demands_flip k ds es =
     ap gathered (conditions_append k ds es)
     ∙ gathered_same (conditions k ds ++ conditions k es) (conditions k es ++ conditions k ds)
-        (record { same = λ f. alike_eq (total_append f (conditions k ds) (conditions k es) ∙ flip (total f (conditions k ds)) (total f (conditions k es)) ∙ sym (total_append f (conditions k es) (conditions k ds))) })
+    (record { same = λ f. alike_eq (total_append f (conditions k ds) (conditions k es) ∙ flip (total f (conditions k ds)) (total f (conditions k es)) ∙ sym (total_append f (conditions k es) (conditions k ds))) })
     ∙ sym (ap gathered (conditions_append k es ds))
 
 pub plain_commutes : (p : PlainProgram) (written : List FieldId) (a b : OpId) → IsPlainPair p written a b → VerdictOf p written a b Commutes
@@ -47,14 +47,16 @@ plain_commutes p written a b h =
     let first : (first_order p a b).heavy ≡ false = ap₂ (λ x y. x || y) light.0.first light.0.second in
     let second : (second_order p a b).heavy ≡ false = ap₂ (λ x y. x || y) light.1.first light.1.second in
     let demands : SameDemands (first_order p a b).demands (second_order p a b).demands =
-        λ k. ap (λ es. demanded_at k (demanded_by p a 1 (start_of p a) ++ es)) same.second_demands
-            ∙ demands_flip k (demanded_by p a 1 (start_of p a)) (demanded_by p b 2 (start_of p a))
-            ∙ ap (λ es. demanded_at k (demanded_by p b 2 (start_of p a) ++ es)) (sym same.first_demands) in
-    (record {
-       can = record { separable = plain_pairs_are_separable p written a b h; loops = ap₂ option_or none.0 none.1 };
-       light = ap₂ (λ x y. x || y) first second;
-     },
-     same.forms, demands)
+    λ k. ap (λ es. demanded_at k (demanded_by p a 1 (start_of p a) ++ es)) same.second_demands
+    ∙ demands_flip k (demanded_by p a 1 (start_of p a)) (demanded_by p b 2 (start_of p a))
+    ∙ ap (λ es. demanded_at k (demanded_by p b 2 (start_of p a) ++ es)) (sym same.first_demands) in (
+      record {
+        can = record { separable = plain_pairs_are_separable p written a b h; loops = ap₂ option_or none.0 none.1 };
+        light = ap₂ (λ x y. x || y) first second;
+      },
+      same.forms,
+      demands,
+    )
 
 only_commutes : (v : Verdict) → SameVerdict v Commutes → v ≡ Commutes
 only_commutes Commutes e = e
