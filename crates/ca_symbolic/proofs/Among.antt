@@ -1,9 +1,8 @@
 -- Lists of numbers tell which fields a statement puts, and which locals it puts or names.
-use Rattle.std.proofs.Common.{◌≡◌, ℕ, Bool, ◌||◌, ◌&&◌, List, [], ◌∷◌, ◌++◌, map, refl, sym, ap, ap₂, ◌∙◌, append_assoc}
+use Rattle.std.proofs.Common.{◌≡◌, ℕ, Bool, ◌||◌, ◌&&◌, List, [], ◌∷◌, ◌++◌, map, refl, sym, ap, ap₂, ◌∙◌}
 use Rattle.std.specs.Prelude.{nat_eq}
 use Rattle.std.specs.List.{list_any}
 use Rattle.std.proofs.Math.Bool.{or-false}
-use Rattle.std.proofs.lemmas.List.{map-append}
 use Rattle.std.proofs.lemmas.List.Folds.{list_any-append}
 use Rattle.ca_program.specs.declared.program.FieldId.{FieldId}
 use Rattle.ca_program.specs.Plain.{Expression, Expressions, number, truth, null, this, local, own, own_item, read, read_item, value_call, unary, binary, no_expressions, expression_and, Statement, Statements, block, put_local, put_field, put_item, new_local, new_field, new_item, invoke, if_else, while_loop, for_loop, return_value, print_value, no_statements, statement_and}
@@ -105,13 +104,6 @@ module _ (n : ℕ) where
     all_named_told : (xs : Statements) → some (expressions_of_all xs) ≡ is_among (locals_named_all xs) n
     all_named_told no_statements = refl
     all_named_told (statement_and x xs) = behind (expressions_of x) (expressions_of_all xs) (locals_named x) (locals_named_all xs) (named_told x) (all_named_told xs)
-
--- the fields that one thing puts and then another
-pub put_by_both : (old middle new : List ℕ) (fs gs : List FieldId) → middle ≡ old ++ map (λ (f : FieldId). f.field) fs → new ≡ middle ++ map (λ (f : FieldId). f.field) gs →
-    new ≡ old ++ map (λ (f : FieldId). f.field) (fs ++ gs)
-put_by_both old middle new fs gs p q =
-    q ∙ (ap (λ (ms : List ℕ). ms ++ map (λ (f : FieldId). f.field) gs) p
-    ∙ (append_assoc old (map (λ (f : FieldId). f.field) fs) (map (λ (f : FieldId). f.field) gs) ∙ ap (λ (ms : List ℕ). old ++ ms) (sym (map-append (λ (f : FieldId). f.field) fs gs))))
 
 -- a loop's reads, and the targets of two branches
 pub reads_told : (line : ℕ) (site : _) (part : _) (first : Statement) (c : Expression) (next b : Statement) →

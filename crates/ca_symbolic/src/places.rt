@@ -17,7 +17,6 @@ fn add(number: u32, out: &mut Vec<u32>) -> Result<(), AllocError>
 
 /// Adds the fields that a statement puts.
 #[cycle(fields)]
-#[tactic(auto, using(crate::proofs::Among::put_by_both))]
 pub fn add_fields(s: &Stmt, out: &mut Vec<u32>) -> Result<(), AllocError>
     ensures { OnOk result (out.new.items ≡ out.old.items ++ fields_put (statement_view s.now)) }
 {
