@@ -1,7 +1,8 @@
 //! Whether an operation is separable.
 
-ghost use Rattle.std.specs.Prelude.{◌≡◌, IfOk};
-ghost use Rattle.ca_program.specs.View.{program_view};
+ghost use Rattle.std.specs.Prelude.{◌≡◌, ◌↔◌, None, IfOk, IsTrue, true};
+ghost use Rattle.ca_program.specs.View.{program_view, statement_view};
+ghost use Rattle.ca_parallel.specs.Separable.{IsSeparated};
 ghost use Rattle.ca_section.specs.Offences.{Knows, Tells, answer_of};
 ghost use Rattle.ca_section.specs.Readers.{marked};
 
@@ -10,7 +11,7 @@ use crate::readers::{body_at, readers};
 use crate::walk::{Known, Spot};
 use ca_base::Memory;
 use ca_extent::Extent;
-use ca_program::{OpId, Program};
+use ca_program::{OpId, Program, Stmt};
 use std::alloc::Global;
 use std::marker::Model;
 
@@ -56,6 +57,34 @@ impl Readers {
         };
         let body = body_at(&program.ops, op.0 as usize);
         answer(known.statements(start, body).offence)
+    }
+
+    /// Whether a statement has no offence in the extent whose readers these are, where a call may have come before it:
+    /// it reads only locals and constants of the extent, and divides by literals alone. It takes no memory.
+    pub fn is_constant(&self, program: &Program, extent: &Extent, s: &Stmt) -> bool
+        requires { Knows (program_view program.now) extent.now.written (marked self.now) }
+        ensures { IsTrue result ↔ IsSeparated (program_view program.now) extent.now.written true (statement_view s.now) }
+    {
+        let _ = program;
+        let known = Known {
+            written: extent.written(),
+            readers: self.marks.as_slice(),
+        };
+        let behind_a_call = Spot {
+            line: s.line,
+            after: true,
+            callless: false,
+        };
+        is_absent(known.statement(behind_a_call, s).offence)
+    }
+}
+
+fn is_absent(offence: Option<Offence>) -> bool
+    ensures { IsTrue result ↔ (offence ≡ None) }
+{
+    match offence {
+        None => true,
+        Some(_) => false,
     }
 }
 

@@ -1,0 +1,93 @@
+//! The extents that were judged, each once.
+
+ghost use Rattle.std.specs.Prelude.{◌≡◌, [], ◌∷◌, ◌++◌, Contains, IfOk, OnOk, IfSome, IsTrue};
+ghost use Rattle.ca_program.specs.View.{program_view};
+ghost use Rattle.ca_parallel.specs.ExtentsOf.{ExtentOf};
+ghost use Rattle.ca_plan.specs.Told.{AllWhollyTold, WhollyTold};
+
+use crate::pairs::pairs_of;
+use crate::plans::Judged;
+use ca_base::Memory;
+use ca_extent::{Extent, extent_of};
+use ca_program::{OpId, Program};
+use std::alloc::{AllocError, Global};
+use std::marker::Model;
+use std::rc::Rc;
+
+/// Extents with their verdicts. Where one comes again it is shared, so no pair is executed twice in equal extents.
+#[derive(Drop)]
+pub(crate) struct Kept {
+    all: Vec<Rc<Judged>>,
+}
+
+impl Model for Kept {
+    ghost use Rattle.std.specs.Prelude.{List, map};
+    ghost use Rattle.ca_plan.specs.Plans.{Judged as PlainJudged};
+
+    ghost Value = { List PlainJudged };
+
+    ghost view = { λ k. map (λ j. j.value) k.all.items };
+}
+
+/// Whether two extents are equal.
+fn same_extent(a: &Extent, b: &Extent) -> bool
+    ensures { IsTrue result → a.now ≡ b.now }
+{
+    a.ops() == b.ops() && a.functions() == b.functions() && a.written() == b.written()
+}
+
+impl Kept {
+    /// None.
+    pub fn new(alloc: Global) -> Kept
+        ensures { result ≡ [] }
+    {
+        Kept {
+            all: Vec::new(alloc),
+        }
+    }
+
+    /// The one of this extent, if there is one.
+    fn find(&self, extent: &Extent) -> Option<Rc<Judged>>
+        ensures extent { IfSome result (λ j. j.value.extent ≡ extent.now) }
+        ensures kept { IfSome result (λ j. Contains self.now j.value) }
+    {
+        for j in &self.all {
+            if same_extent(&j.extent, extent) {
+                return Some(j.clone());
+            }
+        }
+        None
+    }
+
+    /// Keeps one more.
+    fn keep(&mut self, alloc: Global, judged: Judged) -> Result<Rc<Judged>, AllocError>
+        ensures result { IfOk result (λ j. j.value ≡ judged) }
+        ensures kept { IfOk result (λ j. self.new ≡ self.old ++ judged ∷ []) }
+    {
+        let judged = Rc::new(alloc, judged)?;
+        self.all.push(judged.clone())?;
+        Ok(judged)
+    }
+
+    /// The extent of the roots, with its verdicts.
+    pub fn judged(
+        &mut self,
+        alloc: Global,
+        program: &Program,
+        roots: &[OpId],
+    ) -> Result<Rc<Judged>, Memory>
+        requires { AllWhollyTold (program_view program.now) self.old }
+        ensures extent { IfOk result (λ j. ExtentOf (program_view program.now) roots.now j.value.extent) }
+        ensures told { IfOk result (λ j. WhollyTold (program_view program.now) j.value) }
+        ensures kept { OnOk result (AllWhollyTold (program_view program.now) self.new) }
+    {
+        let extent = extent_of(alloc, program, roots)?;
+        match self.find(&extent) {
+            Some(judged) => Ok(judged),
+            None => {
+                let pairs = pairs_of(alloc, program, &extent)?;
+                Ok(self.keep(alloc, Judged { extent, pairs })?)
+            }
+        }
+    }
+}
