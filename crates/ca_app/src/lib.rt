@@ -17,8 +17,6 @@ mod pairs;
 mod reading;
 mod refusals;
 mod serving;
-#[cfg(test)]
-mod tests;
 
 pub use generating::generate;
 pub use laws::{accepted_programs_are_typed, one_reply};

@@ -17,7 +17,8 @@ use Rattle.ca_lex.specs.Bytes.{is_name_byte}
 use Rattle.ca_canonical.specs.Marks.{Piece, token, mark, tokens, unmarked}
 use Rattle.ca_canonical.specs.Texts.{kind_text, behind, behind_brace, gap_behind, gap_before, depth_behind, semicolon_first, pieces_from}
 use Rattle.ca_canonical.specs.Erased.{Erased, at_end, a_mark, a_byte, comment_behind}
-use Rattle.ca_canonical.proofs.ReadBack.{Passes, Writable, gap, decimal_number}
+use Rattle.ca_lex.proofs.Numbers.{Passes, decimal_number}
+use Rattle.ca_canonical.proofs.ReadBack.{Writable, gap}
 use Rattle.ca_canonical.proofs.Texts.{AllWritable, kind_gap}
 
 -- bytes before which no comment begins

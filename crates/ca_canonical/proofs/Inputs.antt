@@ -15,7 +15,8 @@ use Rattle.ca_lex.specs.Bytes.{is_blank, is_letter, is_name_byte, value_of}
 use Rattle.ca_tree.specs.Spellings.{keyword_of, double_sign, single_sign}
 use Rattle.ca_lex.specs.Pieces.{Piece, blank_of, comment_of, token_of, too_great, letter_behind, refused, piece_of, begins, kind_of_word, number_piece, slash_piece, sign_piece, longer_sign, closed_comment, close_len}
 use Rattle.ca_lex.specs.Tokens.{TokensFrom, at_end, blank, comment, token}
-use Rattle.ca_canonical.proofs.ReadBack.{Passes, Writable}
+use Rattle.ca_lex.proofs.Numbers.{Passes}
+use Rattle.ca_canonical.proofs.ReadBack.{Writable}
 use Rattle.ca_canonical.proofs.Terminals.{AllRead}
 
 abbrev Fine : Piece → Type 0

@@ -32,17 +32,17 @@ pub adds_gathered : (a b : Sum PlainMonomial) (k : ℕ) (ps qs : Sum PlainMonomi
 adds_gathered a b k ps qs h = adds_same a b k _ _ (product_same times _ _ _ _ (gathered_same_totals ps) (gathered_same_totals qs)) h
 
 -- sums of the same totals have one form
-gathered_same : (ps qs : Sum PlainMonomial) → SameTotals ps qs → gathered ps ≡ gathered qs
+pub gathered_same : (ps qs : Sum PlainMonomial) → SameTotals ps qs → gathered ps ≡ gathered qs
 unfolding SameCoefficients
 gathered_same ps qs h = ap polynomial_of (collect_same monomial_cmp monomials_exact ps qs (λ m. h.same _))
 
-append_same : (ps qs rs ss : Sum PlainMonomial) → SameTotals ps qs → SameTotals rs ss → SameTotals (ps ++ rs) (qs ++ ss)
+pub append_same : (ps qs rs ss : Sum PlainMonomial) → SameTotals ps qs → SameTotals rs ss → SameTotals (ps ++ rs) (qs ++ ss)
 append_same ps qs rs ss h k = record { same = λ f. alike_trans (alike_eq (total_append f ps rs)) (alike_trans (alike_add (h.same f) (k.same f)) (alike_eq (sym (total_append f qs ss)))) }
 
 scaled_same : (d : ℕ) (ps qs : Sum PlainMonomial) → SameTotals ps qs → SameTotals (scale d ps) (scale d qs)
 scaled_same d ps qs h = record { same = λ f. alike_trans (alike_eq (total_scale f d ps)) (alike_trans (alike_mul (alike_refl d) (h.same f)) (alike_eq (sym (total_scale f d qs)))) }
 
-minus_same : (ps qs : Sum PlainMonomial) → SameTotals ps qs → SameTotals (minus ps) (minus qs)
+pub minus_same : (ps qs : Sum PlainMonomial) → SameTotals ps qs → SameTotals (minus ps) (minus qs)
 minus_same ps qs h = scaled_same (2 ^ 64 - 1) ps qs h
 
 -- the difference of two polynomials is that of the sums

@@ -77,7 +77,10 @@ array_size (put_item a i x) = array_size a + 1
 array_size (with_sums a rs) = array_size a + 1
 array_size (array_choice c a b) = array_size a + array_size b + 1
 
--- the orders of rows and arrays, by their codes
+-- the orders of puts, rows and arrays, by their codes
+abbrev pub item_cmp : PlainPolynomial → PlainScalar → PlainPolynomial → PlainScalar → Ordering
+item_cmp i x j y = tree_cmp (gcons (polynomial_code i) (scalar_code x)) (gcons (polynomial_code j) (scalar_code y))
+
 abbrev pub row_cmp : PlainPolynomial × PlainPolynomial → PlainPolynomial × PlainPolynomial → Ordering
 row_cmp = on row_code tree_cmp
 

@@ -3,7 +3,7 @@
 
 ghost use Rattle.std.specs.Prelude.{◌≡◌, ◌↔◌, IfOk, IsTrue};
 ghost use Rattle.std.specs.Cmp.Lexicographic.{slice_cmp};
-ghost use Rattle.ca_forms.specs.Arrays.{own_items, put_item, row_cmp, rows_cmp, array_cmp};
+ghost use Rattle.ca_forms.specs.Arrays.{own_items, put_item, item_cmp, row_cmp, rows_cmp, array_cmp};
 ghost use Rattle.ca_forms.specs.ArraysSeen.{array_of};
 
 use crate::order::names;
@@ -134,10 +134,7 @@ impl Array {
             ArrayNode::Put(a, i, x) => match &other.node {
                 ArrayNode::Items(_, _, _) => Ordering::Greater,
                 ArrayNode::Put(b, j, y) => match a.compare(b) {
-                    Ordering::Equal => match i.compare(j) {
-                        Ordering::Equal => x.compare(y),
-                        order => order,
-                    },
+                    Ordering::Equal => compare_items(i, x, j, y),
                     order => order,
                 },
                 ArrayNode::Sums(_, _) | ArrayNode::Choice(_, _, _) => Ordering::Less,
@@ -259,6 +256,17 @@ impl Rows {
     {
         let items = copy_rows(alloc, &self.items)?;
         Ok(Rows { items })
+    }
+}
+
+/// By the index of a put, and then by its item.
+#[inline(never)]
+fn compare_items(i: &Polynomial, x: &Scalar, j: &Polynomial, y: &Scalar) -> Ordering
+    ensures { result ≡ item_cmp i.now x.now j.now y.now }
+{
+    match i.compare(j) {
+        Ordering::Equal => x.compare(y),
+        order => order,
     }
 }
 

@@ -8,6 +8,9 @@ fn names_commands(rt: HostRuntime) -> Result<(), Fail> {
     let workers = 1;
     for (line, named) in [
         ("pairs", Some(Command::Pairs)),
+        ("plan", Some(Command::Plan)),
+        ("emit", Some(Command::Emit)),
+        ("plans", None),
         (
             "run 1 100",
             Some(Command::Run {

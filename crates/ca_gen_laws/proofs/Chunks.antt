@@ -13,7 +13,7 @@ use Rattle.ca_lex.specs.Bytes.{is_letter}
 use Rattle.ca_lex.specs.Places.{advance}
 use Rattle.ca_lex.specs.Pieces.{Piece, blank_of, comment_of, token_of, too_great, letter_behind, refused, piece_of}
 use Rattle.ca_lex.specs.Tokens.{TokensFrom, blank, token}
-use Rattle.ca_gen_laws.proofs.Numbers.{number_back}
+use Rattle.ca_lex.proofs.Numbers.{number_back}
 
 -- what some pieces are: the kinds of the tokens among them, and what stands behind
 abbrev pub Scan : Type 0

@@ -1,4 +1,3 @@
-pub mod Numbers
 pub mod Chunks
 pub mod Scans
 pub mod Deriving

@@ -1,4 +1,5 @@
 pub mod Digits
+pub mod Numbers
 pub mod Comments
 pub mod Sizes
 pub mod Derivations

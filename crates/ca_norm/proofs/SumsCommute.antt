@@ -59,7 +59,7 @@ adds_commute : (a : PlainArray) (i f j g : PlainPolynomial) → IsGathered f →
 adds_commute a i f j g h k s =
     added_twice a i f j g s ∙ ap (summed (rest_of a)) (puts_commute i f j g (last_rows a) h k s.1) ∙ sym (added_twice a j g i f s)
 
-arrays_commute : (a i x j y : PlainTerm) → array_of (add_at (add_at a i x) j y) ≡ array_of (add_at (add_at a j y) i x)
+pub arrays_commute : (a i x j y : PlainTerm) → array_of (add_at (add_at a i x) j y) ≡ array_of (add_at (add_at a j y) i x)
 arrays_commute a i x j y =
     adds_commute (array_of a) (gathered (expand i)) (gathered (expand x)) (gathered (expand j)) (gathered (expand y)) (gathered_itself (expand x)) (gathered_itself (expand y)) (sound a)
 

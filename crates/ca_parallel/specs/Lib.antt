@@ -5,6 +5,7 @@ pub mod Separable
 pub mod Loops
 pub mod Parallel
 pub mod Marks
+pub mod Numbered
 pub mod Calls
 pub mod Lists
 pub mod Notes

@@ -6,7 +6,7 @@ use Rattle.ca_program.specs.declared.program.LoopId.{LoopId}
 use Rattle.ca_program.specs.Plain.{Statement, block, put_local, put_field, put_item, new_local, new_field, new_item, invoke, if_else, while_loop, for_loop, return_value, print_value}
 use Rattle.ca_parallel.specs.Marks.{HasSite}
 use Rattle.ca_parallel.specs.ExtentsOf.{Rises}
-use Rattle.ca_typing.specs.Loops.{LoopBefore}
+use Rattle.ca_parallel.specs.Numbered.{LoopBefore}
 
 abbrev pub number_of : Statement → ℕ
 number_of (for_loop line site part first c next b) = site.0

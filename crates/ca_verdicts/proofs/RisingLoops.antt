@@ -9,7 +9,7 @@ use Rattle.ca_parallel.specs.Bodies.{fors_in, fors_in_all}
 use Rattle.ca_parallel.specs.ExtentsOf.{Rises}
 use Rattle.ca_parallel.specs.Marks.{HasSite, loops_of_method, loops_of_program}
 use Rattle.ca_section.proofs.Members.{none}
-use Rattle.ca_verdicts.specs.Analysed.{LoopBefore}
+use Rattle.ca_parallel.specs.Numbered.{LoopBefore}
 use Rattle.ca_verdicts.proofs.FoundLoops.{Apart, at_head, here}
 
 -- a `for`, with its number

@@ -1,23 +1,17 @@
 -- Two operations whose verdict tells how they commute.
-use Rattle.std.specs.Prelude.{◌<◌, List, Contains}
-use Rattle.ca_program.specs.declared.program.LoopId.{LoopId}
+use Rattle.std.specs.Prelude.{List, Contains}
 use Rattle.ca_program.specs.declared.program.OpId.{OpId}
-use Rattle.ca_program.specs.Plain.{PlainProgram, Statement}
+use Rattle.ca_program.specs.Plain.{PlainProgram}
 use Rattle.ca_meaning.specs.ProgramTyped.{ProgramTyped}
 use Rattle.ca_parallel.specs.Extents.{Extent, IsExtentOf, operation_body}
-use Rattle.ca_parallel.specs.ExtentsOf.{Rises}
-use Rattle.ca_parallel.specs.Marks.{HasSite, loops_of_program}
+use Rattle.ca_parallel.specs.Numbered.{LoopsRise}
 use Rattle.ca_parallel.specs.Scoped.{Scoped}
-
--- the first one's number is less
-abbrev pub LoopBefore : Statement → Statement → Type 0
-LoopBefore x y = (i j : LoopId) → HasSite x i → HasSite y j → i.0 < j.0
 
 -- The program is typed, the numbers of its loops rise, both operations are of an extent, and no counter of a loop is
 -- named outside its loop. Each program of the checker is so.
 pub record Analysed (p : PlainProgram) (x : Extent) (a b : OpId) : Type 0 where
   pub typed : ProgramTyped p
-  pub numbered : Rises LoopBefore (loops_of_program p)
+  pub numbered : LoopsRise p
   pub roots : List OpId
   pub extent : IsExtentOf p roots x
   pub first : Contains x.ops a

@@ -1,7 +1,7 @@
 -- Worked examples of the words of a command and of the usage line.
 use Rattle.std.proofs.Common.{◌≡◌, [], ◌∷◌, take, drop, codes, refl, arith, true, false}
 use Rattle.std.specs.Fmt.{digits}
-use Rattle.ca_words.specs.declared.Command.TheVariants.{Run, Gen}
+use Rattle.ca_words.specs.declared.Command.TheVariants.{Run, Plan, Gen}
 use Rattle.ca_words.specs.Words.{words_of, Names, reads, usage_text}
 
 run_with_budget_100 : words_of (Run 1 100) ≡ codes "run" ∷ codes "1" ∷ codes "100" ∷ []
@@ -25,6 +25,9 @@ usage_begins = refl
 
 usage_ends : drop 89 usage_text ≡ codes "WORKERS\n"
 usage_ends = refl
+
+plan_names : Names (codes "plan" ∷ []) Plan
+plan_names = record { spells = record { spelled = refl; in_range = tt }; built = tt }
 
 reads_its_source : reads (Run 1 100) ≡ true
 reads_its_source = refl

@@ -2,7 +2,7 @@
 use Rattle.std.specs.Prelude.{◌≡◌, Bool, true, false, ℕ, ◌≤◌, List, [], ◌∷◌, map, codes, decimal, String, string_bytes}
 use Rattle.std.specs.declared.alloc.Global.{Global}
 use Rattle.ca_words.specs.declared.Command.{Command}
-use Rattle.ca_words.specs.declared.Command.TheVariants.{Run, Pairs, Gen}
+use Rattle.ca_words.specs.declared.Command.TheVariants.{Run, Pairs, Plan, Emit, Gen}
 
 -- each word as its bytes
 abbrev pub texts : List (String Global) → List (List ℕ)
@@ -12,6 +12,8 @@ texts words = map string_bytes words
 abbrev pub words_of : Command → List (List ℕ)
 words_of (Run workers budget) = codes "run" ∷ decimal workers ∷ decimal budget ∷ []
 words_of Pairs = codes "pairs" ∷ []
+words_of Plan = codes "plan" ∷ []
+words_of Emit = codes "emit" ∷ []
 words_of (Gen seed size) = codes "gen" ∷ decimal seed ∷ decimal size ∷ []
 
 abbrev pub IsWorkers : ℕ → Type 0
@@ -30,13 +32,14 @@ IsSize n = (1 ≤ n) × (n ≤ 20000)
 abbrev pub IsInRange : Command → Type 0
 IsInRange (Run workers budget) = IsWorkers workers × IsBudget budget
 IsInRange Pairs = Unit {0}
+IsInRange Plan = Unit {0}
+IsInRange Emit = Unit {0}
 IsInRange (Gen seed size) = IsSeed seed × IsSize size
 
 -- what this program does so far: of runs, those by one worker
 abbrev pub IsBuilt : Command → Type 0
 IsBuilt (Run workers budget) = workers ≡ 1
-IsBuilt Pairs = Unit {0}
-IsBuilt (Gen seed size) = Unit {0}
+IsBuilt other = Unit {0}
 
 -- the words are those of the command, and its numbers are in their ranges
 pub record Spells (words : List (List ℕ)) (command : Command) : Type 0 where
@@ -50,9 +53,8 @@ pub record Names (words : List (List ℕ)) (command : Command) : Type 0 where
 
 -- whether the command reads its source
 abbrev pub reads : Command → Bool
-reads (Run workers budget) = true
-reads Pairs = true
 reads (Gen seed size) = false
+reads other = true
 
 abbrev pub usage_text : List ℕ
 usage_text = codes "usage: commute run WORKERS BUDGET | pairs | plan | emit | gen SEED SIZE | load SEED SIZE WORKERS\n"

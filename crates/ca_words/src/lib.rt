@@ -18,8 +18,12 @@ pub enum Command {
     /// `run WORKERS BUDGET`: runs the source with 1 to 64 workers, of which 1 is built, for a budget
     /// of 1 to 1,000,000,000 steps.
     Run { workers: u32, budget: u32 },
-    /// `pairs`.
+    /// `pairs`: the verdicts on the pairs of each extent.
     Pairs,
+    /// `plan`: which operations and loops run in parallel.
+    Plan,
+    /// `emit`: the annotated source.
+    Emit,
     /// `gen SEED SIZE`: writes the text that any seed gives, with 1 to 20,000 nodes.
     Gen { seed: u64, size: u32 },
 }
@@ -36,7 +40,7 @@ impl Command {
         ensures { result ≡ reads self }
     {
         match self {
-            Command::Run { .. } | Command::Pairs => true,
+            Command::Run { .. } | Command::Pairs | Command::Plan | Command::Emit => true,
             Command::Gen { .. } => false,
         }
     }
@@ -47,7 +51,7 @@ impl Command {
     {
         match self {
             Command::Run { workers, .. } => workers == 1,
-            Command::Pairs | Command::Gen { .. } => true,
+            Command::Pairs | Command::Plan | Command::Emit | Command::Gen { .. } => true,
         }
     }
 }
@@ -127,6 +131,8 @@ fn spelled(words: &[String]) -> Option<Command>
             budget: count_of(budget.as_str(), Command::MOST_BUDGET)?,
         }),
         [name] if name.as_str() == "pairs" => Some(Command::Pairs),
+        [name] if name.as_str() == "plan" => Some(Command::Plan),
+        [name] if name.as_str() == "emit" => Some(Command::Emit),
         [name, seed, size] if name.as_str() == "gen" => Some(Command::Gen {
             seed: number_of(seed.as_str(), 0, u64::MAX)?,
             size: count_of(size.as_str(), Command::MOST_SIZE)?,

@@ -1,7 +1,7 @@
 //! Verdicts on pairs of operations.
 
-use crate::tests::calls::Call;
-use crate::tests::sources::{FIRST, GRAPH_VISIT};
+use crate::calls::Call;
+use crate::sources::{FIRST, GRAPH_VISIT};
 use std::alloc::{AllocError, Global};
 
 /// A class with two operations, one of which doubles so many times.

@@ -16,38 +16,38 @@ use Rattle.ca_tree.specs.declared.token.Kind.TheVariants.{Number}
 use Rattle.ca_lex.specs.Bytes.{is_blank, is_letter, value_of}
 use Rattle.ca_lex.specs.Pieces.{Piece, token_of, refused, too_great, letter_behind, piece_of, begins, digits_piece}
 
--- every byte is a digit
-abbrev Digits : List ℕ → Type 0
-Digits [] = Unit {0}
-Digits (b ∷ w) = (is_ascii_digit b ≡ true) × Digits w
+-- every byte passes
+abbrev pub Passes : (ℕ → Bool) → List ℕ → Type 0
+Passes p [] = Unit {0}
+Passes p (b ∷ w) = (p b ≡ true) × Passes p w
 
-digits_len : (w : List ℕ) (g : ℕ) (rest : List ℕ) → Digits w → is_ascii_digit g ≡ false → prefix_len is_ascii_digit (w ++ g ∷ rest) ≡ length w
-digits_len [] g rest a e = ap (λ t. cond t (1 + prefix_len is_ascii_digit rest) 0) e
-digits_len (b ∷ w) g rest a e = omega (arith, ap (λ t. cond t (1 + prefix_len is_ascii_digit (w ++ g ∷ rest)) 0) a.0, digits_len w g rest a.1 e)
+pub passes_len : (p : ℕ → Bool) (w : List ℕ) (g : ℕ) (rest : List ℕ) → Passes p w → p g ≡ false → prefix_len p (w ++ g ∷ rest) ≡ length w
+passes_len p [] g rest a e = ap (λ t. cond t (1 + prefix_len p rest) 0) e
+passes_len p (b ∷ w) g rest a e = omega (arith, ap (λ t. cond t (1 + prefix_len p (w ++ g ∷ rest)) 0) a.0, passes_len p w g rest a.1 e)
 
-digits_front : (w : List ℕ) (g : ℕ) (rest : List ℕ) → Digits w → is_ascii_digit g ≡ false → take_while is_ascii_digit (w ++ g ∷ rest) ≡ w
-digits_front w g rest a e = ap (λ n. take n (w ++ g ∷ rest)) (digits_len w g rest a e) ∙ take-append_seam w (g ∷ rest)
+pub passes_front : (p : ℕ → Bool) (w : List ℕ) (g : ℕ) (rest : List ℕ) → Passes p w → p g ≡ false → take_while p (w ++ g ∷ rest) ≡ w
+passes_front p w g rest a e = ap (λ n. take n (w ++ g ∷ rest)) (passes_len p w g rest a e) ∙ take-append_seam w (g ∷ rest)
 
-record IsNumber (n : ℕ) (ds : List ℕ) : Type 0 where
+pub record IsNumber (n : ℕ) (ds : List ℕ) : Type 0 where
   some : 0 < length ds
-  digits : Digits ds
+  pub digits : Passes is_ascii_digit ds
   value : value_of ds ≡ n
 
 one_digit : (d : ℕ) → d < 10 → is_ascii_digit (48 + d) ≡ true
 one_digit d h = rw (le-leb 48 (48 + d) (omega arith), le-leb (48 + d) 57 (omega arith)) refl
 
-digits_last : (w : List ℕ) (b : ℕ) → Digits w → is_ascii_digit b ≡ true → Digits (w ++ b ∷ [])
-digits_last [] b a e = (e, tt)
-digits_last (c ∷ w) b a e = (a.0, digits_last w b a.1 e)
+passes_last : (p : ℕ → Bool) (w : List ℕ) (b : ℕ) → Passes p w → p b ≡ true → Passes p (w ++ b ∷ [])
+passes_last p [] b a e = (e, tt)
+passes_last p (c ∷ w) b a e = (a.0, passes_last p w b a.1 e)
 
-decimal_number : (n : ℕ) → n < 2 ^ 64 → IsNumber n (decimal n)
+pub decimal_number : (n : ℕ) → n < 2 ^ 64 → IsNumber n (decimal n)
 decimal_number = decimal_by_steps IsNumber
     (λ n h. record { some = omega arith; digits = (one_digit n h, tt); value = omega arith })
     (λ n ds h i.
     let d : n % 10 < 10 = omega arith in
     let l = length-append ds ((48 + n % 10) ∷ []) in
     let f : value_of (ds ++ (48 + n % 10) ∷ []) ≡ value_of ds * 10 + (48 + n % 10 - 48) = fold-append (λ m b. m * 10 + (b - code "0")) 0 ds ((48 + n % 10) ∷ []) in
-    record { some = omega (arith, l); digits = digits_last ds (48 + n % 10) i.digits (one_digit (n % 10) d); value = omega (arith, f, i.value) })
+    record { some = omega (arith, l); digits = passes_last is_ascii_digit ds (48 + n % 10) i.digits (one_digit (n % 10) d); value = omega (arith, f, i.value) })
 
 -- no needless 0 in front
 lead : (n : ℕ) → n < 2 ^ 64 → nat_lt 1 (length (decimal n)) && begins (λ b. b == code "0") (decimal n) ≡ false
@@ -104,8 +104,8 @@ digits_back [] m g rest i small l no_digit no_letter = absurd (omega (arith, i.s
 digits_back (b ∷ ds) m g rest i small l no_digit no_letter =
     let all : List ℕ = b ∷ ds in
     let s : List ℕ = all ++ g ∷ rest in
-    let front = digits_front all g rest i.digits no_digit in
-    let behind : drop (prefix_len is_ascii_digit s) s ≡ g ∷ rest = ap (λ n. drop n s) (digits_len all g rest i.digits no_digit) ∙ drop-append_seam all (g ∷ rest) in
+    let front = passes_front is_ascii_digit all g rest i.digits no_digit in
+    let behind : drop (prefix_len is_ascii_digit s) s ≡ g ∷ rest = ap (λ n. drop n s) (passes_len is_ascii_digit all g rest i.digits no_digit) ∙ drop-append_seam all (g ∷ rest) in
     let d = i.digits.0 in
     if_digit (is_blank b) (is_letter b) (is_ascii_digit b) _ _ _ _ (digit_no_blank b d) (digit_no_letter b d) d
     ∙ ap (λ w. digits_piece w (drop (prefix_len is_ascii_digit s) s)) front

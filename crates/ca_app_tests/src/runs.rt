@@ -1,7 +1,7 @@
 //! Serial runs.
 
-use crate::tests::calls::Call;
-use crate::tests::sources::{
+use crate::calls::Call;
+use crate::sources::{
     ACCUMULATOR, BINS, DEEP_THEN_HIT, FIRST, FIRST_HEAP, GRAPH_HEAP, GRAPH_VISIT, HIT_THEN_DEEP,
     LONG_LIST, PRINTED, PRINTS, STEPS_IN_A_LIST, STEPS_IN_A_LOOP, TRAP_IN_A_LIST, TRAP_IN_A_LOOP,
     TWO_BINS, WRAPPING_SUM,

@@ -1,8 +1,8 @@
 //! Faulty words, and devices that fail.
 
-use crate::tests::calls::{Call, words};
-use crate::tests::sources::{FIRST, GRAPH_HEAP, GRAPH_VISIT, PRINTED, PRINTS};
-use crate::top;
+use crate::calls::{Call, words};
+use crate::sources::{FIRST, GRAPH_HEAP, GRAPH_VISIT, PRINTED, PRINTS};
+use ca_app::top;
 use ca_base::{OpenGate, SureSink, SureSource};
 use std::alloc::AllocError;
 

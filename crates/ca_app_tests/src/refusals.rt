@@ -1,8 +1,8 @@
 //! Texts that are refused: where, and by which code.
 
-use crate::tests::calls::Call;
-use crate::tests::refused::REFUSED;
-use crate::tests::sources::GRAPH_VISIT;
+use crate::calls::Call;
+use crate::refused::REFUSED;
+use crate::sources::GRAPH_VISIT;
 use std::alloc::{AllocError, Global};
 use std::sync::Wait;
 use std::thread::Threads;

@@ -1,8 +1,8 @@
 //! Devices that give and take a byte at a time, texts that end too early, and runs that end at each place of a list.
 
-use crate::tests::calls::{Call, words};
-use crate::tests::sources::{GRAPH_HEAP, GRAPH_VISIT};
-use crate::top;
+use crate::calls::{Call, words};
+use crate::sources::{GRAPH_HEAP, GRAPH_VISIT};
+use ca_app::top;
 use ca_base::{OpenGate, PieceSink, PieceSource};
 use std::alloc::{AllocError, Global};
 use std::sync::Wait;

@@ -1,6 +1,6 @@
 //! Calls of `top` over devices in memory.
 
-use crate::top;
+use ca_app::top;
 use ca_base::{MemSink, MemSource, OpenGate};
 use std::alloc::{AllocError, Global};
 use std::sync::Wait;

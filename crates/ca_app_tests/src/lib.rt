@@ -1,0 +1,22 @@
+//! Tests of the whole program: calls of `top` over devices in memory, with ample memory. What `top` answers is
+//! proved where it stands. The tests have a crate of their own so that it is proved once.
+#![tactic(auto)]
+
+#[cfg(test)]
+mod calls;
+#[cfg(test)]
+mod devices;
+#[cfg(test)]
+mod generated;
+#[cfg(test)]
+mod pairs;
+#[cfg(test)]
+mod pieces;
+#[cfg(test)]
+mod refusals;
+#[cfg(test)]
+mod refused;
+#[cfg(test)]
+mod runs;
+#[cfg(test)]
+mod sources;
