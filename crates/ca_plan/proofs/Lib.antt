@@ -1,2 +1,4 @@
 mod Examples
 pub mod Sound
+pub mod Made
+pub mod Commuting

@@ -4,10 +4,9 @@ use Rattle.std.specs.Prelude.{◌≡◌, Contains}
 use Rattle.ca_program.specs.declared.program.LoopId.{LoopId}
 use Rattle.ca_program.specs.Plain.{PlainProgram, Statement}
 use Rattle.ca_meaning.specs.ProgramTyped.{ProgramTyped}
-use Rattle.ca_parallel.specs.ExtentsOf.{Rises}
 use Rattle.ca_parallel.specs.Marks.{HasSite, loops_of_program}
+use Rattle.ca_parallel.specs.Numbered.{LoopsRise}
 use Rattle.ca_parallel.specs.Scoped.{OperationsScoped}
-use Rattle.ca_verdicts.specs.Analysed.{LoopBefore}
 
 -- a number names at most one loop
 abbrev pub OneLoopEach : PlainProgram → Type 0
@@ -15,6 +14,6 @@ OneLoopEach p = (id : LoopId) (x y : Statement) → Contains (loops_of_program p
 
 pub record Checked (p : PlainProgram) : Type 0 where
   pub typed : ProgramTyped p
-  pub rise : Rises LoopBefore (loops_of_program p)
+  pub numbered : LoopsRise p
   pub one : OneLoopEach p
   pub scoped : OperationsScoped p

@@ -4,6 +4,12 @@
 //! verdicts on its pairs (`specs/Pairs.antt`), and the marks. `specs/Texts.antt` has what `pairs` and `plan` write of it.
 #![tactic(auto)]
 
+mod calls;
+mod judging;
+mod kept;
+mod making;
+mod marking;
+mod pairs;
 mod plans;
 
 ghost use Rattle.std.specs.Prelude.{IfOk};
@@ -11,20 +17,23 @@ ghost use Rattle.ca_base.specs.Devices.{HasCause, Writes};
 ghost use Rattle.ca_program.specs.View.{program_view};
 ghost use Rattle.ca_parallel.specs.Marks.{SoundMarks};
 ghost use Rattle.ca_plan.specs.Checked.{Checked};
-ghost use Rattle.ca_plan.specs.Plans.{PlanOf};
+ghost use Rattle.ca_plan.specs.Plans.{CommuteAsTold, PlanOf};
 ghost use Rattle.ca_plan.specs.Texts.{pairs_text, plan_text};
 
+use crate::making::made;
 use ca_base::{Failed, Memory, Sink};
 use ca_program::Program;
 pub use plans::{Judged, JudgedLoop, PairVerdict, Plan};
 use std::alloc::Global;
 
-/// The plan of a program. Its marks are sound where the program is one of the checker.
+/// The plan of a program. Where the program is one of the checker, operations of which it says so commute, and its marks
+/// are sound.
 pub fn plan(alloc: Global, program: &Program) -> Result<Plan, Memory>
     ensures exact { IfOk result (λ plan. PlanOf (program_view program.now) plan) }
+    ensures commute { Checked (program_view program.now) → IfOk result (λ plan. CommuteAsTold (program_view program.now) plan) }
     ensures sound { Checked (program_view program.now) → IfOk result (λ plan. SoundMarks (program_view program.now) plan.marks) }
 {
-    Err(Memory)
+    made(alloc, program)
 }
 
 /// Writes the verdicts of a plan. It takes no memory.
