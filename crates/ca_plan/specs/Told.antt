@@ -52,6 +52,11 @@ pub record JudgedOp (p : PlainProgram) (n : ℕ) (j : Judged) : Type 0 where
   pub extent : ExtentOf p (op_at n ∷ []) j.extent
   pub told : WhollyTold p j
 
+-- an item was added to a list, where P holds
+pub data Noted {A : Type 0} (P : Type 0) (old new : List A) (x : A) : Type 0 where
+  taken : P → new ≡ old ++ x ∷ [] → Noted P old new x
+  left : ¬ P → new ≡ old → Noted P old new x
+
 -- an operation calls, and each pair of its extent commutes
 pub record CommutingOp (p : PlainProgram) (js : List Judged) (op : OpId) : Type 0 where
   pub judged : Judged

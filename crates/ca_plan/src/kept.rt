@@ -47,16 +47,17 @@ impl Kept {
     }
 
     /// The one of this extent, if there is one.
-    fn find(&self, extent: &Extent) -> Option<Rc<Judged>>
-        ensures extent { IfSome result (λ j. j.value.extent ≡ extent.now) }
-        ensures kept { IfSome result (λ j. Contains self.now j.value) }
+    fn find(&self, extent: &Extent) -> Result<Option<Rc<Judged>>, AllocError>
+        ensures extent { IfOk result (λ found. IfSome found (λ j. j.value.extent ≡ extent.now)) }
+        ensures kept { IfOk result (λ found. IfSome found (λ j. Contains self.now j.value)) }
     {
         for j in &self.all {
-            if same_extent(&j.extent, extent) {
-                return Some(j.clone());
+            if same_extent(j.extent(), extent) {
+                let shared = j.clone()?;
+                return Ok(Some(shared));
             }
         }
-        None
+        Ok(None)
     }
 
     /// Keeps one more.
@@ -65,7 +66,8 @@ impl Kept {
         ensures kept { IfOk result (λ j. self.new ≡ self.old ++ judged ∷ []) }
     {
         let judged = Rc::new(alloc, judged)?;
-        self.all.push(judged.clone())?;
+        let shared = judged.clone()?;
+        self.all.push(shared)?;
         Ok(judged)
     }
 
@@ -82,7 +84,8 @@ impl Kept {
         ensures kept { OnOk result (AllWhollyTold (program_view program.now) self.new) }
     {
         let extent = extent_of(alloc, program, roots)?;
-        match self.find(&extent) {
+        let found = self.find(&extent)?;
+        match found {
             Some(judged) => Ok(judged),
             None => {
                 let pairs = pairs_of(alloc, program, &extent)?;

@@ -1,19 +1,21 @@
 //! The marks.
 
-ghost use Rattle.std.specs.Prelude.{◌≡◌, ◌≢◌, ◌↔◌, ◌<◌, ℕ, suc, [], length, map, slice_get, Some, true, Contains, IfOk, IsTrue};
+ghost use Rattle.std.specs.Prelude.{◌≡◌, ◌≢◌, ◌↔◌, ◌<◌, ℕ, [], length, map, true, Contains, IfOk, IsTrue};
+ghost use Rattle.std.specs.List.Sorted.{IsStrictlyIncreasing};
 ghost use Rattle.ca_program.specs.declared.program.LoopId.{LoopId};
 ghost use Rattle.ca_program.specs.declared.program.OpId.{OpId};
 ghost use Rattle.ca_program.specs.View.{program_view, statement_view, statements_view};
 ghost use Rattle.ca_parallel.specs.Bodies.{calls_of_all};
+ghost use Rattle.ca_parallel.specs.Extents.{operation_body};
 ghost use Rattle.ca_parallel.specs.ExtentsOf.{Rises, OpBefore};
 ghost use Rattle.ca_parallel.specs.Separable.{IsSeparated};
 ghost use Rattle.ca_plan.specs.Loops.{seen};
 ghost use Rattle.ca_plan.specs.Plans.{LoopBefore};
-ghost use Rattle.ca_plan.specs.Told.{AllCommute, CommutingOp, CommutingLoop, loop_of, shared};
+ghost use Rattle.ca_plan.specs.Told.{AllCommute, CommutingOp, CommutingLoop, Noted, loop_of, shared};
 ghost use Rattle.ca_verdicts.specs.declared.verdicts.Verdict.TheVariants.{Commutes};
 
 use crate::calls::add_all_calls;
-use crate::plans::{Judged, JudgedLoop, PairVerdict};
+use crate::plans::{Judged, JudgedLoop};
 use ca_base::Memory;
 use ca_program::{LoopId, OpId, Program, Stmt};
 use ca_section::Readers;
@@ -59,6 +61,25 @@ fn is_marked_op(alloc: Global, stmts: &[Stmt], judged: &Judged) -> Result<bool, 
     Ok(calls && all_commute(judged))
 }
 
+/// Adds an operation with this extent, if it is marked.
+fn note_op(
+    alloc: Global,
+    program: &Program,
+    op: OpId,
+    judged: &Judged,
+    out: &mut Vec<OpId>,
+) -> Result<(), Memory>
+    requires { op.0 < length program.now.ops.items }
+    ensures { IfOk result (λ _. Noted ((calls_of_all (operation_body (program_view program.now) op) ≢ []) × AllCommute judged.now) out.old.items out.new.items op) }
+{
+    let stmts = program.op(op).body.stmts.as_slice();
+    let marked = is_marked_op(alloc, stmts, judged)?;
+    if marked {
+        out.push(op)?;
+    }
+    Ok(())
+}
+
 /// The marked operations.
 pub(crate) fn marked_ops(
     alloc: Global,
@@ -74,10 +95,7 @@ pub(crate) fn marked_ops(
     };
     let mut marked = Vec::new(alloc);
     for n in 0..count {
-        let stmts = program.op(OpId(n)).body.stmts.as_slice();
-        if is_marked_op(alloc, stmts, &ops[n as usize])? {
-            marked.push(OpId(n))?;
-        }
+        note_op(alloc, program, OpId(n), &ops[n as usize], &mut marked)?;
     }
     Ok(marked)
 }
@@ -95,13 +113,13 @@ fn is_marked_loop(
     if !all_commute(judged) {
         return Ok(false);
     }
-    let readers = Readers::of(alloc, program, &judged.extent)?;
-    Ok(readers.is_constant(program, &judged.extent, s))
+    let readers = Readers::of(alloc, program, judged.extent())?;
+    Ok(readers.is_constant(program, judged.extent(), s))
 }
 
 /// Puts numbers in order, each once.
 fn rise(numbers: &mut Vec<u32>)
-    ensures rises { (n : ℕ) (x y : ℕ) → slice_get numbers.new.items n ≡ Some x → slice_get numbers.new.items (suc n) ≡ Some y → x < y }
+    ensures rises { IsStrictlyIncreasing numbers.new.items }
     ensures keeps { (n : ℕ) → Contains numbers.old.items n → Contains numbers.new.items n }
     ensures adds_none { (n : ℕ) → Contains numbers.new.items n → Contains numbers.old.items n }
 {
@@ -120,6 +138,23 @@ fn loops_of(alloc: Global, numbers: &[u32]) -> Result<Vec<LoopId>, Memory>
     Ok(loops)
 }
 
+/// Adds the number of a loop, if it is marked.
+fn note_loop(
+    alloc: Global,
+    program: &Program,
+    s: &Stmt,
+    judged: &JudgedLoop,
+    out: &mut Vec<u32>,
+) -> Result<(), Memory>
+    ensures { IfOk result (λ _. Noted (AllCommute judged.now.judged × IsSeparated (program_view program.now) judged.now.judged.extent.written true (statement_view s.now)) out.old.items out.new.items judged.now.site.0) }
+{
+    let marked = is_marked_loop(alloc, program, s, judged.judged())?;
+    if marked {
+        out.push(judged.site().0)?;
+    }
+    Ok(())
+}
+
 /// The numbers of the marked loops.
 fn marked_sites(
     alloc: Global,
@@ -132,9 +167,7 @@ fn marked_sites(
 {
     let mut sites = Vec::new(alloc);
     for n in 0..judged.len() {
-        if is_marked_loop(alloc, program, loops[n], &judged[n].judged)? {
-            sites.push(judged[n].site.0)?;
-        }
+        note_loop(alloc, program, loops[n], &judged[n], &mut sites)?;
     }
     Ok(sites)
 }

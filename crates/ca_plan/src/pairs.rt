@@ -74,7 +74,8 @@ pub(crate) fn pairs_of(
     let mut pairs = Vec::new(alloc);
     let ops = extent.ops();
     for i in 0..ops.len() {
-        add_pairs_with(alloc, program, extent, ops[i], &ops[i..], &mut pairs)?;
+        let (_before, others) = ops.split_at(i);
+        add_pairs_with(alloc, program, extent, ops[i], others, &mut pairs)?;
     }
     Ok(pairs)
 }
