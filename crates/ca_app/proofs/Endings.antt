@@ -9,7 +9,7 @@ use Rattle.ca_model.specs.Texts.{heap_text}
 use Rattle.ca_meaning.specs.Serial.{Ended, done, trapped, spent, serial}
 use Rattle.ca_meaning.specs.Output.{Reply, output, reply_of, prints_text, trap_text, spent_text}
 use Rattle.ca_serial.specs.Runs.{prints_of}
-use Rattle.ca_symbolic.specs.declared.verdicts.Verdict.{Verdict}
+use Rattle.ca_small_verdicts.specs.declared.verdicts.Verdict.{Verdict}
 use Rattle.ca_words.specs.declared.Command.{Command}
 use Rattle.ca_words.specs.declared.Command.TheVariants.{Run, Pairs, Gen}
 use Rattle.ca_words.specs.Words.{Names, reads}

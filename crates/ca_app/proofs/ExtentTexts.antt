@@ -7,7 +7,7 @@ use Rattle.ca_program.specs.Plain.{PlainProgram, PlainMethod}
 use Rattle.ca_program.specs.View.{method_view}
 use Rattle.ca_model.proofs.Stores.{found}
 use Rattle.ca_model.proofs.Texts.{drop_there}
-use Rattle.ca_symbolic.specs.declared.verdicts.Verdict.{Verdict}
+use Rattle.ca_small_verdicts.specs.declared.verdicts.Verdict.{Verdict}
 use Rattle.ca_app.specs.Pairs.{extent_text, extents_text}
 
 -- a method in memory is viewed as the method there

@@ -5,7 +5,7 @@ use Rattle.ca_tree.specs.Plain.{TextTree}
 use Rattle.ca_program.specs.Plain.{PlainProgram}
 use Rattle.ca_parse.proofs.OneTree.{tree_is_one}
 use Rattle.ca_meaning.specs.Output.{Reply}
-use Rattle.ca_symbolic.specs.declared.verdicts.Verdict.{Verdict}
+use Rattle.ca_small_verdicts.specs.declared.verdicts.Verdict.{Verdict}
 use Rattle.ca_words.specs.declared.Command.{Command}
 use Rattle.ca_words.specs.declared.Command.TheVariants.{Gen}
 use Rattle.ca_words.specs.Words.{Names, reads}

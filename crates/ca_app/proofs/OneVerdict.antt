@@ -1,8 +1,8 @@
 -- A program has one list of verdicts.
 use Rattle.std.proofs.Common.{◌≡◌, ℕ, suc, List, [], ◌∷◌, length, Some, refl, sym, ◌∙◌, arith, slice_get}
 use Rattle.ca_program.specs.Plain.{PlainProgram}
-use Rattle.ca_symbolic.specs.declared.verdicts.Verdict.{Verdict}
-use Rattle.ca_symbolic.proofs.Unique.{one_verdict}
+use Rattle.ca_small_verdicts.specs.declared.verdicts.Verdict.{Verdict}
+use Rattle.ca_small_verdicts.proofs.Unique.{one_verdict}
 use Rattle.ca_app.specs.Pairs.{AreVerdicts}
 
 -- lists of one length are equal where they agree at each number

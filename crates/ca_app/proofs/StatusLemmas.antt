@@ -12,9 +12,9 @@ use Rattle.ca_small.proofs.Typed.{small_is_typed}
 use Rattle.ca_meaning.specs.Output.{Reply, reply_of}
 use Rattle.ca_meaning.specs.Serial.{Ended, done, trapped, spent, serial}
 use Rattle.ca_meaning.specs.Commuting.{Commutes as DoCommute}
-use Rattle.ca_symbolic.specs.declared.verdicts.Verdict.{Verdict}
-use Rattle.ca_symbolic.specs.declared.verdicts.Verdict.TheVariants.{Commutes}
-use Rattle.ca_symbolic.proofs.Pairs.{commutes_from_verdict}
+use Rattle.ca_small_verdicts.specs.declared.verdicts.Verdict.{Verdict}
+use Rattle.ca_small_verdicts.specs.declared.verdicts.Verdict.TheVariants.{Commutes}
+use Rattle.ca_small_verdicts.proofs.Pairs.{commutes_from_verdict}
 use Rattle.ca_app.specs.Refusals.{is_limit_code, refusal_status}
 use Rattle.ca_words.specs.declared.Command.{Command}
 use Rattle.ca_words.specs.declared.Command.TheVariants.{Run, Pairs}

@@ -14,8 +14,8 @@ use Rattle.ca_words.specs.declared.Command.{Command}
 use Rattle.ca_words.specs.declared.Command.TheVariants.{Run, Pairs, Gen}
 use Rattle.ca_words.specs.Words.{Names, reads}
 use Rattle.ca_gen.specs.Generated.{generated}
-use Rattle.ca_symbolic.specs.declared.verdicts.Verdict.{Verdict}
-use Rattle.ca_symbolic.specs.declared.verdicts.Verdict.TheVariants.{Commutes}
+use Rattle.ca_small_verdicts.specs.declared.verdicts.Verdict.{Verdict}
+use Rattle.ca_small_verdicts.specs.declared.verdicts.Verdict.TheVariants.{Commutes}
 use Rattle.ca_app.specs.Accepted.{Accepted}
 use Rattle.ca_app.specs.Refusals.{RefusedAt, is_limit_code}
 use Rattle.ca_app.specs.Pairs.{AreVerdicts, pairs_text}

@@ -3,10 +3,10 @@ use Rattle.std.specs.Prelude.{ℕ, ◌≡◌, List, [], ◌∷◌, ◌++◌, len
 use Rattle.ca_program.specs.declared.program.FieldInfo.{FieldInfo}
 use Rattle.ca_program.specs.Plain.{PlainProgram, PlainMethod, PlainClass}
 use Rattle.ca_model.specs.Heaps.{fields_of}
-use Rattle.ca_symbolic.specs.declared.verdicts.Verdict.{Verdict}
-use Rattle.ca_symbolic.specs.declared.verdicts.Verdict.TheVariants.{Commutes, Unproved}
-use Rattle.ca_symbolic.specs.declared.verdicts.Reason.TheVariants.{Large, FieldDiffers}
-use Rattle.ca_symbolic.specs.Verdicts.{VerdictOf}
+use Rattle.ca_small_verdicts.specs.declared.verdicts.Verdict.{Verdict}
+use Rattle.ca_small_verdicts.specs.declared.verdicts.Verdict.TheVariants.{Commutes, Unproved}
+use Rattle.ca_small_verdicts.specs.declared.verdicts.Reason.TheVariants.{Large, FieldDiffers}
+use Rattle.ca_small_verdicts.specs.Verdicts.{VerdictOf}
 use Rattle.ca_model.specs.Lines.{in_a_row}
 
 abbrev pub class_name : Option PlainClass → List ℕ

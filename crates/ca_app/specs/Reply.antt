@@ -9,7 +9,7 @@ use Rattle.ca_words.specs.declared.Command.{Command}
 use Rattle.ca_words.specs.declared.Command.TheVariants.{Run, Pairs, Gen}
 use Rattle.ca_words.specs.Words.{Names, reads, usage_text}
 use Rattle.ca_gen.specs.Generated.{generated}
-use Rattle.ca_symbolic.specs.declared.verdicts.Verdict.{Verdict}
+use Rattle.ca_small_verdicts.specs.declared.verdicts.Verdict.{Verdict}
 use Rattle.ca_app.specs.declared.serving.TheConstants.{DONE, USAGE}
 use Rattle.ca_app.specs.declared.refusals.TheConstants.{NOT_BUILT}
 use Rattle.ca_app.specs.Accepted.{Accepted, BeginsAt}

@@ -10,7 +10,7 @@ ghost use Rattle.ca_app.specs.Pairs.{AreVerdicts, class_name, field_name, verdic
 use ca_base::{Failed, Memory, Sink};
 use ca_model::line::{Line, add_parts};
 use ca_program::{Body, ClassId, FieldId, Method, OpId, Program, StmtForm};
-use ca_symbolic::{Extent, Reason, Verdict, verdict};
+use ca_small_verdicts::{Extent, Reason, Verdict, verdict};
 use std::alloc::Global;
 
 /// The verdict on the pair of each operation with itself, in order.

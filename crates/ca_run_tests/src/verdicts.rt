@@ -2,7 +2,7 @@
 
 use crate::programs::{let_go, program};
 use ca_program::OpId;
-use ca_symbolic::{Extent, Reason, Verdict, verdict};
+use ca_small_verdicts::{Extent, Reason, Verdict, verdict};
 use std::test::Fail;
 
 /// Two sums commute, and two puts of a pointer differ.

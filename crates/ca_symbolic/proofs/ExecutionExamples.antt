@@ -13,7 +13,7 @@ use Rattle.ca_program.specs.Plain.{PlainProgram, PlainMethod, Expression, Statem
 use Rattle.ca_program.specs.Plain as plain
 use Rattle.ca_forms.specs.declared.sort.Sort.TheVariants.{Long, Bool, Pointer, LongArray}
 use Rattle.ca_norm.specs.Terms.{PlainTerm, truth, atom, add, sub, less, divide, not, and, choose, result, put, add_at, select, neg, no_terms}
-use Rattle.ca_symbolic.specs.Symbolic.{starts}
+use Rattle.ca_shared_terms.specs.Starts.{starts}
 use Rattle.ca_symbolic.specs.States.{State, not_null, in_range, calls, invokes, loops, demand, first_locals, receiver}
 use Rattle.ca_symbolic.specs.Execution.{term_of, after}
 use Rattle.ca_symbolic.specs.Demands.{demanded, demanded_all}

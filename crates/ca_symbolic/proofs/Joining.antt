@@ -8,7 +8,7 @@ use Rattle.ca_symbolic.specs.Execution.{choose_if, choices}
 use Rattle.ca_symbolic.specs.Demands.{picked}
 use Rattle.ca_symbolic.specs.Made.{targets}
 use Rattle.ca_symbolic.specs.Places.{one_if}
-use Rattle.ca_symbolic.specs.Verdicts.{is_heavy}
+use Rattle.ca_shared_terms.specs.Heavy.{is_heavy}
 
 abbrev heavy_targets : (ℕ → Bool) → ℕ → List PlainTerm → Bool
 heavy_targets f n ts = list_any is_heavy (targets f n ts)

@@ -20,7 +20,7 @@ use Rattle.ca_symbolic.specs.Same.{same_expression}
 use Rattle.ca_forms.specs.declared.sort.Sort.{Sort}
 use Rattle.ca_forms.specs.declared.sort.Sort.TheVariants.{Pointer}
 use Rattle.ca_norm.specs.Terms.{PlainTerm, PlainTerms, number, truth, null, add, sub, neg, mul, divide, remainder, less, less_equal, same, not, and, or, choose, read, read_at, result, select, put, add_at, no_terms, term_and}
-use Rattle.ca_symbolic.specs.Symbolic.{sort_of_type}
+use Rattle.ca_shared_terms.specs.Starts.{sort_of_type}
 use Rattle.ca_symbolic.specs.States.{State, term_at, receiver}
 
 -- Terms of expressions

@@ -1,16 +1,9 @@
--- Laws of verdicts and of symbolic execution.
+-- Laws of symbolic execution.
 use Rattle.std.specs.Prelude.{◌≡◌, ◌↔◌, true}
-use Rattle.ca_program.specs.declared.program.OpId.{OpId}
-use Rattle.ca_program.specs.Plain.{PlainProgram, Expression, Statement}
+use Rattle.ca_program.specs.Plain.{Expression, Statement}
 use Rattle.ca_parallel.specs.Loops.{IsCallLoop}
 use Rattle.ca_symbolic.specs.Same.{same_expression}
 use Rattle.ca_symbolic.specs.OtherLoops.{is_call_loop}
-use Rattle.ca_symbolic.specs.declared.verdicts.Verdict.{Verdict}
-use Rattle.ca_symbolic.specs.Verdicts.{VerdictOf}
-
--- A pair has one verdict.
-abbrev pub OneVerdict : Type 0
-OneVerdict = (p : PlainProgram) (a b : OpId) (v w : Verdict) → VerdictOf p a b v → VerdictOf p a b w → v ≡ w
 
 -- Expressions are written alike exactly where they are equal.
 abbrev pub AlikeIsEqual : Type 0

@@ -1,17 +1,10 @@
-pub mod Symbolic
-pub mod Verdicts
 pub mod Laws
-pub mod Weighing
-pub mod Codes
 pub mod States
 pub mod Same
 pub mod Execution
 pub mod Demands
 pub mod Made
 pub mod OtherLoops
-pub mod Sizes
-pub mod Nodes
-pub mod NodeFalls
 pub mod Demanded
 pub mod Places
 pub mod Refusals

@@ -13,7 +13,7 @@ use Rattle.ca_symbolic.specs.States.{State, term_at}
 use Rattle.ca_symbolic.specs.Execution.{term_of, signed_term, operation, divisor, put_term, is_item, after}
 use Rattle.ca_symbolic.specs.Demands.{right_guard, then_guard, else_guard, loop_parts}
 use Rattle.ca_symbolic.specs.Made.{joined_terms}
-use Rattle.ca_symbolic.specs.Verdicts.{is_heavy}
+use Rattle.ca_shared_terms.specs.Heavy.{is_heavy}
 
 -- In an expression: at a term inside it, or at its own
 

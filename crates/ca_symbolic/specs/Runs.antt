@@ -12,7 +12,7 @@ use Rattle.ca_symbolic.specs.Execution.{after_all}
 use Rattle.ca_symbolic.specs.Demands.{demanded_all}
 use Rattle.ca_symbolic.specs.Made.{made_by}
 use Rattle.ca_symbolic.specs.OtherLoops.{other_loop_in}
-use Rattle.ca_symbolic.specs.Verdicts.{is_heavy}
+use Rattle.ca_shared_terms.specs.Heavy.{is_heavy}
 
 -- these fields, and no locals
 abbrev pub fresh : List PlainTerm → State

@@ -2,7 +2,7 @@
 use Rattle.std.specs.Prelude.{ℕ, zero, suc, List, ◌≡◌, refl}
 use Rattle.std.specs.Coded.{Coded, code_by, coded_list, coded×, coded_ℕ}
 use Rattle.ca_norm.specs.Terms.{PlainTerm}
-use Rattle.ca_symbolic.specs.Codes.{coded_term}
+use Rattle.ca_shared_terms.specs.Codes.{coded_term}
 use Rattle.ca_symbolic.specs.States.{State, DemandKind, not_null, in_range, calls, invokes, loops, PlainDemand}
 use Rattle.ca_symbolic.specs.Demanded.{Demanded}
 

@@ -9,7 +9,7 @@ use Rattle.ca_program.specs.declared.program.ValueType.TheVariants as type
 use Rattle.ca_program.specs.Plain.{PlainMethod}
 use Rattle.ca_forms.specs.declared.sort.Sort.TheVariants.{Pointer}
 use Rattle.ca_norm.specs.Terms.{PlainTerm, number, truth, null, atom}
-use Rattle.ca_symbolic.specs.Symbolic.{sort_of_type, or_null}
+use Rattle.ca_shared_terms.specs.Starts.{sort_of_type, or_null}
 
 pub record State : Type 0 where
   pub fields : List PlainTerm

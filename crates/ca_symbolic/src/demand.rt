@@ -3,10 +3,10 @@
 ghost use Rattle.std.specs.Prelude.{◌≡◌, ◌<◌, ◌^◌, [], ◌∷◌, length, false, IfOk, OnOk};
 ghost use Rattle.ca_symbolic.specs.States.{demand};
 ghost use Rattle.ca_symbolic.specs.Demanded.{kind_of, demands_of, nothing_demanded, with_demands, under};
-ghost use Rattle.ca_symbolic.specs.Verdicts.{is_heavy};
+ghost use Rattle.ca_shared_terms.specs.Heavy.{is_heavy};
 
-use crate::light::LightTerm;
 use ca_program::{FieldId, FunctionId, LoopId, OpId};
+use ca_shared_terms::LightTerm;
 use std::alloc::{AllocError, Global};
 use std::marker::Model;
 use std::mem;

@@ -12,16 +12,13 @@ ghost use Rattle.ca_symbolic.specs.Execution.{sort_in, sort_of_result, divisor, 
 ghost use Rattle.ca_symbolic.specs.Demands.{right_guard, terms_in, demands_in, demands_in_all};
 ghost use Rattle.ca_symbolic.specs.Demanded.{kind_of, with_demands, under};
 ghost use Rattle.ca_symbolic.specs.Refusals.{refused_guard, refused, refused_all};
-ghost use Rattle.ca_symbolic.specs.Verdicts.{is_heavy};
+ghost use Rattle.ca_shared_terms.specs.Heavy.{is_heavy};
 
 use crate::demand::{DemandKind, Demands};
-use crate::execute::sort_of_type;
-use crate::fields_of;
-use crate::light::LightTerm;
-use crate::state::SymState;
-use crate::weighed::ExecutionError;
+use crate::state::{SymState, receiver};
 use ca_norm::Sort;
 use ca_program::{BinaryOp, Expr, FieldId, FunctionId, Program, UnaryOp};
+use ca_shared_terms::{ExecutionError, LightTerm, fields_of, sort_of_type};
 use std::alloc::{AllocError, Global};
 
 /// The sort of what a field holds, or each of its items.
@@ -325,7 +322,7 @@ pub fn value_of(
         Expr::Number(n) => Ok(LightTerm::number(alloc, *n)?),
         Expr::Truth(b) => Ok(LightTerm::truth(alloc, *b)?),
         Expr::Null => Ok(LightTerm::null(alloc)?),
-        Expr::This => Ok(LightTerm::receiver(alloc)?),
+        Expr::This => Ok(receiver(alloc)?),
         Expr::Local(id) => Ok(state.local(alloc, id.0)?),
         Expr::Own(id) => Ok(state.field(alloc, id.field)?),
         Expr::OwnItem(id, i) => {

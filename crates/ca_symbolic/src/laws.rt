@@ -1,11 +1,6 @@
-//! Laws of verdicts.
+//! Laws of symbolic execution.
 
-ghost use Rattle.ca_symbolic.specs.Laws.{AlikeIsEqual, CallLoopsAreTold, OneVerdict};
-
-/// No pair has two verdicts, so a text that is made of verdicts is determined too.
-pub fn one_verdict()
-    ensures { OneVerdict }
-{}
+ghost use Rattle.ca_symbolic.specs.Laws.{AlikeIsEqual, CallLoopsAreTold};
 
 /// The index of a put and that of the item on its right side are compared as they are written, so a sum at an item
 /// is told without a proof about values.

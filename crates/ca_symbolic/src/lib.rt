@@ -1,84 +1,21 @@
-//! Symbolic execution of operations, and the verdict on two operations of one class.
+//! Symbolic execution of operations, whatever their bodies.
 //!
-//! `verdict` runs both operations symbolically in both orders and compares the normal forms that the
-//! fields have then. Its first clause says which verdict comes (`specs/Verdicts.antt`), its second
-//! that a pair with the verdict `Commutes` does commute, for every receiver and all arguments, in the
-//! sense of ca_meaning. `Unproved` claims nothing of the pair. Nothing but want of memory keeps a
-//! verdict from its caller.
-//!
-//! Built for programs of the small form, where bodies are lists of puts: the extent of an operation is
-//! the operation alone. Every other statement is passed over.
+//! `symbolic` runs an operation on terms: those of the fields, and what is demanded on the way and under which condition
+//! (`specs/Runs.antt`). It is refused exactly where a term that it makes is too heavy, or where a loop is no loop of calls,
+//! whose line `other_loop` tells. Nothing else but want of memory keeps its state from its caller.
 #![tactic(auto)]
 
-mod compare;
 mod demand;
 mod evaluate;
-mod execute;
-mod extent;
-mod formed;
 pub mod laws;
-mod light;
 mod loops;
 mod places;
 mod running;
 mod same;
 mod state;
-mod verdicts;
 mod walk;
-mod weighed;
 
-ghost use Rattle.std.specs.Prelude.{◌≡◌, ◌<◌, length, slice_get, IfOk};
-ghost use Rattle.ca_program.specs.View.{program_view};
-ghost use Rattle.ca_model.specs.Heaps.{fields_of};
-ghost use Rattle.ca_meaning.specs.Commuting.{Commutes as DoCommute};
-ghost use Rattle.ca_small.specs.TypedPuts.{TypedPuts};
-ghost use Rattle.ca_symbolic.specs.Verdicts.{VerdictOf};
-
-use crate::compare::compared;
 pub use crate::demand::{Demand, DemandKind, Demands, Group};
-pub use crate::extent::Extent;
-pub use crate::light::LightTerm;
+pub use crate::loops::is_call_loop;
 pub use crate::running::{Side, SymbolicError, other_loop, symbolic};
 pub use crate::state::SymState;
-pub use crate::verdicts::{Reason, Verdict};
-use crate::weighed::ExecutionError;
-use ca_base::Memory;
-use ca_program::{ClassId, FieldInfo, OpId, Program};
-use std::alloc::Global;
-
-/// The fields of a class; none where the program has no such class.
-pub(crate) fn fields_of(program: &Program, class: ClassId) -> &[FieldInfo]
-    ensures { result.now ≡ fields_of (slice_get (program_view program.now).classes class.0) }
-{
-    if (class.0 as usize) < program.classes.len() {
-        program.class(class).fields.as_slice()
-    } else {
-        &[]
-    }
-}
-
-/// The verdict on two operations of one class in an extent. What the second clause promises needs a
-/// program whose operations are lists of well typed puts, as those of each program are that passes
-/// `ca_small::is_small`. It holds whatever the extent says: such an operation reads and writes its own
-/// object alone.
-pub fn verdict(
-    alloc: Global,
-    program: &Program,
-    extent: &Extent,
-    a: OpId,
-    b: OpId,
-) -> Result<Verdict, Memory>
-    requires first { a.0 < length program.now.ops.items }
-    requires second { b.0 < length program.now.ops.items }
-    ensures exact { IfOk result (λ v. VerdictOf (program_view program.now) a b v) }
-    ensures sound { TypedPuts (program_view program.now) → IfOk result (λ v. v ≡ Verdict.Commutes → DoCommute (program_view program.now) extent.now.written.items a b) }
-{
-    let first = program.op(a);
-    let second = program.op(b);
-    let fields = fields_of(program, first.class);
-    match compared(alloc, first.class, fields, &first.body, &second.body) {
-        Ok(verdict) => Ok(verdict),
-        Err(ExecutionError::Large) => Ok(Verdict::Unproved(Reason::Large)),
-        Err(ExecutionError::Memory) => Err(Memory),
-    }
-}

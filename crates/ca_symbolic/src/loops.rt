@@ -7,7 +7,7 @@ ghost use Rattle.ca_program.specs.declared.program.LocalId.{LocalId};
 ghost use Rattle.ca_program.specs.declared.program.FirstPart.TheVariants.{Declares};
 ghost use Rattle.ca_program.specs.Plain.{Expression, binary, put_local, block};
 ghost use Rattle.ca_program.specs.View.{expression_view, statement_view, statements_view};
-ghost use Rattle.ca_symbolic.specs.OtherLoops.{counter_of, compares, counts_up, is_call, are_calls, calls_alone, counts, other_loop, other_loop_in};
+ghost use Rattle.ca_symbolic.specs.OtherLoops.{counter_of, compares, counts_up, is_call, are_calls, calls_alone, counts, is_call_loop, other_loop, other_loop_in};
 
 use ca_program::{AssignOp, BinaryOp, Expr, FirstPart, LocalId, Stmt, StmtForm};
 
@@ -165,10 +165,22 @@ fn calls_alone(s: &Stmt) -> bool
 }
 
 /// Whether the parts are those of a loop of calls.
-fn is_call_loop(part: FirstPart, first: &Stmt, c: &Expr, next: &Stmt, body: &Stmt) -> bool
+fn are_of_call_loop(part: FirstPart, first: &Stmt, c: &Expr, next: &Stmt, body: &Stmt) -> bool
     ensures { result ≡ (counts (counter_of part (statement_view first.now)) (expression_view c.now) (statement_view next.now) && calls_alone (statement_view body.now)) }
 {
     counts(counter_of(part, first), c, next) && calls_alone(body)
+}
+
+/// Whether a statement is a loop of calls.
+pub fn is_call_loop(s: &Stmt) -> bool
+    ensures { result ≡ is_call_loop (statement_view s.now) }
+{
+    match &s.kind {
+        StmtForm::For(_, part, first, c, next, body) => {
+            are_of_call_loop(*part, first, c, next, body)
+        }
+        _ => false,
+    }
 }
 
 /// The line of the first loop in a statement that is no loop of calls.
@@ -184,7 +196,7 @@ fn other_loop(s: &Stmt) -> Option<u32>
         },
         StmtForm::While(..) => Some(s.line),
         StmtForm::For(_, part, first, c, next, body) => {
-            if is_call_loop(*part, first, c, next, body) {
+            if are_of_call_loop(*part, first, c, next, body) {
                 None
             } else {
                 Some(s.line)

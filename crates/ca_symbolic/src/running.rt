@@ -11,8 +11,8 @@ use crate::demand::Demands;
 use crate::loops::other_loop_in;
 use crate::state::SymState;
 use crate::walk::run_all;
-use crate::weighed::ExecutionError;
 use ca_program::{OpId, Program};
+use ca_shared_terms::ExecutionError;
 use std::alloc::{AllocError, Global};
 
 /// Which operation of a pair.

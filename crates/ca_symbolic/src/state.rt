@@ -2,20 +2,17 @@
 
 ghost use Rattle.std.specs.Prelude.{◌≡◌, ◌≤◌, ◌^◌, length, false, slice_set, Some, IfOk, OnOk};
 ghost use Rattle.ca_program.specs.View.{method_view};
-ghost use Rattle.ca_symbolic.specs.Symbolic.{starts};
-ghost use Rattle.ca_symbolic.specs.States.{State, term_at, start_term, parameters, first_locals};
+ghost use Rattle.ca_shared_terms.specs.Starts.{starts};
+ghost use Rattle.ca_symbolic.specs.States.{State, term_at, receiver, start_term, parameters, first_locals};
 ghost use Rattle.ca_symbolic.specs.Execution.{with_field, with_local};
 ghost use Rattle.ca_symbolic.specs.Runs.{fresh, with_locals};
-ghost use Rattle.ca_symbolic.specs.Verdicts.{is_heavy};
+ghost use Rattle.ca_shared_terms.specs.Heavy.{is_heavy};
 
-use crate::execute::{sort_of_slot, sort_of_type};
-use crate::light::LightTerm;
+use ca_norm::Sort;
 use ca_program::{FieldInfo, Method, ValueType};
+use ca_shared_terms::{FIELDS, LightTerm, sort_of_slot, sort_of_type};
 use std::alloc::{AllocError, Global};
 use std::marker::Model;
-
-/// The group of the atoms that stand for what the fields hold at the start.
-const FIELDS: u32 = 3;
 
 /// The terms of the fields and of the locals.
 #[derive(Drop)]
@@ -48,6 +45,13 @@ fn shared_at(alloc: Global, terms: &[LightTerm], place: u32) -> Result<LightTerm
     } else {
         LightTerm::null(alloc)
     }
+}
+
+/// The receiver.
+pub fn receiver(alloc: Global) -> Result<LightTerm, AllocError>
+    ensures { IfOk result (λ t. t ≡ receiver) }
+{
+    LightTerm::atom(alloc, Sort::Pointer, 0, 0)
 }
 
 fn put_at(terms: &mut Vec<LightTerm>, place: u32, term: LightTerm)

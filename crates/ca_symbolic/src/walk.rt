@@ -13,18 +13,17 @@ ghost use Rattle.ca_symbolic.specs.Made.{targets, joined_terms};
 ghost use Rattle.ca_symbolic.specs.Demanded.{with_demands, under};
 ghost use Rattle.ca_symbolic.specs.Places.{fields_put, locals_put, is_among, is_marked, is_read, one_if};
 ghost use Rattle.ca_symbolic.specs.Refusals.{refused, refused_all, refused_item, refused_put, refused_addend, refused_negative, refused_product, refused_right, refused_array, refused_by, refused_by_all};
-ghost use Rattle.ca_symbolic.specs.Verdicts.{is_heavy};
+ghost use Rattle.ca_shared_terms.specs.Heavy.{is_heavy};
 
 use crate::demand::{DemandKind, Demands};
 use crate::evaluate::{ask_call, ask_in_range, value_of, values_of};
-use crate::light::LightTerm;
 use crate::places::{add_fields, add_locals, add_named, marks};
 use crate::same::same_expression;
 use crate::state::SymState;
-use crate::weighed::ExecutionError;
 use ca_program::{
     AssignOp, BinaryOp, Expr, FieldId, LocalId, LoopId, OpId, Program, Stmt, StmtForm,
 };
+use ca_shared_terms::{ExecutionError, LightTerm};
 use std::alloc::{AllocError, Global};
 
 /// What a put leaves, from what was there before.

@@ -8,7 +8,7 @@ use Rattle.ca_norm.specs.Terms.{PlainTerm, select, item_sort, sort_of, IsArray, 
 use Rattle.ca_norm.specs.Forms.{norm}
 use Rattle.ca_norm.specs.Meanings.{Valuation}
 use Rattle.ca_norm.proofs.Values.{same_items}
-use Rattle.ca_symbolic.specs.Symbolic.{sort_of_type, sort_of_array}
+use Rattle.ca_shared_terms.specs.Starts.{sort_of_type, sort_of_array}
 use Rattle.ca_verdicts.proofs.Sorts.{IsGood, own_sort, ArraysSorted}
 use Rattle.ca_verdicts.proofs.SameSlots.{ArraysMean}
 

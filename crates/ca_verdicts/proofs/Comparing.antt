@@ -18,7 +18,7 @@ use Rattle.ca_forms.specs.Rules.{gathered}
 use Rattle.ca_norm.specs.Terms.{PlainTerm}
 use Rattle.ca_norm.specs.Forms.{norm}
 use Rattle.ca_parallel.specs.Extents.{operation_body}
-use Rattle.ca_symbolic.specs.Symbolic.{starts}
+use Rattle.ca_shared_terms.specs.Starts.{starts}
 use Rattle.ca_symbolic.specs.States.{PlainDemand}
 use Rattle.ca_symbolic.specs.Demanded.{kind_of}
 use Rattle.ca_symbolic.specs.Runs.{begins, executed}

@@ -21,7 +21,7 @@ use Rattle.ca_parallel.specs.Separable.{IsNonzeroLiteral, MayStandRight}
 use Rattle.ca_forms.specs.declared.sort.Sort.{Sort}
 use Rattle.ca_forms.specs.declared.sort.Sort.TheVariants.{Long, Bool as Truth, LongArray}
 use Rattle.ca_norm.specs.Terms.{PlainTerm, choose, select, put, add_at, sort_of, IsScalar, IsOf}
-use Rattle.ca_symbolic.specs.Symbolic.{sort_of_type, sort_of_array, sort_of_slot, starts}
+use Rattle.ca_shared_terms.specs.Starts.{sort_of_type, sort_of_array, sort_of_slot, starts}
 use Rattle.ca_symbolic.specs.States.{PlainDemand, term_at, start_term, parameters}
 use Rattle.ca_symbolic.specs.Execution.{sort_in, sort_of_result, divisor, operation, signed_term, term_of, put_term, is_item, put_right, array_term, choose_if, choices, field_target, local_target, after, after_all}
 use Rattle.ca_symbolic.specs.Execution as execution

@@ -13,7 +13,7 @@ use Rattle.ca_section.proofs.Told.{refuses, one_first}
 use Rattle.ca_forms.specs.declared.form.Normal.{Normal}
 use Rattle.ca_forms.specs.declared.form.Normal.TheVariants.{Scalar}
 use Rattle.ca_forms.specs.Plain.{PlainPolynomial, number_form}
-use Rattle.ca_symbolic.specs.Verdicts.{FirstDifference}
+use Rattle.ca_shared_terms.specs.Comparisons.{FirstDifference}
 use Rattle.ca_verdicts.specs.declared.verdicts.Verdict.{Verdict}
 use Rattle.ca_verdicts.specs.declared.verdicts.Verdict.TheVariants.{Commutes, Unproved}
 use Rattle.ca_verdicts.specs.declared.verdicts.Reason.TheVariants.{NotSeparable, LoopForm, Large, FieldDiffers, DemandsDiffer}

@@ -11,7 +11,7 @@ use Rattle.ca_norm.specs.Terms.{PlainTerm}
 use Rattle.ca_norm.specs.Forms.{norm}
 use Rattle.ca_symbolic.specs.Demanded.{kind_of}
 use Rattle.ca_symbolic.specs.States.{PlainDemand}
-use Rattle.ca_symbolic.specs.Verdicts.{FirstDifference}
+use Rattle.ca_shared_terms.specs.Comparisons.{FirstDifference}
 use Rattle.ca_verdicts.specs.declared.verdicts.Reason.{Reason}
 use Rattle.ca_verdicts.specs.declared.verdicts.Reason.TheVariants as reason
 use Rattle.ca_verdicts.specs.declared.verdicts.Verdict.{Verdict}

@@ -5,7 +5,7 @@ use Rattle.ca_program.specs.declared.program.OpId.{OpId}
 use Rattle.ca_program.specs.Plain.{PlainProgram, PlainMethod}
 use Rattle.ca_model.specs.Heaps.{fields_of}
 use Rattle.ca_norm.specs.Terms.{PlainTerm}
-use Rattle.ca_symbolic.specs.Symbolic.{starts}
+use Rattle.ca_shared_terms.specs.Starts.{starts}
 use Rattle.ca_symbolic.specs.States.{PlainDemand}
 use Rattle.ca_symbolic.specs.Runs.{executed, demanded_by, is_heavy_by}
 

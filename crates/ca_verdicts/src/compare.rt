@@ -6,7 +6,7 @@ ghost use Rattle.ca_meaning.specs.WellTyped.{IsMethodOf};
 ghost use Rattle.ca_norm.specs.Forms.{norm};
 ghost use Rattle.ca_symbolic.specs.Demanded.{demands_of};
 ghost use Rattle.ca_symbolic.specs.Runs.{group_of, first_other_loop};
-ghost use Rattle.ca_symbolic.specs.Symbolic.{starts};
+ghost use Rattle.ca_shared_terms.specs.Starts.{starts};
 ghost use Rattle.ca_symbolic.specs.declared.running.SymbolicError.TheVariants.{LoopForm, Large};
 ghost use Rattle.ca_verdicts.specs.Orders.{in_order};
 ghost use Rattle.ca_forms.specs.Rules.{gathered};
@@ -25,7 +25,8 @@ use crate::verdicts::{Reason, Verdict};
 use ca_forms::polynomial::{Polynomial, Scalars};
 use ca_norm::{Normal, same};
 use ca_program::{ClassId, FieldId, FieldInfo, OpId, Program};
-use ca_symbolic::{Demands, Group, LightTerm, Side, SymState, SymbolicError, symbolic};
+use ca_shared_terms::LightTerm;
+use ca_symbolic::{Demands, Group, Side, SymState, SymbolicError, symbolic};
 use std::alloc::{AllocError, Global};
 use std::collections::{BTreeMap, BTreeSet};
 

@@ -17,7 +17,8 @@ ghost use Rattle.ca_verdicts.specs.Marks.{key_at};
 
 use ca_forms::parts::{both, longer};
 use ca_forms::polynomial::Scalar;
-use ca_symbolic::{Demand, DemandKind, LightTerm};
+use ca_shared_terms::LightTerm;
+use ca_symbolic::{Demand, DemandKind};
 use std::alloc::{AllocError, Global};
 use std::cmp::Ordering;
 use std::marker::Model;

@@ -1,7 +1,7 @@
 use Rattle.std.proofs.Common.{◌≡◌, List, length, sym, ap, ◌∙◌}
 use Rattle.ca_program.specs.View.{program_view}
 use Rattle.ca_norm.specs.Terms.{PlainTerm}
-use Rattle.ca_symbolic.specs.Symbolic.{starts}
+use Rattle.ca_shared_terms.specs.Starts.{starts}
 use Rattle.ca_symbolic.specs.Demanded.{demands_of}
 use Rattle.ca_verdicts.specs.Orders.{start_of}
 use Rattle.ca_verdicts.proofs.Comparing.{long_order, start_is, method_of, few_first, few_second, compared_is}

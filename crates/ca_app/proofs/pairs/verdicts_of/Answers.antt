@@ -1,6 +1,6 @@
 use Rattle.std.proofs.Common.{length, ◌∷◌, [], arith, length-append}
 use Rattle.ca_program.specs.View.{program_view}
-use Rattle.ca_symbolic.specs.Verdicts.{VerdictOf}
+use Rattle.ca_small_verdicts.specs.Verdicts.{VerdictOf}
 use Rattle.ca_app.proofs.ExtentTexts.{pushed}
 use Rattle.ca_app.proofs.pairs.verdicts_of.Goals as goal
 

@@ -1,7 +1,7 @@
 use Rattle.std.proofs.Common.{◌≡◌, ℕ, Some, length, slice_get}
 use Rattle.ca_program.specs.View.{program_view}
-use Rattle.ca_symbolic.specs.declared.verdicts.Verdict.{Verdict}
-use Rattle.ca_symbolic.specs.Verdicts.{VerdictOf}
+use Rattle.ca_small_verdicts.specs.declared.verdicts.Verdict.{Verdict}
+use Rattle.ca_small_verdicts.specs.Verdicts.{VerdictOf}
 use Rattle.ca_app.proofs.pairs.verdicts_of.Given as goal
 
 -- there are as many verdicts as operations so far, each that of its pair

@@ -4,12 +4,12 @@ use Rattle.ca_program.specs.Plain.{value_call}
 use Rattle.ca_program.specs.View.{expression_view, expressions_view, program_view}
 use Rattle.ca_norm.specs.Terms.{PlainTerm, terms_of}
 use Rattle.ca_norm.specs.Terms.{result as call_result}
-use Rattle.ca_symbolic.specs.declared.weighed.ExecutionError.TheVariants.{Large}
+use Rattle.ca_shared_terms.specs.declared.errors.ExecutionError.TheVariants.{Large}
 use Rattle.ca_symbolic.specs.Execution.{sort_of_result, term_of}
 use Rattle.ca_symbolic.specs.Demands.{terms_in, demands_in, demands_in_all}
 use Rattle.ca_symbolic.specs.Demanded.{Demanded, with_demands}
 use Rattle.ca_symbolic.specs.Refusals.{refused, refused_all}
-use Rattle.ca_symbolic.specs.Verdicts.{is_heavy}
+use Rattle.ca_shared_terms.specs.Heavy.{is_heavy}
 use Rattle.ca_symbolic.proofs.Blocks.{call_view}
 use Rattle.ca_symbolic.proofs.Calling.{call_term, call_demands}
 use Rattle.ca_symbolic.proofs.Flags.{neither, first_of, second_of}

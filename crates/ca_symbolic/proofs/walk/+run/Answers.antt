@@ -1,6 +1,6 @@
 use Rattle.std.proofs.Common.{rules, ◌≡◌, true, false, Err, sym, ap, subst, ◌∙◌}
 use Rattle.ca_program.specs.View.{program_view, form_view, statement_view}
-use Rattle.ca_symbolic.specs.declared.weighed.ExecutionError.TheVariants.{Large}
+use Rattle.ca_shared_terms.specs.declared.errors.ExecutionError.TheVariants.{Large}
 use Rattle.ca_symbolic.specs.Execution.{after}
 use Rattle.ca_symbolic.specs.Demands.{demanded}
 use Rattle.ca_symbolic.specs.Demanded.{with_demands}

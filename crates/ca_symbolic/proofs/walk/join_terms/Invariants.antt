@@ -3,7 +3,7 @@ use Rattle.std.specs.List.{list_any}
 use Rattle.ca_symbolic.specs.Execution.{choices}
 use Rattle.ca_symbolic.specs.Made.{targets}
 use Rattle.ca_symbolic.specs.Places.{is_among}
-use Rattle.ca_symbolic.specs.Verdicts.{is_heavy}
+use Rattle.ca_shared_terms.specs.Heavy.{is_heavy}
 use Rattle.ca_symbolic.proofs.walk.join_terms.Given as goal
 
 abbrev pub invariant-loop-place : goal.invariant-loop-place

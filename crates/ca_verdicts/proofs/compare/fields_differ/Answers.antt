@@ -1,6 +1,6 @@
 use Rattle.std.proofs.Common.{◌≡◌, rules}
 use Rattle.ca_norm.specs.Forms.{norm}
-use Rattle.ca_symbolic.proofs.Comparisons.{same_so_far}
+use Rattle.ca_shared_terms.proofs.Comparisons.{same_so_far}
 use Rattle.ca_verdicts.proofs.compare.fields_differ.Goals as goal
 
 pub loop-place-preserved : goal.loop-place-preserved

@@ -1,5 +1,5 @@
 use Rattle.std.proofs.Common.{◌≡◌, ◌++◌, length, drop}
-use Rattle.ca_symbolic.specs.Symbolic.{starts}
+use Rattle.ca_shared_terms.specs.Starts.{starts}
 use Rattle.ca_symbolic.proofs.state.SymState.starting.Given as goal
 
 abbrev pub invariant-loop-field : goal.invariant-loop-field

@@ -1,0 +1,2 @@
+pub mod Heavier
+pub mod Comparisons

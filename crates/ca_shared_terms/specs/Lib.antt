@@ -1,0 +1,7 @@
+pub mod Heavy
+pub mod Starts
+pub mod Comparisons
+pub mod Codes
+pub mod Sizes
+pub mod Nodes
+pub mod NodeFalls

@@ -1,0 +1,15 @@
+//! Terms that are not too heavy for a normal form, shared by all that they stand in.
+//!
+//! A `LightTerm` means a term of `ca_norm`. Each maker gives the term that its name says, and refuses exactly the one that
+//! is too heavy (`specs/Heavy.antt`). The normal form of a term, or its part as a number or as a polynomial, is that of
+//! the term with nothing shared.
+#![tactic(auto)]
+
+mod errors;
+mod formed;
+mod light;
+mod starts;
+
+pub use crate::errors::ExecutionError;
+pub use crate::light::LightTerm;
+pub use crate::starts::{FIELDS, fields_of, sort_of_slot, sort_of_type};

@@ -1,0 +1,4 @@
+pub mod Symbolic
+pub mod Verdicts
+pub mod Laws
+pub mod Weighing
