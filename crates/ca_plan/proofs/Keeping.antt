@@ -3,7 +3,7 @@ use Rattle.std.proofs.Common.{◌≡◌, ◌<◌, ◌++◌, ℕ, List, [], ◌�
 use Rattle.std.specs.Prelude.{Contains}
 use Rattle.std.proofs.lemmas.List.{map-append}
 use Rattle.std.proofs.lemmas.List.Elements.{Contains-get_or, Contains-append_cases}
-use Rattle.std_alloc.specs.declared.rc.counts.Rc.{Rc}
+use Rattle.std.specs.declared.rc.Rc.{Rc}
 use Rattle.ca_program.specs.Plain.{PlainProgram}
 use Rattle.ca_extent.proofs.Members.{into_map}
 use Rattle.ca_section.proofs.Members.{pick, alone}

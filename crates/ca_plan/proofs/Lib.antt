@@ -5,3 +5,7 @@ pub mod Commuting
 pub mod Telling
 pub mod Keeping
 pub mod LoopWalks
+pub mod Judgements
+pub mod Tested
+pub mod Chosen
+pub mod Written

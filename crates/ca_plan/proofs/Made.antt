@@ -1,10 +1,14 @@
 -- From the parts of a plan to the plan.
-use Rattle.std.proofs.Common.{◌≡◌, ◌≢◌, ◌↔◌, ℕ, ◌<◌, true, List, [], ◌∷◌, ◌++◌, Option, Some, None, Result, Ok, Err, IfOk, length, map, refl, sym, ap, ◌∙◌, subst, arith}
+use Rattle.std.proofs.Common.{◌≡◌, ◌≢◌, ◌↔◌, ℕ, ◌<◌, true, List, [], ◌∷◌, ◌++◌, Option, Some, None, Result, Ok, Err, IfOk, Global, length, map, refl, sym, ap, ◌∙◌, subst, arith}
 use Rattle.std.specs.Prelude.{slice_get, Contains}
 use Rattle.std.proofs.lemmas.Bool.{eq-eqb}
+use Rattle.std.proofs.lemmas.List.{length-map}
+use Rattle.std.specs.declared.rc.Rc.{Rc}
 use Rattle.ca_program.specs.declared.program.LoopId.{LoopId}
 use Rattle.ca_program.specs.declared.program.OpId.{OpId}
+use Rattle.ca_program.specs.declared.program.Program.{Program}
 use Rattle.ca_program.specs.Plain.{PlainProgram, PlainMethod, Statement, for_loop}
+use Rattle.ca_program.specs.View.{method_view, program_view}
 use Rattle.ca_meaning.specs.Functions.{body_of}
 use Rattle.ca_parallel.specs.Bodies.{calls_of_all}
 use Rattle.ca_parallel.specs.Extents.{Extent, operation_body}
@@ -12,14 +16,15 @@ use Rattle.ca_parallel.specs.ExtentsOf.{ExtentOf, Rises, OpBefore}
 use Rattle.ca_parallel.specs.Marks.{HasSite}
 use Rattle.ca_parallel.specs.Separable.{Separable, AreSeparated}
 use Rattle.ca_extent.proofs.Members.{from_map}
-use Rattle.ca_section.proofs.Members.{pick}
+use Rattle.ca_section.proofs.Members.{pick, none}
+use Rattle.ca_symbolic.specs.OtherLoops.{is_call_loop}
 use Rattle.ca_verdicts.specs.declared.verdicts.Verdict.TheVariants.{Commutes}
 use Rattle.ca_verdicts.specs.Verdicts.{VerdictOf}
 use Rattle.ca_plan.specs.declared.plans.PairVerdict.{PairVerdict}
 use Rattle.ca_plan.specs.Pairs.{Pair, of_one_class, is_one_class, pairs_in}
-use Rattle.ca_plan.specs.Plans.{Judged, JudgedLoop, IsJudged, IsJudgedLoop, AnyOrder, IsMarked, IsMarkedLoop, MarksOf, PlainPlan, PlanOf, LoopBefore, pair_of, op_at, call_loops}
-use Rattle.ca_plan.specs.Told.{PairTold, AllTold, WhollyTold, JudgedOp, PlanTold, AllCommute, CommutingOp, CommutingLoop}
-use Rattle.ca_plan.proofs.Sound.{found}
+use Rattle.ca_plan.specs.Plans.{Judged, JudgedLoop, IsJudged, IsJudgedLoop, AnyOrder, IsMarked, IsMarkedLoop, MarksOf, PlainPlan, PlanOf, LoopBefore, pair_of, op_at, call_loops, call_loops_of}
+use Rattle.ca_plan.specs.Told.{PairTold, AllTold, AllWhollyTold, WhollyTold, JudgedOp, PlanTold, AllCommute, CommutingOp, CommutingLoop, shared}
+use Rattle.ca_plan.proofs.Sound.{found, Among, stands_among}
 
 -- Extents
 
@@ -130,4 +135,33 @@ pub all_told : (p : PlainProgram) (js : List Judged) (ls : List JudgedLoop) (ms 
 all_told p js ls ms sites o l = record {
   ops = λ j c. let r = found_at js j c in (o.each r.0 j r.1).told;
   loops = λ j c. let r = found_at ls j c in l.told r.0 j r.1;
+}
+
+-- What the parts of the code make
+
+pub none_kept : (p : PlainProgram) → AllWhollyTold p []
+none_kept p = λ j c. absurd (none j c)
+
+pub each_is : (xs loops : List Statement) → loops ≡ call_loops_of xs → (n : ℕ) (s : Statement) → slice_get loops n ≡ Some s → is_call_loop s ≡ true
+unfolding Among
+each_is xs loops is n s e = (stands_among xs n s (subst (λ z. slice_get z n ≡ Some s) is e)).1
+
+pub are_ops : (p : Program) (js : List (Rc Judged Global)) → length js ≡ length p.ops.items → ((n : ℕ) (j : Judged) → slice_get (shared js) n ≡ Some j → JudgedOp (program_view p) n j) → AreOps (program_view p) (shared js)
+are_ops p js many each = record { as_many = length-map js (λ (r : Rc Judged Global). r.value) ∙ (many ∙ sym (length-map p.ops.items method_view)); each = each }
+
+pub are_loops : (p : PlainProgram) (loops : List Statement) (ls : List JudgedLoop) (k : ℕ) → loops ≡ call_loops p → length ls ≡ k → k ≡ length loops
+    → ((n : ℕ) (s : Statement) (l : JudgedLoop) → slice_get loops n ≡ Some s → slice_get ls n ≡ Some l → IsJudgedLoop p s l) → ((n : ℕ) (l : JudgedLoop) → slice_get ls n ≡ Some l → WhollyTold p l.judged) → AreLoops p ls
+are_loops p loops ls k is many same each told = record {
+  as_many = many ∙ (same ∙ ap length is);
+  each = λ n s l e f. each n s l (subst (λ z. slice_get z n ≡ Some s) (sym is) e) f;
+  told = told;
+}
+
+pub are_marks : (p : PlainProgram) (js : List Judged) (loops : List Statement) (ls : List JudgedLoop) (ms : List OpId) (sites : List LoopId) → loops ≡ call_loops p
+    → ((op : OpId) → Contains ms op ↔ CommutingOp p js op) → Rises OpBefore ms → ((site : LoopId) → Contains sites site ↔ CommutingLoop p loops ls site.0) → Rises LoopBefore sites → AreMarks p js ls ms sites
+are_marks p js loops ls ms sites is marked rise sited sites_rise = record {
+  ops = marked;
+  ops_rise = rise;
+  loops = λ site. subst (λ z. Contains sites site ↔ CommutingLoop p z ls site.0) is (sited site);
+  loops_rise = sites_rise;
 }

@@ -69,7 +69,7 @@ reason_text p (DemandsDiffer kind parts x y) = codes "DemandsDiffer"
 
 abbrev pub verdict_text : PlainProgram → Verdict → List ℕ
 verdict_text p Commutes = codes "commutes"
-verdict_text p (Unproved why) = in_a_row (codes "unproved " ∷ reason_text p why ∷ [])
+verdict_text p (Unproved why) = codes "unproved " ++ reason_text p why
 
 -- What `pairs` writes
 

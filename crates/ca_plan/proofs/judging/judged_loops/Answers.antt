@@ -2,7 +2,7 @@ use Rattle.std.proofs.Common.{◌≡◌, [], ◌∷◌, length, Some, arith, ap,
 use Rattle.std.specs.Prelude.{slice_get}
 use Rattle.ca_program.specs.View.{program_view, statement_view}
 use Rattle.ca_plan.specs.Loops.{seen}
-use Rattle.ca_plan.proofs.Judging.{more_loops, more_told, seen_at}
+use Rattle.ca_plan.proofs.Judgements.{more_loops, more_told, seen_at}
 use Rattle.ca_plan.proofs.judging.judged_loops.Goals as goal
 
 pub loop-n-init : goal.loop-n-init

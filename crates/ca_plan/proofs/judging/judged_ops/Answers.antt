@@ -1,6 +1,6 @@
 use Rattle.std.proofs.Common.{◌≡◌, [], ◌∷◌, length, arith, ap, ◌∙◌, length-append}
 use Rattle.ca_program.specs.View.{program_view}
-use Rattle.ca_plan.proofs.Judging.{more_ops}
+use Rattle.ca_plan.proofs.Judgements.{more_ops}
 use Rattle.ca_plan.proofs.judging.judged_ops.Goals as goal
 
 pub loop-n-init : goal.loop-n-init

@@ -1,7 +1,7 @@
 use Rattle.std.proofs.Common.{◌≡◌, length}
 use Rattle.ca_program.specs.View.{program_view}
 use Rattle.ca_plan.specs.Told.{AllWhollyTold, shared}
-use Rattle.ca_plan.proofs.Judging.{AreJudged}
+use Rattle.ca_plan.proofs.Judgements.{AreJudged}
 use Rattle.ca_plan.proofs.judging.judged_ops.Given as goal
 
 abbrev pub invariant-loop-n : goal.invariant-loop-n

@@ -1,10 +1,11 @@
 -- Marks that are given one after another.
-use Rattle.std.proofs.Common.{◌≡◌, ◌≢◌, ◌↔◌, ◌<◌, ◌≤◌, ◌+◌, ◌⊎◌, inl, inr, ℕ, zero, suc, Bool, true, false, ◌++◌, List, [], ◌∷◌, Some, None, length, map, get_or, refl, sym, ap, ◌∙◌, subst, arith}
+use Rattle.std.proofs.Common.{◌≡◌, ◌≢◌, ◌↔◌, ◌<◌, ◌≤◌, ◌+◌, ◌⊎◌, inl, inr, ℕ, zero, suc, Bool, true, false, ◌++◌, List, [], ◌∷◌, Some, None, Global, length, map, get_or, refl, sym, ap, ◌∙◌, subst, arith}
 use Rattle.std.specs.Prelude.{slice_get, Contains, IsTrue}
 use Rattle.std.specs.List.Sorted.{IsStrictlyIncreasing}
 use Rattle.std.proofs.lemmas.List.{length-map, get_or-map}
 use Rattle.std.proofs.lemmas.List.Elements.{Contains-append_left, Contains-append_right, Contains-append_cases}
 use Rattle.std.proofs.lemmas.Option.{same_Some, slice_get_within, get_or_from_slice_get, slice_get-map}
+use Rattle.std.specs.declared.rc.Rc.{Rc}
 use Rattle.ca_program.specs.declared.program.LoopId.{LoopId}
 use Rattle.ca_program.specs.declared.program.Method.{Method}
 use Rattle.ca_program.specs.declared.program.OpId.{OpId}
@@ -16,11 +17,12 @@ use Rattle.ca_parallel.specs.Bodies.{calls_of_all}
 use Rattle.ca_parallel.specs.Extents.{operation_body}
 use Rattle.ca_parallel.specs.ExtentsOf.{Rises, OpBefore}
 use Rattle.ca_parallel.specs.Separable.{IsSeparated}
+use Rattle.ca_model.proofs.Stores.{found}
 use Rattle.ca_section.proofs.Members.{pick, front, alone, none}
 use Rattle.ca_extent.proofs.Members.{into_map, from_map}
 use Rattle.ca_plan.specs.declared.plans.PairVerdict.{PairVerdict}
 use Rattle.ca_plan.specs.Plans.{Judged, JudgedLoop, LoopBefore, op_at}
-use Rattle.ca_plan.specs.Told.{AllCommute, CommutingOp, CommutingLoop, Noted, taken, left, loop_of}
+use Rattle.ca_plan.specs.Told.{AllCommute, CommutingOp, CommutingLoop, Noted, taken, left, loop_of, shared}
 
 -- Lists that rise
 
@@ -39,6 +41,15 @@ rise_more [] x r below n a b e f = absurd cc
 rise_more {Before = Before} (y ∷ []) x r below n a b e f = rise_two Before y x (below y (front y [])) n a b e f
 rise_more (y ∷ z ∷ xs) x r below zero a b e f = r.rises 0 a b e f
 rise_more (y ∷ z ∷ xs) x r below (suc n) a b e f = rise_more (z ∷ xs) x (tail y (z ∷ xs) r) (λ w c. below w (Contains-append_right (y ∷ []) (z ∷ xs) w c)) n a b e f
+
+-- the extent of an operation in memory
+pub shared_at : (js : List (Rc Judged Global)) (n : ℕ) (x : Rc Judged Global) (j : Judged) → n < length js → x ≡ get_or js n x → j ≡ x.value → slice_get (shared js) n ≡ Some j
+shared_at js n x j h is same = slice_get-map (λ (y : Rc Judged Global). y.value) js n ∙ rw (found js n x h is, same) refl
+
+pub stands_at : (js : List (Rc Judged Global)) (n : ℕ) → n < length js → (j : Judged) × (slice_get (shared js) n ≡ Some j)
+stands_at [] n h = absurd (omega (arith, h))
+stands_at (x ∷ js) zero h = (x.value, refl)
+stands_at (x ∷ js) (suc n) h = stands_at js n (omega (arith, h))
 
 -- Operations
 
