@@ -9,7 +9,7 @@ and y a `Y *`, and each class has MEMBERS.
 import re
 
 LIMITS = {"E03", "E04", "E11", "E50", "E51", "E52", "E53", "E54", "E55", "E56", "E57"}
-CODES = LIMITS | {f"E{n:02}" for n in (0, 1, 2, 10, *range(20, 34))}
+CODES = LIMITS | {f"E{n:02}" for n in (1, 2, 10, *range(20, 34))}
 
 OUTSIDE, MAIN, OPERATION, VALUE = {"outside"}, {"main"}, {"operation"}, {"long", "bool", "pointer"}
 METHOD = OPERATION | VALUE
@@ -315,8 +315,8 @@ def place_of(text):
 
 
 def stage(code):
-    """The stage that refuses: tokens, grammar, names and types, the command."""
-    return {"E00": 3, "E01": 0, "E02": 0, "E03": 0, "E10": 1, "E11": 1}.get(code, 2)
+    """The stage that refuses: tokens, grammar, names and types."""
+    return {"E01": 0, "E02": 0, "E03": 0, "E10": 1, "E11": 1}.get(code, 2)
 
 
 def refusal(line, column, code):
@@ -326,7 +326,7 @@ def refusal(line, column, code):
 
 
 def with_faults(rng, writer, count):
-    """The text with faults, and the line, column, code and holder of the one that is due; with none, of E00.
+    """The text with one fault or more, and the line, column, code and holder of the one that is due.
 
     It is of the first stage that refuses, and there at the first place.
     """
@@ -342,7 +342,7 @@ def with_faults(rng, writer, count):
         pieces[at] += MEMBERS
     front = rng.choice(["", "// é\n", "\n\t/* é\r */"])
     parts = (front + KNOWN + "".join(pieces)).split("^")
-    dues = [(3, *place_of(front), "E00", "text")]
+    dues = []
     for i, (code, holder) in enumerate(made):
         dues.append((stage(code), *place_of("".join(parts[: i + 1])), code, holder))
     return "".join(parts), *min(dues)[1:]

@@ -88,7 +88,7 @@ class Program:
         return self.call(ty, names, depth)
 
     def call(self, result, names, depth):
-        found = [(c, m) for c, m in self.callable if m.result == result]
+        found = self.callees(result)
         if not found:
             return None
         c, method = self.rng.choice(found)
@@ -98,6 +98,9 @@ class Program:
             if receiver is None:
                 return None
         return ("call", receiver, method, [self.expr(t, names, depth) for _, t in method.params])
+
+    def callees(self, result):
+        return [(c, m) for c, m in self.callable if m.result == result]
 
     def pointer(self, c, names, depth):
         """An expression that may stand before `->`, which `nullptr` may not."""
@@ -110,12 +113,15 @@ class Program:
     def read(self, ty, names, depth):
         is_own = self.within and self.rng.random() < 0.6
         c = self.within if is_own else self.rng.choice(self.classes)
-        found = [f for f in c.fields if f[1] == ty]
+        found = [f for f in self.readable(c) if f[1] == ty]
         pointer = None if is_own else self.pointer(c, names, depth)
         if not found or not is_own and pointer is None:
             return None
         name, _, length = self.rng.choice(found)
         return ("read", pointer, name, self.index(length, names, depth), length)
+
+    def readable(self, c):
+        return c.fields
 
     def index(self, length, names, depth):
         if length is None:

@@ -39,8 +39,7 @@ class Writer:
             text = self.operation(e, strength)
             return f"({text})" if strength < least or self.rng.random() < 0.1 else text
         if kind == "read":
-            front = "" if e[1] is None else self.expr(e[1], TAIL) + "->"
-            return front + self.place(e[2], e[3])
+            return self.own(e[2], e[3]) if e[1] is None else f"{self.expr(e[1], TAIL)}->{self.place(e[2], e[3])}"
         if kind == "call":
             front = "" if e[1] is None else self.expr(e[1], TAIL) + "->"
             return f"{front}{e[2].name}({', '.join(self.expr(a) for a in e[3])})"
@@ -56,10 +55,13 @@ class Writer:
     def place(self, field, index):
         return field if index is None else f"{field}[{self.expr(index)}]"
 
+    def own(self, field, index):
+        return self.place(field, index)
+
     def simple(self, s):
         if s[0] == "local":
             return type_text(s[2]) + s[1] + ("" if s[3] is None else " = " + self.expr(s[3]))
-        target = s[1] if s[0] == "put" else self.place(s[1], s[2])
+        target = s[1] if s[0] == "put" else self.own(s[1], s[2])
         op, right = s[-2], s[-1]
         if op in ("+=", "-=") and right == ("number", 1) and self.rng.random() < 0.5:
             return target + op[0] * 2
@@ -86,12 +88,15 @@ class Writer:
     def compound(self, s):
         if s[0] == "for":
             self.put(f"for ({self.simple(s[1])}; {self.expr(s[2])}; {self.simple(s[3])})")
-            return self.block(s[4])
+            return self.branch(s[4])
         self.put(f"{s[0]} ({self.expr(s[1])})")
-        self.block(s[2])
+        self.branch(s[2], s[0] == "if" and s[3] is not None)
         if s[0] == "if" and s[3] is not None:
             self.put(" else")
-            self.block(s[3])
+            self.branch(s[3])
+
+    def branch(self, body, has_else=False):
+        self.block(body)
 
     def block(self, statements):
         self.gap()
@@ -109,14 +114,17 @@ class Writer:
         self.block(m.body)
         self.body = "outside"
 
+    def fields(self, fields):
+        for name, ty, length in fields:
+            self.point("member")
+            self.put(f"{type_text(ty)}{name}{'' if length is None else f'[{length}]'};\n")
+
     def program(self, p):
         for c in p.classes:
             self.point("class")
             self.heads.append(len(self.text))
             self.put(f"class {c.name} {{ public:\n")
-            for name, ty, length in c.fields:
-                self.point("member")
-                self.put(f"{type_text(ty)}{name}{'' if length is None else f'[{length}]'};\n")
+            self.fields(c.fields)
             for m in c.methods:
                 self.method(m)
             self.point("member")

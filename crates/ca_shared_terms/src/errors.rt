@@ -1,5 +1,7 @@
 //! What a maker of terms may answer.
 
+ghost use Rattle.std.specs.Prelude.{◌≡◌};
+
 use std::alloc::{AllocError, AllocFailed};
 
 /// Why a term is not made.

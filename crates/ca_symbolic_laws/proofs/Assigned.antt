@@ -27,7 +27,7 @@ use Rattle.ca_symbolic.specs.Execution.{term_of, put_term, is_item, put_right, a
 use Rattle.ca_symbolic.proofs.Alike.{alike_is_equal}
 use Rattle.ca_symbolic_laws.specs.Meant.{item_meant}
 use Rattle.ca_symbolic_laws.proofs.Indexes.{number_of}
-use Rattle.ca_symbolic_laws.proofs.Selects.{by_number, of_choice, of_put, of_add}
+use Rattle.ca_symbolic_laws.proofs.Selects.{by_number, of_put, of_add}
 
 pub put_means : (v w : Datum) → assigned assign.Put v w ≡ w
 put_means (Long a) (Long b) = refl

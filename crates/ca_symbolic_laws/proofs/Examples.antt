@@ -1,9 +1,8 @@
 -- What demands take and list, on examples.
-use Rattle.std.proofs.Common.{◌≡◌, ℕ, Bool, true, false, List, [], ◌∷◌, Option, Some, None, ℤ, pos, negsuc, refl}
+use Rattle.std.proofs.Common.{◌≡◌, true, false, [], ◌∷◌, Some, None, pos, negsuc, refl}
 use Rattle.std.specs.Prelude.{nat_eq}
 use Rattle.ca_program.specs.declared.program.OpId.{OpId}
-use Rattle.ca_model.specs.declared.value.Value.{Value as Datum}
-use Rattle.ca_model.specs.declared.value.Value.TheVariants.{Long, Bool as Truth, Null, Ref}
+use Rattle.ca_model.specs.declared.value.Value.TheVariants.{Long, Bool as Truth, Null}
 use Rattle.ca_meaning.specs.Expressions.{invocation}
 use Rattle.ca_norm.specs.Terms.{number, truth, null}
 use Rattle.ca_norm.specs.Meanings.{Valuation}

@@ -36,7 +36,7 @@ use Rattle.ca_symbolic_laws.proofs.Budgets.{free, plus_none, none_plus, then_val
 use Rattle.ca_symbolic_laws.proofs.Indexes.{number_of, place_of, found_if, no_less, more_less, both_less, ItemsAre, indexed_is}
 use Rattle.ca_symbolic_laws.proofs.Operators.{BothTruths, both_truths, decides_alone, Fine, right_fine, operated_gives, operation_means, signed_means, decided_off, guard_on}
 use Rattle.ca_symbolic_laws.proofs.Runs.{Runs}
-use Rattle.ca_symbolic_laws.proofs.Selects.{by_number, of_choice, of_put, of_add}
+use Rattle.ca_symbolic_laws.proofs.Selects.{by_number}
 use Rattle.ca_symbolic_laws.proofs.Terms.{means_are, own_info, mean_typed, means_typed}
 use Rattle.ca_symbolic_laws.proofs.Demands.{cost_append, asked, one_asked, off_expression}
 

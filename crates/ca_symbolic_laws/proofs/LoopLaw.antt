@@ -1,44 +1,29 @@
 -- Each call loop of a body does what its demand means.
-use Rattle.std.proofs.Common.{◌≡◌, ℕ, zero, suc, ◌+◌, ◌-◌, ◌≤◌, Bool, true, false, List, [], ◌∷◌, ◌++◌, length, map, Option, Some, None, refl, sym, ap, ap₂, ◌∙◌, arith, subst, append-nil, zero-add, inl, inr, ⊎_elim}
-use Rattle.std.specs.Prelude.{slice_get, slice_set, ◌||◌, nat_eq, cond, if◌then◌else◌, ◌⊎◌, Contains}
-use Rattle.std.specs.Option.{option_or}
+use Rattle.std.proofs.Common.{◌≡◌, ℕ, ◌≤◌, Bool, true, false, List, [], ◌∷◌, ◌++◌, length, map, Some, None, refl, sym, ap, ap₂, ◌∙◌, arith, subst, append-nil, zero-add, inl, inr, ⊎_elim}
+use Rattle.std.specs.Prelude.{◌||◌, nat_eq, cond, if◌then◌else◌, ◌⊎◌, Contains}
 use Rattle.ca_tree.specs.declared.tree.AssignOp.TheVariants.{Put}
 use Rattle.ca_program.specs.declared.program.FieldId.{FieldId}
 use Rattle.ca_program.specs.declared.program.FirstPart.{FirstPart}
 use Rattle.ca_program.specs.declared.program.FirstPart.TheVariants.{Declares}
 use Rattle.ca_program.specs.declared.program.LocalId.{LocalId}
 use Rattle.ca_program.specs.declared.program.LoopId.{LoopId}
-use Rattle.ca_program.specs.declared.program.ValueType.{ValueType}
-use Rattle.ca_program.specs.declared.program.ValueType.TheVariants as type
-use Rattle.ca_program.specs.Plain.{PlainProgram, PlainMethod, Expression, Statement, Statements, block, put_local, invoke, for_loop, no_statements, statement_and}
+use Rattle.ca_program.specs.Plain.{PlainProgram, PlainMethod, Expression, Statement, block, put_local, invoke, for_loop, statement_and}
 use Rattle.ca_model.specs.declared.value.Value.{Value as Datum}
 use Rattle.ca_model.specs.declared.value.Value.TheVariants.{Bool as Truth, Ref}
 use Rattle.ca_model.specs.declared.value.Slot.{Slot}
-use Rattle.ca_model.specs.declared.value.Object.{Object}
-use Rattle.ca_meaning.specs.Operators.{assigned}
-use Rattle.ca_meaning.specs.Expressions.{Out, gives, over, value_at, Invocation}
-use Rattle.ca_meaning.specs.Flows.{Flow, goes_on, gives_back, stops, runs_out, exec, line_of}
-use Rattle.ca_meaning.specs.Functions.{functions_of}
-use Rattle.ca_meaning.specs.ProgramTyped.{ExpressionTyped, StatementTyped, scope_of}
-use Rattle.ca_meaning.specs.Sections.{Section, section_parts, LoopSectioned, loop_done, loop_sectioned, loop_run}
-use Rattle.ca_meaning_laws.specs.Budgets.{Taken, on_with, Reached}
-use Rattle.ca_meaning_laws.proofs.Bigs.{loop_run_steady}
-use Rattle.ca_parallel.specs.Loops.{CountsUp, IsCall, AreCalls, CallsAlone, IsCallLoop, IsCallLoopOf}
+use Rattle.ca_meaning.specs.Expressions.{value_at, Invocation}
+use Rattle.ca_meaning.specs.Flows.{exec}
+use Rattle.ca_meaning.specs.Sections.{section_parts, LoopSectioned, loop_run}
+use Rattle.ca_parallel.specs.Loops.{CountsUp, IsCall, CallsAlone, IsCallLoopOf}
 use Rattle.ca_parallel.specs.Scoped.{names, names_outside}
-use Rattle.ca_parallel.specs.Separable.{IsClean, IsSeparated}
-use Rattle.ca_symbolic_laws.specs.Costs.{left_if, left, with_left, value_of, hidden, state_of}
-use Rattle.ca_symbolic_laws.specs.Demanded.{steps_taken, loop_steps, loop_lists}
-use Rattle.ca_symbolic_laws.proofs.Bounded.{bounded}
-use Rattle.ca_symbolic_laws.proofs.Assigned.{put_means}
-use Rattle.ca_symbolic_laws.proofs.Named.{SameAt, SameConstants, or_left, or_right, eval_same}
-use Rattle.ca_symbolic_laws.proofs.LoopRuns.{SameLocals, Alike, both_on, both_back, both_stop, both_out, Simple, AllSimple, on_alike, with_alike, put_alike, rest_alike}
+use Rattle.ca_symbolic_laws.specs.Costs.{left, with_left, hidden, state_of}
+use Rattle.ca_symbolic_laws.specs.Demanded.{loop_steps, loop_lists}
+use Rattle.ca_symbolic_laws.proofs.Named.{SameAt, SameConstants, or_left, or_right}
+use Rattle.ca_symbolic_laws.proofs.LoopRuns.{Alike}
 use Rattle.std.proofs.lemmas.Bool.{eqb-true}
 use Rattle.std.proofs.lemmas.Bool.Decides.{nat_tests}
-use Rattle.ca_tree.specs.declared.tree.AssignOp.TheVariants.{Add}
-use Rattle.ca_tree.specs.declared.tree.BinaryOp.TheVariants.{Plus}
 use Rattle.ca_program.specs.declared.program.FieldInfo.{FieldInfo}
 use Rattle.ca_program.specs.declared.program.OpId.{OpId}
-use Rattle.ca_program.specs.Plain.{number, local, binary}
 use Rattle.ca_meaning.specs.Functions.{own_of}
 use Rattle.ca_meaning.specs.Sections.{loop_section}
 use Rattle.ca_parallel.specs.Bodies.{calls_of, calls_of_all}
@@ -53,10 +38,9 @@ use Rattle.ca_symbolic.specs.Demands.{loop_reads, loop_parts}
 use Rattle.ca_symbolic.specs.OtherLoops.{is_call_loop}
 use Rattle.ca_symbolic.proofs.CallLoops.{call_loops_are_told}
 use Rattle.ca_symbolic_laws.specs.Meant.{slots_meant}
-use Rattle.ca_symbolic_laws.specs.Demanded.{LoopPlace, loop_at, spread_out, section_at, loop_within}
+use Rattle.ca_symbolic_laws.specs.Demanded.{loop_at, spread_out, section_at, loop_within}
 use Rattle.ca_symbolic_laws.specs.Laws.{fields_in, Typed, StateTyped, LocalsAre}
 use Rattle.ca_symbolic_laws.proofs.Runs.{Runs}
-use Rattle.ca_symbolic_laws.proofs.Selects.{by_number, of_choice, of_put, of_add}
 use Rattle.ca_symbolic_laws.proofs.Choices.{or_false}
 use Rattle.ca_symbolic_laws.proofs.Demands.{told, one_asked}
 use Rattle.ca_symbolic_laws.proofs.Expressions.{hidden_at}

@@ -1,6 +1,6 @@
 -- The locals that a call loop reads: what its demand hands over is what the loop finds.
-use Rattle.std.proofs.Common.{◌≡◌, ℕ, zero, suc, ◌+◌, Bool, true, false, List, [], ◌∷◌, ◌++◌, length, map, Option, Some, None, ℤ, pos, refl, sym, ap, ap₂, ◌∙◌, arith, subst}
-use Rattle.std.specs.Prelude.{slice_get, ◌||◌, ◌&&◌, nat_eq, cond, if◌then◌else◌}
+use Rattle.std.proofs.Common.{◌≡◌, ℕ, zero, suc, ◌+◌, Bool, true, false, List, [], ◌∷◌, length, map, refl, sym, ap, ap₂, ◌∙◌, arith}
+use Rattle.std.specs.Prelude.{◌||◌, ◌&&◌, nat_eq, if◌then◌else◌}
 use Rattle.std.specs.List.{list_any}
 use Rattle.std.proofs.lemmas.List.Folds.{list_any-append}
 use Rattle.ca_tree.specs.declared.tree.AssignOp.TheVariants.{Put, Add}
@@ -21,13 +21,11 @@ use Rattle.ca_parallel.specs.Loops.{Begins, CountsUp, IsCall, AreCalls, CallsAlo
 use Rattle.ca_parallel.specs.Scoped.{names, any_names, names_outside, any_names_outside}
 use Rattle.ca_norm.specs.Terms.{PlainTerm}
 use Rattle.ca_norm.specs.Meanings.{Valuation, mean}
-use Rattle.ca_symbolic.specs.Demands.{is_counter, loop_reads, picked}
+use Rattle.ca_symbolic.specs.Demands.{loop_reads, picked}
 use Rattle.ca_symbolic_laws.specs.Costs.{hidden}
 use Rattle.ca_symbolic_laws.specs.Meant.{LocalsTyped}
 use Rattle.ca_symbolic_laws.specs.Demanded.{spread_out}
-use Rattle.ca_symbolic_laws.proofs.Choices.{or_false}
 use Rattle.ca_symbolic_laws.proofs.Named.{or_left, or_right}
-use Rattle.ca_symbolic_laws.proofs.LoopRuns.{Simple, AllSimple}
 
 -- Lists of locals
 

@@ -1,30 +1,25 @@
 -- A call loop does the same on other locals and own slots, where it names and reads the same.
-use Rattle.std.proofs.Common.{◌≡◌, ℕ, zero, suc, ◌+◌, Bool, true, false, List, [], ◌∷◌, ◌++◌, length, Option, Some, None, refl, sym, ap, ap₂, ◌∙◌, arith, subst, append_assoc}
-use Rattle.std.specs.Prelude.{slice_set, ◌||◌, nat_eq, Contains, if◌then◌else◌}
+use Rattle.std.proofs.Common.{◌≡◌, ℕ, zero, suc, ◌+◌, Bool, true, false, List, [], ◌∷◌, ◌++◌, length, refl, sym, ap, ◌∙◌, arith, subst, append_assoc}
+use Rattle.std.specs.Prelude.{slice_set, ◌||◌, nat_eq, if◌then◌else◌}
 use Rattle.std.proofs.lemmas.Bool.Decides.{nat_tests}
-use Rattle.ca_tree.specs.declared.tree.AssignOp.{AssignOp}
-use Rattle.ca_tree.specs.declared.tree.AssignOp.TheVariants.{Put}
 use Rattle.ca_program.specs.declared.program.FieldId.{FieldId}
 use Rattle.ca_program.specs.declared.program.FirstPart.{FirstPart}
-use Rattle.ca_program.specs.declared.program.LocalId.{LocalId}
 use Rattle.ca_program.specs.declared.program.LoopId.{LoopId}
-use Rattle.ca_program.specs.declared.program.OpId.{OpId}
-use Rattle.ca_program.specs.declared.program.ValueType.{ValueType}
 use Rattle.ca_program.specs.declared.program.ValueType.TheVariants as type
-use Rattle.ca_program.specs.Plain.{PlainProgram, PlainMethod, Expression, Expressions, Statement, Statements, block, put_local, put_field, put_item, new_local, new_field, new_item, invoke, if_else, while_loop, for_loop, return_value, print_value, no_statements, statement_and}
+use Rattle.ca_program.specs.Plain.{PlainProgram, PlainMethod, Expression, Statement, Statements, block, put_local, put_field, put_item, new_local, new_field, new_item, invoke, if_else, while_loop, for_loop, return_value, print_value, no_statements, statement_and}
 use Rattle.ca_model.specs.declared.value.Value.{Value as Datum}
 use Rattle.ca_model.specs.declared.value.Value.TheVariants.{Long, Bool as Truth, Null, Ref}
 use Rattle.ca_model.specs.declared.value.Slot.{Slot}
 use Rattle.ca_model.specs.declared.value.Object.{Object}
 use Rattle.ca_model.specs.declared.value.Trap.{Trap}
 use Rattle.ca_meaning.specs.Operators.{assigned}
-use Rattle.ca_meaning.specs.Expressions.{Out, gives, traps, over, take_step, value_at, Invocation, eval, due}
+use Rattle.ca_meaning.specs.Expressions.{Out, gives, traps, over, take_step, value_at, Invocation}
 use Rattle.ca_meaning.specs.Flows as flows
 use Rattle.ca_meaning.specs.Flows.{Flow, goes_on, gives_back, stops, runs_out, and_on, with, exec, exec_all, line_of}
 use Rattle.ca_meaning.specs.Functions.{functions_of}
 use Rattle.ca_meaning.specs.ProgramTyped.{ExpressionTyped, StatementTyped, StatementsTyped, scope_of}
-use Rattle.ca_meaning.specs.Sections.{Section, with_listed, section_place, section_parts_with, section_parts, Again, loops, loops_of}
-use Rattle.ca_parallel.specs.Scoped.{names, any_names, names_outside, any_names_outside}
+use Rattle.ca_meaning.specs.Sections.{Section, section_parts_with, section_parts, Again, loops, loops_of}
+use Rattle.ca_parallel.specs.Scoped.{names, names_outside, any_names_outside}
 use Rattle.ca_parallel.specs.Separable.{IsClean, holds_call, IsSeparated, AreSeparated}
 use Rattle.ca_symbolic_laws.specs.Costs.{hidden}
 use Rattle.ca_symbolic_laws.proofs.Named.{SameAt, SameConstants, or_left, or_right, eval_same, due_same}

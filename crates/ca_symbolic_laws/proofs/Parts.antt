@@ -4,7 +4,7 @@ use Rattle.ca_program.specs.declared.program.FieldId.{FieldId}
 use Rattle.ca_program.specs.declared.program.OpId.{OpId}
 use Rattle.ca_program.specs.Plain.{PlainMethod, Statements}
 use Rattle.ca_model.specs.declared.value.Value.{Value as Datum}
-use Rattle.ca_model.specs.declared.value.Value.TheVariants.{Long, Bool as Truth, Null, Ref}
+use Rattle.ca_model.specs.declared.value.Value.TheVariants.{Bool as Truth, Ref}
 use Rattle.ca_model.specs.declared.value.Object.{Object}
 use Rattle.ca_meaning.specs.Expressions.{take_step, Invocation}
 use Rattle.ca_meaning.specs.Flows.{Flow, with, exec_all}
@@ -15,7 +15,7 @@ use Rattle.ca_parallel.specs.Scoped.{any_counts, any_names_outside}
 use Rattle.ca_parallel.specs.Separable.{AreSeparated}
 use Rattle.ca_norm.specs.Terms.{PlainTerm}
 use Rattle.ca_norm.specs.Terms as term
-use Rattle.ca_norm.specs.Meanings.{Valuation, chosen, mean}
+use Rattle.ca_norm.specs.Meanings.{Valuation, mean}
 use Rattle.ca_norm.specs.Environments.{Environment}
 use Rattle.ca_norm.proofs.Valuations.{valuation_in}
 use Rattle.ca_symbolic.specs.States.{State, PlainDemand}
@@ -25,13 +25,12 @@ use Rattle.ca_symbolic_laws.specs.Costs.{plus, left, with_left, hidden, state_of
 use Rattle.ca_symbolic_laws.specs.Meant.{slots_meant}
 use Rattle.ca_symbolic_laws.specs.Demanded.{cost, lists}
 use Rattle.ca_symbolic_laws.specs.Laws.{Typed, StateTyped, LocalsAre, Body, Called, ValuesAreMeant, StatementsAreMeant, StatesStayTyped, SectionsAreMeant, FieldsStayTyped, StartsAreMeant, ConstantsAreKept, fields_in, object_meant, section_meant, arguments_in, begun, operation_demands, fields_behind}
-use Rattle.ca_symbolic_laws.proofs.Selects.{by_number, of_choice, of_put, of_add}
 use Rattle.ca_symbolic_laws.proofs.Runs.{Runs, runs}
 use Rattle.ca_symbolic_laws.proofs.Expressions.{one_step, eval_is}
 use Rattle.ca_symbolic_laws.proofs.Typings.{typed_behind_all}
 use Rattle.ca_symbolic_laws.proofs.Flows.{with_then}
 use Rattle.ca_symbolic_laws.proofs.Fits.{FitAll}
-use Rattle.ca_symbolic_laws.proofs.Statements.{LoopsAreMeant, exec_all_is}
+use Rattle.ca_symbolic_laws.proofs.Statements.{exec_all_is}
 use Rattle.ca_symbolic_laws.proofs.Sections.{outcome_at, sectioned_is, outcome_is}
 use Rattle.ca_meaning.specs.Agree.{AgreesAt}
 use Rattle.ca_meaning.specs.Functions.{own_of}

@@ -14,7 +14,7 @@ use Rattle.ca_norm.specs.Terms.{PlainTerm}
 use Rattle.ca_norm.specs.Meanings.{Valuation, chosen, mean}
 use Rattle.ca_symbolic.specs.Execution.{choose_if, choices}
 use Rattle.ca_symbolic_laws.specs.Meant.{item_meant, items_meant, slot_meant, slots_meant}
-use Rattle.ca_symbolic_laws.proofs.Selects.{by_number, of_choice, of_put, of_add}
+use Rattle.ca_symbolic_laws.proofs.Selects.{of_choice}
 
 -- Items
 

@@ -1,5 +1,5 @@
 -- What a body leaves alone in its object: the fields that aren't written.
-use Rattle.std.proofs.Common.{◌≡◌, ℕ, zero, suc, Bool, true, false, List, [], ◌∷◌, ◌++◌, length, Option, Some, None, refl, sym, ap, ap₂, ◌∙◌, arith, subst, ⊎_elim}
+use Rattle.std.proofs.Common.{◌≡◌, ℕ, zero, suc, Bool, true, false, List, [], ◌∷◌, ◌++◌, length, Some, refl, sym, ap, ap₂, ◌∙◌, arith, subst, ⊎_elim}
 use Rattle.std.specs.Prelude.{slice_get, ◌||◌, nat_eq, Contains}
 use Rattle.std.specs.List.{list_any}
 use Rattle.std.proofs.lemmas.Bool.{eqb-true}
@@ -11,7 +11,7 @@ use Rattle.ca_program.specs.Plain.{PlainProgram, PlainMethod, Statement, Stateme
 use Rattle.ca_model.specs.declared.value.Slot.{Slot}
 use Rattle.ca_model.specs.declared.value.Object.{Object}
 use Rattle.ca_model.specs.declared.value.Value.TheVariants.{Ref}
-use Rattle.ca_meaning.specs.Agree.{Agree, AgreesAt}
+use Rattle.ca_meaning.specs.Agree.{AgreesAt}
 use Rattle.ca_meaning.specs.Expressions.{slots_in}
 use Rattle.ca_meaning.specs.Functions.{own_of}
 use Rattle.ca_meaning.specs.ProgramTyped.{StatementTyped, StatementsTyped, scope_of}

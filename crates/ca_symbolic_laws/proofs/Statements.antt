@@ -44,7 +44,6 @@ use Rattle.ca_symbolic_laws.proofs.Budgets.{free, plus_none, none_plus, then_val
 use Rattle.ca_symbolic_laws.proofs.Indexes.{number_of, place_of}
 use Rattle.ca_symbolic_laws.proofs.Operators.{IsTruth, is_true, truth_of}
 use Rattle.ca_symbolic_laws.proofs.Runs.{Runs}
-use Rattle.ca_symbolic_laws.proofs.Selects.{by_number, of_choice, of_put, of_add}
 use Rattle.ca_symbolic_laws.proofs.Terms.{means_are, own_info, mean_typed}
 use Rattle.ca_symbolic_laws.proofs.Demands.{cost_append, lists_append, asked, told, Off, off_statement, quiet, quiet_all}
 use Rattle.ca_symbolic_laws.proofs.Expressions.{Unnamed, unnamed_left, unnamed_right, shown, hidden_at, local_means, field_means, own_index, eval_is, evals_are}

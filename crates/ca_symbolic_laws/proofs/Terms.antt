@@ -27,7 +27,7 @@ use Rattle.ca_symbolic_laws.specs.Laws.{fields_in, Typed, StateTyped}
 use Rattle.ca_symbolic_laws.proofs.Indexes.{number_of}
 use Rattle.ca_symbolic_laws.proofs.Operators.{operate_typed, operation_means, signed_means, right_fine}
 use Rattle.ca_symbolic_laws.proofs.Runs.{Runs}
-use Rattle.ca_symbolic_laws.proofs.Selects.{by_number, of_choice, of_put, of_add}
+use Rattle.ca_symbolic_laws.proofs.Selects.{by_number}
 
 -- Terms of fields and locals
 

@@ -24,7 +24,7 @@ use Rattle.ca_symbolic_laws.specs.Laws.{fields_in, Typed, StateTyped}
 use Rattle.ca_symbolic_laws.proofs.Assigned.{assigned_means, array_is}
 use Rattle.ca_symbolic_laws.proofs.Indexes.{number_of}
 use Rattle.ca_symbolic_laws.proofs.Runs.{Runs}
-use Rattle.ca_symbolic_laws.proofs.Selects.{by_number, of_choice, of_put, of_add}
+use Rattle.ca_symbolic_laws.proofs.Selects.{of_choice}
 use Rattle.ca_symbolic_laws.proofs.Terms.{local_has, field_has, item_has, own_info, mean_typed}
 
 -- Lists of terms

@@ -69,16 +69,24 @@ fn demands(alloc: Global) -> Result<Vec<u8>, Fail> {
     Ok(text)
 }
 
-/// A condition of 24,577 nodes, made in a local, over 512 fields: in both orders some 50,000 nodes stand in each.
-fn targets(alloc: Global) -> Result<Vec<u8>, Fail> {
+/// A condition over 256 fields and 256 locals, which compares a product of so many powers: each of them, made by so many
+/// squarings, is of 2^(squarings + 1) - 1 nodes. The second operation does nothing.
+fn targets(alloc: Global, squarings: u32, factors: u32) -> Result<Vec<u8>, Fail> {
     let mut text = Vec::new(alloc);
-    add(&mut text, "class A { public: long y; long z;")?;
-    count(&mut text, " long x", 512, ";")?;
-    add(&mut text, " void m() { long s = z;")?;
-    repeat(&mut text, " s = s + s;", 12)?;
-    add(&mut text, " if (s + s + s < y) {")?;
-    count(&mut text, " x", 512, " = 1;")?;
-    add(&mut text, " } } }; int main() { }")?;
+    add(&mut text, "class A { public:")?;
+    count(&mut text, " long x", 256, ";")?;
+    add(&mut text, " void m(long y, long z) { long s = z;")?;
+    count(&mut text, " long t", 253, " = 0;")?;
+    repeat(&mut text, " s = s * s;", squarings)?;
+    add(&mut text, " if (s")?;
+    repeat(&mut text, " * s", factors.wrapping_sub(1))?;
+    add(&mut text, " < y) {")?;
+    count(&mut text, " x", 256, " = 1;")?;
+    count(&mut text, " t", 253, " = 1;")?;
+    add(
+        &mut text,
+        " s = 1; y = 1; z = 1; } } void k() { } void both() { m(1, 2); k(); } }; int main() { }",
+    )?;
     Ok(text)
 }
 
@@ -95,36 +103,47 @@ fn sides(alloc: Global) -> Result<Vec<u8>, Fail> {
     Ok(text)
 }
 
-/// What is said of the first operation and itself.
-fn own_verdict(alloc: Global, text: &[u8]) -> Result<Told, Fail> {
+/// What is said of the first operation and the one with this number, in the extent of a root.
+fn first_and(alloc: Global, text: &[u8], root: u32, other: u32) -> Result<Told, Fail> {
     let program = long_program(alloc, text)?;
-    judged(alloc, program, 0, 0, 0)
+    judged(alloc, program, root, 0, other)
 }
 
 #[test]
 fn remainders_of_remainders_end(rt: HostRuntime) -> Result<(), Fail> {
-    let told = own_verdict(rt.alloc(), &remainders(rt.alloc())?)?;
+    let told = first_and(rt.alloc(), &remainders(rt.alloc())?, 0, 0)?;
     assert!(rt; told == Told::Commutes);
     Ok(())
 }
 
 #[test]
 fn many_demands_under_a_heavy_condition_end(rt: HostRuntime) -> Result<(), Fail> {
-    let told = own_verdict(rt.alloc(), &demands(rt.alloc())?)?;
+    let told = first_and(rt.alloc(), &demands(rt.alloc())?, 0, 0)?;
+    assert!(rt; told == Told::Commutes);
+    Ok(())
+}
+
+/// The condition has 60,417 nodes, so what both orders leave fits, and what two runs of the operation leave is too heavy.
+#[test]
+fn a_heavy_condition_over_many_targets_ends(rt: HostRuntime) -> Result<(), Fail> {
+    let alloc = rt.alloc();
+    let text = targets(alloc, 9, 59)?;
+    assert!(rt; first_and(alloc, &text, 2, 1)? == Told::Commutes);
+    assert!(rt; first_and(alloc, &text, 2, 0)? == Told::Large);
+    Ok(())
+}
+
+/// The condition has 24,577 nodes, so that each target comes to 49,159.
+#[test]
+fn two_conditions_over_many_targets_end(rt: HostRuntime) -> Result<(), Fail> {
+    let told = first_and(rt.alloc(), &targets(rt.alloc(), 12, 3)?, 2, 0)?;
     assert!(rt; told == Told::Commutes);
     Ok(())
 }
 
 #[test]
-fn a_heavy_condition_over_many_fields_ends(rt: HostRuntime) -> Result<(), Fail> {
-    let told = own_verdict(rt.alloc(), &targets(rt.alloc())?)?;
-    assert!(rt; told == Told::Commutes || told == Told::Large);
-    Ok(())
-}
-
-#[test]
 fn two_long_sides_end(rt: HostRuntime) -> Result<(), Fail> {
-    let told = own_verdict(rt.alloc(), &sides(rt.alloc())?)?;
-    assert!(rt; told == Told::Commutes || told == Told::Large);
+    let told = first_and(rt.alloc(), &sides(rt.alloc())?, 0, 0)?;
+    assert!(rt; told == Told::Commutes);
     Ok(())
 }

@@ -1,7 +1,7 @@
 //! Verdicts on pairs of operations of texts.
 
 use ca_extent::extent_of;
-use ca_program::{ClassId, FieldId, OpId, Program};
+use ca_program::{ClassId, FieldId, FunctionId, OpId, Program};
 use ca_section::Why;
 use ca_symbolic::DemandKind;
 use ca_test_programs::{let_go, program};
@@ -21,12 +21,8 @@ pub enum Told {
 }
 
 /// A text, the operation whose extent is asked for, two operations of it by their numbers, and what is said of them.
-struct Row {
-    text: &'static str,
-    root: u32,
-    pair: (u32, u32),
-    told: Told,
-}
+#[derive(Clone, Copy)]
+struct Row(&'static str, u32, (u32, u32), Told);
 
 const SUMS: &str =
     "class Acc { public: long sum; void add(long p) { sum = sum + p; } void sub(long p) { sum = sum - p; }
@@ -56,158 +52,130 @@ const BRANCHES: &str =
     void both(long p, bool q) { t(p); s(q); } };
     int main() { }";
 
-const fn row(text: &'static str, root: u32, a: u32, b: u32, told: Told) -> Row {
-    Row {
-        text,
-        root,
-        pair: (a, b),
-        told,
-    }
-}
-
-const fn field(place: u32) -> FieldId {
-    FieldId {
-        class: ClassId(0),
-        field: place,
-    }
-}
-
 const ROWS: [Row; 30] = [
-    row(GRAPH, 0, 0, 0, Told::Field(1)),
-    row(GRAPH, 1, 1, 1, Told::Commutes),
-    row(SUMS, 3, 0, 0, Told::Commutes),
-    row(SUMS, 3, 0, 2, Told::Field(0)),
-    row(SUMS, 3, 0, 3, Told::Commutes),
-    row(SUMS, 3, 2, 2, Told::Commutes),
-    row(SUMS, 3, 3, 3, Told::Commutes),
-    row(SUMS, 4, 0, 1, Told::Commutes),
-    row(SUMS, 4, 1, 4, Told::Commutes),
-    row(
+    Row(GRAPH, 0, (0, 0), Told::Field(1)),
+    Row(GRAPH, 1, (1, 1), Told::Commutes),
+    Row(SUMS, 3, (0, 0), Told::Commutes),
+    Row(SUMS, 3, (0, 2), Told::Field(0)),
+    Row(SUMS, 3, (0, 3), Told::Commutes),
+    Row(SUMS, 3, (2, 2), Told::Commutes),
+    Row(SUMS, 3, (3, 3), Told::Commutes),
+    Row(SUMS, 4, (0, 1), Told::Commutes),
+    Row(SUMS, 4, (1, 4), Told::Commutes),
+    Row(
         "class Stack { public: long buf[8]; long n; void put(long v) { buf[n] = v; n = n + 1; } }; int main() { }",
         0,
-        0,
-        0,
+        (0, 0),
         Told::Field(0),
     ),
-    row(BINS, 0, 0, 0, Told::Commutes),
-    row(BINS, 1, 1, 1, Told::Commutes),
-    row(
+    Row(BINS, 0, (0, 0), Told::Commutes),
+    Row(BINS, 1, (1, 1), Told::Commutes),
+    Row(
         CELL,
         0,
-        0,
-        0,
+        (0, 0),
         Told::NotSeparable(0, 3, Why::AccessAfterCall),
     ),
-    row(CELL, 1, 1, 1, Told::Commutes),
-    row(
+    Row(CELL, 1, (1, 1), Told::Commutes),
+    Row(
         "class M { public: long x; void up(long v) { if (x < v) x = v; } }; int main() { }",
         0,
-        0,
-        0,
+        (0, 0),
         Told::Field(0),
     ),
-    row(
+    Row(
         "class D { public: long n; D *o; void m(long p) { n = n + p; o->k(n); } void k(long v) { } }; int main() { }",
         0,
-        0,
-        0,
+        (0, 0),
         Told::Demand(DemandKind::Invokes(OpId(1))),
     ),
-    row(
+    Row(
         "class E { public: long n; long a[4]; void m(long p) { n = n + p; long t = a[n]; } }; int main() { }",
         0,
-        0,
-        0,
-        Told::Demand(DemandKind::InRange(field(1))),
+        (0, 0),
+        Told::Demand(DemandKind::InRange(FieldId {
+            class: ClassId(0),
+            field: 1,
+        })),
     ),
-    row(
+    Row(
         "class F { public: long a[4]; void m() { while (a[0] < 1) a[0] += 1; } }; int main() { }",
         0,
-        0,
-        0,
+        (0, 0),
         Told::LoopForm(1),
     ),
-    row(BRANCHES, 2, 0, 0, Told::Commutes),
-    row(BRANCHES, 2, 1, 1, Told::Commutes),
-    row(BRANCHES, 2, 0, 1, Told::Field(0)),
+    Row(BRANCHES, 2, (0, 0), Told::Commutes),
+    Row(BRANCHES, 2, (1, 1), Told::Commutes),
+    Row(BRANCHES, 2, (0, 1), Told::Field(0)),
     // A counter that is declared outside may be read behind its loop, so this is no call loop.
-    row(
+    Row(
         "class G { public: long n; G *q; void a(long p) { } void m() { long i = 0; for (i = 0; i < 3; i++) q->a(i); } };
         int main() { }",
         1,
-        1,
-        1,
+        (1, 1),
         Told::LoopForm(1),
     ),
     // The item and then two addends are no sum at the item.
-    row(
+    Row(
         "class H { public: long a[3]; void m(long i, long x, long y) { a[i] = a[i] + x + y; } }; int main() { }",
         0,
-        0,
-        0,
+        (0, 0),
         Told::Field(0),
     ),
-    row(
+    Row(
         "class H { public: long a[3]; void m(long i, long x, long y) { a[i] = a[i] + (x + y); } }; int main() { }",
         0,
-        0,
-        0,
+        (0, 0),
         Told::Commutes,
     ),
     // Here the index is checked twice, and here once; each commutes with itself, the two don't.
-    row(
+    Row(
         "class H { public: long a[3]; void m(long i, long x) { a[i] = a[i] + x; } void n(long i, long x) { a[i] += x; }
         void both(long i, long x) { m(i, x); n(i, x); } }; int main() { }",
         2,
-        0,
-        1,
+        (0, 1),
         Told::Commutes,
     ),
     // Offences of both stand before loops, and loops of both before what is too heavy.
-    row(
+    Row(
         "class I { public: long n; void m() { while (n < 1) n = 1; }
         void k() { print(n); } void both() { m(); k(); } }; int main() { }",
         2,
-        0,
-        1,
+        (0, 1),
         Told::NotSeparable(1, 2, Why::Prints),
     ),
-    row(
+    Row(
         "class J { public: long n; void m(long x) { n = ((x + 1) * (x + 2)) * ((x + 3) * (x + 4)) * ((x + 5) * (x + 6)) * ((x + 7) * (x + 8)); n = n * n * n * n; }
         void k() { while (n < 1) n = 1; } void both() { m(1); k(); } }; int main() { }",
         2,
-        0,
-        1,
+        (0, 1),
         Told::LoopForm(2),
     ),
-    row(
+    Row(
         "class J { public: long n; void m(long x) { n = ((x + 1) * (x + 2)) * ((x + 3) * (x + 4)) * ((x + 5) * (x + 6)) * ((x + 7) * (x + 8)); n = n * n * n * n; } };
         int main() { }",
         0,
-        0,
-        0,
+        (0, 0),
         Told::Large,
     ),
     // What is demanded on the right side of && is demanded where the left side holds.
-    row(
+    Row(
         "class K { public: bool b; K *o; long n; void m(bool q) { b = b || q; if (b && o->n < 3) { } } }; int main() { }",
         0,
-        0,
-        0,
+        (0, 0),
         Told::Demand(DemandKind::NotNull),
     ),
     // Steps of a value method are demanded.
-    row(
+    Row(
         "class L { public: long n; L *o; long f(long x) { return x; } void m(long p) { n = n + p; long t = o->f(n); } }; int main() { }",
         0,
-        0,
-        0,
-        Told::Demand(DemandKind::Calls(ca_program::FunctionId(0))),
+        (0, 0),
+        Told::Demand(DemandKind::Calls(FunctionId(0))),
     ),
 ];
 
 /// What a verdict says, without the forms.
-fn told(verdict: &Verdict) -> Told {
+fn without_forms(verdict: &Verdict) -> Told {
     match verdict {
         Verdict::Commutes => Told::Commutes,
         Verdict::Unproved(Reason::NotSeparable { op, line, why }) => {
@@ -234,16 +202,16 @@ pub fn judged(alloc: Global, program: Program, root: u32, a: u32, b: u32) -> Res
     };
     let_go(program);
     let_go(extent);
-    Ok(told(&verdict?))
+    Ok(without_forms(&verdict?))
 }
 
 #[test]
 fn each_pair_has_its_verdict(rt: HostRuntime) -> Result<(), Fail> {
     let alloc = rt.alloc();
     for row in ROWS.as_slice() {
-        let program = program(alloc, row.text)?;
-        let (a, b) = row.pair;
-        assert!(rt; judged(alloc, program, row.root, a, b)? == row.told);
+        let Row(text, root, (a, b), wanted) = *row;
+        let program = program(alloc, text)?;
+        assert!(rt; judged(alloc, program, root, a, b)? == wanted);
     }
     Ok(())
 }

@@ -1,0 +1,316 @@
+#!/usr/bin/env python3
+"""Texts with what `pairs`, `plan` and `emit` write of them, told by hand: the reference has to say the same.
+
+So it has to of the samples, whose texts `samples/NAME.pairs` and `samples/NAME.plan` were read by people.
+"""
+
+import pathlib
+import sys
+
+from analysis import Plan
+from annotated import BadMark, annotated, canonical, erase
+from reader import tree_of
+
+GRAPH = """class Graph {
+public:
+  bool mark;
+  long value;
+  long sum;
+  Graph *left;
+  Graph *right;
+  void init(long v, Graph *l, Graph *r) {
+    value = v;
+    left = l;
+    right = r;
+  }
+  void visit(long p) {
+    sum = sum + p;
+    if (!mark) {
+      mark = true;
+      if (left != nullptr) left->visit(value);
+      if (right != nullptr) right->visit(value);
+    }
+  }
+};
+int main() {
+  Graph *a = new Graph();
+  Graph *b = new Graph();
+  a->init(3, b, b);
+  b->init(5, a, nullptr);
+  a->visit(1);
+  return 0;
+}
+"""
+
+ACCOUNT = """class Acc {
+public:
+  long sum;
+  void add(long p) { sum = sum + p; }
+  void sub(long p) { sum = sum - p; }
+  void mul(long p) { sum = sum * p; }
+  void mix(long p) { add(p); mul(p); }
+  void par(long p) { add(p); sub(p); }
+};
+int main() { Acc *a = new Acc(); a->mix(2); a->par(3); }
+"""
+
+STACK = """class Stack { public: long buf[8]; long n; void put(long v) { buf[n] = v; n = n + 1; } }; int main() { }"""
+
+BINS = """class Bins {
+public:
+  long a[3];
+  void add(long i, long v) { a[i] = a[i] + v; }
+};
+class Set {
+public:
+  Bins *b[1000];
+  void fill() {
+    for (long i = 0; i < 1000; i++) b[i] = new Bins();
+  }
+  void all(long v) {
+    for (long i = 0; i < 1000; i++) b[i]->add(i % 3, v);
+  }
+};
+int main() {
+  Set *s = new Set();
+  s->fill();
+  s->all(7);
+  s->all(8);
+}
+"""
+
+CELL = """class Cell {
+public:
+  long sum;
+  long base;
+  long last;
+  Cell *next;
+  void late(long p) {
+    sum = sum + p;
+    if (next != nullptr) next->late(p);
+    last = sum;
+  }
+  void early(long p) {
+    sum = sum + p;
+    if (next != nullptr) next->early(base);
+  }
+};
+int main() { }
+"""
+
+PAIR = """class Bin {
+public:
+  long n;
+  void add(long v) { n = n + v; }
+};
+class Pair {
+public:
+  Bin *b[2];
+  void fill() { b[0] = new Bin(); b[1] = new Bin(); }
+};
+int main() {
+  Pair *s = new Pair();
+  s->fill();
+  for (long i = 0; i < 2; i++) s->b[i]->add(i + 1);
+}
+"""
+
+GREATEST = """class M { public: long x; void up(long v) { if (x < v) x = v; } }; int main() { }"""
+
+TWO = (
+    "class A { public: long n; void add(long v) { n += v; } void two(long v) { add(v); add(v + 1); } }; "
+    "int main() { A *a = new A(); a->two(3); }"
+)
+
+FIRST = """class Acc {
+public:
+  long sum;
+  Acc *peer;
+  void add(long p) { sum = sum + p; }
+  void tie(Acc *q) { peer = q; }
+};
+int main() { }
+"""
+
+PAIRS = [
+    (GRAPH, """extent Graph::init
+Graph::init Graph::init unproved FieldDiffers value
+extent Graph::visit
+Graph::visit Graph::visit commutes
+"""),
+    (ACCOUNT, """extent Acc::add
+Acc::add Acc::add commutes
+extent Acc::sub
+Acc::sub Acc::sub commutes
+extent Acc::mul
+Acc::mul Acc::mul commutes
+extent Acc::mix
+Acc::add Acc::add commutes
+Acc::add Acc::mul unproved FieldDiffers sum
+Acc::add Acc::mix commutes
+Acc::mul Acc::mul commutes
+Acc::mul Acc::mix commutes
+Acc::mix Acc::mix commutes
+extent Acc::par
+Acc::add Acc::add commutes
+Acc::add Acc::sub commutes
+Acc::add Acc::par commutes
+Acc::sub Acc::sub commutes
+Acc::sub Acc::par commutes
+Acc::par Acc::par commutes
+"""),
+    (STACK, """extent Stack::put
+Stack::put Stack::put unproved FieldDiffers buf
+"""),
+    (BINS, """extent Bins::add
+Bins::add Bins::add commutes
+extent Set::fill
+Set::fill Set::fill unproved NotSeparable Set::fill 10 Creates
+extent Set::all
+Bins::add Bins::add commutes
+Set::all Set::all commutes
+loop 13
+Bins::add Bins::add commutes
+"""),
+    (CELL, """extent Cell::late
+Cell::late Cell::late unproved NotSeparable Cell::late 10 AccessAfterCall
+extent Cell::early
+Cell::early Cell::early commutes
+"""),
+    (PAIR, """extent Bin::add
+Bin::add Bin::add commutes
+extent Pair::fill
+Pair::fill Pair::fill unproved NotSeparable Pair::fill 9 Creates
+loop 14
+Bin::add Bin::add commutes
+"""),
+    (GREATEST, """extent M::up
+M::up M::up unproved FieldDiffers x
+"""),
+    (FIRST, """extent Acc::add
+Acc::add Acc::add commutes
+extent Acc::tie
+Acc::tie Acc::tie unproved FieldDiffers peer
+"""),
+]
+
+PLANS = [
+    (GRAPH, "op Graph::init serial\nop Graph::visit parallel\n"),
+    (PAIR, "op Bin::add serial\nop Pair::fill serial\nloop 14 parallel\n"),
+]
+
+EMITTED = [
+    (TWO, """class A {
+public :
+long n ;
+void add ( long v ) {
+/*@lock*/ n += v ;
+/*@unlock*/ }
+void two ( long v ) {
+/*@lock*/ /*@unlock*/ /*@spawn*/ add ( v ) ;
+/*@unlock*/ /*@spawn*/ add ( v + 1 ) ;
+/*@unlock*/ }
+} ;
+int main ( ) {
+A * a = new A ( ) ;
+/*@parallel*/ a -> two ( 3 ) ;
+}
+"""),
+]
+
+# Verdicts on operations m and n of a class A with these members, where a choice or a soundness trap stands behind them.
+VERDICTS = [
+    # the counter of a call loop is declared in it
+    ("A *q; long n; void a(long i) { } void m() { long i = 0; for (i = 0; i < 3; i++) q->a(i); }", "LoopForm 1"),
+    ("A *q; void a(long i) { } void m() { for (long i; i < 3; i += 1) q->a(i); }", None),
+    ("A *q; void a(long i) { } void m() { for (long i; i < 3; i = i + 1) { q->a(i); q->a(1); } }", None),
+    ("A *q; void a(long i) { } void m() { for (long i; i < 3; i++) { { q->a(i); } } }", "LoopForm 1"),
+    ("A *q; void a(long i) { } void m() { for (long i; i < 3; i++) { } }", "LoopForm 1"),
+    # sums at items
+    ("long a[2]; void m(long i, long x, long y) { a[i] = a[i] + x + y; }", "FieldDiffers a"),
+    ("long a[2]; void m(long i, long x, long y) { a[i] += x + y; }", None),
+    ("long a[2]; void m(long i, long x) { this->a[i] = a[i] - x; }", None),
+    ("long a[2]; void m(long i, long x) { a[i] = x + a[i]; }", "FieldDiffers a"),
+    ("long a[2]; void m(long i) { a[i] += 1; a[i] -= 1; } void n(long v) { a[0] = v; }", None),
+    # a product by 2 and a sum, a literal
+    ("long f; void m(long x) { f = 2 * f + x; }", "FieldDiffers f"),
+    ("bool f; void m() { f = true; }", None),
+    # what is called with depends on what is written
+    ("long f; A *q; void t(long x) { } void m(long x) { f += x; q->t(f); }", "DemandsDiffer"),
+    ("long f; long a[9]; void m() { a[f] += 1; f = f + 1; }", None),
+    ("long f; long a[9]; void m() { a[f] += 1; } void n() { f = f + 1; }", "FieldDiffers a"),
+    ("long f; long a[9]; long g; void m() { g += a[f] - a[f]; } void n() { f = f + 1; }", "DemandsDiffer"),
+    ("long f; void m() { f = f % 7; }", None),
+    ("long f; " + "void m() { f = f + 1; } void n() { " + "f = f + f; " * 17 + "}", "Large"),
+]
+
+
+POWER = " * ".join(["(f + h)"] * 16)
+DOUBLED = "void m(long p) { long v = p; " + "v = v + v; " * 15
+
+# The same at the limit on weights: 65,536 nodes, products, and 4,096 levels, and one more each.
+LIMITS = [
+    (f"long g; {DOUBLED} g = -v; }}", "FieldDiffers g"),
+    (f"long g; {DOUBLED} g = - -v; }}", "Large"),
+    (f"long f; long h; long g; void m(long p) {{ g = {POWER}; }}", None),
+    (f"long f; long h; long g; void m(long p) {{ g = {POWER} + 1; }}", "Large"),
+    ("long f; long g; void m() { " + "f = f % 7; " * 2047 + "g = -f; }", None),
+    ("long f; long g; void m() { " + "f = f % 7; " * 2047 + "g = - -f; }", "Large"),
+    ("bool f; bool g; void m() { " + "f = !f; " * 2047 + "g = !f; }", None),
+]
+
+
+SAMPLES = pathlib.Path(__file__).parent.parent / "samples"
+
+
+def samples():
+    """The plan of each sample, and what it is said to be."""
+    for path in sorted(SAMPLES.glob("*.pairs")):
+        plan = Plan(tree_of(path.with_suffix(".cc").read_text()))
+        yield plan.pairs_text(), path.read_text()
+        yield plan.plan_text(), path.with_suffix(".plan").read_text()
+
+
+def small_text(members):
+    return f"class A {{ public: {members} }}; int main() {{ }}"
+
+
+def texts():
+    """All texts of the rows."""
+    shown = [text for text, _ in PAIRS + PLANS + EMITTED] + [path.read_text() for path in SAMPLES.glob("*.cc")]
+    return shown + [small_text(members) for members, _ in VERDICTS + LIMITS]
+
+
+def differences():
+    """What the reference says otherwise."""
+    for text, due in PAIRS:
+        yield from told(Plan(tree_of(text)).pairs_text(), due)
+    for text, due in PLANS:
+        yield from told(Plan(tree_of(text)).plan_text(), due)
+    for found, due in samples():
+        yield from told(found, due)
+    for text, due in EMITTED:
+        tree = tree_of(text)
+        yield from told(annotated(tree, Plan(tree)), due)
+        yield from told(erase(due.encode()).decode(), canonical(tree))
+    for members, due in VERDICTS + LIMITS:
+        plan = Plan(tree_of(small_text(members)))
+        a = next(op for op in plan.program.ops if op.name == "m")
+        b = next((op for op in plan.program.ops if op.name == "n"), a)
+        yield from told(dict(plan.ops)[a].reason(a, b), due)
+    try:
+        erase(b"int main() { /*@hold*/ }")
+    except BadMark as bad:
+        yield from told(bad.args, (1, 14))
+
+
+def told(found, due):
+    if found != due:
+        yield f"the reference: {found}\ndue: {due}"
+
+
+if __name__ == "__main__":
+    sys.setrecursionlimit(100000)
+    found = list(differences())
+    print("\n".join(found) or "all rows alike")
+    raise SystemExit(len(found) > 0)

@@ -1,0 +1,2 @@
+pub mod PlainPairs
+pub mod Laws
