@@ -1,5 +1,6 @@
 -- The annotated text of a tree whose program has a plan: which marks stand where.
-use Rattle.std.specs.Prelude.{ℕ, suc, ◌+◌, Bool, true, false, ◌&&◌, ◌||◌, if◌then◌else◌, nat_eq, List, [], ◌∷◌, ◌++◌, flat_map, Option, Some, None}
+use Rattle.std.specs.Prelude.{ℕ, ◌+◌, ◌*◌, Bool, true, false, ◌&&◌, ◌||◌, if◌then◌else◌, nat_eq, List, [], ◌∷◌, ◌++◌, map, Option, Some, None}
+use Rattle.std.specs.List.{list_any}
 use Rattle.ca_tree.specs.declared.name.Place.{Place}
 use Rattle.ca_tree.specs.declared.tree.TypeNode.{TypeNode}
 use Rattle.ca_tree.specs.Plain as tree
@@ -9,7 +10,7 @@ use Rattle.ca_program.specs.declared.program.OpId.{OpId}
 use Rattle.ca_program.specs.Plain as program
 use Rattle.ca_program.specs.Plain.{PlainProgram}
 use Rattle.ca_meaning.specs.Operators.{not_of}
-use Rattle.ca_parallel.specs.Extents.{operation_body}
+use Rattle.ca_parallel.specs.Extents.{Extent, operation_body}
 use Rattle.ca_parallel.specs.Lists.{PlainMarks, op_in}
 use Rattle.ca_canonical.specs.declared.marks.Mark.{Mark}
 use Rattle.ca_canonical.specs.declared.marks.Mark.TheVariants.{Lock, Unlock, Spawn, Parallel}
@@ -21,14 +22,18 @@ use Rattle.ca_plan.specs.Texts.{loop_in}
 
 -- Parallel operations are those in the extent of a marked operation or of a marked loop.
 
+abbrev pub ops_if : Bool → Extent → List OpId
+ops_if true x = x.ops
+ops_if false x = []
+
 -- of the operations from number n on
 abbrev pub reached_by_ops : List OpId → ℕ → List Judged → List OpId
 reached_by_ops marked n [] = []
-reached_by_ops marked n (j ∷ js) = (if op_in marked (op_at n) then j.extent.ops else []) ++ reached_by_ops marked (suc n) js
+reached_by_ops marked n (j ∷ js) = ops_if (op_in marked (op_at n)) j.extent ++ reached_by_ops marked (n + 1) js
 
 abbrev pub reached_by_loops : List LoopId → List JudgedLoop → List OpId
 reached_by_loops marked [] = []
-reached_by_loops marked (l ∷ ls) = (if loop_in marked l.site then l.judged.extent.ops else []) ++ reached_by_loops marked ls
+reached_by_loops marked (l ∷ ls) = ops_if (loop_in marked l.site) l.judged.extent ++ reached_by_loops marked ls
 
 abbrev pub parallel_ops : PlainPlan → List OpId
 parallel_ops plan = reached_by_ops plan.marks.ops 0 plan.ops ++ reached_by_loops plan.marks.loops plan.loops
@@ -92,43 +97,62 @@ abbrev mutual
   run_parallel ms inside program.no_statements = []
   run_parallel ms inside (program.statement_and s ss) = runs_parallel ms inside s ++ run_parallel ms inside ss
 
+abbrev pub place_if : Bool → Place → List Place
+place_if true at = at ∷ []
+place_if false at = []
+
 abbrev pub picked : List Place → List Bool → List Place
 picked [] bs = []
 picked (at ∷ ats) [] = []
-picked (at ∷ ats) (b ∷ bs) = if b then at ∷ picked ats bs else picked ats bs
+picked (at ∷ ats) (b ∷ bs) = place_if b at ++ picked ats bs
 
 -- Where marks stand
 
 -- the parallel ones of the operations from number n on
 abbrev pub bodies_from : List OpId → ℕ → List MethodTree → List Place
 bodies_from parallel n [] = []
-bodies_from parallel n (m ∷ ms) = (if op_in parallel (op_at n) then m.at ∷ [] else []) ++ bodies_from parallel (suc n) ms
+bodies_from parallel n (m ∷ ms) = place_if (op_in parallel (op_at n)) m.at ++ bodies_from parallel (n + 1) ms
 
 -- what runs in parallel in a body that isn't itself parallel
 abbrev pub sites_in : PlainMarks → Bool → tree.Statements → program.Statements → List Place
 sites_in ms true ss xs = []
 sites_in ms false ss xs = picked (sites_of_all ss) (run_parallel ms false xs)
 
+-- in that of operation n
+abbrev pub sites_of_method : PlainProgram → PlainMarks → List OpId → ℕ → MethodTree → List Place
+sites_of_method p ms parallel n m = sites_in ms (op_in parallel (op_at n)) m.body (operation_body p (op_at n))
+
 -- in those of the operations from number n on
 abbrev pub sites_from : PlainProgram → PlainMarks → List OpId → ℕ → List MethodTree → List Place
 sites_from p ms parallel n [] = []
-sites_from p ms parallel n (m ∷ rest) = sites_in ms (op_in parallel (op_at n)) m.body (operation_body p (op_at n)) ++ sites_from p ms parallel (suc n) rest
+sites_from p ms parallel n (m ∷ rest) = sites_of_method p ms parallel n m ++ sites_from p ms parallel (n + 1) rest
 
 -- the names of the parallel operations
 abbrev pub parallel_bodies : PlainPlan → TextTree → List Place
 parallel_bodies plan t = bodies_from (parallel_ops plan) 0 (operations_of t.classes)
 
 -- the calls and loops of other operations and of `main` that run in parallel
+abbrev pub all_sites : PlainProgram → PlainMarks → List OpId → TextTree → List Place
+all_sites p ms parallel t = sites_from p ms parallel 0 (operations_of t.classes) ++ sites_in ms false t.main p.main.statements
+
 abbrev pub parallel_sites : PlainProgram → PlainPlan → TextTree → List Place
-parallel_sites p plan t =
-    sites_from p plan.marks (parallel_ops plan) 0 (operations_of t.classes) ++ sites_in plan.marks false t.main p.main.statements
+parallel_sites p plan t = all_sites p plan.marks (parallel_ops plan) t
 
 -- Which marks stand there: a parallel operation takes its receiver's lock behind its `{`, gives it back before each call,
 -- which is spawned, and before its `}`.
 
+-- lines and columns fit 32 bits, so one number tells a place
+abbrev pub place_number : Place → ℕ
+place_number at = at.line * 4294967296 + at.column
+
+abbrev pub number_in : List ℕ → ℕ → Bool
+number_in ns n = list_any (λ m. nat_eq m n) ns
+
+abbrev pub has_place : List ℕ → Place → Bool
+has_place numbers at = number_in numbers (place_number at)
+
 abbrev pub place_in : List Place → Place → Bool
-place_in [] at = false
-place_in (x ∷ xs) at = (nat_eq x.line at.line && nat_eq x.column at.column) || place_in xs at
+place_in places at = has_place (map place_number places) at
 
 abbrev pub before_call : tree.Statement → List Mark
 before_call (tree.call_statement at e) = Unlock ∷ Spawn ∷ []

@@ -4,35 +4,23 @@
 //! `specs/BadMarks.antt` which comments are refused as marks.
 #![tactic(auto)]
 
-ghost use Rattle.std.specs.Prelude.{◌≡◌, ◌≤◌, ℕ, List, length, Err, IfOk};
+mod emitting;
+mod marking;
+mod parallel;
+mod places;
+mod sites;
+
+ghost use Rattle.std.specs.Prelude.{◌≡◌, ◌≤◌, length, Err, IfOk};
 ghost use Rattle.ca_tree.specs.declared.name.Place.{Place};
-ghost use Rattle.ca_tree.specs.declared.token.Token.{Token};
-ghost use Rattle.ca_tree.specs.View.{tree_view};
-ghost use Rattle.ca_program.specs.View.{program_view};
-ghost use Rattle.ca_lex.specs.Tokens.{Tokens};
-ghost use Rattle.ca_parse.specs.Grammar.{Derives};
 ghost use Rattle.ca_canonical.specs.Erased.{Erased};
-ghost use Rattle.ca_canonical.specs.Spell.{spell};
-ghost use Rattle.ca_canonical.specs.Texts.{text_of};
 ghost use Rattle.ca_emit.specs.declared.EraseError.TheVariants.{BadMark};
-ghost use Rattle.ca_emit.specs.Annotations.{annotated_text};
 ghost use Rattle.ca_emit.specs.BadMarks.{FirstBadMark};
 
-use ca_base::Memory;
 use ca_lex::LONGEST_TEXT;
-use ca_plan::Plan;
-use ca_program::Program;
-use ca_tree::{Place, Tree};
-use std::alloc::{AllocError, Global};
+use ca_tree::Place;
+pub use emitting::emit;
+use std::alloc::Global;
 use thiserror::Error;
-
-/// The annotated text of a tree, of its program and of the program's plan. Without its marks it is the canonical text.
-pub fn emit(alloc: Global, program: &Program, tree: &Tree, plan: &Plan) -> Result<Vec<u8>, Memory>
-    ensures text { IfOk result (λ out. out.items ≡ annotated_text (program_view program.now) plan.now (tree_view tree.now)) }
-    ensures erased { (text : List ℕ) (tokens : List Token) → Tokens text tokens → Derives tokens (tree_view tree.now) → IfOk result (λ out. Erased out.items (text_of (spell (tree_view tree.now)))) }
-{
-    Err(Memory)
-}
 
 /// Why a text has not been erased.
 #[derive(Debug, Drop, Error)]

@@ -1,6 +1,6 @@
 -- Marks that are given one after another.
 use Rattle.std.proofs.Common.{◌≡◌, ◌≢◌, ◌↔◌, ◌<◌, ◌≤◌, ◌+◌, ◌⊎◌, inl, inr, ℕ, zero, suc, Bool, true, false, ◌++◌, List, [], ◌∷◌, Some, None, Global, length, map, get_or, refl, sym, ap, ◌∙◌, subst, arith}
-use Rattle.std.specs.Prelude.{slice_get, Contains, IsTrue}
+use Rattle.std.specs.Prelude.{slice_get, option_map, Contains}
 use Rattle.std.specs.List.Sorted.{IsStrictlyIncreasing}
 use Rattle.std.proofs.lemmas.List.{length-map, get_or-map}
 use Rattle.std.proofs.lemmas.List.Elements.{Contains-append_left, Contains-append_right, Contains-append_cases}
@@ -28,7 +28,7 @@ use Rattle.ca_plan.specs.Told.{AllCommute, CommutingOp, CommutingLoop, Noted, ta
 
 rise_two : {A : Type 0} (Before : A → A → Type 0) (y x : A) → Before y x → (n : ℕ) (a b : A) → slice_get (y ∷ x ∷ []) n ≡ Some a → slice_get (y ∷ x ∷ []) (suc n) ≡ Some b → Before a b
 rise_two Before y x h zero a b e f = subst (λ z. Before z b) (same_Some y a e) (subst (λ z. Before y z) (same_Some x b f) h)
-rise_two Before y x h (suc n) a b e f = absurd (past n f)
+rise_two {A = A} Before y x h (suc n) a b e f = absurd (past n f)
   where
     past : (n : ℕ) → slice_get {X = A} [] n ≡ Some b → ⊥
     past n e = cc
@@ -87,10 +87,10 @@ here p js n j op at e k =
     (subst (λ z. calls_of_all (operation_body p z) ≢ []) (same_op op n e) k.calls, subst AllCommute same k.commute)
 
 pub next_op : (p : PlainProgram) (js : List Judged) (n : ℕ) (ms new : List OpId) (j : Judged) → slice_get js n ≡ Some j → Noted (MarkHere p n j) ms new (op_at n) → MarkedTo p js n ms → MarkedTo p js (n + 1) new
-next_op p js n ms new j at (left no is) m = subst (λ z. MarkedTo p js (n + 1) z) (sym is) (record {
+next_op p js n ms new j at (left never is) m = subst (λ z. MarkedTo p js (n + 1) z) (sym is) (record {
   marked = λ op. (
     λ c. let k = (m.marked op).0 c in (omega (arith, k.0), k.1),
-    λ k. pick (last_or_before op.0 n k.0) (λ l. (m.marked op).1 (l, k.1)) (λ e. absurd (no (here p js n j op at e k.1)))
+    λ k. pick (last_or_before op.0 n k.0) (λ l. (m.marked op).1 (l, k.1)) (λ e. absurd (never (here p js n j op at e k.1)))
   );
   rise = m.rise;
 })
@@ -111,7 +111,7 @@ all_marked p js n ms h m op = (λ c. ((m.marked op).0 c).1, λ k. (m.marked op).
 
 -- the body of an operation in memory
 pub body_at : (p : Program) (op : OpId) (m : Method) → slice_get p.ops.items op.0 ≡ Some m → operation_body (program_view p) op ≡ statements_view m.body.stmts.items
-body_at p op m e = ap body_of (slice_get-map method_view p.ops.items op.0 ∙ rw e refl)
+body_at p op m e = ap body_of (slice_get-map method_view p.ops.items op.0 ∙ ap (option_map method_view) e)
 
 -- Loops
 
@@ -126,28 +126,28 @@ abbrev LoopHere : PlainProgram → Statement → JudgedLoop → Type 0
 LoopHere p s l = AllCommute l.judged × IsSeparated p l.judged.extent.written true s
 
 loop_here : (p : PlainProgram) (loops : List Statement) (ls : List JudgedLoop) (k : ℕ) (s : Statement) (l : JudgedLoop) (n : ℕ) → slice_get loops k ≡ Some s → slice_get ls k ≡ Some l → (m : CommutingLoop p loops ls n) → m.place ≡ k → LoopHere p s l × (l.site.0 ≡ n)
-loop_here p loops ls k s l n at found m e =
+loop_here p loops ls k s l n at there m e =
     let one : m.loop ≡ s = same_Some m.loop s (sym m.stands ∙ ap (slice_get loops) e ∙ at) in
-    let two : m.judged ≡ l = same_Some m.judged l (sym m.found ∙ ap (slice_get ls) e ∙ found) in
+    let two : m.judged ≡ l = same_Some m.judged l (sym m.found ∙ ap (slice_get ls) e ∙ there) in
     let both : LoopHere p m.loop l = subst (λ z. LoopHere p m.loop z) two (m.commute, m.constant) in
     (subst (λ z. LoopHere p z l) one both, subst (λ (z : JudgedLoop). z.site.0 ≡ n) two m.number)
 
 pub next_site : (p : PlainProgram) (loops : List Statement) (ls : List JudgedLoop) (k : ℕ) (ns new : List ℕ) (s : Statement) (l : JudgedLoop) → slice_get loops k ≡ Some s → slice_get ls k ≡ Some l
     → Noted (LoopHere p s l) ns new l.site.0 → SitesTo p loops ls k ns → SitesTo p loops ls (k + 1) new
-next_site p loops ls k ns new s l at found (left no is) m = subst (λ z. SitesTo p loops ls (k + 1) z) (sym is) (record {
+next_site p loops ls k ns new s l at there (left never is) m = subst (λ z. SitesTo p loops ls (k + 1) z) (sym is) (record {
   sites = λ n. (
     λ c. let w = (m.sites n).0 c in (w.0, omega (arith, w.1)),
-    λ w. pick (last_or_before w.0.place k w.1) (λ h. (m.sites n).1 (w.0, h)) (λ e. absurd (no (loop_here p loops ls k s l n at found w.0 e).0))
+    λ w. pick (last_or_before w.0.place k w.1) (λ h. (m.sites n).1 (w.0, h)) (λ e. absurd (never (loop_here p loops ls k s l n at there w.0 e).0))
   );
 })
-next_site p loops ls k ns new s l at found (taken sure is) m = subst (λ z. SitesTo p loops ls (k + 1) z) (sym is) (record {
+next_site p loops ls k ns new s l at there (taken sure is) m = subst (λ z. SitesTo p loops ls (k + 1) z) (sym is) (record {
   sites = λ n. (
     λ c. pick (Contains-append_cases ns (l.site.0 ∷ []) n c)
     (λ z. let w = (m.sites n).0 z in (w.0, omega (arith, w.1)))
-    (λ z. (record { place = k; loop = s; judged = l; stands = at; found = found; number = alone l.site.0 n z; commute = sure.0; constant = sure.1 }, omega arith)),
+    (λ z. (record { place = k; loop = s; judged = l; stands = at; found = there; number = alone l.site.0 n z; commute = sure.0; constant = sure.1 }, omega arith)),
     λ w. pick (last_or_before w.0.place k w.1)
     (λ h. Contains-append_left ns (l.site.0 ∷ []) n ((m.sites n).1 (w.0, h)))
-    (λ e. subst (λ z. Contains (ns ++ l.site.0 ∷ []) z) (loop_here p loops ls k s l n at found w.0 e).1 (Contains-append_right ns (l.site.0 ∷ []) l.site.0 (front l.site.0 [])))
+    (λ e. subst (λ z. Contains (ns ++ l.site.0 ∷ []) z) (loop_here p loops ls k s l n at there w.0 e).1 (Contains-append_right ns (l.site.0 ∷ []) l.site.0 (front l.site.0 [])))
   );
 })
 

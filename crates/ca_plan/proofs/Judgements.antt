@@ -13,6 +13,13 @@ use Rattle.ca_plan.specs.Loops.{seen}
 use Rattle.ca_plan.specs.Plans.{Judged, JudgedLoop, IsJudgedLoop}
 use Rattle.ca_plan.specs.Told.{JudgedOp, WhollyTold, shared}
 
+pub none_at : {A : Type 0} (xs : List A) → xs ≡ [] → (n : ℕ) (x : A) → slice_get xs n ≡ Some x → ⊥
+none_at [] e n x f = cc
+none_at (y ∷ xs) e n x f = cc
+
+pub none_shared : (js : List (Rc Judged Global)) → js ≡ [] → (n : ℕ) (j : Judged) → slice_get (shared js) n ≡ Some j → ⊥
+none_shared js e n j f = none_at (shared js) (ap shared e) n j f
+
 -- what holds of each item holds with one more behind them
 pub pushed : {A : Type 0} (P : ℕ → A → Type 0) (vs : List A) (v : A) → ((n : ℕ) (w : A) → slice_get vs n ≡ Some w → P n w) → P (length vs) v → (n : ℕ) (w : A) → slice_get (vs ++ v ∷ []) n ≡ Some w → P n w
 pushed P [] v each last zero w e = subst (P 0) (same_Some v w e) last

@@ -1,5 +1,5 @@
 -- From the parts of a plan to the plan.
-use Rattle.std.proofs.Common.{◌≡◌, ◌≢◌, ◌↔◌, ℕ, ◌<◌, true, List, [], ◌∷◌, ◌++◌, Option, Some, None, Result, Ok, Err, IfOk, Global, length, map, refl, sym, ap, ◌∙◌, subst, arith}
+use Rattle.std.proofs.Common.{◌≡◌, ◌≢◌, ◌↔◌, ℕ, zero, suc, ◌<◌, true, false, List, [], ◌∷◌, ◌++◌, Option, Some, None, Result, Ok, Err, IfOk, Global, length, map, refl, sym, ap, ◌∙◌, subst, arith}
 use Rattle.std.specs.Prelude.{slice_get, Contains}
 use Rattle.std.proofs.lemmas.Bool.{eq-eqb}
 use Rattle.std.proofs.lemmas.List.{length-map}
@@ -24,7 +24,7 @@ use Rattle.ca_plan.specs.declared.plans.PairVerdict.{PairVerdict}
 use Rattle.ca_plan.specs.Pairs.{Pair, of_one_class, is_one_class, pairs_in}
 use Rattle.ca_plan.specs.Plans.{Judged, JudgedLoop, IsJudged, IsJudgedLoop, AnyOrder, IsMarked, IsMarkedLoop, MarksOf, PlainPlan, PlanOf, LoopBefore, pair_of, op_at, call_loops, call_loops_of}
 use Rattle.ca_plan.specs.Told.{PairTold, AllTold, AllWhollyTold, WhollyTold, JudgedOp, PlanTold, AllCommute, CommutingOp, CommutingLoop, shared}
-use Rattle.ca_plan.proofs.Sound.{found, Among, stands_among}
+use Rattle.ca_plan.proofs.Sound.{found, of_form}
 
 -- Extents
 
@@ -128,7 +128,7 @@ is_plan p js ls ms sites o l m = record {
 
 pub found_at : {A : Type 0} (xs : List A) (x : A) → Contains xs x → (n : ℕ) × (slice_get xs n ≡ Some x)
 found_at [] x (k, below, is) = absurd (omega (arith, below))
-found_at (y ∷ xs) x (0, below, is) = (0, ap Some is)
+found_at (y ∷ xs) x (zero, below, is) = (0, ap Some is)
 found_at (y ∷ xs) x (suc k, below, is) = let r = found_at xs x (k, omega (arith, below), is) in (suc r.0, r.1)
 
 pub all_told : (p : PlainProgram) (js : List Judged) (ls : List JudgedLoop) (ms : List OpId) (sites : List LoopId) → AreOps p js → AreLoops p ls → PlanTold p (plan_with js ls ms sites)
@@ -143,8 +143,7 @@ pub none_kept : (p : PlainProgram) → AllWhollyTold p []
 none_kept p = λ j c. absurd (none j c)
 
 pub each_is : (xs loops : List Statement) → loops ≡ call_loops_of xs → (n : ℕ) (s : Statement) → slice_get loops n ≡ Some s → is_call_loop s ≡ true
-unfolding Among
-each_is xs loops is n s e = (stands_among xs n s (subst (λ z. slice_get z n ≡ Some s) is e)).1
+each_is xs loops is n s e = of_form xs n s (subst (λ z. slice_get z n ≡ Some s) is e)
 
 pub are_ops : (p : Program) (js : List (Rc Judged Global)) → length js ≡ length p.ops.items → ((n : ℕ) (j : Judged) → slice_get (shared js) n ≡ Some j → JudgedOp (program_view p) n j) → AreOps (program_view p) (shared js)
 are_ops p js many each = record { as_many = length-map js (λ (r : Rc Judged Global). r.value) ∙ (many ∙ sym (length-map p.ops.items method_view)); each = each }

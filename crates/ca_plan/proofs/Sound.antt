@@ -102,7 +102,7 @@ parallel_from p roots j right is any = record {
 
 -- Marks
 
-pub Among : List Statement → Statement → Type 0
+Among : List Statement → Statement → Type 0
 Among xs loop = Contains xs loop × (is_call_loop loop ≡ true)
 
 more : (x : Statement) (xs : List Statement) (loop : Statement) → Among xs loop → Among (x ∷ xs) loop
@@ -119,7 +119,7 @@ by_form x xs ys loop n true f i later = first x xs ys loop n f i later
 by_form x xs ys loop n false f i later = more x xs loop (later n i)
 
 -- a call loop of some loops is one of them, and of the form
-pub stands_among : (xs : List Statement) (n : ℕ) (loop : Statement) → slice_get (call_loops_of xs) n ≡ Some loop → Among xs loop
+stands_among : (xs : List Statement) (n : ℕ) (loop : Statement) → slice_get (call_loops_of xs) n ≡ Some loop → Among xs loop
 stands_among [] n loop e = absurd cc
 stands_among (x ∷ xs) n loop e = by_form x xs (call_loops_of xs) loop n (is_call_loop x) refl e (λ m i. stands_among xs m loop i)
 
@@ -127,6 +127,11 @@ pub there : {A : Type 0} (xs : List A) (n : ℕ) (x : A) → slice_get xs n ≡ 
 there [] n x e = absurd cc
 there (y ∷ xs) zero x e = let s : y ≡ x = cc in subst (λ z. Contains (y ∷ xs) z) s (front y xs)
 there (y ∷ xs) (suc n) x e = Contains-append_right (y ∷ []) xs x (there xs n x e)
+
+-- so it is of the form
+pub of_form : (xs : List Statement) (n : ℕ) (loop : Statement) → slice_get (call_loops_of xs) n ≡ Some loop → is_call_loop loop ≡ true
+unfolding Among
+of_form xs n loop e = (stands_among xs n loop e).1
 
 pub marks_are_sound : (p : PlainProgram) (plan : PlainPlan) → CommuteAsTold p plan → OneLoopEach p → PlanOf p plan → SoundMarks p plan.marks
 unfolding Among parallel_from

@@ -7,6 +7,7 @@ use Rattle.std.proofs.lemmas.List.Elements.{Contains-append_cases}
 use Rattle.ca_program.specs.declared.program.OpId.{OpId}
 use Rattle.ca_program.specs.Plain.{PlainProgram}
 use Rattle.ca_parallel.specs.Extents.{Extent}
+use Rattle.ca_parallel.specs.ExtentsOf.{ExtentOf}
 use Rattle.ca_section.proofs.Members.{pick, alone, none}
 use Rattle.ca_plan.specs.declared.plans.PairVerdict.{PairVerdict}
 use Rattle.ca_plan.specs.Pairs.{Pair, of_one_class, pairs_with, pairs_in}
@@ -105,8 +106,10 @@ ends_in p x old new ops i h t =
 
 -- a whole extent
 
-pub wholly : (p : PlainProgram) (x : Extent) (vs : List PairVerdict) → Told p x [] vs (pairs_in p x.ops) → WhollyTold p (record { extent = x; pairs = vs })
-wholly p x vs t = record {
+pub wholly : (p : PlainProgram) (roots : List OpId) (x : Extent) (vs : List PairVerdict) → ExtentOf p roots x → Told p x [] vs (pairs_in p x.ops) → WhollyTold p (record { extent = x; pairs = vs })
+wholly p roots x vs is t = record {
+  roots = roots;
+  extent = is;
   on = ap (map pair_of) t.all ∙ t.on;
   each = λ v c. t.each v (subst (λ z. Contains z v) t.all c);
 }

@@ -1,6 +1,6 @@
 -- Items that were tested one after another, and what tests say.
 use Rattle.std.proofs.Common.{◌≡◌, ◌≢◌, ◌↔◌, ◌<◌, ◌+◌, ◌⊎◌, ℕ, Bool, true, false, List, [], ◌∷◌, ◌++◌, length, take, get_or, refl, sym, ap, ◌∙◌, subst, arith}
-use Rattle.std.specs.Prelude.{Contains, IsTrue, not}
+use Rattle.std.specs.Prelude.{Contains, IsTrue}
 use Rattle.std.proofs.lemmas.List.{take_more}
 use Rattle.std.proofs.lemmas.List.Elements.{Contains-get_or, Contains-append_cases}
 use Rattle.ca_verdicts.specs.declared.verdicts.Verdict.TheVariants.{Commutes}
@@ -8,13 +8,9 @@ use Rattle.ca_section.proofs.Members.{pick, alone}
 use Rattle.ca_plan.specs.declared.plans.PairVerdict.{PairVerdict}
 use Rattle.ca_plan.specs.Told.{Noted, taken, left}
 
-pub so : (b : Bool) → not b ≡ false → b ≡ true
-so true e = refl
-so false e = absurd cc
-
-pub not_so : (b : Bool) → not b ≡ true → b ≡ true → ⊥
-not_so true e t = cc
-not_so false e t = cc
+pub not_both : (b : Bool) → b ≡ false → b ≡ true → ⊥
+not_both true e t = cc
+not_both false e t = cc
 
 pub one_there : {A : Type 0} (xs : List A) (i : ℕ) (x : A) → i < length xs → x ≡ get_or xs i x → Contains xs x
 one_there xs i x h is = subst (λ z. Contains xs z) (sym is) (Contains-get_or xs i x h)

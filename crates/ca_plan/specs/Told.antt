@@ -34,6 +34,8 @@ pub record Told (p : PlainProgram) (x : Extent) (old new : List PairVerdict) (pa
 
 -- all pairs of an extent are told
 pub record WhollyTold (p : PlainProgram) (j : Judged) : Type 0 where
+  pub roots : List OpId
+  pub extent : ExtentOf p roots j.extent
   pub on : map pair_of j.pairs ≡ pairs_in p j.extent.ops
   pub each : AllTold p j.extent j.pairs
 

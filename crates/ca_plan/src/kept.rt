@@ -29,11 +29,19 @@ impl Model for Kept {
     ghost view = { λ k. map (λ j. j.value) k.all.items };
 }
 
-/// Whether two extents are equal.
-fn same_extent(a: &Extent, b: &Extent) -> bool
+/// Whether these are the same operations.
+fn same_ops(a: &[OpId], b: &[OpId]) -> bool
     ensures { IsTrue result → a.now ≡ b.now }
 {
-    a.ops() == b.ops() && a.functions() == b.functions() && a.written() == b.written()
+    if a.len() != b.len() {
+        return false;
+    }
+    for i in 0..a.len() {
+        if a[i].0 != b[i].0 {
+            return false;
+        }
+    }
+    true
 }
 
 impl Kept {
@@ -46,13 +54,13 @@ impl Kept {
         }
     }
 
-    /// The one of this extent, if there is one.
+    /// The one with the operations of this extent, if there is one: it is the same extent.
     fn find(&self, extent: &Extent) -> Result<Option<Rc<Judged>>, AllocError>
-        ensures extent { IfOk result (λ found. IfSome found (λ j. j.value.extent ≡ extent.now)) }
+        ensures extent { IfOk result (λ found. IfSome found (λ j. j.value.extent.ops ≡ extent.now.ops)) }
         ensures kept { IfOk result (λ found. IfSome found (λ j. Contains self.now j.value)) }
     {
         for j in &self.all {
-            if same_extent(j.extent(), extent) {
+            if same_ops(j.extent().ops(), extent.ops()) {
                 let shared = j.clone()?;
                 return Ok(Some(shared));
             }

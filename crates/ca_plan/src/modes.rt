@@ -138,10 +138,10 @@ pub fn print_plan<K: Sink>(program: &Program, plan: &Plan, sink: &mut K) -> Resu
     ensures cause { HasCause (K.faults sink.old) (K.faults sink.new) result }
 {
     let mut line = Line::new();
-    if let Err(failed) = add_modes(program, &plan.marks().ops, plan.ops(), &mut line, sink) {
+    if let Err(failed) = add_modes(program, plan.marked_ops(), plan.ops(), &mut line, sink) {
         return Err(failed);
     }
-    if let Err(failed) = add_loop_modes(&plan.marks().loops, plan.loops(), &mut line, sink) {
+    if let Err(failed) = add_loop_modes(plan.marked_loops(), plan.loops(), &mut line, sink) {
         return Err(failed);
     }
     line.flush(sink)

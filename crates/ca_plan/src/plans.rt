@@ -107,6 +107,20 @@ impl Model for Plan {
 }
 
 impl Plan {
+    /// The marked operations.
+    pub fn marked_ops(&self) -> &[OpId]
+        ensures { result.now ≡ self.now.marks.ops }
+    {
+        self.marks.ops.as_slice()
+    }
+
+    /// The marked loops.
+    pub fn marked_loops(&self) -> &[LoopId]
+        ensures { result.now ≡ self.now.marks.loops }
+    {
+        self.marks.loops.as_slice()
+    }
+
     /// The extents of the operations, in order.
     pub fn ops(&self) -> &[Rc<Judged>]
         ensures { shared result.now ≡ self.now.ops }

@@ -2,14 +2,14 @@ use Rattle.std.proofs.Common.{◌≡◌, [], ◌∷◌, length, Some, arith, ap,
 use Rattle.std.specs.Prelude.{slice_get}
 use Rattle.ca_program.specs.View.{program_view, statement_view}
 use Rattle.ca_plan.specs.Loops.{seen}
-use Rattle.ca_plan.proofs.Judgements.{more_loops, more_told, seen_at}
+use Rattle.ca_plan.proofs.Judgements.{more_loops, more_told, none_at, seen_at}
 use Rattle.ca_plan.proofs.judging.judged_loops.Goals as goal
 
 pub loop-n-init : goal.loop-n-init
 loop-n-init c = record {
   as_many = ap length c.new-judged.ensures.items;
-  each = λ n s l e f. absurd cc;
-  told = λ n l e. absurd cc;
+  each = λ n s l e f. absurd (none_at _ c.new-judged.ensures.items n l f);
+  told = λ n l e. absurd (none_at _ c.new-judged.ensures.items n l e);
   kept = c.requires.told;
 }
 

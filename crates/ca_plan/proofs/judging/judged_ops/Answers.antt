@@ -1,12 +1,12 @@
 use Rattle.std.proofs.Common.{◌≡◌, [], ◌∷◌, length, arith, ap, ◌∙◌, length-append}
 use Rattle.ca_program.specs.View.{program_view}
-use Rattle.ca_plan.proofs.Judgements.{more_ops}
+use Rattle.ca_plan.proofs.Judgements.{more_ops, none_shared}
 use Rattle.ca_plan.proofs.judging.judged_ops.Goals as goal
 
 pub loop-n-init : goal.loop-n-init
 loop-n-init c = record {
   as_many = ap length c.new-ops.ensures.items;
-  each = λ n j e. absurd cc;
+  each = λ n j e. absurd (none_shared _ c.new-ops.ensures.items n j e);
   kept = c.requires;
 }
 

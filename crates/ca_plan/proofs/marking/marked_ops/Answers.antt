@@ -16,7 +16,7 @@ loop-n-init c = subst (λ (ms : List OpId). MarkedTo (program_view c.args.progra
 
 pub loop-n-preserved : goal.loop-n-preserved
 loop-n-preserved c =
-    let at : slice_get (shared c.args.ops.now) c.loop-n.n ≡ Some c.deref.result.now = shared_at c.args.ops.now c.loop-n.n c.index-ops-n.result c.deref.result.now (omega (arith)) c.index-ops-n.is c.deref.ensures.value in
+    let at : slice_get (shared c.args.ops.now) c.loop-n.n ≡ Some c.deref.result.now = shared_at c.args.ops.now c.loop-n.n c.index-ops-n.result c.deref.result.now (omega (arith)) c.index-ops-n.is c.deref.ensures in
     next_op (program_view c.args.program.now) (shared c.args.ops.now) c.loop-n.n _ _ c.deref.result.now at c.in_ok-note_op.ensures c.loop-n.invariant
 
 pub returns-clause-marked : goal.returns-clause-marked

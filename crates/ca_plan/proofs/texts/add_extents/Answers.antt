@@ -18,7 +18,7 @@ returns-in-Err-clause-bytes g c =
     let js = shared c.args.ops.now in
     let i = c.loop-op.op in
     let j = c.deref.result.now in
-    let at : slice_get js i ≡ Some j = shared_at c.args.ops.now i c.index-ops-op.result j (omega arith) c.index-ops-op.is c.deref.ensures.value in
+    let at : slice_get js i ≡ Some j = shared_at c.args.ops.now i c.index-ops-op.result j (omega arith) c.index-ops-op.is c.deref.ensures in
     failed _ (extent_text (program_view c.args.program.now) i j) (extents_text (program_view c.args.program.now) (i + 1) (drop (i + 1) js)) (one_extent (program_view c.args.program.now) js i j at) c.loop-op.invariant.texts c.in-Err.ensures.bytes
 
 pub loop-op-preserved : goal.loop-op-preserved
@@ -26,7 +26,7 @@ loop-op-preserved g c =
     let js = shared c.args.ops.now in
     let i = c.loop-op.op in
     let j = c.deref.result.now in
-    let at : slice_get js i ≡ Some j = shared_at c.args.ops.now i c.index-ops-op.result j (omega arith) c.index-ops-op.is c.deref.ensures.value in
+    let at : slice_get js i ≡ Some j = shared_at c.args.ops.now i c.index-ops-op.result j (omega arith) c.index-ops-op.is c.deref.ensures in
     record {
       texts = one_done (extent_text (program_view c.args.program.now) i j) (extents_text (program_view c.args.program.now) (i + 1) (drop (i + 1) js)) (one_extent (program_view c.args.program.now) js i j at) c.loop-op.invariant.texts c.in_default.ensures.bytes.whole;
       later = omega (arith, c.loop-op.invariant.later, c.in_default.ensures.cause.later);

@@ -2,5 +2,5 @@ use Rattle.std.proofs.Common.{refl}
 use Rattle.ca_plan.proofs.Keeping.{one_more}
 use Rattle.ca_plan.proofs.kept.Kept.keep.Goals as goal
 
-pub returns-in_ok-push-clause-kept : goal.returns-in_ok-push-clause-kept
-returns-in_ok-push-clause-kept c = one_more c.self.inside.all.items _ c.in_ok-shared.shared c.args.judged c.args.self.now _ c.in_ok-push.ensures.items (cc (c.in_ok-shared.ensures.cases, c.in_ok-judged.ensures)) c.self.view_is refl
+pub returns-clause-kept : goal.returns-clause-kept
+returns-clause-kept c = one_more c.self.inside.all.items _ c.in_ok-shared.shared c.args.judged c.args.self.now _ c.in_ok-push.ensures.items (cc (c.in_ok-shared.ensures.cases, c.in_ok-judged.ensures)) c.self.view_is refl
