@@ -1,3 +1,2 @@
 pub mod Annotations
-pub mod BadMarks
 pub mod Seen

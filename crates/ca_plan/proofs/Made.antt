@@ -62,7 +62,7 @@ from_mark p js op m = record { judged = m.judged; found = m.found; calls = m.cal
 same_site : (x : Statement) (i k : LoopId) → i.0 ≡ k.0 → HasSite x i → HasSite x k
 same_site x i k e h = let s : i ≡ k = λ z. record { 0 = e z } in subst (λ z. HasSite x z) s h
 
-site_is : (x : Statement) (i k : LoopId) → HasSite x i → HasSite x k → i.0 ≡ k.0
+pub site_is : (x : Statement) (i k : LoopId) → HasSite x i → HasSite x k → i.0 ≡ k.0
 site_is (for_loop line site part first c next body) i k h g = ap (λ (z : LoopId). z.0) (sym h ∙ g)
 site_is x i k h g = absurd h
 

@@ -153,9 +153,12 @@ same_loops one p (s ∷ ss) (x ∷ xs) (y ∷ ys) e f a b =
     ap₂ (λ u v. u ++ v) (loop_line p x y (same_loop one p s x y (a 0 s x refl refl) (b 0 s y refl refl)))
     (same_loops one p ss xs ys (omega (arith, e)) (omega (arith, f)) (loops_rest p s ss x xs a) (loops_rest p s ss y ys b))
 
+from_zero : (p : PlainProgram) (js : List Judged) → ((k : ℕ) (j : Judged) → slice_get js k ≡ Some j → IsJudged p (op_at k ∷ []) j) → Each p 0 js
+from_zero p js each k j e = let m : k ≡ 0 + k = omega arith in subst (λ z. IsJudged p (op_at z ∷ []) j) m (each k j e)
+
 pairs_by : OneVerdict → (p : PlainProgram) (x y : PlainPlan) → PlanOf p x → PlanOf p y → pairs_text p x ≡ pairs_text p y
 pairs_by one p x y a b =
-    ap₂ (λ s t. s ++ t) (same_extents one p 0 x.ops y.ops (a.as_many ∙ sym b.as_many) (λ k j e. a.ops k j e) (λ k j e. b.ops k j e))
+    ap₂ (λ s t. s ++ t) (same_extents one p 0 x.ops y.ops (a.as_many ∙ sym b.as_many) (from_zero p x.ops a.ops) (from_zero p y.ops b.ops))
     (same_loops one p (call_loops p) x.loops y.loops a.each_loop b.each_loop a.loops b.loops)
 
 -- Marks

@@ -23,7 +23,7 @@ pub record Doing (old now : Option (List ℕ)) (pending line text rest : List �
   pub went : Went old now (pending ++ done) line
 
 pub begun : (old : Option (List ℕ)) (pending text : List ℕ) → Doing old old pending pending text text
-begun old pending text = record { done = []; whole = refl; went = (adds_nothing {E = ℕ} old pending 0).whole }
+begun old pending text = record { done = []; whole = refl; went = (adds_nothing {T = ℕ} {E = ℕ} old pending 0).whole }
 
 pub one_done : {old mid now : Option (List ℕ)} {pending line last text rest : List ℕ} (item more : List ℕ) → rest ≡ item ++ more → Doing old mid pending line text rest → Went mid now (line ++ item) last → Doing old now pending last text more
 one_done {old} {mid} {now} {pending} {line} {last} {text} {rest} item more e d w = record {
