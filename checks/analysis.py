@@ -177,9 +177,9 @@ class Plan:
     def __init__(self, tree):
         self.program = program = Program(tree)
         self.ops = [(op, Extent(program, [op])) for op in program.ops]
-        bodies = [*[op.body for op in program.ops], program.main.body]
-        inner = [s for body in bodies for top in body for s in statements_in(top) if s[0] == "for"]
-        self.loops = [(s, Extent(program, calls_in([s]))) for s in inner if is_call_loop(s)]
+        bodies = [op.body for op in program.ops] + [program.main.body]
+        loops = [s for body in bodies for top in body for s in statements_in(top) if s[0] == "for" and is_call_loop(s)]
+        self.loops = [(s, Extent(program, calls_in([s]))) for s in loops]
         self.verdicts = {extent: extent.verdicts() for _, extent in self.ops + self.loops}
         self.marked_ops = [op for op, x in self.ops if calls_in(op.body) and self.is_free(x)]
         self.marked_loops = [s for s, x in self.loops if self.is_free(x) and not x.offence([s], behind=True)]

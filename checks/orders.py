@@ -1,7 +1,7 @@
 """Pairs that are said to commute, run in both orders on random objects.
 
-An operation's body is run on its receiver's object alone. Calls of operations are listed in place of being made, and all
-other objects are as they were at the start.
+An operation's body is run on its receiver's object alone. Calls of operations are listed in place of being made, and
+all other objects are as they were at the start.
 """
 
 from collections import Counter

@@ -12,8 +12,7 @@ A statement has its line behind this word. A right side is an expression, or Non
     ("put_item", line, field, i, op, right) ("invoke", line, e, method, arguments) ("if", line, e, yes, no)
     ("while", line, e, body) ("for", line, first, e, next, body, counter) ("return", line, e) ("print", line, e)
 
-The counter of a `for` is the local that its first part declares, or None. Each `for` has the statement of the tree in
-`Program.sources`, and so has each call, by its id.
+The counter of a `for` is the local that its first part declares, or None.
 """
 
 STARTS = {"long": ("number", 0), "bool": ("truth", False)}
@@ -38,7 +37,8 @@ class Method:
 class Program:
     """The operations and value methods in the order of the text, and `main` as a method of no class.
 
-    `compared` keeps what comparing pairs of operations said.
+    `sources` has each call statement and each `for`, by the id of the call or of the first part in the tree. `compared`
+    keeps what comparing pairs of operations said.
     """
 
     def __init__(self, tree):
@@ -57,7 +57,7 @@ class Program:
 
 
 class Resolver:
-    """Resolves the body of a method. `scopes` has the visible locals, the innermost block last."""
+    """Resolves the body of a method. `scopes` has the visible locals, those of the innermost block last."""
 
     def __init__(self, program, method):
         self.program, self.method, self.scopes = program, method, []
@@ -106,16 +106,15 @@ class Resolver:
         return (word, line, *place[1:], op, self.right(right))
 
     def call_statement(self, line, call):
-        found = ("invoke", line, *self.expression(call)[1:])
-        return self.kept(found, call)
+        return self.kept(("invoke", line, *self.expression(call)[1:]), call)
 
     def kept(self, found, node):
         self.program.sources[id(node)] = found
         return found
 
     def if_statement(self, line, condition, yes, no):
-        other = ("block", line, []) if no is None else None
-        return ("if", line, self.expression(condition), self.statement(yes), other or self.statement(no))
+        parts = self.expression(condition), self.statement(yes)
+        return ("if", line, *parts, self.statement(no or ("empty", line)))
 
     def while_statement(self, line, condition, body):
         return ("while", line, self.expression(condition), self.statement(body))

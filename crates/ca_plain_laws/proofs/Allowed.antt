@@ -9,7 +9,7 @@ use Rattle.ca_meaning.specs.Functions.{body_of}
 use Rattle.ca_parallel.specs.Separable.{MayAccess, IsClean, AreClean, holds_call, IsSeparated, AreSeparated, Separable}
 use Rattle.ca_symbolic.specs.OtherLoops.{other_loop, other_loop_in}
 use Rattle.ca_symbolic.specs.Runs.{first_other_loop}
-use Rattle.ca_plain_laws.specs.PlainPairs.{IsLiteral, a_number, a_truth, a_null, IsAtom, a_literal, the_receiver, a_parameter, a_constant, IsProduct, an_atom, times, IsSum, a_product, plus, AreShortSums, Kind, IsUpdateOf, adds, takes_off, puts_sum, puts_difference, multiplies, puts_product, adds_to_item, puts_item_sum, puts_literal, AreCalls, no_calls, call_and, AreUpdatesAndCalls, calls, update_and}
+use Rattle.ca_plain_laws.specs.PlainPairs.{IsLiteral, a_number, a_truth, a_null, IsAtom, a_literal, the_receiver, a_parameter, a_constant, IsProduct, an_atom, times, IsSum, a_product, plus, AreShortSums, Kind, IsUpdateOf, adds, takes_off, puts_sum, puts_difference, multiplies, puts_product, adds_to_item, puts_item_sum, takes_off_item, puts_item_difference, puts_literal, AreCalls, no_calls, call_and, AreUpdatesAndCalls, calls, update_and}
 use Rattle.ca_plain_laws.specs.Laws.{PlainPairsAreSeparable, PlainPairsHaveNoLoops}
 
 module _ (p : PlainProgram) (written : List FieldId) (m : PlainMethod) where
@@ -49,6 +49,8 @@ module _ (p : PlainProgram) (written : List FieldId) (m : PlainMethod) where
   update_separated (puts_product line e h) = (tt, (tt, tt, atom_clean false h))
   update_separated (adds_to_item line i e h g) = (tt, sum_clean false h.0, sum_clean false g.0)
   update_separated (puts_item_sum line i e h g) = (tt, sum_clean false h.0, (tt, (tt, sum_clean false h.0), sum_clean false g.0))
+  update_separated (takes_off_item line i e h g) = (tt, sum_clean false h.0, sum_clean false g.0)
+  update_separated (puts_item_difference line i e h g) = (tt, sum_clean false h.0, (tt, (tt, sum_clean false h.0), sum_clean false g.0))
   update_separated (puts_literal line e h) = (tt, literal_clean false h)
 
   calls_nothing : {f : FieldId} {k : Kind} {x : Statement} → IsUpdateOf written m f k x → holds_call x ≡ false
@@ -60,6 +62,8 @@ module _ (p : PlainProgram) (written : List FieldId) (m : PlainMethod) where
   calls_nothing (puts_product line e h) = refl
   calls_nothing (adds_to_item line i e h g) = refl
   calls_nothing (puts_item_sum line i e h g) = refl
+  calls_nothing (takes_off_item line i e h g) = refl
+  calls_nothing (puts_item_difference line i e h g) = refl
   calls_nothing (puts_literal line e h) = refl
 
   calls_separated : (called : Bool) {xs : Statements} → AreCalls written m xs → AreSeparated p written called xs
@@ -80,6 +84,8 @@ module _ (p : PlainProgram) (written : List FieldId) (m : PlainMethod) where
   no_loop (puts_product line e h) = refl
   no_loop (adds_to_item line i e h g) = refl
   no_loop (puts_item_sum line i e h g) = refl
+  no_loop (takes_off_item line i e h g) = refl
+  no_loop (puts_item_difference line i e h g) = refl
   no_loop (puts_literal line e h) = refl
 
   no_loop_in_calls : {xs : Statements} → AreCalls written m xs → other_loop_in xs ≡ None

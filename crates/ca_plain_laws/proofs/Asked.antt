@@ -1,18 +1,18 @@
 -- What a plain body demands, and under no condition: index checks, and what its calls demand.
 use Rattle.std.proofs.Common.{◌≡◌, ℕ, List, [], ◌∷◌, ◌++◌, refl, sym, ap, ap₂, ◌∙◌}
 use Rattle.ca_tree.specs.declared.tree.AssignOp.TheVariants.{Put}
-use Rattle.ca_tree.specs.declared.tree.BinaryOp.TheVariants.{Plus}
+use Rattle.ca_tree.specs.declared.tree.BinaryOp.TheVariants.{Plus, Minus}
 use Rattle.ca_program.specs.declared.program.FieldId.{FieldId}
 use Rattle.ca_program.specs.declared.program.OpId.{OpId}
 use Rattle.ca_program.specs.Plain.{PlainProgram, PlainMethod, Expression, Expressions, own_item, binary, Statement, Statements, invoke}
-use Rattle.ca_norm.specs.Terms.{PlainTerm, add, sub, mul, add_at}
+use Rattle.ca_norm.specs.Terms.{PlainTerm, add, sub, neg, mul, add_at}
 use Rattle.ca_symbolic.specs.States.{State, term_at, PlainDemand, demand, not_null, in_range, invokes}
 use Rattle.ca_symbolic.specs.Execution.{term_of, array_term, after}
 use Rattle.ca_symbolic.specs.Demands.{terms_in, demanded, demanded_all}
 use Rattle.ca_symbolic.specs.Made.{steps_made}
-use Rattle.ca_plain_laws.specs.PlainPairs.{Kind, IsAtom, a_literal, AreShortSums, IsUpdateOf, adds, takes_off, puts_sum, puts_difference, multiplies, puts_product, adds_to_item, puts_item_sum, puts_literal, AreCalls, no_calls, call_and, AreUpdatesAndCalls, calls, update_and}
+use Rattle.ca_plain_laws.specs.PlainPairs.{Kind, IsAtom, a_literal, AreShortSums, IsUpdateOf, adds, takes_off, puts_sum, puts_difference, multiplies, puts_product, adds_to_item, puts_item_sum, takes_off_item, puts_item_difference, puts_literal, AreCalls, no_calls, call_and, AreUpdatesAndCalls, calls, update_and}
 use Rattle.ca_plain_laws.proofs.Atoms.{Agree, atom_same, sum_same, sums_same, atom_free, sum_free, sums_free, atom_unguarded, sum_unguarded}
-use Rattle.ca_plain_laws.proofs.Updates.{changed, change_of, item_sum}
+use Rattle.ca_plain_laws.proofs.Updates.{changed, change_of, item_sum, item_difference}
 use Rattle.ca_plain_laws.proofs.Kept.{agree_then, agree_back, after_agrees}
 
 module _ (p : PlainProgram) (written : List FieldId) (m : PlainMethod) where
@@ -29,6 +29,8 @@ module _ (p : PlainProgram) (written : List FieldId) (m : PlainMethod) where
   asked s g (puts_product line e h) = []
   asked s g {f} (adds_to_item line i e h k) = index_check s g f i ∷ []
   asked s g {f} (puts_item_sum line i e h k) = index_check s g f i ∷ index_check s g f i ∷ []
+  asked s g {f} (takes_off_item line i e h k) = index_check s g f i ∷ []
+  asked s g {f} (puts_item_difference line i e h k) = index_check s g f i ∷ index_check s g f i ∷ []
   asked s g (puts_literal line e h) = []
 
   pub demanded_is : (s : State) (g : PlainTerm) {f : FieldId} {k : Kind} {x : Statement} (u : IsUpdateOf written m f k x) → demanded p s g x ≡ asked s g u
@@ -41,6 +43,10 @@ module _ (p : PlainProgram) (written : List FieldId) (m : PlainMethod) where
   demanded_is s g {f} (adds_to_item line i e h k) =
       ap₂ (λ xs ys. xs ++ (index_check s g f i ∷ ys)) (sum_free p written m s g h.0) (sum_free p written m s g k.0)
   demanded_is s g {f} (puts_item_sum line i e h k) =
+      ap₂ (λ xs ys. xs ++ (index_check s g f i ∷ ((xs ++ (index_check s g f i ∷ [])) ++ ys))) (sum_free p written m s g h.0) (sum_free p written m s g k.0)
+  demanded_is s g {f} (takes_off_item line i e h k) =
+      ap₂ (λ xs ys. xs ++ (index_check s g f i ∷ ys)) (sum_free p written m s g h.0) (sum_free p written m s g k.0)
+  demanded_is s g {f} (puts_item_difference line i e h k) =
       ap₂ (λ xs ys. xs ++ (index_check s g f i ∷ ((xs ++ (index_check s g f i ∷ [])) ++ ys))) (sum_free p written m s g h.0) (sum_free p written m s g k.0)
   demanded_is s g (puts_literal line e h) = atom_free p written m s g (a_literal h)
 
@@ -62,6 +68,9 @@ module _ (p : PlainProgram) (written : List FieldId) (m : PlainMethod) where
   asked_same s t g h (puts_product line e k) = refl
   asked_same s t g {f} h (adds_to_item line i e k l) = ap (λ x. demand g (in_range f) (x ∷ []) ∷ []) (sum_same p written m s t h k.0)
   asked_same s t g {f} h (puts_item_sum line i e k l) =
+      ap (λ x. demand g (in_range f) (x ∷ []) ∷ demand g (in_range f) (x ∷ []) ∷ []) (sum_same p written m s t h k.0)
+  asked_same s t g {f} h (takes_off_item line i e k l) = ap (λ x. demand g (in_range f) (x ∷ []) ∷ []) (sum_same p written m s t h k.0)
+  asked_same s t g {f} h (puts_item_difference line i e k l) =
       ap (λ x. demand g (in_range f) (x ∷ []) ∷ demand g (in_range f) (x ∷ []) ∷ []) (sum_same p written m s t h k.0)
   asked_same s t g h (puts_literal line e k) = refl
 
@@ -96,4 +105,9 @@ module _ (p : PlainProgram) (written : List FieldId) (m : PlainMethod) where
   step_is s g {f} (puts_item_sum line i e h k) =
       ap₂ (λ xs ys. xs ++ ((xs ++ ys) ++ (array_term p s f i Put (binary Plus (own_item f i) e) ∷ []))) (sum_unguarded p written m s g h.0) (sum_unguarded p written m s g k.0)
       ∙ ap (λ t. t ∷ []) (item_sum p written m s f i e)
+  step_is s g {f} (takes_off_item line i e h k) =
+      ap₂ (λ xs ys. xs ++ (ys ++ (add_at (term_at s.fields f.field) (term_of p s i) (neg (term_of p s e)) ∷ []))) (sum_unguarded p written m s g h.0) (sum_unguarded p written m s g k.0)
+  step_is s g {f} (puts_item_difference line i e h k) =
+      ap₂ (λ xs ys. xs ++ ((xs ++ ys) ++ (array_term p s f i Put (binary Minus (own_item f i) e) ∷ []))) (sum_unguarded p written m s g h.0) (sum_unguarded p written m s g k.0)
+      ∙ ap (λ t. t ∷ []) (item_difference p written m s f i e)
   step_is s g {f} (puts_literal line e h) = ap (λ xs. xs ++ (term_of p s e ∷ [])) (atom_unguarded p written m s g (a_literal h))

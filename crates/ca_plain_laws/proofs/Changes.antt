@@ -17,12 +17,12 @@ use Rattle.ca_forms.specs.Products.{times}
 use Rattle.ca_forms.specs.Rules.{minus as opposite, gathered}
 use Rattle.ca_forms.specs.ArrayRules.{added_at}
 use Rattle.ca_forms.proofs.Gathered.{gathered_same, append_same}
-use Rattle.ca_norm.specs.Terms.{PlainTerm, number, truth, null, sort_of}
+use Rattle.ca_norm.specs.Terms.{PlainTerm, number, truth, null, sort_of, neg}
 use Rattle.ca_norm.specs.Forms.{expand, pointer_of, array_of, form_at, norm}
 use Rattle.ca_norm.proofs.SumsCommute.{arrays_commute}
 use Rattle.ca_symbolic.specs.States.{State}
 use Rattle.ca_symbolic.specs.Execution.{term_of}
-use Rattle.ca_plain_laws.specs.PlainPairs.{Kind, sums, products, item_sums, literal, IsLiteral, a_number, a_truth, a_null, IsUpdateOf, adds, takes_off, puts_sum, puts_difference, multiplies, puts_product, adds_to_item, puts_item_sum, puts_literal, AreUpdatesAndCalls, calls, update_and}
+use Rattle.ca_plain_laws.specs.PlainPairs.{Kind, sums, products, item_sums, literal, IsLiteral, a_number, a_truth, a_null, IsUpdateOf, adds, takes_off, puts_sum, puts_difference, multiplies, puts_product, adds_to_item, puts_item_sum, takes_off_item, puts_item_difference, puts_literal, AreUpdatesAndCalls, calls, update_and}
 use Rattle.ca_plain_laws.proofs.Atoms.{IsSimple, simple_number, simple_truth, simple_null, simple_atom, IsBegun, atom_simple}
 use Rattle.ca_plain_laws.proofs.Updates.{Change, plus, minus, by, at, to, changed, changed_all, and_if, change_of, changes_at}
 use Rattle.ca_plain_laws.proofs.Powers.{no_power, one_power, IsFactor, no_factor, one_factor, products_swap}
@@ -145,6 +145,8 @@ module _ (p : PlainProgram) (written : List FieldId) (m : PlainMethod) where
   update_suits s h (puts_product line e g) = suits_by (term_of p s e) (atom_simple p written m s h g)
   update_suits s h (adds_to_item line i e g l) = suits_at (term_of p s i) (term_of p s e)
   update_suits s h (puts_item_sum line i e g l) = suits_at (term_of p s i) (term_of p s e)
+  update_suits s h (takes_off_item line i e g l) = suits_at (term_of p s i) (neg (term_of p s e))
+  update_suits s h (puts_item_difference line i e g l) = suits_at (term_of p s i) (neg (term_of p s e))
   update_suits s h (puts_literal line e g) = suits_to e (term_of p s e) (literal_is s g)
 
   one_suits : (kinds : ℕ → Kind) (b : Bool) (i n : ℕ) (c : Change) (cs : List Change) → nat_eq i n ≡ b → Suits (kinds i) c → AllSuit (kinds n) cs → AllSuit (kinds n) (and_if b c cs)

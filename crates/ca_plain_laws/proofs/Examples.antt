@@ -10,7 +10,7 @@ use Rattle.ca_program.specs.declared.program.LocalId.{LocalId}
 use Rattle.ca_program.specs.declared.program.OpId.{OpId}
 use Rattle.ca_program.specs.declared.program.ValueType.TheVariants as type
 use Rattle.ca_program.specs.Plain.{PlainProgram, PlainMethod, Expression, number, this, local, own, own_item, binary, no_expressions, expression_and, Statement, Statements, put_field, put_item, invoke, no_statements, statement_and}
-use Rattle.ca_plain_laws.specs.PlainPairs.{IsWritten, IsLiteral, a_number, IsAtom, a_literal, the_receiver, a_parameter, a_constant, an_atom, times, IsSum, a_product, plus, nodes_of, IsShortSum, Kind, sums, products, item_sums, literal, IsUpdateOf, adds, takes_off, puts_sum, puts_difference, multiplies, puts_product, adds_to_item, puts_item_sum, puts_literal, AreCalls, no_calls, call_and, AreUpdatesAndCalls, calls, update_and, count_of, IsPlain, IsPlainPair}
+use Rattle.ca_plain_laws.specs.PlainPairs.{IsWritten, IsLiteral, a_number, IsAtom, a_literal, the_receiver, a_parameter, a_constant, an_atom, times, IsSum, a_product, plus, nodes_of, IsShortSum, Kind, sums, products, item_sums, literal, IsUpdateOf, adds, takes_off, puts_sum, puts_difference, multiplies, puts_product, adds_to_item, puts_item_sum, takes_off_item, puts_item_difference, puts_literal, AreCalls, no_calls, call_and, AreUpdatesAndCalls, calls, update_and, count_of, IsPlain, IsPlainPair}
 
 -- class C { public: long s; long q; long a[8]; long k; long c; C *peer; void m(long v, long w) { .. } void n(long v, long w) { .. } };
 abbrev class : ClassId
@@ -53,12 +53,13 @@ body_of_m =
     again 7 (put_field 3 (field 0) Add (wide 99)) (again 8 (put_field 4 (field 1) Mul (local w))
     (again 8 (put_item 5 (field 2) (wide 99) Add (wide 99)) (again 7 (put_field 6 (field 3) Put (number (pos 5))) calls_of_m)))
 
--- s = s - ..; q = q * c; a[..] = a[..] + ..; k = 5; s = s + ..; s -= ..;
+-- s = s - ..; q = q * c; a[..] = a[..] + ..; a[..] = a[..] - ..; a[..] -= ..; k = 5; s = s + ..; s -= ..;
 abbrev body_of_n : Statements
 body_of_n =
     again 10 (put_field 1 (field 0) Put (binary Minus (own (field 0)) (wide 99))) (again 10 (put_field 2 (field 1) Put (binary Times (own (field 1)) (own (field 4))))
-    (again 9 (put_item 3 (field 2) (wide 99) Put (binary Plus (own_item (field 2) (wide 99)) (wide 99))) (again 1 (put_field 4 (field 3) Put (number (pos 5)))
-    (again 1 (put_field 5 (field 0) Put (binary Plus (own (field 0)) (wide 99))) (again 1 (put_field 6 (field 0) Sub (wide 99)) no_statements)))))
+    (again 7 (put_item 3 (field 2) (wide 99) Put (binary Plus (own_item (field 2) (wide 99)) (wide 99)))
+    (again 1 (put_item 3 (field 2) (wide 99) Put (binary Minus (own_item (field 2) (wide 99)) (wide 99))) (again 1 (put_item 3 (field 2) (wide 99) Sub (wide 99)) (again 1 (put_field 4 (field 3) Put (number (pos 5)))
+    (again 1 (put_field 5 (field 0) Put (binary Plus (own (field 0)) (wide 99))) (again 1 (put_field 6 (field 0) Sub (wide 99)) no_statements)))))))
 
 abbrev method : Statements → PlainMethod
 method body = record {
@@ -154,8 +155,9 @@ module _ (body : Statements) where
   n_body : AreUpdatesAndCalls written m kinds body_of_n
   n_body =
       many 10 (field 0) s_written (puts_difference 1 (wide 99) short) (many 10 (field 1) q_written (puts_product 2 (own (field 4)) c_is_atom)
-      (many 9 (field 2) a_written (puts_item_sum 3 (wide 99) (wide 99) short short) (many 1 (field 3) k_written (puts_literal 4 (number (pos 5)) (a_number (pos 5)))
-      (many 1 (field 0) s_written (puts_sum 5 (wide 99) short) (many 1 (field 0) s_written (takes_off 6 (wide 99) short) (calls no_calls))))))
+      (many 7 (field 2) a_written (puts_item_sum 3 (wide 99) (wide 99) short short) (many 1 (field 2) a_written (puts_item_difference 3 (wide 99) (wide 99) short short)
+      (many 1 (field 2) a_written (takes_off_item 3 (wide 99) (wide 99) short short) (many 1 (field 3) k_written (puts_literal 4 (number (pos 5)) (a_number (pos 5)))
+      (many 1 (field 0) s_written (puts_sum 5 (wide 99) short) (many 1 (field 0) s_written (takes_off 6 (wide 99) short) (calls no_calls))))))))
 
   no_literal : {o : BinaryOp} {a b : Expression} → IsLiteral (binary o a b) → ⊥
   no_literal h = elim h [ ]

@@ -2,15 +2,15 @@
 use Rattle.std.proofs.Common.{◌≡◌, ℕ, Bool, true, false, ◌&&◌, List, [], ◌∷◌, refl, ap, ap₂}
 use Rattle.std.specs.Prelude.{nat_eq, if◌then◌else◌}
 use Rattle.ca_tree.specs.declared.tree.AssignOp.TheVariants.{Put}
-use Rattle.ca_tree.specs.declared.tree.BinaryOp.TheVariants.{Plus}
+use Rattle.ca_tree.specs.declared.tree.BinaryOp.TheVariants.{Plus, Minus}
 use Rattle.ca_program.specs.declared.program.FieldId.{FieldId}
 use Rattle.ca_program.specs.Plain.{PlainProgram, PlainMethod, Expression, own_item, binary, Statement, Statements}
 use Rattle.ca_program.proofs.Fields.{same_itself}
-use Rattle.ca_norm.specs.Terms.{PlainTerm, add, sub, mul, add_at, put}
+use Rattle.ca_norm.specs.Terms.{PlainTerm, add, sub, neg, mul, add_at, put}
 use Rattle.ca_symbolic.specs.States.{State, term_at}
 use Rattle.ca_symbolic.specs.Execution.{term_of, is_item, array_term, with_field, after}
 use Rattle.ca_symbolic.proofs.Alike.{alike_is_equal}
-use Rattle.ca_plain_laws.specs.PlainPairs.{Kind, IsUpdateOf, adds, takes_off, puts_sum, puts_difference, multiplies, puts_product, adds_to_item, puts_item_sum, puts_literal, AreUpdatesAndCalls, calls, update_and, a_literal}
+use Rattle.ca_plain_laws.specs.PlainPairs.{Kind, IsUpdateOf, adds, takes_off, puts_sum, puts_difference, multiplies, puts_product, adds_to_item, puts_item_sum, takes_off_item, puts_item_difference, puts_literal, AreUpdatesAndCalls, calls, update_and, a_literal}
 use Rattle.ca_plain_laws.proofs.Atoms.{Agree, atom_same, sum_same}
 
 -- a term more is added or taken off, multiplied in, added at an index, or put
@@ -47,6 +47,8 @@ module _ (p : PlainProgram) (written : List FieldId) (m : PlainMethod) where
   change_of s (puts_product line e h) = by (term_of p s e)
   change_of s (adds_to_item line i e h g) = at (term_of p s i) (term_of p s e)
   change_of s (puts_item_sum line i e h g) = at (term_of p s i) (term_of p s e)
+  change_of s (takes_off_item line i e h g) = at (term_of p s i) (neg (term_of p s e))
+  change_of s (puts_item_difference line i e h g) = at (term_of p s i) (neg (term_of p s e))
   change_of s (puts_literal line e h) = to (term_of p s e)
 
   -- those of the field with this number
@@ -62,6 +64,10 @@ module _ (p : PlainProgram) (written : List FieldId) (m : PlainMethod) where
   item_sum s f i e =
       ap (λ b. if b then add_at (term_at s.fields f.field) (term_of p s i) (term_of p s e) else put (term_at s.fields f.field) (term_of p s i) (term_of p s (binary Plus (own_item f i) e))) (item_itself f i)
 
+  pub item_difference : (s : State) (f : FieldId) (i e : Expression) → array_term p s f i Put (binary Minus (own_item f i) e) ≡ add_at (term_at s.fields f.field) (term_of p s i) (neg (term_of p s e))
+  item_difference s f i e =
+      ap (λ b. if b then add_at (term_at s.fields f.field) (term_of p s i) (neg (term_of p s e)) else put (term_at s.fields f.field) (term_of p s i) (term_of p s (binary Minus (own_item f i) e))) (item_itself f i)
+
   pub after_is : (s : State) {f : FieldId} {k : Kind} {x : Statement} (u : IsUpdateOf written m f k x) → after p s x ≡ with_field s f.field (changed (change_of s u) (term_at s.fields f.field))
   after_is s (adds line e h) = refl
   after_is s (takes_off line e h) = refl
@@ -71,6 +77,8 @@ module _ (p : PlainProgram) (written : List FieldId) (m : PlainMethod) where
   after_is s (puts_product line e h) = refl
   after_is s (adds_to_item line i e h g) = refl
   after_is s {f} (puts_item_sum line i e h g) = ap (with_field s f.field) (item_sum s f i e)
+  after_is s (takes_off_item line i e h g) = refl
+  after_is s {f} (puts_item_difference line i e h g) = ap (with_field s f.field) (item_difference s f i e)
   after_is s (puts_literal line e h) = refl
 
   pub change_same : (s t : State) {f : FieldId} {k : Kind} {x : Statement} → Agree written m s t → (u : IsUpdateOf written m f k x) → change_of s u ≡ change_of t u
@@ -82,4 +90,6 @@ module _ (p : PlainProgram) (written : List FieldId) (m : PlainMethod) where
   change_same s t h (puts_product line e g) = ap by (atom_same p written m s t h g)
   change_same s t h (adds_to_item line i e g k) = ap₂ at (sum_same p written m s t h g.0) (sum_same p written m s t h k.0)
   change_same s t h (puts_item_sum line i e g k) = ap₂ at (sum_same p written m s t h g.0) (sum_same p written m s t h k.0)
+  change_same s t h (takes_off_item line i e g k) = ap₂ (λ x y. at x (neg y)) (sum_same p written m s t h g.0) (sum_same p written m s t h k.0)
+  change_same s t h (puts_item_difference line i e g k) = ap₂ (λ x y. at x (neg y)) (sum_same p written m s t h g.0) (sum_same p written m s t h k.0)
   change_same s t h (puts_literal line e g) = ap to (atom_same p written m s t h (a_literal g))

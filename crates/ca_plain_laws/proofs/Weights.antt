@@ -1,5 +1,5 @@
--- No term of a plain pair is too heavy. An update adds at most 801 nodes to a field, no more products than nodes, and one
--- level; the two bodies have 64 statements at most, so a field comes to 51,265 nodes at most, and to 465 levels.
+-- No term of a plain pair is too heavy. An update adds at most 803 nodes to a field, no more products than nodes, and one
+-- level; the two bodies have 64 statements at most, so a field comes to 51,393 nodes at most, and to 466 levels.
 use Rattle.std.proofs.Common.{◌≡◌, ◌≤◌, ℕ, zero, suc, ◌+◌, ◌*◌, true, false, List, [], ◌∷◌, ◌++◌, map, take, drop, pos, refl, sym, ap, ap₂, ◌∙◌, arith, subst, slice_set}
 use Rattle.std.specs.Prelude.{slice_get, nat_lt, ◌||◌, flat_map, Option, Some}
 use Rattle.std.specs.List.{list_any}
@@ -12,7 +12,7 @@ use Rattle.ca_program.specs.declared.program.ValueType.TheVariants as type
 use Rattle.ca_program.specs.Plain.{PlainProgram, PlainMethod, Expression, Expressions, no_expressions, expression_and, Statement, Statements}
 use Rattle.ca_meaning.specs.Functions.{body_of}
 use Rattle.ca_parallel.specs.Extents.{operation_body}
-use Rattle.ca_norm.specs.Terms.{PlainTerm, mul, truth}
+use Rattle.ca_norm.specs.Terms.{PlainTerm, mul, truth, neg}
 use Rattle.ca_norm.specs.Weights.{spread, nodes, depth, weight_of}
 use Rattle.ca_shared_terms.specs.Starts.{sort_of_type, sort_of_slot, starts}
 use Rattle.ca_symbolic.specs.States.{State, term_at, PlainDemand, start_term, parameters, first_locals}
@@ -21,7 +21,7 @@ use Rattle.ca_symbolic.specs.Demands.{terms_in, demanded_all}
 use Rattle.ca_symbolic.specs.Made.{steps_made_all, made_by}
 use Rattle.ca_symbolic.specs.Runs.{begins, executed, is_heavy_by}
 use Rattle.ca_shared_terms.specs.Heavy.{is_heavy}
-use Rattle.ca_plain_laws.specs.PlainPairs.{IsShortSum, AreShortSums, IsConstant, Kind, IsUpdateOf, adds, takes_off, puts_sum, puts_difference, multiplies, puts_product, adds_to_item, puts_item_sum, puts_literal, AreCalls, no_calls, call_and, AreUpdatesAndCalls, calls, update_and, count_of, IsPlain}
+use Rattle.ca_plain_laws.specs.PlainPairs.{IsShortSum, AreShortSums, IsConstant, Kind, IsUpdateOf, adds, takes_off, puts_sum, puts_difference, multiplies, puts_product, adds_to_item, puts_item_sum, takes_off_item, puts_item_difference, puts_literal, AreCalls, no_calls, call_and, AreUpdatesAndCalls, calls, update_and, count_of, IsPlain}
 use Rattle.ca_plain_laws.specs.Laws.{IsLight, PlainPairsAreLight}
 use Rattle.ca_plain_laws.proofs.Atoms.{IsSimple, simple_number, simple_truth, simple_null, simple_atom, one_node, one_product, one_deep, IsBegun, Agree, literal_simple, atom_simple, sum_is_small, atom_unguarded, sums_unguarded}
 use Rattle.ca_plain_laws.proofs.Updates.{Change, plus, minus, by, at, to, changed, change_of, after_is}
@@ -30,17 +30,17 @@ use Rattle.ca_plain_laws.proofs.Asked.{asked, demanded_is, call_is, step_is}
 
 -- Terms
 
--- the term of a short sum
+-- the term of a short sum, or its negation
 pub record IsLow (t : PlainTerm) : Type 0 where
-  pub nodes_few : nodes t ≤ 400
+  pub nodes_few : nodes t ≤ 401
   pub spread_few : spread t ≤ nodes t
-  pub depth_few : depth t ≤ 400
+  pub depth_few : depth t ≤ 401
 
 -- the term of a field behind k updates
 pub record IsBounded (k : ℕ) (t : PlainTerm) : Type 0 where
-  pub nodes_few : nodes t ≤ 1 + 801 * k
+  pub nodes_few : nodes t ≤ 1 + 803 * k
   pub spread_few : spread t ≤ nodes t
-  pub depth_few : depth t ≤ 401 + k
+  pub depth_few : depth t ≤ 402 + k
 
 abbrev IsFine : Change → Type 0
 IsFine (plus x) = IsLow x
@@ -182,6 +182,15 @@ module _ (p : PlainProgram) (written : List FieldId) (m : PlainMethod) where
         depth_few = omega (arith, small.depth_few, g.1);
       }
 
+  negation_low : (s : State) {e : Expression} → IsBegun written m s → IsShortSum written m e → IsLow (neg (term_of p s e))
+  negation_low s h g =
+      let small = sum_is_small p written m s h g.0 in
+      record {
+        nodes_few = omega (arith, small.nodes_are, g.1);
+        spread_few = omega (arith, small.nodes_are, small.spread_few);
+        depth_few = omega (arith, small.depth_few, g.1);
+      }
+
   fine_change : (s : State) {f : FieldId} {k : Kind} {x : Statement} → IsBegun written m s → (u : IsUpdateOf written m f k x) → IsFine (change_of p written m s u)
   fine_change s h (adds line e g) = short_low s h g
   fine_change s h (takes_off line e g) = short_low s h g
@@ -191,6 +200,8 @@ module _ (p : PlainProgram) (written : List FieldId) (m : PlainMethod) where
   fine_change s h (puts_product line e g) = atom_simple p written m s h g
   fine_change s h (adds_to_item line i e g k) = (short_low s h g, short_low s h k)
   fine_change s h (puts_item_sum line i e g k) = (short_low s h g, short_low s h k)
+  fine_change s h (takes_off_item line i e g k) = (short_low s h g, negation_low s h k)
+  fine_change s h (puts_item_difference line i e g k) = (short_low s h g, negation_low s h k)
   fine_change s h (puts_literal line e g) = literal_simple p written m s g
 
   one_step : (k : ℕ) (s : State) {f : FieldId} {q : Kind} {x : Statement} → IsBegun written m s → AreBounded k s → (u : IsUpdateOf written m f q x) → IsBounded (suc k) (changed (change_of p written m s u) (term_at s.fields f.field))
@@ -210,6 +221,9 @@ module _ (p : PlainProgram) (written : List FieldId) (m : PlainMethod) where
   asked_light s g h (puts_product line e k) = tt
   asked_light s g h (adds_to_item line i e k l) = ((low_light (term_of p s i) (short_low s h k), tt), tt)
   asked_light s g h (puts_item_sum line i e k l) =
+      ((low_light (term_of p s i) (short_low s h k), tt), ((low_light (term_of p s i) (short_low s h k), tt), tt))
+  asked_light s g h (takes_off_item line i e k l) = ((low_light (term_of p s i) (short_low s h k), tt), tt)
+  asked_light s g h (puts_item_difference line i e k l) =
       ((low_light (term_of p s i) (short_low s h k), tt), ((low_light (term_of p s i) (short_low s h k), tt), tt))
   asked_light s g h (puts_literal line e k) = tt
 

@@ -68,8 +68,8 @@ AreShortSums written m (expression_and e es) = IsShortSum written m e × AreShor
 
 -- Updates
 
--- how a field is updated: it gets sums added and taken off, it is multiplied, its items get sums added, or it is put to
--- one literal
+-- how a field is updated: it gets sums added and taken off, it is multiplied, its items get sums added and taken off, or
+-- it is put to one literal
 pub data Kind : Type 0 where
   sums : Kind
   products : Kind
@@ -86,6 +86,8 @@ pub data IsUpdateOf (written : List FieldId) (m : PlainMethod) (f : FieldId) : K
   puts_product : (line : ℕ) (e : Expression) → IsAtom written m e → IsUpdateOf written m f products (put_field line f Put (binary Times (own f) e))
   adds_to_item : (line : ℕ) (i e : Expression) → IsShortSum written m i → IsShortSum written m e → IsUpdateOf written m f item_sums (put_item line f i Add e)
   puts_item_sum : (line : ℕ) (i e : Expression) → IsShortSum written m i → IsShortSum written m e → IsUpdateOf written m f item_sums (put_item line f i Put (binary Plus (own_item f i) e))
+  takes_off_item : (line : ℕ) (i e : Expression) → IsShortSum written m i → IsShortSum written m e → IsUpdateOf written m f item_sums (put_item line f i Sub e)
+  puts_item_difference : (line : ℕ) (i e : Expression) → IsShortSum written m i → IsShortSum written m e → IsUpdateOf written m f item_sums (put_item line f i Put (binary Minus (own_item f i) e))
   puts_literal : (line : ℕ) (e : Expression) → IsLiteral e → IsUpdateOf written m f (literal e) (put_field line f Put e)
 
 -- Bodies

@@ -26,8 +26,8 @@ use Rattle.ca_norm.specs.Terms.{PlainTerm}
 use Rattle.ca_norm.specs.Meanings.{operate, Valuation, mean}
 use Rattle.ca_norm.proofs.Valuations.{as_sort}
 use Rattle.ca_shared_terms.specs.Starts.{sort_of_type, sort_of_slot, starts}
+use Rattle.ca_shared_terms.specs.Starts as start
 use Rattle.ca_small_verdicts.specs.Symbolic.{parameter, term_of, fields_after}
-use Rattle.ca_small_verdicts.specs.Symbolic as symbolic
 use Rattle.ca_small_verdicts.proofs.Puts.{put_value, own_puts}
 use Rattle.ca_small_verdicts.proofs.Slots.{write, put_write, read_write, scalar_is_one}
 use Rattle.ca_small_verdicts.proofs.Sorts.{put_type}
@@ -63,7 +63,7 @@ starts_mean v h n (f ∷ fs) (s ∷ ss) e t =
     let there : (k : ℕ) (d : Sort) → v.value d 3 (n + 1 + k) ≡ as_sort d (one_in (slice_get ss k)) = λ k d. ap (v.value d 3) (let i : n + 1 + k ≡ n + suc k = omega arith in i) ∙ e (suc k) d in
     slot_means v n h s f.ty f.length (starts (n + 1) fs) ss here t.0 (starts_mean v h (n + 1) fs ss there t.1)
 
-field_means : (v : Valuation) (ts : List PlainTerm) (f : ℕ) → mean v (symbolic.or_null (slice_get ts f)) ≡ or_null (slice_get (map (mean v) ts) f)
+field_means : (v : Valuation) (ts : List PlainTerm) (f : ℕ) → mean v (start.or_null (slice_get ts f)) ≡ or_null (slice_get (map (mean v) ts) f)
 field_means v [] f = refl
 field_means v (t ∷ ts) zero = refl
 field_means v (t ∷ ts) (suc f) = field_means v ts f

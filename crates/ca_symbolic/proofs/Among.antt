@@ -1,5 +1,5 @@
 -- Lists of numbers tell which fields a statement puts, and which locals it puts or names.
-use Rattle.std.proofs.Common.{◌≡◌, ℕ, Bool, ◌||◌, ◌&&◌, List, [], ◌∷◌, ◌++◌, refl, sym, ap₂, ◌∙◌}
+use Rattle.std.proofs.Common.{◌≡◌, ℕ, Bool, ◌||◌, ◌&&◌, List, [], ◌∷◌, ◌++◌, map, refl, sym, ap, ap₂, ◌∙◌}
 use Rattle.std.specs.Prelude.{nat_eq}
 use Rattle.std.specs.List.{list_any}
 use Rattle.std.proofs.Math.Bool.{or-false}
@@ -7,11 +7,11 @@ use Rattle.std.proofs.lemmas.List.Folds.{list_any-append}
 use Rattle.ca_program.specs.declared.program.FieldId.{FieldId}
 use Rattle.ca_program.specs.Plain.{Expression, Expressions, number, truth, null, this, local, own, own_item, read, read_item, value_call, unary, binary, no_expressions, expression_and, Statement, Statements, block, put_local, put_field, put_item, new_local, new_field, new_item, invoke, if_else, while_loop, for_loop, return_value, print_value, no_statements, statement_and}
 use Rattle.ca_meaning.specs.Operators.{not_of}
-use Rattle.ca_parallel.specs.Bodies.{targets_of, targets_of_all, listed, expressions_of, expressions_of_all}
+use Rattle.ca_parallel.specs.Bodies.{targets_of, listed, expressions_of, expressions_of_all}
 use Rattle.ca_parallel.specs.Scoped.{names, any_names}
-use Rattle.ca_symbolic.specs.Execution.{puts_field, puts_local, any_puts_local, field_target, local_target}
+use Rattle.ca_symbolic.specs.Execution.{puts_local, any_puts_local, field_target, local_target}
 use Rattle.ca_symbolic.specs.Demands.{is_counter, loop_reads}
-use Rattle.ca_symbolic.specs.Places.{is_among, fields_put, fields_put_all, locals_put, locals_put_all, locals_in, locals_in_all, locals_named, locals_named_all, is_read}
+use Rattle.ca_symbolic.specs.Places.{is_among, fields_put, locals_put, locals_put_all, locals_in, locals_in_all, locals_named, locals_named_all, is_read}
 
 module _ (n : ℕ) where
   in_both : (xs ys : List ℕ) → is_among (xs ++ ys) n ≡ (is_among xs n || is_among ys n)
@@ -20,33 +20,9 @@ module _ (n : ℕ) where
   abbrev hits : List FieldId → Bool
   hits fs = list_any (λ f. nat_eq f.field n) fs
 
-  hit_both : (xs ys : List FieldId) → hits (xs ++ ys) ≡ (hits xs || hits ys)
-  hit_both xs ys = list_any-append (λ (f : FieldId). nat_eq f.field n) xs ys
-
-  joins : (xs ys : List FieldId) (ms ns : List ℕ) → hits xs ≡ is_among ms n → hits ys ≡ is_among ns n → hits (xs ++ ys) ≡ is_among (ms ++ ns) n
-  joins xs ys ms ns p q = hit_both xs ys ∙ (ap₂ (λ a b. a || b) p q ∙ sym (in_both ms ns))
-
-  mutual
-    pub fields_told : (x : Statement) → puts_field x n ≡ is_among (fields_put x) n
-    fields_told (block line ss) = all_fields_told ss
-    fields_told (put_field line f op e) = refl
-    fields_told (put_item line f i op e) = refl
-    fields_told (new_field line f c) = refl
-    fields_told (new_item line f i c) = refl
-    fields_told (if_else line c a b) = joins (targets_of a) (targets_of b) (fields_put a) (fields_put b) (fields_told a) (fields_told b)
-    fields_told (while_loop line c b) = fields_told b
-    fields_told (for_loop line site part first c next b) =
-        joins (targets_of first) (targets_of next ++ targets_of b) (fields_put first) (fields_put next ++ fields_put b) (fields_told first)
-        (joins (targets_of next) (targets_of b) (fields_put next) (fields_put b) (fields_told next) (fields_told b))
-    fields_told (put_local line l op e) = refl
-    fields_told (new_local line l c) = refl
-    fields_told (invoke line e op arguments) = refl
-    fields_told (return_value line e) = refl
-    fields_told (print_value line e) = refl
-
-    all_fields_told : (xs : Statements) → hits (targets_of_all xs) ≡ is_among (fields_put_all xs) n
-    all_fields_told no_statements = refl
-    all_fields_told (statement_and x xs) = joins (targets_of x) (targets_of_all xs) (fields_put x) (fields_put_all xs) (fields_told x) (all_fields_told xs)
+  told_by_place : (fs : List FieldId) → hits fs ≡ is_among (map (λ (f : FieldId). f.field) fs) n
+  told_by_place [] = refl
+  told_by_place (f ∷ fs) = ap (λ b. nat_eq f.field n || b) (told_by_place fs)
 
   mutual
     pub locals_told : (x : Statement) → puts_local x n ≡ is_among (locals_put x) n
@@ -135,7 +111,7 @@ pub reads_told : (line : ℕ) (site : _) (part : _) (first : Statement) (c : Exp
 reads_told line site part first c next b = λ i n. not_of (is_counter first n) && named_told n (for_loop line site part first c next b) i
 
 pub field_targets_told : (a b : Statement) → field_target a b ≡ is_among (fields_put a ++ fields_put b)
-field_targets_told a b = λ i n. (ap₂ (λ x y. x || y) (fields_told n a) (fields_told n b) ∙ sym (in_both n (fields_put a) (fields_put b))) i
+field_targets_told a b = λ i n. (ap₂ (λ x y. x || y) (told_by_place n (targets_of a)) (told_by_place n (targets_of b)) ∙ sym (in_both n (fields_put a) (fields_put b))) i
 
 pub local_targets_told : (a b : Statement) → local_target a b ≡ is_among (locals_put a ++ locals_put b)
 local_targets_told a b = λ i n. (ap₂ (λ x y. x || y) (locals_told n a) (locals_told n b) ∙ sym (in_both n (locals_put a) (locals_put b))) i

@@ -1,8 +1,10 @@
 -- Which fields and locals a statement puts, and which locals it names, by their numbers.
-use Rattle.std.specs.Prelude.{ℕ, Bool, true, false, ◌&&◌, nat_eq, List, [], ◌∷◌, ◌++◌, get_or}
+use Rattle.std.specs.Prelude.{ℕ, Bool, true, false, ◌&&◌, nat_eq, List, [], ◌∷◌, ◌++◌, map, get_or}
 use Rattle.std.specs.List.{list_any}
+use Rattle.ca_program.specs.declared.program.FieldId.{FieldId}
 use Rattle.ca_program.specs.Plain.{Expression, Expressions, number, truth, null, this, local, own, own_item, read, read_item, value_call, unary, binary, no_expressions, expression_and, Statement, Statements, block, put_local, put_field, put_item, new_local, new_field, new_item, invoke, if_else, while_loop, for_loop, return_value, print_value, no_statements, statement_and}
 use Rattle.ca_meaning.specs.Operators.{not_of}
+use Rattle.ca_parallel.specs.Bodies.{targets_of, targets_of_all}
 use Rattle.ca_norm.specs.Terms.{PlainTerm}
 use Rattle.ca_symbolic.specs.Demands.{is_counter}
 
@@ -14,26 +16,14 @@ is_among ms n = list_any (λ m. nat_eq m n) ms
 abbrev pub is_marked : List Bool → ℕ → Bool
 is_marked marks n = get_or marks n false
 
-abbrev mutual
-  pub fields_put : Statement → List ℕ
-  fields_put (block line ss) = fields_put_all ss
-  fields_put (put_field line f op e) = f.field ∷ []
-  fields_put (put_item line f i op e) = f.field ∷ []
-  fields_put (new_field line f c) = f.field ∷ []
-  fields_put (new_item line f i c) = f.field ∷ []
-  fields_put (if_else line c a b) = fields_put a ++ fields_put b
-  fields_put (while_loop line c b) = fields_put b
-  fields_put (for_loop line site part first c next b) = fields_put first ++ (fields_put next ++ fields_put b)
-  fields_put (put_local line l op e) = []
-  fields_put (new_local line l c) = []
-  fields_put (invoke line e op arguments) = []
-  fields_put (return_value line e) = []
-  fields_put (print_value line e) = []
+-- the fields that a statement puts
+abbrev pub fields_put : Statement → List ℕ
+fields_put s = map (λ (f : FieldId). f.field) (targets_of s)
 
-  pub fields_put_all : Statements → List ℕ
-  fields_put_all no_statements = []
-  fields_put_all (statement_and s ss) = fields_put s ++ fields_put_all ss
+abbrev pub fields_put_all : Statements → List ℕ
+fields_put_all ss = map (λ (f : FieldId). f.field) (targets_of_all ss)
 
+-- the locals that it puts, but for the counters of loops
 abbrev mutual
   pub locals_put : Statement → List ℕ
   locals_put (block line ss) = locals_put_all ss

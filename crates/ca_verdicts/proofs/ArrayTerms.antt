@@ -1,15 +1,12 @@
 -- Terms of arrays are sorted as their parts are, and arrays of the same form have the same items.
-use Rattle.std.proofs.Common.{◌≡◌, ℤ, refl, sym, ap, ◌∙◌, subst}
+use Rattle.std.proofs.Common.{◌≡◌, refl, sym, ap, ◌∙◌, subst}
 use Rattle.ca_program.specs.declared.program.ValueType.{ValueType}
 use Rattle.ca_program.specs.declared.program.ValueType.TheVariants as type
 use Rattle.ca_forms.specs.declared.sort.Sort.{Sort}
-use Rattle.ca_forms.specs.declared.sort.Sort.TheVariants.{LongArray}
-use Rattle.ca_norm.specs.Terms.{PlainTerm, select, item_sort, sort_of, IsArray, IsOf}
-use Rattle.ca_norm.specs.Forms.{norm}
-use Rattle.ca_norm.specs.Meanings.{Valuation}
+use Rattle.ca_norm.specs.Terms.{item_sort, sort_of, IsArray, IsOf}
 use Rattle.ca_norm.proofs.Values.{same_items}
 use Rattle.ca_shared_terms.specs.Starts.{sort_of_type, sort_of_array}
-use Rattle.ca_verdicts.proofs.Sorts.{IsGood, own_sort, ArraysSorted}
+use Rattle.ca_verdicts.proofs.Sorts.{own_sort, ArraysSorted}
 use Rattle.ca_verdicts.proofs.SameSlots.{ArraysMean}
 
 items_of : (ty : ValueType) → item_sort (sort_of_array ty) ≡ sort_of_type ty

@@ -1,5 +1,5 @@
 -- What a comparison of two orders says of a pair.
-use Rattle.std.proofs.Common.{◌≡◌, ◌≢◌, ℕ, ◌<◌, ◌^◌, false, List, ◌++◌, length, map, Option, Some, None, refl, sym, ap, ap₂, ◌∙◌, subst}
+use Rattle.std.proofs.Common.{◌≡◌, ℕ, ◌<◌, ◌^◌, false, List, length, map, Some, refl, sym, ap, ap₂, ◌∙◌, subst}
 use Rattle.std.specs.Prelude.{slice_get, ◌||◌}
 use Rattle.std.proofs.lemmas.Option.{slice_get-map}
 use Rattle.ca_program.specs.declared.program.ClassId.{ClassId}
@@ -14,20 +14,18 @@ use Rattle.ca_model.specs.Heaps.{fields_of}
 use Rattle.ca_meaning.specs.WellTyped.{IsMethodOf}
 use Rattle.ca_forms.specs.declared.form.Normal.TheVariants.{Scalar}
 use Rattle.ca_forms.specs.Plain.{PlainPolynomial, number_form}
-use Rattle.ca_forms.specs.Rules.{gathered}
 use Rattle.ca_norm.specs.Terms.{PlainTerm}
 use Rattle.ca_norm.specs.Forms.{norm}
 use Rattle.ca_parallel.specs.Extents.{operation_body}
 use Rattle.ca_shared_terms.specs.Starts.{starts}
 use Rattle.ca_symbolic.specs.States.{PlainDemand}
-use Rattle.ca_symbolic.specs.Demanded.{kind_of}
 use Rattle.ca_symbolic.specs.Runs.{begins, executed}
 use Rattle.ca_verdicts.specs.declared.verdicts.Verdict.{Verdict}
 use Rattle.ca_verdicts.specs.declared.verdicts.Verdict.TheVariants.{Commutes, Unproved}
 use Rattle.ca_verdicts.specs.declared.verdicts.Reason.{Reason}
 use Rattle.ca_verdicts.specs.declared.verdicts.Reason.TheVariants as reason
 use Rattle.ca_verdicts.specs.Keys.{Key}
-use Rattle.ca_verdicts.specs.Demands.{demanded_at, SameDemands}
+use Rattle.ca_verdicts.specs.Demands.{demanded_at}
 use Rattle.ca_verdicts.specs.Orders.{in_order, fields_at, start_of, first_order, second_order}
 use Rattle.ca_verdicts.specs.Verdicts.{CanExecute, is_large, VerdictOf}
 use Rattle.ca_verdicts.specs.Comparisons.{FieldsDiffer, TellsKey, TellsFirst, TellsSecond, TellsApart, DemandsDiffer, IsCompared}

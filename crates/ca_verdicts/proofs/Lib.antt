@@ -17,3 +17,4 @@ pub mod VerdictSound
 pub mod MarkSums
 pub mod Comparing
 pub mod Settled
+pub mod PlainPairs

@@ -1,15 +1,15 @@
 -- Marks, and the sums of conditions that they name.
-use Rattle.std.proofs.Common.{◌≡◌, ℕ, zero, suc, ◌+◌, ◌*◌, ◌%◌, ◌^◌, ◌<◌, Bool, true, false, List, [], ◌∷◌, ◌++◌, map, length, Option, Some, None, refl, sym, ap, ap₂, ◌∙◌, arith, subst, cond, is_eq, append_assoc, append-nil, Ordering, Less, Equal, Greater}
+use Rattle.std.proofs.Common.{◌≡◌, ℕ, suc, ◌+◌, ◌*◌, ◌%◌, ◌^◌, Bool, true, false, List, [], ◌∷◌, ◌++◌, map, Option, Some, None, refl, sym, ap, ap₂, ◌∙◌, arith, subst, cond, is_eq, append_assoc, append-nil, Ordering, Less, Equal, Greater}
 use Rattle.std.specs.Prelude.{slice_get, if◌then◌else◌}
 use Rattle.std.specs.List.{AllByRecursion}
 use Rattle.std.specs.List.Sorted.{IsStrictlySortedBy}
-use Rattle.std.specs.Map.{keys_of, lookup}
+use Rattle.std.specs.Map.{keys_of}
 use Rattle.std.specs.BTreeMap.{is_at}
 use Rattle.std.proofs.lemmas.Cmp.{eq_by_cmp_equiv, tied_itself}
-use Rattle.ca_sums.specs.Sums.{Sum, total, Alike, scale, collect, AddsSum}
-use Rattle.ca_sums.proofs.Algebra.{alike_refl, alike_eq, alike_sym, alike_trans, alike_add, alike_mul, alike_mod, total_append, total_scale}
+use Rattle.ca_sums.specs.Sums.{Sum, total, scale, collect, AddsSum}
+use Rattle.ca_sums.proofs.Algebra.{alike_refl, alike_eq, alike_trans, alike_add, alike_mul, alike_mod, total_append, total_scale}
 use Rattle.ca_sums.proofs.Collect.{SameCoefficients, total_collect, collect_same}
-use Rattle.ca_sums.proofs.Products.{SameTotals, same_totals_refl, same_totals_sym}
+use Rattle.ca_sums.proofs.Products.{SameTotals, same_totals_refl}
 use Rattle.ca_forms.specs.Plain.{PlainMonomial, PlainPolynomial, scalar_and}
 use Rattle.ca_forms.specs.Lists.{polynomial_of, products_of, scalars_of}
 use Rattle.ca_forms.specs.Compare.{monomial_cmp}
@@ -117,7 +117,7 @@ summed_append : (gs : List PlainPolynomial) (ms ns : Sum ℕ) → summed_up gs (
 summed_append gs [] ns = refl
 summed_append gs (m ∷ ms) ns = ap (λ z. scale m.1 (products_at gs m.0) ++ z) (summed_append gs ms ns) ∙ sym (append_assoc (scale m.1 (products_at gs m.0)) (summed_up gs ms) (summed_up gs ns))
 
-conditions_append : (k : Key) (ds es : List PlainDemand) → conditions k (ds ++ es) ≡ conditions k ds ++ conditions k es
+pub conditions_append : (k : Key) (ds es : List PlainDemand) → conditions k (ds ++ es) ≡ conditions k ds ++ conditions k es
 conditions_append k [] es = refl
 conditions_append k (d ∷ ds) es = ap (λ z. (if is_eq (key_cmp k (key_of d)) then expand d.guard else []) ++ z) (conditions_append k ds es) ∙ sym (append_assoc _ (conditions k ds) (conditions k es))
 

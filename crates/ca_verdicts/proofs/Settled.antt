@@ -1,11 +1,11 @@
 -- Marks of which it is known that both orders name conditions of the same sum.
-use Rattle.std.proofs.Common.{◌≡◌, ℕ, Bool, true, false, List, [], ◌∷◌, refl, ap, ap₂, ◌∙◌, sym, arith, is_eq, Ordering, Less, Equal, Greater, nat_cmp}
+use Rattle.std.proofs.Common.{◌≡◌, ℕ, Bool, true, false, List, [], ◌∷◌, refl, ap, ap₂, ◌∙◌, sym, is_eq, Ordering, Less, Equal, Greater, nat_cmp}
 use Rattle.std.specs.Prelude.{◌||◌}
 use Rattle.std.specs.Ordering.{ordering_then, match_ordering}
 use Rattle.std.specs.Cmp.Lexicographic.{slice_cmp}
 use Rattle.std.specs.List.{list_any}
 use Rattle.std.specs.BTreeSet.{insert_key}
-use Rattle.std.proofs.lemmas.Map.Lookups.{CmpEqualImpliesEq, exact_unsigned, exact_pairs}
+use Rattle.std.proofs.lemmas.Map.Lookups.{exact_unsigned, exact_pairs}
 use Rattle.ca_forms.specs.Plain.{PlainPolynomial}
 use Rattle.ca_forms.specs.Rules.{gathered}
 use Rattle.ca_verdicts.specs.declared.marks.Marks.{Marks}

@@ -13,11 +13,11 @@ mod marks;
 mod sums;
 mod verdicts;
 
-ghost use Rattle.std.specs.Prelude.{◌≡◌, ◌<◌, ◌^◌, ℕ, List, true, length, slice_get, Some, None, Err, IfOk, IfSome, IfNone};
+ghost use Rattle.std.specs.Prelude.{◌≡◌, ◌<◌, ◌^◌, ℕ, List, true, length, None, Err, IfOk, IfSome, IfNone};
 ghost use Rattle.ca_program.specs.declared.program.FieldId.{FieldId};
 ghost use Rattle.ca_program.specs.View.{program_view};
-ghost use Rattle.ca_model.specs.Heaps.{fields_of};
 ghost use Rattle.ca_meaning.specs.Commuting.{Commutes as DoCommute};
+ghost use Rattle.ca_plain_laws.specs.PlainPairs.{IsPlainPair};
 ghost use Rattle.ca_symbolic.specs.declared.running.SymbolicError.TheVariants.{LoopForm, Large};
 ghost use Rattle.ca_verdicts.specs.Analysed.{Analysed};
 ghost use Rattle.ca_verdicts.specs.declared.verdicts.Verdict.TheVariants.{Commutes};
@@ -29,21 +29,11 @@ use crate::compare::{compare_orders, run_order};
 pub use crate::verdicts::{Reason, Verdict};
 use ca_base::Memory;
 use ca_extent::Extent;
-use ca_program::{ClassId, FieldInfo, OpId, Program};
+use ca_program::{OpId, Program};
 use ca_section::{Readers, Separability};
+use ca_shared_terms::fields_of;
 use ca_symbolic::{Side, SymbolicError, other_loop};
 use std::alloc::Global;
-
-/// The fields of a class; none where the program has no such class.
-fn fields_of(program: &Program, class: ClassId) -> &[FieldInfo]
-    ensures { result.now ≡ fields_of (slice_get (program_view program.now).classes class.0) }
-{
-    if (class.0 as usize) < program.classes.len() {
-        program.class(class).fields.as_slice()
-    } else {
-        &[]
-    }
-}
 
 /// The first of the two that isn't separable, with its first offence.
 fn offence(
@@ -123,7 +113,7 @@ fn decided(
 }
 
 /// The verdict on two operations in an extent: the first reason why they aren't shown to commute, or Commutes. Two
-/// operations with the verdict Commutes do commute, for every receiver and all arguments.
+/// operations with the verdict Commutes do commute, for every receiver and all arguments, and a plain pair has it always.
 pub fn verdict(
     alloc: Global,
     program: &Program,
@@ -135,6 +125,7 @@ pub fn verdict(
     requires second { b.0 < length program.now.ops.items }
     ensures exact { IfOk result (λ v. VerdictOf (program_view program.now) extent.now.written a b v) }
     ensures sound { Analysed (program_view program.now) extent.now a b → IfOk result (λ v. v ≡ Commutes → DoCommute (program_view program.now) extent.now.written a b) }
+    ensures plain { IsPlainPair (program_view program.now) extent.now.written a b → IfOk result (λ v. v ≡ Commutes) }
 {
     decided(alloc, program, extent, a, b)
 }

@@ -1,4 +1,4 @@
-use Rattle.std.proofs.Common.{rules, ◌≡◌, true, false, Err, sym, ap, subst, ◌∙◌}
+use Rattle.std.proofs.Common.{arith, rules, ◌≡◌, true, false, Err, sym, ap, subst, ◌∙◌}
 use Rattle.std.specs.Prelude.{slice_get}
 use Rattle.ca_program.specs.Plain.{value_call}
 use Rattle.ca_program.specs.View.{expression_view, expressions_view, program_view}
@@ -67,3 +67,57 @@ value_of-returns-in_ok-value-in-Value-clause-light t c =
     (neither (refused (program_view c.args.program.now) c.args.state.now c.args.out.now.guard (expression_view c.in-Value.p.value)) _ one
     (neither (refused_all (program_view c.args.program.now) c.args.state.now c.args.out.now.guard (expressions_view c.in-Value.args.items)) _ (subst (λ (g : PlainTerm). refused_all (program_view c.args.program.now) c.args.state.now g (expressions_view c.in-Value.args.items) ≡ false) guard two)
     (subst (λ (x : PlainTerm). is_heavy x ≡ false) whole c.in_ok-value-in-Value.ensures.light)))
+
+pub value_of-returns-in_err-enter_right-in-Binary-clause-large : goal.value_of-returns-in_err-enter_right-in-Binary-clause-large
+value_of-returns-in_err-enter_right-in-Binary-clause-large t c = grind (arith, first_of, second_of)
+
+pub value_of-returns-in_err-left-in-Binary-clause-large : goal.value_of-returns-in_err-left-in-Binary-clause-large
+value_of-returns-in_err-left-in-Binary-clause-large t c = grind (arith, first_of, second_of)
+
+pub value_of-returns-in_err-right-in-Binary-clause-large : goal.value_of-returns-in_err-right-in-Binary-clause-large
+value_of-returns-in_err-right-in-Binary-clause-large t c = grind (arith, first_of, second_of)
+
+pub value_of-returns-in_err-index-in-ReadItem-clause-large : goal.value_of-returns-in_err-index-in-ReadItem-clause-large
+value_of-returns-in_err-index-in-ReadItem-clause-large t c = grind (arith, first_of, second_of)
+
+pub value_of-returns-in_err-object-in-ReadItem-clause-large : goal.value_of-returns-in_err-object-in-ReadItem-clause-large
+value_of-returns-in_err-object-in-ReadItem-clause-large t c = grind (arith, first_of, second_of)
+
+pub value_of-returns-in_err-object-in-Read-clause-large : goal.value_of-returns-in_err-object-in-Read-clause-large
+value_of-returns-in_err-object-in-Read-clause-large t c = grind (arith, first_of, second_of)
+
+pub value_of-returns-in_err-value-in-Unary-clause-large : goal.value_of-returns-in_err-value-in-Unary-clause-large
+value_of-returns-in_err-value-in-Unary-clause-large t c = grind (arith, first_of, second_of)
+
+pub value_of-returns-in_err-index-in-OwnItem-clause-large : goal.value_of-returns-in_err-index-in-OwnItem-clause-large
+value_of-returns-in_err-index-in-OwnItem-clause-large t c = grind (arith, first_of, second_of)
+
+pub value_of-returns-in_ok-open-in-Binary-clause-light : goal.value_of-returns-in_ok-open-in-Binary-clause-light
+value_of-returns-in_ok-open-in-Binary-clause-light t c = grind (arith, neither)
+
+pub value_of-returns-in_ok-open-in-Binary-clause-large : goal.value_of-returns-in_ok-open-in-Binary-clause-large
+value_of-returns-in_ok-open-in-Binary-clause-large t c = grind (arith, first_of, second_of)
+
+pub value_of-returns-in_ok-index-in-ReadItem-clause-light : goal.value_of-returns-in_ok-index-in-ReadItem-clause-light
+value_of-returns-in_ok-index-in-ReadItem-clause-light t c = grind (arith, neither)
+
+pub value_of-returns-in_ok-index-in-ReadItem-clause-large : goal.value_of-returns-in_ok-index-in-ReadItem-clause-large
+value_of-returns-in_ok-index-in-ReadItem-clause-large t c = grind (arith, first_of, second_of)
+
+pub value_of-returns-in_ok-object-in-Read-clause-light : goal.value_of-returns-in_ok-object-in-Read-clause-light
+value_of-returns-in_ok-object-in-Read-clause-light t c = grind (arith, neither)
+
+pub value_of-returns-in_ok-object-in-Read-clause-large : goal.value_of-returns-in_ok-object-in-Read-clause-large
+value_of-returns-in_ok-object-in-Read-clause-large t c = grind (arith, first_of, second_of)
+
+pub value_of-returns-in_ok-value-in-Unary-clause-light : goal.value_of-returns-in_ok-value-in-Unary-clause-light
+value_of-returns-in_ok-value-in-Unary-clause-light t c = grind (arith, neither)
+
+pub value_of-returns-in_ok-value-in-Unary-clause-large : goal.value_of-returns-in_ok-value-in-Unary-clause-large
+value_of-returns-in_ok-value-in-Unary-clause-large t c = grind (arith, first_of, second_of)
+
+pub value_of-returns-in_ok-index-in-OwnItem-clause-light : goal.value_of-returns-in_ok-index-in-OwnItem-clause-light
+value_of-returns-in_ok-index-in-OwnItem-clause-light t c = grind (arith, neither)
+
+pub value_of-returns-in_ok-index-in-OwnItem-clause-large : goal.value_of-returns-in_ok-index-in-OwnItem-clause-large
+value_of-returns-in_ok-index-in-OwnItem-clause-large t c = grind (arith, first_of, second_of)

@@ -1,4 +1,4 @@
-use Rattle.std.proofs.Common.{rules, ◌≡◌, true, false, Err, sym, ap, subst, ◌∙◌}
+use Rattle.std.proofs.Common.{arith, rules, ◌≡◌, true, false, Err, sym, ap, subst, ◌∙◌}
 use Rattle.ca_program.specs.View.{program_view, form_view, statement_view}
 use Rattle.ca_shared_terms.specs.declared.errors.ExecutionError.TheVariants.{Large}
 use Rattle.ca_symbolic.specs.Execution.{after}
@@ -6,6 +6,7 @@ use Rattle.ca_symbolic.specs.Demands.{demanded}
 use Rattle.ca_symbolic.specs.Demanded.{with_demands}
 use Rattle.ca_symbolic.specs.Refusals.{refused_by}
 use Rattle.ca_symbolic.proofs.Blocks.{block_view}
+use Rattle.ca_symbolic.proofs.Flags.{neither, first_of, second_of}
 use Rattle.ca_symbolic.proofs.Told.{loop_told, loop_refused}
 use Rattle.ca_symbolic.proofs.walk.+run.Goals as goal
 
@@ -34,3 +35,42 @@ run-returns-in_ok-push-in-For-clause-demands t c =
 pub run-returns-in_ok-push-in-For-clause-light : goal.run-returns-in_ok-push-in-For-clause-light
 run-returns-in_ok-push-in-For-clause-light t c =
     loop_refused (program_view c.args.program.now) c.args.state.now c.args.out.now.guard (statement_view c.args.s.now) _ _ _ _ _ _ _ (ap (λ k. form_view k c.args.s.now.line) c.in-For.is) ∙ search rules
+
+pub run-returns-in_err-condition-in-If-clause-large : goal.run-returns-in_err-condition-in-If-clause-large
+run-returns-in_err-condition-in-If-clause-large t c = grind (arith, first_of, second_of)
+
+pub run-returns-in_err-enter_then-in-If-clause-large : goal.run-returns-in_err-enter_then-in-If-clause-large
+run-returns-in_err-enter_then-in-If-clause-large t c = grind (arith, first_of, second_of)
+
+pub run-returns-in_err-run-in-If-clause-large : goal.run-returns-in_err-run-in-If-clause-large
+run-returns-in_err-run-in-If-clause-large t c = grind (arith, first_of, second_of)
+
+pub run-returns-in_err-enter_else-in-If-clause-large : goal.run-returns-in_err-enter_else-in-If-clause-large
+run-returns-in_err-enter_else-in-If-clause-large t c = grind (arith, first_of, second_of)
+
+pub run-returns-in_err-run-in-If-2-clause-large : goal.run-returns-in_err-run-in-If-2-clause-large
+run-returns-in_err-run-in-If-2-clause-large t c = grind (arith, first_of, second_of)
+
+pub run-returns-in_err-state-in-If-clause-large : goal.run-returns-in_err-state-in-If-clause-large
+run-returns-in_err-state-in-If-clause-large t c = grind (arith, first_of, second_of)
+
+pub run-returns-in_err-put_field-in-PutField-clause-large : goal.run-returns-in_err-put_field-in-PutField-clause-large
+run-returns-in_err-put_field-in-PutField-clause-large t c = grind (arith, first_of, second_of)
+
+pub run-returns-in_err-put_local-in-PutLocal-clause-large : goal.run-returns-in_err-put_local-in-PutLocal-clause-large
+run-returns-in_err-put_local-in-PutLocal-clause-large t c = grind (arith, first_of, second_of)
+
+pub run-returns-in_err-value-in-PutField-clause-large : goal.run-returns-in_err-value-in-PutField-clause-large
+run-returns-in_err-value-in-PutField-clause-large t c = grind (arith, first_of, second_of)
+
+pub run-returns-in_err-value-in-PutLocal-clause-large : goal.run-returns-in_err-value-in-PutLocal-clause-large
+run-returns-in_err-value-in-PutLocal-clause-large t c = grind (arith, first_of, second_of)
+
+pub run-returns-in_ok-state-in-If-clause-light : goal.run-returns-in_ok-state-in-If-clause-light
+run-returns-in_ok-state-in-If-clause-light t c = grind (arith, neither)
+
+pub run-returns-in_ok-put_field-in-PutField-clause-light : goal.run-returns-in_ok-put_field-in-PutField-clause-light
+run-returns-in_ok-put_field-in-PutField-clause-light t c = grind (arith, neither)
+
+pub run-returns-in_ok-put_local-in-PutLocal-clause-light : goal.run-returns-in_ok-put_local-in-PutLocal-clause-light
+run-returns-in_ok-put_local-in-PutLocal-clause-light t c = grind (arith, neither)

@@ -1,6 +1,6 @@
 use Rattle.std.proofs.Common.{rules, ◌≡◌, ◌+◌, ℕ, Bool, length, ◌∙◌, arith}
 use Rattle.ca_symbolic.specs.Places.{is_among}
-use Rattle.ca_symbolic.proofs.Joining.{joined_step, joined_light, joined_end, at_end}
+use Rattle.ca_symbolic.proofs.Joining.{joined_step, joined_light, joined_heavy, joined_end, at_end}
 use Rattle.ca_symbolic.proofs.walk.join_terms.Goals as goal
 
 pub loop-place-preserved : goal.loop-place-preserved
@@ -19,3 +19,6 @@ pub returns-clause-made : goal.returns-clause-made
 returns-clause-made c =
     joined_end (is_among c.args.numbers.now) c.args.condition.now c.args.first.now c.args.second.now c.loop-place.place c.loop-place.terms.items _
     (at_end (length c.args.first.now) (length c.args.second.now) c.loop-place.place (omega (arith, c.loop-place-test.false, c.min-count.ensures))) c.loop-place.invariant.1
+
+pub returns-in_err-term-clause-large : goal.returns-in_err-term-clause-large
+returns-in_err-term-clause-large c = grind (arith, joined_heavy)

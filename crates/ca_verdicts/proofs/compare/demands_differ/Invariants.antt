@@ -1,4 +1,4 @@
-use Rattle.std.proofs.Common.{ℕ, length, map}
+use Rattle.std.proofs.Common.{length, map}
 use Rattle.ca_verdicts.specs.Marks.{condition_of, AreSettled, AllSettled, EachMarked}
 use Rattle.ca_verdicts.proofs.compare.demands_differ.Given as goal
 

@@ -1,4 +1,4 @@
-use Rattle.std.proofs.Common.{◌≡◌, ◌≤◌, ℕ, ◌+◌, [], ◌∷◌, List, length, drop, drop-cons, add-one, get_or, rules, sym, ap, ◌∙◌, subst}
+use Rattle.std.proofs.Common.{◌≡◌, ◌≤◌, ℕ, ◌+◌, [], ◌∷◌, List, length, drop, drop-cons, add-one, get_or, sym, ap, ◌∙◌, subst}
 use Rattle.std.proofs.lemmas.List.{drop_all}
 use Rattle.ca_sums.specs.Sums.{Sum, AddsSum, scale, collect}
 use Rattle.ca_sums.proofs.Additions.{adds_both}
