@@ -90,18 +90,18 @@ pub next_op : (p : PlainProgram) (js : List Judged) (n : ℕ) (ms new : List OpI
 next_op p js n ms new j at (left never is) m = subst (λ z. MarkedTo p js (n + 1) z) (sym is) (record {
   marked = λ op. (
     λ c. let k = (m.marked op).0 c in (omega (arith, k.0), k.1),
-    λ k. pick (last_or_before op.0 n k.0) (λ l. (m.marked op).1 (l, k.1)) (λ e. absurd (never (here p js n j op at e k.1)))
+    λ k. pick (last_or_before op.0 n k.0) (λ l. (m.marked op).1 (l, k.1)) (λ e. absurd (never (here p js n j op at e k.1))),
   );
   rise = m.rise;
 })
 next_op p js n ms new j at (taken sure is) m = subst (λ z. MarkedTo p js (n + 1) z) (sym is) (record {
   marked = λ op. (
     λ c. pick (Contains-append_cases ms (op_at n ∷ []) op c)
-    (λ z. let k = (m.marked op).0 z in (omega (arith, k.0), k.1))
-    (λ z. subst (λ (o : OpId). (o.0 < n + 1) × CommutingOp p js o) (alone (op_at n) op z) (omega arith, record { judged = j; found = at; calls = sure.0; commute = sure.1 })),
+        (λ z. let k = (m.marked op).0 z in (omega (arith, k.0), k.1))
+        (λ z. subst (λ (o : OpId). (o.0 < n + 1) × CommutingOp p js o) (alone (op_at n) op z) (omega arith, record { judged = j; found = at; calls = sure.0; commute = sure.1 })),
     λ k. pick (last_or_before op.0 n k.0)
-    (λ l. Contains-append_left ms (op_at n ∷ []) op ((m.marked op).1 (l, k.1)))
-    (λ e. subst (λ z. Contains (ms ++ op_at n ∷ []) z) (sym (same_op op n e)) (Contains-append_right ms (op_at n ∷ []) (op_at n) (front (op_at n) [])))
+        (λ l. Contains-append_left ms (op_at n ∷ []) op ((m.marked op).1 (l, k.1)))
+        (λ e. subst (λ z. Contains (ms ++ op_at n ∷ []) z) (sym (same_op op n e)) (Contains-append_right ms (op_at n ∷ []) (op_at n) (front (op_at n) []))),
   );
   rise = record { rises = rise_more ms (op_at n) m.rise (λ y c. ((m.marked y).0 c).0) };
 })
@@ -137,17 +137,17 @@ pub next_site : (p : PlainProgram) (loops : List Statement) (ls : List JudgedLoo
 next_site p loops ls k ns new s l at there (left never is) m = subst (λ z. SitesTo p loops ls (k + 1) z) (sym is) (record {
   sites = λ n. (
     λ c. let w = (m.sites n).0 c in (w.0, omega (arith, w.1)),
-    λ w. pick (last_or_before w.0.place k w.1) (λ h. (m.sites n).1 (w.0, h)) (λ e. absurd (never (loop_here p loops ls k s l n at there w.0 e).0))
+    λ w. pick (last_or_before w.0.place k w.1) (λ h. (m.sites n).1 (w.0, h)) (λ e. absurd (never (loop_here p loops ls k s l n at there w.0 e).0)),
   );
 })
 next_site p loops ls k ns new s l at there (taken sure is) m = subst (λ z. SitesTo p loops ls (k + 1) z) (sym is) (record {
   sites = λ n. (
     λ c. pick (Contains-append_cases ns (l.site.0 ∷ []) n c)
-    (λ z. let w = (m.sites n).0 z in (w.0, omega (arith, w.1)))
-    (λ z. (record { place = k; loop = s; judged = l; stands = at; found = there; number = alone l.site.0 n z; commute = sure.0; constant = sure.1 }, omega arith)),
+        (λ z. let w = (m.sites n).0 z in (w.0, omega (arith, w.1)))
+        (λ z. (record { place = k; loop = s; judged = l; stands = at; found = there; number = alone l.site.0 n z; commute = sure.0; constant = sure.1 }, omega arith)),
     λ w. pick (last_or_before w.0.place k w.1)
-    (λ h. Contains-append_left ns (l.site.0 ∷ []) n ((m.sites n).1 (w.0, h)))
-    (λ e. subst (λ z. Contains (ns ++ l.site.0 ∷ []) z) (loop_here p loops ls k s l n at there w.0 e).1 (Contains-append_right ns (l.site.0 ∷ []) l.site.0 (front l.site.0 [])))
+        (λ h. Contains-append_left ns (l.site.0 ∷ []) n ((m.sites n).1 (w.0, h)))
+        (λ e. subst (λ z. Contains (ns ++ l.site.0 ∷ []) z) (loop_here p loops ls k s l n at there w.0 e).1 (Contains-append_right ns (l.site.0 ∷ []) l.site.0 (front l.site.0 []))),
   );
 })
 
@@ -162,7 +162,7 @@ same_loop site = refl
 pub loops_among : (ns : List ℕ) (site : LoopId) → Contains (map loop_of ns) site ↔ Contains ns site.0
 loops_among ns site = (
   λ c. let w = from_map loop_of ns site c in subst (λ z. Contains ns z) (ap (λ (l : LoopId). l.0) w.2) w.1,
-  λ c. into_map loop_of ns site.0 c
+  λ c. into_map loop_of ns site.0 c,
 )
 
 pub loops_rise : (ns : List ℕ) → IsStrictlyIncreasing ns → Rises LoopBefore (map loop_of ns)

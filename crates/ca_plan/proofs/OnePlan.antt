@@ -19,6 +19,7 @@ use Rattle.ca_verdicts.specs.declared.verdicts.Verdict.{Verdict}
 use Rattle.ca_verdicts.specs.declared.verdicts.Verdict.TheVariants.{Commutes, Unproved}
 use Rattle.ca_verdicts.specs.declared.verdicts.Reason.TheVariants.{NotSeparable, LoopForm, Large, FieldDiffers, DemandsDiffer}
 use Rattle.ca_verdicts.specs.Verdicts.{VerdictOf}
+use Rattle.ca_verdicts.proofs.Unique.{same_verdict}
 use Rattle.ca_plan.specs.declared.plans.PairVerdict.{PairVerdict}
 use Rattle.ca_plan.specs.Pairs.{Pair, pairs_in}
 use Rattle.ca_plan.specs.Plans.{Judged, JudgedLoop, IsJudged, IsJudgedLoop, AnyOrder, IsMarked, IsMarkedLoop, PlainPlan, PlanOf, pair_of, op_at, call_loops}
@@ -224,3 +225,17 @@ plan_by one p x y a b =
     let marks : x.marks ≡ y.marks = marks_by one p x y a b in
     ap (λ (m : PlainMarks). modes_text p m.ops 0 x.ops ++ flat_map (loop_mode_text m.loops) x.loops) marks
     ∙ ap₂ (λ s t. s ++ t) (same_modes p y.marks.ops 0 x.ops y.ops (a.as_many ∙ sym b.as_many)) (same_loop_modes one p y.marks.loops (call_loops p) x.loops y.loops a.each_loop b.each_loop a.loops b.loops)
+
+-- Verdicts are one, but for which demand is named
+
+one : OneVerdict
+one = λ p written a b v w s t. same_verdict v w s t
+
+pub one_pairs_text : (p : PlainProgram) (x y : PlainPlan) → PlanOf p x → PlanOf p y → pairs_text p x ≡ pairs_text p y
+one_pairs_text = pairs_by one
+
+pub one_plan_text : (p : PlainProgram) (x y : PlainPlan) → PlanOf p x → PlanOf p y → plan_text p x ≡ plan_text p y
+one_plan_text = plan_by one
+
+pub one_marks : (p : PlainProgram) (x y : PlainPlan) → PlanOf p x → PlanOf p y → x.marks ≡ y.marks
+one_marks = marks_by one

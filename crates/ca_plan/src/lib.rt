@@ -7,6 +7,7 @@
 mod calls;
 mod judging;
 mod kept;
+pub mod laws;
 mod making;
 mod marking;
 mod modes;

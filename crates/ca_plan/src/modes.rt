@@ -109,7 +109,13 @@ fn add_loop_mode<K: Sink>(
     ensures cause { HasCause (K.faults sink.old) (K.faults sink.new) result }
 {
     let parallel = is_loop_in(marked, judged.site());
-    add_counted(&[b"loop "], judged.line(), &[mode_part(&parallel)], line, sink)
+    add_counted(
+        &[b"loop "],
+        judged.line(),
+        &[mode_part(&parallel)],
+        line,
+        sink,
+    )
 }
 
 /// Adds the lines of all loops of calls.

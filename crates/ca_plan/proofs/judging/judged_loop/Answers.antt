@@ -18,5 +18,5 @@ returns-clause-judged c =
       site = c.in-Some.ensures.some;
       line = sym (line_is c.args.s.now);
       judged = judged (program_view c.args.program.now) (calls_of (statement_view c.args.s.now)) c.in_ok-judged.judged.value
-      (subst (λ (z : List OpId). ExtentOf (program_view c.args.program.now) z c.in_ok-judged.judged.value.extent) roots c.in_ok-judged.ensures.extent) c.in_ok-judged.ensures.told;
+          (subst (λ (z : List OpId). ExtentOf (program_view c.args.program.now) z c.in_ok-judged.judged.value.extent) roots c.in_ok-judged.ensures.extent) c.in_ok-judged.ensures.told;
     }

@@ -14,6 +14,6 @@ pub loop-n-preserved : goal.loop-n-preserved
 loop-n-preserved c = record {
   as_many = omega (arith, ap length c.in_ok-push.ensures.items, length-append c.loop-n.ops.items (c.in_ok-judged.judged ∷ []), c.loop-n.invariant.as_many);
   each = more_ops (program_view c.args.program.now) c.loop-n.ops.items _ c.in_ok-judged.judged c.loop-n.n c.in_ok-push.ensures.items c.loop-n.invariant.as_many c.loop-n.invariant.each
-  (record { extent = c.in_ok-judged.ensures.extent; told = c.in_ok-judged.ensures.told });
+      (record { extent = c.in_ok-judged.ensures.extent; told = c.in_ok-judged.ensures.told });
   kept = c.in_ok-judged.ensures.kept;
 }
