@@ -229,7 +229,7 @@ plan_by one p x y a b =
 -- Verdicts are one, but for which demand is named
 
 one : OneVerdict
-one = λ p written a b v w s t. same_verdict v w s t
+one = same_verdict
 
 pub one_pairs_text : (p : PlainProgram) (x y : PlainPlan) → PlanOf p x → PlanOf p y → pairs_text p x ≡ pairs_text p y
 one_pairs_text = pairs_by one
