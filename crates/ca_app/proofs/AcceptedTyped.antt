@@ -12,8 +12,11 @@ pub accepted_is_typed : {text : List ℕ} {p : PlainProgram} → Accepted text p
 accepted_is_typed {text} {p} a = text_is_typed text a.has_tree.tokens a.tree p a.has_tree.has_tokens.lexed a.has_tree.derived a.resolved
 
 pub accepted_is_checked : {text : List ℕ} {p : PlainProgram} → Accepted text p → Checked p
-accepted_is_checked {p = p} a = record {
-  typed = accepted_is_typed a;
-  numbered = (loops_are_numbered a.tree p a.resolved).rise;
-  scoped = operations_are_scoped a.tree p a.resolved;
-}
+accepted_is_checked {p = p} a =
+    let loops = loops_are_numbered a.tree p a.resolved in
+    record {
+      typed = accepted_is_typed a;
+      numbered = loops.rise;
+      one = loops.one;
+      scoped = operations_are_scoped a.tree p a.resolved;
+    }

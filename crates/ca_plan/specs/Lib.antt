@@ -1,4 +1,6 @@
 pub mod Checked
+pub mod Loops
 pub mod Pairs
 pub mod Plans
 pub mod Texts
+pub mod Told

@@ -1,6 +1,7 @@
 //! What a plan says.
 
 ghost use Rattle.std.specs.Prelude.{◌≡◌};
+ghost use Rattle.ca_plan.specs.Told.{shared};
 
 use ca_extent::Extent;
 use ca_parallel::Marks;
@@ -18,7 +19,7 @@ pub struct PairVerdict {
 }
 
 /// An extent, with a verdict on each of its pairs.
-#[derive(Drop, Debug)]
+#[derive(Drop)]
 pub struct Judged {
     pub(crate) extent: Extent,
     pub(crate) pairs: Vec<PairVerdict>,
@@ -49,7 +50,7 @@ impl Judged {
 }
 
 /// A loop of calls by its number and its line, with the extent of its calls.
-#[derive(Drop, Debug)]
+#[derive(Drop)]
 pub struct JudgedLoop {
     pub(crate) site: LoopId,
     pub(crate) line: u32,
@@ -64,9 +65,32 @@ impl Model for JudgedLoop {
     ghost view = { λ l. record { site = l.site; line = l.line; judged = l.judged.value } };
 }
 
+impl JudgedLoop {
+    /// Its number.
+    pub fn site(&self) -> LoopId
+        ensures { result ≡ self.now.site }
+    {
+        self.site
+    }
+
+    /// Its line.
+    pub fn line(&self) -> u32
+        ensures { result ≡ self.now.line }
+    {
+        self.line
+    }
+
+    /// The extent of its calls.
+    pub fn judged(&self) -> &Judged
+        ensures { result.now ≡ self.now.judged }
+    {
+        &self.judged
+    }
+}
+
 /// The plan of a program: for each operation and for each loop of calls the extent with its verdicts, and the marks on
 /// those whose calls may run in any order. Equal extents are one value in memory.
-#[derive(Drop, Debug)]
+#[derive(Drop)]
 pub struct Plan {
     pub(crate) marks: Marks,
     pub(crate) ops: Vec<Rc<Judged>>,
@@ -83,6 +107,34 @@ impl Model for Plan {
 }
 
 impl Plan {
+    /// The marked operations.
+    pub fn marked_ops(&self) -> &[OpId]
+        ensures { result.now ≡ self.now.marks.ops }
+    {
+        self.marks.ops.as_slice()
+    }
+
+    /// The marked loops.
+    pub fn marked_loops(&self) -> &[LoopId]
+        ensures { result.now ≡ self.now.marks.loops }
+    {
+        self.marks.loops.as_slice()
+    }
+
+    /// The extents of the operations, in order.
+    pub fn ops(&self) -> &[Rc<Judged>]
+        ensures { shared result.now ≡ self.now.ops }
+    {
+        self.ops.as_slice()
+    }
+
+    /// The loops of calls, in the order of the text.
+    pub fn loops(&self) -> &[JudgedLoop]
+        ensures { result.now ≡ self.now.loops }
+    {
+        self.loops.as_slice()
+    }
+
     /// The marks.
     pub fn marks(&self) -> &Marks
         ensures { result.now ≡ self.now.marks }
