@@ -1,0 +1,4 @@
+mod Picking
+mod Found
+mod Placing
+mod Emitted
