@@ -1,4 +1,5 @@
 pub mod Checked
+pub mod Codes
 pub mod Loops
 pub mod Pairs
 pub mod Plans

@@ -26,6 +26,11 @@ impl Model for Kept {
 
     ghost Value = { List PlainJudged };
 
+    ghost use Rattle.std.specs.Coded.{coded_list};
+    ghost use Rattle.ca_plan.specs.Codes.{coded_judged};
+
+    ghost coded = { coded_list coded_judged };
+
     ghost view = { λ k. map (λ j. j.value) k.all.items };
 }
 

@@ -30,6 +30,10 @@ impl Model for Judged {
 
     ghost Value = { PlainJudged };
 
+    ghost use Rattle.ca_plan.specs.Codes.{coded_judged};
+
+    ghost coded = { coded_judged };
+
     ghost view = { λ j. record { extent = j.extent; pairs = j.pairs.items } };
 }
 
@@ -61,6 +65,10 @@ impl Model for JudgedLoop {
     ghost use Rattle.ca_plan.specs.Plans.{JudgedLoop as PlainLoop};
 
     ghost Value = { PlainLoop };
+
+    ghost use Rattle.ca_plan.specs.Codes.{coded_judged_loop};
+
+    ghost coded = { coded_judged_loop };
 
     ghost view = { λ l. record { site = l.site; line = l.line; judged = l.judged.value } };
 }
@@ -102,6 +110,10 @@ impl Model for Plan {
     ghost use Rattle.ca_plan.specs.Plans.{PlainPlan};
 
     ghost Value = { PlainPlan };
+
+    ghost use Rattle.ca_plan.specs.Codes.{coded_plan};
+
+    ghost coded = { coded_plan };
 
     ghost view = { λ p. record { marks = p.marks; ops = map (λ j. j.value) p.ops.items; loops = p.loops.items } };
 }
