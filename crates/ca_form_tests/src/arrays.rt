@@ -1,65 +1,62 @@
 //! Normal forms of arrays.
 
-use ca_forms::parts::{three_boxes, two_boxes};
+use crate::terms::{
+    added, alike, choice, has_form, is_large, let_go, number, parameter, product, put, selected,
+    start, sum, weighed,
+};
+use ca_forms::array::Array;
 use ca_norm::gather::array_of;
-use ca_norm::{MOST_WEIGHT, NormalError, Sort, Term, normal, same, weight};
+use ca_norm::{MOST_WEIGHT, Sort, Term};
 use std::alloc::{AllocError, Global};
 use std::test::Fail;
 
-/// What a field that is an array of numbers holds at the start.
-fn start() -> Term {
-    Term::Atom(Sort::LongArray, 3, 0)
-}
-
-fn parameter(number: u32) -> Term {
-    Term::Atom(Sort::Long, 1, number)
-}
-
-fn added(alloc: Global, array: Term, index: Term, addend: Term) -> Result<Term, AllocError> {
-    let (array, index, addend) = three_boxes(alloc, Ok(array), Ok(index), Ok(addend))?;
-    Ok(Term::AddAt(array, index, addend))
-}
-
-fn put(alloc: Global, array: Term, index: Term, item: Term) -> Result<Term, AllocError> {
-    let (array, index, item) = three_boxes(alloc, Ok(array), Ok(index), Ok(item))?;
-    Ok(Term::Put(array, index, item))
-}
-
-fn selected(alloc: Global, array: Term, index: Term) -> Result<Term, AllocError> {
-    let (array, index) = two_boxes(alloc, Ok(array), Ok(index))?;
-    Ok(Term::Select(array, index))
+fn one_more(alloc: Global) -> Result<Term, AllocError> {
+    added(alloc, start(), parameter(0), number(1))
 }
 
 /// A sum that is taken back at an item leaves the form as it was.
 #[test]
 fn takes_back_a_sum(rt: HostRuntime) -> Result<(), Fail> {
     let alloc = rt.alloc();
-    let more = added(alloc, start(), parameter(0), Term::Number(1))?;
-    assert!(rt; !same(&normal(alloc, &more)?, &normal(alloc, &start())?));
-    let back = added(alloc, more, parameter(0), Term::Number(-1))?;
-    assert!(rt;
-        same(
-            &normal(alloc, &back)?.copy(alloc)?,
-            &normal(alloc, &start())?
-        )
-    );
+    assert!(rt; !alike(alloc, one_more(alloc), start())?);
+    let back = added(alloc, one_more(alloc), parameter(0), number(-1));
+    assert!(rt; alike(alloc, back, start())?);
+    assert!(rt; has_form(alloc, one_more(alloc))?);
     Ok(())
+}
+
+/// Two sums at items, the one of the first index before the other or behind it.
+fn two_sums(alloc: Global, first: u32, second: u32) -> Result<Term, AllocError> {
+    let one = added(
+        alloc,
+        start(),
+        parameter(first),
+        parameter(first.wrapping_add(2)),
+    );
+    added(
+        alloc,
+        one,
+        parameter(second),
+        parameter(second.wrapping_add(2)),
+    )
 }
 
 /// Sums at two items have one form in either order, and a put and a sum don't.
 #[test]
 fn adds_in_either_order(rt: HostRuntime) -> Result<(), Fail> {
     let alloc = rt.alloc();
-    let first = added(alloc, start(), parameter(0), parameter(2))?;
-    let one = added(alloc, first, parameter(1), parameter(3))?;
-    let second = added(alloc, start(), parameter(1), parameter(3))?;
-    let other = added(alloc, second, parameter(0), parameter(2))?;
-    assert!(rt; same(&normal(alloc, &one)?, &normal(alloc, &other)?));
-    let sum_first = put(alloc, one, parameter(0), parameter(2))?;
-    let taken = put(alloc, start(), parameter(0), parameter(2))?;
-    let put_first = added(alloc, taken, parameter(1), parameter(3))?;
-    assert!(rt; !same(&normal(alloc, &sum_first)?, &normal(alloc, &put_first)?));
+    assert!(rt; alike(alloc, two_sums(alloc, 0, 1), two_sums(alloc, 1, 0))?);
+    let sum = added(alloc, start(), parameter(1), parameter(3));
+    let sum_first = put(alloc, sum, parameter(0), parameter(2));
+    let item = put(alloc, start(), parameter(0), parameter(2));
+    let put_first = added(alloc, item, parameter(1), parameter(3));
+    assert!(rt; !alike(alloc, sum_first, put_first)?);
     Ok(())
+}
+
+/// The item at an index of an array with another item at the index 1.
+fn item_at(alloc: Global, index: Result<Term, AllocError>) -> Result<Term, AllocError> {
+    selected(alloc, put(alloc, start(), number(1), parameter(0)), index)
 }
 
 /// The item at a constant index over a put at another constant is the item before it, and at an equal index it is what
@@ -67,15 +64,17 @@ fn adds_in_either_order(rt: HostRuntime) -> Result<(), Fail> {
 #[test]
 fn selects_past_other_constants(rt: HostRuntime) -> Result<(), Fail> {
     let alloc = rt.alloc();
-    let array = put(alloc, start(), Term::Number(1), parameter(0))?;
-    let item = selected(alloc, array.copy(alloc)?, Term::Number(2))?;
-    let before = selected(alloc, start(), Term::Number(2))?;
-    assert!(rt; same(&normal(alloc, &item)?, &normal(alloc, &before)?));
-    let there = selected(alloc, array.copy(alloc)?, Term::Number(1))?;
-    assert!(rt; same(&normal(alloc, &there)?, &normal(alloc, &parameter(0))?));
-    let anywhere = selected(alloc, array, parameter(1))?;
-    let without = selected(alloc, start(), parameter(1))?;
-    assert!(rt; !same(&normal(alloc, &anywhere)?, &normal(alloc, &without)?));
+    assert!(rt;
+        alike(
+            alloc,
+            item_at(alloc, number(2)),
+            selected(alloc, start(), number(2))
+        )?
+    );
+    assert!(rt; alike(alloc, item_at(alloc, number(1)), parameter(0))?);
+    let anywhere = item_at(alloc, parameter(1));
+    let without = selected(alloc, start(), parameter(1));
+    assert!(rt; !alike(alloc, anywhere, without)?);
     Ok(())
 }
 
@@ -83,66 +82,59 @@ fn selects_past_other_constants(rt: HostRuntime) -> Result<(), Fail> {
 #[test]
 fn takes_choices_at_items(rt: HostRuntime) -> Result<(), Fail> {
     let alloc = rt.alloc();
-    let more = added(alloc, start(), parameter(0), parameter(1))?;
-    let condition = Ok(Term::Atom(Sort::Bool, 1, 2));
-    let (condition, more, less) = three_boxes(alloc, condition, Ok(more), Ok(start()))?;
-    let array = Term::Choose(condition, more, less);
-    let condition = Ok(Term::Atom(Sort::Bool, 1, 2));
-    let (condition, some, none) = three_boxes(
+    let array = choice(
         alloc,
-        condition,
-        Ok(parameter(1)),
-        Ok(Term::Number(0)),
-    )?;
-    let choice = Term::Choose(condition, some, none);
-    let other = added(alloc, start(), parameter(0), choice)?;
-    assert!(rt; same(&normal(alloc, &array)?, &normal(alloc, &other)?));
+        added(alloc, start(), parameter(0), parameter(1)),
+        start(),
+    );
+    let item = choice(alloc, parameter(1), number(0));
+    let other = added(alloc, start(), parameter(0), item);
+    assert!(rt; alike(alloc, array, other)?);
     Ok(())
 }
 
 fn sum_from(alloc: Global, first: u32, count: u32) -> Result<Term, AllocError> {
-    let mut sum = parameter(first);
+    let mut all = parameter(first);
     for number in 1..count {
-        sum = Term::add(alloc, sum, parameter(first.wrapping_add(number)))?;
+        all = sum(alloc, all, parameter(first.wrapping_add(number)));
     }
-    Ok(sum)
+    all
 }
 
 /// A product of 15,006 addends.
 fn wide(alloc: Global, first: u32) -> Result<Term, AllocError> {
     let one = sum_from(alloc, first, 122);
-    let other = sum_from(alloc, first.wrapping_add(200), 123);
-    let (one, other) = two_boxes(alloc, one, other)?;
-    Ok(Term::Mul(one, other))
+    product(alloc, one, sum_from(alloc, first.wrapping_add(200), 123))
+}
+
+fn wide_sum(alloc: Global, array: Result<Term, AllocError>) -> Result<Term, AllocError> {
+    added(alloc, array, wide(alloc, 0), wide(alloc, 400))
 }
 
 /// An index and an addend of 15,006 products each are no 15,006 times 15,006 pairs.
 #[test]
 fn keeps_an_index_once(rt: HostRuntime) -> Result<(), Fail> {
     let alloc = rt.alloc();
-    let array = added(alloc, start(), wide(alloc, 0)?, wide(alloc, 400)?)?;
-    let back = added(
-        alloc,
-        array.copy(alloc)?,
-        wide(alloc, 0)?,
-        wide(alloc, 400)?,
-    )?;
-    assert!(rt; weight(&array) < MOST_WEIGHT && normal(alloc, &array).is_ok());
-    assert!(rt; !same(&normal(alloc, &array)?, &normal(alloc, &back)?));
+    assert!(rt; weighed(wide_sum(alloc, start()))? < MOST_WEIGHT);
+    let twice = wide_sum(alloc, wide_sum(alloc, start()));
+    assert!(rt; !alike(alloc, wide_sum(alloc, start()), twice)?);
     Ok(())
+}
+
+fn sixty_puts(alloc: Global) -> Result<Term, AllocError> {
+    let mut array = start();
+    for number in 0..60 {
+        array = put(alloc, array, parameter(number), parameter(100));
+    }
+    array
 }
 
 /// Sixty puts have a form, and an item over them is too heavy.
 #[test]
 fn refuses_an_item_over_many_puts(rt: HostRuntime) -> Result<(), Fail> {
     let alloc = rt.alloc();
-    let mut array = start();
-    for number in 0..60 {
-        array = put(alloc, array, parameter(number), parameter(100))?;
-    }
-    assert!(rt; normal(alloc, &array).is_ok());
-    let item = selected(alloc, array, parameter(101))?;
-    assert!(rt; matches!(normal(alloc, &item), Err(NormalError::Large)));
+    assert!(rt; has_form(alloc, sixty_puts(alloc))?);
+    assert!(rt; is_large(alloc, selected(alloc, sixty_puts(alloc), parameter(101)))?);
     Ok(())
 }
 
@@ -150,24 +142,47 @@ fn refuses_an_item_over_many_puts(rt: HostRuntime) -> Result<(), Fail> {
 const KINDS: usize = 5;
 
 /// The array inside one more, of the kind.
-fn around(alloc: Global, kind: usize, array: Term) -> Result<Term, AllocError> {
+fn around(alloc: Global, kind: usize, array: Result<Term, AllocError>) -> Result<Term, AllocError> {
     match kind {
         0 => put(alloc, array, parameter(0), parameter(1)),
         1 => added(alloc, array, parameter(0), parameter(1)),
-        2 => {
-            let item = selected(alloc, array, parameter(2))?;
-            put(alloc, start(), parameter(0), item)
-        }
-        _ => {
-            let condition = Ok(Term::Atom(Sort::Bool, 1, 2));
-            let other = Ok(Term::Atom(Sort::LongArray, 3, 1));
-            let (condition, part, other) = three_boxes(alloc, condition, Ok(array), other)?;
-            match kind {
-                3 => Ok(Term::Choose(condition, part, other)),
-                _ => Ok(Term::Choose(condition, other, part)),
-            }
-        }
+        2 => put(
+            alloc,
+            start(),
+            parameter(0),
+            selected(alloc, array, parameter(2)),
+        ),
+        3 => choice(alloc, array, Ok(Term::Atom(Sort::LongArray, 3, 1))),
+        _ => choice(alloc, Ok(Term::Atom(Sort::LongArray, 3, 1)), array),
     }
+}
+
+fn nested(alloc: Global, kind: usize) -> Result<Term, AllocError> {
+    let mut term = start();
+    let steps = if kind == 2 { 3000 } else { 6000 };
+    for _ in 0..steps {
+        term = around(alloc, kind, term);
+    }
+    term
+}
+
+/// Whether the array's form is the same as its copy. The array is too heavy for `normal`.
+fn has_array_form(alloc: Global, term: Result<Term, AllocError>) -> Result<bool, AllocError> {
+    let term = term?;
+    let form = array_of(alloc, &term);
+    let_go(term);
+    let form = form?;
+    let copy = form.copy(alloc);
+    let answer = is_copy(&form, copy);
+    let_go(form);
+    answer
+}
+
+fn is_copy(form: &Array, copy: Result<Array, AllocError>) -> Result<bool, AllocError> {
+    let copy = copy?;
+    let answer = form.same(&copy);
+    let_go(copy);
+    Ok(answer)
 }
 
 /// Arrays of 6,000 levels have forms, which are copied and compared; everything is dropped without running out of stack.
@@ -175,13 +190,8 @@ fn around(alloc: Global, kind: usize, array: Term) -> Result<Term, AllocError> {
 fn takes_deep_arrays(rt: HostRuntime) -> Result<(), Fail> {
     let alloc = rt.alloc();
     for kind in 0..KINDS {
-        let mut term = start();
-        let steps = if kind == 2 { 3000 } else { 6000 };
-        for _ in 0..steps {
-            term = around(alloc, kind, term)?;
-        }
-        let form = array_of(alloc, &term.copy(alloc)?)?;
-        assert!(rt; form.same(&form.copy(alloc)?) && weight(&term) > MOST_WEIGHT);
+        assert!(rt; weighed(nested(alloc, kind))? > MOST_WEIGHT);
+        assert!(rt; has_array_form(alloc, nested(alloc, kind))?);
     }
     Ok(())
 }

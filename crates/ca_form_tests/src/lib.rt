@@ -7,3 +7,5 @@
 mod arrays;
 #[cfg(test)]
 mod forms;
+#[cfg(test)]
+mod terms;
