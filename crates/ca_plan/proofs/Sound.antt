@@ -1,5 +1,5 @@
 -- The marks of a plan are sound where its verdicts are right: the calls and the loops that it marks may run in any order.
-use Rattle.std.proofs.Common.{◌≡◌, ◌⊎◌, inl, inr, Bool, true, false, List, [], ◌∷◌, ◌++◌, refl, sym, ap, subst, ◌∙◌, if◌then◌else◌, Option, Some, None, map, slice_get, arith}
+use Rattle.std.proofs.Common.{◌≡◌, ◌↔◌, ◌⊎◌, inl, inr, Bool, true, false, List, [], ◌∷◌, ◌++◌, refl, sym, ap, subst, ◌∙◌, if◌then◌else◌, Option, Some, None, map, slice_get, arith}
 use Rattle.std.specs.Prelude.{ℕ, zero, suc, Contains}
 use Rattle.std.proofs.lemmas.Bool.{eq-eqb}
 use Rattle.std.proofs.lemmas.List.Elements.{Contains-append_left, Contains-append_right, Contains-append_cases}
@@ -25,7 +25,8 @@ use Rattle.ca_verdicts.specs.declared.verdicts.Verdict.TheVariants.{Commutes}
 use Rattle.ca_verdicts.specs.Verdicts.{VerdictOf}
 use Rattle.ca_plan.specs.declared.plans.PairVerdict.{PairVerdict}
 use Rattle.ca_plan.specs.Pairs.{Pair, is_one_class, of_one_class, pairs_with, pairs_in}
-use Rattle.ca_plan.specs.Plans.{Judged, IsJudged, AnyOrder, pair_of, PlainPlan, PlanOf, call_loops, call_loops_of}
+use Rattle.ca_plan.specs.Checked.{OneLoopEach}
+use Rattle.ca_plan.specs.Plans.{Judged, JudgedLoop, IsJudged, AnyOrder, CommuteIn, CommuteAsTold, pair_of, PlainPlan, PlanOf, call_loops, call_loops_of}
 
 -- Commuting has no first and second
 
@@ -57,7 +58,7 @@ with_found p a b (x ∷ xs) e c =
     (λ z. subst (λ o. Contains (pairs_with p a (o ∷ xs)) (pair a b)) (sym (alone x b z)) (in_front (of_one_class p a b) (pair a b) (pairs_with p a xs) e))
     (λ z. behind_if (of_one_class p a x) (pair a b) (pair a x) (pairs_with p a xs) (with_found p a b xs e z))
 
-found : (p : PlainProgram) (xs : List OpId) (a b : OpId) → Contains xs a → Contains xs b → of_one_class p a b ≡ true → of_one_class p b a ≡ true → Contains (pairs_in p xs) (pair a b) ⊎ Contains (pairs_in p xs) (pair b a)
+pub found : (p : PlainProgram) (xs : List OpId) (a b : OpId) → Contains xs a → Contains xs b → of_one_class p a b ≡ true → of_one_class p b a ≡ true → Contains (pairs_in p xs) (pair a b) ⊎ Contains (pairs_in p xs) (pair b a)
 found p [] a b c d e f = absurd (none a c)
 found p (x ∷ xs) a b c d e f =
     pick (Contains-append_cases (x ∷ []) xs a c)
@@ -75,27 +76,22 @@ one_class c (Some m) (Some n) i j = eq-eqb m.class.0 n.class.0 (ap (λ k. k.0) i
 
 -- Extents
 
--- where an extent's verdicts are right
-pub record Right (p : PlainProgram) : Type 0 where
-  pub right : (roots : List OpId) (x : Extent) (a b : OpId) → IsExtentOf p roots x → Contains x.ops a → Contains x.ops b → VerdictOf p x.written a b Commutes → Commute p x.written a b
-
-listed_commute : (p : PlainProgram) (roots : List OpId) (j : Judged) → Right p → IsJudged p roots j → AnyOrder p j → (a b : OpId) → Contains j.extent.ops a → Contains j.extent.ops b → Contains (pairs_in p j.extent.ops) (pair a b) → Commute p j.extent.written a b
-listed_commute p roots j right is any a b c d listed =
+listed_commute : (p : PlainProgram) (roots : List OpId) (j : Judged) → CommuteIn p j → IsJudged p roots j → AnyOrder p j → (a b : OpId) → Contains (pairs_in p j.extent.ops) (pair a b) → Commute p j.extent.written a b
+listed_commute p roots j right is any a b listed =
     let (x, inside, same) = from_map pair_of j.pairs (pair a b) (subst (λ xs. Contains xs (pair a b)) (sym is.pairs) listed) in
-    let told : VerdictOf p j.extent.written x.a x.b Commutes = subst (λ v. VerdictOf p j.extent.written x.a x.b v) (any.commute x inside) (is.verdicts x inside) in
-    let pairs : VerdictOf p j.extent.written a b Commutes = subst (λ q. VerdictOf p j.extent.written q.a q.b Commutes) same told in
-    right.right roots j.extent a b is.extent.holds c d pairs
+    let told : Commute p j.extent.written x.a x.b = right x inside (any.commute x inside) in
+    subst (λ q. Commute p j.extent.written q.a q.b) same told
 
-pub parallel_of : (p : PlainProgram) (roots : List OpId) (j : Judged) → Right p → IsJudged p roots j → AnyOrder p j → Parallel p j.extent
+parallel_of : (p : PlainProgram) (roots : List OpId) (j : Judged) → CommuteIn p j → IsJudged p roots j → AnyOrder p j → Parallel p j.extent
 parallel_of p roots j right is any = record {
   separable = any.separable;
   commute = λ a b c d cl k l.
       pick (found p j.extent.ops a b c d (one_class cl (slice_get p.ops a.0) (slice_get p.ops b.0) k l) (one_class cl (slice_get p.ops b.0) (slice_get p.ops a.0) l k))
-      (λ z. listed_commute p roots j right is any a b c d z cl k l)
-      (λ z. turned p j.extent.written b a (listed_commute p roots j right is any b a d c z) cl k l);
+      (λ z. listed_commute p roots j right is any a b z cl k l)
+      (λ z. turned p j.extent.written b a (listed_commute p roots j right is any b a z) cl k l);
 }
 
-parallel_from : (p : PlainProgram) (roots : List OpId) (j : Judged) → Right p → IsJudged p roots j → AnyOrder p j → ParallelFrom p roots
+parallel_from : (p : PlainProgram) (roots : List OpId) (j : Judged) → CommuteIn p j → IsJudged p roots j → AnyOrder p j → ParallelFrom p roots
 parallel_from p roots j right is any = record {
   roots = roots;
   extent = j.extent;
@@ -127,14 +123,22 @@ stands_among : (xs : List Statement) (n : ℕ) (loop : Statement) → slice_get 
 stands_among [] n loop e = absurd cc
 stands_among (x ∷ xs) n loop e = by_form x xs (call_loops_of xs) loop n (is_call_loop x) refl e (λ m i. stands_among xs m loop i)
 
--- a number names at most one loop
-abbrev pub OneLoopEach : PlainProgram → Type 0
-OneLoopEach p = (id : LoopId) (x y : Statement) → Contains (loops_of_program p) x → Contains (loops_of_program p) y → HasSite x id → HasSite y id → x ≡ y
+pub there : {A : Type 0} (xs : List A) (n : ℕ) (x : A) → slice_get xs n ≡ Some x → Contains xs x
+there [] n x e = absurd cc
+there (y ∷ xs) zero x e = let s : y ≡ x = cc in subst (λ z. Contains (y ∷ xs) z) s (front y xs)
+there (y ∷ xs) (suc n) x e = Contains-append_right (y ∷ []) xs x (there xs n x e)
 
-pub marks_are_sound : (p : PlainProgram) (plan : PlainPlan) → Right p → OneLoopEach p → PlanOf p plan → SoundMarks p plan.marks
+-- so it is of the form
+pub of_form : (xs : List Statement) (n : ℕ) (loop : Statement) → slice_get (call_loops_of xs) n ≡ Some loop → is_call_loop loop ≡ true
+unfolding Among
+of_form xs n loop e = (stands_among xs n loop e).1
+
+pub marks_are_sound : (p : PlainProgram) (plan : PlainPlan) → CommuteAsTold p plan → OneLoopEach p → PlanOf p plan → SoundMarks p plan.marks
 unfolding Among parallel_from
 marks_are_sound p plan right one is = record {
-  operations = λ op c. let m = (is.marks.ops op).0 c in parallel_from p (op ∷ []) m.judged right (is.ops op.0 m.judged m.found) m.order;
+  operations = λ op c.
+      let m = (is.marks.ops op).0 c in
+      parallel_from p (op ∷ []) m.judged (right.ops m.judged (there plan.ops op.0 m.judged m.found)) (is.ops op.0 m.judged m.found) m.order;
   sites = λ id c loop stands numbered.
       let m = (is.marks.loops id).0 c in
       let (among, form) = stands_among (loops_of_program p) m.place m.loop m.stands in
@@ -142,7 +146,7 @@ marks_are_sound p plan right one is = record {
       let judged = is.loops m.place m.loop m.judged m.stands m.found in
       subst (λ x. SoundLoop p x) same (record {
         form = (call_loops_are_told m.loop).0 form;
-        calls = parallel_from p (calls_of m.loop) m.judged.judged right judged.judged m.order;
+        calls = parallel_from p (calls_of m.loop) m.judged.judged (right.loops m.judged (there plan.loops m.place m.judged m.found)) judged.judged m.order;
         constant = m.constant;
       });
 }

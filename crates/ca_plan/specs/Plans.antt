@@ -4,6 +4,7 @@ use Rattle.std.specs.Prelude.{ℕ, ◌≡◌, ◌≢◌, ◌<◌, ◌↔◌, Boo
 use Rattle.ca_program.specs.declared.program.LoopId.{LoopId}
 use Rattle.ca_program.specs.declared.program.OpId.{OpId}
 use Rattle.ca_program.specs.Plain.{PlainProgram, Statement, Statements}
+use Rattle.ca_meaning.specs.Commuting.{Commutes as DoCommute}
 use Rattle.ca_meaning.specs.Flows.{line_of}
 use Rattle.ca_parallel.specs.Bodies.{calls_of, calls_of_all}
 use Rattle.ca_parallel.specs.Extents.{Extent, operation_body}
@@ -105,3 +106,13 @@ pub record PlanOf (p : PlainProgram) (plan : PlainPlan) : Type 0 where
   pub each_loop : length plan.loops ≡ length (call_loops p)
   pub loops : (n : ℕ) (loop : Statement) (j : JudgedLoop) → slice_get (call_loops p) n ≡ Some loop → slice_get plan.loops n ≡ Some j → IsJudgedLoop p loop j
   pub marks : MarksOf p plan
+
+-- What its verdicts promise
+
+-- where one says that two operations commute, they do
+abbrev pub CommuteIn : PlainProgram → Judged → Type 0
+CommuteIn p j = (x : PairVerdict) → Contains j.pairs x → x.verdict ≡ Commutes → DoCommute p j.extent.written x.a x.b
+
+pub record CommuteAsTold (p : PlainProgram) (plan : PlainPlan) : Type 0 where
+  pub ops : (j : Judged) → Contains plan.ops j → CommuteIn p j
+  pub loops : (l : JudgedLoop) → Contains plan.loops l → CommuteIn p l.judged

@@ -1,5 +1,5 @@
 -- What `pairs` and `plan` write of a plan.
-use Rattle.std.specs.Prelude.{ℕ, suc, ◌||◌, nat_eq, List, [], ◌∷◌, ◌++◌, flat_map, Option, Some, None, slice_get, codes, decimal, Bool, true, false}
+use Rattle.std.specs.Prelude.{ℕ, ◌+◌, ◌||◌, nat_eq, List, [], ◌∷◌, ◌++◌, flat_map, Option, Some, None, slice_get, codes, decimal, Bool, true, false}
 use Rattle.ca_program.specs.declared.program.FieldInfo.{FieldInfo}
 use Rattle.ca_program.specs.declared.program.FieldId.{FieldId}
 use Rattle.ca_program.specs.declared.program.LoopId.{LoopId}
@@ -30,10 +30,22 @@ field_name (Some f) = f.name
 abbrev pub field_text : PlainProgram → FieldId → List ℕ
 field_text p f = field_name (slice_get (fields_of (slice_get p.classes f.class.0)) f.field)
 
+-- the parts of the name of an operation: that of its class, the colons behind it, and its own
+abbrev pub class_part : PlainProgram → Option PlainMethod → List ℕ
+class_part p None = []
+class_part p (Some m) = class_name (slice_get p.classes m.class.0)
+
+abbrev pub colons_part : Option PlainMethod → List ℕ
+colons_part None = []
+colons_part (Some m) = codes "::"
+
+abbrev pub name_part : Option PlainMethod → List ℕ
+name_part None = []
+name_part (Some m) = m.name
+
 -- an operation is written C::m
 abbrev pub method_text : PlainProgram → Option PlainMethod → List ℕ
-method_text p None = []
-method_text p (Some m) = in_a_row (class_name (slice_get p.classes m.class.0) ∷ codes "::" ∷ m.name ∷ [])
+method_text p m = in_a_row (class_part p m ∷ colons_part m ∷ name_part m ∷ [])
 
 abbrev pub op_text : PlainProgram → OpId → List ℕ
 op_text p op = method_text p (slice_get p.ops op.0)
@@ -57,19 +69,28 @@ reason_text p (DemandsDiffer kind parts x y) = codes "DemandsDiffer"
 
 abbrev pub verdict_text : PlainProgram → Verdict → List ℕ
 verdict_text p Commutes = codes "commutes"
-verdict_text p (Unproved why) = in_a_row (codes "unproved " ∷ reason_text p why ∷ [])
+verdict_text p (Unproved why) = codes "unproved " ++ reason_text p why
 
 -- What `pairs` writes
 
+abbrev pub names_text : PlainProgram → OpId → OpId → List ℕ
+names_text p a b = in_a_row (op_text p a ∷ codes " " ∷ op_text p b ∷ codes " " ∷ [])
+
 -- a pair in its line
 abbrev pub pair_text : PlainProgram → PairVerdict → List ℕ
-pair_text p x = in_a_row (op_text p x.a ∷ codes " " ∷ op_text p x.b ∷ codes " " ∷ verdict_text p x.verdict ∷ codes "\n" ∷ [])
+pair_text p x = names_text p x.a x.b ++ (verdict_text p x.verdict ++ codes "\n")
 
--- an operation, and the pairs of its extent; the first one has the number n
+abbrev pub head_text : PlainProgram → ℕ → List ℕ
+head_text p n = in_a_row (codes "extent " ∷ op_text p (record { 0 = n }) ∷ codes "\n" ∷ [])
+
+-- operation n, and the pairs of its extent
+abbrev pub extent_text : PlainProgram → ℕ → Judged → List ℕ
+extent_text p n j = head_text p n ++ flat_map (pair_text p) j.pairs
+
+-- the operations from number n on
 abbrev pub extents_text : PlainProgram → ℕ → List Judged → List ℕ
 extents_text p n [] = []
-extents_text p n (j ∷ js) =
-    in_a_row (codes "extent " ∷ op_text p (record { 0 = n }) ∷ codes "\n" ∷ []) ++ (flat_map (pair_text p) j.pairs ++ extents_text p (suc n) js)
+extents_text p n (j ∷ js) = extent_text p n j ++ extents_text p (n + 1) js
 
 -- a call loop, and the pairs of its extent
 abbrev pub loop_text : PlainProgram → JudgedLoop → List ℕ
@@ -88,11 +109,16 @@ abbrev pub loop_in : List LoopId → LoopId → Bool
 loop_in [] site = false
 loop_in (x ∷ xs) site = nat_eq x.0 site.0 || loop_in xs site
 
+abbrev pub named_text : PlainProgram → ℕ → Bool → List ℕ
+named_text p n parallel = in_a_row (codes "op " ∷ op_text p (record { 0 = n }) ∷ mode_text parallel ∷ [])
+
+abbrev pub op_mode_text : PlainProgram → List OpId → ℕ → List ℕ
+op_mode_text p marked n = named_text p n (op_in marked (record { 0 = n }))
+
 -- the operations from number n on
 abbrev pub modes_text : PlainProgram → List OpId → ℕ → List Judged → List ℕ
 modes_text p marked n [] = []
-modes_text p marked n (j ∷ js) =
-    in_a_row (codes "op " ∷ op_text p (record { 0 = n }) ∷ mode_text (op_in marked (record { 0 = n })) ∷ []) ++ modes_text p marked (suc n) js
+modes_text p marked n (j ∷ js) = op_mode_text p marked n ++ modes_text p marked (n + 1) js
 
 abbrev pub loop_mode_text : List LoopId → JudgedLoop → List ℕ
 loop_mode_text marked l = in_a_row (codes "loop " ∷ decimal l.line ∷ mode_text (loop_in marked l.site) ∷ [])

@@ -4,6 +4,38 @@
 //! verdicts on its pairs (`specs/Pairs.antt`), and the marks. `specs/Texts.antt` has what `pairs` and `plan` write of it.
 #![tactic(auto)]
 
+mod calls;
+mod judging;
+mod kept;
+pub mod laws;
+mod making;
+mod marking;
+mod modes;
+mod names;
+mod pairs;
 mod plans;
+mod texts;
 
-pub use plans::PairVerdict;
+ghost use Rattle.std.specs.Prelude.{IfOk};
+ghost use Rattle.ca_program.specs.View.{program_view};
+ghost use Rattle.ca_parallel.specs.Marks.{SoundMarks};
+ghost use Rattle.ca_plan.specs.Checked.{Checked};
+ghost use Rattle.ca_plan.specs.Plans.{CommuteAsTold, PlanOf};
+
+use crate::making::made;
+use ca_base::Memory;
+use ca_program::Program;
+pub use modes::{is_loop_in, is_op_in, print_plan};
+pub use plans::{Judged, JudgedLoop, PairVerdict, Plan};
+use std::alloc::Global;
+pub use texts::print_pairs;
+
+/// The plan of a program. Where the program is one of the checker, operations of which it says so commute, and its marks
+/// are sound.
+pub fn plan(alloc: Global, program: &Program) -> Result<Plan, Memory>
+    ensures exact { IfOk result (λ plan. PlanOf (program_view program.now) plan) }
+    ensures commute { Checked (program_view program.now) → IfOk result (λ plan. CommuteAsTold (program_view program.now) plan) }
+    ensures sound { Checked (program_view program.now) → IfOk result (λ plan. SoundMarks (program_view program.now) plan.marks) }
+{
+    made(alloc, program)
+}

@@ -1,7 +1,14 @@
 //! What a plan says.
 
-use ca_program::OpId;
+ghost use Rattle.std.specs.Prelude.{◌≡◌};
+ghost use Rattle.ca_plan.specs.Told.{shared};
+
+use ca_extent::Extent;
+use ca_parallel::Marks;
+use ca_program::{LoopId, OpId};
 use ca_verdicts::Verdict;
+use std::marker::Model;
+use std::rc::Rc;
 
 /// Two operations of one class in an extent, of which the first doesn't come behind the second, and the verdict on them.
 #[derive(Drop, Debug)]
@@ -9,4 +16,141 @@ pub struct PairVerdict {
     pub a: OpId,
     pub b: OpId,
     pub verdict: Verdict,
+}
+
+/// An extent, with a verdict on each of its pairs.
+#[derive(Drop)]
+pub struct Judged {
+    pub(crate) extent: Extent,
+    pub(crate) pairs: Vec<PairVerdict>,
+}
+
+impl Model for Judged {
+    ghost use Rattle.ca_plan.specs.Plans.{Judged as PlainJudged};
+
+    ghost Value = { PlainJudged };
+
+    ghost use Rattle.ca_plan.specs.Codes.{coded_judged};
+
+    ghost coded = { coded_judged };
+
+    ghost view = { λ j. record { extent = j.extent; pairs = j.pairs.items } };
+}
+
+impl Judged {
+    /// The extent.
+    pub fn extent(&self) -> &Extent
+        ensures { result.now ≡ self.now.extent }
+    {
+        &self.extent
+    }
+
+    /// The verdicts on its pairs, by the first of the two and then by the second.
+    pub fn pairs(&self) -> &[PairVerdict]
+        ensures { result.now ≡ self.now.pairs }
+    {
+        self.pairs.as_slice()
+    }
+}
+
+/// A loop of calls by its number and its line, with the extent of its calls.
+#[derive(Drop)]
+pub struct JudgedLoop {
+    pub(crate) site: LoopId,
+    pub(crate) line: u32,
+    pub(crate) judged: Rc<Judged>,
+}
+
+impl Model for JudgedLoop {
+    ghost use Rattle.ca_plan.specs.Plans.{JudgedLoop as PlainLoop};
+
+    ghost Value = { PlainLoop };
+
+    ghost use Rattle.ca_plan.specs.Codes.{coded_judged_loop};
+
+    ghost coded = { coded_judged_loop };
+
+    ghost view = { λ l. record { site = l.site; line = l.line; judged = l.judged.value } };
+}
+
+impl JudgedLoop {
+    /// Its number.
+    pub fn site(&self) -> LoopId
+        ensures { result ≡ self.now.site }
+    {
+        self.site
+    }
+
+    /// Its line.
+    pub fn line(&self) -> u32
+        ensures { result ≡ self.now.line }
+    {
+        self.line
+    }
+
+    /// The extent of its calls.
+    pub fn judged(&self) -> &Judged
+        ensures { result.now ≡ self.now.judged }
+    {
+        &self.judged
+    }
+}
+
+/// The plan of a program: for each operation and for each loop of calls the extent with its verdicts, and the marks on
+/// those whose calls may run in any order. Equal extents are one value in memory.
+#[derive(Drop)]
+pub struct Plan {
+    pub(crate) marks: Marks,
+    pub(crate) ops: Vec<Rc<Judged>>,
+    pub(crate) loops: Vec<JudgedLoop>,
+}
+
+impl Model for Plan {
+    ghost use Rattle.std.specs.Prelude.{map};
+    ghost use Rattle.ca_plan.specs.Plans.{PlainPlan};
+
+    ghost Value = { PlainPlan };
+
+    ghost use Rattle.ca_plan.specs.Codes.{coded_plan};
+
+    ghost coded = { coded_plan };
+
+    ghost view = { λ p. record { marks = p.marks; ops = map (λ j. j.value) p.ops.items; loops = p.loops.items } };
+}
+
+impl Plan {
+    /// The marked operations.
+    pub fn marked_ops(&self) -> &[OpId]
+        ensures { result.now ≡ self.now.marks.ops }
+    {
+        self.marks.ops.as_slice()
+    }
+
+    /// The marked loops.
+    pub fn marked_loops(&self) -> &[LoopId]
+        ensures { result.now ≡ self.now.marks.loops }
+    {
+        self.marks.loops.as_slice()
+    }
+
+    /// The extents of the operations, in order.
+    pub fn ops(&self) -> &[Rc<Judged>]
+        ensures { shared result.now ≡ self.now.ops }
+    {
+        self.ops.as_slice()
+    }
+
+    /// The loops of calls, in the order of the text.
+    pub fn loops(&self) -> &[JudgedLoop]
+        ensures { result.now ≡ self.now.loops }
+    {
+        self.loops.as_slice()
+    }
+
+    /// The marks.
+    pub fn marks(&self) -> &Marks
+        ensures { result.now ≡ self.now.marks }
+    {
+        &self.marks
+    }
 }

@@ -1,0 +1,13 @@
+use Rattle.std.proofs.Common.{arith}
+use Rattle.ca_program.specs.View.{program_view}
+use Rattle.ca_plan.proofs.Telling.{starts_with, next_with, ends_with}
+use Rattle.ca_plan.proofs.pairs.add_pairs_with.Goals as goal
+
+pub loop-b-init : goal.loop-b-init
+loop-b-init c = starts_with (program_view c.args.program.now) c.args.extent.now _ c.args.a c.args.others.now
+
+pub loop-b-preserved : goal.loop-b-preserved
+loop-b-preserved c = next_with (program_view c.args.program.now) c.args.extent.now _ _ _ c.args.a c.args.others.now c.loop-b.b-index _ (omega arith) c.loop-b.invariant c.in_ok-add_pair.ensures
+
+pub returns : goal.returns
+returns c = ends_with (program_view c.args.program.now) c.args.extent.now _ _ c.args.a c.args.others.now c.loop-b.b-index (omega arith) c.loop-b.invariant
