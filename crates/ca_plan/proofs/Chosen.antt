@@ -1,5 +1,5 @@
 -- Marks that are given one after another.
-use Rattle.std.proofs.Common.{◌≡◌, ◌≢◌, ◌↔◌, ◌<◌, ◌≤◌, ◌+◌, ◌⊎◌, inl, inr, ℕ, zero, suc, Bool, true, false, ◌++◌, List, [], ◌∷◌, Some, None, Global, length, map, get_or, refl, sym, ap, ◌∙◌, subst, arith}
+use Rattle.std.proofs.Common.{◌≡◌, ◌≢◌, ◌↔◌, ◌<◌, ◌≤◌, ◌+◌, ◌⊎◌, inl, inr, ℕ, zero, suc, true, ◌++◌, List, [], ◌∷◌, Some, Global, length, map, get_or, refl, sym, ap, ◌∙◌, subst, arith}
 use Rattle.std.specs.Prelude.{slice_get, option_map, Contains}
 use Rattle.std.specs.List.Sorted.{IsStrictlyIncreasing}
 use Rattle.std.proofs.lemmas.List.{length-map, get_or-map}
@@ -20,7 +20,6 @@ use Rattle.ca_parallel.specs.Separable.{IsSeparated}
 use Rattle.ca_model.proofs.Stores.{found}
 use Rattle.ca_section.proofs.Members.{pick, front, alone, none}
 use Rattle.ca_extent.proofs.Members.{into_map, from_map}
-use Rattle.ca_plan.specs.declared.plans.PairVerdict.{PairVerdict}
 use Rattle.ca_plan.specs.Plans.{Judged, JudgedLoop, LoopBefore, op_at}
 use Rattle.ca_plan.specs.Told.{AllCommute, CommutingOp, CommutingLoop, Noted, taken, left, loop_of, shared}
 

@@ -1,19 +1,17 @@
 -- Two operations of an extent whose verdict is Commutes do commute, in a program of the checker.
-use Rattle.std.proofs.Common.{◌≡◌, ◌⊎◌, inl, inr, Bool, true, false, if◌then◌else◌, List, [], ◌∷◌, ◌++◌, Option, Some, None, Result, Ok, Err, IfOk, length, map, refl, sym, ap, subst, arith}
+use Rattle.std.proofs.Common.{◌≡◌, Bool, true, false, if◌then◌else◌, List, [], ◌∷◌, Option, Some, None, Result, Ok, Err, IfOk, length, refl, sym, subst, arith}
 use Rattle.std.specs.Prelude.{ℕ, zero, suc, slice_get, Contains}
-use Rattle.std.proofs.lemmas.List.Elements.{Contains-append_left, Contains-append_right, Contains-append_cases}
+use Rattle.std.proofs.lemmas.List.Elements.{Contains-append_right, Contains-append_cases}
 use Rattle.ca_program.specs.declared.program.OpId.{OpId}
 use Rattle.ca_program.specs.Plain.{PlainProgram, PlainMethod, Statement}
-use Rattle.ca_meaning.specs.Commuting.{Commutes as DoCommute}
 use Rattle.ca_meaning.specs.Functions.{body_of}
 use Rattle.ca_parallel.specs.Bodies.{calls_of}
-use Rattle.ca_parallel.specs.Extents.{Extent, IsExtentOf, operation_body}
+use Rattle.ca_parallel.specs.Extents.{IsExtentOf, operation_body}
 use Rattle.ca_parallel.specs.Marks.{SoundMarks}
 use Rattle.ca_parallel.specs.Scoped.{Scoped}
 use Rattle.ca_extent.proofs.Members.{into_map}
 use Rattle.ca_section.proofs.Members.{pick, front, alone, none}
 use Rattle.ca_verdicts.specs.Analysed.{Analysed}
-use Rattle.ca_plan.specs.declared.plans.PairVerdict.{PairVerdict}
 use Rattle.ca_plan.specs.Checked.{Checked}
 use Rattle.ca_plan.specs.Pairs.{Pair, of_one_class, is_one_class, pairs_with, pairs_in}
 use Rattle.ca_plan.specs.Plans.{Judged, JudgedLoop, CommuteIn, CommuteAsTold, PlainPlan, PlanOf, pair_of, op_at, call_loops}

@@ -4,7 +4,7 @@ use Rattle.std.specs.Prelude.{flat_map}
 use Rattle.ca_program.specs.declared.program.LoopId.{LoopId}
 use Rattle.ca_program.specs.declared.program.FirstPart.{FirstPart}
 use Rattle.ca_program.specs.declared.program.Method.{Method}
-use Rattle.ca_program.specs.Plain.{Expression, Statement, Statements, PlainMethod, for_loop, statement_and}
+use Rattle.ca_program.specs.Plain.{Expression, Statement, Statements, for_loop, statement_and}
 use Rattle.ca_program.specs.View.{method_view, statements_view}
 use Rattle.ca_parallel.specs.Bodies.{fors_in, fors_in_all}
 use Rattle.ca_parallel.specs.Marks.{loops_of_method}

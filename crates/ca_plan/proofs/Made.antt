@@ -1,5 +1,5 @@
 -- From the parts of a plan to the plan.
-use Rattle.std.proofs.Common.{◌≡◌, ◌≢◌, ◌↔◌, ℕ, zero, suc, ◌<◌, true, false, List, [], ◌∷◌, ◌++◌, Option, Some, None, Result, Ok, Err, IfOk, Global, length, map, refl, sym, ap, ◌∙◌, subst, arith}
+use Rattle.std.proofs.Common.{◌≡◌, ◌↔◌, ℕ, zero, suc, true, false, List, [], ◌∷◌, Option, Some, None, Global, length, refl, sym, ap, ◌∙◌, subst, arith}
 use Rattle.std.specs.Prelude.{slice_get, Contains}
 use Rattle.std.proofs.lemmas.Bool.{eq-eqb}
 use Rattle.std.proofs.lemmas.List.{length-map}
@@ -10,8 +10,6 @@ use Rattle.ca_program.specs.declared.program.Program.{Program}
 use Rattle.ca_program.specs.Plain.{PlainProgram, PlainMethod, Statement, for_loop}
 use Rattle.ca_program.specs.View.{method_view, program_view}
 use Rattle.ca_meaning.specs.Functions.{body_of}
-use Rattle.ca_parallel.specs.Bodies.{calls_of_all}
-use Rattle.ca_parallel.specs.Extents.{Extent, operation_body}
 use Rattle.ca_parallel.specs.ExtentsOf.{ExtentOf, Rises, OpBefore}
 use Rattle.ca_parallel.specs.Marks.{HasSite}
 use Rattle.ca_parallel.specs.Separable.{Separable, AreSeparated}
@@ -20,10 +18,9 @@ use Rattle.ca_section.proofs.Members.{pick, none}
 use Rattle.ca_symbolic.specs.OtherLoops.{is_call_loop}
 use Rattle.ca_verdicts.specs.declared.verdicts.Verdict.TheVariants.{Commutes}
 use Rattle.ca_verdicts.specs.Verdicts.{VerdictOf}
-use Rattle.ca_plan.specs.declared.plans.PairVerdict.{PairVerdict}
 use Rattle.ca_plan.specs.Pairs.{Pair, of_one_class, is_one_class, pairs_in}
-use Rattle.ca_plan.specs.Plans.{Judged, JudgedLoop, IsJudged, IsJudgedLoop, AnyOrder, IsMarked, IsMarkedLoop, MarksOf, PlainPlan, PlanOf, LoopBefore, pair_of, op_at, call_loops, call_loops_of}
-use Rattle.ca_plan.specs.Told.{PairTold, AllTold, AllWhollyTold, WhollyTold, JudgedOp, PlanTold, AllCommute, CommutingOp, CommutingLoop, shared}
+use Rattle.ca_plan.specs.Plans.{Judged, JudgedLoop, IsJudged, IsJudgedLoop, AnyOrder, IsMarked, IsMarkedLoop, PlainPlan, PlanOf, LoopBefore, pair_of, op_at, call_loops, call_loops_of}
+use Rattle.ca_plan.specs.Told.{AllWhollyTold, WhollyTold, JudgedOp, PlanTold, AllCommute, CommutingOp, CommutingLoop, shared}
 use Rattle.ca_plan.proofs.Sound.{found, of_form}
 
 -- Extents

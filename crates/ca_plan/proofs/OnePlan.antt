@@ -1,9 +1,8 @@
 -- Two plans of one program tell the same, but for which of the demands that differ is named: they have the same extents,
 -- lines and marks.
-use Rattle.std.proofs.Common.{◌≡◌, ◌↔◌, ◌+◌, ℕ, zero, suc, List, [], ◌∷◌, ◌++◌, Option, Some, None, length, map, refl, sym, ap, ap₂, ◌∙◌, subst, arith, codes}
+use Rattle.std.proofs.Common.{◌≡◌, ◌+◌, ℕ, zero, suc, List, [], ◌∷◌, ◌++◌, Some, length, map, refl, sym, ap, ap₂, ◌∙◌, subst, arith, codes}
 use Rattle.std.specs.Prelude.{true, slice_get, Contains, flat_map, decimal}
 use Rattle.std.proofs.lemmas.List.Elements.{Contains-append_cases, Contains-append_right}
-use Rattle.std.proofs.lemmas.Option.{same_Some}
 use Rattle.ca_program.specs.declared.program.FieldId.{FieldId}
 use Rattle.ca_program.specs.declared.program.LoopId.{LoopId}
 use Rattle.ca_program.specs.declared.program.OpId.{OpId}
@@ -23,7 +22,7 @@ use Rattle.ca_verdicts.proofs.Unique.{same_verdict}
 use Rattle.ca_plan.specs.declared.plans.PairVerdict.{PairVerdict}
 use Rattle.ca_plan.specs.Pairs.{Pair, pairs_in}
 use Rattle.ca_plan.specs.Plans.{Judged, JudgedLoop, IsJudged, IsJudgedLoop, AnyOrder, IsMarked, IsMarkedLoop, PlainPlan, PlanOf, pair_of, op_at, call_loops}
-use Rattle.ca_plan.specs.Texts.{verdict_text, names_text, pair_text, head_text, extent_text, extents_text, loop_text, pairs_text, modes_text, loop_mode_text, op_mode_text, plan_text}
+use Rattle.ca_plan.specs.Texts.{verdict_text, names_text, pair_text, head_text, extents_text, loop_text, pairs_text, modes_text, loop_mode_text, op_mode_text, plan_text}
 use Rattle.ca_plan.proofs.Made.{site_is}
 use Rattle.ca_plan.proofs.OneList.{one_list}
 

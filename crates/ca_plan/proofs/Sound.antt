@@ -1,32 +1,26 @@
 -- The marks of a plan are sound where its verdicts are right: the calls and the loops that it marks may run in any order.
-use Rattle.std.proofs.Common.{◌≡◌, ◌↔◌, ◌⊎◌, inl, inr, Bool, true, false, List, [], ◌∷◌, ◌++◌, refl, sym, ap, subst, ◌∙◌, if◌then◌else◌, Option, Some, None, map, slice_get, arith}
+use Rattle.std.proofs.Common.{◌≡◌, ◌⊎◌, inl, inr, Bool, true, false, List, [], ◌∷◌, ◌++◌, refl, sym, ap, subst, ◌∙◌, if◌then◌else◌, Option, Some, None, slice_get}
 use Rattle.std.specs.Prelude.{ℕ, zero, suc, Contains}
 use Rattle.std.proofs.lemmas.Bool.{eq-eqb}
 use Rattle.std.proofs.lemmas.List.Elements.{Contains-append_left, Contains-append_right, Contains-append_cases}
 use Rattle.ca_program.specs.declared.program.ClassId.{ClassId}
 use Rattle.ca_program.specs.declared.program.FieldId.{FieldId}
-use Rattle.ca_program.specs.declared.program.LoopId.{LoopId}
 use Rattle.ca_program.specs.declared.program.OpId.{OpId}
 use Rattle.ca_program.specs.Plain.{PlainProgram, PlainMethod, Statement}
 use Rattle.ca_meaning.specs.Commuting.{Commutes as Commute, SameOutcome}
 use Rattle.ca_meaning.specs.Sections.{Outcome}
 use Rattle.ca_meaning.specs.WellTyped.{IsMethodOf}
-use Rattle.ca_parallel.specs.Extents.{Extent, IsExtentOf, Invokes}
 use Rattle.ca_parallel.specs.Extents.Invokes.{root}
 use Rattle.ca_parallel.specs.Bodies.{calls_of}
-use Rattle.ca_parallel.specs.Marks.{HasSite, loops_of_program, SoundLoop, SoundMarks}
-use Rattle.ca_parallel.specs.Loops.{IsCallLoop}
+use Rattle.ca_parallel.specs.Marks.{loops_of_program, SoundLoop, SoundMarks}
 use Rattle.ca_parallel.specs.Parallel.{Parallel, ParallelFrom}
 use Rattle.ca_symbolic.specs.OtherLoops.{is_call_loop}
 use Rattle.ca_symbolic.proofs.CallLoops.{call_loops_are_told}
 use Rattle.ca_section.proofs.Members.{pick, front, alone, none}
-use Rattle.ca_extent.proofs.Members.{into_map, from_map}
-use Rattle.ca_verdicts.specs.declared.verdicts.Verdict.TheVariants.{Commutes}
-use Rattle.ca_verdicts.specs.Verdicts.{VerdictOf}
-use Rattle.ca_plan.specs.declared.plans.PairVerdict.{PairVerdict}
+use Rattle.ca_extent.proofs.Members.{from_map}
 use Rattle.ca_plan.specs.Pairs.{Pair, is_one_class, of_one_class, pairs_with, pairs_in}
 use Rattle.ca_plan.specs.Checked.{OneLoopEach}
-use Rattle.ca_plan.specs.Plans.{Judged, JudgedLoop, IsJudged, AnyOrder, CommuteIn, CommuteAsTold, pair_of, PlainPlan, PlanOf, call_loops, call_loops_of}
+use Rattle.ca_plan.specs.Plans.{Judged, IsJudged, AnyOrder, CommuteIn, CommuteAsTold, pair_of, PlainPlan, PlanOf, call_loops_of}
 
 -- Commuting has no first and second
 

@@ -11,8 +11,8 @@ use Rattle.ca_parallel.specs.ExtentsOf.{ExtentOf}
 use Rattle.ca_section.proofs.Members.{pick, alone, none}
 use Rattle.ca_plan.specs.declared.plans.PairVerdict.{PairVerdict}
 use Rattle.ca_plan.specs.Pairs.{Pair, of_one_class, pairs_with, pairs_in}
-use Rattle.ca_plan.specs.Plans.{Judged, pair_of}
-use Rattle.ca_plan.specs.Told.{PairTold, AllTold, Told, WhollyTold}
+use Rattle.ca_plan.specs.Plans.{pair_of}
+use Rattle.ca_plan.specs.Told.{PairTold, Told, WhollyTold}
 
 pub told_none : (p : PlainProgram) (x : Extent) (old : List PairVerdict) → Told p x old old []
 told_none p x old = record { added = []; all = sym (append-nil old); on = refl; each = λ v c. absurd (none v c) }

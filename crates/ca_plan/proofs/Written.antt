@@ -1,11 +1,11 @@
 -- Texts that are added piece by piece.
-use Rattle.std.proofs.Common.{◌≡◌, ◌<◌, ◌≤◌, ◌+◌, ℕ, List, [], ◌∷◌, ◌++◌, length, drop, get_or, Option, Result, Ok, Err, refl, sym, ap, ◌∙◌, subst, append_assoc, codes, flat_map}
-use Rattle.std.specs.Prelude.{decimal, slice_get, Some}
+use Rattle.std.proofs.Common.{◌≡◌, ◌<◌, ◌≤◌, ◌+◌, ℕ, List, [], ◌++◌, length, drop, get_or, Option, Result, Ok, Err, refl, sym, ap, ◌∙◌, subst, append_assoc, codes, flat_map}
+use Rattle.std.specs.Prelude.{slice_get, Some}
 use Rattle.std.proofs.lemmas.List.{drop_all}
 use Rattle.ca_program.specs.declared.program.OpId.{OpId}
 use Rattle.ca_program.specs.Plain.{PlainProgram, PlainMethod}
 use Rattle.ca_model.specs.Lines.{Went, Adds}
-use Rattle.ca_model.proofs.Lines.{adds_after, adds_more, went_after, went_whole, further, at_end, adds_nothing}
+use Rattle.ca_model.proofs.Lines.{adds_after, adds_more, went_after, further, at_end, adds_nothing}
 use Rattle.ca_model.proofs.Stores.{found}
 use Rattle.ca_model.proofs.Texts.{drop_there}
 use Rattle.ca_plan.specs.Plans.{Judged}

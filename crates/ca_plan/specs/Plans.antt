@@ -1,9 +1,9 @@
 -- The plan of a program: for each operation and for each call loop its extent with the verdicts on the pairs in it, and
 -- the marks on those whose calls may run in any order.
-use Rattle.std.specs.Prelude.{ℕ, ◌≡◌, ◌≢◌, ◌<◌, ◌↔◌, Bool, true, false, if◌then◌else◌, List, [], ◌∷◌, length, map, Some, slice_get, Contains}
+use Rattle.std.specs.Prelude.{ℕ, ◌≡◌, ◌≢◌, ◌<◌, ◌↔◌, true, if◌then◌else◌, List, [], ◌∷◌, length, map, Some, slice_get, Contains}
 use Rattle.ca_program.specs.declared.program.LoopId.{LoopId}
 use Rattle.ca_program.specs.declared.program.OpId.{OpId}
-use Rattle.ca_program.specs.Plain.{PlainProgram, Statement, Statements}
+use Rattle.ca_program.specs.Plain.{PlainProgram, Statement}
 use Rattle.ca_meaning.specs.Commuting.{Commutes as DoCommute}
 use Rattle.ca_meaning.specs.Flows.{line_of}
 use Rattle.ca_parallel.specs.Bodies.{calls_of, calls_of_all}
@@ -13,7 +13,6 @@ use Rattle.ca_parallel.specs.Lists.{PlainMarks}
 use Rattle.ca_parallel.specs.Marks.{loops_of_program, HasSite}
 use Rattle.ca_parallel.specs.Separable.{Separable, IsSeparated}
 use Rattle.ca_symbolic.specs.OtherLoops.{is_call_loop}
-use Rattle.ca_verdicts.specs.declared.verdicts.Verdict.{Verdict}
 use Rattle.ca_verdicts.specs.declared.verdicts.Verdict.TheVariants.{Commutes}
 use Rattle.ca_verdicts.specs.Verdicts.{VerdictOf}
 use Rattle.ca_plan.specs.declared.plans.PairVerdict.{PairVerdict}

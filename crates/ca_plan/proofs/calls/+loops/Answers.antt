@@ -1,5 +1,5 @@
 use Rattle.std.proofs.Common.{◌≡◌, ◌++◌, refl, sym, ap, ◌∙◌, subst, arith}
-use Rattle.ca_program.specs.Plain.{block, if_else}
+use Rattle.ca_program.specs.Plain.{block}
 use Rattle.ca_program.specs.View.{form_view, statement_view, statements_view}
 use Rattle.ca_program.proofs.Rows.{block_is}
 use Rattle.ca_parallel.specs.Bodies.{fors_in, fors_in_all}

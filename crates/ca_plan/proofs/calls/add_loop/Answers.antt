@@ -1,4 +1,4 @@
-use Rattle.std.proofs.Common.{◌≡◌, ◌∷◌, [], ◌++◌, true, false, sym, ap, ◌∙◌, append-nil, if◌then◌else◌}
+use Rattle.std.proofs.Common.{◌≡◌, true, false, sym, ap, ◌∙◌, append-nil}
 use Rattle.std.proofs.lemmas.List.{map-append}
 use Rattle.ca_program.specs.View.{statement_view}
 use Rattle.ca_symbolic.specs.OtherLoops.{is_call_loop}

@@ -1,10 +1,9 @@
-use Rattle.std.proofs.Common.{◌≡◌, [], ◌∷◌, ◌++◌, map, refl, sym, ap, ◌∙◌, arith}
+use Rattle.std.proofs.Common.{◌++◌, map, refl, sym, ap, ◌∙◌, arith}
 use Rattle.std.specs.Prelude.{flat_map}
 use Rattle.ca_program.specs.View.{method_view, statements_view}
 use Rattle.ca_parallel.specs.Bodies.{fors_in_all}
 use Rattle.ca_parallel.specs.Marks.{loops_of_method}
 use Rattle.ca_extent.proofs.Walks.{one_more, none_left}
-use Rattle.ca_plan.specs.Loops.{seen}
 use Rattle.ca_plan.specs.Plans.{call_loops_of}
 use Rattle.ca_plan.proofs.LoopWalks.{call_loops_of_both, loops_of_methods, of_method}
 use Rattle.ca_plan.proofs.calls.call_loops.Goals as goal

@@ -1,4 +1,4 @@
-use Rattle.std.proofs.Common.{◌≡◌, [], ◌∷◌, length, Some, arith, ap, sym, ◌∙◌, length-append}
+use Rattle.std.proofs.Common.{◌≡◌, [], ◌∷◌, length, Some, arith, ap, length-append}
 use Rattle.std.specs.Prelude.{slice_get}
 use Rattle.ca_program.specs.View.{program_view, statement_view}
 use Rattle.ca_plan.specs.Loops.{seen}

@@ -1,4 +1,4 @@
-use Rattle.std.proofs.Common.{◌≡◌, [], ◌∷◌, length, arith, ap, ◌∙◌, length-append}
+use Rattle.std.proofs.Common.{[], ◌∷◌, length, arith, ap, length-append}
 use Rattle.ca_program.specs.View.{program_view}
 use Rattle.ca_plan.proofs.Judgements.{more_ops, none_shared}
 use Rattle.ca_plan.proofs.judging.judged_ops.Goals as goal

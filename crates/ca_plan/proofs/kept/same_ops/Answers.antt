@@ -1,4 +1,4 @@
-use Rattle.std.proofs.Common.{◌≡◌, ap, sym, ◌∙◌, take_all, arith}
+use Rattle.std.proofs.Common.{sym, ◌∙◌, take_all, arith}
 use Rattle.ca_plan.proofs.Keeping.{one_more_same}
 use Rattle.ca_plan.proofs.kept.same_ops.Goals as goal
 

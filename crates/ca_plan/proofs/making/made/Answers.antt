@@ -1,5 +1,4 @@
-use Rattle.std.proofs.Common.{◌≡◌, List, Some, length, sym, ap, ◌∙◌, subst}
-use Rattle.std.specs.Prelude.{flat_map}
+use Rattle.std.proofs.Common.{◌≡◌, length, sym, ap, ◌∙◌, subst}
 use Rattle.std.specs.Borrow.{Bor}
 use Rattle.std.proofs.lemmas.List.{length-map}
 use Rattle.ca_program.specs.declared.program.Stmt.{Stmt}

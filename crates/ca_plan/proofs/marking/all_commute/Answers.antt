@@ -1,4 +1,4 @@
-use Rattle.std.proofs.Common.{◌≡◌, List, take, [], true, false, refl, sym, subst, arith, take_all}
+use Rattle.std.proofs.Common.{◌≡◌, List, refl, subst, arith, take_all}
 use Rattle.std.specs.Prelude.{Contains}
 use Rattle.ca_section.proofs.Members.{none}
 use Rattle.ca_plan.specs.declared.plans.PairVerdict.{PairVerdict}

@@ -1,11 +1,9 @@
-use Rattle.std.proofs.Common.{◌≡◌, ◌≤◌, [], List, Some, Global, length, sym, subst, ap, ◌∙◌, arith}
+use Rattle.std.proofs.Common.{◌≡◌, ◌≤◌, List, Some, Global, length, sym, subst, arith}
 use Rattle.std.specs.Prelude.{slice_get}
 use Rattle.std.proofs.lemmas.List.{length-map}
-use Rattle.std.proofs.lemmas.Option.{slice_get-map}
 use Rattle.std.specs.declared.rc.Rc.{Rc}
 use Rattle.ca_program.specs.declared.program.OpId.{OpId}
 use Rattle.ca_program.specs.View.{program_view}
-use Rattle.ca_model.proofs.Stores.{found}
 use Rattle.ca_plan.specs.Plans.{Judged}
 use Rattle.ca_plan.specs.Told.{shared}
 use Rattle.ca_plan.proofs.Chosen.{MarkedTo, none_marked, next_op, all_marked, shared_at}

@@ -1,4 +1,4 @@
-use Rattle.std.proofs.Common.{◌≡◌, ◌↔◌, true, sym, subst, ap}
+use Rattle.std.proofs.Common.{◌↔◌, true, subst}
 use Rattle.std.specs.Prelude.{IsTrue}
 use Rattle.ca_program.specs.View.{program_view, statement_view}
 use Rattle.ca_parallel.specs.Separable.{IsSeparated}

@@ -1,6 +1,5 @@
 use Rattle.std.proofs.Common.{◌≤◌, drop}
 use Rattle.std.specs.Prelude.{flat_map}
-use Rattle.ca_program.specs.View.{program_view}
 use Rattle.ca_plan.specs.Texts.{loop_mode_text}
 use Rattle.ca_plan.proofs.Written.{Doing}
 use Rattle.ca_plan.proofs.modes.add_loop_modes.Given as goal

@@ -1,12 +1,11 @@
-use Rattle.std.proofs.Common.{◌+◌, ◌≡◌, ◌≤◌, Some, Global, length, drop, arith}
-use Rattle.std.specs.Prelude.{slice_get}
+use Rattle.std.proofs.Common.{◌+◌, ◌≤◌, Global, length, drop, arith}
 use Rattle.std.proofs.lemmas.List.{length-map}
 use Rattle.std.specs.declared.rc.Rc.{Rc}
 use Rattle.ca_program.specs.View.{program_view}
 use Rattle.ca_plan.specs.Plans.{Judged}
 use Rattle.ca_plan.specs.Texts.{modes_text, op_mode_text}
 use Rattle.ca_plan.specs.Told.{shared}
-use Rattle.ca_plan.proofs.Chosen.{shared_at, stands_at}
+use Rattle.ca_plan.proofs.Chosen.{stands_at}
 use Rattle.ca_plan.proofs.Written.{begun, one_done, failed, all_done, one_mode, no_modes}
 use Rattle.ca_plan.proofs.modes.add_modes.Goals as goal
 

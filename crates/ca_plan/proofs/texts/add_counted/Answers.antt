@@ -1,7 +1,7 @@
 use Rattle.std.proofs.Common.{◌++◌}
 use Rattle.std.specs.Prelude.{decimal}
 use Rattle.ca_model.specs.Lines.{joined}
-use Rattle.ca_model.proofs.Lines.{adds_after, adds_more, went_after}
+use Rattle.ca_model.proofs.Lines.{adds_after, adds_more}
 use Rattle.ca_plan.proofs.texts.add_counted.Goals as goal
 
 pub returns-in-Err-clause-bytes : goal.returns-in-Err-clause-bytes

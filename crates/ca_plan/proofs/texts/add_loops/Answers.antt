@@ -1,4 +1,4 @@
-use Rattle.std.proofs.Common.{◌+◌, ◌≡◌, drop, arith}
+use Rattle.std.proofs.Common.{◌+◌, drop, arith}
 use Rattle.std.specs.Prelude.{flat_map}
 use Rattle.ca_program.specs.View.{program_view}
 use Rattle.ca_plan.specs.Texts.{loop_text}

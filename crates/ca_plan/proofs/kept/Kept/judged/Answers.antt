@@ -1,4 +1,4 @@
-use Rattle.std.proofs.Common.{◌≡◌, sym, subst}
+use Rattle.std.proofs.Common.{sym, subst}
 use Rattle.ca_program.specs.View.{program_view}
 use Rattle.ca_parallel.specs.ExtentsOf.{ExtentOf}
 use Rattle.ca_plan.specs.Plans.{Judged}
