@@ -20,6 +20,7 @@ use Rattle.ca_parallel.specs.Extents.{operation_body}
 use Rattle.ca_shared_terms.specs.Starts.{starts}
 use Rattle.ca_symbolic.specs.States.{PlainDemand}
 use Rattle.ca_symbolic.specs.Runs.{begins, executed}
+use Rattle.ca_symbolic_laws.proofs.Choices.{all_fields_kept}
 use Rattle.ca_verdicts.specs.declared.verdicts.Verdict.{Verdict}
 use Rattle.ca_verdicts.specs.declared.verdicts.Verdict.TheVariants.{Commutes, Unproved}
 use Rattle.ca_verdicts.specs.declared.verdicts.Reason.{Reason}
@@ -29,7 +30,6 @@ use Rattle.ca_verdicts.specs.Demands.{demanded_at}
 use Rattle.ca_verdicts.specs.Orders.{in_order, fields_at, start_of, first_order, second_order}
 use Rattle.ca_verdicts.specs.Verdicts.{CanExecute, is_large, VerdictOf}
 use Rattle.ca_verdicts.specs.Comparisons.{FieldsDiffer, TellsKey, TellsFirst, TellsSecond, TellsApart, DemandsDiffer, IsCompared}
-use Rattle.ca_verdicts.proofs.Kept.{all_long_as_before}
 
 -- what is told of a demand, from its parts
 pub told_of : (k : Key) (f g : PlainPolynomial) (ds es : List PlainDemand) (w : Reason) → f ≡ demanded_at k ds → g ≡ demanded_at k es → TellsKey k w → TellsFirst f w → TellsSecond g w → TellsApart w → DemandsDiffer ds es w
@@ -57,7 +57,7 @@ by_demand c ts us ds es reason.Large e h = absurd h
 -- an order keeps the number of fields
 pub long_order : (p : PlainProgram) (a : OpId) (g : ℕ) (b : OpId) (h : ℕ) (ts : List PlainTerm) → length (in_order p a g b h ts).fields ≡ length ts
 long_order p a g b h ts =
-    all_long_as_before p (operation_body p b) (begins p b h (executed p a g ts).fields) ∙ all_long_as_before p (operation_body p a) (begins p a g ts)
+    (all_fields_kept p (operation_body p b) (begins p b h (executed p a g ts).fields)).long ∙ (all_fields_kept p (operation_body p a) (begins p a g ts)).long
 
 -- the verdict on a pair whose orders were compared
 pub verdict_is : (p : PlainProgram) (written : List FieldId) (a b : OpId) (c : ClassId) (v : Verdict) → CanExecute p written a b → is_large p a b ≡ false → IsMethodOf (slice_get p.ops a.0) c →

@@ -3,7 +3,6 @@ pub mod Unique
 pub mod Looks
 pub mod Conditions
 pub mod MetDemands
-pub mod Kept
 pub mod Multisets
 pub mod Orders
 pub mod Sorts

@@ -4,12 +4,10 @@ use Rattle.std.specs.Prelude.{slice_get, Contains}
 use Rattle.std.specs.Option.{option_or}
 use Rattle.ca_program.specs.declared.program.ClassId.{ClassId}
 use Rattle.ca_program.specs.declared.program.FieldId.{FieldId}
-use Rattle.ca_program.specs.declared.program.FieldInfo.{FieldInfo}
 use Rattle.ca_program.specs.declared.program.LoopId.{LoopId}
 use Rattle.ca_program.specs.declared.program.OpId.{OpId}
 use Rattle.ca_program.specs.Plain.{PlainProgram, PlainMethod, Statement}
 use Rattle.ca_model.specs.declared.value.Value.{Value as Datum}
-use Rattle.ca_model.specs.declared.value.Slot.{Slot}
 use Rattle.ca_model.specs.declared.value.Object.{Object}
 use Rattle.ca_model.specs.Heaps.{fields_of}
 use Rattle.ca_model.specs.Typed.{IsOfClass, TypedHeap}
@@ -37,34 +35,13 @@ use Rattle.ca_symbolic.specs.Demands.{demanded_all}
 use Rattle.ca_symbolic.specs.OtherLoops.{other_loop_in}
 use Rattle.ca_symbolic_laws.specs.Costs.{plus, outcome_of, within}
 use Rattle.ca_symbolic_laws.specs.Demanded.{loop_at, cost, lists}
-use Rattle.ca_symbolic_laws.specs.Meant.{slot_meant, slots_meant, FieldsTyped}
+use Rattle.ca_symbolic_laws.specs.Meant.{FieldsTyped}
 use Rattle.ca_symbolic_laws.specs.Laws.{fields_in, arguments_in, Body, object_meant, Called}
-use Rattle.ca_symbolic_laws.proofs.Parts.{sections_are_meant, fields_stay_typed, starts_mean_the_object}
+use Rattle.ca_symbolic_laws.proofs.Parts.{sections_are_meant, fields_stay_typed, constants_are_kept, starts_mean_the_object}
 use Rattle.ca_symbolic.specs.Runs.{executed, first_other_loop}
 use Rattle.ca_verdicts.specs.Orders.{start_of}
 use Rattle.ca_verdicts.proofs.Looks.{met}
-use Rattle.ca_verdicts.proofs.Kept.{constant_kept}
 use Rattle.ca_verdicts.proofs.Orders.{IsMeant, price_of, left_by, behind_both, asked_by_both, Seen, environment, commutes_on}
-
--- Slots by their places
-
-abbrev slot_at : Valuation → Option PlainTerm → Option FieldInfo → Option Slot
-slot_at v (Some t) (Some f) = Some (slot_meant v t f.length)
-slot_at v (Some t) None = None
-slot_at v None y = None
-
-no_field : (v : Valuation) (x : Option PlainTerm) → slot_at v x None ≡ None
-no_field v None = refl
-no_field v (Some t) = refl
-
-slots_at : (v : Valuation) (ts : List PlainTerm) (fs : List FieldInfo) (n : ℕ) → slice_get (slots_meant v ts fs) n ≡ slot_at v (slice_get ts n) (slice_get fs n)
-slots_at v [] fs n = refl
-slots_at v (t ∷ ts) [] n = sym (no_field v (slice_get (t ∷ ts) n))
-slots_at v (t ∷ ts) (f ∷ fs) zero = refl
-slots_at v (t ∷ ts) (f ∷ fs) (suc n) = slots_at v ts fs n
-
-slot_kept : (v : Valuation) (ts us : List PlainTerm) (fs : List FieldInfo) (n : ℕ) → slice_get ts n ≡ slice_get us n → slice_get (slots_meant v ts fs) n ≡ slice_get (slots_meant v us fs) n
-slot_kept v ts us fs n e = slots_at v ts fs n ∙ (ap (λ z. slot_at v z (slice_get fs n)) e ∙ sym (slots_at v us fs n))
 
 -- an operation of the class, with its arguments
 record MethodAt (p : PlainProgram) (h : List Object) (r : ℕ) (op : OpId) (c : ClassId) (xs : List Datum) : Type 0 where
@@ -164,18 +141,9 @@ module _ (p : PlainProgram) (x : Extent) (typed : ProgramTyped p) (found : Loops
           (subst (λ (z : ClassId). FieldsTyped h (valuation_in env) (after_all p (record { fields = fields; locals = first_locals g (Some q.m) }) q.m.body.statements).fields (fields_in env z)) q.class (fields_stay_typed env x.written op q.m g fields (called fields w)))
 
       agrees_behind : (fields : List PlainTerm) → Ready fields → AgreesAt x.written (object_meant env c (executed p op g fields).fields) h r
-      agrees_behind fields w = record {
-        other = w.agrees.other;
-        there = w.agrees.there;
-        agree = record {
-          class = w.agrees.agree.class;
-          constants = λ f e n.
-              slot_kept (valuation_in env) _ fields (fields_in env c) f.field
-              (ap (λ z. slice_get z f.field) (behind_at env x.written op q.m q.at g fields)
-              ∙ constant_kept p (scope_of q.m) x.written f (ap Some (q.class ∙ sym e)) n q.m.body.statements (record { fields = fields; locals = first_locals g (Some q.m) }) body_fits.typed body_fits.puts)
-              ∙ w.agrees.agree.constants f e n;
-        };
-      }
+      agrees_behind fields w =
+          subst (λ z. AgreesAt x.written (object_meant env c z) h r) (sym (behind_at env x.written op q.m q.at g fields))
+          (subst (λ (z : ClassId). AgreesAt x.written (object_meant env z (after_all p (record { fields = fields; locals = first_locals g (Some q.m) }) q.m.body.statements).fields) h r) q.class (constants_are_kept env x.written op q.m g fields (called fields w)))
 
       ready_behind : (fields : List PlainTerm) → Ready fields → Ready (executed p op g fields).fields
       ready_behind fields w = record { holds = typed_behind fields w; agrees = agrees_behind fields w }
