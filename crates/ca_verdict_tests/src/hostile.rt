@@ -34,14 +34,19 @@ fn repeat(text: &mut Vec<u8>, part: &str, times: u32) -> Result<(), Fail> {
     Ok(())
 }
 
+/// The last digit of a number.
+fn last_digit(n: u32) -> u8 {
+    b'0'.wrapping_add((n % 10) as u8)
+}
+
 /// Adds a part so often, with a number of four digits behind its front.
 fn count(text: &mut Vec<u8>, front: &str, times: u32, back: &str) -> Result<(), Fail> {
     for n in 0..times {
         add(text, front)?;
-        for place in [1000u32, 100, 10, 1] {
-            let digit = (n / place) % 10;
-            text.push(b'0'.wrapping_add(digit as u8))?;
-        }
+        text.push(last_digit(n / 1_000))?;
+        text.push(last_digit(n / 100))?;
+        text.push(last_digit(n / 10))?;
+        text.push(last_digit(n))?;
         add(text, back)?;
     }
     Ok(())
