@@ -184,11 +184,12 @@ tells_reads (Run w b) e = absurd cc
 tells_reads (Gen x n) e = absurd cc
 
 -- what each of these commands tells
-module _ {p : PlainProgram} {plan : PlainPlan} {command : Command} {bytes : List ℕ} {status : ℕ} {old now : Option (List ℕ)} where
-  pub told_verdicts : command ≡ Pairs → Tells p plan command bytes → Ends (record { status = 0; bytes = pairs_text p plan }) status old now → Ends (record { status = 0; bytes = bytes }) status old now
-  told_verdicts e verdicts ends = ends
-  told_verdicts e marks ends = absurd cc
+pub told_verdicts : {p : PlainProgram} {plan : PlainPlan} {command : Command} {bytes : List ℕ} {status : ℕ} {old now : Option (List ℕ)} → command ≡ Pairs → Tells p plan command bytes
+    → Ends (record { status = 0; bytes = pairs_text p plan }) status old now → Ends (record { status = 0; bytes = bytes }) status old now
+told_verdicts e verdicts ends = ends
+told_verdicts e marks ends = absurd cc
 
-  pub told_marks : command ≡ Plan → Tells p plan command bytes → Ends (record { status = 0; bytes = plan_text p plan }) status old now → Ends (record { status = 0; bytes = bytes }) status old now
-  told_marks e marks ends = ends
-  told_marks e verdicts ends = absurd cc
+pub told_marks : {p : PlainProgram} {plan : PlainPlan} {command : Command} {bytes : List ℕ} {status : ℕ} {old now : Option (List ℕ)} → command ≡ Plan → Tells p plan command bytes
+    → Ends (record { status = 0; bytes = plan_text p plan }) status old now → Ends (record { status = 0; bytes = bytes }) status old now
+told_marks e marks ends = ends
+told_marks e verdicts ends = absurd cc

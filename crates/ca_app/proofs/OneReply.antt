@@ -6,7 +6,7 @@ use Rattle.ca_program.specs.Plain.{PlainProgram}
 use Rattle.ca_parse.proofs.OneTree.{tree_is_one}
 use Rattle.ca_meaning.specs.Output.{Reply}
 use Rattle.ca_words.specs.declared.Command.{Command}
-use Rattle.ca_words.specs.declared.Command.TheVariants.{Run, Pairs, Plan, Gen}
+use Rattle.ca_words.specs.declared.Command.TheVariants.{Run, Gen}
 use Rattle.ca_words.specs.Words.{Names, reads}
 use Rattle.ca_words.proofs.OneCommand.{one_command}
 use Rattle.ca_plan.specs.Plans.{PlainPlan, PlanOf}
@@ -15,7 +15,7 @@ use Rattle.ca_app.specs.Accepted.{HasTree, Accepted}
 use Rattle.ca_app.specs.Refusals.{RefusedAt, too_long, no_token, wrong_token, deep_token, violates, refusal_reply}
 use Rattle.ca_app.specs.Reading.{HasOneTree, IsProgramOf, IsRefusalOf}
 use Rattle.ca_app.specs.Reply.{ProgramReplies, runs, tells, CommandReplies, refuses, serves, Replies, usage, generates, named, generated_reply}
-use Rattle.ca_app.specs.Told.{Tells, verdicts, marks}
+use Rattle.ca_app.specs.Told.{Tells, verdicts, marks, tells_plan}
 use Rattle.ca_app.proofs.OneProgram.{derived_by}
 use Rattle.ca_app.proofs.OneRefusal.{refused_as_long, refused_no_token, refused_wrong, refused_deep, refused_violation, program_of_tree}
 
@@ -39,16 +39,19 @@ one_telling : {p : PlainProgram} {command : Command} {bytes others : List ℕ} (
 one_telling {p = p} x y is other verdicts verdicts = one_pairs_text p x y is other
 one_telling {p = p} x y is other marks marks = one_plan_text p x y is other
 
--- a run tells no plan
-no_run : {p : PlainProgram} {plan : PlainPlan} {workers budget : ℕ} {bytes : List ℕ} (command : Command) → command ≡ Run workers budget → Tells p plan command bytes → ⊥
-no_run Pairs e verdicts = cc
-no_run Plan e marks = cc
+-- what tells a plan is a command that tells plans, and no run
+pub tells_is : {p : PlainProgram} {plan : PlainPlan} {command : Command} {bytes : List ℕ} → Tells p plan command bytes → tells_plan command ≡ true
+tells_is verdicts = refl
+tells_is marks = refl
+
+no_run : {p : PlainProgram} {plan : PlainPlan} {workers budget : ℕ} {bytes : List ℕ} → Tells p plan (Run workers budget) bytes → ⊥
+no_run {workers = workers} {budget = budget} t = let telling : tells_plan (Run workers budget) ≡ true = tells_is t in cc
 
 -- a command has one reply to a program
 pub program_reply : {p : PlainProgram} {command : Command} {r s : Reply} → ProgramReplies p command r → ProgramReplies p command s → r ≡ s
 program_reply runs runs = refl
-program_reply runs (tells is t) = absurd (no_run _ refl t)
-program_reply (tells is t) runs = absurd (no_run _ refl t)
+program_reply runs (tells is t) = absurd (no_run t)
+program_reply (tells is t) runs = absurd (no_run t)
 program_reply (tells {plan = x} is t) (tells {plan = y} other u) =
     let P : List ℕ → Reply = λ z. record { status = 0; bytes = z } in ap P (one_telling x y is other t u)
 

@@ -8,13 +8,13 @@ use Rattle.ca_words.specs.declared.Command.{Command}
 use Rattle.ca_words.specs.declared.Command.TheVariants.{Run}
 use Rattle.ca_words.specs.Words.{Names, reads}
 use Rattle.ca_words.proofs.OneCommand.{one_command}
-use Rattle.ca_plan.specs.Plans.{PlainPlan}
 use Rattle.ca_app.specs.Accepted.{Accepted}
 use Rattle.ca_app.specs.Refusals.{is_limit_code, refusal_status}
 use Rattle.ca_app.specs.Reply.{ProgramReplies, runs, tells, refuses, serves, Replies, usage, generates, named}
-use Rattle.ca_app.specs.Told.{Tells, verdicts, marks, tells_plan, CommandTold}
+use Rattle.ca_app.specs.Told.{tells_plan, CommandTold}
 use Rattle.ca_app.specs.Ends.{Ends, whole, no_memory, read_fault, write_fault, Unreplied, EndsWith, Complete}
 use Rattle.ca_app.specs.Causes.{IsRefused, RunEnds, PlanTold, Generates, IsDone, IsTrapped, IsSpent}
+use Rattle.ca_app.proofs.OneReply.{tells_is}
 use Rattle.ca_app.proofs.Endings.{tells_reads}
 
 -- the words name a command that tells a plan
@@ -106,10 +106,6 @@ run_at : (p : PlainProgram) (command : Command) (reply : Reply) (status : ℕ) �
     → ProgramReplies p command reply → status ≡ reply.status → IsRun p command status
 run_at p command reply status zero (runs {workers = w} {budget = b}) e = record { workers = w; budget = b; is = refl; same = e }
 run_at p command reply status zero (tells is t) e = absurd (zero e)
-
-tells_is : {p : PlainProgram} {plan : PlainPlan} {command : Command} {bytes : List ℕ} → Tells p plan command bytes → tells_plan command ≡ true
-tells_is verdicts = refl
-tells_is marks = refl
 
 done_at : (p : PlainProgram) (command : Command) (reply : Reply)
     → ProgramReplies p command reply → 0 ≡ reply.status → IsRun p command 0 ⊎ (tells_plan command ≡ true)

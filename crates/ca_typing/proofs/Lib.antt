@@ -9,10 +9,10 @@ mod Methods
 mod Members
 mod Typing
 mod Ascending
-mod Numbers
+pub mod Numbers
 mod Visible
 mod Scoping
-mod ScopedPrograms
+pub mod ScopedPrograms
 mod LiteralTokens
 mod LiteralExpressions
 mod LiteralTrees

@@ -7,11 +7,9 @@ returns-in-Ok-clause-program c = program_of_tree c.in_ok-tree.ensures.tree c.in-
 pub returns-in-Err-Violation-clause-cause : goal.returns-in-Err-Violation-clause-cause
 returns-in-Err-Violation-clause-cause c =
     let told = rw c.in-Err-Violation.field-0-is at c.in-Err-Violation.ensures.refused in
-    rw c.in-Err-Violation.field-0-is
-    (refused_violation (record { at = c.in-Err-Violation.at; code = c.in-Err-Violation.code.0 }) c.in_ok-tree.ensures.tree told.1)
+    refused_violation (record { at = c.in-Err-Violation.at; code = c.in-Err-Violation.code.0 }) c.in_ok-tree.ensures.tree told.1
 
 pub returns-in-Err-Limit-clause-cause : goal.returns-in-Err-Limit-clause-cause
 returns-in-Err-Limit-clause-cause c =
     let told = rw c.in-Err-Limit.field-0-is at c.in-Err-Limit.ensures.refused in
-    rw c.in-Err-Limit.field-0-is
-    (refused_violation (record { at = c.in-Err-Limit.at; code = c.in-Err-Limit.code.0 }) c.in_ok-tree.ensures.tree told.1)
+    refused_violation (record { at = c.in-Err-Limit.at; code = c.in-Err-Limit.code.0 }) c.in_ok-tree.ensures.tree told.1
