@@ -128,7 +128,7 @@ const ROWS: [Row; 30] = [
         (0, 0),
         Told::Commutes,
     ),
-    // Here the index is checked twice, and here once; each commutes with itself, the two don't.
+    // Here the index is checked twice, and here once: the first sum reads the item again.
     Row(
         "class H { public: long a[3]; void m(long i, long x) { a[i] = a[i] + x; } void n(long i, long x) { a[i] += x; }
         void both(long i, long x) { m(i, x); n(i, x); } }; int main() { }",
