@@ -42,7 +42,7 @@ use Rattle.ca_note_laws.specs.Handed.{ListsAreGood, NotesAside, without_notes}
 
 -- ---- lists
 
-at_front : {A : Type 0} (x : A) (xs : List A) → Contains (x ∷ xs) x
+pub at_front : {A : Type 0} (x : A) (xs : List A) → Contains (x ∷ xs) x
 at_front x xs = Contains-append_left (x ∷ []) xs x (Contains-push [] x)
 
 behind : {A : Type 0} (x : A) (xs : List A) (y : A) → Contains xs y → Contains (x ∷ xs) y
@@ -68,7 +68,7 @@ op_there (x ∷ xs) op e = from (nat_eq x.0 op.0) refl e (λ d. op_there xs op d
     from true d e more = subst (λ z. Contains (z ∷ xs) op) (sym (same_op x op d)) (at_front op xs)
     from false d e more = behind x xs op (more e)
 
-loop_there : (ids : List LoopId) (x : Statement) → loop_in ids x ≡ true → (id : LoopId) × Contains ids id × (has_site x id ≡ true)
+pub loop_there : (ids : List LoopId) (x : Statement) → loop_in ids x ≡ true → (id : LoopId) × Contains ids id × (has_site x id ≡ true)
 loop_there [] x e = absurd (cc)
 loop_there (id ∷ ids) x e = from (has_site x id) refl e (λ d. loop_there ids x d)
   where
@@ -76,10 +76,10 @@ loop_there (id ∷ ids) x e = from (has_site x id) refl e (λ d. loop_there ids 
     from true d e more = (id, at_front id ids, d)
     from false d e more = let r = more e in (r.0, behind id ids r.0 r.1, r.2)
 
-same_site : (site id : LoopId) → nat_eq site.0 id.0 ≡ true → site ≡ id
+pub same_site : (site id : LoopId) → nat_eq site.0 id.0 ≡ true → site ≡ id
 same_site site id e = ap loop_at (same_number site.0 id.0 e)
 
-loops_inside : (p : PlainProgram) (m : PlainMethod) (n : ℕ) → slice_get p.ops n ≡ Some m → Within (loops_of_program p) (fors_in_all m.body.statements)
+pub loops_inside : (p : PlainProgram) (m : PlainMethod) (n : ℕ) → slice_get p.ops n ≡ Some m → Within (loops_of_program p) (fors_in_all m.body.statements)
 loops_inside p m n e x c = Contains-append_left (flat_map loops_of_method p.ops) (fors_in_all p.main.statements) x (from p.ops n e)
   where
     from : (xs : List PlainMethod) (n : ℕ) → slice_get xs n ≡ Some m → Contains (flat_map loops_of_method xs) x
@@ -87,7 +87,7 @@ loops_inside p m n e x c = Contains-append_left (flat_map loops_of_method p.ops)
     from (y ∷ ys) zero e = let same : y ≡ m = cc in Contains-append_left (loops_of_method y) (flat_map loops_of_method ys) x (subst (λ (z : PlainMethod). Contains (loops_of_method z) x) (sym same) c)
     from (y ∷ ys) (suc n) e = Contains-append_right (loops_of_method y) (flat_map loops_of_method ys) x (from ys n e)
 
-main_inside : (p : PlainProgram) → Within (loops_of_program p) (fors_in_all p.main.statements)
+pub main_inside : (p : PlainProgram) → Within (loops_of_program p) (fors_in_all p.main.statements)
 main_inside p x c = Contains-append_right (flat_map loops_of_method p.ops) (fors_in_all p.main.statements) x c
 
 -- ---- notes that a run keeps
@@ -120,18 +120,18 @@ pub notes_aside : NotesAside
 notes_aside p ms budget = aside (noted_run p ms budget) ∙ run_forgets p ms budget
 
 module _ (p : PlainProgram) where
-  abbrev NotesGood : List Note → Type 0
+  abbrev pub NotesGood : List Note → Type 0
   NotesGood ns = (n : Note) → Contains ns n → NoteGood p n
 
   one_more : (ns : List Note) (n : Note) → NotesGood ns → NoteGood p n → NotesGood (ns ++ n ∷ [])
   one_more ns n all good m c = ⊎_elim (λ a. all m a) (λ e. subst (NoteGood p) e good) (Contains-push_cases ns n m c)
 
   -- the world is typed, and its notes are good
-  record Good (s : Scope) (r : Datum) (w : World) : Type 0 where
-    world : WorldTyped p s r w
-    notes : NotesGood w.notes
+  pub record Good (s : Scope) (r : Datum) (w : World) : Type 0 where
+    pub world : WorldTyped p s r w
+    pub notes : NotesGood w.notes
 
-  abbrev GoodFlow : Scope → Datum → List Object → Flow World → Type 0
+  abbrev pub GoodFlow : Scope → Datum → List Object → Flow World → Type 0
   GoodFlow s r h a = FlowTyped heap_of (Good s r) s h a
 
   with_notes : (s : Scope) (r : Datum) (h : List Object) (ns : List Note) → NotesGood ns → (a : Flow World) → WorldFlow p s r h a → (world_after a).notes ≡ ns → GoodFlow s r h a
@@ -141,9 +141,9 @@ module _ (p : PlainProgram) where
   with_notes s r h ns all (runs_out w) (runs_out_typed _ good ext) e = runs_out_typed w (record { world = good; notes = subst NotesGood (sym e) all }) ext
 
   -- a run keeps the heap typed, and its notes are good
-  record Kept (h : List Object) (a : Flow World) : Type 0 where
-    heap : KeepsHeap p h a
-    notes : NotesGood (world_after a).notes
+  pub record Kept (h : List Object) (a : Flow World) : Type 0 where
+    pub heap : KeepsHeap p h a
+    pub notes : NotesGood (world_after a).notes
 
   world_moved : (s : Scope) (r : Datum) (w v : World) → WorldTyped p s r w → w.heap ≡ v.heap → WorldTyped p s r v
   world_moved s r w v good same = record { heap = subst (TypedHeap p) same good.heap; receiver = subst (λ g. IsReceiver g s.class r) same good.receiver }
@@ -202,19 +202,19 @@ module _ (p : PlainProgram) where
     noted_heap w k (loop_stopped t) = refl
     noted_heap w k loop_over = refl
 
-    abbrev loops : List Statement
+    abbrev pub loops : List Statement
     loops = loops_of_program p
 
     -- ---- calls and loops, where those of an operation's body are good
 
-    record NotedOps (o : Operations) : Type 0 where
-      invokes : (i : Invocation) (w : World) (k : ℕ) → TypedHeap p w.heap → WellTyped p w.heap i → NotesGood w.notes → Kept w.heap (o.invoke i w k)
-      agains : (s : Scope) (r : Datum) (h : List Object) (line : ℕ) (ls : List Datum) (w : World) (y : Statement) (k : ℕ) → Good s r w → Extends h w.heap → ValuesTyped w.heap ls s.locals → StatementTyped p s y → Within loops (fors_in y) → GoodFlow s r h (o.again r line ls w y k)
+    pub record NotedOps (o : Operations) : Type 0 where
+      pub invokes : (i : Invocation) (w : World) (k : ℕ) → TypedHeap p w.heap → WellTyped p w.heap i → NotesGood w.notes → Kept w.heap (o.invoke i w k)
+      pub agains : (s : Scope) (r : Datum) (h : List Object) (line : ℕ) (ls : List Datum) (w : World) (y : Statement) (k : ℕ) → Good s r w → Extends h w.heap → ValuesTyped w.heap ls s.locals → StatementTyped p s y → Within loops (fors_in y) → GoodFlow s r h (o.again r line ls w y k)
 
     -- what the serial run of calls and loops is
-    record PlainOps (q : Operations) : Type 0 where
-      typed : OperationsTyped p q
-      moves : (ns : List Note) → MovedOps as_is (all_notes ns) q q
+    pub record PlainOps (q : Operations) : Type 0 where
+      pub typed : OperationsTyped p q
+      pub moves : (ns : List Note) → MovedOps as_is (all_notes ns) q q
 
     module _ (q o : Operations) (plain : PlainOps q) (all : NotedOps o) (s : Scope) (r : Datum) (h : List Object) where
       call_alone : (ls : List Datum) (i : Invocation) (w : World) (k : ℕ) → Good s r w → Extends h w.heap → ValuesTyped w.heap ls s.locals → WellTyped p w.heap i → GoodFlow s r h (run_call o ls i w k)
@@ -274,7 +274,7 @@ module _ (p : PlainProgram) where
           (due_typed p s (place w.heap r line ls) (functions_of p.functions w.heap).call (calls_typed p program w.heap good.world.heap) (serial_place p w.heap s r line ls good.world.heap good.world.receiver t) e op es c tys is te tes k)
           (λ i j well. call_good ls i w j good ext t well)
 
-      value_typed : (line : ℕ) (ls : List Datum) (w : World) (e : Expression) (ty : ValueType) (k : ℕ) → Good s r w → ValuesTyped w.heap ls s.locals → ExpressionTyped p s e ty → Yields (λ v. HasType w.heap v ty) (parts.value line ls w e k)
+      pub value_typed : (line : ℕ) (ls : List Datum) (w : World) (e : Expression) (ty : ValueType) (k : ℕ) → Good s r w → ValuesTyped w.heap ls s.locals → ExpressionTyped p s e ty → Yields (λ v. HasType w.heap v ty) (parts.value line ls w e k)
       value_typed line ls w e ty k good t te = let all : PartsTyped heap_of (WorldTyped p s r) p s (operation_parts p q r) = parts_typed p program q plain.typed s r in all.values line ls w e ty k good.world t te
 
       turn_of_good : (c : Expression) (f : List Datum → World → ℕ → Flow World) (loop : Statement) (line : ℕ) (ls : List Datum) (w : World) (k : ℕ) → Good s r w → Extends h w.heap → ValuesTyped w.heap ls s.locals → ExpressionTyped p s c BoolType → StatementTyped p s loop → Within loops (fors_in loop) → ((ls : List Datum) (w : World) (k : ℕ) → Good s r w → Extends h w.heap → ValuesTyped w.heap ls s.locals → GoodFlow s r h (f ls w k)) → GoodFlow s r h (turn_of parts c f loop line ls w k)
@@ -285,7 +285,7 @@ module _ (p : PlainProgram) where
           (goes_on_typed ls w k1 good ext t))
 
       mutual
-        exec_good : (y : Statement) → StatementTyped p s y → Within loops (fors_in y) → (line : ℕ) (ls : List Datum) (w : World) (k : ℕ) → Good s r w → Extends h w.heap → ValuesTyped w.heap ls s.locals → GoodFlow s r h (exec parts line ls w y k)
+        pub exec_good : (y : Statement) → StatementTyped p s y → Within loops (fors_in y) → (line : ℕ) (ls : List Datum) (w : World) (k : ℕ) → Good s r w → Extends h w.heap → ValuesTyped w.heap ls s.locals → GoodFlow s r h (exec parts line ls w y k)
         exec_good (block l ss) ty here line ls w k good ext t = all_exec_good ss ty here ls w k good ext t
         exec_good (put_local l i op e) ty here line ls w k good ext t =
             typed_with heap_of (Good s r) s (λ v. HasType w.heap v ty.0) h (parts.value line ls w e k) w _ good ext (value_typed line ls w e ty.0 k good t ty.2.1)
@@ -323,7 +323,7 @@ module _ (p : PlainProgram) where
             typed_on heap_of (Good s r) s h (exec parts (line_of y) ls w y k) _ (exec_good y ty.0 (within_left loops (fors_in y) (fors_in_all rest) here) (line_of y) ls w k good ext t)
             (λ ls1 w1 k1 good1 ext1 t1. all_exec_good rest ty.1 (within_right loops (fors_in y) (fors_in_all rest) here) ls1 w1 k1 good1 ext1 t1)
 
-      turn_good : (y : Statement) → StatementTyped p s y → Within loops (fors_in y) → (line : ℕ) (ls : List Datum) (w : World) (k : ℕ) → Good s r w → Extends h w.heap → ValuesTyped w.heap ls s.locals → GoodFlow s r h (turn parts line ls w y k)
+      pub turn_good : (y : Statement) → StatementTyped p s y → Within loops (fors_in y) → (line : ℕ) (ls : List Datum) (w : World) (k : ℕ) → Good s r w → Extends h w.heap → ValuesTyped w.heap ls s.locals → GoodFlow s r h (turn parts line ls w y k)
       turn_good (while_loop l c b) ty here line ls w k good ext t =
           turn_of_good c _ (while_loop l c b) line ls w k good ext t ty.0 ty here (λ ls w k good ext t. exec_good b ty.1 here (line_of b) ls w k good ext t)
       turn_good (for_loop l site part first c next b) ty here line ls w k good ext t =
@@ -347,7 +347,7 @@ module _ (p : PlainProgram) where
 
     -- ---- the body of an operation, and the whole run
 
-    body_good : (q o : Operations) → PlainOps q → NotedOps o → (i : Invocation) (w : World) (k : ℕ) → TypedHeap p w.heap → NotesGood w.notes → (m : Option PlainMethod) → slice_get p.ops i.op.0 ≡ m → CallTyped w.heap m i.receiver i.arguments → Kept w.heap (exec_all (noted_parts p ms q o (Ref i.receiver)) (locals_of m i.arguments) w (body_of m) k)
+    pub body_good : (q o : Operations) → PlainOps q → NotedOps o → (i : Invocation) (w : World) (k : ℕ) → TypedHeap p w.heap → NotesGood w.notes → (m : Option PlainMethod) → slice_get p.ops i.op.0 ≡ m → CallTyped w.heap m i.receiver i.arguments → Kept w.heap (exec_all (noted_parts p ms q o (Ref i.receiver)) (locals_of m i.arguments) w (body_of m) k)
     body_good q o plain all i w k heap notes None e c = absurd c
     body_good q o plain all i w k heap notes (Some m) e c =
         let mt : OperationTyped p m = program.ops i.op.0 m e in
@@ -359,7 +359,7 @@ module _ (p : PlainProgram) where
     plain_at : (n : ℕ) → PlainOps (operations n p)
     plain_at n = record { typed = operations_typed p program n; moves = λ ns. ops_moved as_is (all_notes ns) (λ ps v. refl) p n }
 
-    plain_all : PlainOps (operations_of p)
+    pub plain_all : PlainOps (operations_of p)
     plain_all = record { typed = all_operations_typed p program; moves = λ ns. all_ops_moved as_is (all_notes ns) (λ ps v. refl) p }
 
     noted_at : (n : ℕ) → NotedOps (noted_operations n p ms)
