@@ -12,6 +12,6 @@ returns-else-begins-4-clause-none c = each
   where
     each : (m : Mark) (r : List ℕ) → c.args.text.now ≢ mark_text m ++ r
     each Lock r e = apart (c.begins.ensures.no r e) c.if-begins.false
-    each Unlock r e = apart (c.begins-2.ensures.no r e) c.if-begins-2.false
-    each Spawn r e = apart (c.begins-3.ensures.no r e) c.if-begins-3.false
-    each Parallel r e = apart (c.begins-4.ensures.no r e) c.if-begins-4.false
+    each Unlock r e = apart (c.begins-else-begins.ensures.no r e) c.if-begins-2.false
+    each Spawn r e = apart (c.begins-else-begins-2.ensures.no r e) c.if-begins-3.false
+    each Parallel r e = apart (c.begins-else-begins-3.ensures.no r e) c.if-begins-4.false
