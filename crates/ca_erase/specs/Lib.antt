@@ -1,0 +1,2 @@
+pub mod BadMarks
+pub mod Fronts
