@@ -16,12 +16,7 @@ use ca_words::Command;
 use std::alloc::Global;
 
 /// Makes the plan of a program, and tells it.
-pub fn tell_plan<K: Sink>(
-    alloc: Global,
-    command: Command,
-    program: &Program,
-    sink: &mut K,
-) -> u8
+pub fn tell_plan<K: Sink>(alloc: Global, command: Command, program: &Program, sink: &mut K) -> u8
     requires checked { Checked (program_view program.now) }
     requires tells { tells_plan command ≡ true }
     ensures ends { EndsWith (ProgramReplies (program_view program.now) command) result (K.written sink.old) (K.written sink.new) }
@@ -37,12 +32,7 @@ pub fn tell_plan<K: Sink>(
 }
 
 /// Writes what a command tells of the plan of a program.
-fn tell<K: Sink>(
-    command: Command,
-    program: &Program,
-    plan: &Plan,
-    sink: &mut K,
-) -> u8
+fn tell<K: Sink>(command: Command, program: &Program, plan: &Plan, sink: &mut K) -> u8
     requires tells { tells_plan command ≡ true }
     ensures ends { (bytes : List ℕ) → Tells (program_view program.now) plan.now command bytes → Ends (record { status = DONE; bytes = bytes }) result (K.written sink.old) (K.written sink.new) }
     ensures write_fault { SinkCause result (K.faults sink.old) (K.faults sink.new) }

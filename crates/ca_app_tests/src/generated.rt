@@ -1,8 +1,8 @@
 //! Large inputs from numbers.
 
-use ca_app::generate;
 use crate::calls::Call;
 use crate::sources::FIRST;
+use ca_app::generate;
 use std::alloc::AllocError;
 
 /// Three nodes, linked by the numbers of seed 7.

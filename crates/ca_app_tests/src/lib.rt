@@ -9,9 +9,9 @@ mod devices;
 #[cfg(test)]
 mod generated;
 #[cfg(test)]
-mod plans;
-#[cfg(test)]
 mod pieces;
+#[cfg(test)]
+mod plans;
 #[cfg(test)]
 mod refusals;
 #[cfg(test)]

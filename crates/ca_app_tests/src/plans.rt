@@ -42,7 +42,11 @@ const TOLD: [(&str, &str, &str); 12] = [
         GRAPH_VISIT,
         "extent Graph::init\nGraph::init Graph::init unproved FieldDiffers value\nextent Graph::visit\nGraph::visit Graph::visit commutes\n",
     ),
-    ("plan", GRAPH_VISIT, "op Graph::init serial\nop Graph::visit parallel\n"),
+    (
+        "plan",
+        GRAPH_VISIT,
+        "op Graph::init serial\nop Graph::visit parallel\n",
+    ),
     (
         "pairs",
         ACCUMULATOR,
@@ -53,7 +57,11 @@ const TOLD: [(&str, &str, &str); 12] = [
         ACCUMULATOR,
         "op Acc::add serial\nop Acc::sub serial\nop Acc::mul serial\nop Acc::mix serial\nop Acc::par parallel\n",
     ),
-    ("pairs", STACK, "extent Stack::put\nStack::put Stack::put unproved FieldDiffers buf\n"),
+    (
+        "pairs",
+        STACK,
+        "extent Stack::put\nStack::put Stack::put unproved FieldDiffers buf\n",
+    ),
     (
         "pairs",
         SETS,
@@ -74,8 +82,16 @@ const TOLD: [(&str, &str, &str); 12] = [
         PAIR,
         "extent Bin::add\nBin::add Bin::add commutes\nextent Pair::fill\nPair::fill Pair::fill unproved NotSeparable Pair::fill 9 Creates\nloop 14\nBin::add Bin::add commutes\n",
     ),
-    ("plan", PAIR, "op Bin::add serial\nop Pair::fill serial\nloop 14 parallel\n"),
-    ("pairs", BOUND, "extent M::up\nM::up M::up unproved FieldDiffers x\n"),
+    (
+        "plan",
+        PAIR,
+        "op Bin::add serial\nop Pair::fill serial\nloop 14 parallel\n",
+    ),
+    (
+        "pairs",
+        BOUND,
+        "extent M::up\nM::up M::up unproved FieldDiffers x\n",
+    ),
 ];
 
 /// Verdicts and marks.
