@@ -1,0 +1,16 @@
+use Rattle.std.proofs.Common.{rules, ◌≡◌, zero, [], ◌∷◌, refl, sym, ◌∙◌, subst, arith}
+use Rattle.std.specs.Prelude.{Contains}
+use Rattle.ca_program.specs.Plain.{PlainProgram}
+use Rattle.ca_meaning.specs.ProgramTyped.{ProgramTyped}
+use Rattle.ca_parallel.specs.Extents.{Extent, root}
+use Rattle.ca_cells.specs.Seats.{cells_key}
+use Rattle.ca_cell_tests.specs.Counters.{twice}
+use Rattle.ca_cell_tests.proofs.Counting.{counters_typed}
+use Rattle.ca_cell_tests.proofs.pools.collects.Goals as goal
+
+pub make-requires-clause-program : goal.make-requires-clause-program
+make-requires-clause-program g c = subst (λ (p : PlainProgram). ProgramTyped p) (sym c.requires.0) counters_typed
+
+pub round-requires-clause-first : goal.round-requires-clause-first
+round-requires-clause-first g c = let k = c.in_ok-cells.ensures.key in
+    (c.in_ok-first.ensures.may_run (cells_key c.in_ok-cells.cells) (record { program = k.0 ∙ c.requires.0; frozen = k.2 ∙ c.in_ok-heap.ensures; inside = subst (λ (x : Extent). Contains x.ops twice) (sym k.1) ((c.in_ok-extent.ensures.holds.ops twice).1 (root (zero, omega arith, refl))) }), c.in_ok-first.ensures.begins)
