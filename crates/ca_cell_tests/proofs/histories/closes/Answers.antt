@@ -5,8 +5,8 @@ use Rattle.ca_meaning.specs.ProgramTyped.{ProgramTyped}
 use Rattle.ca_parallel.specs.Extents.{Extent, root}
 use Rattle.ca_cells.specs.Seats.{IsOf}
 use Rattle.ca_cells.specs.declared.cells.Seat.{Seat}
-use Rattle.ca_cell_tests.specs.Counters.{twice}
-use Rattle.ca_cell_tests.proofs.Counting.{counters_typed}
+use Rattle.ca_counters.specs.Counters.{twice}
+use Rattle.ca_counters.proofs.Counting.{counters_typed}
 use Rattle.ca_cell_tests.proofs.SameSeats.{Same, same_again, still_of, all_still, last_noted, last_holds}
 use Rattle.ca_cell_tests.proofs.histories.closes.Goals as goal
 

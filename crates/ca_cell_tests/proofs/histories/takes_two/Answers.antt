@@ -5,8 +5,8 @@ use Rattle.ca_meaning.specs.ProgramTyped.{ProgramTyped}
 use Rattle.ca_logs.specs.Legal.{LegalCell}
 use Rattle.ca_cells.specs.Rounds.{frozen_of}
 use Rattle.ca_cells.specs.Seats.{cells_key}
-use Rattle.ca_cell_tests.specs.Counters.{counters, starts}
-use Rattle.ca_cell_tests.proofs.Counting.{counters_typed}
+use Rattle.ca_counters.specs.Counters.{counters, starts}
+use Rattle.ca_counters.proofs.Counting.{counters_typed}
 use Rattle.ca_cell_tests.proofs.SameSeats.{one_alone}
 use Rattle.ca_cell_tests.proofs.histories.takes_two.Goals as goal
 

@@ -3,8 +3,8 @@ use Rattle.std.specs.Prelude.{Contains}
 use Rattle.ca_program.specs.Plain.{PlainProgram}
 use Rattle.ca_meaning.specs.ProgramTyped.{ProgramTyped}
 use Rattle.ca_parallel.specs.Extents.{Extent, root}
-use Rattle.ca_cell_tests.specs.Counters.{twice}
-use Rattle.ca_cell_tests.proofs.Counting.{counters_typed}
+use Rattle.ca_counters.specs.Counters.{twice}
+use Rattle.ca_counters.proofs.Counting.{counters_typed}
 use Rattle.ca_cell_tests.proofs.rounds.round.Goals as goal
 
 pub make-requires-clause-program : goal.make-requires-clause-program

@@ -10,8 +10,8 @@ use Rattle.ca_parallel.specs.Extents.{Extent, IsExtentOf, root}
 use Rattle.ca_logs.specs.declared.log.Task.{Task}
 use Rattle.ca_cells.specs.Rounds.{IsGiven, MayRun, program_of, extent_of, frozen_of}
 use Rattle.ca_cells.specs.declared.rule.Given.{Given}
-use Rattle.ca_cell_tests.specs.Counters.{IsSet, counters, starts, twice}
-use Rattle.ca_cell_tests.proofs.Counting.{twice_typed}
+use Rattle.ca_counters.specs.Counters.{IsSet, counters, starts, twice}
+use Rattle.ca_counters.proofs.Counting.{twice_typed}
 
 pub may_count : (key : Given) (n r : ℕ) (t : Task) → IsSet key n → r < n → t ≡ record { op = record { receiver = r; op = twice; args = [] }; after = 0 } → MayRun key t
 may_count key n r t s l e = subst (MayRun key) (sym e) (record {

@@ -2,9 +2,9 @@ use Rattle.std.proofs.Common.{◌≡◌, ℕ, ◌+◌, suc, ap, ◌∙◌, arith
 use Rattle.ca_program.specs.Plain.{PlainProgram}
 use Rattle.ca_model.specs.declared.value.Object.{Object}
 use Rattle.ca_model.specs.Heaps.{created}
-use Rattle.ca_cell_tests.specs.Counters.{counter, counters, starts}
-use Rattle.ca_cell_tests.proofs.Counting.{one_more}
-use Rattle.ca_cell_tests.proofs.counters.heap.Goals as goal
+use Rattle.ca_counters.specs.Counters.{counter, counters, starts}
+use Rattle.ca_counters.proofs.Counting.{one_more}
+use Rattle.ca_counters.proofs.counters.heap.Goals as goal
 
 pub loop-made-preserved : goal.loop-made-preserved
 loop-made-preserved c = let i = c.loop-made.invariant in let n = c.loop-made.made in let more : suc n ≡ n + 1 = omega arith in (

@@ -4,8 +4,8 @@ use Rattle.ca_program.specs.View.{statements_view, expressions_view}
 use Rattle.ca_program.specs.declared.program.Expr.{Expr, This}
 use Rattle.ca_program.specs.declared.program.StmtForm.{Invoke}
 use Rattle.ca_program.specs.declared.program.Stmt.{Stmt}
-use Rattle.ca_cell_tests.specs.Counters.{method, add, counts_one}
-use Rattle.ca_cell_tests.proofs.counters.counting_twice.Goals as goal
+use Rattle.ca_counters.specs.Counters.{method, add, counts_one}
+use Rattle.ca_counters.proofs.counters.counting_twice.Goals as goal
 
 pub returns : goal.returns
 returns c = let first : c.push.new.self.items ≡ c.count.result ∷ [] = c.in_ok-push.ensures.items ∙ ap (λ (ss : List Stmt). ss ++ c.count.result ∷ []) c.new-stmts.ensures.items in

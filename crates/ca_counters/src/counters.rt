@@ -3,7 +3,7 @@
 ghost use Rattle.std.specs.Prelude.{◌≡◌, [], IfOk};
 ghost use Rattle.ca_program.specs.Plain.{this, no_expressions, invoke, no_statements, statement_and};
 ghost use Rattle.ca_program.specs.View.{class_view, method_view, program_view, statement_view, statements_view};
-ghost use Rattle.ca_cell_tests.specs.Counters.{add, counter_class, counters, counts, counts_one, method, starts, twice};
+ghost use Rattle.ca_counters.specs.Counters.{add, counter_class, counters, counts, counts_one, method, starts, twice};
 
 use ca_logs::Task;
 use ca_model::{Heap, Values};

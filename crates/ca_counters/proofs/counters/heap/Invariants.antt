@@ -1,6 +1,6 @@
 use Rattle.std.proofs.Common.{◌≡◌, ◌≤◌, ◌-◌}
-use Rattle.ca_cell_tests.specs.Counters.{starts}
-use Rattle.ca_cell_tests.proofs.counters.heap.Given as goal
+use Rattle.ca_counters.specs.Counters.{starts}
+use Rattle.ca_counters.proofs.counters.heap.Given as goal
 
 abbrev pub invariant-loop-made : goal.invariant-loop-made
 invariant-loop-made l = (l.heap ≡ starts l.made) × (l.made ≤ l.count)

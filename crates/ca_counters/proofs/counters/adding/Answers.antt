@@ -2,8 +2,8 @@ use Rattle.std.proofs.Common.{◌≡◌, List, [], ◌∷◌, ◌++◌, ap, ◌�
 use Rattle.ca_program.specs.Plain.{Statement, no_statements, statement_and}
 use Rattle.ca_program.specs.View.{statements_view}
 use Rattle.ca_program.specs.declared.program.Stmt.{Stmt}
-use Rattle.ca_cell_tests.specs.Counters.{method}
-use Rattle.ca_cell_tests.proofs.counters.adding.Goals as goal
+use Rattle.ca_counters.specs.Counters.{method}
+use Rattle.ca_counters.proofs.counters.adding.Goals as goal
 
 pub returns : goal.returns
 returns c = let items : c.push.new.self.items ≡ c.count.result ∷ [] = c.in_ok-push.ensures.items ∙ ap (λ (ss : List Stmt). ss ++ c.count.result ∷ []) c.new-stmts.ensures.items in

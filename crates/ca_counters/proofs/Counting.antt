@@ -19,7 +19,7 @@ use Rattle.ca_parallel.specs.Extents.{Extent, IsExtentOf}
 use Rattle.ca_parallel.specs.Separable.{AreSeparated}
 use Rattle.ca_order_laws.specs.Order.{StandsFor}
 use Rattle.ca_cells.specs.Rounds.{SeparableIn}
-use Rattle.ca_cell_tests.specs.Counters.{counter, add, twice, method, counts, counters, start, starts}
+use Rattle.ca_counters.specs.Counters.{counter, add, twice, method, counts, counters, start, starts}
 
 fits_one : FitsSigned w64 (pos 1)
 fits_one = omega (arith, ints)

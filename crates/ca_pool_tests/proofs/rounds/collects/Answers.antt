@@ -4,9 +4,9 @@ use Rattle.ca_program.specs.Plain.{PlainProgram}
 use Rattle.ca_meaning.specs.ProgramTyped.{ProgramTyped}
 use Rattle.ca_parallel.specs.Extents.{Extent, root}
 use Rattle.ca_cells.specs.Seats.{cells_key}
-use Rattle.ca_cell_tests.specs.Counters.{twice}
-use Rattle.ca_cell_tests.proofs.Counting.{counters_typed}
-use Rattle.ca_cell_tests.proofs.pools.collects.Goals as goal
+use Rattle.ca_counters.specs.Counters.{twice}
+use Rattle.ca_counters.proofs.Counting.{counters_typed}
+use Rattle.ca_pool_tests.proofs.rounds.collects.Goals as goal
 
 pub make-requires-clause-program : goal.make-requires-clause-program
 make-requires-clause-program g c = subst (λ (p : PlainProgram). ProgramTyped p) (sym c.requires.0) counters_typed

@@ -1,8 +1,8 @@
 use Rattle.std.proofs.Common.{rules, ◌≡◌, ap, arith}
 use Rattle.ca_logs.specs.declared.log.Task.{Task}
 use Rattle.ca_cells.specs.Rounds.{MayRun}
-use Rattle.ca_cell_tests.proofs.FirstTasks.{may_count, one_at_end}
-use Rattle.ca_cell_tests.proofs.pools.first_tasks.Goals as goal
+use Rattle.ca_pool_tests.proofs.FirstTasks.{may_count, one_at_end}
+use Rattle.ca_pool_tests.proofs.rounds.first_tasks.Goals as goal
 
 pub loop-object-preserved : goal.loop-object-preserved
 loop-object-preserved c = let q = c.in_ok-push.ensures.items in let i = c.loop-object.invariant in record {

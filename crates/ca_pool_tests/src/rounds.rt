@@ -5,9 +5,9 @@ ghost use Rattle.ca_program.specs.View.{program_view};
 ghost use Rattle.ca_logs.specs.declared.log.Task.{Task};
 ghost use Rattle.ca_cells.specs.Rounds.{MayRun};
 ghost use Rattle.ca_cells.specs.declared.rule.Given.{Given};
-ghost use Rattle.ca_cell_tests.specs.Counters.{IsSet, counters};
+ghost use Rattle.ca_counters.specs.Counters.{IsSet, counters};
 
-use crate::counters::{heap, let_go, program, twice};
+use ca_counters::{heap, let_go, program, twice};
 use ca_base::OpenGate;
 use ca_cells::Cells;
 use ca_extent::extent_of;
