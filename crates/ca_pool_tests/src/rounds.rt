@@ -7,9 +7,9 @@ ghost use Rattle.ca_cells.specs.Rounds.{MayRun};
 ghost use Rattle.ca_cells.specs.declared.rule.Given.{Given};
 ghost use Rattle.ca_counters.specs.Counters.{IsSet, counters};
 
-use ca_counters::{heap, let_go, program, twice};
 use ca_base::OpenGate;
 use ca_cells::Cells;
+use ca_counters::{heap, let_go, program, twice};
 use ca_extent::extent_of;
 use ca_logs::{RoundLog, Task};
 use ca_pool::Pool;
