@@ -33,11 +33,11 @@ fn first_tasks(alloc: Global, count: u32) -> Result<Vec<Task>, AllocError>
 
 /// How many of the tasks wait for each object.
 fn waiting(alloc: Global, rest: &[Task], objects: usize) -> Result<Vec<u32>, AllocError> {
-    let mut counts = vec![in alloc; 0; objects]?;
+    let mut counts: Vec<u32> = vec![in alloc; 0; objects]?;
     for task in rest {
         let at = task.op.receiver as usize;
         if at < counts.len() {
-            counts[at] = counts[at].wrapping_add(1u32);
+            counts[at] = counts[at].wrapping_add(1);
         }
     }
     Ok(counts)
