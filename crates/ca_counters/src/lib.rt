@@ -1,0 +1,6 @@
+//! A program whose objects count, and heaps of such objects, for tests of cells and of the pool.
+#![tactic(auto)]
+
+mod counters;
+
+pub use counters::{heap, let_go, program, twice};

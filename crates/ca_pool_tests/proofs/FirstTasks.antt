@@ -1,0 +1,27 @@
+-- First tasks of a round over counting objects.
+use Rattle.std.proofs.Common.{◌≡◌, ℕ, zero, suc, ◌<◌, List, [], ◌∷◌, ◌++◌, All, sym, ◌∙◌, subst, arith}
+use Rattle.std.proofs.lemmas.List.Elements.{All-append}
+use Rattle.std.specs.Prelude.{Contains}
+use Rattle.ca_program.specs.Plain.{PlainProgram}
+use Rattle.ca_model.specs.declared.value.Object.{Object}
+use Rattle.ca_meaning.specs.Expressions.{invocation}
+use Rattle.ca_meaning.specs.WellTyped.{WellTyped}
+use Rattle.ca_parallel.specs.Extents.{Extent, IsExtentOf, root}
+use Rattle.ca_logs.specs.declared.log.Task.{Task}
+use Rattle.ca_cells.specs.Rounds.{IsGiven, MayRun, program_of, extent_of, frozen_of}
+use Rattle.ca_cells.specs.declared.rule.Given.{Given}
+use Rattle.ca_counters.specs.Counters.{IsSet, counters, starts, twice}
+use Rattle.ca_counters.proofs.Counting.{twice_typed}
+
+pub may_count : (key : Given) (n r : ℕ) (t : Task) → IsSet key n → r < n → t ≡ record { op = record { receiver = r; op = twice; args = [] }; after = 0 } → MayRun key t
+may_count key n r t s l e = subst (MayRun key) (sym e) (record {
+  typed = subst (λ (p : PlainProgram). WellTyped p (frozen_of key) (invocation r twice [])) (sym s.program) (subst (λ (h : List Object). WellTyped counters h (invocation r twice [])) (sym s.frozen) (twice_typed n r l));
+  inside = s.inside;
+})
+
+all_one : {A : Type 0} (P : A → Type 0) (x : A) → P x → All P (x ∷ [])
+all_one P x h zero d l = h
+all_one P x h (suc k) d l = absurd (omega (arith, l))
+
+pub one_at_end : {A : Type 0} (P : A → Type 0) (olds news : List A) (x : A) → news ≡ olds ++ x ∷ [] → All P olds → P x → All P news
+one_at_end P olds news x e h p = subst (All P) (sym e) (All-append P olds (x ∷ []) h (all_one P x p))
