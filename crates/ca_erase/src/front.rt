@@ -1,9 +1,7 @@
 //! What stands in front of a text.
 
 ghost use Rattle.std.specs.Prelude.{◌≡◌, ◌≢◌, ◌<◌, ◌≤◌, ◌+◌, ◌++◌, ℕ, List, length, drop, true, IfSome, IfNone};
-ghost use Rattle.std.specs.List.{prefix_len};
-ghost use Rattle.ca_lex.specs.Bytes.{is_no_line_feed};
-ghost use Rattle.ca_lex.specs.Pieces.{close_len, closes};
+ghost use Rattle.ca_lex.specs.Pieces.{close_len};
 ghost use Rattle.ca_canonical.specs.declared.marks.Mark.{Mark as PlainMark};
 ghost use Rattle.ca_canonical.specs.Marks.{mark_text};
 ghost use Rattle.ca_canonical.specs.Erased.{block_len, comment_behind, comment_len, opens_mark};
@@ -11,6 +9,7 @@ ghost use Rattle.ca_erase.specs.BadMarks.{space_of};
 ghost use Rattle.ca_erase.specs.Fronts.{IsFront};
 
 use ca_canonical::Mark;
+use ca_lex::{close_of, line_len};
 
 /// What stands in front, with the number of its bytes.
 pub(crate) enum Front {
@@ -76,14 +75,6 @@ fn comment_behind(behind: &[u8]) -> Option<usize>
     }
 }
 
-/// How many bytes stand before the first line feed, or all where there is none.
-fn line_len(text: &[u8]) -> usize
-    ensures length { result ≡ prefix_len is_no_line_feed text.now }
-    ensures within { result ≤ length text.now }
-{
-    text.iter().take_while(|b| **b != b'\n').count()
-}
-
 /// How many bytes a comment of `/*` has, where the text stands behind these two: through the first `*/`, or all.
 fn block_len(text: &[u8]) -> usize
     ensures length { result ≡ block_len (close_len text.now) text.now }
@@ -93,28 +84,6 @@ fn block_len(text: &[u8]) -> usize
         Some(n) => n + 2,
         None => text.len() + 2,
     }
-}
-
-/// How many bytes there are through the first `*/`.
-fn close_of(text: &[u8]) -> Option<usize>
-    ensures length { result ≡ close_len text.now }
-    ensures within { IfSome result (λ n. n ≤ length text.now) }
-{
-    let mut n: usize = 0;
-    while n + 1 < text.len() {
-        if closes(text[n], text[n + 1]) {
-            return Some(n + 2);
-        }
-        n += 1;
-    }
-    None
-}
-
-/// Whether the two bytes are `*/`.
-fn closes(first: u8, second: u8) -> bool
-    ensures { result ≡ closes first second }
-{
-    first == b'*' && second == b'/'
 }
 
 /// Whether `/*@` stands in front.

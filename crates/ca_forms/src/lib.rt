@@ -18,4 +18,5 @@ mod sort;
 pub mod sums;
 
 pub use crate::form::Normal;
+pub use crate::order::compare_scalars;
 pub use crate::sort::Sort;

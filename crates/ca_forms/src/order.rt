@@ -380,9 +380,10 @@ impl Scalars {
     }
 }
 
+/// Form by form, and a list before its longer ones.
 #[cycle(compare)]
 #[inline(never)]
-fn compare_scalars(a: &[Scalar], b: &[Scalar]) -> Ordering
+pub fn compare_scalars(a: &[Scalar], b: &[Scalar]) -> Ordering
     ensures { result ≡ slice_cmp scalar_cmp a.now b.now }
 {
     let count = a.len().min(b.len());

@@ -43,7 +43,7 @@ pub(crate) fn digits_len(text: &[u8]) -> usize
 }
 
 /// How many bytes stand before the first line feed, or all where there is none.
-pub(crate) fn line_len(text: &[u8]) -> usize
+pub fn line_len(text: &[u8]) -> usize
     ensures length { result ≡ prefix_len is_no_line_feed text.now }
     ensures within { result ≤ length text.now }
 {

@@ -108,7 +108,7 @@ fn slash(behind: &[u8]) -> Front
 }
 
 /// How many bytes there are through the first `*/`.
-fn close_of(text: &[u8]) -> Option<usize>
+pub fn close_of(text: &[u8]) -> Option<usize>
     ensures length { result ≡ close_len text.now }
     ensures within { IfSome result (λ n. n ≤ length text.now) }
 {

@@ -11,7 +11,7 @@ use std::alloc::{AllocError, Global};
 /// A term. An atom has a sort, a group and a number in the group. Group 0 is the receiver, 1 and 2
 /// are the parameters of the first and of the second operation, and 3 is what the receiver's fields
 /// hold at the start. Truth values are 1 and 0 in a normal form, and numbers wrap round at 64 bits.
-#[derive(Drop, Debug)]
+#[derive(Drop)]
 pub enum Term {
     Number(i64),
     Truth(bool),

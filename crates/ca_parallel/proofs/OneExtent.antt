@@ -9,9 +9,9 @@ use Rattle.ca_parallel.specs.Extents.{Extent}
 use Rattle.ca_parallel.specs.ExtentsOf.{Rises, OpBefore, FunctionBefore, FieldBefore, ExtentOf}
 
 -- no item comes before itself, and what comes before an item comes before all behind it
-record Orders {A : Type 0} (Before : A → A → Type 0) : Type 0 where
-  never : (x : A) → ¬ Before x x
-  through : (x y z : A) → Before x y → Before y z → Before x z
+pub record Orders {A : Type 0} (Before : A → A → Type 0) : Type 0 where
+  pub never : (x : A) → ¬ Before x x
+  pub through : (x y z : A) → Before x y → Before y z → Before x z
 
 at_front : {A : Type 0} (x y : A) (xs : List A) → Contains (x ∷ xs) y → (x ≡ y) ⊎ Contains xs y
 at_front x y xs (zero, below, is) = inl is
@@ -35,7 +35,7 @@ module _ {A : Type 0} (Before : A → A → Type 0) (order : Orders Before) wher
   first_is_least x [] r y (k, below, is) = absurd (omega (arith, below))
   first_is_least x (z ∷ zs) r y c = least_from x z zs y (r.rises 0 x z refl refl) (first_is_least z zs (rest_rises x (z ∷ zs) r) y) (at_front z y zs c)
 
-  abbrev Same : List A → List A → Type 0
+  abbrev pub Same : List A → List A → Type 0
   Same xs ys = (z : A) → Contains xs z ↔ Contains ys z
 
   first_same : (x y : A) (xs ys : List A) → Rises Before (x ∷ xs) → Rises Before (y ∷ ys) → Same (x ∷ xs) (y ∷ ys) → x ≡ y
@@ -57,7 +57,7 @@ module _ {A : Type 0} (Before : A → A → Type 0) (order : Orders Before) wher
   rest_same : (x y : A) (xs ys : List A) → Rises Before (x ∷ xs) → Rises Before (y ∷ ys) → x ≡ y → Same (x ∷ xs) (y ∷ ys) → Same xs ys
   rest_same x y xs ys rx ry e same = λ z. (rest_holds x y xs ys rx e (λ u. (same u).0) z, rest_holds y x ys xs ry (sym e) (λ u. (same u).1) z)
 
-  one_list : (xs ys : List A) → Rises Before xs → Rises Before ys → Same xs ys → xs ≡ ys
+  pub one_list : (xs ys : List A) → Rises Before xs → Rises Before ys → Same xs ys → xs ≡ ys
   one_list [] [] rx ry same = refl
   one_list [] (y ∷ ys) rx ry same = none ((same y).1 (front y ys))
     where
@@ -73,7 +73,7 @@ module _ {A : Type 0} (Before : A → A → Type 0) (order : Orders Before) wher
 
 -- ---- the three orders
 
-ops_order : Orders OpBefore
+pub ops_order : Orders OpBefore
 ops_order = record { never = λ a less. omega (arith, less); through = λ a b c x y. omega (arith, x, y) }
 
 functions_order : Orders FunctionBefore

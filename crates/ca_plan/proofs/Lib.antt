@@ -9,5 +9,4 @@ pub mod Judgements
 pub mod Tested
 pub mod Chosen
 pub mod Written
-pub mod OneList
 pub mod OnePlan

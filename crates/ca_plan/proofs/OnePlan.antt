@@ -11,7 +11,8 @@ use Rattle.ca_parallel.specs.Bodies.{calls_of}
 use Rattle.ca_parallel.specs.Extents.{Extent}
 use Rattle.ca_parallel.specs.Lists.{PlainMarks}
 use Rattle.ca_parallel.specs.Separable.{Separable, IsSeparated}
-use Rattle.ca_parallel.proofs.OneExtent.{one_extent}
+use Rattle.ca_parallel.specs.ExtentsOf.{OpBefore}
+use Rattle.ca_parallel.proofs.OneExtent.{Orders, ops_order, one_extent, one_list}
 use Rattle.ca_section.proofs.Members.{pick, front, alone, none}
 use Rattle.ca_verdicts.specs.Laws.{SameVerdict, OneVerdict}
 use Rattle.ca_verdicts.specs.declared.verdicts.Verdict.{Verdict}
@@ -21,10 +22,9 @@ use Rattle.ca_verdicts.specs.Verdicts.{VerdictOf}
 use Rattle.ca_verdicts.proofs.Unique.{same_verdict}
 use Rattle.ca_plan.specs.declared.plans.PairVerdict.{PairVerdict}
 use Rattle.ca_plan.specs.Pairs.{Pair, pairs_in}
-use Rattle.ca_plan.specs.Plans.{Judged, JudgedLoop, IsJudged, IsJudgedLoop, AnyOrder, IsMarked, IsMarkedLoop, PlainPlan, PlanOf, pair_of, op_at, call_loops}
+use Rattle.ca_plan.specs.Plans.{Judged, JudgedLoop, IsJudged, IsJudgedLoop, AnyOrder, IsMarked, IsMarkedLoop, PlainPlan, PlanOf, pair_of, op_at, call_loops, LoopBefore}
 use Rattle.ca_plan.specs.Texts.{verdict_text, names_text, pair_text, head_text, extents_text, loop_text, pairs_text, modes_text, loop_mode_text, op_mode_text, plan_text}
 use Rattle.ca_plan.proofs.Made.{site_is}
-use Rattle.ca_plan.proofs.OneList.{one_list}
 
 -- Verdicts
 
@@ -190,11 +190,14 @@ loop_too one p x y a b site m =
       constant = subst (λ (z : Extent). IsSeparated p z.written true m.loop) same.judged.extent m.constant;
     }
 
+loops_order : Orders LoopBefore
+loops_order = record { never = λ a less. omega (arith, less); through = λ a b c x y. omega (arith, x, y) }
+
 marks_by : OneVerdict → (p : PlainProgram) (x y : PlainPlan) → PlanOf p x → PlanOf p y → x.marks ≡ y.marks
 marks_by one p x y a b =
-    let ops : x.marks.ops ≡ y.marks.ops = one_list (λ (o : OpId). o.0) x.marks.ops y.marks.ops a.marks.ops_rise b.marks.ops_rise
+    let ops : x.marks.ops ≡ y.marks.ops = one_list OpBefore ops_order x.marks.ops y.marks.ops a.marks.ops_rise b.marks.ops_rise
     (λ op. (λ c. (b.marks.ops op).1 (mark_too one p x y a b op ((a.marks.ops op).0 c)), λ c. (a.marks.ops op).1 (mark_too one p y x b a op ((b.marks.ops op).0 c)))) in
-    let loops : x.marks.loops ≡ y.marks.loops = one_list (λ (l : LoopId). l.0) x.marks.loops y.marks.loops a.marks.loops_rise b.marks.loops_rise
+    let loops : x.marks.loops ≡ y.marks.loops = one_list LoopBefore loops_order x.marks.loops y.marks.loops a.marks.loops_rise b.marks.loops_rise
     (λ site. (λ c. (b.marks.loops site).1 (loop_too one p x y a b site ((a.marks.loops site).0 c)), λ c. (a.marks.loops site).1 (loop_too one p y x b a site ((b.marks.loops site).0 c)))) in
     λ i. record { ops = ops i; loops = loops i }
 

@@ -5,8 +5,6 @@ ghost use Rattle.std.specs.Ordering.{is_eq, as_partial_cmp};
 ghost use Rattle.std.specs.Cmp.{partial_equiv_from_equiv, partial_order_from_agreeing_total};
 ghost use Rattle.std.proofs.lemmas.Cmp.{eq_by_cmp_equiv};
 ghost use Rattle.std.proofs.Common.{refl};
-ghost use Rattle.std.specs.Cmp.Lexicographic.{slice_cmp};
-ghost use Rattle.ca_forms.specs.Compare.{scalar_cmp};
 ghost use Rattle.ca_forms.specs.Lists.{scalars_of};
 ghost use Rattle.ca_forms.specs.Trees.{tree_cmp};
 ghost use Rattle.ca_norm.specs.Terms.{terms_of};
@@ -15,6 +13,7 @@ ghost use Rattle.ca_symbolic.specs.Demanded.{kind_of};
 ghost use Rattle.ca_verdicts.specs.Keys.{numbers, kind_code, key_cmp, key_total};
 ghost use Rattle.ca_verdicts.specs.Marks.{key_at};
 
+use ca_forms::compare_scalars;
 use ca_forms::parts::{both, longer};
 use ca_forms::polynomial::Scalar;
 use ca_shared_terms::LightTerm;
@@ -71,20 +70,6 @@ fn compare_kinds(a: DemandKind, b: DemandKind) -> Ordering
     }
 }
 
-/// Form by form, and a list before its longer ones.
-fn compare_forms(a: &[Scalar], b: &[Scalar]) -> Ordering
-    ensures { result ≡ slice_cmp scalar_cmp a.now b.now }
-{
-    let count = a.len().min(b.len());
-    for i in 0..count {
-        match a[i].compare(&b[i]) {
-            Ordering::Equal => {}
-            order => return order,
-        }
-    }
-    a.len().cmp(&b.len())
-}
-
 /// The normal forms of the parts of a demand.
 fn forms_of(alloc: Global, parts: &[LightTerm]) -> Result<Vec<Scalar>, AllocError>
     ensures { IfOk result (λ v. scalars_of v.items ≡ arguments_of (terms_of parts.now)) }
@@ -114,7 +99,7 @@ impl Key {
         ensures { result ≡ key_cmp self.now other.now }
     {
         match compare_kinds(self.kind, other.kind) {
-            Ordering::Equal => compare_forms(self.parts.as_slice(), other.parts.as_slice()),
+            Ordering::Equal => compare_scalars(self.parts.as_slice(), other.parts.as_slice()),
             order => order,
         }
     }

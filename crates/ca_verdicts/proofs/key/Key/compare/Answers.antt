@@ -10,4 +10,4 @@ use Rattle.ca_verdicts.proofs.key.Key.compare.Goals as goal
 pub returns-in-Equal : goal.returns-in-Equal
 returns-in-Equal c =
     let kinds : tree_cmp (kind_code (kind_of c.self.inside.kind)) (kind_code (kind_of c.other.inside.kind)) ≡ Equal = sym c.compare_kinds.ensures ∙ c.in-Equal.is in
-    rw (← c.self.view_is, ← c.other.view_is, kinds) (c.compare_forms.ensures ∙ (ap₂ (slice_cmp scalar_cmp) c.as_slice.ensures.value c.as_slice-in-Equal.ensures.value ∙ arguments_cmp c.self.inside.parts.items c.other.inside.parts.items))
+    rw (← c.self.view_is, ← c.other.view_is, kinds) (c.compare_scalars.ensures ∙ (ap₂ (slice_cmp scalar_cmp) c.as_slice.ensures.value c.as_slice-in-Equal.ensures.value ∙ arguments_cmp c.self.inside.parts.items c.other.inside.parts.items))
