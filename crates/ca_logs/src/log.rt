@@ -1,6 +1,6 @@
 //! Tasks, entries and histories, as plain data.
 
-ghost use Rattle.std.specs.Prelude.{◌≡◌, [], ◌∷◌, ◌++◌, length, IfOk, OnErr, option_copied};
+ghost use Rattle.std.specs.Prelude.{◌≡◌, ◌<◌, [], ◌∷◌, ◌++◌, length, slice_get, Some, IfOk, OnErr, option_copied};
 ghost use Rattle.ca_logs.specs.Lasts.{last_of};
 
 use ca_model::{Object, Trap};
@@ -108,6 +108,14 @@ impl Entries {
         ensures { result ≡ length self.now }
     {
         self.items.len()
+    }
+
+    /// The entry at this place.
+    pub fn get(&self, place: usize) -> &Entry
+        requires { place < length self.now }
+        ensures { slice_get self.now place ≡ Some result.now }
+    {
+        &self.items[place]
     }
 
     /// The newest one.
