@@ -7,9 +7,9 @@ mod calls;
 #[cfg(test)]
 mod devices;
 #[cfg(test)]
-mod generated;
+mod ends;
 #[cfg(test)]
-mod pieces;
+mod generated;
 #[cfg(test)]
 mod plans;
 #[cfg(test)]

@@ -1,48 +1,8 @@
-//! Devices that give and take a byte at a time, texts that end too early, and runs that end at each place of a list.
+//! Texts that end too early, expressions at their limit, and runs that end at each place of a list.
 
-use crate::calls::{Call, words};
-use crate::sources::{GRAPH_HEAP, GRAPH_VISIT};
-use ca_app::top;
-use ca_base::{OpenGate, PieceSink, PieceSource};
+use crate::calls::Call;
+use crate::sources::GRAPH_VISIT;
 use std::alloc::{AllocError, Global};
-use std::sync::Wait;
-use std::thread::Threads;
-
-/// The status of a run of the visit, and what it wrote, over devices that give and take a byte at a time. Of the
-/// reads and writes the one of this number fails, where it is not 0.
-fn visit<R: AllocGlobal + Threads + Wait + Sync>(
-    rt: &R,
-    failing: (u64, u64),
-) -> Result<(u8, Vec<u8>), AllocError> {
-    let text = Vec::from_slice(rt.alloc(), GRAPH_VISIT.as_bytes())?;
-    let mut source = PieceSource::new(text, 1, vec![in rt.alloc(); failing.0; 1]?);
-    let failing_writes = vec![in rt.alloc(); failing.1; 1]?;
-    let Ok(mut sink) = PieceSink::new(rt.alloc(), 1, GRAPH_HEAP.len(), failing_writes) else {
-        return Err(AllocError);
-    };
-    let words = words(rt.alloc(), "run 1 100")?;
-    let status = top(rt, &words, &mut source, &mut sink, &OpenGate);
-    Ok((status, Vec::from_slice(rt.alloc(), sink.bytes())?))
-}
-
-/// Byte by byte the reply is the same; with each write failing in turn, as many bytes are written as writes went
-/// before, and with each read failing in turn none.
-#[test]
-fn runs_byte_by_byte(rt: HostRuntime) -> Result<(), AllocError> {
-    let (status, written) = visit(&rt, (0, 0))?;
-    assert!(rt; (status, written.as_slice() == GRAPH_HEAP.as_bytes()) == (0, true));
-    for before in 0..40 {
-        let (status, written) = visit(&rt, (0, before + 1))?;
-        let begun = GRAPH_HEAP.as_bytes().starts_with(&written);
-        assert!(rt;
-            begun && (status, written.len() as u64) == (7, before),
-            "of {before}"
-        );
-        let (status, written) = visit(&rt, (before + 1, 0))?;
-        assert!(rt; (status, written.len()) == (6, 0), "of read {before}");
-    }
-    Ok(())
-}
 
 /// A beginning of a text that lacks more than its last line feed is refused where it ends or breaks off.
 #[test]
