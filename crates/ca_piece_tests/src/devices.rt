@@ -15,7 +15,10 @@ fn reading_ends_with_a_failed_read(rt: HostRuntime) -> Result<(), Fail> {
         let read = read_all(alloc, &mut source, 7);
         let is_whole = matches!(&read, Ok(bytes) if bytes.as_slice() == BYTES);
         let is_fault = matches!(read, Err(ReadError::Fault));
-        assert!(rt; (is_whole, is_fault) == (number == 9, number < 9), "of {number}");
+        assert!(rt;
+            (is_whole, is_fault) == (number == 9, number < 9),
+            "of {number}"
+        );
     }
     Ok(())
 }
