@@ -1,0 +1,4 @@
+mod Clean
+mod Keeping
+pub mod Kept
+mod Examples

@@ -1,0 +1,4 @@
+pub mod Events
+pub mod Paths
+pub mod Discipline
+pub mod Guarded
