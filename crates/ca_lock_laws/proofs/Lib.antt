@@ -1,4 +1,5 @@
 mod Clean
 mod Keeping
 pub mod Kept
+pub mod Paired
 mod Examples

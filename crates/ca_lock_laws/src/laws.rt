@@ -1,7 +1,8 @@
-//! The law of locks.
+//! The laws of locks, and of calls and loops that are paired.
 
 ghost use Rattle.std.specs.Prelude.{List};
 ghost use Rattle.ca_tree.specs.Plain as tree;
+ghost use Rattle.ca_tree.specs.Plain.{TextTree};
 ghost use Rattle.ca_program.specs.declared.program.FieldId.{FieldId};
 ghost use Rattle.ca_program.specs.declared.program.OpId.{OpId};
 ghost use Rattle.ca_program.specs.Plain.{PlainProgram};
@@ -14,6 +15,8 @@ ghost use Rattle.ca_lock_laws.specs.Events.{Event};
 ghost use Rattle.ca_lock_laws.specs.Paths.{Through};
 ghost use Rattle.ca_lock_laws.specs.Discipline.{Disciplined};
 ghost use Rattle.ca_lock_laws.specs.Guarded.{KeepsLock, parallel_guards};
+ghost use Rattle.ca_lock_laws.specs.Resolves.{ProgramResolves};
+ghost use Rattle.ca_lock_laws.specs.Sites.{ProgramSites};
 
 /// Each path through a separable operation with the marks of a parallel one keeps the lock discipline.
 pub fn separable_bodies_keep_the_lock()
@@ -23,4 +26,9 @@ pub fn separable_bodies_keep_the_lock()
 /// With sound marks so does each path through whatever a marked call or loop may reach, in the extent of that call or loop.
 pub fn parallel_bodies_keep_the_lock()
     ensures { (p : PlainProgram) → ProgramTyped p → (marks : PlainMarks) → SoundMarks p marks → (op : OpId) (ss : tree.Statements) → KeepsLock p marks op parallel_guards ss }
+{}
+
+/// A program that stands for a tree has the tree's calls and loops, on the same lines in the order of the text, body by body.
+pub fn calls_and_loops_are_paired()
+    ensures { (t : TextTree) (p : PlainProgram) → ProgramResolves t p → ProgramSites t p }
 {}
