@@ -1,0 +1,5 @@
+mod Picking
+mod Found
+mod Placing
+mod Emitted
+pub mod OneText
