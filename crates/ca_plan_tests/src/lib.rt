@@ -1,5 +1,8 @@
-//! Tests of `ca_plan`: what `pairs` and `plan` write of small sources, each as one table.
+//! Tests of `ca_plan`, `ca_emit` and `ca_erase`: what `pairs`, `plan` and `emit` write of small sources, and texts without
+//! their marks, each as one table.
 #![tactic(auto)]
 
+#[cfg(test)]
+mod emitted;
 #[cfg(test)]
 mod texts;
