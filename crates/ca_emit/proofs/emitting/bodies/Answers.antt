@@ -20,7 +20,8 @@ loop-n-preserved c =
     let ops = c.args.parallel.now in
     let m = c.index-methods-n.result in
     one_at (bodies_from ops) (λ n (x : MethodTree). place_if (op_in ops (op_at n)) x.at) (λ n x xs. refl) (methods_seen c.args.methods.now) c.loop-n.n (method_view m.now)
-    (method_at c.args.methods.now c.loop-n.n m (omega arith) c.index-methods-n.is) _ _ _ c.loop-n.invariant (rw c.is_op_in.ensures at c.in_ok-add_body.ensures)
+    (method_at c.args.methods.now c.loop-n.n m (omega arith) c.index-methods-n.is) _ _ _ c.loop-n.invariant
+    ((rw c.is_op_in.ensures at c.in_ok-add_body.ensures) ∙ ap (λ (x : Bor MethodNode). c.loop-n.places.items ++ place_if (op_in ops (op_at c.loop-n.n)) x.now.at) (sym c.index-methods-n.is))
 
 pub returns : goal.returns
 returns c =

@@ -14,4 +14,4 @@ loop-i-preserved c =
 pub returns : goal.returns
 returns c =
     let past : min (length c.args.places.now) (length c.args.flags.now) ≤ c.loop-i.i = omega (arith, c.min-count.ensures) in
-    sym (append-nil _) ∙ (ap (λ z. _ ++ z) (sym (all_picked c.args.places.now c.args.flags.now c.loop-i.i past)) ∙ c.loop-i.invariant)
+    sym (append-nil c.loop-i.out.items) ∙ (ap (λ z. c.loop-i.out.items ++ z) (sym (all_picked c.args.places.now c.args.flags.now c.loop-i.i past)) ∙ c.loop-i.invariant)
