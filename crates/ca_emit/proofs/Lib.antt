@@ -2,4 +2,4 @@ mod Picking
 mod Found
 mod Placing
 mod Emitted
-pub mod OneText
+mod OneText

@@ -5,6 +5,7 @@
 #![tactic(auto)]
 
 mod emitting;
+pub mod laws;
 mod marking;
 mod parallel;
 mod places;

@@ -34,7 +34,7 @@ opened (a ∷ b ∷ c ∷ s) h =
     first_two (a == code "/") (b == code "*") (c == code "@") (b == code "/") (prefix_len is_no_line_feed (b ∷ c ∷ s) + 1) (block_len (close_len (c ∷ s)) (c ∷ s)) h
 
 -- a mark is told by its fourth letter
-letter : Mark → ℕ
+abbrev letter : Mark → ℕ
 letter Lock = code "l"
 letter Unlock = code "u"
 letter Spawn = code "s"
