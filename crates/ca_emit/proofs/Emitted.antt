@@ -1,17 +1,11 @@
 -- The annotated text, and the text without its marks.
-use Rattle.std.proofs.Common.{◌≡◌, ℕ, Bool, true, false, List, [], Option, Some, None, Result, Ok, Err, IfOk, refl, sym, ap, ◌∙◌, subst}
+use Rattle.std.proofs.Common.{◌≡◌, ℕ, Bool, true, false, List, [], Option, Result, Ok, Err, IfOk, refl, sym, ◌∙◌, subst}
 use Rattle.ca_tree.specs.declared.name.Place.{Place}
-use Rattle.ca_tree.specs.declared.token.Token.{Token}
-use Rattle.ca_tree.specs.Plain.{Statement, TextTree, empty}
-use Rattle.ca_program.specs.Plain.{PlainProgram}
-use Rattle.ca_lex.specs.Tokens.{Tokens}
-use Rattle.ca_parse.specs.Grammar.{Derives}
+use Rattle.ca_tree.specs.Plain.{TextTree, empty}
 use Rattle.ca_canonical.specs.Annotated.{annotated}
 use Rattle.ca_canonical.specs.Erased.{Erased}
-use Rattle.ca_canonical.specs.Spell.{spell}
-use Rattle.ca_canonical.specs.Texts.{text_of, text_of_pieces}
-use Rattle.ca_plan.specs.Plans.{PlainPlan}
-use Rattle.ca_emit.specs.Annotations.{annotated_text, before_statement, has_place, is_parallel, marking_by, marking_of, parallel_bodies, parallel_sites, place_in}
+use Rattle.ca_canonical.specs.Texts.{text_of_pieces}
+use Rattle.ca_emit.specs.Annotations.{before_statement, is_parallel, marking_by}
 
 -- what tells the same places marks the same
 pub same_marks : (t : TextTree) (f g h k : Place → Bool) → ((at : Place) → f at ≡ h at) → ((at : Place) → g at ≡ k at) → text_of_pieces (annotated (marking_by f g) t) ≡ text_of_pieces (annotated (marking_by h k) t)

@@ -1,9 +1,9 @@
 -- Operations of a tree, found one after another.
-use Rattle.std.proofs.Common.{◌≡◌, List, [], ◌∷◌, ◌++◌, map, Option, Some, None, refl, sym, ap, ◌∙◌, append_assoc}
+use Rattle.std.proofs.Common.{◌≡◌, List, [], ◌∷◌, ◌++◌, map, Option, Some, None, refl}
 use Rattle.ca_tree.specs.declared.tree.ClassNode.{ClassNode}
 use Rattle.ca_tree.specs.declared.tree.Member.{Member}
 use Rattle.ca_tree.specs.declared.tree.TypeNode.{TypeNode}
-use Rattle.ca_tree.specs.Plain.{MethodTree, MemberTree, ClassTree, field_member, method_member}
+use Rattle.ca_tree.specs.Plain.{MethodTree, MemberTree, field_member, method_member}
 use Rattle.ca_tree.specs.View.{class_view, member_view}
 use Rattle.ca_emit.specs.Annotations.{operation_and, operations_in, operations_of}
 use Rattle.ca_emit.specs.Seen.{members_seen}

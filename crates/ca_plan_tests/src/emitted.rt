@@ -1,11 +1,11 @@
 //! Annotated texts, and texts without their marks.
 
+use crate::sources::tree;
 use ca_base::Memory;
 use ca_canonical::unparse;
 use ca_emit::emit;
 use ca_erase::{EraseError, erase};
-use ca_lex::{LONGEST_TEXT, lex};
-use ca_parse::parse;
+use ca_lex::LONGEST_TEXT;
 use ca_plan::plan;
 use ca_program::Program;
 use ca_test_programs::let_go;
@@ -53,15 +53,7 @@ const EMITTED: [Row; 7] = [
     ),
 ];
 
-/// The tree of a text of at most 1,000 bytes.
-fn tree(alloc: Global, text: &str) -> Result<Tree, Fail> {
-    if text.len() > 1_000 {
-        return Err(Fail::new("a long text"));
-    }
-    let tokens = lex(alloc, text.as_bytes())?;
-    Ok(parse(alloc, &tokens)?)
-}
-
+/// The annotated text of a tree and its program.
 fn emitted_of(alloc: Global, tree: &Tree, program: &Program) -> Result<Vec<u8>, Memory> {
     let plan = plan(alloc, program)?;
     let text = emit(alloc, program, tree, &plan);
@@ -69,6 +61,7 @@ fn emitted_of(alloc: Global, tree: &Tree, program: &Program) -> Result<Vec<u8>, 
     text
 }
 
+/// The annotated text of a tree.
 fn emitted_by(alloc: Global, tree: &Tree) -> Result<Vec<u8>, Fail> {
     let program = check(alloc, tree)?;
     let text = emitted_of(alloc, tree, &program);

@@ -5,4 +5,8 @@
 #[cfg(test)]
 mod emitted;
 #[cfg(test)]
+mod samples;
+#[cfg(test)]
+mod sources;
+#[cfg(test)]
 mod texts;

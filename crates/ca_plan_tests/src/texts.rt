@@ -1,8 +1,10 @@
 //! What is written of plans.
 
+use crate::samples::{GRAPH_SHARES, SEARCH_TREE, Sample, TABLE_OF_SUMS};
+use crate::sources::program;
 use ca_base::{Failed, MemSink};
 use ca_plan::{plan, print_pairs, print_plan};
-use ca_test_programs::{let_go, program};
+use ca_test_programs::let_go;
 use std::alloc::Global;
 use std::test::Fail;
 
@@ -119,6 +121,22 @@ fn marks_are_told(rt: HostRuntime) -> Result<(), Fail> {
         let Row(text, wanted) = *row;
         let sink = written(alloc, text, false)?;
         assert!(rt; sink.bytes() == wanted.as_bytes());
+    }
+    Ok(())
+}
+
+/// Programs whose plan is worth reading, with what people read of them.
+const SAMPLES: [Sample; 3] = [GRAPH_SHARES, SEARCH_TREE, TABLE_OF_SUMS];
+
+#[test]
+fn samples_are_told(rt: HostRuntime) -> Result<(), Fail> {
+    let alloc = rt.alloc();
+    for row in SAMPLES.as_slice() {
+        let Sample(text, verdicts, marks) = *row;
+        let pairs = written(alloc, text, true)?;
+        assert!(rt; pairs.bytes() == verdicts.as_bytes());
+        let plan = written(alloc, text, false)?;
+        assert!(rt; plan.bytes() == marks.as_bytes());
     }
     Ok(())
 }

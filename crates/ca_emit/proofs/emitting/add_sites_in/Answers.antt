@@ -1,12 +1,6 @@
-use Rattle.std.proofs.Common.{◌≡◌, ◌++◌, [], true, false, sym, ap, ◌∙◌, append-nil, subst}
-use Rattle.std.specs.Prelude.{slice_get}
-use Rattle.ca_tree.specs.View.{method_view}
-use Rattle.ca_program.specs.Plain.{Statements}
-use Rattle.ca_program.specs.View.{program_view}
-use Rattle.ca_parallel.specs.Extents.{operation_body}
+use Rattle.std.proofs.Common.{◌≡◌, true, false, sym, ◌∙◌, append-nil}
 use Rattle.ca_parallel.specs.Lists.{op_in}
 use Rattle.ca_plan.specs.Plans.{op_at}
-use Rattle.ca_emit.specs.Annotations.{sites_in}
 use Rattle.ca_emit.proofs.emitting.add_sites_in.Goals as goal
 
 pub returns-in_ok-add_parallel : goal.returns-in_ok-add_parallel

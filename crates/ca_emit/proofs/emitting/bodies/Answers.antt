@@ -1,7 +1,5 @@
-use Rattle.std.proofs.Common.{◌≡◌, ◌≤◌, ◌++◌, [], Some, length, drop, refl, sym, ap, ◌∙◌, arith, append-nil}
-use Rattle.std.specs.Prelude.{slice_get}
+use Rattle.std.proofs.Common.{◌++◌, refl, sym, ap, ◌∙◌, arith, append-nil}
 use Rattle.std.specs.Borrow.{Bor}
-use Rattle.std.proofs.lemmas.List.{length-map, drop_all}
 use Rattle.ca_tree.specs.declared.tree.MethodNode.{MethodNode}
 use Rattle.ca_tree.specs.Plain.{MethodTree}
 use Rattle.ca_tree.specs.View.{method_view}

@@ -1,4 +1,3 @@
-use Rattle.std.proofs.Common.{◌≡◌, List, ℕ}
 use Rattle.ca_tree.specs.View.{tree_view}
 use Rattle.ca_program.specs.View.{program_view}
 use Rattle.ca_canonical.proofs.Program.{erased}

@@ -1,5 +1,4 @@
-use Rattle.std.proofs.Common.{◌≡◌, [], ◌∷◌, ◌++◌, None, refl, sym, ap, ◌∙◌, append-nil}
-use Rattle.std.proofs.lemmas.List.{map-append}
+use Rattle.std.proofs.Common.{sym, append-nil}
 use Rattle.ca_emit.specs.Seen.{methods_seen}
 use Rattle.ca_emit.proofs.parallel.add_operation.Goals as goal
 

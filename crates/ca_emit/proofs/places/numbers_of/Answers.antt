@@ -1,4 +1,4 @@
-use Rattle.std.proofs.Common.{◌≡◌, ◌++◌, ◌∷◌, [], ap, ◌∙◌, map, refl, arith}
+use Rattle.std.proofs.Common.{◌∷◌, [], map, refl, arith}
 use Rattle.ca_extent.proofs.Walks.{one_more_at, none_left}
 use Rattle.ca_emit.specs.Annotations.{place_number}
 use Rattle.ca_emit.proofs.places.numbers_of.Goals as goal

@@ -1,7 +1,7 @@
-use Rattle.std.proofs.Common.{◌≡◌, ◌++◌, ap, ap₂, ◌∙◌, false}
+use Rattle.std.proofs.Common.{◌≡◌, ◌∙◌, false}
 use Rattle.ca_tree.specs.View as of_tree
 use Rattle.ca_program.specs.View as of_program
-use Rattle.ca_emit.specs.Annotations.{picked, sites_of_all, run_parallel}
+use Rattle.ca_emit.specs.Annotations.{sites_of_all, run_parallel}
 use Rattle.ca_emit.proofs.sites.add_parallel.Goals as goal
 
 pub returns : goal.returns

@@ -1,6 +1,5 @@
-use Rattle.std.proofs.Common.{◌≡◌, ◌≤◌, ◌++◌, get_or, length, min, false, sym, ap, ◌∙◌, append-nil, arith}
+use Rattle.std.proofs.Common.{◌≤◌, ◌++◌, length, min, false, sym, ap, ◌∙◌, append-nil, arith}
 use Rattle.std.proofs.lemmas.Option.{slice_get-get_or}
-use Rattle.ca_tree.specs.declared.name.Place.{Place}
 use Rattle.ca_emit.proofs.Picking.{one_picked, all_picked}
 use Rattle.ca_emit.proofs.sites.add_picked.Goals as goal
 
