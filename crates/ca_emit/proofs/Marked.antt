@@ -51,7 +51,7 @@ mutual
       ∙ (ap (λ n. length (lines_of x) + n) (all_flags ms inside xs) ∙ sym (length-append (lines_of x) (lines_of_all xs))))
 
 as_many : (ms : PlainMarks) (ss : tree.Statements) (xs : program.Statements) → SameSites ss xs → length (sites_of_all ss) ≡ length (run_parallel ms false xs)
-as_many ms ss xs h = sym (length-map (λ (at : Place). at.line) (sites_of_all ss)) ∙ (ap length h ∙ sym (all_flags ms false xs))
+as_many ms ss xs h = sym (length-map (sites_of_all ss) (λ (at : Place). at.line)) ∙ (ap length h ∙ sym (all_flags ms false xs))
 
 -- ---- what is picked
 
