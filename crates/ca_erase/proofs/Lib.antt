@@ -1,2 +1,3 @@
 mod Examples
+mod OneText
 pub mod Steps

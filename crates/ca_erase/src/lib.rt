@@ -5,6 +5,7 @@
 #![tactic(auto)]
 
 mod front;
+pub mod laws;
 
 ghost use Rattle.std.specs.Prelude.{◌≡◌, ◌≤◌, length, Err, IfOk};
 ghost use Rattle.ca_tree.specs.declared.name.Place.{Place};

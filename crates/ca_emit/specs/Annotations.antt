@@ -1,0 +1,155 @@
+-- The annotated text of a tree whose program has a plan: which marks stand where.
+use Rattle.std.specs.Prelude.{ℕ, ◌+◌, ◌*◌, Bool, true, false, ◌&&◌, ◌||◌, nat_eq, List, [], ◌∷◌, ◌++◌, map, Option, Some, None}
+use Rattle.std.specs.List.{list_any}
+use Rattle.ca_tree.specs.declared.name.Place.{Place}
+use Rattle.ca_tree.specs.declared.tree.TypeNode.{TypeNode}
+use Rattle.ca_tree.specs.Plain as tree
+use Rattle.ca_tree.specs.Plain.{MethodTree, MemberTree, ClassTree, TextTree, field_member, method_member}
+use Rattle.ca_program.specs.declared.program.LoopId.{LoopId}
+use Rattle.ca_program.specs.declared.program.OpId.{OpId}
+use Rattle.ca_program.specs.Plain as program
+use Rattle.ca_program.specs.Plain.{PlainProgram}
+use Rattle.ca_meaning.specs.Operators.{not_of}
+use Rattle.ca_parallel.specs.Extents.{Extent, operation_body}
+use Rattle.ca_parallel.specs.Lists.{PlainMarks, op_in}
+pub use Rattle.ca_lock_laws.specs.Resolves.{operation_and, operations_in, operations_of}
+pub use Rattle.ca_lock_laws.specs.Sites.{sites_of, sites_of_all}
+use Rattle.ca_canonical.specs.declared.marks.Mark.{Mark}
+use Rattle.ca_canonical.specs.declared.marks.Mark.TheVariants.{Lock, Unlock, Spawn, Parallel}
+use Rattle.ca_canonical.specs.Marks.{Marking}
+use Rattle.ca_canonical.specs.Annotated.{annotated}
+use Rattle.ca_canonical.specs.Texts.{text_of_pieces}
+use Rattle.ca_plan.specs.Plans.{PlainPlan, Judged, JudgedLoop, op_at}
+use Rattle.ca_plan.specs.Texts.{loop_in}
+
+-- Parallel operations are those in the extent of a marked operation or of a marked loop.
+
+abbrev pub ops_if : Bool → Extent → List OpId
+ops_if true x = x.ops
+ops_if false x = []
+
+-- of the operations from number n on
+abbrev pub reached_by_ops : List OpId → ℕ → List Judged → List OpId
+reached_by_ops marked n [] = []
+reached_by_ops marked n (j ∷ js) = ops_if (op_in marked (op_at n)) j.extent ++ reached_by_ops marked (n + 1) js
+
+abbrev pub reached_by_loops : List LoopId → List JudgedLoop → List OpId
+reached_by_loops marked [] = []
+reached_by_loops marked (l ∷ ls) = ops_if (loop_in marked l.site) l.judged.extent ++ reached_by_loops marked ls
+
+abbrev pub parallel_ops : PlainPlan → List OpId
+parallel_ops plan = reached_by_ops plan.marks.ops 0 plan.ops ++ reached_by_loops plan.marks.loops plan.loops
+
+-- Which calls and loops run in parallel: calls of marked operations outside marked loops, and marked loops. Whether the statement
+-- stands inside a marked loop is told.
+abbrev mutual
+  pub runs_parallel : PlainMarks → Bool → program.Statement → List Bool
+  runs_parallel ms inside (program.block line ss) = run_parallel ms inside ss
+  runs_parallel ms inside (program.invoke line e op arguments) = (not_of inside && op_in ms.ops op) ∷ []
+  runs_parallel ms inside (program.if_else line c a b) = runs_parallel ms inside a ++ runs_parallel ms inside b
+  runs_parallel ms inside (program.while_loop line c b) = runs_parallel ms inside b
+  runs_parallel ms inside (program.for_loop line site part first c next b) =
+      loop_in ms.loops site ∷ runs_parallel ms (inside || loop_in ms.loops site) b
+  runs_parallel ms inside (program.put_local line l op e) = []
+  runs_parallel ms inside (program.put_field line f op e) = []
+  runs_parallel ms inside (program.put_item line f i op e) = []
+  runs_parallel ms inside (program.new_local line l c) = []
+  runs_parallel ms inside (program.new_field line f c) = []
+  runs_parallel ms inside (program.new_item line f i c) = []
+  runs_parallel ms inside (program.return_value line e) = []
+  runs_parallel ms inside (program.print_value line e) = []
+
+  pub run_parallel : PlainMarks → Bool → program.Statements → List Bool
+  run_parallel ms inside program.no_statements = []
+  run_parallel ms inside (program.statement_and s ss) = runs_parallel ms inside s ++ run_parallel ms inside ss
+
+abbrev pub place_if : Bool → Place → List Place
+place_if true at = at ∷ []
+place_if false at = []
+
+abbrev pub picked : List Place → List Bool → List Place
+picked [] bs = []
+picked (at ∷ ats) [] = []
+picked (at ∷ ats) (b ∷ bs) = place_if b at ++ picked ats bs
+
+-- Where marks stand
+
+-- the parallel ones of the operations from number n on
+abbrev pub bodies_from : List OpId → ℕ → List MethodTree → List Place
+bodies_from parallel n [] = []
+bodies_from parallel n (m ∷ ms) = place_if (op_in parallel (op_at n)) m.at ++ bodies_from parallel (n + 1) ms
+
+-- what runs in parallel in a body that isn't itself parallel
+abbrev pub sites_in : PlainMarks → Bool → tree.Statements → program.Statements → List Place
+sites_in ms true ss xs = []
+sites_in ms false ss xs = picked (sites_of_all ss) (run_parallel ms false xs)
+
+-- in that of operation n
+abbrev pub sites_of_method : PlainProgram → PlainMarks → List OpId → ℕ → MethodTree → List Place
+sites_of_method p ms parallel n m = sites_in ms (op_in parallel (op_at n)) m.body (operation_body p (op_at n))
+
+-- in those of the operations from number n on
+abbrev pub sites_from : PlainProgram → PlainMarks → List OpId → ℕ → List MethodTree → List Place
+sites_from p ms parallel n [] = []
+sites_from p ms parallel n (m ∷ rest) = sites_of_method p ms parallel n m ++ sites_from p ms parallel (n + 1) rest
+
+-- the names of the parallel operations
+abbrev pub parallel_bodies : PlainPlan → TextTree → List Place
+parallel_bodies plan t = bodies_from (parallel_ops plan) 0 (operations_of t.classes)
+
+-- the calls and loops of other operations and of `main` that run in parallel
+abbrev pub all_sites : PlainProgram → PlainMarks → List OpId → TextTree → List Place
+all_sites p ms parallel t = sites_from p ms parallel 0 (operations_of t.classes) ++ sites_in ms false t.main p.main.statements
+
+abbrev pub parallel_sites : PlainProgram → PlainPlan → TextTree → List Place
+parallel_sites p plan t = all_sites p plan.marks (parallel_ops plan) t
+
+-- Which marks stand there: a parallel operation takes its receiver's lock behind its `{`, gives it back before each call,
+-- which is spawned, and before its `}`.
+
+-- lines and columns fit 32 bits, so one number tells a place
+abbrev pub place_number : Place → ℕ
+place_number at = at.line * 4294967296 + at.column
+
+abbrev pub number_in : List ℕ → ℕ → Bool
+number_in ns n = list_any (λ m. nat_eq m n) ns
+
+abbrev pub has_place : List ℕ → Place → Bool
+has_place numbers at = number_in numbers (place_number at)
+
+abbrev pub place_in : List Place → Place → Bool
+place_in places at = has_place (map place_number places) at
+
+abbrev pub before_call : tree.Statement → List Mark
+before_call (tree.call_statement at e) = Unlock ∷ Spawn ∷ []
+before_call other = []
+
+abbrev pub marks_if : Bool → Mark → List Mark
+marks_if true m = m ∷ []
+marks_if false m = []
+
+abbrev pub before_site : (Place → Bool) → tree.Statement → List Mark
+before_site sites (tree.call_statement at e) = marks_if (sites at) Parallel
+before_site sites (tree.for_loop at first c next s) = marks_if (sites at) Parallel
+before_site sites other = []
+
+abbrev pub is_parallel : (Place → Bool) → Option Place → Bool
+is_parallel bodies None = false
+is_parallel bodies (Some at) = bodies at
+
+abbrev pub before_statement : Bool → (Place → Bool) → tree.Statement → List Mark
+before_statement true sites s = before_call s
+before_statement false sites s = before_site sites s
+
+abbrev pub marking_by : (Place → Bool) → (Place → Bool) → Marking
+marking_by bodies sites = record {
+  before = λ body s. before_statement (is_parallel bodies body) sites s;
+  opening = λ at. marks_if (bodies at) Lock;
+  closing = λ at. marks_if (bodies at) Unlock;
+}
+
+abbrev pub marking_of : PlainProgram → PlainPlan → TextTree → Marking
+marking_of p plan t = marking_by (place_in (parallel_bodies plan t)) (place_in (parallel_sites p plan t))
+
+abbrev pub annotated_text : PlainProgram → PlainPlan → TextTree → List ℕ
+annotated_text p plan t = text_of_pieces (annotated (marking_of p plan t) t)

@@ -1,0 +1,3 @@
+pub mod Annotations
+pub mod Seen
+pub mod Locks

@@ -1,0 +1,14 @@
+//! The annotated source: the canonical text of a tree with the marks of its program's plan.
+//!
+//! `specs/Annotations.antt` says which marks stand where, and `ca_canonical` what a text with marks is. `parallel` finds the
+//! operations that take a lock, `sites` the calls and loops that run in parallel, and `marking` tells the marks at a place.
+#![tactic(auto)]
+
+mod emitting;
+pub mod laws;
+mod marking;
+mod parallel;
+mod places;
+mod sites;
+
+pub use emitting::emit;

@@ -1,0 +1,5 @@
+mod Clean
+mod Keeping
+pub mod Kept
+pub mod Paired
+mod Examples

@@ -1,0 +1,34 @@
+//! The laws of locks, and of calls and loops that are paired.
+
+ghost use Rattle.std.specs.Prelude.{List};
+ghost use Rattle.ca_tree.specs.Plain as tree;
+ghost use Rattle.ca_tree.specs.Plain.{TextTree};
+ghost use Rattle.ca_program.specs.declared.program.FieldId.{FieldId};
+ghost use Rattle.ca_program.specs.declared.program.OpId.{OpId};
+ghost use Rattle.ca_program.specs.Plain.{PlainProgram};
+ghost use Rattle.ca_meaning.specs.ProgramTyped.{ProgramTyped};
+ghost use Rattle.ca_parallel.specs.Extents.{operation_body};
+ghost use Rattle.ca_parallel.specs.Lists.{PlainMarks};
+ghost use Rattle.ca_parallel.specs.Marks.{SoundMarks};
+ghost use Rattle.ca_parallel.specs.Separable.{Separable};
+ghost use Rattle.ca_lock_laws.specs.Events.{Event};
+ghost use Rattle.ca_lock_laws.specs.Paths.{Through};
+ghost use Rattle.ca_lock_laws.specs.Discipline.{Disciplined};
+ghost use Rattle.ca_lock_laws.specs.Guarded.{KeepsLock, parallel_guards};
+ghost use Rattle.ca_lock_laws.specs.Resolves.{ProgramResolves};
+ghost use Rattle.ca_lock_laws.specs.Sites.{ProgramSites};
+
+/// Each path through a separable operation with the marks of a parallel one keeps the lock discipline.
+pub fn separable_bodies_keep_the_lock()
+    ensures { (p : PlainProgram) → ProgramTyped p → (written : List FieldId) (op : OpId) → Separable p written op → (ss : tree.Statements) (es : List Event) → Through parallel_guards ss (operation_body p op) es → Disciplined p written es }
+{}
+
+/// With sound marks so does each path through whatever a marked call or loop may reach, in the extent of that call or loop.
+pub fn parallel_bodies_keep_the_lock()
+    ensures { (p : PlainProgram) → ProgramTyped p → (marks : PlainMarks) → SoundMarks p marks → (op : OpId) (ss : tree.Statements) → KeepsLock p marks op parallel_guards ss }
+{}
+
+/// A program that stands for a tree has the tree's calls and loops, on the same lines in the order of the text, body by body.
+pub fn calls_and_loops_are_paired()
+    ensures { (t : TextTree) (p : PlainProgram) → ProgramResolves t p → ProgramSites t p }
+{}
