@@ -1,0 +1,14 @@
+use Rattle.std.proofs.Common.{refl, []}
+use Rattle.ca_program.specs.View.{program_view}
+use Rattle.ca_parallel.specs.Accounts.{at_first}
+use Rattle.ca_serial.proofs.Handings.{calls_good}
+use Rattle.ca_serial.proofs.running.drive.Goals as goal
+
+pub returns-in_default-clause-account : goal.returns-in_default-clause-account
+returns-in_default-clause-account g c = record { all = tt; part = record { done = []; rest = _; whole = refl; reached = at_first } }
+
+pub run_on-requires-clause-good : goal.run_on-requires-clause-good
+run_on-requires-clause-good g c = rw c.as_slice-heeds.ensures.value (calls_good (program_view c.args.program.now) c.requires.program c.args.marks.now c.requires.sound c.args.budget)
+
+pub returns-clause-account : goal.returns-clause-account
+returns-clause-account g c = rw c.as_slice-heeds.ensures.value at (record { all = c.run_on.ensures.account; part = c.run_on.ensures.account_part })
