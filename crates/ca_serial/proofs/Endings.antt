@@ -1,7 +1,7 @@
 -- What a run that stops has written.
-use Rattle.std.proofs.Common.{◌≡◌, ℕ, List, [], ◌∷◌, ◌++◌, Option, refl, ap, sym, ◌∙◌, append_assoc, append-nil}
-use Rattle.ca_base.specs.Devices.{grown, Began}
-use Rattle.ca_base.proofs.Writing.{grown_twice, began_after, began_more, began_whole}
+use Rattle.std.proofs.Common.{◌≡◌, ◌≤◌, ℕ, List, [], ◌∷◌, ◌++◌, arith, Option, refl, ap, sym, ◌∙◌, append_assoc, append-nil}
+use Rattle.ca_base.specs.Devices.{grown, Began, Rose}
+use Rattle.ca_base.proofs.Writing.{grown_twice, grown_nothing, began_after, began_more, began_whole}
 use Rattle.ca_program.specs.Plain.{PlainProgram}
 use Rattle.ca_model.specs.declared.value.Value.{Value as Datum}
 use Rattle.ca_meaning.specs.Flows.{Flow, goes_on, gives_back, stops, runs_out}
@@ -42,7 +42,7 @@ one_text : (v : Datum) → prints_text (v ∷ []) ≡ print_text v
 one_text v = append-nil (print_text v)
 
 -- one value more was written
-pub told_more : (old mid now : Option (List ℕ)) (ps : Past) (v : Datum) → mid ≡ grown old (prints_text ps) → now ≡ grown mid (print_text v) → now ≡ grown old (prints_text (ps ++ v ∷ []))
+pub told_more : (old mid now : Option (List ℕ)) (ps : List Datum) (v : Datum) → mid ≡ grown old (prints_text ps) → now ≡ grown mid (print_text v) → now ≡ grown old (prints_text (ps ++ v ∷ []))
 told_more old mid now ps v before more = more ∙ ap (λ m. grown m (print_text v)) before ∙ grown_twice old (prints_text ps) (print_text v) ∙ ap (grown old) (sym (texts_append ps (v ∷ []) ∙ ap (λ t. prints_text ps ++ t) (one_text v)))
 
 -- a value was not written whole, and the run prints more behind it
@@ -52,15 +52,25 @@ began_value p budget todo m ps v old mid now is told part =
     rw (prints_are p budget todo m qs is, texts_append qs.prints (further p todo m qs), texts_append ps.prints (v ∷ []), one_text v)
     (began_more old now (prints_text ps.prints ++ print_text v) (prints_text (further p todo m qs)) (began_after old mid now (prints_text ps.prints) (print_text v) told part))
 
-shows : (ps : Past) (outcome : Outcome) → run_with ps outcome ≡ run_with (prints_of (run_with ps outcome)) outcome
+shows : (ps : List Datum) (outcome : Outcome) → run_with ps outcome ≡ run_with (prints_of (run_with ps outcome)) outcome
 shows ps (Done heap steps) = refl
 shows ps (Trapped t) = refl
 shows ps Spent = refl
 
 -- a run that ended so printed these values
-pub ended_so : (e : Ended) (ps : Past) (outcome : Outcome) → run_with ps outcome ≡ e → e ≡ run_with (prints_of e) outcome
+pub ended_so : (e : Ended) (ps : List Datum) (outcome : Outcome) → run_with ps outcome ≡ e → e ≡ run_with (prints_of e) outcome
 ended_so e ps outcome is = rw (← is) (shows ps outcome)
 
--- a run that spent its steps has printed these values
-pub told_spent : (old now : Option (List ℕ)) (ps : List Datum) (e : Ended) → now ≡ grown old (prints_text ps) → run_with ps Spent ≡ e → now ≡ grown old (prints_text (prints_of e))
-told_spent old now ps e told is = rw (← is) told
+-- and it wrote them
+pub told_so : (old now : Option (List ℕ)) (ps : List Datum) (e : Ended) (outcome : Outcome) → now ≡ grown old (prints_text ps) → run_with ps outcome ≡ e → now ≡ grown old (prints_text (prints_of e))
+told_so old now ps e (Done heap steps) told is = rw (← is) told
+told_so old now ps e (Trapped t) told is = rw (← is) told
+told_so old now ps e Spent told is = rw (← is) told
+
+-- nothing was written before
+pub written_nothing : (old : Option (List ℕ)) → old ≡ grown old []
+written_nothing old = sym (grown_nothing old)
+
+-- a count that rose behind others
+pub rose_later : (a b c : ℕ) → a ≤ b → Rose b c → Rose a c
+rose_later a b c le rose = omega (arith, le, rose)

@@ -78,10 +78,10 @@ ends_as budget (runs_out w) = refl
 
 module _ (p : PlainProgram) (todo : List Work) (m : Machine) (heeds : List OpId) (budget : ℕ) (ss : Bor (List Stmt)) (what : statements_view ss.now ≡ p.main.statements) (is : todo ≡ Seq ss ∷ []) (b : Bool) (current : m.bodies.current ≡ main_body p.main.locals heeds b) (all : heeded b heeds ≡ heeds) (heap : m.heap ≡ []) (left : m.left ≡ budget) where
   pub begins_main : ended budget (rest_of p todo m no_past) ≡ serial p budget
-  begins_main = rw (what, current, all, heap, left, is) (ends_as budget (noted_run p (calls_alone heeds) budget) ∙ notes_change_nothing p (calls_alone heeds) budget)
+  begins_main = rw (is, what, current, all, heap, left) (ends_as budget (noted_run p (calls_alone heeds) budget) ∙ notes_change_nothing p (calls_alone heeds) budget)
 
   pub begins_noted : (world_after (rest_of p todo m no_past)).notes ≡ lists p (calls_alone heeds) budget
-  begins_noted = rw (what, current, all, heap, left, is) (ap (λ w. w.notes) (as_is (noted_run p (calls_alone heeds) budget)))
+  begins_noted = rw (is, what, current, all, heap, left) (ap (λ w. w.notes) (as_is (noted_run p (calls_alone heeds) budget)))
 
 -- sound marks are so on calls alone
 pub calls_sound : (p : PlainProgram) (marks : PlainMarks) → SoundMarks p marks → SoundMarks p (calls_alone marks.ops)
