@@ -12,7 +12,6 @@ use Rattle.ca_program.specs.declared.program.FirstPart.{FirstPart}
 use Rattle.ca_program.specs.declared.program.StmtForm.{Block, If, While, For}
 use Rattle.ca_program.specs.Plain.{PlainProgram, Statement}
 use Rattle.ca_program.specs.View.{form_view, expression_view, statement_view, statements_view}
-use Rattle.ca_model.specs.declared.value.Value.{Value as Datum}
 use Rattle.ca_model.specs.declared.value.Value.TheVariants.{Bool as Truth}
 use Rattle.ca_meaning.specs.Expressions.{gives}
 use Rattle.ca_meaning.specs.Functions.{value_in}
@@ -21,11 +20,11 @@ use Rattle.ca_serial.specs.declared.work.Work.{Work}
 use Rattle.ca_serial.specs.declared.work.Work.TheVariants.{Exec, Seq, Again}
 use Rattle.ca_serial.specs.declared.work.Left.{Left}
 use Rattle.ca_serial.specs.declared.work.Taker.TheVariants.{Turn}
-use Rattle.ca_serial.specs.Resume.{rest_of, going_on, does_before, all_before, world_of, AtOnce, Puts, pieces, takes}
+use Rattle.ca_serial.specs.Resume.{Past, rest_of, going_on, does_before, all_before, world_of, AtOnce, Puts, pieces, takes}
 use Rattle.ca_serial.proofs.Steps.{line_is, list_runs, last_runs, none_run, block_runs, branch_of, if_runs, while_turn, for_turn}
 
 -- the first statement of a list was done at once
-pub one_more : (p : PlainProgram) (todo : List Work) (old new : Machine) (ss : List Stmt) (x : Bor Stmt) (r : Bor (List Stmt)) (ps : List Datum) → ss ≡ x.now ∷ r.now → ((todo : List Work) (ps : List Datum) → rest_of p (Exec x.now.line x ∷ todo) old ps ≡ rest_of p todo new ps) → all_before p todo (statements_view ss) old ps ≡ all_before p todo (statements_view r.now) new ps
+pub one_more : (p : PlainProgram) (todo : List Work) (old new : Machine) (ss : List Stmt) (x : Bor Stmt) (r : Bor (List Stmt)) (ps : Past) → ss ≡ x.now ∷ r.now → ((todo : List Work) (ps : Past) → rest_of p (Exec x.now.line x ∷ todo) old ps ≡ rest_of p todo new ps) → all_before p todo (statements_view ss) old ps ≡ all_before p todo (statements_view r.now) new ps
 one_more p todo old new ss x r ps is once = list_runs p old.bodies.current (world_of old ps) x.now r.now ss old.left _ _ is ∙ once (Seq r ∷ todo) ps
 
 -- a put that was done at once
@@ -34,12 +33,12 @@ put_at_once true p line s st old new is h = (h.0, h.1, λ todo ps. ap (λ x. doe
 put_at_once false p line s st old new is h = h
 
 -- a statement means what another one means, which was done at once
-pub same_at_once : (r : Bool) (p : PlainProgram) (a b : Work) (old new : Machine) → ((todo : List Work) (ps : List Datum) → rest_of p (a ∷ todo) old ps ≡ rest_of p (b ∷ todo) old ps) → AtOnce r p b old new → AtOnce r p a old new
+pub same_at_once : (r : Bool) (p : PlainProgram) (a b : Work) (old new : Machine) → ((todo : List Work) (ps : Past) → rest_of p (a ∷ todo) old ps ≡ rest_of p (b ∷ todo) old ps) → AtOnce r p b old new → AtOnce r p a old new
 same_at_once true p a b old new same h = (h.0, h.1, λ todo ps. same todo ps ∙ h.2 todo ps)
 same_at_once false p a b old new same h = h
 
 -- a branch is taken
-pub if_chosen : (p : PlainProgram) (line : ℕ) (s : Bor Stmt) (x : Bor Stmt) (c : Expr) (a b : Box Stmt Global) (truth : Bool) (m : Machine) (todo : List Work) (ps : List Datum) → s.now.kind ≡ If c a b → x.now ≡ branch_of truth a b → value_in p.functions m.heap m.bodies.current.this line m.bodies.current.locals (expression_view c) m.left ≡ gives (Truth truth) m.left → rest_of p (Exec line s ∷ todo) m ps ≡ rest_of p (Exec x.now.line x ∷ todo) m ps
+pub if_chosen : (p : PlainProgram) (line : ℕ) (s : Bor Stmt) (x : Bor Stmt) (c : Expr) (a b : Box Stmt Global) (truth : Bool) (m : Machine) (todo : List Work) (ps : Past) → s.now.kind ≡ If c a b → x.now ≡ branch_of truth a b → value_in p.functions m.heap m.bodies.current.this line m.bodies.current.locals (expression_view c) m.left ≡ gives (Truth truth) m.left → rest_of p (Exec line s ∷ todo) m ps ≡ rest_of p (Exec x.now.line x ∷ todo) m ps
 if_chosen p line s x c a b true m todo ps is here value =
     rw here
     (ap (λ form. does_before p todo line (form_view form s.now.line) m ps) is
@@ -52,29 +51,29 @@ if_chosen p line s x c a b false m todo ps is here value =
     ∙ rw value refl)
 
 -- a block is its statements
-pub block_all_before : (p : PlainProgram) (line : ℕ) (s : Bor Stmt) (ss : Vec Stmt Global) (m : Machine) (todo : List Work) (ps : List Datum) → s.now.kind ≡ Block ss → rest_of p (Exec line s ∷ todo) m ps ≡ all_before p todo (statements_view ss.items) m ps
+pub block_all_before : (p : PlainProgram) (line : ℕ) (s : Bor Stmt) (ss : Vec Stmt Global) (m : Machine) (todo : List Work) (ps : Past) → s.now.kind ≡ Block ss → rest_of p (Exec line s ∷ todo) m ps ≡ all_before p todo (statements_view ss.items) m ps
 block_all_before p line s ss m todo ps is =
     ap (going_on p todo m) (block_runs p m.bodies.current.mode m.bodies.current (world_of m ps) line s.now ss m.left is)
 
 -- an empty list
-pub nothing_before : (p : PlainProgram) (todo : List Work) (m : Machine) (ss : List Stmt) (ps : List Datum) → length ss ≡ 0 → all_before p todo (statements_view ss) m ps ≡ rest_of p todo m ps
+pub nothing_before : (p : PlainProgram) (todo : List Work) (m : Machine) (ss : List Stmt) (ps : Past) → length ss ≡ 0 → all_before p todo (statements_view ss) m ps ≡ rest_of p todo m ps
 nothing_before p todo m ss ps none = ap (λ xs. all_before p todo (statements_view xs) m ps) (nil_from_length ss none) ∙ none_run p m.bodies.current.mode m.bodies.current (world_of m ps) m.left _ _
 
 -- a list of one
-pub one_before : (p : PlainProgram) (todo : List Work) (m : Machine) (ss : List Stmt) (x : Bor Stmt) (xs : List Stmt) (ps : List Datum) → ss ≡ x.now ∷ xs → length xs ≡ 0 → all_before p todo (statements_view ss) m ps ≡ rest_of p (Exec x.now.line x ∷ todo) m ps
+pub one_before : (p : PlainProgram) (todo : List Work) (m : Machine) (ss : List Stmt) (x : Bor Stmt) (xs : List Stmt) (ps : Past) → ss ≡ x.now ∷ xs → length xs ≡ 0 → all_before p todo (statements_view ss) m ps ≡ rest_of p (Exec x.now.line x ∷ todo) m ps
 one_before p todo m ss x xs ps is none = last_runs p m.bodies.current (world_of m ps) x.now xs ss m.left _ _ is (nil_from_length xs none)
 
 abbrev pub stepped : Machine → Machine
-stepped m = record { todo = m.todo; values = m.values; bodies = m.bodies; heap = m.heap; left = m.left - 1; shown = m.shown; trap = m.trap }
+stepped m = record { todo = m.todo; values = m.values; bodies = m.bodies; heap = m.heap; left = m.left - 1; shown = m.shown; trap = m.trap; due = m.due }
 
 -- the body of a turn of a `while` was begun at once
-pub while_started : (p : PlainProgram) (old new : Machine) (ps : List Datum) (line : ℕ) (s : Bor Stmt) (c : Expr) (b : Box Stmt Global) (l : ℕ) (x : Bor Stmt) (o : Left) → 0 < old.left → s.now.kind ≡ While c b → l ≡ b.value.line → x.now ≡ b.value → new.todo ≡ old.todo → ((todo : List Work) (ps : List Datum) → rest_of p (Exec l x ∷ todo) (stepped old) ps ≡ rest_of p (pieces o todo) new ps) → takes p (Turn line s) (Truth true) old ps ≡ rest_of p (pieces o (Again line s ∷ new.todo)) new ps
+pub while_started : (p : PlainProgram) (old new : Machine) (ps : Past) (line : ℕ) (s : Bor Stmt) (c : Expr) (b : Box Stmt Global) (l : ℕ) (x : Bor Stmt) (o : Left) → 0 < old.left → s.now.kind ≡ While c b → l ≡ b.value.line → x.now ≡ b.value → new.todo ≡ old.todo → ((todo : List Work) (ps : Past) → rest_of p (Exec l x ∷ todo) (stepped old) ps ≡ rest_of p (pieces o todo) new ps) → takes p (Turn line s) (Truth true) old ps ≡ rest_of p (pieces o (Again line s ∷ new.todo)) new ps
 while_started p old new ps line s c b l x o lt is on here todo started =
     while_turn p old.bodies.current (world_of old ps) line s.now c b old.left _ _ lt is
     ∙ rw (line_is b.value, todo) (rw (on, here) at (started (Again line s ∷ old.todo) ps))
 
 -- the body of a turn of a `for` was begun at once
-pub for_started : (p : PlainProgram) (old new : Machine) (ps : List Datum) (line : ℕ) (s : Bor Stmt) (site : LoopId) (part : FirstPart) (first : Box Stmt Global) (c : Expr) (next b : Box Stmt Global) (l : ℕ) (x y : Bor Stmt) (o : Left) → 0 < old.left → s.now.kind ≡ For site part first c next b → l ≡ b.value.line → x.now ≡ b.value → y.now ≡ next.value → new.todo ≡ old.todo → ((todo : List Work) (ps : List Datum) → rest_of p (Exec l x ∷ todo) (stepped old) ps ≡ rest_of p (pieces o todo) new ps) → takes p (Turn line s) (Truth true) old ps ≡ rest_of p (pieces o (Exec line y ∷ Again line s ∷ new.todo)) new ps
+pub for_started : (p : PlainProgram) (old new : Machine) (ps : Past) (line : ℕ) (s : Bor Stmt) (site : LoopId) (part : FirstPart) (first : Box Stmt Global) (c : Expr) (next b : Box Stmt Global) (l : ℕ) (x y : Bor Stmt) (o : Left) → 0 < old.left → s.now.kind ≡ For site part first c next b → l ≡ b.value.line → x.now ≡ b.value → y.now ≡ next.value → new.todo ≡ old.todo → ((todo : List Work) (ps : Past) → rest_of p (Exec l x ∷ todo) (stepped old) ps ≡ rest_of p (pieces o todo) new ps) → takes p (Turn line s) (Truth true) old ps ≡ rest_of p (pieces o (Exec line y ∷ Again line s ∷ new.todo)) new ps
 for_started p old new ps line s site part first c next b l x y o lt is on here there todo started =
     for_turn p old.bodies.current (world_of old ps) line s.now site part first c next b old.left _ _ lt is
     ∙ rw (line_is b.value, todo, ← there) (rw (on, here) at (started (Exec line y ∷ Again line s ∷ old.todo) ps))

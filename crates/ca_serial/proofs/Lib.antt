@@ -1,9 +1,13 @@
 pub mod Flows
 pub mod Prints
 pub mod Endings
+pub mod Handings
+pub mod Quiet
+pub mod DueCalls
 pub mod Steps
 pub mod CallSteps
 pub mod Items
 pub mod Stacks
 pub mod AtOnce
+pub mod Flagged
 pub mod Tellings

@@ -1,6 +1,6 @@
--- Prints only grow: whatever is done, the values that were printed before stay the first.
+-- Prints and notes only grow: whatever is done, those that there were before stay the first.
 use Rattle.std.proofs.Common.{◌≡◌, ℕ, zero, suc, List, [], ◌∷◌, ◌++◌, refl, ap, sym, ◌∙◌, append_assoc, append-nil, drop}
-use Rattle.std.specs.Prelude.{true, false, slice_get}
+use Rattle.std.specs.Prelude.{Bool, true, false, slice_get}
 use Rattle.ca_program.specs.declared.program.OpId.{OpId}
 use Rattle.ca_program.specs.declared.program.Expr.{Expr}
 use Rattle.ca_program.specs.Plain.{PlainProgram, Expression, Expressions, Statement, Statements, block, put_local, put_field, put_item, new_local, new_field, new_item, invoke, if_else, while_loop, for_loop, return_value, print_value, no_statements, statement_and}
@@ -12,8 +12,9 @@ use Rattle.ca_meaning.specs.Operators.{operated}
 use Rattle.ca_meaning.specs.Expressions.{Out, gives, traps, over, ◌>>=◌, one_in, slot_of, pointed, answer, decided, unless_decided, take_step, Invocation, invocation, due}
 use Rattle.ca_meaning.specs.Flows.{Flow, goes_on, gives_back, stops, runs_out, and_on, with, choose, Parts, line_of, turn_of, exec, exec_all, turn}
 use Rattle.ca_meaning.specs.Functions.{body_of, locals_of, place, functions_of, value_in, values_in}
-use Rattle.ca_meaning.specs.Serial.{World, came_back, run_call, own_item_at, room_for, operation_act, operation_parts, Operations, operations, operations_of, serial_parts}
-use Rattle.ca_parallel.specs.Lists.{world_after}
+use Rattle.ca_meaning.specs.Sections.{LoopSectioned, loop_done, loop_stopped, loop_over, loop_section}
+use Rattle.ca_parallel.specs.Lists.{PlainMarks, op_in, loop_in, note, noted, either, noted_call, loop_noted, noted_parts, noted_operations, noted_of, marked_parts, world_after}
+use Rattle.ca_meaning.specs.Serial.{Note, World, came_back, run_call, own_item_at, room_for, operation_act, operation_parts, Operations, operations, operations_of}
 use Rattle.ca_serial.specs.declared.bodies.Mode.{Mode}
 use Rattle.ca_serial.specs.declared.bodies.Mode.TheVariants.{InFunction, InOperation}
 use Rattle.ca_serial.specs.declared.work.Target.{Target}
@@ -23,12 +24,14 @@ use Rattle.ca_serial.specs.declared.work.Work.TheVariants.{Evaluate, Take, Colle
 use Rattle.ca_serial.specs.declared.work.Taker.{Taker}
 use Rattle.ca_serial.specs.declared.work.Taker.TheVariants.{ReadField, CheckObject, ReadItem, Sign, CheckLeft, Apply, PutLocal, PutField, CheckIndex, PutItem, NewItem, Print, Choose, Turn, GiveBack}
 use Rattle.ca_serial.specs.Bodies.{Body, with_locals}
-use Rattle.ca_serial.specs.Resume.{carried, runs, runs_all, comes_again, runs_body, turns, pop, taken, back_in, go_on, by_mode, called, collected, value_of, found_again, used, resume, unwind}
+use Rattle.ca_serial.specs.Resume.{carried, runs, runs_all, comes_again, runs_body, turns, pop, taken, back_in, go_on, by_mode, called, collected, value_of, found_again, used, resume, unwind, marks_of}
 
--- what was printed in w stands at the front of what was printed in x
+-- what was printed and noted in w stands at the front of what was printed and noted in x
 pub record Later (w x : World) : Type 0 where
   pub more : List Datum
   pub whole : x.prints ≡ w.prints ++ more
+  pub notes : List Note
+  pub noted : x.notes ≡ w.notes ++ notes
 
 pub data Grows (w : World) (flow : Flow World) : Type 0 where
   grows : Later w (world_after flow) → Grows w flow
@@ -37,16 +40,24 @@ pub later_of : {w : World} {flow : Flow World} → Grows w flow → Later w (wor
 later_of (grows l) = l
 
 same_prints : (w : World) (h : List Object) → Later w (record { heap = h; prints = w.prints; notes = w.notes })
-same_prints w h = record { more = []; whole = sym (append-nil w.prints) }
+same_prints w h = record { more = []; whole = sym (append-nil w.prints); notes = []; noted = sym (append-nil w.notes) }
 
-stays : (w : World) → Later w w
+pub stays : (w : World) → Later w w
 stays w = same_prints w w.heap
 
 one_more : (w : World) (v : Datum) → Later w (record { heap = w.heap; prints = w.prints ++ v ∷ []; notes = w.notes })
-one_more w v = record { more = v ∷ []; whole = refl }
+one_more w v = record { more = v ∷ []; whole = refl; notes = []; noted = sym (append-nil w.notes) }
+
+one_note : (w : World) (n : Note) → Later w (noted w n)
+one_note w n = record { more = []; whole = sym (append-nil w.prints); notes = n ∷ []; noted = refl }
 
 pub then_later : {w x y : World} → Later w x → Later x y → Later w y
-then_later {w} a b = record { more = a.more ++ b.more; whole = b.whole ∙ ap (λ ps. ps ++ b.more) a.whole ∙ append_assoc w.prints a.more b.more }
+then_later {w} a b = record {
+  more = a.more ++ b.more;
+  whole = b.whole ∙ ap (λ ps. ps ++ b.more) a.whole ∙ append_assoc w.prints a.more b.more;
+  notes = a.notes ++ b.notes;
+  noted = b.noted ∙ ap (λ ns. ns ++ b.notes) a.noted ∙ append_assoc w.notes a.notes b.notes;
+}
 
 grows_with : {A : Type 0} {w x : World} (o : Out A) (f : A → ℕ → Flow World) → Later w x → ((v : A) (k : ℕ) → Grows w (f v k)) → Grows w (with o x f)
 grows_with (gives v k) f l h = h v k
@@ -66,7 +77,7 @@ grows_choose (Long x) a b g h = h
 grows_choose (Ref x) a b g h = h
 grows_choose Null a b g h = h
 
-from : {w x : World} (a : Flow World) → Later w x → Grows x a → Grows w a
+pub from : {w x : World} (a : Flow World) → Later w x → Grows x a → Grows w a
 from a l (grows m) = grows (then_later l m)
 
 -- parts of a body's meaning that let prints grow
@@ -149,11 +160,11 @@ came_grows ls (gives_back v x k) (grows l) = grows l
 came_grows ls (stops t x) (grows l) = grows l
 came_grows ls (runs_out x) (grows l) = grows l
 
-record GrowingOps (o : Operations) : Type 0 where
-  invokes : (i : Invocation) (w : World) (k : ℕ) → Grows w (o.invoke i w k)
-  agains : (this : Datum) (line : ℕ) (ls : List Datum) (w : World) (s : Statement) (k : ℕ) → Grows w (o.again this line ls w s k)
+pub record GrowingOps (o : Operations) : Type 0 where
+  pub invokes : (i : Invocation) (w : World) (k : ℕ) → Grows w (o.invoke i w k)
+  pub agains : (this : Datum) (line : ℕ) (ls : List Datum) (w : World) (s : Statement) (k : ℕ) → Grows w (o.again this line ls w s k)
 
-run_grows : (o : Operations) → GrowingOps o → (ls : List Datum) (i : Invocation) (w : World) (k : ℕ) → Grows w (run_call o ls i w k)
+pub run_grows : (o : Operations) → GrowingOps o → (ls : List Datum) (i : Invocation) (w : World) (k : ℕ) → Grows w (run_call o ls i w k)
 run_grows o growing ls i w k = grows_with (take_step k) _ (stays w) (λ _ k. came_grows ls (o.invoke i w k) (growing.invokes i w k))
 
 parts_grow : (p : PlainProgram) (o : Operations) → GrowingOps o → (this : Datum) → Growing (operation_parts p o this)
@@ -171,14 +182,53 @@ ops_grow (suc n) p = record {
   agains = λ this line ls w s k. loop_grows (operation_parts p (operations n p) this) (parts_grow p (operations n p) (ops_grow n p) this) s line ls w k;
 }
 
-all_ops_grow : (p : PlainProgram) → GrowingOps (operations_of p)
+pub all_ops_grow : (p : PlainProgram) → GrowingOps (operations_of p)
 all_ops_grow p = record {
   invokes = λ i w k. (ops_grow (suc k) p).invokes i w k;
   agains = λ this line ls w s k. (ops_grow (suc k) p).agains this line ls w s k;
 }
 
-serial_grows : (p : PlainProgram) (this : Datum) → Growing (serial_parts p this)
-serial_grows p this = parts_grow p (operations_of p) (all_ops_grow p) this
+-- a run with marks
+
+noted_grows : (p : PlainProgram) (ms : PlainMarks) (q o : Operations) → GrowingOps q → GrowingOps o → (ls : List Datum) (i : Invocation) (w : World) (k : ℕ) → Grows w (noted_call ms q o ls i w k)
+noted_grows p ms q o gq go ls i w k = at (op_in ms.ops i.op)
+  where
+    at : (b : Bool) → Grows w (either b (run_call q ls i (noted w (note w.heap (i ∷ []) k)) k) (run_call o ls i w k))
+    at true = from _ (one_note w _) (run_grows q gq ls i _ k)
+    at false = run_grows o go ls i w k
+
+section_later : (w : World) (k : ℕ) (m : LoopSectioned) → Later w (loop_noted w k m)
+section_later w k (loop_done m) = one_note w _
+section_later w k (loop_stopped t) = stays w
+section_later w k loop_over = stays w
+
+noted_parts_grow : (p : PlainProgram) (ms : PlainMarks) (q o : Operations) → GrowingOps q → GrowingOps o → (this : Datum) → Growing (noted_parts p ms q o this)
+noted_parts_grow p ms q o gq go this = record {
+  acts = act_grows p this;
+  calls = λ line ls w e op arguments k. grows_with (due (functions_of p.functions w.heap).call (place w.heap this line ls) e op arguments k) _ (stays w) (λ i k. noted_grows p ms q o gq go ls i w k);
+  agains = go.agains this;
+  begins = λ line ls w s k plain g. at line ls w s k plain g (loop_in ms.loops s);
+}
+  where
+    at : (line : ℕ) (ls : List Datum) (w : World) (s : Statement) (k : ℕ) (plain : Flow World) → Grows w plain → (b : Bool) → Grows w (either b (exec (operation_parts p q this) line ls (loop_noted w k (loop_section p w.heap this ls line s k)) s k) plain)
+    at line ls w s k plain g true = from _ (section_later w k _) (exec_grows (operation_parts p q this) (parts_grow p q gq this) s line ls _ k)
+    at line ls w s k plain g false = g
+
+noted_ops_grow : (n : ℕ) (p : PlainProgram) (ms : PlainMarks) → GrowingOps (noted_operations n p ms)
+noted_ops_grow zero p ms = record { invokes = λ i w k. grows (stays w); agains = λ this line ls w s k. grows (stays w) }
+noted_ops_grow (suc n) p ms = record {
+  invokes = λ i w k. all_grow (noted_parts p ms (operations n p) (noted_operations n p ms) (Ref i.receiver)) (noted_parts_grow p ms _ _ (ops_grow n p) (noted_ops_grow n p ms) (Ref i.receiver)) (body_of (slice_get p.ops i.op.0)) (locals_of (slice_get p.ops i.op.0) i.arguments) w k;
+  agains = λ this line ls w s k. loop_grows (noted_parts p ms (operations n p) (noted_operations n p ms) this) (noted_parts_grow p ms _ _ (ops_grow n p) (noted_ops_grow n p ms) this) s line ls w k;
+}
+
+all_noted_grow : (p : PlainProgram) (ms : PlainMarks) → GrowingOps (noted_of p ms)
+all_noted_grow p ms = record {
+  invokes = λ i w k. let g : GrowingOps (noted_operations (suc k) p ms) = noted_ops_grow (suc k) p ms in g.invokes i w k;
+  agains = λ this line ls w s k. let g : GrowingOps (noted_operations (suc k) p ms) = noted_ops_grow (suc k) p ms in g.agains this line ls w s k;
+}
+
+marked_grows : (p : PlainProgram) (ms : PlainMarks) (this : Datum) → Growing (marked_parts p ms this)
+marked_grows p ms this = noted_parts_grow p ms (operations_of p) (noted_of p ms) (all_ops_grow p) (all_noted_grow p ms) this
 
 -- Work
 
@@ -190,15 +240,15 @@ carried_grows w (runs_out s) = grows (stays w)
 
 runs_grow : (p : PlainProgram) (m : Mode) (f : Body) (w : World) (line : ℕ) (s : Statement) (k : ℕ) → Grows w (runs p m f w line s k)
 runs_grow p InFunction f w line s k = carried_grows w _
-runs_grow p InOperation f w line s k = exec_grows (serial_parts p f.this) (serial_grows p f.this) s line f.locals w k
+runs_grow p InOperation f w line s k = exec_grows (marked_parts p (marks_of f) f.this) (marked_grows p (marks_of f) f.this) s line f.locals w k
 
 runs_all_grow : (p : PlainProgram) (m : Mode) (f : Body) (w : World) (ss : Statements) (k : ℕ) → Grows w (runs_all p m f w ss k)
 runs_all_grow p InFunction f w ss k = carried_grows w _
-runs_all_grow p InOperation f w ss k = all_grow (serial_parts p f.this) (serial_grows p f.this) ss f.locals w k
+runs_all_grow p InOperation f w ss k = all_grow (marked_parts p (marks_of f) f.this) (marked_grows p (marks_of f) f.this) ss f.locals w k
 
 again_grows : (p : PlainProgram) (m : Mode) (f : Body) (w : World) (line : ℕ) (s : Statement) (k : ℕ) → Grows w (comes_again p m f w line s k)
 again_grows p InFunction f w line s k = carried_grows w _
-again_grows p InOperation f w line s k = (all_ops_grow p).agains f.this line f.locals w s k
+again_grows p InOperation f w line s k = (all_noted_grow p (marks_of f)).agains f.this line f.locals w s k
 
 body_grows : (p : PlainProgram) (m : Mode) (f : Body) (w : World) (line : ℕ) (s : Statement) (k : ℕ) → Grows w (runs_body p m f w line s k)
 body_grows p m f w line (while_loop own c b) k = runs_grow p m f w (line_of b) b k
@@ -222,7 +272,7 @@ turns_grow p m f w line s k v =
     (grows_with (take_step k) _ (stays w) (λ _ k. grows_on (runs_body p m f w line s k) _ (body_grows p m f w line s k) (λ ls x k l. from _ l (again_grows p m (with_locals f ls) x line s k))))
     (grows (stays w))
 
-grows_go : {w : World} (a : Flow World) (f : List Datum → World → ℕ → Flow World) (g : Datum → World → ℕ → Flow World) → Grows w a → ((ls : List Datum) (x : World) (k : ℕ) → Later w x → Grows w (f ls x k)) → ((v : Datum) (x : World) (k : ℕ) → Later w x → Grows w (g v x k)) → Grows w (go_on a f g)
+pub grows_go : {w : World} (a : Flow World) (f : List Datum → World → ℕ → Flow World) (g : Datum → World → ℕ → Flow World) → Grows w a → ((ls : List Datum) (x : World) (k : ℕ) → Later w x → Grows w (f ls x k)) → ((v : Datum) (x : World) (k : ℕ) → Later w x → Grows w (g v x k)) → Grows w (go_on a f g)
 grows_go (goes_on ls x k) f g (grows l) h i = h ls x k l
 grows_go (gives_back v x k) f g (grows l) h i = i v x k l
 grows_go (stops t x) f g (grows l) h i = grows l
@@ -249,7 +299,7 @@ called_grows : (p : PlainProgram) (t : Target) (line : ℕ) (v : Datum) (xs vs :
 called_grows p (Function m) line v xs vs f w k go h =
     grows_with (pointed line v k >>= λ n k. take_step k >>= λ _ k. (functions_of p.functions w.heap).call m n xs k) _ (stays w) (λ v k. h (v ∷ vs) w k)
 called_grows p (Operation m) line v xs vs f w k go h =
-    grows_with (pointed line v k) _ (stays w) (λ n k. grows_go (run_call (operations_of p) f.locals (invocation n m xs) w k) _ _ (run_grows (operations_of p) (all_ops_grow p) f.locals (invocation n m xs) w k) (λ ls x k l. from _ l (h vs x k)) (λ v x k l. grows l))
+    grows_with (pointed line v k) _ (stays w) (λ n k. grows_go (noted_call (marks_of f) (operations_of p) (noted_of p (marks_of f)) f.locals (invocation n m xs) w k) _ _ (noted_grows p (marks_of f) (operations_of p) (noted_of p (marks_of f)) (all_ops_grow p) (all_noted_grow p (marks_of f)) f.locals (invocation n m xs) w k) (λ ls x k l. from _ l (h vs x k)) (λ v x k l. grows l))
 
 collected_grows : (p : PlainProgram) (line : ℕ) (t : Target) (arguments : List Expr) (n : ℕ) (vs : List Datum) (f : Body) (w : World) (k : ℕ) (go : List Datum → World → ℕ → Flow World) → ((vs : List Datum) (x : World) (k : ℕ) → Grows x (go vs x k)) → Grows w (collected p line t arguments n vs f w k go)
 collected_grows p line t arguments n vs f w k go h =

@@ -6,6 +6,7 @@ use Rattle.std.specs.declared.vec.Vec.{Vec}
 use Rattle.std.specs.declared.boxed.Box.{Box}
 use Rattle.ca_program.proofs.Rows.{block_is}
 use Rattle.ca_program.specs.declared.program.Expr.{Expr}
+use Rattle.ca_program.specs.declared.program.OpId.{OpId}
 use Rattle.ca_program.specs.declared.program.Stmt.{Stmt}
 use Rattle.ca_program.specs.declared.program.StmtForm.{Block, If, Return}
 use Rattle.ca_program.specs.declared.program.ValueType.{ValueType}
@@ -92,17 +93,17 @@ first_passes s x xs zs is shown owns ms k =
 -- The body that a machine is to enter
 
 -- what a scene tells, it tells of the body with its receiver and its locals
-pub told_in : (m : Machine) (s : Scene) (f : Body) (ss : List Stmt) (o : Answer) → s.heap.now ≡ m.heap → OwnsSlots s → f ≡ record { this = s.this; locals = s.locals.now; mode = InFunction } → Tells s (statements_view ss) o → Told m f (statements_view ss) o
-told_in m s f ss (Gives v) heap owns is tells = rw (is, ← heap) (refl, λ p ps k. ap (carried (record { heap = s.heap.now; prints = ps; notes = [] })) (tells owns p.functions k))
-told_in m s f ss (Rest ys) heap owns is tells = rw (is, ← heap) (λ p ps k. ap (carried (record { heap = s.heap.now; prints = ps; notes = [] })) (tells owns p.functions k))
+pub told_in : (m : Machine) (s : Scene) (f : Body) (marked : List OpId) (heeds : Bool) (ss : List Stmt) (o : Answer) → s.heap.now ≡ m.heap → OwnsSlots s → f ≡ record { this = s.this; locals = s.locals.now; mode = InFunction; marked = marked; heeds = heeds } → Tells s (statements_view ss) o → Told m f (statements_view ss) o
+told_in m s f marked heeds ss (Gives v) heap owns is tells = rw (is, ← heap) (refl, λ p ps k. ap (carried (record { heap = s.heap.now; prints = ps.prints; notes = ps.notes })) (tells owns p.functions k))
+told_in m s f marked heeds ss (Rest ys) heap owns is tells = rw (is, ← heap) (λ p ps k. ap (carried (record { heap = s.heap.now; prints = ps.prints; notes = ps.notes })) (tells owns p.functions k))
 
 -- of the body that a call is to enter, where it has no other locals than its arguments
-pub told_of : (m : Machine) (s : Scene) (n : ℕ) (v : Datum) (args rest below : List Datum) (others : List ValueType) (ss : List Stmt) (o : Answer) → s.heap.now ≡ m.heap → OwnsSlots s → drop n m.values ≡ s.this ∷ below → s.locals.now ≡ reverse (take n m.values) → others ≡ [] → drop n m.values ≡ v ∷ rest → args ≡ reverse (take n m.values) → Tells s (statements_view ss) o → Told m (record { this = v; locals = args ++ map start_of others; mode = InFunction }) (statements_view ss) o
-told_of m s n v args rest below others ss o heap owns here locals none there are tells =
+pub told_of : (m : Machine) (s : Scene) (marked : List OpId) (heeds : Bool) (n : ℕ) (v : Datum) (args rest below : List Datum) (others : List ValueType) (ss : List Stmt) (o : Answer) → s.heap.now ≡ m.heap → OwnsSlots s → drop n m.values ≡ s.this ∷ below → s.locals.now ≡ reverse (take n m.values) → others ≡ [] → drop n m.values ≡ v ∷ rest → args ≡ reverse (take n m.values) → Tells s (statements_view ss) o → Told m (record { this = v; locals = args ++ map start_of others; mode = InFunction; marked = marked; heeds = heeds }) (statements_view ss) o
+told_of m s marked heeds n v args rest below others ss o heap owns here locals none there are tells =
     let first : s.this ∷ below ≡ v ∷ rest = sym here ∙ there in
     let this : v ≡ s.this = cc in
     let all : args ++ map start_of others ≡ s.locals.now = rw none (append-nil args) ∙ are ∙ sym locals in
-    told_in m s (record { this = v; locals = args ++ map start_of others; mode = InFunction }) ss o heap owns (rw (this, all) refl) tells
+    told_in m s (record { this = v; locals = args ++ map start_of others; mode = InFunction; marked = marked; heeds = heeds }) marked heeds ss o heap owns (rw (this, all) refl) tells
 
 -- a body that gives a value back is left
 pub left_with : (p : PlainProgram) (f g : Body) (below : List Body) (todo : List Work) (vs : List Datum) (w : World) (k : ℕ) (ss : Bor (List Stmt)) (v : Datum) → f.mode ≡ InFunction → runs_all p f.mode f w (statements_view ss.now) k ≡ gives_back v w k → resume p (Seq ss ∷ Leave ∷ todo) vs f (g ∷ below) w k ≡ resume p todo (v ∷ vs) g below w k

@@ -2,7 +2,6 @@
 use Rattle.std.specs.Prelude.{◌≡◌, ℕ, List}
 use Rattle.ca_program.specs.Plain.{PlainProgram, PlainMethod, Statement, Statements}
 use Rattle.ca_program.specs.View.{statements_view}
-use Rattle.ca_model.specs.declared.value.Value.{Value as Datum}
 use Rattle.ca_meaning.specs.Flows.{Flow, goes_on, gives_back, exec, exec_all}
 use Rattle.ca_meaning.specs.Functions.{own_of, functions_of, function_parts}
 use Rattle.ca_direct.specs.declared.scene.Scene.{Scene}
@@ -14,7 +13,7 @@ use Rattle.ca_serial.specs.declared.answers.Answer.TheVariants.{Gives, Rest}
 use Rattle.ca_serial.specs.declared.answers.Look.{Look}
 use Rattle.ca_serial.specs.declared.answers.Look.TheVariants.{Gives as Shown, Passes, Stays}
 use Rattle.ca_serial.specs.Bodies.{Body}
-use Rattle.ca_serial.specs.Resume.{runs_all, world_of}
+use Rattle.ca_serial.specs.Resume.{Past, runs_all, world_of}
 
 -- the scene's receiver has its slots in the heap
 abbrev pub OwnsSlots : Scene → Type 0
@@ -41,5 +40,5 @@ Tells s xs (Rest ys) = OwnsSlots s → (ms : List PlainMethod) (k : ℕ) → all
 
 -- the same of a body that a machine is to enter
 abbrev pub Told : Machine → Body → Statements → Answer → Type 0
-Told m f xs (Gives v) = (f.mode ≡ InFunction) × ((p : PlainProgram) (ps : List Datum) (k : ℕ) → runs_all p f.mode f (world_of m ps) xs k ≡ gives_back v (world_of m ps) k)
-Told m f xs (Rest ys) = (p : PlainProgram) (ps : List Datum) (k : ℕ) → runs_all p f.mode f (world_of m ps) xs k ≡ runs_all p f.mode f (world_of m ps) (statements_view ys.now) k
+Told m f xs (Gives v) = (f.mode ≡ InFunction) × ((p : PlainProgram) (ps : Past) (k : ℕ) → runs_all p f.mode f (world_of m ps) xs k ≡ gives_back v (world_of m ps) k)
+Told m f xs (Rest ys) = (p : PlainProgram) (ps : Past) (k : ℕ) → runs_all p f.mode f (world_of m ps) xs k ≡ runs_all p f.mode f (world_of m ps) (statements_view ys.now) k

@@ -1,5 +1,6 @@
 -- The bodies that run.
 use Rattle.std.specs.Prelude.{◌≡◌, Bool, true, false, List, [], ◌∷◌, take, drop, map}
+use Rattle.ca_program.specs.declared.program.OpId.{OpId}
 use Rattle.ca_program.specs.declared.program.ValueType.{ValueType}
 use Rattle.ca_model.specs.declared.value.Value.{Value as Datum}
 use Rattle.ca_model.specs.declared.value.Value.TheVariants.{Null}
@@ -8,35 +9,51 @@ use Rattle.ca_serial.specs.declared.bodies.Mode.{Mode}
 use Rattle.ca_serial.specs.declared.bodies.Mode.TheVariants.{InOperation}
 use Rattle.ca_serial.specs.declared.bodies.Entry.{Entry}
 
--- a body that runs: its receiver, its locals and its kind
+-- A body that runs: its receiver, its locals and its kind, the marked operations, and whether calls of these are handed
+-- on.
 pub record Body : Type 0 where
   pub this : Datum
   pub locals : List Datum
   pub mode : Mode
+  pub marked : List OpId
+  pub heeds : Bool
 
 -- the body that runs, and those that wait, the last caller first
 pub record Nest : Type 0 where
   pub current : Body
   pub below : List Body
 
+-- these, where they are handed on
+abbrev pub heeded : Bool → List OpId → List OpId
+heeded true marked = marked
+heeded false marked = []
+
+-- the operations whose calls a body hands on
+abbrev pub handed_by : Body → List OpId
+handed_by f = heeded f.heeds f.marked
+
 -- a body whose locals are these values from its base on
-abbrev pub body_at : List Datum → Entry → Body
-body_at values e = record { this = e.this; locals = drop e.base values; mode = e.mode }
+abbrev pub body_at : List OpId → List Datum → Entry → Body
+body_at marked values e = record { this = e.this; locals = drop e.base values; mode = e.mode; marked = marked; heeds = e.heeds }
 
 -- the bodies below a base, the last caller first
-abbrev pub waiting : List Datum → List Entry → List Body
-waiting values [] = []
-waiting values (e ∷ es) = body_at values e ∷ waiting (take e.base values) es
+abbrev pub waiting : List OpId → List Datum → List Entry → List Body
+waiting marked values [] = []
+waiting marked values (e ∷ es) = body_at marked values e ∷ waiting marked (take e.base values) es
 
-abbrev pub nest_of : List Datum → Entry → List Entry → Nest
-nest_of values e es = record { current = body_at values e; below = waiting (take e.base values) es }
+abbrev pub nest_of : List OpId → List Datum → Entry → List Entry → Nest
+nest_of marked values e es = record { current = body_at marked values e; below = waiting marked (take e.base values) es }
 
 -- what `main` begins with
-abbrev pub main_body : List ValueType → Body
-main_body types = record { this = Null; locals = map start_of types; mode = InOperation }
+abbrev pub main_body : List ValueType → List OpId → Bool → Body
+main_body types marked heeds = record { this = Null; locals = map start_of types; mode = InOperation; marked = marked; heeds = heeds }
 
 abbrev pub with_locals : Body → List Datum → Body
-with_locals f ls = record { this = f.this; locals = ls; mode = f.mode }
+with_locals f ls = record { this = f.this; locals = ls; mode = f.mode; marked = f.marked; heeds = f.heeds }
+
+-- a body that hands nothing on
+abbrev pub alone : Body → Body
+alone f = record { this = f.this; locals = f.locals; mode = f.mode; marked = f.marked; heeds = false }
 
 -- whether there was a body below, to which a run went back
 abbrev pub Went : Bool → Nest → Nest → Type 0

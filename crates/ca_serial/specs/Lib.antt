@@ -1,5 +1,6 @@
 pub mod Answers
 pub mod Bodies
 pub mod Extents
+pub mod Marked
 pub mod Resume
 pub mod Runs

@@ -1,6 +1,7 @@
 -- What is left to do, as a meaning.
-use Rattle.std.specs.Prelude.{◌≡◌, ◌<◌, ◌≤◌, Bool, true, false, ℕ, zero, suc, pos, IsSome, List, [], ◌∷◌, ◌++◌, Option, Some, None, slice_get, slice_set, drop}
+use Rattle.std.specs.Prelude.{◌≡◌, ◌<◌, ◌≤◌, ◌+◌, Bool, true, false, ℕ, zero, suc, pos, IsSome, List, [], ◌∷◌, ◌++◌, Option, Some, None, slice_get, slice_set, take, drop, reverse}
 use Rattle.ca_program.specs.declared.program.FieldId.{FieldId}
+use Rattle.ca_program.specs.declared.program.OpId.{OpId}
 use Rattle.ca_program.specs.declared.program.Expr.{Expr}
 use Rattle.ca_program.specs.Plain.{PlainProgram, PlainMethod, Expression, Statement, Statements, while_loop, for_loop}
 use Rattle.ca_program.specs.View.{expression_view, expressions_view, statement_view, statements_view}
@@ -11,10 +12,11 @@ use Rattle.ca_model.specs.Heaps.{created, HasSlot}
 use Rattle.ca_model.specs.declared.value.TrapKind.TheVariants.{OutOfRange}
 use Rattle.ca_program.specs.declared.program.ValueType.{ValueType}
 use Rattle.ca_meaning.specs.Operators.{operated, signed, assigned}
-use Rattle.ca_meaning.specs.Expressions.{Out, gives, traps, trap_at, ◌>>=◌, take_step, value_at, one_in, items_in, slot_of, pointed, Item, found, answer, decided, unless_decided, invocation}
+use Rattle.ca_meaning.specs.Expressions.{Out, gives, traps, trap_at, ◌>>=◌, take_step, value_at, one_in, items_in, slot_of, pointed, Item, found, answer, decided, unless_decided, Invocation, invocation}
 use Rattle.ca_meaning.specs.Flows.{Flow, goes_on, gives_back, stops, runs_out, and_on, with, choose, Parts, line_of, exec, exec_all}
 use Rattle.ca_meaning.specs.Functions.{own_of, function_parts, functions_of, value_in, values_in}
-use Rattle.ca_meaning.specs.Serial.{World, in_heap, printed, put_own, room_for, own_value, own_item_at, run_call, operations_of, serial_parts}
+use Rattle.ca_meaning.specs.Serial.{Note, World, in_heap, printed, put_own, room_for, own_value, own_item_at, run_call, operations_of}
+use Rattle.ca_parallel.specs.Lists.{PlainMarks, op_in, note, noted_call, noted_of, marked_parts}
 use Rattle.ca_serial.specs.declared.bodies.Mode.{Mode}
 use Rattle.ca_serial.specs.declared.bodies.Mode.TheVariants.{InFunction, InOperation}
 use Rattle.ca_serial.specs.declared.work.Target.{Target}
@@ -28,10 +30,10 @@ use Rattle.ca_serial.specs.declared.work.Left.TheVariants.{Nothing, Statement as
 use Rattle.ca_serial.specs.declared.work.Turn.{Turn}
 use Rattle.ca_serial.specs.declared.work.Turn.TheVariants.{Whole, Ends}
 use Rattle.ca_serial.specs.declared.work.Next.{Next}
-use Rattle.ca_serial.specs.declared.work.Next.TheVariants.{GoesOn, Printed, Trapped, Spent}
+use Rattle.ca_serial.specs.declared.work.Next.TheVariants.{GoesOn, Printed, Trapped, Spent, Due}
 use Rattle.ca_serial.specs.declared.machine.Machine.{Machine}
 use Rattle.ca_serial.specs.declared.machine.Found.{Found}
-use Rattle.ca_serial.specs.Bodies.{Body, with_locals}
+use Rattle.ca_serial.specs.Bodies.{Body, with_locals, handed_by}
 
 -- Statements in the body that runs
 
@@ -42,21 +44,29 @@ carried w (gives_back v s k) = gives_back v w k
 carried w (stops t s) = stops t w
 carried w (runs_out s) = runs_out w
 
+-- marks on calls alone
+abbrev pub calls_alone : List OpId → PlainMarks
+calls_alone ops = record { ops = ops; loops = [] }
+
+-- the marks that a body heeds
+abbrev pub marks_of : Body → PlainMarks
+marks_of f = calls_alone (handed_by f)
+
 abbrev pub parts_in : PlainProgram → World → Body → Parts (Unit {0})
 parts_in p w f = function_parts (functions_of p.functions w.heap) w.heap f.this
 
 abbrev pub runs : PlainProgram → Mode → Body → World → ℕ → Statement → ℕ → Flow World
 runs p InFunction f w line s k = carried w (exec (parts_in p w f) line f.locals tt s k)
-runs p InOperation f w line s k = exec (serial_parts p f.this) line f.locals w s k
+runs p InOperation f w line s k = exec (marked_parts p (marks_of f) f.this) line f.locals w s k
 
 abbrev pub runs_all : PlainProgram → Mode → Body → World → Statements → ℕ → Flow World
 runs_all p InFunction f w ss k = carried w (exec_all (parts_in p w f) f.locals tt ss k)
-runs_all p InOperation f w ss k = exec_all (serial_parts p f.this) f.locals w ss k
+runs_all p InOperation f w ss k = exec_all (marked_parts p (marks_of f) f.this) f.locals w ss k
 
 -- a loop that comes again
 abbrev pub comes_again : PlainProgram → Mode → Body → World → ℕ → Statement → ℕ → Flow World
 comes_again p InFunction f w line loop k = carried w ((parts_in p w f).again line f.locals tt loop k)
-comes_again p InOperation f w line loop k = (serial_parts p f.this).again line f.locals w loop k
+comes_again p InOperation f w line loop k = (marked_parts p (marks_of f) f.this).again line f.locals w loop k
 
 -- the body of a loop, and behind it the next part of a `for`
 abbrev pub runs_body : PlainProgram → Mode → Body → World → ℕ → Statement → ℕ → Flow World
@@ -100,7 +110,7 @@ abbrev pub called : PlainProgram → Target → ℕ → Datum → List Datum →
 called p (Function m) line v xs vs f w k go =
     with (pointed line v k >>= λ n k. take_step k >>= λ _ k. (functions_of p.functions w.heap).call m n xs k) w (λ v k. go (v ∷ vs) w k)
 called p (Operation m) line v xs vs f w k go =
-    with (pointed line v k) w (λ n k. go_on (run_call (operations_of p) f.locals (invocation n m xs) w k) (λ ls w k. go vs w k) (λ v w k. runs_out w))
+    with (pointed line v k) w (λ n k. go_on (noted_call (marks_of f) (operations_of p) (noted_of p (marks_of f)) f.locals (invocation n m xs) w k) (λ ls w k. go vs w k) (λ v w k. runs_out w))
 
 -- the value of an expression in the body that runs
 abbrev pub value_of : PlainProgram → Body → World → ℕ → Expr → ℕ → Out Datum
@@ -178,23 +188,37 @@ abbrev mutual
 
 -- What a machine means
 
-abbrev pub world_of : Machine → List Datum → World
-world_of m ps = record { heap = m.heap; prints = ps; notes = [] }
+-- what was printed and noted before
+pub record Past : Type 0 where
+  pub prints : List Datum
+  pub notes : List Note
+
+abbrev pub no_past : Past
+no_past = record { prints = []; notes = [] }
+
+abbrev pub and_print : Past → Datum → Past
+and_print ps v = record { prints = ps.prints ++ v ∷ []; notes = ps.notes }
+
+abbrev pub and_note : Past → Note → Past
+and_note ps n = record { prints = ps.prints; notes = ps.notes ++ n ∷ [] }
+
+abbrev pub world_of : Machine → Past → World
+world_of m ps = record { heap = m.heap; prints = ps.prints; notes = ps.notes }
 
 -- with this work
-abbrev pub rest_of : PlainProgram → List Work → Machine → List Datum → Flow World
+abbrev pub rest_of : PlainProgram → List Work → Machine → Past → Flow World
 rest_of p todo m ps = resume p todo m.values m.bodies.current m.bodies.below (world_of m ps) m.left
 
 -- that gives a value back
-abbrev pub back_of : PlainProgram → Machine → List Datum → Datum → Flow World
+abbrev pub back_of : PlainProgram → Machine → Past → Datum → Flow World
 back_of p m ps v = by_mode m.bodies.current.mode (unwind p m.todo m.values m.bodies.below (world_of m ps) m.left v) (runs_out (world_of m ps))
 
 -- that drops what is left of the body of a value method
-abbrev pub unwound : PlainProgram → Machine → List Datum → Datum → Flow World
+abbrev pub unwound : PlainProgram → Machine → Past → Datum → Flow World
 unwound p m ps v = unwind p m.todo m.values m.bodies.below (world_of m ps) m.left v
 
 -- that goes back to the caller with a value
-abbrev pub handed_back : PlainProgram → Machine → List Datum → Datum → Flow World
+abbrev pub handed_back : PlainProgram → Machine → Past → Datum → Flow World
 handed_back p m ps v = back_in m.bodies.below (world_of m ps) (λ g below. resume p m.todo (v ∷ m.values) g below (world_of m ps) m.left)
 
 -- that goes on with this work from how a statement ends
@@ -203,58 +227,76 @@ going_on p todo m flow =
     go_on flow (λ ls w k. resume p todo m.values (with_locals m.bodies.current ls) m.bodies.below w k) (λ v w k. by_mode m.bodies.current.mode (unwind p todo m.values m.bodies.below w k v) (runs_out w))
 
 -- that runs this statement, and then this work
-abbrev pub does_before : PlainProgram → List Work → ℕ → Statement → Machine → List Datum → Flow World
+abbrev pub does_before : PlainProgram → List Work → ℕ → Statement → Machine → Past → Flow World
 does_before p todo line s m ps = going_on p todo m (runs p m.bodies.current.mode m.bodies.current (world_of m ps) line s m.left)
 
 -- that runs this statement
-abbrev pub does : PlainProgram → ℕ → Statement → Machine → List Datum → Flow World
+abbrev pub does : PlainProgram → ℕ → Statement → Machine → Past → Flow World
 does p line s m ps = does_before p m.todo line s m ps
 
 -- that runs these statements, and then this work
-abbrev pub all_before : PlainProgram → List Work → Statements → Machine → List Datum → Flow World
+abbrev pub all_before : PlainProgram → List Work → Statements → Machine → Past → Flow World
 all_before p todo ss m ps = going_on p todo m (runs_all p m.bodies.current.mode m.bodies.current (world_of m ps) ss m.left)
 
 -- that goes on with a loop that comes again, and then with this work
-abbrev pub again_before : PlainProgram → List Work → ℕ → Statement → Machine → List Datum → Flow World
+abbrev pub again_before : PlainProgram → List Work → ℕ → Statement → Machine → Past → Flow World
 again_before p todo line loop m ps = going_on p todo m (comes_again p m.bodies.current.mode m.bodies.current (world_of m ps) line loop m.left)
 
 -- that goes on with a loop from its condition on
-abbrev pub loops : PlainProgram → ℕ → Expression → Statement → Machine → List Datum → Flow World
+abbrev pub loops : PlainProgram → ℕ → Expression → Statement → Machine → Past → Flow World
 loops p line c loop m ps =
     with (value_in p.functions m.heap m.bodies.current.this line m.bodies.current.locals c m.left) (world_of m ps) (λ v k.
     going_on p m.todo m (turns p m.bodies.current.mode m.bodies.current (world_of m ps) line loop k v))
 
 -- that evaluates this expression
-abbrev pub evaluates : PlainProgram → ℕ → Expression → Machine → List Datum → Flow World
+abbrev pub evaluates : PlainProgram → ℕ → Expression → Machine → Past → Flow World
 evaluates p line e m ps =
     with (value_in p.functions m.heap m.bodies.current.this line m.bodies.current.locals e m.left) (world_of m ps) (λ v k.
     resume p m.todo (v ∷ m.values) m.bodies.current m.bodies.below (world_of m ps) k)
 
 -- that uses the value
-abbrev pub takes : PlainProgram → Taker → Datum → Machine → List Datum → Flow World
+abbrev pub takes : PlainProgram → Taker → Datum → Machine → Past → Flow World
 takes p taker v m ps =
     used p taker v m.values m.bodies.current (world_of m ps) m.left (λ vs f w k. resume p m.todo vs f m.bodies.below w k) (λ v w k. by_mode m.bodies.current.mode (unwind p m.todo m.values m.bodies.below w k v) (runs_out w))
 
 -- that begins a call with so many values
-abbrev pub begins : PlainProgram → ℕ → Target → ℕ → Machine → List Datum → Flow World
+abbrev pub begins : PlainProgram → ℕ → Target → ℕ → Machine → Past → Flow World
 begins p line t n m ps =
     taken n m.values [] (world_of m ps) (λ xs v vs. called p t line v xs vs m.bodies.current (world_of m ps) m.left (λ vs w k. resume p m.todo vs m.bodies.current m.bodies.below w k))
 
+-- the call that is due: its arguments are the top values, so many of them
+abbrev pub call_of : Machine → Invocation
+call_of m = invocation m.due.receiver m.due.op (reverse (take m.due.count m.values))
+
+abbrev pub note_of : Machine → Note
+note_of m = note m.heap (call_of m ∷ []) m.left
+
+-- that runs the call that is due as the serial run does, and hands nothing on within it
+abbrev pub runs_due : PlainProgram → Machine → Past → Flow World
+runs_due p m ps =
+    go_on (run_call (operations_of p) m.bodies.current.locals (call_of m) (world_of m ps) m.left) (λ ls w k. resume p m.todo (drop (m.due.count + 1) m.values) m.bodies.current m.bodies.below w k) (λ v w k. runs_out w)
+
 -- after a piece of work
-abbrev pub after : PlainProgram → Machine → List Datum → Next → Flow World
+abbrev pub after : PlainProgram → Machine → Past → Next → Flow World
 after p m ps GoesOn = rest_of p m.todo m ps
-after p m ps Printed = rest_of p m.todo m (ps ++ m.shown ∷ [])
+after p m ps Printed = rest_of p m.todo m (and_print ps m.shown)
 after p m ps Trapped = stops m.trap (world_of m ps)
 after p m ps Spent = runs_out (world_of m ps)
+after p m ps Due = runs_due p m (and_note ps (note_of m))
+
+-- whether the run goes on, or a step too many is due
+abbrev pub next_of : Bool → Next
+next_of true = GoesOn
+next_of false = Spent
 
 -- a piece of work was done at once: then all is as before but for what it means
 abbrev pub AtOnce : Bool → PlainProgram → Work → Machine → Machine → Type 0
-AtOnce true p work old new = (new.todo ≡ old.todo) × (new.left ≡ old.left) × ((todo : List Work) (ps : List Datum) → rest_of p (work ∷ todo) old ps ≡ rest_of p todo new ps)
+AtOnce true p work old new = (new.todo ≡ old.todo) × (new.left ≡ old.left) × ((todo : List Work) (ps : Past) → rest_of p (work ∷ todo) old ps ≡ rest_of p todo new ps)
 AtOnce false p work old new = new ≡ old
 
 -- the same of a statement
 abbrev pub Puts : Bool → PlainProgram → ℕ → Statement → Machine → Machine → Type 0
-Puts true p line s old new = (new.todo ≡ old.todo) × (new.left ≡ old.left) × ((todo : List Work) (ps : List Datum) → does_before p todo line s old ps ≡ rest_of p todo new ps)
+Puts true p line s old new = (new.todo ≡ old.todo) × (new.left ≡ old.left) × ((todo : List Work) (ps : Past) → does_before p todo line s old ps ≡ rest_of p todo new ps)
 Puts false p line s old new = new ≡ old
 
 -- the work that is left of a statement, before other work
@@ -264,7 +306,7 @@ pieces (OneLeft line s) todo = Exec line s ∷ todo
 pieces (SomeLeft ss) todo = Seq ss ∷ todo
 
 -- after a turn of a loop: the loop comes again, or the work ended so
-abbrev pub behind : PlainProgram → Work → Machine → List Datum → Turn → Flow World
+abbrev pub behind : PlainProgram → Work → Machine → Past → Turn → Flow World
 behind p loop m ps Whole = rest_of p (loop ∷ m.todo) m ps
 behind p loop m ps (Ends next) = after p m ps next
 
@@ -284,6 +326,16 @@ target_method p (Operation m) = slice_get p.ops m.0
 abbrev pub target_mode : Target → Mode
 target_mode (Function m) = InFunction
 target_mode (Operation m) = InOperation
+
+-- the body doesn't hand calls of this on
+abbrev pub Unheeded : Target → List OpId → Type 0
+Unheeded (Function m) heeds = Unit {0}
+Unheeded (Operation m) heeds = op_in heeds m ≡ false
+
+-- a call of this operation is to be handed on, or of none
+abbrev pub Handed : Option OpId → Target → List OpId → Type 0
+Handed None t heeds = Unheeded t heeds
+Handed (Some op) t heeds = (t ≡ Operation op) × (op_in heeds op ≡ true)
 
 abbrev pub others_in : Option PlainMethod → List ValueType
 others_in None = []

@@ -3,11 +3,10 @@
 ghost use Rattle.std.specs.Prelude.{◌≡◌, ◌∷◌, ℕ, List, IfSome};
 ghost use Rattle.ca_program.specs.View.{program_view, expression_view};
 ghost use Rattle.ca_program.specs.Plain.{put_local, put_field, put_item};
-ghost use Rattle.ca_model.specs.declared.value.Value.{Value as Datum};
 ghost use Rattle.ca_model.specs.declared.value.Value.TheVariants.{Bool as Truth};
 ghost use Rattle.ca_meaning.specs.Expressions.{gives};
 ghost use Rattle.ca_meaning.specs.Functions.{value_in};
-ghost use Rattle.ca_serial.specs.Resume.{rest_of, AtOnce, Puts, pieces};
+ghost use Rattle.ca_serial.specs.Resume.{Past, rest_of, AtOnce, Puts, pieces};
 
 use crate::bodies::Mode;
 use crate::machine::Machine;
@@ -21,7 +20,7 @@ impl<'a> Machine<'a> {
     pub fn start(&mut self, program: &'a Program, line: u32, s: &'a Stmt) -> Left<'a>
         ensures todo { self.new.todo ≡ self.old.todo }
         ensures steps { self.new.left ≡ self.old.left }
-        ensures left { (todo : List Work) (ps : List Datum) → rest_of (program_view program.now) (Work.Exec line s.entry ∷ todo) self.old ps ≡ rest_of (program_view program.now) (pieces result todo) self.new ps }
+        ensures left { (todo : List Work) (ps : Past) → rest_of (program_view program.now) (Work.Exec line s.entry ∷ todo) self.old ps ≡ rest_of (program_view program.now) (pieces result todo) self.new ps }
     {
         match &s.kind {
             StmtForm::Block(ss) => {
@@ -43,7 +42,7 @@ impl<'a> Machine<'a> {
     fn start_all(&mut self, program: &'a Program, ss: &'a [Stmt]) -> Left<'a>
         ensures todo { self.new.todo ≡ self.old.todo }
         ensures steps { self.new.left ≡ self.old.left }
-        ensures left { (todo : List Work) (ps : List Datum) → rest_of (program_view program.now) (Work.Seq ss.entry ∷ todo) self.old ps ≡ rest_of (program_view program.now) (pieces result todo) self.new ps }
+        ensures left { (todo : List Work) (ps : Past) → rest_of (program_view program.now) (Work.Seq ss.entry ∷ todo) self.old ps ≡ rest_of (program_view program.now) (pieces result todo) self.new ps }
     {
         let rest = self.do_all(program, ss);
         if rest.is_empty() {
@@ -57,7 +56,7 @@ impl<'a> Machine<'a> {
     pub fn do_all(&mut self, program: &'a Program, ss: &'a [Stmt]) -> &'a [Stmt]
         ensures todo { self.new.todo ≡ self.old.todo }
         ensures steps { self.new.left ≡ self.old.left }
-        ensures left { (todo : List Work) (ps : List Datum) → rest_of (program_view program.now) (Work.Seq ss.entry ∷ todo) self.old ps ≡ rest_of (program_view program.now) (Work.Seq result ∷ todo) self.new ps }
+        ensures left { (todo : List Work) (ps : Past) → rest_of (program_view program.now) (Work.Seq ss.entry ∷ todo) self.old ps ≡ rest_of (program_view program.now) (Work.Seq result ∷ todo) self.new ps }
     {
         let mut rest = ss;
         while let Some((first, others)) = rest.split_first() {

@@ -3,10 +3,12 @@
 ghost use Rattle.std.specs.Prelude.{◌≡◌, [], ◌∷◌, ◌++◌, map, slice_set, IfOk};
 ghost use Rattle.ca_model.specs.Slots.{start_of};
 ghost use Rattle.ca_meaning.specs.Expressions.{value_at};
+ghost use Rattle.ca_parallel.specs.Lists.{op_in};
 
+use crate::marked::Marked;
 use ca_base::Memory;
 use ca_model::{Value, start_of};
-use ca_program::ValueType;
+use ca_program::{OpId, ValueType};
 use std::alloc::Global;
 use std::marker::Model;
 
@@ -17,39 +19,51 @@ pub enum Mode {
     InOperation,
 }
 
-/// A body that runs: its receiver, its kind and the place where its locals begin.
+/// A body that runs: its receiver, its kind, whether it hands calls on, and the place where its locals begin.
 #[derive(Clone, Copy)]
 pub struct Entry {
     pub this: Value,
     pub mode: Mode,
+    pub heeds: bool,
     pub base: usize,
 }
 
-/// The body that runs and those that wait for it. The locals of all stand in one vector.
+/// The body that runs and those that wait for it. The locals of all stand in one vector, and the marked operations
+/// are the same for all that hand calls on.
 #[derive(Drop)]
-pub struct Bodies {
+pub struct Bodies<'a> {
     locals: Vec<Value>,
     current: Entry,
     below: Vec<Entry>,
+    marked: Marked<'a>,
 }
 
-impl Model for Bodies {
+impl<'a> Model for Bodies<'a> {
     ghost use Rattle.std.specs.Prelude.{reverse};
     ghost use Rattle.ca_serial.specs.Bodies.{Nest, nest_of};
 
     ghost Value = { Nest };
 
-    ghost view = { λ s. nest_of s.locals.items s.current (reverse s.below.items) };
+    ghost view = { λ s. nest_of s.marked s.locals.items s.current (reverse s.below.items) };
 }
 
-impl Bodies {
-    ghost use Rattle.ca_serial.specs.Bodies.{main_body, with_locals, Went};
+impl<'a> Bodies<'a> {
+    ghost use Rattle.ca_serial.specs.Bodies.{main_body, with_locals, alone, handed_by, Went};
 
-    /// The body of `main`, whose locals have these types.
-    pub fn new(alloc: Global, types: &[ValueType]) -> Result<Bodies, Memory>
-        ensures current { IfOk result (λ bodies. bodies.current ≡ main_body types.now) }
+    /// The body of `main`, whose locals have these types, in a program of so many operations. It hands on calls
+    /// of these.
+    pub fn new(
+        alloc: Global,
+        types: &[ValueType],
+        ops: &'a [OpId],
+        count: usize,
+    ) -> Result<Bodies<'a>, Memory>
+        ensures current { IfOk result (λ bodies. bodies.current ≡ main_body types.now ops.now bodies.current.heeds) }
+        ensures heeds { IfOk result (λ bodies. handed_by bodies.current ≡ ops.now) }
         ensures below { IfOk result (λ bodies. bodies.below ≡ []) }
     {
+        let heeds = !ops.is_empty();
+        let marked = Marked::new(alloc, ops, count)?;
         let mut locals = Vec::new(alloc);
         add_starts(&mut locals, types)?;
         Ok(Bodies {
@@ -57,9 +71,11 @@ impl Bodies {
             current: Entry {
                 this: Value::Null,
                 mode: Mode::InOperation,
+                heeds,
                 base: 0,
             },
             below: Vec::new(alloc),
+            marked,
         })
     }
 
@@ -77,6 +93,22 @@ impl Bodies {
         ensures { result ≡ self.now.current.mode }
     {
         self.current.mode
+    }
+
+    /// Whether the body that runs hands a call of this operation on.
+    #[inline(always)]
+    pub fn hands_on(&self, op: OpId) -> bool
+        ensures { result ≡ op_in (handed_by self.now.current) op }
+    {
+        self.current.heeds && self.marked.holds(op)
+    }
+
+    /// Lets the body that runs hand nothing on.
+    pub fn be_alone(&mut self)
+        ensures current { self.new.current ≡ alone self.old.current }
+        ensures below { self.new.below ≡ self.old.below }
+    {
+        self.current.heeds = false;
     }
 
     /// The locals of the body that runs.
@@ -116,7 +148,8 @@ impl Bodies {
         }
     }
 
-    /// Begins a body whose first locals are the arguments; the others have these types.
+    /// Begins a body whose first locals are the arguments; the others have these types. It hands on what the body that
+    /// runs does.
     #[inline(always)]
     pub fn enter(
         &mut self,
@@ -125,14 +158,20 @@ impl Bodies {
         arguments: &[Value],
         others: &[ValueType],
     ) -> Result<(), Memory>
-        ensures current { IfOk result (λ _. self.new.current ≡ record { this = this; locals = arguments.now ++ map start_of others.now; mode = mode }) }
+        ensures current { IfOk result (λ _. self.new.current ≡ record { this = this; locals = arguments.now ++ map start_of others.now; mode = mode; marked = self.old.current.marked; heeds = self.old.current.heeds }) }
         ensures below { IfOk result (λ _. self.new.below ≡ self.old.current ∷ self.old.below) }
     {
+        let heeds = self.current.heeds;
         let base = self.locals.len();
         add_all(&mut self.locals, arguments)?;
         add_starts(&mut self.locals, others)?;
         add(&mut self.below, self.current)?;
-        self.current = Entry { this, mode, base };
+        self.current = Entry {
+            this,
+            mode,
+            heeds,
+            base,
+        };
         Ok(())
     }
 

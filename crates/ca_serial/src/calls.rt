@@ -5,17 +5,18 @@ ghost use Rattle.ca_program.specs.View.{program_view, method_view, statements_vi
 ghost use Rattle.ca_model.specs.declared.value.Value.{Value as Datum};
 ghost use Rattle.ca_meaning.specs.Functions.{body_of};
 ghost use Rattle.ca_model.specs.Slots.{start_of};
-ghost use Rattle.ca_serial.specs.Resume.{rest_of, back_of, unwound, handed_back, begins, after, target_method, target_mode, others_in};
+ghost use Rattle.ca_serial.specs.Resume.{Past, rest_of, back_of, unwound, handed_back, begins, after, target_method, target_mode, others_in, Handed};
 ghost use Rattle.ca_serial.specs.Answers.{Told};
+ghost use Rattle.ca_serial.specs.Bodies.{handed_by};
 
 use crate::answers::{Answer, answer_of};
 use crate::bodies::Mode;
 use crate::machine::Machine;
-use crate::work::{Next, Target, Work};
+use crate::work::{Call, Next, Target, Work};
 use ca_base::Memory;
 use ca_direct::Scene;
 use ca_model::{TrapKind, Value};
-use ca_program::{Expr, Method, Program, Stmt, StmtForm, ValueType};
+use ca_program::{Expr, Method, OpId, Program, Stmt, StmtForm, ValueType};
 
 impl<'a> Machine<'a> {
     /// Goes on with the arguments of a call from one of them on, and then begins the call.
@@ -28,7 +29,7 @@ impl<'a> Machine<'a> {
         arguments: &'a [Expr],
         first: usize,
     ) -> Result<Next, Memory>
-        ensures { IfOk result (λ next. (ps : List Datum) → rest_of (program_view program.now) (Work.Collect line target arguments.entry first ∷ self.old.todo) self.old ps ≡ after (program_view program.now) self.new ps next) }
+        ensures { IfOk result (λ next. (ps : Past) → rest_of (program_view program.now) (Work.Collect line target arguments.entry first ∷ self.old.todo) self.old ps ≡ after (program_view program.now) self.new ps next) }
     {
         let mut index = first;
         while index < arguments.len() {
@@ -46,7 +47,8 @@ impl<'a> Machine<'a> {
         self.begin(program, line, target, index)
     }
 
-    /// Begins a call whose arguments are the top values, so many of them, with the receiver below them.
+    /// Begins a call whose arguments are the top values, so many of them, with the receiver below them. One that the
+    /// body hands on is due, before its step.
     #[inline(always)]
     fn begin(
         &mut self,
@@ -55,16 +57,25 @@ impl<'a> Machine<'a> {
         target: Target,
         count: usize,
     ) -> Result<Next, Memory>
-        ensures { IfOk result (λ next. (ps : List Datum) → begins (program_view program.now) line target count self.old ps ≡ after (program_view program.now) self.new ps next) }
+        ensures { IfOk result (λ next. (ps : Past) → begins (program_view program.now) line target count self.old ps ≡ after (program_view program.now) self.new ps next) }
     {
         let called = body_of(program, target);
         let told = self.told(target, called, count);
+        let handed = self.handed(target);
         let Some(top) = self.values.top(count) else {
             return Ok(Next::Spent);
         };
-        let Value::Ref(_) = top.below else {
+        let Value::Ref(receiver) = top.below else {
             return Ok(self.stop(line, TrapKind::NullPointer));
         };
+        if let Some(op) = handed {
+            self.due = Call {
+                receiver,
+                op,
+                count,
+            };
+            return Ok(Next::Due);
+        }
         if self.left == 0 {
             return Ok(Next::Spent);
         }
@@ -86,11 +97,28 @@ impl<'a> Machine<'a> {
         }
     }
 
+    /// The operation, where the body hands calls of it on.
+    #[inline(always)]
+    fn handed(&self, target: Target) -> Option<OpId>
+        ensures { Handed result target (handed_by self.now.bodies.current) }
+    {
+        match target {
+            Target::Function(_) => None,
+            Target::Operation(op) => {
+                if self.bodies.hands_on(op) {
+                    Some(op)
+                } else {
+                    None
+                }
+            }
+        }
+    }
+
     /// What the beginning of a body tells before it is entered, with the top values as its arguments, so many
     /// of them, and its receiver below them. That of an operation isn't looked at.
     #[inline(always)]
     fn told(&self, target: Target, called: Called<'a>, count: usize) -> Answer<'a>
-        ensures { (v : Datum) (arguments rest : List Datum) → drop count self.now.values ≡ v ∷ rest → arguments ≡ reverse (take count self.now.values) → Told self.now (record { this = v; locals = arguments ++ map start_of called.entry.others.now; mode = target_mode target }) (statements_view called.entry.stmts.now) result }
+        ensures { (v : Datum) (arguments rest : List Datum) → drop count self.now.values ≡ v ∷ rest → arguments ≡ reverse (take count self.now.values) → Told self.now (record { this = v; locals = arguments ++ map start_of called.entry.others.now; mode = target_mode target; marked = self.now.bodies.current.marked; heeds = self.now.bodies.current.heeds }) (statements_view called.entry.stmts.now) result }
     {
         let Target::Function(_) = target else {
             return Answer::Rest(called.stmts);
@@ -112,7 +140,7 @@ impl<'a> Machine<'a> {
 
     /// Begins a body that was entered. One that is done at once is left again with no work on the stack.
     fn begin_body(&mut self, program: &'a Program, ss: &'a [Stmt]) -> Result<Next, Memory>
-        ensures { IfOk result (λ next. (ps : List Datum) → rest_of (program_view program.now) (Work.Seq ss.entry ∷ Work.Leave ∷ self.old.todo) self.old ps ≡ after (program_view program.now) self.new ps next) }
+        ensures { IfOk result (λ next. (ps : Past) → rest_of (program_view program.now) (Work.Seq ss.entry ∷ Work.Leave ∷ self.old.todo) self.old ps ≡ after (program_view program.now) self.new ps next) }
     {
         if let Mode::InFunction = self.bodies.mode() {
             if let Some((first, _)) = ss.split_first() {
@@ -136,7 +164,7 @@ impl<'a> Machine<'a> {
     /// Makes the first statement of a list the next piece of work, and what is behind it the one after that.
     #[inline]
     fn put_off(&mut self, program: &'a Program, ss: &'a [Stmt]) -> Result<Next, Memory>
-        ensures { IfOk result (λ next. (ps : List Datum) → rest_of (program_view program.now) (Work.Seq ss.entry ∷ self.old.todo) self.old ps ≡ after (program_view program.now) self.new ps next) }
+        ensures { IfOk result (λ next. (ps : Past) → rest_of (program_view program.now) (Work.Seq ss.entry ∷ self.old.todo) self.old ps ≡ after (program_view program.now) self.new ps next) }
     {
         match ss.split_first() {
             Some((first, rest)) => {
@@ -155,7 +183,7 @@ impl<'a> Machine<'a> {
     /// Gives a value back to the caller of a value method. In another body that ends the run.
     #[inline]
     pub fn give_back(&mut self, program: &'a Program, value: Value) -> Result<Next, Memory>
-        ensures { IfOk result (λ next. (ps : List Datum) → back_of (program_view program.now) self.old ps value ≡ after (program_view program.now) self.new ps next) }
+        ensures { IfOk result (λ next. (ps : Past) → back_of (program_view program.now) self.old ps value ≡ after (program_view program.now) self.new ps next) }
     {
         match self.bodies.mode() {
             Mode::InOperation => Ok(Next::Spent),
@@ -166,7 +194,7 @@ impl<'a> Machine<'a> {
     /// Drops what is left of the body of a value method, and goes back to its caller.
     #[inline]
     fn unwind(&mut self, program: &'a Program, value: Value) -> Result<Next, Memory>
-        ensures { IfOk result (λ next. (ps : List Datum) → unwound (program_view program.now) self.old ps value ≡ after (program_view program.now) self.new ps next) }
+        ensures { IfOk result (λ next. (ps : Past) → unwound (program_view program.now) self.old ps value ≡ after (program_view program.now) self.new ps next) }
     {
         while let Some(work) = self.todo.pop() {
             if let Work::Leave = work {
@@ -179,7 +207,7 @@ impl<'a> Machine<'a> {
     /// Goes back to the caller of a value method with a value.
     #[inline]
     pub fn hand_back(&mut self, program: &'a Program, value: Value) -> Result<Next, Memory>
-        ensures { IfOk result (λ next. (ps : List Datum) → handed_back (program_view program.now) self.old ps value ≡ after (program_view program.now) self.new ps next) }
+        ensures { IfOk result (λ next. (ps : Past) → handed_back (program_view program.now) self.old ps value ≡ after (program_view program.now) self.new ps next) }
     {
         if !self.bodies.leave() {
             return Ok(Next::Spent);
@@ -191,7 +219,7 @@ impl<'a> Machine<'a> {
     /// Goes back to the caller behind the last statement of a body.
     #[inline]
     pub fn leave(&mut self, program: &'a Program) -> Result<Next, Memory>
-        ensures { IfOk result (λ next. (ps : List Datum) → rest_of (program_view program.now) (Work.Leave ∷ self.old.todo) self.old ps ≡ after (program_view program.now) self.new ps next) }
+        ensures { IfOk result (λ next. (ps : Past) → rest_of (program_view program.now) (Work.Leave ∷ self.old.todo) self.old ps ≡ after (program_view program.now) self.new ps next) }
     {
         match self.bodies.mode() {
             Mode::InFunction => self.hand_back(program, Value::Null),
@@ -224,7 +252,7 @@ pub struct Called<'a> {
 }
 
 /// The body of what is called, and nothing where there is no such method.
-fn body_of<'a>(program: &'a Program, target: Target) -> Called<'a>
+pub fn body_of<'a>(program: &'a Program, target: Target) -> Called<'a>
     ensures stmts { statements_view result.stmts.now ≡ body_of (target_method (program_view program.now) target) }
     ensures others { result.others.now ≡ others_in (target_method (program_view program.now) target) }
 {

@@ -1,11 +1,10 @@
 //! The steps of expressions.
 
-ghost use Rattle.std.specs.Prelude.{◌≡◌, ◌∷◌, ℕ, List, IfOk};
+ghost use Rattle.std.specs.Prelude.{◌≡◌, ◌∷◌, ℕ, IfOk};
 ghost use Rattle.ca_program.specs.View.{program_view, expression_view, expressions_view, statement_view, statements_view};
 ghost use Rattle.ca_program.specs.Plain.{value_call, binary};
-ghost use Rattle.ca_model.specs.declared.value.Value.{Value as Datum};
 ghost use Rattle.ca_meaning.specs.Expressions.{decided};
-ghost use Rattle.ca_serial.specs.Resume.{rest_of, takes, evaluates, after};
+ghost use Rattle.ca_serial.specs.Resume.{Past, rest_of, takes, evaluates, after};
 
 use crate::machine::{Machine, field_of};
 use crate::work::{Next, Taker, Target, Work};
@@ -18,7 +17,7 @@ impl<'a> Machine<'a> {
     /// Goes on with an expression: its value, or its first part.
     #[inline]
     pub fn evaluate(&mut self, program: &'a Program, line: u32, e: &'a Expr) -> Result<Next, Memory>
-        ensures { IfOk result (λ next. (ps : List Datum) → rest_of (program_view program.now) (Work.Evaluate line e.entry ∷ self.old.todo) self.old ps ≡ after (program_view program.now) self.new ps next) }
+        ensures { IfOk result (λ next. (ps : Past) → rest_of (program_view program.now) (Work.Evaluate line e.entry ∷ self.old.todo) self.old ps ≡ after (program_view program.now) self.new ps next) }
     {
         match e {
             Expr::Number(n) => self.values.push(Value::Long(*n))?,
@@ -59,7 +58,7 @@ impl<'a> Machine<'a> {
         method: FunctionId,
         arguments: &'a [Expr],
     ) -> Result<Next, Memory>
-        ensures { IfOk result (λ next. (ps : List Datum) → evaluates (program_view program.now) line (value_call (expression_view receiver.now) method (expressions_view arguments.now)) self.old ps ≡ after (program_view program.now) self.new ps next) }
+        ensures { IfOk result (λ next. (ps : Past) → evaluates (program_view program.now) line (value_call (expression_view receiver.now) method (expressions_view arguments.now)) self.old ps ≡ after (program_view program.now) self.new ps next) }
     {
         let target = Target::Function(method);
         match self.value_of(program, line, receiver) {
@@ -86,7 +85,7 @@ impl<'a> Machine<'a> {
         a: &'a Expr,
         b: &'a Expr,
     ) -> Result<Next, Memory>
-        ensures { IfOk result (λ next. (ps : List Datum) → evaluates (program_view program.now) line (binary op (expression_view a.now) (expression_view b.now)) self.old ps ≡ after (program_view program.now) self.new ps next) }
+        ensures { IfOk result (λ next. (ps : Past) → evaluates (program_view program.now) line (binary op (expression_view a.now) (expression_view b.now)) self.old ps ≡ after (program_view program.now) self.new ps next) }
     {
         if is_short(a) {
             if let Some(left) = self.value_of(program, line, a) {
@@ -107,7 +106,7 @@ impl<'a> Machine<'a> {
         line: u32,
         e: &'a Expr,
     ) -> Result<Next, Memory>
-        ensures { IfOk result (λ next. (ps : List Datum) → rest_of (program_view program.now) (Work.Evaluate line e.entry ∷ self.old.todo) self.old ps ≡ after (program_view program.now) self.new ps next) }
+        ensures { IfOk result (λ next. (ps : Past) → rest_of (program_view program.now) (Work.Evaluate line e.entry ∷ self.old.todo) self.old ps ≡ after (program_view program.now) self.new ps next) }
     {
         match e {
             Expr::Value(receiver, m, arguments) => {
@@ -144,7 +143,7 @@ impl<'a> Machine<'a> {
         field: FieldId,
         object: Value,
     ) -> Result<Next, Memory>
-        ensures { IfOk result (λ next. (ps : List Datum) → takes (program_view program.now) (Taker.ReadField line field) object self.old ps ≡ after (program_view program.now) self.new ps next) }
+        ensures { IfOk result (λ next. (ps : Past) → takes (program_view program.now) (Taker.ReadField line field) object self.old ps ≡ after (program_view program.now) self.new ps next) }
     {
         let Value::Ref(_) = object else {
             return Ok(self.stop(line, TrapKind::NullPointer));
@@ -163,7 +162,7 @@ impl<'a> Machine<'a> {
         index: &'a Expr,
         object: Value,
     ) -> Result<Next, Memory>
-        ensures { IfOk result (λ next. (ps : List Datum) → takes (program_view program.now) (Taker.CheckObject line field index.entry) object self.old ps ≡ after (program_view program.now) self.new ps next) }
+        ensures { IfOk result (λ next. (ps : Past) → takes (program_view program.now) (Taker.CheckObject line field index.entry) object self.old ps ≡ after (program_view program.now) self.new ps next) }
     {
         let Value::Ref(_) = object else {
             return Ok(self.stop(line, TrapKind::NullPointer));
@@ -181,7 +180,7 @@ impl<'a> Machine<'a> {
         field: FieldId,
         index: Value,
     ) -> Result<Next, Memory>
-        ensures { IfOk result (λ next. (ps : List Datum) → takes (program_view program.now) (Taker.ReadItem line object field) index self.old ps ≡ after (program_view program.now) self.new ps next) }
+        ensures { IfOk result (λ next. (ps : Past) → takes (program_view program.now) (Taker.ReadItem line object field) index self.old ps ≡ after (program_view program.now) self.new ps next) }
     {
         match self.indexed(line, object, field, index)? {
             Some(item) => {
@@ -195,7 +194,7 @@ impl<'a> Machine<'a> {
     /// Applies an operator to its one side.
     #[inline]
     pub fn sign(&mut self, program: &'a Program, op: UnaryOp, value: Value) -> Result<Next, Memory>
-        ensures { IfOk result (λ next. (ps : List Datum) → takes (program_view program.now) (Taker.Sign op) value self.old ps ≡ after (program_view program.now) self.new ps next) }
+        ensures { IfOk result (λ next. (ps : Past) → takes (program_view program.now) (Taker.Sign op) value self.old ps ≡ after (program_view program.now) self.new ps next) }
     {
         self.values.push(operate_unary(op, value))?;
         Ok(Next::GoesOn)
@@ -211,7 +210,7 @@ impl<'a> Machine<'a> {
         right: &'a Expr,
         left: Value,
     ) -> Result<Next, Memory>
-        ensures { IfOk result (λ next. (ps : List Datum) → takes (program_view program.now) (Taker.CheckLeft line op right.entry) left self.old ps ≡ after (program_view program.now) self.new ps next) }
+        ensures { IfOk result (λ next. (ps : Past) → takes (program_view program.now) (Taker.CheckLeft line op right.entry) left self.old ps ≡ after (program_view program.now) self.new ps next) }
     {
         match decide(op, left) {
             Some(value) => {
@@ -236,7 +235,7 @@ impl<'a> Machine<'a> {
         left: Value,
         right: Value,
     ) -> Result<Next, Memory>
-        ensures { IfOk result (λ next. (ps : List Datum) → takes (program_view program.now) (Taker.Apply line op left) right self.old ps ≡ after (program_view program.now) self.new ps next) }
+        ensures { IfOk result (λ next. (ps : Past) → takes (program_view program.now) (Taker.Apply line op left) right self.old ps ≡ after (program_view program.now) self.new ps next) }
     {
         match operate(op, left, right) {
             Ok(value) => {

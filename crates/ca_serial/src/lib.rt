@@ -4,7 +4,11 @@
 //! the outcome of the depth-first serial run of that program, exactly, with its heap, its steps or its
 //! trap, and that the values which that run prints went to the sink in their order, each as it came.
 //! After an error a beginning of them did. A failed write comes only where the sink's count of faults
-//! rose. An engine (`Extents`) is to run operations in an order of its own; so far `drive` hands it nothing.
+//! rose.
+//!
+//! An engine (`Extents`) runs operations in an order of its own. `drive` hands it each call of a marked operation, before
+//! the call takes its step, with the heap and the steps that are left then. Where the engine is done the call counts as
+//! run; where it declines the call runs here, and hands nothing on within. So far each loop runs here, marked or not.
 //!
 //! Calls stand on a vector and expressions on an explicit stack, so that no depth of calls runs
 //! out of the machine's own stack, and no piece of work takes memory but where a stack grows.
@@ -17,8 +21,10 @@ mod bodies;
 mod calls;
 mod expressions;
 mod extents;
+mod handing;
 mod loops;
 mod machine;
+mod marked;
 mod print;
 mod puts;
 mod running;

@@ -1,10 +1,9 @@
 //! The steps of loops.
 
-ghost use Rattle.std.specs.Prelude.{◌≡◌, ◌∷◌, ℕ, List, IfOk, true};
+ghost use Rattle.std.specs.Prelude.{◌≡◌, ◌∷◌, ℕ, IfOk, true};
 ghost use Rattle.ca_program.specs.View.{program_view, expression_view, expressions_view, statement_view, statements_view};
-ghost use Rattle.ca_model.specs.declared.value.Value.{Value as Datum};
 ghost use Rattle.ca_model.specs.declared.value.Value.TheVariants.{Bool as Truth};
-ghost use Rattle.ca_serial.specs.Resume.{rest_of, takes, loops, after, behind, pieces, Lessens, LeavesAsMany};
+ghost use Rattle.ca_serial.specs.Resume.{Past, rest_of, takes, loops, after, behind, pieces, Lessens, LeavesAsMany};
 
 use crate::machine::Machine;
 use crate::work::{Left, Next, Taker, Turn, Work};
@@ -16,7 +15,7 @@ impl<'a> Machine<'a> {
     /// Goes on with a loop that comes again. Turns that are done at once come one after another.
     #[inline(never)]
     pub fn again(&mut self, program: &'a Program, line: u32, s: &'a Stmt) -> Result<Next, Memory>
-        ensures { IfOk result (λ next. (ps : List Datum) → rest_of (program_view program.now) (Work.Again line s.entry ∷ self.old.todo) self.old ps ≡ after (program_view program.now) self.new ps next) }
+        ensures { IfOk result (λ next. (ps : Past) → rest_of (program_view program.now) (Work.Again line s.entry ∷ self.old.todo) self.old ps ≡ after (program_view program.now) self.new ps next) }
     {
         loop {
             if let Turn::Ends(next) = self.turn(program, line, s)? {
@@ -28,7 +27,7 @@ impl<'a> Machine<'a> {
     /// Goes on with a loop that comes again, for one turn.
     #[inline(always)]
     fn turn(&mut self, program: &'a Program, line: u32, s: &'a Stmt) -> Result<Turn, Memory>
-        ensures means { IfOk result (λ turn. (ps : List Datum) → rest_of (program_view program.now) (Work.Again line s.entry ∷ self.old.todo) self.old ps ≡ behind (program_view program.now) (Work.Again line s.entry) self.new ps turn) }
+        ensures means { IfOk result (λ turn. (ps : Past) → rest_of (program_view program.now) (Work.Again line s.entry ∷ self.old.todo) self.old ps ≡ behind (program_view program.now) (Work.Again line s.entry) self.new ps turn) }
         ensures less { IfOk result (λ turn. Lessens turn self.new.left self.old.left) }
     {
         match &s.kind {
@@ -53,7 +52,7 @@ impl<'a> Machine<'a> {
         s: &'a Stmt,
         c: &'a Expr,
     ) -> Result<Turn, Memory>
-        ensures means { IfOk result (λ turn. (ps : List Datum) → loops (program_view program.now) line (expression_view c.now) (statement_view s.now) self.old ps ≡ behind (program_view program.now) (Work.Again line s.entry) self.new ps turn) }
+        ensures means { IfOk result (λ turn. (ps : Past) → loops (program_view program.now) line (expression_view c.now) (statement_view s.now) self.old ps ≡ behind (program_view program.now) (Work.Again line s.entry) self.new ps turn) }
         ensures less { IfOk result (λ turn. Lessens turn self.new.left self.old.left) }
     {
         match self.truth_of(program, line, c) {
@@ -74,7 +73,7 @@ impl<'a> Machine<'a> {
         s: &'a Stmt,
         condition: Value,
     ) -> Result<Next, Memory>
-        ensures { IfOk result (λ next. (ps : List Datum) → takes (program_view program.now) (Taker.Turn line s.entry) condition self.old ps ≡ after (program_view program.now) self.new ps next) }
+        ensures { IfOk result (λ next. (ps : Past) → takes (program_view program.now) (Taker.Turn line s.entry) condition self.old ps ≡ after (program_view program.now) self.new ps next) }
     {
         match condition {
             Value::Bool(true) => match self.begin_turn(program, line, s)? {
@@ -91,7 +90,7 @@ impl<'a> Machine<'a> {
     /// Takes a step and enters a turn of a loop.
     #[inline(always)]
     fn begin_turn(&mut self, program: &'a Program, line: u32, s: &'a Stmt) -> Result<Turn, Memory>
-        ensures means { IfOk result (λ turn. (ps : List Datum) → takes (program_view program.now) (Taker.Turn line s.entry) (Truth true) self.old ps ≡ behind (program_view program.now) (Work.Again line s.entry) self.new ps turn) }
+        ensures means { IfOk result (λ turn. (ps : Past) → takes (program_view program.now) (Taker.Turn line s.entry) (Truth true) self.old ps ≡ behind (program_view program.now) (Work.Again line s.entry) self.new ps turn) }
         ensures less { IfOk result (λ turn. Lessens turn self.new.left self.old.left) }
     {
         if self.left == 0 {
@@ -132,7 +131,7 @@ impl<'a> Machine<'a> {
         s: &'a Stmt,
         next: &'a Stmt,
     ) -> Result<Turn, Memory>
-        ensures means { IfOk result (λ turn. (ps : List Datum) → rest_of (program_view program.now) (Work.Exec line next.entry ∷ Work.Again line s.entry ∷ self.old.todo) self.old ps ≡ behind (program_view program.now) (Work.Again line s.entry) self.new ps turn) }
+        ensures means { IfOk result (λ turn. (ps : Past) → rest_of (program_view program.now) (Work.Exec line next.entry ∷ Work.Again line s.entry ∷ self.old.todo) self.old ps ≡ behind (program_view program.now) (Work.Again line s.entry) self.new ps turn) }
         ensures less { IfOk result (λ turn. LeavesAsMany turn self.new.left self.old.left) }
     {
         if self.do_one(program, line, next) {
@@ -145,7 +144,7 @@ impl<'a> Machine<'a> {
 
     /// Goes on with what is left of a statement.
     fn go_on(&mut self, program: &'a Program, left: Left<'a>) -> Result<Next, Memory>
-        ensures { IfOk result (λ next. (ps : List Datum) → rest_of (program_view program.now) (pieces left.entry self.old.todo) self.old ps ≡ after (program_view program.now) self.new ps next) }
+        ensures { IfOk result (λ next. (ps : Past) → rest_of (program_view program.now) (pieces left.entry self.old.todo) self.old ps ≡ after (program_view program.now) self.new ps next) }
     {
         match left {
             Left::Nothing => Ok(Next::GoesOn),

@@ -7,50 +7,69 @@ ghost use Rattle.ca_model.specs.declared.value.Trap.{Trap};
 ghost use Rattle.ca_meaning.specs.Expressions.{gives, one_in, items_in, indexed};
 ghost use Rattle.ca_meaning.specs.Functions.{own_of, value_in};
 ghost use Rattle.ca_meaning.specs.Serial.{put_own, serial, ended};
+ghost use Rattle.ca_parallel.specs.Lists.{world_after, lists};
 ghost use Rattle.ca_serial.specs.Resume.{HasOwn};
 ghost use Rattle.ca_serial.specs.declared.work.Next.TheVariants.{Trapped};
 
 use crate::bodies::Bodies;
 use crate::stack::Stack;
-use crate::work::{Next, Work};
+use crate::work::{Call, Next, Work};
 use ca_base::Memory;
 use ca_direct::Scene;
 use ca_model::{Heap, Slot, Trap, TrapKind, Value};
-use ca_program::{Expr, FieldId, Program};
+use ca_program::{Expr, FieldId, OpId, Program};
 use std::alloc::Global;
 
 /// The work that is left, the values that it takes, the bodies that run, the heap, and the steps left; and
-/// the last printed value and the trap that stops it, which stand here so that `Next` carries nothing.
+/// the last printed value, the trap that stops it, and the call that is due, which stand here so that `Next` carries
+/// nothing.
 #[derive(Drop)]
 pub struct Machine<'a> {
     pub todo: Stack<Work<'a>>,
     pub values: Stack<Value>,
-    pub bodies: Bodies,
+    pub bodies: Bodies<'a>,
     pub heap: Heap,
     pub left: u64,
     pub shown: Value,
     pub trap: Trap,
+    pub due: Call,
 }
 
 impl<'a> Machine<'a> {
-    ghost use Rattle.ca_serial.specs.Resume.{rest_of, looked_up, PassesPlaces};
+    ghost use Rattle.ca_serial.specs.Resume.{rest_of, looked_up, no_past, calls_alone, PassesPlaces};
 
-    /// The machine before `main`.
-    pub fn new(alloc: Global, program: &'a Program, budget: u64) -> Result<Machine<'a>, Memory>
-        ensures { IfOk result (λ m. ended budget (rest_of (program_view program.now) m.todo m []) ≡ serial (program_view program.now) budget) }
+    /// The machine before `main`, which hands on calls of these operations.
+    pub fn new(
+        alloc: Global,
+        program: &'a Program,
+        heeds: &'a [OpId],
+        budget: u64,
+    ) -> Result<Machine<'a>, Memory>
+        ensures outcome { IfOk result (λ m. ended budget (rest_of (program_view program.now) m.todo m no_past) ≡ serial (program_view program.now) budget) }
+        ensures notes { IfOk result (λ m. (world_after (rest_of (program_view program.now) m.todo m no_past)).notes ≡ lists (program_view program.now) (calls_alone heeds.now) budget) }
     {
         let mut todo = Stack::new(alloc);
         todo.push(Work::Seq(program.main.stmts.as_slice()))?;
         Ok(Machine {
             todo,
             values: Stack::new(alloc),
-            bodies: Bodies::new(alloc, program.main.locals.as_slice())?,
+            bodies: Bodies::new(
+                alloc,
+                program.main.locals.as_slice(),
+                heeds,
+                program.ops.len(),
+            )?,
             heap: Heap::new(alloc),
             left: budget,
             shown: Value::Null,
             trap: Trap {
                 line: 0,
                 kind: TrapKind::NullPointer,
+            },
+            due: Call {
+                receiver: 0,
+                op: OpId(0),
+                count: 0,
             },
         })
     }

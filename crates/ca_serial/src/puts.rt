@@ -1,16 +1,15 @@
 //! The steps of puts and creations. In the body of a value method only a put into a local does something.
 
-ghost use Rattle.std.specs.Prelude.{◌≡◌, ℕ, List, None, IfOk, OnErr, IsTrue, slice_get, slice_set};
+ghost use Rattle.std.specs.Prelude.{◌≡◌, ℕ, None, IfOk, OnErr, IsTrue, slice_get, slice_set};
 ghost use Rattle.ca_program.specs.View.{program_view, expression_view};
 ghost use Rattle.ca_program.specs.Plain.{put_local, put_field, put_item, new_local, new_field, new_item};
-ghost use Rattle.ca_model.specs.declared.value.Value.{Value as Datum};
 ghost use Rattle.ca_model.specs.Heaps.{is_full, starts_of};
 ghost use Rattle.ca_meaning.specs.Operators.{assigned};
 ghost use Rattle.ca_meaning.specs.Expressions.{one_in, items_in, indexed, value_at};
 ghost use Rattle.ca_meaning.specs.Functions.{own_of};
 ghost use Rattle.ca_meaning.specs.Serial.{put_own};
 ghost use Rattle.ca_serial.specs.Bodies.{with_locals};
-ghost use Rattle.ca_serial.specs.Resume.{takes, does, after, looked_up, HasOwn, PassesPlaces};
+ghost use Rattle.ca_serial.specs.Resume.{Past, takes, does, after, looked_up, HasOwn, PassesPlaces};
 
 use crate::bodies::Mode;
 use crate::expressions::calls;
@@ -32,7 +31,7 @@ impl<'a> Machine<'a> {
         op: AssignOp,
         e: &'a Expr,
     ) -> Result<Next, Memory>
-        ensures { IfOk result (λ next. (own : ℕ) (ps : List Datum) → does (program_view program.now) line (put_local own local op (expression_view e.now)) self.old ps ≡ after (program_view program.now) self.new ps next) }
+        ensures { IfOk result (λ next. (own : ℕ) (ps : Past) → does (program_view program.now) line (put_local own local op (expression_view e.now)) self.old ps ≡ after (program_view program.now) self.new ps next) }
     {
         if calls(e) {
             self.todo.push(Work::Take(Taker::PutLocal(local, op)))?;
@@ -79,7 +78,7 @@ impl<'a> Machine<'a> {
         op: AssignOp,
         e: &'a Expr,
     ) -> Result<Next, Memory>
-        ensures { IfOk result (λ next. (own : ℕ) (ps : List Datum) → does (program_view program.now) line (put_field own field op (expression_view e.now)) self.old ps ≡ after (program_view program.now) self.new ps next) }
+        ensures { IfOk result (λ next. (own : ℕ) (ps : Past) → does (program_view program.now) line (put_field own field op (expression_view e.now)) self.old ps ≡ after (program_view program.now) self.new ps next) }
     {
         if let Mode::InFunction = self.bodies.mode() {
             return Ok(Next::GoesOn);
@@ -125,7 +124,7 @@ impl<'a> Machine<'a> {
         op: AssignOp,
         e: &'a Expr,
     ) -> Result<Next, Memory>
-        ensures { IfOk result (λ next. (own : ℕ) (ps : List Datum) → does (program_view program.now) line (put_item own field (expression_view index.now) op (expression_view e.now)) self.old ps ≡ after (program_view program.now) self.new ps next) }
+        ensures { IfOk result (λ next. (own : ℕ) (ps : Past) → does (program_view program.now) line (put_item own field (expression_view index.now) op (expression_view e.now)) self.old ps ≡ after (program_view program.now) self.new ps next) }
     {
         if let Mode::InFunction = self.bodies.mode() {
             return Ok(Next::GoesOn);
@@ -149,7 +148,7 @@ impl<'a> Machine<'a> {
         e: &'a Expr,
         index: Value,
     ) -> Result<Next, Memory>
-        ensures { IfOk result (λ next. (ps : List Datum) → takes (program_view program.now) (Taker.CheckIndex line field op e.entry) index self.old ps ≡ after (program_view program.now) self.new ps next) }
+        ensures { IfOk result (λ next. (ps : Past) → takes (program_view program.now) (Taker.CheckIndex line field op e.entry) index self.old ps ≡ after (program_view program.now) self.new ps next) }
     {
         match self.indexed(line, self.bodies.this(), field, index)? {
             Some(item) => match self.value_of(program, line, e) {
@@ -176,7 +175,7 @@ impl<'a> Machine<'a> {
         op: AssignOp,
         value: Value,
     ) -> Next
-        ensures { (ps : List Datum) → takes (program_view program.now) (Taker.PutItem line field place op) value self.old ps ≡ after (program_view program.now) self.new ps result }
+        ensures { (ps : Past) → takes (program_view program.now) (Taker.PutItem line field place op) value self.old ps ≡ after (program_view program.now) self.new ps result }
     {
         let this = self.bodies.this();
         match item_of(&self.heap, this, field, place as usize) {
@@ -212,7 +211,7 @@ impl<'a> Machine<'a> {
         local: LocalId,
         class: ClassId,
     ) -> Result<Next, Memory>
-        ensures means { IfOk result (λ next. (own : ℕ) (ps : List Datum) → does (program_view program.now) line (new_local own local class) self.old ps ≡ after (program_view program.now) self.new ps next) }
+        ensures means { IfOk result (λ next. (own : ℕ) (ps : Past) → does (program_view program.now) line (new_local own local class) self.old ps ≡ after (program_view program.now) self.new ps next) }
         ensures want { OnErr result (IsTrue (is_full self.old.heap (starts_of (program_view program.now) class)) → ⊥) }
     {
         if let Mode::InFunction = self.bodies.mode() {
@@ -236,7 +235,7 @@ impl<'a> Machine<'a> {
         field: FieldId,
         class: ClassId,
     ) -> Result<Next, Memory>
-        ensures means { IfOk result (λ next. (own : ℕ) (ps : List Datum) → does (program_view program.now) line (new_field own field class) self.old ps ≡ after (program_view program.now) self.new ps next) }
+        ensures means { IfOk result (λ next. (own : ℕ) (ps : Past) → does (program_view program.now) line (new_field own field class) self.old ps ≡ after (program_view program.now) self.new ps next) }
         ensures want { OnErr result (IsTrue (is_full self.old.heap (starts_of (program_view program.now) class)) → ⊥) }
     {
         if let Mode::InFunction = self.bodies.mode() {
@@ -261,7 +260,7 @@ impl<'a> Machine<'a> {
         index: &'a Expr,
         class: ClassId,
     ) -> Result<Next, Memory>
-        ensures { IfOk result (λ next. (own : ℕ) (ps : List Datum) → does (program_view program.now) line (new_item own field (expression_view index.now) class) self.old ps ≡ after (program_view program.now) self.new ps next) }
+        ensures { IfOk result (λ next. (own : ℕ) (ps : Past) → does (program_view program.now) line (new_item own field (expression_view index.now) class) self.old ps ≡ after (program_view program.now) self.new ps next) }
     {
         if let Mode::InFunction = self.bodies.mode() {
             return Ok(Next::GoesOn);
@@ -284,7 +283,7 @@ impl<'a> Machine<'a> {
         class: ClassId,
         index: Value,
     ) -> Result<Next, Memory>
-        ensures means { IfOk result (λ next. (ps : List Datum) → takes (program_view program.now) (Taker.NewItem line field class) index self.old ps ≡ after (program_view program.now) self.new ps next) }
+        ensures means { IfOk result (λ next. (ps : Past) → takes (program_view program.now) (Taker.NewItem line field class) index self.old ps ≡ after (program_view program.now) self.new ps next) }
         ensures there { OnErr result (indexed line (items_in (slice_get (own_of self.old.heap self.old.bodies.current.this) field.field)) index self.old.left ≡ looked_up line None self.old.left → ⊥) }
         ensures want { OnErr result (IsTrue (is_full self.old.heap (starts_of (program_view program.now) class)) → PassesPlaces (items_in (slice_get (own_of self.old.heap self.old.bodies.current.this) field.field)) index) }
     {

@@ -77,6 +77,19 @@ impl<T: Copy> Stack<T> {
         }
     }
 
+    /// So many top items, or all where there are no more, in the order in which they were pushed.
+    #[inline]
+    pub fn last(&self, count: usize) -> &[T]
+        ensures { result.now ≡ reverse (take count self.now) }
+    {
+        let len = self.items.len();
+        if count < len {
+            &self.items[len - count..]
+        } else {
+            self.items.as_slice()
+        }
+    }
+
     /// Drops so many top items and the one below them.
     #[inline(always)]
     pub fn cut(&mut self, count: usize)

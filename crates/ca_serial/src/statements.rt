@@ -1,10 +1,9 @@
 //! The steps of statements that steer, call, print and give back. Puts and creations are in `puts`.
 
-ghost use Rattle.std.specs.Prelude.{◌≡◌, ◌∷◌, ℕ, List, IfOk};
+ghost use Rattle.std.specs.Prelude.{◌≡◌, ◌∷◌, ℕ, IfOk};
 ghost use Rattle.ca_program.specs.View.{program_view, expression_view, expressions_view, statement_view, statements_view};
 ghost use Rattle.ca_program.specs.Plain.{invoke, if_else, return_value, print_value};
-ghost use Rattle.ca_model.specs.declared.value.Value.{Value as Datum};
-ghost use Rattle.ca_serial.specs.Resume.{rest_of, takes, does, after};
+ghost use Rattle.ca_serial.specs.Resume.{Past, rest_of, takes, does, after};
 
 use crate::bodies::Mode;
 use crate::expressions::calls;
@@ -17,7 +16,7 @@ use ca_program::{Expr, OpId, Program, Stmt, StmtForm};
 impl<'a> Machine<'a> {
     /// Begins a statement on a line.
     pub fn exec(&mut self, program: &'a Program, line: u32, s: &'a Stmt) -> Result<Next, Memory>
-        ensures { IfOk result (λ next. (ps : List Datum) → does (program_view program.now) line (statement_view s.now) self.old ps ≡ after (program_view program.now) self.new ps next) }
+        ensures { IfOk result (λ next. (ps : Past) → does (program_view program.now) line (statement_view s.now) self.old ps ≡ after (program_view program.now) self.new ps next) }
     {
         // A part's clause is for every line of the statement's own. `Ok(..?)` in place of a tail call lets the
         // prover apply it at the line of `s`.
@@ -53,7 +52,7 @@ impl<'a> Machine<'a> {
     /// Goes on with a list of statements.
     #[inline]
     pub fn seq(&mut self, program: &'a Program, ss: &'a [Stmt]) -> Result<Next, Memory>
-        ensures { IfOk result (λ next. (ps : List Datum) → rest_of (program_view program.now) (Work.Seq ss.entry ∷ self.old.todo) self.old ps ≡ after (program_view program.now) self.new ps next) }
+        ensures { IfOk result (λ next. (ps : Past) → rest_of (program_view program.now) (Work.Seq ss.entry ∷ self.old.todo) self.old ps ≡ after (program_view program.now) self.new ps next) }
     {
         let rest = self.do_all(program, ss);
         let next = self.go_through(program, rest)?;
@@ -63,7 +62,7 @@ impl<'a> Machine<'a> {
     /// Goes on with a list of statements, of which the first is to be run.
     #[inline]
     pub fn go_through(&mut self, program: &'a Program, ss: &'a [Stmt]) -> Result<Next, Memory>
-        ensures { IfOk result (λ next. (ps : List Datum) → rest_of (program_view program.now) (Work.Seq ss.entry ∷ self.old.todo) self.old ps ≡ after (program_view program.now) self.new ps next) }
+        ensures { IfOk result (λ next. (ps : Past) → rest_of (program_view program.now) (Work.Seq ss.entry ∷ self.old.todo) self.old ps ≡ after (program_view program.now) self.new ps next) }
     {
         match ss.split_first() {
             Some((first, rest)) => {
@@ -88,7 +87,7 @@ impl<'a> Machine<'a> {
         op: OpId,
         arguments: &'a [Expr],
     ) -> Result<Next, Memory>
-        ensures { IfOk result (λ next. (own : ℕ) (ps : List Datum) → does (program_view program.now) line (invoke own (expression_view e.now) op (expressions_view arguments.now)) self.old ps ≡ after (program_view program.now) self.new ps next) }
+        ensures { IfOk result (λ next. (own : ℕ) (ps : Past) → does (program_view program.now) line (invoke own (expression_view e.now) op (expressions_view arguments.now)) self.old ps ≡ after (program_view program.now) self.new ps next) }
     {
         if let Mode::InFunction = self.bodies.mode() {
             return Ok(Next::GoesOn);
@@ -117,7 +116,7 @@ impl<'a> Machine<'a> {
         a: &'a Stmt,
         b: &'a Stmt,
     ) -> Result<Next, Memory>
-        ensures { IfOk result (λ next. (own : ℕ) (ps : List Datum) → does (program_view program.now) line (if_else own (expression_view c.now) (statement_view a.now) (statement_view b.now)) self.old ps ≡ after (program_view program.now) self.new ps next) }
+        ensures { IfOk result (λ next. (own : ℕ) (ps : Past) → does (program_view program.now) line (if_else own (expression_view c.now) (statement_view a.now) (statement_view b.now)) self.old ps ≡ after (program_view program.now) self.new ps next) }
     {
         match self.truth_of(program, line, c) {
             Some(truth) => {
@@ -140,7 +139,7 @@ impl<'a> Machine<'a> {
         b: &'a Stmt,
         condition: Value,
     ) -> Result<Next, Memory>
-        ensures { IfOk result (λ next. (ps : List Datum) → takes (program_view program.now) (Taker.Choose a.entry b.entry) condition self.old ps ≡ after (program_view program.now) self.new ps next) }
+        ensures { IfOk result (λ next. (ps : Past) → takes (program_view program.now) (Taker.Choose a.entry b.entry) condition self.old ps ≡ after (program_view program.now) self.new ps next) }
     {
         match condition {
             Value::Bool(true) => self.todo.push(Work::Exec(a.line, a))?,
@@ -152,7 +151,7 @@ impl<'a> Machine<'a> {
     /// Gives the value of an expression back.
     #[inline]
     fn return_value(&mut self, program: &'a Program, line: u32, e: &'a Expr) -> Result<Next, Memory>
-        ensures { IfOk result (λ next. (own : ℕ) (ps : List Datum) → does (program_view program.now) line (return_value own (expression_view e.now)) self.old ps ≡ after (program_view program.now) self.new ps next) }
+        ensures { IfOk result (λ next. (own : ℕ) (ps : Past) → does (program_view program.now) line (return_value own (expression_view e.now)) self.old ps ≡ after (program_view program.now) self.new ps next) }
     {
         if !calls(e) {
             if let Some(value) = self.value_of(program, line, e) {
@@ -166,7 +165,7 @@ impl<'a> Machine<'a> {
 
     /// Prints the value of an expression.
     fn print_value(&mut self, program: &'a Program, line: u32, e: &'a Expr) -> Result<Next, Memory>
-        ensures { IfOk result (λ next. (own : ℕ) (ps : List Datum) → does (program_view program.now) line (print_value own (expression_view e.now)) self.old ps ≡ after (program_view program.now) self.new ps next) }
+        ensures { IfOk result (λ next. (own : ℕ) (ps : Past) → does (program_view program.now) line (print_value own (expression_view e.now)) self.old ps ≡ after (program_view program.now) self.new ps next) }
     {
         if let Mode::InFunction = self.bodies.mode() {
             return Ok(Next::GoesOn);

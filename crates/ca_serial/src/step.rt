@@ -1,9 +1,8 @@
 //! One piece of work.
 
-ghost use Rattle.std.specs.Prelude.{◌≡◌, ◌∷◌, ℕ, List, IfOk};
+ghost use Rattle.std.specs.Prelude.{◌≡◌, ◌∷◌, ℕ, IfOk};
 ghost use Rattle.ca_program.specs.View.{program_view, expression_view, expressions_view, statement_view, statements_view};
-ghost use Rattle.ca_model.specs.declared.value.Value.{Value as Datum};
-ghost use Rattle.ca_serial.specs.Resume.{rest_of, takes, after};
+ghost use Rattle.ca_serial.specs.Resume.{Past, rest_of, takes, after};
 
 use crate::machine::Machine;
 use crate::work::{Next, Taker, Work};
@@ -15,7 +14,7 @@ impl<'a> Machine<'a> {
     /// Does a piece of work.
     #[inline]
     pub fn step(&mut self, program: &'a Program, work: Work<'a>) -> Result<Next, Memory>
-        ensures { IfOk result (λ next. (ps : List Datum) → rest_of (program_view program.now) (work.entry ∷ self.old.todo) self.old ps ≡ after (program_view program.now) self.new ps next) }
+        ensures { IfOk result (λ next. (ps : Past) → rest_of (program_view program.now) (work.entry ∷ self.old.todo) self.old ps ≡ after (program_view program.now) self.new ps next) }
     {
         match work {
             Work::Seq(ss) => self.seq(program, ss),
@@ -40,7 +39,7 @@ impl<'a> Machine<'a> {
     /// Hands a value to what takes it.
     #[inline]
     fn take(&mut self, program: &'a Program, taker: Taker<'a>, value: Value) -> Result<Next, Memory>
-        ensures { IfOk result (λ next. (ps : List Datum) → takes (program_view program.now) (taker.entry) value self.old ps ≡ after (program_view program.now) self.new ps next) }
+        ensures { IfOk result (λ next. (ps : Past) → takes (program_view program.now) (taker.entry) value self.old ps ≡ after (program_view program.now) self.new ps next) }
     {
         match taker {
             Taker::ReadField(line, field) => self.read_field(program, line, field, value),

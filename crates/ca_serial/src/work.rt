@@ -69,14 +69,23 @@ pub enum Work<'a> {
     Back,
 }
 
-/// How a piece of work ends: the run goes on, where it printed a value behind that print, or it stops. The
-/// printed value and the trap stand in the machine.
+/// How a piece of work ends: the run goes on, where it printed a value behind that print, it stops, or a call that
+/// is handed on is due. The printed value, the trap and the call stand in the machine.
 #[derive(Clone, Copy)]
 pub enum Next {
     GoesOn,
     Printed,
     Trapped,
     Spent,
+    Due,
+}
+
+/// A call that is due: the number of its receiver, its operation, and how many top values are its arguments.
+#[derive(Clone, Copy)]
+pub struct Call {
+    pub receiver: u32,
+    pub op: OpId,
+    pub count: usize,
 }
 
 /// What is left of a statement whose beginning was done at once.

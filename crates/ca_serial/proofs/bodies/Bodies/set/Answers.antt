@@ -7,4 +7,4 @@ pub returns-then-index-len-clause-current : goal.returns-then-index-len-clause-c
 returns-then-index-len-clause-current c =
     let values = c.self.inside.locals.items in
     let e = c.self.inside.current in
-    rw (← c.self.view_is) (ap (λ ls. with_locals (body_at values e) ls) (drop-set-add e.base values c.args.index c.args.value))
+    rw (← c.self.view_is) (ap (λ ls. with_locals (body_at c.self.inside.marked values e) ls) (drop-set-add e.base values c.args.index c.args.value))

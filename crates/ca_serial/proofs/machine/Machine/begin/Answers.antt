@@ -4,8 +4,10 @@ use Rattle.ca_model.specs.declared.value.Value.TheVariants.{Ref}
 use Rattle.ca_model.specs.Slots.{start_of}
 use Rattle.ca_serial.specs.declared.work.Work.TheVariants.{Leave}
 use Rattle.ca_serial.specs.Bodies.{Body}
-use Rattle.ca_serial.specs.Resume.{world_of, target_mode}
+use Rattle.ca_serial.specs.declared.machine.Machine.{Machine}
+use Rattle.ca_serial.specs.Resume.{world_of, begins, target_mode}
 use Rattle.ca_serial.proofs.Tellings.{left_with, same_rest}
+use Rattle.ca_serial.proofs.DueCalls.{is_due}
 use Rattle.ca_serial.proofs.CallSteps.{taken_there, taken_none, not_called, call_runs_out, begun}
 use Rattle.ca_serial.proofs.machine.Machine.begin.Goals as goal
 
@@ -21,12 +23,21 @@ returns-in_default-below c = λ ps.
     taken_there c.args.count m.values (world_of m ps) _ top.below (drop (c.args.count + 1) m.values) top.items.now c.in-Some.ensures.0 c.in-Some.ensures.1
     ∙ (not_called (program_view c.args.program.now) c.args.target c.args.line top.below top.items.now (drop (c.args.count + 1) m.values) m.bodies.current (world_of m ps) m.left _ c.in_default-below.not-Ref ∙ rw (c.stop.ensures.stops, c.stop.ensures.trap, c.stop.ensures.heap) refl)
 
+pub returns-in-Some-handed : goal.returns-in-Some-handed
+returns-in-Some-handed c = λ ps.
+    let m = c.args.self.now in
+    let p = program_view c.args.program.now in
+    let new : Machine = record { todo = m.todo; values = m.values; bodies = m.bodies; heap = m.heap; left = m.left; shown = m.shown; trap = m.trap; due = record { receiver = c.in-Ref.receiver; op = c.in-Some-handed.op; count = c.args.count } } in
+    let there : drop c.args.count m.values ≡ Ref c.in-Ref.receiver ∷ drop (c.args.count + 1) m.values = c.in-Some.ensures.0 ∙ ap (λ v. v ∷ drop (c.args.count + 1) m.values) c.in-Ref.is in
+    ap (λ t. begins p c.args.line t c.args.count m ps) c.in-Some-handed.ensures.0
+    ∙ is_due p c.args.line c.args.count c.in-Ref.receiver c.in-Some-handed.op m new ps there c.in-Some-handed.ensures.1 refl refl refl refl refl refl
+
 pub returns-then-self-eq0 : goal.returns-then-self-eq0
 returns-then-self-eq0 c = λ ps.
     let m = c.args.self.now in
     let top = c.in-Some.top in
     taken_there c.args.count m.values (world_of m ps) _ top.below (drop (c.args.count + 1) m.values) top.items.now c.in-Some.ensures.0 c.in-Some.ensures.1
-    ∙ rw c.in-Ref.is (call_runs_out (program_view c.args.program.now) c.args.target c.args.line c.in-Ref.field-0 top.items.now (drop (c.args.count + 1) m.values) m.bodies.current (world_of m ps) m.left _ (omega arith))
+    ∙ rw c.in-Ref.is (call_runs_out (program_view c.args.program.now) c.args.target c.args.line c.in-Ref.receiver top.items.now (drop (c.args.count + 1) m.values) m.bodies.current (world_of m ps) m.left _ c.in_default-handed.ensures (omega arith))
 
 pub returns-in_ok-push-in-Gives : goal.returns-in_ok-push-in-Gives
 returns-in_ok-push-in-Gives c = λ ps.
@@ -37,11 +48,11 @@ returns-in_ok-push-in-Gives c = λ ps.
     let lt : 0 < m.left = omega arith in
     let called = c.body_of-called in
     let rest = drop (c.args.count + 1) m.values in
-    let there : drop c.args.count m.values ≡ Ref c.in-Ref.field-0 ∷ rest = c.in-Some.ensures.0 ∙ ap (λ v. v ∷ rest) c.in-Ref.is in
-    let body : Body = record { this = Ref c.in-Ref.field-0; locals = args ++ map start_of called.result.others.now; mode = target_mode c.args.target } in
-    let told = c.in-Gives.ensures (Ref c.in-Ref.field-0) args rest there c.in-Some.ensures.1 in
-    taken_there c.args.count m.values w _ (Ref c.in-Ref.field-0) rest args there c.in-Some.ensures.1
-    ∙ begun p c.args.target c.args.line c.in-Ref.field-0 args rest m.bodies.current m.bodies.below m.todo w m.left called.result.stmts called.result.others.now lt called.ensures.stmts called.ensures.others
+    let there : drop c.args.count m.values ≡ Ref c.in-Ref.receiver ∷ rest = c.in-Some.ensures.0 ∙ ap (λ v. v ∷ rest) c.in-Ref.is in
+    let body : Body = record { this = Ref c.in-Ref.receiver; locals = args ++ map start_of called.result.others.now; mode = target_mode c.args.target; marked = m.bodies.current.marked; heeds = m.bodies.current.heeds } in
+    let told = c.in-Gives.ensures (Ref c.in-Ref.receiver) args rest there c.in-Some.ensures.1 in
+    taken_there c.args.count m.values w _ (Ref c.in-Ref.receiver) rest args there c.in-Some.ensures.1
+    ∙ begun p c.args.target c.args.line c.in-Ref.receiver args rest m.bodies.current m.bodies.below m.todo w m.left called.result.stmts called.result.others.now c.in_default-handed.ensures lt called.ensures.stmts called.ensures.others
     ∙ left_with p body m.bodies.current m.bodies.below m.todo rest w (m.left - 1) called.result.stmts c.in-Gives.value told.0 (told.1 p ps (m.left - 1))
     ∙ rw (c.in_ok-push-in-Gives.ensures, c.cut.ensures) refl
 
@@ -54,10 +65,10 @@ returns-in_ok-next-in-Rest c = λ ps.
     let lt : 0 < m.left = omega arith in
     let called = c.body_of-called in
     let rest = drop (c.args.count + 1) m.values in
-    let there : drop c.args.count m.values ≡ Ref c.in-Ref.field-0 ∷ rest = c.in-Some.ensures.0 ∙ ap (λ v. v ∷ rest) c.in-Ref.is in
-    let body : Body = record { this = Ref c.in-Ref.field-0; locals = args ++ map start_of called.result.others.now; mode = target_mode c.args.target } in
-    let told = c.in-Rest.ensures (Ref c.in-Ref.field-0) args rest there c.in-Some.ensures.1 in
-    taken_there c.args.count m.values w _ (Ref c.in-Ref.field-0) rest args there c.in-Some.ensures.1
-    ∙ begun p c.args.target c.args.line c.in-Ref.field-0 args rest m.bodies.current m.bodies.below m.todo w m.left called.result.stmts called.result.others.now lt called.ensures.stmts called.ensures.others
+    let there : drop c.args.count m.values ≡ Ref c.in-Ref.receiver ∷ rest = c.in-Some.ensures.0 ∙ ap (λ v. v ∷ rest) c.in-Ref.is in
+    let body : Body = record { this = Ref c.in-Ref.receiver; locals = args ++ map start_of called.result.others.now; mode = target_mode c.args.target; marked = m.bodies.current.marked; heeds = m.bodies.current.heeds } in
+    let told = c.in-Rest.ensures (Ref c.in-Ref.receiver) args rest there c.in-Some.ensures.1 in
+    taken_there c.args.count m.values w _ (Ref c.in-Ref.receiver) rest args there c.in-Some.ensures.1
+    ∙ begun p c.args.target c.args.line c.in-Ref.receiver args rest m.bodies.current m.bodies.below m.todo w m.left called.result.stmts called.result.others.now c.in_default-handed.ensures lt called.ensures.stmts called.ensures.others
     ∙ same_rest p body (m.bodies.current ∷ m.bodies.below) (Leave ∷ m.todo) rest w (m.left - 1) called.result.stmts c.in-Rest.ss (told p ps (m.left - 1))
     ∙ (rw (c.cut-in-Rest.ensures, c.in_ok-enter-in-Rest.ensures.current, c.in_ok-enter-in-Rest.ensures.below, c.mode_of.ensures, c.in-Ref.is) at c.in_ok-next-in-Rest.ensures ps)
