@@ -80,3 +80,7 @@ pub const PAIR: &str =
 /// A greatest value.
 pub const BOUND: &str =
     "class M { public: long x; void up(long v) { if (x < v) x = v; } }; int main() { }";
+
+/// A sum that is called twice.
+pub const TWO_SUMS: &str =
+    "class A { public: long n; void add(long v) { n += v; } void two(long v) { add(v); add(v + 1); } }; int main() { A *a = new A(); a->two(3); }";
