@@ -1,7 +1,9 @@
 //! Plans that are told: `pairs`, `plan` and `emit`.
 
 use crate::calls::Call;
-use crate::sources::{ACCUMULATOR, BOUND, CELLS, FIRST, GRAPH_VISIT, PAIR, SETS, STACK, TWO_SUMS};
+use crate::sources::{
+    ACCUMULATOR, BINS, BOUND, CELLS, FIRST, GRAPH_VISIT, STACK, TWO_BINS, TWO_SUMS,
+};
 use std::alloc::{AllocError, Global};
 
 /// A text without classes, texts that have one tree but for places, and marks of statements of each kind.
@@ -79,13 +81,13 @@ const TOLD: [(&str, &str, &str); 20] = [
     ),
     (
         "pairs",
-        SETS,
-        "extent Bins::add\nBins::add Bins::add commutes\nextent Set::fill\nSet::fill Set::fill unproved NotSeparable Set::fill 9 Creates\nextent Set::all\nBins::add Bins::add commutes\nSet::all Set::all commutes\nloop 12\nBins::add Bins::add commutes\n",
+        BINS,
+        "extent Bins::add\nBins::add Bins::add commutes\nextent Set::fill\nSet::fill Set::fill unproved NotSeparable Set::fill 10 Creates\nextent Set::all\nBins::add Bins::add commutes\nSet::all Set::all commutes\nloop 13\nBins::add Bins::add commutes\n",
     ),
     (
         "plan",
-        SETS,
-        "op Bins::add serial\nop Set::fill serial\nop Set::all parallel\nloop 12 parallel\n",
+        BINS,
+        "op Bins::add serial\nop Set::fill serial\nop Set::all parallel\nloop 13 parallel\n",
     ),
     (
         "pairs",
@@ -94,12 +96,12 @@ const TOLD: [(&str, &str, &str); 20] = [
     ),
     (
         "pairs",
-        PAIR,
+        TWO_BINS,
         "extent Bin::add\nBin::add Bin::add commutes\nextent Pair::fill\nPair::fill Pair::fill unproved NotSeparable Pair::fill 9 Creates\nloop 14\nBin::add Bin::add commutes\n",
     ),
     (
         "plan",
-        PAIR,
+        TWO_BINS,
         "op Bin::add serial\nop Pair::fill serial\nloop 14 parallel\n",
     ),
     (
@@ -124,7 +126,7 @@ const TOLD: [(&str, &str, &str); 20] = [
     ),
     (
         "emit",
-        SETS,
+        BINS,
         "class Bins {\npublic :\nlong a [ 3 ] ;\nvoid add ( long i , long v ) {\n/*@lock*/ a [ i ] = a [ i ] + v ;\n/*@unlock*/ }\n} ;\nclass Set {\npublic :\nBins * b [ 1000 ] ;\nvoid fill ( ) {\nfor ( long i = 0 ; i < 1000 ; i += 1 ) b [ i ] = new Bins ( ) ;\n}\nvoid all ( long v ) {\n/*@lock*/ for ( long i = 0 ; i < 1000 ; i += 1 ) /*@unlock*/ /*@spawn*/ b [ i ] -> add ( i % 3 , v ) ;\n/*@unlock*/ }\n} ;\nint main ( ) {\nSet * s = new Set ( ) ;\ns -> fill ( ) ;\n/*@parallel*/ s -> all ( 7 ) ;\n/*@parallel*/ s -> all ( 8 ) ;\n}\n",
     ),
     (
@@ -134,7 +136,7 @@ const TOLD: [(&str, &str, &str); 20] = [
     ),
     (
         "emit",
-        PAIR,
+        TWO_BINS,
         "class Bin {\npublic :\nlong n ;\nvoid add ( long v ) {\n/*@lock*/ n = n + v ;\n/*@unlock*/ }\n} ;\nclass Pair {\npublic :\nBin * b [ 2 ] ;\nvoid fill ( ) {\nb [ 0 ] = new Bin ( ) ;\nb [ 1 ] = new Bin ( ) ;\n}\n} ;\nint main ( ) {\nPair * s = new Pair ( ) ;\ns -> fill ( ) ;\n/*@parallel*/ for ( long i = 0 ; i < 2 ; i += 1 ) s -> b [ i ] -> add ( i + 1 ) ;\n}\n",
     ),
     (
