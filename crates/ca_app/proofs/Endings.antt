@@ -70,15 +70,16 @@ module _ {command : Command} {text : List ℕ} {status : ℕ} {old now : Option 
           let Q : TextTree → Type 0 = λ x. ProgramReplies x q command reply in
           ends.each reply (subst P (is.only q accepted') (subst Q (one.only accepted'.tree accepted'.has_tree) replies))
 
-  -- what was told of the program was told of the text
-  pub told_of_text : (p : PlainProgram) (tree : TextTree) → IsProgramOf text p → HasOneTree text tree → ProgramTold tree p command old now → CommandTold command text old now
-  told_of_text p tree is one told =
-      let P : TextTree → Type 0 = λ t. ProgramTold t p command old now in
-      record {
-        program = p;
-        accepted = is.accepted;
-        told = subst P (sym (one.only is.accepted.tree is.accepted.has_tree)) told;
-      }
+-- what was told of the program was told of the text
+pub told_of_text : {command : Command} {text : List ℕ} {old now : Option (List ℕ)} (p : PlainProgram) (tree : TextTree) → IsProgramOf text p → HasOneTree text tree
+    → ProgramTold tree p command old now → CommandTold command text old now
+told_of_text {command} {old = old} {now = now} p tree is one told =
+    let P : TextTree → Type 0 = λ t. ProgramTold t p command old now in
+    record {
+      program = p;
+      accepted = is.accepted;
+      told = subst P (sym (one.only is.accepted.tree is.accepted.has_tree)) told;
+    }
 
 -- what a run replies begins with its prints
 abbrev rest_of_reply : PlainProgram → ℕ → Ended → List ℕ
@@ -203,21 +204,20 @@ tells_reads (Run w b) e = absurd cc
 tells_reads (Gen x n) e = absurd cc
 
 -- what each of these commands tells
-module _ {tree : TextTree} {p : PlainProgram} {plan : PlainPlan} {command : Command} {bytes : List ℕ} {status : ℕ} {old now : Option (List ℕ)} where
-  pub told_verdicts : command ≡ Pairs → Tells tree p plan command bytes
-      → Ends (record { status = 0; bytes = pairs_text p plan }) status old now → Ends (record { status = 0; bytes = bytes }) status old now
-  told_verdicts e verdicts ends = ends
-  told_verdicts e marks ends = absurd cc
-  told_verdicts e annotated ends = absurd cc
+pub told_verdicts : {tree : TextTree} {p : PlainProgram} {plan : PlainPlan} {command : Command} {bytes : List ℕ} {status : ℕ} {old now : Option (List ℕ)} → command ≡ Pairs → Tells tree p plan command bytes
+    → Ends (record { status = 0; bytes = pairs_text p plan }) status old now → Ends (record { status = 0; bytes = bytes }) status old now
+told_verdicts e verdicts ends = ends
+told_verdicts e marks ends = absurd cc
+told_verdicts e annotated ends = absurd cc
 
-  pub told_marks : command ≡ Plan → Tells tree p plan command bytes
-      → Ends (record { status = 0; bytes = plan_text p plan }) status old now → Ends (record { status = 0; bytes = bytes }) status old now
-  told_marks e verdicts ends = absurd cc
-  told_marks e marks ends = ends
-  told_marks e annotated ends = absurd cc
+pub told_marks : {tree : TextTree} {p : PlainProgram} {plan : PlainPlan} {command : Command} {bytes : List ℕ} {status : ℕ} {old now : Option (List ℕ)} → command ≡ Plan → Tells tree p plan command bytes
+    → Ends (record { status = 0; bytes = plan_text p plan }) status old now → Ends (record { status = 0; bytes = bytes }) status old now
+told_marks e verdicts ends = absurd cc
+told_marks e marks ends = ends
+told_marks e annotated ends = absurd cc
 
-  pub told_annotated : command ≡ Emit → Tells tree p plan command bytes
-      → Ends (record { status = 0; bytes = annotated_text p plan tree }) status old now → Ends (record { status = 0; bytes = bytes }) status old now
-  told_annotated e verdicts ends = absurd cc
-  told_annotated e marks ends = absurd cc
-  told_annotated e annotated ends = ends
+pub told_annotated : {tree : TextTree} {p : PlainProgram} {plan : PlainPlan} {command : Command} {bytes : List ℕ} {status : ℕ} {old now : Option (List ℕ)} → command ≡ Emit → Tells tree p plan command bytes
+    → Ends (record { status = 0; bytes = annotated_text p plan tree }) status old now → Ends (record { status = 0; bytes = bytes }) status old now
+told_annotated e verdicts ends = absurd cc
+told_annotated e marks ends = absurd cc
+told_annotated e annotated ends = ends
