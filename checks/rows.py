@@ -1,7 +1,8 @@
 #!/usr/bin/env python3
 """Texts with what `pairs`, `plan` and `emit` write of them, told by hand: the reference has to say the same.
 
-So it has to of the samples, whose texts `samples/NAME.pairs` and `samples/NAME.plan` were read by people.
+So it has to of the samples, whose texts `samples/NAME.pairs` and `samples/NAME.plan` were read by people; it made
+`samples/NAME.emit`.
 """
 
 import pathlib
@@ -314,9 +315,11 @@ SAMPLES = pathlib.Path(__file__).parent.parent / "samples"
 def samples():
     """The plan of each sample, and what it is said to be."""
     for path in sorted(SAMPLES.glob("*.pairs")):
-        plan = Plan(tree_of(path.with_suffix(".cc").read_text()))
+        tree = tree_of(path.with_suffix(".cc").read_text())
+        plan = Plan(tree)
         yield plan.pairs_text(), path.read_text()
         yield plan.plan_text(), path.with_suffix(".plan").read_text()
+        yield annotated(tree, plan), path.with_suffix(".emit").read_text()
 
 
 def small_text(members):

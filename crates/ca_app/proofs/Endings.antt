@@ -3,6 +3,7 @@ use Rattle.std.proofs.Common.{◌≡◌, ℕ, true, false, List, ◌++◌, Optio
 use Rattle.ca_base.specs.Devices.{Rose, HasCause, Writes, Began, grown}
 use Rattle.ca_base.proofs.Writing.{began_more, writes_after}
 use Rattle.ca_tree.specs.declared.name.Place.{Place}
+use Rattle.ca_tree.specs.Plain.{TextTree}
 use Rattle.ca_program.specs.Plain.{PlainProgram}
 use Rattle.ca_model.specs.Texts.{heap_text}
 use Rattle.ca_meaning.specs.Serial.{Ended, done, trapped, spent, serial}
@@ -10,16 +11,17 @@ use Rattle.ca_meaning.specs.Output.{Reply, output, reply_of, prints_text, trap_t
 use Rattle.ca_parallel.specs.Marks.{SoundMarks}
 use Rattle.ca_serial.specs.Runs.{prints_of}
 use Rattle.ca_words.specs.declared.Command.{Command}
-use Rattle.ca_words.specs.declared.Command.TheVariants.{Run, Pairs, Plan, Gen}
+use Rattle.ca_words.specs.declared.Command.TheVariants.{Run, Pairs, Plan, Emit, Gen}
 use Rattle.ca_words.specs.Words.{Names, reads}
 use Rattle.ca_words.proofs.OneCommand.{one_command}
 use Rattle.ca_plan.specs.Plans.{PlainPlan, PlanOf, CommuteAsTold}
 use Rattle.ca_plan.specs.Texts.{pairs_text, plan_text}
+use Rattle.ca_emit.specs.Annotations.{annotated_text}
 use Rattle.ca_app.specs.Refusals.{refusal_reply}
-use Rattle.ca_app.specs.Reading.{IsProgramOf, IsRefusalOf}
+use Rattle.ca_app.specs.Reading.{HasOneTree, IsProgramOf, IsRefusalOf}
 use Rattle.ca_app.specs.Reply.{ProgramReplies, runs, tells, CommandReplies, refuses, serves, Replies, usage, generates, named, usage_reply, generated_reply}
 use Rattle.ca_app.specs.Ends.{Ends, whole, no_memory, read_fault, write_fault, Unreplied, EndsWith, status_after}
-use Rattle.ca_app.specs.Told.{Tells, verdicts, marks, tells_plan, ProgramTold}
+use Rattle.ca_app.specs.Told.{Tells, verdicts, marks, annotated, tells_plan, ProgramTold, CommandTold}
 use Rattle.ca_app.proofs.OneReply.{program_reply, command_reply, other_reads, one_reply}
 use Rattle.ca_app.specs.Causes.{IsUsageFault, ReadsNothing, ReadsSource}
 
@@ -49,21 +51,35 @@ module _ {command : Command} {text : List ℕ} {status : ℕ} {old now : Option 
   pub ends_refused : {at : Place} {code : ℕ} → IsRefusalOf text at code → Ends (refusal_reply at code) status old now → EndsWith (CommandReplies command text) status old now
   ends_refused is = only_reply (CommandReplies command text) _ (refuses is.refused) (λ reply this. command_reply this (refuses is.refused))
 
-  pub ends_program : (p : PlainProgram) → IsProgramOf text p → EndsWith (ProgramReplies p command) status old now → EndsWith (CommandReplies command text) status old now
-  ends_program p is ends = record {
+  pub ends_program : (p : PlainProgram) (tree : TextTree) → IsProgramOf text p → HasOneTree text tree → EndsWith (ProgramReplies tree p command) status old now → EndsWith (CommandReplies command text) status old now
+  ends_program p tree is one ends = record {
     some = some ends.some;
     each = each;
   }
     where
-      some : Unreplied status old now ⊎ ((reply : Reply) × ProgramReplies p command reply) → Unreplied status old now ⊎ ((reply : Reply) × CommandReplies command text reply)
+      some : Unreplied status old now ⊎ ((reply : Reply) × ProgramReplies tree p command reply) → Unreplied status old now ⊎ ((reply : Reply) × CommandReplies command text reply)
       some (inl u) = inl u
-      some (inr s) = inr (s.0, serves is.accepted s.1)
+      some (inr s) =
+          let P : TextTree → Type 0 = λ t. ProgramReplies t p command s.0 in
+          inr (s.0, serves is.accepted (subst P (sym (one.only is.accepted.tree is.accepted.has_tree)) s.1))
 
       each : (reply : Reply) → CommandReplies command text reply → Ends reply status old now
       each reply (refuses {at = q} {code = d} refused) = absurd (is.unrefused q d refused)
       each reply (serves {p = q} accepted' replies) =
-          let P : PlainProgram → Type 0 = λ x. ProgramReplies x command reply in
-          ends.each reply (subst P (is.only q accepted') replies)
+          let P : PlainProgram → Type 0 = λ x. ProgramReplies tree x command reply in
+          let Q : TextTree → Type 0 = λ x. ProgramReplies x q command reply in
+          ends.each reply (subst P (is.only q accepted') (subst Q (one.only accepted'.tree accepted'.has_tree) replies))
+
+-- what was told of the program was told of the text
+pub told_of_text : {command : Command} {text : List ℕ} {old now : Option (List ℕ)} (p : PlainProgram) (tree : TextTree) → IsProgramOf text p → HasOneTree text tree
+    → ProgramTold tree p command old now → CommandTold command text old now
+told_of_text {command} {old = old} {now = now} p tree is one told =
+    let P : TextTree → Type 0 = λ t. ProgramTold t p command old now in
+    record {
+      program = p;
+      accepted = is.accepted;
+      told = subst P (sym (one.only is.accepted.tree is.accepted.has_tree)) told;
+    }
 
 -- what a run replies begins with its prints
 abbrev rest_of_reply : PlainProgram → ℕ → Ended → List ℕ
@@ -93,26 +109,27 @@ ends_run_written p b e r status ended rest old mid now is reply told written sta
     (ends_written r status ended (prints_text (prints_of e) ++ rest) old now (writes_after old mid now r (prints_text (prints_of e)) rest told written) status_is)
 
 module _ {status : ℕ} {old now : Option (List ℕ)} where
-  pub ends_run : (p : PlainProgram) (workers budget : ℕ) → Ends (output p budget) status old now → EndsWith (ProgramReplies p (Run workers budget)) status old now
-  ends_run p workers budget = only_reply _ _ runs (λ reply this. program_reply this runs)
+  pub ends_run : (tree : TextTree) (p : PlainProgram) (workers budget : ℕ) → Ends (output p budget) status old now → EndsWith (ProgramReplies tree p (Run workers budget)) status old now
+  ends_run tree p workers budget = only_reply _ _ runs (λ reply this. program_reply this runs)
 
   -- what a command tells of some plan of the program is its reply
-  pub ends_told : (p : PlainProgram) (plan : PlainPlan) (command : Command) → PlanOf p plan → tells_plan command ≡ true
-      → ((bytes : List ℕ) → Tells p plan command bytes → Ends (record { status = 0; bytes = bytes }) status old now) → EndsWith (ProgramReplies p command) status old now
-  ends_told p plan command is telling ends =
+  pub ends_told : (tree : TextTree) (p : PlainProgram) (plan : PlainPlan) (command : Command) → PlanOf p plan → tells_plan command ≡ true
+      → ((bytes : List ℕ) → Tells tree p plan command bytes → Ends (record { status = 0; bytes = bytes }) status old now) → EndsWith (ProgramReplies tree p command) status old now
+  ends_told tree p plan command is telling ends =
       let t = some_telling command telling in
       only_reply _ _ (tells is t.1) (λ reply this. program_reply this (tells is t.1)) (ends t.0 t.1)
     where
-      some_telling : (c : Command) → tells_plan c ≡ true → (bytes : List ℕ) × Tells p plan c bytes
+      some_telling : (c : Command) → tells_plan c ≡ true → (bytes : List ℕ) × Tells tree p plan c bytes
       some_telling Pairs e = (_, verdicts)
       some_telling Plan e = (_, marks)
+      some_telling Emit e = (_, annotated)
       some_telling (Run w b) e = absurd cc
       some_telling (Gen x n) e = absurd cc
 
   -- and where the status is 0 it was written whole
-  pub was_told : (p : PlainProgram) (plan : PlainPlan) (command : Command) → PlanOf p plan → SoundMarks p plan.marks → CommuteAsTold p plan → tells_plan command ≡ true
-      → ((bytes : List ℕ) → Tells p plan command bytes → Ends (record { status = 0; bytes = bytes }) status old now) → status ≡ 0 → ProgramTold p command old now
-  was_told p plan command is sound commute telling ends zero = at command telling ends
+  pub was_told : (tree : TextTree) (p : PlainProgram) (plan : PlainPlan) (command : Command) → PlanOf p plan → SoundMarks p plan.marks → CommuteAsTold p plan → tells_plan command ≡ true
+      → ((bytes : List ℕ) → Tells tree p plan command bytes → Ends (record { status = 0; bytes = bytes }) status old now) → status ≡ 0 → ProgramTold tree p command old now
+  was_told tree p plan command is sound commute telling ends zero = at command telling ends
     where
       written : {bytes : List ℕ} → Ends (record { status = 0; bytes = bytes }) status old now → now ≡ grown old bytes
       written (whole e w) = w
@@ -120,9 +137,10 @@ module _ {status : ℕ} {old now : Option (List ℕ)} where
       written (read_fault e w) = absurd (omega (arith, zero, e))
       written (write_fault e w) = absurd (omega (arith, zero, e))
 
-      at : (c : Command) → tells_plan c ≡ true → ((bytes : List ℕ) → Tells p plan c bytes → Ends (record { status = 0; bytes = bytes }) status old now) → ProgramTold p c old now
+      at : (c : Command) → tells_plan c ≡ true → ((bytes : List ℕ) → Tells tree p plan c bytes → Ends (record { status = 0; bytes = bytes }) status old now) → ProgramTold tree p c old now
       at Pairs e f = record { plan = plan; is = is; bytes = pairs_text p plan; tells = verdicts; written = written (f _ verdicts); sound = sound; commute = commute }
       at Plan e f = record { plan = plan; is = is; bytes = plan_text p plan; tells = marks; written = written (f _ marks); sound = sound; commute = commute }
+      at Emit e f = record { plan = plan; is = is; bytes = annotated_text p plan tree; tells = annotated; written = written (f _ annotated); sound = sound; commute = commute }
       at (Run w b) e f = absurd cc
       at (Gen x n) e f = absurd cc
 
@@ -139,6 +157,7 @@ module _ {words : List (List ℕ)} {text : List ℕ} {status : ℕ} {old now : O
   ends_unread (Run workers budget) names unread ends = absurd cc
   ends_unread Pairs names unread ends = absurd cc
   ends_unread Plan names unread ends = absurd cc
+  ends_unread Emit names unread ends = absurd cc
   ends_unread (Gen seed size) names unread ends = ends_generated seed size names (ends seed size refl)
 
   pub ends_named : (command : Command) → Names words command → reads command ≡ true → EndsWith (CommandReplies command text) status old now → EndsWith (Replies words text) status old now
@@ -180,16 +199,25 @@ none_read {words} command names unread source =
 pub tells_reads : (command : Command) → tells_plan command ≡ true → reads command ≡ true
 tells_reads Pairs e = refl
 tells_reads Plan e = refl
+tells_reads Emit e = refl
 tells_reads (Run w b) e = absurd cc
 tells_reads (Gen x n) e = absurd cc
 
 -- what each of these commands tells
-pub told_verdicts : {p : PlainProgram} {plan : PlainPlan} {command : Command} {bytes : List ℕ} {status : ℕ} {old now : Option (List ℕ)} → command ≡ Pairs → Tells p plan command bytes
+pub told_verdicts : {tree : TextTree} {p : PlainProgram} {plan : PlainPlan} {command : Command} {bytes : List ℕ} {status : ℕ} {old now : Option (List ℕ)} → command ≡ Pairs → Tells tree p plan command bytes
     → Ends (record { status = 0; bytes = pairs_text p plan }) status old now → Ends (record { status = 0; bytes = bytes }) status old now
 told_verdicts e verdicts ends = ends
 told_verdicts e marks ends = absurd cc
+told_verdicts e annotated ends = absurd cc
 
-pub told_marks : {p : PlainProgram} {plan : PlainPlan} {command : Command} {bytes : List ℕ} {status : ℕ} {old now : Option (List ℕ)} → command ≡ Plan → Tells p plan command bytes
+pub told_marks : {tree : TextTree} {p : PlainProgram} {plan : PlainPlan} {command : Command} {bytes : List ℕ} {status : ℕ} {old now : Option (List ℕ)} → command ≡ Plan → Tells tree p plan command bytes
     → Ends (record { status = 0; bytes = plan_text p plan }) status old now → Ends (record { status = 0; bytes = bytes }) status old now
-told_marks e marks ends = ends
 told_marks e verdicts ends = absurd cc
+told_marks e marks ends = ends
+told_marks e annotated ends = absurd cc
+
+pub told_annotated : {tree : TextTree} {p : PlainProgram} {plan : PlainPlan} {command : Command} {bytes : List ℕ} {status : ℕ} {old now : Option (List ℕ)} → command ≡ Emit → Tells tree p plan command bytes
+    → Ends (record { status = 0; bytes = annotated_text p plan tree }) status old now → Ends (record { status = 0; bytes = bytes }) status old now
+told_annotated e verdicts ends = absurd cc
+told_annotated e marks ends = absurd cc
+told_annotated e annotated ends = ends

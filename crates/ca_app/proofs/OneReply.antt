@@ -11,11 +11,12 @@ use Rattle.ca_words.specs.Words.{Names, reads}
 use Rattle.ca_words.proofs.OneCommand.{one_command}
 use Rattle.ca_plan.specs.Plans.{PlainPlan, PlanOf}
 use Rattle.ca_plan.proofs.OnePlan.{one_pairs_text, one_plan_text}
+use Rattle.ca_emit.proofs.OneText.{one_annotated_text}
 use Rattle.ca_app.specs.Accepted.{HasTree, Accepted}
 use Rattle.ca_app.specs.Refusals.{RefusedAt, too_long, no_token, wrong_token, deep_token, violates, refusal_reply}
 use Rattle.ca_app.specs.Reading.{HasOneTree, IsProgramOf, IsRefusalOf}
 use Rattle.ca_app.specs.Reply.{ProgramReplies, runs, tells, CommandReplies, refuses, serves, Replies, usage, generates, named, generated_reply}
-use Rattle.ca_app.specs.Told.{Tells, verdicts, marks, tells_plan}
+use Rattle.ca_app.specs.Told.{Tells, verdicts, marks, annotated, tells_plan}
 use Rattle.ca_app.proofs.OneProgram.{derived_by}
 use Rattle.ca_app.proofs.OneRefusal.{refused_as_long, refused_no_token, refused_wrong, refused_deep, refused_violation, program_of_tree}
 
@@ -34,21 +35,23 @@ is_program : {text : List ℕ} {p : PlainProgram} → Accepted text p → IsProg
 is_program accepted = program_of_tree (has_one accepted.has_tree) accepted.resolved
 
 -- what a command tells of a program is one, whichever plan it is told of
-one_telling : {p : PlainProgram} {command : Command} {bytes others : List ℕ} (x y : PlainPlan) → PlanOf p x → PlanOf p y
-    → Tells p x command bytes → Tells p y command others → bytes ≡ others
+one_telling : {tree : TextTree} {p : PlainProgram} {command : Command} {bytes others : List ℕ} (x y : PlainPlan) → PlanOf p x → PlanOf p y
+    → Tells tree p x command bytes → Tells tree p y command others → bytes ≡ others
 one_telling {p = p} x y is other verdicts verdicts = one_pairs_text p x y is other
 one_telling {p = p} x y is other marks marks = one_plan_text p x y is other
+one_telling {tree = tree} {p = p} x y is other annotated annotated = one_annotated_text p tree x y is other
 
 -- what tells a plan is a command that tells plans, and no run
-pub tells_is : {p : PlainProgram} {plan : PlainPlan} {command : Command} {bytes : List ℕ} → Tells p plan command bytes → tells_plan command ≡ true
+pub tells_is : {tree : TextTree} {p : PlainProgram} {plan : PlainPlan} {command : Command} {bytes : List ℕ} → Tells tree p plan command bytes → tells_plan command ≡ true
 tells_is verdicts = refl
 tells_is marks = refl
+tells_is annotated = refl
 
-no_run : {p : PlainProgram} {plan : PlainPlan} {workers budget : ℕ} {bytes : List ℕ} → Tells p plan (Run workers budget) bytes → ⊥
+no_run : {tree : TextTree} {p : PlainProgram} {plan : PlainPlan} {workers budget : ℕ} {bytes : List ℕ} → Tells tree p plan (Run workers budget) bytes → ⊥
 no_run {workers = workers} {budget = budget} t = let telling : tells_plan (Run workers budget) ≡ true = tells_is t in cc
 
 -- a command has one reply to a program
-pub program_reply : {p : PlainProgram} {command : Command} {r s : Reply} → ProgramReplies p command r → ProgramReplies p command s → r ≡ s
+pub program_reply : {tree : TextTree} {p : PlainProgram} {command : Command} {r s : Reply} → ProgramReplies tree p command r → ProgramReplies tree p command s → r ≡ s
 program_reply runs runs = refl
 program_reply runs (tells is t) = absurd (no_run t)
 program_reply (tells is t) runs = absurd (no_run t)
@@ -63,8 +66,9 @@ command_reply (refuses {at = p} {code = c} one) (refuses {at = q} {code = d} oth
 command_reply (refuses refused) (serves accepted replies) = absurd ((is_refusal refused).unaccepted _ accepted)
 command_reply (serves accepted replies) (refuses {at = q} {code = d} refused) = absurd ((is_program accepted).unrefused q d refused)
 command_reply {command} {r = r} (serves {p = p} accepted replies) (serves {p = q} accepted' replies') =
-    let P : PlainProgram → Type 0 = λ x. ProgramReplies x command r in
-    program_reply (subst P ((is_program accepted').only p accepted) replies) replies'
+    let P : PlainProgram → Type 0 = λ x. ProgramReplies accepted'.tree x command r in
+    let Q : TextTree → Type 0 = λ x. ProgramReplies x p command r in
+    program_reply (subst P ((is_program accepted').only p accepted) (subst Q ((has_one accepted'.has_tree).only accepted.tree accepted.has_tree) replies)) replies'
 
 -- words that name `gen` name no command that reads its source
 pub other_reads : {words : List (List ℕ)} (command : Command) (seed size : ℕ) → Names words command → Names words (Gen seed size) → reads command ≡ true → ⊥

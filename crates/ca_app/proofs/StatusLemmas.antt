@@ -1,6 +1,7 @@
 -- What each status says of the reply that was given.
 use Rattle.std.proofs.Common.{◌≡◌, ℕ, ◌⊎◌, Bool, true, false, List, Option, refl, sym, ◌∙◌, subst, arith, inl, inr}
 use Rattle.ca_base.specs.Devices.{grown}
+use Rattle.ca_tree.specs.Plain.{TextTree}
 use Rattle.ca_program.specs.Plain.{PlainProgram}
 use Rattle.ca_meaning.specs.Output.{Reply, reply_of}
 use Rattle.ca_meaning.specs.Serial.{Ended, done, trapped, spent, serial}
@@ -98,19 +99,19 @@ record IsRun (p : PlainProgram) (command : Command) (status : ℕ) : Type 0 wher
   pub same : status ≡ (reply_of p budget (serial p budget)).status
 
 -- what a command replied to a program, by its status
-no_refusal_at : (p : PlainProgram) (command : Command) (reply : Reply) → ProgramReplies p command reply → (1 ≡ reply.status → ⊥) × (8 ≡ reply.status → ⊥)
-no_refusal_at p command reply (runs {budget = b}) = (λ e. (refusals_end p b (serial p b)).0 (sym e), λ e. (refusals_end p b (serial p b)).1 (sym e))
-no_refusal_at p command reply (tells is t) = (λ e. omega arith, λ e. omega arith)
+no_refusal_at : (tree : TextTree) (p : PlainProgram) (command : Command) (reply : Reply) → ProgramReplies tree p command reply → (1 ≡ reply.status → ⊥) × (8 ≡ reply.status → ⊥)
+no_refusal_at tree p command reply (runs {budget = b}) = (λ e. (refusals_end p b (serial p b)).0 (sym e), λ e. (refusals_end p b (serial p b)).1 (sym e))
+no_refusal_at tree p command reply (tells is t) = (λ e. omega arith, λ e. omega arith)
 
-run_at : (p : PlainProgram) (command : Command) (reply : Reply) (status : ℕ) → (status ≡ 0 → ⊥)
-    → ProgramReplies p command reply → status ≡ reply.status → IsRun p command status
-run_at p command reply status zero (runs {workers = w} {budget = b}) e = record { workers = w; budget = b; is = refl; same = e }
-run_at p command reply status zero (tells is t) e = absurd (zero e)
+run_at : (tree : TextTree) (p : PlainProgram) (command : Command) (reply : Reply) (status : ℕ) → (status ≡ 0 → ⊥)
+    → ProgramReplies tree p command reply → status ≡ reply.status → IsRun p command status
+run_at tree p command reply status zero (runs {workers = w} {budget = b}) e = record { workers = w; budget = b; is = refl; same = e }
+run_at tree p command reply status zero (tells is t) e = absurd (zero e)
 
-done_at : (p : PlainProgram) (command : Command) (reply : Reply)
-    → ProgramReplies p command reply → 0 ≡ reply.status → IsRun p command 0 ⊎ (tells_plan command ≡ true)
-done_at p command reply (runs {workers = w} {budget = b}) e = inl (record { workers = w; budget = b; is = refl; same = e })
-done_at p command reply (tells is t) e = inr (tells_is t)
+done_at : (tree : TextTree) (p : PlainProgram) (command : Command) (reply : Reply)
+    → ProgramReplies tree p command reply → 0 ≡ reply.status → IsRun p command 0 ⊎ (tells_plan command ≡ true)
+done_at tree p command reply (runs {workers = w} {budget = b}) e = inl (record { workers = w; budget = b; is = refl; same = e })
+done_at tree p command reply (tells is t) e = inr (tells_is t)
 
 module _ {words : List (List ℕ)} {text : List ℕ} where
   run_ends : (status : ℕ) (End : Ended → Type 0) {p : PlainProgram} {command : Command}
@@ -131,7 +132,7 @@ module _ {words : List (List ℕ)} {text : List ℕ} where
   error_status (named names reading (refuses {at = at} {code = code} refused)) e =
       record { at = at; code = code; refused = refused; kind = kind_of false (is_limit_code code) e }
   error_status (named {command = command} {reply = reply} names reading (serves {p = p} accepted replies)) e =
-      absurd ((no_refusal_at p command reply replies).0 e)
+      absurd ((no_refusal_at accepted.tree p command reply replies).0 e)
 
   limit_status : {reply : Reply} → Replies words text reply → 8 ≡ reply.status → IsRefused true text
   limit_status (usage fault) e = absurd (omega arith)
@@ -139,7 +140,7 @@ module _ {words : List (List ℕ)} {text : List ℕ} where
   limit_status (named names reading (refuses {at = at} {code = code} refused)) e =
       record { at = at; code = code; refused = refused; kind = kind_of true (is_limit_code code) e }
   limit_status (named {command = command} {reply = reply} names reading (serves {p = p} accepted replies)) e =
-      absurd ((no_refusal_at p command reply replies).1 e)
+      absurd ((no_refusal_at accepted.tree p command reply replies).1 e)
 
   -- the end of the run is the one with this status
   run_status : (status : ℕ) (End : Ended → Type 0) → (status ≡ 0 → ⊥) → (status ≡ 1 → ⊥) → (status ≡ 2 → ⊥) → (status ≡ 8 → ⊥)
@@ -153,7 +154,7 @@ module _ {words : List (List ℕ)} {text : List ℕ} where
       at true e = eight e
       at false e = one e
   run_status status End zero one two eight ends (named {command = command} {reply = reply} names reading (serves {p = p} accepted replies)) e =
-      run_ends status End ends names accepted (run_at p command reply status zero replies e)
+      run_ends status End ends names accepted (run_at accepted.tree p command reply status zero replies e)
 
   -- the end of status 0 is that of a run, of a plan that was told, or of gen
   done_status : {old now : Option (List ℕ)} {reply : Reply} → (TellsPlan words → PlanTold words text old now) → Replies words text reply → 0 ≡ reply.status → now ≡ grown old reply.bytes
@@ -166,7 +167,7 @@ module _ {words : List (List ℕ)} {text : List ℕ} where
       at true e = omega arith
       at false e = omega arith
   done_status {old} {now} told (named {command = command} {reply = reply} names reading (serves {p = p} accepted replies)) e bytes =
-      ends (done_at p command reply replies e)
+      ends (done_at accepted.tree p command reply replies e)
     where
       ends : IsRun p command 0 ⊎ (tells_plan command ≡ true) → RunEnds words text IsDone ⊎ (PlanTold words text old now ⊎ Generates words old now)
       ends (inl run) = inl (run_ends 0 IsDone done_end names accepted run)

@@ -43,7 +43,7 @@ pub record RunEnds (words : List (List ℕ)) (text : List ℕ) (end : Ended → 
   pub accepted : Accepted text program
   pub ends : end (serial program budget)
 
--- The words name `pairs` or `plan`, and what was written is what it tells of the plan of the text's program.
+-- The words name `pairs`, `plan` or `emit`, and what was written is what it tells of the plan of the text's program.
 pub record PlanTold (words : List (List ℕ)) (text : List ℕ) (old now : Option (List ℕ)) : Type 0 where
   pub command : Command
   pub named : Names words command

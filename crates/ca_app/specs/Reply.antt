@@ -1,6 +1,7 @@
 -- What words and a text reply: a status and the bytes that are written.
 use Rattle.std.specs.Prelude.{ℕ, ◌≡◌, true, List}
 use Rattle.ca_tree.specs.declared.name.Place.{Place}
+use Rattle.ca_tree.specs.Plain.{TextTree}
 use Rattle.ca_program.specs.Plain.{PlainProgram}
 use Rattle.ca_meaning.specs.Output.{Reply, output}
 use Rattle.ca_words.specs.declared.Command.{Command}
@@ -20,15 +21,15 @@ usage_reply = record { status = USAGE; bytes = usage_text }
 abbrev pub generated_reply : ℕ → ℕ → Reply
 generated_reply seed size = record { status = DONE; bytes = generated seed size }
 
--- what a command replies to a program
-pub data ProgramReplies (p : PlainProgram) : Command → Reply → Type 0 where
-  runs : {workers budget : ℕ} → ProgramReplies p (Run workers budget) (output p budget)
-  tells : {plan : PlainPlan} {command : Command} {bytes : List ℕ} → PlanOf p plan → Tells p plan command bytes → ProgramReplies p command (record { status = DONE; bytes = bytes })
+-- what a command replies to a program, whose text has this tree
+pub data ProgramReplies (tree : TextTree) (p : PlainProgram) : Command → Reply → Type 0 where
+  runs : {workers budget : ℕ} → ProgramReplies tree p (Run workers budget) (output p budget)
+  tells : {plan : PlainPlan} {command : Command} {bytes : List ℕ} → PlanOf p plan → Tells tree p plan command bytes → ProgramReplies tree p command (record { status = DONE; bytes = bytes })
 
 -- what a command replies to a text: a refusal, or what it replies to the text's program
 pub data CommandReplies (command : Command) (text : List ℕ) : Reply → Type 0 where
   refuses : {at : Place} {code : ℕ} → RefusedAt text at code → CommandReplies command text (refusal_reply at code)
-  serves : {p : PlainProgram} {reply : Reply} → Accepted text p → ProgramReplies p command reply → CommandReplies command text reply
+  serves : {p : PlainProgram} {reply : Reply} → (accepted : Accepted text p) → ProgramReplies accepted.tree p command reply → CommandReplies command text reply
 
 -- what words on a text reply: they name no command, or one that reads nothing, or one that reads the text
 pub data Replies (words : List (List ℕ)) (text : List ℕ) : Reply → Type 0 where

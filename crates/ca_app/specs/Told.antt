@@ -1,33 +1,37 @@
--- What `pairs` and `plan` tell of the plan of a text's program.
+-- What `pairs`, `plan` and `emit` tell of the plan of a text's program.
 use Rattle.std.specs.Prelude.{ℕ, ◌≡◌, Bool, true, false, List, Option}
+use Rattle.ca_tree.specs.Plain.{TextTree}
 use Rattle.ca_base.specs.Devices.{grown}
 use Rattle.ca_program.specs.Plain.{PlainProgram}
 use Rattle.ca_parallel.specs.Marks.{SoundMarks}
 use Rattle.ca_words.specs.declared.Command.{Command}
-use Rattle.ca_words.specs.declared.Command.TheVariants.{Run, Pairs, Plan, Gen}
+use Rattle.ca_words.specs.declared.Command.TheVariants.{Run, Pairs, Plan, Emit, Gen}
 use Rattle.ca_plan.specs.Plans.{PlainPlan, PlanOf, CommuteAsTold}
 use Rattle.ca_plan.specs.Texts.{pairs_text, plan_text}
+use Rattle.ca_emit.specs.Annotations.{annotated_text}
 use Rattle.ca_app.specs.Accepted.{Accepted}
 
--- what a command tells of a plan: the verdicts, or what is marked
-pub data Tells (p : PlainProgram) (plan : PlainPlan) : Command → List ℕ → Type 0 where
-  verdicts : Tells p plan Pairs (pairs_text p plan)
-  marks : Tells p plan Plan (plan_text p plan)
+-- what a command tells of a plan: the verdicts, what is marked, or the annotated text
+pub data Tells (tree : TextTree) (p : PlainProgram) (plan : PlainPlan) : Command → List ℕ → Type 0 where
+  verdicts : Tells tree p plan Pairs (pairs_text p plan)
+  marks : Tells tree p plan Plan (plan_text p plan)
+  annotated : Tells tree p plan Emit (annotated_text p plan tree)
 
 -- whether the command tells a plan
 abbrev pub tells_plan : Command → Bool
 tells_plan Pairs = true
 tells_plan Plan = true
+tells_plan Emit = true
 tells_plan (Run workers budget) = false
 tells_plan (Gen seed size) = false
 
 -- What was written is what the command tells of the plan of the program. What is marked may run in any order, and
 -- operations of which the plan says that they commute do so.
-pub record ProgramTold (p : PlainProgram) (command : Command) (old now : Option (List ℕ)) : Type 0 where
+pub record ProgramTold (tree : TextTree) (p : PlainProgram) (command : Command) (old now : Option (List ℕ)) : Type 0 where
   pub plan : PlainPlan
   pub is : PlanOf p plan
   pub bytes : List ℕ
-  pub tells : Tells p plan command bytes
+  pub tells : Tells tree p plan command bytes
   pub written : now ≡ grown old bytes
   pub sound : SoundMarks p plan.marks
   pub commute : CommuteAsTold p plan
@@ -36,4 +40,4 @@ pub record ProgramTold (p : PlainProgram) (command : Command) (old now : Option 
 pub record CommandTold (command : Command) (text : List ℕ) (old now : Option (List ℕ)) : Type 0 where
   pub program : PlainProgram
   pub accepted : Accepted text program
-  pub told : ProgramTold program command old now
+  pub told : ProgramTold accepted.tree program command old now

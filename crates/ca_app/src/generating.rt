@@ -45,6 +45,6 @@ pub fn serve_unread<K: Sink>(alloc: Global, command: Command, sink: &mut K) -> u
             Ok(text) => finish(write_all(sink, &text), DONE),
             Err(_) => NO_MEMORY,
         },
-        Command::Run { .. } | Command::Pairs | Command::Plan => unreachable!(),
+        Command::Run { .. } | Command::Pairs | Command::Plan | Command::Emit => unreachable!(),
     }
 }

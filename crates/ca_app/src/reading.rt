@@ -24,16 +24,24 @@ pub enum NoProgram {
     Memory,
 }
 
-/// The program of a text that isn't too long.
-pub fn read_program(alloc: Global, text: &[u8]) -> Result<Program, NoProgram>
+/// The program and the tree of a text.
+#[derive(Drop)]
+pub struct Reading {
+    pub program: Program,
+    pub tree: Tree,
+}
+
+/// Reads a text that isn't too long.
+pub fn read_program(alloc: Global, text: &[u8]) -> Result<Reading, NoProgram>
     requires { length text.now ≤ MOST_BYTES }
-    ensures program { IfOk result (λ program. IsProgramOf text.now (program_view program)) }
+    ensures program { IfOk result (λ r. IsProgramOf text.now (program_view r.program)) }
+    ensures tree { IfOk result (λ r. HasOneTree text.now (tree_view r.tree)) }
     ensures cause { IfErr result (IsCauseFor text.now) }
 {
     let tokens = tokens_of(alloc, text)?;
     let tree = tree_of(alloc, text, &tokens)?;
     match check(alloc, &tree) {
-        Ok(program) => Ok(program),
+        Ok(program) => Ok(Reading { program, tree }),
         Err(CheckError::Violation(at, code)) => Err(NoProgram::Refused(Refusal { at, code })),
         Err(CheckError::Limit(at, code)) => Err(NoProgram::Refused(Refusal { at, code })),
         Err(CheckError::Memory) => Err(NoProgram::Memory),

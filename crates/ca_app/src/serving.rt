@@ -2,6 +2,7 @@
 
 ghost use Rattle.std.specs.Prelude.{◌≡◌, ℕ, ◌≤◌, ◌⊎◌, true, false, List, length, Some, IfOk};
 ghost use Rattle.ca_base.specs.Devices.{Rose, Writes, at_end};
+ghost use Rattle.ca_tree.specs.View.{tree_view};
 ghost use Rattle.ca_program.specs.View.{program_view};
 ghost use Rattle.ca_meaning.specs.Output.{Reply, output, prints_text};
 ghost use Rattle.ca_meaning.specs.ProgramTyped.{ProgramTyped};
@@ -17,7 +18,7 @@ ghost use Rattle.ca_plan.specs.Checked.{Checked};
 
 use crate::generating::serve_unread;
 use crate::lines::{write_spent, write_trap};
-use crate::reading::{NoProgram, read_program};
+use crate::reading::{NoProgram, Reading, read_program};
 use crate::refusals::Refusal;
 use crate::telling::tell_plan;
 use ca_base::{Failed, Gate, ReadError, Sink, Source, read_all, write_all};
@@ -160,7 +161,7 @@ fn serve_text<R: Threads + Wait + Sync, K: Sink>(
     ensures no_usage { result ≡ USAGE → ⊥ }
 {
     match read_program(alloc, text) {
-        Ok(program) => serve_program(rt, alloc, command, &program, sink),
+        Ok(reading) => serve_program(rt, alloc, command, &reading, sink),
         Err(NoProgram::Refused(refusal)) => refuse(refusal, sink),
         Err(NoProgram::Memory) => NO_MEMORY,
     }
@@ -171,20 +172,20 @@ fn serve_program<R: Threads + Wait + Sync, K: Sink>(
     rt: &R,
     alloc: Global,
     command: Command,
-    program: &Program,
+    reading: &Reading,
     sink: &mut K,
 ) -> u8
-    requires checked { Checked (program_view program.now) }
+    requires checked { Checked (program_view reading.now.program) }
     requires reading { reads command ≡ true }
-    ensures ends { EndsWith (ProgramReplies (program_view program.now) command) result (K.written sink.old) (K.written sink.new) }
-    ensures told { tells_plan command ≡ true → result ≡ DONE → ProgramTold (program_view program.now) command (K.written sink.old) (K.written sink.new) }
+    ensures ends { EndsWith (ProgramReplies (tree_view reading.now.tree) (program_view reading.now.program) command) result (K.written sink.old) (K.written sink.new) }
+    ensures told { tells_plan command ≡ true → result ≡ DONE → ProgramTold (tree_view reading.now.tree) (program_view reading.now.program) command (K.written sink.old) (K.written sink.new) }
     ensures write_fault { SinkCause result (K.faults sink.old) (K.faults sink.new) }
     ensures no_read_fault { result ≡ READ_FAULT → ⊥ }
     ensures no_usage { result ≡ USAGE → ⊥ }
 {
     match command {
-        Command::Run { budget, .. } => run_program(rt, alloc, program, budget, sink),
-        Command::Pairs | Command::Plan => tell_plan(alloc, command, program, sink),
+        Command::Run { budget, .. } => run_program(rt, alloc, &reading.program, budget, sink),
+        Command::Pairs | Command::Plan | Command::Emit => tell_plan(alloc, command, reading, sink),
         Command::Gen { .. } => unreachable!(),
     }
 }

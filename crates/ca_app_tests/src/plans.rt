@@ -1,11 +1,13 @@
-//! Plans that are told: `pairs` and `plan`.
+//! Plans that are told: `pairs`, `plan` and `emit`.
 
 use crate::calls::Call;
-use crate::sources::{ACCUMULATOR, BOUND, CELLS, FIRST, GRAPH_VISIT, PAIR, SETS, STACK};
+use crate::sources::{
+    ACCUMULATOR, BINS, BOUND, CELLS, FIRST, GRAPH_VISIT, STACK, TWO_BINS, TWO_SUMS,
+};
 use std::alloc::{AllocError, Global};
 
-/// A text without classes, and three that have one tree but for places.
-const TOLD_OF_SMALL_TEXTS: [(&str, &str, &str); 6] = [
+/// A text without classes, texts that have one tree but for places, and marks of statements of each kind.
+const TOLD_OF_SMALL_TEXTS: [(&str, &str, &str); 9] = [
     ("pairs", "int main() { print(1); }", ""),
     ("plan", "int main() { print(1); }", ""),
     (
@@ -28,10 +30,25 @@ const TOLD_OF_SMALL_TEXTS: [(&str, &str, &str); 6] = [
         "\n /* of visits */ class A { public: void m() { ; } }; int main() { }",
         "op A::m serial\n",
     ),
+    (
+        "emit",
+        "int main() { print(1); }",
+        "int main ( ) {\nprint ( 1 ) ;\n}\n",
+    ),
+    (
+        "emit",
+        "class A; // again\nclass A { public: long f, g; void m(long x) { f = (f + x); } }; int main() { A *a = new A; /* on a */ a->m(1); return 0; }",
+        "class A {\npublic :\nlong f ;\nlong g ;\nvoid m ( long x ) {\nf = f + x ;\n}\n} ;\nint main ( ) {\nA * a = new A ( ) ;\na -> m ( 1 ) ;\n}\n",
+    ),
+    (
+        "emit",
+        "class A { public: void m() { ; } void n() { m(); } void e() { } }; int main() { A *a = new A(); { a->n(); } ; while (a == nullptr) a->n(); }",
+        "class A {\npublic :\nvoid m ( ) {\n/*@lock*/ ;\n/*@unlock*/ }\nvoid n ( ) {\n/*@lock*/ /*@unlock*/ /*@spawn*/ m ( ) ;\n/*@unlock*/ }\nvoid e ( ) {\n}\n} ;\nint main ( ) {\nA * a = new A ( ) ;\n{\n/*@parallel*/ a -> n ( ) ;\n} ;\nwhile ( a == nullptr ) /*@parallel*/ a -> n ( ) ;\n}\n",
+    ),
 ];
 
 /// What is told of longer texts.
-const TOLD: [(&str, &str, &str); 12] = [
+const TOLD: [(&str, &str, &str); 20] = [
     (
         "pairs",
         FIRST,
@@ -64,13 +81,13 @@ const TOLD: [(&str, &str, &str); 12] = [
     ),
     (
         "pairs",
-        SETS,
-        "extent Bins::add\nBins::add Bins::add commutes\nextent Set::fill\nSet::fill Set::fill unproved NotSeparable Set::fill 9 Creates\nextent Set::all\nBins::add Bins::add commutes\nSet::all Set::all commutes\nloop 12\nBins::add Bins::add commutes\n",
+        BINS,
+        "extent Bins::add\nBins::add Bins::add commutes\nextent Set::fill\nSet::fill Set::fill unproved NotSeparable Set::fill 10 Creates\nextent Set::all\nBins::add Bins::add commutes\nSet::all Set::all commutes\nloop 13\nBins::add Bins::add commutes\n",
     ),
     (
         "plan",
-        SETS,
-        "op Bins::add serial\nop Set::fill serial\nop Set::all parallel\nloop 12 parallel\n",
+        BINS,
+        "op Bins::add serial\nop Set::fill serial\nop Set::all parallel\nloop 13 parallel\n",
     ),
     (
         "pairs",
@@ -79,12 +96,12 @@ const TOLD: [(&str, &str, &str); 12] = [
     ),
     (
         "pairs",
-        PAIR,
+        TWO_BINS,
         "extent Bin::add\nBin::add Bin::add commutes\nextent Pair::fill\nPair::fill Pair::fill unproved NotSeparable Pair::fill 9 Creates\nloop 14\nBin::add Bin::add commutes\n",
     ),
     (
         "plan",
-        PAIR,
+        TWO_BINS,
         "op Bin::add serial\nop Pair::fill serial\nloop 14 parallel\n",
     ),
     (
@@ -92,9 +109,49 @@ const TOLD: [(&str, &str, &str); 12] = [
         BOUND,
         "extent M::up\nM::up M::up unproved FieldDiffers x\n",
     ),
+    (
+        "emit",
+        GRAPH_VISIT,
+        "class Graph {\npublic :\nbool mark ;\nlong value ;\nlong sum ;\nGraph * left ;\nGraph * right ;\nvoid init ( long v , Graph * l , Graph * r ) {\nvalue = v ;\nleft = l ;\nright = r ;\n}\nvoid visit ( long p ) {\n/*@lock*/ sum = sum + p ;\nif ( ! mark ) {\nmark = true ;\nif ( left != nullptr ) /*@unlock*/ /*@spawn*/ left -> visit ( value ) ;\nif ( right != nullptr ) /*@unlock*/ /*@spawn*/ right -> visit ( value ) ;\n}\n/*@unlock*/ }\n} ;\nint main ( ) {\nGraph * a = new Graph ( ) ;\nGraph * b = new Graph ( ) ;\na -> init ( 3 , b , b ) ;\nb -> init ( 5 , a , nullptr ) ;\n/*@parallel*/ a -> visit ( 1 ) ;\n}\n",
+    ),
+    (
+        "emit",
+        ACCUMULATOR,
+        "class Acc {\npublic :\nlong sum ;\nvoid add ( long p ) {\n/*@lock*/ sum = sum + p ;\n/*@unlock*/ }\nvoid sub ( long p ) {\n/*@lock*/ sum = sum - p ;\n/*@unlock*/ }\nvoid mul ( long p ) {\nsum = sum * p ;\n}\nvoid mix ( long p ) {\nadd ( p ) ;\nmul ( p ) ;\n}\nvoid par ( long p ) {\n/*@lock*/ /*@unlock*/ /*@spawn*/ add ( p ) ;\n/*@unlock*/ /*@spawn*/ sub ( p ) ;\n/*@unlock*/ }\n} ;\nint main ( ) {\nAcc * a = new Acc ( ) ;\na -> mix ( 2 ) ;\n/*@parallel*/ a -> par ( 3 ) ;\n}\n",
+    ),
+    (
+        "emit",
+        STACK,
+        "class Stack {\npublic :\nlong buf [ 8 ] ;\nlong n ;\nvoid put ( long v ) {\nbuf [ n ] = v ;\nn = n + 1 ;\n}\n} ;\nint main ( ) {\n}\n",
+    ),
+    (
+        "emit",
+        BINS,
+        "class Bins {\npublic :\nlong a [ 3 ] ;\nvoid add ( long i , long v ) {\n/*@lock*/ a [ i ] = a [ i ] + v ;\n/*@unlock*/ }\n} ;\nclass Set {\npublic :\nBins * b [ 1000 ] ;\nvoid fill ( ) {\nfor ( long i = 0 ; i < 1000 ; i += 1 ) b [ i ] = new Bins ( ) ;\n}\nvoid all ( long v ) {\n/*@lock*/ for ( long i = 0 ; i < 1000 ; i += 1 ) /*@unlock*/ /*@spawn*/ b [ i ] -> add ( i % 3 , v ) ;\n/*@unlock*/ }\n} ;\nint main ( ) {\nSet * s = new Set ( ) ;\ns -> fill ( ) ;\n/*@parallel*/ s -> all ( 7 ) ;\n/*@parallel*/ s -> all ( 8 ) ;\n}\n",
+    ),
+    (
+        "emit",
+        CELLS,
+        "class Cell {\npublic :\nlong sum ;\nlong base ;\nlong last ;\nCell * next ;\nvoid late ( long p ) {\nsum = sum + p ;\nif ( next != nullptr ) next -> late ( p ) ;\nlast = sum ;\n}\nvoid early ( long p ) {\n/*@lock*/ sum = sum + p ;\nif ( next != nullptr ) /*@unlock*/ /*@spawn*/ next -> early ( base ) ;\n/*@unlock*/ }\n} ;\nint main ( ) {\n}\n",
+    ),
+    (
+        "emit",
+        TWO_BINS,
+        "class Bin {\npublic :\nlong n ;\nvoid add ( long v ) {\n/*@lock*/ n = n + v ;\n/*@unlock*/ }\n} ;\nclass Pair {\npublic :\nBin * b [ 2 ] ;\nvoid fill ( ) {\nb [ 0 ] = new Bin ( ) ;\nb [ 1 ] = new Bin ( ) ;\n}\n} ;\nint main ( ) {\nPair * s = new Pair ( ) ;\ns -> fill ( ) ;\n/*@parallel*/ for ( long i = 0 ; i < 2 ; i += 1 ) s -> b [ i ] -> add ( i + 1 ) ;\n}\n",
+    ),
+    (
+        "emit",
+        BOUND,
+        "class M {\npublic :\nlong x ;\nvoid up ( long v ) {\nif ( x < v ) x = v ;\n}\n} ;\nint main ( ) {\n}\n",
+    ),
+    (
+        "emit",
+        TWO_SUMS,
+        "class A {\npublic :\nlong n ;\nvoid add ( long v ) {\n/*@lock*/ n += v ;\n/*@unlock*/ }\nvoid two ( long v ) {\n/*@lock*/ /*@unlock*/ /*@spawn*/ add ( v ) ;\n/*@unlock*/ /*@spawn*/ add ( v + 1 ) ;\n/*@unlock*/ }\n} ;\nint main ( ) {\nA * a = new A ( ) ;\n/*@parallel*/ a -> two ( 3 ) ;\n}\n",
+    ),
 ];
 
-/// Verdicts and marks.
+/// Verdicts, marks and annotated texts.
 #[test]
 fn tells_plans(rt: HostRuntime) -> Result<(), AllocError> {
     for (line, text, written) in TOLD_OF_SMALL_TEXTS {

@@ -65,18 +65,14 @@ pub const TRAP_IN_A_LOOP: &str =
 pub const STACK: &str =
     "class Stack { public: long buf[8]; long n; void put(long v) { buf[n] = v; n = n + 1; } }; int main() { }";
 
-/// Bins in a set: sums at items, from a loop of calls.
-pub const SETS: &str =
-    "class Bins {\npublic:\n  long a[3];\n  void add(long i, long v) { a[i] = a[i] + v; }\n};\nclass Set {\npublic:\n  Bins *b[1000];\n  void fill() { for (long i = 0; i < 1000; i++) b[i] = new Bins(); }\n\n  void all(long v) {\n    for (long i = 0; i < 1000; i++) b[i]->add(i % 3, v);\n  }\n};\nint main() {\n  Set *s = new Set();\n  s->fill();\n  s->all(7);\n  s->all(8);\n}\n";
-
 /// A cell that reads its sum behind a call, or passes on what stays.
 pub const CELLS: &str =
     "class Cell {\npublic:\n  long sum;\n  long base;\n  long last;\n  Cell *next;\n  void late(long p) {\n    sum = sum + p;\n    if (next != nullptr) next->late(p);\n    last = sum;\n  }\n  void early(long p) {\n    sum = sum + p;\n    if (next != nullptr) next->early(base);\n  }\n};\nint main() { }\n";
 
-/// Two bins, and a loop of calls in `main`.
-pub const PAIR: &str =
-    "class Bin {\npublic:\n  long n;\n  void add(long v) { n = n + v; }\n};\nclass Pair {\npublic:\n  Bin *b[2];\n  void fill() { b[0] = new Bin(); b[1] = new Bin(); }\n};\nint main() {\n  Pair *s = new Pair();\n  s->fill();\n  for (long i = 0; i < 2; i++) s->b[i]->add(i + 1);\n}\n";
-
 /// A greatest value.
 pub const BOUND: &str =
     "class M { public: long x; void up(long v) { if (x < v) x = v; } }; int main() { }";
+
+/// A sum that is called twice.
+pub const TWO_SUMS: &str =
+    "class A { public: long n; void add(long v) { n += v; } void two(long v) { add(v); add(v + 1); } }; int main() { A *a = new A(); a->two(3); }";

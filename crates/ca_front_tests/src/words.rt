@@ -9,7 +9,7 @@ fn names_commands(rt: HostRuntime) -> Result<(), Fail> {
     for (line, named) in [
         ("pairs", Some(Command::Pairs)),
         ("plan", Some(Command::Plan)),
-        ("emit", None),
+        ("emit", Some(Command::Emit)),
         ("plans", None),
         (
             "run 1 100",

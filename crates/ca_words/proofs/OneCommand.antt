@@ -2,7 +2,7 @@
 use Rattle.std.proofs.Common.{◌≡◌, ◌+◌, ◌*◌, ℕ, List, [], get_or, decimal, refl, ap, sym, ◌∙◌, arith}
 use Rattle.std.proofs.lemmas.Fmt.{decimal_injective}
 use Rattle.ca_words.specs.declared.Command.{Command}
-use Rattle.ca_words.specs.declared.Command.TheVariants.{Run, Pairs, Plan, Gen}
+use Rattle.ca_words.specs.declared.Command.TheVariants.{Run, Pairs, Plan, Emit, Gen}
 use Rattle.ca_words.specs.Words.{words_of, Spells, Names}
 
 -- the first and the third letter of the words, by which commands differ
@@ -13,6 +13,7 @@ abbrev letters_of : Command → ℕ
 letters_of (Run w b) = 29294
 letters_of Pairs = 28777
 letters_of Plan = 28769
+letters_of Emit = 25961
 letters_of (Gen x n) = 26478
 
 are_letters : (c : Command) → letters (words_of c) ≡ letters_of c
@@ -32,6 +33,7 @@ one_spelled words (Run w b) (Run v a) s t =
     cc
 one_spelled words Pairs Pairs s t = refl
 one_spelled words Plan Plan s t = refl
+one_spelled words Emit Emit s t = refl
 one_spelled words (Run w b) Pairs s t = absurd (omega (arith, same_letters (Run w b) Pairs s t))
 one_spelled words Pairs (Run v a) s t = absurd (omega (arith, same_letters Pairs (Run v a) s t))
 one_spelled words (Gen x n) Pairs s t = absurd (omega (arith, same_letters (Gen x n) Pairs s t))
@@ -40,8 +42,16 @@ one_spelled words (Run w b) Plan s t = absurd (omega (arith, same_letters (Run w
 one_spelled words Plan (Run v a) s t = absurd (omega (arith, same_letters Plan (Run v a) s t))
 one_spelled words (Gen x n) Plan s t = absurd (omega (arith, same_letters (Gen x n) Plan s t))
 one_spelled words Plan (Gen y m) s t = absurd (omega (arith, same_letters Plan (Gen y m) s t))
+one_spelled words (Run w b) Emit s t = absurd (omega (arith, same_letters (Run w b) Emit s t))
+one_spelled words Emit (Run v a) s t = absurd (omega (arith, same_letters Emit (Run v a) s t))
+one_spelled words (Gen x n) Emit s t = absurd (omega (arith, same_letters (Gen x n) Emit s t))
+one_spelled words Emit (Gen y m) s t = absurd (omega (arith, same_letters Emit (Gen y m) s t))
 one_spelled words Pairs Plan s t = absurd (omega (arith, same_letters Pairs Plan s t))
+one_spelled words Pairs Emit s t = absurd (omega (arith, same_letters Pairs Emit s t))
 one_spelled words Plan Pairs s t = absurd (omega (arith, same_letters Plan Pairs s t))
+one_spelled words Plan Emit s t = absurd (omega (arith, same_letters Plan Emit s t))
+one_spelled words Emit Pairs s t = absurd (omega (arith, same_letters Emit Pairs s t))
+one_spelled words Emit Plan s t = absurd (omega (arith, same_letters Emit Plan s t))
 one_spelled words (Run w b) (Gen x n) s t = absurd (omega (arith, same_letters (Run w b) (Gen x n) s t))
 one_spelled words (Gen x n) (Run w b) s t = absurd (omega (arith, same_letters (Gen x n) (Run w b) s t))
 one_spelled words (Gen x n) (Gen y m) s t =

@@ -2,7 +2,7 @@
 use Rattle.std.specs.Prelude.{◌≡◌, Bool, true, false, ℕ, ◌≤◌, List, [], ◌∷◌, map, codes, decimal, String, string_bytes}
 use Rattle.std.specs.declared.alloc.Global.{Global}
 use Rattle.ca_words.specs.declared.Command.{Command}
-use Rattle.ca_words.specs.declared.Command.TheVariants.{Run, Pairs, Plan, Gen}
+use Rattle.ca_words.specs.declared.Command.TheVariants.{Run, Pairs, Plan, Emit, Gen}
 
 -- each word as its bytes
 abbrev pub texts : List (String Global) → List (List ℕ)
@@ -13,6 +13,7 @@ abbrev pub words_of : Command → List (List ℕ)
 words_of (Run workers budget) = codes "run" ∷ decimal workers ∷ decimal budget ∷ []
 words_of Pairs = codes "pairs" ∷ []
 words_of Plan = codes "plan" ∷ []
+words_of Emit = codes "emit" ∷ []
 words_of (Gen seed size) = codes "gen" ∷ decimal seed ∷ decimal size ∷ []
 
 abbrev pub IsWorkers : ℕ → Type 0
@@ -32,6 +33,7 @@ abbrev pub IsInRange : Command → Type 0
 IsInRange (Run workers budget) = IsWorkers workers × IsBudget budget
 IsInRange Pairs = Unit {0}
 IsInRange Plan = Unit {0}
+IsInRange Emit = Unit {0}
 IsInRange (Gen seed size) = IsSeed seed × IsSize size
 
 -- what this program does so far: of runs, those by one worker

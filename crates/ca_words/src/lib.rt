@@ -22,6 +22,8 @@ pub enum Command {
     Pairs,
     /// `plan`: which operations and loops run in parallel.
     Plan,
+    /// `emit`: the annotated source.
+    Emit,
     /// `gen SEED SIZE`: writes the text that any seed gives, with 1 to 20,000 nodes.
     Gen { seed: u64, size: u32 },
 }
@@ -38,7 +40,7 @@ impl Command {
         ensures { result ≡ reads self }
     {
         match self {
-            Command::Run { .. } | Command::Pairs | Command::Plan => true,
+            Command::Run { .. } | Command::Pairs | Command::Plan | Command::Emit => true,
             Command::Gen { .. } => false,
         }
     }
@@ -49,7 +51,7 @@ impl Command {
     {
         match self {
             Command::Run { workers, .. } => workers == 1,
-            Command::Pairs | Command::Plan | Command::Gen { .. } => true,
+            Command::Pairs | Command::Plan | Command::Emit | Command::Gen { .. } => true,
         }
     }
 }
@@ -130,6 +132,7 @@ fn spelled(words: &[String]) -> Option<Command>
         }),
         [name] if name.as_str() == "pairs" => Some(Command::Pairs),
         [name] if name.as_str() == "plan" => Some(Command::Plan),
+        [name] if name.as_str() == "emit" => Some(Command::Emit),
         [name, seed, size] if name.as_str() == "gen" => Some(Command::Gen {
             seed: number_of(seed.as_str(), 0, u64::MAX)?,
             size: count_of(size.as_str(), Command::MOST_SIZE)?,

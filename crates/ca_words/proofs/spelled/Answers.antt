@@ -8,7 +8,7 @@ pub returns-in_ok-count_of-in-len3-2-clause-some :
     goal.returns-in_ok-count_of-in-len3-2-clause-some
 returns-in_ok-count_of-in-len3-2-clause-some c =
     let words = three_items c.args.words.now _ _ _ (omega arith) c.name-item-then-words-lt4.is c.workers-item.is c.budget-item.is in
-    let name = (bytes_eq-Decides c.as_str-then-words-lt4.result.now (codes "run")).0 (sym c.if-eq-3.ensures) in
+    let name = (bytes_eq-Decides c.as_str-then-words-lt4.result.now (codes "run")).0 (sym c.if-eq-4.ensures) in
     let workers = c.in_ok-count_of-in-len3.ensures.some in
     let budget = c.in_ok-count_of-in-len3-2.ensures.some in
     let spelled : texts c.args.words.now ≡ codes "run" ∷ decimal c.in_ok-count_of-in-len3.field-0 ∷ decimal c.in_ok-count_of-in-len3-2.field-0 ∷ [] = rw words cc in
@@ -28,11 +28,18 @@ returns-in-len1-2-clause-some c =
     let spelled : texts c.args.words.now ≡ codes "plan" ∷ [] = rw words cc in
     record { spelled = spelled; in_range = tt }
 
+pub returns-in-len1-3-clause-some : goal.returns-in-len1-3-clause-some
+returns-in-len1-3-clause-some c =
+    let words = one_item c.args.words.now _ (omega arith) c.name-item-then-words-lt2-2.is in
+    let name = (bytes_eq-Decides c.as_str-then-words-lt2-2.result.now (codes "emit")).0 (sym c.if-eq-3.ensures) in
+    let spelled : texts c.args.words.now ≡ codes "emit" ∷ [] = rw words cc in
+    record { spelled = spelled; in_range = tt }
+
 pub returns-in_ok-count_of-in-len3-2-2-clause-some :
     goal.returns-in_ok-count_of-in-len3-2-2-clause-some
 returns-in_ok-count_of-in-len3-2-2-clause-some c =
     let words = three_items c.args.words.now _ _ _ (omega arith) c.name-item-then-words-lt4-2.is c.seed-item.is c.size-item.is in
-    let name = (bytes_eq-Decides c.as_str-then-words-lt4-2.result.now (codes "gen")).0 (sym c.if-eq-4.ensures) in
+    let name = (bytes_eq-Decides c.as_str-then-words-lt4-2.result.now (codes "gen")).0 (sym c.if-eq-5.ensures) in
     let seed = c.in_ok-number_of-in-len3-2.ensures.some in
     let size = c.in_ok-count_of-in-len3-2-2.ensures.some in
     let spelled : texts c.args.words.now ≡ codes "gen" ∷ decimal c.in_ok-number_of-in-len3-2.field-0 ∷ decimal c.in_ok-count_of-in-len3-2-2.field-0 ∷ [] = rw words cc in

@@ -1,16 +1,16 @@
 use Rattle.std.proofs.Common.{rules}
 use Rattle.ca_app.proofs.AcceptedTyped.{accepted_is_checked}
-use Rattle.ca_app.proofs.Endings.{ends_refused, ends_program}
+use Rattle.ca_app.proofs.Endings.{ends_refused, ends_program, told_of_text}
 use Rattle.ca_app.proofs.serving.serve_text.Goals as goal
 
 pub returns-in-Err-Refused-clause-ends : goal.returns-in-Err-Refused-clause-ends
 returns-in-Err-Refused-clause-ends g c = ends_refused (rw c.in-Err-Refused.field-0-is at c.in-Err-Refused.ensures.cause) (rw c.in-Err-Refused.field-0-is at c.refuse.ensures.ends)
 
 pub returns-in-Ok-clause-ends : goal.returns-in-Ok-clause-ends
-returns-in-Ok-clause-ends g c = ends_program _ c.in-Ok.ensures.program c.serve_program.ensures.ends
+returns-in-Ok-clause-ends g c = ends_program _ _ c.in-Ok.ensures.program c.in-Ok.ensures.tree c.serve_program.ensures.ends
 
 pub returns-in-Ok-clause-told : goal.returns-in-Ok-clause-told
-returns-in-Ok-clause-told g c = λ tells is. record { program = _; accepted = c.in-Ok.ensures.program.accepted; told = c.serve_program.ensures.told tells is }
+returns-in-Ok-clause-told g c = λ tells is. told_of_text _ _ c.in-Ok.ensures.program c.in-Ok.ensures.tree (c.serve_program.ensures.told tells is)
 
 pub serve_program-requires : goal.serve_program-requires
 serve_program-requires g c = (search rules, (accepted_is_checked c.in-Ok.ensures.program.accepted, c.requires.reading))
