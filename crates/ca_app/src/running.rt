@@ -20,7 +20,7 @@ use ca_plan::plan;
 use ca_program::Program;
 use ca_run::OneWorker;
 use ca_serial::{Outcome, RunError, drive};
-use std::alloc::{AllocError, Global};
+use std::alloc::Global;
 use std::sync::Wait;
 use std::thread::Threads;
 
@@ -77,13 +77,13 @@ fn marks_of(alloc: Global, program: &Program) -> Result<Marks, Memory>
     ensures sound { IfOk result (SoundMarks (program_view program.now)) }
 {
     match plan(alloc, program) {
-        Ok(plan) => Ok(same_marks(alloc, plan.marks())?),
+        Ok(plan) => same_marks(alloc, plan.marks()),
         Err(wanting) => Err(wanting),
     }
 }
 
 /// The same marks once more.
-fn same_marks(alloc: Global, marks: &Marks) -> Result<Marks, AllocError>
+fn same_marks(alloc: Global, marks: &Marks) -> Result<Marks, Memory>
     ensures { IfOk result (λ copy. copy ≡ marks.now) }
 {
     Ok(Marks {
