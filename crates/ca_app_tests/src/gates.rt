@@ -52,7 +52,7 @@ fn one_worker_counts(rt: HostRuntime) -> Result<(), AllocError> {
     let gate = CountingGate::new();
     let (status, written) = Call::new("run 1 5", TWO_BINS).run_past(&rt, &gate)?;
     assert!(rt; status == 0);
-    assert!(rt; written.as_slice() == b"#0 Pair b=[#1,#2]\n#1 Bin n=1\n#2 Bin n=2\n");
+    assert!(rt; written.as_slice() == "#0 Pair b=[#1,#2]\n#1 Bin n=1\n#2 Bin n=2\n".as_bytes());
     assert!(rt; gate.counts() == (0, 1, 1, 0));
     Ok(())
 }
