@@ -7,6 +7,7 @@ use std::alloc::AllocError;
 use std::sync::atomic::{AtomicU64, Ordering};
 
 /// Counts how often worker 0 passes it with the objects 0, 1 and 2, and who passes it otherwise.
+#[derive(Drop)]
 struct CountingGate {
     zero: AtomicU64,
     one: AtomicU64,
