@@ -5,4 +5,5 @@ pub mod GeneratedRuns
 pub mod OneProgram
 pub mod OneRefusal
 pub mod OneReply
+mod PlannedMarks
 pub mod StatusLemmas

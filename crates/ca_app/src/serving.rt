@@ -1,13 +1,10 @@
 //! All that the program does.
 
-ghost use Rattle.std.specs.Prelude.{◌≡◌, ℕ, ◌≤◌, ◌⊎◌, true, false, List, length, Some, IfOk};
-ghost use Rattle.ca_base.specs.Devices.{Rose, Writes, at_end};
+ghost use Rattle.std.specs.Prelude.{◌≡◌, ℕ, ◌≤◌, ◌⊎◌, true, false, List, length, Some};
+ghost use Rattle.ca_base.specs.Devices.{Rose, at_end};
 ghost use Rattle.ca_tree.specs.View.{tree_view};
 ghost use Rattle.ca_program.specs.View.{program_view};
-ghost use Rattle.ca_meaning.specs.Output.{Reply, output, prints_text};
-ghost use Rattle.ca_meaning.specs.ProgramTyped.{ProgramTyped};
-ghost use Rattle.ca_meaning.specs.Serial.{serial};
-ghost use Rattle.ca_serial.specs.Runs.{run_with, prints_of, OnWrite};
+ghost use Rattle.ca_meaning.specs.Output.{Reply};
 ghost use Rattle.ca_words.specs.Words.{texts, reads};
 ghost use Rattle.ca_app.specs.Causes.{IsUsageFault, ReadsNothing, ReadsSource, IsRefused, RunEnds, PlanTold, Generates, IsDone, IsTrapped, IsSpent};
 ghost use Rattle.ca_app.specs.Ends.{Ends, EndsWith, SinkCause, Complete, IsReadToEnd, status_after};
@@ -17,15 +14,11 @@ ghost use Rattle.ca_app.specs.Told.{ProgramTold, CommandTold, tells_plan};
 ghost use Rattle.ca_plan.specs.Checked.{Checked};
 
 use crate::generating::serve_unread;
-use crate::lines::{write_spent, write_trap};
 use crate::reading::{NoProgram, Reading, read_program};
 use crate::refusals::Refusal;
+use crate::running::run_program;
 use crate::telling::tell_plan;
 use ca_base::{Failed, Gate, ReadError, Sink, Source, read_all, write_all};
-use ca_model::print_heap;
-use ca_parallel::Marks;
-use ca_program::Program;
-use ca_serial::{NoExtents, Outcome, RunError, drive};
 use ca_words::{Command, command_of, usage_line};
 use std::alloc::Global;
 use std::sync::Wait;
@@ -68,14 +61,13 @@ pub const PAST_LIMIT: u8 = 8;
 ///
 /// A command that reads its source reads the whole of it before anything is written.
 /// `NO_MEMORY` is want of memory, `READ_FAULT` a failed read, `WRITE_FAULT` a failed write; every
-/// other status is that of the reply. The gate is for the workers of a parallel run: so far nothing
-/// passes it.
+/// other status is that of the reply. A run passes the gate before each section that its engine runs.
 pub fn top<R: AllocGlobal + Threads + Wait + Sync, S: Source, K: Sink, G: Gate>(
     rt: &R,
     words: &[String],
     source: &mut S,
     sink: &mut K,
-    _gate: &G,
+    gate: &G,
 ) -> u8
     // Where the source tells its bytes: what was written is the reply of the words and the text,
     // or a beginning of it before memory was wanting or a device failed.
@@ -113,18 +105,19 @@ pub fn top<R: AllocGlobal + Threads + Wait + Sync, S: Source, K: Sink, G: Gate>(
         return finish(write_all(sink, usage_line()), USAGE);
     };
     if command.reads() {
-        return serve(rt, rt.alloc(), command, source, sink);
+        return serve(rt, rt.alloc(), command, source, sink, gate);
     }
     serve_unread(rt.alloc(), command, sink)
 }
 
 /// Serves a command that reads its source, on the text that the source has.
-fn serve<R: Threads + Wait + Sync, S: Source, K: Sink>(
+fn serve<R: Threads + Wait + Sync, S: Source, K: Sink, G: Gate>(
     rt: &R,
     alloc: Global,
     command: Command,
     source: &mut S,
     sink: &mut K,
+    gate: &G,
 ) -> u8
     requires { reads command ≡ true }
     ensures headline { (text : List ℕ) → S.left source.old ≡ Some text → EndsWith (CommandReplies command text) result (K.written sink.old) (K.written sink.new) }
@@ -137,7 +130,7 @@ fn serve<R: Threads + Wait + Sync, S: Source, K: Sink>(
     ensures no_usage { result ≡ USAGE → ⊥ }
 {
     match read_all(alloc, source, MOST_BYTES) {
-        Ok(text) => serve_text(rt, alloc, command, &text, sink),
+        Ok(text) => serve_text(rt, alloc, command, &text, sink, gate),
         Err(ReadError::Limit) => refuse(Refusal::OVERLONG, sink),
         Err(ReadError::Fault) => READ_FAULT,
         Err(ReadError::Memory) => NO_MEMORY,
@@ -145,12 +138,13 @@ fn serve<R: Threads + Wait + Sync, S: Source, K: Sink>(
 }
 
 /// Serves a command on a text.
-fn serve_text<R: Threads + Wait + Sync, K: Sink>(
+fn serve_text<R: Threads + Wait + Sync, K: Sink, G: Gate>(
     rt: &R,
     alloc: Global,
     command: Command,
     text: &[u8],
     sink: &mut K,
+    gate: &G,
 ) -> u8
     requires short { length text.now ≤ MOST_BYTES }
     requires reading { reads command ≡ true }
@@ -161,19 +155,20 @@ fn serve_text<R: Threads + Wait + Sync, K: Sink>(
     ensures no_usage { result ≡ USAGE → ⊥ }
 {
     match read_program(alloc, text) {
-        Ok(reading) => serve_program(rt, alloc, command, &reading, sink),
+        Ok(reading) => serve_program(rt, alloc, command, &reading, sink, gate),
         Err(NoProgram::Refused(refusal)) => refuse(refusal, sink),
         Err(NoProgram::Memory) => NO_MEMORY,
     }
 }
 
 /// Serves a command on the program that was read.
-fn serve_program<R: Threads + Wait + Sync, K: Sink>(
+fn serve_program<R: Threads + Wait + Sync, K: Sink, G: Gate>(
     rt: &R,
     alloc: Global,
     command: Command,
     reading: &Reading,
     sink: &mut K,
+    gate: &G,
 ) -> u8
     requires checked { Checked (program_view reading.now.program) }
     requires reading { reads command ≡ true }
@@ -184,7 +179,9 @@ fn serve_program<R: Threads + Wait + Sync, K: Sink>(
     ensures no_usage { result ≡ USAGE → ⊥ }
 {
     match command {
-        Command::Run { budget, .. } => run_program(rt, alloc, &reading.program, budget, sink),
+        Command::Run { budget, .. } => {
+            run_program(rt, alloc, &reading.program, budget, sink, gate)
+        }
         Command::Pairs | Command::Plan | Command::Emit => tell_plan(alloc, command, reading, sink),
         Command::Gen { .. } => unreachable!(),
     }
@@ -198,47 +195,6 @@ fn refuse<K: Sink>(refusal: Refusal, sink: &mut K) -> u8
     ensures no_usage { result ≡ USAGE → ⊥ }
 {
     finish(refusal.write(sink), refusal.status())
-}
-
-/// Runs a program. What it prints is written as it comes.
-fn run_program<R: Threads + Wait + Sync, K: Sink>(
-    rt: &R,
-    alloc: Global,
-    program: &Program,
-    budget: u32,
-    sink: &mut K,
-) -> u8
-    requires { ProgramTyped (program_view program.now) }
-    ensures ends { Ends (output (program_view program.now) budget) result (K.written sink.old) (K.written sink.new) }
-    ensures write_fault { SinkCause result (K.faults sink.old) (K.faults sink.new) }
-    ensures no_read_fault { result ≡ READ_FAULT → ⊥ }
-    ensures no_usage { result ≡ USAGE → ⊥ }
-{
-    match run_unmarked(rt, alloc, program, u64::from(budget), sink) {
-        Ok(Outcome::Done { heap, .. }) => finish(print_heap(program, &heap, sink), DONE),
-        Ok(Outcome::Trapped(trap)) => finish(write_trap(trap, sink), TRAPPED),
-        Ok(Outcome::Spent) => finish(write_spent(budget, sink), SPENT),
-        Err(RunError::Write) => WRITE_FAULT,
-        Err(RunError::Memory) => NO_MEMORY,
-    }
-}
-
-/// Runs a program of which nothing is marked.
-fn run_unmarked<R: Threads + Wait + Sync, K: Sink>(
-    rt: &R,
-    alloc: Global,
-    program: &Program,
-    budget: u64,
-    sink: &mut K,
-) -> Result<Outcome, RunError>
-    requires { ProgramTyped (program_view program.now) }
-    ensures outcome { IfOk result (λ outcome. serial (program_view program.now) budget ≡ run_with (prints_of (serial (program_view program.now) budget)) outcome) }
-    ensures prints { Writes (K.written sink.old) (K.written sink.new) result (prints_text (prints_of (serial (program_view program.now) budget))) }
-    ensures write { OnWrite result (Rose (K.faults sink.old) (K.faults sink.new)) }
-    ensures later { K.faults sink.old ≤ K.faults sink.new }
-{
-    let marks = Marks::none(alloc);
-    drive(rt, alloc, program, &marks, budget, &mut NoExtents, sink)
 }
 
 /// The status where the reply was written, and that of a failed write where one failed.

@@ -1,7 +1,7 @@
 //! Calls of `top` over devices in memory.
 
 use ca_app::top;
-use ca_base::{MemSink, MemSource, OpenGate};
+use ca_base::{Gate, MemSink, MemSource, OpenGate};
 use std::alloc::{AllocError, Global};
 use std::sync::Wait;
 use std::thread::Threads;
@@ -46,6 +46,15 @@ impl<'a> Call<'a> {
         self,
         rt: &R,
     ) -> Result<(u8, Vec<u8>), AllocError> {
+        self.run_past(rt, &OpenGate)
+    }
+
+    /// The same past a gate.
+    pub fn run_past<R: AllocGlobal + Threads + Wait + Sync, G: Gate>(
+        self,
+        rt: &R,
+        gate: &G,
+    ) -> Result<(u8, Vec<u8>), AllocError> {
         let text = Vec::from_slice(rt.alloc(), self.text)?;
         let mut source = MemSource::new(text, vec![in rt.alloc(); self.failing.0; 1]?);
         let failing_writes = vec![in rt.alloc(); self.failing.1; 1]?;
@@ -53,7 +62,7 @@ impl<'a> Call<'a> {
             return Err(AllocError);
         };
         let words = words(rt.alloc(), self.line)?;
-        let status = top(rt, &words, &mut source, &mut sink, &OpenGate);
+        let status = top(rt, &words, &mut source, &mut sink, gate);
         Ok((status, Vec::from_slice(rt.alloc(), sink.bytes())?))
     }
 

@@ -9,6 +9,8 @@ mod devices;
 #[cfg(test)]
 mod ends;
 #[cfg(test)]
+mod gates;
+#[cfg(test)]
 mod generated;
 #[cfg(test)]
 mod plans;

@@ -40,7 +40,7 @@ returns-in_default-clause-complete g c = λ text told unread unwritten.
     (λ seven. unwritten (after_seven _ _ c.write_all.result 2 _ c.write_all.ensures.cause c.finish.ensures (λ e. omega arith) seven))
 
 pub serve-requires : goal.serve-requires
-serve-requires g c = (search rules, sym c.reads.ensures ∙ c.if-reads.true)
+serve-requires g c = (search rules, (search rules, sym c.reads.ensures ∙ c.if-reads.true))
 
 pub returns-then-reads-clause-read_to_end : goal.returns-then-reads-clause-read_to_end
 returns-then-reads-clause-read_to_end g c = λ reads is. c.serve.ensures.read_to_end is

@@ -4,7 +4,7 @@ use Rattle.ca_meaning.specs.Serial.{serial, done, trapped, spent}
 use Rattle.ca_serial.specs.Runs.{prints_of}
 use Rattle.ca_app.specs.Ends.{no_memory, write_fault}
 use Rattle.ca_app.proofs.Endings.{begun_run, ends_run_written}
-use Rattle.ca_app.proofs.serving.run_program.Goals as goal
+use Rattle.ca_app.proofs.running.run_program.Goals as goal
 
 pub returns-in-Ok-Done-clause-ends : goal.returns-in-Ok-Done-clause-ends
 returns-in-Ok-Done-clause-ends g c =

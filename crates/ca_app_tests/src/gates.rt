@@ -1,0 +1,70 @@
+//! Who passes the gate of a run.
+
+use crate::calls::Call;
+use crate::sources::{GRAPH_HEAP, GRAPH_VISIT, TWO_BINS};
+use ca_base::Gate;
+use std::alloc::AllocError;
+use std::sync::atomic::{AtomicU64, Ordering};
+
+/// Counts how often worker 0 passes it with the objects 0, 1 and 2, and who passes it otherwise.
+#[derive(Drop)]
+struct CountingGate {
+    zero: AtomicU64,
+    one: AtomicU64,
+    two: AtomicU64,
+    others: AtomicU64,
+}
+
+impl CountingGate {
+    fn new() -> CountingGate {
+        CountingGate {
+            zero: AtomicU64::new(0),
+            one: AtomicU64::new(0),
+            two: AtomicU64::new(0),
+            others: AtomicU64::new(0),
+        }
+    }
+
+    fn counts(&self) -> (u64, u64, u64, u64) {
+        (
+            self.zero.load(Ordering::SeqCst),
+            self.one.load(Ordering::SeqCst),
+            self.two.load(Ordering::SeqCst),
+            self.others.load(Ordering::SeqCst),
+        )
+    }
+}
+
+impl Gate for CountingGate {
+    fn inside(&self, worker: u32, object: u32) {
+        let counter = match (worker, object) {
+            (0, 0) => &self.zero,
+            (0, 1) => &self.one,
+            (0, 2) => &self.two,
+            _ => &self.others,
+        };
+        counter.fetch_add(1, Ordering::SeqCst);
+    }
+}
+
+/// One worker runs the two calls of a marked loop, each past the gate.
+#[test]
+fn one_worker_counts(rt: HostRuntime) -> Result<(), AllocError> {
+    let gate = CountingGate::new();
+    let (status, written) = Call::new("run 1 5", TWO_BINS).run_past(&rt, &gate)?;
+    assert!(rt; status == 0);
+    assert!(rt; written.as_slice() == "#0 Pair b=[#1,#2]\n#1 Bin n=1\n#2 Bin n=2\n".as_bytes());
+    assert!(rt; gate.counts() == (0, 1, 1, 0));
+    Ok(())
+}
+
+/// One worker runs a marked call and the three that it leads to.
+#[test]
+fn one_worker_visits(rt: HostRuntime) -> Result<(), AllocError> {
+    let gate = CountingGate::new();
+    let (status, written) = Call::new("run 1 6", GRAPH_VISIT).run_past(&rt, &gate)?;
+    assert!(rt; status == 0);
+    assert!(rt; written.as_slice() == GRAPH_HEAP.as_bytes());
+    assert!(rt; gate.counts() == (2, 2, 0, 0));
+    Ok(())
+}
