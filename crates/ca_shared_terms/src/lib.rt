@@ -8,6 +8,7 @@
 mod errors;
 mod formed;
 mod light;
+mod same;
 mod starts;
 
 pub use crate::errors::ExecutionError;
