@@ -1,5 +1,8 @@
 //! Verdicts on pairs of operations of texts.
 
+ghost use Rattle.std.specs.Prelude.{◌<◌, length};
+
+use ca_base::Memory;
 use ca_extent::extent_of;
 use ca_program::{ClassId, FieldId, FunctionId, OpId, Program};
 use ca_section::Why;
@@ -188,21 +191,26 @@ fn without_forms(verdict: &Verdict) -> Told {
     }
 }
 
+/// What is said of two operations, in the extent of a root.
+fn said(alloc: Global, program: &Program, root: OpId, a: OpId, b: OpId) -> Result<Told, Memory>
+    requires first { a.0 < length program.now.ops.items }
+    requires second { b.0 < length program.now.ops.items }
+{
+    let roots = [root];
+    let extent = extent_of(alloc, program, roots.as_slice())?;
+    let verdict = verdict(alloc, program, &extent, a, b)?;
+    Ok(without_forms(&verdict))
+}
+
 /// What is said of two operations of a program, in the extent of a root.
 pub fn judged(alloc: Global, program: Program, root: u32, a: u32, b: u32) -> Result<Told, Fail> {
     if a as usize >= program.ops.len() || b as usize >= program.ops.len() {
         let_go(program);
         return Err(Fail::from("no such operation"));
     }
-    let roots = [OpId(root)];
-    let extent = extent_of(alloc, &program, roots.as_slice());
-    let verdict = match &extent {
-        Ok(extent) => verdict(alloc, &program, extent, OpId(a), OpId(b)),
-        Err(_) => Err(ca_base::Memory),
-    };
+    let told = said(alloc, &program, OpId(root), OpId(a), OpId(b));
     let_go(program);
-    let_go(extent);
-    Ok(without_forms(&verdict?))
+    Ok(told?)
 }
 
 #[test]
