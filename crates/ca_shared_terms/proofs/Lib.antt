@@ -1,2 +1,3 @@
 pub mod Heavier
 pub mod Comparisons
+mod Gathered

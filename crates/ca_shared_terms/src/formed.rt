@@ -4,12 +4,13 @@ ghost use Rattle.std.specs.Prelude.{◌≡◌, ◌≤◌, map, box_value, IfOk};
 ghost use Rattle.ca_forms.specs.Rules.{gathered};
 ghost use Rattle.ca_norm.specs.Terms.{shape, terms_of};
 ghost use Rattle.ca_norm.specs.Weights.{weight_of};
-ghost use Rattle.ca_norm.specs.Forms.{expand, norm, scalar_of};
+ghost use Rattle.ca_norm.specs.Forms.{expand, norm, scalar_of, pointer_of, array_of};
 
 use crate::light::{Arguments, LightTerm, Node};
+use ca_forms::array::Array;
 use ca_forms::parts::{both, longer, one_box};
-use ca_forms::polynomial::{Polynomial, Scalar};
-use ca_norm::gather::{polynomial_of, scalar_of};
+use ca_forms::polynomial::{Pointer, Polynomial, Scalar};
+use ca_norm::gather::{array_of, pointer_of, polynomial_of, scalar_of};
 use ca_norm::{Normal, NormalError, Term};
 use std::alloc::{AllocError, Global};
 
@@ -49,6 +50,22 @@ impl LightTerm {
     {
         let term = self.unshared(alloc)?;
         Ok(polynomial_of(alloc, &term)?)
+    }
+
+    /// The form of a pointer.
+    pub(crate) fn pointer(&self, alloc: Global) -> Result<Pointer, AllocError>
+        ensures { IfOk result (λ p. p ≡ pointer_of self.now) }
+    {
+        let term = self.unshared(alloc)?;
+        Ok(pointer_of(alloc, &term)?)
+    }
+
+    /// The form of an array.
+    pub(crate) fn array(&self, alloc: Global) -> Result<Array, AllocError>
+        ensures { IfOk result (λ a. a ≡ array_of self.now) }
+    {
+        let term = self.unshared(alloc)?;
+        Ok(array_of(alloc, &term)?)
     }
 
     /// The term with no part shared: of at most `MOST_WEIGHT` nodes. It recurses as deep as the term is, and each kind has

@@ -7,9 +7,12 @@
 
 mod errors;
 mod formed;
+mod kept;
 mod light;
+mod same;
 mod starts;
 
 pub use crate::errors::ExecutionError;
+pub use crate::kept::Conditions;
 pub use crate::light::LightTerm;
 pub use crate::starts::{FIELDS, fields_of, sort_of_slot, sort_of_type};

@@ -1,5 +1,8 @@
 //! Verdicts on pairs of operations of texts.
 
+ghost use Rattle.std.specs.Prelude.{◌<◌, length};
+
+use ca_base::Memory;
 use ca_extent::extent_of;
 use ca_program::{ClassId, FieldId, FunctionId, OpId, Program};
 use ca_section::Why;
@@ -52,7 +55,7 @@ const BRANCHES: &str =
     void both(long p, bool q) { t(p); s(q); } };
     int main() { }";
 
-const ROWS: [Row; 30] = [
+const ROWS: [Row; 31] = [
     Row(GRAPH, 0, (0, 0), Told::Field(1)),
     Row(GRAPH, 1, (1, 1), Told::Commutes),
     Row(SUMS, 3, (0, 0), Told::Commutes),
@@ -136,6 +139,17 @@ const ROWS: [Row; 30] = [
         (0, 1),
         Told::Commutes,
     ),
+    // So where the branches leave the same, how often the index is checked depends on the condition, which the other puts.
+    Row(
+        "class H { public: bool b; long a[3]; void m(long i, long x) { if (b) a[i] = a[i] + x; else a[i] += x; }
+        void s(bool q) { b = b || q; } void both(long i, long x, bool q) { m(i, x); s(q); } }; int main() { }",
+        2,
+        (0, 1),
+        Told::Demand(DemandKind::InRange(FieldId {
+            class: ClassId(0),
+            field: 1,
+        })),
+    ),
     // Offences of both stand before loops, and loops of both before what is too heavy.
     Row(
         "class I { public: long n; void m() { while (n < 1) n = 1; }
@@ -188,21 +202,28 @@ fn without_forms(verdict: &Verdict) -> Told {
     }
 }
 
+/// What is said of two operations, in the extent of a root.
+fn said(alloc: Global, program: &Program, root: OpId, a: OpId, b: OpId) -> Result<Told, Memory>
+    requires first { a.0 < length program.now.ops.items }
+    requires second { b.0 < length program.now.ops.items }
+{
+    let roots = [root];
+    let extent = extent_of(alloc, program, roots.as_slice())?;
+    let verdict = verdict(alloc, program, &extent, a, b)?;
+    let told = without_forms(&verdict);
+    let_go(verdict);
+    Ok(told)
+}
+
 /// What is said of two operations of a program, in the extent of a root.
 pub fn judged(alloc: Global, program: Program, root: u32, a: u32, b: u32) -> Result<Told, Fail> {
     if a as usize >= program.ops.len() || b as usize >= program.ops.len() {
         let_go(program);
         return Err(Fail::from("no such operation"));
     }
-    let roots = [OpId(root)];
-    let extent = extent_of(alloc, &program, roots.as_slice());
-    let verdict = match &extent {
-        Ok(extent) => verdict(alloc, &program, extent, OpId(a), OpId(b)),
-        Err(_) => Err(ca_base::Memory),
-    };
+    let told = said(alloc, &program, OpId(root), OpId(a), OpId(b));
     let_go(program);
-    let_go(extent);
-    Ok(without_forms(&verdict?))
+    Ok(told?)
 }
 
 #[test]

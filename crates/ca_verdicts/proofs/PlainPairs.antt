@@ -1,17 +1,16 @@
 -- The verdict on a plain pair is that it commutes.
-use Rattle.std.proofs.Common.{◌≡◌, ℕ, ◌+◌, List, [], ◌∷◌, ◌++◌, false, Result, Ok, Err, IfOk, None, refl, sym, ap, ap₂, ◌∙◌, arith}
+use Rattle.std.proofs.Common.{◌≡◌, ℕ, ◌+◌, List, ◌++◌, false, Result, Ok, Err, IfOk, sym, ap, ap₂, ◌∙◌, arith}
 use Rattle.std.specs.Prelude.{◌||◌, slice_get}
 use Rattle.std.specs.Option.{option_or}
 use Rattle.ca_program.specs.declared.program.FieldId.{FieldId}
 use Rattle.ca_program.specs.declared.program.OpId.{OpId}
 use Rattle.ca_program.specs.Plain.{PlainProgram}
-use Rattle.ca_sums.specs.Sums.{Sum, total}
+use Rattle.ca_sums.specs.Sums.{total}
 use Rattle.ca_sums.proofs.Algebra.{alike_eq, total_append}
-use Rattle.ca_forms.specs.Plain.{PlainMonomial}
 use Rattle.ca_forms.specs.Rules.{gathered}
 use Rattle.ca_forms.proofs.Gathered.{gathered_same}
 use Rattle.ca_symbolic.specs.States.{PlainDemand}
-use Rattle.ca_symbolic.specs.Runs.{demanded_by, executed}
+use Rattle.ca_symbolic.specs.Runs.{demanded_by}
 use Rattle.ca_plain_laws.specs.PlainPairs.{IsPlainPair}
 use Rattle.ca_plain_laws.proofs.Allowed.{plain_pairs_are_separable, plain_pairs_have_no_loops}
 use Rattle.ca_plain_laws.proofs.Weights.{plain_pairs_are_light}

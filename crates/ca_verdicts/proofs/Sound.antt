@@ -1,5 +1,5 @@
 -- Two operations that look the same in each environment commute, by the law of symbolic meaning.
-use Rattle.std.proofs.Common.{◌≡◌, ℕ, zero, suc, true, false, List, [], ◌∷◌, length, Option, Some, None, refl, sym, ap, ◌∙◌, subst}
+use Rattle.std.proofs.Common.{◌≡◌, ℕ, true, false, List, length, Option, Some, None, refl, sym, ap, ◌∙◌, subst}
 use Rattle.std.specs.Prelude.{slice_get, Contains}
 use Rattle.std.specs.Option.{option_or}
 use Rattle.ca_program.specs.declared.program.ClassId.{ClassId}
@@ -14,7 +14,7 @@ use Rattle.ca_model.specs.Typed.{IsOfClass, TypedHeap}
 use Rattle.ca_meaning.specs.Agree.{AgreesAt}
 use Rattle.ca_meaning.specs.Functions.{body_of}
 use Rattle.ca_meaning.specs.Multisets.{SameItems}
-use Rattle.ca_meaning.specs.ProgramTyped.{scope_of, ProgramTyped}
+use Rattle.ca_meaning.specs.ProgramTyped.{ProgramTyped}
 use Rattle.ca_meaning.specs.WellTyped.{ValuesTyped, CallTyped, IsMethodOf, parameters_of}
 use Rattle.ca_meaning.specs.Sections.{section}
 use Rattle.ca_meaning.specs.Commuting.{Commutes}
@@ -26,7 +26,6 @@ use Rattle.ca_parallel.specs.Separable.{Separable, AreSeparated}
 use Rattle.ca_norm.specs.Terms.{PlainTerm}
 use Rattle.ca_norm.specs.Terms as term
 use Rattle.ca_norm.specs.Environments.{Environment}
-use Rattle.ca_norm.specs.Meanings.{Valuation}
 use Rattle.ca_norm.proofs.Valuations.{valuation_in}
 use Rattle.ca_shared_terms.specs.Starts.{starts}
 use Rattle.ca_symbolic.specs.States.{first_locals}

@@ -1,6 +1,6 @@
 //! Both orders, compared.
 
-ghost use Rattle.std.specs.Prelude.{◌≡◌, ◌<◌, ◌^◌, ℕ, List, true, false, length, map, slice_get, None, Err, IsTrue, IfOk, OnOk, IfSome, IfNone};
+ghost use Rattle.std.specs.Prelude.{◌≡◌, ◌≢◌, ◌<◌, ◌^◌, ℕ, List, true, false, length, map, slice_get, None, Err, IsTrue, IfOk, OnOk, IfSome, IfNone};
 ghost use Rattle.ca_program.specs.View.{program_view};
 ghost use Rattle.ca_meaning.specs.WellTyped.{IsMethodOf};
 ghost use Rattle.ca_norm.specs.Forms.{norm};
@@ -22,10 +22,11 @@ use crate::key::Key;
 use crate::marks::{Marks, mark_groups};
 use crate::sums::{conditions_of, difference};
 use crate::verdicts::{Reason, Verdict};
+use ca_forms::parts::both;
 use ca_forms::polynomial::{Polynomial, Scalars};
 use ca_norm::{Normal, same};
 use ca_program::{ClassId, FieldId, FieldInfo, OpId, Program};
-use ca_shared_terms::LightTerm;
+use ca_shared_terms::{Conditions, LightTerm};
 use ca_symbolic::{Demands, Group, Side, SymState, SymbolicError, symbolic};
 use std::alloc::{AllocError, Global};
 use std::collections::{BTreeMap, BTreeSet};
@@ -66,6 +67,38 @@ pub fn run_order(
     Ok(Order { state, groups })
 }
 
+/// Two values, unless they are alike. It has a function of its own, so that no drop of a form is written out.
+#[inline(never)]
+fn unless<T: Drop>(alike: bool, one: T, other: T) -> Option<(T, T)>
+    ensures first { IfSome result (λ p. p.0 ≡ one) }
+    ensures second { IfSome result (λ p. p.1 ≡ other) }
+    ensures differ { IfSome result (λ _. alike ≡ false) }
+    ensures same { IfNone result (IsTrue alike) }
+{
+    if alike { None } else { Some((one, other)) }
+}
+
+/// The forms of two terms, where these differ. Of terms that are seen to be one no form is made.
+fn forms_apart(
+    alloc: Global,
+    conditions: &mut Conditions,
+    first: &LightTerm,
+    second: &LightTerm,
+) -> Result<Option<(Normal, Normal)>, AllocError>
+    ensures first { IfOk result (λ r. IfSome r (λ p. p.0 ≡ norm first.now)) }
+    ensures second { IfOk result (λ r. IfSome r (λ p. p.1 ≡ norm second.now)) }
+    ensures differ { IfOk result (λ r. IfSome r (λ p. p.0 ≢ p.1)) }
+    ensures same { IfOk result (λ r. IfNone r (norm first.now ≡ norm second.now)) }
+{
+    if first.is_same(second) {
+        return Ok(None);
+    }
+    let one = first.normal_under(alloc, conditions);
+    let (one, other) = both(one, second.normal_under(alloc, conditions))?;
+    let alike = same(&one, &other);
+    Ok(unless(alike, one, other))
+}
+
 /// The first field whose normal forms after the two orders differ.
 fn fields_differ(
     alloc: Global,
@@ -77,22 +110,25 @@ fn fields_differ(
     ensures differ { IfOk result (λ r. IfSome r (λ w. FieldsDiffer class (map norm first.now) (map norm second.now) w)) }
     ensures same { IfOk result (λ r. IfNone r (map norm first.now ≡ map norm second.now)) }
 {
+    let mut conditions = Conditions::new(alloc);
     for place in 0..first.len() {
-        let one = first[place].normal(alloc)?;
-        let other = second[place].normal(alloc)?;
-        if !same(&one, &other) {
-            let Ok(number) = u32::try_from(place) else {
-                return Err(AllocError);
-            };
-            let field = FieldId {
-                class,
-                field: number,
-            };
-            return Ok(Some(Reason::FieldDiffers {
-                field,
-                first: one,
-                second: other,
-            }));
+        let Ok(number) = u32::try_from(place) else {
+            return Err(AllocError);
+        };
+        let forms = forms_apart(alloc, &mut conditions, &first[place], &second[place])?;
+        match forms {
+            Some((one, other)) => {
+                let field = FieldId {
+                    class,
+                    field: number,
+                };
+                return Ok(Some(Reason::FieldDiffers {
+                    field,
+                    first: one,
+                    second: other,
+                }));
+            }
+            None => {}
         }
     }
     Ok(None)
