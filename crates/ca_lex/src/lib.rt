@@ -23,9 +23,8 @@ ghost use Rattle.ca_lex.specs.Places.{advance, start};
 ghost use Rattle.ca_lex.specs.Tokens.{Tokens};
 ghost use Rattle.ca_lex.specs.Faults.{LexFault, bad_byte, token_limit, wide_number};
 
-pub use bytes::line_len;
-pub use front::close_of;
-
+pub use crate::bytes::line_len;
+pub use crate::front::close_of;
 use crate::front::{Front, front_of};
 use crate::place::{START, place_behind};
 use ca_tree::{Place, Token};

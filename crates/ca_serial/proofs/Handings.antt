@@ -40,8 +40,8 @@ pub due_notes : (p : PlainProgram) (m : Machine) (ps : Past) (all : List Note) �
 due_notes p m ps all is =
     let call : Flow World = run_call (operations_of p) m.bodies.current.locals (call_of m) (world_of m ps) m.left in
     let g : Grows (world_of m ps) (runs_due p m ps) =
-          grows_go call _ _ (run_grows (operations_of p) (all_ops_grow p) m.bodies.current.locals (call_of m) (world_of m ps) m.left)
-            (λ ls x k l. from _ l (resume_grows p m.todo (drop (m.due.count + 1) m.values) m.bodies.current m.bodies.below x k)) (λ v x k l. grows l) in
+    grows_go call _ _ (run_grows (operations_of p) (all_ops_grow p) m.bodies.current.locals (call_of m) (world_of m ps) m.left)
+    (λ ls x k l. from _ l (resume_grows p m.todo (drop (m.due.count + 1) m.values) m.bodies.current m.bodies.below x k)) (λ v x k l. grows l) in
     let l : Later (world_of m ps) (world_after (runs_due p m ps)) = later_of g in
     record { rest = l.notes; whole = sym is ∙ l.noted }
 

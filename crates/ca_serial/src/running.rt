@@ -75,7 +75,16 @@ pub fn drive<R: Threads + Wait + Sync, E: Extents, K: Sink>(
     let Ok(mut machine) = Machine::new(alloc, program, heeds, budget) else {
         return Err(RunError::Memory);
     };
-    run_on(rt, alloc, program, heeds, budget, &mut machine, engine, sink)
+    run_on(
+        rt,
+        alloc,
+        program,
+        heeds,
+        budget,
+        &mut machine,
+        engine,
+        sink,
+    )
 }
 
 /// Runs a machine to its end, and takes its heap.

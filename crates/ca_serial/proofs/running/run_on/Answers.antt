@@ -131,8 +131,8 @@ returns-in_default-hand_on g c =
       write = tt;
       later = i.3;
       account = tt;
-      account_part = 
-        ⊎_elim (λ same. part_of p _ _ i.0.notes all (kept_of i.5 same) (notes_are p c.loop.machine.todo c.loop.machine i.0 all i.4))
+      account_part =
+          ⊎_elim (λ same. part_of p _ _ i.0.notes all (kept_of i.5 same) (notes_are p c.loop.machine.todo c.loop.machine i.0 all i.4))
           (λ st. part_of p _ _ (and_note i.0 n).notes all (by_one n i.5 st) (due_notes p m (and_note i.0 n) all ns)) c.in_default-hand_on.ensures.account_kept;
     }
 
@@ -169,4 +169,3 @@ loop-preserved g c =
     let is : ended c.args.budget (rest_of p w.todo w (and_note i.0 n)) ≡ serial p c.args.budget = ap (ended c.args.budget) (sym h) ∙ ap (ended c.args.budget) (sym e) ∙ rw c.in-Some-pop.ensures at i.1 in
     let ns : (world_after (rest_of p w.todo w (and_note i.0 n))).notes ≡ all = ap (λ f. (world_after f).notes) (sym h) ∙ ap (λ f. (world_after f).notes) (sym e) ∙ rw c.in-Some-pop.ensures at i.4 in
     (and_note i.0 n, is, i.2, i.3, ns, by_one n i.5 c.in-Ok-hand_on.ensures.account)
-
