@@ -10,7 +10,7 @@ use Rattle.ca_program.specs.declared.program.OpId.{OpId}
 use Rattle.ca_program.specs.Plain.{PlainProgram, Statement}
 use Rattle.ca_parallel.specs.Bodies.{calls_of}
 use Rattle.ca_parallel.specs.Extents.{Extent, IsExtentOf, operation_body}
-use Rattle.ca_parallel.specs.Lists.{op_in}
+use Rattle.ca_parallel.specs.Lists.{PlainMarks, op_in}
 use Rattle.ca_parallel.specs.Marks.{loops_of_program, HasSite, SoundMarks}
 use Rattle.ca_symbolic.specs.OtherLoops.{is_call_loop}
 use Rattle.ca_lock_laws.specs.Events.{Event, locks, unlocks}
@@ -19,6 +19,8 @@ use Rattle.ca_lock_laws.specs.Guarded.{Begins, a_call, a_loop, parallel_guards}
 use Rattle.ca_lock_laws.specs.Guarded as locked
 use Rattle.ca_lock_laws.proofs.Kept.{parallel_keeps}
 use Rattle.ca_canonical.specs.declared.marks.Mark.TheVariants.{Lock, Unlock}
+use Rattle.ca_canonical.specs.Annotated.{annotated}
+use Rattle.ca_canonical.specs.Texts.{text_of_pieces}
 use Rattle.ca_plan.specs.Checked.{Checked}
 use Rattle.ca_plan.specs.Plans.{Judged, JudgedLoop, PlainPlan, PlanOf, op_at, call_loops_of}
 use Rattle.ca_plan.specs.Texts.{loop_in}

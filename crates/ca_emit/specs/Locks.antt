@@ -1,6 +1,6 @@
 -- The lock discipline of an annotated text: which of its marks tell of a lock, and that its bodies keep it; and that the text
 -- marks each call and each loop that runs in parallel.
-use Rattle.std.specs.Prelude.{ℕ, ◌≡◌, true, false, List, [], ◌∷◌, flat_map, Option, Some, None, slice_get}
+use Rattle.std.specs.Prelude.{ℕ, ◌≡◌, Bool, true, false, List, [], ◌∷◌, flat_map, Option, Some, None, slice_get}
 use Rattle.ca_tree.specs.declared.name.Place.{Place}
 use Rattle.ca_tree.specs.Plain as tree
 use Rattle.ca_tree.specs.Plain.{MethodTree, TextTree}
