@@ -4,3 +4,4 @@ pub mod Discipline
 pub mod Guarded
 pub mod Resolves
 pub mod Sites
+pub mod Courses

@@ -1,21 +1,22 @@
 //! The laws of locks, and of calls and loops that are paired.
 
-ghost use Rattle.std.specs.Prelude.{List};
+ghost use Rattle.std.specs.Prelude.{◌≡◌, List, []};
 ghost use Rattle.ca_tree.specs.Plain as tree;
 ghost use Rattle.ca_tree.specs.Plain.{TextTree};
 ghost use Rattle.ca_program.specs.declared.program.FieldId.{FieldId};
 ghost use Rattle.ca_program.specs.declared.program.OpId.{OpId};
-ghost use Rattle.ca_program.specs.Plain.{PlainProgram};
+ghost use Rattle.ca_program.specs.Plain.{PlainProgram, Statements};
 ghost use Rattle.ca_meaning.specs.ProgramTyped.{ProgramTyped};
 ghost use Rattle.ca_parallel.specs.Extents.{operation_body};
 ghost use Rattle.ca_parallel.specs.Lists.{PlainMarks};
 ghost use Rattle.ca_parallel.specs.Marks.{SoundMarks};
 ghost use Rattle.ca_parallel.specs.Separable.{Separable};
 ghost use Rattle.ca_lock_laws.specs.Events.{Event};
-ghost use Rattle.ca_lock_laws.specs.Paths.{Through};
+ghost use Rattle.ca_lock_laws.specs.Paths.{Paths, Through, Way};
 ghost use Rattle.ca_lock_laws.specs.Discipline.{Disciplined};
 ghost use Rattle.ca_lock_laws.specs.Guarded.{KeepsLock, parallel_guards};
-ghost use Rattle.ca_lock_laws.specs.Resolves.{ProgramResolves};
+ghost use Rattle.ca_lock_laws.specs.Resolves.{AllResolve, ProgramResolves};
+ghost use Rattle.ca_lock_laws.specs.Courses.{AllHeadsStand, Courses, unmarked};
 ghost use Rattle.ca_lock_laws.specs.Sites.{ProgramSites};
 
 /// Each path through a separable operation with the marks of a parallel one keeps the lock discipline.
@@ -31,4 +32,10 @@ pub fn parallel_bodies_keep_the_lock()
 /// A program that stands for a tree has the tree's calls and loops, on the same lines in the order of the text, body by body.
 pub fn calls_and_loops_are_paired()
     ensures { (t : TextTree) (p : PlainProgram) → ProgramResolves t p → ProgramSites t p }
+{}
+
+/// Whatever course a body may take as its program has it, with whatever marks before its statements, is a path through its
+/// text: no path is left out that the discipline would speak of.
+pub fn no_path_is_left_out()
+    ensures { (before : tree.Statement → List Event) → ((s : tree.Statement) → unmarked (before s) ≡ []) → (ss : tree.Statements) (xs : Statements) → AllResolve ss xs → AllHeadsStand ss → (es : List Event) (w : Way) → Courses xs es w → (fs : List Event) × Paths before ss xs fs w × (unmarked fs ≡ es) }
 {}
