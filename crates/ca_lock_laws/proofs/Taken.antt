@@ -141,7 +141,7 @@ module _ (before : tree.Statement → List Event) (marks : (s : tree.Statement) 
           events = evaluated c ++ ((before s ++ t.events) ++ (step ++ more.events));
           path = turn t.path more.path;
           same = two (evaluated c) ((before s ++ t.events) ++ (step ++ more.events)) (evaluated c) (es ++ (step ++ fs)) (plain c)
-          (two (before s ++ t.events) (step ++ more.events) es (step ++ fs) (behind_marks s t.events es t.same) (two step more.events step fs p more.same));
+              (two (before s ++ t.events) (step ++ more.events) es (step ++ fs) (behind_marks s t.events es t.same) (two step more.events step fs p more.same));
         }
     rounds {s} {x} {c} {step} r h p (last_round {es} d) =
         let t = course r h d in
