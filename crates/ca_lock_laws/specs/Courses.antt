@@ -1,6 +1,8 @@
 -- The courses that a body may take, as its program has it and without marks; and of which texts each is a path.
 use Rattle.std.specs.Prelude.{ℕ, List, [], ◌∷◌, ◌++◌}
+use Rattle.std.specs.List.{AllByRecursion}
 use Rattle.ca_tree.specs.Plain as tree
+use Rattle.ca_tree.specs.Plain.{MethodTree, TextTree}
 use Rattle.ca_tree.specs.declared.tree.AssignOp.{AssignOp}
 use Rattle.ca_program.specs.declared.program.ClassId.{ClassId}
 use Rattle.ca_program.specs.declared.program.FieldId.{FieldId}
@@ -10,6 +12,7 @@ use Rattle.ca_program.specs.declared.program.LoopId.{LoopId}
 use Rattle.ca_program.specs.declared.program.OpId.{OpId}
 use Rattle.ca_program.specs.Plain as program
 use Rattle.ca_lock_laws.specs.Events.{Event, locks, unlocks, spawns, accesses, evaluates, calls, evaluated, happens}
+use Rattle.ca_lock_laws.specs.Resolves.{operations_of}
 use Rattle.ca_lock_laws.specs.Paths.{Way, goes_on, returns}
 
 mutual
@@ -77,3 +80,11 @@ abbrev mutual
   pub AllHeadsStand : tree.Statements → Type 0
   AllHeadsStand tree.no_statements = Unit {0}
   AllHeadsStand (tree.statement_and s ss) = HeadsStand s × AllHeadsStand ss
+
+abbrev pub BodyHeadsStand : MethodTree → Type 0
+BodyHeadsStand m = AllHeadsStand m.body
+
+-- in operations and in `main`
+pub record TreeHeadsStand (t : TextTree) : Type 0 where
+  pub operations : AllByRecursion BodyHeadsStand (operations_of t.classes)
+  pub main : AllHeadsStand t.main

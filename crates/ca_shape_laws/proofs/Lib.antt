@@ -1,2 +1,3 @@
 mod Holding
 pub mod Shapes
+pub mod Heads

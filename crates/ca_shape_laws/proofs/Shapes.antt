@@ -1,18 +1,16 @@
 -- Whatever a statement, a body, a class or a tree resolves to has its shape.
 use Rattle.std.proofs.Common.{◌≡◌, ℕ, List, [], ◌∷◌, ◌++◌, length, refl, sym, subst}
-use Rattle.std.specs.Prelude.{Option, Some, None, is_some, pos}
+use Rattle.std.specs.Prelude.{Option, Some, None, is_some}
 use Rattle.ca_tree.specs.declared.name.Place.{Place}
 use Rattle.ca_tree.specs.declared.tree.TypeNode.{TypeNode}
 use Rattle.ca_tree.specs.declared.tree.AssignOp.{AssignOp}
 use Rattle.ca_tree.specs.declared.tree.AssignOp.TheVariants.{Put}
-use Rattle.ca_tree.specs.Plain as tree
 use Rattle.ca_tree.specs.Plain.{Expression, RightSide, Statement, Statements, empty, block, local, assign, call_statement, if_only, if_else, while_loop, for_loop, return_value, print_value, no_statements, statement_and, MethodTree, MemberTree, ClassTree, TextTree, field_member, method_member}
-use Rattle.ca_program.specs.declared.program.OpId.{OpId}
 use Rattle.ca_program.specs.declared.program.ValueType.{ValueType}
 use Rattle.ca_program.specs.Plain as program
 use Rattle.ca_program.specs.Plain.{PlainMethod, PlainProgram}
-use Rattle.ca_resolve.specs.Judged.{Violation, Judged, fine, both, within, unless, beside, each}
-use Rattle.ca_resolve.specs.Scopes.{Target, to_local, to_field, to_item, Ty, Invocation, ty_of, find_local, classes_of}
+use Rattle.ca_resolve.specs.Judged.{Judged, fine, both, within, unless, beside, each}
+use Rattle.ca_resolve.specs.Scopes.{Target, to_local, to_field, to_item, Ty, ty_of, find_local, classes_of}
 use Rattle.ca_resolve.specs.Values.{place_of, in_order, judge_call}
 use Rattle.ca_types.specs.Rules.{local_once, called_operation, creates_nothing, prints_nothing, return_stands, local_limit, loop_limit, class_limit, class_once, member_once, ends_with_return}
 use Rattle.ca_types.specs.Statements.{Env, enter_block, leave_block, counted, behind, behind_all, judge_type, Source, of_value, of_new, creates, judge_wanted, judge_right, put, judge_put_target, right_ty, judge_assign, judge_start, start_creates, judge_local, judge_call_statement, judge_condition, judge_return, judge_printed, judge_print, nothing, first_part, statements_in, judge_statement, judge_each, judge_statements}
