@@ -2,6 +2,6 @@ mod Picking
 mod Found
 mod Placing
 mod Emitted
-mod OneText
+pub mod OneText
 mod Locked
 mod Marked
