@@ -4,11 +4,11 @@ ghost use Rattle.std.specs.Prelude.{◌≡◌, [], length};
 ghost use Rattle.ca_program.specs.View.{program_view};
 ghost use Rattle.ca_logs.specs.Legal.{LegalCell};
 ghost use Rattle.ca_cells.specs.Seats.{IsOf, IsSameSeat, cells_key};
-ghost use Rattle.ca_cell_tests.specs.Counters.{IsSet, counters, starts};
+ghost use Rattle.ca_counters.specs.Counters.{IsSet, counters, starts};
 
-use crate::counters::{heap, let_go, program, twice};
 use ca_base::{Memory, OpenGate};
 use ca_cells::{Added, Applied, Cells, Seat, add};
+use ca_counters::{heap, let_go, program, twice};
 use ca_extent::extent_of;
 use ca_logs::{CellLog, Stop};
 use ca_model::Heap;

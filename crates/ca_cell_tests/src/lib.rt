@@ -1,11 +1,9 @@
 //! Tests of cells: each call where there is ample memory, and four threads that share ten objects.
 //!
 //! What the calls answer is proved where they stand. The tests have a crate of their own so that the cells are proved
-//! once. `counters` makes a program whose objects count, and a heap of them.
+//! once.
 #![tactic(auto)]
 
-#[cfg(test)]
-mod counters;
 #[cfg(test)]
 mod histories;
 #[cfg(test)]

@@ -8,8 +8,8 @@ use Rattle.ca_meaning.specs.ProgramTyped.{ProgramTyped}
 use Rattle.ca_logs.specs.declared.log.Task.{Task}
 use Rattle.ca_logs.specs.Entries.{call_of}
 use Rattle.ca_logs.specs.Legal.{LegalCell}
-use Rattle.ca_cell_tests.specs.Counters.{counters, starts}
-use Rattle.ca_cell_tests.proofs.Counting.{counters_typed, starts_typed, twice_typed}
+use Rattle.ca_counters.specs.Counters.{counters, starts}
+use Rattle.ca_counters.proofs.Counting.{counters_typed, starts_typed, twice_typed}
 use Rattle.ca_cell_tests.proofs.histories.add_twice.Goals as goal
 
 pub add-requires-clause-program : goal.add-requires-clause-program

@@ -5,13 +5,22 @@ use Rattle.ca_meaning.specs.ProgramTyped.{ProgramTyped}
 use Rattle.ca_parallel.specs.Extents.{Extent, root}
 use Rattle.ca_cells.specs.Seats.{IsOf}
 use Rattle.ca_cells.specs.declared.cells.Seat.{Seat}
-use Rattle.ca_cell_tests.specs.Counters.{twice}
-use Rattle.ca_cell_tests.proofs.Counting.{counters_typed}
+use Rattle.ca_model.specs.declared.value.Object.{Object}
+use Rattle.ca_model.specs.Typed.{TypedHeap}
+use Rattle.ca_order_laws.specs.Order.{StandsFor}
+use Rattle.ca_counters.specs.Counters.{counters, twice}
+use Rattle.ca_counters.proofs.Counting.{counters_typed, starts_typed, stands}
 use Rattle.ca_cell_tests.proofs.SameSeats.{Same, same_again, still_of, all_still, last_noted, last_holds}
 use Rattle.ca_cell_tests.proofs.histories.closes.Goals as goal
 
 pub make-requires-clause-program : goal.make-requires-clause-program
 make-requires-clause-program g c = subst (λ (p : PlainProgram). ProgramTyped p) (sym c.requires) counters_typed
+
+pub make-requires-clause-frozen : goal.make-requires-clause-frozen
+make-requires-clause-frozen g c = subst (λ (p : PlainProgram). TypedHeap p c.in_ok-heap.heap) (sym c.requires) (subst (TypedHeap counters) (sym c.in_ok-heap.ensures) (starts_typed 1))
+
+pub make-requires-clause-now : goal.make-requires-clause-now
+make-requires-clause-now g c = subst (λ (p : PlainProgram). StandsFor p c.in_ok-extent.extent c.in_ok-heap.heap c.in_ok-heap.heap) (sym c.requires) (subst (λ (h : List Object). StandsFor counters c.in_ok-extent.extent h h) (sym c.in_ok-heap.ensures) (stands c.in_ok-extent.extent 1))
 
 pub apply_twice-first-requires-clause-set : goal.apply_twice-first-requires-clause-set
 apply_twice-first-requires-clause-set g c = let k = c.in_ok-cells.ensures.key in
