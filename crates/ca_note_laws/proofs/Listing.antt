@@ -63,7 +63,7 @@ module _ (p : PlainProgram) where
   serial_self : (this : Datum) (line : ℕ) (ls : List Datum) (w : World) (s : Statement) (k : ℕ) → NearFlow k (exec (serial_parts p this) line ls w s k) (exec (serial_parts p this) line ls w s k)
   serial_self this line ls w s k = exec_near k _ _ (operation_agree k p (operations_of p) (operations_of p) (ops_self k) this) s line ls w k (le_self k)
 
-  list_self : (is : List Invocation) (w : World) (k : ℕ) → NearFlow k (serial_ops p is w k) (serial_ops p is w k)
+  pub list_self : (is : List Invocation) (w : World) (k : ℕ) → NearFlow k (serial_ops p is w k) (serial_ops p is w k)
   list_self [] w k = flow_go [] w k
   list_self (i ∷ is) w k = flow_on _ _ (run_near k (operations_of p) (operations_of p) (ops_self k) [] i w k (le_self k)) (λ ls w j le. list_self is w j)
 
