@@ -22,15 +22,16 @@ use Rattle.ca_meaning.specs.Flows.{Flow, goes_on, gives_back, stops, runs_out, w
 use Rattle.ca_meaning.specs.Functions.{place, body_of, locals_of, value_of_body, function_parts, functions_of, value_in, values_in}
 use Rattle.ca_meaning.specs.Serial.{World, Operations, came_back, run_call, operations_of}
 use Rattle.ca_meaning.proofs.Fix.{call_runs}
-use Rattle.ca_parallel.specs.Lists.{op_in, note, noted, either, noted_call, noted_of, marked_parts}
-use Rattle.ca_parallel.proofs.Noted.{noted_invoke_runs}
+use Rattle.ca_parallel.specs.Lists.{op_in, note, noted, either, noted_call}
+use Rattle.ca_note_laws.proofs.Listing.{listing_invoke_runs}
+use Rattle.ca_note_laws.specs.Listing.{listing_of}
 use Rattle.ca_serial.specs.declared.bodies.Mode.TheVariants.{InOperation}
 use Rattle.ca_serial.specs.declared.work.Target.{Target}
 use Rattle.ca_serial.specs.declared.work.Target.TheVariants.{Function, Operation}
 use Rattle.ca_serial.specs.declared.work.Work.{Work}
 use Rattle.ca_serial.specs.declared.work.Work.TheVariants.{Seq, Leave}
-use Rattle.ca_serial.specs.Bodies.{Body, with_locals, handed_by}
-use Rattle.ca_serial.specs.Resume.{carried, runs, pop, taken, go_on, called, collected, resume, target_method, target_mode, others_in, marks_of, Unheeded}
+use Rattle.ca_serial.specs.Bodies.{Body, with_locals, marks_of}
+use Rattle.ca_serial.specs.Resume.{carried, runs, pop, taken, go_on, called, collected, resume, target_method, target_mode, others_in, Unheeded, heeding_parts}
 use Rattle.ca_serial.proofs.Flows.{with_then, with_same, go_on_with}
 
 -- the values that are taken from a stack
@@ -59,7 +60,7 @@ not_called p (Function m) line Null xs vs f w k go absent = refl
 not_called p (Operation m) line Null xs vs f w k go absent = refl
 
 -- no step is left for a call
-pub call_runs_out : (p : PlainProgram) (t : Target) (line n : ℕ) (xs vs : List Datum) (f : Body) (w : World) (k : ℕ) (go : List Datum → World → ℕ → Flow World) → Unheeded t (handed_by f) → k ≡ 0 → called p t line (Ref n) xs vs f w k go ≡ runs_out w
+pub call_runs_out : (p : PlainProgram) (t : Target) (line n : ℕ) (xs vs : List Datum) (f : Body) (w : World) (k : ℕ) (go : List Datum → World → ℕ → Flow World) → Unheeded t (marks_of f).ops → k ≡ 0 → called p t line (Ref n) xs vs f w k go ≡ runs_out w
 call_runs_out p (Function m) line n xs vs f w k go off none = rw none refl
 call_runs_out p (Operation m) line n xs vs f w k go off none = rw (none, off) refl
 
@@ -81,12 +82,12 @@ came_same (runs_out w) f go back = refl
 call_same : (o : Operations) (i : Invocation) (f : Body) (w : World) (k : ℕ) (go : Body → World → ℕ → Flow World) (back : Datum → World → ℕ → Flow World) → go_on (run_call o f.locals i w k) (λ ls w k. go (with_locals f ls) w k) back ≡ go_on (run_call o f.locals i w k) (λ ls w k. go f w k) (λ v w k. runs_out w)
 call_same o i f w k go back = go_on_with (take_step k) w _ _ back ∙ with_same (take_step k) w _ _ (λ u k. came_same (o.invoke i w k) f go back) ∙ sym (go_on_with (take_step k) w _ _ _)
 
-noted_same : (p : PlainProgram) (i : Invocation) (f : Body) (w : World) (k : ℕ) (go : Body → World → ℕ → Flow World) (back : Datum → World → ℕ → Flow World) → go_on (noted_call (marks_of f) (operations_of p) (noted_of p (marks_of f)) f.locals i w k) (λ ls w k. go (with_locals f ls) w k) back ≡ go_on (noted_call (marks_of f) (operations_of p) (noted_of p (marks_of f)) f.locals i w k) (λ ls w k. go f w k) (λ v w k. runs_out w)
-noted_same p i f w k go back = from (op_in (handed_by f) i.op)
+noted_same : (p : PlainProgram) (i : Invocation) (f : Body) (w : World) (k : ℕ) (go : Body → World → ℕ → Flow World) (back : Datum → World → ℕ → Flow World) → go_on (noted_call (marks_of f) (operations_of p) (listing_of p (marks_of f)) f.locals i w k) (λ ls w k. go (with_locals f ls) w k) back ≡ go_on (noted_call (marks_of f) (operations_of p) (listing_of p (marks_of f)) f.locals i w k) (λ ls w k. go f w k) (λ v w k. runs_out w)
+noted_same p i f w k go back = from (op_in (marks_of f).ops i.op)
   where
-    from : (b : Bool) → go_on (either b (run_call (operations_of p) f.locals i (noted w (note w.heap (i ∷ []) k)) k) (run_call (noted_of p (marks_of f)) f.locals i w k)) (λ ls w k. go (with_locals f ls) w k) back ≡ go_on (either b (run_call (operations_of p) f.locals i (noted w (note w.heap (i ∷ []) k)) k) (run_call (noted_of p (marks_of f)) f.locals i w k)) (λ ls w k. go f w k) (λ v w k. runs_out w)
+    from : (b : Bool) → go_on (either b (run_call (operations_of p) f.locals i (noted w (note w.heap (i ∷ []) k)) k) (run_call (listing_of p (marks_of f)) f.locals i w k)) (λ ls w k. go (with_locals f ls) w k) back ≡ go_on (either b (run_call (operations_of p) f.locals i (noted w (note w.heap (i ∷ []) k)) k) (run_call (listing_of p (marks_of f)) f.locals i w k)) (λ ls w k. go f w k) (λ v w k. runs_out w)
     from true = call_same (operations_of p) i f (noted w (note w.heap (i ∷ []) k)) k go back
-    from false = call_same (noted_of p (marks_of f)) i f w k go back
+    from false = call_same (listing_of p (marks_of f)) i f w k go back
 
 -- a call of an operation is its receiver, and then its arguments
 pub invoke_is : (p : PlainProgram) (f : Body) (w : World) (line own : ℕ) (e : Expression) (op : OpId) (arguments : Expressions) (k : ℕ) (go : Body → World → ℕ → Flow World) (back : Datum → World → ℕ → Flow World) → go_on (runs p InOperation f w line (invoke own e op arguments) k) (λ ls w k. go (with_locals f ls) w k) back ≡ with (value_in p.functions w.heap f.this line f.locals e k) w (λ v k. with (values_in p.functions w.heap f.this line f.locals arguments k) w (λ xs k. called p (Operation op) line v xs [] f w k (λ vs w k. go f w k)))
@@ -137,7 +138,7 @@ locals_are None args = append-nil args
 locals_are (Some m) args = refl
 
 -- a call takes a step, and goes on with its body
-pub begun : (p : PlainProgram) (t : Target) (line n : ℕ) (args vs : List Datum) (f : Body) (below : List Body) (todo : List Work) (w : World) (k : ℕ) (ss : Bor (List Stmt)) (others : List ValueType) → Unheeded t (handed_by f) → 0 < k → statements_view ss.now ≡ body_of (target_method p t) → others ≡ others_in (target_method p t) → called p t line (Ref n) args vs f w k (λ vs w k. resume p todo vs f below w k) ≡ resume p (Seq ss ∷ Leave ∷ todo) vs record { this = Ref n; locals = args ++ map start_of others; mode = target_mode t; marked = f.marked; heeds = f.heeds } (f ∷ below) w (k - 1)
+pub begun : (p : PlainProgram) (t : Target) (line n : ℕ) (args vs : List Datum) (f : Body) (below : List Body) (todo : List Work) (w : World) (k : ℕ) (ss : Bor (List Stmt)) (others : List ValueType) → Unheeded t (marks_of f).ops → 0 < k → statements_view ss.now ≡ body_of (target_method p t) → others ≡ others_in (target_method p t) → called p t line (Ref n) args vs f w k (λ vs w k. resume p todo vs f below w k) ≡ resume p (Seq ss ∷ Leave ∷ todo) vs record { this = Ref n; locals = args ++ map start_of others; mode = target_mode t; marked = f.marked; heeds = f.heeds } (f ∷ below) w (k - 1)
 begun p t line n args vs f below todo w zero ss others off lt is others_are = absurd (omega arith)
 begun p (Function m) line n args vs f below todo w (suc k) ss others off lt is others_are =
     let one : suc k - 1 ≡ k = omega arith in
@@ -145,8 +146,8 @@ begun p (Function m) line n args vs f below todo w (suc k) ss others off lt is o
     (fn_result (exec_all (function_parts (functions_of p.functions w.heap) w.heap (Ref n)) (locals_of (slice_get p.functions m.0) args) tt (body_of (slice_get p.functions m.0)) k) w vs (λ vs w k. resume p todo vs f below w k))
 begun p (Operation m) line n args vs f below todo w (suc k) ss others off lt is others_are =
     let one : suc k - 1 ≡ k = omega arith in
-    rw (one, off, is, others_are, locals_are (slice_get p.ops m.0) args, noted_invoke_runs p (marks_of f) (invocation n m args) w k)
-    (op_result (exec_all (marked_parts p (marks_of f) (Ref n)) (locals_of (slice_get p.ops m.0) args) w (body_of (slice_get p.ops m.0)) k) f.locals vs (λ vs w k. resume p todo vs f below w k))
+    rw (one, off, is, others_are, locals_are (slice_get p.ops m.0) args, listing_invoke_runs p (marks_of f) (invocation n m args) w k)
+    (op_result (exec_all (heeding_parts p (marks_of f) (Ref n)) (locals_of (slice_get p.ops m.0) args) w (body_of (slice_get p.ops m.0)) k) f.locals vs (λ vs w k. resume p todo vs f below w k))
 
 -- a value method's call in memory
 pub call_is : (e : Expr) (b : Box Expr Global) (m : FunctionId) (arguments : Vec Expr Global) → e ≡ Value b m arguments → expression_view e ≡ value_call (expression_view b.value) m (expressions_view arguments.items)

@@ -10,4 +10,8 @@ pub mod Items
 pub mod Stacks
 pub mod AtOnce
 pub mod Flagged
+pub mod Unmarked
+pub mod LoopCalls
+pub mod Locals
+pub mod Quietness
 pub mod Tellings

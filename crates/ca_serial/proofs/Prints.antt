@@ -1,5 +1,5 @@
 -- Prints and notes only grow: whatever is done, those that there were before stay the first.
-use Rattle.std.proofs.Common.{◌≡◌, ℕ, zero, suc, List, [], ◌∷◌, ◌++◌, refl, ap, sym, ◌∙◌, append_assoc, append-nil, drop}
+use Rattle.std.proofs.Common.{◌≡◌, ℕ, zero, suc, ◌-◌, List, [], ◌∷◌, ◌++◌, refl, ap, sym, ◌∙◌, append_assoc, append-nil, drop}
 use Rattle.std.specs.Prelude.{Bool, true, false, slice_get}
 use Rattle.ca_program.specs.declared.program.OpId.{OpId}
 use Rattle.ca_program.specs.declared.program.Expr.{Expr}
@@ -12,19 +12,20 @@ use Rattle.ca_meaning.specs.Operators.{operated}
 use Rattle.ca_meaning.specs.Expressions.{Out, gives, traps, over, ◌>>=◌, one_in, slot_of, pointed, answer, decided, unless_decided, take_step, Invocation, invocation, due}
 use Rattle.ca_meaning.specs.Flows.{Flow, goes_on, gives_back, stops, runs_out, and_on, with, choose, Parts, line_of, turn_of, exec, exec_all, turn}
 use Rattle.ca_meaning.specs.Functions.{body_of, locals_of, place, functions_of, value_in, values_in}
-use Rattle.ca_meaning.specs.Sections.{LoopSectioned, loop_done, loop_stopped, loop_over, loop_section}
-use Rattle.ca_parallel.specs.Lists.{PlainMarks, op_in, loop_in, note, noted, either, noted_call, loop_noted, noted_parts, noted_operations, noted_of, marked_parts, world_after}
-use Rattle.ca_meaning.specs.Serial.{Note, World, came_back, run_call, own_item_at, room_for, operation_act, operation_parts, Operations, operations, operations_of}
+use Rattle.ca_meaning.specs.Sections.{LoopOutcome, LoopSectioned, loop_done, loop_stopped, loop_over, loop_section}
+use Rattle.ca_parallel.specs.Lists.{PlainMarks, op_in, loop_in, note, noted, either, noted_call, world_after}
+use Rattle.ca_note_laws.specs.Listing.{puts_nothing, behind_list, with_list, by_section, listing_parts, listing_operations, listing_of}
+use Rattle.ca_meaning.specs.Serial.{Note, World, came_back, run_call, own_item_at, room_for, operation_act, operation_parts, Operations, operations, operations_of, serial_parts, serial_ops}
 use Rattle.ca_serial.specs.declared.bodies.Mode.{Mode}
 use Rattle.ca_serial.specs.declared.bodies.Mode.TheVariants.{InFunction, InOperation}
 use Rattle.ca_serial.specs.declared.work.Target.{Target}
 use Rattle.ca_serial.specs.declared.work.Target.TheVariants.{Function, Operation}
 use Rattle.ca_serial.specs.declared.work.Work.{Work}
-use Rattle.ca_serial.specs.declared.work.Work.TheVariants.{Evaluate, Take, Collect, Exec, Seq, Again, Leave, Back}
+use Rattle.ca_serial.specs.declared.work.Work.TheVariants.{Evaluate, Take, Collect, Exec, Seq, Again, Leave, Back, Heed}
 use Rattle.ca_serial.specs.declared.work.Taker.{Taker}
 use Rattle.ca_serial.specs.declared.work.Taker.TheVariants.{ReadField, CheckObject, ReadItem, Sign, CheckLeft, Apply, PutLocal, PutField, CheckIndex, PutItem, NewItem, Print, Choose, Turn, GiveBack}
-use Rattle.ca_serial.specs.Bodies.{Body, with_locals}
-use Rattle.ca_serial.specs.Resume.{carried, runs, runs_all, comes_again, runs_body, turns, pop, taken, back_in, go_on, by_mode, called, collected, value_of, found_again, used, resume, unwind, marks_of}
+use Rattle.ca_serial.specs.Bodies.{Body, with_locals, marks_of}
+use Rattle.ca_serial.specs.Resume.{carried, runs, runs_all, comes_again, runs_body, turns, pop, taken, back_in, go_on, by_mode, called, collected, value_of, found_again, used, resume, unwind, heeding_parts}
 
 -- what was printed and noted in w stands at the front of what was printed and noted in x
 pub record Later (w x : World) : Type 0 where
@@ -197,38 +198,56 @@ noted_grows p ms q o gq go ls i w k = at (op_in ms.ops i.op)
     at true = from _ (one_note w _) (run_grows q gq ls i _ k)
     at false = run_grows o go ls i w k
 
-section_later : (w : World) (k : ℕ) (m : LoopSectioned) → Later w (loop_noted w k m)
-section_later w k (loop_done m) = one_note w _
-section_later w k (loop_stopped t) = stays w
-section_later w k loop_over = stays w
+list_grows : (p : PlainProgram) (is : List Invocation) (w : World) (k : ℕ) → Grows w (serial_ops p is w k)
+list_grows p [] w k = grows (stays w)
+list_grows p (i ∷ is) w k = grows_on (run_call (operations_of p) [] i w k) _ (run_grows (operations_of p) (all_ops_grow p) [] i w k) (λ ls x k l. from _ l (list_grows p is x k))
 
-noted_parts_grow : (p : PlainProgram) (ms : PlainMarks) (q o : Operations) → GrowingOps q → GrowingOps o → (this : Datum) → Growing (noted_parts p ms q o this)
-noted_parts_grow p ms q o gq go this = record {
+behind_grows : {w : World} (ls : List Datum) (a b : Flow World) → Grows w a → Grows w b → Grows w (behind_list ls a b)
+behind_grows ls (goes_on xs x k) b (grows l) h = grows l
+behind_grows ls (gives_back v x k) b g h = h
+behind_grows ls (stops t x) b g h = h
+behind_grows ls (runs_out x) b g h = h
+
+alone_grows : (p : PlainProgram) (this : Datum) (s : Statement) (line : ℕ) (ls : List Datum) (w : World) (k : ℕ) → Grows w (exec (serial_parts p this) line ls w s k)
+alone_grows p this s line ls w k = exec_grows (serial_parts p this) (parts_grow p (operations_of p) (all_ops_grow p) this) s line ls w k
+
+-- a loop that was listed lets its note stand first
+pub listed_grows : (p : PlainProgram) (this : Datum) (line : ℕ) (ls : List Datum) (w : World) (s : Statement) (k : ℕ) (m : LoopOutcome) → Grows (with_list w k m) (by_section p this line ls w s k (loop_done m))
+listed_grows p this line ls w s k m = behind_grows m.locals (serial_ops p m.listed (with_list w k m) (k - m.steps)) _ (list_grows p m.listed (with_list w k m) (k - m.steps)) (alone_grows p this s line ls (with_list w k m) k)
+
+section_grows : (p : PlainProgram) (this : Datum) (line : ℕ) (ls : List Datum) (w : World) (s : Statement) (k : ℕ) (o : LoopSectioned) → Grows w (by_section p this line ls w s k o)
+section_grows p this line ls w s k (loop_done m) = from _ (one_note w _) (listed_grows p this line ls w s k m)
+section_grows p this line ls w s k (loop_stopped t) = alone_grows p this s line ls w k
+section_grows p this line ls w s k loop_over = alone_grows p this s line ls w k
+
+listing_parts_grow : (p : PlainProgram) (ms : PlainMarks) (o : Operations) → GrowingOps o → (this : Datum) → Growing (listing_parts p ms o this)
+listing_parts_grow p ms o go this = record {
   acts = act_grows p this;
-  calls = λ line ls w e op arguments k. grows_with (due (functions_of p.functions w.heap).call (place w.heap this line ls) e op arguments k) _ (stays w) (λ i k. noted_grows p ms q o gq go ls i w k);
+  calls = λ line ls w e op arguments k. grows_with (due (functions_of p.functions w.heap).call (place w.heap this line ls) e op arguments k) _ (stays w) (λ i k. noted_grows p ms (operations_of p) o (all_ops_grow p) go ls i w k);
   agains = go.agains this;
-  begins = λ line ls w s k plain g. at line ls w s k plain g (loop_in ms.loops s);
+  begins = λ line ls w s k plain g. at line ls w s k plain g (loop_in ms.loops s) (puts_nothing s);
 }
   where
-    at : (line : ℕ) (ls : List Datum) (w : World) (s : Statement) (k : ℕ) (plain : Flow World) → Grows w plain → (b : Bool) → Grows w (either b (exec (operation_parts p q this) line ls (loop_noted w k (loop_section p w.heap this ls line s k)) s k) plain)
-    at line ls w s k plain g true = from _ (section_later w k _) (exec_grows (operation_parts p q this) (parts_grow p q gq this) s line ls _ k)
-    at line ls w s k plain g false = g
+    at : (line : ℕ) (ls : List Datum) (w : World) (s : Statement) (k : ℕ) (plain : Flow World) → Grows w plain → (a b : Bool) → Grows w (either a (either b (by_section p this line ls w s k (loop_section p w.heap this ls line s k)) (exec (serial_parts p this) line ls w s k)) plain)
+    at line ls w s k plain g true true = section_grows p this line ls w s k (loop_section p w.heap this ls line s k)
+    at line ls w s k plain g true false = alone_grows p this s line ls w k
+    at line ls w s k plain g false b = g
 
-noted_ops_grow : (n : ℕ) (p : PlainProgram) (ms : PlainMarks) → GrowingOps (noted_operations n p ms)
-noted_ops_grow zero p ms = record { invokes = λ i w k. grows (stays w); agains = λ this line ls w s k. grows (stays w) }
-noted_ops_grow (suc n) p ms = record {
-  invokes = λ i w k. all_grow (noted_parts p ms (operations n p) (noted_operations n p ms) (Ref i.receiver)) (noted_parts_grow p ms _ _ (ops_grow n p) (noted_ops_grow n p ms) (Ref i.receiver)) (body_of (slice_get p.ops i.op.0)) (locals_of (slice_get p.ops i.op.0) i.arguments) w k;
-  agains = λ this line ls w s k. loop_grows (noted_parts p ms (operations n p) (noted_operations n p ms) this) (noted_parts_grow p ms _ _ (ops_grow n p) (noted_ops_grow n p ms) this) s line ls w k;
+listing_ops_grow : (n : ℕ) (p : PlainProgram) (ms : PlainMarks) → GrowingOps (listing_operations n p ms)
+listing_ops_grow zero p ms = record { invokes = λ i w k. grows (stays w); agains = λ this line ls w s k. grows (stays w) }
+listing_ops_grow (suc n) p ms = record {
+  invokes = λ i w k. all_grow (listing_parts p ms (listing_operations n p ms) (Ref i.receiver)) (listing_parts_grow p ms _ (listing_ops_grow n p ms) (Ref i.receiver)) (body_of (slice_get p.ops i.op.0)) (locals_of (slice_get p.ops i.op.0) i.arguments) w k;
+  agains = λ this line ls w s k. loop_grows (listing_parts p ms (listing_operations n p ms) this) (listing_parts_grow p ms _ (listing_ops_grow n p ms) this) s line ls w k;
 }
 
-all_noted_grow : (p : PlainProgram) (ms : PlainMarks) → GrowingOps (noted_of p ms)
-all_noted_grow p ms = record {
-  invokes = λ i w k. let g : GrowingOps (noted_operations (suc k) p ms) = noted_ops_grow (suc k) p ms in g.invokes i w k;
-  agains = λ this line ls w s k. let g : GrowingOps (noted_operations (suc k) p ms) = noted_ops_grow (suc k) p ms in g.agains this line ls w s k;
+all_listing_grow : (p : PlainProgram) (ms : PlainMarks) → GrowingOps (listing_of p ms)
+all_listing_grow p ms = record {
+  invokes = λ i w k. let g : GrowingOps (listing_operations (suc k) p ms) = listing_ops_grow (suc k) p ms in g.invokes i w k;
+  agains = λ this line ls w s k. let g : GrowingOps (listing_operations (suc k) p ms) = listing_ops_grow (suc k) p ms in g.agains this line ls w s k;
 }
 
-marked_grows : (p : PlainProgram) (ms : PlainMarks) (this : Datum) → Growing (marked_parts p ms this)
-marked_grows p ms this = noted_parts_grow p ms (operations_of p) (noted_of p ms) (all_ops_grow p) (all_noted_grow p ms) this
+heeding_grows : (p : PlainProgram) (ms : PlainMarks) (this : Datum) → Growing (heeding_parts p ms this)
+heeding_grows p ms this = listing_parts_grow p ms (listing_of p ms) (all_listing_grow p ms) this
 
 -- Work
 
@@ -240,15 +259,15 @@ carried_grows w (runs_out s) = grows (stays w)
 
 runs_grow : (p : PlainProgram) (m : Mode) (f : Body) (w : World) (line : ℕ) (s : Statement) (k : ℕ) → Grows w (runs p m f w line s k)
 runs_grow p InFunction f w line s k = carried_grows w _
-runs_grow p InOperation f w line s k = exec_grows (marked_parts p (marks_of f) f.this) (marked_grows p (marks_of f) f.this) s line f.locals w k
+runs_grow p InOperation f w line s k = exec_grows (heeding_parts p (marks_of f) f.this) (heeding_grows p (marks_of f) f.this) s line f.locals w k
 
 runs_all_grow : (p : PlainProgram) (m : Mode) (f : Body) (w : World) (ss : Statements) (k : ℕ) → Grows w (runs_all p m f w ss k)
 runs_all_grow p InFunction f w ss k = carried_grows w _
-runs_all_grow p InOperation f w ss k = all_grow (marked_parts p (marks_of f) f.this) (marked_grows p (marks_of f) f.this) ss f.locals w k
+runs_all_grow p InOperation f w ss k = all_grow (heeding_parts p (marks_of f) f.this) (heeding_grows p (marks_of f) f.this) ss f.locals w k
 
 again_grows : (p : PlainProgram) (m : Mode) (f : Body) (w : World) (line : ℕ) (s : Statement) (k : ℕ) → Grows w (comes_again p m f w line s k)
 again_grows p InFunction f w line s k = carried_grows w _
-again_grows p InOperation f w line s k = (all_noted_grow p (marks_of f)).agains f.this line f.locals w s k
+again_grows p InOperation f w line s k = (all_listing_grow p (marks_of f)).agains f.this line f.locals w s k
 
 body_grows : (p : PlainProgram) (m : Mode) (f : Body) (w : World) (line : ℕ) (s : Statement) (k : ℕ) → Grows w (runs_body p m f w line s k)
 body_grows p m f w line (while_loop own c b) k = runs_grow p m f w (line_of b) b k
@@ -291,7 +310,7 @@ grows_back : {w : World} (below : List Body) (f : Body → List Body → Flow Wo
 grows_back {w} [] f h = grows (stays w)
 grows_back (g ∷ below) f h = h g below
 
-grows_mode : {w : World} (m : Mode) (a : Flow World) → Grows w a → Grows w (by_mode m a (runs_out w))
+pub grows_mode : {w : World} (m : Mode) (a : Flow World) → Grows w a → Grows w (by_mode m a (runs_out w))
 grows_mode InFunction a g = g
 grows_mode {w} InOperation a g = grows (stays w)
 
@@ -299,7 +318,7 @@ called_grows : (p : PlainProgram) (t : Target) (line : ℕ) (v : Datum) (xs vs :
 called_grows p (Function m) line v xs vs f w k go h =
     grows_with (pointed line v k >>= λ n k. take_step k >>= λ _ k. (functions_of p.functions w.heap).call m n xs k) _ (stays w) (λ v k. h (v ∷ vs) w k)
 called_grows p (Operation m) line v xs vs f w k go h =
-    grows_with (pointed line v k) _ (stays w) (λ n k. grows_go (noted_call (marks_of f) (operations_of p) (noted_of p (marks_of f)) f.locals (invocation n m xs) w k) _ _ (noted_grows p (marks_of f) (operations_of p) (noted_of p (marks_of f)) (all_ops_grow p) (all_noted_grow p (marks_of f)) f.locals (invocation n m xs) w k) (λ ls x k l. from _ l (h vs x k)) (λ v x k l. grows l))
+    grows_with (pointed line v k) _ (stays w) (λ n k. grows_go (noted_call (marks_of f) (operations_of p) (listing_of p (marks_of f)) f.locals (invocation n m xs) w k) _ _ (noted_grows p (marks_of f) (operations_of p) (listing_of p (marks_of f)) (all_ops_grow p) (all_listing_grow p (marks_of f)) f.locals (invocation n m xs) w k) (λ ls x k l. from _ l (h vs x k)) (λ v x k l. grows l))
 
 collected_grows : (p : PlainProgram) (line : ℕ) (t : Target) (arguments : List Expr) (n : ℕ) (vs : List Datum) (f : Body) (w : World) (k : ℕ) (go : List Datum → World → ℕ → Flow World) → ((vs : List Datum) (x : World) (k : ℕ) → Grows x (go vs x k)) → Grows w (collected p line t arguments n vs f w k go)
 collected_grows p line t arguments n vs f w k go h =
@@ -346,6 +365,7 @@ mutual
   resume_grows p (Again line loop ∷ todo) vs f below w k =
       grows_go (comes_again p f.mode f w line (statement_view loop.now) k) _ _ (again_grows p f.mode f w line (statement_view loop.now) k) (λ ls x k l. from _ l (resume_grows p todo vs _ below x k)) (λ v x k l. from _ l (grows_mode f.mode _ (unwind_grows p todo vs below x k v)))
   resume_grows p (Leave ∷ todo) vs f below w k = grows_back below _ (λ g below. resume_grows p todo _ g below w k)
+  resume_grows p (Heed ∷ todo) vs f below w k = resume_grows p todo vs _ below w k
   resume_grows p (Back ∷ todo) vs f below w k = grows_pop vs _ (λ v vs. grows_back below _ (λ g below. resume_grows p todo (v ∷ vs) g below w k))
 
   unwind_grows : (p : PlainProgram) (todo : List Work) (vs : List Datum) (below : List Body) (w : World) (k : ℕ) (v : Datum) → Grows w (unwind p todo vs below w k v)
@@ -358,3 +378,4 @@ mutual
   unwind_grows p (Seq ss ∷ todo) vs below w k v = unwind_grows p todo vs below w k v
   unwind_grows p (Again line loop ∷ todo) vs below w k v = unwind_grows p todo vs below w k v
   unwind_grows p (Back ∷ todo) vs below w k v = unwind_grows p todo vs below w k v
+  unwind_grows p (Heed ∷ todo) vs below w k v = unwind_grows p todo vs below w k v

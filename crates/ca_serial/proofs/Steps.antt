@@ -19,12 +19,11 @@ use Rattle.ca_meaning.specs.Flows.{Flow, goes_on, and_on, with, choose, line_of,
 use Rattle.ca_meaning.specs.Functions.{value_in}
 use Rattle.ca_meaning.specs.Serial.{World}
 use Rattle.ca_meaning.proofs.Fix.{again_runs}
-use Rattle.ca_parallel.specs.Lists.{marked_parts}
-use Rattle.ca_parallel.proofs.Noted.{noted_loop_runs}
+use Rattle.ca_note_laws.proofs.Listing.{listing_loop_runs}
 use Rattle.ca_serial.specs.declared.bodies.Mode.{Mode}
 use Rattle.ca_serial.specs.declared.bodies.Mode.TheVariants.{InFunction, InOperation}
-use Rattle.ca_serial.specs.Bodies.{Body, with_locals}
-use Rattle.ca_serial.specs.Resume.{carried, parts_in, runs, runs_all, comes_again, runs_body, turns, go_on, marks_of}
+use Rattle.ca_serial.specs.Bodies.{Body, with_locals, marks_of}
+use Rattle.ca_serial.specs.Resume.{carried, parts_in, runs, runs_all, comes_again, runs_body, turns, go_on, heeding_parts}
 use Rattle.ca_serial.proofs.Flows.{go_on_and_on, go_on_same, go_on_with, and_on_same, carried_on, carried_with, carried_choose}
 
 -- the line of a statement's view is its line
@@ -67,7 +66,7 @@ while_runs p f w line own c b k go back = rw (turn_is p f.mode f w line own c b 
 -- a `while` that comes again begins anew
 again_while : (p : PlainProgram) (m : Mode) (f : Body) (w : World) (line own : ℕ) (c : Expression) (b : Statement) (k : ℕ) → comes_again p m f w line (while_loop own c b) k ≡ runs p m f w line (while_loop own c b) k
 again_while p InFunction f w line own c b k = ap (carried w) (again_runs p.functions w.heap f.this line f.locals (while_loop own c b) k)
-again_while p InOperation f w line own c b k = noted_loop_runs p (marks_of f) f.this line f.locals w (while_loop own c b) k
+again_while p InOperation f w line own c b k = listing_loop_runs p (marks_of f) f.this line f.locals w (while_loop own c b) k
 
 pub while_again : (p : PlainProgram) (f : Body) (w : World) (line own : ℕ) (c : Expression) (b : Statement) (k : ℕ) (go : List Datum → World → ℕ → Flow World) (back : Datum → World → ℕ → Flow World) → go_on (comes_again p f.mode f w line (while_loop own c b) k) go back ≡ with (value_in p.functions w.heap f.this line f.locals c k) w (λ v k. go_on (turns p f.mode f w line (while_loop own c b) k v) go back)
 while_again p f w line own c b k go back = rw (again_while p f.mode f w line own c b k) (while_runs p f w line own c b k go back)
@@ -80,7 +79,7 @@ again_for p InFunction f w line own site part first c next b k =
     carried_choose w v _ _ ∙ ap (λ a. choose v a (goes_on f.locals w k)) (carried_with w (take_step k) _ _ (λ _ k.
     carried_on w (and_on (exec (parts_in p w f) (line_of b) f.locals tt b k) (λ ls s k. exec (parts_in p w f) line ls s next k)) _ _ (λ ls k. refl)
     ∙ ap (λ a. and_on a (λ ls w k. comes_again p InFunction (with_locals f ls) w line (for_loop own site part first c next b) k)) (carried_on w (exec (parts_in p w f) (line_of b) f.locals tt b k) _ _ (λ ls k. refl)))))
-again_for p InOperation f w line own site part first c next b k = noted_loop_runs p (marks_of f) f.this line f.locals w (for_loop own site part first c next b) k
+again_for p InOperation f w line own site part first c next b k = listing_loop_runs p (marks_of f) f.this line f.locals w (for_loop own site part first c next b) k
 
 pub for_again : (p : PlainProgram) (f : Body) (w : World) (line own : ℕ) (site : LoopId) (part : FirstPart) (first : Statement) (c : Expression) (next b : Statement) (k : ℕ) (go : List Datum → World → ℕ → Flow World) (back : Datum → World → ℕ → Flow World) → go_on (comes_again p f.mode f w line (for_loop own site part first c next b) k) go back ≡ with (value_in p.functions w.heap f.this line f.locals c k) w (λ v k. go_on (turns p f.mode f w line (for_loop own site part first c next b) k v) go back)
 for_again p f w line own site part first c next b k go back = rw (again_for p f.mode f w line own site part first c next b k) (go_on_with (value_in p.functions w.heap f.this line f.locals c k) w _ go back)
@@ -90,7 +89,7 @@ for_is : (p : PlainProgram) (m : Mode) (f : Body) (w : World) (line own : ℕ) (
 for_is p InFunction f w line own site part first c next b k =
     carried_on w (exec (parts_in p w f) line f.locals tt first k) _ _ (λ ls k. ap (carried w) (sym (again_runs p.functions w.heap f.this line ls (for_loop own site part first c next b) k)))
 for_is p InOperation f w line own site part first c next b k =
-    and_on_same (exec (marked_parts p (marks_of f) f.this) line f.locals w first k) _ _ (λ ls w k. sym (noted_loop_runs p (marks_of f) f.this line ls w (for_loop own site part first c next b) k))
+    and_on_same (exec (heeding_parts p (marks_of f) f.this) line f.locals w first k) _ _ (λ ls w k. sym (listing_loop_runs p (marks_of f) f.this line ls w (for_loop own site part first c next b) k))
 
 pub for_runs : (p : PlainProgram) (f : Body) (w : World) (line own : ℕ) (site : LoopId) (part : FirstPart) (first : Statement) (c : Expression) (next b : Statement) (k : ℕ) (go : List Datum → World → ℕ → Flow World) (back : Datum → World → ℕ → Flow World) → go_on (runs p f.mode f w line (for_loop own site part first c next b) k) go back ≡ go_on (runs p f.mode f w line first k) (λ ls w k. go_on (comes_again p f.mode (with_locals f ls) w line (for_loop own site part first c next b) k) go back) back
 for_runs p f w line own site part first c next b k go back = rw (for_is p f.mode f w line own site part first c next b k) (go_on_and_on (runs p f.mode f w line first k) _ go back)

@@ -6,7 +6,6 @@ use Rattle.std.specs.declared.vec.Vec.{Vec}
 use Rattle.std.specs.declared.boxed.Box.{Box}
 use Rattle.ca_program.proofs.Rows.{block_is}
 use Rattle.ca_program.specs.declared.program.Expr.{Expr}
-use Rattle.ca_program.specs.declared.program.OpId.{OpId}
 use Rattle.ca_program.specs.declared.program.Stmt.{Stmt}
 use Rattle.ca_program.specs.declared.program.StmtForm.{Block, If, Return}
 use Rattle.ca_program.specs.declared.program.ValueType.{ValueType}
@@ -22,6 +21,7 @@ use Rattle.ca_meaning.specs.Serial.{World}
 use Rattle.ca_direct.specs.declared.scene.Scene.{Scene}
 use Rattle.ca_direct.specs.Direct.{direct, seen}
 use Rattle.ca_direct.proofs.Steady.{direct_is}
+use Rattle.ca_parallel.specs.Lists.{PlainMarks}
 use Rattle.ca_serial.specs.declared.bodies.Mode.{Mode}
 use Rattle.ca_serial.specs.declared.bodies.Mode.TheVariants.{InFunction, InOperation}
 use Rattle.ca_serial.specs.declared.machine.Machine.{Machine}
@@ -93,12 +93,12 @@ first_passes s x xs zs is shown owns ms k =
 -- The body that a machine is to enter
 
 -- what a scene tells, it tells of the body with its receiver and its locals
-pub told_in : (m : Machine) (s : Scene) (f : Body) (marked : List OpId) (heeds : Bool) (ss : List Stmt) (o : Answer) → s.heap.now ≡ m.heap → OwnsSlots s → f ≡ record { this = s.this; locals = s.locals.now; mode = InFunction; marked = marked; heeds = heeds } → Tells s (statements_view ss) o → Told m f (statements_view ss) o
+pub told_in : (m : Machine) (s : Scene) (f : Body) (marked : PlainMarks) (heeds : Bool) (ss : List Stmt) (o : Answer) → s.heap.now ≡ m.heap → OwnsSlots s → f ≡ record { this = s.this; locals = s.locals.now; mode = InFunction; marked = marked; heeds = heeds } → Tells s (statements_view ss) o → Told m f (statements_view ss) o
 told_in m s f marked heeds ss (Gives v) heap owns is tells = rw (is, ← heap) (refl, λ p ps k. ap (carried (record { heap = s.heap.now; prints = ps.prints; notes = ps.notes })) (tells owns p.functions k))
 told_in m s f marked heeds ss (Rest ys) heap owns is tells = rw (is, ← heap) (λ p ps k. ap (carried (record { heap = s.heap.now; prints = ps.prints; notes = ps.notes })) (tells owns p.functions k))
 
 -- of the body that a call is to enter, where it has no other locals than its arguments
-pub told_of : (m : Machine) (s : Scene) (marked : List OpId) (heeds : Bool) (n : ℕ) (v : Datum) (args rest below : List Datum) (others : List ValueType) (ss : List Stmt) (o : Answer) → s.heap.now ≡ m.heap → OwnsSlots s → drop n m.values ≡ s.this ∷ below → s.locals.now ≡ reverse (take n m.values) → others ≡ [] → drop n m.values ≡ v ∷ rest → args ≡ reverse (take n m.values) → Tells s (statements_view ss) o → Told m (record { this = v; locals = args ++ map start_of others; mode = InFunction; marked = marked; heeds = heeds }) (statements_view ss) o
+pub told_of : (m : Machine) (s : Scene) (marked : PlainMarks) (heeds : Bool) (n : ℕ) (v : Datum) (args rest below : List Datum) (others : List ValueType) (ss : List Stmt) (o : Answer) → s.heap.now ≡ m.heap → OwnsSlots s → drop n m.values ≡ s.this ∷ below → s.locals.now ≡ reverse (take n m.values) → others ≡ [] → drop n m.values ≡ v ∷ rest → args ≡ reverse (take n m.values) → Tells s (statements_view ss) o → Told m (record { this = v; locals = args ++ map start_of others; mode = InFunction; marked = marked; heeds = heeds }) (statements_view ss) o
 told_of m s marked heeds n v args rest below others ss o heap owns here locals none there are tells =
     let first : s.this ∷ below ≡ v ∷ rest = sym here ∙ there in
     let this : v ≡ s.this = cc in

@@ -4,3 +4,4 @@ pub mod Extents
 pub mod Marked
 pub mod Resume
 pub mod Runs
+pub mod Loops

@@ -16,13 +16,15 @@ use Rattle.ca_meaning.specs.Expressions.{Out, gives, traps, trap_at, ◌>>=◌, 
 use Rattle.ca_meaning.specs.Flows.{Flow, goes_on, gives_back, stops, runs_out, and_on, with, choose, Parts, line_of, exec, exec_all}
 use Rattle.ca_meaning.specs.Functions.{own_of, function_parts, functions_of, value_in, values_in}
 use Rattle.ca_meaning.specs.Serial.{Note, World, in_heap, printed, put_own, room_for, own_value, own_item_at, run_call, operations_of}
-use Rattle.ca_parallel.specs.Lists.{PlainMarks, op_in, note, noted_call, noted_of, marked_parts}
+use Rattle.ca_parallel.specs.Lists.{PlainMarks, op_in, loop_in, note, noted_call, loop_noted}
+use Rattle.ca_meaning.specs.Sections.{LoopSectioned, loop_section}
+use Rattle.ca_note_laws.specs.Listing.{puts_nothing, listing_parts, listing_of}
 use Rattle.ca_serial.specs.declared.bodies.Mode.{Mode}
 use Rattle.ca_serial.specs.declared.bodies.Mode.TheVariants.{InFunction, InOperation}
 use Rattle.ca_serial.specs.declared.work.Target.{Target}
 use Rattle.ca_serial.specs.declared.work.Target.TheVariants.{Function, Operation}
 use Rattle.ca_serial.specs.declared.work.Work.{Work}
-use Rattle.ca_serial.specs.declared.work.Work.TheVariants.{Evaluate, Take, Collect, Exec, Seq, Again, Leave, Back}
+use Rattle.ca_serial.specs.declared.work.Work.TheVariants.{Evaluate, Take, Collect, Exec, Seq, Again, Leave, Back, Heed}
 use Rattle.ca_serial.specs.declared.work.Taker.{Taker}
 use Rattle.ca_serial.specs.declared.work.Taker.TheVariants.{ReadField, CheckObject, ReadItem, Sign, CheckLeft, Apply, PutLocal, PutField, CheckIndex, PutItem, NewItem, Print, Choose, Turn as TakeTurn, GiveBack}
 use Rattle.ca_serial.specs.declared.work.Left.{Left}
@@ -30,10 +32,10 @@ use Rattle.ca_serial.specs.declared.work.Left.TheVariants.{Nothing, Statement as
 use Rattle.ca_serial.specs.declared.work.Turn.{Turn}
 use Rattle.ca_serial.specs.declared.work.Turn.TheVariants.{Whole, Ends}
 use Rattle.ca_serial.specs.declared.work.Next.{Next}
-use Rattle.ca_serial.specs.declared.work.Next.TheVariants.{GoesOn, Printed, Trapped, Spent, Due}
+use Rattle.ca_serial.specs.declared.work.Next.TheVariants.{GoesOn, Printed, Trapped, Spent, Due, LoopDue}
 use Rattle.ca_serial.specs.declared.machine.Machine.{Machine}
 use Rattle.ca_serial.specs.declared.machine.Found.{Found}
-use Rattle.ca_serial.specs.Bodies.{Body, with_locals, handed_by}
+use Rattle.ca_serial.specs.Bodies.{Body, with_locals, marks_of, alone, heeding}
 
 -- Statements in the body that runs
 
@@ -44,29 +46,25 @@ carried w (gives_back v s k) = gives_back v w k
 carried w (stops t s) = stops t w
 carried w (runs_out s) = runs_out w
 
--- marks on calls alone
-abbrev pub calls_alone : List OpId → PlainMarks
-calls_alone ops = record { ops = ops; loops = [] }
-
--- the marks that a body heeds
-abbrev pub marks_of : Body → PlainMarks
-marks_of f = calls_alone (handed_by f)
+-- what the body of an operation is made of, in a run that lists the calls of marked loops first
+abbrev pub heeding_parts : PlainProgram → PlainMarks → Datum → Parts World
+heeding_parts p ms this = listing_parts p ms (listing_of p ms) this
 
 abbrev pub parts_in : PlainProgram → World → Body → Parts (Unit {0})
 parts_in p w f = function_parts (functions_of p.functions w.heap) w.heap f.this
 
 abbrev pub runs : PlainProgram → Mode → Body → World → ℕ → Statement → ℕ → Flow World
 runs p InFunction f w line s k = carried w (exec (parts_in p w f) line f.locals tt s k)
-runs p InOperation f w line s k = exec (marked_parts p (marks_of f) f.this) line f.locals w s k
+runs p InOperation f w line s k = exec (heeding_parts p (marks_of f) f.this) line f.locals w s k
 
 abbrev pub runs_all : PlainProgram → Mode → Body → World → Statements → ℕ → Flow World
 runs_all p InFunction f w ss k = carried w (exec_all (parts_in p w f) f.locals tt ss k)
-runs_all p InOperation f w ss k = exec_all (marked_parts p (marks_of f) f.this) f.locals w ss k
+runs_all p InOperation f w ss k = exec_all (heeding_parts p (marks_of f) f.this) f.locals w ss k
 
 -- a loop that comes again
 abbrev pub comes_again : PlainProgram → Mode → Body → World → ℕ → Statement → ℕ → Flow World
 comes_again p InFunction f w line loop k = carried w ((parts_in p w f).again line f.locals tt loop k)
-comes_again p InOperation f w line loop k = (marked_parts p (marks_of f) f.this).again line f.locals w loop k
+comes_again p InOperation f w line loop k = (heeding_parts p (marks_of f) f.this).again line f.locals w loop k
 
 -- the body of a loop, and behind it the next part of a `for`
 abbrev pub runs_body : PlainProgram → Mode → Body → World → ℕ → Statement → ℕ → Flow World
@@ -110,7 +108,7 @@ abbrev pub called : PlainProgram → Target → ℕ → Datum → List Datum →
 called p (Function m) line v xs vs f w k go =
     with (pointed line v k >>= λ n k. take_step k >>= λ _ k. (functions_of p.functions w.heap).call m n xs k) w (λ v k. go (v ∷ vs) w k)
 called p (Operation m) line v xs vs f w k go =
-    with (pointed line v k) w (λ n k. go_on (noted_call (marks_of f) (operations_of p) (noted_of p (marks_of f)) f.locals (invocation n m xs) w k) (λ ls w k. go vs w k) (λ v w k. runs_out w))
+    with (pointed line v k) w (λ n k. go_on (noted_call (marks_of f) (operations_of p) (listing_of p (marks_of f)) f.locals (invocation n m xs) w k) (λ ls w k. go vs w k) (λ v w k. runs_out w))
 
 -- the value of an expression in the body that runs
 abbrev pub value_of : PlainProgram → Body → World → ℕ → Expr → ℕ → Out Datum
@@ -179,6 +177,7 @@ abbrev mutual
       back_in below w (λ g below. resume p todo (by_mode f.mode (Null ∷ vs) vs) g below w k)
   resume p (Back ∷ todo) vs f below w k =
       pop vs w (λ v vs. back_in below w (λ g below. resume p todo (v ∷ vs) g below w k))
+  resume p (Heed ∷ todo) vs f below w k = resume p todo vs (heeding f) below w k
 
   -- a value method gives a value back: what is left of its body is dropped
   pub unwind : PlainProgram → List Work → List Datum → List Body → World → ℕ → Datum → Flow World
@@ -201,6 +200,9 @@ and_print ps v = record { prints = ps.prints ++ v ∷ []; notes = ps.notes }
 
 abbrev pub and_note : Past → Note → Past
 and_note ps n = record { prints = ps.prints; notes = ps.notes ++ n ∷ [] }
+
+abbrev pub and_notes : Past → List Note → Past
+and_notes ps ns = record { prints = ps.prints; notes = ps.notes ++ ns }
 
 abbrev pub world_of : Machine → Past → World
 world_of m ps = record { heap = m.heap; prints = ps.prints; notes = ps.notes }
@@ -283,6 +285,7 @@ after p m ps Printed = rest_of p m.todo m (and_print ps m.shown)
 after p m ps Trapped = stops m.trap (world_of m ps)
 after p m ps Spent = runs_out (world_of m ps)
 after p m ps Due = runs_due p m (and_note ps (note_of m))
+after p m ps LoopDue = rest_of p m.todo m ps
 
 -- whether the run goes on, or a step too many is due
 abbrev pub next_of : Bool → Next

@@ -1,14 +1,17 @@
 //! The bodies that run, each called by the one below it.
 
-ghost use Rattle.std.specs.Prelude.{◌≡◌, [], ◌∷◌, ◌++◌, map, slice_set, IfOk};
+ghost use Rattle.std.specs.Prelude.{◌≡◌, ◌&&◌, [], ◌∷◌, ◌++◌, map, slice_set, IfOk};
 ghost use Rattle.ca_model.specs.Slots.{start_of};
 ghost use Rattle.ca_meaning.specs.Expressions.{value_at};
 ghost use Rattle.ca_parallel.specs.Lists.{op_in};
+ghost use Rattle.ca_serial.specs.Marked.{site_in};
+ghost use Rattle.ca_serial.specs.Loops.{in_operation};
 
 use crate::marked::Marked;
 use ca_base::Memory;
 use ca_model::{Value, start_of};
-use ca_program::{OpId, ValueType};
+use ca_parallel::Marks;
+use ca_program::{LoopId, OpId, ValueType};
 use std::alloc::Global;
 use std::marker::Model;
 
@@ -48,22 +51,22 @@ impl<'a> Model for Bodies<'a> {
 }
 
 impl<'a> Bodies<'a> {
-    ghost use Rattle.ca_serial.specs.Bodies.{main_body, with_locals, alone, handed_by, Went};
+    ghost use Rattle.ca_serial.specs.Bodies.{main_body, with_locals, alone, heeding, marks_of, Went};
 
     /// The body of `main`, whose locals have these types, in a program of so many operations. It hands on calls
     /// of these.
     pub fn new(
         alloc: Global,
         types: &[ValueType],
-        ops: &'a [OpId],
+        marks: &'a Marks,
         count: usize,
     ) -> Result<Bodies<'a>, Memory>
-        ensures current { IfOk result (λ bodies. bodies.current ≡ main_body types.now ops.now bodies.current.heeds) }
-        ensures heeds { IfOk result (λ bodies. handed_by bodies.current ≡ ops.now) }
+        ensures current { IfOk result (λ bodies. bodies.current ≡ main_body types.now marks.now bodies.current.heeds) }
+        ensures heeds { IfOk result (λ bodies. marks_of bodies.current ≡ marks.now) }
         ensures below { IfOk result (λ bodies. bodies.below ≡ []) }
     {
-        let heeds = !ops.is_empty();
-        let marked = Marked::new(alloc, ops, count)?;
+        let heeds = !marks.ops.is_empty() || !marks.loops.is_empty();
+        let marked = Marked::new(alloc, marks, count)?;
         let mut locals = Vec::new(alloc);
         add_starts(&mut locals, types)?;
         Ok(Bodies {
@@ -98,9 +101,44 @@ impl<'a> Bodies<'a> {
     /// Whether the body that runs hands a call of this operation on.
     #[inline(always)]
     pub fn hands_on(&self, op: OpId) -> bool
-        ensures { result ≡ op_in (handed_by self.now.current) op }
+        ensures { result ≡ op_in (marks_of self.now.current).ops op }
     {
         self.current.heeds && self.marked.holds(op)
+    }
+
+    /// Whether the body that runs is that of an operation, and heeds the mark of the loop with this number.
+    #[inline(always)]
+    #[tactic(auto, using(crate::proofs::Quietness::and_false))]
+    pub fn hands_on_loop(&self, site: LoopId) -> bool
+        ensures { result ≡ site_in (marks_of self.now.current).loops site && in_operation self.now.current.mode }
+    {
+        if !self.current.heeds {
+            return false;
+        }
+        match self.current.mode {
+            Mode::InFunction => false,
+            Mode::InOperation => self.marked.holds_loop(site),
+        }
+    }
+
+    /// Lets the body that runs heed its marks again.
+    pub fn heed(&mut self)
+        ensures current { self.new.current ≡ heeding self.old.current }
+        ensures below { self.new.below ≡ self.old.below }
+    {
+        self.current.heeds = true;
+    }
+
+    /// Puts these values in place of the locals of the body that runs.
+    pub fn put_locals(&mut self, values: &[Value]) -> Result<(), Memory>
+        ensures current { IfOk result (λ _. self.new.current ≡ with_locals self.old.current values.now) }
+        ensures below { IfOk result (λ _. self.new.below ≡ self.old.below) }
+    {
+        let base = self.current.base.min(self.locals.len());
+        self.locals.truncate(base);
+        self.current.base = base;
+        add_all(&mut self.locals, values)?;
+        Ok(())
     }
 
     /// Lets the body that runs hand nothing on.

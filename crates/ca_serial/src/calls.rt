@@ -7,7 +7,7 @@ ghost use Rattle.ca_meaning.specs.Functions.{body_of};
 ghost use Rattle.ca_model.specs.Slots.{start_of};
 ghost use Rattle.ca_serial.specs.Resume.{Past, rest_of, back_of, unwound, handed_back, begins, after, target_method, target_mode, others_in, Handed};
 ghost use Rattle.ca_serial.specs.Answers.{Told};
-ghost use Rattle.ca_serial.specs.Bodies.{handed_by};
+ghost use Rattle.ca_serial.specs.Bodies.{marks_of};
 
 use crate::answers::{Answer, answer_of};
 use crate::bodies::Mode;
@@ -100,7 +100,7 @@ impl<'a> Machine<'a> {
     /// The operation, where the body hands calls of it on.
     #[inline(always)]
     fn handed(&self, target: Target) -> Option<OpId>
-        ensures { Handed result target (handed_by self.now.bodies.current) }
+        ensures { Handed result target (marks_of self.now.bodies.current).ops }
     {
         match target {
             Target::Function(_) => None,

@@ -7,7 +7,9 @@ ghost use Rattle.ca_model.specs.declared.value.Trap.{Trap};
 ghost use Rattle.ca_meaning.specs.Expressions.{gives, one_in, items_in, indexed};
 ghost use Rattle.ca_meaning.specs.Functions.{own_of, value_in};
 ghost use Rattle.ca_meaning.specs.Serial.{put_own, serial, ended};
+ghost use Rattle.ca_meaning.specs.ProgramTyped.{ProgramTyped};
 ghost use Rattle.ca_parallel.specs.Lists.{world_after, lists};
+ghost use Rattle.ca_parallel.specs.Marks.{SoundMarks};
 ghost use Rattle.ca_serial.specs.Resume.{HasOwn};
 ghost use Rattle.ca_serial.specs.declared.work.Next.TheVariants.{Trapped};
 
@@ -17,6 +19,7 @@ use crate::work::{Call, Next, Work};
 use ca_base::Memory;
 use ca_direct::Scene;
 use ca_model::{Heap, Slot, Trap, TrapKind, Value};
+use ca_parallel::Marks;
 use ca_program::{Expr, FieldId, OpId, Program};
 use std::alloc::Global;
 
@@ -36,17 +39,19 @@ pub struct Machine<'a> {
 }
 
 impl<'a> Machine<'a> {
-    ghost use Rattle.ca_serial.specs.Resume.{rest_of, looked_up, no_past, calls_alone, PassesPlaces};
+    ghost use Rattle.ca_serial.specs.Resume.{rest_of, looked_up, no_past, PassesPlaces};
 
-    /// The machine before `main`, which hands on calls of these operations.
+    /// The machine before `main`, which heeds these marks.
     pub fn new(
         alloc: Global,
         program: &'a Program,
-        heeds: &'a [OpId],
+        marks: &'a Marks,
         budget: u64,
     ) -> Result<Machine<'a>, Memory>
+        requires program { ProgramTyped (program_view program.now) }
+        requires sound { SoundMarks (program_view program.now) marks.now }
         ensures outcome { IfOk result (λ m. ended budget (rest_of (program_view program.now) m.todo m no_past) ≡ serial (program_view program.now) budget) }
-        ensures notes { IfOk result (λ m. (world_after (rest_of (program_view program.now) m.todo m no_past)).notes ≡ lists (program_view program.now) (calls_alone heeds.now) budget) }
+        ensures notes { IfOk result (λ m. (world_after (rest_of (program_view program.now) m.todo m no_past)).notes ≡ lists (program_view program.now) marks.now budget) }
     {
         let mut todo = Stack::new(alloc);
         todo.push(Work::Seq(program.main.stmts.as_slice()))?;
@@ -56,7 +61,7 @@ impl<'a> Machine<'a> {
             bodies: Bodies::new(
                 alloc,
                 program.main.locals.as_slice(),
-                heeds,
+                marks,
                 program.ops.len(),
             )?,
             heap: Heap::new(alloc),

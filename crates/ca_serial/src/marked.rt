@@ -1,52 +1,60 @@
-//! The operations whose calls are handed on.
+//! The calls and loops that are handed on.
 
 ghost use Rattle.std.specs.Prelude.{◌≡◌, IfOk};
 ghost use Rattle.ca_parallel.specs.Lists.{op_in};
-ghost use Rattle.ca_serial.specs.Marked.{FlagsOf};
+ghost use Rattle.ca_serial.specs.Marked.{FlagsOf, site_in};
 
-use ca_program::OpId;
+use ca_parallel::Marks;
+use ca_program::{LoopId, OpId};
 use std::alloc::{AllocError, Global};
 use std::marker::Model;
 
-/// Marked operations, with a flag for each operation of a program. Where none is marked there are no flags.
+/// Marks, with a flag for each operation of a program. Where none is marked there are no flags.
 #[derive(Drop)]
 pub struct Marked<'a> {
-    ops: &'a [OpId],
+    marks: &'a Marks,
     flags: Vec<bool>,
 }
 
 impl<'a> Model for Marked<'a> {
-    ghost use Rattle.std.specs.Prelude.{List};
-    ghost use Rattle.ca_program.specs.declared.program.OpId.{OpId};
+    ghost use Rattle.ca_parallel.specs.Lists.{PlainMarks};
     ghost use Rattle.ca_serial.specs.Marked.{FlagsOf};
 
-    ghost Value = { List OpId };
+    ghost Value = { PlainMarks };
 
-    ghost view = { λ m. m.ops.now };
+    ghost view = { λ m. m.marks.now };
 
-    ghost invariant = { λ m. FlagsOf m.flags.items m.ops.now };
+    ghost invariant = { λ m. FlagsOf m.flags.items m.marks.now.ops };
 }
 
 impl<'a> Marked<'a> {
-    /// These operations, of a program that has so many.
-    pub fn new(alloc: Global, ops: &'a [OpId], count: usize) -> Result<Marked<'a>, AllocError>
-        ensures { IfOk result (λ marked. marked ≡ ops.now) }
+    /// These marks, of a program that has so many operations.
+    pub fn new(alloc: Global, marks: &'a Marks, count: usize) -> Result<Marked<'a>, AllocError>
+        ensures { IfOk result (λ marked. marked ≡ marks.now) }
     {
+        let ops = marks.ops.as_slice();
         let flags = flags_of(alloc, ops, if ops.is_empty() { 0 } else { count })?;
-        Ok(Marked { ops, flags })
+        Ok(Marked { marks, flags })
     }
 
     /// Whether the operation is one of these.
     #[inline]
     pub fn holds(&self, op: OpId) -> bool
-        ensures { result ≡ op_in self.now op }
+        ensures { result ≡ op_in self.now.ops op }
     {
         let place = op.0 as usize;
         if place < self.flags.len() {
             self.flags[place]
         } else {
-            is_among(self.ops, op)
+            is_among(self.marks.ops.as_slice(), op)
         }
+    }
+
+    /// Whether the loop with this number is one of these.
+    pub fn holds_loop(&self, site: LoopId) -> bool
+        ensures { result ≡ site_in self.now.loops site }
+    {
+        is_site_among(self.marks.loops.as_slice(), site)
     }
 }
 
@@ -72,6 +80,16 @@ fn is_among(ops: &[OpId], op: OpId) -> bool
 {
     match ops.split_first() {
         Some((first, rest)) => first.0 == op.0 || is_among(rest, op),
+        None => false,
+    }
+}
+
+/// Whether the number is one of these.
+fn is_site_among(sites: &[LoopId], site: LoopId) -> bool
+    ensures { result ≡ site_in sites.now site }
+{
+    match sites.split_first() {
+        Some((first, rest)) => site.0 == first.0 || is_site_among(rest, site),
         None => false,
     }
 }

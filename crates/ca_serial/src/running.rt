@@ -1,6 +1,6 @@
 //! The whole run.
 
-ghost use Rattle.std.specs.Prelude.{◌≡◌, ◌≤◌, false, IfOk, OnOk, OnErr, Contains};
+ghost use Rattle.std.specs.Prelude.{◌≡◌, ◌≤◌, true, false, IfOk, OnOk, OnErr, Contains};
 ghost use Rattle.ca_base.specs.Devices.{Rose, Writes};
 ghost use Rattle.ca_program.specs.View.{program_view};
 ghost use Rattle.ca_meaning.specs.ProgramTyped.{ProgramTyped};
@@ -10,18 +10,19 @@ ghost use Rattle.ca_parallel.specs.Accounts.{Reached, ReachedPart, HandedOn};
 ghost use Rattle.ca_parallel.specs.Lists.{no_marks, world_after, lists};
 ghost use Rattle.ca_parallel.specs.Marks.{SoundMarks};
 ghost use Rattle.ca_parallel.specs.Notes.{NoteGood};
-ghost use Rattle.ca_serial.specs.Resume.{calls_alone, no_past, rest_of};
+ghost use Rattle.ca_serial.specs.Resume.{no_past, rest_of};
 ghost use Rattle.ca_serial.specs.Runs.{run_with, prints_of, OnWrite};
 
 use crate::extents::Extents;
 use crate::handing::hand_on;
+use crate::listing::hand_on_loop;
 use crate::machine::Machine;
 use crate::print::print_line;
 use crate::work::Next;
 use ca_base::Sink;
 use ca_model::{Heap, Trap};
 use ca_parallel::Marks;
-use ca_program::{OpId, Program};
+use ca_program::Program;
 use std::alloc::Global;
 use std::mem;
 use std::sync::Wait;
@@ -48,8 +49,8 @@ pub enum RunError {
 /// Runs `main` from the empty heap with a budget of steps. What it prints goes to the sink at once.
 ///
 /// The program is typed, the marks are sound, and there are none where the engine doesn't serve. Each call of a marked
-/// operation is handed to the engine, and runs here where that declines; within a call that was handed on nothing is.
-/// So far each loop runs here, marked or not. After an error a beginning of the prints was written.
+/// operation is handed to the engine, and so are the calls that a marked loop lists; what the engine declines runs here.
+/// Within what was handed on nothing is. After an error a beginning of the prints was written.
 pub fn drive<R: Threads + Wait + Sync, E: Extents, K: Sink>(
     rt: &R,
     alloc: Global,
@@ -68,23 +69,13 @@ pub fn drive<R: Threads + Wait + Sync, E: Extents, K: Sink>(
     ensures prints { Writes (K.written sink.old) (K.written sink.new) result (prints_text (prints_of (serial (program_view program.now) budget))) }
     ensures write { OnWrite result (Rose (K.faults sink.old) (K.faults sink.new)) }
     ensures later { K.faults sink.old ≤ K.faults sink.new }
-    // The engine was handed the calls of marked operations, each once and in order, or a beginning of them.
-    ensures account { HandedOn E.Accounts (program_view program.now) (E.account engine.old) (E.account engine.new) result (lists (program_view program.now) (calls_alone marks.now.ops) budget) }
+    // The engine was handed what the run with marks hands on, each once and in order, or a beginning of it.
+    ensures account { HandedOn E.Accounts (program_view program.now) (E.account engine.old) (E.account engine.new) result (lists (program_view program.now) marks.now budget) }
 {
-    let heeds = marks.ops.as_slice();
-    let Ok(mut machine) = Machine::new(alloc, program, heeds, budget) else {
+    let Ok(mut machine) = Machine::new(alloc, program, marks, budget) else {
         return Err(RunError::Memory);
     };
-    run_on(
-        rt,
-        alloc,
-        program,
-        heeds,
-        budget,
-        &mut machine,
-        engine,
-        sink,
-    )
+    run_on(rt, alloc, program, marks, budget, &mut machine, engine, sink)
 }
 
 /// Runs a machine to its end, and takes its heap.
@@ -92,23 +83,23 @@ fn run_on<'a, R: Threads + Wait + Sync, E: Extents, K: Sink>(
     rt: &R,
     alloc: Global,
     program: &'a Program,
-    heeds: &[OpId],
+    marks: &Marks,
     budget: u64,
     machine: &mut Machine<'a>,
     engine: &mut E,
     sink: &mut K,
 ) -> Result<Outcome, RunError>
     requires program { ProgramTyped (program_view program.now) }
-    requires good { (n : Note) → Contains (lists (program_view program.now) (calls_alone heeds.now) budget) n → NoteGood (program_view program.now) n }
+    requires good { (n : Note) → Contains (lists (program_view program.now) marks.now budget) n → NoteGood (program_view program.now) n × (E.serves ≡ true) }
     // The machine stands before `main`.
     requires outcome { ended budget (rest_of (program_view program.now) machine.old.todo machine.old no_past) ≡ serial (program_view program.now) budget }
-    requires notes { (world_after (rest_of (program_view program.now) machine.old.todo machine.old no_past)).notes ≡ lists (program_view program.now) (calls_alone heeds.now) budget }
+    requires notes { (world_after (rest_of (program_view program.now) machine.old.todo machine.old no_past)).notes ≡ lists (program_view program.now) marks.now budget }
     ensures outcome { IfOk result (λ outcome. serial (program_view program.now) budget ≡ run_with (prints_of (serial (program_view program.now) budget)) outcome) }
     ensures prints { Writes (K.written sink.old) (K.written sink.new) result (prints_text (prints_of (serial (program_view program.now) budget))) }
     ensures write { OnWrite result (Rose (K.faults sink.old) (K.faults sink.new)) }
     ensures later { K.faults sink.old ≤ K.faults sink.new }
-    ensures account { OnOk result (Reached E.Accounts (program_view program.now) (E.account engine.old) (lists (program_view program.now) (calls_alone heeds.now) budget) (E.account engine.new)) }
-    ensures account_part { OnErr result (ReachedPart E.Accounts (program_view program.now) (E.account engine.old) (lists (program_view program.now) (calls_alone heeds.now) budget) (E.account engine.new)) }
+    ensures account { OnOk result (Reached E.Accounts (program_view program.now) (E.account engine.old) (lists (program_view program.now) marks.now budget) (E.account engine.new)) }
+    ensures account_part { OnErr result (ReachedPart E.Accounts (program_view program.now) (E.account engine.old) (lists (program_view program.now) marks.now budget) (E.account engine.new)) }
 {
     for _ in rt.forever() {
         let Some(work) = machine.todo.pop() else {
@@ -132,6 +123,11 @@ fn run_on<'a, R: Threads + Wait + Sync, E: Extents, K: Sink>(
                 };
                 if !goes {
                     return Ok(Outcome::Spent);
+                }
+            }
+            Next::LoopDue => {
+                if let Err(_) = hand_on_loop(rt, alloc, program, machine, engine) {
+                    return Err(RunError::Memory);
                 }
             }
         }

@@ -39,7 +39,11 @@ impl<'a> Machine<'a> {
                 self.todo.push(Work::Again(line, s))?;
                 Ok(Next::GoesOn)
             }
-            StmtForm::For(_, _, first, _, _, _) => {
+            StmtForm::For(site, _, first, _, _, _) => {
+                if self.bodies.hands_on_loop(*site) {
+                    self.todo.push(Work::Exec(line, s))?;
+                    return Ok(Next::LoopDue);
+                }
                 self.todo.push(Work::Again(line, s))?;
                 self.todo.push(Work::Exec(line, first))?;
                 Ok(Next::GoesOn)

@@ -25,6 +25,10 @@ impl<'a> Machine<'a> {
                 self.collect(program, line, target, arguments, first)
             }
             Work::Leave => self.leave(program),
+            Work::Heed => {
+                self.bodies.heed();
+                Ok(Next::GoesOn)
+            }
             Work::Back => match self.values.pop() {
                 Some(value) => self.hand_back(program, value),
                 None => Ok(Next::Spent),

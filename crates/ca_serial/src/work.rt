@@ -67,10 +67,13 @@ pub enum Work<'a> {
     Leave,
     /// The end of the body of a value method, which gives back the value on top of the stack.
     Back,
+    /// The end of a loop that was listed and runs here: the body heeds its marks again.
+    Heed,
 }
 
 /// How a piece of work ends: the run goes on, where it printed a value behind that print, it stops, or a call that
-/// is handed on is due. The printed value, the trap and the call stand in the machine.
+/// is handed on is due, or a loop is the next piece of work whose calls are listed first. The printed value, the trap and
+/// the call stand in the machine.
 #[derive(Clone, Copy)]
 pub enum Next {
     GoesOn,
@@ -78,6 +81,7 @@ pub enum Next {
     Trapped,
     Spent,
     Due,
+    LoopDue,
 }
 
 /// A call that is due: the number of its receiver, its operation, and how many top values are its arguments.

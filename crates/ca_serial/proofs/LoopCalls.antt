@@ -1,0 +1,302 @@
+-- A marked loop that is next, as it is listed, as an engine runs what it lists, and as it runs here.
+use Rattle.std.proofs.Common.{Bor, ◌≡◌, ◌≤◌, ℕ, ◌+◌, ◌-◌, List, [], ◌∷◌, ◌++◌, refl, ap, sym, subst, ◌∙◌, arith, map, append-nil, append_assoc}
+use Rattle.std.specs.Prelude.{Bool, true, false, ◌&&◌, ◌||◌, nat_eq, Contains}
+use Rattle.std.proofs.lemmas.List.Elements.{Contains-push}
+use Rattle.ca_program.specs.declared.program.LoopId.{LoopId}
+use Rattle.ca_program.specs.Plain.{PlainProgram, Statement, block, put_local, put_field, put_item, new_local, new_field, new_item, invoke, if_else, while_loop, for_loop, return_value, print_value}
+use Rattle.ca_program.specs.View.{statement_view}
+use Rattle.ca_model.specs.declared.value.Value.{Value as Datum}
+use Rattle.ca_model.specs.declared.value.Object.{Object}
+use Rattle.ca_model.specs.declared.value.Trap.{Trap}
+use Rattle.ca_program.specs.declared.program.Stmt.{Stmt}
+use Rattle.ca_meaning.specs.Expressions.{Invocation}
+use Rattle.ca_meaning.specs.Flows.{Flow, goes_on, gives_back, stops, runs_out, and_on, exec}
+use Rattle.ca_meaning.specs.Sections.{LoopOutcome, LoopSectioned, loop_done, loop_stopped, loop_over, loop_section}
+use Rattle.ca_meaning.specs.Serial.{Note, World, fresh, run_call, operations_of, serial_parts, serial_ops}
+use Rattle.ca_meaning.proofs.Near.{NearFlow, both_go}
+use Rattle.ca_parallel.specs.Accounts.{Reached, at_first, by_one}
+use Rattle.ca_parallel.specs.Calls.{RunsTo, invocations_of, operation_of}
+use Rattle.ca_parallel.specs.declared.op.Op.{Op}
+use Rattle.ca_parallel.specs.Lists.{PlainMarks, has_site, loop_in, note, either, world_after}
+use Rattle.ca_parallel.specs.Notes.{op_of}
+use Rattle.ca_parallel.specs.Parallel.{ParallelFrom}
+use Rattle.ca_parallel.proofs.Moved.{shifted, moved, serial_ops_moved}
+use Rattle.ca_note_laws.specs.Listing.{puts_nothing, behind_list, with_list, by_section}
+use Rattle.ca_note_laws.proofs.Listing.{list_self}
+use Rattle.ca_sections.specs.Answers.{LoopIs, locals_after}
+use Rattle.ca_sections.specs.declared.operations.SectionAnswer.{SectionAnswer}
+use Rattle.ca_sections.specs.declared.operations.SectionAnswer.TheVariants.{Done, Trapped, Spent}
+use Rattle.ca_serial.specs.declared.bodies.Mode.{Mode}
+use Rattle.ca_serial.specs.declared.bodies.Mode.TheVariants.{InFunction, InOperation}
+use Rattle.ca_serial.specs.declared.work.Work.{Work}
+use Rattle.ca_serial.specs.declared.work.Work.TheVariants.{Evaluate, Take, Collect, Exec, Seq, Again, Leave, Back, Heed}
+use Rattle.ca_serial.specs.declared.machine.Machine.{Machine}
+use Rattle.ca_serial.specs.Bodies.{Body, marks_of, heeded, with_locals, alone, heeding}
+use Rattle.ca_serial.specs.Marked.{site_in}
+use Rattle.ca_serial.specs.Extents.{IsNotDone}
+use Rattle.ca_serial.specs.Loops.{is_marked, in_operation, heeds_loop, section_next, notes_of, notes_next, runs_alone}
+use Rattle.ca_serial.specs.Resume.{Past, and_notes, world_of, runs, going_on, rest_of, heeding_parts, resume, unwind, go_on, by_mode}
+use Rattle.ca_serial.proofs.DueCalls.{runs_in}
+use Rattle.ca_serial.proofs.Flows.{go_on_same}
+use Rattle.ca_serial.proofs.Quiet.{run_is}
+use Rattle.ca_serial.proofs.Unmarked.{none_one}
+
+-- ---- which loop is heeded
+
+for_sites : (sites : List LoopId) (own : ℕ) (site : LoopId) (loop : Statement) → ((x : LoopId) → has_site loop x ≡ nat_eq site.0 x.0) → loop_in sites loop ≡ site_in sites site
+for_sites [] own site loop has = refl
+for_sites (x ∷ xs) own site loop has = rw (has x, for_sites xs own site loop has) refl
+
+none_in : (sites : List LoopId) (s : Statement) → ((x : LoopId) → has_site s x ≡ false) → loop_in sites s ≡ false
+none_in [] s no = refl
+none_in (x ∷ xs) s no = rw (no x, none_in xs s no) refl
+
+pub marked_is : (sites : List LoopId) (s : Statement) → is_marked sites s ≡ loop_in sites s
+marked_is sites (for_loop own site part first c next b) = sym (for_sites sites own site (for_loop own site part first c next b) (λ x. refl))
+marked_is sites (block own ss) = sym (none_in sites (block own ss) (λ x. refl))
+marked_is sites (put_local own l op e) = sym (none_in sites (put_local own l op e) (λ x. refl))
+marked_is sites (put_field own f op e) = sym (none_in sites (put_field own f op e) (λ x. refl))
+marked_is sites (put_item own f i op e) = sym (none_in sites (put_item own f i op e) (λ x. refl))
+marked_is sites (new_local own l c) = sym (none_in sites (new_local own l c) (λ x. refl))
+marked_is sites (new_field own f c) = sym (none_in sites (new_field own f c) (λ x. refl))
+marked_is sites (new_item own f i c) = sym (none_in sites (new_item own f i c) (λ x. refl))
+marked_is sites (invoke own e op es) = sym (none_in sites (invoke own e op es) (λ x. refl))
+marked_is sites (if_else own c a b) = sym (none_in sites (if_else own c a b) (λ x. refl))
+marked_is sites (while_loop own c b) = sym (none_in sites (while_loop own c b) (λ x. refl))
+marked_is sites (return_value own e) = sym (none_in sites (return_value own e) (λ x. refl))
+marked_is sites (print_value own e) = sym (none_in sites (print_value own e) (λ x. refl))
+
+and_left : (a b : Bool) → (a && b) ≡ true → a ≡ true
+and_left true b e = refl
+and_left false b e = cc
+
+and_right : (a b : Bool) → (a && b) ≡ true → b ≡ true
+and_right true b e = e
+and_right false b e = cc
+
+is_operation : (m : Mode) → in_operation m ≡ true → m ≡ InOperation
+is_operation InOperation e = refl
+is_operation InFunction e = cc
+
+does_heed : (b : Bool) (ms : PlainMarks) (s : Statement) → loop_in (heeded b ms).loops s ≡ true → b ≡ true
+does_heed true ms s e = refl
+does_heed false ms s e = cc
+
+module _ (f : Body) (s : Statement) (heeds : heeds_loop f s ≡ true) where
+  pub mode_is : f.mode ≡ InOperation
+  mode_is = is_operation f.mode (and_right (is_marked (marks_of f).loops s) (in_operation f.mode) heeds)
+
+  pub loop_is : loop_in (marks_of f).loops s ≡ true
+  loop_is = sym (marked_is (marks_of f).loops s) ∙ and_left (is_marked (marks_of f).loops s) (in_operation f.mode) heeds
+
+  pub flag_is : f.heeds ≡ true
+  flag_is = does_heed f.heeds f.marked s loop_is
+
+-- ---- what it means
+
+exec_marked : (p : PlainProgram) (ms : PlainMarks) (this : Datum) (line : ℕ) (ls : List Datum) (w : World) (s : Statement) (k : ℕ) → loop_in ms.loops s ≡ true → exec (heeding_parts p ms this) line ls w s k ≡ either (puts_nothing s) (by_section p this line ls w s k (loop_section p w.heap this ls line s k)) (exec (serial_parts p this) line ls w s k)
+exec_marked p ms this line ls w (for_loop own site part first c next b) k e = rw e refl
+exec_marked p ms this line ls w (block own ss) k e = let n : loop_in ms.loops (block own ss) ≡ false = none_in ms.loops (block own ss) (λ x. refl) in cc
+exec_marked p ms this line ls w (put_local own l op x) k e = let n : loop_in ms.loops (put_local own l op x) ≡ false = none_in ms.loops (put_local own l op x) (λ x. refl) in cc
+exec_marked p ms this line ls w (put_field own f op x) k e = let n : loop_in ms.loops (put_field own f op x) ≡ false = none_in ms.loops (put_field own f op x) (λ x. refl) in cc
+exec_marked p ms this line ls w (put_item own f i op x) k e = let n : loop_in ms.loops (put_item own f i op x) ≡ false = none_in ms.loops (put_item own f i op x) (λ x. refl) in cc
+exec_marked p ms this line ls w (new_local own l c) k e = let n : loop_in ms.loops (new_local own l c) ≡ false = none_in ms.loops (new_local own l c) (λ x. refl) in cc
+exec_marked p ms this line ls w (new_field own f c) k e = let n : loop_in ms.loops (new_field own f c) ≡ false = none_in ms.loops (new_field own f c) (λ x. refl) in cc
+exec_marked p ms this line ls w (new_item own f i c) k e = let n : loop_in ms.loops (new_item own f i c) ≡ false = none_in ms.loops (new_item own f i c) (λ x. refl) in cc
+exec_marked p ms this line ls w (invoke own x op es) k e = let n : loop_in ms.loops (invoke own x op es) ≡ false = none_in ms.loops (invoke own x op es) (λ x. refl) in cc
+exec_marked p ms this line ls w (if_else own c a b) k e = let n : loop_in ms.loops (if_else own c a b) ≡ false = none_in ms.loops (if_else own c a b) (λ x. refl) in cc
+exec_marked p ms this line ls w (while_loop own c b) k e = let n : loop_in ms.loops (while_loop own c b) ≡ false = none_in ms.loops (while_loop own c b) (λ x. refl) in cc
+exec_marked p ms this line ls w (return_value own x) k e = let n : loop_in ms.loops (return_value own x) ≡ false = none_in ms.loops (return_value own x) (λ x. refl) in cc
+exec_marked p ms this line ls w (print_value own x) k e = let n : loop_in ms.loops (print_value own x) ≡ false = none_in ms.loops (print_value own x) (λ x. refl) in cc
+
+runs_marked : (p : PlainProgram) (f : Body) (w : World) (line : ℕ) (s : Statement) (k : ℕ) → heeds_loop f s ≡ true → runs p f.mode f w line s k ≡ either (puts_nothing s) (by_section p f.this line f.locals w s k (loop_section p w.heap f.this f.locals line s k)) (exec (serial_parts p f.this) line f.locals w s k)
+runs_marked p f w line s k heeds = ap (λ (m : Mode). runs p m f w line s k) (mode_is f s heeds) ∙ exec_marked p (marks_of f) f.this line f.locals w s k (loop_is f s heeds)
+
+nothing_more : (ps : Past) → and_notes ps [] ≡ ps
+nothing_more ps = rw (append-nil ps.notes) refl
+
+module _ (p : PlainProgram) (line : ℕ) (s : Statement) (todo : List Work) (m : Machine) (ps : Past) (heeds : heeds_loop m.bodies.current s ≡ true) where
+  -- one that puts something runs as the serial run does
+  pub puts_alone : puts_nothing s ≡ false → going_on p todo m (runs p m.bodies.current.mode m.bodies.current (world_of m ps) line s m.left) ≡ going_on p todo m (exec (serial_parts p m.bodies.current.this) line m.bodies.current.locals (world_of m ps) s m.left)
+  puts_alone puts = ap (going_on p todo m) (runs_marked p m.bodies.current (world_of m ps) line s m.left heeds ∙ rw puts refl)
+
+  -- else by its section
+  pub by_its_section : puts_nothing s ≡ true → (o : LoopSectioned) → section_next p m line s ≡ o → going_on p todo m (runs p m.bodies.current.mode m.bodies.current (world_of m ps) line s m.left) ≡ going_on p todo m (by_section p m.bodies.current.this line m.bodies.current.locals (world_of m ps) s m.left o)
+  by_its_section none o is = ap (going_on p todo m) (runs_marked p m.bodies.current (world_of m ps) line s m.left heeds ∙ rw none (ap (by_section p m.bodies.current.this line m.bodies.current.locals (world_of m ps) s m.left) is))
+
+-- ---- a section that isn't done
+
+pub data Stopped : LoopSectioned → Type 0 where
+  by_trap : (t : Trap) → Stopped (loop_stopped t)
+  by_spent : Stopped loop_over
+
+pub trapped_section : (o : LoopSectioned) (t : Trap) (out now : List Op) → LoopIs (Trapped t) o out now → Stopped o
+trapped_section (loop_done x) t out now h = absurd h
+trapped_section (loop_stopped u) t out now h = by_trap u
+trapped_section loop_over t out now h = absurd h
+
+pub spent_section : (o : LoopSectioned) (out now : List Op) → LoopIs Spent o out now → Stopped o
+spent_section (loop_done x) out now h = absurd h
+spent_section (loop_stopped u) out now h = absurd h
+spent_section loop_over out now h = by_spent
+
+pub none_noted : (m : Machine) (o : LoopSectioned) → Stopped o → notes_of m o ≡ []
+none_noted m (loop_stopped t) (by_trap t) = refl
+none_noted m loop_over by_spent = refl
+
+stays_alone : (p : PlainProgram) (this : Datum) (line : ℕ) (ls : List Datum) (w : World) (s : Statement) (k : ℕ) (o : LoopSectioned) → Stopped o → by_section p this line ls w s k o ≡ exec (serial_parts p this) line ls w s k
+stays_alone p this line ls w s k (loop_stopped t) (by_trap t) = refl
+stays_alone p this line ls w s k loop_over by_spent = refl
+
+-- ---- a section that is done
+
+-- so many steps, and this list
+pub record IsDone (o : LoopSectioned) (steps : ℕ) (listed : List Invocation) : Type 0 where
+  pub outcome : LoopOutcome
+  pub is : o ≡ loop_done outcome
+  pub steps_are : outcome.steps ≡ steps
+  pub listed_are : outcome.listed ≡ listed
+
+pub done_section : (o : LoopSectioned) (steps : ℕ) (now : List Op) → LoopIs (Done steps) o [] now → IsDone o steps (invocations_of now)
+done_section (loop_done x) steps now h = record { outcome = x; is = refl; steps_are = sym h.0; listed_are = sym h.1 }
+done_section (loop_stopped u) steps now h = absurd h
+done_section loop_over steps now h = absurd h
+
+pub done_locals : (o : LoopSectioned) (steps : ℕ) (listed : List Invocation) (d : IsDone o steps listed) (ls : List Datum) → locals_after o ls ≡ d.outcome.locals
+done_locals o steps listed d ls = ap (λ o. locals_after o ls) d.is
+
+-- its note
+pub note_is : (m : Machine) (o : LoopSectioned) (steps : ℕ) (listed : List Invocation) → IsDone o steps listed → notes_of m o ≡ note m.heap listed (m.left - steps) ∷ []
+note_is m o steps listed d = ap (notes_of m) d.is ∙ ap (λ l. note m.heap l (m.left - d.outcome.steps) ∷ []) d.listed_are ∙ ap (λ k. note m.heap listed (m.left - k) ∷ []) d.steps_are
+
+pub noted_in : (m : Machine) (o : LoopSectioned) (steps : ℕ) (listed : List Invocation) → IsDone o steps listed → Contains (notes_of m o) (note m.heap listed (m.left - steps))
+noted_in m o steps listed d = subst (λ l. Contains l (note m.heap listed (m.left - steps))) (sym (note_is m o steps listed d)) (Contains-push [] (note m.heap listed (m.left - steps)))
+
+pub ops_are : (os : List Op) → map op_of (invocations_of os) ≡ map operation_of os
+ops_are [] = refl
+ops_are (o ∷ os) = ap (λ l. o.op ∷ l) (ops_are os)
+
+-- one step of the account
+pub accounted : {A : Type 0} {S : A → PlainProgram → List Object → List Invocation → ℕ → A → Type 0} (p : PlainProgram) (a b : A) (m : Machine) (o : LoopSectioned) (steps : ℕ) (listed : List Invocation) → IsDone o steps listed → S a p m.heap listed (m.left - steps) b → Reached S p a (notes_of m o) b
+accounted {S = S} p a b m o steps listed d step = subst (λ l. Reached S p a l b) (sym (note_is m o steps listed d)) (by_one (note m.heap listed (m.left - steps)) at_first step)
+
+pub unaccounted : {A : Type 0} {S : A → PlainProgram → List Object → List Invocation → ℕ → A → Type 0} (p : PlainProgram) (a : A) (m : Machine) (o : LoopSectioned) → Stopped o → Reached S p a (notes_of m o) a
+unaccounted {S = S} p a m o stop = subst (λ l. Reached S p a l a) (sym (none_noted m o stop)) at_first
+
+-- ---- operations in order
+
+ends_bare : (p : PlainProgram) (is : List Invocation) (w : World) (k : ℕ) (ls : List Datum) (v : World) (j : ℕ) → serial_ops p is w k ≡ goes_on ls v j → ls ≡ []
+ends_bare p [] w k ls v j e = cc
+ends_bare p (i ∷ is) w k ls v j e = from (run_call (operations_of p) [] i w k) e
+  where
+    from : (o : Flow World) → and_on o (λ ls w k. serial_ops p is w k) ≡ goes_on ls v j → ls ≡ []
+    from (goes_on xs y n) h = ends_bare p is y n ls v j h
+    from (gives_back x y n) h = cc
+    from (stops t y) h = cc
+    from (runs_out y) h = cc
+
+takes_steps : (p : PlainProgram) (is : List Invocation) (w : World) (k : ℕ) (ls : List Datum) (v : World) (j : ℕ) → serial_ops p is w k ≡ goes_on ls v j → j ≤ k
+takes_steps p is w k ls v j e = from (serial_ops p is w k) (list_self p is w k) e
+  where
+    from : (f : Flow World) → NearFlow k f f → f ≡ goes_on ls v j → j ≤ k
+    from f near h = at (subst (λ (g : Flow World). NearFlow k g g) h near)
+      where
+        at : NearFlow k (goes_on ls v j) (goes_on ls v j) → j ≤ k
+        at (both_go le) = le
+
+bare_notes : (p : PlainProgram) (is : List Invocation) (h : List Object) (k : ℕ) (ls : List Datum) (v : World) (j : ℕ) → serial_ops p is (fresh h) k ≡ goes_on ls v j → v.notes ≡ []
+bare_notes p is h k ls v j e = sym (ap (λ o. (world_after o).notes) (ap (λ o. moved (λ ps. ps) (λ ns. []) o) (sym e) ∙ serial_ops_moved (λ ps. ps) (λ ns. []) (λ ps v. refl) p is (fresh h) k ∙ e))
+
+runs_to : (p : PlainProgram) (is : List Invocation) (h : List Object) (k : ℕ) (ls : List Datum) (v : World) (j : ℕ) → serial_ops p is (fresh h) k ≡ goes_on ls v j → RunsTo p h is k v.heap (k - j)
+runs_to p is h k ls v j e =
+    let le : j ≤ k = takes_steps p is (fresh h) k ls v j e in
+    record {
+      prints = v.prints;
+      left = j;
+      run = e ∙ ap (λ xs. goes_on xs v j) (ends_bare p is (fresh h) k ls v j e) ∙ ap (λ ns. goes_on [] (record { heap = v.heap; prints = v.prints; notes = ns }) j) (bare_notes p is h k ls v j e);
+      taken = omega (arith, le);
+    }
+
+-- where the run of what is listed isn't done, the loop runs here
+undone : (p : PlainProgram) (is : List Invocation) (h : List Object) (k : ℕ) (ps : List Datum) (ns : List Note) (ls : List Datum) (plain : Flow World) → IsNotDone p h is k → behind_list ls (serial_ops p is (record { heap = h; prints = ps; notes = ns }) k) plain ≡ plain
+undone p is h k ps ns ls plain not = from (serial_ops p is (fresh h) k) refl (rw (append-nil ps, append-nil ns) at (serial_ops_moved a b (λ qs v. sym (append_assoc ps qs (v ∷ []))) p is (fresh h) k))
+  where
+    a : List Datum → List Datum
+    a qs = ps ++ qs
+    b : List Note → List Note
+    b ms = ns ++ ms
+    from : (g : Flow World) → serial_ops p is (fresh h) k ≡ g → moved a b (serial_ops p is (fresh h) k) ≡ serial_ops p is (record { heap = h; prints = ps; notes = ns }) k → behind_list ls (serial_ops p is (record { heap = h; prints = ps; notes = ns }) k) plain ≡ plain
+    from (goes_on xs v j) e me = absurd (not v.heap (k - j) (runs_to p is h k xs v j e))
+    from (gives_back v w j) e me = ap (λ f. behind_list ls f plain) (sym me ∙ ap (moved a b) e)
+    from (stops t w) e me = ap (λ f. behind_list ls f plain) (sym me ∙ ap (moved a b) e)
+    from (runs_out w) e me = ap (λ f. behind_list ls f plain) (sym me ∙ ap (moved a b) e)
+
+module _ (p : PlainProgram) (line : ℕ) (s : Statement) (m : Machine) (ps : Past) where
+  -- an engine ran what a loop lists
+  pub was_listed : (o : LoopSectioned) (taken : ℕ) (listed : List Invocation) (d : IsDone o taken listed) (after : List Object) (steps : ℕ) → ParallelFrom p (map op_of listed) → RunsTo p m.heap listed (m.left - taken) after steps → (new : Machine) → new.heap ≡ after → new.bodies.current ≡ with_locals m.bodies.current d.outcome.locals → new.bodies.below ≡ m.bodies.below → new.todo ≡ m.todo → new.values ≡ m.values → new.left ≡ m.left - taken - steps → going_on p m.todo m (by_section p m.bodies.current.this line m.bodies.current.locals (world_of m ps) s m.left o) ≡ rest_of p new.todo new (and_notes ps (notes_of m o))
+  was_listed o taken listed d after steps parallel run new heap current below todo values left =
+      let x = d.outcome in
+      let steps_taken = run.taken in
+      let rest : new.left ≡ run.left = omega (arith, left, steps_taken) in
+      let ns : List Note = ps.notes ++ note m.heap listed (m.left - taken) ∷ [] in
+      let plain : Flow World = exec (serial_parts p m.bodies.current.this) line m.bodies.current.locals (with_list (world_of m ps) m.left x) s m.left in
+      let ran : serial_ops p listed (record { heap = m.heap; prints = ps.prints; notes = ns }) (m.left - taken) ≡ goes_on [] (record { heap = after; prints = ps.prints; notes = ns }) run.left =
+            runs_in p listed m.heap after [] (m.left - taken) run.left (run_is p listed parallel m.heap after (m.left - taken) steps run) ps.prints ns in
+      let same : serial_ops p x.listed (with_list (world_of m ps) m.left x) (m.left - x.steps) ≡ goes_on [] (record { heap = after; prints = ps.prints; notes = ns }) run.left =
+            subst (λ (l : List Invocation). serial_ops p l (record { heap = m.heap; prints = ps.prints; notes = ps.notes ++ note m.heap l (m.left - x.steps) ∷ [] }) (m.left - x.steps) ≡ goes_on [] (record { heap = after; prints = ps.prints; notes = ns }) run.left) (sym d.listed_are)
+            (subst (λ (k : ℕ). serial_ops p listed (record { heap = m.heap; prints = ps.prints; notes = ps.notes ++ note m.heap listed (m.left - k) ∷ [] }) (m.left - k) ≡ goes_on [] (record { heap = after; prints = ps.prints; notes = ns }) run.left) (sym d.steps_are) ran) in
+      rw (note_is m o taken listed d, heap, current, below, todo, values, rest)
+      (ap (λ o. going_on p m.todo m (by_section p m.bodies.current.this line m.bodies.current.locals (world_of m ps) s m.left o)) d.is
+      ∙ ap (λ flow. going_on p m.todo m (behind_list x.locals flow plain)) same)
+
+  -- an engine that serves declined it
+  pub was_declined : (o : LoopSectioned) (taken : ℕ) (listed : List Invocation) → IsDone o taken listed → IsNotDone p m.heap listed (m.left - taken) → going_on p m.todo m (by_section p m.bodies.current.this line m.bodies.current.locals (world_of m ps) s m.left o) ≡ runs_alone p line s m (and_notes ps (notes_of m o))
+  was_declined o taken listed d not =
+      let x = d.outcome in
+      let ns : List Note = ps.notes ++ note m.heap x.listed (m.left - x.steps) ∷ [] in
+      let no : IsNotDone p m.heap x.listed (m.left - x.steps) =
+            subst (λ (l : List Invocation). IsNotDone p m.heap l (m.left - x.steps)) (sym d.listed_are) (subst (λ (k : ℕ). IsNotDone p m.heap listed (m.left - k)) (sym d.steps_are) not) in
+      rw d.is
+      (ap (going_on p m.todo m) (undone p x.listed m.heap (m.left - x.steps) ps.prints ns x.locals (exec (serial_parts p m.bodies.current.this) line m.bodies.current.locals (with_list (world_of m ps) m.left x) s m.left) no))
+
+  -- its section isn't done
+  pub was_stopped : (o : LoopSectioned) → Stopped o → going_on p m.todo m (by_section p m.bodies.current.this line m.bodies.current.locals (world_of m ps) s m.left o) ≡ runs_alone p line s m (and_notes ps (notes_of m o))
+  was_stopped o stop =
+      ap (going_on p m.todo m) (stays_alone p m.bodies.current.this line m.bodies.current.locals (world_of m ps) s m.left o stop)
+      ∙ ap (runs_alone p line s m) (sym (nothing_more ps) ∙ ap (and_notes ps) (sym (none_noted m o stop)))
+
+-- ---- it runs here
+
+heeded_again : (f : Body) (ls : List Datum) → f.heeds ≡ true → heeding (with_locals (alone f) ls) ≡ with_locals f ls
+heeded_again f ls e = rw e refl
+
+pub put_alone : (p : PlainProgram) (line : ℕ) (s : Stmt) (x : Bor Stmt) (m new : Machine) (ps : Past) → x.now ≡ s → heeds_loop m.bodies.current (statement_view s) ≡ true → new.todo ≡ Exec line x ∷ Heed ∷ m.todo → new.values ≡ m.values → new.bodies.current ≡ alone m.bodies.current → new.bodies.below ≡ m.bodies.below → new.heap ≡ m.heap → new.left ≡ m.left → runs_alone p line (statement_view s) m ps ≡ rest_of p new.todo new ps
+put_alone p line s x m new ps here heeds todo values current below heap left =
+    let f = m.bodies.current in
+    let w = world_of m ps in
+    let flow : Flow World = exec (serial_parts p f.this) line f.locals w (statement_view s) m.left in
+    rw (todo, values, current, below, heap, left, here, mode_is f (statement_view s) heeds)
+    (go_on_same flow _ _ (λ ls w k. ap (λ g. resume p m.todo m.values g m.bodies.below w k) (sym (heeded_again f ls (flag_is f (statement_view s) heeds))))
+    ∙ ap (λ flow. go_on flow (λ ls w k. resume p m.todo m.values (heeding (with_locals (alone f) ls)) m.bodies.below w k) (λ v w k. runs_out w)) (sym (none_one p f.this (statement_view s) line f.locals w m.left)))
+
+-- ---- work that is no loop
+
+pub other_work : (p : PlainProgram) (work : Work) (todo : List Work) (m : Machine) → ((line : ℕ) (s : Bor Stmt) → work ≡ Exec line s → ⊥) → notes_next p (work ∷ todo) m ≡ []
+other_work p (Exec line s) todo m no = absurd (no line s refl)
+other_work p (Evaluate line e) todo m no = refl
+other_work p (Take taker) todo m no = refl
+other_work p (Collect line t es n) todo m no = refl
+other_work p (Seq ss) todo m no = refl
+other_work p (Again line s) todo m no = refl
+other_work p Leave todo m no = refl
+other_work p Back todo m no = refl
+other_work p Heed todo m no = refl
+
+pub unheeded : (p : PlainProgram) (line : ℕ) (s : Bor Stmt) (todo : List Work) (m : Machine) → heeds_loop m.bodies.current (statement_view s.now) ≡ false → notes_next p (Exec line s ∷ todo) m ≡ []
+unheeded p line s todo m no = rw no refl
+
+pub putting : (p : PlainProgram) (line : ℕ) (s : Bor Stmt) (todo : List Work) (m : Machine) → heeds_loop m.bodies.current (statement_view s.now) ≡ true → puts_nothing (statement_view s.now) ≡ false → notes_next p (Exec line s ∷ todo) m ≡ []
+putting p line s todo m heeds puts = rw (heeds, puts) refl
+
+pub listing : (p : PlainProgram) (line : ℕ) (s : Bor Stmt) (todo : List Work) (m : Machine) → heeds_loop m.bodies.current (statement_view s.now) ≡ true → puts_nothing (statement_view s.now) ≡ true → notes_next p (Exec line s ∷ todo) m ≡ notes_of m (section_next p m line (statement_view s.now))
+listing p line s todo m heeds puts = rw (heeds, puts) refl

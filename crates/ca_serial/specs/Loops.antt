@@ -1,0 +1,54 @@
+-- A loop that is next: whether its calls are listed first, and what is handed on.
+use Rattle.std.specs.Prelude.{◌≡◌, ℕ, ◌-◌, Bool, true, false, ◌&&◌, List, [], ◌∷◌}
+use Rattle.ca_program.specs.declared.program.LoopId.{LoopId}
+use Rattle.ca_program.specs.Plain.{PlainProgram, Statement, for_loop}
+use Rattle.ca_program.specs.View.{statement_view}
+use Rattle.ca_meaning.specs.Flows.{Flow, exec}
+use Rattle.ca_meaning.specs.Sections.{LoopSectioned, loop_done, loop_stopped, loop_over, loop_section}
+use Rattle.ca_meaning.specs.Serial.{Note, World, serial_parts}
+use Rattle.ca_parallel.specs.Lists.{note, either}
+use Rattle.ca_note_laws.specs.Listing.{puts_nothing}
+use Rattle.ca_serial.specs.declared.bodies.Mode.{Mode}
+use Rattle.ca_serial.specs.declared.bodies.Mode.TheVariants.{InFunction, InOperation}
+use Rattle.ca_serial.specs.declared.work.Work.{Work}
+use Rattle.ca_serial.specs.declared.work.Work.TheVariants.{Exec}
+use Rattle.ca_serial.specs.declared.machine.Machine.{Machine}
+use Rattle.ca_serial.specs.Bodies.{Body, marks_of}
+use Rattle.ca_serial.specs.Marked.{site_in}
+use Rattle.ca_serial.specs.Resume.{Past, world_of, going_on}
+
+-- the statement is a loop with one of these numbers
+abbrev pub is_marked : List LoopId → Statement → Bool
+is_marked sites (for_loop own site part first c next b) = site_in sites site
+is_marked sites _ = false
+
+abbrev pub in_operation : Mode → Bool
+in_operation InFunction = false
+in_operation InOperation = true
+
+-- a loop in the body of an operation, or of `main`, that heeds its mark
+abbrev pub heeds_loop : Body → Statement → Bool
+heeds_loop f s = is_marked (marks_of f).loops s && in_operation f.mode
+
+-- the section of a loop that is next
+abbrev pub section_next : PlainProgram → Machine → ℕ → Statement → LoopSectioned
+section_next p m line s = loop_section p m.heap m.bodies.current.this m.bodies.current.locals line s m.left
+
+-- what a section lists, if it is done
+abbrev pub notes_of : Machine → LoopSectioned → List Note
+notes_of m (loop_done o) = note m.heap o.listed (m.left - o.steps) ∷ []
+notes_of m (loop_stopped t) = []
+notes_of m loop_over = []
+
+-- what a statement that is next hands on, if it is a loop whose mark is heeded and which puts nothing into fields
+abbrev pub loop_notes : PlainProgram → Machine → ℕ → Statement → List Note
+loop_notes p m line s = either (heeds_loop m.bodies.current s && puts_nothing s) (notes_of m (section_next p m line s)) []
+
+abbrev pub notes_next : PlainProgram → List Work → Machine → List Note
+notes_next p [] m = []
+notes_next p (Exec line s ∷ todo) m = loop_notes p m line (statement_view s.now)
+notes_next p (_ ∷ todo) m = []
+
+-- that runs this statement as the serial run does
+abbrev pub runs_alone : PlainProgram → ℕ → Statement → Machine → Past → Flow World
+runs_alone p line s m ps = going_on p m.todo m (exec (serial_parts p m.bodies.current.this) line m.bodies.current.locals (world_of m ps) s m.left)
