@@ -130,15 +130,37 @@ pub data Stopped : LoopSectioned → Type 0 where
   by_trap : (t : Trap) → Stopped (loop_stopped t)
   by_spent : Stopped loop_over
 
-pub trapped_section : (o : LoopSectioned) (t : Trap) (out now : List Op) → LoopIs (Trapped t) o out now → Stopped o
-trapped_section (loop_done x) t out now h = absurd h
-trapped_section (loop_stopped u) t out now h = by_trap u
-trapped_section loop_over t out now h = absurd h
+trapped : (o : LoopSectioned) (t : Trap) (out now : List Op) → LoopIs (Trapped t) o out now → Stopped o
+trapped (loop_done x) t out now h = absurd h
+trapped (loop_stopped u) t out now h = by_trap u
+trapped loop_over t out now h = absurd h
 
-pub spent_section : (o : LoopSectioned) (out now : List Op) → LoopIs Spent o out now → Stopped o
-spent_section (loop_done x) out now h = absurd h
-spent_section (loop_stopped u) out now h = absurd h
-spent_section loop_over out now h = by_spent
+spent : (o : LoopSectioned) (out now : List Op) → LoopIs Spent o out now → Stopped o
+spent (loop_done x) out now h = absurd h
+spent (loop_stopped u) out now h = absurd h
+spent loop_over out now h = by_spent
+
+-- what a section in memory answers is of the section of the loop that is next
+pub record Answered (p : PlainProgram) (m : Machine) (line : ℕ) (s : Statement) (answer : SectionAnswer) (now : List Op) : Type 0 where
+  pub is : LoopIs answer (section_next p m line s) [] now
+
+pub answered : (p : PlainProgram) (m : Machine) (line : ℕ) (s : Statement) (answer : SectionAnswer) (now : List Op) (this : Datum) (ls : List Datum) (out : List Op) → this ≡ m.bodies.current.this → ls ≡ m.bodies.current.locals → out ≡ [] → LoopIs answer (loop_section p m.heap this ls line s m.left) out now → Answered p m line s answer now
+answered p m line s answer now this ls out a b c h = record {
+  is = subst (λ (out : List Op). LoopIs answer (section_next p m line s) out now) c
+      (subst (λ (ls : List Datum). LoopIs answer (loop_section p m.heap m.bodies.current.this ls line s m.left) out now) b
+      (subst (λ (this : Datum). LoopIs answer (loop_section p m.heap this ls line s m.left) out now) a h));
+}
+
+pub left_locals : (p : PlainProgram) (m : Machine) (line : ℕ) (s : Statement) (now : List Datum) (this : Datum) (ls : List Datum) → this ≡ m.bodies.current.this → ls ≡ m.bodies.current.locals → now ≡ locals_after (loop_section p m.heap this ls line s m.left) ls → now ≡ locals_after (section_next p m line s) m.bodies.current.locals
+left_locals p m line s now this ls a b h =
+    subst (λ (ls : List Datum). now ≡ locals_after (loop_section p m.heap m.bodies.current.this ls line s m.left) ls) b
+    (subst (λ (this : Datum). now ≡ locals_after (loop_section p m.heap this ls line s m.left) ls) a h)
+
+pub trapped_section : (p : PlainProgram) (m : Machine) (line : ℕ) (s : Statement) (answer : SectionAnswer) (now : List Op) (t : Trap) → Answered p m line s answer now → answer ≡ Trapped t → Stopped (section_next p m line s)
+trapped_section p m line s answer now t h e = trapped (section_next p m line s) t [] now (subst (λ (a : SectionAnswer). LoopIs a (section_next p m line s) [] now) e h.is)
+
+pub spent_section : (p : PlainProgram) (m : Machine) (line : ℕ) (s : Statement) (answer : SectionAnswer) (now : List Op) → Answered p m line s answer now → answer ≡ Spent → Stopped (section_next p m line s)
+spent_section p m line s answer now h e = spent (section_next p m line s) [] now (subst (λ (a : SectionAnswer). LoopIs a (section_next p m line s) [] now) e h.is)
 
 pub none_noted : (m : Machine) (o : LoopSectioned) → Stopped o → notes_of m o ≡ []
 none_noted m (loop_stopped t) (by_trap t) = refl
@@ -157,10 +179,17 @@ pub record IsDone (o : LoopSectioned) (steps : ℕ) (listed : List Invocation) :
   pub steps_are : outcome.steps ≡ steps
   pub listed_are : outcome.listed ≡ listed
 
-pub done_section : (o : LoopSectioned) (steps : ℕ) (now : List Op) → LoopIs (Done steps) o [] now → IsDone o steps (invocations_of now)
-done_section (loop_done x) steps now h = record { outcome = x; is = refl; steps_are = sym h.0; listed_are = sym h.1 }
-done_section (loop_stopped u) steps now h = absurd h
-done_section loop_over steps now h = absurd h
+is_done : (o : LoopSectioned) (steps : ℕ) (now : List Op) → LoopIs (Done steps) o [] now → IsDone o steps (invocations_of now)
+is_done (loop_done x) steps now h = record { outcome = x; is = refl; steps_are = sym h.0; listed_are = sym h.1 }
+is_done (loop_stopped u) steps now h = absurd h
+is_done loop_over steps now h = absurd h
+
+pub done_section : (p : PlainProgram) (m : Machine) (line : ℕ) (s : Statement) (answer : SectionAnswer) (now : List Op) (steps : ℕ) → Answered p m line s answer now → answer ≡ Done steps → IsDone (section_next p m line s) steps (invocations_of now)
+done_section p m line s answer now steps h e = is_done (section_next p m line s) steps now (subst (λ (a : SectionAnswer). LoopIs a (section_next p m line s) [] now) e h.is)
+
+-- what an engine says of operations in memory is of what a loop lists
+pub said_of : (P : List Invocation → ℕ → Type 0) (ops listed : List Op) (rest left taken : ℕ) → ops ≡ listed → rest ≡ left - taken → P (invocations_of ops) rest → P (invocations_of listed) (left - taken)
+said_of P ops listed rest left taken a b h = subst (λ (k : ℕ). P (invocations_of listed) k) b (subst (λ (l : List Op). P (invocations_of l) rest) a h)
 
 pub done_locals : (o : LoopSectioned) (steps : ℕ) (listed : List Invocation) (d : IsDone o steps listed) (ls : List Datum) → locals_after o ls ≡ d.outcome.locals
 done_locals o steps listed d ls = ap (λ o. locals_after o ls) d.is
@@ -265,6 +294,10 @@ module _ (p : PlainProgram) (line : ℕ) (s : Statement) (m : Machine) (ps : Pas
       ap (going_on p m.todo m) (stays_alone p m.bodies.current.this line m.bodies.current.locals (world_of m ps) s m.left o stop)
       ∙ ap (runs_alone p line s m) (sym (nothing_more ps) ∙ ap (and_notes ps) (sym (none_noted m o stop)))
 
+-- a heap that an engine left as it was
+pub alone_with : (p : PlainProgram) (line : ℕ) (s : Statement) (m : Machine) (h : List Object) (ps : Past) (b : Flow World) → h ≡ m.heap → runs_alone p line s (record { todo = m.todo; values = m.values; bodies = m.bodies; heap = h; left = m.left; shown = m.shown; trap = m.trap; due = m.due }) ps ≡ b → runs_alone p line s m ps ≡ b
+alone_with p line s m h ps b same e = subst (λ (h : List Object). runs_alone p line s (record { todo = m.todo; values = m.values; bodies = m.bodies; heap = h; left = m.left; shown = m.shown; trap = m.trap; due = m.due }) ps ≡ b) same e
+
 -- ---- it runs here
 
 heeded_again : (f : Body) (ls : List Datum) → f.heeds ≡ true → heeding (with_locals (alone f) ls) ≡ with_locals f ls
@@ -275,9 +308,11 @@ put_alone p line s x m new ps here heeds todo values current below heap left =
     let f = m.bodies.current in
     let w = world_of m ps in
     let flow : Flow World = exec (serial_parts p f.this) line f.locals w (statement_view s) m.left in
-    rw (todo, values, current, below, heap, left, here, mode_is f (statement_view s) heeds)
-    (go_on_same flow _ _ (λ ls w k. ap (λ g. resume p m.todo m.values g m.bodies.below w k) (sym (heeded_again f ls (flag_is f (statement_view s) heeds))))
-    ∙ ap (λ flow. go_on flow (λ ls w k. resume p m.todo m.values (heeding (with_locals (alone f) ls)) m.bodies.below w k) (λ v w k. runs_out w)) (sym (none_one p f.this (statement_view s) line f.locals w m.left)))
+    let back : Datum → World → ℕ → Flow World = λ v w k. by_mode f.mode (unwind p m.todo m.values m.bodies.below w k v) (runs_out w) in
+    rw (todo, values, current, below, heap, left, here)
+    (go_on_same flow _ _ back (λ ls w k. ap (λ g. resume p m.todo m.values g m.bodies.below w k) (sym (heeded_again f ls (flag_is f (statement_view s) heeds))))
+    ∙ ap (λ flow. go_on flow (λ ls w k. resume p m.todo m.values (heeding (with_locals (alone f) ls)) m.bodies.below w k) back)
+      (sym (none_one p f.this (statement_view s) line f.locals w m.left) ∙ sym (ap (λ (mode : Mode). runs p mode (alone f) w line (statement_view s) m.left) (mode_is f (statement_view s) heeds))))
 
 -- ---- work that is no loop
 
