@@ -120,7 +120,7 @@ pub module _ (p : PlainProgram) (m : Machine) (ps : Past) where
   none_more : (todo : List Work) → Split (world_after (rest_of p todo m ps)).notes (ps.notes ++ [])
   none_more todo = let s : Split (world_after (rest_of p todo m ps)).notes ps.notes = notes_are p todo m ps _ refl in record { rest = s.rest; whole = rw (append-nil ps.notes) s.whole }
 
-  section_split : (todo : List Work) (line : ℕ) (s : Bor Stmt) → heeds_loop m.bodies.current (statement_view s.now) ≡ true → puts_nothing (statement_view s.now) ≡ true → (o : LoopSectioned) → section_next p m line (statement_view s.now) ≡ o → Split (world_after (rest_of p (Exec line s ∷ todo) m ps)).notes (ps.notes ++ notes_of m o)
+  section_split : (todo : List Work) (line : ℕ) (s : Bor Stmt) → heeds_loop m.bodies.current (statement_view s.now) ≡ true → puts_nothing (statement_view s.now) ≡ true → (o : LoopSectioned) → section_next p m line (statement_view s.now) ≡ o → Split (world_after (rest_of p (Exec line s ∷ todo) m ps)).notes (ps.notes ++ notes_of m.heap m.left o)
   section_split todo line s heeds puts (loop_done x) is =
       let f = m.bodies.current in
       let w = world_of m ps in
@@ -136,7 +136,7 @@ pub module _ (p : PlainProgram) (m : Machine) (ps : Past) where
   loop_split : (todo : List Work) (line : ℕ) (s : Bor Stmt) → Split (world_after (rest_of p (Exec line s ∷ todo) m ps)).notes (ps.notes ++ loop_notes p m line (statement_view s.now))
   loop_split todo line s = at (heeds_loop m.bodies.current (statement_view s.now)) refl (puts_nothing (statement_view s.now)) refl
     where
-      at : (a : Bool) → heeds_loop m.bodies.current (statement_view s.now) ≡ a → (b : Bool) → puts_nothing (statement_view s.now) ≡ b → Split (world_after (rest_of p (Exec line s ∷ todo) m ps)).notes (ps.notes ++ either (a && b) (notes_of m (section_next p m line (statement_view s.now))) [])
+      at : (a : Bool) → heeds_loop m.bodies.current (statement_view s.now) ≡ a → (b : Bool) → puts_nothing (statement_view s.now) ≡ b → Split (world_after (rest_of p (Exec line s ∷ todo) m ps)).notes (ps.notes ++ either (a && b) (notes_of m.heap m.left (section_next p m line (statement_view s.now))) [])
       at true h true q = section_split todo line s h q (section_next p m line (statement_view s.now)) refl
       at true h false q = none_more (Exec line s ∷ todo)
       at false h b q = none_more (Exec line s ∷ todo)
@@ -163,8 +163,8 @@ stands_in all before more s n at = subst (λ l. Contains l n) (sym s.whole) (Con
 -- ---- accounts of several notes
 
 pub reached_on : {A : Type 0} {S : A → PlainProgram → List Object → List Invocation → ℕ → A → Type 0} (p : PlainProgram) (a b c : A) (ns ms : List Note) → Reached S p a ns b → Reached S p b ms c → Reached S p a (ns ++ ms) c
-reached_on {S = S} p a b c ns .[] r at_first = subst (λ l. Reached S p a l b) (sym (append-nil ns)) r
-reached_on {S = S} p a b c ns .(ms ++ n ∷ []) r (by_one {ns = ms} n q step) = subst (λ l. Reached S p a l c) (append_assoc ns ms (n ∷ [])) (by_one n (reached_on p a _ _ ns ms r q) step)
+reached_on {S = S} p a b c ns ms r at_first = subst (λ l. Reached S p a l b) (sym (append-nil ns)) r
+reached_on {S = S} p a b c ns all r (by_one {ns = ms} n q step) = subst (λ l. Reached S p a l c) (append_assoc ns ms (n ∷ [])) (by_one n (reached_on p a _ _ ns ms r q) step)
 
 pub part_on : {A : Type 0} {S : A → PlainProgram → List Object → List Invocation → ℕ → A → Type 0} (p : PlainProgram) (a b c : A) (ns ms all : List Note) → Reached S p a ns b → ReachedPart S p b ms c → Split all (ns ++ ms) → ReachedPart S p a all c
 part_on p a b c ns ms all r q s = record {

@@ -1,6 +1,6 @@
 -- A marked loop that is next, as it is listed, as an engine runs what it lists, and as it runs here.
 use Rattle.std.proofs.Common.{Bor, ◌≡◌, ◌≤◌, ℕ, ◌+◌, ◌-◌, List, [], ◌∷◌, ◌++◌, refl, ap, sym, subst, ◌∙◌, arith, map, append-nil, append_assoc}
-use Rattle.std.specs.Prelude.{Bool, true, false, ◌&&◌, ◌||◌, nat_eq, Contains}
+use Rattle.std.specs.Prelude.{Bool, true, false, ◌&&◌, ◌||◌, nat_eq, Contains, Result, Ok, Err, IfOk}
 use Rattle.std.proofs.lemmas.List.Elements.{Contains-push}
 use Rattle.ca_program.specs.declared.program.LoopId.{LoopId}
 use Rattle.ca_program.specs.Plain.{PlainProgram, Statement, block, put_local, put_field, put_item, new_local, new_field, new_item, invoke, if_else, while_loop, for_loop, return_value, print_value}
@@ -13,8 +13,8 @@ use Rattle.ca_meaning.specs.Expressions.{Invocation}
 use Rattle.ca_meaning.specs.Flows.{Flow, goes_on, gives_back, stops, runs_out, and_on, exec}
 use Rattle.ca_meaning.specs.Sections.{LoopOutcome, LoopSectioned, loop_done, loop_stopped, loop_over, loop_section}
 use Rattle.ca_meaning.specs.Serial.{Note, World, fresh, run_call, operations_of, serial_parts, serial_ops}
-use Rattle.ca_meaning.proofs.Near.{NearFlow, both_go}
-use Rattle.ca_parallel.specs.Accounts.{Reached, at_first, by_one}
+use Rattle.ca_meaning.proofs.Near.{NearFlow, both_go, both_return, both_stop, both_run_out}
+use Rattle.ca_parallel.specs.Accounts.{Reached, ReachedPart, HandedOn, at_first, by_one}
 use Rattle.ca_parallel.specs.Calls.{RunsTo, invocations_of, operation_of}
 use Rattle.ca_parallel.specs.declared.op.Op.{Op}
 use Rattle.ca_parallel.specs.Lists.{PlainMarks, has_site, loop_in, note, either, world_after}
@@ -48,8 +48,8 @@ for_sites [] own site loop has = refl
 for_sites (x ∷ xs) own site loop has = rw (has x, for_sites xs own site loop has) refl
 
 none_in : (sites : List LoopId) (s : Statement) → ((x : LoopId) → has_site s x ≡ false) → loop_in sites s ≡ false
-none_in [] s no = refl
-none_in (x ∷ xs) s no = rw (no x, none_in xs s no) refl
+none_in [] s free = refl
+none_in (x ∷ xs) s free = rw (free x, none_in xs s free) refl
 
 pub marked_is : (sites : List LoopId) (s : Statement) → is_marked sites s ≡ loop_in sites s
 marked_is sites (for_loop own site part first c next b) = sym (for_sites sites own site (for_loop own site part first c next b) (λ x. refl))
@@ -112,7 +112,7 @@ exec_marked p ms this line ls w (print_value own x) k e = let n : loop_in ms.loo
 runs_marked : (p : PlainProgram) (f : Body) (w : World) (line : ℕ) (s : Statement) (k : ℕ) → heeds_loop f s ≡ true → runs p f.mode f w line s k ≡ either (puts_nothing s) (by_section p f.this line f.locals w s k (loop_section p w.heap f.this f.locals line s k)) (exec (serial_parts p f.this) line f.locals w s k)
 runs_marked p f w line s k heeds = ap (λ (m : Mode). runs p m f w line s k) (mode_is f s heeds) ∙ exec_marked p (marks_of f) f.this line f.locals w s k (loop_is f s heeds)
 
-nothing_more : (ps : Past) → and_notes ps [] ≡ ps
+pub nothing_more : (ps : Past) → and_notes ps [] ≡ ps
 nothing_more ps = rw (append-nil ps.notes) refl
 
 module _ (p : PlainProgram) (line : ℕ) (s : Statement) (todo : List Work) (m : Machine) (ps : Past) (heeds : heeds_loop m.bodies.current s ≡ true) where
@@ -162,13 +162,13 @@ trapped_section p m line s answer now t h e = trapped (section_next p m line s) 
 pub spent_section : (p : PlainProgram) (m : Machine) (line : ℕ) (s : Statement) (answer : SectionAnswer) (now : List Op) → Answered p m line s answer now → answer ≡ Spent → Stopped (section_next p m line s)
 spent_section p m line s answer now h e = spent (section_next p m line s) [] now (subst (λ (a : SectionAnswer). LoopIs a (section_next p m line s) [] now) e h.is)
 
-pub none_noted : (m : Machine) (o : LoopSectioned) → Stopped o → notes_of m o ≡ []
-none_noted m (loop_stopped t) (by_trap t) = refl
-none_noted m loop_over by_spent = refl
+pub none_noted : (m : Machine) (o : LoopSectioned) → Stopped o → notes_of m.heap m.left o ≡ []
+none_noted m o (by_trap t) = refl
+none_noted m o by_spent = refl
 
 stays_alone : (p : PlainProgram) (this : Datum) (line : ℕ) (ls : List Datum) (w : World) (s : Statement) (k : ℕ) (o : LoopSectioned) → Stopped o → by_section p this line ls w s k o ≡ exec (serial_parts p this) line ls w s k
-stays_alone p this line ls w s k (loop_stopped t) (by_trap t) = refl
-stays_alone p this line ls w s k loop_over by_spent = refl
+stays_alone p this line ls w s k o (by_trap t) = refl
+stays_alone p this line ls w s k o by_spent = refl
 
 -- ---- a section that is done
 
@@ -195,10 +195,10 @@ pub done_locals : (o : LoopSectioned) (steps : ℕ) (listed : List Invocation) (
 done_locals o steps listed d ls = ap (λ o. locals_after o ls) d.is
 
 -- its note
-pub note_is : (m : Machine) (o : LoopSectioned) (steps : ℕ) (listed : List Invocation) → IsDone o steps listed → notes_of m o ≡ note m.heap listed (m.left - steps) ∷ []
-note_is m o steps listed d = ap (notes_of m) d.is ∙ ap (λ l. note m.heap l (m.left - d.outcome.steps) ∷ []) d.listed_are ∙ ap (λ k. note m.heap listed (m.left - k) ∷ []) d.steps_are
+pub note_is : (m : Machine) (o : LoopSectioned) (steps : ℕ) (listed : List Invocation) → IsDone o steps listed → notes_of m.heap m.left o ≡ note m.heap listed (m.left - steps) ∷ []
+note_is m o steps listed d = ap (notes_of m.heap m.left) d.is ∙ ap (λ l. note m.heap l (m.left - d.outcome.steps) ∷ []) d.listed_are ∙ ap (λ k. note m.heap listed (m.left - k) ∷ []) d.steps_are
 
-pub noted_in : (m : Machine) (o : LoopSectioned) (steps : ℕ) (listed : List Invocation) → IsDone o steps listed → Contains (notes_of m o) (note m.heap listed (m.left - steps))
+pub noted_in : (m : Machine) (o : LoopSectioned) (steps : ℕ) (listed : List Invocation) → IsDone o steps listed → Contains (notes_of m.heap m.left o) (note m.heap listed (m.left - steps))
 noted_in m o steps listed d = subst (λ l. Contains l (note m.heap listed (m.left - steps))) (sym (note_is m o steps listed d)) (Contains-push [] (note m.heap listed (m.left - steps)))
 
 pub ops_are : (os : List Op) → map op_of (invocations_of os) ≡ map operation_of os
@@ -206,32 +206,57 @@ ops_are [] = refl
 ops_are (o ∷ os) = ap (λ l. o.op ∷ l) (ops_are os)
 
 -- one step of the account
-pub accounted : {A : Type 0} {S : A → PlainProgram → List Object → List Invocation → ℕ → A → Type 0} (p : PlainProgram) (a b : A) (m : Machine) (o : LoopSectioned) (steps : ℕ) (listed : List Invocation) → IsDone o steps listed → S a p m.heap listed (m.left - steps) b → Reached S p a (notes_of m o) b
+pub accounted : {A : Type 0} {S : A → PlainProgram → List Object → List Invocation → ℕ → A → Type 0} (p : PlainProgram) (a b : A) (m : Machine) (o : LoopSectioned) (steps : ℕ) (listed : List Invocation) → IsDone o steps listed → S a p m.heap listed (m.left - steps) b → Reached S p a (notes_of m.heap m.left o) b
 accounted {S = S} p a b m o steps listed d step = subst (λ l. Reached S p a l b) (sym (note_is m o steps listed d)) (by_one (note m.heap listed (m.left - steps)) at_first step)
 
-pub unaccounted : {A : Type 0} {S : A → PlainProgram → List Object → List Invocation → ℕ → A → Type 0} (p : PlainProgram) (a : A) (m : Machine) (o : LoopSectioned) → Stopped o → Reached S p a (notes_of m o) a
+pub unaccounted : {A : Type 0} {S : A → PlainProgram → List Object → List Invocation → ℕ → A → Type 0} (p : PlainProgram) (a : A) (m : Machine) (o : LoopSectioned) → Stopped o → Reached S p a (notes_of m.heap m.left o) a
 unaccounted {S = S} p a m o stop = subst (λ l. Reached S p a l a) (sym (none_noted m o stop)) at_first
+
+-- ---- where memory is wanting
+
+pub same_part : {A : Type 0} {S : A → PlainProgram → List Object → List Invocation → ℕ → A → Type 0} {p : PlainProgram} {a b : A} (ns ms : List Note) → ms ≡ ns → ReachedPart S p a ns b → ReachedPart S p a ms b
+same_part {S = S} {p} {a} {b} ns ms is part = subst (λ l. ReachedPart S p a l b) (sym is) part
+
+pub none_told : {T E : Type 0} (P : T → Type 0) (r : Result T E) (e : E) → r ≡ Err e → IfOk r P
+none_told P (Ok x) e is = cc
+none_told P (Err y) e is = tt
+
+pub part_told : {A T E : Type 0} {S : A → PlainProgram → List Object → List Invocation → ℕ → A → Type 0} {p : PlainProgram} {a b : A} {ns : List Note} (r : Result T E) (e : E) → r ≡ Err e → ReachedPart S p a ns b → HandedOn S p a b r ns
+part_told (Ok x) e is part = cc
+part_told (Err y) e is part = record { all = tt; part = part }
+
+pub none_yet : {A : Type 0} {S : A → PlainProgram → List Object → List Invocation → ℕ → A → Type 0} {p : PlainProgram} {a : A} (ns : List Note) → ReachedPart S p a ns a
+none_yet ns = record { done = []; rest = ns; whole = refl; reached = at_first }
+
+pub whole_part : {A : Type 0} {S : A → PlainProgram → List Object → List Invocation → ℕ → A → Type 0} {p : PlainProgram} {a b : A} (ns : List Note) → Reached S p a ns b → ReachedPart S p a ns b
+whole_part ns reached = record { done = ns; rest = []; whole = sym (append-nil ns); reached = reached }
 
 -- ---- operations in order
 
 ends_bare : (p : PlainProgram) (is : List Invocation) (w : World) (k : ℕ) (ls : List Datum) (v : World) (j : ℕ) → serial_ops p is w k ≡ goes_on ls v j → ls ≡ []
 ends_bare p [] w k ls v j e = cc
-ends_bare p (i ∷ is) w k ls v j e = from (run_call (operations_of p) [] i w k) e
+ends_bare p (i ∷ is) w k ls v j e = from (run_call (operations_of p) [] i w k) (λ y n h. ends_bare p is y n ls v j h) e
   where
-    from : (o : Flow World) → and_on o (λ ls w k. serial_ops p is w k) ≡ goes_on ls v j → ls ≡ []
-    from (goes_on xs y n) h = ends_bare p is y n ls v j h
-    from (gives_back x y n) h = cc
-    from (stops t y) h = cc
-    from (runs_out y) h = cc
+    from : (o : Flow World) → ((y : World) (n : ℕ) → serial_ops p is y n ≡ goes_on ls v j → ls ≡ []) → and_on o (λ ls w k. serial_ops p is w k) ≡ goes_on ls v j → ls ≡ []
+    from (goes_on xs y n) more h = more y n h
+    from (gives_back x y n) more h = cc
+    from (stops t y) more h = cc
+    from (runs_out y) more h = cc
+
+abbrev steps_in : Flow World → ℕ
+steps_in (goes_on ls w k) = k
+steps_in (gives_back v w k) = k
+steps_in (stops t w) = 0
+steps_in (runs_out w) = 0
+
+no_more_steps : {n : ℕ} {f g : Flow World} → NearFlow n f g → steps_in f ≤ n
+no_more_steps (both_go h) = h
+no_more_steps (both_return h) = h
+no_more_steps both_stop = omega arith
+no_more_steps both_run_out = omega arith
 
 takes_steps : (p : PlainProgram) (is : List Invocation) (w : World) (k : ℕ) (ls : List Datum) (v : World) (j : ℕ) → serial_ops p is w k ≡ goes_on ls v j → j ≤ k
-takes_steps p is w k ls v j e = from (serial_ops p is w k) (list_self p is w k) e
-  where
-    from : (f : Flow World) → NearFlow k f f → f ≡ goes_on ls v j → j ≤ k
-    from f near h = at (subst (λ (g : Flow World). NearFlow k g g) h near)
-      where
-        at : NearFlow k (goes_on ls v j) (goes_on ls v j) → j ≤ k
-        at (both_go le) = le
+takes_steps p is w k ls v j e = subst (λ (f : Flow World). steps_in f ≤ k) e (no_more_steps (list_self p is w k))
 
 bare_notes : (p : PlainProgram) (is : List Invocation) (h : List Object) (k : ℕ) (ls : List Datum) (v : World) (j : ℕ) → serial_ops p is (fresh h) k ≡ goes_on ls v j → v.notes ≡ []
 bare_notes p is h k ls v j e = sym (ap (λ o. (world_after o).notes) (ap (λ o. moved (λ ps. ps) (λ ns. []) o) (sym e) ∙ serial_ops_moved (λ ps. ps) (λ ns. []) (λ ps v. refl) p is (fresh h) k ∙ e))
@@ -262,7 +287,7 @@ undone p is h k ps ns ls plain not = from (serial_ops p is (fresh h) k) refl (rw
 
 module _ (p : PlainProgram) (line : ℕ) (s : Statement) (m : Machine) (ps : Past) where
   -- an engine ran what a loop lists
-  pub was_listed : (o : LoopSectioned) (taken : ℕ) (listed : List Invocation) (d : IsDone o taken listed) (after : List Object) (steps : ℕ) → ParallelFrom p (map op_of listed) → RunsTo p m.heap listed (m.left - taken) after steps → (new : Machine) → new.heap ≡ after → new.bodies.current ≡ with_locals m.bodies.current d.outcome.locals → new.bodies.below ≡ m.bodies.below → new.todo ≡ m.todo → new.values ≡ m.values → new.left ≡ m.left - taken - steps → going_on p m.todo m (by_section p m.bodies.current.this line m.bodies.current.locals (world_of m ps) s m.left o) ≡ rest_of p new.todo new (and_notes ps (notes_of m o))
+  pub was_listed : (o : LoopSectioned) (taken : ℕ) (listed : List Invocation) (d : IsDone o taken listed) (after : List Object) (steps : ℕ) → ParallelFrom p (map op_of listed) → RunsTo p m.heap listed (m.left - taken) after steps → (new : Machine) → new.heap ≡ after → new.bodies.current ≡ with_locals m.bodies.current d.outcome.locals → new.bodies.below ≡ m.bodies.below → new.todo ≡ m.todo → new.values ≡ m.values → new.left ≡ m.left - taken - steps → going_on p m.todo m (by_section p m.bodies.current.this line m.bodies.current.locals (world_of m ps) s m.left o) ≡ rest_of p new.todo new (and_notes ps (notes_of m.heap m.left o))
   was_listed o taken listed d after steps parallel run new heap current below todo values left =
       let x = d.outcome in
       let steps_taken = run.taken in
@@ -279,7 +304,7 @@ module _ (p : PlainProgram) (line : ℕ) (s : Statement) (m : Machine) (ps : Pas
       ∙ ap (λ flow. going_on p m.todo m (behind_list x.locals flow plain)) same)
 
   -- an engine that serves declined it
-  pub was_declined : (o : LoopSectioned) (taken : ℕ) (listed : List Invocation) → IsDone o taken listed → IsNotDone p m.heap listed (m.left - taken) → going_on p m.todo m (by_section p m.bodies.current.this line m.bodies.current.locals (world_of m ps) s m.left o) ≡ runs_alone p line s m (and_notes ps (notes_of m o))
+  pub was_declined : (o : LoopSectioned) (taken : ℕ) (listed : List Invocation) → IsDone o taken listed → IsNotDone p m.heap listed (m.left - taken) → going_on p m.todo m (by_section p m.bodies.current.this line m.bodies.current.locals (world_of m ps) s m.left o) ≡ runs_alone p line s m (and_notes ps (notes_of m.heap m.left o))
   was_declined o taken listed d not =
       let x = d.outcome in
       let ns : List Note = ps.notes ++ note m.heap x.listed (m.left - x.steps) ∷ [] in
@@ -289,7 +314,7 @@ module _ (p : PlainProgram) (line : ℕ) (s : Statement) (m : Machine) (ps : Pas
       (ap (going_on p m.todo m) (undone p x.listed m.heap (m.left - x.steps) ps.prints ns x.locals (exec (serial_parts p m.bodies.current.this) line m.bodies.current.locals (with_list (world_of m ps) m.left x) s m.left) no))
 
   -- its section isn't done
-  pub was_stopped : (o : LoopSectioned) → Stopped o → going_on p m.todo m (by_section p m.bodies.current.this line m.bodies.current.locals (world_of m ps) s m.left o) ≡ runs_alone p line s m (and_notes ps (notes_of m o))
+  pub was_stopped : (o : LoopSectioned) → Stopped o → going_on p m.todo m (by_section p m.bodies.current.this line m.bodies.current.locals (world_of m ps) s m.left o) ≡ runs_alone p line s m (and_notes ps (notes_of m.heap m.left o))
   was_stopped o stop =
       ap (going_on p m.todo m) (stays_alone p m.bodies.current.this line m.bodies.current.locals (world_of m ps) s m.left o stop)
       ∙ ap (runs_alone p line s m) (sym (nothing_more ps) ∙ ap (and_notes ps) (sym (none_noted m o stop)))
@@ -317,21 +342,33 @@ put_alone p line s x m new ps here heeds todo values current below heap left =
 -- ---- work that is no loop
 
 pub other_work : (p : PlainProgram) (work : Work) (todo : List Work) (m : Machine) → ((line : ℕ) (s : Bor Stmt) → work ≡ Exec line s → ⊥) → notes_next p (work ∷ todo) m ≡ []
-other_work p (Exec line s) todo m no = absurd (no line s refl)
-other_work p (Evaluate line e) todo m no = refl
-other_work p (Take taker) todo m no = refl
-other_work p (Collect line t es n) todo m no = refl
-other_work p (Seq ss) todo m no = refl
-other_work p (Again line s) todo m no = refl
-other_work p Leave todo m no = refl
-other_work p Back todo m no = refl
-other_work p Heed todo m no = refl
+other_work p (Exec line s) todo m other = absurd (other line s refl)
+other_work p (Evaluate line e) todo m other = refl
+other_work p (Take taker) todo m other = refl
+other_work p (Collect line t es n) todo m other = refl
+other_work p (Seq ss) todo m other = refl
+other_work p (Again line s) todo m other = refl
+other_work p Leave todo m other = refl
+other_work p Back todo m other = refl
+other_work p Heed todo m other = refl
 
 pub unheeded : (p : PlainProgram) (line : ℕ) (s : Bor Stmt) (todo : List Work) (m : Machine) → heeds_loop m.bodies.current (statement_view s.now) ≡ false → notes_next p (Exec line s ∷ todo) m ≡ []
-unheeded p line s todo m no = rw no refl
+unheeded p line s todo m free = rw free refl
 
 pub putting : (p : PlainProgram) (line : ℕ) (s : Bor Stmt) (todo : List Work) (m : Machine) → heeds_loop m.bodies.current (statement_view s.now) ≡ true → puts_nothing (statement_view s.now) ≡ false → notes_next p (Exec line s ∷ todo) m ≡ []
 putting p line s todo m heeds puts = rw (heeds, puts) refl
 
-pub listing : (p : PlainProgram) (line : ℕ) (s : Bor Stmt) (todo : List Work) (m : Machine) → heeds_loop m.bodies.current (statement_view s.now) ≡ true → puts_nothing (statement_view s.now) ≡ true → notes_next p (Exec line s ∷ todo) m ≡ notes_of m (section_next p m line (statement_view s.now))
+pub listing : (p : PlainProgram) (line : ℕ) (s : Bor Stmt) (todo : List Work) (m : Machine) → heeds_loop m.bodies.current (statement_view s.now) ≡ true → puts_nothing (statement_view s.now) ≡ true → notes_next p (Exec line s ∷ todo) m ≡ notes_of m.heap m.left (section_next p m line (statement_view s.now))
 listing p line s todo m heeds puts = rw (heeds, puts) refl
+
+-- ---- what is next
+
+pub reached_none : {A : Type 0} {S : A → PlainProgram → List Object → List Invocation → ℕ → A → Type 0} {p : PlainProgram} {a : A} (ns : List Note) → ns ≡ [] → Reached S p a ns a
+reached_none {S = S} {p} {a} ns is = subst (λ l. Reached S p a l a) (sym is) at_first
+
+pub reached_same : {A : Type 0} {S : A → PlainProgram → List Object → List Invocation → ℕ → A → Type 0} {p : PlainProgram} {a b : A} (ns ms : List Note) → ms ≡ ns → Reached S p a ns b → Reached S p a ms b
+reached_same {S = S} {p} {a} {b} ns ms is reached = subst (λ l. Reached S p a l b) (sym is) reached
+
+-- what is to be done stays as it is
+pub stays_next : (p : PlainProgram) (m : Machine) (ps : Past) (todo : List Work) → m.todo ≡ todo → notes_next p m.todo m ≡ [] → rest_of p m.todo m ps ≡ rest_of p todo m (and_notes ps (notes_next p m.todo m))
+stays_next p m ps todo is none = ap (λ (todo : List Work). rest_of p todo m ps) is ∙ ap (rest_of p todo m) (sym (nothing_more ps) ∙ ap (and_notes ps) (sym none))

@@ -3,6 +3,7 @@ use Rattle.std.specs.Prelude.{◌≡◌, ℕ, ◌-◌, Bool, true, false, ◌&&�
 use Rattle.ca_program.specs.declared.program.LoopId.{LoopId}
 use Rattle.ca_program.specs.Plain.{PlainProgram, Statement, for_loop}
 use Rattle.ca_program.specs.View.{statement_view}
+use Rattle.ca_model.specs.declared.value.Object.{Object}
 use Rattle.ca_meaning.specs.Flows.{Flow, exec}
 use Rattle.ca_meaning.specs.Sections.{LoopSectioned, loop_done, loop_stopped, loop_over, loop_section}
 use Rattle.ca_meaning.specs.Serial.{Note, World, serial_parts}
@@ -34,15 +35,15 @@ heeds_loop f s = is_marked (marks_of f).loops s && in_operation f.mode
 abbrev pub section_next : PlainProgram → Machine → ℕ → Statement → LoopSectioned
 section_next p m line s = loop_section p m.heap m.bodies.current.this m.bodies.current.locals line s m.left
 
--- what a section lists, if it is done
-abbrev pub notes_of : Machine → LoopSectioned → List Note
-notes_of m (loop_done o) = note m.heap o.listed (m.left - o.steps) ∷ []
-notes_of m (loop_stopped t) = []
-notes_of m loop_over = []
+-- what a section in a heap lists within so many steps, if it is done
+abbrev pub notes_of : List Object → ℕ → LoopSectioned → List Note
+notes_of h k (loop_done o) = note h o.listed (k - o.steps) ∷ []
+notes_of h k (loop_stopped t) = []
+notes_of h k loop_over = []
 
 -- what a statement that is next hands on, if it is a loop whose mark is heeded and which puts nothing into fields
 abbrev pub loop_notes : PlainProgram → Machine → ℕ → Statement → List Note
-loop_notes p m line s = either (heeds_loop m.bodies.current s && puts_nothing s) (notes_of m (section_next p m line s)) []
+loop_notes p m line s = either (heeds_loop m.bodies.current s && puts_nothing s) (notes_of m.heap m.left (section_next p m line s)) []
 
 abbrev pub notes_next : PlainProgram → List Work → Machine → List Note
 notes_next p [] m = []

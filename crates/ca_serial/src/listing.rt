@@ -68,9 +68,9 @@ fn list_loop<'a, R: Threads + Wait + Sync, E: Extents>(
     requires program { ProgramTyped (program_view program.now) }
     requires heeded { heeds_loop machine.old.bodies.current (statement_view s.now) ≡ true }
     requires nothing { puts_nothing (statement_view s.now) ≡ true }
-    requires handed { (n : Note) → Contains (notes_of machine.old (section_next (program_view program.now) machine.old line (statement_view s.now))) n → NoteGood (program_view program.now) n × (E.serves ≡ true) }
-    ensures means { IfOk result (λ _. (ps : Past) → rest_of (program_view program.now) (Work.Exec line s.entry ∷ machine.old.todo) machine.old ps ≡ rest_of (program_view program.now) machine.new.todo machine.new (and_notes ps (notes_of machine.old (section_next (program_view program.now) machine.old line (statement_view s.now))))) }
-    ensures account { HandedOn E.Accounts (program_view program.now) (E.account engine.old) (E.account engine.new) result (notes_of machine.old (section_next (program_view program.now) machine.old line (statement_view s.now))) }
+    requires handed { (n : Note) → Contains (notes_of machine.old.heap machine.old.left (section_next (program_view program.now) machine.old line (statement_view s.now))) n → NoteGood (program_view program.now) n × (E.serves ≡ true) }
+    ensures means { IfOk result (λ _. (ps : Past) → rest_of (program_view program.now) (Work.Exec line s.entry ∷ machine.old.todo) machine.old ps ≡ rest_of (program_view program.now) machine.new.todo machine.new (and_notes ps (notes_of machine.old.heap machine.old.left (section_next (program_view program.now) machine.old line (statement_view s.now))))) }
+    ensures account { HandedOn E.Accounts (program_view program.now) (E.account engine.old) (E.account engine.new) result (notes_of machine.old.heap machine.old.left (section_next (program_view program.now) machine.old line (statement_view s.now))) }
 {
     let mut desk = Desk::new(alloc)?;
     let mut locals = copies(alloc, machine.bodies.locals())?;

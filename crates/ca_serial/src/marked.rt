@@ -46,7 +46,8 @@ impl<'a> Marked<'a> {
         if place < self.flags.len() {
             self.flags[place]
         } else {
-            is_among(self.marks.ops.as_slice(), op)
+            let marks = self.marks;
+            is_among(marks.ops.as_slice(), op)
         }
     }
 
@@ -54,7 +55,8 @@ impl<'a> Marked<'a> {
     pub fn holds_loop(&self, site: LoopId) -> bool
         ensures { result ≡ site_in self.now.loops site }
     {
-        is_site_among(self.marks.loops.as_slice(), site)
+        let marks = self.marks;
+        is_site_among(marks.loops.as_slice(), site)
     }
 }
 

@@ -1,4 +1,4 @@
-use Rattle.std.proofs.Common.{◌≡◌, ◌∙◌, refl, ap, sym, subst, rules, List, [], ◌∷◌, arith, ◌-◌}
+use Rattle.std.proofs.Common.{◌≡◌, ◌∙◌, true, false, refl, ap, sym, subst, rules, List, [], ◌∷◌, arith, ◌-◌}
 use Rattle.ca_program.specs.View.{program_view, statement_view}
 use Rattle.ca_parallel.specs.Bodies.{targets_of}
 use Rattle.ca_parallel.specs.Accounts.{Reached, ReachedPart, at_first}
@@ -12,33 +12,47 @@ use Rattle.ca_note_laws.specs.Listing.{puts_nothing}
 use Rattle.ca_serial.specs.Loops.{heeds_loop, section_next, notes_of, notes_next, runs_alone}
 use Rattle.ca_serial.specs.Resume.{and_notes, rest_of}
 use Rattle.ca_serial.specs.declared.machine.Machine.{Machine}
-use Rattle.ca_serial.proofs.LoopCalls.{other_work, unheeded, putting, listing, nothing_more, puts_alone}
+use Rattle.std.proofs.lemmas.Result.{err_from_is_err_and}
+use Rattle.ca_serial.proofs.LoopCalls.{none_told, part_told, none_yet, same_part, reached_none, reached_same, stays_next, other_work, unheeded, putting, listing, nothing_more, puts_alone}
+use Rattle.ca_serial.specs.declared.work.Work.{Work}
 use Rattle.ca_serial.specs.declared.work.Work.TheVariants.{Exec}
+use Rattle.std.specs.Prelude.{Contains}
 use Rattle.ca_serial.proofs.listing.hand_on_loop.Goals as goal
 
 pub returns-in_default : goal.returns-in_default
 returns-in_default g c =
     let p = program_view c.args.program.now in
     let m = c.args.machine.now in
+    let ns : notes_next p m.todo m ≡ [] = ap (λ (todo : List Work). notes_next p todo m) c.in_default.ensures.0 in
     record {
-      means = λ ps. rw (c.in_default.ensures.0, c.in_default.ensures.1) (ap (rest_of p [] m) (sym (nothing_more ps)));
-      account = rw c.in_default.ensures.0 (record { all = at_first; part = tt });
+      means = λ ps. stays_next p m ps c.pop.new.self (c.in_default.ensures.0 ∙ sym c.in_default.ensures.1) ns;
+      account = record { all = reached_none (notes_next p m.todo m) ns; part = tt };
     }
 
 pub returns-in_err-push : goal.returns-in_err-push
-returns-in_err-push g c = record { means = tt; account = record { all = tt; part = record { done = []; rest = _; whole = refl; reached = at_first } } }
+returns-in_err-push g c =
+    let p = program_view c.args.program.now in
+    let m = c.args.machine.now in
+    let e = err_from_is_err_and c.from_residual.result c.from_residual.ensures.1 in
+    record { means = none_told _ c.from_residual.result e.0 e.1; account = part_told c.from_residual.result e.0 e.1 (none_yet (notes_next p m.todo m)) }
 
 pub returns-in_err-push-2 : goal.returns-in_err-push-2
-returns-in_err-push-2 g c = record { means = tt; account = record { all = tt; part = record { done = []; rest = _; whole = refl; reached = at_first } } }
+returns-in_err-push-2 g c =
+    let p = program_view c.args.program.now in
+    let m = c.args.machine.now in
+    let e = err_from_is_err_and c.from_residual-in_err-push-2.result c.from_residual-in_err-push-2.ensures.1 in
+    record { means = none_told _ c.from_residual-in_err-push-2.result e.0 e.1; account = part_told c.from_residual-in_err-push-2.result e.0 e.1 (none_yet (notes_next p m.todo m)) }
 
 pub returns-in_default-work : goal.returns-in_default-work
 returns-in_default-work g c =
     let p = program_view c.args.program.now in
     let m = c.args.machine.now in
-    let none = other_work p c.in-Some.work c.pop.new.self m c.in_default-work.not-Exec in
+    let work = c.in-Some.work in
+    let popped = c.pop.new.self in
+    let ns : notes_next p m.todo m ≡ [] = ap (λ (todo : List Work). notes_next p todo m) c.in-Some.ensures ∙ other_work p work popped m c.in_default-work.not-Exec in
     record {
-      means = λ ps. rw (c.in-Some.ensures, none, c.in_ok-push.ensures) (ap (rest_of p (c.in-Some.work ∷ c.pop.new.self) m) (sym (nothing_more ps)));
-      account = rw (c.in-Some.ensures, none) (record { all = at_first; part = tt });
+      means = λ ps. stays_next p m ps c.push.new.self (c.in-Some.ensures ∙ sym c.in_ok-push.ensures) ns;
+      account = record { all = reached_none (notes_next p m.todo m) ns; part = tt };
     }
 
 pub returns-then-not-heeds : goal.returns-then-not-heeds
@@ -49,11 +63,12 @@ returns-then-not-heeds g c =
     let x = c.in-Exec.s in
     let st = statement_view x.now in
     let popped = c.pop.new.self in
-    let no : heeds_loop m.bodies.current st ≡ false = sym c.heeds.ensures ∙ c.if-not-heeds.true in
-    let none = unheeded p line x popped m no in
+    let is : m.todo ≡ Exec line x ∷ popped = c.in-Some.ensures ∙ ap (λ (work : Work). work ∷ popped) c.in-Exec.is in
+    let no_loop : heeds_loop m.bodies.current st ≡ false = sym c.heeds.ensures ∙ c.if-not-heeds.true in
+    let ns : notes_next p m.todo m ≡ [] = ap (λ (todo : List Work). notes_next p todo m) is ∙ unheeded p line x popped m no_loop in
     record {
-      means = λ ps. rw (c.in-Some.ensures, c.in_ok-push-2.ensures, c.in-Exec.is, none) (ap (rest_of p (Exec line x ∷ popped) m) (sym (nothing_more ps)));
-      account = rw (c.in-Some.ensures, c.in-Exec.is, none) (record { all = at_first; part = tt });
+      means = λ ps. stays_next p m ps c.push-then-not-heeds.new.self (c.in-Some.ensures ∙ sym c.in_ok-push-2.ensures) ns;
+      account = record { all = reached_none (notes_next p m.todo m) ns; part = tt };
     }
 
 pub list_loop-requires-clause-program : goal.list_loop-requires-clause-program
@@ -77,10 +92,11 @@ list_loop-requires-clause-handed g c =
     let x = c.in-Exec.s in
     let st = statement_view x.now in
     let popped = c.pop.new.self in
+    let is : m.todo ≡ Exec line x ∷ popped = c.in-Some.ensures ∙ ap (λ (work : Work). work ∷ popped) c.in-Exec.is in
     let heeds : heeds_loop m.bodies.current st ≡ true = sym c.heeds.ensures ∙ c.if-not-heeds.false in
     let puts : puts_nothing st ≡ true = sym c.puts_nothing.ensures ∙ c.if-puts_nothing.true in
-    let same = listing p line x popped m heeds puts in
-    c.requires.handed n (rw (c.in-Some.ensures, c.in-Exec.is, same) at)
+    let ns : notes_next p m.todo m ≡ notes_of m.heap m.left (section_next p m line st) = ap (λ (todo : List Work). notes_next p todo m) is ∙ listing p line x popped m heeds puts in
+    c.requires.handed n (subst (λ l. Contains l n) (sym ns) at)
 
 pub returns-in_err-list_loop : goal.returns-in_err-list_loop
 returns-in_err-list_loop g c =
@@ -90,10 +106,12 @@ returns-in_err-list_loop g c =
     let x = c.in-Exec.s in
     let st = statement_view x.now in
     let popped = c.pop.new.self in
+    let is : m.todo ≡ Exec line x ∷ popped = c.in-Some.ensures ∙ ap (λ (work : Work). work ∷ popped) c.in-Exec.is in
     let heeds : heeds_loop m.bodies.current st ≡ true = sym c.heeds.ensures ∙ c.if-not-heeds.false in
     let puts : puts_nothing st ≡ true = sym c.puts_nothing.ensures ∙ c.if-puts_nothing.true in
-    let same = listing p line x popped m heeds puts in
-    record { means = tt; account = rw (c.in-Some.ensures, c.in-Exec.is, same) (record { all = tt; part = c.in_err-list_loop.ensures.account.part }) }
+    let ns : notes_next p m.todo m ≡ notes_of m.heap m.left (section_next p m line st) = ap (λ (todo : List Work). notes_next p todo m) is ∙ listing p line x popped m heeds puts in
+    let e = err_from_is_err_and c.from_residual-in_err-list_loop.result c.from_residual-in_err-list_loop.ensures.1 in
+    record { means = none_told _ c.from_residual-in_err-list_loop.result e.0 e.1; account = part_told c.from_residual-in_err-list_loop.result e.0 e.1 (same_part (notes_of m.heap m.left (section_next p m line st)) (notes_next p m.todo m) ns c.in_err-list_loop.ensures.account.part) }
 
 pub returns-then-puts_nothing : goal.returns-then-puts_nothing
 returns-then-puts_nothing g c =
@@ -103,12 +121,14 @@ returns-then-puts_nothing g c =
     let x = c.in-Exec.s in
     let st = statement_view x.now in
     let popped = c.pop.new.self in
+    let is : m.todo ≡ Exec line x ∷ popped = c.in-Some.ensures ∙ ap (λ (work : Work). work ∷ popped) c.in-Exec.is in
     let heeds : heeds_loop m.bodies.current st ≡ true = sym c.heeds.ensures ∙ c.if-not-heeds.false in
     let puts : puts_nothing st ≡ true = sym c.puts_nothing.ensures ∙ c.if-puts_nothing.true in
-    let same = listing p line x popped m heeds puts in
+    let ns : notes_next p m.todo m ≡ notes_of m.heap m.left (section_next p m line st) = ap (λ (todo : List Work). notes_next p todo m) is ∙ listing p line x popped m heeds puts in
+    let new = c.list_loop.new.machine in
     record {
-      means = λ ps. rw (c.in-Some.ensures, c.in-Exec.is, same) (c.in_ok-list_loop.ensures.means ps);
-      account = rw (c.in-Some.ensures, c.in-Exec.is, same) (record { all = c.in_ok-list_loop.ensures.account.all; part = tt });
+      means = λ ps. ap (λ (todo : List Work). rest_of p todo m ps) is ∙ c.in_ok-list_loop.ensures.means ps ∙ ap (λ ns. rest_of p new.todo new (and_notes ps ns)) (sym ns);
+      account = record { all = reached_same (notes_of m.heap m.left (section_next p m line st)) (notes_next p m.todo m) ns c.in_ok-list_loop.ensures.account.all; part = tt };
     }
 
 pub put_alone-requires : goal.put_alone-requires
@@ -116,7 +136,11 @@ put_alone-requires g c =
     sym c.heeds.ensures ∙ c.if-not-heeds.false
 
 pub returns-in_err-put_alone : goal.returns-in_err-put_alone
-returns-in_err-put_alone g c = record { means = tt; account = record { all = tt; part = record { done = []; rest = _; whole = refl; reached = at_first } } }
+returns-in_err-put_alone g c =
+    let p = program_view c.args.program.now in
+    let m = c.args.machine.now in
+    let e = err_from_is_err_and c.from_residual-in_err-put_alone.result c.from_residual-in_err-put_alone.ensures.1 in
+    record { means = none_told _ c.from_residual-in_err-put_alone.result e.0 e.1; account = part_told c.from_residual-in_err-put_alone.result e.0 e.1 (none_yet (notes_next p m.todo m)) }
 
 pub returns : goal.returns
 returns g c =
@@ -126,11 +150,12 @@ returns g c =
     let x = c.in-Exec.s in
     let st = statement_view x.now in
     let popped = c.pop.new.self in
+    let is : m.todo ≡ Exec line x ∷ popped = c.in-Some.ensures ∙ ap (λ (work : Work). work ∷ popped) c.in-Exec.is in
     let heeds : heeds_loop m.bodies.current st ≡ true = sym c.heeds.ensures ∙ c.if-not-heeds.false in
     let puts : puts_nothing st ≡ false = sym c.puts_nothing.ensures ∙ c.if-puts_nothing.false in
-    let none = putting p line x popped m heeds puts in
+    let ns : notes_next p m.todo m ≡ [] = ap (λ (todo : List Work). notes_next p todo m) is ∙ putting p line x popped m heeds puts in
     let new = c.put_alone.new.self in
     record {
-      means = λ ps. rw (c.in-Some.ensures, c.in-Exec.is, none) (puts_alone p line st popped m ps heeds puts ∙ c.in_ok-put_alone.ensures ps ∙ ap (rest_of p new.todo new) (sym (nothing_more ps)));
-      account = rw (c.in-Some.ensures, c.in-Exec.is, none) (record { all = at_first; part = tt });
+      means = λ ps. ap (λ (todo : List Work). rest_of p todo m ps) is ∙ puts_alone p line st popped m ps heeds puts ∙ c.in_ok-put_alone.ensures ps ∙ ap (rest_of p new.todo new) (sym (nothing_more ps) ∙ ap (and_notes ps) (sym ns));
+      account = record { all = reached_none (notes_next p m.todo m) ns; part = tt };
     }

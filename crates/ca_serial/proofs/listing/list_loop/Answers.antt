@@ -17,23 +17,34 @@ use Rattle.ca_serial.specs.Bodies.{with_locals}
 use Rattle.ca_serial.specs.Resume.{and_notes, rest_of}
 use Rattle.ca_serial.specs.declared.machine.Machine.{Machine}
 use Rattle.ca_serial.proofs.Quietness.{is_none}
-use Rattle.ca_serial.proofs.LoopCalls.{IsDone, Stopped, Answered, answered, left_locals, said_of, done_locals, alone_with, trapped_section, spent_section, done_section, noted_in, ops_are, accounted, unaccounted, by_its_section, was_stopped, was_listed, was_declined}
+use Rattle.std.proofs.lemmas.Result.{err_from_is_err_and}
+use Rattle.ca_serial.proofs.LoopCalls.{none_told, part_told, none_yet, whole_part, IsDone, Stopped, Answered, answered, left_locals, said_of, done_locals, alone_with, trapped_section, spent_section, done_section, noted_in, ops_are, accounted, unaccounted, by_its_section, was_stopped, was_listed, was_declined}
 use Rattle.ca_serial.proofs.listing.list_loop.Goals as goal
 
 pub returns-in_err-desk : goal.returns-in_err-desk
-returns-in_err-desk g c = record { means = tt; account = record { all = tt; part = record { done = []; rest = _; whole = refl; reached = at_first } } }
+returns-in_err-desk g c =
+    let e = err_from_is_err_and c.from_residual.result c.from_residual.ensures.1 in
+    record { means = none_told _ c.from_residual.result e.0 e.1; account = part_told c.from_residual.result e.0 e.1 (none_yet (notes_of c.args.machine.now.heap c.args.machine.now.left (section_next (program_view c.args.program.now) c.args.machine.now c.args.line (statement_view c.args.s.now)))) }
 
 pub returns-in_err-locals : goal.returns-in_err-locals
-returns-in_err-locals g c = record { means = tt; account = record { all = tt; part = record { done = []; rest = _; whole = refl; reached = at_first } } }
+returns-in_err-locals g c =
+    let e = err_from_is_err_and c.from_residual-in_err-locals.result c.from_residual-in_err-locals.ensures.1 in
+    record { means = none_told _ c.from_residual-in_err-locals.result e.0 e.1; account = part_told c.from_residual-in_err-locals.result e.0 e.1 (none_yet (notes_of c.args.machine.now.heap c.args.machine.now.left (section_next (program_view c.args.program.now) c.args.machine.now c.args.line (statement_view c.args.s.now)))) }
 
 pub returns-in_err-answer : goal.returns-in_err-answer
-returns-in_err-answer g c = record { means = tt; account = record { all = tt; part = record { done = []; rest = _; whole = refl; reached = at_first } } }
+returns-in_err-answer g c =
+    let e = err_from_is_err_and c.from_residual-in_err-answer.result c.from_residual-in_err-answer.ensures.1 in
+    record { means = none_told _ c.from_residual-in_err-answer.result e.0 e.1; account = part_told c.from_residual-in_err-answer.result e.0 e.1 (none_yet (notes_of c.args.machine.now.heap c.args.machine.now.left (section_next (program_view c.args.program.now) c.args.machine.now c.args.line (statement_view c.args.s.now)))) }
 
 pub returns-in_err-put_alone-in-Trapped : goal.returns-in_err-put_alone-in-Trapped
-returns-in_err-put_alone-in-Trapped g c = record { means = tt; account = record { all = tt; part = record { done = []; rest = _; whole = refl; reached = at_first } } }
+returns-in_err-put_alone-in-Trapped g c =
+    let e = err_from_is_err_and c.from_residual-in_err-put_alone-in-Trapped.result c.from_residual-in_err-put_alone-in-Trapped.ensures.1 in
+    record { means = none_told _ c.from_residual-in_err-put_alone-in-Trapped.result e.0 e.1; account = part_told c.from_residual-in_err-put_alone-in-Trapped.result e.0 e.1 (none_yet (notes_of c.args.machine.now.heap c.args.machine.now.left (section_next (program_view c.args.program.now) c.args.machine.now c.args.line (statement_view c.args.s.now)))) }
 
 pub returns-in_err-put_alone-in-Spent : goal.returns-in_err-put_alone-in-Spent
-returns-in_err-put_alone-in-Spent g c = record { means = tt; account = record { all = tt; part = record { done = []; rest = _; whole = refl; reached = at_first } } }
+returns-in_err-put_alone-in-Spent g c =
+    let e = err_from_is_err_and c.from_residual-in_err-put_alone-in-Spent.result c.from_residual-in_err-put_alone-in-Spent.ensures.1 in
+    record { means = none_told _ c.from_residual-in_err-put_alone-in-Spent.result e.0 e.1; account = part_told c.from_residual-in_err-put_alone-in-Spent.result e.0 e.1 (none_yet (notes_of c.args.machine.now.heap c.args.machine.now.left (section_next (program_view c.args.program.now) c.args.machine.now c.args.line (statement_view c.args.s.now)))) }
 
 pub put_alone-requires : goal.put_alone-requires
 put_alone-requires g c = c.requires.heeded
@@ -52,10 +63,10 @@ returns-in-Trapped g c =
     let o = section_next p m c.args.line st in
     let none : targets_of st ≡ [] = is_none (targets_of st) c.requires.nothing in
     let ops = c.section_of_loop.new.out.items in
-    let h = answered p m c.args.line st c.in_ok-answer.answer ops _ _ _ c.this-this.ensures (c.in_ok-locals.ensures ∙ c.locals.ensures) c.new-listed.ensures (c.in_ok-answer.ensures.answer none) in
+    let h = answered p m c.args.line st c.in_ok-answer.answer ops _ _ _ c.this-this.ensures (c.in_ok-locals.ensures ∙ c.locals.ensures) c.new-listed.ensures.items (c.in_ok-answer.ensures.answer none) in
     let stop : Stopped o = trapped_section p m c.args.line st c.in_ok-answer.answer ops c.in-Trapped.field-0 h c.in-Trapped.is in
     record {
-      means = λ ps. by_its_section p c.args.line st m.todo m ps c.requires.heeded c.requires.nothing o refl ∙ was_stopped p c.args.line st m ps o stop ∙ c.in_ok-put_alone-in-Trapped.ensures (and_notes ps (notes_of m o));
+      means = λ ps. by_its_section p c.args.line st m.todo m ps c.requires.heeded c.requires.nothing o refl ∙ was_stopped p c.args.line st m ps o stop ∙ c.in_ok-put_alone-in-Trapped.ensures (and_notes ps (notes_of m.heap m.left o));
       account = record { all = unaccounted p _ m o stop; part = tt };
     }
 
@@ -67,10 +78,10 @@ returns-in-Spent g c =
     let o = section_next p m c.args.line st in
     let none : targets_of st ≡ [] = is_none (targets_of st) c.requires.nothing in
     let ops = c.section_of_loop.new.out.items in
-    let h = answered p m c.args.line st c.in_ok-answer.answer ops _ _ _ c.this-this.ensures (c.in_ok-locals.ensures ∙ c.locals.ensures) c.new-listed.ensures (c.in_ok-answer.ensures.answer none) in
+    let h = answered p m c.args.line st c.in_ok-answer.answer ops _ _ _ c.this-this.ensures (c.in_ok-locals.ensures ∙ c.locals.ensures) c.new-listed.ensures.items (c.in_ok-answer.ensures.answer none) in
     let stop : Stopped o = spent_section p m c.args.line st c.in_ok-answer.answer ops h c.in-Spent.is in
     record {
-      means = λ ps. by_its_section p c.args.line st m.todo m ps c.requires.heeded c.requires.nothing o refl ∙ was_stopped p c.args.line st m ps o stop ∙ c.in_ok-put_alone-in-Spent.ensures (and_notes ps (notes_of m o));
+      means = λ ps. by_its_section p c.args.line st m.todo m ps c.requires.heeded c.requires.nothing o refl ∙ was_stopped p c.args.line st m ps o stop ∙ c.in_ok-put_alone-in-Spent.ensures (and_notes ps (notes_of m.heap m.left o));
       account = record { all = unaccounted p _ m o stop; part = tt };
     }
 
@@ -85,7 +96,7 @@ run-requires-clause-heap g c =
     let o = section_next p m c.args.line st in
     let none : targets_of st ≡ [] = is_none (targets_of st) c.requires.nothing in
     let ops = c.section_of_loop.new.out.items in
-    let h = answered p m c.args.line st c.in_ok-answer.answer ops _ _ _ c.this-this.ensures (c.in_ok-locals.ensures ∙ c.locals.ensures) c.new-listed.ensures (c.in_ok-answer.ensures.answer none) in
+    let h = answered p m c.args.line st c.in_ok-answer.answer ops _ _ _ c.this-this.ensures (c.in_ok-locals.ensures ∙ c.locals.ensures) c.new-listed.ensures.items (c.in_ok-answer.ensures.answer none) in
     let taken = c.in-Done.steps in
     let d : IsDone o taken (invocations_of ops) = done_section p m c.args.line st c.in_ok-answer.answer ops taken h c.in-Done.is in
     let good : NoteGood p (note m.heap (invocations_of ops) (m.left - taken)) = (c.requires.handed _ (noted_in m o taken (invocations_of ops) d)).0 in
@@ -99,7 +110,7 @@ run-requires-clause-typed g c =
     let o = section_next p m c.args.line st in
     let none : targets_of st ≡ [] = is_none (targets_of st) c.requires.nothing in
     let ops = c.section_of_loop.new.out.items in
-    let h = answered p m c.args.line st c.in_ok-answer.answer ops _ _ _ c.this-this.ensures (c.in_ok-locals.ensures ∙ c.locals.ensures) c.new-listed.ensures (c.in_ok-answer.ensures.answer none) in
+    let h = answered p m c.args.line st c.in_ok-answer.answer ops _ _ _ c.this-this.ensures (c.in_ok-locals.ensures ∙ c.locals.ensures) c.new-listed.ensures.items (c.in_ok-answer.ensures.answer none) in
     let taken = c.in-Done.steps in
     let d : IsDone o taken (invocations_of ops) = done_section p m c.args.line st c.in_ok-answer.answer ops taken h c.in-Done.is in
     let good : NoteGood p (note m.heap (invocations_of ops) (m.left - taken)) = (c.requires.handed _ (noted_in m o taken (invocations_of ops) d)).0 in
@@ -113,14 +124,18 @@ run-requires-clause-parallel g c =
     let o = section_next p m c.args.line st in
     let none : targets_of st ≡ [] = is_none (targets_of st) c.requires.nothing in
     let ops = c.section_of_loop.new.out.items in
-    let h = answered p m c.args.line st c.in_ok-answer.answer ops _ _ _ c.this-this.ensures (c.in_ok-locals.ensures ∙ c.locals.ensures) c.new-listed.ensures (c.in_ok-answer.ensures.answer none) in
+    let h = answered p m c.args.line st c.in_ok-answer.answer ops _ _ _ c.this-this.ensures (c.in_ok-locals.ensures ∙ c.locals.ensures) c.new-listed.ensures.items (c.in_ok-answer.ensures.answer none) in
     let taken = c.in-Done.steps in
     let d : IsDone o taken (invocations_of ops) = done_section p m c.args.line st c.in_ok-answer.answer ops taken h c.in-Done.is in
     let good : NoteGood p (note m.heap (invocations_of ops) (m.left - taken)) = (c.requires.handed _ (noted_in m o taken (invocations_of ops) d)).0 in
     subst (λ (l : List Op). ParallelFrom p (map operation_of l)) (sym c.as_slice.ensures.value) (subst (ParallelFrom p) (ops_are ops) good.parallel)
 
 pub returns-in_err-steps : goal.returns-in_err-steps
-returns-in_err-steps g c = record { means = tt; account = record { all = tt; part = record { done = []; rest = _; whole = refl; reached = subst (λ b. Reached g.E.Extents.Accounts (program_view c.args.program.now) (g.E.Extents.account c.args.engine.now) [] b) (sym c.in_err-steps.ensures.account_kept) at_first } } }
+returns-in_err-steps g c =
+    let e = err_from_is_err_and c.from_residual-in_err-steps.result c.from_residual-in_err-steps.ensures.1 in
+    let ns = (notes_of c.args.machine.now.heap c.args.machine.now.left (section_next (program_view c.args.program.now) c.args.machine.now c.args.line (statement_view c.args.s.now))) in
+    let kept = subst (λ b. ReachedPart g.E.Extents.Accounts (program_view c.args.program.now) (g.E.Extents.account c.args.engine.now) ns b) (sym c.in_err-steps.ensures.account_kept) (none_yet ns) in
+    record { means = none_told _ c.from_residual-in_err-steps.result e.0 e.1; account = part_told c.from_residual-in_err-steps.result e.0 e.1 kept }
 
 pub returns-in_err-put_locals-in-Done-2 : goal.returns-in_err-put_locals-in-Done-2
 returns-in_err-put_locals-in-Done-2 g c =
@@ -130,13 +145,14 @@ returns-in_err-put_locals-in-Done-2 g c =
     let o = section_next p m c.args.line st in
     let none : targets_of st ≡ [] = is_none (targets_of st) c.requires.nothing in
     let ops = c.section_of_loop.new.out.items in
-    let h = answered p m c.args.line st c.in_ok-answer.answer ops _ _ _ c.this-this.ensures (c.in_ok-locals.ensures ∙ c.locals.ensures) c.new-listed.ensures (c.in_ok-answer.ensures.answer none) in
+    let h = answered p m c.args.line st c.in_ok-answer.answer ops _ _ _ c.this-this.ensures (c.in_ok-locals.ensures ∙ c.locals.ensures) c.new-listed.ensures.items (c.in_ok-answer.ensures.answer none) in
     let taken = c.in-Done.steps in
     let d : IsDone o taken (invocations_of ops) = done_section p m c.args.line st c.in_ok-answer.answer ops taken h c.in-Done.is in
     let step : g.E.Extents.Accounts (g.E.Extents.account c.args.engine.now) p m.heap (invocations_of ops) (m.left - taken) (g.E.Extents.account c.run.new.self) =
           said_of (λ l k. g.E.Extents.Accounts (g.E.Extents.account c.args.engine.now) p m.heap l k (g.E.Extents.account c.run.new.self)) _ ops _ m.left taken c.as_slice.ensures.value c.saturating_sub-rest.ensures c.in_ok-steps.ensures.accounts in
-    let reached : Reached g.E.Extents.Accounts p (g.E.Extents.account c.args.engine.now) (notes_of m o) (g.E.Extents.account c.run.new.self) = accounted p _ _ m o taken (invocations_of ops) d step in
-    record { means = tt; account = record { all = tt; part = record { done = notes_of m o; rest = []; whole = sym (append-nil (notes_of m o)); reached = reached } } }
+    let reached : Reached g.E.Extents.Accounts p (g.E.Extents.account c.args.engine.now) (notes_of m.heap m.left o) (g.E.Extents.account c.run.new.self) = accounted p _ _ m o taken (invocations_of ops) d step in
+    let e = err_from_is_err_and c.from_residual-in_err-put_locals-in-Done-2.result c.from_residual-in_err-put_locals-in-Done-2.ensures.1 in
+    record { means = none_told _ c.from_residual-in_err-put_locals-in-Done-2.result e.0 e.1; account = part_told c.from_residual-in_err-put_locals-in-Done-2.result e.0 e.1 (whole_part (notes_of m.heap m.left o) reached) }
 
 pub returns-in-Done-2 : goal.returns-in-Done-2
 returns-in-Done-2 g c =
@@ -146,13 +162,13 @@ returns-in-Done-2 g c =
     let o = section_next p m c.args.line st in
     let none : targets_of st ≡ [] = is_none (targets_of st) c.requires.nothing in
     let ops = c.section_of_loop.new.out.items in
-    let h = answered p m c.args.line st c.in_ok-answer.answer ops _ _ _ c.this-this.ensures (c.in_ok-locals.ensures ∙ c.locals.ensures) c.new-listed.ensures (c.in_ok-answer.ensures.answer none) in
+    let h = answered p m c.args.line st c.in_ok-answer.answer ops _ _ _ c.this-this.ensures (c.in_ok-locals.ensures ∙ c.locals.ensures) c.new-listed.ensures.items (c.in_ok-answer.ensures.answer none) in
     let taken = c.in-Done.steps in
     let d : IsDone o taken (invocations_of ops) = done_section p m c.args.line st c.in_ok-answer.answer ops taken h c.in-Done.is in
     let good : NoteGood p (note m.heap (invocations_of ops) (m.left - taken)) = (c.requires.handed _ (noted_in m o taken (invocations_of ops) d)).0 in
     let step : g.E.Extents.Accounts (g.E.Extents.account c.args.engine.now) p m.heap (invocations_of ops) (m.left - taken) (g.E.Extents.account c.run.new.self) =
           said_of (λ l k. g.E.Extents.Accounts (g.E.Extents.account c.args.engine.now) p m.heap l k (g.E.Extents.account c.run.new.self)) _ ops _ m.left taken c.as_slice.ensures.value c.saturating_sub-rest.ensures c.in_ok-steps.ensures.accounts in
-    let reached : Reached g.E.Extents.Accounts p (g.E.Extents.account c.args.engine.now) (notes_of m o) (g.E.Extents.account c.run.new.self) = accounted p _ _ m o taken (invocations_of ops) d step in
+    let reached : Reached g.E.Extents.Accounts p (g.E.Extents.account c.args.engine.now) (notes_of m.heap m.left o) (g.E.Extents.account c.run.new.self) = accounted p _ _ m o taken (invocations_of ops) d step in
     let ran : Answers p m.heap (invocations_of ops) (m.left - taken) c.run.new.heap c.in_ok-steps.field-0 =
           said_of (λ l k. Answers p m.heap l k c.run.new.heap c.in_ok-steps.field-0) _ ops _ m.left taken c.as_slice.ensures.value c.saturating_sub-rest.ensures c.in_ok-steps.ensures.answer in
     let run : RunsTo p m.heap (invocations_of ops) (m.left - taken) c.run.new.heap c.in-Done-2.steps = subst (λ (a : ExtentAnswer). Answers p m.heap (invocations_of ops) (m.left - taken) c.run.new.heap a) c.in-Done-2.is ran in
@@ -172,13 +188,14 @@ returns-in_err-put_alone-in-Declined g c =
     let o = section_next p m c.args.line st in
     let none : targets_of st ≡ [] = is_none (targets_of st) c.requires.nothing in
     let ops = c.section_of_loop.new.out.items in
-    let h = answered p m c.args.line st c.in_ok-answer.answer ops _ _ _ c.this-this.ensures (c.in_ok-locals.ensures ∙ c.locals.ensures) c.new-listed.ensures (c.in_ok-answer.ensures.answer none) in
+    let h = answered p m c.args.line st c.in_ok-answer.answer ops _ _ _ c.this-this.ensures (c.in_ok-locals.ensures ∙ c.locals.ensures) c.new-listed.ensures.items (c.in_ok-answer.ensures.answer none) in
     let taken = c.in-Done.steps in
     let d : IsDone o taken (invocations_of ops) = done_section p m c.args.line st c.in_ok-answer.answer ops taken h c.in-Done.is in
     let step : g.E.Extents.Accounts (g.E.Extents.account c.args.engine.now) p m.heap (invocations_of ops) (m.left - taken) (g.E.Extents.account c.run.new.self) =
           said_of (λ l k. g.E.Extents.Accounts (g.E.Extents.account c.args.engine.now) p m.heap l k (g.E.Extents.account c.run.new.self)) _ ops _ m.left taken c.as_slice.ensures.value c.saturating_sub-rest.ensures c.in_ok-steps.ensures.accounts in
-    let reached : Reached g.E.Extents.Accounts p (g.E.Extents.account c.args.engine.now) (notes_of m o) (g.E.Extents.account c.run.new.self) = accounted p _ _ m o taken (invocations_of ops) d step in
-    record { means = tt; account = record { all = tt; part = record { done = notes_of m o; rest = []; whole = sym (append-nil (notes_of m o)); reached = reached } } }
+    let reached : Reached g.E.Extents.Accounts p (g.E.Extents.account c.args.engine.now) (notes_of m.heap m.left o) (g.E.Extents.account c.run.new.self) = accounted p _ _ m o taken (invocations_of ops) d step in
+    let e = err_from_is_err_and c.from_residual-in_err-put_alone-in-Declined.result c.from_residual-in_err-put_alone-in-Declined.ensures.1 in
+    record { means = none_told _ c.from_residual-in_err-put_alone-in-Declined.result e.0 e.1; account = part_told c.from_residual-in_err-put_alone-in-Declined.result e.0 e.1 (whole_part (notes_of m.heap m.left o) reached) }
 
 pub returns : goal.returns
 returns g c =
@@ -188,18 +205,18 @@ returns g c =
     let o = section_next p m c.args.line st in
     let none : targets_of st ≡ [] = is_none (targets_of st) c.requires.nothing in
     let ops = c.section_of_loop.new.out.items in
-    let h = answered p m c.args.line st c.in_ok-answer.answer ops _ _ _ c.this-this.ensures (c.in_ok-locals.ensures ∙ c.locals.ensures) c.new-listed.ensures (c.in_ok-answer.ensures.answer none) in
+    let h = answered p m c.args.line st c.in_ok-answer.answer ops _ _ _ c.this-this.ensures (c.in_ok-locals.ensures ∙ c.locals.ensures) c.new-listed.ensures.items (c.in_ok-answer.ensures.answer none) in
     let taken = c.in-Done.steps in
     let d : IsDone o taken (invocations_of ops) = done_section p m c.args.line st c.in_ok-answer.answer ops taken h c.in-Done.is in
     let step : g.E.Extents.Accounts (g.E.Extents.account c.args.engine.now) p m.heap (invocations_of ops) (m.left - taken) (g.E.Extents.account c.run.new.self) =
           said_of (λ l k. g.E.Extents.Accounts (g.E.Extents.account c.args.engine.now) p m.heap l k (g.E.Extents.account c.run.new.self)) _ ops _ m.left taken c.as_slice.ensures.value c.saturating_sub-rest.ensures c.in_ok-steps.ensures.accounts in
-    let reached : Reached g.E.Extents.Accounts p (g.E.Extents.account c.args.engine.now) (notes_of m o) (g.E.Extents.account c.run.new.self) = accounted p _ _ m o taken (invocations_of ops) d step in
+    let reached : Reached g.E.Extents.Accounts p (g.E.Extents.account c.args.engine.now) (notes_of m.heap m.left o) (g.E.Extents.account c.run.new.self) = accounted p _ _ m o taken (invocations_of ops) d step in
     let heap : c.run.new.heap ≡ m.heap = subst (λ (a : ExtentAnswer). Answers p m.heap (invocations_of c.as_slice.result.now) c.saturating_sub-rest.result c.run.new.heap a) c.in-Declined.is c.in_ok-steps.ensures.answer in
     let not : IsNotDone p m.heap (invocations_of ops) (m.left - taken) = said_of (λ l k. IsNotDone p m.heap l k) _ ops _ m.left taken c.as_slice.ensures.value c.saturating_sub-rest.ensures (c.in_ok-steps.ensures.declined (c.requires.handed _ (noted_in m o taken (invocations_of ops) d)).1 c.in-Declined.is) in
     let after = c.put_alone-in-Declined.new.self in
     record {
       means = λ ps. by_its_section p c.args.line st m.todo m ps c.requires.heeded c.requires.nothing o refl
           ∙ was_declined p c.args.line st m ps o taken (invocations_of ops) d not
-          ∙ alone_with p c.args.line st m c.run.new.heap (and_notes ps (notes_of m o)) _ heap (c.in_ok-put_alone-in-Declined.ensures (and_notes ps (notes_of m o)));
+          ∙ alone_with p c.args.line st m c.run.new.heap (and_notes ps (notes_of m.heap m.left o)) _ heap (c.in_ok-put_alone-in-Declined.ensures (and_notes ps (notes_of m.heap m.left o)));
       account = record { all = reached; part = tt };
     }
