@@ -116,7 +116,7 @@ all_good p typed marks sound budget false served n at = absurd (none_of n (subst
 
 -- ---- a loop that is next
 
-pub module _ (p : PlainProgram) (m : Machine) (ps : Past) where
+module _ (p : PlainProgram) (m : Machine) (ps : Past) where
   none_more : (todo : List Work) → Split (world_after (rest_of p todo m ps)).notes (ps.notes ++ [])
   none_more todo = let s : Split (world_after (rest_of p todo m ps)).notes ps.notes = notes_are p todo m ps _ refl in record { rest = s.rest; whole = rw (append-nil ps.notes) s.whole }
 

@@ -37,6 +37,9 @@ pub trait Extents {
     /// Whether it runs what it is handed.
     ghost serves: { Bool };
 
+    /// What every engine of the kind rests on, as what a closure that it calls promises.
+    ghost ready: { Type 0 };
+
     /// What running these operations within a budget, in a heap, does to the account.
     ghost Accounts: { Account → PlainProgram → List Object → List Invocation → ℕ → Account → Type 0 };
 
@@ -53,6 +56,7 @@ pub trait Extents {
         operations: &[Op],
         budget: u64,
     ) -> Result<ExtentAnswer, Memory>
+        requires ready { ready }
         requires program { ProgramTyped (program_view program.now) }
         requires heap { TypedHeap (program_view program.now) heap.old }
         requires typed { AllWellTyped (program_view program.now) heap.old (invocations_of operations.now) }
@@ -74,6 +78,8 @@ impl Extents for NoExtents {
     ghost account = { λ engine. tt };
 
     ghost serves = { false };
+
+    ghost ready = { Unit {0} };
 
     ghost Accounts = { λ before p h is budget after. Unit {0} };
 

@@ -29,6 +29,7 @@ pub fn hand_on<'a, R: Threads + Wait + Sync, E: Extents>(
     machine: &mut Machine<'a>,
     engine: &mut E,
 ) -> Result<bool, Memory>
+    requires ready { E.ready }
     requires program { ProgramTyped (program_view program.now) }
     requires good { NoteGood (program_view program.now) (note_of machine.old) }
     ensures means { IfOk result (λ goes. (ps : Past) → runs_due (program_view program.now) machine.old ps ≡ after (program_view program.now) machine.new ps (next_of goes)) }

@@ -31,6 +31,7 @@ pub fn hand_on_loop<'a, R: Threads + Wait + Sync, E: Extents>(
     machine: &mut Machine<'a>,
     engine: &mut E,
 ) -> Result<(), Memory>
+    requires ready { E.ready }
     requires program { ProgramTyped (program_view program.now) }
     requires handed { (n : Note) → Contains (notes_next (program_view program.now) machine.old.todo machine.old) n → NoteGood (program_view program.now) n × (E.serves ≡ true) }
     ensures means { IfOk result (λ _. (ps : Past) → rest_of (program_view program.now) machine.old.todo machine.old ps ≡ rest_of (program_view program.now) machine.new.todo machine.new (and_notes ps (notes_next (program_view program.now) machine.old.todo machine.old))) }
@@ -65,6 +66,7 @@ fn list_loop<'a, R: Threads + Wait + Sync, E: Extents>(
     machine: &mut Machine<'a>,
     engine: &mut E,
 ) -> Result<(), Memory>
+    requires ready { E.ready }
     requires program { ProgramTyped (program_view program.now) }
     requires heeded { heeds_loop machine.old.bodies.current (statement_view s.now) ≡ true }
     requires nothing { puts_nothing (statement_view s.now) ≡ true }

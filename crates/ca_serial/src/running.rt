@@ -48,7 +48,8 @@ pub enum RunError {
 
 /// Runs `main` from the empty heap with a budget of steps. What it prints goes to the sink at once.
 ///
-/// The program is typed, the marks are sound, and there are none where the engine doesn't serve. Each call of a marked
+/// What the engine rests on holds, the program is typed, the marks are sound, and there are none where the engine
+/// doesn't serve. Each call of a marked
 /// operation is handed to the engine, and so are the calls that a marked loop lists; what the engine declines runs here.
 /// Within what was handed on nothing is. After an error a beginning of the prints was written.
 pub fn drive<R: Threads + Wait + Sync, E: Extents, K: Sink>(
@@ -60,6 +61,7 @@ pub fn drive<R: Threads + Wait + Sync, E: Extents, K: Sink>(
     engine: &mut E,
     sink: &mut K,
 ) -> Result<Outcome, RunError>
+    requires ready { E.ready }
     requires program { ProgramTyped (program_view program.now) }
     requires sound { SoundMarks (program_view program.now) marks.now }
     requires served { E.serves ≡ false → marks.now ≡ no_marks }
@@ -89,6 +91,7 @@ fn run_on<'a, R: Threads + Wait + Sync, E: Extents, K: Sink>(
     engine: &mut E,
     sink: &mut K,
 ) -> Result<Outcome, RunError>
+    requires ready { E.ready }
     requires program { ProgramTyped (program_view program.now) }
     requires good { (n : Note) → Contains (lists (program_view program.now) marks.now budget) n → NoteGood (program_view program.now) n × (E.serves ≡ true) }
     // The machine stands before `main`.

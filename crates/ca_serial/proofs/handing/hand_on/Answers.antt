@@ -15,6 +15,9 @@ returns-in-Done-clause-means g c = λ ps.
           rw (c.in-Done.is, c.as_slice.ensures.value, c.in_ok-ops.ensures.calls) at c.in_ok-steps.ensures.answer in
     was_run p m new c.run.new.heap c.in-Done.steps ps c.requires.good.parallel run refl c.cut.ensures refl refl c.saturating_sub-machine.ensures
 
+pub run-requires-clause-ready : goal.run-requires-clause-ready
+run-requires-clause-ready g c = c.requires.ready
+
 pub run-requires-clause-program : goal.run-requires-clause-program
 run-requires-clause-program g c = c.requires.program
 

@@ -71,6 +71,9 @@ returns-then-not-heeds g c =
       account = record { all = reached_none (notes_next p m.todo m) ns; part = tt };
     }
 
+pub list_loop-requires-clause-ready : goal.list_loop-requires-clause-ready
+list_loop-requires-clause-ready g c = λ κs o. c.requires.ready
+
 pub list_loop-requires-clause-program : goal.list_loop-requires-clause-program
 list_loop-requires-clause-program g c =
     λ κs o. c.requires.program

@@ -85,6 +85,9 @@ returns-in-Spent g c =
       account = record { all = unaccounted p _ m o stop; part = tt };
     }
 
+pub run-requires-clause-ready : goal.run-requires-clause-ready
+run-requires-clause-ready g c = c.requires.ready
+
 pub run-requires-clause-program : goal.run-requires-clause-program
 run-requires-clause-program g c = c.requires.program
 

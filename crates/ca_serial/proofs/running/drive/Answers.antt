@@ -11,6 +11,9 @@ returns-in_default-clause-account g c = record { all = tt; part = record { done 
 pub returns-in_default-clause-prints : goal.returns-in_default-clause-prints
 returns-in_default-clause-prints g c = record { whole = tt; part = began_nothing _ _ }
 
+pub run_on-requires-clause-ready : goal.run_on-requires-clause-ready
+run_on-requires-clause-ready g c = λ κs o. c.requires.ready
+
 pub run_on-requires-clause-good : goal.run_on-requires-clause-good
 run_on-requires-clause-good g c = λ κs o. all_good (program_view c.args.program.now) c.requires.program c.args.marks.now c.requires.sound c.args.budget g.E.Extents.serves c.requires.served
 

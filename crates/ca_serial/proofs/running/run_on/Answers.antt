@@ -106,6 +106,12 @@ returns-in-Spent g c =
       account_part = tt;
     }
 
+pub hand_on-requires-clause-ready : goal.hand_on-requires-clause-ready
+hand_on-requires-clause-ready g c = λ κs o. c.requires.ready
+
+pub hand_on-requires-clause-program : goal.hand_on-requires-clause-program
+hand_on-requires-clause-program g c = λ κs o. c.requires.program
+
 pub hand_on-requires-clause-good : goal.hand_on-requires-clause-good
 hand_on-requires-clause-good g c =
     let i = c.loop.invariant in
@@ -171,6 +177,12 @@ loop-preserved-else-not-goes g c =
     let ns : (world_after (rest_of p w.todo w (and_note i.0 n))).notes ≡ all = ap (λ f. (world_after f).notes) (sym h) ∙ ap (λ f. (world_after f).notes) (sym e) ∙ rw c.in-Some-pop.ensures at i.4 in
     (and_note i.0 n, is, i.2, i.3, ns, by_one n i.5 c.in-Ok-hand_on.ensures.account)
 
+pub hand_on_loop-requires-clause-ready : goal.hand_on_loop-requires-clause-ready
+hand_on_loop-requires-clause-ready g c = λ κs o. c.requires.ready
+
+pub hand_on_loop-requires-clause-program : goal.hand_on_loop-requires-clause-program
+hand_on_loop-requires-clause-program g c = λ κs o. c.requires.program
+
 pub hand_on_loop-requires-clause-handed : goal.hand_on_loop-requires-clause-handed
 hand_on_loop-requires-clause-handed g c =
     let i = c.loop.invariant in
@@ -197,7 +209,7 @@ returns-in-Err-hand_on_loop g c =
       write = tt;
       later = i.3;
       account = tt;
-      account_part = part_on p _ _ _ i.0.notes nn all i.5 c.hand_on_loop.ensures.account.part (next_stands p m.todo m i.0 all ns);
+      account_part = part_on p _ _ _ i.0.notes nn all i.5 c.in-Err-hand_on_loop.ensures.account.part (next_stands p m.todo m i.0 all ns);
     }
 
 pub loop-preserved : goal.loop-preserved
