@@ -368,7 +368,7 @@ mutual
   resume_grows p (Heed ∷ todo) vs f below w k = resume_grows p todo vs _ below w k
   resume_grows p (Back ∷ todo) vs f below w k = grows_pop vs _ (λ v vs. grows_back below _ (λ g below. resume_grows p todo (v ∷ vs) g below w k))
 
-  unwind_grows : (p : PlainProgram) (todo : List Work) (vs : List Datum) (below : List Body) (w : World) (k : ℕ) (v : Datum) → Grows w (unwind p todo vs below w k v)
+  pub unwind_grows : (p : PlainProgram) (todo : List Work) (vs : List Datum) (below : List Body) (w : World) (k : ℕ) (v : Datum) → Grows w (unwind p todo vs below w k v)
   unwind_grows p [] vs below w k v = grows (stays w)
   unwind_grows p (Leave ∷ todo) vs below w k v = grows_back below _ (λ g below. resume_grows p todo (v ∷ vs) g below w k)
   unwind_grows p (Evaluate line e ∷ todo) vs below w k v = unwind_grows p todo vs below w k v

@@ -49,9 +49,9 @@ pub enum RunError {
 /// Runs `main` from the empty heap with a budget of steps. What it prints goes to the sink at once.
 ///
 /// What the engine rests on holds, the program is typed, the marks are sound, and there are none where the engine
-/// doesn't serve. Each call of a marked
-/// operation is handed to the engine, and so are the calls that a marked loop lists; what the engine declines runs here.
-/// Within what was handed on nothing is. After an error a beginning of the prints was written.
+/// doesn't serve. Each call of a marked operation is handed to the engine, and so are the calls that a marked loop lists;
+/// what the engine declines runs here. Within what was handed on nothing is. After an error a beginning of the prints was
+/// written.
 pub fn drive<R: Threads + Wait + Sync, E: Extents, K: Sink>(
     rt: &R,
     alloc: Global,
