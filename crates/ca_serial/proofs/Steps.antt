@@ -1,6 +1,6 @@
 -- One step of what is left to do: lists of statements and loops.
 use Rattle.std.proofs.Common.{◌≡◌, ℕ, zero, suc, ◌<◌, ◌-◌, List, [], ◌∷◌, refl, ap, sym, ◌∙◌, arith}
-use Rattle.std.specs.Prelude.{Bool, true, false}
+use Rattle.std.specs.Prelude.{Bool, true, false, ◌&&◌}
 use Rattle.ca_program.specs.declared.program.Stmt.{Stmt}
 use Rattle.ca_program.specs.declared.program.LoopId.{LoopId}
 use Rattle.ca_program.specs.declared.program.FirstPart.{FirstPart}
@@ -19,11 +19,15 @@ use Rattle.ca_meaning.specs.Flows.{Flow, goes_on, and_on, with, choose, line_of,
 use Rattle.ca_meaning.specs.Functions.{value_in}
 use Rattle.ca_meaning.specs.Serial.{World}
 use Rattle.ca_meaning.proofs.Fix.{again_runs}
+use Rattle.ca_parallel.specs.Lists.{loop_in}
 use Rattle.ca_note_laws.proofs.Listing.{listing_loop_runs}
 use Rattle.ca_serial.specs.declared.bodies.Mode.{Mode}
 use Rattle.ca_serial.specs.declared.bodies.Mode.TheVariants.{InFunction, InOperation}
 use Rattle.ca_serial.specs.Bodies.{Body, with_locals, marks_of}
+use Rattle.ca_serial.specs.Marked.{site_in}
+use Rattle.ca_serial.specs.Loops.{in_operation}
 use Rattle.ca_serial.specs.Resume.{carried, parts_in, runs, runs_all, comes_again, runs_body, turns, go_on, heeding_parts}
+use Rattle.ca_serial.proofs.LoopCalls.{marked_is}
 use Rattle.ca_serial.proofs.Flows.{go_on_and_on, go_on_same, go_on_with, and_on_same, carried_on, carried_with, carried_choose}
 
 -- the line of a statement's view is its line
@@ -84,15 +88,21 @@ again_for p InOperation f w line own site part first c next b k = listing_loop_r
 pub for_again : (p : PlainProgram) (f : Body) (w : World) (line own : ℕ) (site : LoopId) (part : FirstPart) (first : Statement) (c : Expression) (next b : Statement) (k : ℕ) (go : List Datum → World → ℕ → Flow World) (back : Datum → World → ℕ → Flow World) → go_on (comes_again p f.mode f w line (for_loop own site part first c next b) k) go back ≡ with (value_in p.functions w.heap f.this line f.locals c k) w (λ v k. go_on (turns p f.mode f w line (for_loop own site part first c next b) k v) go back)
 for_again p f w line own site part first c next b k go back = rw (again_for p f.mode f w line own site part first c next b k) (go_on_with (value_in p.functions w.heap f.this line f.locals c k) w _ go back)
 
--- a `for` is its first part, and then it goes on with its condition
-for_is : (p : PlainProgram) (m : Mode) (f : Body) (w : World) (line own : ℕ) (site : LoopId) (part : FirstPart) (first : Statement) (c : Expression) (next b : Statement) (k : ℕ) → runs p m f w line (for_loop own site part first c next b) k ≡ and_on (runs p m f w line first k) (λ ls w k. comes_again p m (with_locals f ls) w line (for_loop own site part first c next b) k)
-for_is p InFunction f w line own site part first c next b k =
-    carried_on w (exec (parts_in p w f) line f.locals tt first k) _ _ (λ ls k. ap (carried w) (sym (again_runs p.functions w.heap f.this line ls (for_loop own site part first c next b) k)))
-for_is p InOperation f w line own site part first c next b k =
-    and_on_same (exec (heeding_parts p (marks_of f) f.this) line f.locals w first k) _ _ (λ ls w k. sym (listing_loop_runs p (marks_of f) f.this line ls w (for_loop own site part first c next b) k))
+not_here : (b : Bool) → (b && true) ≡ false → b ≡ false
+not_here true e = cc
+not_here false e = refl
 
-pub for_runs : (p : PlainProgram) (f : Body) (w : World) (line own : ℕ) (site : LoopId) (part : FirstPart) (first : Statement) (c : Expression) (next b : Statement) (k : ℕ) (go : List Datum → World → ℕ → Flow World) (back : Datum → World → ℕ → Flow World) → go_on (runs p f.mode f w line (for_loop own site part first c next b) k) go back ≡ go_on (runs p f.mode f w line first k) (λ ls w k. go_on (comes_again p f.mode (with_locals f ls) w line (for_loop own site part first c next b) k) go back) back
-for_runs p f w line own site part first c next b k go back = rw (for_is p f.mode f w line own site part first c next b k) (go_on_and_on (runs p f.mode f w line first k) _ go back)
+-- one whose mark isn't heeded is its first part, and then it goes on with its condition
+for_is : (p : PlainProgram) (m : Mode) (f : Body) (w : World) (line own : ℕ) (site : LoopId) (part : FirstPart) (first : Statement) (c : Expression) (next b : Statement) (k : ℕ) → (site_in (marks_of f).loops site && in_operation m) ≡ false → runs p m f w line (for_loop own site part first c next b) k ≡ and_on (runs p m f w line first k) (λ ls w k. comes_again p m (with_locals f ls) w line (for_loop own site part first c next b) k)
+for_is p InFunction f w line own site part first c next b k off =
+    carried_on w (exec (parts_in p w f) line f.locals tt first k) _ _ (λ ls k. ap (carried w) (sym (again_runs p.functions w.heap f.this line ls (for_loop own site part first c next b) k)))
+for_is p InOperation f w line own site part first c next b k off =
+    let loop : Statement = for_loop own site part first c next b in
+    let e : loop_in (marks_of f).loops loop ≡ false = sym (marked_is (marks_of f).loops loop) ∙ not_here (site_in (marks_of f).loops site) off in
+    rw e (and_on_same (exec (heeding_parts p (marks_of f) f.this) line f.locals w first k) _ _ (λ ls w k. sym (listing_loop_runs p (marks_of f) f.this line ls w loop k)))
+
+pub for_runs : (p : PlainProgram) (f : Body) (w : World) (line own : ℕ) (site : LoopId) (part : FirstPart) (first : Statement) (c : Expression) (next b : Statement) (k : ℕ) (go : List Datum → World → ℕ → Flow World) (back : Datum → World → ℕ → Flow World) → (site_in (marks_of f).loops site && in_operation f.mode) ≡ false → go_on (runs p f.mode f w line (for_loop own site part first c next b) k) go back ≡ go_on (runs p f.mode f w line first k) (λ ls w k. go_on (comes_again p f.mode (with_locals f ls) w line (for_loop own site part first c next b) k) go back) back
+for_runs p f w line own site part first c next b k go back off = rw (for_is p f.mode f w line own site part first c next b k off) (go_on_and_on (runs p f.mode f w line first k) _ go back)
 
 -- a turn takes a step, and the body is next
 pub turn_begins : (p : PlainProgram) (f : Body) (w : World) (line : ℕ) (loop : Statement) (k : ℕ) (go : List Datum → World → ℕ → Flow World) (back : Datum → World → ℕ → Flow World) → 0 < k → go_on (turns p f.mode f w line loop k (Truth true)) go back ≡ go_on (runs_body p f.mode f w line loop (k - 1)) (λ ls w k. go_on (comes_again p f.mode (with_locals f ls) w line loop k) go back) back
@@ -152,8 +162,8 @@ while_again_at p f w line s c b k go back is = rw is (while_again p f w line s.l
 pub for_again_at : (p : PlainProgram) (f : Body) (w : World) (line : ℕ) (s : Stmt) (site : LoopId) (part : FirstPart) (first : Box Stmt Global) (c : Expr) (next b : Box Stmt Global) (k : ℕ) (go : List Datum → World → ℕ → Flow World) (back : Datum → World → ℕ → Flow World) → s.kind ≡ For site part first c next b → go_on (comes_again p f.mode f w line (statement_view s) k) go back ≡ with (value_in p.functions w.heap f.this line f.locals (expression_view c) k) w (λ v k. go_on (turns p f.mode f w line (statement_view s) k v) go back)
 for_again_at p f w line s site part first c next b k go back is = rw is (for_again p f w line s.line site part (statement_view first.value) (expression_view c) (statement_view next.value) (statement_view b.value) k go back)
 
-pub for_runs_at : (p : PlainProgram) (f : Body) (w : World) (line : ℕ) (s : Stmt) (site : LoopId) (part : FirstPart) (first : Box Stmt Global) (c : Expr) (next b : Box Stmt Global) (k : ℕ) (go : List Datum → World → ℕ → Flow World) (back : Datum → World → ℕ → Flow World) → s.kind ≡ For site part first c next b → go_on (runs p f.mode f w line (statement_view s) k) go back ≡ go_on (runs p f.mode f w line (statement_view first.value) k) (λ ls w k. go_on (comes_again p f.mode (with_locals f ls) w line (statement_view s) k) go back) back
-for_runs_at p f w line s site part first c next b k go back is = rw is (for_runs p f w line s.line site part (statement_view first.value) (expression_view c) (statement_view next.value) (statement_view b.value) k go back)
+pub for_runs_at : (p : PlainProgram) (f : Body) (w : World) (line : ℕ) (s : Stmt) (site : LoopId) (part : FirstPart) (first : Box Stmt Global) (c : Expr) (next b : Box Stmt Global) (k : ℕ) (go : List Datum → World → ℕ → Flow World) (back : Datum → World → ℕ → Flow World) → (site_in (marks_of f).loops site && in_operation f.mode) ≡ false → s.kind ≡ For site part first c next b → go_on (runs p f.mode f w line (statement_view s) k) go back ≡ go_on (runs p f.mode f w line (statement_view first.value) k) (λ ls w k. go_on (comes_again p f.mode (with_locals f ls) w line (statement_view s) k) go back) back
+for_runs_at p f w line s site part first c next b k go back off is = rw is (for_runs p f w line s.line site part (statement_view first.value) (expression_view c) (statement_view next.value) (statement_view b.value) k go back off)
 
 pub while_turn : (p : PlainProgram) (f : Body) (w : World) (line : ℕ) (s : Stmt) (c : Expr) (b : Box Stmt Global) (k : ℕ) (go : List Datum → World → ℕ → Flow World) (back : Datum → World → ℕ → Flow World) → 0 < k → s.kind ≡ While c b → go_on (turns p f.mode f w line (statement_view s) k (Truth true)) go back ≡ go_on (runs p f.mode f w (line_of (statement_view b.value)) (statement_view b.value) (k - 1)) (λ ls w k. go_on (comes_again p f.mode (with_locals f ls) w line (statement_view s) k) go back) back
 while_turn p f w line s c b k go back lt is =

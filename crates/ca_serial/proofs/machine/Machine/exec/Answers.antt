@@ -1,4 +1,4 @@
-use Rattle.std.proofs.Common.{◌∙◌, refl}
+use Rattle.std.proofs.Common.{◌∙◌, refl, sym}
 use Rattle.ca_program.specs.View.{program_view}
 use Rattle.ca_serial.specs.Resume.{world_of}
 use Rattle.ca_serial.proofs.Steps.{block_runs, while_begins, for_runs_at}
@@ -22,5 +22,5 @@ pub returns-in_ok-push-in-For-3 : goal.returns-in_ok-push-in-For-3
 returns-in_ok-push-in-For-3 c = λ ps.
     let m = c.args.self.now in
     let f = c.in-For in
-    for_runs_at (program_view c.args.program.now) m.bodies.current (world_of m ps) c.args.line c.args.s.now f.site f.field-1 f.first f.field-3 f.field-4 f.field-5 m.left _ _ f.is
+    for_runs_at (program_view c.args.program.now) m.bodies.current (world_of m ps) c.args.line c.args.s.now f.site f.field-1 f.first f.field-3 f.field-4 f.field-5 m.left _ _ (sym c.hands_on_loop.ensures ∙ c.if-hands_on_loop.false) f.is
     ∙ rw (c.in_ok-push-in-For-3.ensures, c.in_ok-push-in-For-2.ensures, c.deref-in-For.ensures)
