@@ -48,8 +48,8 @@ pub due_notes : (p : PlainProgram) (m : Machine) (ps : Past) (all : List Note) �
 due_notes p m ps all is =
     let call : Flow World = run_call (operations_of p) m.bodies.current.locals (call_of m) (world_of m ps) m.left in
     let g : Grows (world_of m ps) (runs_due p m ps) =
-          grows_go call _ _ (run_grows (operations_of p) (all_ops_grow p) m.bodies.current.locals (call_of m) (world_of m ps) m.left)
-            (λ ls x k l. from _ l (resume_grows p m.todo (drop (m.due.count + 1) m.values) m.bodies.current m.bodies.below x k)) (λ v x k l. grows l) in
+    grows_go call _ _ (run_grows (operations_of p) (all_ops_grow p) m.bodies.current.locals (call_of m) (world_of m ps) m.left)
+    (λ ls x k l. from _ l (resume_grows p m.todo (drop (m.due.count + 1) m.values) m.bodies.current m.bodies.below x k)) (λ v x k l. grows l) in
     let l : Later (world_of m ps) (world_after (runs_due p m ps)) = later_of g in
     record { rest = l.notes; whole = sym is ∙ l.noted }
 
@@ -126,8 +126,8 @@ module _ (p : PlainProgram) (m : Machine) (ps : Past) where
       let w = world_of m ps in
       let flow : Flow World = by_section p f.this line f.locals w (statement_view s.now) m.left (loop_done x) in
       let g : Grows (with_list w m.left x) (going_on p todo m flow) =
-            grows_go flow _ _ (listed_grows p f.this line f.locals w (statement_view s.now) m.left x)
-              (λ ls y k l. from _ l (resume_grows p todo m.values (with_locals f ls) m.bodies.below y k)) (λ v y k l. from _ l (grows_mode f.mode _ (unwind_grows p todo m.values m.bodies.below y k v))) in
+      grows_go flow _ _ (listed_grows p f.this line f.locals w (statement_view s.now) m.left x)
+      (λ ls y k l. from _ l (resume_grows p todo m.values (with_locals f ls) m.bodies.below y k)) (λ v y k l. from _ l (grows_mode f.mode _ (unwind_grows p todo m.values m.bodies.below y k v))) in
       let l : Later (with_list w m.left x) (world_after (going_on p todo m flow)) = later_of g in
       record { rest = l.notes; whole = ap (λ a. (world_after a).notes) (by_its_section p line (statement_view s.now) todo m ps heeds puts (loop_done x) is) ∙ l.noted }
   section_split todo line s heeds puts (loop_stopped t) is = none_more (Exec line s ∷ todo)

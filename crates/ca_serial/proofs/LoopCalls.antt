@@ -277,8 +277,10 @@ undone p is h k ps ns ls plain not = from (serial_ops p is (fresh h) k) refl (rw
   where
     a : List Datum → List Datum
     a qs = ps ++ qs
+
     b : List Note → List Note
     b ms = ns ++ ms
+
     from : (g : Flow World) → serial_ops p is (fresh h) k ≡ g → moved a b (serial_ops p is (fresh h) k) ≡ serial_ops p is (record { heap = h; prints = ps; notes = ns }) k → behind_list ls (serial_ops p is (record { heap = h; prints = ps; notes = ns }) k) plain ≡ plain
     from (goes_on xs v j) e me = absurd (not v.heap (k - j) (runs_to p is h k xs v j e))
     from (gives_back v w j) e me = ap (λ f. behind_list ls f plain) (sym me ∙ ap (moved a b) e)
@@ -295,10 +297,10 @@ module _ (p : PlainProgram) (line : ℕ) (s : Statement) (m : Machine) (ps : Pas
       let ns : List Note = ps.notes ++ note m.heap listed (m.left - taken) ∷ [] in
       let plain : Flow World = exec (serial_parts p m.bodies.current.this) line m.bodies.current.locals (with_list (world_of m ps) m.left x) s m.left in
       let ran : serial_ops p listed (record { heap = m.heap; prints = ps.prints; notes = ns }) (m.left - taken) ≡ goes_on [] (record { heap = after; prints = ps.prints; notes = ns }) run.left =
-            runs_in p listed m.heap after [] (m.left - taken) run.left (run_is p listed parallel m.heap after (m.left - taken) steps run) ps.prints ns in
+      runs_in p listed m.heap after [] (m.left - taken) run.left (run_is p listed parallel m.heap after (m.left - taken) steps run) ps.prints ns in
       let same : serial_ops p x.listed (with_list (world_of m ps) m.left x) (m.left - x.steps) ≡ goes_on [] (record { heap = after; prints = ps.prints; notes = ns }) run.left =
-            subst (λ (l : List Invocation). serial_ops p l (record { heap = m.heap; prints = ps.prints; notes = ps.notes ++ note m.heap l (m.left - x.steps) ∷ [] }) (m.left - x.steps) ≡ goes_on [] (record { heap = after; prints = ps.prints; notes = ns }) run.left) (sym d.listed_are)
-            (subst (λ (k : ℕ). serial_ops p listed (record { heap = m.heap; prints = ps.prints; notes = ps.notes ++ note m.heap listed (m.left - k) ∷ [] }) (m.left - k) ≡ goes_on [] (record { heap = after; prints = ps.prints; notes = ns }) run.left) (sym d.steps_are) ran) in
+      subst (λ (l : List Invocation). serial_ops p l (record { heap = m.heap; prints = ps.prints; notes = ps.notes ++ note m.heap l (m.left - x.steps) ∷ [] }) (m.left - x.steps) ≡ goes_on [] (record { heap = after; prints = ps.prints; notes = ns }) run.left) (sym d.listed_are)
+      (subst (λ (k : ℕ). serial_ops p listed (record { heap = m.heap; prints = ps.prints; notes = ps.notes ++ note m.heap listed (m.left - k) ∷ [] }) (m.left - k) ≡ goes_on [] (record { heap = after; prints = ps.prints; notes = ns }) run.left) (sym d.steps_are) ran) in
       rw (note_is m o taken listed d, heap, current, below, todo, values, rest)
       (ap (λ o. going_on p m.todo m (by_section p m.bodies.current.this line m.bodies.current.locals (world_of m ps) s m.left o)) d.is
       ∙ ap (λ flow. going_on p m.todo m (behind_list x.locals flow plain)) same)
@@ -309,7 +311,7 @@ module _ (p : PlainProgram) (line : ℕ) (s : Statement) (m : Machine) (ps : Pas
       let x = d.outcome in
       let ns : List Note = ps.notes ++ note m.heap x.listed (m.left - x.steps) ∷ [] in
       let no : IsNotDone p m.heap x.listed (m.left - x.steps) =
-            subst (λ (l : List Invocation). IsNotDone p m.heap l (m.left - x.steps)) (sym d.listed_are) (subst (λ (k : ℕ). IsNotDone p m.heap listed (m.left - k)) (sym d.steps_are) not) in
+      subst (λ (l : List Invocation). IsNotDone p m.heap l (m.left - x.steps)) (sym d.listed_are) (subst (λ (k : ℕ). IsNotDone p m.heap listed (m.left - k)) (sym d.steps_are) not) in
       rw d.is
       (ap (going_on p m.todo m) (undone p x.listed m.heap (m.left - x.steps) ps.prints ns x.locals (exec (serial_parts p m.bodies.current.this) line m.bodies.current.locals (with_list (world_of m ps) m.left x) s m.left) no))
 
@@ -337,7 +339,7 @@ put_alone p line s x m new ps here heeds todo values current below heap left =
     rw (todo, values, current, below, heap, left, here)
     (go_on_same flow _ _ back (λ ls w k. ap (λ g. resume p m.todo m.values g m.bodies.below w k) (sym (heeded_again f ls (flag_is f (statement_view s) heeds))))
     ∙ ap (λ flow. go_on flow (λ ls w k. resume p m.todo m.values (heeding (with_locals (alone f) ls)) m.bodies.below w k) back)
-      (sym (none_one p f.this (statement_view s) line f.locals w m.left) ∙ sym (ap (λ (mode : Mode). runs p mode (alone f) w line (statement_view s) m.left) (mode_is f (statement_view s) heeds))))
+    (sym (none_one p f.this (statement_view s) line f.locals w m.left) ∙ sym (ap (λ (mode : Mode). runs p mode (alone f) w line (statement_view s) m.left) (mode_is f (statement_view s) heeds))))
 
 -- ---- work that is no loop
 

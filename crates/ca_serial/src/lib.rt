@@ -28,11 +28,11 @@ mod machine;
 mod marked;
 mod print;
 mod puts;
-mod targets;
 mod running;
 mod stack;
 mod statements;
 mod step;
+mod targets;
 mod work;
 
 pub use extents::{ExtentAnswer, Extents, NoExtents};

@@ -77,7 +77,16 @@ pub fn drive<R: Threads + Wait + Sync, E: Extents, K: Sink>(
     let Ok(mut machine) = Machine::new(alloc, program, marks, budget) else {
         return Err(RunError::Memory);
     };
-    run_on(rt, alloc, program, marks, budget, &mut machine, engine, sink)
+    run_on(
+        rt,
+        alloc,
+        program,
+        marks,
+        budget,
+        &mut machine,
+        engine,
+        sink,
+    )
 }
 
 /// Runs a machine to its end, and takes its heap.

@@ -12,7 +12,7 @@ returns-in-Done-clause-means g c = λ ps.
     let p = program_view c.args.program.now in
     let new : Machine = record { todo = m.todo; values = c.cut.new.self; bodies = m.bodies; heap = c.run.new.heap; left = c.saturating_sub-machine.result; shown = m.shown; trap = m.trap; due = m.due } in
     let run : RunsTo p m.heap (call_of m ∷ []) m.left c.run.new.heap c.in-Done.steps =
-          rw (c.in-Done.is, c.as_slice.ensures.value, c.in_ok-ops.ensures.calls) at c.in_ok-steps.ensures.answer in
+    rw (c.in-Done.is, c.as_slice.ensures.value, c.in_ok-ops.ensures.calls) at c.in_ok-steps.ensures.answer in
     was_run p m new c.run.new.heap c.in-Done.steps ps c.requires.good.parallel run refl c.cut.ensures refl refl c.saturating_sub-machine.ensures
 
 pub run-requires-clause-ready : goal.run-requires-clause-ready

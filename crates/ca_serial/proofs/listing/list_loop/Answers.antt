@@ -152,7 +152,7 @@ returns-in_err-put_locals-in-Done-2 g c =
     let taken = c.in-Done.steps in
     let d : IsDone o taken (invocations_of ops) = done_section p m c.args.line st c.in_ok-answer.answer ops taken h c.in-Done.is in
     let step : g.E.Extents.Accounts (g.E.Extents.account c.args.engine.now) p m.heap (invocations_of ops) (m.left - taken) (g.E.Extents.account c.run.new.self) =
-          said_of (λ l k. g.E.Extents.Accounts (g.E.Extents.account c.args.engine.now) p m.heap l k (g.E.Extents.account c.run.new.self)) _ ops _ m.left taken c.as_slice.ensures.value c.saturating_sub-rest.ensures c.in_ok-steps.ensures.accounts in
+    said_of (λ l k. g.E.Extents.Accounts (g.E.Extents.account c.args.engine.now) p m.heap l k (g.E.Extents.account c.run.new.self)) _ ops _ m.left taken c.as_slice.ensures.value c.saturating_sub-rest.ensures c.in_ok-steps.ensures.accounts in
     let reached : Reached g.E.Extents.Accounts p (g.E.Extents.account c.args.engine.now) (notes_of m.heap m.left o) (g.E.Extents.account c.run.new.self) = accounted p _ _ m o taken (invocations_of ops) d step in
     let e = err_from_is_err_and c.from_residual-in_err-put_locals-in-Done-2.result c.from_residual-in_err-put_locals-in-Done-2.ensures.1 in
     record { means = none_told _ c.from_residual-in_err-put_locals-in-Done-2.result e.0 e.1; account = part_told c.from_residual-in_err-put_locals-in-Done-2.result e.0 e.1 (whole_part (notes_of m.heap m.left o) reached) }
@@ -170,10 +170,10 @@ returns-in-Done-2 g c =
     let d : IsDone o taken (invocations_of ops) = done_section p m c.args.line st c.in_ok-answer.answer ops taken h c.in-Done.is in
     let good : NoteGood p (note m.heap (invocations_of ops) (m.left - taken)) = (c.requires.handed _ (noted_in m o taken (invocations_of ops) d)).0 in
     let step : g.E.Extents.Accounts (g.E.Extents.account c.args.engine.now) p m.heap (invocations_of ops) (m.left - taken) (g.E.Extents.account c.run.new.self) =
-          said_of (λ l k. g.E.Extents.Accounts (g.E.Extents.account c.args.engine.now) p m.heap l k (g.E.Extents.account c.run.new.self)) _ ops _ m.left taken c.as_slice.ensures.value c.saturating_sub-rest.ensures c.in_ok-steps.ensures.accounts in
+    said_of (λ l k. g.E.Extents.Accounts (g.E.Extents.account c.args.engine.now) p m.heap l k (g.E.Extents.account c.run.new.self)) _ ops _ m.left taken c.as_slice.ensures.value c.saturating_sub-rest.ensures c.in_ok-steps.ensures.accounts in
     let reached : Reached g.E.Extents.Accounts p (g.E.Extents.account c.args.engine.now) (notes_of m.heap m.left o) (g.E.Extents.account c.run.new.self) = accounted p _ _ m o taken (invocations_of ops) d step in
     let ran : Answers p m.heap (invocations_of ops) (m.left - taken) c.run.new.heap c.in_ok-steps.field-0 =
-          said_of (λ l k. Answers p m.heap l k c.run.new.heap c.in_ok-steps.field-0) _ ops _ m.left taken c.as_slice.ensures.value c.saturating_sub-rest.ensures c.in_ok-steps.ensures.answer in
+    said_of (λ l k. Answers p m.heap l k c.run.new.heap c.in_ok-steps.field-0) _ ops _ m.left taken c.as_slice.ensures.value c.saturating_sub-rest.ensures c.in_ok-steps.ensures.answer in
     let run : RunsTo p m.heap (invocations_of ops) (m.left - taken) c.run.new.heap c.in-Done-2.steps = subst (λ (a : ExtentAnswer). Answers p m.heap (invocations_of ops) (m.left - taken) c.run.new.heap a) c.in-Done-2.is ran in
     let ls : c.section_of_loop.new.locals.items ≡ locals_after o m.bodies.current.locals = left_locals p m c.args.line st _ _ _ c.this-this.ensures (c.in_ok-locals.ensures ∙ c.locals.ensures) (c.in_ok-answer.ensures.locals none) in
     let new : Machine = record { todo = m.todo; values = m.values; bodies = c.put_locals.new.self; heap = c.run.new.heap; left = c.saturating_sub-machine.result; shown = m.shown; trap = m.trap; due = m.due } in
@@ -195,7 +195,7 @@ returns-in_err-put_alone-in-Declined g c =
     let taken = c.in-Done.steps in
     let d : IsDone o taken (invocations_of ops) = done_section p m c.args.line st c.in_ok-answer.answer ops taken h c.in-Done.is in
     let step : g.E.Extents.Accounts (g.E.Extents.account c.args.engine.now) p m.heap (invocations_of ops) (m.left - taken) (g.E.Extents.account c.run.new.self) =
-          said_of (λ l k. g.E.Extents.Accounts (g.E.Extents.account c.args.engine.now) p m.heap l k (g.E.Extents.account c.run.new.self)) _ ops _ m.left taken c.as_slice.ensures.value c.saturating_sub-rest.ensures c.in_ok-steps.ensures.accounts in
+    said_of (λ l k. g.E.Extents.Accounts (g.E.Extents.account c.args.engine.now) p m.heap l k (g.E.Extents.account c.run.new.self)) _ ops _ m.left taken c.as_slice.ensures.value c.saturating_sub-rest.ensures c.in_ok-steps.ensures.accounts in
     let reached : Reached g.E.Extents.Accounts p (g.E.Extents.account c.args.engine.now) (notes_of m.heap m.left o) (g.E.Extents.account c.run.new.self) = accounted p _ _ m o taken (invocations_of ops) d step in
     let e = err_from_is_err_and c.from_residual-in_err-put_alone-in-Declined.result c.from_residual-in_err-put_alone-in-Declined.ensures.1 in
     record { means = none_told _ c.from_residual-in_err-put_alone-in-Declined.result e.0 e.1; account = part_told c.from_residual-in_err-put_alone-in-Declined.result e.0 e.1 (whole_part (notes_of m.heap m.left o) reached) }
@@ -212,7 +212,7 @@ returns g c =
     let taken = c.in-Done.steps in
     let d : IsDone o taken (invocations_of ops) = done_section p m c.args.line st c.in_ok-answer.answer ops taken h c.in-Done.is in
     let step : g.E.Extents.Accounts (g.E.Extents.account c.args.engine.now) p m.heap (invocations_of ops) (m.left - taken) (g.E.Extents.account c.run.new.self) =
-          said_of (λ l k. g.E.Extents.Accounts (g.E.Extents.account c.args.engine.now) p m.heap l k (g.E.Extents.account c.run.new.self)) _ ops _ m.left taken c.as_slice.ensures.value c.saturating_sub-rest.ensures c.in_ok-steps.ensures.accounts in
+    said_of (λ l k. g.E.Extents.Accounts (g.E.Extents.account c.args.engine.now) p m.heap l k (g.E.Extents.account c.run.new.self)) _ ops _ m.left taken c.as_slice.ensures.value c.saturating_sub-rest.ensures c.in_ok-steps.ensures.accounts in
     let reached : Reached g.E.Extents.Accounts p (g.E.Extents.account c.args.engine.now) (notes_of m.heap m.left o) (g.E.Extents.account c.run.new.self) = accounted p _ _ m o taken (invocations_of ops) d step in
     let heap : c.run.new.heap ≡ m.heap = subst (λ (a : ExtentAnswer). Answers p m.heap (invocations_of c.as_slice.result.now) c.saturating_sub-rest.result c.run.new.heap a) c.in-Declined.is c.in_ok-steps.ensures.answer in
     let not : IsNotDone p m.heap (invocations_of ops) (m.left - taken) = said_of (λ l k. IsNotDone p m.heap l k) _ ops _ m.left taken c.as_slice.ensures.value c.saturating_sub-rest.ensures (c.in_ok-steps.ensures.declined (c.requires.handed _ (noted_in m o taken (invocations_of ops) d)).1 c.in-Declined.is) in

@@ -138,8 +138,8 @@ returns-in_default-hand_on g c =
       write = tt;
       later = i.3;
       account = tt;
-      account_part = 
-        ⊎_elim (λ same. part_of p _ _ i.0.notes all (kept_of i.5 same) (notes_are p c.loop.machine.todo c.loop.machine i.0 all i.4))
+      account_part =
+          ⊎_elim (λ same. part_of p _ _ i.0.notes all (kept_of i.5 same) (notes_are p c.loop.machine.todo c.loop.machine i.0 all i.4))
           (λ st. part_of p _ _ (and_note i.0 n).notes all (by_one n i.5 st) (due_notes p m (and_note i.0 n) all ns)) c.in_default-hand_on.ensures.account_kept;
     }
 
@@ -225,4 +225,3 @@ loop-preserved g c =
     let is : ended c.args.budget (rest_of p w.todo w (and_notes i.0 nn)) ≡ serial p c.args.budget = ap (ended c.args.budget) (sym h) ∙ ap (ended c.args.budget) (sym e) ∙ rw c.in-Some-pop.ensures at i.1 in
     let ns : (world_after (rest_of p w.todo w (and_notes i.0 nn))).notes ≡ all = ap (λ f. (world_after f).notes) (sym h) ∙ ap (λ f. (world_after f).notes) (sym e) ∙ rw c.in-Some-pop.ensures at i.4 in
     (and_notes i.0 nn, is, i.2, i.3, ns, reached_on p _ _ _ i.0.notes nn i.5 c.in_default-hand_on_loop.ensures.account.all)
-
