@@ -1,5 +1,5 @@
 -- Turns put together: a run of the pending machine, and an operation that is stuck behind one.
-use Rattle.std.proofs.Common.{◌≡◌, ◌≤◌, ◌<◌, ◌+◌, ◌-◌, ◌⊎◌, inl, ℕ, List, [], ◌∷◌, ◌++◌, refl, sym, subst, ◌∙◌, arith}
+use Rattle.std.proofs.Common.{◌≡◌, ◌≤◌, ◌<◌, ◌+◌, ◌-◌, ◌⊎◌, inl, inr, ℕ, List, [], ◌∷◌, ◌++◌, length, length-append, refl, sym, subst, ◌∙◌, arith}
 use Rattle.ca_program.specs.Plain.{PlainProgram}
 use Rattle.ca_model.specs.declared.value.Object.{Object}
 use Rattle.ca_meaning.specs.Expressions.{Invocation}
@@ -10,7 +10,7 @@ use Rattle.ca_order_laws.specs.Complete.{DoneBy}
 use Rattle.ca_order_laws.proofs.Complete.{sections_end}
 use Rattle.ca_order_laws.proofs.PendingRuns.{rounds}
 use Rattle.ca_order_laws.proofs.Sections.{leaves_steps}
-use Rattle.ca_run.specs.Rounds.{RanOne, Sticking, RanTo, StuckBehind}
+use Rattle.ca_run.specs.Rounds.{RanOne, Sticking, RanTo, StuckBehind, WentTo, StuckWithin}
 
 -- Behind k turns: the machine ran, took a step at least for each of them, and has so many left.
 pub record Going (p : PlainProgram) (frozen h : List Object) (waiting : List Invocation) (budget k : ℕ) (now : List Object) (rest : List Invocation) (left : ℕ) : Type 0 where
@@ -91,10 +91,53 @@ going_to p frozen h waiting budget k now rest left g =
       omega (arith, e, counted),
     )
 
+-- Behind k turns, each of which ran one operation.
+pub record Turns (p : PlainProgram) (frozen h : List Object) (waiting : List Invocation) (budget k : ℕ) (now : List Object) (rest : List Invocation) (left : ℕ) : Type 0 where
+  pub going : Going p frozen h waiting budget k now rest left
+  pub ran : length going.order ≡ k
+
+pub no_turns : (p : PlainProgram) (frozen h : List Object) (waiting : List Invocation) (budget : ℕ) → Turns p frozen h waiting budget 0 h waiting budget
+no_turns p frozen h waiting budget = record { going = going_nowhere p frozen h waiting budget; ran = refl }
+
+pub one_more : (p : PlainProgram) (frozen h : List Object) (waiting : List Invocation) (budget k : ℕ) (now : List Object) (rest : List Invocation) (left : ℕ) → Turns p frozen h waiting budget k now rest left
+    → (after : List Object) (more : List Invocation) (steps : ℕ) → RanOne p frozen now rest left after more steps → Turns p frozen h waiting budget (k + 1) after more (left - steps)
+one_more p frozen h waiting budget k now rest left t after more steps r =
+    let both : length (t.going.order ++ r.call ∷ []) ≡ length t.going.order + 1 = length-append t.going.order (r.call ∷ []) in
+    let ran : length t.going.order ≡ k = t.ran in
+    record {
+      going = going_on p frozen h waiting budget k now rest left t.going after more steps r;
+      ran = omega (arith, both, ran);
+    }
+
+pub stuck_turn : (p : PlainProgram) (frozen h : List Object) (waiting : List Invocation) (budget limit k : ℕ) (now : List Object) (rest : List Invocation) (left : ℕ) → Turns p frozen h waiting budget k now rest left
+    → k < limit → Sticking p frozen now rest left → StuckWithin p frozen h waiting budget limit
+stuck_turn p frozen h waiting budget limit k now rest left t few s =
+    let ran : length t.going.order ≡ k = t.ran in
+    record {
+      behind = going_stuck p frozen h waiting budget k now rest left t.going s;
+      few = omega (arith, few, ran);
+    }
+
+-- as many turns as the limit says
+pub all_turns : (p : PlainProgram) (frozen h : List Object) (waiting : List Invocation) (budget limit k : ℕ) (now : List Object) (rest : List Invocation) (left : ℕ) → Turns p frozen h waiting budget k now rest left
+    → k ≤ limit → limit ≤ k → WentTo p frozen h waiting budget limit now rest (budget - left)
+all_turns p frozen h waiting budget limit k now rest left t few many =
+    let ran : length t.going.order ≡ k = t.ran in
+    record {
+      ran = (going_to p frozen h waiting budget k now rest left t.going).0;
+      few = omega (arith, few, ran);
+      ended = inr (let all : length t.going.order ≡ limit = omega (arith, few, many, ran) in all);
+    }
+
 -- nothing waits any more
-pub at_end : (p : PlainProgram) (frozen h : List Object) (waiting : List Invocation) (budget limit k : ℕ) (now : List Object) (rest : List Invocation) (left : ℕ) → Going p frozen h waiting budget k now rest left
-    → (after : List Object) (more : List Invocation) → rest ≡ [] → after ≡ now → more ≡ [] → RanTo p frozen h waiting budget after more (budget - left) × ((more ≡ []) ⊎ (limit ≤ budget - left))
-at_end p frozen h waiting budget limit k now rest left g after more none same gone =
-    let to = going_to p frozen h waiting budget k now rest left g in
-    let here = subst (λ is. RanTo p frozen h waiting budget now is (budget - left)) (none ∙ sym gone) to.0 in
-    (subst (λ q. RanTo p frozen h waiting budget q more (budget - left)) (sym same) here, inl gone)
+pub at_end : (p : PlainProgram) (frozen h : List Object) (waiting : List Invocation) (budget limit k : ℕ) (now : List Object) (rest : List Invocation) (left : ℕ) → Turns p frozen h waiting budget k now rest left → k ≤ limit
+    → (after : List Object) (more : List Invocation) → rest ≡ [] → after ≡ now → more ≡ [] → WentTo p frozen h waiting budget limit after more (budget - left)
+at_end p frozen h waiting budget limit k now rest left t few after more none same gone =
+    let ran : length t.going.order ≡ k = t.ran in
+    let at : WentTo p frozen h waiting budget limit now rest (budget - left) = record {
+      ran = (going_to p frozen h waiting budget k now rest left t.going).0;
+      few = omega (arith, few, ran);
+      ended = inl none;
+    } in
+    let here = subst (λ is. WentTo p frozen h waiting budget limit now is (budget - left)) (none ∙ sym gone) at in
+    subst (λ q. WentTo p frozen h waiting budget limit q more (budget - left)) (sym same) here

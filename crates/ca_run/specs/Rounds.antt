@@ -1,5 +1,5 @@
 -- Rounds of the pending machine.
-use Rattle.std.specs.Prelude.{ℕ, ◌≡◌, ◌+◌, ◌-◌, ◌≤◌, ◌⊎◌, List, [], ◌∷◌, ◌++◌, Some, slice_get, slice_set}
+use Rattle.std.specs.Prelude.{ℕ, ◌≡◌, ◌+◌, ◌-◌, ◌<◌, ◌≤◌, ◌⊎◌, List, [], ◌∷◌, ◌++◌, length, Some, slice_get, slice_set}
 use Rattle.ca_program.specs.Plain.{PlainProgram}
 use Rattle.ca_model.specs.declared.value.Object.{Object}
 use Rattle.ca_meaning.specs.Expressions.{Invocation}
@@ -51,7 +51,17 @@ pub record StuckBehind (p : PlainProgram) (frozen h : List Object) (waiting : Li
   pub ran : RanTo p frozen h waiting budget mid rest steps
   pub stuck : Sticking p frozen mid rest (budget - steps)
 
--- A round went to its end or to its limit, where it took a step at least for each operation, or it is stuck.
+-- A round ran no more operations than its limit says, and ended where nothing waits any more or where it reached its limit.
+pub record WentTo (p : PlainProgram) (frozen h : List Object) (waiting : List Invocation) (budget limit : ℕ) (after : List Object) (rest : List Invocation) (steps : ℕ) : Type 0 where
+  pub ran : RanTo p frozen h waiting budget after rest steps
+  pub few : length ran.order ≤ limit
+  pub ended : (rest ≡ []) ⊎ (length ran.order ≡ limit)
+
+-- A round is stuck behind fewer operations than its limit says.
+pub record StuckWithin (p : PlainProgram) (frozen h : List Object) (waiting : List Invocation) (budget limit : ℕ) : Type 0 where
+  pub behind : StuckBehind p frozen h waiting budget
+  pub few : length behind.ran.order < limit
+
 abbrev pub Rounded : PlainProgram → List Object → List Object → List Invocation → ℕ → ℕ → List Object → List Invocation → Round → Type 0
-Rounded p frozen h waiting budget limit after rest (Went steps) = RanTo p frozen h waiting budget after rest steps × ((rest ≡ []) ⊎ (limit ≤ steps))
-Rounded p frozen h waiting budget limit after rest Stuck = StuckBehind p frozen h waiting budget
+Rounded p frozen h waiting budget limit after rest (Went steps) = WentTo p frozen h waiting budget limit after rest steps
+Rounded p frozen h waiting budget limit after rest Stuck = StuckWithin p frozen h waiting budget limit
