@@ -97,46 +97,51 @@ pub record Turns (p : PlainProgram) (frozen h : List Object) (waiting : List Inv
   pub ran : length going.order ≡ k
 
 pub no_turns : (p : PlainProgram) (frozen h : List Object) (waiting : List Invocation) (budget : ℕ) → Turns p frozen h waiting budget 0 h waiting budget
+unfolding going_nowhere
 no_turns p frozen h waiting budget = record { going = going_nowhere p frozen h waiting budget; ran = refl }
 
 pub one_more : (p : PlainProgram) (frozen h : List Object) (waiting : List Invocation) (budget k : ℕ) (now : List Object) (rest : List Invocation) (left : ℕ) → Turns p frozen h waiting budget k now rest left
     → (after : List Object) (more : List Invocation) (steps : ℕ) → RanOne p frozen now rest left after more steps → Turns p frozen h waiting budget (k + 1) after more (left - steps)
+unfolding going_on
 one_more p frozen h waiting budget k now rest left t after more steps r =
     let both : length (t.going.order ++ r.call ∷ []) ≡ length t.going.order + 1 = length-append t.going.order (r.call ∷ []) in
     let ran : length t.going.order ≡ k = t.ran in
     record {
       going = going_on p frozen h waiting budget k now rest left t.going after more steps r;
-      ran = omega (arith, both, ran);
+      ran = (let longer : length (t.going.order ++ r.call ∷ []) ≡ k + 1 = omega (arith, both, ran) in longer);
     }
 
 pub stuck_turn : (p : PlainProgram) (frozen h : List Object) (waiting : List Invocation) (budget limit k : ℕ) (now : List Object) (rest : List Invocation) (left : ℕ) → Turns p frozen h waiting budget k now rest left
     → k < limit → Sticking p frozen now rest left → StuckWithin p frozen h waiting budget limit
+unfolding going_stuck
 stuck_turn p frozen h waiting budget limit k now rest left t few s =
     let ran : length t.going.order ≡ k = t.ran in
     record {
       behind = going_stuck p frozen h waiting budget k now rest left t.going s;
-      few = omega (arith, few, ran);
+      few = (let fewer : length t.going.order < limit = omega (arith, few, ran) in fewer);
     }
 
 -- as many turns as the limit says
 pub all_turns : (p : PlainProgram) (frozen h : List Object) (waiting : List Invocation) (budget limit k : ℕ) (now : List Object) (rest : List Invocation) (left : ℕ) → Turns p frozen h waiting budget k now rest left
     → k ≤ limit → limit ≤ k → WentTo p frozen h waiting budget limit now rest (budget - left)
+unfolding going_to
 all_turns p frozen h waiting budget limit k now rest left t few many =
     let ran : length t.going.order ≡ k = t.ran in
     record {
       ran = (going_to p frozen h waiting budget k now rest left t.going).0;
-      few = omega (arith, few, ran);
+      few = (let no_more : length t.going.order ≤ limit = omega (arith, few, ran) in no_more);
       ended = inr (let all : length t.going.order ≡ limit = omega (arith, few, many, ran) in all);
     }
 
 -- nothing waits any more
 pub at_end : (p : PlainProgram) (frozen h : List Object) (waiting : List Invocation) (budget limit k : ℕ) (now : List Object) (rest : List Invocation) (left : ℕ) → Turns p frozen h waiting budget k now rest left → k ≤ limit
     → (after : List Object) (more : List Invocation) → rest ≡ [] → after ≡ now → more ≡ [] → WentTo p frozen h waiting budget limit after more (budget - left)
+unfolding going_to
 at_end p frozen h waiting budget limit k now rest left t few after more none same gone =
     let ran : length t.going.order ≡ k = t.ran in
     let at : WentTo p frozen h waiting budget limit now rest (budget - left) = record {
       ran = (going_to p frozen h waiting budget k now rest left t.going).0;
-      few = omega (arith, few, ran);
+      few = (let no_more : length t.going.order ≤ limit = omega (arith, few, ran) in no_more);
       ended = inl none;
     } in
     let here = subst (λ is. WentTo p frozen h waiting budget limit now is (budget - left)) (none ∙ sym gone) at in
