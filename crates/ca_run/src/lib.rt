@@ -18,6 +18,6 @@ mod passing;
 mod rounds;
 
 pub use beside::{Beside, Changed};
-pub use one_worker::OneWorker;
+pub use one_worker::{OneWorker, copies};
 pub use passing::Passes;
 pub use rounds::{Round, run_round};
