@@ -1,7 +1,6 @@
 use Rattle.std.proofs.Common.{subst, arith}
 use Rattle.ca_program.specs.View.{program_view}
 use Rattle.ca_parallel.specs.Calls.{invocations_of}
-use Rattle.ca_run.specs.declared.rounds.Turn.TheVariants.{Ran, Stuck, Ended}
 use Rattle.ca_run.specs.Beside.{present}
 use Rattle.ca_run.specs.Rounds.{Turned}
 use Rattle.ca_run.proofs.Going.{no_turns, one_more, stuck_turn, all_turns, at_end}

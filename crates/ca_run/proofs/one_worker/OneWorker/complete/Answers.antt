@@ -1,7 +1,6 @@
-use Rattle.std.proofs.Common.{◌≡◌, [], subst, sym, arith}
+use Rattle.std.proofs.Common.{subst, sym, arith}
 use Rattle.ca_program.specs.View.{program_view}
 use Rattle.ca_parallel.specs.Calls.{RunsTo, invocations_of}
-use Rattle.ca_run.specs.declared.rounds.Round.TheVariants.{Went, Stuck}
 use Rattle.ca_run.specs.Beside.{present}
 use Rattle.ca_run.specs.Rounds.{Rounded}
 use Rattle.ca_run.proofs.Answering.{no_items, some_items, stuck_not_done, ran_done, left_not_done, ended_by}
