@@ -106,6 +106,8 @@ impl<'g, G: Passes> Extents for OneWorker<'g, G> {
 
     ghost serves = { true };
 
+    ghost ready = { Unit {0} };
+
     ghost Accounts = { λ before p h is budget after. Unit {0} };
 
     fn run<R: Threads + Wait + Sync>(
