@@ -21,7 +21,7 @@ use Rattle.ca_parallel.specs.declared.op.Op.{Op}
 use Rattle.ca_parallel.specs.Calls.{RunsTo, invocation_of, invocations_of, operation_of}
 use Rattle.ca_parallel.specs.Extents.{Extent, IsExtentOf}
 use Rattle.ca_parallel.specs.Parallel.{Parallel, ParallelFrom}
-use Rattle.ca_order_laws.specs.Pending.{PendingRun, rests}
+use Rattle.ca_order_laws.specs.Pending.{PendingRun, rests, runs}
 use Rattle.ca_order_laws.specs.Order.{StandsFor, AllInside, RunsNext}
 use Rattle.ca_order_laws.specs.Complete.{DoneBy}
 use Rattle.ca_order_laws.proofs.Complete.{sections_end}
@@ -29,12 +29,13 @@ use Rattle.ca_order_laws.proofs.Ends.{diamond, finishes}
 use Rattle.ca_order_laws.proofs.Grown.{none_of, single_is}
 use Rattle.ca_order_laws.proofs.PendingRuns.{rounds}
 use Rattle.ca_order_laws.proofs.Places.{one_some}
+use Rattle.ca_order_laws.proofs.Sections.{leaves_steps}
 use Rattle.ca_order_laws.proofs.SerialOrder.{depth_first}
 use Rattle.ca_order_laws.proofs.Standing.{runs_stay}
 use Rattle.ca_serial.specs.Extents.{IsNotDone}
 use Rattle.ca_run.specs.declared.beside.Changed.{Changed}
 use Rattle.ca_run.specs.Beside.{present, SameShapes}
-use Rattle.ca_run.specs.Rounds.{RanTo, StuckBehind}
+use Rattle.ca_run.specs.Rounds.{RanTo, StuckBehind, WentTo}
 
 -- ---- shapes
 
@@ -81,6 +82,23 @@ nothing_left p frozen i o m k none e = over_not_done (subst (λ n. section p fro
   where
     over_not_done : section p frozen i.receiver o i.op i.arguments 0 ≡ done m → ⊥
     over_not_done e = cc
+
+-- each operation that ran took a step
+takes_steps : {p : PlainProgram} {frozen last : List Object} {rest order : List Invocation} {h : List Object} {waiting : List Invocation} {steps : ℕ} → PendingRun p frozen last rest order h waiting steps → length order ≤ steps
+takes_steps (rests waiting same) = omega arith
+takes_steps {p} {frozen} (runs i more h waiting others o m steps same found leaves tail) =
+    let lt : 0 < m.steps = leaves_steps p frozen i o m leaves in
+    let le : length more ≤ steps = takes_steps tail in
+    omega (arith, lt, le)
+
+-- so a round left nothing waiting, or took as many steps as its limit says
+pub ended_by : (p : PlainProgram) (frozen h : List Object) (waiting : List Invocation) (budget limit : ℕ) (now : List Object) (rest : List Invocation) (steps : ℕ) → WentTo p frozen h waiting budget limit now rest steps
+    → (rest ≡ []) ⊎ (limit ≤ steps)
+ended_by p frozen h waiting budget limit now rest steps w = from w.ended
+  where
+    from : (rest ≡ []) ⊎ (length w.ran.order ≡ limit) → (rest ≡ []) ⊎ (limit ≤ steps)
+    from (inl none) = inl none
+    from (inr all) = inr (let le : length w.ran.order ≤ steps = takes_steps w.ran.run in omega (arith, le, all))
 
 -- a round that took all steps and left operations waiting is stuck
 pub used_up : (p : PlainProgram) (frozen h : List Object) (waiting : List Invocation) (budget : ℕ) (now : List Object) (rest : List Invocation) (steps : ℕ) → RanTo p frozen h waiting budget now rest steps → budget ≤ steps → ¬ (rest ≡ []) → StuckBehind p frozen h waiting budget

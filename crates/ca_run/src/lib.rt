@@ -7,8 +7,9 @@
 //!
 //! The heap that the operations were handed with stays as it is until the end, and serves as the frozen one. An object
 //! is copied beside it when it is first changed (`Beside`), and only a run that is done puts these into the heap. So a
-//! run costs what it touches, and one that isn't done has nothing to put back. `run_round` runs a limited number of waiting
-//! operations; its clause is a run of the pending machine, from where it began to where it ended.
+//! run costs what it touches, and one that isn't done has nothing to put back. `run_round` runs waiting operations; its
+//! clause is a run of the pending machine, from where it began to where it ended, of as many operations as its limit says,
+//! or of fewer where none waits any more.
 //! `specs/Beside.antt` says what heap the changed objects stand for, `specs/Rounds.antt` what a round leaves.
 #![tactic(auto)]
 
@@ -18,6 +19,6 @@ mod passing;
 mod rounds;
 
 pub use beside::{Beside, Changed};
-pub use one_worker::OneWorker;
+pub use one_worker::{OneWorker, copies};
 pub use passing::Passes;
 pub use rounds::{Round, run_round};

@@ -89,7 +89,7 @@ impl<'g, G: Passes> OneWorker<'g, G> {
 }
 
 /// The same calls once more.
-fn copies(alloc: Global, ops: &[Op]) -> Result<Vec<Op>, AllocError>
+pub fn copies(alloc: Global, ops: &[Op]) -> Result<Vec<Op>, AllocError>
     ensures { IfOk result (λ copies. copies.items ≡ ops.now) }
 {
     let mut copies = Vec::with_capacity(alloc, ops.len())?;
@@ -105,6 +105,8 @@ impl<'g, G: Passes> Extents for OneWorker<'g, G> {
     ghost account = { λ engine. tt };
 
     ghost serves = { true };
+
+    ghost ready = { Unit {0} };
 
     ghost Accounts = { λ before p h is budget after. Unit {0} };
 

@@ -1,6 +1,6 @@
 use Rattle.std.proofs.Common.{subst, arith}
 use Rattle.ca_program.specs.View.{program_view}
-use Rattle.ca_sections.specs.declared.operations.SectionAnswer.TheVariants.{Done, Trapped, Spent}
+use Rattle.ca_sections.specs.declared.operations.SectionAnswer.TheVariants.{Trapped, Spent}
 use Rattle.ca_run.specs.Beside.{present, Sectioned}
 use Rattle.ca_run.proofs.Turning.{taken, ran_one, stuck_one, stuck_outside}
 use Rattle.ca_run.proofs.rounds.run_one.Goals as goal

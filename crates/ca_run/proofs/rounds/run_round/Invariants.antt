@@ -1,10 +1,12 @@
+use Rattle.std.proofs.Common.{◌≤◌}
 use Rattle.ca_program.specs.View.{program_view}
 use Rattle.ca_parallel.specs.Calls.{invocations_of}
 use Rattle.ca_run.specs.Beside.{present}
-use Rattle.ca_run.proofs.Going.{Going}
+use Rattle.ca_run.proofs.Going.{Turns}
 use Rattle.ca_run.proofs.rounds.run_round.Given as goal
 
--- behind so many turns
+-- behind so many turns, of which there are no more than the limit says
 abbrev pub invariant-turns : goal.invariant-turns
 invariant-turns g l =
-    Going (program_view l.program) l.heap (present l.heap l.fn.beside) (invocations_of l.fn.waiting.items) l.left l.counter (present l.heap l.beside) (invocations_of l.waiting.items) l.still
+    Turns (program_view l.program) l.heap (present l.heap l.fn.beside) (invocations_of l.fn.waiting.items) l.left l.counter (present l.heap l.beside) (invocations_of l.waiting.items) l.still
+    × (l.counter ≤ l.limit)

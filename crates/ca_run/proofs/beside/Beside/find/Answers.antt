@@ -1,4 +1,4 @@
-use Rattle.std.proofs.Common.{◌≡◌, ◌<◌, length, slice_get, Some, subst, ap, ◌∙◌, arith}
+use Rattle.std.proofs.Common.{◌≡◌, slice_get, Some, subst, ap, ◌∙◌, arith}
 use Rattle.ca_model.proofs.Stores.{found}
 use Rattle.ca_run.specs.Beside.{IsAbsent, IsPlace}
 use Rattle.ca_run.proofs.Present.{changed, past_none, same_some, absent_past, absent_else}

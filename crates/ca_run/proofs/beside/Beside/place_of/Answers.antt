@@ -1,4 +1,4 @@
-use Rattle.std.proofs.Common.{◌≡◌, ◌∷◌, ◌++◌, [], IfOk, slice_get, Some, sym, ap, ◌∙◌}
+use Rattle.std.proofs.Common.{◌≡◌, ◌∷◌, ◌++◌, [], slice_get, Some, sym, ap, ◌∙◌}
 use Rattle.ca_run.specs.Beside.{present}
 use Rattle.ca_run.proofs.Present.{changed, present_copied, if_ok}
 use Rattle.ca_run.proofs.beside.Beside.place_of.Goals as goal

@@ -1,5 +1,5 @@
-use Rattle.std.proofs.Common.{◌≡◌, length, slice_get, Some, sym, ap, subst, ◌∙◌, arith}
-use Rattle.std.proofs.lemmas.Option.{slice_get-get_or, slice_get_within}
+use Rattle.std.proofs.Common.{◌≡◌, slice_get, Some, sym, ap, subst, ◌∙◌}
+use Rattle.std.proofs.lemmas.Option.{slice_get_within}
 use Rattle.ca_model.proofs.Stores.{found}
 use Rattle.ca_program.specs.View.{program_view}
 use Rattle.ca_run.specs.Beside.{present}

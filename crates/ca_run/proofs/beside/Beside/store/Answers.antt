@@ -1,4 +1,4 @@
-use Rattle.std.proofs.Common.{◌≡◌, ◌∷◌, ◌++◌, [], length, slice_get, Some, sym, ap, subst, ◌∙◌, arith}
+use Rattle.std.proofs.Common.{◌≡◌, ◌∷◌, ◌++◌, [], slice_get, Some, sym, ap, subst, ◌∙◌, arith}
 use Rattle.ca_run.specs.Beside.{present, SameShapes, Indexed}
 use Rattle.ca_run.proofs.Present.{indexed_less, stored_last, dropped_last, last_there, shapes_set, like_at}
 use Rattle.ca_run.proofs.beside.Beside.store.Goals as goal
