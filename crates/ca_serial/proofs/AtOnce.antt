@@ -12,7 +12,6 @@ use Rattle.ca_program.specs.declared.program.FirstPart.{FirstPart}
 use Rattle.ca_program.specs.declared.program.StmtForm.{Block, If, While, For}
 use Rattle.ca_program.specs.Plain.{PlainProgram, Statement}
 use Rattle.ca_program.specs.View.{form_view, expression_view, statement_view, statements_view}
-use Rattle.ca_model.specs.declared.value.Value.{Value as Datum}
 use Rattle.ca_model.specs.declared.value.Value.TheVariants.{Bool as Truth}
 use Rattle.ca_meaning.specs.Expressions.{gives}
 use Rattle.ca_meaning.specs.Functions.{value_in}

@@ -1,5 +1,5 @@
 -- A call that is due, as an engine runs it and as it is run here.
-use Rattle.std.proofs.Common.{Bor, ◌≡◌, ◌≤◌, ℕ, zero, suc, ◌+◌, ◌-◌, ◌<◌, List, [], ◌∷◌, ◌++◌, refl, ap, sym, ◌∙◌, arith, reverse, take, drop, map, append-nil, append_assoc, true, false}
+use Rattle.std.proofs.Common.{Bor, ◌≡◌, ℕ, zero, suc, ◌+◌, ◌-◌, ◌<◌, List, [], ◌∷◌, ◌++◌, refl, ap, sym, ◌∙◌, arith, reverse, take, drop, map, append-nil, append_assoc, true, false}
 use Rattle.std.specs.Prelude.{slice_get}
 use Rattle.ca_program.specs.declared.program.OpId.{OpId}
 use Rattle.ca_program.specs.declared.program.Stmt.{Stmt}
@@ -15,7 +15,7 @@ use Rattle.ca_meaning.specs.Flows.{Flow, goes_on, gives_back, stops, runs_out, a
 use Rattle.ca_meaning.specs.Functions.{body_of, locals_of}
 use Rattle.ca_meaning.specs.Serial.{Note, World, fresh, came_back, run_call, operations_of, serial_parts, serial_ops}
 use Rattle.ca_meaning.proofs.Fix.{invoke_runs}
-use Rattle.ca_parallel.specs.Lists.{no_marks, op_in, note}
+use Rattle.ca_parallel.specs.Lists.{op_in}
 use Rattle.ca_parallel.specs.Calls.{RunsTo}
 use Rattle.ca_parallel.specs.Parallel.{ParallelFrom}
 use Rattle.ca_parallel.proofs.Moved.{serial_ops_moved, moved}
@@ -24,7 +24,6 @@ use Rattle.ca_serial.specs.declared.work.Work.{Work}
 use Rattle.ca_serial.specs.declared.work.Work.TheVariants.{Seq, Leave}
 use Rattle.ca_serial.specs.declared.work.Target.TheVariants.{Operation}
 use Rattle.ca_serial.specs.declared.machine.Machine.{Machine}
-use Rattle.ca_serial.specs.declared.work.Call.{Call}
 use Rattle.ca_serial.specs.Bodies.{Body, marks_of}
 use Rattle.ca_serial.specs.Resume.{Past, and_note, world_of, go_on, resume, begins, call_of, note_of, runs_due, target_method, others_in}
 use Rattle.ca_serial.proofs.Unmarked.{none_all}

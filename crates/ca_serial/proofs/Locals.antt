@@ -1,5 +1,5 @@
 -- Locals that are put in place of others.
-use Rattle.std.proofs.Common.{◌≡◌, ◌≤◌, ◌∙◌, ℕ, List, ◌++◌, length, take, drop, min, arith}
+use Rattle.std.proofs.Common.{◌≡◌, ◌∙◌, ℕ, List, ◌++◌, length, take, drop, min, arith}
 use Rattle.std.proofs.lemmas.List.{length-take-le, take_at, take_min}
 use Rattle.std.proofs.Math.Seq.{drop-append_seam}
 use Rattle.ca_model.specs.declared.value.Value.{Value as Datum}

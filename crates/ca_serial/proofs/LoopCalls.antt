@@ -1,6 +1,6 @@
 -- A marked loop that is next, as it is listed, as an engine runs what it lists, and as it runs here.
-use Rattle.std.proofs.Common.{Bor, ◌≡◌, ◌≤◌, ℕ, ◌+◌, ◌-◌, List, [], ◌∷◌, ◌++◌, refl, ap, sym, subst, ◌∙◌, arith, map, append-nil, append_assoc}
-use Rattle.std.specs.Prelude.{Bool, true, false, ◌&&◌, ◌||◌, nat_eq, Contains, Result, Ok, Err, IfOk}
+use Rattle.std.proofs.Common.{Bor, ◌≡◌, ◌≤◌, ℕ, ◌-◌, List, [], ◌∷◌, ◌++◌, refl, ap, sym, subst, ◌∙◌, arith, map, append-nil, append_assoc}
+use Rattle.std.specs.Prelude.{Bool, true, false, ◌&&◌, nat_eq, Contains, Result, Ok, Err, IfOk}
 use Rattle.std.proofs.lemmas.List.Elements.{Contains-push}
 use Rattle.ca_program.specs.declared.program.LoopId.{LoopId}
 use Rattle.ca_program.specs.Plain.{PlainProgram, Statement, block, put_local, put_field, put_item, new_local, new_field, new_item, invoke, if_else, while_loop, for_loop, return_value, print_value}
@@ -20,7 +20,7 @@ use Rattle.ca_parallel.specs.declared.op.Op.{Op}
 use Rattle.ca_parallel.specs.Lists.{PlainMarks, has_site, loop_in, note, either, world_after}
 use Rattle.ca_parallel.specs.Notes.{op_of}
 use Rattle.ca_parallel.specs.Parallel.{ParallelFrom}
-use Rattle.ca_parallel.proofs.Moved.{shifted, moved, serial_ops_moved}
+use Rattle.ca_parallel.proofs.Moved.{moved, serial_ops_moved}
 use Rattle.ca_note_laws.specs.Listing.{puts_nothing, behind_list, with_list, by_section}
 use Rattle.ca_note_laws.proofs.Listing.{list_self}
 use Rattle.ca_sections.specs.Answers.{LoopIs, locals_after}

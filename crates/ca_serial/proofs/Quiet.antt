@@ -1,10 +1,10 @@
 -- Operations of a parallel extent print nothing.
-use Rattle.std.proofs.Common.{◌≡◌, ℕ, zero, suc, List, [], ◌∷◌, ◌++◌, Option, Some, None, refl, ap, sym, subst, ◌∙◌, true, false, Bool, map}
+use Rattle.std.proofs.Common.{◌≡◌, ℕ, zero, suc, List, [], ◌∷◌, ◌++◌, refl, ap, sym, subst, ◌∙◌, true, false, Bool, map}
 use Rattle.std.specs.Prelude.{slice_get, ◌||◌, Contains}
-use Rattle.std.proofs.lemmas.List.Elements.{Contains-push, Contains-append_left, Contains-append_right}
+use Rattle.std.proofs.lemmas.List.Elements.{Contains-push, Contains-append_left}
 use Rattle.ca_program.specs.declared.program.FieldId.{FieldId}
 use Rattle.ca_program.specs.declared.program.OpId.{OpId}
-use Rattle.ca_program.specs.Plain.{PlainProgram, Expression, Expressions, Statement, Statements, block, put_local, put_field, put_item, new_local, new_field, new_item, invoke, if_else, while_loop, for_loop, return_value, print_value, no_statements, statement_and}
+use Rattle.ca_program.specs.Plain.{PlainProgram, Expression, Statement, Statements, block, put_local, put_field, put_item, new_local, new_field, new_item, invoke, if_else, while_loop, for_loop, return_value, print_value, no_statements, statement_and}
 use Rattle.ca_model.specs.declared.value.Value.{Value as Datum}
 use Rattle.ca_model.specs.declared.value.Value.TheVariants.{Long, Bool as Truth, Null, Ref}
 use Rattle.ca_model.specs.declared.value.Object.{Object}
@@ -12,7 +12,7 @@ use Rattle.ca_meaning.specs.Expressions.{Out, gives, traps, over, take_step, Inv
 use Rattle.ca_meaning.specs.Flows.{Flow, goes_on, gives_back, stops, runs_out, and_on, with, choose, Parts, line_of, turn_of, exec, exec_all, turn}
 use Rattle.ca_meaning.specs.Functions.{place, body_of, locals_of, functions_of, value_in}
 use Rattle.ca_meaning.specs.Serial.{World, fresh, own_item_at, Operations, came_back, run_call, operation_act, operation_parts, operations, operations_of, serial_ops}
-use Rattle.ca_meaning_laws.specs.Typed.{Yields, yields, yields_trap, yields_over}
+use Rattle.ca_meaning_laws.specs.Typed.{Yields, yields}
 use Rattle.ca_parallel.specs.Bodies.{calls_of, calls_of_all}
 use Rattle.ca_parallel.specs.Calls.{RunsTo}
 use Rattle.ca_parallel.specs.Extents.{operation_body, called}

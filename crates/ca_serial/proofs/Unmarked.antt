@@ -4,7 +4,7 @@ use Rattle.std.specs.Prelude.{slice_get}
 use Rattle.ca_program.specs.Plain.{PlainProgram, Statement, Statements}
 use Rattle.ca_model.specs.declared.value.Value.{Value as Datum}
 use Rattle.ca_model.specs.declared.value.Value.TheVariants.{Ref}
-use Rattle.ca_meaning.specs.Flows.{Flow, exec, exec_all, turn}
+use Rattle.ca_meaning.specs.Flows.{exec, exec_all, turn}
 use Rattle.ca_meaning.specs.Functions.{body_of, locals_of}
 use Rattle.ca_meaning.specs.Serial.{World, Operations, operations, operations_of, serial_parts}
 use Rattle.ca_meaning.proofs.Near.{le_self, NearFlow, flow_same, CloseParts, exec_near, all_exec_near}

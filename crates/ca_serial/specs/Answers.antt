@@ -2,7 +2,6 @@
 use Rattle.std.specs.Prelude.{◌≡◌, ℕ, List}
 use Rattle.ca_program.specs.Plain.{PlainProgram, PlainMethod, Statement, Statements}
 use Rattle.ca_program.specs.View.{statements_view}
-use Rattle.ca_model.specs.declared.value.Value.{Value as Datum}
 use Rattle.ca_meaning.specs.Flows.{Flow, goes_on, gives_back, exec, exec_all}
 use Rattle.ca_meaning.specs.Functions.{own_of, functions_of, function_parts}
 use Rattle.ca_direct.specs.declared.scene.Scene.{Scene}

@@ -16,9 +16,8 @@ use Rattle.ca_meaning.specs.Expressions.{Out, gives, traps, trap_at, ◌>>=◌, 
 use Rattle.ca_meaning.specs.Flows.{Flow, goes_on, gives_back, stops, runs_out, and_on, with, choose, Parts, line_of, exec, exec_all}
 use Rattle.ca_meaning.specs.Functions.{own_of, function_parts, functions_of, value_in, values_in}
 use Rattle.ca_meaning.specs.Serial.{Note, World, in_heap, printed, put_own, room_for, own_value, own_item_at, run_call, operations_of}
-use Rattle.ca_parallel.specs.Lists.{PlainMarks, op_in, loop_in, note, noted_call, loop_noted}
-use Rattle.ca_meaning.specs.Sections.{LoopSectioned, loop_section}
-use Rattle.ca_note_laws.specs.Listing.{puts_nothing, listing_parts, listing_of}
+use Rattle.ca_parallel.specs.Lists.{PlainMarks, op_in, note, noted_call}
+use Rattle.ca_note_laws.specs.Listing.{listing_parts, listing_of}
 use Rattle.ca_serial.specs.declared.bodies.Mode.{Mode}
 use Rattle.ca_serial.specs.declared.bodies.Mode.TheVariants.{InFunction, InOperation}
 use Rattle.ca_serial.specs.declared.work.Target.{Target}
@@ -35,7 +34,7 @@ use Rattle.ca_serial.specs.declared.work.Next.{Next}
 use Rattle.ca_serial.specs.declared.work.Next.TheVariants.{GoesOn, Printed, Trapped, Spent, Due, LoopDue}
 use Rattle.ca_serial.specs.declared.machine.Machine.{Machine}
 use Rattle.ca_serial.specs.declared.machine.Found.{Found}
-use Rattle.ca_serial.specs.Bodies.{Body, with_locals, marks_of, alone, heeding}
+use Rattle.ca_serial.specs.Bodies.{Body, with_locals, marks_of, heeding}
 
 -- Statements in the body that runs
 

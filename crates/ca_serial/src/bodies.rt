@@ -22,7 +22,7 @@ pub enum Mode {
     InOperation,
 }
 
-/// A body that runs: its receiver, its kind, whether it hands calls on, and the place where its locals begin.
+/// A body that runs: its receiver, its kind, whether it heeds the marks, and the place where its locals begin.
 #[derive(Clone, Copy)]
 pub struct Entry {
     pub this: Value,
@@ -31,8 +31,8 @@ pub struct Entry {
     pub base: usize,
 }
 
-/// The body that runs and those that wait for it. The locals of all stand in one vector, and the marked operations
-/// are the same for all that hand calls on.
+/// The body that runs and those that wait for it. The locals of all stand in one vector, and the marks are the same for
+/// all that heed them.
 #[derive(Drop)]
 pub struct Bodies<'a> {
     locals: Vec<Value>,
@@ -53,8 +53,7 @@ impl<'a> Model for Bodies<'a> {
 impl<'a> Bodies<'a> {
     ghost use Rattle.ca_serial.specs.Bodies.{main_body, with_locals, alone, heeding, marks_of, Went};
 
-    /// The body of `main`, whose locals have these types, in a program of so many operations. It hands on calls
-    /// of these.
+    /// The body of `main`, whose locals have these types, in a program of so many operations. It heeds these marks.
     pub fn new(
         alloc: Global,
         types: &[ValueType],
@@ -186,8 +185,8 @@ impl<'a> Bodies<'a> {
         }
     }
 
-    /// Begins a body whose first locals are the arguments; the others have these types. It hands on what the body that
-    /// runs does.
+    /// Begins a body whose first locals are the arguments; the others have these types. It heeds the marks where the body
+    /// that runs does.
     #[inline(always)]
     pub fn enter(
         &mut self,

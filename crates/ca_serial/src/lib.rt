@@ -7,8 +7,9 @@
 //! rose.
 //!
 //! An engine (`Extents`) runs operations in an order of its own. `drive` hands it each call of a marked operation, before
-//! the call takes its step, with the heap and the steps that are left then. Where the engine is done the call counts as
-//! run; where it declines the call runs here, and hands nothing on within. So far each loop runs here, marked or not.
+//! the call takes its step, with the heap and the steps that are left then; and of a marked loop the calls that it lists,
+//! with the steps that are left behind those of the loop itself. Where the engine is done the call or the loop counts as
+//! run; where it declines, or the loop can't be listed to its end, that runs here, and hands nothing on within.
 //!
 //! Calls stand on a vector and expressions on an explicit stack, so that no depth of calls runs
 //! out of the machine's own stack, and no piece of work takes memory but where a stack grows.

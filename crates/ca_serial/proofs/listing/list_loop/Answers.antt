@@ -1,24 +1,23 @@
-use Rattle.std.proofs.Common.{◌≡◌, ◌∙◌, refl, ap, sym, subst, rules, List, ℕ, [], ◌∷◌, arith, ◌-◌, map, append-nil}
+use Rattle.std.proofs.Common.{◌≡◌, ◌∙◌, refl, ap, sym, subst, List, [], ◌-◌, map}
 use Rattle.ca_program.specs.View.{program_view, statement_view}
 use Rattle.ca_parallel.specs.Bodies.{targets_of}
-use Rattle.ca_parallel.specs.Accounts.{Reached, ReachedPart, at_first}
+use Rattle.ca_parallel.specs.Accounts.{Reached, ReachedPart}
 use Rattle.ca_parallel.specs.Calls.{RunsTo, invocations_of, operation_of}
-use Rattle.ca_meaning.specs.Expressions.{Invocation}
 use Rattle.ca_parallel.specs.Lists.{note}
 use Rattle.ca_parallel.specs.Notes.{NoteGood}
-use Rattle.ca_sections.specs.Answers.{LoopIs, locals_after}
+use Rattle.ca_sections.specs.Answers.{locals_after}
 use Rattle.ca_serial.specs.Extents.{Answers, IsNotDone}
 use Rattle.ca_serial.specs.declared.extents.ExtentAnswer.{ExtentAnswer}
 use Rattle.ca_parallel.specs.declared.op.Op.{Op}
 use Rattle.ca_parallel.specs.Parallel.{ParallelFrom}
 use Rattle.ca_meaning.specs.WellTyped.{AllWellTyped}
-use Rattle.ca_serial.specs.Loops.{section_next, notes_of, notes_next, runs_alone}
+use Rattle.ca_serial.specs.Loops.{section_next, notes_of}
 use Rattle.ca_serial.specs.Bodies.{with_locals}
-use Rattle.ca_serial.specs.Resume.{and_notes, rest_of}
+use Rattle.ca_serial.specs.Resume.{and_notes}
 use Rattle.ca_serial.specs.declared.machine.Machine.{Machine}
 use Rattle.ca_serial.proofs.Quietness.{is_none}
 use Rattle.std.proofs.lemmas.Result.{err_from_is_err_and}
-use Rattle.ca_serial.proofs.LoopCalls.{none_told, part_told, none_yet, whole_part, IsDone, Stopped, Answered, answered, left_locals, said_of, done_locals, alone_with, trapped_section, spent_section, done_section, noted_in, ops_are, accounted, unaccounted, by_its_section, was_stopped, was_listed, was_declined}
+use Rattle.ca_serial.proofs.LoopCalls.{none_told, part_told, none_yet, whole_part, IsDone, Stopped, answered, left_locals, said_of, done_locals, alone_with, trapped_section, spent_section, done_section, noted_in, ops_are, accounted, unaccounted, by_its_section, was_stopped, was_listed, was_declined}
 use Rattle.ca_serial.proofs.listing.list_loop.Goals as goal
 
 pub returns-in_err-desk : goal.returns-in_err-desk

@@ -1,9 +1,9 @@
-use Rattle.std.proofs.Common.{◌≡◌, ◌∙◌, ◌++◌, ◌∷◌, [], refl, ap, sym, arith, rules, List, ℕ, ⊎_elim, subst, ◌<◌}
+use Rattle.std.proofs.Common.{◌≡◌, ◌∙◌, ap, sym, arith, ⊎_elim}
 use Rattle.ca_program.specs.View.{program_view}
 use Rattle.ca_meaning.specs.Serial.{Note, ended, serial}
 use Rattle.ca_parallel.specs.Accounts.{at_first, by_one}
 use Rattle.ca_parallel.specs.Lists.{world_after, lists}
-use Rattle.ca_serial.specs.Runs.{run_with, prints_of}
+use Rattle.ca_serial.specs.Runs.{run_with}
 use Rattle.ca_serial.specs.Loops.{notes_next}
 use Rattle.ca_serial.specs.Resume.{rest_of, no_past, and_print, and_note, and_notes, note_of, runs_due}
 use Rattle.ca_serial.specs.declared.running.Outcome.TheVariants.{Trapped, Spent}

@@ -1,4 +1,4 @@
-use Rattle.std.proofs.Common.{◌∙◌, ◌<◌, ◌+◌, arith, drop, take, reverse}
+use Rattle.std.proofs.Common.{◌<◌, ◌+◌, arith, drop, take, reverse}
 use Rattle.ca_program.specs.View.{program_view}
 use Rattle.ca_serial.specs.Resume.{world_of}
 use Rattle.ca_serial.proofs.DueCalls.{begun_alone}

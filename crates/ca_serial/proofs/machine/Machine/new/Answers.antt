@@ -1,9 +1,8 @@
-use Rattle.std.proofs.Common.{rules, ◌≡◌, ◌∷◌, []}
+use Rattle.std.proofs.Common.{rules, ◌≡◌}
 use Rattle.ca_program.specs.View.{program_view, statements_view}
 use Rattle.ca_model.specs.declared.value.Value.TheVariants.{Null}
 use Rattle.ca_model.specs.declared.value.TrapKind.TheVariants.{NullPointer}
 use Rattle.ca_serial.specs.declared.machine.Machine.{Machine}
-use Rattle.ca_serial.specs.Bodies.{main_body}
 use Rattle.ca_serial.proofs.Handings.{begins_main, begins_noted}
 use Rattle.ca_serial.proofs.machine.Machine.new.Goals as goal
 
