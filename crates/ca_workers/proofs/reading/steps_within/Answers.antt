@@ -8,12 +8,12 @@ use Rattle.ca_workers.proofs.reading.steps_within.Goals as goal
 
 pub returns-in-None : goal.returns-in-None
 returns-in-None c =
-    let more = history_more c.args.logs.now c.loop-at.at c.index-logs-at.result (found c.args.logs.now c.loop-at.at c.index-logs-at.result (omega (arith, c.loop-at-test.true)) c.index-logs-at.ensures) in
+    let more = history_more c.args.logs.now c.loop-at.at c.index-logs-at.result (found c.args.logs.now c.loop-at.at c.index-logs-at.result (omega (arith, c.loop-at-test.true)) c.index-logs-at.is) in
     omega (arith, more, c.loop-at.invariant.all, c.in-None.ensures)
 
 pub loop-at-preserved : goal.loop-at-preserved
 loop-at-preserved c =
-    let more = history_more c.args.logs.now c.loop-at.at c.index-logs-at.result (found c.args.logs.now c.loop-at.at c.index-logs-at.result (omega (arith, c.loop-at-test.true)) c.index-logs-at.ensures) in
+    let more = history_more c.args.logs.now c.loop-at.at c.index-logs-at.result (found c.args.logs.now c.loop-at.at c.index-logs-at.result (omega (arith, c.loop-at-test.true)) c.index-logs-at.is) in
     record {
       few = c.in-Some.ensures.1;
       all = omega (arith, more, c.loop-at.invariant.all, c.in-Some.ensures.0);
