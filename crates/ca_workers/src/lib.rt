@@ -8,8 +8,8 @@
 //!
 //! A round takes time for each object of the heap. So on a large heap the calling thread first runs some operations
 //! alone, as the engine for one worker does, and a call that ends there costs what it touches. Objects change in a copy
-//! of the heap, and only a run that is done puts that in the heap's place: nothing has to be put back. A run that ends
-//! in its first round makes no copy.
+//! of the heap, and only a run that is done puts that in the heap's place: nothing has to be put back. A run that begins
+//! with a round and ends in it makes no copy.
 //!
 //! `tasks` makes first tasks, `reading` adds up the steps of a round, and `storing` takes its objects into a heap.
 //! `rounds` has a round, and all rounds one after the other, `running` a run from the heap as it was handed, and
