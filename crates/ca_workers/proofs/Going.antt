@@ -1,15 +1,15 @@
 -- Rounds put together.
-use Rattle.std.proofs.Common.{◌≡◌, ◌≤◌, ◌<◌, ◌+◌, ◌-◌, ℕ, List, [], ◌∷◌, ◌++◌, All, Option, Some, None, refl, sym, ap, subst, ◌∙◌, arith}
+use Rattle.std.proofs.Common.{◌≡◌, ◌≤◌, ◌+◌, ◌-◌, ℕ, List, [], ◌++◌, Some, None, sym, ap, subst, arith}
 use Rattle.ca_program.specs.Plain.{PlainProgram}
 use Rattle.ca_model.specs.declared.value.Object.{Object}
 use Rattle.ca_meaning.specs.Expressions.{Invocation}
 use Rattle.ca_meaning.specs.Multisets.{weight}
 use Rattle.ca_parallel.specs.Extents.{Extent}
-use Rattle.ca_order_laws.specs.Pending.{PendingRun, CompleteRun, rests}
+use Rattle.ca_order_laws.specs.Pending.{PendingRun, rests}
 use Rattle.ca_order_laws.proofs.PendingRuns.{rounds}
 use Rattle.ca_run.specs.Rounds.{RanTo}
 use Rattle.ca_run.proofs.Going.{Going}
-use Rattle.ca_workers.specs.Runs.{IsSetting, MayWait, NoneWithin, DoneWithin, Ended, Placed}
+use Rattle.ca_workers.specs.Runs.{IsSetting, MayWait, NoneWithin, DoneWithin, Placed}
 use Rattle.ca_workers.proofs.Behind.{still_waits, none_behind, done_behind}
 
 -- a round more

@@ -1,5 +1,5 @@
 -- What a round answers, as a run of the pending machine.
-use Rattle.std.proofs.Common.{◌≡◌, ◌≤◌, ◌<◌, ◌+◌, ◌-◌, ◌⊎◌, ⊎_elim, ℕ, zero, suc, Bool, true, false, cond, List, [], ◌∷◌, ◌++◌, length, map, filter, flat_map, Option, Some, None, is_some, is_none, refl, sym, ap, subst, ◌∙◌, arith}
+use Rattle.std.proofs.Common.{◌≡◌, ◌≤◌, ◌<◌, ◌-◌, ⊎_elim, ℕ, zero, suc, true, false, cond, List, [], ◌∷◌, length, Option, Some, None, is_some, is_none, refl, sym, ap, subst, ◌∙◌, arith}
 use Rattle.std.specs.Prelude.{Contains, slice_get}
 use Rattle.std.proofs.lemmas.List.{length-map}
 use Rattle.std.proofs.lemmas.List.Elements.{Contains-append_cases, Contains-push_cases}
@@ -11,7 +11,7 @@ use Rattle.ca_meaning.specs.Expressions.{Invocation}
 use Rattle.ca_meaning.specs.Multisets.{weight, SameItems}
 use Rattle.ca_meaning.specs.Sections.{Outcome, Sectioned, done, stopped, over, section}
 use Rattle.ca_parallel.specs.Extents.{Extent}
-use Rattle.ca_order_laws.specs.Pending.{Leaves, PendingRun, rests, runs}
+use Rattle.ca_order_laws.specs.Pending.{PendingRun, rests, runs}
 use Rattle.ca_order_laws.specs.Complete.{DoneBy}
 use Rattle.ca_order_laws.proofs.Complete.{sections_end}
 use Rattle.ca_order_laws.proofs.Places.{one_some}
@@ -33,9 +33,8 @@ use Rattle.ca_pool.specs.Work.{StopsOn}
 use Rattle.ca_pool.specs.Gathered.{either_stop, first_stop}
 use Rattle.ca_pool.specs.Rounded.{Rounded}
 use Rattle.ca_pool.proofs.OneMore.{counted}
-use Rattle.ca_run.specs.Rounds.{RanTo, Sticking, StuckBehind}
-use Rattle.ca_workers.specs.declared.rounds.Left.{Left}
-use Rattle.ca_workers.specs.Runs.{IsSetting, MayWait, NoneWithin, Turned}
+use Rattle.ca_run.specs.Rounds.{RanTo}
+use Rattle.ca_workers.specs.Runs.{IsSetting, MayWait, NoneWithin}
 use Rattle.ca_workers.proofs.Behind.{overrun, stuck}
 use Rattle.ca_workers.proofs.Places.{get_mapped}
 

@@ -1,8 +1,7 @@
-use Rattle.std.proofs.Common.{◌≡◌, ◌≤◌, ◌<◌, ◌∙◌, None, Some, subst, sym, ap, arith}
+use Rattle.std.proofs.Common.{◌<◌, ◌∙◌, subst, sym, ap}
 use Rattle.ca_program.specs.View.{program_view}
-use Rattle.ca_logs.specs.Entries.{task_calls, entries_of}
+use Rattle.ca_logs.specs.Entries.{entries_of}
 use Rattle.ca_logs.specs.Laws.{steps_of}
-use Rattle.ca_cells.specs.Seats.{cells_key}
 use Rattle.ca_workers.proofs.Beginning.{may_run, separable}
 use Rattle.ca_workers.proofs.Logs.{round_stopped, round_passes, round_went, nothing_stopped}
 use Rattle.ca_workers.proofs.rounds.run_round.Goals as goal

@@ -1,4 +1,4 @@
-use Rattle.std.proofs.Common.{◌≡◌, ◌∙◌, ◌-◌, ◌+◌, ℕ, List, Option, None, Some, length, refl, sym, ap, subst, arith}
+use Rattle.std.proofs.Common.{◌∙◌, ◌-◌, ℕ, List, Option, length, sym, ap, subst, arith}
 use Rattle.ca_program.specs.View.{program_view}
 use Rattle.ca_model.specs.declared.value.Object.{Object}
 use Rattle.ca_logs.specs.Entries.{task_calls}

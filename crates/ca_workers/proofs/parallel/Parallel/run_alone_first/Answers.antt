@@ -1,10 +1,9 @@
-use Rattle.std.proofs.Common.{◌≡◌, ◌-◌, ◌+◌, ℕ, List, All, Option, Some, None, refl, sym, ap, subst, ◌∙◌}
+use Rattle.std.proofs.Common.{◌≡◌, ◌-◌, ℕ, List, All, Option, refl, sym, ap, subst, ◌∙◌}
 use Rattle.ca_program.specs.View.{program_view}
 use Rattle.ca_model.specs.declared.value.Object.{Object}
-use Rattle.ca_meaning.specs.Expressions.{Invocation}
 use Rattle.ca_parallel.specs.Calls.{invocations_of}
 use Rattle.ca_logs.specs.declared.log.Task.{Task}
-use Rattle.ca_logs.specs.Entries.{task_after, task_calls}
+use Rattle.ca_logs.specs.Entries.{task_calls}
 use Rattle.ca_run.specs.declared.rounds.Round.{Round}
 use Rattle.ca_run.specs.Beside.{present, SameShapes}
 use Rattle.ca_run.specs.Rounds.{Rounded, RanTo, StuckBehind}
