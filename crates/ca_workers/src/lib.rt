@@ -13,9 +13,11 @@
 //!
 //! `tasks` makes first tasks, `reading` adds up the steps of a round, and `storing` takes its objects into a heap.
 //! `rounds` has a round, and all rounds one after the other, `running` a run from the heap as it was handed, and
-//! `parallel` the engine. `specs/Runs.antt` says what these answer, in terms of the pending machine.
+//! `parallel` the engine. `specs/Runs.antt` says what these answer, in terms of the pending machine. `many` runs a whole
+//! program by it: `drive_by_many`.
 #![tactic(auto)]
 
+mod many;
 mod parallel;
 mod reading;
 mod rounds;
@@ -23,4 +25,5 @@ mod running;
 mod storing;
 mod tasks;
 
+pub use many::drive_by_many;
 pub use parallel::Parallel;

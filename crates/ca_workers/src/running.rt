@@ -79,7 +79,17 @@ pub fn run_from<R: Threads + Wait + Sync, G: Gate>(
         return Ok(Some(0));
     }
     let went = run_round(
-        rt, alloc, gate, workers, program, extent, heap, heap, first, FIRST_QUOTA, left,
+        rt,
+        alloc,
+        gate,
+        workers,
+        program,
+        extent,
+        heap,
+        heap,
+        first,
+        FIRST_QUOTA,
+        left,
     )?;
     let turn = match went {
         Some(turn) => turn,

@@ -21,7 +21,7 @@ returns-in-Stuck-clause-placed g c = let r = c.requires in
     let first = c.args.first.now in
     let round = subst (λ (t : Round). Rounded p h (present h c.forget.new.self) (invocations_of c.in_ok-waiting.waiting.items) c.args.left c.args.alone (present h c.run_round.new.beside) (invocations_of c.run_round.new.waiting.items) t) c.in-Stuck.is c.in_ok-went.ensures in (
       stuck p r.parallel.extent h (known_setting p r.program h r.heap first r.typed r.parallel) h (invocations_of first) (known_waits p r.program h r.heap first r.typed r.parallel) c.args.left
-      (from_start h c.forget.new.self c.forget.ensures c.in_ok-waiting.waiting.items first c.in_ok-waiting.ensures (λ g is. StuckBehind p h g is c.args.left) round),
+          (from_start h c.forget.new.self c.forget.ensures c.in_ok-waiting.waiting.items first c.in_ok-waiting.ensures (λ g is. StuckBehind p h g is c.args.left) round),
       refl,
     )
 
