@@ -85,10 +85,7 @@ pub fn drive_by_many<R: Threads + Wait + Sync, K: Sink, G: Gate>(
 {
     let mut parallel = Parallel::new(alloc, workers, gate);
     let mut engine = Handing {
-        call: move |code: &Program, heap: &mut Heap, calls: &[Op], left: u64| -> Result<
-            ExtentAnswer,
-            Memory,
-        >
+        call: move |code: &Program, heap: &mut Heap, calls: &[Op], left: u64|
             requires program { ProgramTyped (program_view code.now) }
             requires heap { TypedHeap (program_view code.now) heap.now }
             requires typed { AllWellTyped (program_view code.now) heap.now (invocations_of calls.now) }
