@@ -5,3 +5,4 @@ pub mod Logs
 pub mod Going
 pub mod Stored
 pub mod Beginning
+mod Examples

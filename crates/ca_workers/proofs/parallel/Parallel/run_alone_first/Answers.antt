@@ -21,7 +21,7 @@ returns-in-Stuck-clause-placed g c = let r = c.requires in
     let first = c.args.first.now in
     let round = subst (λ (t : Round). Rounded p h (present h c.forget.new.self) (invocations_of c.in_ok-waiting.waiting.items) c.args.left c.args.alone (present h c.run_round.new.beside) (invocations_of c.run_round.new.waiting.items) t) c.in-Stuck.is c.in_ok-went.ensures in (
       stuck p r.parallel.extent h (known_setting p r.program h r.heap first r.typed r.parallel) h (invocations_of first) (known_waits p r.program h r.heap first r.typed r.parallel) c.args.left
-          (from_start h c.forget.new.self c.forget.ensures c.in_ok-waiting.waiting.items first c.in_ok-waiting.ensures (λ g is. StuckBehind p h g is c.args.left) round),
+          (from_start h c.forget.new.self c.forget.ensures c.in_ok-waiting.waiting.items first c.in_ok-waiting.ensures (λ g is. StuckBehind p h g is c.args.left) round.behind),
       refl,
     )
 
@@ -33,7 +33,7 @@ store-requires g c = let r = c.requires in
     let last = present h c.run_round.new.beside in
     let rest = invocations_of c.run_round.new.waiting.items in
     let round = subst (λ (t : Round). Rounded p h (present h c.forget.new.self) (invocations_of c.in_ok-waiting.waiting.items) c.args.left c.args.alone last rest t) c.in-Went.is c.in_ok-went.ensures in
-    let ran = from_start h c.forget.new.self c.forget.ensures c.in_ok-waiting.waiting.items first c.in_ok-waiting.ensures (λ g is. RanTo p h g is c.args.left last rest c.in-Went.steps) round.0 in
+    let ran = from_start h c.forget.new.self c.forget.ensures c.in_ok-waiting.waiting.items first c.in_ok-waiting.ensures (λ g is. RanTo p h g is c.args.left last rest c.in-Went.steps) round.ran in
     let set = known_setting p r.program h r.heap first r.typed r.parallel in
     let w = known_waits p r.program h r.heap first r.typed r.parallel in
     let v : MayWait p r.parallel.extent h last rest = waits_on p r.parallel.extent h set h (invocations_of first) w c.args.left last rest c.in-Went.steps ran in
@@ -47,7 +47,7 @@ store-requires-2 g c = let r = c.requires in
     let last = present h c.run_round.new.beside in
     let rest = invocations_of c.run_round.new.waiting.items in
     let round = subst (λ (t : Round). Rounded p h (present h c.forget.new.self) (invocations_of c.in_ok-waiting.waiting.items) c.args.left c.args.alone last rest t) c.in-Went.is c.in_ok-went.ensures in
-    let ran = from_start h c.forget.new.self c.forget.ensures c.in_ok-waiting.waiting.items first c.in_ok-waiting.ensures (λ g is. RanTo p h g is c.args.left last rest c.in-Went.steps) round.0 in
+    let ran = from_start h c.forget.new.self c.forget.ensures c.in_ok-waiting.waiting.items first c.in_ok-waiting.ensures (λ g is. RanTo p h g is c.args.left last rest c.in-Went.steps) round.ran in
     let set = known_setting p r.program h r.heap first r.typed r.parallel in
     let w = known_waits p r.program h r.heap first r.typed r.parallel in
     let v : MayWait p r.parallel.extent h last rest = waits_on p r.parallel.extent h set h (invocations_of first) w c.args.left last rest c.in-Went.steps ran in
@@ -65,7 +65,7 @@ run_on-requires-clause-waiting g c κs within = let r = c.requires in
     let last = present h c.run_round.new.beside in
     let rest = invocations_of c.run_round.new.waiting.items in
     let round = subst (λ (t : Round). Rounded p h (present h c.forget.new.self) (invocations_of c.in_ok-waiting.waiting.items) c.args.left c.args.alone last rest t) c.in-Went.is c.in_ok-went.ensures in
-    let ran = from_start h c.forget.new.self c.forget.ensures c.in_ok-waiting.waiting.items first c.in_ok-waiting.ensures (λ g is. RanTo p h g is c.args.left last rest c.in-Went.steps) round.0 in
+    let ran = from_start h c.forget.new.self c.forget.ensures c.in_ok-waiting.waiting.items first c.in_ok-waiting.ensures (λ g is. RanTo p h g is c.args.left last rest c.in-Went.steps) round.ran in
     let mid = c.store-2.new.heap in
     let here : mid ≡ last = c.store-2.ensures.stored ∙ ap (λ (q : List Object). present q c.run_round.new.beside) c.in_ok-now.ensures in
     let more = task_calls c.in_ok-tasks.tasks.items in
@@ -85,7 +85,7 @@ returns-in-Some-clause-placed g c = let r = c.requires in
     let last = present h c.run_round.new.beside in
     let rest = invocations_of c.run_round.new.waiting.items in
     let round = subst (λ (t : Round). Rounded p h (present h c.forget.new.self) (invocations_of c.in_ok-waiting.waiting.items) c.args.left c.args.alone last rest t) c.in-Went.is c.in_ok-went.ensures in
-    let ran = from_start h c.forget.new.self c.forget.ensures c.in_ok-waiting.waiting.items first c.in_ok-waiting.ensures (λ g is. RanTo p h g is c.args.left last rest c.in-Went.steps) round.0 in
+    let ran = from_start h c.forget.new.self c.forget.ensures c.in_ok-waiting.waiting.items first c.in_ok-waiting.ensures (λ g is. RanTo p h g is c.args.left last rest c.in-Went.steps) round.ran in
     let mid = c.store-2.new.heap in
     let here : mid ≡ last = c.store-2.ensures.stored ∙ ap (λ (q : List Object). present q c.run_round.new.beside) c.in_ok-now.ensures in
     let more = task_calls c.in_ok-tasks.tasks.items in
@@ -103,7 +103,7 @@ returns-clause-placed g c = let r = c.requires in
     let last = present h c.run_round.new.beside in
     let rest = invocations_of c.run_round.new.waiting.items in
     let round = subst (λ (t : Round). Rounded p h (present h c.forget.new.self) (invocations_of c.in_ok-waiting.waiting.items) c.args.left c.args.alone last rest t) c.in-Went.is c.in_ok-went.ensures in
-    let ran = from_start h c.forget.new.self c.forget.ensures c.in_ok-waiting.waiting.items first c.in_ok-waiting.ensures (λ g is. RanTo p h g is c.args.left last rest c.in-Went.steps) round.0 in
+    let ran = from_start h c.forget.new.self c.forget.ensures c.in_ok-waiting.waiting.items first c.in_ok-waiting.ensures (λ g is. RanTo p h g is c.args.left last rest c.in-Went.steps) round.ran in
     let mid = c.store-2.new.heap in
     let here : mid ≡ last = c.store-2.ensures.stored ∙ ap (λ (q : List Object). present q c.run_round.new.beside) c.in_ok-now.ensures in
     let more = task_calls c.in_ok-tasks.tasks.items in
