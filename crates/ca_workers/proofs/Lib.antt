@@ -1,0 +1,8 @@
+pub mod Places
+pub mod Steps
+pub mod Behind
+pub mod Logs
+pub mod Going
+pub mod Stored
+pub mod Beginning
+mod Examples
