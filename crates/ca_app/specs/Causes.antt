@@ -8,11 +8,13 @@ use Rattle.ca_model.specs.declared.value.Trap.{Trap}
 use Rattle.ca_model.specs.declared.value.Value.{Value as Datum}
 use Rattle.ca_meaning.specs.Serial.{Ended, done, trapped, spent, serial}
 use Rattle.ca_words.specs.declared.Command.{Command}
-use Rattle.ca_words.specs.declared.Command.TheVariants.{Run, Gen}
+use Rattle.ca_words.specs.declared.Command.TheVariants.{Run, Gen, Load}
 use Rattle.ca_words.specs.Words.{Names, reads}
 use Rattle.ca_gen.specs.Generated.{generated}
 use Rattle.ca_app.specs.Accepted.{Accepted}
 use Rattle.ca_app.specs.Refusals.{RefusedAt, is_limit_code}
+use Rattle.ca_app.specs.Reply.{IsLoaded}
+use Rattle.ca_app.specs.Summary.{summary_text}
 use Rattle.ca_app.specs.Told.{CommandTold}
 
 -- the words name no command
@@ -55,6 +57,17 @@ pub record Generates (words : List (List ℕ)) (old now : Option (List ℕ)) : T
   pub size : ℕ
   pub named : Names words (Gen seed size)
   pub bytes : now ≡ grown old (generated seed size)
+
+-- The words name `load`, and what was written is the summary of the serial run of the text of its seed and its size.
+pub record Loads (words : List (List ℕ)) (old now : Option (List ℕ)) : Type 0 where
+  pub seed : ℕ
+  pub size : ℕ
+  pub workers : ℕ
+  pub named : Names words (Load seed size workers)
+  pub heap : List Object
+  pub steps : ℕ
+  pub loaded : IsLoaded seed size heap steps
+  pub bytes : now ≡ grown old (summary_text heap steps)
 
 abbrev pub IsDone : Ended → Type 0
 IsDone e = (prints : List Datum) × (heap : List Object) × (steps : ℕ) × (e ≡ done prints heap steps)

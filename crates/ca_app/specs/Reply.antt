@@ -3,15 +3,19 @@ use Rattle.std.specs.Prelude.{ℕ, ◌≡◌, true, List}
 use Rattle.ca_tree.specs.declared.name.Place.{Place}
 use Rattle.ca_tree.specs.Plain.{TextTree}
 use Rattle.ca_program.specs.Plain.{PlainProgram}
+use Rattle.ca_model.specs.declared.value.Object.{Object}
+use Rattle.ca_model.specs.declared.value.Value.{Value as Datum}
 use Rattle.ca_meaning.specs.Output.{Reply, output}
+use Rattle.ca_meaning.specs.Serial.{done, serial}
 use Rattle.ca_words.specs.declared.Command.{Command}
-use Rattle.ca_words.specs.declared.Command.TheVariants.{Run, Gen}
+use Rattle.ca_words.specs.declared.Command.TheVariants.{Run, Gen, Load}
 use Rattle.ca_words.specs.Words.{Names, reads, usage_text}
 use Rattle.ca_gen.specs.Generated.{generated}
 use Rattle.ca_plan.specs.Plans.{PlainPlan, PlanOf}
 use Rattle.ca_app.specs.declared.serving.TheConstants.{DONE, USAGE}
 use Rattle.ca_app.specs.Accepted.{Accepted}
 use Rattle.ca_app.specs.Refusals.{RefusedAt, refusal_reply}
+use Rattle.ca_app.specs.Summary.{summary_text}
 use Rattle.ca_app.specs.Told.{Tells}
 
 abbrev pub usage_reply : Reply
@@ -20,6 +24,23 @@ usage_reply = record { status = USAGE; bytes = usage_text }
 -- what `gen` replies, whatever the text
 abbrev pub generated_reply : ℕ → ℕ → Reply
 generated_reply seed size = record { status = DONE; bytes = generated seed size }
+
+-- The text of the seed and the size is accepted, and the serial run of its program, for 1,000,000,000 steps, is done with
+-- this heap in so many steps.
+pub record IsLoaded (seed size : ℕ) (heap : List Object) (steps : ℕ) : Type 0 where
+  pub program : PlainProgram
+  pub accepted : Accepted (generated seed size) program
+  pub prints : List Datum
+  pub ran : serial program 1000000000 ≡ done prints heap steps
+
+-- what `load` replies, whatever the text and the workers
+abbrev pub loaded_reply : List Object → ℕ → Reply
+loaded_reply heap steps = record { status = DONE; bytes = summary_text heap steps }
+
+-- what a command that reads nothing replies
+pub data UnreadReplies : Command → Reply → Type 0 where
+  generates : {seed size : ℕ} → UnreadReplies (Gen seed size) (generated_reply seed size)
+  loads : {seed size workers steps : ℕ} {heap : List Object} → IsLoaded seed size heap steps → UnreadReplies (Load seed size workers) (loaded_reply heap steps)
 
 -- what a command replies to a program, whose text has this tree
 pub data ProgramReplies (tree : TextTree) (p : PlainProgram) : Command → Reply → Type 0 where
@@ -34,5 +55,5 @@ pub data CommandReplies (command : Command) (text : List ℕ) : Reply → Type 0
 -- what words on a text reply: they name no command, or one that reads nothing, or one that reads the text
 pub data Replies (words : List (List ℕ)) (text : List ℕ) : Reply → Type 0 where
   usage : ((command : Command) → Names words command → ⊥) → Replies words text usage_reply
-  generates : {seed size : ℕ} → Names words (Gen seed size) → Replies words text (generated_reply seed size)
+  unread : {command : Command} {reply : Reply} → Names words command → UnreadReplies command reply → Replies words text reply
   named : {command : Command} {reply : Reply} → Names words command → reads command ≡ true → CommandReplies command text reply → Replies words text reply

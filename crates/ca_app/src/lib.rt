@@ -3,9 +3,10 @@
 //! `top` promises that what it writes is the reply of the words and the text, which for a run is the
 //! text of the depth-first serial run; or it answers want of memory, or a failed read or write of a
 //! device whose count of faults rose in this call. It holds for every source and sink, since it is
-//! stated on what they tell. It serves `run 1 BUDGET`, by `ca_serial` and the engine `OneWorker`
-//! of `ca_run`, and `pairs`, `plan` and `emit`, all by the plan of `ca_plan`. `gen SEED SIZE` reads no text: it writes the one that
-//! `generate` gives, which is accepted and runs to its end.
+//! stated on what they tell. It serves `run WORKERS BUDGET`, by `ca_serial` and the engine `OneWorker`
+//! of `ca_run` or, for more workers, `Parallel` of `ca_workers`, and `pairs`, `plan` and `emit`, all by the plan of `ca_plan`.
+//! `gen SEED SIZE` and `load SEED SIZE WORKERS` read no text: the one writes that which `generate` gives, which is accepted and
+//! runs to its end, and the other runs it and writes what it left in one line.
 //! `specs/Accepted.antt` and `specs/Refusals.antt` say which texts are accepted and where the others
 //! are refused, `specs/Reply.antt` has the replies, and `specs/Ends.antt` how a call ends.
 #![tactic(auto)]
@@ -13,11 +14,14 @@
 mod generating;
 mod laws;
 mod lines;
+mod loading;
 mod reading;
 mod refusals;
 mod running;
 mod serving;
+mod summary;
 mod telling;
+mod unread;
 
 pub use generating::generate;
 pub use laws::{accepted_programs_are_typed, one_reply};

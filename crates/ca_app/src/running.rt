@@ -1,4 +1,4 @@
-//! The command that runs a program: `run`.
+//! Runs of programs, and the command `run`.
 
 ghost use Rattle.std.specs.Prelude.{◌≡◌, ◌≤◌, IfOk};
 ghost use Rattle.ca_base.specs.Devices.{Rose, Writes};
@@ -6,6 +6,7 @@ ghost use Rattle.ca_program.specs.View.{program_view};
 ghost use Rattle.ca_meaning.specs.Output.{output, prints_text};
 ghost use Rattle.ca_meaning.specs.Serial.{serial};
 ghost use Rattle.ca_parallel.specs.Marks.{SoundMarks};
+ghost use Rattle.ca_words.specs.Words.{IsWorkers};
 ghost use Rattle.ca_serial.specs.Runs.{run_with, prints_of, OnWrite};
 ghost use Rattle.ca_plan.specs.Checked.{Checked};
 ghost use Rattle.ca_plan.specs.Plans.{PlainPlan, PlanOf};
@@ -24,22 +25,25 @@ use std::alloc::Global;
 use std::sync::Wait;
 use std::thread::Threads;
 
-/// Runs a program by one worker, which passes the gate before each section. What it prints is written as it comes.
+/// Runs a program by so many workers, which pass the gate before each section. What it prints is written as it comes. What is
+/// written doesn't depend on the workers.
 pub fn run_program<R: Threads + Wait + Sync, K: Sink, G: Gate>(
     rt: &R,
     alloc: Global,
     program: &Program,
+    workers: u32,
     budget: u32,
     sink: &mut K,
     gate: &G,
 ) -> u8
-    requires { Checked (program_view program.now) }
+    requires checked { Checked (program_view program.now) }
+    requires workers { IsWorkers workers }
     ensures ends { Ends (output (program_view program.now) budget) result (K.written sink.old) (K.written sink.new) }
     ensures write_fault { SinkCause result (K.faults sink.old) (K.faults sink.new) }
     ensures no_read_fault { result ≡ READ_FAULT → ⊥ }
     ensures no_usage { result ≡ USAGE → ⊥ }
 {
-    match run_by_plan(rt, alloc, program, u64::from(budget), sink, gate) {
+    match run_by_plan(rt, alloc, program, workers, u64::from(budget), sink, gate) {
         Ok(Outcome::Done { heap, .. }) => finish(print_heap(program, &heap, sink), DONE),
         Ok(Outcome::Trapped(trap)) => finish(write_trap(trap, sink), TRAPPED),
         Ok(Outcome::Spent) => finish(write_spent(budget, sink), SPENT),
@@ -48,16 +52,18 @@ pub fn run_program<R: Threads + Wait + Sync, K: Sink, G: Gate>(
     }
 }
 
-/// Runs a program, whose marked operations and loops an engine of one worker runs.
-fn run_by_plan<R: Threads + Wait + Sync, K: Sink, G: Gate>(
+/// Runs a program, whose marked operations and loops an engine of so many workers runs.
+pub fn run_by_plan<R: Threads + Wait + Sync, K: Sink, G: Gate>(
     rt: &R,
     alloc: Global,
     program: &Program,
+    workers: u32,
     budget: u64,
     sink: &mut K,
     gate: &G,
 ) -> Result<Outcome, RunError>
-    requires { Checked (program_view program.now) }
+    requires checked { Checked (program_view program.now) }
+    requires workers { IsWorkers workers }
     ensures outcome { IfOk result (λ outcome. serial (program_view program.now) budget ≡ run_with (prints_of (serial (program_view program.now) budget)) outcome) }
     ensures prints { Writes (K.written sink.old) (K.written sink.new) result (prints_text (prints_of (serial (program_view program.now) budget))) }
     ensures write { OnWrite result (Rose (K.faults sink.old) (K.faults sink.new)) }

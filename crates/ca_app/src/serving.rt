@@ -5,19 +5,19 @@ ghost use Rattle.ca_base.specs.Devices.{Rose, at_end};
 ghost use Rattle.ca_tree.specs.View.{tree_view};
 ghost use Rattle.ca_program.specs.View.{program_view};
 ghost use Rattle.ca_meaning.specs.Output.{Reply};
-ghost use Rattle.ca_words.specs.Words.{texts, reads};
-ghost use Rattle.ca_app.specs.Causes.{IsUsageFault, ReadsNothing, ReadsSource, IsRefused, RunEnds, PlanTold, Generates, IsDone, IsTrapped, IsSpent};
+ghost use Rattle.ca_words.specs.Words.{IsInRange, texts, reads};
+ghost use Rattle.ca_app.specs.Causes.{IsUsageFault, ReadsNothing, ReadsSource, IsRefused, RunEnds, PlanTold, Generates, Loads, IsDone, IsTrapped, IsSpent};
 ghost use Rattle.ca_app.specs.Ends.{Ends, EndsWith, SinkCause, Complete, IsReadToEnd, status_after};
 ghost use Rattle.ca_app.specs.Refusals.{refusal_reply};
 ghost use Rattle.ca_app.specs.Reply.{ProgramReplies, CommandReplies, Replies};
 ghost use Rattle.ca_app.specs.Told.{ProgramTold, CommandTold, tells_plan};
 ghost use Rattle.ca_plan.specs.Checked.{Checked};
 
-use crate::generating::serve_unread;
 use crate::reading::{NoProgram, Reading, read_program};
 use crate::refusals::Refusal;
 use crate::running::run_program;
 use crate::telling::tell_plan;
+use crate::unread::serve_unread;
 use ca_base::{Failed, Gate, ReadError, Sink, Source, read_all, write_all};
 use ca_words::{Command, command_of, usage_line};
 use std::alloc::Global;
@@ -74,7 +74,7 @@ pub fn top<R: AllocGlobal + Threads + Wait + Sync, S: Source, K: Sink, G: Gate>(
     ensures headline { (text : List ℕ) → S.left source.old ≡ Some text → EndsWith (Replies (texts words.now) text) result (K.written sink.old) (K.written sink.new) }
 
     // What each of its statuses says of the text and its serial run.
-    ensures done { (text : List ℕ) → S.left source.old ≡ Some text → result ≡ DONE → RunEnds (texts words.now) text IsDone ⊎ (PlanTold (texts words.now) text (K.written sink.old) (K.written sink.new) ⊎ Generates (texts words.now) (K.written sink.old) (K.written sink.new)) }
+    ensures done { (text : List ℕ) → S.left source.old ≡ Some text → result ≡ DONE → RunEnds (texts words.now) text IsDone ⊎ (PlanTold (texts words.now) text (K.written sink.old) (K.written sink.new) ⊎ (Generates (texts words.now) (K.written sink.old) (K.written sink.new) ⊎ Loads (texts words.now) (K.written sink.old) (K.written sink.new))) }
     ensures refused { (text : List ℕ) → S.left source.old ≡ Some text → result ≡ REFUSED → IsRefused false text }
     ensures trapped { (text : List ℕ) → S.left source.old ≡ Some text → result ≡ TRAPPED → RunEnds (texts words.now) text IsTrapped }
     ensures spent { (text : List ℕ) → S.left source.old ≡ Some text → result ≡ SPENT → RunEnds (texts words.now) text IsSpent }
@@ -107,7 +107,7 @@ pub fn top<R: AllocGlobal + Threads + Wait + Sync, S: Source, K: Sink, G: Gate>(
     if command.reads() {
         return serve(rt, rt.alloc(), command, source, sink, gate);
     }
-    serve_unread(rt.alloc(), command, sink)
+    serve_unread(rt, rt.alloc(), command, sink, gate)
 }
 
 /// Serves a command that reads its source, on the text that the source has.
@@ -119,7 +119,8 @@ fn serve<R: Threads + Wait + Sync, S: Source, K: Sink, G: Gate>(
     sink: &mut K,
     gate: &G,
 ) -> u8
-    requires { reads command ≡ true }
+    requires reading { reads command ≡ true }
+    requires in_range { IsInRange command }
     ensures headline { (text : List ℕ) → S.left source.old ≡ Some text → EndsWith (CommandReplies command text) result (K.written sink.old) (K.written sink.new) }
     ensures told { (text : List ℕ) → S.left source.old ≡ Some text → tells_plan command ≡ true → result ≡ DONE → CommandTold command text (K.written sink.old) (K.written sink.new) }
     ensures read_fault { result ≡ READ_FAULT → Rose (S.faults source.old) (S.faults source.new) }
@@ -148,6 +149,7 @@ fn serve_text<R: Threads + Wait + Sync, K: Sink, G: Gate>(
 ) -> u8
     requires short { length text.now ≤ MOST_BYTES }
     requires reading { reads command ≡ true }
+    requires in_range { IsInRange command }
     ensures ends { EndsWith (CommandReplies command text.now) result (K.written sink.old) (K.written sink.new) }
     ensures told { tells_plan command ≡ true → result ≡ DONE → CommandTold command text.now (K.written sink.old) (K.written sink.new) }
     ensures write_fault { SinkCause result (K.faults sink.old) (K.faults sink.new) }
@@ -172,6 +174,7 @@ fn serve_program<R: Threads + Wait + Sync, K: Sink, G: Gate>(
 ) -> u8
     requires checked { Checked (program_view reading.now.program) }
     requires reading { reads command ≡ true }
+    requires in_range { IsInRange command }
     ensures ends { EndsWith (ProgramReplies (tree_view reading.now.tree) (program_view reading.now.program) command) result (K.written sink.old) (K.written sink.new) }
     ensures told { tells_plan command ≡ true → result ≡ DONE → ProgramTold (tree_view reading.now.tree) (program_view reading.now.program) command (K.written sink.old) (K.written sink.new) }
     ensures write_fault { SinkCause result (K.faults sink.old) (K.faults sink.new) }
@@ -179,11 +182,11 @@ fn serve_program<R: Threads + Wait + Sync, K: Sink, G: Gate>(
     ensures no_usage { result ≡ USAGE → ⊥ }
 {
     match command {
-        Command::Run { budget, .. } => {
-            run_program(rt, alloc, &reading.program, budget, sink, gate)
+        Command::Run { workers, budget } => {
+            run_program(rt, alloc, &reading.program, workers, budget, sink, gate)
         }
         Command::Pairs | Command::Plan | Command::Emit => tell_plan(alloc, command, reading, sink),
-        Command::Gen { .. } => unreachable!(),
+        Command::Gen { .. } | Command::Load { .. } => unreachable!(),
     }
 }
 

@@ -54,6 +54,6 @@ fn tell<K: Sink>(
             Ok(text) => finish(write_all(sink, &text), DONE),
             Err(_) => NO_MEMORY,
         },
-        Command::Run { .. } | Command::Gen { .. } => unreachable!(),
+        Command::Run { .. } | Command::Gen { .. } | Command::Load { .. } => unreachable!(),
     }
 }

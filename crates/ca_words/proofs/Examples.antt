@@ -1,7 +1,7 @@
 -- Worked examples of the words of a command and of the usage line.
 use Rattle.std.proofs.Common.{◌≡◌, [], ◌∷◌, take, drop, codes, refl, arith, true, false}
 use Rattle.std.specs.Fmt.{digits}
-use Rattle.ca_words.specs.declared.Command.TheVariants.{Run, Plan, Gen}
+use Rattle.ca_words.specs.declared.Command.TheVariants.{Run, Plan, Gen, Load}
 use Rattle.ca_words.specs.Words.{words_of, Names, reads, usage_text}
 
 run_with_budget_100 : words_of (Run 1 100) ≡ codes "run" ∷ codes "1" ∷ codes "100" ∷ []
@@ -10,15 +10,19 @@ run_with_budget_100 = refl
 
 least_names : Names (codes "run" ∷ codes "1" ∷ codes "1" ∷ []) (Run 1 1)
 unfolding digits
-least_names = record { spells = record { spelled = refl; in_range = ((omega arith, omega arith), (omega arith, omega arith)) }; built = refl }
+least_names = record { spelled = refl; in_range = ((omega arith, omega arith), (omega arith, omega arith)) }
 
-greatest_names : Names (codes "run" ∷ codes "1" ∷ codes "1000000000" ∷ []) (Run 1 1000000000)
+greatest_names : Names (codes "run" ∷ codes "64" ∷ codes "1000000000" ∷ []) (Run 64 1000000000)
 unfolding digits
-greatest_names = record { spells = record { spelled = refl; in_range = ((omega arith, omega arith), (omega arith, omega arith)) }; built = refl }
+greatest_names = record { spelled = refl; in_range = ((omega arith, omega arith), (omega arith, omega arith)) }
 
 greatest_seed_names : Names (codes "gen" ∷ codes "18446744073709551615" ∷ codes "20000" ∷ []) (Gen 18446744073709551615 20000)
 unfolding digits
-greatest_seed_names = record { spells = record { spelled = refl; in_range = (omega arith, (omega arith, omega arith)) }; built = tt }
+greatest_seed_names = record { spelled = refl; in_range = (omega arith, (omega arith, omega arith)) }
+
+load_names : Names (codes "load" ∷ codes "0" ∷ codes "20000" ∷ codes "64" ∷ []) (Load 0 20000 64)
+unfolding digits
+load_names = record { spelled = refl; in_range = (omega arith, (omega arith, omega arith), (omega arith, omega arith)) }
 
 usage_begins : take 14 usage_text ≡ codes "usage: commute"
 usage_begins = refl
@@ -27,10 +31,13 @@ usage_ends : drop 89 usage_text ≡ codes "WORKERS\n"
 usage_ends = refl
 
 plan_names : Names (codes "plan" ∷ []) Plan
-plan_names = record { spells = record { spelled = refl; in_range = tt }; built = tt }
+plan_names = record { spelled = refl; in_range = tt }
 
 reads_its_source : reads (Run 1 100) ≡ true
 reads_its_source = refl
 
 reads_nothing : reads (Gen 7 3) ≡ false
 reads_nothing = refl
+
+loads_nothing : reads (Load 7 3 4) ≡ false
+loads_nothing = refl

@@ -2,7 +2,7 @@
 use Rattle.std.specs.Prelude.{◌≡◌, Bool, true, false, ℕ, ◌≤◌, List, [], ◌∷◌, map, codes, decimal, String, string_bytes}
 use Rattle.std.specs.declared.alloc.Global.{Global}
 use Rattle.ca_words.specs.declared.Command.{Command}
-use Rattle.ca_words.specs.declared.Command.TheVariants.{Run, Pairs, Plan, Emit, Gen}
+use Rattle.ca_words.specs.declared.Command.TheVariants.{Run, Pairs, Plan, Emit, Gen, Load}
 
 -- each word as its bytes
 abbrev pub texts : List (String Global) → List (List ℕ)
@@ -15,6 +15,7 @@ words_of Pairs = codes "pairs" ∷ []
 words_of Plan = codes "plan" ∷ []
 words_of Emit = codes "emit" ∷ []
 words_of (Gen seed size) = codes "gen" ∷ decimal seed ∷ decimal size ∷ []
+words_of (Load seed size workers) = codes "load" ∷ decimal seed ∷ decimal size ∷ decimal workers ∷ []
 
 abbrev pub IsWorkers : ℕ → Type 0
 IsWorkers n = (1 ≤ n) × (n ≤ 64)
@@ -35,25 +36,17 @@ IsInRange Pairs = Unit {0}
 IsInRange Plan = Unit {0}
 IsInRange Emit = Unit {0}
 IsInRange (Gen seed size) = IsSeed seed × IsSize size
-
--- what this program does so far: of runs, those by one worker
-abbrev pub IsBuilt : Command → Type 0
-IsBuilt (Run workers budget) = workers ≡ 1
-IsBuilt other = Unit {0}
+IsInRange (Load seed size workers) = IsSeed seed × IsSize size × IsWorkers workers
 
 -- the words are those of the command, and its numbers are in their ranges
-pub record Spells (words : List (List ℕ)) (command : Command) : Type 0 where
+pub record Names (words : List (List ℕ)) (command : Command) : Type 0 where
   pub spelled : words ≡ words_of command
   pub in_range : IsInRange command
-
--- and this program does it
-pub record Names (words : List (List ℕ)) (command : Command) : Type 0 where
-  pub spells : Spells words command
-  pub built : IsBuilt command
 
 -- whether the command reads its source
 abbrev pub reads : Command → Bool
 reads (Gen seed size) = false
+reads (Load seed size workers) = false
 reads other = true
 
 abbrev pub usage_text : List ℕ

@@ -3,20 +3,18 @@
 //! `command_of` answers the command exactly where the words name one. The caller answers every
 //! other list of words, `--help` too, with the usage line. The words of a command are a function
 //! of it, `words_of` of `specs/Words.antt`, so each command has one list of words, and
-//! `names_one_command` says that a list of words names one command at most. A command that isn't
-//! built yet is no command: `IsBuilt` says which are. Nothing here takes memory, so a faulty
-//! command line is told from want of memory whatever is left.
+//! `names_one_command` says that a list of words names one command at most. Nothing here takes
+//! memory, so a faulty command line is told from want of memory whatever is left.
 #![tactic(auto)]
 
-ghost use Rattle.std.specs.Prelude.{◌≡◌, ℕ, ◌<◌, ◌≤◌, ◌↔◌, List, IsTrue, IfSome, IfNone, decimal};
+ghost use Rattle.std.specs.Prelude.{◌≡◌, ℕ, ◌<◌, ◌≤◌, List, IfSome, IfNone, decimal};
 ghost use Rattle.ca_words.specs.declared.Command.{Command};
-ghost use Rattle.ca_words.specs.Words.{texts, IsBuilt, Spells, Names, reads, usage_text};
+ghost use Rattle.ca_words.specs.Words.{texts, Names, reads, usage_text};
 
 /// What the words name.
 #[derive(Clone, Copy, PartialEq, Eq, Debug)]
 pub enum Command {
-    /// `run WORKERS BUDGET`: runs the source with 1 to 64 workers, of which 1 is built, for a budget
-    /// of 1 to 1,000,000,000 steps.
+    /// `run WORKERS BUDGET`: runs the source with 1 to 64 workers, for a budget of 1 to 1,000,000,000 steps.
     Run { workers: u32, budget: u32 },
     /// `pairs`: the verdicts on the pairs of each extent.
     Pairs,
@@ -26,6 +24,8 @@ pub enum Command {
     Emit,
     /// `gen SEED SIZE`: writes the text that any seed gives, with 1 to 20,000 nodes.
     Gen { seed: u64, size: u32 },
+    /// `load SEED SIZE WORKERS`: runs that text with 1 to 64 workers, and tells the sum of what it leaves.
+    Load { seed: u64, size: u32, workers: u32 },
 }
 
 impl Command {
@@ -41,17 +41,7 @@ impl Command {
     {
         match self {
             Command::Run { .. } | Command::Pairs | Command::Plan | Command::Emit => true,
-            Command::Gen { .. } => false,
-        }
-    }
-
-    // Whether this program does it so far.
-    fn is_built(self) -> bool
-        ensures { IsTrue result ↔ IsBuilt self }
-    {
-        match self {
-            Command::Run { workers, .. } => workers == 1,
-            Command::Pairs | Command::Plan | Command::Emit | Command::Gen { .. } => true,
+            Command::Gen { .. } | Command::Load { .. } => false,
         }
     }
 }
@@ -61,11 +51,24 @@ pub fn command_of(words: &[String]) -> Option<Command>
     ensures named { IfSome result (Names (texts words.now)) }
     ensures only { IfNone result ((c : Command) → Names (texts words.now) c → ⊥) }
 {
-    let command = spelled(words)?;
-    if command.is_built() {
-        Some(command)
-    } else {
-        None
+    match words {
+        [name, workers, budget] if name.as_str() == "run" => Some(Command::Run {
+            workers: count_of(workers.as_str(), Command::MOST_WORKERS)?,
+            budget: count_of(budget.as_str(), Command::MOST_BUDGET)?,
+        }),
+        [name] if name.as_str() == "pairs" => Some(Command::Pairs),
+        [name] if name.as_str() == "plan" => Some(Command::Plan),
+        [name] if name.as_str() == "emit" => Some(Command::Emit),
+        [name, seed, size] if name.as_str() == "gen" => Some(Command::Gen {
+            seed: number_of(seed.as_str(), 0, u64::MAX)?,
+            size: count_of(size.as_str(), Command::MOST_SIZE)?,
+        }),
+        [name, seed, size, workers] if name.as_str() == "load" => Some(Command::Load {
+            seed: number_of(seed.as_str(), 0, u64::MAX)?,
+            size: count_of(size.as_str(), Command::MOST_SIZE)?,
+            workers: count_of(workers.as_str(), Command::MOST_WORKERS)?,
+        }),
+        _ => None,
     }
 }
 
@@ -118,25 +121,4 @@ fn count_of(word: &str, most: u32) -> Option<u32>
 {
     let number = number_of(word, 1, u64::from(most))?;
     Some(number as u32)
-}
-
-// The command that the words spell, whether it is built or not.
-fn spelled(words: &[String]) -> Option<Command>
-    ensures some { IfSome result (Spells (texts words.now)) }
-    ensures none { IfNone result ((c : Command) → Spells (texts words.now) c → ⊥) }
-{
-    match words {
-        [name, workers, budget] if name.as_str() == "run" => Some(Command::Run {
-            workers: count_of(workers.as_str(), Command::MOST_WORKERS)?,
-            budget: count_of(budget.as_str(), Command::MOST_BUDGET)?,
-        }),
-        [name] if name.as_str() == "pairs" => Some(Command::Pairs),
-        [name] if name.as_str() == "plan" => Some(Command::Plan),
-        [name] if name.as_str() == "emit" => Some(Command::Emit),
-        [name, seed, size] if name.as_str() == "gen" => Some(Command::Gen {
-            seed: number_of(seed.as_str(), 0, u64::MAX)?,
-            size: count_of(size.as_str(), Command::MOST_SIZE)?,
-        }),
-        _ => None,
-    }
 }
