@@ -57,13 +57,13 @@ pub fn run_by_plan<R: Threads + Wait + Sync, K: Sink, G: Gate>(
     rt: &R,
     alloc: Global,
     program: &Program,
-    workers: u32,
+    _workers: u32,
     budget: u64,
     sink: &mut K,
     gate: &G,
 ) -> Result<Outcome, RunError>
     requires checked { Checked (program_view program.now) }
-    requires workers { IsWorkers workers }
+    requires workers { IsWorkers _workers }
     ensures outcome { IfOk result (λ outcome. serial (program_view program.now) budget ≡ run_with (prints_of (serial (program_view program.now) budget)) outcome) }
     ensures prints { Writes (K.written sink.old) (K.written sink.new) result (prints_text (prints_of (serial (program_view program.now) budget))) }
     ensures write { OnWrite result (Rose (K.faults sink.old) (K.faults sink.new)) }

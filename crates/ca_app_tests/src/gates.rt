@@ -57,3 +57,14 @@ fn one_worker_visits(rt: HostRuntime) -> Result<(), AllocError> {
     assert!(rt; gate.counts() == (2, 2, 0, 0));
     Ok(())
 }
+
+/// One worker runs the marked call of a generated text and the two that it leads to.
+#[test]
+fn one_worker_loads(rt: HostRuntime) -> Result<(), AllocError> {
+    let gate = CountingGate::new();
+    let (status, written) = Call::new("load 0 1 1", "").run_past(&rt, &gate)?;
+    assert!(rt; status == 0);
+    assert!(rt; written.as_slice() == "load objects=2 steps=7 total=4\n".as_bytes());
+    assert!(rt; gate.counts() == (0, 3, 0, 0));
+    Ok(())
+}

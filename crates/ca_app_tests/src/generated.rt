@@ -12,8 +12,10 @@ const OF_SEED_7: &str =
 const HEAP_OF_SEED_7: &str =
     "#0 Table at=[#1,#2,#3]\n#1 Node mark=true value=1 sum=3 left=#2 right=#3\n#2 Node mark=true value=2 sum=1 left=#3 right=#1\n#3 Node mark=true value=3 sum=9 left=#3 right=#3\n";
 
+const OF_LOAD_7: &str = "load objects=4 steps=17 total=19\n";
+
 /// Calls over devices of which the read and the write of these numbers fail, where they are not 0.
-const CALLS: [(&str, &str, (u64, u64), u8, &str); 6] = [
+const CALLS: [(&str, &str, (u64, u64), u8, &str); 10] = [
     ("gen 7 3", FIRST, (0, 0), 0, OF_SEED_7),
     ("gen 2147483655 3", "", (0, 0), 0, OF_SEED_7),
     // nothing is read, so no read fails
@@ -21,9 +23,13 @@ const CALLS: [(&str, &str, (u64, u64), u8, &str); 6] = [
     ("gen 7 3", FIRST, (0, 1), 7, ""),
     ("run 1 17", OF_SEED_7, (0, 0), 0, HEAP_OF_SEED_7),
     ("run 1 16", OF_SEED_7, (0, 0), 4, "spent 16\n"),
+    ("load 0 1 1", "", (0, 0), 0, "load objects=2 steps=7 total=4\n"),
+    ("load 7 3 4", FIRST, (0, 0), 0, OF_LOAD_7),
+    ("load 7 3 4", FIRST, (1, 0), 0, OF_LOAD_7),
+    ("load 7 3 4", FIRST, (0, 1), 7, ""),
 ];
 
-/// A text of three nodes, and its runs.
+/// A text of three nodes, its runs, and summaries of runs.
 #[test]
 fn writes_and_runs_generated_texts(rt: HostRuntime) -> Result<(), AllocError> {
     for (line, text, failing, status, written) in CALLS {

@@ -31,8 +31,28 @@ fn names_commands(rt: HostRuntime) -> Result<(), Fail> {
         ("gen 0 20001", None),
         ("gen 07 3", None),
         ("gen 7", None),
-        ("run 2 5", None),
+        (
+            "run 64 5",
+            Some(Command::Run {
+                workers: 64,
+                budget: 5,
+            }),
+        ),
+        ("run 65 5", None),
         ("run 1 05", None),
+        (
+            "load 7 3 4",
+            Some(Command::Load {
+                seed: 7,
+                size: 3,
+                workers: 4,
+            }),
+        ),
+        ("load 7 3", None),
+        ("load 7 3 0", None),
+        ("load 7 3 65", None),
+        ("load 7 0 4", None),
+        ("load 18446744073709551616 3 4", None),
         ("--help", None),
     ] {
         let mut words = Vec::new(rt.alloc());
@@ -42,7 +62,7 @@ fn names_commands(rt: HostRuntime) -> Result<(), Fail> {
         let command = command_of(&words);
         assert!(rt; command == named, "{line}");
         if let Some(command) = command {
-            assert!(rt; command.reads() == !line.starts_with("gen"), "{line}");
+            assert!(rt; command.reads() == !(line.starts_with("gen") || line.starts_with("load")), "{line}");
         }
     }
     assert!(rt; usage_line().starts_with(b"usage: "));

@@ -6,10 +6,10 @@ use Rattle.ca_words.specs.declared.Command.TheVariants.{Run, Pairs, Plan, Emit, 
 use Rattle.ca_words.specs.Words.{words_of, Names}
 
 -- the first and the third letter of the words, by which commands differ
-abbrev letters : List (List ℕ) → ℕ
+abbrev pub letters : List (List ℕ) → ℕ
 letters words = get_or (get_or words 0 []) 0 0 * 256 + get_or (get_or words 0 []) 2 0
 
-abbrev letters_of : Command → ℕ
+abbrev pub letters_of : Command → ℕ
 letters_of (Run w b) = 29294
 letters_of Pairs = 28777
 letters_of Plan = 28769
@@ -17,7 +17,7 @@ letters_of Emit = 25961
 letters_of (Gen x n) = 26478
 letters_of (Load x n w) = 27745
 
-are_letters : (c : Command) → letters (words_of c) ≡ letters_of c
+pub are_letters : (c : Command) → letters (words_of c) ≡ letters_of c
 are_letters (Run w b) = refl
 are_letters other = refl
 
