@@ -5,13 +5,14 @@ use Rattle.ca_base.proofs.Writing.{began_more, writes_after}
 use Rattle.ca_tree.specs.declared.name.Place.{Place}
 use Rattle.ca_tree.specs.Plain.{TextTree}
 use Rattle.ca_program.specs.Plain.{PlainProgram}
+use Rattle.ca_model.specs.declared.value.Object.{Object}
 use Rattle.ca_model.specs.Texts.{heap_text}
 use Rattle.ca_meaning.specs.Serial.{Ended, done, trapped, spent, serial}
 use Rattle.ca_meaning.specs.Output.{Reply, output, reply_of, prints_text, trap_text, spent_text}
 use Rattle.ca_parallel.specs.Marks.{SoundMarks}
 use Rattle.ca_serial.specs.Runs.{prints_of}
 use Rattle.ca_words.specs.declared.Command.{Command}
-use Rattle.ca_words.specs.declared.Command.TheVariants.{Run, Pairs, Plan, Emit, Gen}
+use Rattle.ca_words.specs.declared.Command.TheVariants.{Run, Pairs, Plan, Emit, Gen, Load}
 use Rattle.ca_words.specs.Words.{Names, reads}
 use Rattle.ca_words.proofs.OneCommand.{one_command}
 use Rattle.ca_plan.specs.Plans.{PlainPlan, PlanOf, CommuteAsTold}
@@ -19,10 +20,10 @@ use Rattle.ca_plan.specs.Texts.{pairs_text, plan_text}
 use Rattle.ca_emit.specs.Annotations.{annotated_text}
 use Rattle.ca_app.specs.Refusals.{refusal_reply}
 use Rattle.ca_app.specs.Reading.{HasOneTree, IsProgramOf, IsRefusalOf}
-use Rattle.ca_app.specs.Reply.{ProgramReplies, runs, tells, CommandReplies, refuses, serves, Replies, usage, generates, named, usage_reply, generated_reply}
+use Rattle.ca_app.specs.Reply.{ProgramReplies, runs, tells, CommandReplies, refuses, serves, IsLoaded, UnreadReplies, generates, loads, Replies, usage, unread, named, usage_reply, generated_reply, loaded_reply}
 use Rattle.ca_app.specs.Ends.{Ends, whole, no_memory, read_fault, write_fault, Unreplied, EndsWith, status_after}
 use Rattle.ca_app.specs.Told.{Tells, verdicts, marks, annotated, tells_plan, ProgramTold, CommandTold}
-use Rattle.ca_app.proofs.OneReply.{program_reply, command_reply, other_reads, one_reply}
+use Rattle.ca_app.proofs.OneReply.{program_reply, command_reply, unread_reply, unread_reads, other_reads, one_reply}
 use Rattle.ca_app.specs.Causes.{IsUsageFault, ReadsNothing, ReadsSource}
 
 -- what came of writing a reply
@@ -112,6 +113,13 @@ module _ {status : ℕ} {old now : Option (List ℕ)} where
   pub ends_run : (tree : TextTree) (p : PlainProgram) (workers budget : ℕ) → Ends (output p budget) status old now → EndsWith (ProgramReplies tree p (Run workers budget)) status old now
   ends_run tree p workers budget = only_reply _ _ runs (λ reply this. program_reply this runs)
 
+  pub ends_generated : (seed size : ℕ) → Ends (generated_reply seed size) status old now → EndsWith (UnreadReplies (Gen seed size)) status old now
+  ends_generated seed size = only_reply _ _ generates (λ reply this. unread_reply this generates)
+
+  pub ends_loaded : (seed size workers steps : ℕ) (heap : List Object) → IsLoaded seed size heap steps → Ends (loaded_reply heap steps) status old now
+      → EndsWith (UnreadReplies (Load seed size workers)) status old now
+  ends_loaded seed size workers steps heap loaded = only_reply _ _ (loads loaded) (λ reply this. unread_reply this (loads loaded))
+
   -- what a command tells of some plan of the program is its reply
   pub ends_told : (tree : TextTree) (p : PlainProgram) (plan : PlainPlan) (command : Command) → PlanOf p plan → tells_plan command ≡ true
       → ((bytes : List ℕ) → Tells tree p plan command bytes → Ends (record { status = 0; bytes = bytes }) status old now) → EndsWith (ProgramReplies tree p command) status old now
@@ -125,6 +133,7 @@ module _ {status : ℕ} {old now : Option (List ℕ)} where
       some_telling Emit e = (_, annotated)
       some_telling (Run w b) e = absurd cc
       some_telling (Gen x n) e = absurd cc
+      some_telling (Load x n w) e = absurd cc
 
   -- and where the status is 0 it was written whole
   pub was_told : (tree : TextTree) (p : PlainProgram) (plan : PlainPlan) (command : Command) → PlanOf p plan → SoundMarks p plan.marks → CommuteAsTold p plan → tells_plan command ≡ true
@@ -143,22 +152,26 @@ module _ {status : ℕ} {old now : Option (List ℕ)} where
       at Emit e f = record { plan = plan; is = is; bytes = annotated_text p plan tree; tells = annotated; written = written (f _ annotated); sound = sound; commute = commute }
       at (Run w b) e f = absurd cc
       at (Gen x n) e f = absurd cc
+      at (Load x n w) e f = absurd cc
 
 module _ {words : List (List ℕ)} {text : List ℕ} {status : ℕ} {old now : Option (List ℕ)} where
   pub ends_usage : IsUsageFault words → Ends usage_reply status old now → EndsWith (Replies words text) status old now
   ends_usage fault = only_reply (Replies words text) usage_reply (usage fault) (λ reply this. one_reply this (usage fault))
 
-  pub ends_generated : (seed size : ℕ) → Names words (Gen seed size) → Ends (generated_reply seed size) status old now → EndsWith (Replies words text) status old now
-  ends_generated seed size names = only_reply (Replies words text) (generated_reply seed size) (generates names) (λ reply this. one_reply this (generates names))
+  -- a command that reads nothing replies so whatever the text
+  pub ends_unread : (command : Command) → Names words command → reads command ≡ false → EndsWith (UnreadReplies command) status old now → EndsWith (Replies words text) status old now
+  ends_unread command names nothing ends = record { some = some ends.some; each = each }
+    where
+      some : Unreplied status old now ⊎ ((reply : Reply) × UnreadReplies command reply) → Unreplied status old now ⊎ ((reply : Reply) × Replies words text reply)
+      some (inl u) = inl u
+      some (inr s) = inr (s.0, unread names s.1)
 
-  -- a command that reads nothing is `gen`
-  pub ends_unread : (command : Command) → Names words command → reads command ≡ false → ((seed size : ℕ) → command ≡ Gen seed size → Ends (generated_reply seed size) status old now)
-      → EndsWith (Replies words text) status old now
-  ends_unread (Run workers budget) names unread ends = absurd cc
-  ends_unread Pairs names unread ends = absurd cc
-  ends_unread Plan names unread ends = absurd cc
-  ends_unread Emit names unread ends = absurd cc
-  ends_unread (Gen seed size) names unread ends = ends_generated seed size names (ends seed size refl)
+      each : (reply : Reply) → Replies words text reply → Ends reply status old now
+      each reply (usage fault) = absurd (fault _ names)
+      each reply (unread {command = other} names' replies) =
+          let P : Command → Type 0 = λ c. UnreadReplies c reply in
+          ends.each reply (subst P (one_command _ other command names' names) replies)
+      each reply (named {command = other} names' reading replies) = absurd (other_reads other command names' names nothing reading)
 
   pub ends_named : (command : Command) → Names words command → reads command ≡ true → EndsWith (CommandReplies command text) status old now → EndsWith (Replies words text) status old now
   ends_named command names reading ends = record { some = some ends.some; each = each }
@@ -169,19 +182,10 @@ module _ {words : List (List ℕ)} {text : List ℕ} {status : ℕ} {old now : O
 
       each : (reply : Reply) → Replies words text reply → Ends reply status old now
       each reply (usage fault) = absurd (fault _ names)
-      each reply (generates {seed = x} {size = n} names') = absurd (other_reads command x n names names' reading)
+      each reply (unread {command = other} names' replies) = absurd (other_reads command other names names' (unread_reads replies) reading)
       each reply (named {command = other} names' reading' replies) =
           let P : Command → Type 0 = λ c. CommandReplies c text reply in
           ends.each reply (subst P (one_command _ other command names' names) replies)
-
--- the text of one seed and size is that of another that the same command has
-pub ends_generated_text : {x n y m status : ℕ} {old now : Option (List ℕ)} → Gen x n ≡ Gen y m → Ends (generated_reply x n) status old now → Ends (generated_reply y m) status old now
-ends_generated_text {x} {n} {y} {m} {status} {old} {now} is ends =
-    let first : x ≡ y = cc in
-    let second : n ≡ m = cc in
-    let P : ℕ → Type 0 = λ z. Ends (generated_reply z n) status old now in
-    let Q : ℕ → Type 0 = λ z. Ends (generated_reply y z) status old now in
-    subst Q second (subst P first ends)
 
 -- words that name a command that reads its source don't name one that reads nothing
 pub some_read : {words : List (List ℕ)} (command : Command) → Names words command → reads command ≡ true → ReadsNothing words → ⊥
@@ -202,6 +206,7 @@ tells_reads Plan e = refl
 tells_reads Emit e = refl
 tells_reads (Run w b) e = absurd cc
 tells_reads (Gen x n) e = absurd cc
+tells_reads (Load x n w) e = absurd cc
 
 -- what each of these commands tells
 pub told_verdicts : {tree : TextTree} {p : PlainProgram} {plan : PlainPlan} {command : Command} {bytes : List ℕ} {status : ℕ} {old now : Option (List ℕ)} → command ≡ Pairs → Tells tree p plan command bytes

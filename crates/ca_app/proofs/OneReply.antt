@@ -1,12 +1,15 @@
 -- Words and a text have one reply at most.
-use Rattle.std.proofs.Common.{◌≡◌, ℕ, true, List, refl, ap, ◌∙◌, subst}
+use Rattle.std.proofs.Common.{◌≡◌, ℕ, true, false, List, refl, sym, ap, ◌∙◌, subst}
 use Rattle.ca_tree.specs.declared.name.Place.{Place}
 use Rattle.ca_tree.specs.Plain.{TextTree}
 use Rattle.ca_program.specs.Plain.{PlainProgram}
 use Rattle.ca_parse.proofs.OneTree.{tree_is_one}
+use Rattle.ca_model.specs.declared.value.Object.{Object}
+use Rattle.ca_model.specs.declared.value.Value.{Value as Datum}
 use Rattle.ca_meaning.specs.Output.{Reply}
+use Rattle.ca_meaning.specs.Serial.{Ended, done, serial}
 use Rattle.ca_words.specs.declared.Command.{Command}
-use Rattle.ca_words.specs.declared.Command.TheVariants.{Run, Gen}
+use Rattle.ca_words.specs.declared.Command.TheVariants.{Run, Gen, Load}
 use Rattle.ca_words.specs.Words.{Names, reads}
 use Rattle.ca_words.proofs.OneCommand.{one_command}
 use Rattle.ca_plan.specs.Plans.{PlainPlan, PlanOf}
@@ -15,7 +18,7 @@ use Rattle.ca_emit.proofs.OneText.{one_annotated_text}
 use Rattle.ca_app.specs.Accepted.{HasTree, Accepted}
 use Rattle.ca_app.specs.Refusals.{RefusedAt, too_long, no_token, wrong_token, deep_token, violates, refusal_reply}
 use Rattle.ca_app.specs.Reading.{HasOneTree, IsProgramOf, IsRefusalOf}
-use Rattle.ca_app.specs.Reply.{ProgramReplies, runs, tells, CommandReplies, refuses, serves, Replies, usage, generates, named, generated_reply}
+use Rattle.ca_app.specs.Reply.{ProgramReplies, runs, tells, CommandReplies, refuses, serves, IsLoaded, UnreadReplies, generates, loads, Replies, usage, unread, named, loaded_reply}
 use Rattle.ca_app.specs.Told.{Tells, verdicts, marks, annotated, tells_plan}
 use Rattle.ca_app.proofs.OneProgram.{derived_by}
 use Rattle.ca_app.proofs.OneRefusal.{refused_as_long, refused_no_token, refused_wrong, refused_deep, refused_violation, program_of_tree}
@@ -70,30 +73,48 @@ command_reply {command} {r = r} (serves {p = p} accepted replies) (serves {p = q
     let Q : TextTree → Type 0 = λ x. ProgramReplies x p command r in
     program_reply (subst P ((is_program accepted').only p accepted) (subst Q ((has_one accepted'.has_tree).only accepted.tree accepted.has_tree) replies)) replies'
 
--- words that name `gen` name no command that reads its source
-pub other_reads : {words : List (List ℕ)} (command : Command) (seed size : ℕ) → Names words command → Names words (Gen seed size) → reads command ≡ true → ⊥
-other_reads {words} command seed size names gen reading =
+-- a command that has such a reply reads nothing
+pub unread_reads : {command : Command} {r : Reply} → UnreadReplies command r → reads command ≡ false
+unread_reads generates = refl
+unread_reads (loads loaded) = refl
+
+-- words that name a command which reads nothing name none that reads its source
+pub other_reads : {words : List (List ℕ)} (command other : Command) → Names words command → Names words other → reads other ≡ false → reads command ≡ true → ⊥
+other_reads {words} command other names names' nothing reading =
     let P : Command → Type 0 = λ c. reads c ≡ true in
-    let bad : reads (Gen seed size) ≡ true = subst P (one_command words command (Gen seed size) names gen) reading in
+    let bad : reads other ≡ true = subst P (one_command words command other names names') reading in
     cc
 
--- words name one seed and one size
-one_generated : {words : List (List ℕ)} (x n y m : ℕ) → Names words (Gen x n) → Names words (Gen y m) → generated_reply x n ≡ generated_reply y m
-one_generated {words} x n y m names names' =
-    let same : Gen x n ≡ Gen y m = one_command words (Gen x n) (Gen y m) names names' in
-    let seed : x ≡ y = cc in
-    let size : n ≡ m = cc in
-    ap (λ z. generated_reply z n) seed ∙ ap (λ z. generated_reply y z) size
+-- a run has one end
+one_heap : {prints others : List Datum} {h k : List Object} {steps more : ℕ} → ◌≡◌ {A = Ended} (done prints h steps) (done others k more) → h ≡ k
+one_heap e = cc
+
+one_count : {prints others : List Datum} {h k : List Object} {steps more : ℕ} → ◌≡◌ {A = Ended} (done prints h steps) (done others k more) → steps ≡ more
+one_count e = cc
+
+-- the run of the text of a seed and a size has one summary
+one_loaded : {seed size steps more : ℕ} {h k : List Object} → IsLoaded seed size h steps → IsLoaded seed size k more → loaded_reply h steps ≡ loaded_reply k more
+one_loaded {steps = steps} {h = h} {k = k} a b =
+    let P : PlainProgram → Ended = λ p. serial p 1000000000 in
+    let same : done a.prints h steps ≡ done b.prints k _ = sym a.ran ∙ ap P ((is_program b.accepted).only a.program a.accepted) ∙ b.ran in
+    ap (λ x. loaded_reply x steps) (one_heap same) ∙ ap (λ n. loaded_reply k n) (one_count same)
+
+-- a command that reads nothing has one reply
+pub unread_reply : {command : Command} {r s : Reply} → UnreadReplies command r → UnreadReplies command s → r ≡ s
+unread_reply generates generates = refl
+unread_reply (loads loaded) (loads loaded') = one_loaded loaded loaded'
 
 pub one_reply : {words : List (List ℕ)} {text : List ℕ} {r s : Reply} → Replies words text r → Replies words text s → r ≡ s
 one_reply (usage fault) (usage fault') = refl
-one_reply (usage fault) (generates names) = absurd (fault _ names)
+one_reply (usage fault) (unread names replies) = absurd (fault _ names)
 one_reply (usage fault) (named names reading replies) = absurd (fault _ names)
-one_reply (generates names) (usage fault) = absurd (fault _ names)
-one_reply (generates {seed = x} {size = n} names) (generates {seed = y} {size = m} names') = one_generated x n y m names names'
-one_reply (generates {seed = x} {size = n} names) (named {command = d} names' reading replies) = absurd (other_reads d x n names' names reading)
+one_reply (unread names replies) (usage fault) = absurd (fault _ names)
+one_reply {words} {r = r} (unread {command = c} names replies) (unread {command = d} names' replies') =
+    let P : Command → Type 0 = λ x. UnreadReplies x r in
+    unread_reply (subst P (one_command words c d names names') replies) replies'
+one_reply (unread {command = c} names replies) (named {command = d} names' reading replies') = absurd (other_reads d c names' names (unread_reads replies) reading)
 one_reply (named names reading replies) (usage fault) = absurd (fault _ names)
-one_reply (named {command = c} names reading replies) (generates {seed = x} {size = n} names') = absurd (other_reads c x n names names' reading)
+one_reply (named {command = c} names reading replies) (unread {command = d} names' replies') = absurd (other_reads c d names names' (unread_reads replies') reading)
 one_reply {words} {text} {r = r} (named {command = c} names reading replies) (named {command = d} names' reading' replies') =
     let P : Command → Type 0 = λ x. CommandReplies x text r in
     command_reply (subst P (one_command words c d names names') replies) replies'

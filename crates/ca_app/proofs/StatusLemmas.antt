@@ -11,10 +11,10 @@ use Rattle.ca_words.specs.Words.{Names, reads}
 use Rattle.ca_words.proofs.OneCommand.{one_command}
 use Rattle.ca_app.specs.Accepted.{Accepted}
 use Rattle.ca_app.specs.Refusals.{is_limit_code, refusal_status}
-use Rattle.ca_app.specs.Reply.{ProgramReplies, runs, tells, refuses, serves, Replies, usage, generates, named}
+use Rattle.ca_app.specs.Reply.{ProgramReplies, runs, tells, refuses, serves, UnreadReplies, generates, loads, Replies, usage, unread, named}
 use Rattle.ca_app.specs.Told.{tells_plan, CommandTold}
 use Rattle.ca_app.specs.Ends.{Ends, whole, no_memory, read_fault, write_fault, Unreplied, EndsWith, Complete}
-use Rattle.ca_app.specs.Causes.{IsRefused, RunEnds, PlanTold, Generates, IsDone, IsTrapped, IsSpent}
+use Rattle.ca_app.specs.Causes.{IsRefused, RunEnds, PlanTold, Generates, Loads, IsDone, IsTrapped, IsSpent}
 use Rattle.ca_app.proofs.OneReply.{tells_is}
 use Rattle.ca_app.proofs.Endings.{tells_reads}
 
@@ -113,6 +113,11 @@ done_at : (tree : TextTree) (p : PlainProgram) (command : Command) (reply : Repl
 done_at tree p command reply (runs {workers = w} {budget = b}) e = inl (record { workers = w; budget = b; is = refl; same = e })
 done_at tree p command reply (tells is t) e = inr (tells_is t)
 
+-- what a command that reads nothing replies has status 0
+unread_at : {command : Command} {reply : Reply} → UnreadReplies command reply → reply.status ≡ 0
+unread_at generates = refl
+unread_at (loads loaded) = refl
+
 module _ {words : List (List ℕ)} {text : List ℕ} where
   run_ends : (status : ℕ) (End : Ended → Type 0) {p : PlainProgram} {command : Command}
       → ((p : PlainProgram) (b : ℕ) (end : Ended) → status ≡ (reply_of p b end).status → End end)
@@ -128,7 +133,7 @@ module _ {words : List (List ℕ)} {text : List ℕ} where
 
   error_status : {reply : Reply} → Replies words text reply → 1 ≡ reply.status → IsRefused false text
   error_status (usage fault) e = absurd (omega arith)
-  error_status (generates names) e = absurd (omega arith)
+  error_status (unread names replies) e = absurd (omega (arith, unread_at replies))
   error_status (named names reading (refuses {at = at} {code = code} refused)) e =
       record { at = at; code = code; refused = refused; kind = kind_of false (is_limit_code code) e }
   error_status (named {command = command} {reply = reply} names reading (serves {p = p} accepted replies)) e =
@@ -136,7 +141,7 @@ module _ {words : List (List ℕ)} {text : List ℕ} where
 
   limit_status : {reply : Reply} → Replies words text reply → 8 ≡ reply.status → IsRefused true text
   limit_status (usage fault) e = absurd (omega arith)
-  limit_status (generates names) e = absurd (omega arith)
+  limit_status (unread names replies) e = absurd (omega (arith, unread_at replies))
   limit_status (named names reading (refuses {at = at} {code = code} refused)) e =
       record { at = at; code = code; refused = refused; kind = kind_of true (is_limit_code code) e }
   limit_status (named {command = command} {reply = reply} names reading (serves {p = p} accepted replies)) e =
@@ -147,7 +152,7 @@ module _ {words : List (List ℕ)} {text : List ℕ} where
       → ((p : PlainProgram) (b : ℕ) (end : Ended) → status ≡ (reply_of p b end).status → End end)
       → {reply : Reply} → Replies words text reply → status ≡ reply.status → RunEnds words text End
   run_status status End zero one two eight ends (usage fault) e = absurd (two e)
-  run_status status End zero one two eight ends (generates names) e = absurd (zero e)
+  run_status status End zero one two eight ends (unread names replies) e = absurd (zero (e ∙ unread_at replies))
   run_status status End zero one two eight ends (named names reading (refuses {code = code} refused)) e = absurd (at (is_limit_code code) e)
     where
       at : (b : Bool) → status ≡ refusal_status b → ⊥
@@ -156,11 +161,13 @@ module _ {words : List (List ℕ)} {text : List ℕ} where
   run_status status End zero one two eight ends (named {command = command} {reply = reply} names reading (serves {p = p} accepted replies)) e =
       run_ends status End ends names accepted (run_at accepted.tree p command reply status zero replies e)
 
-  -- the end of status 0 is that of a run, of a plan that was told, or of gen
+  -- the end of status 0 is that of a run, of a plan that was told, of gen or of load
   done_status : {old now : Option (List ℕ)} {reply : Reply} → (TellsPlan words → PlanTold words text old now) → Replies words text reply → 0 ≡ reply.status → now ≡ grown old reply.bytes
-      → RunEnds words text IsDone ⊎ (PlanTold words text old now ⊎ Generates words old now)
+      → RunEnds words text IsDone ⊎ (PlanTold words text old now ⊎ (Generates words old now ⊎ Loads words old now))
   done_status told (usage fault) e bytes = absurd (omega arith)
-  done_status told (generates {seed = x} {size = n} names) e bytes = inr (inr (record { seed = x; size = n; named = names; bytes = bytes }))
+  done_status told (unread names (generates {seed = x} {size = n})) e bytes = inr (inr (inl (record { seed = x; size = n; named = names; bytes = bytes })))
+  done_status told (unread names (loads {seed = x} {size = n} {workers = w} {steps = s} {heap = h} loaded)) e bytes =
+      inr (inr (inr (record { seed = x; size = n; workers = w; named = names; heap = h; steps = s; loaded = loaded; bytes = bytes })))
   done_status told (named names reading (refuses {code = code} refused)) e bytes = absurd (at (is_limit_code code) e)
     where
       at : (b : Bool) → 0 ≡ refusal_status b → ⊥
@@ -169,12 +176,12 @@ module _ {words : List (List ℕ)} {text : List ℕ} where
   done_status {old} {now} told (named {command = command} {reply = reply} names reading (serves {p = p} accepted replies)) e bytes =
       ends (done_at accepted.tree p command reply replies e)
     where
-      ends : IsRun p command 0 ⊎ (tells_plan command ≡ true) → RunEnds words text IsDone ⊎ (PlanTold words text old now ⊎ Generates words old now)
+      ends : IsRun p command 0 ⊎ (tells_plan command ≡ true) → RunEnds words text IsDone ⊎ (PlanTold words text old now ⊎ (Generates words old now ⊎ Loads words old now))
       ends (inl run) = inl (run_ends 0 IsDone done_end names accepted run)
       ends (inr is) = inr (inl (told (command, names, is)))
 
 module _ {words : List (List ℕ)} {text : List ℕ} {status : ℕ} {old now : Option (List ℕ)} (headline : EndsWith (Replies words text) status old now) where
-  pub when_0 : (TellsPlan words → status ≡ 0 → PlanTold words text old now) → status ≡ 0 → RunEnds words text IsDone ⊎ (PlanTold words text old now ⊎ Generates words old now)
+  pub when_0 : (TellsPlan words → status ≡ 0 → PlanTold words text old now) → status ≡ 0 → RunEnds words text IsDone ⊎ (PlanTold words text old now ⊎ (Generates words old now ⊎ Loads words old now))
   when_0 told is = let s = given headline (λ e. omega arith) (λ e. omega arith) (λ e. omega arith) in
       done_status (λ n. told n is) s.is_one (sym is ∙ s.same) s.bytes
 

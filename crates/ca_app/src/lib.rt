@@ -4,7 +4,7 @@
 //! text of the depth-first serial run; or it answers want of memory, or a failed read or write of a
 //! device whose count of faults rose in this call. It holds for every source and sink, since it is
 //! stated on what they tell. It serves `run WORKERS BUDGET`, by `ca_serial` and the engine `OneWorker`
-//! of `ca_run` or, for more workers, `Parallel` of `ca_workers`, and `pairs`, `plan` and `emit`, all by the plan of `ca_plan`.
+//! of `ca_run` or, for more workers, that of `ca_workers`, and `pairs`, `plan` and `emit`, all by the plan of `ca_plan`.
 //! `gen SEED SIZE` and `load SEED SIZE WORKERS` read no text: the one writes that which `generate` gives, which is accepted and
 //! runs to its end, and the other runs it and writes what it left in one line.
 //! `specs/Accepted.antt` and `specs/Refusals.antt` say which texts are accepted and where the others

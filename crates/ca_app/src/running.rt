@@ -21,6 +21,7 @@ use ca_plan::plan;
 use ca_program::Program;
 use ca_run::OneWorker;
 use ca_serial::{Outcome, RunError, drive};
+use ca_workers::drive_by_many;
 use std::alloc::Global;
 use std::sync::Wait;
 use std::thread::Threads;
@@ -52,18 +53,19 @@ pub fn run_program<R: Threads + Wait + Sync, K: Sink, G: Gate>(
     }
 }
 
-/// Runs a program, whose marked operations and loops an engine of so many workers runs.
+/// Runs a program, whose marked operations and loops an engine of so many workers runs: `OneWorker` for one, and the engine of
+/// `ca_workers` for more.
 pub fn run_by_plan<R: Threads + Wait + Sync, K: Sink, G: Gate>(
     rt: &R,
     alloc: Global,
     program: &Program,
-    _workers: u32,
+    workers: u32,
     budget: u64,
     sink: &mut K,
     gate: &G,
 ) -> Result<Outcome, RunError>
     requires checked { Checked (program_view program.now) }
-    requires workers { IsWorkers _workers }
+    requires workers { IsWorkers workers }
     ensures outcome { IfOk result (λ outcome. serial (program_view program.now) budget ≡ run_with (prints_of (serial (program_view program.now) budget)) outcome) }
     ensures prints { Writes (K.written sink.old) (K.written sink.new) result (prints_text (prints_of (serial (program_view program.now) budget))) }
     ensures write { OnWrite result (Rose (K.faults sink.old) (K.faults sink.new)) }
@@ -72,6 +74,9 @@ pub fn run_by_plan<R: Threads + Wait + Sync, K: Sink, G: Gate>(
     let Ok(marks) = marks_of(alloc, program) else {
         return Err(RunError::Memory);
     };
+    if workers > 1 {
+        return drive_by_many(rt, alloc, program, &marks, budget, workers, gate, sink);
+    }
     let mut engine = OneWorker::new(alloc, gate);
     drive(rt, alloc, program, &marks, budget, &mut engine, sink)
 }

@@ -47,10 +47,10 @@ fn total_of(heap: &Heap) -> i64
 }
 
 /// The total with the numbers in these fields.
-fn add_fields(before: i64, slots: &[Slot]) -> i64
-    ensures { result ≡ int_wrap w64 (before +ℤ sum_of (fields_of slots.now)) }
+fn add_fields(so_far: i64, slots: &[Slot]) -> i64
+    ensures { result ≡ int_wrap w64 (so_far +ℤ sum_of (fields_of slots.now)) }
 {
-    let mut total = before;
+    let mut total = so_far;
     for slot in slots {
         total = add_field(total, slot);
     }
@@ -58,20 +58,20 @@ fn add_fields(before: i64, slots: &[Slot]) -> i64
 }
 
 /// The total with the numbers in a field, of an array each item.
-fn add_field(before: i64, slot: &Slot) -> i64
-    ensures { result ≡ int_wrap w64 (before +ℤ sum_of (values_in slot.now)) }
+fn add_field(so_far: i64, slot: &Slot) -> i64
+    ensures { result ≡ int_wrap w64 (so_far +ℤ sum_of (values_in slot.now)) }
 {
     match slot {
-        Slot::One(value) => add_value(before, *value),
-        Slot::Many(values) => add_values(before, values.as_slice()),
+        Slot::One(value) => add_value(so_far, *value),
+        Slot::Many(values) => add_values(so_far, values.as_slice()),
     }
 }
 
 /// The total with the numbers among these values.
-fn add_values(before: i64, values: &[Value]) -> i64
-    ensures { result ≡ int_wrap w64 (before +ℤ sum_of values.now) }
+fn add_values(so_far: i64, values: &[Value]) -> i64
+    ensures { result ≡ int_wrap w64 (so_far +ℤ sum_of values.now) }
 {
-    let mut total = before;
+    let mut total = so_far;
     for value in values {
         total = add_value(total, *value);
     }
@@ -79,11 +79,11 @@ fn add_values(before: i64, values: &[Value]) -> i64
 }
 
 /// The total with a value, if that is a number.
-fn add_value(before: i64, value: Value) -> i64
-    ensures { result ≡ int_wrap w64 (before +ℤ number_in value) }
+fn add_value(so_far: i64, value: Value) -> i64
+    ensures { result ≡ int_wrap w64 (so_far +ℤ number_in value) }
 {
     match value {
-        Value::Long(number) => before.wrapping_add(number),
-        Value::Bool(_) | Value::Null | Value::Ref(_) => before,
+        Value::Long(number) => so_far.wrapping_add(number),
+        Value::Bool(_) | Value::Null | Value::Ref(_) => so_far,
     }
 }

@@ -40,7 +40,7 @@ returns-in_default-clause-complete g c = λ text told unread unwritten.
     (λ seven. unwritten (after_seven _ _ c.write_all.result 2 _ c.write_all.ensures.cause c.finish.ensures (λ e. omega arith) seven))
 
 pub serve-requires : goal.serve-requires
-serve-requires g c = (search rules, (search rules, sym c.reads.ensures ∙ c.if-reads.true))
+serve-requires g c = (search rules, (search rules, (sym c.reads.ensures ∙ c.if-reads.true, c.in-Some.ensures.named.in_range)))
 
 pub returns-then-reads-clause-read_to_end : goal.returns-then-reads-clause-read_to_end
 returns-then-reads-clause-read_to_end g c = λ reads is. c.serve.ensures.read_to_end is
@@ -78,7 +78,7 @@ returns-then-reads-clause-complete g c = λ text told unread unwritten.
     completely (returns-then-reads-clause-headline g c text told) (λ six. unread (c.serve.ensures.read_fault six)) (λ seven. unwritten (c.serve.ensures.write_fault.rose seven))
 
 pub serve_unread-requires : goal.serve_unread-requires
-serve_unread-requires g c = record { unread = sym c.reads.ensures ∙ c.if-reads.false; in_range = c.in-Some.ensures.named.spells.in_range }
+serve_unread-requires g c = (search rules, (search rules, (sym c.reads.ensures ∙ c.if-reads.false, c.in-Some.ensures.named.in_range)))
 
 pub returns-clause-unread_headline : goal.returns-clause-unread_headline
 returns-clause-unread_headline g c = λ nothing text. ends_unread _ c.in-Some.ensures.named (sym c.reads.ensures ∙ c.if-reads.false) c.serve_unread.ensures.ends

@@ -1,0 +1,7 @@
+use Rattle.ca_app.proofs.Endings.{ends_loaded, ends_written}
+use Rattle.ca_app.proofs.loading.load.Goals as goal
+
+pub returns-in-Ok-clause-ends : goal.returns-in-Ok-clause-ends
+returns-in-Ok-clause-ends g c =
+    ends_loaded c.args.seed c.args.size c.args.workers c.in-Ok.loaded.steps c.in-Ok.loaded.heap c.in-Ok.ensures
+    (ends_written _ 0 _ _ _ _ c.write_summary.ensures.bytes c.finish.ensures)
