@@ -1,6 +1,6 @@
--- Worked examples: the first program, from its bytes to what its run writes, and refusals.
+-- Worked examples: the first program, from its bytes to what its run writes, summaries, and refusals.
 use Rattle.std.proofs.Common.{◌≡◌, ℕ, List, [], ◌∷◌, Some, None, refl, codes, drop}
-use Rattle.std.specs.Prelude.{pos}
+use Rattle.std.specs.Prelude.{pos, negsuc, true}
 use Rattle.std.specs.Fmt.{digits}
 use Rattle.std.specs.Int.{int_wrap}
 use Rattle.ca_tree.specs.declared.name.Place.{Place}
@@ -17,12 +17,16 @@ use Rattle.ca_program.specs.declared.program.OpId.{OpId}
 use Rattle.ca_program.specs.declared.program.LocalId.{LocalId}
 use Rattle.ca_program.specs.declared.program.ValueType.TheVariants.{Long as LongType, Pointer as PointerType}
 use Rattle.ca_program.specs.Plain as program
+use Rattle.ca_model.specs.declared.value.Value.TheVariants.{Long as Number, Bool as Truth, Ref}
+use Rattle.ca_model.specs.declared.value.Slot.TheVariants.{One, Many}
+use Rattle.ca_model.specs.declared.value.Object.{Object}
 use Rattle.ca_lex.specs.Pieces.{piece_of, token_of, blank_of}
 use Rattle.ca_resolve.specs.Judged.{fine}
 use Rattle.ca_types.specs.Classes.{judge}
 use Rattle.ca_meaning.specs.Output.{output}
 use Rattle.ca_app.specs.Accepted.{token_place}
 use Rattle.ca_app.specs.Refusals.{refusal_reply}
+use Rattle.ca_app.specs.Summary.{total_of, summary_text}
 
 text : List ℕ
 text = codes "class Acc {\npublic:\n  long sum;\n  Acc *peer;\n  void add(long p) { sum = sum + p; }\n  void tie(Acc *q) { peer = q; }\n};\nint main() {\n  Acc *a = new Acc();\n  Acc *b = new Acc();\n  a->add(3);\n  b->add(4);\n  a->tie(b);\n  a->add(5);\n  return 0;\n}\n"
@@ -156,6 +160,22 @@ runs = refl
 spends : output first_program 3 ≡ record { status = 4; bytes = codes "spent 3\n" }
 unfolding digits int_wrap
 spends = refl
+
+-- what `load 0 1 1` leaves: a table of one node, whose value is 1 and whose sum is 3
+abbrev one_node : List Object
+one_node =
+    record { class = record { 0 = 1 }; slots = Many (Ref 1 ∷ []) ∷ [] }
+    ∷ record { class = class; slots = One (Truth true) ∷ One (Number (pos 1)) ∷ One (Number (pos 3)) ∷ One (Ref 1) ∷ One (Ref 1) ∷ [] } ∷ []
+
+-- and what it tells after seven steps
+loads_one_node : summary_text one_node 7 ≡ codes "load objects=2 steps=7 total=4\n"
+unfolding digits int_wrap
+loads_one_node = refl
+
+-- items of arrays count, and sums wrap
+wraps_items : total_of (record { class = class; slots = One (Number (pos 1)) ∷ Many (Number (pos 9223372036854775806) ∷ Number (pos 1) ∷ []) ∷ [] } ∷ []) ≡ negsuc 9223372036854775807
+unfolding int_wrap
+wraps_items = refl
 
 -- refusals
 overflow : refusal_reply (place 1 23) 2 ≡ record { status = 1; bytes = codes "error 1:23 E02\n" }
