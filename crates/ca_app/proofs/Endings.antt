@@ -193,9 +193,9 @@ some_read command names reading nothing = let not : reads command ≡ false = no
 
 -- and the other way round
 pub none_read : {words : List (List ℕ)} (command : Command) → Names words command → reads command ≡ false → ReadsSource words → ⊥
-none_read {words} command names unread source =
+none_read {words} command names nothing source =
     let P : Command → Type 0 = λ c. reads c ≡ false in
-    let not : reads source.0 ≡ false = subst P (one_command words command source.0 names source.1) unread in
+    let not : reads source.0 ≡ false = subst P (one_command words command source.0 names source.1) nothing in
     let reading : reads source.0 ≡ true = source.2 in
     cc
 

@@ -2,7 +2,7 @@ pub mod AcceptedTyped
 pub mod Endings
 mod Examples
 pub mod GeneratedRuns
-pub mod Loading
+pub mod LoadedTexts
 pub mod OneProgram
 pub mod OneRefusal
 pub mod OneReply

@@ -24,7 +24,7 @@ TellsPlan words = (c : Command) × Names words c × (tells_plan c ≡ true)
 
 -- words that name a command which tells no plan
 pub tells_none : {words : List (List ℕ)} {A : Type 0} (command : Command) → Names words command → reads command ≡ false → TellsPlan words → A
-tells_none {words} command names unread n =
+tells_none {words} command names nothing n =
     let same = one_command words n.0 command n.1 names in
     let P : Command → Type 0 = λ c. reads c ≡ true in
     let reading : reads command ≡ true = subst P same (tells_reads n.0 n.2) in

@@ -1,14 +1,22 @@
-use Rattle.std.proofs.Common.{◌<◌, ◌≤◌, ◌∙◌, sym, length, get_or, pos, arith}
-use Rattle.std.proofs.lemmas.Option.{slice_get-get_or}
-use Rattle.ca_model.specs.declared.value.Slot.TheVariants.{One}
-use Rattle.ca_model.specs.declared.value.Value.TheVariants.{Long}
-use Rattle.ca_app.proofs.Totals.{sum_of_fields, added, all_added}
+use Rattle.std.proofs.Common.{◌≡◌, ◌<◌, ◌≤◌, ◌∙◌, ◌+ℤ◌, sym, ap, length, drop, arith, rules, to_z, of_z}
+use Rattle.std.specs.Int.{int_wrap, w64}
+use Rattle.std.proofs.lemmas.Int.{to_z-of_z}
+use Rattle.ca_app.specs.Summary.{sum_of, fields_of}
+use Rattle.ca_app.proofs.Totals.{item_at, sum_of_fields, added, all_added}
 use Rattle.ca_app.proofs.summary.add_fields.Goals as goal
 
 pub loop-slot-preserved : goal.loop-slot-preserved
-loop-slot-preserved c = ?
+loop-slot-preserved c =
+    let slots = c.args.slots.now in
+    let i = c.loop-slot.slot-index in
+    let lt : i < length slots = omega arith in
+    added sum_of_fields slots i _ c.loop-slot.total _ (item_at slots i _ lt c.slot-item.is) c.add_field-total.ensures ∙ c.loop-slot.invariant
 
 pub returns : goal.returns
 returns c =
-    let past : length c.args.slots.now ≤ c.loop-slot.slot-index = omega arith in
-    sym (all_added sum_of_fields c.args.slots.now c.loop-slot.slot-index c.loop-slot.total past (search rules)) ∙ c.loop-slot.invariant
+    let slots = c.args.slots.now in
+    let i = c.loop-slot.slot-index in
+    let past : length slots ≤ i = omega arith in
+    let kept : int_wrap w64 (c.loop-slot.total +ℤ sum_of (fields_of (drop i slots))) ≡ int_wrap w64 (to_z w64 (of_z w64 c.args.so_far) +ℤ sum_of (fields_of slots)) = c.loop-slot.invariant in
+    sym (all_added sum_of_fields slots i c.loop-slot.total past (search rules))
+    ∙ (kept ∙ ap (λ n. int_wrap w64 (n +ℤ sum_of (fields_of slots))) (to_z-of_z w64 c.args.so_far c.ranges.so_far.fits))
