@@ -1,11 +1,11 @@
 -- Sums that are added up part by part, as signed numbers of 64 bits.
-use Rattle.std.proofs.Common.{◌≡◌, ℕ, ℤ, pos, ◌+◌, ◌+ℤ◌, ◌<◌, ◌≤◌, List, [], ◌∷◌, ◌++◌, length, get_or, drop, Some, refl, sym, ap, ◌∙◌}
+use Rattle.std.proofs.Common.{◌≡◌, ℕ, ℤ, pos, ◌+◌, ◌+ℤ◌, ◌<◌, ◌≤◌, List, [], ◌∷◌, ◌++◌, length, get_or, drop, Some, refl, sym, ap, ◌∙◌, to_z, of_z}
 use Rattle.std.specs.Prelude.{slice_get, FitsSigned}
 use Rattle.std.specs.Int.{int_wrap, w64}
 use Rattle.std.proofs.Math.IntN.{+ℤ_assoc, +ℤ_idl, +ℤ_idr}
 use Rattle.std.proofs.lemmas.List.{drop_all}
 use Rattle.std.proofs.lemmas.Option.{slice_get-get_or}
-use Rattle.std.proofs.lemmas.Int.{int_wrap_fits, int_wrap-add_left}
+use Rattle.std.proofs.lemmas.Int.{SFits-int_wrap, int_wrap_fits, int_wrap-add_left, to_z-of_z}
 use Rattle.ca_model.specs.declared.value.Value.{Value as Datum}
 use Rattle.ca_model.specs.declared.value.Slot.{Slot}
 use Rattle.ca_model.specs.declared.value.Object.{Object}
@@ -34,12 +34,16 @@ sum_of_fields = record { none = refl; more = λ s slots. sum_along (values_in s)
 pub sum_of_objects : IsSum (λ o. sum_of (fields_of o.slots)) (λ heap. sum_of (values_of heap))
 sum_of_objects = record { none = refl; more = λ o heap. sum_along (fields_of o.slots) (values_of heap) }
 
+-- what was wrapped is kept in 64 bits as it is
+kept : (n z : ℤ) → n ≡ int_wrap w64 z → to_z w64 (of_z w64 n) ≡ int_wrap w64 z
+kept n z is = ap (λ m. to_z w64 (of_z w64 m)) is ∙ to_z-of_z w64 (int_wrap w64 z) (SFits-int_wrap w64 z)
+
 module _ {A : Type 0} {number : A → ℤ} {all : List A → ℤ} (sum : IsSum number all) where
-  -- a number that is added on the way, and what is still to come
+  -- a number that is added on the way, as it is kept in 64 bits, and what is still to come
   pub added : (xs : List A) (i : ℕ) (x : A) (total next : ℤ) → slice_get xs i ≡ Some x → next ≡ int_wrap w64 (total +ℤ number x)
-      → int_wrap w64 (next +ℤ all (drop (i + 1) xs)) ≡ int_wrap w64 (total +ℤ all (drop i xs))
+      → int_wrap w64 (to_z w64 (of_z w64 next) +ℤ all (drop (i + 1) xs)) ≡ int_wrap w64 (total +ℤ all (drop i xs))
   added xs i x total next found is =
-      ap (λ n. int_wrap w64 (n +ℤ all (drop (i + 1) xs))) is
+      ap (λ n. int_wrap w64 (n +ℤ all (drop (i + 1) xs))) (kept next (total +ℤ number x) is)
       ∙ int_wrap-add_left w64 (total +ℤ number x) (all (drop (i + 1) xs))
       ∙ ap (int_wrap w64)
       (+ℤ_assoc total (number x) (all (drop (i + 1) xs)) ∙ ap (λ n. total +ℤ n) (sym (sum.more x (drop (i + 1) xs)) ∙ sym (ap all (drop_there xs i x found))))

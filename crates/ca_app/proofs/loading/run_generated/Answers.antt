@@ -10,7 +10,7 @@ unreachable-requires g c = never_refused (rw (c.in-Err-Refused.field-0-is, c.der
 pub run_to_end-requires : goal.run_to_end-requires
 run_to_end-requires g c =
     let done = read_is_done c.args.size c.requires.size.1 (rw c.deref.ensures.value at c.in-Ok.ensures.program) c.in_ok-text.ensures.runs in
-    (search rules, (search rules, (accepted_is_checked c.in-Ok.ensures.program.accepted, c.requires.workers, done)))
+    (search rules, (search rules, (accepted_is_checked c.in-Ok.ensures.program.accepted, (c.requires.workers, done))))
 
 pub returns-in-Ok : goal.returns-in-Ok
 returns-in-Ok g c =

@@ -13,13 +13,13 @@ loop-value-preserved c =
     let i = c.loop-value.value-index in
     let lt : i < length values = omega arith in
     let v = get_or values i (Long (pos 0)) in
-    added sum_of_values values i v c.loop-value.total _ (slice_get-get_or values i (Long (pos 0)) lt) c.add_value-total.ensures ∙ c.loop-value.invariant
+    added sum_of_values values i v (to_z w64 c.loop-value.total-bits) _ (slice_get-get_or values i (Long (pos 0)) lt) c.add_value-total.ensures ∙ c.loop-value.invariant
 
 pub returns : goal.returns
 returns c =
     let values = c.args.values.now in
     let i = c.loop-value.value-index in
     let past : length values ≤ i = omega arith in
-    let kept : int_wrap w64 (c.loop-value.total +ℤ sum_of (drop i values)) ≡ int_wrap w64 (to_z w64 (of_z w64 c.args.so_far) +ℤ sum_of values) = c.loop-value.invariant in
-    sym (all_added sum_of_values values i c.loop-value.total past (search rules))
-    ∙ (kept ∙ ap (λ n. int_wrap w64 (n +ℤ sum_of values)) (to_z-of_z w64 c.args.so_far c.ranges.so_far.fits))
+    let kept : int_wrap w64 (to_z w64 c.loop-value.total-bits +ℤ sum_of (drop i values)) ≡ int_wrap w64 (to_z w64 (of_z w64 c.args.so_far) +ℤ sum_of values) = c.loop-value.invariant in
+    sym (all_added sum_of_values values i (to_z w64 c.loop-value.total-bits) past (search rules))
+    ∙ (kept ∙ ap (λ n. int_wrap w64 (n +ℤ sum_of values)) (to_z-of_z w64 c.args.so_far c.ranges.so_far))
