@@ -62,29 +62,29 @@ returns-in_ok-count_of-in-len4-2-clause-named c =
 pub returns-in_err-number_of-in-len4-clause-only : goal.returns-in_err-number_of-in-len4-clause-only
 returns-in_err-number_of-in-len4-clause-only c =
     let only : (d : Command) → Names (texts c.args.words.now) d → ⊥ = λ d names.
-        let named = (bytes_eq-Decides c.as_str-then-words-lt5.result.now (codes "load")).0 (sym c.if-eq-6.ensures) in
-        let name : string_bytes c.name-item-then-words-lt5.result ≡ codes "load" = cc in
-        let numbers = numbers_of_load c.args.words.now _ _ _ _ (omega arith) c.name-item-then-words-lt5.is c.seed-item-then-words-lt5.is c.size-item-then-words-lt5.is c.workers-item-then-words-lt5.is name d names in
-        let read : c.as_str-in-len4.result.now ≡ decimal numbers.seed = cc in
-        c.in_err-number_of-in-len4.ensures.none numbers.seed (omega (arith, numbers.seed_in)) (omega (arith, numbers.seed_in)) read
+    let named = (bytes_eq-Decides c.as_str-then-words-lt5.result.now (codes "load")).0 (sym c.if-eq-6.ensures) in
+    let name : string_bytes c.name-item-then-words-lt5.result ≡ codes "load" = cc in
+    let numbers = numbers_of_load c.args.words.now _ _ _ _ (omega arith) c.name-item-then-words-lt5.is c.seed-item-then-words-lt5.is c.size-item-then-words-lt5.is c.workers-item-then-words-lt5.is name d names in
+    let read : c.as_str-in-len4.result.now ≡ decimal numbers.seed = cc in
+    c.in_err-number_of-in-len4.ensures.none numbers.seed (omega (arith, numbers.seed_in)) (omega (arith, numbers.seed_in)) read
     in where_none _ only
 
 pub returns-in_err-count_of-in-len4-clause-only : goal.returns-in_err-count_of-in-len4-clause-only
 returns-in_err-count_of-in-len4-clause-only c =
     let only : (d : Command) → Names (texts c.args.words.now) d → ⊥ = λ d names.
-        let named = (bytes_eq-Decides c.as_str-then-words-lt5.result.now (codes "load")).0 (sym c.if-eq-6.ensures) in
-        let name : string_bytes c.name-item-then-words-lt5.result ≡ codes "load" = cc in
-        let numbers = numbers_of_load c.args.words.now _ _ _ _ (omega arith) c.name-item-then-words-lt5.is c.seed-item-then-words-lt5.is c.size-item-then-words-lt5.is c.workers-item-then-words-lt5.is name d names in
-        let read : c.as_str-in-len4-2.result.now ≡ decimal numbers.size = cc in
-        c.in_err-count_of-in-len4.ensures.none numbers.size (omega (arith, numbers.size_in)) (omega (arith, numbers.size_in)) read
+    let named = (bytes_eq-Decides c.as_str-then-words-lt5.result.now (codes "load")).0 (sym c.if-eq-6.ensures) in
+    let name : string_bytes c.name-item-then-words-lt5.result ≡ codes "load" = cc in
+    let numbers = numbers_of_load c.args.words.now _ _ _ _ (omega arith) c.name-item-then-words-lt5.is c.seed-item-then-words-lt5.is c.size-item-then-words-lt5.is c.workers-item-then-words-lt5.is name d names in
+    let read : c.as_str-in-len4-2.result.now ≡ decimal numbers.size = cc in
+    c.in_err-count_of-in-len4.ensures.none numbers.size (omega (arith, numbers.size_in)) (omega (arith, numbers.size_in)) read
     in where_none _ only
 
 pub returns-in_err-count_of-in-len4-2-clause-only : goal.returns-in_err-count_of-in-len4-2-clause-only
 returns-in_err-count_of-in-len4-2-clause-only c =
     let only : (d : Command) → Names (texts c.args.words.now) d → ⊥ = λ d names.
-        let named = (bytes_eq-Decides c.as_str-then-words-lt5.result.now (codes "load")).0 (sym c.if-eq-6.ensures) in
-        let name : string_bytes c.name-item-then-words-lt5.result ≡ codes "load" = cc in
-        let numbers = numbers_of_load c.args.words.now _ _ _ _ (omega arith) c.name-item-then-words-lt5.is c.seed-item-then-words-lt5.is c.size-item-then-words-lt5.is c.workers-item-then-words-lt5.is name d names in
-        let read : c.as_str-in-len4-3.result.now ≡ decimal numbers.workers = cc in
-        c.in_err-count_of-in-len4-2.ensures.none numbers.workers (omega (arith, numbers.workers_in)) (omega (arith, numbers.workers_in)) read
+    let named = (bytes_eq-Decides c.as_str-then-words-lt5.result.now (codes "load")).0 (sym c.if-eq-6.ensures) in
+    let name : string_bytes c.name-item-then-words-lt5.result ≡ codes "load" = cc in
+    let numbers = numbers_of_load c.args.words.now _ _ _ _ (omega arith) c.name-item-then-words-lt5.is c.seed-item-then-words-lt5.is c.size-item-then-words-lt5.is c.workers-item-then-words-lt5.is name d names in
+    let read : c.as_str-in-len4-3.result.now ≡ decimal numbers.workers = cc in
+    c.in_err-count_of-in-len4-2.ensures.none numbers.workers (omega (arith, numbers.workers_in)) (omega (arith, numbers.workers_in)) read
     in where_none _ only
