@@ -32,8 +32,11 @@ class Objects(Program):
             self.within, self.result = c, m.result
             m.body = self.operation(m.params) if m.result is None else self.value_body(m)
         self.within, self.result = None, None
-        made = [(f"o{i}", rng.choice(self.classes).name) for i in range(rng.randint(1, 3))]
-        self.main = [("local", name, ty, ("new", ty)) for name, ty in made] + self.calls(made, rng.randint(0, 4))
+        self.main = self.main_body()
+
+    def main_body(self):
+        made = [(f"o{i}", self.rng.choice(self.classes).name) for i in range(self.rng.randint(1, 3))]
+        return [("local", name, ty, ("new", ty)) for name, ty in made] + self.calls(made, self.rng.randint(0, 4))
 
     def chance(self, probability):
         return self.rng.random() < probability

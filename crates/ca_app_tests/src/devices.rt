@@ -46,16 +46,21 @@ fn answers_the_usage_line(rt: HostRuntime) -> Result<(), AllocError> {
 /// Each read and each write failing in turn, over a program with prints.
 #[test]
 fn gives_way_to_faults(rt: HostRuntime) -> Result<(), AllocError> {
-    let graph = Call::new("run 1 100", GRAPH_VISIT);
-    for (failing, status, written) in [
-        ((1, 0), 6, ""),
-        ((2, 0), 6, ""),
-        ((3, 0), 0, GRAPH_HEAP),
-        ((0, 1), 7, ""),
-        ((0, 3), 7, "#0"),
-    ] {
-        let ended = Call { failing, ..graph }.writes(&rt, written.as_bytes())?;
-        assert!(rt; ended == (status, true), "of {written}");
+    for line in ["run 1 100", "run 2 100", "run 64 100"] {
+        for (failing, status, written) in [
+            ((1, 0), 6, ""),
+            ((2, 0), 6, ""),
+            ((3, 0), 0, GRAPH_HEAP),
+            ((0, 1), 7, ""),
+            ((0, 3), 7, "#0"),
+        ] {
+            let call = Call {
+                failing,
+                ..Call::new(line, GRAPH_VISIT)
+            };
+            let ended = call.writes(&rt, written.as_bytes())?;
+            assert!(rt; ended == (status, true), "of {line} and {written}");
+        }
     }
     let prints = Call::new("run 1 9", PRINTS);
     for number in 1..13 {

@@ -44,23 +44,25 @@ const TEN_BINS: (&str, &str) = (
     ");\n  for (long i = 0; i < 10; i++) r->b[i]->add(r->k[i]);\n}\n",
 );
 
-/// At each place of a list the call that traps is reached with as many steps as the calls before it take, and with
-/// one step less the budget is spent.
+/// By 1, 2 and 4 workers: at each place of a list the call that traps is reached with as many steps as the calls before
+/// it take, and with one step less the budget is spent.
 #[test]
 fn stops_at_each_place_of_a_list(rt: HostRuntime) -> Result<(), AllocError> {
     let (front, back) = TEN_BINS;
     for place in 0u64..10 {
         let text = format!(in rt.alloc(); "{front}{place}{back}")?;
         let least = 13 + 2 * place;
-        for budget in [100, least] {
-            let line = format!(in rt.alloc(); "run 1 {budget}")?;
-            let ended = Call::new(&line, &text).writes(&rt, b"trap 4 OutOfRange\n")?;
-            assert!(rt; ended == (3, true), "of {place} within {budget}");
-        }
-        let line = format!(in rt.alloc(); "run 1 {}", least - 1)?;
         let spent = format!(in rt.alloc(); "spent {}\n", least - 1)?;
-        let ended = Call::new(&line, &text).writes(&rt, spent.as_bytes())?;
-        assert!(rt; ended == (4, true), "of {place}");
+        for workers in [1, 2, 4] {
+            for budget in [100, least] {
+                let line = format!(in rt.alloc(); "run {workers} {budget}")?;
+                let ended = Call::new(&line, &text).writes(&rt, b"trap 4 OutOfRange\n")?;
+                assert!(rt; ended == (3, true), "of {place} by {line}");
+            }
+            let line = format!(in rt.alloc(); "run {workers} {}", least - 1)?;
+            let ended = Call::new(&line, &text).writes(&rt, spent.as_bytes())?;
+            assert!(rt; ended == (4, true), "of {place} by {line}");
+        }
     }
     Ok(())
 }

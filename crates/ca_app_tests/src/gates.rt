@@ -1,7 +1,7 @@
 //! Who passes the gate of a run.
 
 use crate::calls::Call;
-use crate::sources::{GRAPH_HEAP, GRAPH_VISIT};
+use crate::sources::{GRAPH_HEAP, GRAPH_VISIT, TWO_BINS, TWO_BINS_HEAP};
 use ca_base::Gate;
 use std::alloc::AllocError;
 use std::sync::atomic::{AtomicU64, Ordering};
@@ -45,6 +45,17 @@ impl Gate for CountingGate {
         };
         counter.fetch_add(1, Ordering::SeqCst);
     }
+}
+
+/// One worker runs the two calls of a marked loop, each past the gate.
+#[test]
+fn one_worker_counts(rt: HostRuntime) -> Result<(), AllocError> {
+    let gate = CountingGate::new();
+    let (status, written) = Call::new("run 1 5", TWO_BINS).run_past(&rt, &gate)?;
+    assert!(rt; status == 0);
+    assert!(rt; written.as_slice() == TWO_BINS_HEAP.as_bytes());
+    assert!(rt; gate.counts() == (0, 1, 1, 0));
+    Ok(())
 }
 
 /// One worker runs a marked call and the three that it leads to.

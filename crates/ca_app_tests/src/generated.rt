@@ -52,3 +52,60 @@ fn writes_and_runs_generated_texts(rt: HostRuntime) -> Result<(), AllocError> {
     assert!(rt; text.as_slice() == OF_SEED_7.as_bytes());
     Ok(())
 }
+
+/// By 1, 2, 3 and 64 workers a text of three nodes ends alike.
+#[test]
+fn many_workers_run_a_generated_text(rt: HostRuntime) -> Result<(), AllocError> {
+    for workers in [1, 2, 3, 64] {
+        for (budget, status, written) in [(17, 0, HEAP_OF_SEED_7), (16, 4, "spent 16\n")] {
+            let line = format!(in rt.alloc(); "run {workers} {budget}")?;
+            let ended = Call::new(&line, OF_SEED_7).writes(&rt, written.as_bytes())?;
+            assert!(rt; ended == (status, true), "of {line}");
+        }
+    }
+    Ok(())
+}
+
+/// A text of 10,000 nodes has one heap, of 10,001 lines, by 1 and by 8 workers.
+#[test]
+fn many_workers_run_a_large_text(rt: HostRuntime) -> Result<(), AllocError> {
+    let Ok(text) = generate(rt.alloc(), 7, 10_000) else {
+        return Err(AllocError);
+    };
+    let call = Call {
+        room: 1_000_000,
+        ..Call::of_bytes("run 1 1000000", &text)
+    };
+    let (status, heap) = call.run(&rt)?;
+    assert!(rt; status == 0);
+    let mut lines: u32 = 0;
+    for byte in &heap {
+        if *byte == b'\n' {
+            lines = lines.wrapping_add(1);
+        }
+    }
+    assert_eq!(rt; lines, 10_001);
+    let call = Call {
+        line: "run 8 1000000",
+        ..call
+    };
+    let ended = call.writes(&rt, &heap)?;
+    assert!(rt; ended == (0, true));
+    Ok(())
+}
+
+/// A text of the most nodes has one summary, however often and by however many workers it is run.
+#[test]
+fn many_workers_load_one_summary(rt: HostRuntime) -> Result<(), AllocError> {
+    for line in [
+        "load 7 20000 1",
+        "load 7 20000 8",
+        "load 7 20000 8",
+        "load 7 20000 64",
+    ] {
+        let written = b"load objects=20001 steps=90290 total=479533391\n";
+        let ended = Call::new(line, "").writes(&rt, written)?;
+        assert!(rt; ended == (0, true), "of {line}");
+    }
+    Ok(())
+}

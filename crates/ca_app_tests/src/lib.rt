@@ -13,6 +13,8 @@ mod gates;
 #[cfg(test)]
 mod generated;
 #[cfg(test)]
+mod meetings;
+#[cfg(test)]
 mod plans;
 #[cfg(test)]
 mod refusals;

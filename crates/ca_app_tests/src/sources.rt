@@ -37,6 +37,14 @@ pub const BINS: &str =
 pub const TWO_BINS: &str =
     "class Bin {\npublic:\n  long n;\n  void add(long v) { n = n + v; }\n};\nclass Pair {\npublic:\n  Bin *b[2];\n  void fill() { b[0] = new Bin(); b[1] = new Bin(); }\n};\nint main() {\n  Pair *s = new Pair();\n  s->fill();\n  for (long i = 0; i < 2; i++) s->b[i]->add(i + 1);\n}\n";
 
+pub const TWO_BINS_HEAP: &str = "#0 Pair b=[#1,#2]\n#1 Bin n=1\n#2 Bin n=2\n";
+
+/// Three objects that an array points at.
+pub const THREE_BINS: &str =
+    "class Bin {\npublic:\n  long n;\n  void add(long v) { n = n + v; }\n};\nclass Pair {\npublic:\n  Bin *b[3];\n  void fill() { b[0] = new Bin(); b[1] = new Bin(); b[2] = new Bin(); }\n};\nint main() {\n  Pair *s = new Pair();\n  s->fill();\n  for (long i = 0; i < 3; i++) s->b[i]->add(i + 1);\n}\n";
+
+pub const THREE_BINS_HEAP: &str = "#0 Pair b=[#1,#2,#3]\n#1 Bin n=1\n#2 Bin n=2\n#3 Bin n=3\n";
+
 /// A list of 100,000 objects, and calls nested as deeply.
 pub const LONG_LIST: &str =
     "class Link {\npublic:\n  Link *next;\n  long n;\n  void set(Link *x) { next = x; }\n  void walk(long d) { n = n + d; if (next != nullptr) next->walk(d + 1); }\n};\nint main() {\n  Link *head = nullptr;\n  for (long i = 0; i < 100000; i++) {\n    Link *k = new Link();\n    k->set(head);\n    head = k;\n  }\n  head->walk(1);\n  print(head->n);\n}\n";
@@ -76,3 +84,7 @@ pub const BOUND: &str =
 /// A sum that is called twice.
 pub const TWO_SUMS: &str =
     "class A { public: long n; void add(long v) { n += v; } void two(long v) { add(v); add(v + 1); } }; int main() { A *a = new A(); a->two(3); }";
+
+/// Two products on one object, which wait together.
+pub const TWO_PRODUCTS: &str =
+    "class A { public: long n; void set(long v) { n = v; } void mul(long v) { n *= v; } void two(long v) { mul(v); mul(v + 1); } }; int main() { A *a = new A(); a->set(2); a->two(3); }";

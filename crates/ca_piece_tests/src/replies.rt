@@ -5,9 +5,12 @@ use crate::sources::{FIRST, GRAPH_HEAP, GRAPH_VISIT, OF_SEED_7, PRINTED, PRINTS}
 use std::alloc::AllocError;
 
 /// Runs that are done, spent or trap, what is told of plans, a refusal of each kind, and what reads nothing.
-const ROWS: [Row; 14] = [
+const ROWS: [Row; 17] = [
     ("run 1 100", GRAPH_VISIT, 0, GRAPH_HEAP),
+    ("run 2 100", GRAPH_VISIT, 0, GRAPH_HEAP),
+    ("run 4 6", GRAPH_VISIT, 0, GRAPH_HEAP),
     ("run 1 5", GRAPH_VISIT, 4, "spent 5\n"),
+    ("run 2 5", GRAPH_VISIT, 4, "spent 5\n"),
     ("run 1 9", PRINTS, 0, PRINTED),
     (
         "run 1 1",
