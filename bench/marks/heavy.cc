@@ -1,4 +1,4 @@
-// Operations with much to do on their own object: 1,000 objects, 40 calls on each.
+// Operations with much to do on their own object: 1,000 objects, 200 calls on each.
 class Cell {
 public:
   long k;
@@ -34,6 +34,9 @@ public:
   void all(long p) {
     for (long i = 0; i < 1000; i++) at[i]->work(p);
   }
+  void rounds(long n) {
+    for (long r = 0; r < n; r++) all(r);
+  }
   long sum() {
     long s = 0;
     for (long i = 0; i < 1000; i++) s = s + at[i]->sum();
@@ -43,6 +46,6 @@ public:
 int main() {
   Cells *c = new Cells();
   c->fill();
-  for (long r = 0; r < 40; r++) c->all(r); // marked
+  c->rounds(200); // marked
   print(c->sum());
 }
