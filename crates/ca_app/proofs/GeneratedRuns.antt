@@ -1,13 +1,12 @@
 -- A generated text is accepted, and its serial run is done, within each budget that is great enough.
 use Rattle.std.proofs.Common.{◌≡◌, ℕ, ◌+◌, ◌*◌, ◌-◌, ◌≤◌, List, [], map, refl, sym, ap, ◌∙◌, subst, arith}
 use Rattle.ca_program.specs.Plain.{PlainProgram}
-use Rattle.ca_model.specs.declared.value.Object.{Object}
 use Rattle.ca_model.specs.declared.value.Value.{Value as Datum}
 use Rattle.ca_model.specs.declared.value.Value.TheVariants.{Null}
 use Rattle.ca_model.specs.Slots.{start_of}
 use Rattle.ca_meaning.specs.Flows.{Flow, goes_on, gives_back, stops, runs_out}
-use Rattle.ca_meaning.specs.Serial.{World, fresh, Ended, done, ended, main_run, serial}
-use Rattle.ca_meaning_laws.specs.Budgets.{on_with, Reached}
+use Rattle.ca_meaning.specs.Serial.{World, fresh, done, ended, main_run, serial}
+use Rattle.ca_meaning_laws.specs.Budgets.{on_with}
 use Rattle.ca_meaning_laws.proofs.Bigs.{all_serial_steady}
 use Rattle.ca_gen.specs.Generated.{generated}
 use Rattle.ca_gen_laws.specs.Runs.{RunsWithin}

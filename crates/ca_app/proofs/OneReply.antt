@@ -9,7 +9,7 @@ use Rattle.ca_model.specs.declared.value.Value.{Value as Datum}
 use Rattle.ca_meaning.specs.Output.{Reply}
 use Rattle.ca_meaning.specs.Serial.{Ended, done, serial}
 use Rattle.ca_words.specs.declared.Command.{Command}
-use Rattle.ca_words.specs.declared.Command.TheVariants.{Run, Gen, Load}
+use Rattle.ca_words.specs.declared.Command.TheVariants.{Run}
 use Rattle.ca_words.specs.Words.{Names, reads}
 use Rattle.ca_words.proofs.OneCommand.{one_command}
 use Rattle.ca_plan.specs.Plans.{PlainPlan, PlanOf}

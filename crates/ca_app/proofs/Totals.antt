@@ -7,8 +7,6 @@ use Rattle.std.proofs.lemmas.List.{drop_all}
 use Rattle.std.proofs.lemmas.Option.{slice_get-get_or}
 use Rattle.std.proofs.lemmas.Int.{SFits-int_wrap, int_wrap_fits, int_wrap-add_left, to_z-of_z}
 use Rattle.ca_model.specs.declared.value.Value.{Value as Datum}
-use Rattle.ca_model.specs.declared.value.Slot.{Slot}
-use Rattle.ca_model.specs.declared.value.Object.{Object}
 use Rattle.ca_model.proofs.Texts.{drop_there}
 use Rattle.ca_app.specs.Summary.{number_in, sum_of, values_in, fields_of, values_of}
 
