@@ -1,4 +1,4 @@
-use Rattle.std.proofs.Common.{◌-◌, subst, arith}
+use Rattle.std.proofs.Common.{subst}
 use Rattle.ca_program.specs.View.{program_view}
 use Rattle.ca_parallel.specs.Calls.{invocations_of}
 use Rattle.ca_run.specs.Beside.{present}
