@@ -7,8 +7,8 @@ use Rattle.ca_meaning.specs.Multisets.{weight}
 use Rattle.ca_parallel.specs.Extents.{Extent}
 use Rattle.ca_order_laws.specs.Pending.{PendingRun, rests}
 use Rattle.ca_order_laws.proofs.PendingRuns.{rounds}
-use Rattle.ca_run.specs.Rounds.{RanTo}
-use Rattle.ca_run.proofs.Going.{Going}
+use Rattle.ca_run.specs.Rounds.{RanTo, StuckBehind}
+use Rattle.ca_run.proofs.Going.{Going, going_stuck}
 use Rattle.ca_workers.specs.Runs.{IsSetting, MayWait, NoneWithin, DoneWithin, Placed}
 use Rattle.ca_workers.proofs.Behind.{still_waits, none_behind, done_behind}
 
@@ -25,6 +25,12 @@ goes_on p frozen h ws budget now rest left g after more steps r =
       sum = omega (arith, le, sum);
       counted = omega arith;
     }
+
+-- an operation is stuck behind a round more
+pub goes_stuck : (p : PlainProgram) (frozen h : List Object) (ws : List Invocation) (budget : ℕ) (now : List Object) (rest : List Invocation) (left : ℕ) → Going p frozen h ws budget 0 now rest left →
+    StuckBehind p frozen now rest left → StuckBehind p frozen h ws budget
+goes_stuck p frozen h ws budget now rest left g s =
+    going_stuck p frozen h ws budget 0 s.mid s.rest (left - s.steps) (goes_on p frozen h ws budget now rest left g s.mid s.rest s.steps s.ran) s.stuck
 
 -- nothing waits
 pub goes_to_its_end : (p : PlainProgram) (frozen h : List Object) (ws : List Invocation) (budget : ℕ) (now : List Object) (rest : List Invocation) (left : ℕ) → Going p frozen h ws budget 0 now rest left →

@@ -6,17 +6,19 @@
 //! clocks the entries of a round are a run of the pending machine, rounds put together are one run, and all complete
 //! runs end alike.
 //!
-//! A round takes time for each object of the heap. So on a large heap the calling thread first runs some operations
-//! alone, as the engine for one worker does, and a call that ends there costs what it touches. Objects change in a copy
+//! A round takes time for each object of the heap. So on a large heap the calling thread first runs operations alone, as
+//! the engine for one worker does, until their steps weigh as much, and a call that ends there costs what it touches. Objects change in a copy
 //! of the heap, and only a run that is done puts that in the heap's place: nothing has to be put back. A run that begins
 //! with a round and ends in it makes no copy.
 //!
-//! `tasks` makes first tasks, `reading` adds up the steps of a round, and `storing` takes its objects into a heap.
+//! `alone` runs operations before the first round, `tasks` makes first tasks, `reading` adds up the steps of a round, and
+//! `storing` takes its objects into a heap.
 //! `rounds` has a round, and all rounds one after the other, `running` a run from the heap as it was handed, and
 //! `parallel` the engine. `specs/Runs.antt` says what these answer, in terms of the pending machine. `many` runs a whole
 //! program by it: `drive_by_many`.
 #![tactic(auto)]
 
+mod alone;
 mod many;
 mod parallel;
 mod reading;

@@ -11,22 +11,26 @@ ghost use Rattle.ca_serial.specs.declared.extents.ExtentAnswer.TheVariants.{Decl
 ghost use Rattle.ca_serial.specs.Extents.{Answers, IsNotDone};
 ghost use Rattle.ca_workers.specs.Runs.{Placed, answer_by};
 
-use crate::rounds::FIRST_QUOTA;
+use crate::alone::run_alone;
+use crate::rounds::quota_for;
 use crate::running::{run_from, run_on};
 use crate::tasks::{extent_of_calls, first_tasks};
 use ca_base::{Gate, Memory};
 use ca_model::Heap;
 use ca_parallel::Op;
 use ca_program::Program;
-use ca_run::{Beside, Round, copies, run_round};
+use ca_run::{Beside, Round, copies};
 use ca_sections::Desk;
 use ca_serial::ExtentAnswer;
 use std::alloc::Global;
 use std::sync::Wait;
 use std::thread::Threads;
 
-/// For each operation that the calling thread runs before the first round the heap has so many objects.
-const OBJECTS_AN_OPERATION: u32 = 16;
+/// On a heap of fewer objects the first round begins at once.
+const FEW_OBJECTS: u32 = 16;
+
+/// On others the calling thread first takes so many steps for each object, which is about what a round costs.
+const STEPS_AN_OBJECT: u64 = 16;
 
 /// An engine of many workers, in rounds. It passes its gate before each section that a worker runs, as that worker, and
 /// as worker 0 before those that the calling thread runs ahead of the first round.
@@ -93,7 +97,7 @@ impl<'g, G: Gate> Parallel<'g, G> {
         )
     }
 
-    /// Runs so many operations on the calling thread, and what waits then in rounds.
+    /// Runs operations on the calling thread for some steps, and what waits then in rounds.
     fn run_alone_first<R: Threads + Wait + Sync>(
         &mut self,
         rt: &R,
@@ -101,7 +105,6 @@ impl<'g, G: Gate> Parallel<'g, G> {
         heap: &mut Heap,
         first: &[Op],
         left: u64,
-        alone: u32,
     ) -> Result<Option<u64>, Memory>
         requires program { ProgramTyped (program_view program.now) }
         requires heap { TypedHeap (program_view program.now) heap.old }
@@ -110,10 +113,11 @@ impl<'g, G: Gate> Parallel<'g, G> {
         ensures placed { IfOk result (Placed (program_view program.now) heap.old heap.old (invocations_of first.now) left heap.new) }
         ensures kept { OnErr result (heap.new ≡ heap.old) }
     {
+        let objects = heap.len();
         let mut desk = Desk::new(self.alloc)?;
         let mut waiting = copies(self.alloc, first)?;
         self.beside.forget();
-        let went = run_round(
+        let went = run_alone(
             self.gate,
             &mut desk,
             self.alloc,
@@ -122,7 +126,7 @@ impl<'g, G: Gate> Parallel<'g, G> {
             &mut self.beside,
             &mut waiting,
             left,
-            alone as u64,
+            u64::from(objects) * STEPS_AN_OBJECT,
         )?;
         let steps = match went {
             Round::Went { steps } => steps,
@@ -146,7 +150,7 @@ impl<'g, G: Gate> Parallel<'g, G> {
             heap,
             now,
             tasks,
-            FIRST_QUOTA,
+            quota_for(objects, self.workers),
             left - steps,
         )?;
         match more {
@@ -176,12 +180,11 @@ impl<'g, G: Gate> Parallel<'g, G> {
         ensures declined { IfOk result (λ answer. answer ≡ Declined → IsNotDone (program_view program.now) heap.old (invocations_of first.now) left) }
         ensures kept { OnErr result (heap.new ≡ heap.old) }
     {
-        let alone = heap.len() / OBJECTS_AN_OPERATION;
-        if alone == 0 {
+        if heap.len() < FEW_OBJECTS {
             let ended = self.run_together(rt, program, heap, first, left)?;
             return Ok(answer_of(ended));
         }
-        let ended = self.run_alone_first(rt, program, heap, first, left, alone)?;
+        let ended = self.run_alone_first(rt, program, heap, first, left)?;
         Ok(answer_of(ended))
     }
 }
