@@ -7,9 +7,9 @@
 //! runs end alike.
 //!
 //! A round takes time for each object of the heap. So on a large heap the calling thread first runs operations alone, as
-//! the engine for one worker does, until their steps weigh as much, and a call that ends there costs what it touches. Objects change in a copy
-//! of the heap, and only a run that is done puts that in the heap's place: nothing has to be put back. A run that begins
-//! with a round and ends in it makes no copy.
+//! the engine for one worker does, until their steps weigh as much, and a call that ends there costs what it touches.
+//! Objects change in a copy of the heap, and only a run that is done puts that in the heap's place: nothing has to be put
+//! back. A run that begins with a round and ends in it makes no copy.
 //!
 //! `alone` runs operations before the first round, `tasks` makes first tasks, `reading` adds up the steps of a round, and
 //! `storing` takes its objects into a heap.

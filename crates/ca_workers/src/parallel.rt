@@ -12,7 +12,7 @@ ghost use Rattle.ca_serial.specs.Extents.{Answers, IsNotDone};
 ghost use Rattle.ca_workers.specs.Runs.{Placed, answer_by};
 
 use crate::alone::run_alone;
-use crate::rounds::quota_for;
+use crate::rounds::FIRST_QUOTA;
 use crate::running::{run_from, run_on};
 use crate::tasks::{extent_of_calls, first_tasks};
 use ca_base::{Gate, Memory};
@@ -150,7 +150,7 @@ impl<'g, G: Gate> Parallel<'g, G> {
             heap,
             now,
             tasks,
-            quota_for(objects, self.workers),
+            FIRST_QUOTA,
             left - steps,
         )?;
         match more {

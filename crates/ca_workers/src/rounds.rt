@@ -21,11 +21,11 @@ use std::mem;
 use std::sync::Wait;
 use std::thread::Threads;
 
-/// How many tasks a worker runs in the first round of a small heap, and at least in each round.
+/// How many tasks a worker runs in the first round.
 pub const FIRST_QUOTA: u32 = 64;
 
-/// The most tasks that all workers together run in a round.
-const MOST_TASKS: u32 = 1_048_576;
+/// The most tasks that a worker runs in a round.
+const MOST_QUOTA: u32 = 16_384;
 
 /// What a round leaves: the histories of all objects, the tasks that wait, and the steps that it took.
 #[derive(Drop)]
@@ -47,29 +47,15 @@ fn at_work(workers: u32, tasks: usize) -> u32
     }
 }
 
-/// The quota of a first round on so many objects: it takes time for each of them, so a worker may run as many tasks.
-pub fn quota_for(objects: u32, workers: u32) -> u32
-    requires { 0 < workers }
-    ensures { 0 < result }
-{
-    let quota = objects.min(MOST_TASKS / workers);
-    if quota < FIRST_QUOTA {
-        FIRST_QUOTA
-    } else {
-        quota
-    }
-}
-
 /// The quota of the round after one with this quota.
-pub fn next_quota(quota: u32, workers: u32) -> u32
-    requires quota { 0 < quota }
-    requires workers { 0 < workers }
+pub fn next_quota(quota: u32) -> u32
+    requires { 0 < quota }
     ensures { 0 < result }
 {
-    if quota < MOST_TASKS / workers {
-        quota.saturating_mul(2)
+    if quota < MOST_QUOTA {
+        quota * 2
     } else {
-        quota
+        MOST_QUOTA
     }
 }
 
@@ -153,7 +139,7 @@ pub fn run_rounds<R: Threads + Wait + Sync, G: Gate>(
         store(turn.cells, now);
         waiting = turn.rest;
         begin_anew(&mut waiting);
-        quota = next_quota(quota, workers);
+        quota = next_quota(quota);
         still -= turn.steps;
     }
     Ok(Some(left - still))

@@ -117,7 +117,7 @@ pub fn run_from<R: Threads + Wait + Sync, G: Gate>(
         heap,
         now,
         rest,
-        next_quota(FIRST_QUOTA, workers),
+        next_quota(FIRST_QUOTA),
         left - steps,
     )?;
     match more {
