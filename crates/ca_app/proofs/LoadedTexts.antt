@@ -10,7 +10,7 @@ use Rattle.ca_meaning.specs.Serial.{Ended, done, trapped, spent, serial}
 use Rattle.ca_gen.specs.Generated.{generated}
 use Rattle.ca_app.specs.Accepted.{Accepted}
 use Rattle.ca_app.specs.Causes.{IsDone}
-use Rattle.ca_app.specs.Reading.{IsProgramOf, IsRefusalOf}
+use Rattle.ca_app.specs.clauses.Reading.{IsProgramOf, IsRefusalOf}
 use Rattle.ca_app.specs.Reply.{IsLoaded}
 use Rattle.ca_app.proofs.GeneratedRuns.{done_within_more}
 

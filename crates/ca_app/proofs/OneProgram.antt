@@ -8,7 +8,7 @@ use Rattle.ca_parse.specs.Grammar.{DerivesWithin}
 use Rattle.ca_resolve.specs.Judged.{fine}
 use Rattle.ca_types.specs.Classes.{judge}
 use Rattle.ca_app.specs.Accepted.{HasTokens, HasTree, Accepted}
-use Rattle.ca_app.specs.Reading.{HasOneTree}
+use Rattle.ca_app.specs.clauses.Reading.{HasOneTree}
 
 pub one_tokens : {text : List ℕ} {a b : List Token} → HasTokens text a → HasTokens text b → a ≡ b
 one_tokens {b = b} s t = one_list s.lexed b t.lexed

@@ -15,7 +15,7 @@ use Rattle.ca_resolve.specs.Judged.{fine, Violation, AtMost, IsLeast}
 use Rattle.ca_types.specs.Classes.{judge, Violations}
 use Rattle.ca_app.specs.Accepted.{most_bytes, HasTokens, HasTree, Accepted, token_place}
 use Rattle.ca_app.specs.Refusals.{RefusedAt, too_long, no_token, wrong_token, deep_token, violates, token_code}
-use Rattle.ca_app.specs.Reading.{HasOneTree, IsProgramOf, IsRefusalOf}
+use Rattle.ca_app.specs.clauses.Reading.{HasOneTree, IsProgramOf, IsRefusalOf}
 use Rattle.ca_app.proofs.OneProgram.{one_tokens, derived_by, one_program}
 
 -- what holds of each holds of one that is there

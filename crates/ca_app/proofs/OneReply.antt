@@ -17,7 +17,7 @@ use Rattle.ca_plan.proofs.OnePlan.{one_pairs_text, one_plan_text}
 use Rattle.ca_emit.proofs.OneText.{one_annotated_text}
 use Rattle.ca_app.specs.Accepted.{HasTree, Accepted}
 use Rattle.ca_app.specs.Refusals.{RefusedAt, too_long, no_token, wrong_token, deep_token, violates, refusal_reply}
-use Rattle.ca_app.specs.Reading.{HasOneTree, IsProgramOf, IsRefusalOf}
+use Rattle.ca_app.specs.clauses.Reading.{HasOneTree, IsProgramOf, IsRefusalOf}
 use Rattle.ca_app.specs.Reply.{ProgramReplies, runs, tells, CommandReplies, refuses, serves, IsLoaded, UnreadReplies, generates, loads, Replies, usage, unread, named, loaded_reply}
 use Rattle.ca_app.specs.Told.{Tells, verdicts, marks, annotated, tells_plan}
 use Rattle.ca_app.proofs.OneProgram.{derived_by}

@@ -5,4 +5,4 @@ pub mod Summary
 pub mod Reply
 pub mod Ends
 pub mod Causes
-pub mod Reading
+pub mod clauses

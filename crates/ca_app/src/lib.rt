@@ -9,6 +9,9 @@
 //! runs to its end, and the other runs it and writes what it left in one line.
 //! `specs/Accepted.antt` and `specs/Refusals.antt` say which texts are accepted and where the others
 //! are refused, `specs/Reply.antt` has the replies, and `specs/Ends.antt` how a call ends.
+//!
+//! Whoever reads the public clauses must believe `Accepted`, `Causes`, `Ends`, `Refusals`, `Reply`, `Summary` and
+//! `Told` of `specs/`; what stands in `specs/clauses/` serves clauses within the crate alone.
 #![tactic(auto)]
 
 mod generating;

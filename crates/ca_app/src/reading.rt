@@ -5,7 +5,7 @@ ghost use Rattle.std.specs.Result.{IfErr};
 ghost use Rattle.ca_tree.specs.View.{tree_view};
 ghost use Rattle.ca_program.specs.View.{program_view};
 ghost use Rattle.ca_app.specs.Accepted.{HasTokens, token_place};
-ghost use Rattle.ca_app.specs.Reading.{HasOneTree, IsProgramOf, IsCauseFor};
+ghost use Rattle.ca_app.specs.clauses.Reading.{HasOneTree, IsProgramOf, IsCauseFor};
 ghost use Rattle.ca_app.specs.declared.serving.TheConstants.{MOST_BYTES};
 
 use crate::refusals::{NO_TOKEN, Refusal, TOO_DEEP, TOO_GREAT, TOO_MANY, WRONG_TOKEN};

@@ -7,6 +7,8 @@
 //! `write_all` writes a whole piece. Beside them stand devices in memory, which fail at chosen calls and may
 //! give and take a piece at a time, devices that never fail, and standard input and output, which tell no bytes and are trusted. A gate
 //! is where a test can hold the workers of a parallel run.
+//!
+//! Whoever reads the public clauses must believe each file of `specs/`.
 #![tactic(auto)]
 
 mod call_count;

@@ -16,7 +16,7 @@ use Rattle.ca_canonical.specs.declared.marks.Mark.{Mark}
 use Rattle.ca_canonical.specs.Marks.{Piece, tokens, marks, Marking}
 use Rattle.ca_canonical.specs.Annotated.{marked, pieces_of, marked_all, marked_member, marked_members, marked_class, marked_classes}
 use Rattle.ca_canonical.specs.Spell.{spell_line, spell_expression, spell_list, spell_others, spell_param, spell_params, spell_other_params}
-use Rattle.ca_canonical.specs.Pens.{Written, Writes, WritesPieces}
+use Rattle.ca_canonical.specs.clauses.Pens.{Written, Writes, WritesPieces}
 use Rattle.ca_canonical.proofs.Writing.{Leaves, after, as_pieces, fewer_left, fewer_tokens}
 
 -- the items from i on

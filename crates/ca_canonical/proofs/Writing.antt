@@ -4,7 +4,7 @@ use Rattle.std.proofs.lemmas.List.{map-append}
 use Rattle.ca_tree.specs.declared.token.Kind.{Kind}
 use Rattle.ca_canonical.specs.Marks.{Piece, token, tokens}
 use Rattle.ca_canonical.specs.Texts.{text_of_pieces}
-use Rattle.ca_canonical.specs.Pens.{Written, Writes, WritesPieces, whole}
+use Rattle.ca_canonical.specs.clauses.Pens.{Written, Writes, WritesPieces, whole}
 
 pub tokens_both : (ks ls : List Kind) → tokens (ks ++ ls) ≡ tokens ks ++ tokens ls
 tokens_both ks ls = map-append token ks ls

@@ -5,7 +5,7 @@ ghost use Rattle.ca_tree.specs.declared.token.Kind.TheVariants.{Word};
 ghost use Rattle.ca_tree.specs.View.{class_view, member_view, method_view, statement_view, statements_view};
 ghost use Rattle.ca_canonical.specs.Annotated.{marked_class, marked_classes, marked_main, marked_member, marked_members, marked_method};
 ghost use Rattle.ca_canonical.specs.Spell.{ends_in_zero, in_parentheses, returns_zero, spell_end, spell_field, spell_length, spell_params, spell_result};
-ghost use Rattle.ca_canonical.specs.Pens.{Writes, WritesPieces};
+ghost use Rattle.ca_canonical.specs.clauses.Pens.{Writes, WritesPieces};
 
 use crate::marks::Marks;
 use crate::pen::Pen;

@@ -4,7 +4,7 @@ ghost use Rattle.std.specs.Prelude.{◌≡◌, nat_lt, IfOk};
 ghost use Rattle.ca_tree.specs.declared.token.Kind.TheVariants.{Key};
 ghost use Rattle.ca_tree.specs.View.{expression_view, expressions_view};
 ghost use Rattle.ca_canonical.specs.Spell.{binds, bracketed, in_parentheses, spell_expression, spell_list, spell_truth};
-ghost use Rattle.ca_canonical.specs.Pens.{Writes};
+ghost use Rattle.ca_canonical.specs.clauses.Pens.{Writes};
 
 use crate::operators::{TAIL_LEVEL, binds};
 use crate::pen::Pen;

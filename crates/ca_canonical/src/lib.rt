@@ -5,6 +5,9 @@
 //! `unparse` promises exactly the text that `specs/Spell.antt` (which tokens) and `specs/Texts.antt`
 //! (which bytes) define, unless memory runs out, and `annotate` that of `specs/Annotated.antt` (which
 //! tokens and marks). The walk writes the bytes as it goes over the tree, in time linear in the tree.
+//!
+//! Whoever reads the public clauses must believe `Annotated`, `Bare`, `Erased`, `Marks`, `ReadsBack`, `Spell` and
+//! `Texts` of `specs/`; what stands in `specs/clauses/` serves clauses within the crate alone.
 #![tactic(auto)]
 
 mod classes;

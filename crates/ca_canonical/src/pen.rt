@@ -4,7 +4,7 @@ ghost use Rattle.std.specs.Prelude.{◌≡◌, ◌<◌, ◌^◌, [], ◌∷◌, 
 ghost use Rattle.ca_tree.specs.declared.token.Kind.TheVariants.{Word, Number, Key, Sign as SignKind};
 ghost use Rattle.ca_canonical.specs.Texts.{depth_behind_sign, gap_behind, is_semicolon};
 ghost use Rattle.ca_canonical.specs.Marks.{marks};
-ghost use Rattle.ca_canonical.specs.Pens.{Writes, WritesPieces, put, waiting, whole};
+ghost use Rattle.ca_canonical.specs.clauses.Pens.{Writes, WritesPieces, put, waiting, whole};
 
 use crate::marks::Mark;
 use ca_tree::{Keyword, Name, Sign};
@@ -24,7 +24,7 @@ pub(crate) struct Pen {
 
 impl Model for Pen {
     ghost use Rattle.std.specs.Prelude.{◌≤◌, length};
-    ghost use Rattle.ca_canonical.specs.Pens.{Written};
+    ghost use Rattle.ca_canonical.specs.clauses.Pens.{Written};
 
     ghost Value = { Written };
 

@@ -4,7 +4,7 @@ ghost use Rattle.std.specs.Prelude.{IfOk};
 ghost use Rattle.ca_tree.specs.View.{expression_view, right_view, statement_view, statements_view};
 ghost use Rattle.ca_canonical.specs.Annotated.{marked, marked_all};
 ghost use Rattle.ca_canonical.specs.Spell.{condition, ended, spell_expression, spell_for, spell_header, spell_line, spell_right, spell_type};
-ghost use Rattle.ca_canonical.specs.Pens.{Writes, WritesPieces};
+ghost use Rattle.ca_canonical.specs.clauses.Pens.{Writes, WritesPieces};
 
 use crate::expressions::write_expression;
 use crate::marks::Marks;

@@ -12,7 +12,7 @@ use Rattle.ca_order_laws.proofs.Weights.{weight_append}
 use Rattle.ca_logs.specs.declared.log.CellLog.{CellLog}
 use Rattle.ca_cells.specs.Rounds.{IsRound, IsLegal}
 use Rattle.ca_cells.specs.Notes.{IsNoted, IsKept, place_weight, below}
-use Rattle.ca_cells.specs.Rule.{cut, fresh_seat, spent, joined, noted_weight, has_cell, out_weight, only, Knows, Ruled}
+use Rattle.ca_cells.specs.clauses.Rule.{cut, fresh_seat, spent, joined, noted_weight, has_cell, out_weight, only, Knows, Ruled}
 use Rattle.ca_cells.specs.declared.rule.Note.{Note}
 use Rattle.ca_cells.specs.declared.rule.Given.{Given}
 use Rattle.ca_cells.specs.declared.rule.Place.{Place}

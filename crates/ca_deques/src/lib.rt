@@ -6,6 +6,8 @@
 //! pushes and pops, and a `Thief`, a pass on another's deque, steals; `thieves` has those of one worker. `opening` makes the deques of a round and the
 //! passes, and `settling` takes the passes back and drains the deques; their equations are sums over all owners and all
 //! passes (`specs/Settling.antt`). Who uses the deques needs no word of threads.
+//!
+//! Whoever reads the public clauses must believe each file of `specs/`.
 #![tactic(auto)]
 
 pub mod handles;

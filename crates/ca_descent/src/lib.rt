@@ -7,4 +7,6 @@
 //! exactness from the parts of a rule to the rule, one lemma for each kind of step that a parser
 //! takes (`Exact`, `Parts`, `Many`, `Separated`), to a part of so many tokens at most (`Short`),
 //! and to a whole text (`Whole`), of which each has one answer (`OneAnswer`).
+//!
+//! Whoever reads the public clauses must believe each file of `specs/`.
 #![tactic(auto)]

@@ -7,6 +7,8 @@
 //! that is its value in the meaning of programs, whatever calls mean there, and no step is taken. Nothing is
 //! promised of `None`: the interpreter tries these calls first, and goes on with its stack at `None`.
 //! `scene` has what a scene holds and any value, `numbers`, `truths` and `pointers` one type each.
+//!
+//! Whoever reads the public clauses must believe `Direct` of `specs/`.
 #![tactic(auto)]
 
 pub mod laws;

@@ -6,7 +6,7 @@ use Rattle.ca_tree.specs.declared.tree.TypeNode.{TypeNode}
 use Rattle.ca_tree.specs.Plain.{MethodTree, MemberTree, field_member, method_member}
 use Rattle.ca_tree.specs.View.{class_view, member_view}
 use Rattle.ca_emit.specs.Annotations.{operation_and, operations_in, operations_of}
-use Rattle.ca_emit.specs.Seen.{members_seen}
+use Rattle.ca_emit.specs.clauses.Seen.{members_seen}
 
 by_result : (r : Option TypeNode) (m : MethodTree) (ms : List MethodTree) → operation_and r m ms ≡ operation_and r m [] ++ ms
 by_result None m ms = refl

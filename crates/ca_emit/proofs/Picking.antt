@@ -11,7 +11,7 @@ use Rattle.ca_tree.specs.View.{method_view}
 use Rattle.ca_model.proofs.Stores.{found}
 use Rattle.ca_model.proofs.Texts.{drop_there}
 use Rattle.ca_emit.specs.Annotations.{picked, place_if}
-use Rattle.ca_emit.specs.Seen.{methods_seen}
+use Rattle.ca_emit.specs.clauses.Seen.{methods_seen}
 
 -- one item more, of a list that is made by number
 pub one_at : {A B : Type 0} (from : ℕ → List A → List B) (one : ℕ → A → List B) → ((n : ℕ) (x : A) (xs : List A) → from n (x ∷ xs) ≡ one n x ++ from (n + 1) xs)

@@ -1,3 +1,3 @@
 pub mod Annotations
-pub mod Seen
 pub mod Locks
+pub mod clauses

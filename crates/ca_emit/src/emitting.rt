@@ -17,7 +17,7 @@ ghost use Rattle.ca_canonical.specs.Texts.{text_of};
 ghost use Rattle.ca_emit.specs.Annotations.{all_sites, annotated_text, bodies_from, has_place, operations_of, parallel_bodies, parallel_sites, place_if, place_in, sites_of_method};
 ghost use Rattle.ca_lock_laws.specs.Resolves.{ProgramResolves};
 ghost use Rattle.ca_emit.specs.Locks.{KeptText, MarkedText};
-ghost use Rattle.ca_emit.specs.Seen.{methods_seen};
+ghost use Rattle.ca_emit.specs.clauses.Seen.{methods_seen};
 
 use crate::marking::Marked;
 use crate::parallel::{operations, parallel_ops};

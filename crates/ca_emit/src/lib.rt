@@ -2,6 +2,9 @@
 //!
 //! `specs/Annotations.antt` says which marks stand where, and `ca_canonical` what a text with marks is. `parallel` finds the
 //! operations that take a lock, `sites` the calls and loops that run in parallel, and `marking` tells the marks at a place.
+//!
+//! Whoever reads the public clauses must believe `Annotations` and `Locks` of `specs/`; what stands in
+//! `specs/clauses/` serves clauses within the crate alone.
 #![tactic(auto)]
 
 mod emitting;

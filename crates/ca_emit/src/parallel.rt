@@ -3,7 +3,7 @@
 ghost use Rattle.std.specs.Prelude.{◌≡◌, [], ◌∷◌, ◌++◌, IfOk};
 ghost use Rattle.ca_tree.specs.View.{member_view, tree_view};
 ghost use Rattle.ca_emit.specs.Annotations.{ops_if, operations_in, operations_of, parallel_ops};
-ghost use Rattle.ca_emit.specs.Seen.{methods_seen, members_seen};
+ghost use Rattle.ca_emit.specs.clauses.Seen.{methods_seen, members_seen};
 
 use ca_base::Memory;
 use ca_extent::Extent;

@@ -12,7 +12,7 @@ use Rattle.ca_canonical.specs.declared.marks.Mark.TheVariants.{Lock, Unlock, Spa
 use Rattle.ca_canonical.specs.Marks.{mark_text}
 use Rattle.ca_canonical.specs.Erased.{comment_len, opens_mark, behind_space, Erased, at_end, a_mark, a_comment, a_byte}
 use Rattle.ca_erase.specs.BadMarks.{space_of, BadMarkFrom, FirstBadMark, here, behind_mark, behind_comment, behind_byte}
-use Rattle.ca_erase.specs.Fronts.{Step, IsBadMark}
+use Rattle.ca_erase.specs.clauses.Fronts.{Step, IsBadMark}
 
 -- A mark and the space behind it
 

@@ -1,2 +1,2 @@
 pub mod BadMarks
-pub mod Fronts
+pub mod clauses

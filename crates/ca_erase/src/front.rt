@@ -6,7 +6,7 @@ ghost use Rattle.ca_canonical.specs.declared.marks.Mark.{Mark as PlainMark};
 ghost use Rattle.ca_canonical.specs.Marks.{mark_text};
 ghost use Rattle.ca_canonical.specs.Erased.{block_len, comment_behind, comment_len, opens_mark};
 ghost use Rattle.ca_erase.specs.BadMarks.{space_of};
-ghost use Rattle.ca_erase.specs.Fronts.{IsFront};
+ghost use Rattle.ca_erase.specs.clauses.Fronts.{IsFront};
 
 use ca_canonical::Mark;
 use ca_lex::{close_of, line_len};

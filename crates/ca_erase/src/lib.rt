@@ -2,6 +2,9 @@
 //!
 //! `ca_canonical` says what a text without its marks is (`Erased`), and `specs/BadMarks.antt` which comments are refused
 //! as marks. `front_of` tells what stands in front, and `erase` goes through the text once.
+//!
+//! Whoever reads the public clauses must believe `BadMarks` of `specs/`; what stands in `specs/clauses/` serves
+//! clauses within the crate alone.
 #![tactic(auto)]
 
 mod front;

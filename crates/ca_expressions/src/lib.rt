@@ -6,6 +6,8 @@
 //! the limit. Operands and lists are read in loops, and only nesting by recursion, so its depth is
 //! bounded by that limit; each token is read a fixed number of times. The readers of single tokens
 //! (`key_at`, `take_sign` ..) serve the parser of statements too.
+//!
+//! Whoever reads the public clauses must believe each file of `specs/`.
 #![tactic(auto)]
 
 mod expressions;

@@ -8,9 +8,9 @@ use Rattle.ca_program.specs.declared.program.FunctionId.{FunctionId}
 use Rattle.ca_program.specs.Plain.{Expression, Expressions, number, truth, null, this, local, own, own_item, read, read_item, value_call, unary, binary, no_expressions, expression_and, Statement, Statements, block, put_local, put_field, put_item, new_local, new_field, new_item, invoke, if_else, while_loop, for_loop, return_value, print_value, no_statements, statement_and}
 use Rattle.ca_parallel.specs.Bodies.{functions_in, functions_in_all, listed, expressions_of, expressions_of_all, calls_of, calls_of_all, targets_of, targets_of_all, functions_of_body}
 use Rattle.ca_extent.specs.declared.numbers.Callees.TheVariants.{Operations, Functions}
-use Rattle.ca_extent.specs.Ids.{op_number}
-use Rattle.ca_extent.specs.Numbers.{values_in, values_in_all, numbers_of, numbers_of_all}
-use Rattle.ca_extent.specs.Targets.{written_by, written_by_all}
+use Rattle.ca_extent.specs.clauses.Ids.{op_number}
+use Rattle.ca_extent.specs.clauses.Numbers.{values_in, values_in_all, numbers_of, numbers_of_all}
+use Rattle.ca_extent.specs.clauses.Targets.{written_by, written_by_all}
 
 abbrev pub function_number : FunctionId → ℕ
 function_number m = m.0

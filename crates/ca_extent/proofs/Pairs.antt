@@ -7,7 +7,7 @@ use Rattle.std.proofs.lemmas.Cmp.{by_ranked}
 use Rattle.std.proofs.lemmas.Map.Keys.{Less-from_sorted}
 use Rattle.std.proofs.lemmas.Option.{slice_get_within, get_or_from_slice_get}
 use Rattle.ca_parallel.specs.ExtentsOf.{Rises}
-use Rattle.ca_extent.specs.Rising.{PairBefore}
+use Rattle.ca_extent.specs.clauses.Rising.{PairBefore}
 
 abbrev pub pair_cmp : ℕ × ℕ → ℕ × ℕ → Ordering
 pair_cmp x y = ordering_then (nat_cmp x.0 y.0) (nat_cmp x.1 y.1)

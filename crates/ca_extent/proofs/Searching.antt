@@ -5,7 +5,7 @@ use Rattle.std.specs.Prelude.{Contains, replicate}
 use Rattle.std.proofs.lemmas.List.{length-append, length-set, get_or_append_left, get_or-set_same, get_or-set_other, get_or_default, get_or-replicate, get_or_past, length-replicate}
 use Rattle.std.proofs.lemmas.List.Elements.{Contains-get_or, Contains-append_left, Contains-append_right, Contains-append_cases}
 use Rattle.std.proofs.lemmas.Bool.{cases_lt, cases_eq}
-use Rattle.ca_extent.specs.Reached.{Reached, from_root, onward, Turn, read, passed}
+use Rattle.ca_extent.specs.clauses.Reached.{Reached, from_root, onward, Turn, read, passed}
 
 -- how many numbers the bodies have that are not read yet
 abbrev pub unread : (ℕ → List ℕ) → List Bool → ℕ

@@ -13,10 +13,10 @@ use Rattle.ca_parallel.specs.Bodies.{calls_of_all, targets_of_all, functions_of_
 use Rattle.ca_parallel.specs.Extents.{operation_body, function_body, Invokes, root, called, Evaluates, by_operation, by_function, Writes}
 use Rattle.ca_parallel.specs.ExtentsOf.{Rises, OpBefore, FunctionBefore, FieldBefore, ExtentOf}
 use Rattle.ca_extent.specs.declared.numbers.Callees.TheVariants.{Operations, Functions}
-use Rattle.ca_extent.specs.Ids.{op_number, op_of, function_of, field_of}
-use Rattle.ca_extent.specs.Reached.{Reached, from_root, onward, calls_at, IsReached}
-use Rattle.ca_extent.specs.Rising.{PairBefore}
-use Rattle.ca_extent.specs.Targets.{written_at}
+use Rattle.ca_extent.specs.clauses.Ids.{op_number, op_of, function_of, field_of}
+use Rattle.ca_extent.specs.clauses.Reached.{Reached, from_root, onward, calls_at, IsReached}
+use Rattle.ca_extent.specs.clauses.Rising.{PairBefore}
+use Rattle.ca_extent.specs.clauses.Targets.{written_at}
 use Rattle.ca_extent.proofs.Alike.{function_number, pair, all_calls_alike, all_targets_alike, all_functions_alike}
 use Rattle.ca_extent.proofs.Members.{into_map, from_map, into_flat_map, from_flat_map}
 

@@ -4,9 +4,9 @@ ghost use Rattle.std.specs.Prelude.{◌≡◌, ◌↔◌, ◌++◌, List, IfOk, 
 ghost use Rattle.ca_program.specs.View.{method_view, program_view};
 ghost use Rattle.ca_parallel.specs.ExtentsOf.{ExtentOf};
 ghost use Rattle.ca_extent.specs.declared.numbers.Callees.TheVariants.{Functions};
-ghost use Rattle.ca_extent.specs.Reached.{calls_at};
-ghost use Rattle.ca_extent.specs.Targets.{written_at};
-ghost use Rattle.ca_extent.specs.Ids.{op_number, op_of, function_of, field_of};
+ghost use Rattle.ca_extent.specs.clauses.Reached.{calls_at};
+ghost use Rattle.ca_extent.specs.clauses.Targets.{written_at};
+ghost use Rattle.ca_extent.specs.clauses.Ids.{op_number, op_of, function_of, field_of};
 
 use crate::numbers::{Callees, add_all_numbers};
 use crate::reached::{body_at, reached};

@@ -4,6 +4,9 @@
 //! one over the value methods; `Extent::is_constant` tells whether a field keeps its value. Both equal
 //! their definitions in `ca_parallel`. `numbers` and `targets` read a body, `reached` is the work list, and
 //! `rising` puts what was found in order.
+//!
+//! The public clauses cite definitions of the crates below; what stands in `specs/clauses/` serves clauses within
+//! the crate alone.
 #![tactic(auto)]
 
 mod extent;

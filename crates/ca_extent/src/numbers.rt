@@ -2,7 +2,7 @@
 
 ghost use Rattle.std.specs.Prelude.{◌≡◌, ◌++◌, IfOk};
 ghost use Rattle.ca_program.specs.View.{expression_view, expressions_view, statement_view, statements_view};
-ghost use Rattle.ca_extent.specs.Numbers.{values_in, values_in_all, call_number, numbers_in, numbers_in_all, numbers_of, numbers_of_all};
+ghost use Rattle.ca_extent.specs.clauses.Numbers.{values_in, values_in_all, call_number, numbers_in, numbers_in_all, numbers_of, numbers_of_all};
 
 use ca_program::{Expr, OpId, Stmt, StmtForm};
 use std::alloc::AllocError;

@@ -3,7 +3,7 @@
 ghost use Rattle.std.specs.Prelude.{◌≡◌, ◌<◌, IfOk, length, map, slice_get};
 ghost use Rattle.ca_program.specs.View.{method_view, statements_view};
 ghost use Rattle.ca_meaning.specs.Functions.{body_of};
-ghost use Rattle.ca_extent.specs.Reached.{IsReached, Turn, calls_at};
+ghost use Rattle.ca_extent.specs.clauses.Reached.{IsReached, Turn, calls_at};
 
 use crate::numbers::{Callees, add_all_numbers};
 use crate::rising::rise;

@@ -3,7 +3,7 @@
 ghost use Rattle.std.specs.Prelude.{ℕ, Contains};
 ghost use Rattle.std.specs.List.Sorted.{IsStrictlyIncreasing};
 ghost use Rattle.ca_parallel.specs.ExtentsOf.{Rises};
-ghost use Rattle.ca_extent.specs.Rising.{PairBefore};
+ghost use Rattle.ca_extent.specs.clauses.Rising.{PairBefore};
 
 /// Puts numbers in order, each once.
 pub(crate) fn rise(numbers: &mut Vec<u32>)

@@ -2,7 +2,7 @@
 
 ghost use Rattle.std.specs.Prelude.{◌≡◌, ◌++◌, IfOk};
 ghost use Rattle.ca_program.specs.View.{statement_view, statements_view};
-ghost use Rattle.ca_extent.specs.Targets.{pair_of, written_by, written_by_all};
+ghost use Rattle.ca_extent.specs.clauses.Targets.{pair_of, written_by, written_by_all};
 
 use ca_program::{FieldId, Stmt, StmtForm};
 use std::alloc::AllocError;

@@ -7,7 +7,7 @@ use Rattle.ca_forms.specs.Lists.{polynomial_of}
 use Rattle.ca_forms.specs.Compare.{polynomial_cmp}
 use Rattle.ca_forms.specs.Arrays.{PlainRows}
 use Rattle.ca_forms.specs.ArrayRules.{row_if, row_at, joined_rows, put_row, put_row_at}
-use Rattle.ca_forms.specs.Places.{is_nothing}
+use Rattle.ca_forms.specs.clauses.Places.{is_nothing}
 use Rattle.ca_forms.proofs.Constants.{positive}
 
 pub is_none : (ps : List (PlainMonomial × ℕ)) → (length ps == 0) ≡ is_nothing (polynomial_of ps)

@@ -6,7 +6,7 @@ use Rattle.std.specs.List.Sorted.{IsStrictlySortedBy}
 use Rattle.std.specs.Map.{keys_of}
 use Rattle.ca_sums.specs.Sums.{Sum, total, Alike, scale, collect}
 use Rattle.ca_sums.specs.Products.{product}
-use Rattle.ca_sums.specs.Rows.{Rows, at_index, flat, InRows, NoEmpty}
+use Rattle.ca_sums.specs.clauses.Rows.{Rows, at_index, flat, InRows, NoEmpty}
 use Rattle.ca_sums.proofs.Algebra.{alike_refl, alike_eq, alike_sym, alike_trans, alike_add, total_append}
 use Rattle.ca_sums.proofs.Collect.{Gathered, gathered_collect}
 use Rattle.ca_sums.proofs.Rows.{total_at, rows_are}
@@ -17,7 +17,7 @@ use Rattle.ca_forms.specs.Products.{times}
 use Rattle.ca_forms.specs.Rules.{gathered}
 use Rattle.ca_forms.specs.Arrays.{PlainRows}
 use Rattle.ca_forms.specs.ArrayRules.{row_if, joined_rows, put_row_at, put_row, weighed, put_weighed}
-use Rattle.ca_forms.specs.Places.{is_nothing}
+use Rattle.ca_forms.specs.clauses.Places.{is_nothing}
 use Rattle.ca_forms.proofs.Exact.{monomials_exact, polynomials_exact, polynomial_same}
 use Rattle.ca_forms.proofs.Gathered.{products_polynomial, gathered_same_totals}
 

@@ -10,4 +10,4 @@ pub mod ArrayFalls
 pub mod Products
 pub mod Rules
 pub mod ArrayRules
-pub mod Places
+pub mod clauses

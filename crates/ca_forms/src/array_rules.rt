@@ -3,7 +3,7 @@
 ghost use Rattle.std.specs.Prelude.{◌≡◌, ◌≤◌, ◌<◌, ◌++◌, ℕ, suc, true, length, take, drop, IfOk};
 ghost use Rattle.ca_forms.specs.Arrays.{array_choice};
 ghost use Rattle.ca_forms.specs.ArrayRules.{row_if, row_at, joined_rows, put_row, put_weighed, rest_of, last_rows, summed, added_at, agree, chosen_rows, chosen_if, chosen_array};
-ghost use Rattle.ca_forms.specs.Places.{IsPlace, is_nothing};
+ghost use Rattle.ca_forms.specs.clauses.Places.{IsPlace, is_nothing};
 
 use crate::array::{Array, ArrayNode, Row, Rows, copy_rows};
 use crate::parts::{both, one_box};

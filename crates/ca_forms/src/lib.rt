@@ -1,6 +1,10 @@
 //! Normal forms as values: polynomials modulo 2^64 over atoms, comparisons, quotients, reads and results, for
 //! numbers and truth values, and the forms of pointers and arrays. They are built product by product in an
 //! ordered map, copied and compared. What a form is the form of, and what it means, stands in ca_norm.
+//!
+//! Whoever reads the public clauses must believe `ArrayFalls`, `ArrayRules`, `Arrays`, `ArraysSeen`, `Compare`,
+//! `Falls`, `Lists`, `Plain`, `Products`, `Rules`, `Seen` and `Trees` of `specs/`; what stands in `specs/clauses/`
+//! serves clauses within the crate alone.
 #![tactic(auto)]
 
 pub mod array;

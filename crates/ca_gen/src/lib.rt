@@ -3,6 +3,8 @@
 //! `generated_text` gives the text of `specs/Generated.antt`: a table of nodes, each linked to two nodes
 //! that a seed gives, and a visit of all that the first node reaches. `ca_gen_laws` says that the text is
 //! accepted, and that its run ends.
+//!
+//! Whoever reads the public clauses must believe `Generated` of `specs/`.
 #![tactic(auto)]
 
 ghost use Rattle.std.specs.Prelude.{◌≡◌, ◌<◌, ◌≤◌, ◌++◌, decimal, IfOk};

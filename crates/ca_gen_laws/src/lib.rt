@@ -7,6 +7,8 @@
 //! visited. The places of the tokens are whatever they are: the proofs ask nothing of them.
 //!
 //! The crate has no code: a caller calls a function for its clause. The lemmas are in `proofs/`.
+//!
+//! Whoever reads the public clauses must believe `Runs` of `specs/`.
 #![tactic(auto)]
 
 pub mod laws;

@@ -4,7 +4,7 @@ ghost use Rattle.std.specs.Prelude.{◌≡◌, ◌<◌, ◌≤◌, ◌^◌, ℕ,
 ghost use Rattle.std.specs.Char.{is_ascii_digit};
 ghost use Rattle.ca_lex.specs.Bytes.{value_of};
 ghost use Rattle.ca_lex.specs.Pieces.{close_len, closes, number_piece, piece_of, sign_piece, slash_piece, word_piece};
-ghost use Rattle.ca_lex.specs.Fronts.{piece_at};
+ghost use Rattle.ca_lex.specs.clauses.Fronts.{piece_at};
 
 use crate::bytes::{digits_len, is_blank, is_letter, line_len, name_len};
 use ca_tree::{Keyword, Kind, Name, Sign};

@@ -8,6 +8,9 @@
 //!
 //! `end_place` is where a text is refused that ends too early. The laws say that a text has one list
 //! of tokens or one refusal and not both, and that each token is the longest that may stand there.
+//!
+//! Whoever reads the public clauses must believe `Bytes`, `Faults`, `Pieces`, `Places` and `Tokens` of `specs/`;
+//! what stands in `specs/clauses/` serves clauses within the crate alone.
 #![tactic(auto)]
 
 mod bytes;

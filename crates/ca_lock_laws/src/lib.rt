@@ -8,6 +8,8 @@
 //!
 //! `Resolves` says which statement of a program stands for which of its text, and `Sites` which calls and loops the two have:
 //! the same ones. That a program does stand for its tree is the law of `ca_shape_laws`.
+//!
+//! Whoever reads the public clauses must believe each file of `specs/`.
 #![tactic(auto)]
 
 pub mod laws;

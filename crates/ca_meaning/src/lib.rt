@@ -9,6 +9,8 @@
 //! The code is what every evaluator shares: the operators on two values, on one, and in assignments.
 //! `laws` has the equations of calls and loops, in which no bound on their nesting occurs, and that tests tell
 //! multisets apart.
+//!
+//! Whoever reads the public clauses must believe each file of `specs/`.
 #![tactic(auto)]
 
 pub mod arithmetic;

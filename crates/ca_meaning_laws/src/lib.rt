@@ -8,6 +8,8 @@
 //! makes are well typed; so do sections with their object and their list.
 //! The lemmas behind them are in `proofs/`: `Steady` and `Bigs` for budgets, `Values` and on for types;
 //! `Examples` has runs that show what the premises on types are for.
+//!
+//! Whoever reads the public clauses must believe each file of `specs/`.
 #![tactic(auto)]
 
 pub mod budgets;

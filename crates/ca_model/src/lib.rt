@@ -6,6 +6,8 @@
 //! for what a heap holds and how it changes, `Typed` for heaps in which each slot has its field's
 //! type, `Texts` for the bytes that are written. They speak of plain programs (`ca_program`) and plain
 //! lists of objects alone. What a program does with a heap is told by the crates above.
+//!
+//! Whoever reads the public clauses must believe each file of `specs/`.
 #![tactic(auto)]
 
 mod copies;

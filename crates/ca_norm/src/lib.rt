@@ -9,6 +9,8 @@
 //!
 //! The laws say that a form means what its term means, and that terms of equal formal polynomials
 //! have equal forms: so equal forms are equal values, and `same` finds each equation of sums and products.
+//!
+//! Whoever reads the public clauses must believe each file of `specs/`.
 #![tactic(auto)]
 
 pub mod gather;

@@ -6,6 +6,8 @@
 //! the run is the serial one. So a machine that hands calls on carries no types of its own: what it hands on stands in
 //! the list. Each law is the contract of a public function of `laws` with an empty body. The proof, in `proofs/`, goes
 //! through the run as that of types of ca_meaning_laws does, with "all notes are good" as part of the good state.
+//!
+//! Whoever reads the public clauses must believe each file of `specs/`.
 #![tactic(auto)]
 
 pub mod laws;

@@ -10,6 +10,8 @@
 //! section and its list, and back), `Weights` to `DepthFirst` (the machine), `Setting` (sections as its steps).
 //! `Examples` has an extent of three operations that run in two orders, a loop of calls in `main`, and two calls that
 //! don't commute; `IllTyped` a program that is not typed, where all else holds and two orders have two ends.
+//!
+//! Whoever reads the public clauses must believe each file of `specs/`.
 #![tactic(auto)]
 
 pub mod laws;

@@ -9,6 +9,8 @@
 //! `laws` has what follows from the definitions alone: of extents within others, of marks, of notes and of prints.
 //! Worked examples in `proofs/` show for each cause a body, a loop or a mark that it rules out, a whole program with
 //! its extents and a sound mark, and what a small run hands on.
+//!
+//! Whoever reads the public clauses must believe each file of `specs/`.
 #![tactic(auto)]
 
 mod copies;

@@ -5,7 +5,7 @@ use Rattle.ca_descent.proofs.Exact.{same_self, sees_got, sees_head}
 use Rattle.ca_descent.proofs.Parts.{Upto, upto, Done, done}
 use Rattle.ca_tree.specs.declared.token.Token.{Token}
 use Rattle.ca_parse.specs.Grammar.{Deriving, Lines, lines_end, lines_and, One, one}
-use Rattle.ca_parse.specs.Closed.{Picked}
+use Rattle.ca_parse.specs.clauses.Closed.{Picked}
 use Rattle.ca_parse.proofs.Lines.{Closing}
 
 -- whatever the limits, C derives x from these tokens and leaves r, and nothing else

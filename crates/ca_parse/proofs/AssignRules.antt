@@ -22,7 +22,7 @@ use Rattle.ca_expressions.proofs.Terminals.{key_gives, sign_gives, name_gives, w
 use Rattle.ca_parse.proofs.Uses.{a_picked}
 use Rattle.ca_parse.proofs.Alone.{Alone, fewer_alone}
 use Rattle.ca_parse.specs.Grammar.{Deriving, TypeName, long, bool, pointer, Right, expression, creation, creation_call, Local, declares, begins, Compound, plus_assign, minus_assign, times_assign, Change, puts, changes, increments, decrements, Assign, assigns, AssignLine, assign_line, first_place}
-use Rattle.ca_parse.specs.Closed.{RightClosed, ChangeClosed, AssignClosed, AssignTo, assign_to, AssignToClosed, target_of}
+use Rattle.ca_parse.specs.clauses.Closed.{RightClosed, ChangeClosed, AssignClosed, AssignTo, assign_to, AssignToClosed, target_of}
 
 -- behind the token stands nothing that goes on with an expression
 pub ended_sign : (k : Sign) {s r : List Token} {p : Place} → Sees (sign k) s p r → ((at : Place) → goes_on_of 0 (SignKind k) at ≡ None) → head_of (goes_on 0) s ≡ None

@@ -24,7 +24,7 @@ use Rattle.ca_expressions.specs.declared.tokens.Fault.{Fault}
 use Rattle.std.specs.Borrow.{Bor}
 use Rattle.std.specs.Prelude.{Result, Ok, Err, IfOk}
 use Rattle.ca_parse.specs.Grammar.{Deriving, TypeName, long, bool, pointer, Local, declares, begins, Change, puts, changes, increments, decrements, Compound, plus_assign, minus_assign, times_assign, assigns, AssignLine, assign_line, First, first_local, first_assign, Stmt, nothing, a_block, an_assign, a_call, an_if, an_if_else, a_while, a_for, a_return, a_print, Item, a_local, a_statement, is_open, statements, first_place}
-use Rattle.ca_parse.specs.Closed.{assign_to, Use, calling, putting, use_by, use_of, Used, called, put, StmtClosed, ItemClosed, ReturnRest, return_rest, PrintRest, print_rest, Simple, simple_call, simple_put}
+use Rattle.ca_parse.specs.clauses.Closed.{assign_to, Use, calling, putting, use_by, use_of, Used, called, put, StmtClosed, ItemClosed, ReturnRest, return_rest, PrintRest, print_rest, Simple, simple_call, simple_put}
 use Rattle.ca_parse.proofs.Uses.{a_picked}
 use Rattle.ca_parse.proofs.Locals.{LocalOr, a_local as or_local, another, Other}
 use Rattle.ca_parse.proofs.AssignRules.{put_to, ended_sign, change_ended}

@@ -14,7 +14,7 @@ use Rattle.ca_tree.specs.Plain.{Statement}
 use Rattle.ca_expressions.specs.Terminals.{key, sign, name, name_of}
 use Rattle.ca_expressions.proofs.Terminals.{token, key_gives}
 use Rattle.ca_parse.specs.Grammar.{Deriving, TypeName, long, bool, pointer, Local, declares, begins}
-use Rattle.ca_parse.specs.Closed.{is_local}
+use Rattle.ca_parse.specs.clauses.Closed.{is_local}
 
 -- a grammar behind its first token: some tokens derive something from that token on, and nothing is derived from no tokens
 pub record From {A : Type 0} (t : Token) (D C : Deriving A) : Type 0 where

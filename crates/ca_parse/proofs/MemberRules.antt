@@ -16,7 +16,7 @@ use Rattle.ca_tree.specs.Plain.{Statement, MemberTree, ClassTree, field_member, 
 use Rattle.ca_expressions.specs.Terminals.{key, key_of, sign, sign_of}
 use Rattle.ca_expressions.proofs.Terminals.{token, start, key_gives, sign_gives, name_gives, word, mark, a_name, a_number, sign_sees}
 use Rattle.ca_parse.specs.Grammar.{Lines, lines_end, Listed, Param, param, Signature, signature, Length, scalar, array, is_pointer, Further, further_plain, further_pointer, Member, fields, operation, value_method, Declaration, forward, a_class, statements}
-use Rattle.ca_parse.specs.Closed.{LengthClosed, Named, named_field, NamedClosed, FurtherClosed, MethodOf, method_of, MemberRest, method_rest, field_rest, DeclarationRest, forward_rest, class_rest}
+use Rattle.ca_parse.specs.clauses.Closed.{LengthClosed, Named, named_field, NamedClosed, FurtherClosed, MethodOf, method_of, MemberRest, method_rest, field_rest, DeclarationRest, forward_rest, class_rest}
 use Rattle.ca_parse.proofs.Alone.{Alone, fewer_alone}
 use Rattle.ca_parse.proofs.Lines.{Closing}
 use Rattle.ca_parse.proofs.AssignRules.{a_type}

@@ -19,7 +19,7 @@ use Rattle.ca_expressions.specs.Terminals.{key, key_of, sign, sign_of, goes_on, 
 use Rattle.ca_expressions.specs.Grammar.{OuterChain}
 use Rattle.ca_expressions.proofs.Terminals.{sign_gives, name_gives}
 use Rattle.ca_parse.specs.Grammar.{Deriving, TypeName, long, bool, pointer, Right, expression, creation, creation_call, Local, declares, begins, Compound, plus_assign, minus_assign, times_assign, Change, puts, changes, increments, decrements, Assign, assigns, AssignLine, assign_line, First, first_local, first_assign, Stmt, nothing, a_block, an_assign, a_call, an_if, an_if_else, a_while, a_for, a_return, a_print, Item, a_local, a_statement, Items, items_end, items_and, Lines, One, one, Param, param, Signature, signature, Length, scalar, array, Further, further_plain, further_pointer, Member, fields, operation, value_method, Declaration, forward, a_class, read, is_return_zero, MainItem, kept, Program, program, is_open, first_place, DerivesFree}
-use Rattle.ca_parse.specs.Closed.{RightClosed, ChangeClosed, AssignClosed, StmtClosed, ItemClosed, LengthClosed, Condition, condition, Otherwise, with_else, without, OtherwiseClosed, Simple, simple_call, simple_put, calling, putting, Used, called, put, AssignToClosed, Named, NamedClosed, named_field, FurtherClosed, MainItemClosed, main_closed, MainBody}
+use Rattle.ca_parse.specs.clauses.Closed.{RightClosed, ChangeClosed, AssignClosed, StmtClosed, ItemClosed, LengthClosed, Condition, condition, Otherwise, with_else, without, OtherwiseClosed, Simple, simple_call, simple_put, calling, putting, Used, called, put, AssignToClosed, Named, NamedClosed, named_field, FurtherClosed, MainItemClosed, main_closed, MainBody}
 use Rattle.ca_parse.proofs.Alone.{Alone, exact_alone, sees_alone, then_alone, done_alone, fewer_alone, picked_alone, lines_alone, one_alone}
 use Rattle.ca_parse.proofs.OneExpression.{expression_alone as value_alone, chain_alone as target_alone}
 use Rattle.ca_parse.proofs.Locals.{TypeFront, front_long, front_bool, front_name, local_front, LocalOr, a_local as or_local, another, Other}

@@ -10,7 +10,7 @@ use Rattle.ca_tree.specs.declared.token.Sign.TheVariants.{Semicolon}
 use Rattle.ca_expressions.proofs.Terminals.{mark}
 use Rattle.ca_expressions.specs.Readers.{answer}
 use Rattle.ca_expressions.specs.declared.tokens.Fault.{Fault}
-use Rattle.ca_parse.specs.Closed.{Ended, semicolon}
+use Rattle.ca_parse.specs.clauses.Closed.{Ended, semicolon}
 
 -- the parts of a rule that only has its `;` left, where x is its tree
 abbrev pub last : {A : Type 0} → A → Part Token A

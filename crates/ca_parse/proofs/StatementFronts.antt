@@ -17,7 +17,7 @@ use Rattle.ca_expressions.specs.Terminals.{key, key_of, sign, sign_of}
 use Rattle.ca_expressions.specs.Grammar.{OuterChain}
 use Rattle.ca_expressions.proofs.Terminals.{test, token, start, key_gives, sign_gives, name_gives}
 use Rattle.ca_parse.specs.Grammar.{Deriving, TypeName, long, bool, pointer, Local, declares, begins, assigns, AssignLine, assign_line, Stmt, nothing, a_block, an_assign, a_call, an_if, an_if_else, a_while, a_for, a_return, a_print, Item, a_local, a_statement, Items, items_end, items_and, Lines, lines_end, lines_and, One, one, is_open}
-use Rattle.ca_parse.specs.Closed.{Shut, StmtClosed, ItemClosed}
+use Rattle.ca_parse.specs.clauses.Closed.{Shut, StmtClosed, ItemClosed}
 use Rattle.ca_parse.proofs.Lines.{Closing}
 use Rattle.ca_expressions.proofs.Outer.{outer_chain_begins}
 

@@ -13,7 +13,7 @@ use Rattle.ca_expressions.specs.Terminals.{key, key_of, sign, sign_of}
 use Rattle.ca_expressions.proofs.Terminals.{token, key_gives, sign_gives, word, mark}
 use Rattle.ca_parse.specs.declared.statements.TheConstants.{DEEPEST}
 use Rattle.ca_parse.specs.Grammar.{First, first_assign, Nested, Stmt, nothing, a_block, an_assign, a_call, an_if, an_if_else, a_while, a_for, a_return, a_print, Items, items_end, is_open, statements}
-use Rattle.ca_parse.specs.Closed.{StmtClosed, Otherwise, with_else, without, OtherwiseClosed, Condition, condition, ReturnRest, return_rest, PrintRest, print_rest, IfRest, if_rest, IfRestClosed, WhileRest, while_rest, WhileRestClosed, ForRest, for_rest, ForRestClosed, is_nested}
+use Rattle.ca_parse.specs.clauses.Closed.{StmtClosed, Otherwise, with_else, without, OtherwiseClosed, Condition, condition, ReturnRest, return_rest, PrintRest, print_rest, IfRest, if_rest, IfRestClosed, WhileRest, while_rest, WhileRestClosed, ForRest, for_rest, ForRestClosed, is_nested}
 use Rattle.ca_parse.proofs.Alone.{Alone, fewer_alone}
 use Rattle.ca_expressions.proofs.Outer.{an_expression}
 use Rattle.ca_parse.proofs.AssignRules.{an_assign as assign_part, ended_sign, assign_line_parts, assign_line_join}

@@ -20,7 +20,7 @@ use Rattle.ca_tree.specs.Plain.{Statement, TextTree}
 use Rattle.ca_expressions.specs.Terminals.{key, sign, number, number_of, zero, zero_of}
 use Rattle.ca_expressions.proofs.Terminals.{token, word, mark}
 use Rattle.ca_parse.specs.Grammar.{Item, Lines, lines_end, One, read, is_return_zero, MainItem, main_item, kept, Program, program, statements}
-use Rattle.ca_parse.specs.Closed.{ItemClosed, MainBody, main_body, MainItemClosed, main_closed}
+use Rattle.ca_parse.specs.clauses.Closed.{ItemClosed, MainBody, main_body, MainItemClosed, main_closed}
 use Rattle.ca_parse.proofs.Alone.{Alone, fewer_alone}
 use Rattle.ca_parse.proofs.Lines.{Closing, one_answer, Loop, loop_more, loop_failed, loop_end, loop_unclosed}
 use Rattle.ca_parse.proofs.StatementFronts.{item_not_else, item_not_close, no_else, one_lines}

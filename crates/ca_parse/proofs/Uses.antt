@@ -11,7 +11,7 @@ use Rattle.ca_tree.specs.declared.token.Sign.TheVariants.{Arrow}
 use Rattle.ca_tree.specs.Plain.{Expression, named, field}
 use Rattle.ca_expressions.specs.Grammar.{Chain, this_chain, name_chain, call_chain, Tails, tails_end, tails_more, Tail, field_tail, OuterChain, ChainEnded}
 use Rattle.ca_expressions.proofs.Terminals.{token, start}
-use Rattle.ca_parse.specs.Closed.{Picked}
+use Rattle.ca_parse.specs.clauses.Closed.{Picked}
 
 -- a chain of which pick takes something, if it takes something of a name
 abbrev pub a_picked : {B : Type 0} (pick : Expression → Option B) {b : B} → pick (named start []) ≡ Some b → Part Token B

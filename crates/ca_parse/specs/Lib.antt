@@ -1,2 +1,2 @@
 pub mod Grammar
-pub mod Closed
+pub mod clauses

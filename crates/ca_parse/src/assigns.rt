@@ -6,7 +6,7 @@ ghost use Rattle.ca_descent.specs.Exact.{Exact, Unlimited};
 ghost use Rattle.ca_tree.specs.View.{expression_view, right_view, statement_view};
 ghost use Rattle.ca_expressions.specs.Readers.{answer};
 ghost use Rattle.ca_parse.specs.Grammar.{Right as RightSide, Local, Compound, Change, Assign, AssignLine, First, first_place as first_place_of};
-ghost use Rattle.ca_parse.specs.Closed.{RightClosed, ChangeClosed, AssignClosed, AssignTo, AssignToClosed};
+ghost use Rattle.ca_parse.specs.clauses.Closed.{RightClosed, ChangeClosed, AssignClosed, AssignTo, AssignToClosed};
 
 use crate::endings::ended;
 use crate::types::{begins_local, parse_type};

@@ -2,7 +2,7 @@
 
 ghost use Rattle.ca_descent.specs.Exact.{Exact};
 ghost use Rattle.ca_expressions.specs.Readers.{answer};
-ghost use Rattle.ca_parse.specs.Closed.{Ended};
+ghost use Rattle.ca_parse.specs.clauses.Closed.{Ended};
 
 use ca_expressions::{Fault, take_sign};
 use ca_tree::{Sign, Token};

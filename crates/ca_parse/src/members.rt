@@ -7,7 +7,7 @@ ghost use Rattle.ca_tree.specs.View.{member_view, statement_view};
 ghost use Rattle.ca_expressions.specs.Terminals.{sign};
 ghost use Rattle.ca_expressions.specs.Readers.{answer};
 ghost use Rattle.ca_parse.specs.Grammar.{Param, Listed, Signature, Length, Further, Member as MemberRule, Lines};
-ghost use Rattle.ca_parse.specs.Closed.{LengthClosed, Named, NamedClosed, FurtherClosed, MethodOf, MemberRest};
+ghost use Rattle.ca_parse.specs.clauses.Closed.{LengthClosed, Named, NamedClosed, FurtherClosed, MethodOf, MemberRest};
 
 use crate::statements::parse_items;
 use crate::types::{copy_type, is_pointer, parse_type};

@@ -8,7 +8,7 @@ ghost use Rattle.ca_tree.specs.View.{expression_view, statement_view};
 ghost use Rattle.ca_expressions.specs.Terminals.{key};
 ghost use Rattle.ca_expressions.specs.Readers.{answer};
 ghost use Rattle.ca_parse.specs.Grammar.{Stmt, Item, Items, is_open};
-ghost use Rattle.ca_parse.specs.Closed.{StmtClosed, ItemClosed, Condition, IfRest, IfRestClosed, WhileRest, WhileRestClosed, ForRest, ForRestClosed, ReturnRest, PrintRest, Simple, is_nested};
+ghost use Rattle.ca_parse.specs.clauses.Closed.{StmtClosed, ItemClosed, Condition, IfRest, IfRestClosed, WhileRest, WhileRestClosed, ForRest, ForRestClosed, ReturnRest, PrintRest, Simple, is_nested};
 
 use crate::assigns::{first_place, parse_assign, parse_assign_to, parse_first, parse_local};
 use crate::endings::ended;

@@ -3,7 +3,7 @@
 ghost use Rattle.std.specs.Prelude.{◌≡◌, IfOk};
 ghost use Rattle.ca_descent.specs.Exact.{Exact};
 ghost use Rattle.ca_parse.specs.Grammar.{TypeName, is_pointer as is_pointer_type};
-ghost use Rattle.ca_parse.specs.Closed.{is_local};
+ghost use Rattle.ca_parse.specs.clauses.Closed.{is_local};
 ghost use Rattle.ca_expressions.specs.Readers.{answer};
 
 use ca_expressions::{Fault, is_key, is_name, is_sign, key_at, take_name, take_sign};

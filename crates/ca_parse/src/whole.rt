@@ -9,7 +9,7 @@ ghost use Rattle.ca_tree.specs.View.{class_view, statement_view, tree_view};
 ghost use Rattle.ca_expressions.specs.Terminals.{key};
 ghost use Rattle.ca_expressions.specs.Readers.{answer};
 ghost use Rattle.ca_parse.specs.Grammar.{Declaration, Lines, Program, DerivesFree, Derives, DerivesWithin, read, is_return_zero as ends_main};
-ghost use Rattle.ca_parse.specs.Closed.{DeclarationRest, MainBody};
+ghost use Rattle.ca_parse.specs.clauses.Closed.{DeclarationRest, MainBody};
 
 use crate::members::parse_members;
 use crate::statements::parse_item;

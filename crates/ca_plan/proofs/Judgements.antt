@@ -9,7 +9,7 @@ use Rattle.ca_program.specs.declared.program.Stmt.{Stmt}
 use Rattle.ca_program.specs.Plain.{PlainProgram, Statement}
 use Rattle.ca_program.specs.View.{statement_view}
 use Rattle.ca_model.proofs.Stores.{found}
-use Rattle.ca_plan.specs.Loops.{seen}
+use Rattle.ca_plan.specs.clauses.Loops.{seen}
 use Rattle.ca_plan.specs.Plans.{Judged, JudgedLoop, IsJudgedLoop}
 use Rattle.ca_plan.specs.Told.{JudgedOp, WhollyTold, shared}
 

@@ -1,7 +1,7 @@
 pub mod Checked
 pub mod Codes
-pub mod Loops
 pub mod Pairs
 pub mod Plans
 pub mod Texts
 pub mod Told
+pub mod clauses

@@ -4,7 +4,7 @@ ghost use Rattle.std.specs.Prelude.{◌≡◌, [], ◌∷◌, ◌++◌, IfOk};
 ghost use Rattle.ca_program.specs.View.{statement_view, statements_view, program_view};
 ghost use Rattle.ca_parallel.specs.Bodies.{calls_of, calls_of_all, fors_in, fors_in_all};
 ghost use Rattle.ca_plan.specs.Plans.{call_loops, call_loops_of};
-ghost use Rattle.ca_plan.specs.Loops.{seen};
+ghost use Rattle.ca_plan.specs.clauses.Loops.{seen};
 
 use ca_base::Memory;
 use ca_program::{OpId, Program, Stmt, StmtForm};

@@ -7,7 +7,7 @@ ghost use Rattle.ca_parallel.specs.ExtentsOf.{ExtentOf};
 ghost use Rattle.ca_parallel.specs.Marks.{HasSite};
 ghost use Rattle.ca_symbolic.specs.OtherLoops.{is_call_loop};
 ghost use Rattle.ca_plan.specs.Plans.{Judged as PlainJudged, JudgedLoop as PlainLoop, IsJudgedLoop, op_at};
-ghost use Rattle.ca_plan.specs.Loops.{seen};
+ghost use Rattle.ca_plan.specs.clauses.Loops.{seen};
 ghost use Rattle.ca_plan.specs.Told.{AllWhollyTold, JudgedOp, shared, WhollyTold};
 
 use crate::calls::add_calls;

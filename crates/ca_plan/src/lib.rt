@@ -2,6 +2,9 @@
 //!
 //! `specs/Plans.antt` says what the plan of a program is: for each operation and each call loop the extent with the
 //! verdicts on its pairs (`specs/Pairs.antt`), and the marks. `specs/Texts.antt` has what `pairs` and `plan` write of it.
+//!
+//! Whoever reads the public clauses must believe `Checked`, `Codes`, `Pairs`, `Plans`, `Texts` and `Told` of
+//! `specs/`; what stands in `specs/clauses/` serves clauses within the crate alone.
 #![tactic(auto)]
 
 mod calls;

@@ -9,7 +9,7 @@ ghost use Rattle.ca_parallel.specs.Bodies.{calls_of_all};
 ghost use Rattle.ca_parallel.specs.Extents.{operation_body};
 ghost use Rattle.ca_parallel.specs.ExtentsOf.{Rises, OpBefore};
 ghost use Rattle.ca_parallel.specs.Separable.{IsSeparated};
-ghost use Rattle.ca_plan.specs.Loops.{seen};
+ghost use Rattle.ca_plan.specs.clauses.Loops.{seen};
 ghost use Rattle.ca_plan.specs.Plans.{LoopBefore};
 ghost use Rattle.ca_plan.specs.Told.{AllCommute, CommutingOp, CommutingLoop, Noted, loop_of, shared};
 ghost use Rattle.ca_verdicts.specs.declared.verdicts.Verdict.TheVariants.{Commutes};

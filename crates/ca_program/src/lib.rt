@@ -5,6 +5,8 @@
 //! `for` statements are numbered in source order, and parameters are the first locals.
 //! `specs/Plain.antt` has the program as numbers, variants and lists, which is what definitions
 //! speak of, and `specs/View.antt` the one function from a program in memory to it.
+//!
+//! Whoever reads the public clauses must believe each file of `specs/`.
 #![tactic(auto)]
 
 pub mod program;

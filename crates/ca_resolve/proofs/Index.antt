@@ -10,7 +10,7 @@ use Rattle.std.specs.Cmp.Lexicographic.{slice_cmp}
 use Rattle.std.specs.BTreeMap.{BTreeMap, get_by, UpdatesBy}
 use Rattle.std.proofs.lemmas.Slice.Eq.{bytes_eq-Decides}
 use Rattle.ca_resolve.specs.Scopes.{number_of}
-use Rattle.ca_resolve.specs.Index.{IsIndex}
+use Rattle.ca_resolve.specs.clauses.Index.{IsIndex}
 
 abbrev or_else : Option ℕ → Option ℕ → Option ℕ
 or_else None y = y

@@ -13,7 +13,7 @@ use Rattle.std.proofs.lemmas.Slice.Eq.{bytes_eq-Decides}
 use Rattle.ca_resolve.specs.declared.locals.Shadow.{Shadow}
 use Rattle.ca_resolve.specs.Scopes.{VisibleLocal, same_name, find_local}
 use Rattle.ca_resolve.specs.LocalView.{local_view}
-use Rattle.ca_resolve.specs.Shadows.{depth_of, hidden_by, innermost_first, hides_first, FindsLocals}
+use Rattle.ca_resolve.specs.clauses.Shadows.{depth_of, hidden_by, innermost_first, hides_first, FindsLocals}
 
 pub one_inside : (ss : List Shadow) (s : Shadow) → innermost_first (ss ++ s ∷ []) ≡ local_view s.local ∷ innermost_first ss
 one_inside [] s = refl

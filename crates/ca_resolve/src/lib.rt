@@ -8,6 +8,9 @@
 //! `specs/Judged.antt`. `both`, `and_one` and `lesser` join answers as the definitions join what
 //! is judged, so that no walk stops at its first violation. Classes and members are found in a
 //! time that grows as the logarithm of their number.
+//!
+//! Whoever reads the public clauses must believe `Judged`, `LocalView`, `Rules`, `Scopes`, `Values` and `View` of
+//! `specs/`; what stands in `specs/clauses/` serves clauses within the crate alone.
 #![tactic(auto)]
 
 mod calls;

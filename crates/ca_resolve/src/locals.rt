@@ -40,7 +40,7 @@ impl<'a> Model for Locals<'a> {
 
     ghost Value = { List PlainLocal };
 
-    ghost use Rattle.ca_resolve.specs.Shadows.{innermost_first, FindsLocals};
+    ghost use Rattle.ca_resolve.specs.clauses.Shadows.{innermost_first, FindsLocals};
 
     ghost view = { λ s. innermost_first s.all.items };
 

@@ -20,7 +20,7 @@ impl<'a> Model for Names<'a> {
 
     ghost Value = { List (List ℕ) };
 
-    ghost use Rattle.ca_resolve.specs.Index.{IsIndex};
+    ghost use Rattle.ca_resolve.specs.clauses.Index.{IsIndex};
 
     ghost view = { λ s. map (λ n. n.now) s.all.items };
 

@@ -11,6 +11,8 @@
 //! clause is a run of the pending machine, from where it began to where it ended, of as many operations as its limit says,
 //! or of fewer where none waits any more.
 //! `specs/Beside.antt` says what heap the changed objects stand for, `specs/Rounds.antt` what a round leaves.
+//!
+//! Whoever reads the public clauses must believe each file of `specs/`.
 #![tactic(auto)]
 
 mod beside;

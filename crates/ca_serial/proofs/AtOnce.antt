@@ -20,7 +20,7 @@ use Rattle.ca_serial.specs.declared.work.Work.{Work}
 use Rattle.ca_serial.specs.declared.work.Work.TheVariants.{Exec, Seq, Again}
 use Rattle.ca_serial.specs.declared.work.Left.{Left}
 use Rattle.ca_serial.specs.declared.work.Taker.TheVariants.{Turn}
-use Rattle.ca_serial.specs.Resume.{Past, rest_of, going_on, does_before, all_before, world_of, AtOnce, Puts, pieces, takes}
+use Rattle.ca_serial.specs.clauses.Resume.{Past, rest_of, going_on, does_before, all_before, world_of, AtOnce, Puts, pieces, takes}
 use Rattle.ca_serial.proofs.Steps.{line_is, list_runs, last_runs, none_run, block_runs, branch_of, if_runs, while_turn, for_turn}
 
 -- the first statement of a list was done at once

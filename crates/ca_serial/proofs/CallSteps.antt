@@ -30,8 +30,8 @@ use Rattle.ca_serial.specs.declared.work.Target.{Target}
 use Rattle.ca_serial.specs.declared.work.Target.TheVariants.{Function, Operation}
 use Rattle.ca_serial.specs.declared.work.Work.{Work}
 use Rattle.ca_serial.specs.declared.work.Work.TheVariants.{Seq, Leave}
-use Rattle.ca_serial.specs.Bodies.{Body, with_locals, marks_of}
-use Rattle.ca_serial.specs.Resume.{carried, runs, pop, taken, go_on, called, collected, resume, target_method, target_mode, others_in, Unheeded, heeding_parts}
+use Rattle.ca_serial.specs.clauses.Bodies.{Body, with_locals, marks_of}
+use Rattle.ca_serial.specs.clauses.Resume.{carried, runs, pop, taken, go_on, called, collected, resume, target_method, target_mode, others_in, Unheeded, heeding_parts}
 use Rattle.ca_serial.proofs.Flows.{with_then, with_same, go_on_with}
 
 -- the values that are taken from a stack

@@ -24,8 +24,8 @@ use Rattle.ca_serial.specs.declared.work.Work.{Work}
 use Rattle.ca_serial.specs.declared.work.Work.TheVariants.{Seq, Leave}
 use Rattle.ca_serial.specs.declared.work.Target.TheVariants.{Operation}
 use Rattle.ca_serial.specs.declared.machine.Machine.{Machine}
-use Rattle.ca_serial.specs.Bodies.{Body, marks_of}
-use Rattle.ca_serial.specs.Resume.{Past, and_note, world_of, go_on, resume, begins, call_of, note_of, runs_due, target_method, others_in}
+use Rattle.ca_serial.specs.clauses.Bodies.{Body, marks_of}
+use Rattle.ca_serial.specs.clauses.Resume.{Past, and_note, world_of, go_on, resume, begins, call_of, note_of, runs_due, target_method, others_in}
 use Rattle.ca_serial.proofs.Unmarked.{none_all}
 use Rattle.ca_serial.proofs.CallSteps.{taken_there, op_result, locals_are}
 use Rattle.ca_serial.proofs.Quiet.{run_is}

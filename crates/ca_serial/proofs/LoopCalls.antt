@@ -31,11 +31,11 @@ use Rattle.ca_serial.specs.declared.bodies.Mode.TheVariants.{InFunction, InOpera
 use Rattle.ca_serial.specs.declared.work.Work.{Work}
 use Rattle.ca_serial.specs.declared.work.Work.TheVariants.{Evaluate, Take, Collect, Exec, Seq, Again, Leave, Back, Heed}
 use Rattle.ca_serial.specs.declared.machine.Machine.{Machine}
-use Rattle.ca_serial.specs.Bodies.{Body, marks_of, heeded, with_locals, alone, heeding}
-use Rattle.ca_serial.specs.Marked.{site_in}
+use Rattle.ca_serial.specs.clauses.Bodies.{Body, marks_of, heeded, with_locals, alone, heeding}
+use Rattle.ca_serial.specs.clauses.Marked.{site_in}
 use Rattle.ca_serial.specs.Extents.{IsNotDone}
-use Rattle.ca_serial.specs.Loops.{is_marked, in_operation, heeds_loop, section_next, notes_of, notes_next, runs_alone}
-use Rattle.ca_serial.specs.Resume.{Past, and_notes, world_of, runs, going_on, rest_of, heeding_parts, resume, unwind, go_on, by_mode}
+use Rattle.ca_serial.specs.clauses.Loops.{is_marked, in_operation, heeds_loop, section_next, notes_of, notes_next, runs_alone}
+use Rattle.ca_serial.specs.clauses.Resume.{Past, and_notes, world_of, runs, going_on, rest_of, heeding_parts, resume, unwind, go_on, by_mode}
 use Rattle.ca_serial.proofs.DueCalls.{runs_in}
 use Rattle.ca_serial.proofs.Flows.{go_on_same}
 use Rattle.ca_serial.proofs.Quiet.{run_is}

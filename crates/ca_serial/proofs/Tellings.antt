@@ -31,9 +31,9 @@ use Rattle.ca_serial.specs.declared.answers.Look.{Look}
 use Rattle.ca_serial.specs.declared.answers.Look.TheVariants.{Gives as Shown, Passes, Stays}
 use Rattle.ca_serial.specs.declared.work.Work.{Work}
 use Rattle.ca_serial.specs.declared.work.Work.TheVariants.{Seq, Evaluate, Leave, Back}
-use Rattle.ca_serial.specs.Bodies.{Body, with_locals}
-use Rattle.ca_serial.specs.Answers.{OwnsSlots, runs_in, all_run_in, Shows, Tells, Told}
-use Rattle.ca_serial.specs.Resume.{carried, runs, runs_all, resume, unwind, by_mode, go_on}
+use Rattle.ca_serial.specs.clauses.Bodies.{Body, with_locals}
+use Rattle.ca_serial.specs.clauses.Answers.{OwnsSlots, runs_in, all_run_in, Shows, Tells, Told}
+use Rattle.ca_serial.specs.clauses.Resume.{carried, runs, runs_all, resume, unwind, by_mode, go_on}
 use Rattle.ca_serial.proofs.Flows.{carried_with, go_on_with}
 use Rattle.ca_serial.proofs.Steps.{list_runs, branch_of}
 

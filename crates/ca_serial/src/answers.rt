@@ -2,7 +2,7 @@
 
 ghost use Rattle.std.specs.Prelude.{◌≡◌};
 ghost use Rattle.ca_program.specs.View.{statement_view, statements_view};
-ghost use Rattle.ca_serial.specs.Answers.{Shows, Tells};
+ghost use Rattle.ca_serial.specs.clauses.Answers.{Shows, Tells};
 
 use crate::expressions::calls;
 use ca_direct::Scene;

@@ -6,7 +6,7 @@ ghost use Rattle.ca_program.specs.Plain.{put_local, put_field, put_item};
 ghost use Rattle.ca_model.specs.declared.value.Value.TheVariants.{Bool as Truth};
 ghost use Rattle.ca_meaning.specs.Expressions.{gives};
 ghost use Rattle.ca_meaning.specs.Functions.{value_in};
-ghost use Rattle.ca_serial.specs.Resume.{Past, rest_of, AtOnce, Puts, pieces};
+ghost use Rattle.ca_serial.specs.clauses.Resume.{Past, rest_of, AtOnce, Puts, pieces};
 
 use crate::bodies::Mode;
 use crate::machine::Machine;

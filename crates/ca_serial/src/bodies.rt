@@ -4,8 +4,8 @@ ghost use Rattle.std.specs.Prelude.{◌≡◌, ◌&&◌, [], ◌∷◌, ◌++◌
 ghost use Rattle.ca_model.specs.Slots.{start_of};
 ghost use Rattle.ca_meaning.specs.Expressions.{value_at};
 ghost use Rattle.ca_parallel.specs.Lists.{op_in};
-ghost use Rattle.ca_serial.specs.Marked.{site_in};
-ghost use Rattle.ca_serial.specs.Loops.{in_operation};
+ghost use Rattle.ca_serial.specs.clauses.Marked.{site_in};
+ghost use Rattle.ca_serial.specs.clauses.Loops.{in_operation};
 
 use crate::marked::Marked;
 use ca_base::Memory;
@@ -43,7 +43,7 @@ pub struct Bodies<'a> {
 
 impl<'a> Model for Bodies<'a> {
     ghost use Rattle.std.specs.Prelude.{reverse};
-    ghost use Rattle.ca_serial.specs.Bodies.{Nest, nest_of};
+    ghost use Rattle.ca_serial.specs.clauses.Bodies.{Nest, nest_of};
 
     ghost Value = { Nest };
 
@@ -51,7 +51,7 @@ impl<'a> Model for Bodies<'a> {
 }
 
 impl<'a> Bodies<'a> {
-    ghost use Rattle.ca_serial.specs.Bodies.{main_body, with_locals, alone, heeding, marks_of, Went};
+    ghost use Rattle.ca_serial.specs.clauses.Bodies.{main_body, with_locals, alone, heeding, marks_of, Went};
 
     /// The body of `main`, whose locals have these types, in a program of so many operations. It heeds these marks.
     pub fn new(

@@ -5,9 +5,9 @@ ghost use Rattle.ca_program.specs.View.{program_view, method_view, statements_vi
 ghost use Rattle.ca_model.specs.declared.value.Value.{Value as Datum};
 ghost use Rattle.ca_meaning.specs.Functions.{body_of};
 ghost use Rattle.ca_model.specs.Slots.{start_of};
-ghost use Rattle.ca_serial.specs.Resume.{Past, rest_of, back_of, unwound, handed_back, begins, after, target_method, target_mode, others_in, Handed};
-ghost use Rattle.ca_serial.specs.Answers.{Told};
-ghost use Rattle.ca_serial.specs.Bodies.{marks_of};
+ghost use Rattle.ca_serial.specs.clauses.Resume.{Past, rest_of, back_of, unwound, handed_back, begins, after, target_method, target_mode, others_in, Handed};
+ghost use Rattle.ca_serial.specs.clauses.Answers.{Told};
+ghost use Rattle.ca_serial.specs.clauses.Bodies.{marks_of};
 
 use crate::answers::{Answer, answer_of};
 use crate::bodies::Mode;

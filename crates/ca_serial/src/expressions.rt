@@ -4,7 +4,7 @@ ghost use Rattle.std.specs.Prelude.{◌≡◌, ◌∷◌, ℕ, IfOk};
 ghost use Rattle.ca_program.specs.View.{program_view, expression_view, expressions_view, statement_view, statements_view};
 ghost use Rattle.ca_program.specs.Plain.{value_call, binary};
 ghost use Rattle.ca_meaning.specs.Expressions.{decided};
-ghost use Rattle.ca_serial.specs.Resume.{Past, rest_of, takes, evaluates, after};
+ghost use Rattle.ca_serial.specs.clauses.Resume.{Past, rest_of, takes, evaluates, after};
 
 use crate::machine::{Machine, field_of};
 use crate::work::{Next, Taker, Target, Work};

@@ -5,7 +5,7 @@ ghost use Rattle.ca_program.specs.View.{program_view};
 ghost use Rattle.ca_meaning.specs.ProgramTyped.{ProgramTyped};
 ghost use Rattle.ca_parallel.specs.Calls.{invocations_of, operation_of};
 ghost use Rattle.ca_parallel.specs.Notes.{NoteGood};
-ghost use Rattle.ca_serial.specs.Resume.{Past, call_of, note_of, runs_due, after, next_of};
+ghost use Rattle.ca_serial.specs.clauses.Resume.{Past, call_of, note_of, runs_due, after, next_of};
 
 use crate::bodies::Mode;
 use crate::calls::body_of;

@@ -13,7 +13,10 @@
 //!
 //! Calls stand on a vector and expressions on an explicit stack, so that no depth of calls runs
 //! out of the machine's own stack, and no piece of work takes memory but where a stack grows.
-//! `specs/Resume.antt` says what a stack of work still means, which is the one clause of every step.
+//! `specs/clauses/Resume.antt` says what a stack of work still means, which is the one clause of every step.
+//!
+//! Whoever reads the public clauses must believe `Extents` and `Runs` of `specs/`; what stands in `specs/clauses/`
+//! serves clauses within the crate alone.
 #![tactic(auto)]
 
 mod answers;

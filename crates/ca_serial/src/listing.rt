@@ -7,8 +7,8 @@ ghost use Rattle.ca_meaning.specs.Serial.{Note};
 ghost use Rattle.ca_parallel.specs.Accounts.{HandedOn};
 ghost use Rattle.ca_parallel.specs.Notes.{NoteGood};
 ghost use Rattle.ca_note_laws.specs.Listing.{puts_nothing};
-ghost use Rattle.ca_serial.specs.Loops.{heeds_loop, section_next, notes_of, notes_next, runs_alone};
-ghost use Rattle.ca_serial.specs.Resume.{Past, and_notes, rest_of};
+ghost use Rattle.ca_serial.specs.clauses.Loops.{heeds_loop, section_next, notes_of, notes_next, runs_alone};
+ghost use Rattle.ca_serial.specs.clauses.Resume.{Past, and_notes, rest_of};
 
 use crate::extents::{ExtentAnswer, Extents};
 use crate::machine::Machine;

@@ -3,7 +3,7 @@
 ghost use Rattle.std.specs.Prelude.{◌≡◌, ◌∷◌, ℕ, IfOk, true};
 ghost use Rattle.ca_program.specs.View.{program_view, expression_view, expressions_view, statement_view, statements_view};
 ghost use Rattle.ca_model.specs.declared.value.Value.TheVariants.{Bool as Truth};
-ghost use Rattle.ca_serial.specs.Resume.{Past, rest_of, takes, loops, after, behind, pieces, Lessens, LeavesAsMany};
+ghost use Rattle.ca_serial.specs.clauses.Resume.{Past, rest_of, takes, loops, after, behind, pieces, Lessens, LeavesAsMany};
 
 use crate::machine::Machine;
 use crate::work::{Left, Next, Taker, Turn, Work};

@@ -10,7 +10,7 @@ ghost use Rattle.ca_meaning.specs.Serial.{put_own, serial, ended};
 ghost use Rattle.ca_meaning.specs.ProgramTyped.{ProgramTyped};
 ghost use Rattle.ca_parallel.specs.Lists.{world_after, lists};
 ghost use Rattle.ca_parallel.specs.Marks.{SoundMarks};
-ghost use Rattle.ca_serial.specs.Resume.{HasOwn};
+ghost use Rattle.ca_serial.specs.clauses.Resume.{HasOwn};
 ghost use Rattle.ca_serial.specs.declared.work.Next.TheVariants.{Trapped};
 
 use crate::bodies::Bodies;
@@ -39,7 +39,7 @@ pub struct Machine<'a> {
 }
 
 impl<'a> Machine<'a> {
-    ghost use Rattle.ca_serial.specs.Resume.{rest_of, looked_up, no_past, PassesPlaces};
+    ghost use Rattle.ca_serial.specs.clauses.Resume.{rest_of, looked_up, no_past, PassesPlaces};
 
     /// The machine before `main`, which heeds these marks.
     pub fn new(

@@ -2,7 +2,7 @@
 
 ghost use Rattle.std.specs.Prelude.{◌≡◌, IfOk};
 ghost use Rattle.ca_parallel.specs.Lists.{op_in};
-ghost use Rattle.ca_serial.specs.Marked.{FlagsOf, site_in};
+ghost use Rattle.ca_serial.specs.clauses.Marked.{FlagsOf, site_in};
 
 use ca_parallel::Marks;
 use ca_program::{LoopId, OpId};
@@ -18,7 +18,7 @@ pub struct Marked<'a> {
 
 impl<'a> Model for Marked<'a> {
     ghost use Rattle.ca_parallel.specs.Lists.{PlainMarks};
-    ghost use Rattle.ca_serial.specs.Marked.{FlagsOf};
+    ghost use Rattle.ca_serial.specs.clauses.Marked.{FlagsOf};
 
     ghost Value = { PlainMarks };
 

@@ -8,8 +8,8 @@ ghost use Rattle.ca_meaning.specs.Operators.{assigned};
 ghost use Rattle.ca_meaning.specs.Expressions.{one_in, items_in, indexed, value_at};
 ghost use Rattle.ca_meaning.specs.Functions.{own_of};
 ghost use Rattle.ca_meaning.specs.Serial.{put_own};
-ghost use Rattle.ca_serial.specs.Bodies.{with_locals};
-ghost use Rattle.ca_serial.specs.Resume.{Past, takes, does, after, looked_up, HasOwn, PassesPlaces};
+ghost use Rattle.ca_serial.specs.clauses.Bodies.{with_locals};
+ghost use Rattle.ca_serial.specs.clauses.Resume.{Past, takes, does, after, looked_up, HasOwn, PassesPlaces};
 
 use crate::bodies::Mode;
 use crate::expressions::calls;

@@ -3,7 +3,7 @@
 ghost use Rattle.std.specs.Prelude.{◌≡◌, ◌∷◌, ℕ, IfOk};
 ghost use Rattle.ca_program.specs.View.{program_view, expression_view, expressions_view, statement_view, statements_view};
 ghost use Rattle.ca_program.specs.Plain.{invoke, if_else, return_value, print_value};
-ghost use Rattle.ca_serial.specs.Resume.{Past, rest_of, takes, does, after};
+ghost use Rattle.ca_serial.specs.clauses.Resume.{Past, rest_of, takes, does, after};
 
 use crate::bodies::Mode;
 use crate::expressions::calls;

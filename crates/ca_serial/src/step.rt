@@ -2,7 +2,7 @@
 
 ghost use Rattle.std.specs.Prelude.{◌≡◌, ◌∷◌, ℕ, IfOk};
 ghost use Rattle.ca_program.specs.View.{program_view, expression_view, expressions_view, statement_view, statements_view};
-ghost use Rattle.ca_serial.specs.Resume.{Past, rest_of, takes, after};
+ghost use Rattle.ca_serial.specs.clauses.Resume.{Past, rest_of, takes, after};
 
 use crate::machine::Machine;
 use crate::work::{Next, Taker, Work};

@@ -3,6 +3,8 @@
 //! A `LightTerm` means a term of `ca_norm`. Each maker gives the term that its name says, and refuses exactly the one that
 //! is too heavy (`specs/Heavy.antt`). The normal form of a term, or its part as a number or as a polynomial, is that of
 //! the term with nothing shared.
+//!
+//! Whoever reads the public clauses must believe each file of `specs/`.
 #![tactic(auto)]
 
 mod errors;

@@ -2,7 +2,7 @@
 use Rattle.std.proofs.Common.{◌≡◌, ℕ, ◌+◌, ◌*◌, ◌^◌, ◌<◌, ◌≤◌, Bool, true, false, List, [], ◌∷◌, ◌++◌, length, ap, ◌∙◌, arith, Ordering}
 use Rattle.std.specs.Prelude.{◌&&◌}
 use Rattle.ca_sums.specs.Sums.{Sum, total, Alike, collect}
-use Rattle.ca_sums.specs.Rows.{at_index, pair_cmp, grouped, flat}
+use Rattle.ca_sums.specs.clauses.Rows.{at_index, pair_cmp, grouped, flat}
 use Rattle.ca_sums.proofs.Algebra.{alike_refl, alike_eq, alike_sym, alike_trans, alike_add, alike_mul, total_append}
 use Rattle.ca_sums.proofs.Collect.{Exact, total_collect}
 use Rattle.ca_sums.proofs.Rows.{pair_exact, total_grouped}

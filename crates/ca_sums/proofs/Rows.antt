@@ -7,7 +7,7 @@ use Rattle.std.specs.List.Sorted.{IsStrictlySortedBy}
 use Rattle.std.specs.Map.{keys_of}
 use Rattle.std.proofs.lemmas.Cmp.{tied_itself}
 use Rattle.ca_sums.specs.Sums.{Sum, total, Alike, NoZero, collect}
-use Rattle.ca_sums.specs.Rows.{Rows, at_index, flat, pair_cmp, joins, before, grouped, InRows}
+use Rattle.ca_sums.specs.clauses.Rows.{Rows, at_index, flat, pair_cmp, joins, before, grouped, InRows}
 use Rattle.ca_sums.proofs.Algebra.{alike_sym, alike_trans}
 use Rattle.ca_sums.proofs.Collect.{Exact, Gathered, Above, SameCoefficients, gathered_same, gathered_collect, total_collect}
 

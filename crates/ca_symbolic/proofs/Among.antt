@@ -11,7 +11,7 @@ use Rattle.ca_parallel.specs.Bodies.{targets_of, listed, expressions_of, express
 use Rattle.ca_parallel.specs.Scoped.{names, any_names}
 use Rattle.ca_symbolic.specs.Execution.{puts_local, any_puts_local, field_target, local_target}
 use Rattle.ca_symbolic.specs.Demands.{is_counter, loop_reads}
-use Rattle.ca_symbolic.specs.Places.{is_among, fields_put, locals_put, locals_put_all, locals_in, locals_in_all, locals_named, locals_named_all, is_read}
+use Rattle.ca_symbolic.specs.clauses.Places.{is_among, fields_put, locals_put, locals_put_all, locals_in, locals_in_all, locals_named, locals_named_all, is_read}
 
 module _ (n : ℕ) where
   in_both : (xs ys : List ℕ) → is_among (xs ++ ys) n ≡ (is_among xs n || is_among ys n)

@@ -13,7 +13,7 @@ use Rattle.ca_symbolic.specs.States.{State, first_locals}
 use Rattle.ca_symbolic.specs.Execution.{after_all}
 use Rattle.ca_symbolic.specs.Demands.{demanded_all}
 use Rattle.ca_symbolic.specs.OtherLoops.{other_loop_in}
-use Rattle.ca_symbolic.specs.Refusals.{refused_by_all}
+use Rattle.ca_symbolic.specs.clauses.Refusals.{refused_by_all}
 use Rattle.ca_symbolic.specs.Runs.{begins, with_locals, executed, demanded_by, is_heavy_by, first_other_loop}
 use Rattle.ca_symbolic.proofs.Refusing.{refused_exactly}
 

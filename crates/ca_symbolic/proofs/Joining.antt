@@ -7,7 +7,7 @@ use Rattle.ca_norm.specs.Terms.{PlainTerm}
 use Rattle.ca_symbolic.specs.Execution.{choose_if, choices}
 use Rattle.ca_symbolic.specs.Demands.{picked}
 use Rattle.ca_symbolic.specs.Made.{targets}
-use Rattle.ca_symbolic.specs.Places.{one_if}
+use Rattle.ca_symbolic.specs.clauses.Places.{one_if}
 use Rattle.ca_shared_terms.specs.Heavy.{is_heavy}
 
 abbrev heavy_targets : (ℕ → Bool) → ℕ → List PlainTerm → Bool

@@ -18,7 +18,7 @@ use Rattle.ca_symbolic.specs.Execution.{term_of, signed_term, operation, divisor
 use Rattle.ca_symbolic.specs.Demands.{right_guard, then_guard, else_guard, terms_in, demands_in, demands_in_all, loop_parts, demanded, demanded_all}
 use Rattle.ca_symbolic.specs.Made.{new_guard, guards_in, guards_in_all, joined_terms, steps_made, steps_made_all, made_by}
 use Rattle.ca_shared_terms.specs.Heavy.{is_heavy}
-use Rattle.ca_symbolic.specs.Refusals.{refused_guard, refused, refused_all, refused_item, refused_put, refused_addend, refused_negative, refused_product, refused_right, refused_array, refused_by, refused_by_all}
+use Rattle.ca_symbolic.specs.clauses.Refusals.{refused_guard, refused, refused_all, refused_item, refused_put, refused_addend, refused_negative, refused_product, refused_right, refused_array, refused_by, refused_by_all}
 use Rattle.ca_symbolic.proofs.Ors.{v, none, either, same_ors, absorbed}
 use Rattle.ca_shared_terms.proofs.Heavier.{neg_heavier, not_heavier, add_left, add_right, sub_left, sub_right, mul_left, mul_right, and_left, and_right, or_left, or_right, less_left, less_right, less_equal_left, less_equal_right, same_heavier_left, same_heavier_right, divide_left, remainder_left, put_item_heavier, add_at_heavier}
 

@@ -10,8 +10,8 @@ use Rattle.ca_symbolic.specs.States.{State, demand, loops}
 use Rattle.ca_symbolic.specs.Execution.{choices, field_target, local_target, joined_state}
 use Rattle.ca_symbolic.specs.Demands.{picked, loop_reads, demanded}
 use Rattle.ca_symbolic.specs.Made.{targets, joined_terms}
-use Rattle.ca_symbolic.specs.Places.{is_among, fields_put, locals_put, is_read}
-use Rattle.ca_symbolic.specs.Refusals.{refused_by}
+use Rattle.ca_symbolic.specs.clauses.Places.{is_among, fields_put, locals_put, is_read}
+use Rattle.ca_symbolic.specs.clauses.Refusals.{refused_by}
 use Rattle.ca_shared_terms.specs.Heavy.{is_heavy}
 use Rattle.ca_symbolic.proofs.Among.{reads_told, field_targets_told, local_targets_told}
 use Rattle.ca_symbolic.proofs.Flags.{neither, first_of, second_of}

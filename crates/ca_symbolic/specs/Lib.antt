@@ -6,7 +6,6 @@ pub mod Demands
 pub mod Made
 pub mod OtherLoops
 pub mod Demanded
-pub mod Places
-pub mod Refusals
 pub mod Runs
 pub mod StateCodes
+pub mod clauses

@@ -11,7 +11,7 @@ ghost use Rattle.ca_symbolic.specs.States.{term_at, demand, not_null, in_range, 
 ghost use Rattle.ca_symbolic.specs.Execution.{sort_in, sort_of_result, divisor, divided, operation, signed_term, term_of};
 ghost use Rattle.ca_symbolic.specs.Demands.{right_guard, terms_in, demands_in, demands_in_all};
 ghost use Rattle.ca_symbolic.specs.Demanded.{kind_of, with_demands, under};
-ghost use Rattle.ca_symbolic.specs.Refusals.{refused_guard, refused, refused_all};
+ghost use Rattle.ca_symbolic.specs.clauses.Refusals.{refused_guard, refused, refused_all};
 ghost use Rattle.ca_shared_terms.specs.Heavy.{is_heavy};
 
 use crate::demand::{DemandKind, Demands};

@@ -2,7 +2,7 @@
 
 ghost use Rattle.std.specs.Prelude.{◌≡◌, ◌<◌, ℕ, ◌++◌, ◌∷◌, [], length, IfOk, OnOk};
 ghost use Rattle.ca_program.specs.View.{expression_view, expressions_view, statement_view, statements_view};
-ghost use Rattle.ca_symbolic.specs.Places.{is_among, is_marked, fields_put, fields_put_all, locals_put, locals_put_all, locals_in, locals_in_all, locals_named, locals_named_all};
+ghost use Rattle.ca_symbolic.specs.clauses.Places.{is_among, is_marked, fields_put, fields_put_all, locals_put, locals_put_all, locals_in, locals_in_all, locals_named, locals_named_all};
 
 use ca_program::{Expr, Stmt, StmtForm};
 use std::alloc::{AllocError, Global};

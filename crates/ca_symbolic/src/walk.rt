@@ -11,8 +11,8 @@ ghost use Rattle.ca_symbolic.specs.Execution.{put_term, is_item, put_right, arra
 ghost use Rattle.ca_symbolic.specs.Demands.{then_guard, else_guard, is_counter, picked, terms_in, demands_in, demands_in_all, demanded, demanded_all};
 ghost use Rattle.ca_symbolic.specs.Made.{targets, joined_terms};
 ghost use Rattle.ca_symbolic.specs.Demanded.{with_demands, under};
-ghost use Rattle.ca_symbolic.specs.Places.{fields_put, locals_put, is_among, is_marked, is_read, one_if};
-ghost use Rattle.ca_symbolic.specs.Refusals.{refused, refused_all, refused_item, refused_put, refused_addend, refused_negative, refused_product, refused_right, refused_array, refused_by, refused_by_all};
+ghost use Rattle.ca_symbolic.specs.clauses.Places.{fields_put, locals_put, is_among, is_marked, is_read, one_if};
+ghost use Rattle.ca_symbolic.specs.clauses.Refusals.{refused, refused_all, refused_item, refused_put, refused_addend, refused_negative, refused_product, refused_right, refused_array, refused_by, refused_by_all};
 ghost use Rattle.ca_shared_terms.specs.Heavy.{is_heavy};
 
 use crate::demand::{DemandKind, Demands};

@@ -9,6 +9,8 @@
 //! is written, stands here once: `specs/Spellings.antt` and `specs/Operators.antt`, with the code
 //! beside them. The lexer, the grammar, the parser and the writer of canonical texts are made from
 //! these tables, so a further operator is rows in them.
+//!
+//! Whoever reads the public clauses must believe each file of `specs/`.
 #![tactic(auto)]
 
 pub mod name;

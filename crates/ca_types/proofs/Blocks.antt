@@ -8,7 +8,7 @@ use Rattle.ca_program.specs.declared.program.ClassId.{ClassId}
 use Rattle.ca_program.specs.declared.program.ValueType.{ValueType}
 use Rattle.ca_resolve.specs.Scopes.{Ty, VisibleLocal, Classes}
 use Rattle.ca_types.specs.Statements.{Env, enter_block, leave_block, counted, declare, behind, behind_all}
-use Rattle.ca_types.specs.View.{left}
+use Rattle.ca_types.specs.clauses.View.{left}
 
 -- two places in one block, the second behind the first: these locals are declared between them
 pub record SameBlock (c d : Env) : Type 0 where

@@ -10,7 +10,7 @@ use Rattle.ca_resolve.specs.Judged.{Judged, fine, faulty, violations, both, with
 use Rattle.ca_resolve.proofs.Judging.{both_violations}
 use Rattle.ca_types.specs.Statements.{Env}
 use Rattle.ca_types.specs.Classes.{along, behind_parameter, judge_parameter, judge_parameters, MemberEnv, judge_field_member, judge_method, Member, a_field, a_method, Members, no_members, method_and, members_of, behind_member, judge_member, judge_members, ClassEnv, behind_class, judge_class, judge_named, Parts, no_parts, parts_of, judge_classes}
-use Rattle.ca_types.specs.Adding.{gathered, add_parameter, with_field, with_method, add_member, with_class, add_class}
+use Rattle.ca_types.specs.clauses.Adding.{gathered, add_parameter, with_field, with_method, add_member, with_class, add_class}
 
 -- items put to what stands in front, one behind the other
 abbrev folded : {A B : Type 0} → (A → B → A) → A → List B → A

@@ -4,7 +4,7 @@ use Rattle.std.proofs.lemmas.List.{drop_all}
 use Rattle.ca_resolve.specs.Judged.{Judged}
 use Rattle.ca_resolve.proofs.Tables.{next_read}
 use Rattle.ca_types.specs.Classes.{walked}
-use Rattle.ca_types.specs.Adding.{gathered}
+use Rattle.ca_types.specs.clauses.Adding.{gathered}
 
 pub next_item : {X Y : Type 0} (view : X → Y) (xs : List X) (i : ℕ) (x : X) → i < length xs → x ≡ get_or xs i x → map view (drop i xs) ≡ view x ∷ map view (drop (i + 1) xs)
 next_item view xs i x h e = ap (map view) (next_read xs i x h e)

@@ -1,5 +1,4 @@
 pub mod Rules
 pub mod Statements
 pub mod Classes
-pub mod Adding
-pub mod View
+pub mod clauses

@@ -10,8 +10,8 @@ ghost use Rattle.ca_resolve.specs.Judged.{Answers, Finds, Judged, Violation, fin
 ghost use Rattle.ca_resolve.specs.Scopes.{member_name, after_method};
 ghost use Rattle.ca_types.specs.Rules.{listed, class_once};
 ghost use Rattle.ca_types.specs.Classes.{behind_member, behind_members, judge_members, class_begin, behind_class, behind_classes, judge_class, judge_classes, first_class, Members as PlainMembers, Parts as PlainParts};
-ghost use Rattle.ca_types.specs.Adding.{add_member, with_field, with_method, with_class};
-ghost use Rattle.ca_types.specs.View.{member_env, class_env, counts_view, members_view, parts_view};
+ghost use Rattle.ca_types.specs.clauses.Adding.{add_member, with_field, with_method, with_class};
+ghost use Rattle.ca_types.specs.clauses.View.{member_env, class_env, counts_view, members_view, parts_view};
 
 use crate::limits::{MOST_CLASSES, bound};
 use crate::members::{Counts, MemberWalk, check_field, check_method};

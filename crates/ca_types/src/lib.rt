@@ -9,6 +9,9 @@
 //!
 //! The walk goes once over the tree, and once more over the bodies of value methods, for their
 //! `return`s. It looks at everything, whatever is broken, and of two violations it keeps the lesser.
+//!
+//! Whoever reads the public clauses must believe `Classes`, `Rules` and `Statements` of `specs/`; what stands in
+//! `specs/clauses/` serves clauses within the crate alone.
 #![tactic(auto)]
 
 mod classes;

@@ -9,7 +9,7 @@ ghost use Rattle.ca_resolve.specs.LocalView.{ty_view};
 ghost use Rattle.ca_resolve.specs.View.{scope_view, callee_view};
 ghost use Rattle.ca_types.specs.Rules.{called_operation, has_text};
 ghost use Rattle.ca_types.specs.Statements.{judge_condition, judge_call_statement, judge_return, judge_printed, judge_print};
-ghost use Rattle.ca_types.specs.View.{env_view};
+ghost use Rattle.ca_types.specs.clauses.View.{env_view};
 
 use crate::puts::check_wanted;
 use crate::rules::Answer;

@@ -10,7 +10,7 @@ ghost use Rattle.ca_resolve.specs.LocalView.{ty_view};
 ghost use Rattle.ca_resolve.specs.View.{classes_view};
 ghost use Rattle.ca_types.specs.Rules.{listed, returns, last_returns, member_once, ends_with_return, length_stands, length_limit};
 ghost use Rattle.ca_types.specs.Classes.{behind_parameters, judge_parameter, judge_parameters, item_count, judge_field_member, judge_result_type, result_ty, method_limit, method_begin, body_begin, method_end, judge_method, judge_parts};
-ghost use Rattle.ca_types.specs.View.{env_view, member_env, all_view, method_parts_view};
+ghost use Rattle.ca_types.specs.clauses.View.{env_view, member_env, all_view, method_parts_view};
 ghost use Rattle.ca_program.specs.declared.program.ValueType.{ValueType as PlainType};
 
 use crate::limits::{

@@ -5,7 +5,7 @@ ghost use Rattle.ca_tree.specs.View.{tree_view};
 ghost use Rattle.ca_program.specs.View.{program_view};
 ghost use Rattle.ca_resolve.specs.Judged.{Answers, Judged, fine, within, Tells};
 ghost use Rattle.ca_types.specs.Classes.{judge, program_of, Violations, Parts as PlainParts};
-ghost use Rattle.ca_types.specs.View.{parts_view, all_view};
+ghost use Rattle.ca_types.specs.clauses.View.{parts_view, all_view};
 ghost use Rattle.ca_program.specs.Plain.{Statement};
 
 use crate::classes::{Parts, check_classes};

@@ -11,7 +11,7 @@ ghost use Rattle.ca_resolve.specs.LocalView.{ty_view};
 ghost use Rattle.ca_resolve.specs.View.{scope_view, target_view};
 ghost use Rattle.ca_types.specs.Rules.{listed, is_own, is_put, compound_agrees, writes_no_field, creates_nothing};
 ghost use Rattle.ca_types.specs.Statements.{Source as PlainSource, creates, start_creates, start_value, put, judge_wanted, judge_right, judge_put_target, judge_assignment, judge_assign, judge_start, judge_declaration, judge_local, right_ty};
-ghost use Rattle.ca_types.specs.View.{env_view, source_view, local_parts_view, Tells_something};
+ghost use Rattle.ca_types.specs.clauses.View.{env_view, source_view, local_parts_view, Tells_something};
 
 use crate::limits::{MOST_LOCALS, bound};
 use crate::rules::{Answer, check_type, class_defined, rule};

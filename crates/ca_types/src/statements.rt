@@ -8,7 +8,7 @@ ghost use Rattle.ca_program.specs.View as program;
 ghost use Rattle.ca_resolve.specs.Judged.{Answers, Judged, fine};
 ghost use Rattle.ca_resolve.specs.Scopes.{ty_of};
 ghost use Rattle.ca_types.specs.Statements.{nothing, first_part, judge_block, judge_if, judge_while, judge_for_loop, judge_statement, judge_statements, judge_local, judge_condition, declare, behind, behind_all, enter_block, counted, leave_block};
-ghost use Rattle.ca_types.specs.View.{env_view, left, all_view, boxed_view};
+ghost use Rattle.ca_types.specs.clauses.View.{env_view, left, all_view, boxed_view};
 
 use crate::limits::{MOST_LOOPS, bound};
 use crate::lines::{check_call_statement, check_condition, check_print, check_return};

@@ -9,7 +9,7 @@ ghost use Rattle.ca_resolve.specs.Scopes.{find_local};
 ghost use Rattle.ca_types.specs.Rules.{listed, local_once};
 ghost use Rattle.ca_types.specs.Statements.{type_of, declare, enter_block, counted};
 ghost use Rattle.ca_types.specs.Classes.{beginning};
-ghost use Rattle.ca_types.specs.View.{env_view, left};
+ghost use Rattle.ca_types.specs.clauses.View.{env_view, left};
 
 use crate::rules::{Answer, rule};
 use ca_program::{ClassId, LocalId, LoopId, ValueType};

@@ -7,7 +7,7 @@ use Rattle.ca_program.specs.declared.program.FirstPart.{FirstPart}
 use Rattle.ca_program.specs.Plain as program
 use Rattle.ca_types.specs.Rules.{loop_limit}
 use Rattle.ca_types.specs.Statements.{judge_if, judge_for_loop}
-use Rattle.ca_types.specs.Adding.{gathered}
+use Rattle.ca_types.specs.clauses.Adding.{gathered}
 
 pub same_fine : {A : Type 0} (a b : A) → fine a ≡ fine b → a ≡ b
 same_fine a b h = cc

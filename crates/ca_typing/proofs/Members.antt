@@ -21,7 +21,7 @@ use Rattle.ca_resolve.specs.Scopes as scopes
 use Rattle.ca_types.specs.Rules.{member_once, field_limit, length_limit, length_stands}
 use Rattle.ca_types.specs.Statements.{judge_type, type_of}
 use Rattle.ca_types.specs.Classes.{MemberEnv, Members, item_count, judge_field_member, result_ty, judge_method, behind_member, behind_members}
-use Rattle.ca_types.specs.Adding.{gathered, with_field, with_method, add_member}
+use Rattle.ca_types.specs.clauses.Adding.{gathered, with_field, with_method, add_member}
 use Rattle.ca_typing.proofs.Fits.{MemberFits}
 use Rattle.ca_typing.proofs.Lists.{Begins, begins_itself, begins_through, begins_behind, item_there, one_longer, all_append}
 use Rattle.ca_typing.proofs.Judging.{same_fine, within_fine, made_fine, both_fine, unless_fine, beside_fine, gathered_fine}

@@ -15,7 +15,7 @@ use Rattle.ca_resolve.specs.Scopes.{Ty, ty_of, find_local}
 use Rattle.ca_types.specs.Rules.{member_once, local_once, ends_with_return, parameter_limit, local_limit, last_returns}
 use Rattle.ca_types.specs.Statements.{Env, judge_type, type_of, judge_statements}
 use Rattle.ca_types.specs.Classes.{behind_parameter, behind_parameters, judge_parameter, judge_parameters, MemberEnv, judge_result_type, result_ty, method_limit, method_begin, body_begin, method_end, method_of, judge_method}
-use Rattle.ca_types.specs.Adding.{gathered, add_parameter}
+use Rattle.ca_types.specs.clauses.Adding.{gathered, add_parameter}
 use Rattle.ca_types.proofs.Gathered.{parameters_gathered}
 use Rattle.ca_typing.proofs.Fits.{StatementsFit}
 use Rattle.ca_typing.proofs.Lists.{Begins, begins_itself, begins_through, begins_taken, begins_shorter, item_there}

@@ -20,7 +20,7 @@ use Rattle.ca_resolve.specs.Values.{place_of, in_order, judge_call}
 use Rattle.ca_types.specs.Rules.{local_once, called_operation, creates_nothing, prints_nothing, return_stands, local_limit}
 use Rattle.ca_types.specs.Statements.{Env, enter_block, leave_block, counted, behind, behind_all, judge_type, Source, of_value, of_new, creates, judge_wanted, judge_right, put, judge_put_target, right_ty, judge_assign, judge_start, start_creates, judge_local, judge_call_statement, judge_condition, judge_return, judge_printed, judge_print, nothing, first_part, statements_in, judge_statement, judge_statements}
 use Rattle.ca_types.specs.Classes.{behind_parameters, behind_parameter, MemberEnv, body_begin, method_begin, method_end, judge_method, Members, behind_member, behind_members, no_members, ClassEnv, class_begin, behind_class, behind_classes, Parts, no_parts, judge_classes, first_class, main_begin, program_of, judge}
-use Rattle.ca_types.specs.Adding.{gathered, with_method, add_member, add_class}
+use Rattle.ca_types.specs.clauses.Adding.{gathered, with_method, add_member, add_class}
 use Rattle.ca_types.proofs.Gathered.{classes_gathered}
 use Rattle.ca_typing.specs.Loops.{LoopsNumbered}
 use Rattle.ca_typing.proofs.Judging.{same_fine, within_fine, made_fine, both_fine, unless_fine, beside_fine, gathered_fine, for_fine, if_fine}

@@ -12,7 +12,7 @@ use Rattle.ca_resolve.specs.Judged.{fine, both}
 use Rattle.ca_resolve.specs.Scopes.{ty_of, classes_of}
 use Rattle.ca_types.specs.Statements.{Env, behind_all, statements_in, judge_statements}
 use Rattle.ca_types.specs.Classes.{behind_parameters, behind_parameter, MemberEnv, body_begin, method_begin, judge_method, Members, behind_member, no_members, ClassEnv, class_begin, behind_class, Parts, no_parts, judge_classes, first_class, main_begin, program_of, judge}
-use Rattle.ca_types.specs.Adding.{gathered, with_method, add_member, add_class}
+use Rattle.ca_types.specs.clauses.Adding.{gathered, with_method, add_member, add_class}
 use Rattle.ca_types.proofs.Gathered.{classes_gathered}
 use Rattle.ca_typing.proofs.Judging.{same_fine, made_fine, both_fine, gathered_fine}
 use Rattle.ca_typing.proofs.Methods.{method_fine}

@@ -15,7 +15,7 @@ use Rattle.ca_resolve.specs.Scopes.{Meaning, Numbers, classes_of, class_names, m
 use Rattle.ca_types.specs.Rules.{class_once, class_limit}
 use Rattle.ca_types.specs.Statements.{judge_statements, behind_all}
 use Rattle.ca_types.specs.Classes.{Members, no_members, behind_member, behind_members, judge_members, ClassEnv, class_begin, behind_class, judge_class, Parts, no_parts, judge_classes, first_class, main_begin, program_of, judge}
-use Rattle.ca_types.specs.Adding.{gathered, add_member, with_class, add_class}
+use Rattle.ca_types.specs.clauses.Adding.{gathered, add_member, with_class, add_class}
 use Rattle.ca_types.proofs.Gathered.{members_gathered, classes_gathered}
 use Rattle.ca_typing.proofs.Fits.{ClassFits, LiteralsFit}
 use Rattle.ca_typing.proofs.Lists.{Begins, begins_itself, begins_through, item_there, one_longer, all_append, all_at}

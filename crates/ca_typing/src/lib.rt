@@ -9,6 +9,8 @@
 //! none but 1 (`proofs/LiteralTrees`).
 //!
 //! The crate has no code: a caller calls a function for its clause. The lemmas are in `proofs/`.
+//!
+//! Whoever reads the public clauses must believe `Loops` of `specs/`.
 #![tactic(auto)]
 
 pub mod laws;

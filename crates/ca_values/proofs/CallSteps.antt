@@ -23,9 +23,9 @@ use Rattle.ca_meaning.proofs.Fix.{call_runs}
 use Rattle.ca_direct.specs.declared.scene.Scene.{Scene}
 use Rattle.ca_values.specs.declared.work.Work.{Work}
 use Rattle.ca_values.specs.declared.work.Work.TheVariants.{Seq, Leave}
-use Rattle.ca_values.specs.Bodies.{Body}
+use Rattle.ca_values.specs.clauses.Bodies.{Body}
 use Rattle.ca_values.specs.Resume.{here, calls_in, value_of, values_of, pop, taken, go_on, called, collected, resume, others_in}
-use Rattle.ca_values.specs.Cost.{size, sizes}
+use Rattle.ca_values.specs.clauses.Cost.{size, sizes}
 use Rattle.ca_values.proofs.Flows.{then_then, then_same}
 
 -- the values that are taken from a stack

@@ -11,8 +11,8 @@ use Rattle.ca_meaning.specs.Functions.{own_of}
 use Rattle.ca_direct.specs.declared.scene.Scene.{Scene}
 use Rattle.ca_direct.specs.Direct.{own_in}
 use Rattle.ca_values.specs.declared.work.Work.TheVariants.{Seq, Leave}
-use Rattle.ca_values.specs.Bodies.{Body}
-use Rattle.ca_values.specs.Cost.{size, again_size, statement_size}
+use Rattle.ca_values.specs.clauses.Bodies.{Body}
+use Rattle.ca_values.specs.clauses.Cost.{size, again_size, statement_size}
 use Rattle.ca_values.specs.Resume.{here, unwind}
 
 -- the outermost expression reads the scene's own slots

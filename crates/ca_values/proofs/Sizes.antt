@@ -11,7 +11,7 @@ use Rattle.ca_program.specs.declared.program.StmtForm.{Block, While, For}
 use Rattle.ca_program.specs.Plain.{Expression, number, truth, null, this, local, own, own_item, read, read_item, value_call, unary, binary}
 use Rattle.ca_program.specs.View.{form_view, statement_view, statements_view, expression_view}
 use Rattle.ca_program.proofs.Rows.{block_is}
-use Rattle.ca_values.specs.Cost.{size, again_size, statement_size, statement_sizes}
+use Rattle.ca_values.specs.clauses.Cost.{size, again_size, statement_size, statement_sizes}
 
 pub has_size : (e : Expression) → 0 < size e
 has_size (number n) = omega arith

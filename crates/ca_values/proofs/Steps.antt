@@ -21,7 +21,7 @@ use Rattle.ca_meaning.specs.Expressions.{Out, gives, ◌>>=◌, value_at}
 use Rattle.ca_meaning.specs.Flows.{goes_on, gives_back, choose, line_of, exec}
 use Rattle.ca_meaning.proofs.Fix.{again_runs}
 use Rattle.ca_direct.specs.declared.scene.Scene.{Scene}
-use Rattle.ca_values.specs.Bodies.{Body, with_locals}
+use Rattle.ca_values.specs.clauses.Bodies.{Body, with_locals}
 use Rattle.ca_values.specs.declared.machine.Evaluator.{Evaluator}
 use Rattle.ca_values.specs.declared.work.Work.TheVariants.{Again}
 use Rattle.ca_values.specs.Resume.{value_of, parts_in, condition, runs, runs_all, comes_again, runs_body, turns, go_on, in_body, in_some, resume, unwind, rest_of, does, loops}

@@ -1,4 +1,3 @@
-pub mod Bodies
-pub mod Cost
 pub mod Found
 pub mod Resume
+pub mod clauses

@@ -21,7 +21,7 @@ use Rattle.ca_values.specs.declared.work.Work.TheVariants.{Evaluate, ReadField, 
 use Rattle.ca_values.specs.declared.work.Next.{Next}
 use Rattle.ca_values.specs.declared.work.Next.TheVariants.{GoesOn, Trapped, Spent}
 use Rattle.ca_values.specs.declared.machine.Evaluator.{Evaluator}
-use Rattle.ca_values.specs.Bodies.{Body, with_locals}
+use Rattle.ca_values.specs.clauses.Bodies.{Body, with_locals}
 
 -- What expressions are read in: the body that runs, and for the outermost expression the scene, whose own
 -- slots are read by it alone.

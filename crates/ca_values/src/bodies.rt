@@ -26,7 +26,7 @@ pub struct Bodies {
 
 impl Model for Bodies {
     ghost use Rattle.std.specs.Prelude.{List};
-    ghost use Rattle.ca_values.specs.Bodies.{Body, bodies_of};
+    ghost use Rattle.ca_values.specs.clauses.Bodies.{Body, bodies_of};
 
     ghost Value = { List Body };
 
@@ -41,7 +41,7 @@ pub struct Running<'a> {
 }
 
 impl Bodies {
-    ghost use Rattle.ca_values.specs.Bodies.{with_local};
+    ghost use Rattle.ca_values.specs.clauses.Bodies.{with_local};
 
     /// No body. It takes no memory.
     pub fn new(alloc: Global) -> Bodies

@@ -3,7 +3,7 @@
 ghost use Rattle.std.specs.Prelude.{◌≡◌, [], ◌∷◌, ◌+◌, Some, IfOk, slice_get};
 ghost use Rattle.ca_program.specs.View.{program_view, method_view, statements_view};
 ghost use Rattle.ca_meaning.specs.Functions.{body_of};
-ghost use Rattle.ca_values.specs.Cost.{weights, Falls};
+ghost use Rattle.ca_values.specs.clauses.Cost.{weights, Falls};
 ghost use Rattle.ca_values.specs.Resume.{rest_of, begins, back_of, handed_back, after, others_in};
 
 use crate::machine::{Evaluator, trapped};

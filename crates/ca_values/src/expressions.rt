@@ -4,7 +4,7 @@ ghost use Rattle.std.specs.Prelude.{◌≡◌, ◌∷◌, ◌+◌, ℕ, IfOk, sl
 ghost use Rattle.ca_program.specs.View.{program_view, expression_view, expressions_view};
 ghost use Rattle.ca_program.specs.Plain.{value_call};
 ghost use Rattle.ca_meaning.specs.Expressions.{decided, one_in, items_in, value_at};
-ghost use Rattle.ca_values.specs.Cost.{size, sizes, weights, Falls};
+ghost use Rattle.ca_values.specs.clauses.Cost.{size, sizes, weights, Falls};
 ghost use Rattle.ca_values.specs.Resume.{rest_of, evaluates, after, this_in, slots_for, locals_in, item_at, item_or_trap};
 
 use crate::items::{field, item, local, own_field, own_item};

@@ -8,7 +8,10 @@
 //!
 //! Expressions and calls stand on explicit stacks, so that no depth of them runs out of the machine's own
 //! stack. `specs/Resume.antt` says what a stack of work still means, which is the one clause of every step;
-//! the other, of `specs/Cost.antt`, is that steps are taken, or as many are left and the work is less.
+//! the other, of `specs/clauses/Cost.antt`, is that steps are taken, or as many are left and the work is less.
+//!
+//! Whoever reads the public clauses must believe `Found` and `Resume` of `specs/`; what stands in `specs/clauses/`
+//! serves clauses within the crate alone.
 #![tactic(auto)]
 
 mod bodies;

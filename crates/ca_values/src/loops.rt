@@ -3,7 +3,7 @@
 ghost use Rattle.std.specs.Prelude.{◌≡◌, ◌∷◌, ◌+◌, IfOk, true};
 ghost use Rattle.ca_program.specs.View.{program_view, expression_view, statement_view};
 ghost use Rattle.ca_model.specs.declared.value.Value.TheVariants.{Bool as Truth};
-ghost use Rattle.ca_values.specs.Cost.{size, weights, Falls};
+ghost use Rattle.ca_values.specs.clauses.Cost.{size, weights, Falls};
 ghost use Rattle.ca_values.specs.Resume.{rest_of, takes, loops, after};
 
 use crate::machine::Evaluator;

@@ -4,7 +4,7 @@
 ghost use Rattle.std.specs.Prelude.{◌≡◌, ◌∷◌, ◌+◌, ℕ, IfOk};
 ghost use Rattle.ca_program.specs.View.{program_view, expression_view, statement_view};
 ghost use Rattle.ca_program.specs.Plain.{put_local, if_else, return_value};
-ghost use Rattle.ca_values.specs.Cost.{size, statement_size, weight, weights, Falls};
+ghost use Rattle.ca_values.specs.clauses.Cost.{size, statement_size, weight, weights, Falls};
 ghost use Rattle.ca_values.specs.Resume.{rest_of, takes, does, waits, after};
 
 use crate::items::local;

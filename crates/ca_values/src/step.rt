@@ -2,7 +2,7 @@
 
 ghost use Rattle.std.specs.Prelude.{◌≡◌, ◌∷◌, IfOk};
 ghost use Rattle.ca_program.specs.View.{program_view};
-ghost use Rattle.ca_values.specs.Cost.{weights, Falls};
+ghost use Rattle.ca_values.specs.clauses.Cost.{weights, Falls};
 ghost use Rattle.ca_values.specs.Resume.{rest_of, after};
 
 use crate::machine::Evaluator;

@@ -29,7 +29,7 @@ use Rattle.ca_verdicts.specs.Keys.{Key}
 use Rattle.ca_verdicts.specs.Demands.{demanded_at}
 use Rattle.ca_verdicts.specs.Orders.{in_order, fields_at, start_of, first_order, second_order}
 use Rattle.ca_verdicts.specs.Verdicts.{CanExecute, is_large, VerdictOf}
-use Rattle.ca_verdicts.specs.Comparisons.{FieldsDiffer, TellsKey, TellsFirst, TellsSecond, TellsApart, DemandsDiffer, IsCompared}
+use Rattle.ca_verdicts.specs.clauses.Comparisons.{FieldsDiffer, TellsKey, TellsFirst, TellsSecond, TellsApart, DemandsDiffer, IsCompared}
 
 -- what is told of a demand, from its parts
 pub told_of : (k : Key) (f g : PlainPolynomial) (ds es : List PlainDemand) (w : Reason) → f ≡ demanded_at k ds → g ≡ demanded_at k es → TellsKey k w → TellsFirst f w → TellsSecond g w → TellsApart w → DemandsDiffer ds es w

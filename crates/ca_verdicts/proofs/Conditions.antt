@@ -3,7 +3,7 @@ use Rattle.std.proofs.Common.{◌≡◌, ℕ, ◌+◌, List, [], ◌∷◌, map,
 use Rattle.std.specs.Prelude.{if◌then◌else◌}
 use Rattle.std.specs.Ordering.{ordering_then}
 use Rattle.ca_sums.specs.Sums.{Sum, total, is_tied, Alike, collect}
-use Rattle.ca_sums.specs.Rows.{at_index, pair_cmp}
+use Rattle.ca_sums.specs.clauses.Rows.{at_index, pair_cmp}
 use Rattle.ca_sums.proofs.Algebra.{alike_eq, alike_sym, alike_trans, total_append}
 use Rattle.ca_sums.proofs.Collect.{Exact, SameCoefficients, total_collect, collect_same}
 use Rattle.ca_sums.proofs.Rows.{total_at, pair_exact}

@@ -27,7 +27,7 @@ use Rattle.ca_symbolic.specs.Demanded.{demand_of, demands_of}
 use Rattle.ca_verdicts.specs.declared.marks.Marks.{Marks}
 use Rattle.ca_verdicts.specs.Keys.{Key, key_of, key_cmp, key_total}
 use Rattle.ca_verdicts.specs.Demands.{conditions, demanded_at, SameDemands}
-use Rattle.ca_verdicts.specs.Marks.{key_at, mark_if, marks_of, marks_in, same_side, marks_at, found, if_side, products_at, summed_up, condition_of, IsSettled, AreSettled, EachMarked}
+use Rattle.ca_verdicts.specs.clauses.Marks.{key_at, mark_if, marks_of, marks_in, same_side, marks_at, found, if_side, products_at, summed_up, condition_of, IsSettled, AreSettled, EachMarked}
 use Rattle.ca_verdicts.proofs.Conditions.{keys_exact}
 
 -- Sums of the same totals

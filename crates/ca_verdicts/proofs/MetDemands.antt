@@ -7,7 +7,7 @@ use Rattle.ca_meaning.specs.Multisets.{weight, SameItems}
 use Rattle.ca_forms.specs.declared.sort.Sort.{Sort}
 use Rattle.ca_forms.specs.declared.sort.Sort.TheVariants.{Long, Bool as Truth, Pointer}
 use Rattle.ca_sums.specs.Sums.{Sum, total, Alike}
-use Rattle.ca_sums.specs.Rows.{grouped}
+use Rattle.ca_sums.specs.clauses.Rows.{grouped}
 use Rattle.ca_sums.proofs.Algebra.{alike_eq, alike_sym, alike_trans}
 use Rattle.ca_sums.proofs.Counts.{one_if, count, sum, SameCounts, same_sums}
 use Rattle.ca_sums.proofs.Demands.{small, Guards, same_counts}

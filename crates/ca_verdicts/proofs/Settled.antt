@@ -9,7 +9,7 @@ use Rattle.std.proofs.lemmas.Map.Lookups.{exact_unsigned, exact_pairs}
 use Rattle.ca_forms.specs.Plain.{PlainPolynomial}
 use Rattle.ca_forms.specs.Rules.{gathered}
 use Rattle.ca_verdicts.specs.declared.marks.Marks.{Marks}
-use Rattle.ca_verdicts.specs.Marks.{summed_up, IsSettled, AllSettled}
+use Rattle.ca_verdicts.specs.clauses.Marks.{summed_up, IsSettled, AllSettled}
 
 abbrev pub mark_cmp : ℕ × ℕ → ℕ × ℕ → Ordering
 mark_cmp a b = ordering_then (nat_cmp a.0 b.0) (nat_cmp a.1 b.1)

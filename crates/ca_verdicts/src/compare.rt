@@ -11,10 +11,10 @@ ghost use Rattle.ca_symbolic.specs.declared.running.SymbolicError.TheVariants.{L
 ghost use Rattle.ca_verdicts.specs.Orders.{in_order};
 ghost use Rattle.ca_forms.specs.Rules.{gathered};
 ghost use Rattle.ca_forms.specs.Plain.{PlainPolynomial};
-ghost use Rattle.ca_verdicts.specs.Comparisons.{FieldsDiffer, TellsKey, TellsFirst, TellsSecond, TellsApart, DemandsDiffer, IsCompared};
+ghost use Rattle.ca_verdicts.specs.clauses.Comparisons.{FieldsDiffer, TellsKey, TellsFirst, TellsSecond, TellsApart, DemandsDiffer, IsCompared};
 ghost use Rattle.ca_verdicts.specs.Demands.{SameDemands};
 ghost use Rattle.ca_verdicts.specs.Keys.{Key};
-ghost use Rattle.ca_verdicts.specs.Marks.{found, marks_at, marks_in, summed_up, IsSettled, AllSettled, EachMarked};
+ghost use Rattle.ca_verdicts.specs.clauses.Marks.{found, marks_at, marks_in, summed_up, IsSettled, AllSettled, EachMarked};
 ghost use Rattle.ca_sums.proofs.Products.{SameTotals};
 ghost use Rattle.ca_symbolic.specs.declared.running.Side.TheVariants as side;
 

@@ -11,7 +11,7 @@ ghost use Rattle.ca_norm.specs.Terms.{terms_of};
 ghost use Rattle.ca_norm.specs.Forms.{arguments_of};
 ghost use Rattle.ca_symbolic.specs.Demanded.{kind_of};
 ghost use Rattle.ca_verdicts.specs.Keys.{numbers, kind_code, key_cmp, key_total};
-ghost use Rattle.ca_verdicts.specs.Marks.{key_at};
+ghost use Rattle.ca_verdicts.specs.clauses.Marks.{key_at};
 
 use ca_forms::compare_scalars;
 use ca_forms::parts::{both, longer};

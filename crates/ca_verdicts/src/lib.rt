@@ -4,6 +4,9 @@
 //! does. Both operations are executed symbolically in both orders (`specs/Orders.antt`), and what the fields hold in
 //! the end and what the orders demand (`specs/Demands.antt`) is compared by normal forms. `compare` runs the orders
 //! and compares them, `marks` sorts demands by what is demanded, and `sums` sums up the conditions under which.
+//!
+//! Whoever reads the public clauses must believe `Analysed`, `Demands`, `Keys`, `Laws`, `Orders` and `Verdicts` of
+//! `specs/`; what stands in `specs/clauses/` serves clauses within the crate alone.
 #![tactic(auto)]
 
 mod compare;
@@ -21,7 +24,7 @@ ghost use Rattle.ca_plain_laws.specs.PlainPairs.{IsPlainPair};
 ghost use Rattle.ca_symbolic.specs.declared.running.SymbolicError.TheVariants.{LoopForm, Large};
 ghost use Rattle.ca_verdicts.specs.Analysed.{Analysed};
 ghost use Rattle.ca_verdicts.specs.declared.verdicts.Verdict.TheVariants.{Commutes};
-ghost use Rattle.ca_verdicts.specs.Comparisons.{OffenceTold};
+ghost use Rattle.ca_verdicts.specs.clauses.Comparisons.{OffenceTold};
 ghost use Rattle.ca_verdicts.specs.Orders.{first_order, second_order};
 ghost use Rattle.ca_verdicts.specs.Verdicts.{BothSeparable, loop_of_both, CanExecute, is_large, VerdictOf};
 

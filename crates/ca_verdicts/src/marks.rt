@@ -6,7 +6,7 @@ ghost use Rattle.std.specs.Ordering.{is_eq};
 ghost use Rattle.ca_sums.proofs.Products.{SameTotals};
 ghost use Rattle.ca_symbolic.specs.declared.running.Side.{Side};
 ghost use Rattle.ca_verdicts.specs.Keys.{Key, key_cmp};
-ghost use Rattle.ca_verdicts.specs.Marks.{key_at, mark_if, marks_of, marks_in, same_side, marks_at, found, if_side};
+ghost use Rattle.ca_verdicts.specs.clauses.Marks.{key_at, mark_if, marks_of, marks_in, same_side, marks_at, found, if_side};
 
 use crate::key::Key;
 use ca_symbolic::{Demand, Group, Side};

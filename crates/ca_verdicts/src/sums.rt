@@ -4,7 +4,7 @@ ghost use Rattle.std.specs.Prelude.{◌≡◌, ◌≢◌, map, IfOk, IfSome, IfN
 ghost use Rattle.ca_sums.specs.Sums.{NoZero, AddsSum};
 ghost use Rattle.ca_forms.specs.Plain.{number_form};
 ghost use Rattle.ca_forms.specs.Rules.{gathered};
-ghost use Rattle.ca_verdicts.specs.Marks.{products_at, summed_up, condition_of, IsSettled};
+ghost use Rattle.ca_verdicts.specs.clauses.Marks.{products_at, summed_up, condition_of, IsSettled};
 
 use crate::marks::Marks;
 use ca_forms::polynomial::{Monomial, Polynomial, Scalar};

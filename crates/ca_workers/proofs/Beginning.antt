@@ -27,7 +27,7 @@ use Rattle.ca_run.specs.Beside.{present}
 use Rattle.ca_serial.specs.Extents.{Answers, IsNotDone}
 use Rattle.ca_serial.specs.declared.extents.ExtentAnswer.{ExtentAnswer}
 use Rattle.ca_serial.specs.declared.extents.ExtentAnswer.TheVariants.{Done, Declined}
-use Rattle.ca_workers.specs.Runs.{IsSetting, MayWait, Placed, answer_by}
+use Rattle.ca_workers.specs.clauses.Runs.{IsSetting, MayWait, Placed, answer_by}
 use Rattle.ca_workers.proofs.Logs.{given_are}
 
 -- ---- what is handed

@@ -4,7 +4,7 @@ ghost use Rattle.std.specs.Prelude.{IfOk};
 ghost use Rattle.ca_program.specs.View.{program_view};
 ghost use Rattle.ca_parallel.specs.Calls.{invocations_of};
 ghost use Rattle.ca_run.specs.Beside.{present};
-ghost use Rattle.ca_workers.specs.Runs.{RanAlone};
+ghost use Rattle.ca_workers.specs.clauses.Runs.{RanAlone};
 
 use ca_base::{Gate, Memory};
 use ca_model::Heap;

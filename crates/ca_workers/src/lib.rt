@@ -14,8 +14,11 @@
 //! `alone` runs operations before the first round, `tasks` makes first tasks, `reading` adds up the steps of a round, and
 //! `storing` takes its objects into a heap.
 //! `rounds` has a round, and all rounds one after the other, `running` a run from the heap as it was handed, and
-//! `parallel` the engine. `specs/Runs.antt` says what these answer, in terms of the pending machine. `many` runs a whole
+//! `parallel` the engine. `specs/clauses/Runs.antt` says what these answer, in terms of the pending machine. `many` runs a whole
 //! program by it: `drive_by_many`.
+//!
+//! The public clauses cite definitions of the crates below; what stands in `specs/clauses/` serves clauses within
+//! the crate alone.
 #![tactic(auto)]
 
 mod alone;

@@ -9,7 +9,7 @@ ghost use Rattle.ca_parallel.specs.Calls.{invocations_of, operation_of};
 ghost use Rattle.ca_parallel.specs.Parallel.{ParallelFrom};
 ghost use Rattle.ca_serial.specs.declared.extents.ExtentAnswer.TheVariants.{Declined};
 ghost use Rattle.ca_serial.specs.Extents.{Answers, IsNotDone};
-ghost use Rattle.ca_workers.specs.Runs.{Placed, answer_by};
+ghost use Rattle.ca_workers.specs.clauses.Runs.{Placed, answer_by};
 
 use crate::alone::run_alone;
 use crate::rounds::FIRST_QUOTA;

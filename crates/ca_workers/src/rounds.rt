@@ -4,7 +4,7 @@ ghost use Rattle.std.specs.Prelude.{◌≡◌, ◌<◌, ◌≤◌, All, length, 
 ghost use Rattle.ca_program.specs.View.{program_view};
 ghost use Rattle.ca_logs.specs.declared.log.Task.{Task};
 ghost use Rattle.ca_logs.specs.Entries.{task_calls};
-ghost use Rattle.ca_workers.specs.Runs.{IsSetting, MayWait, Turned, Ended};
+ghost use Rattle.ca_workers.specs.clauses.Runs.{IsSetting, MayWait, Turned, Ended};
 
 use crate::reading::steps_within;
 use crate::storing::store;

@@ -4,7 +4,7 @@ ghost use Rattle.std.specs.Prelude.{◌≡◌, ◌<◌, ◌≤◌, All, IfOk, On
 ghost use Rattle.ca_program.specs.View.{program_view};
 ghost use Rattle.ca_logs.specs.declared.log.Task.{Task};
 ghost use Rattle.ca_logs.specs.Entries.{task_calls};
-ghost use Rattle.ca_workers.specs.Runs.{IsSetting, MayWait, Placed};
+ghost use Rattle.ca_workers.specs.clauses.Runs.{IsSetting, MayWait, Placed};
 
 use crate::rounds::{FIRST_QUOTA, Left, next_quota, run_round, run_rounds};
 use crate::storing::store;

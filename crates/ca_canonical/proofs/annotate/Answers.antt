@@ -1,7 +1,7 @@
 use Rattle.std.proofs.Common.{[], map, ◌∙◌}
 use Rattle.ca_tree.specs.View.{class_view, statements_view, tree_view}
 use Rattle.ca_canonical.specs.Annotated.{annotated, marked_classes, marked_main}
-use Rattle.ca_canonical.specs.Pens.{WritesPieces}
+use Rattle.ca_canonical.specs.clauses.Pens.{WritesPieces}
 use Rattle.ca_canonical.proofs.Writing.{after, finished}
 use Rattle.ca_canonical.proofs.annotate.Goals as goal
 

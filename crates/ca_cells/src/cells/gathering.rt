@@ -7,7 +7,7 @@ ghost use Rattle.ca_meaning.specs.Multisets.{weight};
 ghost use Rattle.ca_cells.specs.Rounds.{AreLegal, IsRound, now_of};
 ghost use Rattle.ca_cells.specs.Notes.{AreKept, AreNoted, EachOnce};
 ghost use Rattle.ca_cells.specs.Seats.{AreAll, all_of, cells_key, kept_of, notes_of, seat_table, view_of};
-ghost use Rattle.ca_cells.specs.Slots.{AreThere, AreFrom};
+ghost use Rattle.ca_cells.specs.clauses.Slots.{AreThere, AreFrom};
 ghost use Rattle.ca_cells.specs.declared.rule.Note.{Note};
 
 use super::{Cells, Inner, Seat};

@@ -7,7 +7,7 @@ ghost use Rattle.ca_model.specs.Typed.{TypedHeap};
 ghost use Rattle.ca_meaning.specs.ProgramTyped.{ProgramTyped};
 ghost use Rattle.ca_order_laws.specs.Order.{StandsFor};
 ghost use Rattle.ca_cells.specs.Rounds.{IsGiven, SeparableIn};
-ghost use Rattle.ca_cells.specs.Slots.{AreOpened};
+ghost use Rattle.ca_cells.specs.clauses.Slots.{AreOpened};
 ghost use Rattle.ca_cells.specs.Seats.{AreAll, AreNumbered, all_of, cells_key, kept_of, notes_of};
 
 use super::{Cells, Inner, Seat};

@@ -3,7 +3,7 @@ use Rattle.ca_tree.specs.declared.name.Place.{Place}
 use Rattle.ca_erase.specs.declared.EraseError.{EraseError}
 use Rattle.ca_erase.specs.declared.EraseError.TheVariants.{BadMark}
 use Rattle.ca_erase.specs.BadMarks.{FirstBadMark}
-use Rattle.ca_erase.specs.Fronts.{Step, IsBadMark}
+use Rattle.ca_erase.specs.clauses.Fronts.{Step, IsBadMark}
 use Rattle.ca_erase.proofs.Steps.{Sofar, one_further, all_erased, refused_here}
 use Rattle.ca_erase.proofs.erase.Goals as goal
 

@@ -1,6 +1,6 @@
 use Rattle.std.proofs.Common.{◌≡◌, length, sym, ◌∙◌, ap, subst, arith, length-drop, length-take}
 use Rattle.std.proofs.lemmas.Bool.{eqb-true, eqb-false}
-use Rattle.ca_lex.specs.Fronts.{piece_at}
+use Rattle.ca_lex.specs.clauses.Fronts.{piece_at}
 use Rattle.ca_lex.specs.Places.{advance}
 use Rattle.ca_lex.specs.Pieces.{piece_of, token_of, letter_behind, too_great, refused}
 use Rattle.ca_lex.specs.Faults as fault

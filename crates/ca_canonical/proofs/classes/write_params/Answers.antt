@@ -1,7 +1,7 @@
 use Rattle.std.proofs.Common.{arith}
 use Rattle.ca_canonical.specs.Spell.{spell_params}
 use Rattle.ca_canonical.specs.Marks.{tokens}
-use Rattle.ca_canonical.specs.Pens.{Writes}
+use Rattle.ca_canonical.specs.clauses.Pens.{Writes}
 use Rattle.ca_canonical.proofs.Writing.{nothing, then, all_left, no_token_left}
 use Rattle.ca_canonical.proofs.Lists.{comma, param_written, no_param_left}
 use Rattle.ca_canonical.proofs.classes.write_params.Goals as goal

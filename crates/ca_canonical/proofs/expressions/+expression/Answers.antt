@@ -4,7 +4,7 @@ use Rattle.ca_tree.specs.View.{kind_view, expression_view, expressions_view}
 use Rattle.ca_tree.proofs.Rows.{call_is}
 use Rattle.ca_canonical.specs.Spell.{spell_expression, spell_list}
 use Rattle.ca_canonical.specs.Marks.{tokens}
-use Rattle.ca_canonical.specs.Pens.{Writes}
+use Rattle.ca_canonical.specs.clauses.Pens.{Writes}
 use Rattle.ca_canonical.proofs.Writing.{nothing, then, all_left, no_token_left}
 use Rattle.ca_canonical.proofs.Lists.{comma, argument_written, no_argument_left}
 use Rattle.ca_canonical.proofs.Rows.{method_is}

@@ -5,7 +5,7 @@ use Rattle.ca_tree.specs.declared.tree.StmtKind.{If}
 use Rattle.ca_tree.proofs.Rows.{block_is}
 use Rattle.ca_canonical.specs.Marks.{marks}
 use Rattle.ca_canonical.specs.Annotated.{marked_all}
-use Rattle.ca_canonical.specs.Pens.{WritesPieces}
+use Rattle.ca_canonical.specs.clauses.Pens.{WritesPieces}
 use Rattle.ca_canonical.proofs.Writing.{after, as_pieces, all_left, none_left}
 use Rattle.ca_canonical.proofs.Lists.{with_marks, line_with_marks, statement_written, no_statement_left}
 use Rattle.ca_canonical.proofs.statements.+statement.Goals as goal

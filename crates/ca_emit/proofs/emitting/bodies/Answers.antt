@@ -6,7 +6,7 @@ use Rattle.ca_tree.specs.View.{method_view}
 use Rattle.ca_parallel.specs.Lists.{op_in}
 use Rattle.ca_plan.specs.Plans.{op_at}
 use Rattle.ca_emit.specs.Annotations.{bodies_from, place_if}
-use Rattle.ca_emit.specs.Seen.{methods_seen}
+use Rattle.ca_emit.specs.clauses.Seen.{methods_seen}
 use Rattle.ca_emit.proofs.Picking.{one_at, method_at, none_behind}
 use Rattle.ca_emit.proofs.emitting.bodies.Goals as goal
 

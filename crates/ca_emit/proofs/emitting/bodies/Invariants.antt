@@ -1,6 +1,6 @@
 use Rattle.std.proofs.Common.{◌≡◌, ◌++◌, drop}
 use Rattle.ca_emit.specs.Annotations.{bodies_from}
-use Rattle.ca_emit.specs.Seen.{methods_seen}
+use Rattle.ca_emit.specs.clauses.Seen.{methods_seen}
 use Rattle.ca_emit.proofs.emitting.bodies.Given as goal
 
 abbrev pub invariant-loop-n : goal.invariant-loop-n

@@ -3,7 +3,7 @@ use Rattle.ca_tree.specs.declared.name.Place.{Place}
 use Rattle.ca_tree.specs.View.{tree_view}
 use Rattle.ca_program.specs.View.{program_view}
 use Rattle.ca_emit.specs.Annotations.{operations_of, parallel_bodies, parallel_ops, parallel_sites, place_in, place_number}
-use Rattle.ca_emit.specs.Seen.{methods_seen}
+use Rattle.ca_emit.specs.clauses.Seen.{methods_seen}
 use Rattle.ca_emit.proofs.emitting.marked.Goals as goal
 
 pub sites-requires : goal.sites-requires

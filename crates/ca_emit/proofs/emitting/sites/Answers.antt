@@ -2,7 +2,7 @@ use Rattle.std.proofs.Common.{◌≡◌, ◌++◌, false, refl, sym, ap, ◌∙�
 use Rattle.ca_tree.specs.View.{method_view, tree_view}
 use Rattle.ca_program.specs.View.{program_view}
 use Rattle.ca_emit.specs.Annotations.{sites_from, sites_in, sites_of_method}
-use Rattle.ca_emit.specs.Seen.{methods_seen}
+use Rattle.ca_emit.specs.clauses.Seen.{methods_seen}
 use Rattle.ca_emit.proofs.Picking.{one_at, method_at, none_behind}
 use Rattle.ca_emit.proofs.emitting.sites.Goals as goal
 

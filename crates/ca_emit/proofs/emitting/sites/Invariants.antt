@@ -1,7 +1,7 @@
 use Rattle.std.proofs.Common.{◌≡◌, ◌++◌, drop}
 use Rattle.ca_program.specs.View.{program_view}
 use Rattle.ca_emit.specs.Annotations.{sites_from}
-use Rattle.ca_emit.specs.Seen.{methods_seen}
+use Rattle.ca_emit.specs.clauses.Seen.{methods_seen}
 use Rattle.ca_emit.proofs.emitting.sites.Given as goal
 
 abbrev pub invariant-loop-n : goal.invariant-loop-n

@@ -2,7 +2,7 @@ use Rattle.std.proofs.Common.{[], ◌∷◌, refl, arith}
 use Rattle.ca_tree.specs.View.{member_view}
 use Rattle.ca_extent.proofs.Walks.{one_more, none_left}
 use Rattle.ca_emit.specs.Annotations.{operations_in}
-use Rattle.ca_emit.specs.Seen.{members_seen}
+use Rattle.ca_emit.specs.clauses.Seen.{members_seen}
 use Rattle.ca_emit.proofs.Found.{of_members}
 use Rattle.ca_emit.proofs.parallel.add_operations.Goals as goal
 

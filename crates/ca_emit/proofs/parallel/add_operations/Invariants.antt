@@ -1,6 +1,6 @@
 use Rattle.std.proofs.Common.{◌≡◌, ◌++◌, drop}
 use Rattle.ca_emit.specs.Annotations.{operations_in}
-use Rattle.ca_emit.specs.Seen.{members_seen, methods_seen}
+use Rattle.ca_emit.specs.clauses.Seen.{members_seen, methods_seen}
 use Rattle.ca_emit.proofs.parallel.add_operations.Given as goal
 
 abbrev pub invariant-loop-m : goal.invariant-loop-m

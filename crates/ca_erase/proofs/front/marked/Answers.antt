@@ -1,7 +1,7 @@
 use Rattle.std.proofs.Common.{◌≡◌, ℕ, ◌+◌, List, [], length, drop, sym, ap, ap₂, ◌∙◌, subst}
 use Rattle.ca_canonical.specs.Marks.{mark_text}
 use Rattle.ca_erase.specs.BadMarks.{space_of}
-use Rattle.ca_erase.specs.Fronts.{Step}
+use Rattle.ca_erase.specs.clauses.Fronts.{Step}
 use Rattle.ca_erase.proofs.Steps.{mark_step}
 use Rattle.ca_erase.proofs.front.marked.Goals as goal
 

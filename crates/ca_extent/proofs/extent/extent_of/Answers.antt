@@ -2,9 +2,9 @@ use Rattle.std.proofs.Common.{◌≡◌, map, ap, ◌∙◌}
 use Rattle.std.specs.Prelude.{flat_map}
 use Rattle.ca_program.specs.View.{method_view, program_view}
 use Rattle.ca_extent.specs.declared.numbers.Callees.TheVariants.{Operations, Functions}
-use Rattle.ca_extent.specs.Ids.{op_number, op_of, function_of, field_of}
-use Rattle.ca_extent.specs.Reached.{calls_at, IsReached}
-use Rattle.ca_extent.specs.Targets.{written_at}
+use Rattle.ca_extent.specs.clauses.Ids.{op_number, op_of, function_of, field_of}
+use Rattle.ca_extent.specs.clauses.Reached.{calls_at, IsReached}
+use Rattle.ca_extent.specs.clauses.Targets.{written_at}
 use Rattle.ca_extent.proofs.Whole.{whole, stands}
 use Rattle.ca_extent.proofs.extent.extent_of.Goals as goal
 

@@ -1,5 +1,5 @@
 use Rattle.std.proofs.Common.{◌≡◌, ◌++◌, drop, map}
-use Rattle.ca_extent.specs.Ids.{field_of}
+use Rattle.ca_extent.specs.clauses.Ids.{field_of}
 use Rattle.ca_extent.proofs.extent.fields_of.Given as goal
 
 abbrev pub invariant-loop-pair : goal.invariant-loop-pair

@@ -1,7 +1,7 @@
 use Rattle.std.proofs.Common.{refl, arith, map}
 use Rattle.std.specs.Prelude.{flat_map}
 use Rattle.ca_program.specs.View.{method_view}
-use Rattle.ca_extent.specs.Targets.{written_at}
+use Rattle.ca_extent.specs.clauses.Targets.{written_at}
 use Rattle.ca_extent.proofs.Walks.{one_more_at, none_left}
 use Rattle.ca_extent.proofs.extent.fields_written.Goals as goal
 

@@ -1,7 +1,7 @@
 use Rattle.std.proofs.Common.{◌≡◌, ◌++◌, drop, map}
 use Rattle.std.specs.Prelude.{flat_map}
 use Rattle.ca_program.specs.View.{method_view}
-use Rattle.ca_extent.specs.Targets.{written_at}
+use Rattle.ca_extent.specs.clauses.Targets.{written_at}
 use Rattle.ca_extent.proofs.extent.fields_written.Given as goal
 
 abbrev pub invariant-loop-n : goal.invariant-loop-n

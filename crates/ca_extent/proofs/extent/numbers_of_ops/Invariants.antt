@@ -1,5 +1,5 @@
 use Rattle.std.proofs.Common.{◌≡◌, ◌++◌, drop, map}
-use Rattle.ca_extent.specs.Ids.{op_number}
+use Rattle.ca_extent.specs.clauses.Ids.{op_number}
 use Rattle.ca_extent.proofs.extent.numbers_of_ops.Given as goal
 
 abbrev pub invariant-loop-op : goal.invariant-loop-op

@@ -1,5 +1,5 @@
 use Rattle.std.proofs.Common.{[], ◌∷◌, refl, arith, map}
-use Rattle.ca_extent.specs.Ids.{op_of}
+use Rattle.ca_extent.specs.clauses.Ids.{op_of}
 use Rattle.ca_extent.proofs.Walks.{one_more_at, none_left}
 use Rattle.ca_extent.proofs.extent.ops_of.Goals as goal
 

@@ -1,5 +1,5 @@
 use Rattle.std.proofs.Common.{◌≡◌, ◌++◌, drop, map}
-use Rattle.ca_extent.specs.Ids.{op_of}
+use Rattle.ca_extent.specs.clauses.Ids.{op_of}
 use Rattle.ca_extent.proofs.extent.ops_of.Given as goal
 
 abbrev pub invariant-loop-n : goal.invariant-loop-n

@@ -2,7 +2,7 @@ use Rattle.std.proofs.Common.{◌≡◌, ◌++◌, drop, map}
 use Rattle.std.specs.Prelude.{flat_map}
 use Rattle.ca_program.specs.View.{method_view}
 use Rattle.ca_extent.specs.declared.numbers.Callees.TheVariants.{Functions}
-use Rattle.ca_extent.specs.Reached.{calls_at}
+use Rattle.ca_extent.specs.clauses.Reached.{calls_at}
 use Rattle.ca_extent.proofs.extent.values_called.Given as goal
 
 abbrev pub invariant-loop-n : goal.invariant-loop-n

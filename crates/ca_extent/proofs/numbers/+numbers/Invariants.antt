@@ -1,6 +1,6 @@
 use Rattle.std.proofs.Common.{◌≡◌, ◌++◌, drop}
 use Rattle.ca_program.specs.View.{statements_view}
-use Rattle.ca_extent.specs.Numbers.{numbers_of_all}
+use Rattle.ca_extent.specs.clauses.Numbers.{numbers_of_all}
 use Rattle.ca_extent.proofs.numbers.+numbers.Given as goal
 
 abbrev pub invariant-add_all_numbers-statements : goal.invariant-add_all_numbers-statements

@@ -2,7 +2,7 @@ use Rattle.std.proofs.Common.{◌≡◌, [], ◌∷◌, ◌++◌, refl, sym, ap,
 use Rattle.ca_program.specs.Plain.{value_call}
 use Rattle.ca_program.specs.View.{expression_view, expressions_view}
 use Rattle.ca_program.proofs.Rows.{row_is_list}
-use Rattle.ca_extent.specs.Numbers.{values_in, values_in_all}
+use Rattle.ca_extent.specs.clauses.Numbers.{values_in, values_in_all}
 use Rattle.ca_extent.proofs.Walks.{one_more, none_left, three}
 use Rattle.ca_extent.proofs.numbers.+values.Goals as goal
 

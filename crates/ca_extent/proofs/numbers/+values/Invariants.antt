@@ -1,6 +1,6 @@
 use Rattle.std.proofs.Common.{◌≡◌, ◌++◌, drop}
 use Rattle.ca_program.specs.View.{expressions_view}
-use Rattle.ca_extent.specs.Numbers.{values_in_all}
+use Rattle.ca_extent.specs.clauses.Numbers.{values_in_all}
 use Rattle.ca_extent.proofs.numbers.+values.Given as goal
 
 abbrev pub invariant-add_all_values-expressions : goal.invariant-add_all_values-expressions

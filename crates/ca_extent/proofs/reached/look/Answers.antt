@@ -1,6 +1,6 @@
 use Rattle.std.proofs.Common.{◌≡◌, ◌<◌, false, length, get_or, refl, sym, ◌∙◌, arith}
 use Rattle.std.proofs.lemmas.List.{get_or_read}
-use Rattle.ca_extent.specs.Reached.{read}
+use Rattle.ca_extent.specs.clauses.Reached.{read}
 use Rattle.ca_extent.proofs.reached.look.Goals as goal
 
 pub returns : goal.returns

@@ -3,8 +3,8 @@ use Rattle.std.proofs.lemmas.List.{length-replicate, length-map}
 use Rattle.std.proofs.lemmas.Option.{slice_get_past}
 use Rattle.ca_program.specs.View.{method_view}
 use Rattle.ca_meaning.specs.Functions.{body_of}
-use Rattle.ca_extent.specs.Numbers.{numbers_of_all}
-use Rattle.ca_extent.specs.Reached.{calls_at}
+use Rattle.ca_extent.specs.clauses.Numbers.{numbers_of_all}
+use Rattle.ca_extent.specs.clauses.Reached.{calls_at}
 use Rattle.ca_extent.proofs.Searching.{starts, turn_keeps, turn_known, turn_less, all_met}
 use Rattle.ca_extent.proofs.reached.reached.Goals as goal
 

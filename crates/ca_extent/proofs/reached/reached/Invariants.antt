@@ -1,6 +1,6 @@
 use Rattle.std.proofs.Common.{◌≡◌, ◌+◌, ◌-◌, length, map}
 use Rattle.ca_program.specs.View.{method_view}
-use Rattle.ca_extent.specs.Reached.{calls_at}
+use Rattle.ca_extent.specs.clauses.Reached.{calls_at}
 use Rattle.ca_extent.proofs.Searching.{Searching, unread}
 use Rattle.ca_extent.proofs.reached.reached.Given as goal
 

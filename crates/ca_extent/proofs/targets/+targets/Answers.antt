@@ -2,7 +2,7 @@ use Rattle.std.proofs.Common.{◌≡◌, ◌++◌, refl, sym, ap, ◌∙◌, sub
 use Rattle.ca_program.specs.Plain.{block}
 use Rattle.ca_program.specs.View.{form_view, statement_view, statements_view}
 use Rattle.ca_program.proofs.Rows.{block_is}
-use Rattle.ca_extent.specs.Targets.{written_by, written_by_all}
+use Rattle.ca_extent.specs.clauses.Targets.{written_by, written_by_all}
 use Rattle.ca_extent.proofs.Walks.{one_more, none_left}
 use Rattle.ca_extent.proofs.targets.+targets.Goals as goal
 

@@ -2,7 +2,7 @@ use Rattle.std.proofs.Common.{[], sym, ◌∙◌, refl}
 use Rattle.std.proofs.lemmas.Result.{err_from_is_err_and}
 use Rattle.ca_descent.proofs.Parts.{and_ok, and_failed}
 use Rattle.ca_parse.proofs.Uses.{picked_got, picked_none, picked_failed}
-use Rattle.ca_parse.specs.Closed.{target_of}
+use Rattle.ca_parse.specs.clauses.Closed.{target_of}
 use Rattle.ca_parse.proofs.AssignRules.{is_targeted, no_target, assign_answer}
 use Rattle.ca_tree.specs.Plain.{field}
 use Rattle.ca_expressions.proofs.Terminals.{start}

@@ -1,7 +1,7 @@
 use Rattle.std.proofs.Common.{◌≡◌, length, map}
 use Rattle.ca_tree.specs.View.{member_view}
 use Rattle.ca_parse.specs.Grammar.{Further}
-use Rattle.ca_parse.specs.Closed.{MemberRest}
+use Rattle.ca_parse.specs.clauses.Closed.{MemberRest}
 use Rattle.ca_tree.specs.declared.token.Sign.TheVariants.{Semicolon}
 use Rattle.ca_expressions.proofs.Lists.{Commas}
 use Rattle.ca_parse.proofs.members.parse_fields.Given as goal

@@ -20,7 +20,7 @@ use Rattle.ca_descent.proofs.Exact.{shrinks}
 use Rattle.ca_tree.specs.Plain.{block}
 use Rattle.ca_tree.proofs.Rows.{statements_are_list}
 use Rattle.ca_parse.specs.Grammar.{Stmt}
-use Rattle.ca_parse.specs.Closed.{StmtClosed}
+use Rattle.ca_parse.specs.clauses.Closed.{StmtClosed}
 use Rattle.ca_parse.proofs.statements.+statement.Goals as goal
 
 pub parse_nested-returns-in_err-items-clause-answer : goal.parse_nested-returns-in_err-items-clause-answer

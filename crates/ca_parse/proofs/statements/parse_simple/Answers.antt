@@ -2,7 +2,7 @@ use Rattle.std.proofs.Common.{[], sym, ◌∙◌, refl, subst}
 use Rattle.std.proofs.lemmas.Result.{err_from_is_err_and}
 use Rattle.ca_descent.proofs.Parts.{and_ok, and_failed}
 use Rattle.ca_parse.proofs.Uses.{picked_got, picked_none, picked_failed}
-use Rattle.ca_parse.specs.Closed.{use_of, putting}
+use Rattle.ca_parse.specs.clauses.Closed.{use_of, putting}
 use Rattle.ca_parse.proofs.ChainStatements.{call_use, no_use, put_use, simple_answer, called_answer, put_answer}
 use Rattle.ca_tree.specs.Plain.{call_statement, field}
 use Rattle.ca_expressions.proofs.Terminals.{start}

@@ -1,7 +1,7 @@
 use Rattle.std.proofs.Common.{◌≡◌, ◌++◌, drop}
 use Rattle.ca_program.specs.View.{statements_view}
 use Rattle.ca_parallel.specs.Bodies.{fors_in_all}
-use Rattle.ca_plan.specs.Loops.{seen}
+use Rattle.ca_plan.specs.clauses.Loops.{seen}
 use Rattle.ca_plan.specs.Plans.{call_loops_of}
 use Rattle.ca_plan.proofs.calls.+loops.Given as goal
 

@@ -2,7 +2,7 @@ use Rattle.std.proofs.Common.{◌≡◌, true, false, sym, ap, ◌∙◌, append
 use Rattle.std.proofs.lemmas.List.{map-append}
 use Rattle.ca_program.specs.View.{statement_view}
 use Rattle.ca_symbolic.specs.OtherLoops.{is_call_loop}
-use Rattle.ca_plan.specs.Loops.{seen}
+use Rattle.ca_plan.specs.clauses.Loops.{seen}
 use Rattle.ca_plan.proofs.calls.add_loop.Goals as goal
 
 pub returns-in_ok-push : goal.returns-in_ok-push

@@ -1,5 +1,5 @@
 use Rattle.std.proofs.Common.{◌≡◌, ◌++◌, drop}
-use Rattle.ca_plan.specs.Loops.{seen}
+use Rattle.ca_plan.specs.clauses.Loops.{seen}
 use Rattle.ca_plan.proofs.LoopWalks.{loops_of_methods}
 use Rattle.ca_plan.proofs.calls.call_loops.Given as goal
 

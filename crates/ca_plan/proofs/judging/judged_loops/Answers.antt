@@ -1,7 +1,7 @@
 use Rattle.std.proofs.Common.{◌≡◌, [], ◌∷◌, length, Some, arith, ap, length-append}
 use Rattle.std.specs.Prelude.{slice_get}
 use Rattle.ca_program.specs.View.{program_view, statement_view}
-use Rattle.ca_plan.specs.Loops.{seen}
+use Rattle.ca_plan.specs.clauses.Loops.{seen}
 use Rattle.ca_plan.proofs.Judgements.{more_loops, more_told, none_at, seen_at}
 use Rattle.ca_plan.proofs.judging.judged_loops.Goals as goal
 

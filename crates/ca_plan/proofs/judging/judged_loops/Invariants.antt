@@ -1,6 +1,6 @@
 use Rattle.std.proofs.Common.{◌≡◌, length}
 use Rattle.ca_program.specs.View.{program_view}
-use Rattle.ca_plan.specs.Loops.{seen}
+use Rattle.ca_plan.specs.clauses.Loops.{seen}
 use Rattle.ca_plan.specs.Told.{AllWhollyTold}
 use Rattle.ca_plan.proofs.Judgements.{AreJudgedLoops, LoopsTold}
 use Rattle.ca_plan.proofs.judging.judged_loops.Given as goal

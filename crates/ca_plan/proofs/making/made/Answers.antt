@@ -4,7 +4,7 @@ use Rattle.std.proofs.lemmas.List.{length-map}
 use Rattle.ca_program.specs.declared.program.Stmt.{Stmt}
 use Rattle.ca_program.specs.View.{program_view, statement_view}
 use Rattle.ca_parallel.specs.Marks.{loops_of_program}
-use Rattle.ca_plan.specs.Loops.{seen}
+use Rattle.ca_plan.specs.clauses.Loops.{seen}
 use Rattle.ca_plan.specs.Plans.{call_loops}
 use Rattle.ca_plan.specs.Told.{AllWhollyTold, shared}
 use Rattle.ca_plan.proofs.Made.{AreLoops, AreMarks, is_plan, all_told, none_kept, are_ops, are_loops, are_marks, each_is}

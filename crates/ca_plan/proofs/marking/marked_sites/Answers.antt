@@ -2,7 +2,7 @@ use Rattle.std.proofs.Common.{◌≡◌, ℕ, List, Some, sym, subst, arith}
 use Rattle.std.specs.Prelude.{slice_get}
 use Rattle.ca_program.specs.View.{program_view, statement_view}
 use Rattle.ca_model.proofs.Stores.{found}
-use Rattle.ca_plan.specs.Loops.{seen}
+use Rattle.ca_plan.specs.clauses.Loops.{seen}
 use Rattle.ca_plan.proofs.Judgements.{seen_at}
 use Rattle.ca_plan.proofs.Chosen.{SitesTo, no_sites, next_site, all_sites}
 use Rattle.ca_plan.proofs.marking.marked_sites.Goals as goal

@@ -1,5 +1,5 @@
 use Rattle.ca_program.specs.View.{program_view}
-use Rattle.ca_plan.specs.Loops.{seen}
+use Rattle.ca_plan.specs.clauses.Loops.{seen}
 use Rattle.ca_plan.proofs.Chosen.{SitesTo}
 use Rattle.ca_plan.proofs.marking.marked_sites.Given as goal
 

@@ -1,7 +1,7 @@
 use Rattle.std.proofs.Common.{◌≡◌, ℕ, List, length}
 use Rattle.ca_program.specs.Plain.{PlainMethod}
 use Rattle.ca_program.specs.View.{statements_view}
-use Rattle.ca_serial.specs.Answers.{OwnsSlots, all_run_in}
+use Rattle.ca_serial.specs.clauses.Answers.{OwnsSlots, all_run_in}
 use Rattle.ca_serial.proofs.answers.answer_of.Given as goal
 
 abbrev pub invariant-loop-first : goal.invariant-loop-first

@@ -11,9 +11,9 @@ use Rattle.ca_serial.specs.declared.extents.ExtentAnswer.{ExtentAnswer}
 use Rattle.ca_parallel.specs.declared.op.Op.{Op}
 use Rattle.ca_parallel.specs.Parallel.{ParallelFrom}
 use Rattle.ca_meaning.specs.WellTyped.{AllWellTyped}
-use Rattle.ca_serial.specs.Loops.{section_next, notes_of}
-use Rattle.ca_serial.specs.Bodies.{with_locals}
-use Rattle.ca_serial.specs.Resume.{and_notes}
+use Rattle.ca_serial.specs.clauses.Loops.{section_next, notes_of}
+use Rattle.ca_serial.specs.clauses.Bodies.{with_locals}
+use Rattle.ca_serial.specs.clauses.Resume.{and_notes}
 use Rattle.ca_serial.specs.declared.machine.Machine.{Machine}
 use Rattle.ca_serial.proofs.Quietness.{is_none}
 use Rattle.std.proofs.lemmas.Result.{err_from_is_err_and}

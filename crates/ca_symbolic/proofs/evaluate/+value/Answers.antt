@@ -8,7 +8,7 @@ use Rattle.ca_shared_terms.specs.declared.errors.ExecutionError.TheVariants.{Lar
 use Rattle.ca_symbolic.specs.Execution.{sort_of_result, term_of}
 use Rattle.ca_symbolic.specs.Demands.{terms_in, demands_in, demands_in_all}
 use Rattle.ca_symbolic.specs.Demanded.{Demanded, with_demands}
-use Rattle.ca_symbolic.specs.Refusals.{refused, refused_all}
+use Rattle.ca_symbolic.specs.clauses.Refusals.{refused, refused_all}
 use Rattle.ca_shared_terms.specs.Heavy.{is_heavy}
 use Rattle.ca_symbolic.proofs.Blocks.{call_view}
 use Rattle.ca_symbolic.proofs.Calling.{call_term, call_demands}

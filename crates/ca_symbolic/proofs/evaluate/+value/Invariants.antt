@@ -1,7 +1,7 @@
 use Rattle.std.proofs.Common.{◌≡◌, ◌++◌, drop}
 use Rattle.ca_program.specs.View.{expressions_view, program_view}
 use Rattle.ca_symbolic.specs.Demands.{terms_in, demands_in_all}
-use Rattle.ca_symbolic.specs.Refusals.{refused_all}
+use Rattle.ca_symbolic.specs.clauses.Refusals.{refused_all}
 use Rattle.ca_symbolic.proofs.evaluate.+value.Given as goal
 
 abbrev pub invariant-values_of-loop-e : goal.invariant-values_of-loop-e

@@ -1,5 +1,5 @@
 use Rattle.std.proofs.Common.{◌≡◌, ◌++◌, sym, subst}
-use Rattle.ca_symbolic.specs.Places.{locals_put}
+use Rattle.ca_symbolic.specs.clauses.Places.{locals_put}
 use Rattle.ca_symbolic.proofs.Blocks.{block_view}
 use Rattle.ca_symbolic.proofs.places.+locals.Goals as goal
 

@@ -1,6 +1,6 @@
 use Rattle.std.proofs.Common.{rules, ◌≡◌, ◌++◌, sym, ap, subst, ◌∙◌, append_assoc}
 use Rattle.ca_program.specs.View.{expression_view, expressions_view}
-use Rattle.ca_symbolic.specs.Places.{locals_in, locals_in_all}
+use Rattle.ca_symbolic.specs.clauses.Places.{locals_in, locals_in_all}
 use Rattle.ca_symbolic.proofs.Blocks.{call_view}
 use Rattle.ca_symbolic.proofs.places.+names.Goals as goal
 

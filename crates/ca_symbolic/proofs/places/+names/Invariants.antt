@@ -1,6 +1,6 @@
 use Rattle.std.proofs.Common.{◌≡◌, ◌++◌, drop}
 use Rattle.ca_program.specs.View.{expressions_view}
-use Rattle.ca_symbolic.specs.Places.{locals_in_all}
+use Rattle.ca_symbolic.specs.clauses.Places.{locals_in_all}
 use Rattle.ca_symbolic.proofs.places.+names.Given as goal
 
 abbrev pub invariant-add_all_names-loop-e : goal.invariant-add_all_names-loop-e

@@ -1,5 +1,5 @@
 use Rattle.std.proofs.Common.{◌≡◌, ◌<◌, ℕ, length, take}
-use Rattle.ca_symbolic.specs.Places.{is_among, is_marked}
+use Rattle.ca_symbolic.specs.clauses.Places.{is_among, is_marked}
 use Rattle.ca_symbolic.proofs.places.marks.Given as goal
 
 abbrev pub invariant-loop-number : goal.invariant-loop-number

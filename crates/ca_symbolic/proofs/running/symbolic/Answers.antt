@@ -2,7 +2,7 @@ use Rattle.std.proofs.Common.{rules, ◌≡◌, Some, None, Err, sym, ap, ap₂,
 use Rattle.ca_program.specs.View.{method_view, program_view, statements_view}
 use Rattle.ca_norm.specs.Terms.{PlainTerm}
 use Rattle.ca_symbolic.specs.States.{State, first_locals}
-use Rattle.ca_symbolic.specs.Refusals.{refused_by_all}
+use Rattle.ca_symbolic.specs.clauses.Refusals.{refused_by_all}
 use Rattle.ca_symbolic.specs.Runs.{group_of, with_locals, first_other_loop}
 use Rattle.ca_symbolic.proofs.Bodies.{heavy_is}
 use Rattle.ca_symbolic.proofs.running.symbolic.Goals as goal

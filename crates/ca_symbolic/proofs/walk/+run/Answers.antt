@@ -4,7 +4,7 @@ use Rattle.ca_shared_terms.specs.declared.errors.ExecutionError.TheVariants.{Lar
 use Rattle.ca_symbolic.specs.Execution.{after}
 use Rattle.ca_symbolic.specs.Demands.{demanded}
 use Rattle.ca_symbolic.specs.Demanded.{with_demands}
-use Rattle.ca_symbolic.specs.Refusals.{refused_by}
+use Rattle.ca_symbolic.specs.clauses.Refusals.{refused_by}
 use Rattle.ca_symbolic.proofs.Blocks.{block_view}
 use Rattle.ca_symbolic.proofs.Flags.{neither, first_of, second_of}
 use Rattle.ca_symbolic.proofs.Told.{loop_told, loop_refused}

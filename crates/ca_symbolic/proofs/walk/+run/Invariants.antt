@@ -2,7 +2,7 @@ use Rattle.std.proofs.Common.{◌≡◌, ◌++◌, drop}
 use Rattle.ca_program.specs.View.{statements_view, program_view}
 use Rattle.ca_symbolic.specs.Execution.{after_all}
 use Rattle.ca_symbolic.specs.Demands.{demanded_all}
-use Rattle.ca_symbolic.specs.Refusals.{refused_by_all}
+use Rattle.ca_symbolic.specs.clauses.Refusals.{refused_by_all}
 use Rattle.ca_symbolic.proofs.walk.+run.Given as goal
 
 abbrev pub invariant-run_all-statements : goal.invariant-run_all-statements

@@ -1,5 +1,5 @@
 use Rattle.std.proofs.Common.{rules, ◌≡◌, ◌+◌, ℕ, Bool, length, ◌∙◌, arith}
-use Rattle.ca_symbolic.specs.Places.{is_among}
+use Rattle.ca_symbolic.specs.clauses.Places.{is_among}
 use Rattle.ca_symbolic.proofs.Joining.{joined_step, joined_light, joined_heavy, joined_end, at_end}
 use Rattle.ca_symbolic.proofs.walk.join_terms.Goals as goal
 

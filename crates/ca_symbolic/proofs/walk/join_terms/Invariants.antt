@@ -2,7 +2,7 @@ use Rattle.std.proofs.Common.{◌≡◌, ◌++◌, length, false, drop}
 use Rattle.std.specs.List.{list_any}
 use Rattle.ca_symbolic.specs.Execution.{choices}
 use Rattle.ca_symbolic.specs.Made.{targets}
-use Rattle.ca_symbolic.specs.Places.{is_among}
+use Rattle.ca_symbolic.specs.clauses.Places.{is_among}
 use Rattle.ca_shared_terms.specs.Heavy.{is_heavy}
 use Rattle.ca_symbolic.proofs.walk.join_terms.Given as goal
 

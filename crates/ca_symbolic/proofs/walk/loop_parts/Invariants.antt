@@ -2,7 +2,7 @@ use Rattle.std.proofs.Common.{◌≡◌, ◌++◌, false, drop}
 use Rattle.std.specs.List.{list_any}
 use Rattle.ca_program.specs.View.{statement_view}
 use Rattle.ca_symbolic.specs.Demands.{picked}
-use Rattle.ca_symbolic.specs.Places.{is_read}
+use Rattle.ca_symbolic.specs.clauses.Places.{is_read}
 use Rattle.ca_shared_terms.specs.Heavy.{is_heavy}
 use Rattle.ca_symbolic.proofs.walk.loop_parts.Given as goal
 

@@ -3,8 +3,8 @@ use Rattle.ca_tree.specs.View.{class_view}
 use Rattle.ca_resolve.specs.Judged.{Answers, fine}
 use Rattle.ca_resolve.specs.View.{classes_view}
 use Rattle.ca_types.specs.Classes.{no_parts, behind_class, first_class, judge_class}
-use Rattle.ca_types.specs.Adding.{add_class}
-use Rattle.ca_types.specs.View.{class_env, parts_view}
+use Rattle.ca_types.specs.clauses.Adding.{add_class}
+use Rattle.ca_types.specs.clauses.View.{class_env, parts_view}
 use Rattle.ca_types.proofs.Gathered.{classes_gathered}
 use Rattle.ca_types.proofs.Lists.{next_item, rest_step, rest_end, none_left}
 use Rattle.ca_types.proofs.classes.check_classes.Goals as goal

@@ -3,8 +3,8 @@ use Rattle.ca_tree.specs.View.{class_view}
 use Rattle.ca_resolve.specs.Judged.{Judged, Answers, fine}
 use Rattle.ca_resolve.specs.View.{classes_view}
 use Rattle.ca_types.specs.Classes.{Parts, no_parts, behind_class, first_class}
-use Rattle.ca_types.specs.Adding.{add_class}
-use Rattle.ca_types.specs.View.{class_env, parts_view}
+use Rattle.ca_types.specs.clauses.Adding.{add_class}
+use Rattle.ca_types.specs.clauses.View.{class_env, parts_view}
 use Rattle.ca_types.proofs.Lists.{Rest}
 use Rattle.ca_types.proofs.classes.check_classes.Given as goal
 

@@ -2,8 +2,8 @@ use Rattle.std.proofs.Common.{map, sym, subst, ◌∙◌}
 use Rattle.ca_tree.specs.View.{member_view}
 use Rattle.ca_resolve.specs.Judged.{Answers, fine}
 use Rattle.ca_types.specs.Classes.{no_members, behind_member}
-use Rattle.ca_types.specs.Adding.{add_member}
-use Rattle.ca_types.specs.View.{member_env, members_view}
+use Rattle.ca_types.specs.clauses.Adding.{add_member}
+use Rattle.ca_types.specs.clauses.View.{member_env, members_view}
 use Rattle.ca_types.proofs.Gathered.{members_gathered}
 use Rattle.ca_types.proofs.Lists.{next_item, rest_step, rest_end, none_left}
 use Rattle.ca_types.proofs.classes.check_members.Goals as goal

@@ -2,8 +2,8 @@ use Rattle.std.proofs.Common.{map, drop}
 use Rattle.ca_tree.specs.View.{member_view}
 use Rattle.ca_resolve.specs.Judged.{Judged, Answers, fine}
 use Rattle.ca_types.specs.Classes.{Members, no_members, behind_member}
-use Rattle.ca_types.specs.Adding.{add_member}
-use Rattle.ca_types.specs.View.{member_env, members_view}
+use Rattle.ca_types.specs.clauses.Adding.{add_member}
+use Rattle.ca_types.specs.clauses.View.{member_env, members_view}
 use Rattle.ca_types.proofs.Lists.{Rest}
 use Rattle.ca_types.proofs.classes.check_members.Given as goal
 

@@ -1,5 +1,5 @@
 use Rattle.std.proofs.lemmas.Result.{err_from_is_err_and}
-use Rattle.ca_types.specs.View.{members_view}
+use Rattle.ca_types.specs.clauses.View.{members_view}
 use Rattle.ca_types.proofs.Answering.{beside_exit}
 use Rattle.ca_types.proofs.classes.class_of.Goals as goal
 

@@ -1,5 +1,5 @@
 use Rattle.std.proofs.lemmas.Result.{err_from_is_err_and}
-use Rattle.ca_types.specs.View.{parts_view, members_view}
+use Rattle.ca_types.specs.clauses.View.{parts_view, members_view}
 use Rattle.ca_resolve.proofs.Judging.{both_exit}
 use Rattle.ca_types.proofs.classes.with_class.Goals as goal
 

@@ -1,6 +1,6 @@
 use Rattle.std.proofs.lemmas.Result.{err_from_is_err_and}
 use Rattle.ca_program.specs.View.{method_view}
-use Rattle.ca_types.specs.View.{members_view}
+use Rattle.ca_types.specs.clauses.View.{members_view}
 use Rattle.ca_resolve.proofs.Judging.{both_exit}
 use Rattle.ca_types.proofs.classes.with_method.Goals as goal
 

@@ -7,7 +7,7 @@ use Rattle.ca_resolve.specs.Scopes.{Invocation}
 use Rattle.ca_resolve.specs.Values.{judge_call, place_of, in_order}
 use Rattle.ca_resolve.specs.View.{invocation_view}
 use Rattle.ca_types.specs.Rules.{called_operation}
-use Rattle.ca_types.specs.View.{env_view}
+use Rattle.ca_types.specs.clauses.View.{env_view}
 use Rattle.ca_resolve.proofs.Judging.{within_tells}
 use Rattle.ca_types.proofs.Answering.{own_tells, within_ok}
 use Rattle.ca_resolve.proofs.InMemory.{place_is, in_order_is}

@@ -6,7 +6,7 @@ use Rattle.ca_resolve.specs.Judged.{Answers, fine, beside, unless}
 use Rattle.ca_types.specs.Rules.{member_once, field_limit, length_limit, length_stands}
 use Rattle.ca_types.specs.Statements.{judge_type}
 use Rattle.ca_types.specs.Classes.{item_count}
-use Rattle.ca_types.specs.View.{member_env}
+use Rattle.ca_types.specs.clauses.View.{member_env}
 use Rattle.ca_types.proofs.Answering.{own_tells, besides, beside_exit, pair_breaks}
 use Rattle.ca_types.proofs.members.check_field.Goals as goal
 

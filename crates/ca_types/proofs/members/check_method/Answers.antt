@@ -5,7 +5,7 @@ use Rattle.ca_program.specs.declared.program.ValueType.{ValueType}
 use Rattle.ca_resolve.specs.Judged.{Answers, both}
 use Rattle.ca_types.specs.Statements.{behind_all, judge_statements}
 use Rattle.ca_types.specs.Classes.{beginning, behind_parameters, judge_parameters, judge_result_type, method_begin, body_begin, method_end}
-use Rattle.ca_types.specs.View.{env_view, member_env, all_view}
+use Rattle.ca_types.specs.clauses.View.{env_view, member_env, all_view}
 use Rattle.ca_types.proofs.Answering.{joined}
 use Rattle.ca_types.proofs.members.check_method.Goals as goal
 

@@ -6,7 +6,7 @@ use Rattle.ca_resolve.specs.declared.codes.TheConstants.{TOO_MANY_PARAMETERS, TO
 use Rattle.ca_types.specs.declared.limits.TheConstants.{MOST_PARAMETERS, MOST_LOCALS}
 use Rattle.ca_types.specs.Rules.{listed, parameter_limit, local_limit}
 use Rattle.ca_types.specs.Statements.{judge_type}
-use Rattle.ca_types.specs.View.{env_view}
+use Rattle.ca_types.specs.clauses.View.{env_view}
 use Rattle.ca_types.proofs.Answering.{besides, beside_exit}
 use Rattle.ca_types.proofs.members.check_parameter.Goals as goal
 

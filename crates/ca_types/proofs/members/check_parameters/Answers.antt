@@ -4,8 +4,8 @@ use Rattle.ca_resolve.specs.Judged.{Answers, fine}
 use Rattle.ca_resolve.proofs.Tables.{next_read}
 use Rattle.ca_types.specs.Statements.{declare}
 use Rattle.ca_types.specs.Classes.{behind_parameter, judge_parameter}
-use Rattle.ca_types.specs.Adding.{add_parameter}
-use Rattle.ca_types.specs.View.{env_view}
+use Rattle.ca_types.specs.clauses.Adding.{add_parameter}
+use Rattle.ca_types.specs.clauses.View.{env_view}
 use Rattle.ca_types.proofs.Gathered.{parameters_gathered}
 use Rattle.ca_types.proofs.Lists.{rest_start, rest_step, rest_end}
 use Rattle.ca_types.proofs.members.check_parameters.Goals as goal

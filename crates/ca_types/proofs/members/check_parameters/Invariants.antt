@@ -1,8 +1,8 @@
 use Rattle.std.proofs.Common.{drop}
 use Rattle.ca_resolve.specs.Judged.{Judged, Answers, fine}
 use Rattle.ca_types.specs.Classes.{behind_parameter}
-use Rattle.ca_types.specs.Adding.{add_parameter}
-use Rattle.ca_types.specs.View.{env_view}
+use Rattle.ca_types.specs.clauses.Adding.{add_parameter}
+use Rattle.ca_types.specs.clauses.View.{env_view}
 use Rattle.ca_types.proofs.Lists.{Rest}
 use Rattle.ca_types.proofs.members.check_parameters.Given as goal
 

@@ -8,7 +8,7 @@ use Rattle.ca_program.specs.Plain as program
 use Rattle.ca_resolve.specs.Judged.{Answers, fine, beside, unless}
 use Rattle.ca_types.specs.Rules.{member_once, ends_with_return}
 use Rattle.ca_types.specs.Classes.{method_limit, method_of}
-use Rattle.ca_types.specs.View.{member_env, all_view, method_parts_view}
+use Rattle.ca_types.specs.clauses.View.{member_env, all_view, method_parts_view}
 use Rattle.ca_types.proofs.Answering.{own_tells, within_ok, besides, beside_exit, pair_breaks, pair_stands}
 use Rattle.ca_types.proofs.Nodes.{statements_are}
 use Rattle.ca_types.proofs.members.method_of.Goals as goal

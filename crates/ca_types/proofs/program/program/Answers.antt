@@ -3,7 +3,7 @@ use Rattle.ca_program.specs.declared.program.Stmt.{Stmt}
 use Rattle.ca_program.specs.Plain as program
 use Rattle.ca_resolve.specs.Judged.{Answers, fine}
 use Rattle.ca_types.specs.Classes.{Parts, program_of}
-use Rattle.ca_types.specs.View.{parts_view, all_view}
+use Rattle.ca_types.specs.clauses.View.{parts_view, all_view}
 use Rattle.ca_types.specs.declared.classes.Parts.{Parts as CodeParts}
 use Rattle.ca_types.proofs.Answering.{within_ok}
 use Rattle.ca_types.proofs.Nodes.{statements_are}

@@ -6,7 +6,7 @@ use Rattle.ca_resolve.specs.Scopes.{classes_of}
 use Rattle.ca_resolve.specs.View.{classes_view}
 use Rattle.ca_types.specs.Statements.{behind_all, judge_statements}
 use Rattle.ca_types.specs.Classes.{beginning, first_class, behind_classes, judge_classes, main_begin, program_of}
-use Rattle.ca_types.specs.View.{env_view, parts_view, all_view}
+use Rattle.ca_types.specs.clauses.View.{env_view, parts_view, all_view}
 use Rattle.ca_types.proofs.Answering.{joined}
 use Rattle.ca_types.proofs.program.walk_over.Goals as goal
 

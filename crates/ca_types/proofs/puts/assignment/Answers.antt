@@ -9,7 +9,7 @@ use Rattle.ca_resolve.specs.View.{target_view}
 use Rattle.ca_resolve.proofs.Judging.{both_exit, both_fine}
 use Rattle.ca_types.specs.Rules.{creates_nothing}
 use Rattle.ca_types.specs.Statements.{Source, put}
-use Rattle.ca_types.specs.View.{source_view}
+use Rattle.ca_types.specs.clauses.View.{source_view}
 use Rattle.ca_types.proofs.Answering.{own_tells, within_ok, stands, breaks}
 use Rattle.ca_types.proofs.puts.assignment.Goals as goal
 

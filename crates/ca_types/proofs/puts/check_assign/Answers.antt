@@ -6,7 +6,7 @@ use Rattle.ca_resolve.specs.Judged.{Answers}
 use Rattle.ca_resolve.specs.LocalView.{ty_view}
 use Rattle.ca_resolve.specs.View.{scope_view, target_view}
 use Rattle.ca_types.specs.Statements.{right_ty, judge_put_target, judge_right, judge_assignment}
-use Rattle.ca_types.specs.View.{env_view, source_view}
+use Rattle.ca_types.specs.clauses.View.{env_view, source_view}
 use Rattle.ca_types.proofs.puts.check_assign.Goals as goal
 
 pub returns : goal.returns

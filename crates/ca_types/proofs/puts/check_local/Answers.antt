@@ -9,7 +9,7 @@ use Rattle.ca_resolve.specs.declared.codes.TheConstants.{TOO_MANY_LOCALS}
 use Rattle.ca_types.specs.declared.limits.TheConstants.{MOST_LOCALS}
 use Rattle.ca_types.specs.Rules.{listed, local_once, creates_nothing, local_limit}
 use Rattle.ca_types.specs.Statements.{judge_type, judge_start, start_creates, judge_declaration}
-use Rattle.ca_types.specs.View.{env_view, source_view}
+use Rattle.ca_types.specs.clauses.View.{env_view, source_view}
 use Rattle.ca_types.specs.declared.puts.Source.{Source as CodeSource}
 use Rattle.ca_types.proofs.Answering.{joined, besides}
 use Rattle.ca_types.proofs.puts.check_local.Goals as goal

@@ -6,7 +6,7 @@ use Rattle.ca_resolve.specs.Scopes.{Target, Ty}
 use Rattle.ca_resolve.specs.Values.{judge_target, place_of}
 use Rattle.ca_resolve.specs.View.{target_view}
 use Rattle.ca_types.specs.Rules.{compound_agrees, writes_no_field}
-use Rattle.ca_types.specs.View.{env_view}
+use Rattle.ca_types.specs.clauses.View.{env_view}
 use Rattle.ca_types.proofs.Answering.{pair_breaks, own_tells}
 use Rattle.ca_resolve.proofs.InMemory.{place_is}
 use Rattle.ca_types.proofs.puts.check_put_target.Goals as goal

@@ -7,7 +7,7 @@ use Rattle.ca_resolve.specs.Judged.{fine, unless, beside}
 use Rattle.ca_resolve.specs.View.{target_view}
 use Rattle.ca_resolve.proofs.Judging.{one_exit, one_fine}
 use Rattle.ca_types.specs.Statements.{Source, put}
-use Rattle.ca_types.specs.View.{source_view, local_parts_view}
+use Rattle.ca_types.specs.clauses.View.{source_view, local_parts_view}
 use Rattle.ca_types.proofs.Answering.{pair_breaks, own_tells}
 use Rattle.ca_types.proofs.puts.declaration.Goals as goal
 

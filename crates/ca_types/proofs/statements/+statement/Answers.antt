@@ -6,7 +6,7 @@ use Rattle.ca_program.specs.View as resolved
 use Rattle.ca_resolve.specs.Judged.{Answers, fine, each}
 use Rattle.ca_resolve.proofs.Judging.{extends_answers}
 use Rattle.ca_types.specs.Statements.{judge_statement, behind}
-use Rattle.ca_types.specs.View.{env_view, all_view}
+use Rattle.ca_types.specs.clauses.View.{env_view, all_view}
 use Rattle.ca_types.proofs.Blocks.{inner_behind, block_behind, loop_behind}
 use Rattle.ca_types.proofs.Walks.{step, ended}
 use Rattle.ca_types.proofs.statements.+statement.Goals as goal

@@ -2,7 +2,7 @@ use Rattle.std.proofs.Common.{List, drop}
 use Rattle.ca_program.specs.Plain as program
 use Rattle.ca_tree.specs.View.{statements_view}
 use Rattle.ca_resolve.specs.Judged.{Judged, Answers, each}
-use Rattle.ca_types.specs.View.{env_view, all_view}
+use Rattle.ca_types.specs.clauses.View.{env_view, all_view}
 use Rattle.ca_types.proofs.Walks.{Left}
 use Rattle.ca_types.proofs.statements.+statement.Given as goal
 

@@ -3,7 +3,7 @@ use Rattle.ca_program.specs.Plain as program
 use Rattle.ca_program.proofs.Rows.{block_is}
 use Rattle.ca_resolve.specs.Judged.{Answers, fine}
 use Rattle.ca_types.specs.Statements.{statements_in}
-use Rattle.ca_types.specs.View.{all_view}
+use Rattle.ca_types.specs.clauses.View.{all_view}
 use Rattle.ca_types.proofs.Answering.{within_ok}
 use Rattle.ca_types.proofs.Nodes.{statements_are}
 use Rattle.ca_types.proofs.statements.block.Goals as goal

@@ -6,7 +6,7 @@ use Rattle.ca_program.specs.Plain as program
 use Rattle.ca_program.specs.View as resolved
 use Rattle.ca_resolve.specs.Judged.{both}
 use Rattle.ca_types.specs.Rules.{loop_limit}
-use Rattle.ca_types.specs.View.{boxed_view}
+use Rattle.ca_types.specs.clauses.View.{boxed_view}
 use Rattle.ca_types.proofs.Answering.{joined, beside_exit}
 use Rattle.ca_types.proofs.statements.for_loop.Goals as goal
 

@@ -3,7 +3,7 @@ use Rattle.std.proofs.lemmas.Result.{err_from_is_err_and}
 use Rattle.ca_program.specs.declared.program.Stmt.{Stmt}
 use Rattle.ca_program.specs.View as resolved
 use Rattle.ca_resolve.specs.Judged.{both}
-use Rattle.ca_types.specs.View.{boxed_view}
+use Rattle.ca_types.specs.clauses.View.{boxed_view}
 use Rattle.ca_resolve.proofs.Judging.{both_exit}
 use Rattle.ca_types.proofs.Answering.{joined}
 use Rattle.ca_types.proofs.statements.if_else.Goals as goal

@@ -1,6 +1,6 @@
 use Rattle.std.proofs.lemmas.Result.{err_from_is_err_and}
 use Rattle.ca_program.specs.View as resolved
-use Rattle.ca_types.specs.View.{boxed_view}
+use Rattle.ca_types.specs.clauses.View.{boxed_view}
 use Rattle.ca_resolve.proofs.Judging.{both_exit}
 use Rattle.ca_types.proofs.statements.while_loop.Goals as goal
 

@@ -7,8 +7,8 @@ use Rattle.ca_symbolic.specs.Demanded.{demands_of}
 use Rattle.ca_verdicts.specs.Keys.{Key}
 use Rattle.ca_verdicts.specs.declared.marks.Marks.{Marks}
 use Rattle.ca_verdicts.specs.declared.verdicts.Reason.{Reason}
-use Rattle.ca_verdicts.specs.Comparisons.{TellsKey, TellsFirst, TellsSecond, TellsApart}
-use Rattle.ca_verdicts.specs.Marks.{marks_in, condition_of, summed_up, IsSettled, AreSettled, AllSettled, EachMarked}
+use Rattle.ca_verdicts.specs.clauses.Comparisons.{TellsKey, TellsFirst, TellsSecond, TellsApart}
+use Rattle.ca_verdicts.specs.clauses.Marks.{marks_in, condition_of, summed_up, IsSettled, AreSettled, AllSettled, EachMarked}
 use Rattle.ca_verdicts.proofs.Comparing.{told_of}
 use Rattle.ca_verdicts.proofs.MarkSums.{demanded_is, each_front, each_last, settled_more, all_settled}
 use Rattle.ca_verdicts.proofs.compare.demands_differ.Goals as goal

@@ -1,5 +1,5 @@
 use Rattle.std.proofs.Common.{length, map}
-use Rattle.ca_verdicts.specs.Marks.{condition_of, AreSettled, AllSettled, EachMarked}
+use Rattle.ca_verdicts.specs.clauses.Marks.{condition_of, AreSettled, AllSettled, EachMarked}
 use Rattle.ca_verdicts.proofs.compare.demands_differ.Given as goal
 
 abbrev pub invariant-loop-key : goal.invariant-loop-key

@@ -1,5 +1,5 @@
 use Rattle.std.proofs.Common.{sym, subst}
-use Rattle.ca_verdicts.specs.Marks.{AllSettled}
+use Rattle.ca_verdicts.specs.clauses.Marks.{AllSettled}
 use Rattle.ca_verdicts.proofs.Settled.{settled_insert}
 use Rattle.ca_verdicts.proofs.compare.settle.Goals as goal
 

@@ -3,7 +3,7 @@ use Rattle.ca_sums.proofs.Products.{SameTotals}
 use Rattle.ca_symbolic.specs.declared.running.Side.TheVariants as side
 use Rattle.ca_verdicts.specs.Keys.{Key}
 use Rattle.ca_verdicts.specs.declared.marks.Marks.{Marks}
-use Rattle.ca_verdicts.specs.Marks.{marks_in, marks_at, found, EachMarked}
+use Rattle.ca_verdicts.specs.clauses.Marks.{marks_in, marks_at, found, EachMarked}
 use Rattle.ca_verdicts.proofs.MarkSums.{firsts_marked, seconds_marked, found_all, each_marked}
 use Rattle.ca_verdicts.proofs.compare.table_of.Goals as goal
 

@@ -3,7 +3,7 @@ use Rattle.ca_sums.specs.Sums.{Sum}
 use Rattle.ca_sums.proofs.Products.{SameTotals}
 use Rattle.ca_symbolic.specs.declared.demand.Demand.{Demand}
 use Rattle.ca_verdicts.specs.Keys.{key_cmp}
-use Rattle.ca_verdicts.specs.Marks.{key_at, mark_if, marks_of, same_side, marks_at, found, if_side}
+use Rattle.ca_verdicts.specs.clauses.Marks.{key_at, mark_if, marks_of, same_side, marks_at, found, if_side}
 use Rattle.ca_verdicts.proofs.MarkSums.{same_then, side_step}
 use Rattle.ca_verdicts.proofs.marks.mark_all.Goals as goal
 

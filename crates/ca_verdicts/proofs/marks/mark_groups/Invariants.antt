@@ -2,7 +2,7 @@ use Rattle.std.proofs.Common.{◌++◌, drop}
 use Rattle.ca_sums.proofs.Products.{SameTotals}
 use Rattle.ca_symbolic.specs.declared.running.Side.{Side}
 use Rattle.ca_verdicts.specs.Keys.{Key}
-use Rattle.ca_verdicts.specs.Marks.{marks_in, marks_at, found, if_side}
+use Rattle.ca_verdicts.specs.clauses.Marks.{marks_in, marks_at, found, if_side}
 use Rattle.ca_verdicts.proofs.marks.mark_groups.Given as goal
 
 abbrev pub invariant-loop-place : goal.invariant-loop-place

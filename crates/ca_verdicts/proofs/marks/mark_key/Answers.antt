@@ -1,6 +1,6 @@
 use Rattle.std.proofs.Common.{◌++◌, Some, subst}
 use Rattle.ca_sums.proofs.Products.{SameTotals}
-use Rattle.ca_verdicts.specs.Marks.{mark_if, same_side, marks_at, found}
+use Rattle.ca_verdicts.specs.clauses.Marks.{mark_if, same_side, marks_at, found}
 use Rattle.ca_verdicts.proofs.MarkSums.{key_marked}
 use Rattle.ca_verdicts.proofs.marks.mark_key.Goals as goal
 

@@ -1,5 +1,5 @@
 use Rattle.std.proofs.Common.{◌≡◌, map, take}
-use Rattle.ca_verdicts.specs.Marks.{condition_of}
+use Rattle.ca_verdicts.specs.clauses.Marks.{condition_of}
 use Rattle.ca_verdicts.proofs.sums.conditions_of.Given as goal
 
 abbrev pub invariant-loop-group : goal.invariant-loop-group

@@ -7,7 +7,7 @@ use Rattle.ca_forms.specs.Plain.{PlainMonomial, number_form}
 use Rattle.ca_forms.specs.Lists.{polynomial_of}
 use Rattle.ca_forms.specs.Compare.{monomial_cmp}
 use Rattle.ca_forms.proofs.Exact.{monomials_exact}
-use Rattle.ca_verdicts.specs.Marks.{products_at, summed_up}
+use Rattle.ca_verdicts.specs.clauses.Marks.{products_at, summed_up}
 use Rattle.ca_verdicts.proofs.MarkSums.{adds_times, adds_none}
 use Rattle.ca_verdicts.proofs.sums.sum_of.Goals as goal
 

@@ -1,7 +1,7 @@
 use Rattle.std.proofs.Common.{drop}
 use Rattle.ca_sums.specs.Sums.{Sum, NoZero, AddsSum}
 use Rattle.ca_forms.specs.Plain.{PlainMonomial}
-use Rattle.ca_verdicts.specs.Marks.{summed_up}
+use Rattle.ca_verdicts.specs.clauses.Marks.{summed_up}
 use Rattle.ca_verdicts.proofs.sums.sum_of.Given as goal
 
 abbrev pub invariant-loop-mark : goal.invariant-loop-mark

@@ -6,7 +6,7 @@ use Rattle.ca_logs.specs.Entries.{task_calls}
 use Rattle.ca_logs.specs.Laws.{objects_of}
 use Rattle.ca_run.proofs.Going.{Going, going_nowhere}
 use Rattle.ca_workers.specs.declared.rounds.Left.{Left}
-use Rattle.ca_workers.specs.Runs.{MayWait, Turned}
+use Rattle.ca_workers.specs.clauses.Runs.{MayWait, Turned}
 use Rattle.ca_workers.proofs.Going.{goes_on, waits_on, goes_nowhere}
 use Rattle.ca_workers.proofs.Stored.{fits}
 use Rattle.ca_workers.proofs.rounds.run_rounds.Goals as goal

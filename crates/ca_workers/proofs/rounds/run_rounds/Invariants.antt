@@ -3,7 +3,7 @@ use Rattle.ca_program.specs.View.{program_view}
 use Rattle.ca_logs.specs.declared.log.Task.{Task}
 use Rattle.ca_logs.specs.Entries.{task_calls}
 use Rattle.ca_run.proofs.Going.{Going}
-use Rattle.ca_workers.specs.Runs.{MayWait}
+use Rattle.ca_workers.specs.clauses.Runs.{MayWait}
 use Rattle.ca_workers.proofs.rounds.run_rounds.Given as goal
 
 abbrev pub invariant-loop-alloc : goal.invariant-loop-alloc

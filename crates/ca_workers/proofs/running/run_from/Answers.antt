@@ -5,7 +5,7 @@ use Rattle.ca_logs.specs.Entries.{task_calls}
 use Rattle.ca_logs.specs.Laws.{objects_of}
 use Rattle.ca_run.specs.Beside.{SameShapes}
 use Rattle.ca_workers.specs.declared.rounds.Left.{Left}
-use Rattle.ca_workers.specs.Runs.{Turned, Placed}
+use Rattle.ca_workers.specs.clauses.Runs.{Turned, Placed}
 use Rattle.ca_workers.proofs.Going.{nothing_runs, then_done, then_none, waits_on, moved}
 use Rattle.ca_workers.proofs.Places.{nothing_in}
 use Rattle.ca_workers.proofs.Stored.{fits}

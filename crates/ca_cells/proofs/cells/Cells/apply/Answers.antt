@@ -8,7 +8,7 @@ use Rattle.ca_cells.specs.Histories.{is_closed, next_clock, stuck_entry}
 use Rattle.ca_cells.specs.Adds.{IsRan}
 use Rattle.ca_cells.specs.Rounds.{program_of, frozen_of, IsLegal}
 use Rattle.ca_cells.specs.Notes.{IsKept, InOrder, note_of, last_place}
-use Rattle.ca_cells.specs.Plays.{Mine}
+use Rattle.ca_cells.specs.clauses.Plays.{Mine}
 use Rattle.ca_cells.specs.Seats.{cells_key}
 use Rattle.ca_cells.specs.declared.adding.Added.{Added}
 use Rattle.ca_cells.specs.declared.rule.Note.{Note}

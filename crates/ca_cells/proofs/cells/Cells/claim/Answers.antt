@@ -1,6 +1,6 @@
 use Rattle.std.proofs.Common.{rules, ℕ, List, ◌∷◌, Option, Some, sym, ap, ◌∙◌}
 use Rattle.atomic_table.specs.Table.{rest}
-use Rattle.ca_cells.specs.Plays.{Mine}
+use Rattle.ca_cells.specs.clauses.Plays.{Mine}
 use Rattle.ca_logs.specs.declared.log.CellLog.{CellLog}
 use Rattle.ca_cells.proofs.cells.Cells.claim.Goals as goal
 

@@ -3,8 +3,8 @@ use Rattle.ca_program.specs.View.{program_view}
 use Rattle.ca_model.specs.declared.value.Object.{Object}
 use Rattle.ca_meaning.specs.Multisets.{weight}
 use Rattle.ca_order_laws.proofs.Weights.{weight_append}
-use Rattle.ca_cells.specs.Plays.{Mine}
-use Rattle.ca_cells.specs.Slots.{AreOpened}
+use Rattle.ca_cells.specs.clauses.Plays.{Mine}
+use Rattle.ca_cells.specs.clauses.Slots.{AreOpened}
 use Rattle.ca_cells.specs.Seats.{view_of, notes_of, kept_of, all_of, seat_table, AreNumbered}
 use Rattle.ca_cells.specs.declared.cells.Seat.{Seat}
 use Rattle.ca_cells.specs.declared.rule.Given.{Given}

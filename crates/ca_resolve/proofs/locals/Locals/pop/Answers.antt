@@ -1,5 +1,5 @@
 use Rattle.std.proofs.Common.{sym, subst, Some, None, ◌++◌, ◌∷◌, []}
-use Rattle.ca_resolve.specs.Shadows.{FindsLocals}
+use Rattle.ca_resolve.specs.clauses.Shadows.{FindsLocals}
 use Rattle.ca_resolve.proofs.Innermost.{left, left_view, updated, ok_or, not_absent}
 use Rattle.ca_resolve.proofs.locals.Locals.pop.Goals as goal
 

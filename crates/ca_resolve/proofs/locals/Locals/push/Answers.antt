@@ -1,7 +1,7 @@
 use Rattle.std.proofs.Common.{◌≡◌, ◌∷◌, ◌∙◌, ap, sym, subst, arith, length, Some, ℕ}
 use Rattle.ca_resolve.specs.declared.locals.Shadow.{Shadow}
 use Rattle.ca_resolve.specs.LocalView.{local_view}
-use Rattle.ca_resolve.specs.Shadows.{innermost_first, FindsLocals}
+use Rattle.ca_resolve.specs.clauses.Shadows.{innermost_first, FindsLocals}
 use Rattle.ca_resolve.proofs.Innermost.{at, pushed, updated, ok_holds, one_inside}
 use Rattle.ca_resolve.proofs.locals.Locals.push.Goals as goal
 

@@ -1,5 +1,5 @@
 use Rattle.std.proofs.Common.{◌≡◌, ◌∙◌, ap, sym, subst, take, ◌++◌, ◌∷◌, [], ◌+◌}
-use Rattle.ca_resolve.specs.Index.{IsIndex}
+use Rattle.ca_resolve.specs.clauses.Index.{IsIndex}
 use Rattle.ca_resolve.proofs.Index.{inserted, index_new, index_kept, names_more, names_count, names_of}
 use Rattle.ca_resolve.proofs.names.Names.new.Goals as goal
 use Rattle.ca_resolve.proofs.names.Names.new.Goals.{then-not-contains_key+in-Ok+in_ok-insert, else-not-contains_key}

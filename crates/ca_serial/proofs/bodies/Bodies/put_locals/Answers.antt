@@ -1,5 +1,5 @@
 use Rattle.std.proofs.Common.{◌≡◌, ◌∙◌, ap, reverse, min, length}
-use Rattle.ca_serial.specs.Bodies.{body_at, waiting, with_locals}
+use Rattle.ca_serial.specs.clauses.Bodies.{body_at, waiting, with_locals}
 use Rattle.ca_serial.proofs.Locals.{new_locals, same_below}
 use Rattle.ca_serial.proofs.bodies.Bodies.put_locals.Goals as goal
 

@@ -1,6 +1,6 @@
 use Rattle.std.proofs.Common.{ap}
 use Rattle.std.proofs.lemmas.List.{drop-set-add}
-use Rattle.ca_serial.specs.Bodies.{body_at, with_locals}
+use Rattle.ca_serial.specs.clauses.Bodies.{body_at, with_locals}
 use Rattle.ca_serial.proofs.bodies.Bodies.set.Goals as goal
 
 pub returns-then-index-len-clause-current : goal.returns-then-index-len-clause-current

@@ -1,6 +1,6 @@
 use Rattle.std.proofs.Common.{◌≡◌}
 use Rattle.ca_program.specs.View.{program_view, statement_view}
-use Rattle.ca_serial.specs.Resume.{Past, again_before}
+use Rattle.ca_serial.specs.clauses.Resume.{Past, again_before}
 use Rattle.ca_serial.proofs.machine.Machine.again.Given as goal
 
 abbrev pub invariant-loop-next : goal.invariant-loop-next

@@ -3,9 +3,9 @@ use Rattle.ca_program.specs.View.{program_view}
 use Rattle.ca_model.specs.declared.value.Value.TheVariants.{Ref}
 use Rattle.ca_model.specs.Slots.{start_of}
 use Rattle.ca_serial.specs.declared.work.Work.TheVariants.{Leave}
-use Rattle.ca_serial.specs.Bodies.{Body}
+use Rattle.ca_serial.specs.clauses.Bodies.{Body}
 use Rattle.ca_serial.specs.declared.machine.Machine.{Machine}
-use Rattle.ca_serial.specs.Resume.{world_of, begins, target_mode}
+use Rattle.ca_serial.specs.clauses.Resume.{world_of, begins, target_mode}
 use Rattle.ca_serial.proofs.Tellings.{left_with, same_rest}
 use Rattle.ca_serial.proofs.DueCalls.{is_due}
 use Rattle.ca_serial.proofs.CallSteps.{taken_there, taken_none, not_called, call_runs_out, begun}

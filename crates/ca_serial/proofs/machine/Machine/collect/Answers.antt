@@ -1,6 +1,6 @@
 use Rattle.std.proofs.Common.{◌∙◌}
 use Rattle.ca_program.specs.View.{program_view}
-use Rattle.ca_serial.specs.Resume.{world_of, resume}
+use Rattle.ca_serial.specs.clauses.Resume.{world_of, resume}
 use Rattle.ca_serial.proofs.CallSteps.{collect_next}
 use Rattle.ca_serial.proofs.machine.Machine.collect.Goals as goal
 

@@ -1,6 +1,6 @@
 use Rattle.std.proofs.Common.{◌≡◌, ◌-◌, length, drop}
 use Rattle.ca_program.specs.View.{program_view}
-use Rattle.ca_serial.specs.Resume.{Past, collected, world_of, resume}
+use Rattle.ca_serial.specs.clauses.Resume.{Past, collected, world_of, resume}
 use Rattle.ca_serial.proofs.machine.Machine.collect.Given as goal
 
 abbrev pub invariant-loop-index : goal.invariant-loop-index

@@ -1,6 +1,6 @@
 use Rattle.std.proofs.Common.{rules, ap, sym, ◌≡◌, ◌∙◌, ◌∷◌}
 use Rattle.ca_program.specs.View.{program_view, statements_view}
-use Rattle.ca_serial.specs.Resume.{all_before}
+use Rattle.ca_serial.specs.clauses.Resume.{all_before}
 use Rattle.ca_serial.proofs.AtOnce.{one_more}
 use Rattle.ca_serial.proofs.machine.Machine.do_all.Goals as goal
 

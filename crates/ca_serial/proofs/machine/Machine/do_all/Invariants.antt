@@ -1,7 +1,7 @@
 use Rattle.std.proofs.Common.{◌≡◌, List, length}
 use Rattle.ca_program.specs.View.{program_view, statements_view}
 use Rattle.ca_serial.specs.declared.work.Work.{Work}
-use Rattle.ca_serial.specs.Resume.{Past, all_before}
+use Rattle.ca_serial.specs.clauses.Resume.{Past, all_before}
 use Rattle.ca_serial.proofs.machine.Machine.do_all.Given as goal
 
 abbrev pub invariant-loop-first : goal.invariant-loop-first

@@ -1,6 +1,6 @@
 use Rattle.std.proofs.Common.{◌∙◌}
 use Rattle.ca_program.specs.View.{program_view, expression_view, expressions_view}
-use Rattle.ca_serial.specs.Resume.{world_of, resume}
+use Rattle.ca_serial.specs.clauses.Resume.{world_of, resume}
 use Rattle.ca_serial.proofs.CallSteps.{value_call_runs}
 use Rattle.ca_serial.proofs.machine.Machine.evaluate_call.Goals as goal
 

@@ -1,6 +1,6 @@
 use Rattle.std.proofs.Common.{◌∙◌, refl, sym}
 use Rattle.ca_program.specs.View.{program_view}
-use Rattle.ca_serial.specs.Resume.{world_of}
+use Rattle.ca_serial.specs.clauses.Resume.{world_of}
 use Rattle.ca_serial.proofs.Steps.{block_runs, while_begins, for_runs_at}
 use Rattle.ca_serial.proofs.machine.Machine.exec.Goals as goal
 

@@ -1,6 +1,6 @@
 use Rattle.std.proofs.Common.{ap, sym, ◌∙◌}
 use Rattle.ca_program.specs.View.{program_view, statements_view}
-use Rattle.ca_serial.specs.Resume.{all_before}
+use Rattle.ca_serial.specs.clauses.Resume.{all_before}
 use Rattle.ca_serial.proofs.AtOnce.{block_all_before}
 use Rattle.ca_serial.proofs.machine.Machine.start.Goals as goal
 

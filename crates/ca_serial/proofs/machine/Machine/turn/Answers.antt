@@ -1,6 +1,6 @@
 use Rattle.std.proofs.Common.{◌∙◌}
 use Rattle.ca_program.specs.View.{program_view}
-use Rattle.ca_serial.specs.Resume.{world_of}
+use Rattle.ca_serial.specs.clauses.Resume.{world_of}
 use Rattle.ca_serial.proofs.Steps.{while_again_at, for_again_at}
 use Rattle.ca_serial.proofs.machine.Machine.turn.Goals as goal
 

@@ -1,6 +1,6 @@
 use Rattle.std.proofs.Common.{◌≡◌, length}
 use Rattle.ca_program.specs.View.{program_view}
-use Rattle.ca_serial.specs.Resume.{Past, unwound}
+use Rattle.ca_serial.specs.clauses.Resume.{Past, unwound}
 use Rattle.ca_serial.proofs.machine.Machine.unwind.Given as goal
 
 abbrev pub invariant-loop-work : goal.invariant-loop-work

@@ -1,6 +1,6 @@
 use Rattle.std.proofs.Common.{◌∙◌, ◌<◌, refl, arith}
 use Rattle.ca_program.specs.View.{program_view}
-use Rattle.ca_values.specs.Bodies.{Body}
+use Rattle.ca_values.specs.clauses.Bodies.{Body}
 use Rattle.ca_values.proofs.Steps.{while_turn, for_turn}
 use Rattle.ca_values.proofs.machine.Evaluator.begin_turn.Goals as goal
 

@@ -1,6 +1,6 @@
 use Rattle.std.proofs.Common.{◌≡◌, ◌≤◌, ◌-◌, length, drop}
 use Rattle.ca_program.specs.View.{program_view, expressions_view}
-use Rattle.ca_values.specs.Cost.{sizes}
+use Rattle.ca_values.specs.clauses.Cost.{sizes}
 use Rattle.ca_values.specs.Resume.{collected, resume}
 use Rattle.ca_values.proofs.machine.Evaluator.collect.Given as goal
 

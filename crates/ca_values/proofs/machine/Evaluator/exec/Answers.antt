@@ -1,6 +1,6 @@
 use Rattle.std.proofs.Common.{◌∙◌, refl, ap, arith}
 use Rattle.ca_program.specs.View.{program_view, form_view}
-use Rattle.ca_values.specs.Bodies.{Body}
+use Rattle.ca_values.specs.clauses.Bodies.{Body}
 use Rattle.ca_values.specs.Resume.{does}
 use Rattle.ca_values.proofs.Steps.{block_runs, while_begins, for_begins}
 use Rattle.ca_values.proofs.Sizes.{block_size, while_size, for_size}

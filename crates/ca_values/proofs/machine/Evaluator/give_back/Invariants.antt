@@ -1,6 +1,6 @@
 use Rattle.std.proofs.Common.{◌≡◌, ◌≤◌, length}
 use Rattle.ca_program.specs.View.{program_view}
-use Rattle.ca_values.specs.Cost.{weights}
+use Rattle.ca_values.specs.clauses.Cost.{weights}
 use Rattle.ca_values.specs.Resume.{back_of}
 use Rattle.ca_values.proofs.machine.Evaluator.give_back.Given as goal
 

@@ -1,6 +1,6 @@
 use Rattle.std.proofs.Common.{◌≡◌}
 use Rattle.ca_program.specs.View.{program_view}
-use Rattle.ca_values.specs.Cost.{weights}
+use Rattle.ca_values.specs.clauses.Cost.{weights}
 use Rattle.ca_values.specs.Resume.{rest_of}
 use Rattle.ca_values.proofs.machine.Evaluator.run.Given as goal
 

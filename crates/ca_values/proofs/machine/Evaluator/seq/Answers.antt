@@ -1,6 +1,6 @@
 use Rattle.std.proofs.Common.{◌∙◌, refl}
 use Rattle.ca_program.specs.View.{program_view}
-use Rattle.ca_values.specs.Bodies.{Body}
+use Rattle.ca_values.specs.clauses.Bodies.{Body}
 use Rattle.ca_values.proofs.Steps.{list_runs}
 use Rattle.ca_values.proofs.machine.Evaluator.seq.Goals as goal
 

@@ -8,7 +8,7 @@ use Rattle.ca_run.specs.declared.rounds.Round.{Round}
 use Rattle.ca_run.specs.Beside.{present, SameShapes}
 use Rattle.ca_run.specs.Rounds.{RanTo, StuckBehind}
 use Rattle.ca_run.proofs.Answering.{same_shapes}
-use Rattle.ca_workers.specs.Runs.{MayWait, RanAlone, Placed}
+use Rattle.ca_workers.specs.clauses.Runs.{MayWait, RanAlone, Placed}
 use Rattle.ca_workers.proofs.Behind.{stuck}
 use Rattle.ca_workers.proofs.Beginning.{known_setting, known_waits, own_setting, own_waits, from_start, task_calls_are, tasks_begin}
 use Rattle.ca_workers.proofs.Going.{then_done, then_none, waits_on, moved}

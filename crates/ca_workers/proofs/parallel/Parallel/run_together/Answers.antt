@@ -2,7 +2,7 @@ use Rattle.std.proofs.Common.{◌≡◌, List, All, IfOk, sym, subst}
 use Rattle.ca_program.specs.View.{program_view}
 use Rattle.ca_meaning.specs.Expressions.{Invocation}
 use Rattle.ca_logs.specs.declared.log.Task.{Task}
-use Rattle.ca_workers.specs.Runs.{MayWait, Placed}
+use Rattle.ca_workers.specs.clauses.Runs.{MayWait, Placed}
 use Rattle.ca_workers.proofs.Beginning.{own_setting, own_waits, tasks_begin, task_calls_are}
 use Rattle.ca_workers.proofs.parallel.Parallel.run_together.Goals as goal
 

@@ -4,7 +4,7 @@ use Rattle.std.specs.List.Sorted.{IsStrictlyIncreasing}
 use Rattle.ca_program.specs.Plain.{PlainMethod}
 use Rattle.ca_meaning.specs.Functions.{body_of}
 use Rattle.ca_extent.specs.declared.numbers.Callees.{Callees}
-use Rattle.ca_extent.specs.Numbers.{numbers_of_all}
+use Rattle.ca_extent.specs.clauses.Numbers.{numbers_of_all}
 
 pub data Reached (next : ℕ → List ℕ) (roots : List ℕ) : ℕ → Type 0 where
   from_root : {n : ℕ} → Contains roots n → Reached next roots n

@@ -12,8 +12,8 @@ use Rattle.ca_serial.specs.declared.answers.Answer.{Answer}
 use Rattle.ca_serial.specs.declared.answers.Answer.TheVariants.{Gives, Rest}
 use Rattle.ca_serial.specs.declared.answers.Look.{Look}
 use Rattle.ca_serial.specs.declared.answers.Look.TheVariants.{Gives as Shown, Passes, Stays}
-use Rattle.ca_serial.specs.Bodies.{Body}
-use Rattle.ca_serial.specs.Resume.{Past, runs_all, world_of}
+use Rattle.ca_serial.specs.clauses.Bodies.{Body}
+use Rattle.ca_serial.specs.clauses.Resume.{Past, runs_all, world_of}
 
 -- the scene's receiver has its slots in the heap
 abbrev pub OwnsSlots : Scene → Type 0

@@ -34,7 +34,7 @@ use Rattle.ca_serial.specs.declared.work.Next.{Next}
 use Rattle.ca_serial.specs.declared.work.Next.TheVariants.{GoesOn, Printed, Trapped, Spent, Due, LoopDue}
 use Rattle.ca_serial.specs.declared.machine.Machine.{Machine}
 use Rattle.ca_serial.specs.declared.machine.Found.{Found}
-use Rattle.ca_serial.specs.Bodies.{Body, with_locals, marks_of, heeding}
+use Rattle.ca_serial.specs.clauses.Bodies.{Body, with_locals, marks_of, heeding}
 
 -- Statements in the body that runs
 

@@ -14,9 +14,9 @@ use Rattle.ca_serial.specs.declared.bodies.Mode.TheVariants.{InFunction, InOpera
 use Rattle.ca_serial.specs.declared.work.Work.{Work}
 use Rattle.ca_serial.specs.declared.work.Work.TheVariants.{Exec}
 use Rattle.ca_serial.specs.declared.machine.Machine.{Machine}
-use Rattle.ca_serial.specs.Bodies.{Body, marks_of}
-use Rattle.ca_serial.specs.Marked.{site_in}
-use Rattle.ca_serial.specs.Resume.{Past, world_of, going_on}
+use Rattle.ca_serial.specs.clauses.Bodies.{Body, marks_of}
+use Rattle.ca_serial.specs.clauses.Marked.{site_in}
+use Rattle.ca_serial.specs.clauses.Resume.{Past, world_of, going_on}
 
 -- the statement is a loop with one of these numbers
 abbrev pub is_marked : List LoopId → Statement → Bool

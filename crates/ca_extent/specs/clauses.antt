@@ -1,0 +1,5 @@
+pub mod Ids
+pub mod Numbers
+pub mod Reached
+pub mod Rising
+pub mod Targets
