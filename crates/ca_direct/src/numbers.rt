@@ -15,8 +15,9 @@ use ca_model::Value;
 use ca_program::{BinaryOp, Expr, UnaryOp};
 
 impl<'a> Scene<'a> {
-    /// The number of the object that an expression without operators names.
+    /// The number of the object that an expression without operators names. What is short is done in place.
     #[cycle(number)]
+    #[inline(always)]
     pub(crate) fn object_of(&self, e: &Expr) -> Option<u32>
         ensures { IfSome result (λ n. seen self.now (expression_view e.now) ≡ gives (Ref n) 0) }
     {
@@ -26,6 +27,17 @@ impl<'a> Scene<'a> {
                 Some(value) => object(value),
                 None => None,
             },
+            _ => self.far_object_of(e),
+        }
+    }
+
+    /// The number of the object that a field or an item names.
+    #[cycle(number)]
+    #[inline(never)]
+    fn far_object_of(&self, e: &Expr) -> Option<u32>
+        ensures { IfSome result (λ n. seen self.now (expression_view e.now) ≡ gives (Ref n) 0) }
+    {
+        match e {
             Expr::Own(f) => match self.own(f.field) {
                 Some(value) => object(value),
                 None => None,

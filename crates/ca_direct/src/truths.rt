@@ -2,7 +2,7 @@
 
 ghost use Rattle.std.specs.Prelude.{◌≡◌, IfSome, None, Ok};
 ghost use Rattle.ca_program.specs.View.{expression_view};
-ghost use Rattle.ca_program.specs.Plain.{binary};
+ghost use Rattle.ca_program.specs.Plain.{binary, null};
 ghost use Rattle.ca_model.specs.declared.value.Value.TheVariants.{Bool as Truth};
 ghost use Rattle.ca_meaning.specs.Expressions.{gives, decided};
 ghost use Rattle.ca_meaning.specs.Operators.{operated, operated_longs};
@@ -62,6 +62,17 @@ impl<'a> Scene<'a> {
         }
     }
 
+    /// Whether a comparison of a pointer with null holds.
+    #[inline]
+    fn compare_null(&self, op: BinaryOp, a: &Expr) -> Option<bool>
+        ensures { IfSome result (λ t. seen self.now (binary op (expression_view a.now) null) ≡ gives (Truth t) 0) }
+    {
+        match self.pointer_of(a) {
+            Some(pointer) => same_pointers(op, pointer, None),
+            None => None,
+        }
+    }
+
     /// Whether a comparison of two leaves holds.
     #[inline(always)]
     fn compare_leaves(&self, op: BinaryOp, a: &Expr, b: &Expr) -> Option<bool>
@@ -76,9 +87,24 @@ impl<'a> Scene<'a> {
         }
     }
 
-    /// What a comparison of two numbers, or of two values without operators, gives.
+    /// What a comparison of two numbers, or of two values without operators, gives. That of a pointer with
+    /// null is found in one look.
     #[inline]
     fn compare(&self, op: BinaryOp, a: &Expr, b: &Expr) -> Option<bool>
+        ensures { IfSome result (λ t. seen self.now (binary op (expression_view a.now) (expression_view b.now)) ≡ gives (Truth t) 0) }
+    {
+        match b {
+            Expr::Null => match self.compare_null(op, a) {
+                Some(truth) => Some(truth),
+                None => self.compare_others(op, a, b),
+            },
+            _ => self.compare_both(op, a, b),
+        }
+    }
+
+    /// What a comparison of two numbers, or of two values without operators, gives.
+    #[inline]
+    fn compare_both(&self, op: BinaryOp, a: &Expr, b: &Expr) -> Option<bool>
         ensures { IfSome result (λ t. seen self.now (binary op (expression_view a.now) (expression_view b.now)) ≡ gives (Truth t) 0) }
     {
         match self.long_of(a) {
