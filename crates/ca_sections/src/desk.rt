@@ -73,6 +73,7 @@ impl<'a> Desk<'a> {
 impl State {
     /// Begins a section on this receiver, whose first locals have these values and whose others have these
     /// types. The slots stay as they are.
+    #[inline(always)]
     pub(crate) fn begin(
         &mut self,
         receiver: Receiver,

@@ -9,8 +9,8 @@
 //! memory stands.
 //!
 //! Statements run by recursion over the syntax, whose nesting texts limit, with a loop for each loop. Values are
-//! those of `ca_values`, which reads without a call where it can. A `Desk` keeps what a section needs of memory:
-//! on one that was used before, a section takes memory for what it lists alone.
+//! found at once where nothing is called (`value_now`, by the scene of `ca_direct`), and else by `ca_values`. A `Desk`
+//! keeps what a section needs of memory: on one that was used before, a section takes memory for what it lists alone.
 //!
 //! Whoever reads the public clauses must believe each file of `specs/`.
 #![tactic(auto)]

@@ -31,6 +31,7 @@ pub enum SectionAnswer {
 }
 
 /// The body of an operation, and nothing where there is no such operation.
+#[inline(always)]
 fn body_of<'a>(program: &'a Program, op: OpId) -> Called<'a>
     ensures stmts { statements_view result.stmts.now ≡ body_of (slice_get (program_view program.now).ops op.0) }
     ensures others { result.others.now ≡ others_in (slice_get (program_view program.now).ops op.0) }
@@ -44,6 +45,7 @@ fn body_of<'a>(program: &'a Program, op: OpId) -> Called<'a>
 
 impl State {
     /// Ends a section: what it listed goes behind what stands in a list, or the slots are put back.
+    #[inline(always)]
     pub(crate) fn settle(
         &mut self,
         ran: Result<(), Stop>,

@@ -69,6 +69,7 @@ impl<'a> Desk<'a> {
     }
 
     /// Runs a statement that has no statements in it.
+    #[inline(always)]
     fn exec_simple(
         &mut self,
         program: &'a Program,

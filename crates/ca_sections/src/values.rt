@@ -1,19 +1,22 @@
 //! Values of expressions.
 
-ghost use Rattle.std.specs.Prelude.{◌≡◌, ◌≤◌, ◌<◌, ℕ, List, IfOk, Ok, true};
+ghost use Rattle.std.specs.Prelude.{◌≡◌, ◌≤◌, ◌<◌, ℕ, List, IfOk, IfSome, Ok, true};
 ghost use Rattle.ca_program.specs.View.{program_view, expression_view, expressions_view};
 ghost use Rattle.ca_program.specs.Plain.{Statement};
 ghost use Rattle.ca_model.specs.declared.value.Value.{Value as Datum};
+ghost use Rattle.ca_model.specs.declared.value.Value.TheVariants.{Bool as Truth, Long};
+ghost use Rattle.ca_meaning.specs.Expressions.{gives};
 ghost use Rattle.ca_meaning.specs.Flows.{Flow, with, choose};
 ghost use Rattle.ca_meaning.specs.Sections.{Section};
 ghost use Rattle.ca_values.specs.Found.{out_of};
 ghost use Rattle.ca_sections.specs.Running.{section_at, value_at, values_at, test_of, Got, Chosen, Turned};
 
-use crate::desk::{Desk, State};
+use crate::desk::{Desk, Own, State};
+use crate::puts::field_of;
 use crate::stop::Stop;
 use ca_base::Memory;
 use ca_model::{Heap, Value, Values};
-use ca_program::{Expr, Program};
+use ca_program::{BinaryOp, Expr, Program};
 use ca_values::{Evaluator, Found};
 
 /// What an expression gives where a section stands.
@@ -32,9 +35,73 @@ fn found<'a>(
     Ok(found)
 }
 
+impl State {
+    /// The value of an expression, where it is found without a call. A field that is handed in and a sum go no way through
+    /// memory.
+    #[inline(always)]
+    fn value_now(&self, program: &Program, frozen: &Heap, line: u32, e: &Expr) -> Option<Value>
+        ensures { IfSome result (λ v. value_at (program_view program.now) frozen.now self.now line (expression_view e.now) ≡ gives v self.now.left) }
+    {
+        if let Expr::Own(field) = e {
+            if let Own::Handed = self.own {
+                return Some(field_of(&self.slots, field.field));
+            }
+        }
+        if !is_arithmetic(e) {
+            return self.scene(frozen).value_of(e);
+        }
+        match self.long_now(program, frozen, line, e) {
+            Some(number) => Some(Value::Long(number)),
+            None => None,
+        }
+    }
+
+    /// The number that an expression is, where it is found without a call.
+    #[inline(always)]
+    fn long_now(&self, program: &Program, frozen: &Heap, line: u32, e: &Expr) -> Option<i64>
+        ensures { IfSome result (λ n. value_at (program_view program.now) frozen.now self.now line (expression_view e.now) ≡ gives (Long n) self.now.left) }
+    {
+        self.scene(frozen).long_of(e)
+    }
+
+    /// The truth value of an expression, where it is found without a call.
+    #[inline(always)]
+    fn truth_now(
+        &self,
+        program: &Program,
+        frozen: &Heap,
+        line: u32,
+        condition: &Expr,
+    ) -> Option<bool>
+        ensures { IfSome result (λ b. value_at (program_view program.now) frozen.now self.now line (expression_view condition.now) ≡ gives (Truth b) self.now.left) }
+    {
+        self.scene(frozen).truth_of(condition)
+    }
+}
+
 impl<'a> Desk<'a> {
-    /// The value of an expression, where a statement on this line is innermost.
+    /// The value of an expression, where a statement on this line is innermost. What calls nothing is found at once.
+    #[inline(always)]
     pub(crate) fn value(
+        &mut self,
+        program: &'a Program,
+        frozen: &Heap,
+        line: u32,
+        e: &'a Expr,
+    ) -> Result<Value, Stop>
+        ensures is { Got self.new.state.left result (value_at (program_view program.now) frozen.now self.old.state line (expression_view e.now)) }
+        ensures same { self.new.state ≡ record self.old.state { left = self.new.state.left } }
+        ensures falls { self.new.state.left ≤ self.old.state.left }
+    {
+        if let Some(value) = self.state.value_now(program, frozen, line, e) {
+            return Ok(value);
+        }
+        self.evaluate(program, frozen, line, e)
+    }
+
+    /// The value of an expression, by the evaluator.
+    #[inline(never)]
+    fn evaluate(
         &mut self,
         program: &'a Program,
         frozen: &Heap,
@@ -76,6 +143,7 @@ impl<'a> Desk<'a> {
     }
 
     /// Whether a condition is true.
+    #[inline(always)]
     pub(crate) fn truth(
         &mut self,
         program: &'a Program,
@@ -87,7 +155,10 @@ impl<'a> Desk<'a> {
         ensures same { self.new.state ≡ record self.old.state { left = self.new.state.left } }
         ensures falls { self.new.state.left ≤ self.old.state.left }
     {
-        match self.value(program, frozen, line, condition)? {
+        if let Some(truth) = self.state.truth_now(program, frozen, line, condition) {
+            return Ok(truth);
+        }
+        match self.evaluate(program, frozen, line, condition)? {
             Value::Bool(true) => Ok(true),
             _ => Ok(false),
         }
@@ -115,5 +186,21 @@ impl<'a> Desk<'a> {
             return Ok(true);
         }
         Ok(false)
+    }
+}
+
+/// Whether an operator of numbers is outermost. It decides only which way is taken, so every answer is right.
+#[inline(always)]
+fn is_arithmetic(e: &Expr) -> bool {
+    match e {
+        Expr::Binary(op, _, _) => match op {
+            BinaryOp::Plus
+            | BinaryOp::Minus
+            | BinaryOp::Times
+            | BinaryOp::Divide
+            | BinaryOp::Remainder => true,
+            _ => false,
+        },
+        _ => false,
     }
 }

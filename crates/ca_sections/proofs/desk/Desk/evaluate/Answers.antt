@@ -1,6 +1,6 @@
 use Rattle.ca_program.specs.View.{program_view, expression_view}
 use Rattle.ca_sections.proofs.Valued.{value_falls}
-use Rattle.ca_sections.proofs.desk.Desk.value.Goals as goal
+use Rattle.ca_sections.proofs.desk.Desk.evaluate.Goals as goal
 
 pub returns-in-Value-clause-falls : goal.returns-in-Value-clause-falls
 returns-in-Value-clause-falls c =
