@@ -1,5 +1,5 @@
 -- Statements that are done at once.
-use Rattle.std.proofs.Common.{Bor, ◌≡◌, ◌∙◌, ℕ, List, ◌∷◌, ◌<◌, ◌-◌, refl, ap, length}
+use Rattle.std.proofs.Common.{Bor, ◌≡◌, ◌∙◌, ℕ, List, ◌∷◌, ◌<◌, ◌-◌, refl, ap, sym, length}
 use Rattle.std.specs.Prelude.{Bool, true, false}
 use Rattle.std.proofs.lemmas.List.{nil_from_length}
 use Rattle.std.specs.declared.alloc.Global.{Global}
@@ -17,10 +17,8 @@ use Rattle.ca_meaning.specs.Expressions.{gives}
 use Rattle.ca_meaning.specs.Functions.{value_in}
 use Rattle.ca_serial.specs.declared.machine.Machine.{Machine}
 use Rattle.ca_serial.specs.declared.work.Work.{Work}
-use Rattle.ca_serial.specs.declared.work.Work.TheVariants.{Exec, Seq, Again}
-use Rattle.ca_serial.specs.declared.work.Left.{Left}
-use Rattle.ca_serial.specs.declared.work.Taker.TheVariants.{Turn}
-use Rattle.ca_serial.specs.clauses.Resume.{Past, rest_of, going_on, does_before, all_before, world_of, AtOnce, Puts, pieces, takes}
+use Rattle.ca_serial.specs.declared.work.Work.TheVariants.{Exec, Seq, Again, Turn}
+use Rattle.ca_serial.specs.clauses.Resume.{Past, rest_of, going_on, does_before, all_before, world_of, AtOnce, Puts, all_still, takes}
 use Rattle.ca_serial.proofs.Steps.{line_is, list_runs, last_runs, none_run, block_runs, branch_of, if_runs, while_turn, for_turn}
 
 -- the first statement of a list was done at once
@@ -64,16 +62,16 @@ pub one_before : (p : PlainProgram) (todo : List Work) (m : Machine) (ss : List 
 one_before p todo m ss x xs ps is none = last_runs p m.bodies.current (world_of m ps) x.now xs ss m.left _ _ is (nil_from_length xs none)
 
 abbrev pub stepped : Machine → Machine
-stepped m = record { todo = m.todo; values = m.values; bodies = m.bodies; heap = m.heap; left = m.left - 1; shown = m.shown; trap = m.trap; due = m.due }
+stepped m = record { todo = m.todo; values = m.values; bodies = m.bodies; heap = m.heap; left = m.left - 1; shown = m.shown; trap = m.trap; due = m.due; over = m.over; others = m.others }
 
 -- the body of a turn of a `while` was begun at once
-pub while_started : (p : PlainProgram) (old new : Machine) (ps : Past) (line : ℕ) (s : Bor Stmt) (c : Expr) (b : Box Stmt Global) (l : ℕ) (x : Bor Stmt) (o : Left) → 0 < old.left → s.now.kind ≡ While c b → l ≡ b.value.line → x.now ≡ b.value → new.todo ≡ old.todo → ((todo : List Work) (ps : Past) → rest_of p (Exec l x ∷ todo) (stepped old) ps ≡ rest_of p (pieces o todo) new ps) → takes p (Turn line s) (Truth true) old ps ≡ rest_of p (pieces o (Again line s ∷ new.todo)) new ps
-while_started p old new ps line s c b l x o lt is on here todo started =
+pub while_started : (p : PlainProgram) (old new : Machine) (ps : Past) (line : ℕ) (s : Bor Stmt) (c : Expr) (b : Box Stmt Global) (l : ℕ) (x : Bor Stmt) (whole : Bool) → 0 < old.left → s.now.kind ≡ While c b → l ≡ b.value.line → x.now ≡ b.value → new.todo ≡ old.todo → ((todo : List Work) (ps : Past) → rest_of p (Exec l x ∷ todo) (stepped old) ps ≡ rest_of p (all_still whole new todo) new ps) → takes p (Turn line s) (Truth true) old ps ≡ rest_of p (all_still whole new (Again line s ∷ new.todo)) new ps
+while_started p old new ps line s c b l x whole lt is on here todo started =
     while_turn p old.bodies.current (world_of old ps) line s.now c b old.left _ _ lt is
-    ∙ rw (line_is b.value, todo) (rw (on, here) at (started (Again line s ∷ old.todo) ps))
+    ∙ rw (line_is b.value) ((rw (on, here) at (started (Again line s ∷ old.todo) ps)) ∙ ap (λ t. rest_of p (all_still whole new (Again line s ∷ t)) new ps) (sym todo))
 
 -- the body of a turn of a `for` was begun at once
-pub for_started : (p : PlainProgram) (old new : Machine) (ps : Past) (line : ℕ) (s : Bor Stmt) (site : LoopId) (part : FirstPart) (first : Box Stmt Global) (c : Expr) (next b : Box Stmt Global) (l : ℕ) (x y : Bor Stmt) (o : Left) → 0 < old.left → s.now.kind ≡ For site part first c next b → l ≡ b.value.line → x.now ≡ b.value → y.now ≡ next.value → new.todo ≡ old.todo → ((todo : List Work) (ps : Past) → rest_of p (Exec l x ∷ todo) (stepped old) ps ≡ rest_of p (pieces o todo) new ps) → takes p (Turn line s) (Truth true) old ps ≡ rest_of p (pieces o (Exec line y ∷ Again line s ∷ new.todo)) new ps
-for_started p old new ps line s site part first c next b l x y o lt is on here there todo started =
+pub for_started : (p : PlainProgram) (old new : Machine) (ps : Past) (line : ℕ) (s : Bor Stmt) (site : LoopId) (part : FirstPart) (first : Box Stmt Global) (c : Expr) (next b : Box Stmt Global) (l : ℕ) (x y : Bor Stmt) (whole : Bool) → 0 < old.left → s.now.kind ≡ For site part first c next b → l ≡ b.value.line → x.now ≡ b.value → y.now ≡ next.value → new.todo ≡ old.todo → ((todo : List Work) (ps : Past) → rest_of p (Exec l x ∷ todo) (stepped old) ps ≡ rest_of p (all_still whole new todo) new ps) → takes p (Turn line s) (Truth true) old ps ≡ rest_of p (all_still whole new (Exec line y ∷ Again line s ∷ new.todo)) new ps
+for_started p old new ps line s site part first c next b l x y whole lt is on here there todo started =
     for_turn p old.bodies.current (world_of old ps) line s.now site part first c next b old.left _ _ lt is
-    ∙ rw (line_is b.value, todo, ← there) (rw (on, here) at (started (Exec line y ∷ Again line s ∷ old.todo) ps))
+    ∙ rw (line_is b.value, ← there) ((rw (on, here) at (started (Exec line y ∷ Again line s ∷ old.todo) ps)) ∙ ap (λ t. rest_of p (all_still whole new (Exec line y ∷ Again line s ∷ t)) new ps) (sym todo))

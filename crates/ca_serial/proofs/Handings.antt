@@ -26,7 +26,7 @@ use Rattle.ca_note_laws.specs.Listing.{puts_nothing, with_list, by_section, list
 use Rattle.ca_sections.proofs.Fitting.{call_loop_fits}
 use Rattle.ca_serial.specs.declared.machine.Machine.{Machine}
 use Rattle.ca_serial.specs.declared.work.Work.{Work}
-use Rattle.ca_serial.specs.declared.work.Work.TheVariants.{Evaluate, Take, Collect, Exec, Seq, Again, Leave, Back, Heed}
+use Rattle.ca_serial.specs.declared.work.Work.TheVariants.{Exec, Seq}
 use Rattle.ca_serial.specs.clauses.Bodies.{main_body, heeded, with_locals}
 use Rattle.ca_serial.specs.clauses.Loops.{heeds_loop, section_next, notes_of, loop_notes, notes_next}
 use Rattle.ca_serial.specs.clauses.Resume.{Past, no_past, and_note, world_of, go_on, going_on, rest_of, call_of, note_of, runs_due}
@@ -144,14 +144,7 @@ module _ (p : PlainProgram) (m : Machine) (ps : Past) where
   next_split : (todo : List Work) → Split (world_after (rest_of p todo m ps)).notes (ps.notes ++ notes_next p todo m)
   next_split [] = none_more []
   next_split (Exec line s ∷ todo) = loop_split todo line s
-  next_split (Evaluate line e ∷ todo) = none_more (Evaluate line e ∷ todo)
-  next_split (Take taker ∷ todo) = none_more (Take taker ∷ todo)
-  next_split (Collect line t es n ∷ todo) = none_more (Collect line t es n ∷ todo)
-  next_split (Seq ss ∷ todo) = none_more (Seq ss ∷ todo)
-  next_split (Again line s ∷ todo) = none_more (Again line s ∷ todo)
-  next_split (Leave ∷ todo) = none_more (Leave ∷ todo)
-  next_split (Back ∷ todo) = none_more (Back ∷ todo)
-  next_split (Heed ∷ todo) = none_more (Heed ∷ todo)
+  next_split (work ∷ todo) = none_more (work ∷ todo)
 
 -- what a loop that is next hands on stands in the list
 pub next_stands : (p : PlainProgram) (todo : List Work) (m : Machine) (ps : Past) (all : List Note) → (world_after (rest_of p todo m ps)).notes ≡ all → Split all (ps.notes ++ notes_next p todo m)

@@ -9,9 +9,11 @@ pub mod CallSteps
 pub mod Items
 pub mod Stacks
 pub mod AtOnce
+pub mod Beginnings
 pub mod Flagged
 pub mod Unmarked
 pub mod LoopCalls
 pub mod Locals
 pub mod Quietness
 pub mod Tellings
+pub mod Taking

@@ -29,7 +29,7 @@ use Rattle.ca_sections.specs.declared.operations.SectionAnswer.TheVariants.{Done
 use Rattle.ca_serial.specs.declared.bodies.Mode.{Mode}
 use Rattle.ca_serial.specs.declared.bodies.Mode.TheVariants.{InFunction, InOperation}
 use Rattle.ca_serial.specs.declared.work.Work.{Work}
-use Rattle.ca_serial.specs.declared.work.Work.TheVariants.{Evaluate, Take, Collect, Exec, Seq, Again, Leave, Back, Heed}
+use Rattle.ca_serial.specs.declared.work.Work.TheVariants.{Exec, Heed}
 use Rattle.ca_serial.specs.declared.machine.Machine.{Machine}
 use Rattle.ca_serial.specs.clauses.Bodies.{Body, marks_of, heeded, with_locals, alone, heeding}
 use Rattle.ca_serial.specs.clauses.Marked.{site_in}
@@ -179,7 +179,7 @@ pub record IsDone (o : LoopSectioned) (steps : ℕ) (listed : List Invocation) :
   pub steps_are : outcome.steps ≡ steps
   pub listed_are : outcome.listed ≡ listed
 
-is_done : (o : LoopSectioned) (steps : ℕ) (now : List Op) → LoopIs (Done steps) o [] now → IsDone o steps (invocations_of now)
+pub is_done : (o : LoopSectioned) (steps : ℕ) (now : List Op) → LoopIs (Done steps) o [] now → IsDone o steps (invocations_of now)
 is_done (loop_done x) steps now h = record { outcome = x; is = refl; steps_are = sym h.0; listed_are = sym h.1 }
 is_done (loop_stopped u) steps now h = absurd h
 is_done loop_over steps now h = absurd h
@@ -322,8 +322,8 @@ module _ (p : PlainProgram) (line : ℕ) (s : Statement) (m : Machine) (ps : Pas
       ∙ ap (runs_alone p line s m) (sym (nothing_more ps) ∙ ap (and_notes ps) (sym (none_noted m o stop)))
 
 -- a heap that an engine left as it was
-pub alone_with : (p : PlainProgram) (line : ℕ) (s : Statement) (m : Machine) (h : List Object) (ps : Past) (b : Flow World) → h ≡ m.heap → runs_alone p line s (record { todo = m.todo; values = m.values; bodies = m.bodies; heap = h; left = m.left; shown = m.shown; trap = m.trap; due = m.due }) ps ≡ b → runs_alone p line s m ps ≡ b
-alone_with p line s m h ps b same e = subst (λ (h : List Object). runs_alone p line s (record { todo = m.todo; values = m.values; bodies = m.bodies; heap = h; left = m.left; shown = m.shown; trap = m.trap; due = m.due }) ps ≡ b) same e
+pub alone_with : (p : PlainProgram) (line : ℕ) (s : Statement) (m : Machine) (h : List Object) (ps : Past) (b : Flow World) → h ≡ m.heap → runs_alone p line s (record { todo = m.todo; values = m.values; bodies = m.bodies; heap = h; left = m.left; shown = m.shown; trap = m.trap; due = m.due; over = m.over; others = m.others }) ps ≡ b → runs_alone p line s m ps ≡ b
+alone_with p line s m h ps b same e = subst (λ (h : List Object). runs_alone p line s (record { todo = m.todo; values = m.values; bodies = m.bodies; heap = h; left = m.left; shown = m.shown; trap = m.trap; due = m.due; over = m.over; others = m.others }) ps ≡ b) same e
 
 -- ---- it runs here
 
@@ -345,14 +345,7 @@ put_alone p line s x m new ps here heeds todo values current below heap left =
 
 pub other_work : (p : PlainProgram) (work : Work) (todo : List Work) (m : Machine) → ((line : ℕ) (s : Bor Stmt) → work ≡ Exec line s → ⊥) → notes_next p (work ∷ todo) m ≡ []
 other_work p (Exec line s) todo m other = absurd (other line s refl)
-other_work p (Evaluate line e) todo m other = refl
-other_work p (Take taker) todo m other = refl
-other_work p (Collect line t es n) todo m other = refl
-other_work p (Seq ss) todo m other = refl
-other_work p (Again line s) todo m other = refl
-other_work p Leave todo m other = refl
-other_work p Back todo m other = refl
-other_work p Heed todo m other = refl
+other_work p work todo m other = refl
 
 pub unheeded : (p : PlainProgram) (line : ℕ) (s : Bor Stmt) (todo : List Work) (m : Machine) → heeds_loop m.bodies.current (statement_view s.now) ≡ false → notes_next p (Exec line s ∷ todo) m ≡ []
 unheeded p line s todo m free = rw free refl

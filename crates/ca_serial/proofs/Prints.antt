@@ -21,9 +21,7 @@ use Rattle.ca_serial.specs.declared.bodies.Mode.TheVariants.{InFunction, InOpera
 use Rattle.ca_serial.specs.declared.work.Target.{Target}
 use Rattle.ca_serial.specs.declared.work.Target.TheVariants.{Function, Operation}
 use Rattle.ca_serial.specs.declared.work.Work.{Work}
-use Rattle.ca_serial.specs.declared.work.Work.TheVariants.{Evaluate, Take, Collect, Exec, Seq, Again, Leave, Back, Heed}
-use Rattle.ca_serial.specs.declared.work.Taker.{Taker}
-use Rattle.ca_serial.specs.declared.work.Taker.TheVariants.{ReadField, CheckObject, ReadItem, Sign, CheckLeft, Apply, PutLocal, PutField, CheckIndex, PutItem, NewItem, Print, Choose, Turn, GiveBack}
+use Rattle.ca_serial.specs.declared.work.Work.TheVariants.{Evaluate, CollectValue, CollectCall, Exec, Seq, Again, Leave, Back, Heed, ReadField, CheckObject, ReadItem, ReadOwnItem, Sign, CheckLeft, Apply, PutLocal, PutField, CheckIndex, PutItem, NewItem, Print, Choose, Turn, GiveBack}
 use Rattle.ca_serial.specs.clauses.Bodies.{Body, with_locals, marks_of}
 use Rattle.ca_serial.specs.clauses.Resume.{carried, runs, runs_all, comes_again, runs_body, turns, pop, taken, back_in, go_on, by_mode, called, collected, value_of, found_again, used, resume, unwind, heeding_parts}
 
@@ -324,18 +322,19 @@ collected_grows : (p : PlainProgram) (line : ℕ) (t : Target) (arguments : List
 collected_grows p line t arguments n vs f w k go h =
     grows_with (values_in p.functions w.heap f.this line f.locals (expressions_view arguments) k) _ (stays w) (λ xs k. grows_taken n vs xs _ (λ xs v vs. called_grows p t line v xs vs f w k go h))
 
-used_grows : (p : PlainProgram) (taker : Taker) (v : Datum) (vs : List Datum) (f : Body) (w : World) (k : ℕ) (go : List Datum → Body → World → ℕ → Flow World) (back : Datum → World → ℕ → Flow World) → ((vs : List Datum) (f : Body) (x : World) (k : ℕ) → Grows x (go vs f x k)) → ((v : Datum) (x : World) (k : ℕ) → Grows x (back v x k)) → Grows w (used p taker v vs f w k go back)
+used_grows : (p : PlainProgram) (taker : Work) (v : Datum) (vs : List Datum) (f : Body) (w : World) (k : ℕ) (go : List Datum → Body → World → ℕ → Flow World) (back : Datum → World → ℕ → Flow World) → ((vs : List Datum) (f : Body) (x : World) (k : ℕ) → Grows x (go vs f x k)) → ((v : Datum) (x : World) (k : ℕ) → Grows x (back v x k)) → Grows w (used p taker v vs f w k go back)
 used_grows p (ReadField line i) v vs f w k go back h b = grows_with (pointed line v k >>= λ n k. gives (one_in (slot_of w.heap n i)) k) _ (stays w) (λ v k. h (v ∷ vs) f w k)
 used_grows p (CheckObject line i e) v vs f w k go back h b =
     grows_with (pointed line v k) _ (stays w) (λ n k. grows_with (value_of p f w line e.now k) _ (stays w) (λ v k. grows_with (own_item_at line w (Ref n) i v k) _ (stays w) (λ item k. h (item.value ∷ vs) f w k)))
-used_grows p (ReadItem line object i) v vs f w k go back h b = grows_with (own_item_at line w object i v k) _ (stays w) (λ item k. h (item.value ∷ vs) f w k)
+used_grows p (ReadItem line i) v vs f w k go back h b = grows_pop vs _ (λ object vs. grows_with (own_item_at line w object i v k) _ (stays w) (λ item k. h (item.value ∷ vs) f w k))
+used_grows p (ReadOwnItem line i) v vs f w k go back h b = grows_with (own_item_at line w f.this i v k) _ (stays w) (λ item k. h (item.value ∷ vs) f w k)
 used_grows p (Sign op) v vs f w k go back h b = h _ f w k
 used_grows p (CheckLeft line op e) v vs f w k go back h b =
     grows_with (unless_decided (decided op v) k (value_of p f w line e.now k >>= λ x k. answer line (operated op v x) k)) _ (stays w) (λ v k. h (v ∷ vs) f w k)
-used_grows p (Apply line op left) v vs f w k go back h b = grows_with (answer line (operated op left v) k) _ (stays w) (λ v k. h (v ∷ vs) f w k)
+used_grows p (Apply op line left) v vs f w k go back h b = grows_with (answer line (operated op left v) k) _ (stays w) (λ v k. h (v ∷ vs) f w k)
 used_grows p (PutLocal l op) v vs f w k go back h b = h vs _ w k
 used_grows p (PutField i op) v vs f w k go back h b = from _ (same_prints w _) (h vs f _ k)
-used_grows p (CheckIndex line i op e) v vs f w k go back h b =
+used_grows p (CheckIndex op line i e) v vs f w k go back h b =
     grows_with (own_item_at line w f.this i v k) _ (stays w) (λ item k. grows_with (value_of p f w line e.now k) _ (stays w) (λ v k. from _ (same_prints w _) (h vs f _ k)))
 used_grows p (PutItem line i place op) v vs f w k go back h b =
     grows_with (found_again line w f.this i place k) _ (stays w) (λ item k. from _ (same_prints w _) (h vs f _ k))
@@ -349,15 +348,16 @@ used_grows p (Choose x y) v vs f w k go back h b =
 used_grows p (Turn line loop) v vs f w k go back h b =
     grows_go (turns p f.mode f w line (statement_view loop.now) k v) _ _ (turns_grow p f.mode f w line (statement_view loop.now) k v) (λ ls x k l. from _ l (h vs _ x k)) (λ v x k l. from _ l (b v x k))
 used_grows p GiveBack v vs f w k go back h b = b v w k
+used_grows p other v vs f w k go back h b = grows (stays w)
 
 mutual
   pub resume_grows : (p : PlainProgram) (todo : List Work) (vs : List Datum) (f : Body) (below : List Body) (w : World) (k : ℕ) → Grows w (resume p todo vs f below w k)
   resume_grows p [] vs f below w k = grows (stays w)
   resume_grows p (Evaluate line e ∷ todo) vs f below w k = grows_with (value_of p f w line e.now k) _ (stays w) (λ v k. resume_grows p todo (v ∷ vs) f below w k)
-  resume_grows p (Take taker ∷ todo) vs f below w k =
-      grows_pop vs _ (λ v vs. used_grows p taker v vs f w k _ _ (λ vs f x k. resume_grows p todo vs f below x k) (λ v x k. grows_mode f.mode _ (unwind_grows p todo vs below x k v)))
-  resume_grows p (Collect line t arguments n ∷ todo) vs f below w k =
-      collected_grows p line t (drop n arguments.now) n vs f w k _ (λ vs x k. resume_grows p todo vs f below x k)
+  resume_grows p (CollectValue line arguments m n ∷ todo) vs f below w k =
+      collected_grows p line (Function m) (drop n arguments.now.items) n vs f w k _ (λ vs x k. resume_grows p todo vs f below x k)
+  resume_grows p (CollectCall line arguments op n ∷ todo) vs f below w k =
+      collected_grows p line (Operation op) (drop n arguments.now.items) n vs f w k _ (λ vs x k. resume_grows p todo vs f below x k)
   resume_grows p (Exec line s ∷ todo) vs f below w k =
       grows_go (runs p f.mode f w line (statement_view s.now) k) _ _ (runs_grow p f.mode f w line (statement_view s.now) k) (λ ls x k l. from _ l (resume_grows p todo vs _ below x k)) (λ v x k l. from _ l (grows_mode f.mode _ (unwind_grows p todo vs below x k v)))
   resume_grows p (Seq ss ∷ todo) vs f below w k =
@@ -367,15 +367,10 @@ mutual
   resume_grows p (Leave ∷ todo) vs f below w k = grows_back below _ (λ g below. resume_grows p todo _ g below w k)
   resume_grows p (Heed ∷ todo) vs f below w k = resume_grows p todo vs _ below w k
   resume_grows p (Back ∷ todo) vs f below w k = grows_pop vs _ (λ v vs. grows_back below _ (λ g below. resume_grows p todo (v ∷ vs) g below w k))
+  resume_grows p (taker ∷ todo) vs f below w k =
+      grows_pop vs _ (λ v vs. used_grows p taker v vs f w k _ _ (λ vs f x k. resume_grows p todo vs f below x k) (λ v x k. grows_mode f.mode _ (unwind_grows p todo vs below x k v)))
 
   pub unwind_grows : (p : PlainProgram) (todo : List Work) (vs : List Datum) (below : List Body) (w : World) (k : ℕ) (v : Datum) → Grows w (unwind p todo vs below w k v)
   unwind_grows p [] vs below w k v = grows (stays w)
   unwind_grows p (Leave ∷ todo) vs below w k v = grows_back below _ (λ g below. resume_grows p todo (v ∷ vs) g below w k)
-  unwind_grows p (Evaluate line e ∷ todo) vs below w k v = unwind_grows p todo vs below w k v
-  unwind_grows p (Take taker ∷ todo) vs below w k v = unwind_grows p todo vs below w k v
-  unwind_grows p (Collect line t arguments n ∷ todo) vs below w k v = unwind_grows p todo vs below w k v
-  unwind_grows p (Exec line s ∷ todo) vs below w k v = unwind_grows p todo vs below w k v
-  unwind_grows p (Seq ss ∷ todo) vs below w k v = unwind_grows p todo vs below w k v
-  unwind_grows p (Again line loop ∷ todo) vs below w k v = unwind_grows p todo vs below w k v
-  unwind_grows p (Back ∷ todo) vs below w k v = unwind_grows p todo vs below w k v
-  unwind_grows p (Heed ∷ todo) vs below w k v = unwind_grows p todo vs below w k v
+  unwind_grows p (work ∷ todo) vs below w k v = unwind_grows p todo vs below w k v

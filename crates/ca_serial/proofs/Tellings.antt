@@ -28,7 +28,7 @@ use Rattle.ca_serial.specs.declared.machine.Machine.{Machine}
 use Rattle.ca_serial.specs.declared.answers.Answer.{Answer}
 use Rattle.ca_serial.specs.declared.answers.Answer.TheVariants.{Gives, Rest}
 use Rattle.ca_serial.specs.declared.answers.Look.{Look}
-use Rattle.ca_serial.specs.declared.answers.Look.TheVariants.{Gives as Shown, Passes, Stays}
+use Rattle.ca_serial.specs.declared.answers.Look.TheVariants.{Returns, Passes, Stays}
 use Rattle.ca_serial.specs.declared.work.Work.{Work}
 use Rattle.ca_serial.specs.declared.work.Work.TheVariants.{Seq, Evaluate, Leave, Back}
 use Rattle.ca_serial.specs.clauses.Bodies.{Body, with_locals}
@@ -44,8 +44,8 @@ seen_value s e v owns is ms line k =
     (ap (λ own. direct s.heap.now s.this own s.locals.now e) (sym owns) ∙ is)
 
 -- a value that is given back
-pub return_shows : (s : Scene) (x : Stmt) (e : Expr) (v : Datum) → x.kind ≡ Return e → seen s (expression_view e) ≡ gives v 0 → Shows s (statement_view x) (Shown v)
-return_shows s x e v is value = λ owns ms line k.
+pub return_shows : (s : Scene) (x : Stmt) (e : Expr) → x.kind ≡ Return e → OwnsSlots s → (v : Datum) → seen s (expression_view e) ≡ gives v 0 → (ms : List PlainMethod) (line k : ℕ) → runs_in ms s line (statement_view x) k ≡ gives_back v tt k
+return_shows s x e is = λ owns v value ms line k.
     ap (λ form. runs_in ms s line (form_view form x.line) k) is
     ∙ rw (seen_value s (expression_view e) v owns value ms line k) refl
 
@@ -59,7 +59,7 @@ branch_runs s x y c a b false is here value owns ms line k =
     ∙ rw (here, seen_value s (expression_view c) (Truth false) owns value ms line k) refl
 
 pub if_shows : (s : Scene) (x y : Stmt) (c : Expr) (a b : Box Stmt Global) (t : Bool) (o : Look) → x.kind ≡ If c a b → y ≡ branch_of t a b → seen s (expression_view c) ≡ gives (Truth t) 0 → Shows s (statement_view y) o → Shows s (statement_view x) o
-if_shows s x y c a b t (Shown v) is here value shown = λ owns ms line k. branch_runs s x y c a b t is here value owns ms line k ∙ shown owns ms (line_of (statement_view y)) k
+if_shows s x y c a b t (Returns e) is here value shown = λ owns v given ms line k. branch_runs s x y c a b t is here value owns ms line k ∙ shown owns v given ms (line_of (statement_view y)) k
 if_shows s x y c a b t Passes is here value shown = λ owns ms line k. branch_runs s x y c a b t is here value owns ms line k ∙ shown owns ms (line_of (statement_view y)) k
 if_shows s x y c a b t Stays is here value shown = tt
 
@@ -72,17 +72,17 @@ block_runs_in s x ss is ms line k =
 pub empty_shows : (s : Scene) (x : Stmt) (ss : Vec Stmt Global) → x.kind ≡ Block ss → ss.items ≡ [] → Shows s (statement_view x) Passes
 empty_shows s x ss is none = λ owns ms line k. block_runs_in s x ss is ms line k ∙ ap (λ ys. all_run_in ms s (statements_view ys) k) none
 
-pub block_shows : (s : Scene) (x y : Stmt) (ss : Vec Stmt Global) (ys : List Stmt) (v : Datum) → x.kind ≡ Block ss → ss.items ≡ y ∷ ys → Shows s (statement_view y) (Shown v) → Shows s (statement_view x) (Shown v)
-block_shows s x y ss ys v is all shown = λ owns ms line k.
+pub block_shows : (s : Scene) (x y : Stmt) (ss : Vec Stmt Global) (ys : List Stmt) (e : Bor Expr) → x.kind ≡ Block ss → ss.items ≡ y ∷ ys → Shows s (statement_view y) (Returns e) → Shows s (statement_view x) (Returns e)
+block_shows s x y ss ys e is all shown = λ owns v given ms line k.
     block_runs_in s x ss is ms line k
     ∙ ap (λ zs. all_run_in ms s (statements_view zs) k) all
-    ∙ ap (λ flow. and_on flow (λ ls u k. exec_all (function_parts (functions_of ms s.heap.now) s.heap.now s.this) ls u (statements_view ys) k)) (shown owns ms (line_of (statement_view y)) k)
+    ∙ ap (λ flow. and_on flow (λ ls u k. exec_all (function_parts (functions_of ms s.heap.now) s.heap.now s.this) ls u (statements_view ys) k)) (shown owns v given ms (line_of (statement_view y)) k)
 
 -- the first statement of a list gives a value back
-pub first_gives : (s : Scene) (x : Stmt) (xs zs : List Stmt) (v : Datum) → zs ≡ x ∷ xs → Shows s (statement_view x) (Shown v) → OwnsSlots s → (ms : List PlainMethod) (k : ℕ) → all_run_in ms s (statements_view zs) k ≡ gives_back v tt k
-first_gives s x xs zs v is shown owns ms k =
+pub first_gives : (s : Scene) (x : Stmt) (xs zs : List Stmt) (e : Bor Expr) (v : Datum) → zs ≡ x ∷ xs → Shows s (statement_view x) (Returns e) → seen s (expression_view e.now) ≡ gives v 0 → OwnsSlots s → (ms : List PlainMethod) (k : ℕ) → all_run_in ms s (statements_view zs) k ≡ gives_back v tt k
+first_gives s x xs zs e v is shown given owns ms k =
     ap (λ ys. all_run_in ms s (statements_view ys) k) is
-    ∙ ap (λ flow. and_on flow (λ ls u k. exec_all (function_parts (functions_of ms s.heap.now) s.heap.now s.this) ls u (statements_view xs) k)) (shown owns ms (line_of (statement_view x)) k)
+    ∙ ap (λ flow. and_on flow (λ ls u k. exec_all (function_parts (functions_of ms s.heap.now) s.heap.now s.this) ls u (statements_view xs) k)) (shown owns v given ms (line_of (statement_view x)) k)
 
 -- it does nothing
 pub first_passes : (s : Scene) (x : Stmt) (xs zs : List Stmt) → zs ≡ x ∷ xs → Shows s (statement_view x) Passes → OwnsSlots s → (ms : List PlainMethod) (k : ℕ) → all_run_in ms s (statements_view zs) k ≡ all_run_in ms s (statements_view xs) k

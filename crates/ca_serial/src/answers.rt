@@ -7,7 +7,7 @@ ghost use Rattle.ca_serial.specs.clauses.Answers.{Shows, Tells};
 use crate::expressions::calls;
 use ca_direct::Scene;
 use ca_model::Value;
-use ca_program::{Stmt, StmtForm};
+use ca_program::{Expr, Stmt, StmtForm};
 
 /// What the beginning of a body tells.
 #[derive(Clone, Copy)]
@@ -20,9 +20,9 @@ pub enum Answer<'a> {
 
 /// What a look at a statement shows.
 #[derive(Clone, Copy)]
-pub enum Look {
-    /// It gives this value back.
-    Gives(Value),
+pub enum Look<'a> {
+    /// It gives the value of this expression back.
+    Returns(&'a Expr),
     /// It does nothing.
     Passes,
     /// Something else.
@@ -30,14 +30,19 @@ pub enum Look {
 }
 
 /// Looks at the statements of a value method's body in a scene, until one does more than to choose.
-#[inline]
+#[inline(always)]
 pub fn answer_of<'a>(scene: &Scene<'_>, ss: &'a [Stmt]) -> Answer<'a>
     ensures { Tells scene.now (statements_view ss.now) result }
 {
     let mut rest = ss;
     while let Some((first, others)) = rest.split_first() {
         match look_at(scene, first) {
-            Look::Gives(value) => return Answer::Gives(value),
+            Look::Returns(e) => {
+                return match scene.value_of(e) {
+                    Some(value) => Answer::Gives(value),
+                    None => Answer::Rest(rest),
+                };
+            }
             Look::Passes => {}
             Look::Stays => return Answer::Rest(rest),
         }
@@ -47,17 +52,15 @@ pub fn answer_of<'a>(scene: &Scene<'_>, ss: &'a [Stmt]) -> Answer<'a>
 }
 
 /// Looks at a statement of a value method in a scene.
-fn look_at(scene: &Scene<'_>, s: &Stmt) -> Look
+fn look_at<'a>(scene: &Scene<'_>, s: &'a Stmt) -> Look<'a>
     ensures { Shows scene.now (statement_view s.now) result }
 {
     match &s.kind {
         StmtForm::Return(e) => {
             if calls(e) {
-                return Look::Stays;
-            }
-            match scene.value_of(e) {
-                Some(value) => Look::Gives(value),
-                None => Look::Stays,
+                Look::Stays
+            } else {
+                Look::Returns(e)
             }
         }
         StmtForm::If(c, a, b) => match scene.truth_of(c) {
@@ -67,7 +70,7 @@ fn look_at(scene: &Scene<'_>, s: &Stmt) -> Look
         },
         StmtForm::Block(ss) => match ss.as_slice().split_first() {
             Some((first, _)) => match look_at(scene, first) {
-                Look::Gives(value) => Look::Gives(value),
+                Look::Returns(e) => Look::Returns(e),
                 _ => Look::Stays,
             },
             None => Look::Passes,

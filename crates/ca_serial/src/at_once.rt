@@ -1,61 +1,26 @@
 //! Statements that are done at once, with no work put on the stack.
 
-ghost use Rattle.std.specs.Prelude.{◌≡◌, ◌∷◌, ℕ, List, IfSome};
+ghost use Rattle.std.specs.Prelude.{◌≡◌, ◌≤◌, ◌∷◌, ℕ, List, length, IfSome};
 ghost use Rattle.ca_program.specs.View.{program_view, expression_view};
 ghost use Rattle.ca_program.specs.Plain.{put_local, put_field, put_item};
 ghost use Rattle.ca_model.specs.declared.value.Value.TheVariants.{Bool as Truth};
 ghost use Rattle.ca_meaning.specs.Expressions.{gives};
 ghost use Rattle.ca_meaning.specs.Functions.{value_in};
-ghost use Rattle.ca_serial.specs.clauses.Resume.{Past, rest_of, AtOnce, Puts, pieces};
+ghost use Rattle.ca_serial.specs.clauses.Resume.{Past, rest_of, AtOnce, Puts};
 
 use crate::bodies::Mode;
 use crate::machine::Machine;
-use crate::work::{Left, Work};
+use crate::work::Work;
 use ca_model::Value;
 use ca_program::{AssignOp, BinaryOp, Expr, FieldId, LocalId, Program, Stmt, StmtForm};
 
 impl<'a> Machine<'a> {
-    /// Does what it can of a statement on a line at once, and gives back what is left of it.
-    #[inline(always)]
-    pub fn start(&mut self, program: &'a Program, line: u32, s: &'a Stmt) -> Left<'a>
-        ensures todo { self.new.todo ≡ self.old.todo }
-        ensures steps { self.new.left ≡ self.old.left }
-        ensures left { (todo : List Work) (ps : Past) → rest_of (program_view program.now) (Work.Exec line s.entry ∷ todo) self.old ps ≡ rest_of (program_view program.now) (pieces result todo) self.new ps }
-    {
-        match &s.kind {
-            StmtForm::Block(ss) => {
-                let left = self.start_all(program, ss.as_slice());
-                left
-            }
-            _ => {
-                if self.do_one(program, line, s) {
-                    Left::Nothing
-                } else {
-                    Left::Statement(line, s)
-                }
-            }
-        }
-    }
-
-    /// Does what it can of a list of statements at once, and gives back what is left of it.
-    #[inline(always)]
-    fn start_all(&mut self, program: &'a Program, ss: &'a [Stmt]) -> Left<'a>
-        ensures todo { self.new.todo ≡ self.old.todo }
-        ensures steps { self.new.left ≡ self.old.left }
-        ensures left { (todo : List Work) (ps : Past) → rest_of (program_view program.now) (Work.Seq ss.entry ∷ todo) self.old ps ≡ rest_of (program_view program.now) (pieces result todo) self.new ps }
-    {
-        let rest = self.do_all(program, ss);
-        if rest.is_empty() {
-            Left::Nothing
-        } else {
-            Left::Statements(rest)
-        }
-    }
-
     /// Does the first statements of a list at once, and gives back the others.
+    #[inline(always)]
     pub fn do_all(&mut self, program: &'a Program, ss: &'a [Stmt]) -> &'a [Stmt]
         ensures todo { self.new.todo ≡ self.old.todo }
         ensures steps { self.new.left ≡ self.old.left }
+        ensures fewer { length result.now ≤ length ss.now }
         ensures left { (todo : List Work) (ps : Past) → rest_of (program_view program.now) (Work.Seq ss.entry ∷ todo) self.old ps ≡ rest_of (program_view program.now) (Work.Seq result ∷ todo) self.new ps }
     {
         let mut rest = ss;
@@ -112,7 +77,7 @@ impl<'a> Machine<'a> {
                     None => None,
                 }
             }
-            _ => self.value_of(program, line, e),
+            _ => self.short_of(program, line, e),
         }
     }
 

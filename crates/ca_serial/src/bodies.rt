@@ -1,7 +1,8 @@
 //! The bodies that run, each called by the one below it.
 
-ghost use Rattle.std.specs.Prelude.{◌≡◌, ◌&&◌, [], ◌∷◌, ◌++◌, map, slice_set, IfOk};
+ghost use Rattle.std.specs.Prelude.{◌≡◌, ◌&&◌, [], ◌∷◌, ◌++◌, false, map, slice_set, IfOk};
 ghost use Rattle.ca_model.specs.Slots.{start_of};
+ghost use Rattle.ca_model.specs.declared.value.Value.TheVariants.{Ref};
 ghost use Rattle.ca_meaning.specs.Expressions.{value_at};
 ghost use Rattle.ca_parallel.specs.Lists.{op_in};
 ghost use Rattle.ca_serial.specs.clauses.Marked.{site_in};
@@ -22,13 +23,15 @@ pub enum Mode {
     InOperation,
 }
 
-/// A body that runs: its receiver, its kind, whether it heeds the marks, and the place where its locals begin.
+/// A body that runs: the number of its receiver, which counts only where it has one, the place where its locals begin,
+/// its kind, whether it heeds the marks, and whether it has a receiver, as all have but `main`.
 #[derive(Clone, Copy)]
 pub struct Entry {
-    pub this: Value,
+    pub receiver: u32,
+    pub base: u32,
     pub mode: Mode,
     pub heeds: bool,
-    pub base: usize,
+    pub owned: bool,
 }
 
 /// The body that runs and those that wait for it. The locals of all stand in one vector, and the marks are the same for
@@ -71,10 +74,11 @@ impl<'a> Bodies<'a> {
         Ok(Bodies {
             locals,
             current: Entry {
-                this: Value::Null,
+                receiver: 0,
+                base: 0,
                 mode: Mode::InOperation,
                 heeds,
-                base: 0,
+                owned: false,
             },
             below: Vec::new(alloc),
             marked,
@@ -86,7 +90,11 @@ impl<'a> Bodies<'a> {
     pub fn this(&self) -> Value
         ensures { result ≡ self.now.current.this }
     {
-        self.current.this
+        if self.current.owned {
+            Value::Ref(self.current.receiver)
+        } else {
+            Value::Null
+        }
     }
 
     /// The kind of the body that runs.
@@ -133,9 +141,12 @@ impl<'a> Bodies<'a> {
         ensures current { IfOk result (λ _. self.new.current ≡ with_locals self.old.current values.now) }
         ensures below { IfOk result (λ _. self.new.below ≡ self.old.below) }
     {
-        let base = self.current.base.min(self.locals.len());
+        let base = (self.current.base as usize).min(self.locals.len());
+        let Ok(place) = u32::try_from(base) else {
+            return Err(Memory);
+        };
         self.locals.truncate(base);
-        self.current.base = base;
+        self.current.base = place;
         add_all(&mut self.locals, values)?;
         Ok(())
     }
@@ -153,7 +164,7 @@ impl<'a> Bodies<'a> {
     pub fn locals(&self) -> &[Value]
         ensures { result.now ≡ self.now.current.locals }
     {
-        let base = self.current.base;
+        let base = self.current.base as usize;
         if base < self.locals.len() {
             &self.locals[base..]
         } else {
@@ -178,47 +189,51 @@ impl<'a> Bodies<'a> {
         ensures current { self.new.current ≡ with_locals self.old.current (slice_set self.old.current.locals index value) }
         ensures below { self.new.below ≡ self.old.below }
     {
-        let base = self.current.base;
+        let base = self.current.base as usize;
         let len = self.locals.len();
         if base < len && (index as usize) < len - base {
             self.locals[base + index as usize] = value;
         }
     }
 
-    /// Begins a body whose first locals are the arguments; the others have these types. It heeds the marks where the body
-    /// that runs does.
+    /// Begins a body with this receiver, whose first locals are the arguments; the others have these types. It heeds the
+    /// marks where the body that runs does. A place of locals that no `u32` holds is want of memory.
     #[inline(always)]
     pub fn enter(
         &mut self,
-        this: Value,
+        receiver: u32,
         mode: Mode,
         arguments: &[Value],
         others: &[ValueType],
     ) -> Result<(), Memory>
-        ensures current { IfOk result (λ _. self.new.current ≡ record { this = this; locals = arguments.now ++ map start_of others.now; mode = mode; marked = self.old.current.marked; heeds = self.old.current.heeds }) }
+        ensures current { IfOk result (λ _. self.new.current ≡ record { this = Ref receiver; locals = arguments.now ++ map start_of others.now; mode = mode; marked = self.old.current.marked; heeds = self.old.current.heeds }) }
         ensures below { IfOk result (λ _. self.new.below ≡ self.old.current ∷ self.old.below) }
     {
         let heeds = self.current.heeds;
-        let base = self.locals.len();
+        let Ok(base) = u32::try_from(self.locals.len()) else {
+            return Err(Memory);
+        };
         add_all(&mut self.locals, arguments)?;
         add_starts(&mut self.locals, others)?;
         add(&mut self.below, self.current)?;
         self.current = Entry {
-            this,
+            receiver,
+            base,
             mode,
             heeds,
-            base,
+            owned: true,
         };
         Ok(())
     }
 
     /// Goes back to the body below, if there is one.
     pub fn leave(&mut self) -> bool
-        ensures { Went result self.old self.new }
+        ensures went { Went result self.old self.new }
+        ensures stays { result ≡ false → self.new ≡ self.old }
     {
         match self.below.pop() {
             Some(entry) => {
-                self.locals.truncate(self.current.base);
+                self.locals.truncate(self.current.base as usize);
                 self.current = entry;
                 true
             }
@@ -240,7 +255,7 @@ fn add<T: Drop>(items: &mut Vec<T>, item: T) -> Result<(), Memory>
 }
 
 /// Adds values behind the others.
-#[inline]
+#[inline(always)]
 fn add_all(items: &mut Vec<Value>, values: &[Value]) -> Result<(), Memory>
     ensures { IfOk result (λ _. items.new.items ≡ items.old.items ++ values.now) }
 {

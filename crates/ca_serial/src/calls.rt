@@ -5,7 +5,7 @@ ghost use Rattle.ca_program.specs.View.{program_view, method_view, statements_vi
 ghost use Rattle.ca_model.specs.declared.value.Value.{Value as Datum};
 ghost use Rattle.ca_meaning.specs.Functions.{body_of};
 ghost use Rattle.ca_model.specs.Slots.{start_of};
-ghost use Rattle.ca_serial.specs.clauses.Resume.{Past, rest_of, back_of, unwound, handed_back, begins, after, target_method, target_mode, others_in, Handed};
+ghost use Rattle.ca_serial.specs.clauses.Resume.{Past, rest_of, back_of, unwound, handed_back, begins, collects, collects_before, collect_work, after, target_method, target_mode, others_in, Handed};
 ghost use Rattle.ca_serial.specs.clauses.Answers.{Told};
 ghost use Rattle.ca_serial.specs.clauses.Bodies.{marks_of};
 
@@ -26,25 +26,75 @@ impl<'a> Machine<'a> {
         program: &'a Program,
         line: u32,
         target: Target,
-        arguments: &'a [Expr],
+        arguments: &'a Vec<Expr>,
         first: usize,
     ) -> Result<Next, Memory>
-        ensures { IfOk result (λ next. (ps : Past) → rest_of (program_view program.now) (Work.Collect line target arguments.entry first ∷ self.old.todo) self.old ps ≡ after (program_view program.now) self.new ps next) }
+        ensures { IfOk result (λ next. (ps : Past) → collects (program_view program.now) line target arguments.now.items first self.old ps ≡ after (program_view program.now) self.new ps next) }
+    {
+        let items = arguments.as_slice();
+        let count = self.gather(program, line, target, items, first)?;
+        if count < items.len() {
+            self.put_collect(line, target, arguments, count + 1)?;
+            self.todo.push(Work::Evaluate(line, &items[count]))?;
+            return Ok(Next::GoesOn);
+        }
+        let next = self.begin(program, line, target, count)?;
+        Ok(next)
+    }
+
+    /// Puts the arguments of a call on the values from one of them on, up to one that isn't found without a call, and gives
+    /// back which that is.
+    #[inline(always)]
+    pub fn gather(
+        &mut self,
+        program: &'a Program,
+        line: u32,
+        target: Target,
+        arguments: &'a [Expr],
+        first: usize,
+    ) -> Result<usize, Memory>
+        ensures todo { self.new.todo ≡ self.old.todo }
+        ensures steps { self.new.left ≡ self.old.left }
+        ensures gathers { IfOk result (λ count. (todo : List Work) (ps : Past) → collects_before (program_view program.now) todo line target arguments.now first self.old ps ≡ collects_before (program_view program.now) todo line target arguments.now count self.new ps) }
     {
         let mut index = first;
         while index < arguments.len() {
             match self.value_now(program, line, &arguments[index]) {
                 Some(value) => self.values.push(value)?,
-                None => {
-                    self.todo
-                        .push(Work::Collect(line, target, arguments, index + 1))?;
-                    self.todo.push(Work::Evaluate(line, &arguments[index]))?;
-                    return Ok(Next::GoesOn);
-                }
+                None => return Ok(index),
             }
             index += 1;
         }
-        self.begin(program, line, target, index)
+        Ok(index)
+    }
+
+    /// Puts the rest of a call before other work. A number of arguments that no `u32` holds is want of memory.
+    #[inline]
+    fn put_collect(
+        &mut self,
+        line: u32,
+        target: Target,
+        arguments: &'a Vec<Expr>,
+        first: usize,
+    ) -> Result<(), Memory>
+        ensures todo { IfOk result (λ _. self.new.todo ≡ collect_work line target arguments.entry first ∷ self.old.todo) }
+        ensures values { self.new.values ≡ self.old.values }
+        ensures bodies { self.new.bodies ≡ self.old.bodies }
+        ensures heap { self.new.heap ≡ self.old.heap }
+        ensures left { self.new.left ≡ self.old.left }
+    {
+        let Ok(first) = u32::try_from(first) else {
+            return Err(Memory);
+        };
+        match target {
+            Target::Function(m) => self
+                .todo
+                .push(Work::CollectValue(line, arguments, m, first))?,
+            Target::Operation(op) => self
+                .todo
+                .push(Work::CollectCall(line, arguments, op, first))?,
+        }
+        Ok(())
     }
 
     /// Begins a call whose arguments are the top values, so many of them, with the receiver below them. One that the
@@ -88,7 +138,7 @@ impl<'a> Machine<'a> {
             }
             Answer::Rest(ss) => {
                 self.bodies
-                    .enter(top.below, mode_of(target), top.items, called.others)?;
+                    .enter(receiver, mode_of(target), top.items, called.others)?;
                 self.values.cut(count);
                 self.left -= 1;
                 let next = self.begin_body(program, ss)?;
@@ -163,7 +213,7 @@ impl<'a> Machine<'a> {
 
     /// Makes the first statement of a list the next piece of work, and what is behind it the one after that.
     #[inline]
-    fn put_off(&mut self, program: &'a Program, ss: &'a [Stmt]) -> Result<Next, Memory>
+    pub fn put_off(&mut self, program: &'a Program, ss: &'a [Stmt]) -> Result<Next, Memory>
         ensures { IfOk result (λ next. (ps : Past) → rest_of (program_view program.now) (Work.Seq ss.entry ∷ self.old.todo) self.old ps ≡ after (program_view program.now) self.new ps next) }
     {
         match ss.split_first() {
@@ -214,6 +264,21 @@ impl<'a> Machine<'a> {
         }
         self.values.push(value)?;
         Ok(Next::GoesOn)
+    }
+
+    /// Goes back to the caller of a value method with the top value.
+    #[inline]
+    pub fn back(&mut self, program: &'a Program) -> Result<Next, Memory>
+        ensures { IfOk result (λ next. (ps : Past) → rest_of (program_view program.now) (Work.Back ∷ self.old.todo) self.old ps ≡ after (program_view program.now) self.new ps next) }
+    {
+        if self.values.is_empty() {
+            return Ok(Next::Spent);
+        }
+        if self.bodies.leave() {
+            Ok(Next::GoesOn)
+        } else {
+            Ok(Next::Spent)
+        }
     }
 
     /// Goes back to the caller behind the last statement of a body.

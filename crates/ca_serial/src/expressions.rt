@@ -1,13 +1,15 @@
 //! The steps of expressions.
 
-ghost use Rattle.std.specs.Prelude.{◌≡◌, ◌∷◌, ℕ, IfOk};
+ghost use Rattle.std.specs.Prelude.{◌≡◌, ◌∷◌, ℕ, IfOk, IfSome, Ok};
 ghost use Rattle.ca_program.specs.View.{program_view, expression_view, expressions_view, statement_view, statements_view};
 ghost use Rattle.ca_program.specs.Plain.{value_call, binary};
+ghost use Rattle.ca_model.specs.declared.value.Value.TheVariants.{Long};
 ghost use Rattle.ca_meaning.specs.Expressions.{decided};
+ghost use Rattle.ca_meaning.specs.Operators.{operated};
 ghost use Rattle.ca_serial.specs.clauses.Resume.{Past, rest_of, takes, evaluates, after};
 
 use crate::machine::{Machine, field_of};
-use crate::work::{Next, Taker, Target, Work};
+use crate::work::{Next, Target, Work};
 use ca_base::Memory;
 use ca_meaning::{operate, operate_unary};
 use ca_model::{TrapKind, Value};
@@ -29,17 +31,14 @@ impl<'a> Machine<'a> {
                 let value = field_of(&self.heap, self.bodies.this(), *f);
                 self.values.push(value)?;
             }
-            Expr::OwnItem(f, i) => {
-                let this = self.bodies.this();
-                self.then(Taker::ReadItem(line, this, *f), line, i)?;
-            }
-            Expr::Read(p, f) => self.then(Taker::ReadField(line, *f), line, p)?,
-            Expr::ReadItem(p, f, i) => self.then(Taker::CheckObject(line, *f, i), line, p)?,
+            Expr::OwnItem(f, i) => self.then(Work::ReadOwnItem(line, *f), line, i)?,
+            Expr::Read(p, f) => self.then(Work::ReadField(line, *f), line, p)?,
+            Expr::ReadItem(p, f, i) => self.then(Work::CheckObject(line, *f, i), line, p)?,
             Expr::Value(receiver, m, arguments) => {
-                let next = self.evaluate_call(program, line, receiver, *m, arguments.as_slice())?;
+                let next = self.evaluate_call(program, line, receiver, *m, arguments)?;
                 return Ok(next);
             }
-            Expr::Unary(op, a) => self.then(Taker::Sign(*op), line, a)?,
+            Expr::Unary(op, a) => self.then(Work::Sign(*op), line, a)?,
             Expr::Binary(op, a, b) => {
                 let next = self.evaluate_binary(program, line, *op, a, b)?;
                 return Ok(next);
@@ -56,19 +55,20 @@ impl<'a> Machine<'a> {
         line: u32,
         receiver: &'a Expr,
         method: FunctionId,
-        arguments: &'a [Expr],
+        arguments: &'a Vec<Expr>,
     ) -> Result<Next, Memory>
-        ensures { IfOk result (λ next. (ps : Past) → evaluates (program_view program.now) line (value_call (expression_view receiver.now) method (expressions_view arguments.now)) self.old ps ≡ after (program_view program.now) self.new ps next) }
+        ensures { IfOk result (λ next. (ps : Past) → evaluates (program_view program.now) line (value_call (expression_view receiver.now) method (expressions_view arguments.now.items)) self.old ps ≡ after (program_view program.now) self.new ps next) }
     {
         let target = Target::Function(method);
-        match self.value_of(program, line, receiver) {
+        match self.short_of(program, line, receiver) {
             Some(object) => {
                 self.values.push(object)?;
                 let next = self.collect(program, line, target, arguments, 0)?;
                 Ok(next)
             }
             None => {
-                self.todo.push(Work::Collect(line, target, arguments, 0))?;
+                self.todo
+                    .push(Work::CollectValue(line, arguments, method, 0))?;
                 self.todo.push(Work::Evaluate(line, receiver))?;
                 Ok(Next::GoesOn)
             }
@@ -88,12 +88,12 @@ impl<'a> Machine<'a> {
         ensures { IfOk result (λ next. (ps : Past) → evaluates (program_view program.now) line (binary op (expression_view a.now) (expression_view b.now)) self.old ps ≡ after (program_view program.now) self.new ps next) }
     {
         if is_short(a) {
-            if let Some(left) = self.value_of(program, line, a) {
+            if let Some(left) = self.short_of(program, line, a) {
                 let next = self.check_left(program, line, op, b, left)?;
                 return Ok(next);
             }
         }
-        self.todo.push(Work::Take(Taker::CheckLeft(line, op, b)))?;
+        self.todo.push(Work::CheckLeft(line, op, b))?;
         let next = self.begin_expression(program, line, a)?;
         Ok(next)
     }
@@ -110,7 +110,7 @@ impl<'a> Machine<'a> {
     {
         match e {
             Expr::Value(receiver, m, arguments) => {
-                let next = self.evaluate_call(program, line, receiver, *m, arguments.as_slice())?;
+                let next = self.evaluate_call(program, line, receiver, *m, arguments)?;
                 Ok(next)
             }
             _ => {
@@ -122,14 +122,14 @@ impl<'a> Machine<'a> {
 
     /// Puts the work on an expression before what takes its value.
     #[inline]
-    pub fn then(&mut self, taker: Taker<'a>, line: u32, e: &'a Expr) -> Result<(), Memory>
-        ensures todo { IfOk result (λ _. self.new.todo ≡ Work.Evaluate line e.entry ∷ Work.Take taker.entry ∷ self.old.todo) }
+    pub fn then(&mut self, taker: Work<'a>, line: u32, e: &'a Expr) -> Result<(), Memory>
+        ensures todo { IfOk result (λ _. self.new.todo ≡ Work.Evaluate line e.entry ∷ taker.entry ∷ self.old.todo) }
         ensures values { self.new.values ≡ self.old.values }
         ensures bodies { self.new.bodies ≡ self.old.bodies }
         ensures heap { self.new.heap ≡ self.old.heap }
         ensures left { self.new.left ≡ self.old.left }
     {
-        self.todo.push(Work::Take(taker))?;
+        self.todo.push(taker)?;
         self.todo.push(Work::Evaluate(line, e))?;
         Ok(())
     }
@@ -143,7 +143,7 @@ impl<'a> Machine<'a> {
         field: FieldId,
         object: Value,
     ) -> Result<Next, Memory>
-        ensures { IfOk result (λ next. (ps : Past) → takes (program_view program.now) (Taker.ReadField line field) object self.old ps ≡ after (program_view program.now) self.new ps next) }
+        ensures { IfOk result (λ next. (ps : Past) → takes (program_view program.now) (Work.ReadField line field) object self.old ps ≡ after (program_view program.now) self.new ps next) }
     {
         let Value::Ref(_) = object else {
             return Ok(self.stop(line, TrapKind::NullPointer));
@@ -162,27 +162,49 @@ impl<'a> Machine<'a> {
         index: &'a Expr,
         object: Value,
     ) -> Result<Next, Memory>
-        ensures { IfOk result (λ next. (ps : Past) → takes (program_view program.now) (Taker.CheckObject line field index.entry) object self.old ps ≡ after (program_view program.now) self.new ps next) }
+        ensures { IfOk result (λ next. (ps : Past) → takes (program_view program.now) (Work.CheckObject line field index.entry) object self.old ps ≡ after (program_view program.now) self.new ps next) }
     {
         let Value::Ref(_) = object else {
             return Ok(self.stop(line, TrapKind::NullPointer));
         };
-        self.then(Taker::ReadItem(line, object, field), line, index)?;
+        self.values.push(object)?;
+        self.then(Work::ReadItem(line, field), line, index)?;
         Ok(Next::GoesOn)
     }
 
-    /// Reads an item of an object.
+    /// Reads an item of the object that the top value names.
     pub fn read_item(
         &mut self,
         program: &'a Program,
         line: u32,
-        object: Value,
         field: FieldId,
         index: Value,
     ) -> Result<Next, Memory>
-        ensures { IfOk result (λ next. (ps : Past) → takes (program_view program.now) (Taker.ReadItem line object field) index self.old ps ≡ after (program_view program.now) self.new ps next) }
+        ensures { IfOk result (λ next. (ps : Past) → takes (program_view program.now) (Work.ReadItem line field) index self.old ps ≡ after (program_view program.now) self.new ps next) }
     {
+        let Some(object) = self.values.pop() else {
+            return Ok(Next::Spent);
+        };
         match self.indexed(line, object, field, index)? {
+            Some(item) => {
+                self.values.push(item.value)?;
+                Ok(Next::GoesOn)
+            }
+            None => Ok(self.stop(line, TrapKind::OutOfRange)),
+        }
+    }
+
+    /// Reads an own item.
+    pub fn read_own_item(
+        &mut self,
+        program: &'a Program,
+        line: u32,
+        field: FieldId,
+        index: Value,
+    ) -> Result<Next, Memory>
+        ensures { IfOk result (λ next. (ps : Past) → takes (program_view program.now) (Work.ReadOwnItem line field) index self.old ps ≡ after (program_view program.now) self.new ps next) }
+    {
+        match self.indexed(line, self.bodies.this(), field, index)? {
             Some(item) => {
                 self.values.push(item.value)?;
                 Ok(Next::GoesOn)
@@ -194,14 +216,14 @@ impl<'a> Machine<'a> {
     /// Applies an operator to its one side.
     #[inline]
     pub fn sign(&mut self, program: &'a Program, op: UnaryOp, value: Value) -> Result<Next, Memory>
-        ensures { IfOk result (λ next. (ps : Past) → takes (program_view program.now) (Taker.Sign op) value self.old ps ≡ after (program_view program.now) self.new ps next) }
+        ensures { IfOk result (λ next. (ps : Past) → takes (program_view program.now) (Work.Sign op) value self.old ps ≡ after (program_view program.now) self.new ps next) }
     {
         self.values.push(operate_unary(op, value))?;
         Ok(Next::GoesOn)
     }
 
     /// Goes on with the right side, unless the left one decides.
-    #[inline]
+    #[inline(always)]
     pub fn check_left(
         &mut self,
         program: &'a Program,
@@ -210,7 +232,7 @@ impl<'a> Machine<'a> {
         right: &'a Expr,
         left: Value,
     ) -> Result<Next, Memory>
-        ensures { IfOk result (λ next. (ps : Past) → takes (program_view program.now) (Taker.CheckLeft line op right.entry) left self.old ps ≡ after (program_view program.now) self.new ps next) }
+        ensures { IfOk result (λ next. (ps : Past) → takes (program_view program.now) (Work.CheckLeft line op right.entry) left self.old ps ≡ after (program_view program.now) self.new ps next) }
     {
         match decide(op, left) {
             Some(value) => {
@@ -218,7 +240,7 @@ impl<'a> Machine<'a> {
                 Ok(Next::GoesOn)
             }
             None => {
-                self.todo.push(Work::Take(Taker::Apply(line, op, left)))?;
+                self.todo.push(Work::Apply(op, line, left))?;
                 let next = self.begin_expression(program, line, right)?;
                 Ok(next)
             }
@@ -235,8 +257,12 @@ impl<'a> Machine<'a> {
         left: Value,
         right: Value,
     ) -> Result<Next, Memory>
-        ensures { IfOk result (λ next. (ps : Past) → takes (program_view program.now) (Taker.Apply line op left) right self.old ps ≡ after (program_view program.now) self.new ps next) }
+        ensures { IfOk result (λ next. (ps : Past) → takes (program_view program.now) (Work.Apply op line left) right self.old ps ≡ after (program_view program.now) self.new ps next) }
     {
+        if let Some(number) = number_of(op, left, right) {
+            self.values.push(Value::Long(number))?;
+            return Ok(Next::GoesOn);
+        }
         match operate(op, left, right) {
             Ok(value) => {
                 self.values.push(value)?;
@@ -244,6 +270,25 @@ impl<'a> Machine<'a> {
             }
             Err(kind) => Ok(self.stop(line, kind)),
         }
+    }
+}
+
+/// The number that an operator gives for two numbers, where it can't trap.
+#[inline(always)]
+fn number_of(op: BinaryOp, left: Value, right: Value) -> Option<i64>
+    ensures { IfSome result (λ n. operated op left right ≡ Ok (Long n)) }
+{
+    let Value::Long(a) = left else {
+        return None;
+    };
+    let Value::Long(b) = right else {
+        return None;
+    };
+    match op {
+        BinaryOp::Plus => Some(a.wrapping_add(b)),
+        BinaryOp::Minus => Some(a.wrapping_sub(b)),
+        BinaryOp::Times => Some(a.wrapping_mul(b)),
+        _ => None,
     }
 }
 

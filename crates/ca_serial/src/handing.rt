@@ -76,7 +76,7 @@ impl<'a> Machine<'a> {
         let due = self.due;
         let called = body_of(program, Target::Operation(due.op));
         self.bodies.enter(
-            Value::Ref(due.receiver),
+            due.receiver,
             Mode::InOperation,
             self.values.last(due.count),
             called.others,

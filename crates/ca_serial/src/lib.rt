@@ -34,6 +34,7 @@ mod print;
 mod puts;
 mod running;
 mod stack;
+mod starts;
 mod statements;
 mod step;
 mod targets;

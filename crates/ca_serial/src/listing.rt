@@ -1,12 +1,14 @@
 //! Marked loops, whose calls are listed and handed to an engine.
 
-ghost use Rattle.std.specs.Prelude.{◌≡◌, ◌∷◌, true, IfOk, Contains};
+ghost use Rattle.std.specs.Prelude.{◌≡◌, ◌∷◌, [], true, IfOk, Contains};
 ghost use Rattle.ca_program.specs.View.{program_view, statement_view};
 ghost use Rattle.ca_meaning.specs.ProgramTyped.{ProgramTyped};
 ghost use Rattle.ca_meaning.specs.Serial.{Note};
 ghost use Rattle.ca_parallel.specs.Accounts.{HandedOn};
 ghost use Rattle.ca_parallel.specs.Notes.{NoteGood};
 ghost use Rattle.ca_note_laws.specs.Listing.{puts_nothing};
+ghost use Rattle.ca_sections.specs.declared.operations.SectionAnswer.TheVariants.{Done};
+ghost use Rattle.ca_sections.specs.Answers.{LoopIs, locals_after};
 ghost use Rattle.ca_serial.specs.clauses.Loops.{heeds_loop, section_next, notes_of, notes_next, runs_alone};
 ghost use Rattle.ca_serial.specs.clauses.Resume.{Past, and_notes, rest_of};
 
@@ -16,6 +18,7 @@ use crate::targets::puts_nothing;
 use crate::work::Work;
 use ca_base::Memory;
 use ca_model::Value;
+use ca_parallel::Op;
 use ca_program::{Program, Stmt, StmtForm};
 use ca_sections::{Desk, SectionAnswer, section_of_loop};
 use std::alloc::Global;
@@ -29,6 +32,7 @@ pub fn hand_on_loop<'a, R: Threads + Wait + Sync, E: Extents>(
     alloc: Global,
     program: &'a Program,
     machine: &mut Machine<'a>,
+    lists: &mut Lists<'a>,
     engine: &mut E,
 ) -> Result<(), Memory>
     requires ready { E.ready }
@@ -49,7 +53,7 @@ pub fn hand_on_loop<'a, R: Threads + Wait + Sync, E: Extents>(
         return Ok(());
     }
     if puts_nothing(s) {
-        list_loop(rt, alloc, program, line, s, machine, engine)?;
+        list_loop(rt, alloc, program, line, s, machine, lists, engine)?;
         return Ok(());
     }
     machine.put_alone(program, line, s)?;
@@ -64,6 +68,7 @@ fn list_loop<'a, R: Threads + Wait + Sync, E: Extents>(
     line: u32,
     s: &'a Stmt,
     machine: &mut Machine<'a>,
+    lists: &mut Lists<'a>,
     engine: &mut E,
 ) -> Result<(), Memory>
     requires ready { E.ready }
@@ -74,38 +79,49 @@ fn list_loop<'a, R: Threads + Wait + Sync, E: Extents>(
     ensures means { IfOk result (λ _. (ps : Past) → rest_of (program_view program.now) (Work.Exec line s.entry ∷ machine.old.todo) machine.old ps ≡ rest_of (program_view program.now) machine.new.todo machine.new (and_notes ps (notes_of machine.old.heap machine.old.left (section_next (program_view program.now) machine.old line (statement_view s.now))))) }
     ensures account { HandedOn E.Accounts (program_view program.now) (E.account engine.old) (E.account engine.new) result (notes_of machine.old.heap machine.old.left (section_next (program_view program.now) machine.old line (statement_view s.now))) }
 {
-    let mut desk = Desk::new(alloc)?;
-    let mut locals = copies(alloc, machine.bodies.locals())?;
-    let mut listed = Vec::new(alloc);
-    let this = machine.bodies.this();
-    let left = machine.left;
-    let answer = section_of_loop(
-        &mut desk,
-        alloc,
-        program,
-        &machine.heap,
-        this,
-        &mut locals,
-        line,
-        s,
-        left,
-        &mut listed,
-    )?;
-    let taken = match answer {
-        SectionAnswer::Done { steps } => steps,
+    let answer = lists.fill(alloc, program, machine, line, s)?;
+    match answer {
+        SectionAnswer::Done { steps } => {
+            run_listed(rt, program, line, s, steps, machine, lists, engine)?;
+            Ok(())
+        }
         SectionAnswer::Trapped(_) => {
             machine.put_alone(program, line, s)?;
-            return Ok(());
+            Ok(())
         }
         SectionAnswer::Spent => {
             machine.put_alone(program, line, s)?;
-            return Ok(());
+            Ok(())
         }
-    };
-    let rest = left.saturating_sub(taken);
-    match engine.run(rt, program, &mut machine.heap, listed.as_slice(), rest)? {
+    }
+}
+
+/// Hands the calls of a loop that are listed to an engine. The listing took so many steps.
+fn run_listed<'a, R: Threads + Wait + Sync, E: Extents>(
+    rt: &R,
+    program: &'a Program,
+    line: u32,
+    s: &'a Stmt,
+    taken: u64,
+    machine: &mut Machine<'a>,
+    lists: &Lists<'a>,
+    engine: &mut E,
+) -> Result<(), Memory>
+    requires ready { E.ready }
+    requires program { ProgramTyped (program_view program.now) }
+    requires heeded { heeds_loop machine.old.bodies.current (statement_view s.now) ≡ true }
+    requires nothing { puts_nothing (statement_view s.now) ≡ true }
+    requires handed { (n : Note) → Contains (notes_of machine.old.heap machine.old.left (section_next (program_view program.now) machine.old line (statement_view s.now))) n → NoteGood (program_view program.now) n × (E.serves ≡ true) }
+    requires listed { LoopIs (Done taken) (section_next (program_view program.now) machine.old line (statement_view s.now)) [] lists.now.listed.items }
+    requires locals { lists.now.locals.items ≡ locals_after (section_next (program_view program.now) machine.old line (statement_view s.now)) machine.old.bodies.current.locals }
+    ensures means { IfOk result (λ _. (ps : Past) → rest_of (program_view program.now) (Work.Exec line s.entry ∷ machine.old.todo) machine.old ps ≡ rest_of (program_view program.now) machine.new.todo machine.new (and_notes ps (notes_of machine.old.heap machine.old.left (section_next (program_view program.now) machine.old line (statement_view s.now))))) }
+    ensures account { HandedOn E.Accounts (program_view program.now) (E.account engine.old) (E.account engine.new) result (notes_of machine.old.heap machine.old.left (section_next (program_view program.now) machine.old line (statement_view s.now))) }
+{
+    let rest = machine.left.saturating_sub(taken);
+    let listed = lists.listed.as_slice();
+    match engine.run(rt, program, &mut machine.heap, listed, rest)? {
         ExtentAnswer::Done { steps } => {
-            machine.bodies.put_locals(locals.as_slice())?;
+            machine.bodies.put_locals(lists.locals.as_slice())?;
             machine.left = rest.saturating_sub(steps);
             Ok(())
         }
@@ -113,6 +129,57 @@ fn list_loop<'a, R: Threads + Wait + Sync, E: Extents>(
             machine.put_alone(program, line, s)?;
             Ok(())
         }
+    }
+}
+
+/// What the listing of loops works with. Its memory stays from loop to loop.
+#[derive(Drop)]
+pub struct Lists<'a> {
+    desk: Desk<'a>,
+    locals: Vec<Value>,
+    listed: Vec<Op>,
+}
+
+impl<'a> Lists<'a> {
+    /// Nothing that is listed.
+    pub fn new(alloc: Global) -> Result<Lists<'a>, Memory> {
+        Ok(Lists {
+            desk: Desk::new(alloc)?,
+            locals: Vec::new(alloc),
+            listed: Vec::new(alloc),
+        })
+    }
+
+    /// Lists the calls of a loop that is next and puts nothing into fields, in place of what was listed before, and finds
+    /// the locals behind it.
+    fn fill(
+        &mut self,
+        alloc: Global,
+        program: &'a Program,
+        machine: &Machine<'a>,
+        line: u32,
+        s: &'a Stmt,
+    ) -> Result<SectionAnswer, Memory>
+        requires nothing { puts_nothing (statement_view s.now) ≡ true }
+        ensures listed { IfOk result (λ answer. LoopIs answer (section_next (program_view program.now) machine.now line (statement_view s.now)) [] self.new.listed.items) }
+        ensures locals { IfOk result (λ _. self.new.locals.items ≡ locals_after (section_next (program_view program.now) machine.now line (statement_view s.now)) machine.now.bodies.current.locals) }
+    {
+        self.listed.clear();
+        self.locals.clear();
+        self.locals.extend_from_slice(machine.bodies.locals())?;
+        let answer = section_of_loop(
+            &mut self.desk,
+            alloc,
+            program,
+            &machine.heap,
+            machine.bodies.this(),
+            &mut self.locals,
+            line,
+            s,
+            machine.left,
+            &mut self.listed,
+        )?;
+        Ok(answer)
     }
 }
 
@@ -137,15 +204,4 @@ impl<'a> Machine<'a> {
         self.todo.push(Work::Exec(line, s))?;
         Ok(())
     }
-}
-
-/// A copy of values.
-fn copies(alloc: Global, values: &[Value]) -> Result<Vec<Value>, Memory>
-    ensures { IfOk result (λ copies. copies.items ≡ values.now) }
-{
-    let mut copies = Vec::new(alloc);
-    for value in values {
-        copies.push(*value)?;
-    }
-    Ok(copies)
 }

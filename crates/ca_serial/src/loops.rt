@@ -3,10 +3,10 @@
 ghost use Rattle.std.specs.Prelude.{◌≡◌, ◌∷◌, ℕ, IfOk, true};
 ghost use Rattle.ca_program.specs.View.{program_view, expression_view, expressions_view, statement_view, statements_view};
 ghost use Rattle.ca_model.specs.declared.value.Value.TheVariants.{Bool as Truth};
-ghost use Rattle.ca_serial.specs.clauses.Resume.{Past, rest_of, takes, loops, after, behind, pieces, Lessens, LeavesAsMany};
+ghost use Rattle.ca_serial.specs.clauses.Resume.{Past, rest_of, takes, loops, after, behind, Lessens, LeavesAsMany};
 
 use crate::machine::Machine;
-use crate::work::{Left, Next, Taker, Turn, Work};
+use crate::work::{Next, Turn, Work};
 use ca_base::Memory;
 use ca_model::Value;
 use ca_program::{Expr, Program, Stmt, StmtForm};
@@ -59,7 +59,7 @@ impl<'a> Machine<'a> {
             Some(true) => self.begin_turn(program, line, s),
             Some(false) => Ok(Turn::Ends(Next::GoesOn)),
             None => {
-                self.then(Taker::Turn(line, s), line, c)?;
+                self.then(Work::Turn(line, s), line, c)?;
                 Ok(Turn::Ends(Next::GoesOn))
             }
         }
@@ -73,7 +73,7 @@ impl<'a> Machine<'a> {
         s: &'a Stmt,
         condition: Value,
     ) -> Result<Next, Memory>
-        ensures { IfOk result (λ next. (ps : Past) → takes (program_view program.now) (Taker.Turn line s.entry) condition self.old ps ≡ after (program_view program.now) self.new ps next) }
+        ensures { IfOk result (λ next. (ps : Past) → takes (program_view program.now) (Work.Turn line s.entry) condition self.old ps ≡ after (program_view program.now) self.new ps next) }
     {
         match condition {
             Value::Bool(true) => match self.begin_turn(program, line, s)? {
@@ -90,7 +90,7 @@ impl<'a> Machine<'a> {
     /// Takes a step and enters a turn of a loop.
     #[inline(always)]
     fn begin_turn(&mut self, program: &'a Program, line: u32, s: &'a Stmt) -> Result<Turn, Memory>
-        ensures means { IfOk result (λ turn. (ps : Past) → takes (program_view program.now) (Taker.Turn line s.entry) (Truth true) self.old ps ≡ behind (program_view program.now) (Work.Again line s.entry) self.new ps turn) }
+        ensures means { IfOk result (λ turn. (ps : Past) → takes (program_view program.now) (Work.Turn line s.entry) (Truth true) self.old ps ≡ behind (program_view program.now) (Work.Again line s.entry) self.new ps turn) }
         ensures less { IfOk result (λ turn. Lessens turn self.new.left self.old.left) }
     {
         if self.left == 0 {
@@ -98,26 +98,26 @@ impl<'a> Machine<'a> {
         }
         self.left -= 1;
         match &s.kind {
-            StmtForm::While(_, body) => match self.start(program, body.line, body) {
-                Left::Nothing => Ok(Turn::Whole),
-                left => {
-                    self.todo.push(Work::Again(line, s))?;
-                    let next = self.go_on(program, left)?;
-                    Ok(Turn::Ends(next))
+            StmtForm::While(_, body) => {
+                let whole = self.start_body(program, body)?;
+                if whole {
+                    return Ok(Turn::Whole);
                 }
-            },
-            StmtForm::For(_, _, _, _, next, body) => match self.start(program, body.line, body) {
-                Left::Nothing => {
+                self.todo.push(Work::Again(line, s))?;
+                let next = self.go_on(program)?;
+                Ok(Turn::Ends(next))
+            }
+            StmtForm::For(_, _, _, _, next, body) => {
+                let whole = self.start_body(program, body)?;
+                if whole {
                     let turn = self.follow(program, line, s, next)?;
-                    Ok(turn)
+                    return Ok(turn);
                 }
-                left => {
-                    self.todo.push(Work::Again(line, s))?;
-                    self.todo.push(Work::Exec(line, next))?;
-                    let next = self.go_on(program, left)?;
-                    Ok(Turn::Ends(next))
-                }
-            },
+                self.todo.push(Work::Again(line, s))?;
+                self.todo.push(Work::Exec(line, next))?;
+                let next = self.go_on(program)?;
+                Ok(Turn::Ends(next))
+            }
             _ => Ok(Turn::Ends(Next::GoesOn)),
         }
     }
@@ -140,22 +140,5 @@ impl<'a> Machine<'a> {
         self.todo.push(Work::Again(line, s))?;
         let next = self.exec(program, line, next)?;
         Ok(Turn::Ends(next))
-    }
-
-    /// Goes on with what is left of a statement.
-    fn go_on(&mut self, program: &'a Program, left: Left<'a>) -> Result<Next, Memory>
-        ensures { IfOk result (λ next. (ps : Past) → rest_of (program_view program.now) (pieces left.entry self.old.todo) self.old ps ≡ after (program_view program.now) self.new ps next) }
-    {
-        match left {
-            Left::Nothing => Ok(Next::GoesOn),
-            Left::Statement(line, s) => {
-                let next = self.exec(program, line, s)?;
-                Ok(next)
-            }
-            Left::Statements(ss) => {
-                let next = self.go_through(program, ss)?;
-                Ok(next)
-            }
-        }
     }
 }

@@ -15,17 +15,17 @@ ghost use Rattle.ca_serial.specs.declared.work.Next.TheVariants.{Trapped};
 
 use crate::bodies::Bodies;
 use crate::stack::Stack;
-use crate::work::{Call, Next, Work};
+use crate::work::{Call, Left, Next, Work};
 use ca_base::Memory;
 use ca_direct::Scene;
 use ca_model::{Heap, Slot, Trap, TrapKind, Value};
 use ca_parallel::Marks;
-use ca_program::{Expr, FieldId, OpId, Program};
+use ca_program::{Expr, FieldId, OpId, Program, Stmt};
 use std::alloc::Global;
 
 /// The work that is left, the values that it takes, the bodies that run, the heap, and the steps left; and
-/// the last printed value, the trap that stops it, and the call that is due, which stand here so that `Next` carries
-/// nothing.
+/// what answers tell without carrying it: the last printed value, the trap that stops it, the call that is due, and what
+/// is left of what was begun at once.
 #[derive(Drop)]
 pub struct Machine<'a> {
     pub todo: Stack<Work<'a>>,
@@ -36,6 +36,10 @@ pub struct Machine<'a> {
     pub shown: Value,
     pub trap: Trap,
     pub due: Call,
+    /// What is left of a statement whose beginning was done at once.
+    pub over: Left<'a>,
+    /// The other statements of its list, if there are any.
+    pub others: Option<&'a [Stmt]>,
 }
 
 impl<'a> Machine<'a> {
@@ -54,7 +58,8 @@ impl<'a> Machine<'a> {
         ensures notes { IfOk result (λ m. (world_after (rest_of (program_view program.now) m.todo m no_past)).notes ≡ lists (program_view program.now) marks.now budget) }
     {
         let mut todo = Stack::new(alloc);
-        todo.push(Work::Seq(program.main.stmts.as_slice()))?;
+        let main = program.main.stmts.as_slice();
+        todo.push(Work::Seq(main))?;
         Ok(Machine {
             todo,
             values: Stack::new(alloc),
@@ -76,6 +81,8 @@ impl<'a> Machine<'a> {
                 op: OpId(0),
                 count: 0,
             },
+            over: Left::Body(main),
+            others: None,
         })
     }
 
@@ -112,6 +119,20 @@ impl<'a> Machine<'a> {
         ensures { IfSome result (λ v. value_in (program_view program.now).functions self.now.heap self.now.bodies.current.this line self.now.bodies.current.locals (expression_view e.now) self.now.left ≡ gives v self.now.left) }
     {
         self.scene().value_of(e)
+    }
+
+    /// The value of an expression, where it is found without a call. The receiver, a local and an own field go no way
+    /// through a scene.
+    #[inline(always)]
+    pub fn short_of(&self, program: &Program, line: u32, e: &Expr) -> Option<Value>
+        ensures { IfSome result (λ v. value_in (program_view program.now).functions self.now.heap self.now.bodies.current.this line self.now.bodies.current.locals (expression_view e.now) self.now.left ≡ gives v self.now.left) }
+    {
+        match e {
+            Expr::This => Some(self.bodies.this()),
+            Expr::Local(l) => Some(self.bodies.local(l.0)),
+            Expr::Own(f) => Some(field_of(&self.heap, self.bodies.this(), *f)),
+            _ => self.value_of(program, line, e),
+        }
     }
 
     /// The number that an expression is, where it is found without a call.

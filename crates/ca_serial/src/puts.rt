@@ -14,7 +14,7 @@ ghost use Rattle.ca_serial.specs.clauses.Resume.{Past, takes, does, after, looke
 use crate::bodies::Mode;
 use crate::expressions::calls;
 use crate::machine::{Found, Machine, field_of, item_of, put, store};
-use crate::work::{Next, Taker, Work};
+use crate::work::{Next, Work};
 use ca_base::Memory;
 use ca_meaning::assign;
 use ca_model::{CreateError, TrapKind, Value};
@@ -34,7 +34,7 @@ impl<'a> Machine<'a> {
         ensures { IfOk result (λ next. (own : ℕ) (ps : Past) → does (program_view program.now) line (put_local own local op (expression_view e.now)) self.old ps ≡ after (program_view program.now) self.new ps next) }
     {
         if calls(e) {
-            self.todo.push(Work::Take(Taker::PutLocal(local, op)))?;
+            self.todo.push(Work::PutLocal(local, op))?;
             let next = self.evaluate(program, line, e)?;
             return Ok(next);
         }
@@ -44,7 +44,7 @@ impl<'a> Machine<'a> {
                 Ok(Next::GoesOn)
             }
             None => {
-                self.then(Taker::PutLocal(local, op), line, e)?;
+                self.then(Work::PutLocal(local, op), line, e)?;
                 Ok(Next::GoesOn)
             }
         }
@@ -84,7 +84,7 @@ impl<'a> Machine<'a> {
             return Ok(Next::GoesOn);
         }
         if calls(e) {
-            self.todo.push(Work::Take(Taker::PutField(field, op)))?;
+            self.todo.push(Work::PutField(field, op))?;
             let next = self.evaluate(program, line, e)?;
             return Ok(next);
         }
@@ -94,7 +94,7 @@ impl<'a> Machine<'a> {
                 Ok(Next::GoesOn)
             }
             None => {
-                self.then(Taker::PutField(field, op), line, e)?;
+                self.then(Work::PutField(field, op), line, e)?;
                 Ok(Next::GoesOn)
             }
         }
@@ -132,7 +132,7 @@ impl<'a> Machine<'a> {
         match self.value_of(program, line, index) {
             Some(index) => self.check_index(program, line, field, op, e, index),
             None => {
-                self.then(Taker::CheckIndex(line, field, op, e), line, index)?;
+                self.then(Work::CheckIndex(op, line, field, e), line, index)?;
                 Ok(Next::GoesOn)
             }
         }
@@ -148,7 +148,7 @@ impl<'a> Machine<'a> {
         e: &'a Expr,
         index: Value,
     ) -> Result<Next, Memory>
-        ensures { IfOk result (λ next. (ps : Past) → takes (program_view program.now) (Taker.CheckIndex line field op e.entry) index self.old ps ≡ after (program_view program.now) self.new ps next) }
+        ensures { IfOk result (λ next. (ps : Past) → takes (program_view program.now) (Work.CheckIndex op line field e.entry) index self.old ps ≡ after (program_view program.now) self.new ps next) }
     {
         match self.indexed(line, self.bodies.this(), field, index)? {
             Some(item) => match self.value_of(program, line, e) {
@@ -157,7 +157,7 @@ impl<'a> Machine<'a> {
                     Ok(Next::GoesOn)
                 }
                 None => {
-                    self.then(Taker::PutItem(line, field, item.place, op), line, e)?;
+                    self.then(Work::PutItem(line, field, item.place, op), line, e)?;
                     Ok(Next::GoesOn)
                 }
             },
@@ -175,7 +175,7 @@ impl<'a> Machine<'a> {
         op: AssignOp,
         value: Value,
     ) -> Next
-        ensures { (ps : Past) → takes (program_view program.now) (Taker.PutItem line field place op) value self.old ps ≡ after (program_view program.now) self.new ps result }
+        ensures { (ps : Past) → takes (program_view program.now) (Work.PutItem line field place op) value self.old ps ≡ after (program_view program.now) self.new ps result }
     {
         let this = self.bodies.this();
         match item_of(&self.heap, this, field, place as usize) {
@@ -268,7 +268,7 @@ impl<'a> Machine<'a> {
         match self.value_of(program, line, index) {
             Some(index) => self.fill_item(program, line, field, class, index),
             None => {
-                self.then(Taker::NewItem(line, field, class), line, index)?;
+                self.then(Work::NewItem(line, field, class), line, index)?;
                 Ok(Next::GoesOn)
             }
         }
@@ -283,7 +283,7 @@ impl<'a> Machine<'a> {
         class: ClassId,
         index: Value,
     ) -> Result<Next, Memory>
-        ensures means { IfOk result (λ next. (ps : Past) → takes (program_view program.now) (Taker.NewItem line field class) index self.old ps ≡ after (program_view program.now) self.new ps next) }
+        ensures means { IfOk result (λ next. (ps : Past) → takes (program_view program.now) (Work.NewItem line field class) index self.old ps ≡ after (program_view program.now) self.new ps next) }
         ensures there { OnErr result (indexed line (items_in (slice_get (own_of self.old.heap self.old.bodies.current.this) field.field)) index self.old.left ≡ looked_up line None self.old.left → ⊥) }
         ensures want { OnErr result (IsTrue (is_full self.old.heap (starts_of (program_view program.now) class)) → PassesPlaces (items_in (slice_get (own_of self.old.heap self.old.bodies.current.this) field.field)) index) }
     {

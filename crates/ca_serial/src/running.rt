@@ -15,7 +15,7 @@ ghost use Rattle.ca_serial.specs.Runs.{run_with, prints_of, OnWrite};
 
 use crate::extents::Extents;
 use crate::handing::hand_on;
-use crate::listing::hand_on_loop;
+use crate::listing::{Lists, hand_on_loop};
 use crate::machine::Machine;
 use crate::print::print_line;
 use crate::work::Next;
@@ -77,6 +77,9 @@ pub fn drive<R: Threads + Wait + Sync, E: Extents, K: Sink>(
     let Ok(mut machine) = Machine::new(alloc, program, marks, budget) else {
         return Err(RunError::Memory);
     };
+    let Ok(mut listing) = Lists::new(alloc) else {
+        return Err(RunError::Memory);
+    };
     run_on(
         rt,
         alloc,
@@ -84,6 +87,7 @@ pub fn drive<R: Threads + Wait + Sync, E: Extents, K: Sink>(
         marks,
         budget,
         &mut machine,
+        &mut listing,
         engine,
         sink,
     )
@@ -97,6 +101,7 @@ fn run_on<'a, R: Threads + Wait + Sync, E: Extents, K: Sink>(
     marks: &Marks,
     budget: u64,
     machine: &mut Machine<'a>,
+    listing: &mut Lists<'a>,
     engine: &mut E,
     sink: &mut K,
 ) -> Result<Outcome, RunError>
@@ -138,7 +143,7 @@ fn run_on<'a, R: Threads + Wait + Sync, E: Extents, K: Sink>(
                 }
             }
             Next::LoopDue => {
-                if let Err(_) = hand_on_loop(rt, alloc, program, machine, engine) {
+                if let Err(_) = hand_on_loop(rt, alloc, program, machine, listing, engine) {
                     return Err(RunError::Memory);
                 }
             }

@@ -1,6 +1,6 @@
 //! A stack, which contracts see as a list with its top first.
 
-ghost use Rattle.std.specs.Prelude.{◌≡◌, ◌+◌, [], ◌∷◌, take, drop, reverse, IfOk, MatchOption};
+ghost use Rattle.std.specs.Prelude.{◌≡◌, ◌==◌, ◌+◌, [], ◌∷◌, length, take, drop, reverse, IfOk, MatchOption};
 
 use std::alloc::{AllocError, Global};
 use std::marker::Model;
@@ -27,6 +27,14 @@ impl<T> Stack<T> {
         Stack {
             items: Vec::new(alloc),
         }
+    }
+
+    /// Whether there is no item.
+    #[inline(always)]
+    pub fn is_empty(&self) -> bool
+        ensures { result ≡ (length self.now == 0) }
+    {
+        self.items.is_empty()
     }
 
     /// Takes the top item, if there is one.

@@ -8,7 +8,7 @@ ghost use Rattle.ca_serial.specs.clauses.Resume.{Past, rest_of, takes, does, aft
 use crate::bodies::Mode;
 use crate::expressions::calls;
 use crate::machine::Machine;
-use crate::work::{Next, Taker, Target, Work};
+use crate::work::{Next, Target, Work};
 use ca_base::Memory;
 use ca_model::Value;
 use ca_program::{Expr, OpId, Program, Stmt, StmtForm};
@@ -32,7 +32,7 @@ impl<'a> Machine<'a> {
             StmtForm::NewField(f, c) => Ok(self.new_field(program, line, *f, *c)?),
             StmtForm::NewItem(f, i, c) => Ok(self.new_item(program, line, *f, i, *c)?),
             StmtForm::Invoke(e, op, arguments) => {
-                Ok(self.invoke(program, line, e, *op, arguments.as_slice())?)
+                Ok(self.invoke(program, line, e, *op, arguments)?)
             }
             StmtForm::If(c, a, b) => Ok(self.branch(program, line, c, a, b)?),
             StmtForm::While(_, _) => {
@@ -59,27 +59,12 @@ impl<'a> Machine<'a> {
         ensures { IfOk result (λ next. (ps : Past) → rest_of (program_view program.now) (Work.Seq ss.entry ∷ self.old.todo) self.old ps ≡ after (program_view program.now) self.new ps next) }
     {
         let rest = self.do_all(program, ss);
-        let next = self.go_through(program, rest)?;
-        Ok(next)
-    }
-
-    /// Goes on with a list of statements, of which the first is to be run.
-    #[inline]
-    pub fn go_through(&mut self, program: &'a Program, ss: &'a [Stmt]) -> Result<Next, Memory>
-        ensures { IfOk result (λ next. (ps : Past) → rest_of (program_view program.now) (Work.Seq ss.entry ∷ self.old.todo) self.old ps ≡ after (program_view program.now) self.new ps next) }
-    {
-        match ss.split_first() {
-            Some((first, rest)) => {
-                if rest.is_empty() {
-                    let next = self.exec(program, first.line, first)?;
-                    return Ok(next);
-                }
-                self.todo.push(Work::Seq(rest))?;
-                let next = self.exec(program, first.line, first)?;
-                Ok(next)
-            }
-            None => Ok(Next::GoesOn),
+        let whole = self.start_all(program, rest)?;
+        if whole {
+            return Ok(Next::GoesOn);
         }
+        let next = self.go_on(program)?;
+        Ok(next)
     }
 
     /// Calls an operation.
@@ -89,21 +74,20 @@ impl<'a> Machine<'a> {
         line: u32,
         e: &'a Expr,
         op: OpId,
-        arguments: &'a [Expr],
+        arguments: &'a Vec<Expr>,
     ) -> Result<Next, Memory>
-        ensures { IfOk result (λ next. (own : ℕ) (ps : Past) → does (program_view program.now) line (invoke own (expression_view e.now) op (expressions_view arguments.now)) self.old ps ≡ after (program_view program.now) self.new ps next) }
+        ensures { IfOk result (λ next. (own : ℕ) (ps : Past) → does (program_view program.now) line (invoke own (expression_view e.now) op (expressions_view arguments.now.items)) self.old ps ≡ after (program_view program.now) self.new ps next) }
     {
         if let Mode::InFunction = self.bodies.mode() {
             return Ok(Next::GoesOn);
         }
-        match self.value_of(program, line, e) {
+        match self.short_of(program, line, e) {
             Some(receiver) => {
                 self.values.push(receiver)?;
                 self.collect(program, line, Target::Operation(op), arguments, 0)
             }
             None => {
-                let target = Target::Operation(op);
-                self.todo.push(Work::Collect(line, target, arguments, 0))?;
+                self.todo.push(Work::CollectCall(line, arguments, op, 0))?;
                 self.todo.push(Work::Evaluate(line, e))?;
                 Ok(Next::GoesOn)
             }
@@ -128,7 +112,7 @@ impl<'a> Machine<'a> {
                 Ok(next)
             }
             None => {
-                self.then(Taker::Choose(a, b), line, c)?;
+                self.then(Work::Choose(a, b), line, c)?;
                 Ok(Next::GoesOn)
             }
         }
@@ -143,7 +127,7 @@ impl<'a> Machine<'a> {
         b: &'a Stmt,
         condition: Value,
     ) -> Result<Next, Memory>
-        ensures { IfOk result (λ next. (ps : Past) → takes (program_view program.now) (Taker.Choose a.entry b.entry) condition self.old ps ≡ after (program_view program.now) self.new ps next) }
+        ensures { IfOk result (λ next. (ps : Past) → takes (program_view program.now) (Work.Choose a.entry b.entry) condition self.old ps ≡ after (program_view program.now) self.new ps next) }
     {
         match condition {
             Value::Bool(true) => self.todo.push(Work::Exec(a.line, a))?,
@@ -162,7 +146,7 @@ impl<'a> Machine<'a> {
                 return self.give_back(program, value);
             }
         }
-        self.todo.push(Work::Take(Taker::GiveBack))?;
+        self.todo.push(Work::GiveBack)?;
         let next = self.evaluate(program, line, e)?;
         Ok(next)
     }
@@ -180,7 +164,7 @@ impl<'a> Machine<'a> {
                 Ok(Next::Printed)
             }
             None => {
-                self.then(Taker::Print, line, e)?;
+                self.then(Work::Print, line, e)?;
                 Ok(Next::GoesOn)
             }
         }

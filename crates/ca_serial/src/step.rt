@@ -5,14 +5,14 @@ ghost use Rattle.ca_program.specs.View.{program_view, expression_view, expressio
 ghost use Rattle.ca_serial.specs.clauses.Resume.{Past, rest_of, takes, after};
 
 use crate::machine::Machine;
-use crate::work::{Next, Taker, Work};
+use crate::work::{Next, Target, Work};
 use ca_base::Memory;
 use ca_model::Value;
 use ca_program::Program;
 
 impl<'a> Machine<'a> {
     /// Does a piece of work.
-    #[inline]
+    #[inline(always)]
     pub fn step(&mut self, program: &'a Program, work: Work<'a>) -> Result<Next, Memory>
         ensures { IfOk result (λ next. (ps : Past) → rest_of (program_view program.now) (work.entry ∷ self.old.todo) self.old ps ≡ after (program_view program.now) self.new ps next) }
     {
@@ -21,20 +21,25 @@ impl<'a> Machine<'a> {
             Work::Exec(line, s) => self.exec(program, line, s),
             Work::Again(line, s) => self.again(program, line, s),
             Work::Evaluate(line, e) => self.evaluate(program, line, e),
-            Work::Collect(line, target, arguments, first) => {
-                self.collect(program, line, target, arguments, first)
+            Work::CollectValue(line, arguments, m, first) => {
+                let target = Target::Function(m);
+                self.collect(program, line, target, arguments, first as usize)
+            }
+            Work::CollectCall(line, arguments, op, first) => {
+                let target = Target::Operation(op);
+                self.collect(program, line, target, arguments, first as usize)
             }
             Work::Leave => self.leave(program),
             Work::Heed => {
                 self.bodies.heed();
                 Ok(Next::GoesOn)
             }
-            Work::Back => match self.values.pop() {
-                Some(value) => self.hand_back(program, value),
-                None => Ok(Next::Spent),
-            },
-            Work::Take(taker) => match self.values.pop() {
-                Some(value) => self.take(program, taker, value),
+            Work::Back => self.back(program),
+            _ => match self.values.pop() {
+                Some(value) => {
+                    let next = self.take(program, work, value)?;
+                    Ok(next)
+                }
                 None => Ok(Next::Spent),
             },
         }
@@ -42,44 +47,40 @@ impl<'a> Machine<'a> {
 
     /// Hands a value to what takes it.
     #[inline]
-    fn take(&mut self, program: &'a Program, taker: Taker<'a>, value: Value) -> Result<Next, Memory>
-        ensures { IfOk result (λ next. (ps : Past) → takes (program_view program.now) (taker.entry) value self.old ps ≡ after (program_view program.now) self.new ps next) }
+    fn take(&mut self, program: &'a Program, taker: Work<'a>, value: Value) -> Result<Next, Memory>
+        ensures { IfOk result (λ next. (ps : Past) → takes (program_view program.now) taker.entry value self.old ps ≡ after (program_view program.now) self.new ps next) }
     {
         match taker {
-            Taker::ReadField(line, field) => self.read_field(program, line, field, value),
-            Taker::CheckObject(line, field, index) => {
-                self.check_object(program, line, field, index, value)
-            }
-            Taker::ReadItem(line, object, field) => {
-                self.read_item(program, line, object, field, value)
-            }
-            Taker::Sign(op) => self.sign(program, op, value),
-            Taker::CheckLeft(line, op, right) => self.check_left(program, line, op, right, value),
-            Taker::Apply(line, op, left) => self.apply(program, line, op, left, value),
-            Taker::PutLocal(local, op) => {
+            Work::ReadField(line, field) => self.read_field(program, line, field, value),
+            Work::CheckObject(line, field, e) => self.check_object(program, line, field, e, value),
+            Work::ReadItem(line, field) => self.read_item(program, line, field, value),
+            Work::ReadOwnItem(line, field) => self.read_own_item(program, line, field, value),
+            Work::Sign(op) => self.sign(program, op, value),
+            Work::CheckLeft(line, op, right) => self.check_left(program, line, op, right, value),
+            Work::Apply(op, line, left) => self.apply(program, line, op, left, value),
+            Work::PutLocal(local, op) => {
                 self.assign_local(local, op, value);
                 Ok(Next::GoesOn)
             }
-            Taker::PutField(field, op) => {
+            Work::PutField(field, op) => {
                 self.assign_field(field, op, value);
                 Ok(Next::GoesOn)
             }
-            Taker::CheckIndex(line, field, op, e) => {
+            Work::CheckIndex(op, line, field, e) => {
                 self.check_index(program, line, field, op, e, value)
             }
-            Taker::PutItem(line, field, place, op) => {
+            Work::PutItem(line, field, place, op) => {
                 Ok(self.set_item(program, line, field, place, op, value))
             }
-            Taker::NewItem(line, field, class) => {
-                self.fill_item(program, line, field, class, value)
-            }
-            Taker::Print => {
+            Work::NewItem(line, field, class) => self.fill_item(program, line, field, class, value),
+            Work::Print => {
                 self.shown = value;
                 Ok(Next::Printed)
             }
-            Taker::Choose(a, b) => self.choose(program, a, b, value),
-            Taker::Turn(line, s) => self.enter_turn(program, line, s, value),
-            Taker::GiveBack => self.give_back(program, value),
+            Work::Choose(a, b) => self.choose(program, a, b, value),
+            Work::Turn(line, s) => self.enter_turn(program, line, s, value),
+            Work::GiveBack => self.give_back(program, value),
+            _ => Ok(Next::Spent),
         }
     }
 }

@@ -12,51 +12,17 @@ pub enum Target {
     Operation(OpId),
 }
 
-/// What takes the value on top of the stack. A number that comes first is the line of the innermost
-/// statement.
-#[derive(Clone, Copy)]
-pub enum Taker<'a> {
-    /// Reads a field of the object that the value names.
-    ReadField(u32, FieldId),
-    /// Checks the value, which is to name an object, and goes on with the index of an item of it.
-    CheckObject(u32, FieldId, &'a Expr),
-    /// Reads the item that the value is the index of, in a field of an object.
-    ReadItem(u32, Value, FieldId),
-    /// Applies an operator to the value.
-    Sign(UnaryOp),
-    /// Goes on with the right side, unless the value, which is that of the left side, decides.
-    CheckLeft(u32, BinaryOp, &'a Expr),
-    /// Applies an operator to the value of its left side and the value.
-    Apply(u32, BinaryOp, Value),
-    /// Puts the value into a local.
-    PutLocal(LocalId, AssignOp),
-    /// Puts the value into an own field.
-    PutField(FieldId, AssignOp),
-    /// Checks the value, which is the index of an own item, and goes on with the right side.
-    CheckIndex(u32, FieldId, AssignOp, &'a Expr),
-    /// Puts the value into an own item.
-    PutItem(u32, FieldId, u32, AssignOp),
-    /// Puts a new object into the own item that the value is the index of.
-    NewItem(u32, FieldId, ClassId),
-    /// Prints the value.
-    Print,
-    /// Runs the first statement if the value, which is that of a condition, is true, and else the second.
-    Choose(&'a Stmt, &'a Stmt),
-    /// Enters a turn of a loop if the value, which is that of its condition, is true.
-    Turn(u32, &'a Stmt),
-    /// Gives the value back to the caller of a value method.
-    GiveBack,
-}
-
-/// A piece of work. A number that comes first is the line of the innermost statement.
+/// A piece of work, in 24 bytes: no case holds an enum with fields, and the order of a case's fields leaves no gap that
+/// would make it longer. A line is that of the innermost statement. What comes behind `Heed` takes the value on top of the
+/// stack.
 #[derive(Clone, Copy)]
 pub enum Work<'a> {
     /// Evaluates an expression.
     Evaluate(u32, &'a Expr),
-    /// Takes the value on top of the stack.
-    Take(Taker<'a>),
-    /// Goes on with a call whose receiver and first arguments are values: so many of them.
-    Collect(u32, Target, &'a [Expr], usize),
+    /// Goes on with a call of a value method whose receiver and first arguments are values: so many of them.
+    CollectValue(u32, &'a Vec<Expr>, FunctionId, u32),
+    /// Goes on with a call of an operation whose receiver and first arguments are values: so many of them.
+    CollectCall(u32, &'a Vec<Expr>, OpId, u32),
     /// Runs a statement on a line.
     Exec(u32, &'a Stmt),
     /// Runs statements, each on its own line.
@@ -69,6 +35,38 @@ pub enum Work<'a> {
     Back,
     /// The end of a loop that was listed and runs here: the body heeds its marks again.
     Heed,
+    /// Reads a field of the object that the value names.
+    ReadField(u32, FieldId),
+    /// Checks the value, which is to name an object, and goes on with the index of an item of it.
+    CheckObject(u32, FieldId, &'a Expr),
+    /// Reads the item that the value is the index of, in a field of the object that the value below it names.
+    ReadItem(u32, FieldId),
+    /// Reads the own item that the value is the index of.
+    ReadOwnItem(u32, FieldId),
+    /// Applies an operator to the value.
+    Sign(UnaryOp),
+    /// Goes on with the right side, unless the value, which is that of the left side, decides.
+    CheckLeft(u32, BinaryOp, &'a Expr),
+    /// Applies an operator to the value of its left side and the value.
+    Apply(BinaryOp, u32, Value),
+    /// Puts the value into a local.
+    PutLocal(LocalId, AssignOp),
+    /// Puts the value into an own field.
+    PutField(FieldId, AssignOp),
+    /// Checks the value, which is the index of an own item, and goes on with the right side.
+    CheckIndex(AssignOp, u32, FieldId, &'a Expr),
+    /// Puts the value into an own item.
+    PutItem(u32, FieldId, u32, AssignOp),
+    /// Puts a new object into the own item that the value is the index of.
+    NewItem(u32, FieldId, ClassId),
+    /// Prints the value.
+    Print,
+    /// Runs the first statement if the value, which is that of a condition, is true, and else the second.
+    Choose(&'a Stmt, &'a Stmt),
+    /// Enters a turn of a loop if the value, which is that of its condition, is true.
+    Turn(u32, &'a Stmt),
+    /// Gives the value back to the caller of a value method.
+    GiveBack,
 }
 
 /// How a piece of work ends: the run goes on, where it printed a value behind that print, it stops, or a call that
@@ -95,10 +93,12 @@ pub struct Call {
 /// What is left of a statement whose beginning was done at once.
 #[derive(Clone, Copy)]
 pub enum Left<'a> {
-    Nothing,
     /// A statement on a line.
     Statement(u32, &'a Stmt),
-    Statements(&'a [Stmt]),
+    /// A call whose receiver and first arguments are values: so many of them.
+    Call(u32, &'a Vec<Expr>, OpId, usize),
+    /// What is left of the body of an operation that was entered.
+    Body(&'a [Stmt]),
 }
 
 /// How a turn of a loop ends: whole, so that the loop comes again, or as a piece of work ends.

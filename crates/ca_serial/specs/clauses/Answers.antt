@@ -1,17 +1,19 @@
 -- What the beginning of a value method's body tells.
 use Rattle.std.specs.Prelude.{◌≡◌, ℕ, List}
 use Rattle.ca_program.specs.Plain.{PlainProgram, PlainMethod, Statement, Statements}
-use Rattle.ca_program.specs.View.{statements_view}
+use Rattle.ca_program.specs.View.{expression_view, statements_view}
+use Rattle.ca_model.specs.declared.value.Value.{Value as Datum}
+use Rattle.ca_meaning.specs.Expressions.{gives}
 use Rattle.ca_meaning.specs.Flows.{Flow, goes_on, gives_back, exec, exec_all}
 use Rattle.ca_meaning.specs.Functions.{own_of, functions_of, function_parts}
 use Rattle.ca_direct.specs.declared.scene.Scene.{Scene}
-use Rattle.ca_direct.specs.Direct.{own_in}
+use Rattle.ca_direct.specs.Direct.{own_in, seen}
 use Rattle.ca_serial.specs.declared.bodies.Mode.TheVariants.{InFunction}
 use Rattle.ca_serial.specs.declared.machine.Machine.{Machine}
 use Rattle.ca_serial.specs.declared.answers.Answer.{Answer}
 use Rattle.ca_serial.specs.declared.answers.Answer.TheVariants.{Gives, Rest}
 use Rattle.ca_serial.specs.declared.answers.Look.{Look}
-use Rattle.ca_serial.specs.declared.answers.Look.TheVariants.{Gives as Shown, Passes, Stays}
+use Rattle.ca_serial.specs.declared.answers.Look.TheVariants.{Returns, Passes, Stays}
 use Rattle.ca_serial.specs.clauses.Bodies.{Body}
 use Rattle.ca_serial.specs.clauses.Resume.{Past, runs_all, world_of}
 
@@ -29,7 +31,7 @@ all_run_in ms s xs k = exec_all (function_parts (functions_of ms s.heap.now) s.h
 
 -- what a look at a statement shows
 abbrev pub Shows : Scene → Statement → Look → Type 0
-Shows s x (Shown v) = OwnsSlots s → (ms : List PlainMethod) (line k : ℕ) → runs_in ms s line x k ≡ gives_back v tt k
+Shows s x (Returns e) = OwnsSlots s → (v : Datum) → seen s (expression_view e.now) ≡ gives v 0 → (ms : List PlainMethod) (line k : ℕ) → runs_in ms s line x k ≡ gives_back v tt k
 Shows s x Passes = OwnsSlots s → (ms : List PlainMethod) (line k : ℕ) → runs_in ms s line x k ≡ goes_on s.locals.now tt k
 Shows s x Stays = Unit {0}
 

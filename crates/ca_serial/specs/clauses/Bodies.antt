@@ -1,8 +1,8 @@
 -- The bodies that run.
-use Rattle.std.specs.Prelude.{◌≡◌, Bool, true, false, List, [], ◌∷◌, take, drop, map}
+use Rattle.std.specs.Prelude.{◌≡◌, Bool, true, false, ℕ, List, [], ◌∷◌, take, drop, map}
 use Rattle.ca_program.specs.declared.program.ValueType.{ValueType}
 use Rattle.ca_model.specs.declared.value.Value.{Value as Datum}
-use Rattle.ca_model.specs.declared.value.Value.TheVariants.{Null}
+use Rattle.ca_model.specs.declared.value.Value.TheVariants.{Null, Ref}
 use Rattle.ca_model.specs.Slots.{start_of}
 use Rattle.ca_parallel.specs.Lists.{PlainMarks, no_marks}
 use Rattle.ca_serial.specs.declared.bodies.Mode.{Mode}
@@ -31,9 +31,14 @@ heeded false marked = no_marks
 abbrev pub marks_of : Body → PlainMarks
 marks_of f = heeded f.heeds f.marked
 
+-- the receiver of a body, where it has one
+abbrev pub owner : Bool → ℕ → Datum
+owner true n = Ref n
+owner false n = Null
+
 -- a body whose locals are these values from its base on
 abbrev pub body_at : PlainMarks → List Datum → Entry → Body
-body_at marked values e = record { this = e.this; locals = drop e.base values; mode = e.mode; marked = marked; heeds = e.heeds }
+body_at marked values e = record { this = owner e.owned e.receiver; locals = drop e.base values; mode = e.mode; marked = marked; heeds = e.heeds }
 
 -- the bodies below a base, the last caller first
 abbrev pub waiting : PlainMarks → List Datum → List Entry → List Body

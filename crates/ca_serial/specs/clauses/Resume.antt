@@ -1,8 +1,12 @@
 -- What is left to do, as a meaning.
+use Rattle.std.specs.Borrow.{Bor}
+use Rattle.std.specs.declared.alloc.Global.{Global}
+use Rattle.std.specs.declared.vec.Vec.{Vec}
 use Rattle.std.specs.Prelude.{◌≡◌, ◌<◌, ◌≤◌, ◌+◌, Bool, true, false, ℕ, zero, suc, pos, IsSome, List, [], ◌∷◌, ◌++◌, Option, Some, None, slice_get, slice_set, take, drop, reverse}
 use Rattle.ca_program.specs.declared.program.FieldId.{FieldId}
 use Rattle.ca_program.specs.declared.program.OpId.{OpId}
 use Rattle.ca_program.specs.declared.program.Expr.{Expr}
+use Rattle.ca_program.specs.declared.program.Stmt.{Stmt}
 use Rattle.ca_program.specs.Plain.{PlainProgram, PlainMethod, Expression, Statement, Statements, while_loop, for_loop}
 use Rattle.ca_program.specs.View.{expression_view, expressions_view, statement_view, statements_view}
 use Rattle.ca_model.specs.declared.value.Value.{Value as Datum}
@@ -23,11 +27,9 @@ use Rattle.ca_serial.specs.declared.bodies.Mode.TheVariants.{InFunction, InOpera
 use Rattle.ca_serial.specs.declared.work.Target.{Target}
 use Rattle.ca_serial.specs.declared.work.Target.TheVariants.{Function, Operation}
 use Rattle.ca_serial.specs.declared.work.Work.{Work}
-use Rattle.ca_serial.specs.declared.work.Work.TheVariants.{Evaluate, Take, Collect, Exec, Seq, Again, Leave, Back, Heed}
-use Rattle.ca_serial.specs.declared.work.Taker.{Taker}
-use Rattle.ca_serial.specs.declared.work.Taker.TheVariants.{ReadField, CheckObject, ReadItem, Sign, CheckLeft, Apply, PutLocal, PutField, CheckIndex, PutItem, NewItem, Print, Choose, Turn as TakeTurn, GiveBack}
+use Rattle.ca_serial.specs.declared.work.Work.TheVariants.{Evaluate, CollectValue, CollectCall, Exec, Seq, Again, Leave, Back, Heed, ReadField, CheckObject, ReadItem, ReadOwnItem, Sign, CheckLeft, Apply, PutLocal, PutField, CheckIndex, PutItem, NewItem, Print, Choose, Turn as TakeTurn, GiveBack}
 use Rattle.ca_serial.specs.declared.work.Left.{Left}
-use Rattle.ca_serial.specs.declared.work.Left.TheVariants.{Nothing, Statement as OneLeft, Statements as SomeLeft}
+use Rattle.ca_serial.specs.declared.work.Left.TheVariants.{Statement as OneLeft, Call as CallLeft, Body as BodyLeft}
 use Rattle.ca_serial.specs.declared.work.Turn.{Turn}
 use Rattle.ca_serial.specs.declared.work.Turn.TheVariants.{Whole, Ends}
 use Rattle.ca_serial.specs.declared.work.Next.{Next}
@@ -124,24 +126,26 @@ abbrev pub found_again : ℕ → World → Datum → FieldId → ℕ → ℕ →
 found_again line w this field place k = found line place (slice_get (items_in (slice_get (own_of w.heap this) field.field)) place) k
 
 -- What is done with a value, and then with the values, the body, the world and the steps that are left.
--- The last argument is for a value that is given back.
-abbrev pub used : PlainProgram → Taker → Datum → List Datum → Body → World → ℕ → (List Datum → Body → World → ℕ → Flow World) → (Datum → World → ℕ → Flow World) → Flow World
+-- The last argument is for a value that is given back. Other work takes no value.
+abbrev pub used : PlainProgram → Work → Datum → List Datum → Body → World → ℕ → (List Datum → Body → World → ℕ → Flow World) → (Datum → World → ℕ → Flow World) → Flow World
 used p (ReadField line i) v vs f w k go back =
     with (pointed line v k >>= λ n k. gives (one_in (slot_of w.heap n i)) k) w (λ v k. go (v ∷ vs) f w k)
 used p (CheckObject line i e) v vs f w k go back =
     with (pointed line v k) w (λ n k. with (value_of p f w line e.now k) w (λ v k. with (own_item_at line w (Ref n) i v k) w (λ item k. go (item.value ∷ vs) f w k)))
-used p (ReadItem line object i) v vs f w k go back =
-    with (own_item_at line w object i v k) w (λ item k. go (item.value ∷ vs) f w k)
+used p (ReadItem line i) v vs f w k go back =
+    pop vs w (λ object vs. with (own_item_at line w object i v k) w (λ item k. go (item.value ∷ vs) f w k))
+used p (ReadOwnItem line i) v vs f w k go back =
+    with (own_item_at line w f.this i v k) w (λ item k. go (item.value ∷ vs) f w k)
 used p (Sign op) v vs f w k go back = go (signed op v ∷ vs) f w k
 used p (CheckLeft line op e) v vs f w k go back =
     with (unless_decided (decided op v) k (value_of p f w line e.now k >>= λ x k. answer line (operated op v x) k)) w (λ v k. go (v ∷ vs) f w k)
-used p (Apply line op left) v vs f w k go back =
+used p (Apply op line left) v vs f w k go back =
     with (answer line (operated op left v) k) w (λ v k. go (v ∷ vs) f w k)
 used p (PutLocal l op) v vs f w k go back =
     go vs (with_locals f (slice_set f.locals l.0 (assigned op (value_at f.locals l.0) v))) w k
 used p (PutField i op) v vs f w k go back =
     go vs f (in_heap w (put_own w.heap f.this i 0 (assigned op (own_value w f.this i) v))) k
-used p (CheckIndex line i op e) v vs f w k go back =
+used p (CheckIndex op line i e) v vs f w k go back =
     with (own_item_at line w f.this i v k) w (λ item k. with (value_of p f w line e.now k) w (λ v k.
     go vs f (in_heap w (put_own w.heap f.this i item.place (assigned op item.value v))) k))
 used p (PutItem line i place op) v vs f w k go back =
@@ -156,16 +160,17 @@ used p (Choose a b) v vs f w k go back =
 used p (TakeTurn line loop) v vs f w k go back =
     go_on (turns p f.mode f w line (statement_view loop.now) k v) (λ ls w k. go vs (with_locals f ls) w k) back
 used p GiveBack v vs f w k go back = back v w k
+used p other v vs f w k go back = runs_out w
 
 abbrev mutual
   pub resume : PlainProgram → List Work → List Datum → Body → List Body → World → ℕ → Flow World
   resume p [] vs f below w k = goes_on [] w k
   resume p (Evaluate line e ∷ todo) vs f below w k =
       with (value_of p f w line e.now k) w (λ v k. resume p todo (v ∷ vs) f below w k)
-  resume p (Take taker ∷ todo) vs f below w k =
-      pop vs w (λ v vs. used p taker v vs f w k (λ vs f w k. resume p todo vs f below w k) (λ v w k. by_mode f.mode (unwind p todo vs below w k v) (runs_out w)))
-  resume p (Collect line t arguments n ∷ todo) vs f below w k =
-      collected p line t (drop n arguments.now) n vs f w k (λ vs w k. resume p todo vs f below w k)
+  resume p (CollectValue line arguments m n ∷ todo) vs f below w k =
+      collected p line (Function m) (drop n arguments.now.items) n vs f w k (λ vs w k. resume p todo vs f below w k)
+  resume p (CollectCall line arguments op n ∷ todo) vs f below w k =
+      collected p line (Operation op) (drop n arguments.now.items) n vs f w k (λ vs w k. resume p todo vs f below w k)
   resume p (Exec line s ∷ todo) vs f below w k =
       go_on (runs p f.mode f w line (statement_view s.now) k) (λ ls w k. resume p todo vs (with_locals f ls) below w k) (λ v w k. by_mode f.mode (unwind p todo vs below w k v) (runs_out w))
   resume p (Seq ss ∷ todo) vs f below w k =
@@ -177,6 +182,8 @@ abbrev mutual
   resume p (Back ∷ todo) vs f below w k =
       pop vs w (λ v vs. back_in below w (λ g below. resume p todo (v ∷ vs) g below w k))
   resume p (Heed ∷ todo) vs f below w k = resume p todo vs (heeding f) below w k
+  resume p (taker ∷ todo) vs f below w k =
+      pop vs w (λ v vs. used p taker v vs f w k (λ vs f w k. resume p todo vs f below w k) (λ v w k. by_mode f.mode (unwind p todo vs below w k v) (runs_out w)))
 
   -- a value method gives a value back: what is left of its body is dropped
   pub unwind : PlainProgram → List Work → List Datum → List Body → World → ℕ → Datum → Flow World
@@ -256,14 +263,37 @@ evaluates p line e m ps =
     resume p m.todo (v ∷ m.values) m.bodies.current m.bodies.below (world_of m ps) k)
 
 -- that uses the value
-abbrev pub takes : PlainProgram → Taker → Datum → Machine → Past → Flow World
+abbrev pub takes : PlainProgram → Work → Datum → Machine → Past → Flow World
 takes p taker v m ps =
     used p taker v m.values m.bodies.current (world_of m ps) m.left (λ vs f w k. resume p m.todo vs f m.bodies.below w k) (λ v w k. by_mode m.bodies.current.mode (unwind p m.todo m.values m.bodies.below w k v) (runs_out w))
 
+-- that goes on with a call whose arguments before one of these are values, and then does this work
+abbrev pub collects_before : PlainProgram → List Work → ℕ → Target → List Expr → ℕ → Machine → Past → Flow World
+collects_before p todo line t arguments n m ps =
+    collected p line t (drop n arguments) n m.values m.bodies.current (world_of m ps) m.left (λ vs w k. resume p todo vs m.bodies.current m.bodies.below w k)
+
+-- that goes on with such a call
+abbrev pub collects : PlainProgram → ℕ → Target → List Expr → ℕ → Machine → Past → Flow World
+collects p line t arguments n m ps = collects_before p m.todo line t arguments n m ps
+
+-- such a call as a piece of work
+abbrev pub collect_work : ℕ → Target → Bor (Vec Expr Global) → ℕ → Work
+collect_work line (Function m) arguments n = CollectValue line arguments m n
+collect_work line (Operation op) arguments n = CollectCall line arguments op n
+
+-- that begins a call with so many values, and then does this work
+abbrev pub begins_before : PlainProgram → List Work → ℕ → Target → ℕ → Machine → Past → Flow World
+begins_before p todo line t n m ps =
+    taken n m.values [] (world_of m ps) (λ xs v vs. called p t line v xs vs m.bodies.current (world_of m ps) m.left (λ vs w k. resume p todo vs m.bodies.current m.bodies.below w k))
+
 -- that begins a call with so many values
 abbrev pub begins : PlainProgram → ℕ → Target → ℕ → Machine → Past → Flow World
-begins p line t n m ps =
-    taken n m.values [] (world_of m ps) (λ xs v vs. called p t line v xs vs m.bodies.current (world_of m ps) m.left (λ vs w k. resume p m.todo vs m.bodies.current m.bodies.below w k))
+begins p line t n m ps = begins_before p m.todo line t n m ps
+
+-- that calls with this receiver and these arguments, and then does this work
+abbrev pub receives : PlainProgram → List Work → ℕ → Target → Datum → List Expr → Machine → Past → Flow World
+receives p todo line t v arguments m ps =
+    collected p line t arguments 0 (v ∷ m.values) m.bodies.current (world_of m ps) m.left (λ vs w k. resume p todo vs m.bodies.current m.bodies.below w k)
 
 -- the call that is due: its arguments are the top values, so many of them
 abbrev pub call_of : Machine → Invocation
@@ -303,9 +333,24 @@ Puts false p line s old new = new ≡ old
 
 -- the work that is left of a statement, before other work
 abbrev pub pieces : Left → List Work → List Work
-pieces Nothing todo = todo
 pieces (OneLeft line s) todo = Exec line s ∷ todo
-pieces (SomeLeft ss) todo = Seq ss ∷ todo
+pieces (CallLeft line arguments op n) todo = CollectCall line arguments op n ∷ todo
+pieces (BodyLeft ss) todo = Seq ss ∷ Leave ∷ todo
+
+-- other statements, if there are any, before other work
+abbrev pub others_before : Option (Bor (List Stmt)) → List Work → List Work
+others_before None todo = todo
+others_before (Some ss) todo = Seq ss ∷ todo
+
+-- a statement was begun: all is done, or what is left stands in the machine, before other work
+abbrev pub still : Bool → Machine → List Work → List Work
+still true m todo = todo
+still false m todo = pieces m.over todo
+
+-- the same of a list of statements
+abbrev pub all_still : Bool → Machine → List Work → List Work
+all_still true m todo = todo
+all_still false m todo = pieces m.over (others_before m.others todo)
 
 -- after a turn of a loop: the loop comes again, or the work ended so
 abbrev pub behind : PlainProgram → Work → Machine → Past → Turn → Flow World

@@ -4,8 +4,8 @@ use Rattle.std.proofs.lemmas.List.{nil_from_length}
 use Rattle.ca_serial.proofs.Tellings.{return_shows, if_shows, empty_shows, block_shows}
 use Rattle.ca_serial.proofs.answers.+look_at.Goals as goal
 
-pub returns-in-Some : goal.returns-in-Some
-returns-in-Some t c = return_shows c.args.scene.now c.args.s.now c.in-Return.e c.in-Some.value c.in-Return.is c.in-Some.ensures
+pub returns-else-calls : goal.returns-else-calls
+returns-else-calls t c = return_shows c.args.scene.now c.args.s.now c.in-Return.e c.in-Return.is
 
 pub returns-in-Some-true : goal.returns-in-Some-true
 returns-in-Some-true t c =
@@ -17,12 +17,12 @@ returns-in-Some-false t c =
     let there : c.in-Some-false.field-0 ≡ false = search rules in
     if_shows c.args.scene.now c.args.s.now c.deref-in-Some-false.result.now c.in-If.c c.in-If.a c.in-If.b false c.look_at-in-Some-false.result c.in-If.is c.deref-in-Some-false.ensures (rw there at c.in-Some-false.ensures) c.look_at-in-Some-false.ensures
 
-pub returns-in-Gives : goal.returns-in-Gives
-returns-in-Gives t c =
-    let x = c.in-Some-split_first.first.now in
-    let xs = c.in-Some-split_first.field-0-1.now in
+pub returns-in-Returns : goal.returns-in-Returns
+returns-in-Returns t c =
+    let x = c.in-Some.first.now in
+    let xs = c.in-Some.field-0-1.now in
     let all : c.in-Block.ss.items ≡ x ∷ xs = search rules in
-    block_shows c.args.scene.now c.args.s.now x c.in-Block.ss xs c.in-Gives.value c.in-Block.is all c.in-Gives.ensures
+    block_shows c.args.scene.now c.args.s.now x c.in-Block.ss xs c.in-Returns.e c.in-Block.is all c.in-Returns.ensures
 
 pub returns-in-None-split_first : goal.returns-in-None-split_first
 returns-in-None-split_first t c =

@@ -11,6 +11,12 @@ returns-in_default-clause-account g c = record { all = tt; part = record { done 
 pub returns-in_default-clause-prints : goal.returns-in_default-clause-prints
 returns-in_default-clause-prints g c = record { whole = tt; part = began_nothing _ _ }
 
+pub returns-in_default-new-clause-account : goal.returns-in_default-new-clause-account
+returns-in_default-new-clause-account g c = record { all = tt; part = record { done = []; rest = _; whole = refl; reached = at_first } }
+
+pub returns-in_default-new-clause-prints : goal.returns-in_default-new-clause-prints
+returns-in_default-new-clause-prints g c = record { whole = tt; part = began_nothing _ _ }
+
 pub run_on-requires-clause-ready : goal.run_on-requires-clause-ready
 run_on-requires-clause-ready g c = λ κs o. c.requires.ready
 

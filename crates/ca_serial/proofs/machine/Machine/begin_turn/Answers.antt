@@ -1,42 +1,51 @@
 use Rattle.std.proofs.Common.{◌∙◌, ◌<◌, ap, arith}
 use Rattle.ca_program.specs.View.{program_view}
-use Rattle.ca_serial.specs.declared.work.Left.TheVariants.{Nothing}
 use Rattle.ca_serial.proofs.AtOnce.{while_started, for_started}
+use Rattle.ca_serial.proofs.Beginnings.{less_than_before}
 use Rattle.ca_serial.proofs.machine.Machine.begin_turn.Goals as goal
 
-pub returns-in-Nothing-clause-means : goal.returns-in-Nothing-clause-means
-returns-in-Nothing-clause-means c = λ ps.
+pub returns-then-whole-clause-means : goal.returns-then-whole-clause-means
+returns-then-whole-clause-means c = λ ps.
     let m = c.args.self.now in
     let lt : 0 < m.left = omega arith in
-    while_started (program_view c.args.program.now) m c.start.new.self ps c.args.line c.args.s c.in-While.field-0 c.in-While.body c.deref.result.now.line c.deref-in-While.result Nothing lt c.in-While.is (ap (λ s. s.line) c.deref.ensures) c.deref-in-While.ensures c.in-Nothing.ensures.todo c.in-Nothing.ensures.left
+    let w = c.in_ok-whole-in-While in
+    rw c.if-whole.true at (while_started (program_view c.args.program.now) m c.start_body.new.self ps c.args.line c.args.s c.in-While.field-0 c.in-While.body c.deref.result.now.line c.deref.result w.whole lt c.in-While.is (ap (λ s. s.line) c.deref.ensures) c.deref.ensures w.ensures.todo w.ensures.left)
 
-pub returns-in_ok-next-in_default-start : goal.returns-in_ok-next-in_default-start
-returns-in_ok-next-in_default-start c = record {
+pub returns-in_ok-next-in-While : goal.returns-in_ok-next-in-While
+returns-in_ok-next-in-While c = record {
   means = λ ps.
       let m = c.args.self.now in
       let lt : 0 < m.left = omega arith in
-      while_started (program_view c.args.program.now) m c.start.new.self ps c.args.line c.args.s c.in-While.field-0 c.in-While.body c.deref.result.now.line c.deref-in-While.result c.start.result lt c.in-While.is (ap (λ s. s.line) c.deref.ensures) c.deref-in-While.ensures c.start.ensures.todo c.start.ensures.left
-      ∙ (rw c.in_ok-push-in_default-start.ensures at (c.in_ok-next-in_default-start.ensures ps));
+      let w = c.in_ok-whole-in-While in
+      (rw c.if-whole.false at (while_started (program_view c.args.program.now) m c.start_body.new.self ps c.args.line c.args.s c.in-While.field-0 c.in-While.body c.deref.result.now.line c.deref.result w.whole lt c.in-While.is (ap (λ s. s.line) c.deref.ensures) c.deref.ensures w.ensures.todo w.ensures.left))
+      ∙ (rw c.in_ok-push-in-While.ensures at (c.in_ok-next-in-While.ensures ps));
   less = tt;
 }
 
-pub returns-in_ok-turn-in-Nothing-start-clause-means : goal.returns-in_ok-turn-in-Nothing-start-clause-means
-returns-in_ok-turn-in-Nothing-start-clause-means c = λ ps.
+pub returns-then-whole-2-clause-means : goal.returns-then-whole-2-clause-means
+returns-then-whole-2-clause-means c = λ ps.
     let m = c.args.self.now in
     let lt : 0 < m.left = omega arith in
     let f = c.in-For in
-    let next = c.deref-in-Nothing-start in
-    for_started (program_view c.args.program.now) m c.start-in-For.new.self ps c.args.line c.args.s f.field-0 f.field-1 f.field-2 f.field-3 f.next f.body c.deref-in-For.result.now.line c.deref-in-For-2.result next.result Nothing lt f.is (ap (λ s. s.line) c.deref-in-For.ensures) c.deref-in-For-2.ensures next.ensures c.in-Nothing-start.ensures.todo c.in-Nothing-start.ensures.left
-    ∙ c.in_ok-turn-in-Nothing-start.ensures.means ps
+    let w = c.in_ok-whole-in-For in
+    let next = c.deref-then-whole-2 in
+    (rw c.if-whole-2.true at (for_started (program_view c.args.program.now) m c.start_body-in-For.new.self ps c.args.line c.args.s f.field-0 f.field-1 f.field-2 f.field-3 f.next f.body c.deref-in-For.result.now.line c.deref-in-For.result next.result w.whole lt f.is (ap (λ s. s.line) c.deref-in-For.ensures) c.deref-in-For.ensures next.ensures w.ensures.todo w.ensures.left))
+    ∙ c.in_ok-turn-in-For.ensures.means ps
 
-pub returns-in_ok-next-in_default-start-2 : goal.returns-in_ok-next-in_default-start-2
-returns-in_ok-next-in_default-start-2 c = record {
+pub returns-then-whole-2-clause-less : goal.returns-then-whole-2-clause-less
+returns-then-whole-2-clause-less c =
+    let lt : 0 < c.args.self.now.left = omega arith in
+    less_than_before c.in_ok-turn-in-For.turn c.follow.new.self.left c.start_body-in-For.new.self.left c.args.self.now.left lt c.in_ok-whole-in-For.ensures.steps c.in_ok-turn-in-For.ensures.less
+
+pub returns-in_ok-next-in-For : goal.returns-in_ok-next-in-For
+returns-in_ok-next-in-For c = record {
   means = λ ps.
       let m = c.args.self.now in
       let lt : 0 < m.left = omega arith in
       let f = c.in-For in
-      let next = c.deref-in_default-start-2 in
-      for_started (program_view c.args.program.now) m c.start-in-For.new.self ps c.args.line c.args.s f.field-0 f.field-1 f.field-2 f.field-3 f.next f.body c.deref-in-For.result.now.line c.deref-in-For-2.result next.result c.start-in-For.result lt f.is (ap (λ s. s.line) c.deref-in-For.ensures) c.deref-in-For-2.ensures next.ensures c.start-in-For.ensures.todo c.start-in-For.ensures.left
-      ∙ (rw (c.in_ok-push-in_default-start-2-2.ensures, c.in_ok-push-in_default-start-2.ensures) at (c.in_ok-next-in_default-start-2.ensures ps));
+      let w = c.in_ok-whole-in-For in
+      let next = c.deref-in-For-2 in
+      (rw c.if-whole-2.false at (for_started (program_view c.args.program.now) m c.start_body-in-For.new.self ps c.args.line c.args.s f.field-0 f.field-1 f.field-2 f.field-3 f.next f.body c.deref-in-For.result.now.line c.deref-in-For.result next.result w.whole lt f.is (ap (λ s. s.line) c.deref-in-For.ensures) c.deref-in-For.ensures next.ensures w.ensures.todo w.ensures.left))
+      ∙ (rw (c.in_ok-push-in-For-2.ensures, c.in_ok-push-in-For.ensures) at (c.in_ok-next-in-For.ensures ps));
   less = tt;
 }

@@ -5,4 +5,4 @@ pub returns-in-Value : goal.returns-in-Value
 returns-in-Value c = λ ps.
     let v = c.in-Value in
     rw (call_is c.args.e.now v.receiver v.m v.arguments v.is)
-    (rw (c.deref-in-Value.ensures, c.as_slice.ensures.value) at c.in_ok-next-in-Value.ensures ps)
+    (rw c.deref-in-Value.ensures at c.in_ok-next-in-Value.ensures ps)
