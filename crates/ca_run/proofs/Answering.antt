@@ -156,7 +156,7 @@ inside_of x (o ∷ os) f i c =
     (λ a. inside_of x os (λ op d. f op (Contains-append_right (operation_of o ∷ []) (map operation_of os) op d)) i a)
     (Contains-append_cases (invocation_of o ∷ []) (invocations_of os) i c)
 
-none_left : (os : List Op) → invocations_of os ≡ [] → os ≡ []
+pub none_left : (os : List Op) → invocations_of os ≡ [] → os ≡ []
 none_left [] e = refl
 none_left (o ∷ os) e = absurd (cc)
 
@@ -168,24 +168,26 @@ pub some_items : (os : List Op) → 0 < length os → ¬ (os ≡ [])
 some_items [] lt e = absurd (omega (arith, lt))
 some_items (o ∷ os) lt e = absurd (cc)
 
--- Operations that were handed to an engine, with nothing changed yet, and copied into what waits.
-module _ (p : PlainProgram) (program : ProgramTyped p) (h : List Object) (heap : TypedHeap p h) (first : List Op) (typed : AllWellTyped p h (invocations_of first)) (from : ParallelFrom p (map operation_of first)) (budget : ℕ) (cs : List Changed) (unchanged : cs ≡ []) (waiting : List Op) (copied : waiting ≡ first) where
+-- a round that had as many turns as steps and left operations waiting is stuck
+pub left_waiting : (p : PlainProgram) (frozen h : List Object) (waiting : List Invocation) (budget : ℕ) (last : List Object) (rest : List Invocation) (steps : ℕ)
+    → WentTo p frozen h waiting budget budget last rest steps → ¬ (rest ≡ []) → StuckBehind p frozen h waiting budget
+left_waiting p frozen h waiting budget last rest steps w some = from (ended_by p frozen h waiting budget budget last rest steps w)
+  where
+    from : (rest ≡ []) ⊎ (budget ≤ steps) → StuckBehind p frozen h waiting budget
+    from (inl none) = absurd (some none)
+    from (inr le) = used_up p frozen h waiting budget last rest steps w.ran le some
+
+-- Operations that were handed to an engine, with nothing changed yet.
+module _ (p : PlainProgram) (program : ProgramTyped p) (h : List Object) (heap : TypedHeap p h) (first : List Op) (typed : AllWellTyped p h (invocations_of first)) (from : ParallelFrom p (map operation_of first)) (budget : ℕ) (cs : List Changed) (unchanged : cs ≡ []) where
   inside : AllInside from.extent (invocations_of first)
   inside = inside_of from.extent first from.holds
 
-  begins : (Q : List Object → List Invocation → Type 0) → Q (present h cs) (invocations_of waiting) → Q h (invocations_of first)
-  begins Q q = subst (λ os. Q h (invocations_of os)) copied (subst (λ ds. Q (present h ds) (invocations_of waiting)) unchanged q)
-
-  pub stuck_not_done : StuckBehind p h (present h cs) (invocations_of waiting) budget → IsNotDone p h (invocations_of first) budget
+  pub stuck_not_done : StuckBehind p h (present h cs) (invocations_of first) budget → IsNotDone p h (invocations_of first) budget
   stuck_not_done s =
       not_all p program from.roots from.extent from.is from.parallel h heap (invocations_of first) typed inside budget
-      (begins (λ g is. StuckBehind p h g is budget) s)
+      (subst (λ ds. StuckBehind p h (present h ds) (invocations_of first) budget) unchanged s)
 
-  pub ran_done : (last : List Object) (rest : List Op) (steps : ℕ) → RanTo p h (present h cs) (invocations_of waiting) budget last (invocations_of rest) steps → rest ≡ [] → RunsTo p h (invocations_of first) budget last steps × SameShapes h last
-  ran_done last rest steps r none =
+  pub ran_done : (last : List Object) (steps : ℕ) → RanTo p h (present h cs) (invocations_of first) budget last [] steps → RunsTo p h (invocations_of first) budget last steps × SameShapes h last
+  ran_done last steps r =
       all_ran p program from.roots from.extent from.is from.parallel h heap (invocations_of first) typed inside budget last steps
-      (begins (λ g is. RanTo p h g is budget last [] steps) (subst (λ os. RanTo p h (present h cs) (invocations_of waiting) budget last (invocations_of os) steps) none r))
-
-  pub left_not_done : (last : List Object) (rest : List Op) (steps : ℕ) → RanTo p h (present h cs) (invocations_of waiting) budget last (invocations_of rest) steps → (invocations_of rest ≡ []) ⊎ (budget ≤ steps) → ¬ (rest ≡ []) → IsNotDone p h (invocations_of first) budget
-  left_not_done last rest steps r (inl none) some = absurd (some (none_left rest none))
-  left_not_done last rest steps r (inr le) some = stuck_not_done (used_up p h (present h cs) (invocations_of waiting) budget last (invocations_of rest) steps r le (λ e. some (none_left rest e)))
+      (subst (λ ds. RanTo p h (present h ds) (invocations_of first) budget last [] steps) unchanged r)

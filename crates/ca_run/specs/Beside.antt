@@ -1,7 +1,9 @@
 -- Objects that changed, kept beside the heap.
-use Rattle.std.specs.Prelude.{ℕ, ◌≡◌, ◌≢◌, List, [], ◌∷◌, map, Some, slice_get, slice_set}
+use Rattle.std.specs.Prelude.{ℕ, ◌≡◌, ◌≢◌, Bool, true, false, List, [], ◌∷◌, map, Option, Some, None, slice_get, slice_set}
 use Rattle.ca_program.specs.Plain.{PlainProgram}
 use Rattle.ca_model.specs.declared.value.Object.{Object}
+use Rattle.ca_model.specs.declared.value.Slot.{Slot}
+use Rattle.ca_model.specs.declared.value.Slot.TheVariants.{One, Many}
 use Rattle.ca_model.specs.Slots.{slot_len}
 use Rattle.ca_meaning.specs.Sections.{section}
 use Rattle.ca_parallel.specs.declared.op.Op.{Op}
@@ -39,3 +41,9 @@ pub record Sectioned (p : PlainProgram) (frozen h : List Object) (op : Op) (left
   pub found : slice_get h op.receiver ≡ Some before
   pub is : SectionIs answer (section p frozen op.receiver before op.op op.args left) before left_object waiting rest
   pub heap : after ≡ slice_set h op.receiver left_object
+
+-- whether there is a slot, of a single value
+abbrev pub is_one : Option Slot → Bool
+is_one None = false
+is_one (Some (One v)) = true
+is_one (Some (Many vs)) = false

@@ -6,6 +6,7 @@ ghost use Rattle.ca_meaning.specs.Sections.{section};
 ghost use Rattle.ca_sections.specs.Answers.{SectionIs};
 ghost use Rattle.ca_run.specs.Beside.{present, IsAbsent, IsPlace, SameShapes, Sectioned};
 
+use crate::refill::refill;
 use ca_base::Memory;
 use ca_model::{Heap, Object};
 use ca_parallel::Op;
@@ -27,6 +28,8 @@ pub struct Beside {
     /// At the number of a changed object its place among them. What stands elsewhere is no matter.
     index: Vec<usize>,
     changed: Vec<Changed>,
+    /// Objects whose memory serves copies. What they hold is no matter.
+    spare: Vec<Object>,
 }
 
 impl Model for Beside {
@@ -49,6 +52,7 @@ impl Beside {
         Beside {
             index: Vec::new(alloc),
             changed: Vec::new(alloc),
+            spare: Vec::new(alloc),
         }
     }
 
@@ -60,6 +64,7 @@ impl Beside {
     }
 
     /// The place of a changed object, by its number.
+    #[inline(always)]
     fn find(&self, number: u32) -> Option<usize>
         ensures { MatchOption result (IsAbsent self.now number) (λ place. IsPlace self.now place number) }
     {
@@ -99,8 +104,24 @@ impl Beside {
     {
         match self.find(number) {
             Some(place) => Ok(place),
-            None => self.add(number, heap.get(number).copy()?),
+            None => {
+                let object = self.copied(heap.get(number))?;
+                self.add(number, object)
+            }
         }
+    }
+
+    /// A copy of an object, in the memory of a spare one where that fits.
+    fn copied(&mut self, object: &Object) -> Result<Object, AllocError>
+        ensures is { IfOk result (λ copy. copy ≡ object.now) }
+        ensures same { self.new ≡ self.old }
+    {
+        if let Some(mut spare) = self.spare.pop() {
+            if refill(&mut spare, object) {
+                return Ok(spare);
+            }
+        }
+        object.copy()
     }
 
     /// Runs the section of an operation within a budget, on its receiver as it is now. All else is read in the heap,
@@ -133,7 +154,7 @@ impl Beside {
         Ok(answer)
     }
 
-    /// Puts the changed objects into the heap, and forgets them.
+    /// Puts the changed objects into the heap, and forgets them. The memory of the old ones is kept, as far as there is room.
     pub fn store(&mut self, heap: &mut Heap)
         requires { SameShapes heap.old (present heap.old self.old) }
         ensures stored { heap.new ≡ present heap.old self.old }
@@ -141,10 +162,16 @@ impl Beside {
     {
         'changes: while let Some(changed) = self.changed.pop() {
             if changed.number < heap.len() {
-                let _old = heap.replace(changed.number, changed.object);
+                let old = heap.replace(changed.number, changed.object);
+                keep(&mut self.spare, old);
             }
         }
     }
+}
+
+/// Keeps an object for its memory, if there is room for it.
+fn keep(spare: &mut Vec<Object>, object: Object) {
+    let _kept = spare.push(object);
 }
 
 /// Makes room for so many places. Those that are there stay.

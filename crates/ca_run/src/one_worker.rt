@@ -12,7 +12,7 @@ ghost use Rattle.ca_serial.specs.Extents.{Answers, IsNotDone};
 
 use crate::beside::Beside;
 use crate::passing::Passes;
-use crate::rounds::{Round, run_round};
+use crate::rounds::run_all;
 use ca_base::Memory;
 use ca_model::Heap;
 use ca_parallel::Op;
@@ -62,28 +62,23 @@ impl<'g, G: Passes> OneWorker<'g, G> {
         ensures kept { OnErr result (heap.new ≡ heap.old) }
     {
         let mut desk = Desk::new(self.alloc)?;
-        let mut waiting = copies(self.alloc, first)?;
         self.beside.forget();
-        let went = run_round(
+        let ran = run_all(
             self.gate,
             &mut desk,
             self.alloc,
             program,
             heap,
             &mut self.beside,
-            &mut waiting,
-            left,
+            first,
             left,
         )?;
-        match went {
-            Round::Went { steps } => {
-                if waiting.len() > 0 {
-                    return Ok(ExtentAnswer::Declined);
-                }
+        match ran {
+            Some(steps) => {
                 self.beside.store(heap);
                 Ok(ExtentAnswer::Done { steps })
             }
-            Round::Stuck => Ok(ExtentAnswer::Declined),
+            None => Ok(ExtentAnswer::Declined),
         }
     }
 }

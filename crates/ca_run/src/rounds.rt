@@ -1,10 +1,10 @@
 //! Rounds of the pending machine.
 
-ghost use Rattle.std.specs.Prelude.{◌≡◌, IfOk};
+ghost use Rattle.std.specs.Prelude.{◌≡◌, ◌∷◌, ◌++◌, [], drop, IfOk, MatchOption};
 ghost use Rattle.ca_program.specs.View.{program_view};
-ghost use Rattle.ca_parallel.specs.Calls.{invocations_of};
+ghost use Rattle.ca_parallel.specs.Calls.{invocation_of, invocations_of};
 ghost use Rattle.ca_run.specs.Beside.{present};
-ghost use Rattle.ca_run.specs.Rounds.{Turned, Rounded};
+ghost use Rattle.ca_run.specs.Rounds.{Turned, RanTo, StuckBehind, Rounded};
 
 use crate::beside::Beside;
 use crate::passing::Passes;
@@ -30,6 +30,32 @@ pub enum Turn {
     Ended,
 }
 
+/// Runs an operation within a budget, and what it lists goes behind what waits: in so many steps, or it is stuck.
+#[inline(always)]
+fn run_given<'a, G: Passes>(
+    gate: &G,
+    desk: &mut Desk<'a>,
+    alloc: Global,
+    program: &'a Program,
+    heap: &Heap,
+    beside: &mut Beside,
+    op: &Op,
+    waiting: &mut Vec<Op>,
+    left: u64,
+) -> Result<Turn, Memory>
+    ensures { IfOk result (λ turn. Turned (program_view program.now) heap.now (present heap.now beside.old) (invocation_of op.now ∷ invocations_of waiting.old.items) left (present heap.now beside.new) (invocations_of waiting.new.items) turn) }
+{
+    if op.receiver >= heap.len() {
+        return Ok(Turn::Stuck);
+    }
+    gate.pass(op.receiver);
+    match beside.run(desk, alloc, program, heap, op, left, waiting)? {
+        SectionAnswer::Done { steps } => Ok(Turn::Ran { steps }),
+        SectionAnswer::Trapped(_) => Ok(Turn::Stuck),
+        SectionAnswer::Spent => Ok(Turn::Stuck),
+    }
+}
+
 /// Runs one waiting operation, if there is one, within a budget.
 fn run_one<'a, G: Passes>(
     gate: &G,
@@ -46,15 +72,8 @@ fn run_one<'a, G: Passes>(
     let Some(op) = waiting.pop() else {
         return Ok(Turn::Ended);
     };
-    if op.receiver >= heap.len() {
-        return Ok(Turn::Stuck);
-    }
-    gate.pass(op.receiver);
-    match beside.run(desk, alloc, program, heap, &op, left, waiting)? {
-        SectionAnswer::Done { steps } => Ok(Turn::Ran { steps }),
-        SectionAnswer::Trapped(_) => Ok(Turn::Stuck),
-        SectionAnswer::Spent => Ok(Turn::Stuck),
-    }
+    let turn = run_given(gate, desk, alloc, program, heap, beside, &op, waiting, left)?;
+    Ok(turn)
 }
 
 /// Runs waiting operations one after the other, and all that they list, within a budget of steps: until none waits, or
@@ -89,4 +108,80 @@ pub fn run_round<'a, G: Passes>(
     Ok(Round::Went {
         steps: left - still,
     })
+}
+
+/// Runs one operation within a budget, if there is one: the last one that waits, and where none waits the next one of those
+/// that were handed in. None is copied.
+fn run_next<'a, G: Passes>(
+    gate: &G,
+    desk: &mut Desk<'a>,
+    alloc: Global,
+    program: &'a Program,
+    heap: &Heap,
+    beside: &mut Beside,
+    ops: &[Op],
+    next: &mut usize,
+    waiting: &mut Vec<Op>,
+    left: u64,
+) -> Result<Turn, Memory>
+    ensures { IfOk result (λ turn. Turned (program_view program.now) heap.now (present heap.now beside.old) (invocations_of (drop next.old ops.now) ++ invocations_of waiting.old.items) left (present heap.now beside.new) (invocations_of (drop next.new ops.now) ++ invocations_of waiting.new.items) turn) }
+{
+    if waiting.len() > 0 {
+        let turn = run_one(gate, desk, alloc, program, heap, beside, waiting, left)?;
+        return Ok(turn);
+    }
+    let at = *next;
+    if at >= ops.len() {
+        return Ok(Turn::Ended);
+    }
+    let op = &ops[at];
+    *next = at + 1;
+    let turn = run_given(gate, desk, alloc, program, heap, beside, op, waiting, left)?;
+    Ok(turn)
+}
+
+/// Runs operations, and all that they list, within a budget of steps: in so many steps, or one of them is stuck. The heap
+/// stays as it is; what changes is kept beside it. What an operation lists runs before the next one that was handed in, so
+/// no more wait than are listed at one time.
+pub(crate) fn run_all<'a, G: Passes>(
+    gate: &G,
+    desk: &mut Desk<'a>,
+    alloc: Global,
+    program: &'a Program,
+    heap: &Heap,
+    beside: &mut Beside,
+    ops: &[Op],
+    left: u64,
+) -> Result<Option<u64>, Memory>
+    ensures { IfOk result (λ ran. MatchOption ran (StuckBehind (program_view program.now) heap.now (present heap.now beside.old) (invocations_of ops.now) left) (λ steps. RanTo (program_view program.now) heap.now (present heap.now beside.old) (invocations_of ops.now) left (present heap.now beside.new) [] steps)) }
+{
+    let mut waiting = Vec::new(alloc);
+    let mut next: usize = 0;
+    let mut still = left;
+    'turns: for _ in 0..left {
+        let turn = run_next(
+            gate,
+            desk,
+            alloc,
+            program,
+            heap,
+            beside,
+            ops,
+            &mut next,
+            &mut waiting,
+            still,
+        )?;
+        match turn {
+            Turn::Ran { steps } => still = still - steps,
+            Turn::Stuck => return Ok(None),
+            Turn::Ended => return Ok(Some(left - still)),
+        }
+    }
+    if waiting.len() > 0 {
+        return Ok(None);
+    }
+    if next < ops.len() {
+        return Ok(None);
+    }
+    Ok(Some(left - still))
 }
