@@ -9,7 +9,7 @@
 //! Whoever reads the public clauses must believe `Words` of `specs/`.
 #![tactic(auto)]
 
-ghost use Rattle.std.specs.Prelude.{◌≡◌, ℕ, ◌<◌, ◌≤◌, List, IfSome, IfNone, decimal};
+ghost use Rattle.std.specs.Prelude.{◌≡◌, ◌∷◌, [], ℕ, ◌<◌, ◌≤◌, List, IfSome, IfNone, codes, decimal};
 ghost use Rattle.ca_words.specs.declared.Command.{Command};
 ghost use Rattle.ca_words.specs.Words.{texts, Names, reads, usage_text};
 
@@ -54,24 +54,93 @@ pub fn command_of(words: &[String]) -> Option<Command>
     ensures only { IfNone result ((c : Command) → Names (texts words.now) c → ⊥) }
 {
     match words {
-        [name, workers, budget] if name.as_str() == "run" => Some(Command::Run {
-            workers: count_of(workers.as_str(), Command::MOST_WORKERS)?,
-            budget: count_of(budget.as_str(), Command::MOST_BUDGET)?,
-        }),
-        [name] if name.as_str() == "pairs" => Some(Command::Pairs),
-        [name] if name.as_str() == "plan" => Some(Command::Plan),
-        [name] if name.as_str() == "emit" => Some(Command::Emit),
-        [name, seed, size] if name.as_str() == "gen" => Some(Command::Gen {
-            seed: number_of(seed.as_str(), 0, u64::MAX)?,
-            size: count_of(size.as_str(), Command::MOST_SIZE)?,
-        }),
-        [name, seed, size, workers] if name.as_str() == "load" => Some(Command::Load {
-            seed: number_of(seed.as_str(), 0, u64::MAX)?,
-            size: count_of(size.as_str(), Command::MOST_SIZE)?,
-            workers: count_of(workers.as_str(), Command::MOST_WORKERS)?,
-        }),
+        [name] => alone(name.as_str()),
+        [name, first, second] => with_two(name.as_str(), first.as_str(), second.as_str()),
+        [name, seed, size, workers] => with_three(
+            name.as_str(),
+            seed.as_str(),
+            size.as_str(),
+            workers.as_str(),
+        ),
         _ => None,
     }
+}
+
+// The command that one word names.
+fn alone(name: &str) -> Option<Command>
+    ensures named { IfSome result (Names (name.now ∷ [])) }
+    ensures only { IfNone result ((c : Command) → Names (name.now ∷ []) c → ⊥) }
+{
+    if name == "pairs" {
+        return Some(Command::Pairs);
+    }
+    if name == "plan" {
+        return Some(Command::Plan);
+    }
+    if name == "emit" {
+        return Some(Command::Emit);
+    }
+    None
+}
+
+// The command that three words name.
+fn with_two(name: &str, first: &str, second: &str) -> Option<Command>
+    ensures named { IfSome result (Names (name.now ∷ first.now ∷ second.now ∷ [])) }
+    ensures only { IfNone result ((c : Command) → Names (name.now ∷ first.now ∷ second.now ∷ []) c → ⊥) }
+{
+    if name == "run" {
+        return run_of(first, second);
+    }
+    if name == "gen" {
+        return gen_of(first, second);
+    }
+    None
+}
+
+// The command that four words name.
+fn with_three(name: &str, seed: &str, size: &str, workers: &str) -> Option<Command>
+    ensures named { IfSome result (Names (name.now ∷ seed.now ∷ size.now ∷ workers.now ∷ [])) }
+    ensures only { IfNone result ((c : Command) → Names (name.now ∷ seed.now ∷ size.now ∷ workers.now ∷ []) c → ⊥) }
+{
+    if name == "load" {
+        return load_of(seed, size, workers);
+    }
+    None
+}
+
+// The run that the words behind its name name.
+fn run_of(workers: &str, budget: &str) -> Option<Command>
+    ensures named { IfSome result (Names (codes "run" ∷ workers.now ∷ budget.now ∷ [])) }
+    ensures only { IfNone result ((c : Command) → Names (codes "run" ∷ workers.now ∷ budget.now ∷ []) c → ⊥) }
+{
+    let workers = count_of(workers, Command::MOST_WORKERS)?;
+    let budget = count_of(budget, Command::MOST_BUDGET)?;
+    Some(Command::Run { workers, budget })
+}
+
+// The text that the words behind its name name.
+fn gen_of(seed: &str, size: &str) -> Option<Command>
+    ensures named { IfSome result (Names (codes "gen" ∷ seed.now ∷ size.now ∷ [])) }
+    ensures only { IfNone result ((c : Command) → Names (codes "gen" ∷ seed.now ∷ size.now ∷ []) c → ⊥) }
+{
+    let seed = number_of(seed, 0, u64::MAX)?;
+    let size = count_of(size, Command::MOST_SIZE)?;
+    Some(Command::Gen { seed, size })
+}
+
+// The run of a text that the words behind its name name.
+fn load_of(seed: &str, size: &str, workers: &str) -> Option<Command>
+    ensures named { IfSome result (Names (codes "load" ∷ seed.now ∷ size.now ∷ workers.now ∷ [])) }
+    ensures only { IfNone result ((c : Command) → Names (codes "load" ∷ seed.now ∷ size.now ∷ workers.now ∷ []) c → ⊥) }
+{
+    let seed = number_of(seed, 0, u64::MAX)?;
+    let size = count_of(size, Command::MOST_SIZE)?;
+    let workers = count_of(workers, Command::MOST_WORKERS)?;
+    Some(Command::Load {
+        seed,
+        size,
+        workers,
+    })
 }
 
 /// Words name one command at most.
