@@ -18,7 +18,7 @@ impl<'a> Scene<'a> {
     /// The number of the object that an expression without operators names. What is short is done in place.
     #[cycle(number)]
     #[inline(always)]
-    pub(crate) fn object_of(&self, e: &Expr) -> Option<u32>
+    pub fn object_of(&self, e: &Expr) -> Option<u32>
         ensures { IfSome result (λ n. seen self.now (expression_view e.now) ≡ gives (Ref n) 0) }
     {
         match e {
@@ -216,7 +216,7 @@ fn quick(op: BinaryOp, left: i64, right: i64) -> Option<i64>
 
 /// The number that an operator gives for two numbers.
 #[inline(always)]
-fn arithmetic(op: BinaryOp, left: i64, right: i64) -> Option<i64>
+pub fn arithmetic(op: BinaryOp, left: i64, right: i64) -> Option<i64>
     ensures { IfSome result (λ n. operated_longs op left right ≡ Ok (Long n)) }
 {
     match op {

@@ -12,18 +12,28 @@ use ca_model::Value;
 use ca_program::{BinaryOp, Expr};
 
 impl<'a> Scene<'a> {
-    /// The pointer that an expression without operators and items is; none for null.
-    #[inline]
+    /// The pointer that an expression without operators and items is; none for null. What is short is done in place.
+    #[inline(always)]
     pub(crate) fn pointer_of(&self, e: &Expr) -> Option<Option<u32>>
+        ensures { IfSome result (λ p. seen self.now (expression_view e.now) ≡ gives (pointer p) 0) }
+    {
+        match e {
+            Expr::Local(l) => match self.local(l.0) {
+                Some(value) => pointed(value),
+                None => None,
+            },
+            _ => self.far_pointer_of(e),
+        }
+    }
+
+    /// The pointer that an expression is that is no local.
+    #[inline(never)]
+    fn far_pointer_of(&self, e: &Expr) -> Option<Option<u32>>
         ensures { IfSome result (λ p. seen self.now (expression_view e.now) ≡ gives (pointer p) 0) }
     {
         match e {
             Expr::Null => Some(None),
             Expr::This => pointed(self.this),
-            Expr::Local(l) => match self.local(l.0) {
-                Some(value) => pointed(value),
-                None => None,
-            },
             Expr::Own(f) => match self.own(f.field) {
                 Some(value) => pointed(value),
                 None => None,

@@ -2,11 +2,12 @@
 
 ghost use Rattle.std.specs.Prelude.{◌≡◌, IfSome, Some, slice_get, option_copied};
 ghost use Rattle.ca_program.specs.View.{expression_view};
+ghost use Rattle.ca_program.specs.Plain.{read};
 ghost use Rattle.ca_meaning.specs.Expressions.{gives, one_in};
 ghost use Rattle.ca_direct.specs.Direct.{seen, own_in, slot_at, item_in};
 
 use ca_model::{Heap, Slot, Value};
-use ca_program::{BinaryOp, Expr, UnaryOp};
+use ca_program::{BinaryOp, Expr, FieldId, UnaryOp};
 
 /// What an expression is read in. Own fields are read in the slots that are handed in, and else in those
 /// that the receiver has in the heap. The locals are those of the body that runs.
@@ -97,6 +98,17 @@ impl<'a> Scene<'a> {
         self.locals.get(index as usize).copied()
     }
 
+    /// The single value of a field of the object that an expression names.
+    #[inline(always)]
+    fn read_field(&self, p: &Expr, field: FieldId) -> Option<Value>
+        ensures { IfSome result (λ v. seen self.now (read (expression_view p.now) field) ≡ gives v 0) }
+    {
+        match self.object_of(p) {
+            Some(id) => self.field(id, field.field),
+            None => None,
+        }
+    }
+
     /// The value of an expression without operators.
     pub(crate) fn read(&self, e: &Expr) -> Option<Value>
         ensures { IfSome result (λ v. seen self.now (expression_view e.now) ≡ gives v 0) }
@@ -108,10 +120,7 @@ impl<'a> Scene<'a> {
             Expr::This => Some(self.this),
             Expr::Local(l) => self.local(l.0),
             Expr::Own(f) => self.own(f.field),
-            Expr::Read(p, f) => match self.object_of(p) {
-                Some(id) => self.field(id, f.field),
-                None => None,
-            },
+            Expr::Read(p, f) => self.read_field(p, *f),
             Expr::OwnItem(f, i) => match self.long_of(i) {
                 Some(index) => self.own_item(f.field, index),
                 None => None,
@@ -136,6 +145,7 @@ impl<'a> Scene<'a> {
             Expr::Number(n) => Some(Value::Long(*n)),
             Expr::Local(l) => self.local(l.0),
             Expr::This => Some(self.this),
+            Expr::Read(p, f) => self.read_field(p, *f),
             Expr::Unary(op, _) => match op {
                 UnaryOp::Minus => self.number(e),
                 UnaryOp::Not => self.truth(e),

@@ -24,13 +24,29 @@ impl<'a> Scene<'a> {
         match e {
             Expr::Binary(op, a, b) => match self.compare_leaves(*op, a, b) {
                 Some(truth) => Some(truth),
+                None => self.far_truth_of(e),
+            },
+            _ => self.other_truth_of(e),
+        }
+    }
+
+    /// The value of an expression that is a truth value and no comparison of two leaves. A comparison of a pointer with
+    /// null is found in one look.
+    #[cycle(truth)]
+    #[inline(never)]
+    fn far_truth_of(&self, e: &Expr) -> Option<bool>
+        ensures { IfSome result (λ b. seen self.now (expression_view e.now) ≡ gives (Truth b) 0) }
+    {
+        match e {
+            Expr::Binary(op, a, b) => match self.compare_null(*op, a, b) {
+                Some(truth) => Some(truth),
                 None => self.other_truth_of(e),
             },
             _ => self.other_truth_of(e),
         }
     }
 
-    /// The value of an expression that is a truth value and no comparison of two leaves.
+    /// The value of an expression that is a truth value, and no comparison of two leaves or of a pointer with null.
     #[cycle(truth)]
     #[inline(never)]
     fn other_truth_of(&self, e: &Expr) -> Option<bool>
@@ -53,7 +69,7 @@ impl<'a> Scene<'a> {
                     Some(false) => self.truth_of(b),
                     left => left,
                 },
-                _ => self.compare(*op, a, b),
+                _ => self.compare_both(*op, a, b),
             },
             _ => match self.read(e) {
                 Some(value) => truth(value),
@@ -63,10 +79,13 @@ impl<'a> Scene<'a> {
     }
 
     /// Whether a comparison of a pointer with null holds.
-    #[inline]
-    fn compare_null(&self, op: BinaryOp, a: &Expr) -> Option<bool>
-        ensures { IfSome result (λ t. seen self.now (binary op (expression_view a.now) null) ≡ gives (Truth t) 0) }
+    #[inline(always)]
+    fn compare_null(&self, op: BinaryOp, a: &Expr, b: &Expr) -> Option<bool>
+        ensures { IfSome result (λ t. seen self.now (binary op (expression_view a.now) (expression_view b.now)) ≡ gives (Truth t) 0) }
     {
+        let Expr::Null = b else {
+            return None;
+        };
         match self.pointer_of(a) {
             Some(pointer) => same_pointers(op, pointer, None),
             None => None,
@@ -84,21 +103,6 @@ impl<'a> Scene<'a> {
                 None => None,
             },
             None => None,
-        }
-    }
-
-    /// What a comparison of two numbers, or of two values without operators, gives. That of a pointer with
-    /// null is found in one look.
-    #[inline]
-    fn compare(&self, op: BinaryOp, a: &Expr, b: &Expr) -> Option<bool>
-        ensures { IfSome result (λ t. seen self.now (binary op (expression_view a.now) (expression_view b.now)) ≡ gives (Truth t) 0) }
-    {
-        match b {
-            Expr::Null => match self.compare_null(op, a) {
-                Some(truth) => Some(truth),
-                None => self.compare_others(op, a, b),
-            },
-            _ => self.compare_both(op, a, b),
         }
     }
 
@@ -150,7 +154,7 @@ fn truth(value: Value) -> Option<bool>
 
 /// What a comparison gives for two numbers.
 #[inline]
-fn compared(op: BinaryOp, left: i64, right: i64) -> Option<bool>
+pub fn compared(op: BinaryOp, left: i64, right: i64) -> Option<bool>
     ensures { IfSome result (λ b. operated_longs op left right ≡ Ok (Truth b)) }
 {
     match op {
