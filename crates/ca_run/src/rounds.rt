@@ -73,6 +73,7 @@ fn run_one<'a, G: Passes>(
         return Ok(Turn::Ended);
     };
     let turn = run_given(gate, desk, alloc, program, heap, beside, &op, waiting, left)?;
+    desk.give_back(op);
     Ok(turn)
 }
 

@@ -1,6 +1,6 @@
 //! What a section works with.
 
-ghost use Rattle.std.specs.Prelude.{◌≡◌, ◌++◌, map, IfOk};
+ghost use Rattle.std.specs.Prelude.{◌≡◌, ◌++◌, [], map, IfOk};
 ghost use Rattle.ca_model.specs.Slots.{start_of};
 ghost use Rattle.ca_direct.specs.Direct.{own_in};
 ghost use Rattle.ca_sections.specs.Running.{own_slots, Begun};
@@ -12,7 +12,8 @@ use ca_parallel::Op;
 use ca_program::{FieldInfo, ValueType};
 use ca_section::Olds;
 use ca_values::{Evaluator, add_starts};
-use std::alloc::Global;
+use std::alloc::{AllocError, Global};
+use std::mem;
 
 /// Where own accesses are made: in slots that are handed in, or in the heap, where they only read.
 #[derive(Clone, Copy)]
@@ -48,6 +49,8 @@ pub struct State {
 pub struct Desk<'a> {
     pub(crate) evaluator: Evaluator<'a>,
     pub(crate) state: State,
+    /// Operations whose lists of arguments serve others. What they hold is no matter.
+    pub(crate) spare: Vec<Op>,
 }
 
 impl<'a> Desk<'a> {
@@ -66,8 +69,37 @@ impl<'a> Desk<'a> {
                 listed: Vec::new(alloc),
                 left: 0,
             },
+            spare: Vec::new(alloc),
         })
     }
+
+    /// Takes an operation that was listed and is used no more, for its memory, if there is room for it.
+    #[inline]
+    pub fn give_back(&mut self, op: Op)
+        ensures { self.new.state ≡ self.old.state }
+    {
+        let _kept = self.spare.push(op);
+    }
+
+    /// Takes all operations of a list that are used no more, for their memory. None are left in the list.
+    pub fn give_back_all(&mut self, ops: &mut Vec<Op>)
+        ensures state { self.new.state ≡ self.old.state }
+        ensures none { ops.new.items ≡ [] }
+    {
+        mem::swap(&mut self.spare, ops);
+        ops.clear();
+    }
+}
+
+/// Adds values to locals. They are few, so each is pushed.
+#[inline(always)]
+fn add_values(locals: &mut Vec<Value>, values: &[Value]) -> Result<(), AllocError>
+    ensures { IfOk result (λ _. locals.new.items ≡ locals.old.items ++ values.now) }
+{
+    for value in values {
+        locals.push(*value)?;
+    }
+    Ok(())
 }
 
 impl State {
@@ -91,7 +123,7 @@ impl State {
         self.listed.clear();
         self.left = left;
         self.locals.clear();
-        self.locals.extend_from_slice(values)?;
+        add_values(&mut self.locals, values)?;
         add_starts(&mut self.locals, others)
     }
 

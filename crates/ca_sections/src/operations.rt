@@ -61,6 +61,13 @@ impl State {
     {
         if let Ok(()) = ran {
             let steps = left - self.left;
+            if self.listed.len() == 0 {
+                return Ok(SectionAnswer::Done { steps });
+            }
+            if out.len() == 0 {
+                mem::swap(out, &mut self.listed);
+                return Ok(SectionAnswer::Done { steps });
+            }
             if let Ok(()) = out.append(&mut self.listed) {
                 return Ok(SectionAnswer::Done { steps });
             }
@@ -68,7 +75,7 @@ impl State {
         self.olds.put_back(&mut self.slots);
         match ran {
             Err(Stop::Trapped(trap)) => Ok(SectionAnswer::Trapped(trap)),
-            Err(Stop::GivesBack(_)) => Ok(SectionAnswer::Spent),
+            Err(Stop::GivesBack) => Ok(SectionAnswer::Spent),
             Err(Stop::Spent) => Ok(SectionAnswer::Spent),
             _ => Err(Memory),
         }

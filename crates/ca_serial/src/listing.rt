@@ -164,7 +164,7 @@ impl<'a> Lists<'a> {
         ensures listed { IfOk result (λ answer. LoopIs answer (section_next (program_view program.now) machine.now line (statement_view s.now)) [] self.new.listed.items) }
         ensures locals { IfOk result (λ _. self.new.locals.items ≡ locals_after (section_next (program_view program.now) machine.now line (statement_view s.now)) machine.now.bodies.current.locals) }
     {
-        self.listed.clear();
+        self.desk.give_back_all(&mut self.listed);
         self.locals.clear();
         self.locals.extend_from_slice(machine.bodies.locals())?;
         let answer = section_of_loop(
