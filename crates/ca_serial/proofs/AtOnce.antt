@@ -62,7 +62,7 @@ pub one_before : (p : PlainProgram) (todo : List Work) (m : Machine) (ss : List 
 one_before p todo m ss x xs ps is none = last_runs p m.bodies.current (world_of m ps) x.now xs ss m.left _ _ is (nil_from_length xs none)
 
 abbrev pub stepped : Machine → Machine
-stepped m = record { todo = m.todo; values = m.values; bodies = m.bodies; heap = m.heap; left = m.left - 1; shown = m.shown; trap = m.trap; due = m.due; over = m.over; others = m.others }
+stepped m = record { todo = m.todo; values = m.values; bodies = m.bodies; heap = m.heap; left = m.left - 1; shown = m.shown; trap = m.trap; due = m.due; over = m.over; others = m.others; patience = m.patience }
 
 -- the body of a turn of a `while` was begun at once
 pub while_started : (p : PlainProgram) (old new : Machine) (ps : Past) (line : ℕ) (s : Bor Stmt) (c : Expr) (b : Box Stmt Global) (l : ℕ) (x : Bor Stmt) (whole : Bool) → 0 < old.left → s.now.kind ≡ While c b → l ≡ b.value.line → x.now ≡ b.value → new.todo ≡ old.todo → ((todo : List Work) (ps : Past) → rest_of p (Exec l x ∷ todo) (stepped old) ps ≡ rest_of p (all_still whole new todo) new ps) → takes p (Turn line s) (Truth true) old ps ≡ rest_of p (all_still whole new (Again line s ∷ new.todo)) new ps

@@ -1,5 +1,5 @@
 -- Statements and calls whose beginning is done at once.
-use Rattle.std.proofs.Common.{Bor, ◌≡◌, ◌∙◌, ℕ, List, ◌∷◌, ◌<◌, ◌≤◌, ◌-◌, None, refl, ap, arith, length}
+use Rattle.std.proofs.Common.{Bor, ◌≡◌, ◌∙◌, ℕ, List, ◌∷◌, ◌<◌, ◌≤◌, ◌-◌, None, refl, ap, arith}
 use Rattle.std.specs.Prelude.{Bool, true, false}
 use Rattle.std.specs.declared.alloc.Global.{Global}
 use Rattle.std.specs.declared.vec.Vec.{Vec}
@@ -19,11 +19,11 @@ use Rattle.ca_serial.specs.declared.work.Target.TheVariants.{Operation}
 use Rattle.ca_serial.specs.declared.work.Turn.{Turn}
 use Rattle.ca_serial.specs.declared.work.Turn.TheVariants.{Whole, Ends}
 use Rattle.ca_serial.specs.declared.work.Work.{Work}
-use Rattle.ca_serial.specs.declared.work.Work.TheVariants.{CollectCall, Exec, Seq, Leave}
+use Rattle.ca_serial.specs.declared.work.Work.TheVariants.{Exec, Seq, Leave}
 use Rattle.ca_serial.specs.clauses.Bodies.{Nest, with_locals}
-use Rattle.ca_serial.specs.clauses.Resume.{Past, rest_of, does_before, all_before, world_of, runs, go_on, by_mode, unwind, receives, begins_before, still, all_still, Lessens, LeavesAsMany, resume}
+use Rattle.ca_serial.specs.clauses.Resume.{Past, rest_of, does_before, all_before, world_of, runs, go_on, by_mode, unwind, receives, still, all_still, Lessens, LeavesAsMany, resume}
 use Rattle.ca_serial.proofs.Steps.{list_runs}
-use Rattle.ca_serial.proofs.CallSteps.{invoke_is, collect_all}
+use Rattle.ca_serial.proofs.CallSteps.{invoke_is}
 
 -- a list is its first statement, and then the others
 pub first_before : (p : PlainProgram) (todo : List Work) (m : Machine) (ss : List Stmt) (x : Bor Stmt) (r : Bor (List Stmt)) (ps : Past) → ss ≡ x.now ∷ r.now → all_before p todo (statements_view ss) m ps ≡ rest_of p (Exec x.now.line x ∷ Seq r ∷ todo) m ps
@@ -39,17 +39,13 @@ invoke_received p todo m ps line s e op arguments v is mode value =
     ∙ invoke_is p f w line s.now.line (expression_view e) op (expressions_view arguments.items) m.left (λ f w k. resume p todo m.values f m.bodies.below w k) (λ v w k. by_mode f.mode (unwind p todo m.values m.bodies.below w k v) (runs_out w))
     ∙ rw value refl
 
--- a call whose arguments are values waits to begin
-pub call_waits : (p : PlainProgram) (todo : List Work) (line : ℕ) (op : OpId) (arguments : Bor (Vec Expr Global)) (count : ℕ) (m : Machine) (ps : Past) → length arguments.now.items ≤ count → rest_of p (CollectCall line arguments op count ∷ todo) m ps ≡ begins_before p todo line (Operation op) count m ps
-call_waits p todo line op arguments count m ps le = collect_all p line (Operation op) arguments.now.items count m.values m.bodies.current (world_of m ps) m.left (λ vs w k. resume p todo vs m.bodies.current m.bodies.below w k) le
-
 -- the body of an operation is left
 pub left_operation : (p : PlainProgram) (todo : List Work) (m : Machine) (n : Nest) (ps : Past) → m.bodies.current.mode ≡ InOperation → m.bodies.below ≡ n.current ∷ n.below → rest_of p (Leave ∷ todo) m ps ≡ resume p todo m.values n.current n.below (world_of m ps) m.left
 left_operation p todo m n ps mode went = rw went (rw mode refl)
 
 -- no other statements
 abbrev pub none_behind : Machine → Machine
-none_behind m = record { todo = m.todo; values = m.values; bodies = m.bodies; heap = m.heap; left = m.left; shown = m.shown; trap = m.trap; due = m.due; over = m.over; others = None }
+none_behind m = record { todo = m.todo; values = m.values; bodies = m.bodies; heap = m.heap; left = m.left; shown = m.shown; trap = m.trap; due = m.due; over = m.over; others = None; patience = m.patience }
 
 -- what is left of a statement that stands alone is all that is left
 pub still_alone : (p : PlainProgram) (whole : Bool) (m : Machine) (todo : List Work) (ps : Past) → rest_of p (still whole m todo) m ps ≡ rest_of p (all_still whole (none_behind m) todo) (none_behind m) ps

@@ -15,5 +15,7 @@ pub mod Unmarked
 pub mod LoopCalls
 pub mod Locals
 pub mod Quietness
+pub mod FewCalls
 pub mod Tellings
 pub mod Taking
+pub mod Instants

@@ -322,8 +322,8 @@ module _ (p : PlainProgram) (line : ℕ) (s : Statement) (m : Machine) (ps : Pas
       ∙ ap (runs_alone p line s m) (sym (nothing_more ps) ∙ ap (and_notes ps) (sym (none_noted m o stop)))
 
 -- a heap that an engine left as it was
-pub alone_with : (p : PlainProgram) (line : ℕ) (s : Statement) (m : Machine) (h : List Object) (ps : Past) (b : Flow World) → h ≡ m.heap → runs_alone p line s (record { todo = m.todo; values = m.values; bodies = m.bodies; heap = h; left = m.left; shown = m.shown; trap = m.trap; due = m.due; over = m.over; others = m.others }) ps ≡ b → runs_alone p line s m ps ≡ b
-alone_with p line s m h ps b same e = subst (λ (h : List Object). runs_alone p line s (record { todo = m.todo; values = m.values; bodies = m.bodies; heap = h; left = m.left; shown = m.shown; trap = m.trap; due = m.due; over = m.over; others = m.others }) ps ≡ b) same e
+pub alone_with : (p : PlainProgram) (line : ℕ) (s : Statement) (m : Machine) (h : List Object) (ps : Past) (b : Flow World) → h ≡ m.heap → runs_alone p line s (record { todo = m.todo; values = m.values; bodies = m.bodies; heap = h; left = m.left; shown = m.shown; trap = m.trap; due = m.due; over = m.over; others = m.others; patience = m.patience }) ps ≡ b → runs_alone p line s m ps ≡ b
+alone_with p line s m h ps b same e = subst (λ (h : List Object). runs_alone p line s (record { todo = m.todo; values = m.values; bodies = m.bodies; heap = h; left = m.left; shown = m.shown; trap = m.trap; due = m.due; over = m.over; others = m.others; patience = m.patience }) ps ≡ b) same e
 
 -- ---- it runs here
 

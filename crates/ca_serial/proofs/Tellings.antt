@@ -1,5 +1,5 @@
 -- What the beginning of a value method's body tells.
-use Rattle.std.proofs.Common.{Bor, ◌≡◌, ℕ, List, [], ◌∷◌, ◌++◌, refl, ap, sym, ◌∙◌, map, take, drop, reverse, append-nil}
+use Rattle.std.proofs.Common.{Bor, ◌≡◌, ℕ, List, [], ◌∷◌, ◌++◌, refl, ap, sym, ◌∙◌, map, append-nil}
 use Rattle.std.specs.Prelude.{Bool, true, false}
 use Rattle.std.specs.declared.alloc.Global.{Global}
 use Rattle.std.specs.declared.vec.Vec.{Vec}
@@ -12,6 +12,7 @@ use Rattle.ca_program.specs.declared.program.ValueType.{ValueType}
 use Rattle.ca_program.specs.Plain.{PlainProgram, PlainMethod, Expression, return_value}
 use Rattle.ca_program.specs.View.{form_view, expression_view, statement_view, statements_view}
 use Rattle.ca_model.specs.declared.value.Value.{Value as Datum}
+use Rattle.ca_model.specs.declared.value.Object.{Object}
 use Rattle.ca_model.specs.declared.value.Value.TheVariants.{Bool as Truth}
 use Rattle.ca_model.specs.Slots.{start_of}
 use Rattle.ca_meaning.specs.Expressions.{gives}
@@ -24,7 +25,6 @@ use Rattle.ca_direct.proofs.Steady.{direct_is}
 use Rattle.ca_parallel.specs.Lists.{PlainMarks}
 use Rattle.ca_serial.specs.declared.bodies.Mode.{Mode}
 use Rattle.ca_serial.specs.declared.bodies.Mode.TheVariants.{InFunction, InOperation}
-use Rattle.ca_serial.specs.declared.machine.Machine.{Machine}
 use Rattle.ca_serial.specs.declared.answers.Answer.{Answer}
 use Rattle.ca_serial.specs.declared.answers.Answer.TheVariants.{Gives, Rest}
 use Rattle.ca_serial.specs.declared.answers.Look.{Look}
@@ -33,7 +33,7 @@ use Rattle.ca_serial.specs.declared.work.Work.{Work}
 use Rattle.ca_serial.specs.declared.work.Work.TheVariants.{Seq, Evaluate, Leave, Back}
 use Rattle.ca_serial.specs.clauses.Bodies.{Body, with_locals}
 use Rattle.ca_serial.specs.clauses.Answers.{OwnsSlots, runs_in, all_run_in, Shows, Tells, Told}
-use Rattle.ca_serial.specs.clauses.Resume.{carried, runs, runs_all, resume, unwind, by_mode, go_on}
+use Rattle.ca_serial.specs.clauses.Resume.{past_in, carried, runs, runs_all, resume, unwind, by_mode, go_on}
 use Rattle.ca_serial.proofs.Flows.{carried_with, go_on_with}
 use Rattle.ca_serial.proofs.Steps.{list_runs, branch_of}
 
@@ -93,17 +93,16 @@ first_passes s x xs zs is shown owns ms k =
 -- The body that a machine is to enter
 
 -- what a scene tells, it tells of the body with its receiver and its locals
-pub told_in : (m : Machine) (s : Scene) (f : Body) (marked : PlainMarks) (heeds : Bool) (ss : List Stmt) (o : Answer) → s.heap.now ≡ m.heap → OwnsSlots s → f ≡ record { this = s.this; locals = s.locals.now; mode = InFunction; marked = marked; heeds = heeds } → Tells s (statements_view ss) o → Told m f (statements_view ss) o
-told_in m s f marked heeds ss (Gives v) heap owns is tells = rw (is, ← heap) (refl, λ p ps k. ap (carried (record { heap = s.heap.now; prints = ps.prints; notes = ps.notes })) (tells owns p.functions k))
-told_in m s f marked heeds ss (Rest ys) heap owns is tells = rw (is, ← heap) (λ p ps k. ap (carried (record { heap = s.heap.now; prints = ps.prints; notes = ps.notes })) (tells owns p.functions k))
+told_in : (s : Scene) (f : Body) (marked : PlainMarks) (heeds : Bool) (ss : List Stmt) (o : Answer) → OwnsSlots s → f ≡ record { this = s.this; locals = s.locals.now; mode = InFunction; marked = marked; heeds = heeds } → Tells s (statements_view ss) o → Told s.heap.now f (statements_view ss) o
+told_in s f marked heeds ss (Gives v) owns is tells = rw is (refl, λ p ps k. ap (carried (past_in s.heap.now ps)) (tells owns p.functions k))
+told_in s f marked heeds ss (Rest ys) owns is tells = rw is (λ p ps k. ap (carried (past_in s.heap.now ps)) (tells owns p.functions k))
 
 -- of the body that a call is to enter, where it has no other locals than its arguments
-pub told_of : (m : Machine) (s : Scene) (marked : PlainMarks) (heeds : Bool) (n : ℕ) (v : Datum) (args rest below : List Datum) (others : List ValueType) (ss : List Stmt) (o : Answer) → s.heap.now ≡ m.heap → OwnsSlots s → drop n m.values ≡ s.this ∷ below → s.locals.now ≡ reverse (take n m.values) → others ≡ [] → drop n m.values ≡ v ∷ rest → args ≡ reverse (take n m.values) → Tells s (statements_view ss) o → Told m (record { this = v; locals = args ++ map start_of others; mode = InFunction; marked = marked; heeds = heeds }) (statements_view ss) o
-told_of m s marked heeds n v args rest below others ss o heap owns here locals none there are tells =
-    let first : s.this ∷ below ≡ v ∷ rest = sym here ∙ there in
-    let this : v ≡ s.this = cc in
-    let all : args ++ map start_of others ≡ s.locals.now = rw none (append-nil args) ∙ are ∙ sym locals in
-    told_in m s (record { this = v; locals = args ++ map start_of others; mode = InFunction; marked = marked; heeds = heeds }) marked heeds ss o heap owns (rw (this, all) refl) tells
+pub told_of : (s : Scene) (h : List Object) (v : Datum) (args : List Datum) (others : List ValueType) (ss : List Stmt) (o : Answer) → s.heap.now ≡ h → s.this ≡ v → OwnsSlots s → s.locals.now ≡ args → others ≡ [] → Tells s (statements_view ss) o → (marked : PlainMarks) (heeds : Bool) → Told h (record { this = v; locals = args ++ map start_of others; mode = InFunction; marked = marked; heeds = heeds }) (statements_view ss) o
+told_of s h v args others ss o heap this owns locals none tells marked heeds =
+    let all : args ++ map start_of others ≡ s.locals.now = rw none (append-nil args) ∙ sym locals in
+    let here : v ≡ s.this = sym this in
+    rw (← heap) (told_in s (record { this = v; locals = args ++ map start_of others; mode = InFunction; marked = marked; heeds = heeds }) marked heeds ss o owns (rw (here, all) refl) tells)
 
 -- a body that gives a value back is left
 pub left_with : (p : PlainProgram) (f g : Body) (below : List Body) (todo : List Work) (vs : List Datum) (w : World) (k : ℕ) (ss : Bor (List Stmt)) (v : Datum) → f.mode ≡ InFunction → runs_all p f.mode f w (statements_view ss.now) k ≡ gives_back v w k → resume p (Seq ss ∷ Leave ∷ todo) vs f (g ∷ below) w k ≡ resume p todo (v ∷ vs) g below w k

@@ -1,10 +1,10 @@
 //! The steps of calls.
 
-ghost use Rattle.std.specs.Prelude.{◌≡◌, ◌∷◌, ◌++◌, List, map, take, drop, reverse, IfOk, Some};
+ghost use Rattle.std.specs.Prelude.{◌≡◌, ◌∷◌, ◌++◌, Bool, List, map, IfOk, Some, None};
 ghost use Rattle.ca_program.specs.View.{program_view, method_view, statements_view};
-ghost use Rattle.ca_model.specs.declared.value.Value.{Value as Datum};
 ghost use Rattle.ca_meaning.specs.Functions.{body_of};
 ghost use Rattle.ca_model.specs.Slots.{start_of};
+ghost use Rattle.ca_parallel.specs.Lists.{PlainMarks};
 ghost use Rattle.ca_serial.specs.clauses.Resume.{Past, rest_of, back_of, unwound, handed_back, begins, collects, collects_before, collect_work, after, target_method, target_mode, others_in, Handed};
 ghost use Rattle.ca_serial.specs.clauses.Answers.{Told};
 ghost use Rattle.ca_serial.specs.clauses.Bodies.{marks_of};
@@ -15,7 +15,7 @@ use crate::machine::Machine;
 use crate::work::{Call, Next, Target, Work};
 use ca_base::Memory;
 use ca_direct::Scene;
-use ca_model::{TrapKind, Value};
+use ca_model::{Heap, TrapKind, Value};
 use ca_program::{Expr, Method, OpId, Program, Stmt, StmtForm, ValueType};
 
 impl<'a> Machine<'a> {
@@ -45,7 +45,7 @@ impl<'a> Machine<'a> {
     /// Puts the arguments of a call on the values from one of them on, up to one that isn't found without a call, and gives
     /// back which that is.
     #[inline(always)]
-    pub fn gather(
+    fn gather(
         &mut self,
         program: &'a Program,
         line: u32,
@@ -110,11 +110,11 @@ impl<'a> Machine<'a> {
         ensures { IfOk result (λ next. (ps : Past) → begins (program_view program.now) line target count self.old ps ≡ after (program_view program.now) self.new ps next) }
     {
         let called = body_of(program, target);
-        let told = self.told(target, called, count);
         let handed = self.handed(target);
         let Some(top) = self.values.top(count) else {
             return Ok(Next::Spent);
         };
+        let told = told(&self.heap, target, called, top.below, top.items);
         let Value::Ref(receiver) = top.below else {
             return Ok(self.stop(line, TrapKind::NullPointer));
         };
@@ -164,32 +164,8 @@ impl<'a> Machine<'a> {
         }
     }
 
-    /// What the beginning of a body tells before it is entered, with the top values as its arguments, so many
-    /// of them, and its receiver below them. That of an operation isn't looked at.
-    #[inline(always)]
-    fn told(&self, target: Target, called: Called<'a>, count: usize) -> Answer<'a>
-        ensures { (v : Datum) (arguments rest : List Datum) → drop count self.now.values ≡ v ∷ rest → arguments ≡ reverse (take count self.now.values) → Told self.now (record { this = v; locals = arguments ++ map start_of called.entry.others.now; mode = target_mode target; marked = self.now.bodies.current.marked; heeds = self.now.bodies.current.heeds }) (statements_view called.entry.stmts.now) result }
-    {
-        let Target::Function(_) = target else {
-            return Answer::Rest(called.stmts);
-        };
-        if !called.others.is_empty() {
-            return Answer::Rest(called.stmts);
-        }
-        let Some(top) = self.values.top(count) else {
-            return Answer::Rest(called.stmts);
-        };
-        let scene = Scene {
-            heap: &self.heap,
-            this: top.below,
-            own: None,
-            locals: top.items,
-        };
-        answer_of(&scene, called.stmts)
-    }
-
     /// Begins a body that was entered. One that is done at once is left again with no work on the stack.
-    fn begin_body(&mut self, program: &'a Program, ss: &'a [Stmt]) -> Result<Next, Memory>
+    pub fn begin_body(&mut self, program: &'a Program, ss: &'a [Stmt]) -> Result<Next, Memory>
         ensures { IfOk result (λ next. (ps : Past) → rest_of (program_view program.now) (Work.Seq ss.entry ∷ Work.Leave ∷ self.old.todo) self.old ps ≡ after (program_view program.now) self.new ps next) }
     {
         if let Mode::InFunction = self.bodies.mode() {
@@ -296,6 +272,44 @@ impl<'a> Machine<'a> {
                 }
             }
         }
+    }
+}
+
+/// What the beginning of a body tells before it is entered with this receiver and these arguments. That of an operation
+/// isn't looked at.
+#[inline(always)]
+pub fn told<'a, 'b>(
+    heap: &'b Heap,
+    target: Target,
+    called: Called<'a>,
+    receiver: Value,
+    arguments: &'b [Value],
+) -> Answer<'a>
+    ensures { (marked : PlainMarks) (heeds : Bool) → Told heap.now (record { this = receiver; locals = arguments.now ++ map start_of called.entry.others.now; mode = target_mode target; marked = marked; heeds = heeds }) (statements_view called.entry.stmts.now) result }
+{
+    let Target::Function(_) = target else {
+        return Answer::Rest(called.stmts);
+    };
+    if !called.others.is_empty() {
+        return Answer::Rest(called.stmts);
+    }
+    let scene = inside(heap, receiver, arguments);
+    answer_of(&scene, called.stmts)
+}
+
+/// What the body of a value method is read in.
+#[inline(always)]
+fn inside<'b>(heap: &'b Heap, receiver: Value, arguments: &'b [Value]) -> Scene<'b>
+    ensures heap { result.heap.now ≡ heap.now }
+    ensures this { result.this ≡ receiver }
+    ensures own { result.own ≡ None }
+    ensures locals { result.locals.now ≡ arguments.now }
+{
+    Scene {
+        heap,
+        this: receiver,
+        own: None,
+        locals: arguments,
     }
 }
 

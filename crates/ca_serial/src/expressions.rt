@@ -59,9 +59,37 @@ impl<'a> Machine<'a> {
     ) -> Result<Next, Memory>
         ensures { IfOk result (λ next. (ps : Past) → evaluates (program_view program.now) line (value_call (expression_view receiver.now) method (expressions_view arguments.now.items)) self.old ps ≡ after (program_view program.now) self.new ps next) }
     {
+        match self.number_of_call(program, receiver, method, arguments) {
+            Some(number) => {
+                self.values.push(Value::Long(number))?;
+                Ok(Next::GoesOn)
+            }
+            None => {
+                let next = self.stack_call(program, line, receiver, method, arguments)?;
+                Ok(next)
+            }
+        }
+    }
+
+    /// Goes on with a call of a value method on the stack.
+    #[inline(always)]
+    fn stack_call(
+        &mut self,
+        program: &'a Program,
+        line: u32,
+        receiver: &'a Expr,
+        method: FunctionId,
+        arguments: &'a Vec<Expr>,
+    ) -> Result<Next, Memory>
+        ensures { IfOk result (λ next. (ps : Past) → evaluates (program_view program.now) line (value_call (expression_view receiver.now) method (expressions_view arguments.now.items)) self.old ps ≡ after (program_view program.now) self.new ps next) }
+    {
         let target = Target::Function(method);
         match self.short_of(program, line, receiver) {
             Some(object) => {
+                let called = self.call_few(program, line, object, method, arguments.as_slice())?;
+                if let Some(next) = called {
+                    return Ok(next);
+                }
                 self.values.push(object)?;
                 let next = self.collect(program, line, target, arguments, 0)?;
                 Ok(next)

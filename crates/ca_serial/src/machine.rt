@@ -14,6 +14,7 @@ ghost use Rattle.ca_serial.specs.clauses.Resume.{HasOwn};
 ghost use Rattle.ca_serial.specs.declared.work.Next.TheVariants.{Trapped};
 
 use crate::bodies::Bodies;
+use crate::patience::Patience;
 use crate::stack::Stack;
 use crate::work::{Call, Left, Next, Work};
 use ca_base::Memory;
@@ -40,6 +41,8 @@ pub struct Machine<'a> {
     pub over: Left<'a>,
     /// The other statements of its list, if there are any.
     pub others: Option<&'a [Stmt]>,
+    /// When calls are looked into. No definition reads it.
+    pub patience: Patience,
 }
 
 impl<'a> Machine<'a> {
@@ -83,6 +86,7 @@ impl<'a> Machine<'a> {
             },
             over: Left::Body(main),
             others: None,
+            patience: Patience::new(),
         })
     }
 
@@ -99,7 +103,7 @@ impl<'a> Machine<'a> {
 
     /// What expressions are read in.
     #[inline]
-    fn scene(&self) -> Scene<'_>
+    pub fn scene(&self) -> Scene<'_>
         ensures heap { result.heap.now ≡ self.now.heap }
         ensures this { result.this ≡ self.now.bodies.current.this }
         ensures own { result.own ≡ None }

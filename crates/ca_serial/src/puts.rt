@@ -51,7 +51,7 @@ impl<'a> Machine<'a> {
     }
 
     /// Puts what an operator gives for the old value and a value into a local.
-    #[inline]
+    #[inline(always)]
     pub fn assign_local(&mut self, local: LocalId, op: AssignOp, value: Value)
         ensures current { self.new.bodies.current ≡ with_locals self.old.bodies.current (slice_set self.old.bodies.current.locals local.0 (assigned op (value_at self.old.bodies.current.locals local.0) value)) }
         ensures below { self.new.bodies.below ≡ self.old.bodies.below }

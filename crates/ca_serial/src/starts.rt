@@ -1,13 +1,12 @@
 //! Statements whose beginning is done at once. A call of an operation is entered there, and its body done at
 //! once as far as it goes; a call inside it goes to the stack. What is left stands in the machine.
 
-ghost use Rattle.std.specs.Prelude.{◌≡◌, ◌≤◌, ◌∷◌, ℕ, List, length, IfOk};
+ghost use Rattle.std.specs.Prelude.{◌≡◌, ◌≤◌, ◌∷◌, ℕ, List, IfOk};
 ghost use Rattle.ca_program.specs.View.{program_view};
 ghost use Rattle.ca_serial.specs.declared.work.Target.TheVariants.{Operation};
-ghost use Rattle.ca_serial.specs.clauses.Resume.{Past, rest_of, receives, begins_before, still, all_still, pieces, others_before, after};
+ghost use Rattle.ca_serial.specs.clauses.Resume.{Past, rest_of, receives, still, all_still, pieces, others_before, after, AtOnce};
 
 use crate::bodies::Mode;
-use crate::calls::body_of;
 use crate::machine::Machine;
 use crate::work::{Left, Next, Target, Work};
 use ca_base::Memory;
@@ -32,7 +31,7 @@ impl<'a> Machine<'a> {
                 Ok(whole)
             }
             _ => {
-                if self.do_one(program, s.line, s) {
+                if self.try_one(program, s) {
                     return Ok(true);
                 }
                 let whole = self.start(program, s.line, s)?;
@@ -40,6 +39,17 @@ impl<'a> Machine<'a> {
                 Ok(whole)
             }
         }
+    }
+
+    /// Does a statement at once, if it only puts values that are found without a call. Where a call is expected, it isn't tried.
+    #[inline(always)]
+    fn try_one(&mut self, program: &'a Program, s: &'a Stmt) -> bool
+        ensures { AtOnce result (program_view program.now) (Work.Exec s.now.line s.entry) self.old self.new }
+    {
+        if self.patience.expects() {
+            return false;
+        }
+        self.do_one(program, s.line, s)
     }
 
     /// Does what it can of a list of statements at once, of which the first is no put to be done at once, and tells whether that
@@ -89,7 +99,15 @@ impl<'a> Machine<'a> {
                     }
                 }
             }
+            StmtForm::PutLocal(local, op, e) => {
+                if self.put_called(program, line, *local, *op, e) {
+                    return Ok(true);
+                }
+                self.over = Left::Statement(line, s);
+                Ok(false)
+            }
             _ => {
+                self.patience.forget();
                 self.over = Left::Statement(line, s);
                 Ok(false)
             }
@@ -110,58 +128,18 @@ impl<'a> Machine<'a> {
         ensures steps { self.new.left ≤ self.old.left }
         ensures left { IfOk result (λ whole. (todo : List Work) (ps : Past) → receives (program_view program.now) todo line (Operation op) receiver arguments.now.items self.old ps ≡ rest_of (program_view program.now) (still whole self.new todo) self.new ps) }
     {
+        let entered = self.enter_few(program, line, receiver, op, arguments.as_slice())?;
+        if let Some(whole) = entered {
+            return Ok(whole);
+        }
         self.values.push(receiver)?;
-        let items = arguments.as_slice();
-        let count = self.gather(program, line, Target::Operation(op), items, 0)?;
-        if count < items.len() {
-            self.over = Left::Call(line, arguments, op, count);
-            return Ok(false);
-        }
-        let whole = self.enter_now(program, line, op, arguments, count)?;
-        Ok(whole)
-    }
-
-    /// Enters the body of an operation whose arguments are values, so many of them, and does it at once as
-    /// far as it goes. Where it can't be entered, or the body hands it on, the call is what is left.
-    #[inline(always)]
-    fn enter_now(
-        &mut self,
-        program: &'a Program,
-        line: u32,
-        op: OpId,
-        arguments: &'a Vec<Expr>,
-        count: usize,
-    ) -> Result<bool, Memory>
-        requires { length arguments.now.items ≤ count }
-        ensures todo { self.new.todo ≡ self.old.todo }
-        ensures steps { self.new.left ≤ self.old.left }
-        ensures left { IfOk result (λ whole. (todo : List Work) (ps : Past) → begins_before (program_view program.now) todo line (Operation op) count self.old ps ≡ rest_of (program_view program.now) (still whole self.new todo) self.new ps) }
-    {
-        self.over = Left::Call(line, arguments, op, count);
-        if self.bodies.hands_on(op) {
-            return Ok(false);
-        }
-        let Some(top) = self.values.top(count) else {
-            return Ok(false);
-        };
-        let Value::Ref(receiver) = top.below else {
-            return Ok(false);
-        };
-        if self.left == 0 {
-            return Ok(false);
-        }
-        let called = body_of(program, Target::Operation(op));
-        self.bodies
-            .enter(receiver, Mode::InOperation, top.items, called.others)?;
-        self.values.cut(count);
-        self.left -= 1;
-        let whole = self.run_now(program, called.stmts);
-        Ok(whole)
+        self.over = Left::Call(line, arguments, op);
+        Ok(false)
     }
 
     /// Does a body that was entered at once as far as it goes, and leaves it where all is done.
     #[inline(always)]
-    fn run_now(&mut self, program: &'a Program, ss: &'a [Stmt]) -> bool
+    pub fn run_now(&mut self, program: &'a Program, ss: &'a [Stmt]) -> bool
         ensures todo { self.new.todo ≡ self.old.todo }
         ensures steps { self.new.left ≡ self.old.left }
         ensures left { (todo : List Work) (ps : Past) → rest_of (program_view program.now) (Work.Seq ss.entry ∷ Work.Leave ∷ todo) self.old ps ≡ rest_of (program_view program.now) (still result self.new todo) self.new ps }
@@ -203,8 +181,8 @@ impl<'a> Machine<'a> {
                 let next = self.exec(program, line, s)?;
                 Ok(next)
             }
-            Left::Call(line, arguments, op, count) => {
-                let next = self.collect(program, line, Target::Operation(op), arguments, count)?;
+            Left::Call(line, arguments, op) => {
+                let next = self.collect(program, line, Target::Operation(op), arguments, 0)?;
                 Ok(next)
             }
             Left::Body(ss) => {

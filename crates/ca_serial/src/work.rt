@@ -95,8 +95,8 @@ pub struct Call {
 pub enum Left<'a> {
     /// A statement on a line.
     Statement(u32, &'a Stmt),
-    /// A call whose receiver and first arguments are values: so many of them.
-    Call(u32, &'a Vec<Expr>, OpId, usize),
+    /// A call whose receiver is a value.
+    Call(u32, &'a Vec<Expr>, OpId),
     /// What is left of the body of an operation that was entered.
     Body(&'a [Stmt]),
 }

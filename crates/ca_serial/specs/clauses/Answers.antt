@@ -3,19 +3,19 @@ use Rattle.std.specs.Prelude.{◌≡◌, ℕ, List}
 use Rattle.ca_program.specs.Plain.{PlainProgram, PlainMethod, Statement, Statements}
 use Rattle.ca_program.specs.View.{expression_view, statements_view}
 use Rattle.ca_model.specs.declared.value.Value.{Value as Datum}
+use Rattle.ca_model.specs.declared.value.Object.{Object}
 use Rattle.ca_meaning.specs.Expressions.{gives}
 use Rattle.ca_meaning.specs.Flows.{Flow, goes_on, gives_back, exec, exec_all}
 use Rattle.ca_meaning.specs.Functions.{own_of, functions_of, function_parts}
 use Rattle.ca_direct.specs.declared.scene.Scene.{Scene}
 use Rattle.ca_direct.specs.Direct.{own_in, seen}
 use Rattle.ca_serial.specs.declared.bodies.Mode.TheVariants.{InFunction}
-use Rattle.ca_serial.specs.declared.machine.Machine.{Machine}
 use Rattle.ca_serial.specs.declared.answers.Answer.{Answer}
 use Rattle.ca_serial.specs.declared.answers.Answer.TheVariants.{Gives, Rest}
 use Rattle.ca_serial.specs.declared.answers.Look.{Look}
 use Rattle.ca_serial.specs.declared.answers.Look.TheVariants.{Returns, Passes, Stays}
 use Rattle.ca_serial.specs.clauses.Bodies.{Body}
-use Rattle.ca_serial.specs.clauses.Resume.{Past, runs_all, world_of}
+use Rattle.ca_serial.specs.clauses.Resume.{Past, runs_all, past_in}
 
 -- the scene's receiver has its slots in the heap
 abbrev pub OwnsSlots : Scene → Type 0
@@ -40,7 +40,7 @@ abbrev pub Tells : Scene → Statements → Answer → Type 0
 Tells s xs (Gives v) = OwnsSlots s → (ms : List PlainMethod) (k : ℕ) → all_run_in ms s xs k ≡ gives_back v tt k
 Tells s xs (Rest ys) = OwnsSlots s → (ms : List PlainMethod) (k : ℕ) → all_run_in ms s xs k ≡ all_run_in ms s (statements_view ys.now) k
 
--- the same of a body that a machine is to enter
-abbrev pub Told : Machine → Body → Statements → Answer → Type 0
-Told m f xs (Gives v) = (f.mode ≡ InFunction) × ((p : PlainProgram) (ps : Past) (k : ℕ) → runs_all p f.mode f (world_of m ps) xs k ≡ gives_back v (world_of m ps) k)
-Told m f xs (Rest ys) = (p : PlainProgram) (ps : Past) (k : ℕ) → runs_all p f.mode f (world_of m ps) xs k ≡ runs_all p f.mode f (world_of m ps) (statements_view ys.now) k
+-- the same of a body that is to be entered in a heap
+abbrev pub Told : List Object → Body → Statements → Answer → Type 0
+Told h f xs (Gives v) = (f.mode ≡ InFunction) × ((p : PlainProgram) (ps : Past) (k : ℕ) → runs_all p f.mode f (past_in h ps) xs k ≡ gives_back v (past_in h ps) k)
+Told h f xs (Rest ys) = (p : PlainProgram) (ps : Past) (k : ℕ) → runs_all p f.mode f (past_in h ps) xs k ≡ runs_all p f.mode f (past_in h ps) (statements_view ys.now) k

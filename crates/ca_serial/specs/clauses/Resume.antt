@@ -4,6 +4,7 @@ use Rattle.std.specs.declared.alloc.Global.{Global}
 use Rattle.std.specs.declared.vec.Vec.{Vec}
 use Rattle.std.specs.Prelude.{◌≡◌, ◌<◌, ◌≤◌, ◌+◌, Bool, true, false, ℕ, zero, suc, pos, IsSome, List, [], ◌∷◌, ◌++◌, Option, Some, None, slice_get, slice_set, take, drop, reverse}
 use Rattle.ca_program.specs.declared.program.FieldId.{FieldId}
+use Rattle.ca_program.specs.declared.program.FunctionId.{FunctionId}
 use Rattle.ca_program.specs.declared.program.OpId.{OpId}
 use Rattle.ca_program.specs.declared.program.Expr.{Expr}
 use Rattle.ca_program.specs.declared.program.Stmt.{Stmt}
@@ -210,8 +211,12 @@ and_note ps n = record { prints = ps.prints; notes = ps.notes ++ n ∷ [] }
 abbrev pub and_notes : Past → List Note → Past
 and_notes ps ns = record { prints = ps.prints; notes = ps.notes ++ ns }
 
+-- the world of this heap
+abbrev pub past_in : List Object → Past → World
+past_in h ps = record { heap = h; prints = ps.prints; notes = ps.notes }
+
 abbrev pub world_of : Machine → Past → World
-world_of m ps = record { heap = m.heap; prints = ps.prints; notes = ps.notes }
+world_of m ps = past_in m.heap ps
 
 -- with this work
 abbrev pub rest_of : PlainProgram → List Work → Machine → Past → Flow World
@@ -295,6 +300,11 @@ abbrev pub receives : PlainProgram → List Work → ℕ → Target → Datum �
 receives p todo line t v arguments m ps =
     collected p line t arguments 0 (v ∷ m.values) m.bodies.current (world_of m ps) m.left (λ vs w k. resume p todo vs m.bodies.current m.bodies.below w k)
 
+-- that calls with this receiver and these values, and then does this work
+abbrev pub calls_with : PlainProgram → List Work → ℕ → Target → Datum → List Datum → Machine → Past → Flow World
+calls_with p todo line t v xs m ps =
+    called p t line v xs m.values m.bodies.current (world_of m ps) m.left (λ vs w k. resume p todo vs m.bodies.current m.bodies.below w k)
+
 -- the call that is due: its arguments are the top values, so many of them
 abbrev pub call_of : Machine → Invocation
 call_of m = invocation m.due.receiver m.due.op (reverse (take m.due.count m.values))
@@ -334,7 +344,7 @@ Puts false p line s old new = new ≡ old
 -- the work that is left of a statement, before other work
 abbrev pub pieces : Left → List Work → List Work
 pieces (OneLeft line s) todo = Exec line s ∷ todo
-pieces (CallLeft line arguments op n) todo = CollectCall line arguments op n ∷ todo
+pieces (CallLeft line arguments op) todo = CollectCall line arguments op 0 ∷ todo
 pieces (BodyLeft ss) todo = Seq ss ∷ Leave ∷ todo
 
 -- other statements, if there are any, before other work
@@ -351,6 +361,16 @@ still false m todo = pieces m.over todo
 abbrev pub all_still : Bool → Machine → List Work → List Work
 all_still true m todo = todo
 all_still false m todo = pieces m.over (others_before m.others todo)
+
+-- a value method was called, or nothing was done
+abbrev pub CalledFew : Option Next → PlainProgram → ℕ → FunctionId → Datum → List Expr → Machine → Machine → Type 0
+CalledFew (Some next) p line m v arguments old new = (ps : Past) → receives p old.todo line (Function m) v arguments old ps ≡ after p new ps next
+CalledFew None p line m v arguments old new = new ≡ old
+
+-- an operation was called, and its body begun, or nothing was done
+abbrev pub EnteredFew : Option Bool → PlainProgram → ℕ → OpId → Datum → List Expr → Machine → Machine → Type 0
+EnteredFew (Some whole) p line op v arguments old new = (todo : List Work) (ps : Past) → receives p todo line (Operation op) v arguments old ps ≡ rest_of p (still whole new todo) new ps
+EnteredFew None p line op v arguments old new = new ≡ old
 
 -- after a turn of a loop: the loop comes again, or the work ended so
 abbrev pub behind : PlainProgram → Work → Machine → Past → Turn → Flow World

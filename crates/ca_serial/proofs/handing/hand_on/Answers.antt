@@ -10,7 +10,7 @@ pub returns-in-Done-clause-means : goal.returns-in-Done-clause-means
 returns-in-Done-clause-means g c = λ ps.
     let m = c.args.machine.now in
     let p = program_view c.args.program.now in
-    let new : Machine = record { todo = m.todo; values = c.cut.new.self; bodies = m.bodies; heap = c.run.new.heap; left = c.saturating_sub-machine.result; shown = m.shown; trap = m.trap; due = m.due; over = m.over; others = m.others } in
+    let new : Machine = record { todo = m.todo; values = c.cut.new.self; bodies = m.bodies; heap = c.run.new.heap; left = c.saturating_sub-machine.result; shown = m.shown; trap = m.trap; due = m.due; over = m.over; others = m.others; patience = m.patience } in
     let run : RunsTo p m.heap (call_of m ∷ []) m.left c.run.new.heap c.in-Done.steps =
     rw (c.in-Done.is, c.as_slice.ensures.value, c.in_ok-ops.ensures.calls) at c.in_ok-steps.ensures.answer in
     was_run p m new c.run.new.heap c.in-Done.steps ps c.requires.good.parallel run refl c.cut.ensures refl refl c.saturating_sub-machine.ensures

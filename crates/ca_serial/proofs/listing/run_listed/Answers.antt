@@ -97,7 +97,7 @@ returns-in_ok-put_locals-in-Done g c =
     let ran : Answers p m.heap (invocations_of ops) (m.left - taken) c.run.new.heap c.in_ok-steps.field-0 =
     said_of (λ l k. Answers p m.heap l k c.run.new.heap c.in_ok-steps.field-0) _ ops _ m.left taken c.as_slice-listed.ensures.value c.saturating_sub-rest.ensures c.in_ok-steps.ensures.answer in
     let run : RunsTo p m.heap (invocations_of ops) (m.left - taken) c.run.new.heap c.in-Done.steps = subst (λ (a : ExtentAnswer). Answers p m.heap (invocations_of ops) (m.left - taken) c.run.new.heap a) c.in-Done.is ran in
-    let new : Machine = record { todo = m.todo; values = m.values; bodies = c.put_locals.new.self; heap = c.run.new.heap; left = c.saturating_sub-machine.result; shown = m.shown; trap = m.trap; due = m.due; over = m.over; others = m.others } in
+    let new : Machine = record { todo = m.todo; values = m.values; bodies = c.put_locals.new.self; heap = c.run.new.heap; left = c.saturating_sub-machine.result; shown = m.shown; trap = m.trap; due = m.due; over = m.over; others = m.others; patience = m.patience } in
     record {
       means = λ ps. by_its_section p c.args.line st m.todo m ps c.requires.heeded c.requires.nothing o refl
           ∙ was_listed p c.args.line st m ps o taken (invocations_of ops) d c.run.new.heap c.in-Done.steps good.parallel run new refl (c.in_ok-put_locals-in-Done.ensures.current ∙ ap (with_locals m.bodies.current) (c.as_slice.ensures.value ∙ c.requires.locals ∙ done_locals o taken (invocations_of ops) d m.bodies.current.locals)) c.in_ok-put_locals-in-Done.ensures.below refl refl (c.saturating_sub-machine.ensures ∙ ap (λ k. k - c.in-Done.steps) c.saturating_sub-rest.ensures);

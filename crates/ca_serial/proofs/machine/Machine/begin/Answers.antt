@@ -27,7 +27,7 @@ pub returns-in-Some-handed : goal.returns-in-Some-handed
 returns-in-Some-handed c = λ ps.
     let m = c.args.self.now in
     let p = program_view c.args.program.now in
-    let new : Machine = record { todo = m.todo; values = m.values; bodies = m.bodies; heap = m.heap; left = m.left; shown = m.shown; trap = m.trap; due = record { receiver = c.in-Ref.receiver; op = c.in-Some-handed.op; count = c.args.count }; over = m.over; others = m.others } in
+    let new : Machine = record { todo = m.todo; values = m.values; bodies = m.bodies; heap = m.heap; left = m.left; shown = m.shown; trap = m.trap; due = record { receiver = c.in-Ref.receiver; op = c.in-Some-handed.op; count = c.args.count }; over = m.over; others = m.others; patience = m.patience } in
     let there : drop c.args.count m.values ≡ Ref c.in-Ref.receiver ∷ drop (c.args.count + 1) m.values = c.in-Some.ensures.0 ∙ ap (λ v. v ∷ drop (c.args.count + 1) m.values) c.in-Ref.is in
     ap (λ t. begins p c.args.line t c.args.count m ps) c.in-Some-handed.ensures.0
     ∙ is_due p c.args.line c.args.count c.in-Ref.receiver c.in-Some-handed.op m new ps there c.in-Some-handed.ensures.1 refl refl refl refl refl refl
@@ -50,10 +50,10 @@ returns-in_ok-push-in-Gives c = λ ps.
     let rest = drop (c.args.count + 1) m.values in
     let there : drop c.args.count m.values ≡ Ref c.in-Ref.receiver ∷ rest = c.in-Some.ensures.0 ∙ ap (λ v. v ∷ rest) c.in-Ref.is in
     let body : Body = record { this = Ref c.in-Ref.receiver; locals = args ++ map start_of called.result.others.now; mode = target_mode c.args.target; marked = m.bodies.current.marked; heeds = m.bodies.current.heeds } in
-    let told = c.in-Gives.ensures (Ref c.in-Ref.receiver) args rest there c.in-Some.ensures.1 in
+    let told = c.in-Gives.ensures m.bodies.current.marked m.bodies.current.heeds in
     taken_there c.args.count m.values w _ (Ref c.in-Ref.receiver) rest args there c.in-Some.ensures.1
     ∙ begun p c.args.target c.args.line c.in-Ref.receiver args rest m.bodies.current m.bodies.below m.todo w m.left called.result.stmts called.result.others.now c.in_default-handed.ensures lt called.ensures.stmts called.ensures.others
-    ∙ left_with p body m.bodies.current m.bodies.below m.todo rest w (m.left - 1) called.result.stmts c.in-Gives.value told.0 (told.1 p ps (m.left - 1))
+    ∙ left_with p body m.bodies.current m.bodies.below m.todo rest w (m.left - 1) called.result.stmts c.in-Gives.value told.0 (rw c.in-Ref.is at (told.1 p ps (m.left - 1)))
     ∙ rw (c.in_ok-push-in-Gives.ensures, c.cut.ensures) refl
 
 pub returns-in_ok-next-in-Rest : goal.returns-in_ok-next-in-Rest
@@ -67,8 +67,8 @@ returns-in_ok-next-in-Rest c = λ ps.
     let rest = drop (c.args.count + 1) m.values in
     let there : drop c.args.count m.values ≡ Ref c.in-Ref.receiver ∷ rest = c.in-Some.ensures.0 ∙ ap (λ v. v ∷ rest) c.in-Ref.is in
     let body : Body = record { this = Ref c.in-Ref.receiver; locals = args ++ map start_of called.result.others.now; mode = target_mode c.args.target; marked = m.bodies.current.marked; heeds = m.bodies.current.heeds } in
-    let told = c.in-Rest.ensures (Ref c.in-Ref.receiver) args rest there c.in-Some.ensures.1 in
+    let told = c.in-Rest.ensures m.bodies.current.marked m.bodies.current.heeds in
     taken_there c.args.count m.values w _ (Ref c.in-Ref.receiver) rest args there c.in-Some.ensures.1
     ∙ begun p c.args.target c.args.line c.in-Ref.receiver args rest m.bodies.current m.bodies.below m.todo w m.left called.result.stmts called.result.others.now c.in_default-handed.ensures lt called.ensures.stmts called.ensures.others
-    ∙ same_rest p body (m.bodies.current ∷ m.bodies.below) (Leave ∷ m.todo) rest w (m.left - 1) called.result.stmts c.in-Rest.ss (told p ps (m.left - 1))
+    ∙ same_rest p body (m.bodies.current ∷ m.bodies.below) (Leave ∷ m.todo) rest w (m.left - 1) called.result.stmts c.in-Rest.ss (rw c.in-Ref.is at (told p ps (m.left - 1)))
     ∙ (rw (c.cut-in-Rest.ensures, c.in_ok-enter-in-Rest.ensures.current, c.in_ok-enter-in-Rest.ensures.below, c.mode_of.ensures) at c.in_ok-next-in-Rest.ensures ps)

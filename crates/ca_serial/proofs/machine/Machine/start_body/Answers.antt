@@ -23,12 +23,12 @@ returns-in_ok-whole-in-Block-clause-left c = λ todo ps.
     ∙ c.do_all-rest.ensures.left todo ps
     ∙ c.in_ok-whole-in-Block.ensures.left todo ps
 
-pub returns-then-do_one-clause-left : goal.returns-then-do_one-clause-left
-returns-then-do_one-clause-left c = λ todo ps. c.if-do_one.ensures.2 todo ps
+pub returns-then-try_one-clause-left : goal.returns-then-try_one-clause-left
+returns-then-try_one-clause-left c = λ todo ps. c.if-try_one.ensures.2 todo ps
 
 pub returns-in_ok-whole-in_default-clause-left : goal.returns-in_ok-whole-in_default-clause-left
 returns-in_ok-whole-in_default-clause-left c = λ todo ps.
     let p = program_view c.args.program.now in
-    ap (λ m. rest_of p (Exec c.args.s.now.line c.args.s ∷ todo) m ps) (sym c.if-do_one.ensures)
+    ap (λ m. rest_of p (Exec c.args.s.now.line c.args.s ∷ todo) m ps) (sym c.if-try_one.ensures)
     ∙ c.in_ok-whole-in_default.ensures.left todo ps
     ∙ still_alone p c.in_ok-whole-in_default.whole c.start.new.self todo ps
