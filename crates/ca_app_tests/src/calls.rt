@@ -1,18 +1,33 @@
-//! Calls of `top` over devices in memory.
+//! Calls of `top` over devices in memory. Where memory runs out the test ends, so that nothing is dropped before its end.
 
 use ca_app::top;
 use ca_base::{Gate, MemSink, MemSource, OpenGate};
-use std::alloc::{AllocError, Global};
+use std::alloc::Global;
+use std::process::Abort;
 use std::sync::Wait;
 use std::thread::Threads;
 
 /// The words of a command line that is written with one space between them.
-pub fn words(alloc: Global, line: &str) -> Result<Vec<String>, AllocError> {
+pub fn words<R: Abort>(rt: &R, alloc: Global, line: &str) -> Vec<String> {
     let mut words = Vec::new(alloc);
     for word in line.split_whitespace() {
-        words.push(String::from_str(alloc, word)?)?;
+        let word = String::from_str(alloc, word).expect(rt, "a word");
+        words.push(word).expect(rt, "words");
     }
-    Ok(words)
+    words
+}
+
+/// Adds a part to a text.
+pub fn add<R: Abort>(rt: &R, text: &mut Vec<u8>, part: &[u8]) {
+    text.extend_from_slice(part).expect(rt, "a part");
+}
+
+/// Adds a part to a text, in which `$` stands for the end of a line.
+pub fn add_lines<R: Abort>(rt: &R, text: &mut Vec<u8>, part: &str) {
+    for byte in part.as_bytes() {
+        let byte = if *byte == b'$' { b'\n' } else { *byte };
+        text.push(byte).expect(rt, "a byte");
+    }
 }
 
 /// A call of `top`, whose sink takes at most `room` bytes. Of the reads and writes the one of this
@@ -42,37 +57,59 @@ impl<'a> Call<'a> {
     }
 
     /// The status of the call, and what it wrote.
-    pub fn run<R: AllocGlobal + Threads + Wait + Sync>(
-        self,
-        rt: &R,
-    ) -> Result<(u8, Vec<u8>), AllocError> {
+    pub fn run<R: AllocGlobal + Threads + Wait + Sync + Abort>(self, rt: &R) -> (u8, Vec<u8>) {
         self.run_past(rt, &OpenGate)
     }
 
     /// The same past a gate.
-    pub fn run_past<R: AllocGlobal + Threads + Wait + Sync, G: Gate>(
+    pub fn run_past<R: AllocGlobal + Threads + Wait + Sync + Abort, G: Gate>(
         self,
         rt: &R,
         gate: &G,
-    ) -> Result<(u8, Vec<u8>), AllocError> {
-        let text = Vec::from_slice(rt.alloc(), self.text)?;
-        let mut source = MemSource::new(text, vec![in rt.alloc(); self.failing.0; 1]?);
-        let failing_writes = vec![in rt.alloc(); self.failing.1; 1]?;
-        let Ok(mut sink) = MemSink::new(rt.alloc(), self.room, failing_writes) else {
-            return Err(AllocError);
-        };
-        let words = words(rt.alloc(), self.line)?;
+    ) -> (u8, Vec<u8>) {
+        let alloc = rt.alloc();
+        let text = Vec::from_slice(alloc, self.text).expect(rt, "a text");
+        let failing_reads = vec![in alloc; self.failing.0; 1].expect(rt, "a number");
+        let failing_writes = vec![in alloc; self.failing.1; 1].expect(rt, "a number");
+        let mut source = MemSource::new(text, failing_reads);
+        let mut sink = MemSink::new(alloc, self.room, failing_writes).expect(rt, "a sink");
+        let words = words(rt, alloc, self.line);
         let status = top(rt, &words, &mut source, &mut sink, gate);
-        Ok((status, Vec::from_slice(rt.alloc(), sink.bytes())?))
+        let written = Vec::from_slice(alloc, sink.bytes()).expect(rt, "what was written");
+        (status, written)
     }
 
-    /// The status of the call, and whether it wrote these bytes.
-    pub fn writes<R: AllocGlobal + Threads + Wait + Sync>(
+    /// Whether the call has this status and wrote these bytes.
+    pub fn ends<R: AllocGlobal + Threads + Wait + Sync + Abort>(
         self,
         rt: &R,
+        status: u8,
         written: &[u8],
-    ) -> Result<(u8, bool), AllocError> {
-        let (status, bytes) = self.run(rt)?;
-        Ok((status, bytes.as_slice() == written))
+    ) -> bool {
+        let (answer, bytes) = self.run(rt);
+        answer == status && bytes.as_slice() == written
+    }
+
+    /// Whether the call has this status and writes this, in which `$` stands for the end of a line.
+    pub fn tells<R: AllocGlobal + Threads + Wait + Sync + Abort>(
+        self,
+        rt: &R,
+        status: u8,
+        lines: &str,
+    ) -> bool {
+        let mut written = Vec::new(rt.alloc());
+        add_lines(rt, &mut written, lines);
+        self.ends(rt, status, &written)
+    }
+
+    /// The same past a gate.
+    pub fn ends_past<R: AllocGlobal + Threads + Wait + Sync + Abort, G: Gate>(
+        self,
+        rt: &R,
+        gate: &G,
+        written: &str,
+    ) -> bool {
+        let (status, bytes) = self.run_past(rt, gate);
+        status == 0 && bytes.as_slice() == written.as_bytes()
     }
 }

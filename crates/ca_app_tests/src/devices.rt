@@ -4,107 +4,118 @@ use crate::calls::{Call, words};
 use crate::sources::{FIRST, GRAPH_HEAP, GRAPH_VISIT, PRINTED, PRINTS};
 use ca_app::top;
 use ca_base::{OpenGate, SureSink, SureSource};
-use std::alloc::AllocError;
+use std::process::Abort;
+use std::sync::Wait;
+use std::thread::Threads;
 
 const USAGE: &str =
     "usage: commute run WORKERS BUDGET | pairs | plan | emit | gen SEED SIZE | load SEED SIZE WORKERS\n";
 
+/// Faulty command lines. The first is empty.
+const FAULTY: &str = "
+run 0 5
+run 65 5
+run 01 5
+run 2
+run 2 0
+run 2 1000000001
+gen 18446744073709551616 1
+gen 0 0
+gen 0 20001
+load 0 1
+load 0 1 0
+load 0 1 65
+load 0 20001 1
+load 18446744073709551616 1 1
+pairs x
+--help";
+
 /// Faulty command lines, one of them with a failing write.
 #[test]
-fn answers_the_usage_line(rt: HostRuntime) -> Result<(), AllocError> {
-    for line in [
-        "",
-        "run 0 5",
-        "run 65 5",
-        "run 01 5",
-        "run 2",
-        "run 2 0",
-        "run 2 1000000001",
-        "gen 18446744073709551616 1",
-        "gen 0 0",
-        "gen 0 20001",
-        "load 0 1",
-        "load 0 1 0",
-        "load 0 1 65",
-        "load 0 20001 1",
-        "load 18446744073709551616 1 1",
-        "pairs x",
-        "--help",
-    ] {
-        let ended = Call::new(line, FIRST).writes(&rt, USAGE.as_bytes())?;
-        assert!(rt; ended == (2, true), "of {line}");
+fn answers_the_usage_line(rt: HostRuntime) {
+    for line in FAULTY.lines() {
+        let call = Call::new(line, FIRST);
+        assert!(rt; call.ends(&rt, 2, USAGE.as_bytes()), "of {line}");
     }
     let call = Call {
         failing: (0, 1),
         ..Call::new("pairs x", FIRST)
     };
-    let ended = call.writes(&rt, b"")?;
-    assert!(rt; ended == (7, true));
-    Ok(())
+    assert!(rt; call.ends(&rt, 7, b""));
 }
 
-/// Each read and each write failing in turn, over a program with prints.
+/// A line on a visit of two objects, of whose reads and writes one fails.
+fn visit(line: &'static str, reads: u64, writes: u64) -> Call<'static> {
+    Call {
+        failing: (reads, writes),
+        ..Call::new(line, GRAPH_VISIT)
+    }
+}
+
+/// Whether reads and writes of a visit that fail in turn give their status.
+fn gives_way<R: AllocGlobal + Threads + Wait + Sync + Abort>(rt: &R, line: &'static str) -> bool {
+    visit(line, 1, 0).ends(rt, 6, b"")
+        && visit(line, 2, 0).ends(rt, 6, b"")
+        && visit(line, 3, 0).ends(rt, 0, GRAPH_HEAP.as_bytes())
+        && visit(line, 0, 1).ends(rt, 7, b"")
+        && visit(line, 0, 3).ends(rt, 7, b"#0")
+}
+
+/// Reads and writes of a visit failing in turn.
 #[test]
-fn gives_way_to_faults(rt: HostRuntime) -> Result<(), AllocError> {
-    for line in ["run 1 100", "run 2 100", "run 64 100"] {
-        for (failing, status, written) in [
-            ((1, 0), 6, ""),
-            ((2, 0), 6, ""),
-            ((3, 0), 0, GRAPH_HEAP),
-            ((0, 1), 7, ""),
-            ((0, 3), 7, "#0"),
-        ] {
-            let call = Call {
-                failing,
-                ..Call::new(line, GRAPH_VISIT)
-            };
-            let ended = call.writes(&rt, written.as_bytes())?;
-            assert!(rt; ended == (status, true), "of {line} and {written}");
-        }
-    }
-    let prints = Call::new("run 1 9", PRINTS);
-    for number in 1..13 {
-        let call = Call {
-            failing: (0, number),
-            ..prints
-        };
-        let (status, written) = call.run(&rt)?;
-        let begun = PRINTED.as_bytes().starts_with(&written);
-        let whole = written.len() == PRINTED.len();
-        assert!(rt;
-            begun && (status, whole) == if number < 8 { (7, false) } else { (0, true) },
-            "of {number}"
-        );
-        let call = Call {
-            failing: (number, 0),
-            ..prints
-        };
-        let (status, written) = call.run(&rt)?;
-        assert!(rt;
-            (status, written.len())
-                == if number < 3 {
-                    (6, 0)
-                } else {
-                    (0, PRINTED.len())
-                },
-            "of read {number}"
-        );
-    }
+fn gives_way_to_faults(rt: HostRuntime) {
+    assert!(rt; gives_way(&rt, "run 1 100"));
+    assert!(rt; gives_way(&rt, "run 2 100"));
+    assert!(rt; gives_way(&rt, "run 64 100"));
     let refused = Call {
         failing: (0, 1),
         ..Call::new("run 1 9", "")
     };
-    let ended = refused.writes(&rt, b"")?;
-    assert!(rt; ended == (7, true));
-    Ok(())
+    assert!(rt; refused.ends(&rt, 7, b""));
+}
+
+/// The status of a run that prints, of whose reads and writes one fails, how much it wrote, and whether that is a
+/// beginning of what is right.
+fn prints<R: AllocGlobal + Threads + Wait + Sync + Abort>(
+    rt: &R,
+    reads: u64,
+    writes: u64,
+) -> (u8, usize, bool) {
+    let call = Call {
+        failing: (reads, writes),
+        ..Call::new("run 1 9", PRINTS)
+    };
+    let (status, written) = call.run(rt);
+    let begun = PRINTED.as_bytes().starts_with(&written);
+    (status, written.len(), begun)
+}
+
+/// Each read and each write failing in turn, over a program with prints.
+#[test]
+fn gives_way_to_each_fault(rt: HostRuntime) {
+    let whole = PRINTED.len();
+    for number in 1..13 {
+        let (status, len, begun) = prints(&rt, 0, number);
+        let fails = status == 7 && len != whole;
+        let writes = status == 0 && len == whole;
+        assert!(rt;
+            begun && if number < 8 { fails } else { writes },
+            "of {number}"
+        );
+        let (status, len, _) = prints(&rt, number, 0);
+        let fails = status == 6 && len == 0;
+        let writes = status == 0 && len == whole;
+        assert!(rt; if number < 3 { fails } else { writes }, "of read {number}");
+    }
 }
 
 /// Over devices that never fail, status 6 and 7 don't come.
 #[test]
-fn runs_over_sure_devices(rt: HostRuntime) -> Result<(), AllocError> {
-    let words = words(rt.alloc(), "run 1 100")?;
-    let mut source = SureSource::new(Vec::from_slice(rt.alloc(), FIRST.as_bytes())?);
+fn runs_over_sure_devices(rt: HostRuntime) {
+    let alloc = rt.alloc();
+    let words = words(&rt, alloc, "run 1 100");
+    let text = Vec::from_slice(alloc, FIRST.as_bytes()).expect(&rt, "a text");
+    let mut source = SureSource::new(text);
     let status = top(&rt, &words, &mut source, &mut SureSink::new(), &OpenGate);
-    assert_eq!(rt; status, 0);
-    Ok(())
+    assert!(rt; status == 0);
 }

@@ -3,7 +3,6 @@
 use crate::calls::Call;
 use crate::sources::{GRAPH_HEAP, GRAPH_VISIT, TWO_BINS, TWO_BINS_HEAP};
 use ca_base::Gate;
-use std::alloc::AllocError;
 use std::sync::atomic::{AtomicU64, Ordering};
 
 /// Counts how often worker 0 passes it with the objects 0, 1 and 2, and who passes it otherwise.
@@ -49,33 +48,25 @@ impl Gate for CountingGate {
 
 /// One worker runs the two calls of a marked loop, each past the gate.
 #[test]
-fn one_worker_counts(rt: HostRuntime) -> Result<(), AllocError> {
+fn one_worker_counts(rt: HostRuntime) {
     let gate = CountingGate::new();
-    let (status, written) = Call::new("run 1 5", TWO_BINS).run_past(&rt, &gate)?;
-    assert!(rt; status == 0);
-    assert!(rt; written.as_slice() == TWO_BINS_HEAP.as_bytes());
+    assert!(rt; Call::new("run 1 5", TWO_BINS).ends_past(&rt, &gate, TWO_BINS_HEAP));
     assert!(rt; gate.counts() == (0, 1, 1, 0));
-    Ok(())
 }
 
 /// One worker runs a marked call and the three that it leads to.
 #[test]
-fn one_worker_visits(rt: HostRuntime) -> Result<(), AllocError> {
+fn one_worker_visits(rt: HostRuntime) {
     let gate = CountingGate::new();
-    let (status, written) = Call::new("run 1 6", GRAPH_VISIT).run_past(&rt, &gate)?;
-    assert!(rt; status == 0);
-    assert!(rt; written.as_slice() == GRAPH_HEAP.as_bytes());
+    assert!(rt; Call::new("run 1 6", GRAPH_VISIT).ends_past(&rt, &gate, GRAPH_HEAP));
     assert!(rt; gate.counts() == (2, 2, 0, 0));
-    Ok(())
 }
 
 /// One worker runs the marked call of a generated text and the two that it leads to.
 #[test]
-fn one_worker_loads(rt: HostRuntime) -> Result<(), AllocError> {
+fn one_worker_loads(rt: HostRuntime) {
     let gate = CountingGate::new();
-    let (status, written) = Call::new("load 0 1 1", "").run_past(&rt, &gate)?;
-    assert!(rt; status == 0);
-    assert!(rt; written.as_slice() == "load objects=2 steps=7 total=4\n".as_bytes());
+    let written = "load objects=2 steps=7 total=4\n";
+    assert!(rt; Call::new("load 0 1 1", "").ends_past(&rt, &gate, written));
     assert!(rt; gate.counts() == (0, 3, 0, 0));
-    Ok(())
 }

@@ -3,7 +3,6 @@
 use crate::calls::Call;
 use crate::sources::{THREE_BINS, THREE_BINS_HEAP, TWO_BINS, TWO_BINS_HEAP};
 use ca_base::Gate;
-use std::alloc::AllocError;
 use std::sync::atomic::{AtomicU64, Ordering};
 
 /// How often a section looks for another one.
@@ -69,34 +68,26 @@ impl Gate for MeetingGate {
 
 /// Two calls of a marked loop run at one time.
 #[test]
-fn two_sections_meet(rt: HostRuntime) -> Result<(), AllocError> {
+fn two_sections_meet(rt: HostRuntime) {
     let gate = MeetingGate::new(1, 2);
-    let (status, written) = Call::new("run 2 5", TWO_BINS).run_past(&rt, &gate)?;
-    assert!(rt; status == 0);
-    assert!(rt; written.as_slice() == TWO_BINS_HEAP.as_bytes());
+    assert!(rt; Call::new("run 2 5", TWO_BINS).ends_past(&rt, &gate, TWO_BINS_HEAP));
     assert!(rt; gate.counts() == (1, 1, 0, 0));
-    Ok(())
 }
 
 /// Of three calls the first and the last are dealt to one worker, and still run at one time: the other worker takes one.
 #[test]
-fn thief_meets_owner(rt: HostRuntime) -> Result<(), AllocError> {
+fn thief_meets_owner(rt: HostRuntime) {
     let gate = MeetingGate::new(1, 3);
-    let (status, written) = Call::new("run 2 7", THREE_BINS).run_past(&rt, &gate)?;
-    assert!(rt; status == 0);
-    assert!(rt; written.as_slice() == THREE_BINS_HEAP.as_bytes());
+    assert!(rt; Call::new("run 2 7", THREE_BINS).ends_past(&rt, &gate, THREE_BINS_HEAP));
     assert!(rt; gate.counts() == (1, 1, 1, 0));
-    Ok(())
 }
 
 /// Two workers run the marked call of a generated text past the gate.
 #[test]
-fn two_workers_load(rt: HostRuntime) -> Result<(), AllocError> {
+fn two_workers_load(rt: HostRuntime) {
     let gate = MeetingGate::new(2, 3);
-    let (status, written) = Call::new("load 0 1 2", "").run_past(&rt, &gate)?;
-    assert!(rt; status == 0);
-    assert!(rt; written.as_slice() == "load objects=2 steps=7 total=4\n".as_bytes());
+    let written = "load objects=2 steps=7 total=4\n";
+    assert!(rt; Call::new("load 0 1 2", "").ends_past(&rt, &gate, written));
     let (one, other, third, in_vain) = gate.counts();
     assert!(rt; (one, other, in_vain) == (0, 0, 0) && third >= 1);
-    Ok(())
 }

@@ -1,197 +1,132 @@
 //! Plans that are told: `pairs`, `plan` and `emit`.
 
-use crate::calls::Call;
+use crate::calls::{Call, add, add_lines};
 use crate::sources::{
     ACCUMULATOR, BINS, BOUND, CELLS, FIRST, GRAPH_VISIT, STACK, TWO_BINS, TWO_SUMS,
 };
-use std::alloc::{AllocError, Global};
+use std::alloc::Global;
+use std::process::Abort;
+use std::sync::Wait;
+use std::thread::Threads;
 
-/// A text without classes, texts that have one tree but for places, and marks of statements of each kind.
-const TOLD_OF_SMALL_TEXTS: [(&str, &str, &str); 9] = [
-    ("pairs", "int main() { print(1); }", ""),
-    ("plan", "int main() { print(1); }", ""),
-    (
-        "pairs",
-        "class A { public: long f; long g; void m(long x) { f = f + x; } }; int main() { A *a = new A(); a->m(1); }",
-        "extent A::m\nA::m A::m commutes\n",
-    ),
-    (
-        "pairs",
-        "class A; // again\nclass A { public: long f, g; void m(long x) { f = (f + x); } }; int main() { A *a = new A; /* on a */ a->m(1); return 0; }",
-        "extent A::m\nA::m A::m commutes\n",
-    ),
-    (
-        "pairs",
-        "class A { public: long f; void put(long x) { this->f = x; } void add(long x) { f += x + x; } void own(long x) { x = f; } }; int main() { }",
-        "extent A::put\nA::put A::put unproved FieldDiffers f\nextent A::add\nA::add A::add commutes\nextent A::own\nA::own A::own commutes\n",
-    ),
-    (
-        "plan",
-        "\n /* of visits */ class A { public: void m() { ; } }; int main() { }",
-        "op A::m serial\n",
-    ),
-    (
-        "emit",
-        "int main() { print(1); }",
-        "int main ( ) {\nprint ( 1 ) ;\n}\n",
-    ),
-    (
-        "emit",
-        "class A; // again\nclass A { public: long f, g; void m(long x) { f = (f + x); } }; int main() { A *a = new A; /* on a */ a->m(1); return 0; }",
-        "class A {\npublic :\nlong f ;\nlong g ;\nvoid m ( long x ) {\nf = f + x ;\n}\n} ;\nint main ( ) {\nA * a = new A ( ) ;\na -> m ( 1 ) ;\n}\n",
-    ),
-    (
-        "emit",
-        "class A { public: void m() { ; } void n() { m(); } void e() { } }; int main() { A *a = new A(); { a->n(); } ; while (a == nullptr) a->n(); }",
-        "class A {\npublic :\nvoid m ( ) {\n/*@lock*/ ;\n/*@unlock*/ }\nvoid n ( ) {\n/*@lock*/ /*@unlock*/ /*@spawn*/ m ( ) ;\n/*@unlock*/ }\nvoid e ( ) {\n}\n} ;\nint main ( ) {\nA * a = new A ( ) ;\n{\n/*@parallel*/ a -> n ( ) ;\n} ;\nwhile ( a == nullptr ) /*@parallel*/ a -> n ( ) ;\n}\n",
-    ),
-];
+/// A text without classes, texts that have one tree but for places, and marks of statements of each kind. A line with a text stands
+/// before the lines of what is told of it: the command, `:` and what is written, with `$` for the end of a line.
+const TOLD_OF_SMALL_TEXTS: &str = "of int main() { print(1); }
+pairs:
+plan:
+emit:int main ( ) {$print ( 1 ) ;$}$
+of class A { public: long f; long g; void m(long x) { f = f + x; } }; int main() { A *a = new A(); a->m(1); }
+pairs:extent A::m$A::m A::m commutes$
+of class A; // again$class A { public: long f, g; void m(long x) { f = (f + x); } }; int main() { A *a = new A; /* on a */ a->m(1); return 0; }
+pairs:extent A::m$A::m A::m commutes$
+emit:class A {$public :$long f ;$long g ;$void m ( long x ) {$f = f + x ;$}$} ;$int main ( ) {$A * a = new A ( ) ;$a -> m ( 1 ) ;$}$
+of class A { public: long f; void put(long x) { this->f = x; } void add(long x) { f += x + x; } void own(long x) { x = f; } }; int main() { }
+pairs:extent A::put$A::put A::put unproved FieldDiffers f$extent A::add$A::add A::add commutes$extent A::own$A::own A::own commutes$
+of $ /* of visits */ class A { public: void m() { ; } }; int main() { }
+plan:op A::m serial$
+of class A { public: void m() { ; } void n() { m(); } void e() { } }; int main() { A *a = new A(); { a->n(); } ; while (a == nullptr) a->n(); }
+emit:class A {$public :$void m ( ) {$/*@lock*/ ;$/*@unlock*/ }$void n ( ) {$/*@lock*/ /*@unlock*/ /*@spawn*/ m ( ) ;$/*@unlock*/ }$void e ( ) {$}$} ;$int main ( ) {$A * a = new A ( ) ;${$/*@parallel*/ a -> n ( ) ;$} ;$while ( a == nullptr ) /*@parallel*/ a -> n ( ) ;$}$";
 
-/// What is told of longer texts.
-const TOLD: [(&str, &str, &str); 20] = [
-    (
-        "pairs",
-        FIRST,
-        "extent Acc::add\nAcc::add Acc::add commutes\nextent Acc::tie\nAcc::tie Acc::tie unproved FieldDiffers peer\n",
-    ),
-    (
-        "pairs",
-        GRAPH_VISIT,
-        "extent Graph::init\nGraph::init Graph::init unproved FieldDiffers value\nextent Graph::visit\nGraph::visit Graph::visit commutes\n",
-    ),
-    (
-        "plan",
-        GRAPH_VISIT,
-        "op Graph::init serial\nop Graph::visit parallel\n",
-    ),
-    (
-        "pairs",
-        ACCUMULATOR,
-        "extent Acc::add\nAcc::add Acc::add commutes\nextent Acc::sub\nAcc::sub Acc::sub commutes\nextent Acc::mul\nAcc::mul Acc::mul commutes\nextent Acc::mix\nAcc::add Acc::add commutes\nAcc::add Acc::mul unproved FieldDiffers sum\nAcc::add Acc::mix commutes\nAcc::mul Acc::mul commutes\nAcc::mul Acc::mix commutes\nAcc::mix Acc::mix commutes\nextent Acc::par\nAcc::add Acc::add commutes\nAcc::add Acc::sub commutes\nAcc::add Acc::par commutes\nAcc::sub Acc::sub commutes\nAcc::sub Acc::par commutes\nAcc::par Acc::par commutes\n",
-    ),
-    (
-        "plan",
-        ACCUMULATOR,
-        "op Acc::add serial\nop Acc::sub serial\nop Acc::mul serial\nop Acc::mix serial\nop Acc::par parallel\n",
-    ),
-    (
-        "pairs",
-        STACK,
-        "extent Stack::put\nStack::put Stack::put unproved FieldDiffers buf\n",
-    ),
-    (
-        "pairs",
-        BINS,
-        "extent Bins::add\nBins::add Bins::add commutes\nextent Set::fill\nSet::fill Set::fill unproved NotSeparable Set::fill 10 Creates\nextent Set::all\nBins::add Bins::add commutes\nSet::all Set::all commutes\nloop 13\nBins::add Bins::add commutes\n",
-    ),
-    (
-        "plan",
-        BINS,
-        "op Bins::add serial\nop Set::fill serial\nop Set::all parallel\nloop 13 parallel\n",
-    ),
-    (
-        "pairs",
-        CELLS,
-        "extent Cell::late\nCell::late Cell::late unproved NotSeparable Cell::late 10 AccessAfterCall\nextent Cell::early\nCell::early Cell::early commutes\n",
-    ),
-    (
-        "pairs",
-        TWO_BINS,
-        "extent Bin::add\nBin::add Bin::add commutes\nextent Pair::fill\nPair::fill Pair::fill unproved NotSeparable Pair::fill 9 Creates\nloop 14\nBin::add Bin::add commutes\n",
-    ),
-    (
-        "plan",
-        TWO_BINS,
-        "op Bin::add serial\nop Pair::fill serial\nloop 14 parallel\n",
-    ),
-    (
-        "pairs",
-        BOUND,
-        "extent M::up\nM::up M::up unproved FieldDiffers x\n",
-    ),
-    (
-        "emit",
-        GRAPH_VISIT,
-        "class Graph {\npublic :\nbool mark ;\nlong value ;\nlong sum ;\nGraph * left ;\nGraph * right ;\nvoid init ( long v , Graph * l , Graph * r ) {\nvalue = v ;\nleft = l ;\nright = r ;\n}\nvoid visit ( long p ) {\n/*@lock*/ sum = sum + p ;\nif ( ! mark ) {\nmark = true ;\nif ( left != nullptr ) /*@unlock*/ /*@spawn*/ left -> visit ( value ) ;\nif ( right != nullptr ) /*@unlock*/ /*@spawn*/ right -> visit ( value ) ;\n}\n/*@unlock*/ }\n} ;\nint main ( ) {\nGraph * a = new Graph ( ) ;\nGraph * b = new Graph ( ) ;\na -> init ( 3 , b , b ) ;\nb -> init ( 5 , a , nullptr ) ;\n/*@parallel*/ a -> visit ( 1 ) ;\n}\n",
-    ),
-    (
-        "emit",
-        ACCUMULATOR,
-        "class Acc {\npublic :\nlong sum ;\nvoid add ( long p ) {\n/*@lock*/ sum = sum + p ;\n/*@unlock*/ }\nvoid sub ( long p ) {\n/*@lock*/ sum = sum - p ;\n/*@unlock*/ }\nvoid mul ( long p ) {\nsum = sum * p ;\n}\nvoid mix ( long p ) {\nadd ( p ) ;\nmul ( p ) ;\n}\nvoid par ( long p ) {\n/*@lock*/ /*@unlock*/ /*@spawn*/ add ( p ) ;\n/*@unlock*/ /*@spawn*/ sub ( p ) ;\n/*@unlock*/ }\n} ;\nint main ( ) {\nAcc * a = new Acc ( ) ;\na -> mix ( 2 ) ;\n/*@parallel*/ a -> par ( 3 ) ;\n}\n",
-    ),
-    (
-        "emit",
-        STACK,
-        "class Stack {\npublic :\nlong buf [ 8 ] ;\nlong n ;\nvoid put ( long v ) {\nbuf [ n ] = v ;\nn = n + 1 ;\n}\n} ;\nint main ( ) {\n}\n",
-    ),
-    (
-        "emit",
-        BINS,
-        "class Bins {\npublic :\nlong a [ 3 ] ;\nvoid add ( long i , long v ) {\n/*@lock*/ a [ i ] = a [ i ] + v ;\n/*@unlock*/ }\n} ;\nclass Set {\npublic :\nBins * b [ 1000 ] ;\nvoid fill ( ) {\nfor ( long i = 0 ; i < 1000 ; i += 1 ) b [ i ] = new Bins ( ) ;\n}\nvoid all ( long v ) {\n/*@lock*/ for ( long i = 0 ; i < 1000 ; i += 1 ) /*@unlock*/ /*@spawn*/ b [ i ] -> add ( i % 3 , v ) ;\n/*@unlock*/ }\n} ;\nint main ( ) {\nSet * s = new Set ( ) ;\ns -> fill ( ) ;\n/*@parallel*/ s -> all ( 7 ) ;\n/*@parallel*/ s -> all ( 8 ) ;\n}\n",
-    ),
-    (
-        "emit",
-        CELLS,
-        "class Cell {\npublic :\nlong sum ;\nlong base ;\nlong last ;\nCell * next ;\nvoid late ( long p ) {\nsum = sum + p ;\nif ( next != nullptr ) next -> late ( p ) ;\nlast = sum ;\n}\nvoid early ( long p ) {\n/*@lock*/ sum = sum + p ;\nif ( next != nullptr ) /*@unlock*/ /*@spawn*/ next -> early ( base ) ;\n/*@unlock*/ }\n} ;\nint main ( ) {\n}\n",
-    ),
-    (
-        "emit",
-        TWO_BINS,
-        "class Bin {\npublic :\nlong n ;\nvoid add ( long v ) {\n/*@lock*/ n = n + v ;\n/*@unlock*/ }\n} ;\nclass Pair {\npublic :\nBin * b [ 2 ] ;\nvoid fill ( ) {\nb [ 0 ] = new Bin ( ) ;\nb [ 1 ] = new Bin ( ) ;\n}\n} ;\nint main ( ) {\nPair * s = new Pair ( ) ;\ns -> fill ( ) ;\n/*@parallel*/ for ( long i = 0 ; i < 2 ; i += 1 ) s -> b [ i ] -> add ( i + 1 ) ;\n}\n",
-    ),
-    (
-        "emit",
-        BOUND,
-        "class M {\npublic :\nlong x ;\nvoid up ( long v ) {\nif ( x < v ) x = v ;\n}\n} ;\nint main ( ) {\n}\n",
-    ),
-    (
-        "emit",
-        TWO_SUMS,
-        "class A {\npublic :\nlong n ;\nvoid add ( long v ) {\n/*@lock*/ n += v ;\n/*@unlock*/ }\nvoid two ( long v ) {\n/*@lock*/ /*@unlock*/ /*@spawn*/ add ( v ) ;\n/*@unlock*/ /*@spawn*/ add ( v + 1 ) ;\n/*@unlock*/ }\n} ;\nint main ( ) {\nA * a = new A ( ) ;\n/*@parallel*/ a -> two ( 3 ) ;\n}\n",
-    ),
-];
+const OF_FIRST: &str =
+    "pairs:extent Acc::add$Acc::add Acc::add commutes$extent Acc::tie$Acc::tie Acc::tie unproved FieldDiffers peer$";
+
+const OF_GRAPH_VISIT: &str =
+    "pairs:extent Graph::init$Graph::init Graph::init unproved FieldDiffers value$extent Graph::visit$Graph::visit Graph::visit commutes$
+plan:op Graph::init serial$op Graph::visit parallel$
+emit:class Graph {$public :$bool mark ;$long value ;$long sum ;$Graph * left ;$Graph * right ;$void init ( long v , Graph * l , Graph * r ) {$value = v ;$left = l ;$right = r ;$}$void visit ( long p ) {$/*@lock*/ sum = sum + p ;$if ( ! mark ) {$mark = true ;$if ( left != nullptr ) /*@unlock*/ /*@spawn*/ left -> visit ( value ) ;$if ( right != nullptr ) /*@unlock*/ /*@spawn*/ right -> visit ( value ) ;$}$/*@unlock*/ }$} ;$int main ( ) {$Graph * a = new Graph ( ) ;$Graph * b = new Graph ( ) ;$a -> init ( 3 , b , b ) ;$b -> init ( 5 , a , nullptr ) ;$/*@parallel*/ a -> visit ( 1 ) ;$}$";
+
+const OF_ACCUMULATOR: &str =
+    "pairs:extent Acc::add$Acc::add Acc::add commutes$extent Acc::sub$Acc::sub Acc::sub commutes$extent Acc::mul$Acc::mul Acc::mul commutes$extent Acc::mix$Acc::add Acc::add commutes$Acc::add Acc::mul unproved FieldDiffers sum$Acc::add Acc::mix commutes$Acc::mul Acc::mul commutes$Acc::mul Acc::mix commutes$Acc::mix Acc::mix commutes$extent Acc::par$Acc::add Acc::add commutes$Acc::add Acc::sub commutes$Acc::add Acc::par commutes$Acc::sub Acc::sub commutes$Acc::sub Acc::par commutes$Acc::par Acc::par commutes$
+plan:op Acc::add serial$op Acc::sub serial$op Acc::mul serial$op Acc::mix serial$op Acc::par parallel$
+emit:class Acc {$public :$long sum ;$void add ( long p ) {$/*@lock*/ sum = sum + p ;$/*@unlock*/ }$void sub ( long p ) {$/*@lock*/ sum = sum - p ;$/*@unlock*/ }$void mul ( long p ) {$sum = sum * p ;$}$void mix ( long p ) {$add ( p ) ;$mul ( p ) ;$}$void par ( long p ) {$/*@lock*/ /*@unlock*/ /*@spawn*/ add ( p ) ;$/*@unlock*/ /*@spawn*/ sub ( p ) ;$/*@unlock*/ }$} ;$int main ( ) {$Acc * a = new Acc ( ) ;$a -> mix ( 2 ) ;$/*@parallel*/ a -> par ( 3 ) ;$}$";
+
+const OF_STACK: &str = "pairs:extent Stack::put$Stack::put Stack::put unproved FieldDiffers buf$
+emit:class Stack {$public :$long buf [ 8 ] ;$long n ;$void put ( long v ) {$buf [ n ] = v ;$n = n + 1 ;$}$} ;$int main ( ) {$}$";
+
+const OF_BINS: &str =
+    "pairs:extent Bins::add$Bins::add Bins::add commutes$extent Set::fill$Set::fill Set::fill unproved NotSeparable Set::fill 10 Creates$extent Set::all$Bins::add Bins::add commutes$Set::all Set::all commutes$loop 13$Bins::add Bins::add commutes$
+plan:op Bins::add serial$op Set::fill serial$op Set::all parallel$loop 13 parallel$
+emit:class Bins {$public :$long a [ 3 ] ;$void add ( long i , long v ) {$/*@lock*/ a [ i ] = a [ i ] + v ;$/*@unlock*/ }$} ;$class Set {$public :$Bins * b [ 1000 ] ;$void fill ( ) {$for ( long i = 0 ; i < 1000 ; i += 1 ) b [ i ] = new Bins ( ) ;$}$void all ( long v ) {$/*@lock*/ for ( long i = 0 ; i < 1000 ; i += 1 ) /*@unlock*/ /*@spawn*/ b [ i ] -> add ( i % 3 , v ) ;$/*@unlock*/ }$} ;$int main ( ) {$Set * s = new Set ( ) ;$s -> fill ( ) ;$/*@parallel*/ s -> all ( 7 ) ;$/*@parallel*/ s -> all ( 8 ) ;$}$";
+
+const OF_CELLS: &str =
+    "pairs:extent Cell::late$Cell::late Cell::late unproved NotSeparable Cell::late 10 AccessAfterCall$extent Cell::early$Cell::early Cell::early commutes$
+emit:class Cell {$public :$long sum ;$long base ;$long last ;$Cell * next ;$void late ( long p ) {$sum = sum + p ;$if ( next != nullptr ) next -> late ( p ) ;$last = sum ;$}$void early ( long p ) {$/*@lock*/ sum = sum + p ;$if ( next != nullptr ) /*@unlock*/ /*@spawn*/ next -> early ( base ) ;$/*@unlock*/ }$} ;$int main ( ) {$}$";
+
+const OF_TWO_BINS: &str =
+    "pairs:extent Bin::add$Bin::add Bin::add commutes$extent Pair::fill$Pair::fill Pair::fill unproved NotSeparable Pair::fill 9 Creates$loop 14$Bin::add Bin::add commutes$
+plan:op Bin::add serial$op Pair::fill serial$loop 14 parallel$
+emit:class Bin {$public :$long n ;$void add ( long v ) {$/*@lock*/ n = n + v ;$/*@unlock*/ }$} ;$class Pair {$public :$Bin * b [ 2 ] ;$void fill ( ) {$b [ 0 ] = new Bin ( ) ;$b [ 1 ] = new Bin ( ) ;$}$} ;$int main ( ) {$Pair * s = new Pair ( ) ;$s -> fill ( ) ;$/*@parallel*/ for ( long i = 0 ; i < 2 ; i += 1 ) s -> b [ i ] -> add ( i + 1 ) ;$}$";
+
+const OF_BOUND: &str = "pairs:extent M::up$M::up M::up unproved FieldDiffers x$
+emit:class M {$public :$long x ;$void up ( long v ) {$if ( x < v ) x = v ;$}$} ;$int main ( ) {$}$";
+
+const OF_TWO_SUMS: &str =
+    "emit:class A {$public :$long n ;$void add ( long v ) {$/*@lock*/ n += v ;$/*@unlock*/ }$void two ( long v ) {$/*@lock*/ /*@unlock*/ /*@spawn*/ add ( v ) ;$/*@unlock*/ /*@spawn*/ add ( v + 1 ) ;$/*@unlock*/ }$} ;$int main ( ) {$A * a = new A ( ) ;$/*@parallel*/ a -> two ( 3 ) ;$}$";
+
+/// Ends the test where a row of a text isn't told.
+fn are_told<R: AllocGlobal + Threads + Wait + Sync + Abort>(rt: &R, text: &str, rows: &str) {
+    for row in rows.lines() {
+        let (line, written) = row.split_once(':').expect(rt, "a row");
+        assert!(rt;
+            Call::new(line, text).tells(rt, 0, written),
+            "{row} of {text}"
+        );
+    }
+}
+
+/// Ends the test where a row isn't told of the text before it.
+fn are_told_of_texts<R: AllocGlobal + Threads + Wait + Sync + Abort>(rt: &R, rows: &str) {
+    let mut text = Vec::new(rt.alloc());
+    for row in rows.lines() {
+        if let Some(of) = row.strip_prefix("of ") {
+            text = Vec::new(rt.alloc());
+            add_lines(rt, &mut text, of);
+        } else {
+            let (line, written) = row.split_once(':').expect(rt, "a row");
+            assert!(rt; Call::of_bytes(line, &text).tells(rt, 0, written), "{row}");
+        }
+    }
+}
 
 /// Verdicts, marks and annotated texts.
 #[test]
-fn tells_plans(rt: HostRuntime) -> Result<(), AllocError> {
-    for (line, text, written) in TOLD_OF_SMALL_TEXTS {
-        let ended = Call::new(line, text).writes(&rt, written.as_bytes())?;
-        assert!(rt; ended == (0, true), "{line} of {text}");
-    }
-    for (line, text, written) in TOLD {
-        let ended = Call::new(line, text).writes(&rt, written.as_bytes())?;
-        assert!(rt; ended == (0, true), "{line} of {text}");
-    }
-    Ok(())
+fn tells_plans(rt: HostRuntime) {
+    are_told_of_texts(&rt, TOLD_OF_SMALL_TEXTS);
+    are_told(&rt, FIRST, OF_FIRST);
+    are_told(&rt, GRAPH_VISIT, OF_GRAPH_VISIT);
+    are_told(&rt, ACCUMULATOR, OF_ACCUMULATOR);
+    are_told(&rt, STACK, OF_STACK);
+    are_told(&rt, BINS, OF_BINS);
+    are_told(&rt, CELLS, OF_CELLS);
+    are_told(&rt, TWO_BINS, OF_TWO_BINS);
+    are_told(&rt, BOUND, OF_BOUND);
+    are_told(&rt, TWO_SUMS, OF_TWO_SUMS);
 }
 
 /// A class with two operations, one of which doubles so many times.
-fn doubling(alloc: Global, times: usize) -> Result<Vec<u8>, AllocError> {
+fn doubling<R: Abort>(rt: &R, alloc: Global, times: usize) -> Vec<u8> {
     let mut text = Vec::new(alloc);
-    text.extend_from_slice(b"class D { public: long s; void dbl() {")?;
+    add(rt, &mut text, b"class D { public: long s; void dbl() {");
     for _ in 0..times {
-        text.extend_from_slice(b" s = s + s;")?;
+        add(rt, &mut text, b" s = s + s;");
     }
-    text.extend_from_slice(b" } void aff(long p) { s = s + s + p; } }; int main() { }")?;
-    Ok(text)
+    add(
+        rt,
+        &mut text,
+        b" } void aff(long p) { s = s + s + p; } }; int main() { }",
+    );
+    text
 }
 
 /// What weighs too much.
 #[test]
-fn tells_what_is_too_heavy(rt: HostRuntime) -> Result<(), AllocError> {
-    for (times, written) in [
-        (
-            1,
-            "extent D::dbl\nD::dbl D::dbl commutes\nextent D::aff\nD::aff D::aff unproved FieldDiffers s\n",
-        ),
-        (
-            20,
-            "extent D::dbl\nD::dbl D::dbl unproved Large\nextent D::aff\nD::aff D::aff unproved FieldDiffers s\n",
-        ),
-    ] {
-        let text = doubling(rt.alloc(), times)?;
-        let ended = Call::of_bytes("pairs", &text).writes(&rt, written.as_bytes())?;
-        assert!(rt; ended == (0, true), "of {times}");
-    }
-    Ok(())
+fn tells_what_is_too_heavy(rt: HostRuntime) {
+    let text = doubling(&rt, rt.alloc(), 1);
+    let written =
+        b"extent D::dbl\nD::dbl D::dbl commutes\nextent D::aff\nD::aff D::aff unproved FieldDiffers s\n";
+    assert!(rt; Call::of_bytes("pairs", &text).ends(&rt, 0, written));
+    let text = doubling(&rt, rt.alloc(), 20);
+    let written =
+        b"extent D::dbl\nD::dbl D::dbl unproved Large\nextent D::aff\nD::aff D::aff unproved FieldDiffers s\n";
+    assert!(rt; Call::of_bytes("pairs", &text).ends(&rt, 0, written));
 }

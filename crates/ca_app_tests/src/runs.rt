@@ -1,203 +1,226 @@
 //! Runs by one worker and by many.
 
-use crate::calls::Call;
+use crate::calls::{Call, add, add_lines};
 use crate::sources::{
-    ACCUMULATOR, BINS, DEEP_THEN_HIT, FIRST, FIRST_HEAP, GRAPH_HEAP, GRAPH_VISIT, HIT_THEN_DEEP,
-    LONG_LIST, PRINTED, PRINTS, STEPS_IN_A_LIST, STEPS_IN_A_LOOP, THREE_BINS, THREE_BINS_HEAP,
-    TRAP_IN_A_LIST, TRAP_IN_A_LOOP, TWO_BINS, TWO_BINS_HEAP, TWO_PRODUCTS, WRAPPING_SUM,
+    ACCUMULATOR, BINS, DEEP_THEN_HIT, FIRST, GRAPH_VISIT, HIT_THEN_DEEP, LONG_LIST, PRINTS,
+    STEPS_IN_A_LIST, STEPS_IN_A_LOOP, THREE_BINS, TRAP_IN_A_LIST, TRAP_IN_A_LOOP, TWO_BINS,
+    TWO_PRODUCTS, WRAPPING_SUM,
 };
-use std::alloc::AllocError;
+use std::alloc::Global;
+use std::process::Abort;
+use std::sync::Wait;
+use std::thread::Threads;
 
 /// How many workers run each of them.
 const WORKERS: [u32; 5] = [1, 2, 4, 8, 64];
 
-/// Runs to their ends, with the budget, the text, the status and what is written.
-const RUNS: [(u32, &str, u8, &str); 48] = [
-    (100, FIRST, 0, FIRST_HEAP),
-    (4, FIRST, 0, FIRST_HEAP),
-    (3, FIRST, 4, "spent 3\n"),
-    (100, GRAPH_VISIT, 0, GRAPH_HEAP),
-    (6, GRAPH_VISIT, 0, GRAPH_HEAP),
-    (1_000_000_000, GRAPH_VISIT, 0, GRAPH_HEAP),
-    (5, GRAPH_VISIT, 4, "spent 5\n"),
-    (1, "int main() { }", 0, ""),
-    (1, "int main() { long x = 9223372036854775807; }", 0, ""),
-    (6, ACCUMULATOR, 0, "#0 Acc sum=4\n"),
-    (5, ACCUMULATOR, 4, "spent 5\n"),
-    (100, DEEP_THEN_HIT, 4, "spent 100\n"),
-    (100, HIT_THEN_DEEP, 3, "trap 7 OutOfRange\n"),
-    (4, WRAPPING_SUM, 0, "#0 Acc sum=-9223372036854775807\n"),
-    (3, WRAPPING_SUM, 4, "spent 3\n"),
-    (5, TWO_BINS, 0, TWO_BINS_HEAP),
-    (4, TWO_BINS, 4, "spent 4\n"),
-    (7, THREE_BINS, 0, THREE_BINS_HEAP),
-    (6, THREE_BINS, 4, "spent 6\n"),
-    // two products on one object, in either order
-    (4, TWO_PRODUCTS, 0, "#0 A n=24\n"),
-    (3, TWO_PRODUCTS, 4, "spent 3\n"),
-    (5_002, BINS, 4, "spent 5002\n"),
-    (299_999, LONG_LIST, 4, "spent 299999\n"),
-    (9, PRINTS, 0, PRINTED),
-    (
-        1,
-        "int main() { print(-7 / 2); print(-7 % 2); print((-9223372036854775807 - 1) / -1); print((-9223372036854775807 - 1) % -1); print(1 < 2 && !false); }",
-        0,
-        "-3\n-1\n-9223372036854775808\n0\ntrue\n",
-    ),
-    (
-        1,
-        "int main() { print(1); long z = 0; print(5 / z); }",
-        3,
-        "1\ntrap 1 ZeroDivisor\n",
-    ),
-    (
-        1,
-        "int main() { long z = 0; print(true || 5 / z == 0); print(false && 5 % z == 0); }",
-        0,
-        "true\nfalse\n",
-    ),
-    (
-        3,
-        "class A { public: long n; void add(long v) { n += v; } void two(long v) { add(v); add(v + 1); } }; int main() { A *a = new A(); a->two(3); }",
-        0,
-        "#0 A n=7\n",
-    ),
-    (
-        9,
-        "class A { public: long n; void add(long v) { n += v; } void two(long v) { add(v); add(v + 1); } }; int main() { A *a = nullptr; a->two(3); }",
-        3,
-        "trap 1 NullPointer\n",
-    ),
-    (
-        10,
-        "class F { public: long f(long n) { return f(n); } }; int main() { F *a = new F(); print(a->f(1)); }",
-        4,
-        "spent 10\n",
-    ),
-    (
-        1_000_000_000,
-        "class T { public: }; int main() { for (long i = 0; i < 2000000; i++) { T *t = new T(); } }",
-        3,
-        "trap 1 HeapFull\n",
-    ),
-    // arguments come before the null check
-    (
-        9,
-        "class F { public: long f(long n) { return n; } }; int main() { F *a = nullptr; long z = 0; print(a->f(1 / z)); }",
-        3,
-        "trap 1 ZeroDivisor\n",
-    ),
-    // and the null check before the step
-    (
-        1,
-        "class F { public: long f(long n) { return n; } }; int main() { F *a = nullptr; F *b = new F(); print(b->f(1)); print(a->f(1)); }",
-        3,
-        "1\ntrap 1 NullPointer\n",
-    ),
-    // an index is checked before the right side
-    (
-        9,
-        "class C { public: long a[2]; void put(long z) { a[2] = 1 / z; } }; int main() { C *c = new C(); c->put(0); }",
-        3,
-        "trap 1 OutOfRange\n",
-    ),
-    // and is no number modulo 2^32
-    (
-        9,
-        "class C { public: long a[2]; void put() { a[4294967296] = 1; } }; int main() { C *c = new C(); c->put(); }",
-        3,
-        "trap 1 OutOfRange\n",
-    ),
-    // a local begins anew at its declaration
-    (
-        9,
-        "int main() { for (long i = 0; i < 3; i++) { long s; s += 1; print(s); } }",
-        0,
-        "1\n1\n1\n",
-    ),
-    // comments, and what is added and taken away by one
-    (
-        1,
-        "int main() { long x = 5; x++; /* , */ x--; x *= 2; print(x); // done\n }",
-        0,
-        "10\n",
-    ),
-    // an inner block declares a name again, both branches return, and a local hides no method
-    (
-        9,
-        "class A { public: void m() { print(2); } void n(long m) { m(); } long f(bool b) { if (b) return 3; else { return 4; } } }; int main() { long x; { bool x; print(x); } A *a = new A(); a->n(x); print(a->f(true)); print(a->f(x == 1)); }",
-        0,
-        "false\n2\n3\n4\n#0 A\n",
-    ),
-    // an operation whose second statement is not done at once, in the middle of a list and of a loop
-    (7, STEPS_IN_A_LIST, 0, "#0 A n=28\n"),
-    (6, STEPS_IN_A_LIST, 4, "spent 6\n"),
-    (4, STEPS_IN_A_LIST, 4, "spent 4\n"),
-    (10, STEPS_IN_A_LOOP, 0, "#0 A n=22\n"),
-    (9, STEPS_IN_A_LOOP, 4, "spent 9\n"),
-    (6, STEPS_IN_A_LOOP, 4, "spent 6\n"),
-    (3, TRAP_IN_A_LIST, 3, "trap 7 ZeroDivisor\n"),
-    (2, TRAP_IN_A_LIST, 4, "spent 2\n"),
-    (5, TRAP_IN_A_LOOP, 3, "trap 7 ZeroDivisor\n"),
-    (4, TRAP_IN_A_LOOP, 4, "spent 4\n"),
-];
+/// Runs of small texts. A line with a text stands before the lines of its runs: the budget, the status, `:` and what is
+/// written, with `$` for the end of a line. A line with `//` tells what the text behind it is for.
+const RUNS: &str = "of int main() { }
+1 0:
+of int main() { long x = 9223372036854775807; }
+1 0:
+of int main() { print(-7 / 2); print(-7 % 2); print((-9223372036854775807 - 1) / -1); print((-9223372036854775807 - 1) % -1); print(1 < 2 && !false); }
+1 0:-3$-1$-9223372036854775808$0$true$
+of int main() { print(1); long z = 0; print(5 / z); }
+1 3:1$trap 1 ZeroDivisor$
+of int main() { long z = 0; print(true || 5 / z == 0); print(false && 5 % z == 0); }
+1 0:true$false$
+of class A { public: long n; void add(long v) { n += v; } void two(long v) { add(v); add(v + 1); } }; int main() { A *a = new A(); a->two(3); }
+3 0:#0 A n=7$
+of class A { public: long n; void add(long v) { n += v; } void two(long v) { add(v); add(v + 1); } }; int main() { A *a = nullptr; a->two(3); }
+9 3:trap 1 NullPointer$
+of class F { public: long f(long n) { return f(n); } }; int main() { F *a = new F(); print(a->f(1)); }
+10 4:spent 10$
+of class T { public: }; int main() { for (long i = 0; i < 2000000; i++) { T *t = new T(); } }
+1000000000 3:trap 1 HeapFull$
+// arguments come before the null check
+of class F { public: long f(long n) { return n; } }; int main() { F *a = nullptr; long z = 0; print(a->f(1 / z)); }
+9 3:trap 1 ZeroDivisor$
+// and the null check before the step
+of class F { public: long f(long n) { return n; } }; int main() { F *a = nullptr; F *b = new F(); print(b->f(1)); print(a->f(1)); }
+1 3:1$trap 1 NullPointer$
+// an index is checked before the right side
+of class C { public: long a[2]; void put(long z) { a[2] = 1 / z; } }; int main() { C *c = new C(); c->put(0); }
+9 3:trap 1 OutOfRange$
+// and is no number modulo 2^32
+of class C { public: long a[2]; void put() { a[4294967296] = 1; } }; int main() { C *c = new C(); c->put(); }
+9 3:trap 1 OutOfRange$
+// a local begins anew at its declaration
+of int main() { for (long i = 0; i < 3; i++) { long s; s += 1; print(s); } }
+9 0:1$1$1$
+// comments, and what is added and taken away by one
+of int main() { long x = 5; x++; /* , */ x--; x *= 2; print(x); // done$ }
+1 0:10$
+// an inner block declares a name again, both branches return, and a local hides no method
+of class A { public: void m() { print(2); } void n(long m) { m(); } long f(bool b) { if (b) return 3; else { return 4; } } }; int main() { long x; { bool x; print(x); } A *a = new A(); a->n(x); print(a->f(true)); print(a->f(x == 1)); }
+9 0:false$2$3$4$#0 A$";
+
+/// The line of a run by so many workers within a budget.
+fn line_of<R: Abort>(rt: &R, alloc: Global, workers: u32, budget: u32) -> String {
+    format!(in alloc; "run {workers} {budget}").expect(rt, "a line")
+}
+
+/// Whether the run of a text by so many workers ends as a row tells.
+fn ends<R: AllocGlobal + Threads + Wait + Sync + Abort>(
+    rt: &R,
+    text: &[u8],
+    workers: u32,
+    row: &str,
+) -> bool {
+    let (front, written) = row.split_once(':').expect(rt, "a row");
+    let (budget, status) = front.split_once(' ').expect(rt, "a status");
+    let status: u8 = status.parse().expect(rt, "a status");
+    let line = format!(in rt.alloc(); "run {workers} {budget}").expect(rt, "a line");
+    Call::of_bytes(&line, text).tells(rt, status, written)
+}
+
+/// Ends the test where a row isn't how the text ends by each number of workers.
+fn runs<R: AllocGlobal + Threads + Wait + Sync + Abort>(rt: &R, text: &[u8], row: &str) {
+    for workers in WORKERS.as_slice() {
+        assert!(rt; ends(rt, text, *workers, row), "{row} by {workers}");
+    }
+}
+
+/// The same for several rows.
+fn all_run<R: AllocGlobal + Threads + Wait + Sync + Abort>(rt: &R, text: &str, rows: &str) {
+    for row in rows.lines() {
+        runs(rt, text.as_bytes(), row);
+    }
+}
+
+/// Runs of small texts to the heap, a trap or a spent budget.
+#[test]
+fn small_texts_run_to_the_end(rt: HostRuntime) {
+    let mut text = Vec::new(rt.alloc());
+    for row in RUNS.lines() {
+        if let Some(of) = row.strip_prefix("of ") {
+            text = Vec::new(rt.alloc());
+            add_lines(&rt, &mut text, of);
+        } else if !row.starts_with("//") {
+            runs(&rt, &text, row);
+        }
+    }
+}
 
 /// Runs to the heap, a trap or a spent budget.
 #[test]
-fn runs_to_the_end(rt: HostRuntime) -> Result<(), AllocError> {
-    for (budget, text, status, written) in RUNS {
-        for workers in WORKERS {
-            let line = format!(in rt.alloc(); "run {workers} {budget}")?;
-            let ended = Call::new(&line, text).writes(&rt, written.as_bytes())?;
-            assert!(rt; ended == (status, true), "of {line} on {text}");
-        }
-    }
-    Ok(())
+fn runs_to_the_end(rt: HostRuntime) {
+    all_run(
+        &rt,
+        FIRST,
+        "100 0:#0 Acc sum=8 peer=#1$#1 Acc sum=4 peer=null$\n4 0:#0 Acc sum=8 peer=#1$#1 Acc sum=4 peer=null$\n3 4:spent 3$",
+    );
+    all_run(
+        &rt,
+        GRAPH_VISIT,
+        "100 0:#0 Graph mark=true value=3 sum=6 left=#1 right=#1$#1 Graph mark=true value=5 sum=6 left=#0 right=null$\n6 0:#0 Graph mark=true value=3 sum=6 left=#1 right=#1$#1 Graph mark=true value=5 sum=6 left=#0 right=null$\n1000000000 0:#0 Graph mark=true value=3 sum=6 left=#1 right=#1$#1 Graph mark=true value=5 sum=6 left=#0 right=null$\n5 4:spent 5$",
+    );
+    all_run(&rt, ACCUMULATOR, "6 0:#0 Acc sum=4$\n5 4:spent 5$");
+    all_run(&rt, DEEP_THEN_HIT, "100 4:spent 100$");
+    all_run(&rt, HIT_THEN_DEEP, "100 3:trap 7 OutOfRange$");
+    all_run(
+        &rt,
+        WRAPPING_SUM,
+        "4 0:#0 Acc sum=-9223372036854775807$\n3 4:spent 3$",
+    );
+    all_run(
+        &rt,
+        TWO_BINS,
+        "5 0:#0 Pair b=[#1,#2]$#1 Bin n=1$#2 Bin n=2$\n4 4:spent 4$",
+    );
+    all_run(
+        &rt,
+        THREE_BINS,
+        "7 0:#0 Pair b=[#1,#2,#3]$#1 Bin n=1$#2 Bin n=2$#3 Bin n=3$\n6 4:spent 6$",
+    );
 }
 
-/// The heap of a thousand objects with arrays, and that of a list of 100,000 objects.
+/// Runs of lists, loops and large heaps.
 #[test]
-fn writes_large_heaps(rt: HostRuntime) -> Result<(), AllocError> {
-    let alloc = rt.alloc();
-    let mut bins = Vec::from_slice(alloc, b"#0 Set b=[#1")?;
+fn longer_texts_run_to_the_end(rt: HostRuntime) {
+    // two products on one object, in either order
+    all_run(&rt, TWO_PRODUCTS, "4 0:#0 A n=24$\n3 4:spent 3$");
+    all_run(&rt, BINS, "5002 4:spent 5002$");
+    all_run(&rt, LONG_LIST, "299999 4:spent 299999$");
+    all_run(&rt, PRINTS, "9 0:0$1$2$true$#0 Bin n=3$");
+    // an operation whose second statement is not done at once, in the middle of a list and of a loop
+    all_run(
+        &rt,
+        STEPS_IN_A_LIST,
+        "7 0:#0 A n=28$\n6 4:spent 6$\n4 4:spent 4$",
+    );
+    all_run(
+        &rt,
+        STEPS_IN_A_LOOP,
+        "10 0:#0 A n=22$\n9 4:spent 9$\n6 4:spent 6$",
+    );
+    all_run(&rt, TRAP_IN_A_LIST, "3 3:trap 7 ZeroDivisor$\n2 4:spent 2$");
+    all_run(&rt, TRAP_IN_A_LOOP, "5 3:trap 7 ZeroDivisor$\n4 4:spent 4$");
+}
+
+/// The heap of a thousand objects with arrays.
+fn heap_of_bins<R: Abort>(rt: &R, alloc: Global) -> Vec<u8> {
+    let mut heap = Vec::new(alloc);
+    add(rt, &mut heap, b"#0 Set b=[#1");
     for number in 2..1001 {
-        bins.extend_from_slice(format!(in alloc; ",#{number}")?.as_bytes())?;
+        let item = format!(in alloc; ",#{number}").expect(rt, "an item");
+        add(rt, &mut heap, item.as_bytes());
     }
-    bins.extend_from_slice(b"]\n#1 Bins a=[15,0,0]\n")?;
+    add(rt, &mut heap, b"]\n#1 Bins a=[15,0,0]\n");
     for number in 2..1001 {
         let items = match number % 3 {
             0 => "0,0,15",
             1 => "15,0,0",
             _ => "0,15,0",
         };
-        bins.extend_from_slice(format!(in alloc; "#{number} Bins a=[{items}]\n")?.as_bytes())?;
+        let line = format!(in alloc; "#{number} Bins a=[{items}]\n").expect(rt, "a line");
+        add(rt, &mut heap, line.as_bytes());
     }
-    for workers in WORKERS {
-        let line = format!(in alloc; "run {workers} 5003")?;
-        let call = Call {
-            room: 100_000,
-            ..Call::new(&line, BINS)
-        };
-        let ended = call.writes(&rt, &bins)?;
-        assert!(rt; ended == (0, true), "of {line}");
-    }
-    let mut links = Vec::from_slice(alloc, b"1\n#0 Link next=null n=100000\n")?;
+    heap
+}
+
+/// The heap of a list of 100,000 objects, behind what is printed.
+fn heap_of_links<R: Abort>(rt: &R, alloc: Global) -> Vec<u8> {
+    let mut heap = Vec::new(alloc);
+    add(rt, &mut heap, b"1\n#0 Link next=null n=100000\n");
     for before in 0..99_999_u32 {
         let line = format!(in alloc;
             "#{} Link next=#{before} n={}\n",
             before + 1,
             99_999 - before
-        )?;
-        links.extend_from_slice(line.as_bytes())?;
+        );
+        add(rt, &mut heap, line.expect(rt, "a line").as_bytes());
     }
-    for workers in WORKERS {
-        let line = format!(in alloc; "run {workers} 300000")?;
+    heap
+}
+
+/// Whether a text ends with a long output, by each number of workers.
+fn writes_by_all<R: AllocGlobal + Threads + Wait + Sync + Abort>(
+    rt: &R,
+    budget: u32,
+    text: &str,
+    room: usize,
+    written: &[u8],
+) -> bool {
+    let mut fits = true;
+    for workers in WORKERS.as_slice() {
+        let line = line_of(rt, rt.alloc(), *workers, budget);
         let call = Call {
-            room: 10_000_000,
-            ..Call::new(&line, LONG_LIST)
+            room,
+            ..Call::new(&line, text)
         };
-        let ended = call.writes(&rt, &links)?;
-        assert!(rt; ended == (0, true), "of {line}");
+        fits = fits && call.ends(rt, 0, written);
     }
-    Ok(())
+    fits
+}
+
+/// The heap of a thousand objects with arrays, and that of a list of 100,000 objects.
+#[test]
+fn writes_large_heaps(rt: HostRuntime) {
+    let alloc = rt.alloc();
+    let bins = heap_of_bins(&rt, alloc);
+    assert!(rt; writes_by_all(&rt, 5_003, BINS, 100_000, &bins));
+    let links = heap_of_links(&rt, alloc);
+    assert!(rt; writes_by_all(&rt, 300_000, LONG_LIST, 10_000_000, &links));
 }

@@ -4,8 +4,6 @@
 pub const FIRST: &str =
     "class Acc {\npublic:\n  long sum;\n  Acc *peer;\n  void add(long p) { sum = sum + p; }\n  void tie(Acc *q) { peer = q; }\n};\nint main() {\n  Acc *a = new Acc();\n  Acc *b = new Acc();\n  a->add(3);\n  b->add(4);\n  a->tie(b);\n  a->add(5);\n  return 0;\n}\n";
 
-pub const FIRST_HEAP: &str = "#0 Acc sum=8 peer=#1\n#1 Acc sum=4 peer=null\n";
-
 /// A visit of two objects that point at each other.
 pub const GRAPH_VISIT: &str =
     "class Graph {\npublic:\n  bool mark;\n  long value;\n  long sum;\n  Graph *left;\n  Graph *right;\n  void init(long v, Graph *l, Graph *r) {\n    value = v;\n    left = l;\n    right = r;\n  }\n  void visit(long p) {\n    sum = sum + p;\n    if (!mark) {\n      mark = true;\n      if (left != nullptr) left->visit(value);\n      if (right != nullptr) right->visit(value);\n    }\n  }\n};\nint main() {\n  Graph *a = new Graph();\n  Graph *b = new Graph();\n  a->init(3, b, b);\n  b->init(5, a, nullptr);\n  a->visit(1);\n  return 0;\n}\n";

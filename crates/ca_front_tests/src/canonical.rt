@@ -1,17 +1,15 @@
 //! Canonical texts of whole sources.
 
-use crate::sources::tree;
+use crate::sources::{let_go, tree};
 use ca_canonical::unparse;
-use std::alloc::Global;
-use std::test::Fail;
+use std::process::Abort;
 
-/// The canonical text of the tree of a source.
-fn canonical(alloc: Global, source: &str) -> Result<Vec<u8>, Fail> {
-    let text = {
-        let tree = tree(alloc, source)?;
-        unparse(alloc, &tree)
-    };
-    Ok(text?)
+/// Whether this is the canonical text of the tree of a source.
+fn is_canonical<R: AllocGlobal + Abort>(rt: &R, source: &str, expected: &str) -> bool {
+    let tree = tree(rt, rt.alloc(), source);
+    let text = unparse(rt.alloc(), &tree).expect(rt, "a text");
+    let_go(tree);
+    text.as_slice() == expected.as_bytes()
 }
 
 /// Sources and their canonical texts.
@@ -61,12 +59,11 @@ const TEXTS: [(&str, &str); 12] = [
 ];
 
 #[test]
-fn writes_whole_texts(rt: HostRuntime) -> Result<(), Fail> {
-    for (source, expected) in TEXTS {
-        let text = canonical(rt.alloc(), source)?;
-        assert!(rt; text.as_slice() == expected.as_bytes(), "{source}");
+fn writes_whole_texts(rt: HostRuntime) {
+    for row in TEXTS.as_slice() {
+        let (source, expected) = *row;
+        assert!(rt; is_canonical(&rt, source, expected), "{source}");
     }
-    Ok(())
 }
 
 /// The binary operators, with how strongly they bind.
@@ -87,50 +84,36 @@ const OPERATORS: [(&str, u32); 13] = [
 ];
 
 /// Whether `(a LOWER b) UPPER c` keeps its brackets, or else loses them.
-fn keeps_left(alloc: Global, upper: &str, lower: &str, kept: bool) -> Result<bool, Fail> {
-    let source = format!(in alloc; "int main() {{ print((a {} b) {} c); }}", lower, upper)?;
-    let expected = if kept {
-        format!(in alloc;
-            "int main ( ) {{\nprint ( ( a {} b ) {} c ) ;\n}}\n",
-            lower, upper
-        )?
-    } else {
-        format!(in alloc;
-            "int main ( ) {{\nprint ( a {} b {} c ) ;\n}}\n",
-            lower, upper
-        )?
-    };
-    let text = canonical(alloc, &source)?;
-    Ok(text.as_slice() == expected.as_bytes())
+fn keeps_left<R: AllocGlobal + Abort>(rt: &R, upper: &str, lower: &str, kept: bool) -> bool {
+    let alloc = rt.alloc();
+    let source = format!(in alloc; "int main() {{ print((a {lower} b) {upper} c); }}");
+    let (open, close) = if kept { ("( ", " )") } else { ("", "") };
+    let expected = format!(in alloc;
+        "int main ( ) {{\nprint ( {open}a {lower} b{close} {upper} c ) ;\n}}\n"
+    );
+    let source = source.expect(rt, "a source");
+    is_canonical(rt, &source, &expected.expect(rt, "a text"))
 }
 
 /// Whether `a UPPER (b LOWER c)` keeps its brackets, or else loses them.
-fn keeps_right(alloc: Global, upper: &str, lower: &str, kept: bool) -> Result<bool, Fail> {
-    let source = format!(in alloc; "int main() {{ print(a {} (b {} c)); }}", upper, lower)?;
-    let expected = if kept {
-        format!(in alloc;
-            "int main ( ) {{\nprint ( a {} ( b {} c ) ) ;\n}}\n",
-            upper, lower
-        )?
-    } else {
-        format!(in alloc;
-            "int main ( ) {{\nprint ( a {} b {} c ) ;\n}}\n",
-            upper, lower
-        )?
-    };
-    let text = canonical(alloc, &source)?;
-    Ok(text.as_slice() == expected.as_bytes())
+fn keeps_right<R: AllocGlobal + Abort>(rt: &R, upper: &str, lower: &str, kept: bool) -> bool {
+    let alloc = rt.alloc();
+    let source = format!(in alloc; "int main() {{ print(a {upper} (b {lower} c)); }}");
+    let (open, close) = if kept { ("( ", " )") } else { ("", "") };
+    let expected = format!(in alloc;
+        "int main ( ) {{\nprint ( a {upper} {open}b {lower} c{close} ) ;\n}}\n"
+    );
+    let source = source.expect(rt, "a source");
+    is_canonical(rt, &source, &expected.expect(rt, "a text"))
 }
 
 #[test]
-fn writes_each_operator_under_each_other(rt: HostRuntime) -> Result<(), Fail> {
-    let alloc = rt.alloc();
-    for (upper, strength) in OPERATORS {
-        for (lower, lower_strength) in OPERATORS {
-            let left = keeps_left(alloc, upper, lower, lower_strength < strength)?;
-            let right = keeps_right(alloc, upper, lower, lower_strength <= strength)?;
+fn writes_each_operator_under_each_other(rt: HostRuntime) {
+    for (upper, strength) in OPERATORS.as_slice() {
+        for (lower, lower_strength) in OPERATORS.as_slice() {
+            let left = keeps_left(&rt, upper, lower, lower_strength < strength);
+            let right = keeps_right(&rt, upper, lower, lower_strength <= strength);
             assert!(rt; left && right, "{upper} over {lower}");
         }
     }
-    Ok(())
 }

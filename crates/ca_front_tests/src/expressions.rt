@@ -1,9 +1,8 @@
 //! Expressions, chains and names.
 
-use crate::sources::tokens;
+use crate::sources::{let_go, tokens};
 use ca_expressions::{is_call, is_target, parse_chain, parse_expression, take_name};
 use ca_tree::{BinaryOp, ExprKind, ExprNode};
-use std::test::Fail;
 
 /// Whether the nodes of the difference have the places of the text below.
 fn is_placed(last: &ExprNode) -> bool {
@@ -21,29 +20,35 @@ fn is_placed(last: &ExprNode) -> bool {
 }
 
 #[test]
-fn gives_each_node_its_place(rt: HostRuntime) -> Result<(), Fail> {
+fn gives_each_node_its_place(rt: HostRuntime) {
     let alloc = rt.alloc();
-    let tokens = tokens(alloc, "a-(b-c)-d->e;")?;
-    let is_right = match parse_expression(alloc, &tokens) {
-        Ok((last, left)) => is_placed(&last) && left.len() == 1,
+    let tokens = tokens(&rt, alloc, "a-(b-c)-d->e;");
+    let parsed = parse_expression(alloc, &tokens);
+    let is_right = match &parsed {
+        Ok((last, left)) => is_placed(last) && left.len() == 1,
         Err(_) => false,
     };
+    let_go(parsed);
+    let_go(tokens);
     assert!(rt; is_right);
-    Ok(())
 }
 
 #[test]
-fn reads_a_chain_and_a_name(rt: HostRuntime) -> Result<(), Fail> {
+fn reads_a_chain_and_a_name(rt: HostRuntime) {
     let alloc = rt.alloc();
-    let tokens = tokens(alloc, "a()->b[1] = 7")?;
-    let is_chain = match parse_chain(alloc, &tokens) {
-        Ok((chain, left)) => is_target(&chain) && !is_call(&chain) && left.len() == 2,
+    let tokens = tokens(&rt, alloc, "a()->b[1] = 7");
+    let parsed = parse_chain(alloc, &tokens);
+    let is_chain = match &parsed {
+        Ok((chain, left)) => is_target(chain) && !is_call(chain) && left.len() == 2,
         Err(_) => false,
     };
-    let is_name = match take_name(alloc, &tokens) {
+    let_go(parsed);
+    let taken = take_name(alloc, &tokens);
+    let is_name = match &taken {
         Ok(((name, _), left)) => name.as_bytes() == b"a".as_slice() && left.len() == 9,
         Err(_) => false,
     };
+    let_go(taken);
+    let_go(tokens);
     assert!(rt; is_chain && is_name);
-    Ok(())
 }

@@ -1,9 +1,8 @@
 //! Trees of whole texts.
 
-use crate::sources::{tokens, tree};
+use crate::sources::{let_go, tokens, tree};
 use ca_parse::{ParseError, parse};
 use ca_tree::{AssignOp, ClassNode, Member, StmtKind, StmtNode};
-use std::test::Fail;
 
 /// Whether the branches of the `if` have the places of the text below.
 fn are_branches_placed(statement: &StmtNode) -> bool {
@@ -48,26 +47,28 @@ fn is_class_placed(class: &ClassNode) -> bool {
 }
 
 #[test]
-fn gives_each_part_its_place(rt: HostRuntime) -> Result<(), Fail> {
+fn gives_each_part_its_place(rt: HostRuntime) {
     let text = "class A{public:B*b,*c[1];void f(long n)\
         {if(n)b->n--;else d=new A;}};int main(){A*a;}";
-    let tree = tree(rt.alloc(), text)?;
+    let tree = tree(&rt, rt.alloc(), text);
     let is_placed = match (tree.classes.as_slice(), tree.main.as_slice()) {
         ([class], [local]) => is_class_placed(class) && local.at.column == 80,
         _ => false,
     };
+    let_go(tree);
     assert!(rt; is_placed);
-    Ok(())
 }
 
 #[test]
-fn names_the_first_wrong_token(rt: HostRuntime) -> Result<(), Fail> {
+fn names_the_first_wrong_token(rt: HostRuntime) {
     let alloc = rt.alloc();
-    let tokens = tokens(alloc, "int main() { if (a) f(); else else")?;
-    let is_wrong = match parse(alloc, &tokens) {
-        Err(ParseError::Syntax(number)) => number == 14,
+    let tokens = tokens(&rt, alloc, "int main() { if (a) f(); else else");
+    let parsed = parse(alloc, &tokens);
+    let is_wrong = match &parsed {
+        Err(ParseError::Syntax(number)) => *number == 14,
         _ => false,
     };
+    let_go(parsed);
+    let_go(tokens);
     assert!(rt; is_wrong);
-    Ok(())
 }

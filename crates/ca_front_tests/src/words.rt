@@ -1,7 +1,7 @@
 //! Words that name a command, and words that name none.
 
 use ca_words::{Command, command_of, usage_line};
-use std::alloc::{AllocError, Global};
+use std::process::Abort;
 
 /// Words, and the command that they name.
 const NAMED: [(&str, Command); 8] = [
@@ -41,44 +41,40 @@ const NAMED: [(&str, Command); 8] = [
 ];
 
 /// Words that name no command.
-const FAULTY: [&str; 14] = [
-    "plans",
-    "gen 18446744073709551616 1",
-    "gen 0 0",
-    "gen 0 20001",
-    "gen 07 3",
-    "gen 7",
-    "run 65 5",
-    "run 1 05",
-    "load 7 3",
-    "load 7 3 0",
-    "load 7 3 65",
-    "load 7 0 4",
-    "load 18446744073709551616 3 4",
-    "--help",
-];
+const FAULTY: &str = "plans
+gen 18446744073709551616 1
+gen 0 0
+gen 0 20001
+gen 07 3
+gen 7
+run 65 5
+run 1 05
+load 7 3
+load 7 3 0
+load 7 3 65
+load 7 0 4
+load 18446744073709551616 3 4
+--help";
 
 /// The command that the words of a line name.
-fn named(alloc: Global, line: &str) -> Result<Option<Command>, AllocError> {
-    let mut words = Vec::new(alloc);
+fn named<R: AllocGlobal + Abort>(rt: &R, line: &str) -> Option<Command> {
+    let mut words = Vec::new(rt.alloc());
     for word in line.split_whitespace() {
-        words.push(String::from_str(alloc, word)?)?;
+        let word = String::from_str(rt.alloc(), word).expect(rt, "a word");
+        words.push(word).expect(rt, "words");
     }
-    Ok(command_of(&words))
+    command_of(&words)
 }
 
 #[test]
-fn names_commands(rt: HostRuntime) -> Result<(), AllocError> {
-    for (line, command) in NAMED {
-        let found = named(rt.alloc(), line)?;
-        assert!(rt; found == Some(command), "{line}");
+fn names_commands(rt: HostRuntime) {
+    for (line, command) in NAMED.as_slice() {
         let reads_nothing = line.starts_with("gen") || line.starts_with("load");
-        assert!(rt; command.reads() == !reads_nothing, "{line}");
+        let is_named = named(&rt, line) == Some(*command);
+        assert!(rt; is_named && command.reads() == !reads_nothing, "{line}");
     }
-    for line in FAULTY {
-        let found = named(rt.alloc(), line)?;
-        assert!(rt; found == None, "{line}");
+    for line in FAULTY.lines() {
+        assert!(rt; named(&rt, line) == None, "{line}");
     }
     assert!(rt; usage_line().starts_with(b"usage: "));
-    Ok(())
 }

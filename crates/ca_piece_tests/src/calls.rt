@@ -1,10 +1,12 @@
-//! Calls of `top` over devices that give and take at most so many bytes a call.
+//! Calls of `top` over devices that give and take at most so many bytes a call. Where memory runs out the test ends, so that
+//! nothing is dropped before its end.
 
 ghost use Rattle.std.specs.Prelude.{◌<◌};
 
 use ca_app::top;
 use ca_base::{OpenGate, PieceSink, PieceSource};
-use std::alloc::{AllocError, Global};
+use std::alloc::Global;
+use std::process::Abort;
 use std::sync::Wait;
 use std::thread::Threads;
 
@@ -15,12 +17,13 @@ const ROOM: usize = 2000;
 pub type Row = (&'static str, &'static str, u8, &'static str);
 
 /// The words of a command line that is written with one space between them.
-fn words(alloc: Global, line: &str) -> Result<Vec<String>, AllocError> {
+fn words<R: Abort>(rt: &R, alloc: Global, line: &str) -> Vec<String> {
     let mut words = Vec::new(alloc);
     for word in line.split_whitespace() {
-        words.push(String::from_str(alloc, word)?)?;
+        let word = String::from_str(alloc, word).expect(rt, "a word");
+        words.push(word).expect(rt, "words");
     }
-    Ok(words)
+    words
 }
 
 /// What a call of `top` left: its status, how many bytes it wrote, and whether these are a beginning of the right ones.
@@ -28,28 +31,23 @@ pub type Ended = (u8, usize, bool);
 
 /// What the call of a row leaves over devices that give and take at most `piece` bytes a call, of which the read and
 /// the write of these numbers fail, where they are not 0.
-pub fn call<R: AllocGlobal + Threads + Wait + Sync>(
+pub fn call<R: AllocGlobal + Threads + Wait + Sync + Abort>(
     rt: &R,
     row: Row,
     piece: usize,
     failing: (u64, u64),
-) -> Result<Ended, AllocError>
+) -> Ended
     requires { 0 < piece }
 {
     let (line, text, _, written) = row;
-    let text = Vec::from_slice(rt.alloc(), text.as_bytes())?;
-    let mut source = PieceSource::new(text, piece, vec![in rt.alloc(); failing.0; 1]?);
-    let failing_writes = vec![in rt.alloc(); failing.1; 1]?;
-    let Ok(mut sink) = PieceSink::new(rt.alloc(), piece, ROOM, failing_writes) else {
-        return Err(AllocError);
-    };
-    let words = words(rt.alloc(), line)?;
+    let alloc = rt.alloc();
+    let text = Vec::from_slice(alloc, text.as_bytes()).expect(rt, "a text");
+    let failing_reads = vec![in alloc; failing.0; 1].expect(rt, "a number");
+    let failing_writes = vec![in alloc; failing.1; 1].expect(rt, "a number");
+    let mut source = PieceSource::new(text, piece, failing_reads);
+    let mut sink = PieceSink::new(alloc, piece, ROOM, failing_writes).expect(rt, "a sink");
+    let words = words(rt, alloc, line);
     let status = top(rt, &words, &mut source, &mut sink, &OpenGate);
     let begun = written.as_bytes().starts_with(sink.bytes());
-    Ok((status, sink.bytes().len(), begun))
-}
-
-/// What the call of a row leaves where no call of a device fails.
-pub fn whole((_, _, status, written): Row) -> Ended {
-    (status, written.len(), true)
+    (status, sink.bytes().len(), begun)
 }

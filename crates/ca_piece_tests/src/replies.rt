@@ -1,11 +1,15 @@
 //! Replies byte by byte: each read and each write fails in turn.
 
-use crate::calls::{Row, call, whole};
+ghost use Rattle.std.specs.Prelude.{◌<◌};
+
+use crate::calls::{Row, call};
 use crate::sources::{FIRST, GRAPH_HEAP, GRAPH_VISIT, OF_SEED_7, PRINTED, PRINTS};
-use std::alloc::AllocError;
+use std::process::Abort;
+use std::sync::Wait;
+use std::thread::Threads;
 
 /// Runs that are done, spent or trap, what is told of plans, a refusal of each kind, and what reads nothing.
-const ROWS: [Row; 17] = [
+const ROWS: &[Row] = &[
     ("run 1 100", GRAPH_VISIT, 0, GRAPH_HEAP),
     ("run 2 100", GRAPH_VISIT, 0, GRAPH_HEAP),
     ("run 4 6", GRAPH_VISIT, 0, GRAPH_HEAP),
@@ -55,28 +59,51 @@ const ROWS: [Row; 17] = [
     ),
 ];
 
+/// The rows, in a function of their own so that they are looked at once.
+fn rows() -> &'static [Row] {
+    ROWS
+}
+
+/// Ends the test unless a call of a row leaves this status and so many right bytes.
+fn leaves<R: AllocGlobal + Threads + Wait + Sync + Abort>(
+    rt: &R,
+    row: Row,
+    piece: usize,
+    failing: (u64, u64),
+    status: u8,
+    len: usize,
+)
+    requires { 0 < piece }
+{
+    let (answer, wrote, begun) = call(rt, row, piece, failing);
+    let (line, _, _, _) = row;
+    let (read, write) = failing;
+    assert!(rt;
+        begun && answer == status && wrote == len,
+        "{line} by {piece}, {read} and {write}"
+    );
+}
+
 /// With pieces of any length the reply is the same.
 #[test]
-fn replies_by_pieces(rt: HostRuntime) -> Result<(), AllocError> {
-    for row in ROWS {
+fn replies_by_pieces(rt: HostRuntime) {
+    for row in rows() {
+        let (_, _, status, written) = *row;
         for piece in 1..4 {
-            let ended = call(&rt, row, piece, (0, 0))?;
-            assert!(rt; ended == whole(row), "{} by {piece}", row.0);
+            leaves(&rt, *row, piece, (0, 0), status, written.len());
         }
     }
-    Ok(())
 }
 
 /// Byte by byte, where a write fails, there are as many bytes of the reply as writes went before.
 #[test]
-fn each_write_fails(rt: HostRuntime) -> Result<(), AllocError> {
-    for row in ROWS {
-        for before in 0..row.3.len() {
-            let ended = call(&rt, row, 1, (0, before as u64 + 1))?;
-            assert!(rt; ended == (7, before, true), "{} of {before}", row.0);
+fn each_write_fails(rt: HostRuntime) {
+    for row in rows() {
+        let (_, _, _, written) = *row;
+        for before in 0..written.len() {
+            leaves(&rt, *row, 1, (0, before as u64 + 1), 7, before);
         }
     }
-    Ok(())
 }
 
 /// How many reads a call by single bytes makes: one for each byte, and one that finds the end.
@@ -90,15 +117,20 @@ fn reads_of((line, text, _, _): Row) -> u64 {
 
 /// Where a read fails, nothing is written.
 #[test]
-fn each_read_fails(rt: HostRuntime) -> Result<(), AllocError> {
-    for row in ROWS {
-        let reads = reads_of(row);
+fn each_read_fails(rt: HostRuntime) {
+    for row in rows() {
+        let (_, _, status, written) = *row;
+        let reads = reads_of(*row);
         for before in 0..reads {
-            let ended = call(&rt, row, 1, (before + 1, 0))?;
-            assert!(rt; ended == (6, 0, true), "{} of {before}", row.0);
+            leaves(&rt, *row, 1, (before + 1, 0), 6, 0);
         }
-        let ended = call(&rt, row, 1, (reads.saturating_add(1), 0))?;
-        assert!(rt; ended == whole(row), "{} behind the end", row.0);
+        leaves(
+            &rt,
+            *row,
+            1,
+            (reads.saturating_add(1), 0),
+            status,
+            written.len(),
+        );
     }
-    Ok(())
 }

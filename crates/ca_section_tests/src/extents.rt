@@ -1,22 +1,21 @@
 //! Extents of operations.
 
+use crate::programs::program;
 use ca_extent::extent_of;
 use ca_program::{ClassId, FieldId, FunctionId, OpId};
-use ca_test_programs::{let_go, program};
-use std::test::Fail;
+use ca_test_programs::let_go;
 
 /// What is reached through a loop and from a value method, and what nobody calls.
 #[test]
-fn finds_extents(rt: HostRuntime) -> Result<(), Fail> {
+fn finds_extents(rt: HostRuntime) {
     let alloc = rt.alloc();
     let text = "class A { public: long n; long m; long f() { return g(); } long g() { return n; }\
         void a(long p) { while (p > 0) { b(); p = p - 1; } } void b() { m = m + f(); b(); }\
         void c() { n = 1; } }; int main() { }";
-    let program = program(alloc, text)?;
-    let first = extent_of(alloc, &program, [OpId(0)].as_slice());
-    let last = extent_of(alloc, &program, [OpId(2), OpId(2)].as_slice());
+    let program = program(&rt, text);
+    let first = extent_of(alloc, &program, [OpId(0)].as_slice()).expect(&rt, "an extent");
+    let last = extent_of(alloc, &program, [OpId(2), OpId(2)].as_slice()).expect(&rt, "an extent");
     let_go(program);
-    let (first, last) = (first?, last?);
     let n = FieldId {
         class: ClassId(0),
         field: 0,
@@ -31,5 +30,6 @@ fn finds_extents(rt: HostRuntime) -> Result<(), Fail> {
     assert!(rt; first.is_constant(n) && !first.is_constant(m));
     assert!(rt; last.ops() == [OpId(2)].as_slice());
     assert!(rt; last.is_constant(m) && !last.is_constant(n));
-    Ok(())
+    let_go(first);
+    let_go(last);
 }

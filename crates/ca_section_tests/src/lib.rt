@@ -6,6 +6,8 @@
 #[cfg(test)]
 mod extents;
 #[cfg(test)]
+mod programs;
+#[cfg(test)]
 mod sections;
 #[cfg(test)]
 mod separable;

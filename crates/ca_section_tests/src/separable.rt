@@ -1,12 +1,12 @@
 //! Whether operations are separable, and old values.
 
+use crate::programs::program;
 use ca_extent::extent_of;
 use ca_model::{Slot, Slots, Value};
 use ca_program::OpId;
 use ca_section::{Olds, Separability, Why, separable};
-use ca_test_programs::{let_go, program};
-use std::alloc::Global;
-use std::test::Fail;
+use ca_test_programs::let_go;
+use std::process::Abort;
 
 /// A text, an operation of it, and what is said of it in its own extent.
 struct Row {
@@ -82,42 +82,54 @@ const ROWS: [Row; 8] = [
 ];
 
 /// What is said of an operation in its own extent.
-fn said(alloc: Global, text: &str, op: OpId) -> Result<Separability, Fail> {
-    let program = program(alloc, text)?;
-    let answer = match extent_of(alloc, &program, [op].as_slice()) {
-        Ok(extent) => separable(alloc, &program, &extent, op),
-        Err(memory) => Err(memory),
-    };
+fn said<R: AllocGlobal + Abort>(rt: &R, text: &str, op: OpId) -> Separability {
+    let alloc = rt.alloc();
+    let program = program(rt, text);
+    let extent = extent_of(alloc, &program, [op].as_slice()).expect(rt, "an extent");
+    let answer = separable(alloc, &program, &extent, op).expect(rt, "an answer");
+    let_go(extent);
     let_go(program);
-    Ok(answer?)
+    answer
 }
 
 #[test]
-fn tells_offences(rt: HostRuntime) -> Result<(), Fail> {
-    let alloc = rt.alloc();
-    for row in &ROWS {
-        assert!(rt; said(alloc, row.text, OpId(row.op))? == row.answer);
+fn tells_offences(rt: HostRuntime) {
+    for row in ROWS.as_slice() {
+        assert!(rt;
+            said(&rt, row.text, OpId(row.op)) == row.answer,
+            "of {}",
+            row.text
+        );
     }
-    Ok(())
+}
+
+/// Whether a field has this single value.
+fn is_one(slots: &Slots, field: u32, value: Value) -> bool {
+    match slots.get(field) {
+        Some(Slot::One(found)) => *found == value,
+        _ => false,
+    }
 }
 
 /// What two fields hold after puts that are put back.
 #[test]
-fn puts_old_values_back(rt: HostRuntime) -> Result<(), Fail> {
+fn puts_old_values_back(rt: HostRuntime) {
     let alloc = rt.alloc();
-    let program = program(alloc, "class A { public: long n; bool b; }; int main() { }")?;
+    let text = "class A { public: long n; bool b; }; int main() { }";
+    let program = program(&rt, text);
     assert!(rt; program.classes.len() == 1);
-    let slots = Slots::start(alloc, &program.classes[0].fields);
+    let mut slots = Slots::start(alloc, &program.classes[0].fields).expect(&rt, "slots");
     let_go(program);
-    let mut slots = slots?;
     let mut olds = Olds::new(alloc);
     assert!(rt; slots.has(0, 0));
-    olds.put(&mut slots, 0, 0, Value::Long(5))?;
+    olds.put(&mut slots, 0, 0, Value::Long(5))
+        .expect(&rt, "a put");
     assert!(rt; slots.has(1, 0));
-    olds.put(&mut slots, 1, 0, Value::Bool(true))?;
-    assert!(rt; matches!(slots.get(0), Some(Slot::One(Value::Long(5)))));
+    olds.put(&mut slots, 1, 0, Value::Bool(true))
+        .expect(&rt, "a put");
+    assert!(rt; is_one(&slots, 0, Value::Long(5)));
     olds.put_back(&mut slots);
-    assert!(rt; matches!(slots.get(0), Some(Slot::One(Value::Long(0)))));
-    assert!(rt; matches!(slots.get(1), Some(Slot::One(Value::Bool(false)))));
-    Ok(())
+    assert!(rt; is_one(&slots, 0, Value::Long(0)) && is_one(&slots, 1, Value::Bool(false)));
+    let_go(olds);
+    let_go(slots);
 }

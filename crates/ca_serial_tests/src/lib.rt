@@ -10,6 +10,8 @@ mod heaps;
 #[cfg(test)]
 mod operators;
 #[cfg(test)]
+mod programs;
+#[cfg(test)]
 mod runs;
 #[cfg(test)]
 mod scenes;

@@ -3,10 +3,16 @@
 use ca_direct::Scene;
 use ca_model::{Heap, Slot, Value};
 use ca_program::{BinaryOp, ClassId, Expr, FieldId, LocalId};
-use std::test::Fail;
+use ca_test_programs::let_go;
+use std::process::Abort;
+
+/// An expression in a box.
+fn boxed<R: AllocGlobal + Abort>(rt: &R, e: Expr) -> Box<Expr> {
+    Box::new(rt.alloc(), e).expect(rt, "a box")
+}
 
 #[test]
-fn finds_values(rt: HostRuntime) -> Result<(), Fail> {
+fn finds_values(rt: HostRuntime) {
     let alloc = rt.alloc();
     let heap = Heap::new(alloc);
     let slots = [Slot::One(Value::Long(5))];
@@ -18,16 +24,20 @@ fn finds_values(rt: HostRuntime) -> Result<(), Fail> {
         own,
         locals: locals.as_slice(),
     };
-    let left = Box::new(alloc, Expr::Local(LocalId(0)))?;
-    let sum = Expr::Binary(BinaryOp::Plus, left, Box::new(alloc, Expr::Number(3))?);
+    let left = boxed(&rt, Expr::Local(LocalId(0)));
+    let sum = Expr::Binary(BinaryOp::Plus, left, boxed(&rt, Expr::Number(3)));
     assert!(rt; scene.value_of(&sum) == Some(Value::Long(10)));
-    let ten = Box::new(alloc, Expr::Number(10))?;
-    let less = Expr::Binary(BinaryOp::Less, Box::new(alloc, sum)?, ten);
+    let ten = boxed(&rt, Expr::Number(10));
+    let less = Expr::Binary(BinaryOp::Less, boxed(&rt, sum), ten);
     assert!(rt; scene.truth_of(&less) == Some(false));
+    let_go(less);
     let field = FieldId {
         class: ClassId(0),
         field: 0,
     };
-    assert!(rt; scene.long_of(&Expr::Own(field)) == Some(5));
-    Ok(())
+    let own = Expr::Own(field);
+    assert!(rt; scene.long_of(&own) == Some(5));
+    let_go(own);
+    let_go(slots);
+    let_go(heap);
 }

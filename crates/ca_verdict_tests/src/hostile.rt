@@ -1,168 +1,166 @@
 //! Sources that ask much of a verdict. Each has one, in little time and memory.
 
-use crate::rows::{Told, judged};
+use crate::rows::is_said;
 use ca_lex::lex;
 use ca_parse::parse;
 use ca_program::Program;
 use ca_test_programs::let_go;
 use ca_types::check;
 use std::alloc::Global;
-use std::test::Fail;
+use std::process::Abort;
 
 /// The program of a long text.
-fn long_program(alloc: Global, text: &[u8]) -> Result<Program, Fail> {
-    if text.len() > 1_000_000 {
-        return Err(Fail::new("a long text"));
-    }
-    let tokens = lex(alloc, text)?;
-    let tree = parse(alloc, &tokens)?;
-    let program = check(alloc, &tree);
+fn long_program<R: AllocGlobal + Abort>(rt: &R, text: &[u8]) -> Program {
+    let alloc = rt.alloc();
+    assert!(rt; text.len() <= 1_000_000);
+    let tokens = lex(alloc, text).expect(rt, "tokens");
+    let tree = parse(alloc, &tokens).expect(rt, "a tree");
+    let_go(tokens);
+    let program = check(alloc, &tree).expect(rt, "a program");
     let_go(tree);
-    Ok(program?)
+    program
 }
 
 /// Adds a part.
-fn add(text: &mut Vec<u8>, part: &str) -> Result<(), Fail> {
-    Ok(text.extend_from_slice(part.as_bytes())?)
+fn add<R: Abort>(rt: &R, text: &mut Vec<u8>, part: &str) {
+    text.extend_from_slice(part.as_bytes()).expect(rt, "a part");
 }
 
 /// Adds a part so often.
-fn repeat(text: &mut Vec<u8>, part: &str, times: u32) -> Result<(), Fail> {
+fn repeat<R: Abort>(rt: &R, text: &mut Vec<u8>, part: &str, times: u32) {
     for _ in 0..times {
-        add(text, part)?;
+        add(rt, text, part);
     }
-    Ok(())
 }
 
-/// The last digit of a number.
-fn last_digit(n: u32) -> u8 {
-    b'0'.wrapping_add((n % 10) as u8)
+/// Adds the last digit of a number.
+fn add_digit<R: Abort>(rt: &R, text: &mut Vec<u8>, n: u32) {
+    let digit = b'0'.wrapping_add((n % 10) as u8);
+    text.push(digit).expect(rt, "a digit");
 }
 
 /// Adds a part so often, with a number of four digits behind its front.
-fn count(text: &mut Vec<u8>, front: &str, times: u32, back: &str) -> Result<(), Fail> {
+fn count<R: Abort>(rt: &R, text: &mut Vec<u8>, front: &str, times: u32, back: &str) {
     for n in 0..times {
-        add(text, front)?;
-        text.push(last_digit(n / 1_000))?;
-        text.push(last_digit(n / 100))?;
-        text.push(last_digit(n / 10))?;
-        text.push(last_digit(n))?;
-        add(text, back)?;
+        add(rt, text, front);
+        add_digit(rt, text, n / 1_000);
+        add_digit(rt, text, n / 100);
+        add_digit(rt, text, n / 10);
+        add_digit(rt, text, n);
+        add(rt, text, back);
     }
-    Ok(())
 }
 
 /// One remainder of another, 2,000 times.
-fn remainders(alloc: Global) -> Result<Vec<u8>, Fail> {
+fn remainders<R: Abort>(rt: &R, alloc: Global) -> Vec<u8> {
     let mut text = Vec::new(alloc);
-    add(&mut text, "class A { public: long x; void m() {")?;
-    repeat(&mut text, " x = x % 7;", 2_000)?;
-    add(&mut text, " } }; int main() { }")?;
-    Ok(text)
+    add(rt, &mut text, "class A { public: long x; void m() {");
+    repeat(rt, &mut text, " x = x % 7;", 2_000);
+    add(rt, &mut text, " } }; int main() { }");
+    text
 }
 
 /// Under a condition with 8,192 products, 5,000 calls.
-fn demands(alloc: Global) -> Result<Vec<u8>, Fail> {
+fn demands<R: Abort>(rt: &R, alloc: Global) -> Vec<u8> {
     let mut text = Vec::new(alloc);
-    add(&mut text, "class A { public: A *o; long y;")?;
-    count(&mut text, " long x", 13, ";")?;
-    add(&mut text, " void m() { if (")?;
-    count(&mut text, "(x", 13, " + 1) * ")?;
-    add(&mut text, "1 < y) {")?;
-    count(&mut text, " o->k(1", 5_000, ");")?;
-    add(&mut text, " } } void k(long n) { } }; int main() { }")?;
-    Ok(text)
+    add(rt, &mut text, "class A { public: A *o; long y;");
+    count(rt, &mut text, " long x", 13, ";");
+    add(rt, &mut text, " void m() { if (");
+    count(rt, &mut text, "(x", 13, " + 1) * ");
+    add(rt, &mut text, "1 < y) {");
+    count(rt, &mut text, " o->k(1", 5_000, ");");
+    add(rt, &mut text, " } } void k(long n) { } }; int main() { }");
+    text
 }
 
 /// A condition over 256 fields and 256 locals, which compares a product of so many powers: each of them, made by so many
 /// squarings, is of 2^(squarings + 1) - 1 nodes. The second operation does nothing.
-fn targets(alloc: Global, squarings: u32, factors: u32, put: &str) -> Result<Vec<u8>, Fail> {
+fn targets<R: Abort>(rt: &R, alloc: Global, squarings: u32, factors: u32, put: &str) -> Vec<u8> {
     let mut text = Vec::new(alloc);
-    add(&mut text, "class A { public:")?;
-    count(&mut text, " long x", 256, ";")?;
-    add(&mut text, " void m(long y, long z) { long s = z;")?;
-    count(&mut text, " long t", 253, " = 0;")?;
-    repeat(&mut text, " s = s * s;", squarings)?;
-    add(&mut text, " if (s")?;
-    repeat(&mut text, " * s", factors.wrapping_sub(1))?;
-    add(&mut text, " < y) {")?;
-    count(&mut text, " x", 256, put)?;
-    count(&mut text, " t", 253, " = 1;")?;
+    add(rt, &mut text, "class A { public:");
+    count(rt, &mut text, " long x", 256, ";");
+    add(rt, &mut text, " void m(long y, long z) { long s = z;");
+    count(rt, &mut text, " long t", 253, " = 0;");
+    repeat(rt, &mut text, " s = s * s;", squarings);
+    add(rt, &mut text, " if (s");
+    repeat(rt, &mut text, " * s", factors.wrapping_sub(1));
+    add(rt, &mut text, " < y) {");
+    count(rt, &mut text, " x", 256, put);
+    count(rt, &mut text, " t", 253, " = 1;");
     add(
+        rt,
         &mut text,
         " s = 1; y = 1; z = 1; } } void k() { } void both() { m(1, 2); k(); } }; int main() { }",
-    )?;
-    Ok(text)
+    );
+    text
 }
 
 /// An index and an addend of 15,129 products each.
-fn sides(alloc: Global) -> Result<Vec<u8>, Fail> {
+fn sides<R: Abort>(rt: &R, alloc: Global) -> Vec<u8> {
     let mut text = Vec::new(alloc);
-    add(&mut text, "class A { public: long a[4];")?;
-    count(&mut text, " long x", 123, ";")?;
-    count(&mut text, " long y", 123, ";")?;
-    add(&mut text, " void m() { long s = 0; long t = 0;")?;
-    count(&mut text, " s = s + x", 123, ";")?;
-    count(&mut text, " t = t + y", 123, ";")?;
-    add(&mut text, " a[s * t] += s * t; } }; int main() { }")?;
-    Ok(text)
+    add(rt, &mut text, "class A { public: long a[4];");
+    count(rt, &mut text, " long x", 123, ";");
+    count(rt, &mut text, " long y", 123, ";");
+    add(rt, &mut text, " void m() { long s = 0; long t = 0;");
+    count(rt, &mut text, " s = s + x", 123, ";");
+    count(rt, &mut text, " t = t + y", 123, ";");
+    add(rt, &mut text, " a[s * t] += s * t; } }; int main() { }");
+    text
 }
 
-/// What is said of the first operation and the one with this number, in the extent of a root.
-fn first_and(alloc: Global, text: &[u8], root: u32, other: u32) -> Result<Told, Fail> {
-    let program = long_program(alloc, text)?;
-    judged(alloc, program, root, 0, other)
+/// Whether this is said of the first operation and the one with this number, in the extent of a root.
+fn is_said_of_first<R: AllocGlobal + Abort>(
+    rt: &R,
+    text: &[u8],
+    root: u32,
+    other: u32,
+    wanted: &str,
+) -> bool {
+    is_said(rt, long_program(rt, text), root, 0, other, wanted)
 }
 
 #[test]
-fn remainders_of_remainders_end(rt: HostRuntime) -> Result<(), Fail> {
-    let told = first_and(rt.alloc(), &remainders(rt.alloc())?, 0, 0)?;
-    assert!(rt; told == Told::Commutes);
-    Ok(())
+fn remainders_of_remainders_end(rt: HostRuntime) {
+    let text = remainders(&rt, rt.alloc());
+    assert!(rt; is_said_of_first(&rt, &text, 0, 0, "Commutes"));
 }
 
 #[test]
-fn many_demands_under_a_heavy_condition_end(rt: HostRuntime) -> Result<(), Fail> {
-    let told = first_and(rt.alloc(), &demands(rt.alloc())?, 0, 0)?;
-    assert!(rt; told == Told::Commutes);
-    Ok(())
+fn many_demands_under_a_heavy_condition_end(rt: HostRuntime) {
+    let text = demands(&rt, rt.alloc());
+    assert!(rt; is_said_of_first(&rt, &text, 0, 0, "Commutes"));
 }
 
 /// The condition has 60,417 nodes, so what one run of the operation leaves fits.
 #[test]
-fn a_heavy_condition_over_many_targets_ends(rt: HostRuntime) -> Result<(), Fail> {
-    let told = first_and(rt.alloc(), &targets(rt.alloc(), 9, 59, " = 1;")?, 2, 1)?;
-    assert!(rt; told == Told::Commutes);
-    Ok(())
+fn a_heavy_condition_over_many_targets_ends(rt: HostRuntime) {
+    let text = targets(&rt, rt.alloc(), 9, 59, " = 1;");
+    assert!(rt; is_said_of_first(&rt, &text, 2, 1, "Commutes"));
 }
 
 /// What two runs leave is too heavy.
 #[test]
-fn two_heavy_conditions_over_many_targets_are_refused(rt: HostRuntime) -> Result<(), Fail> {
-    let told = first_and(rt.alloc(), &targets(rt.alloc(), 9, 59, " = 1;")?, 2, 0)?;
-    assert!(rt; told == Told::Large);
-    Ok(())
+fn two_heavy_conditions_over_many_targets_are_refused(rt: HostRuntime) {
+    let text = targets(&rt, rt.alloc(), 9, 59, " = 1;");
+    assert!(rt; is_said_of_first(&rt, &text, 2, 0, "Large"));
 }
 
 /// The condition has 24,577 nodes, so that each target comes to 49,159.
 #[test]
-fn two_conditions_over_many_targets_end(rt: HostRuntime) -> Result<(), Fail> {
-    let told = first_and(rt.alloc(), &targets(rt.alloc(), 12, 3, " = 1;")?, 2, 0)?;
-    assert!(rt; told == Told::Commutes);
-    Ok(())
+fn two_conditions_over_many_targets_end(rt: HostRuntime) {
+    let text = targets(&rt, rt.alloc(), 12, 3, " = 1;");
+    assert!(rt; is_said_of_first(&rt, &text, 2, 0, "Commutes"));
 }
 
 /// The condition has 12,289 nodes, and each sum holds it three times.
 #[test]
-fn two_sums_of_many_targets_end(rt: HostRuntime) -> Result<(), Fail> {
-    let told = first_and(rt.alloc(), &targets(rt.alloc(), 11, 3, " += y;")?, 2, 0)?;
-    assert!(rt; told == Told::Commutes);
-    Ok(())
+fn two_sums_of_many_targets_end(rt: HostRuntime) {
+    let text = targets(&rt, rt.alloc(), 11, 3, " += y;");
+    assert!(rt; is_said_of_first(&rt, &text, 2, 0, "Commutes"));
 }
 
 #[test]
-fn two_long_sides_end(rt: HostRuntime) -> Result<(), Fail> {
-    let told = first_and(rt.alloc(), &sides(rt.alloc())?, 0, 0)?;
-    assert!(rt; told == Told::Commutes);
-    Ok(())
+fn two_long_sides_end(rt: HostRuntime) {
+    let text = sides(&rt, rt.alloc());
+    assert!(rt; is_said_of_first(&rt, &text, 0, 0, "Commutes"));
 }
