@@ -15,6 +15,7 @@ use ca_model::Heap;
 use ca_program::{OpId, Program};
 use ca_sections::Desk;
 use std::alloc::Global;
+use std::process::Abort;
 use std::sync::Wait;
 use std::test::Fail;
 
@@ -36,7 +37,7 @@ fn add_twice<'a>(
 }
 
 /// Whether a fresh history takes a task, then one that is spent, and then none.
-fn takes_two(alloc: Global, program: &Program) -> Result<bool, Fail>
+fn takes_two<R: Abort>(rt: &R, alloc: Global, program: &Program) -> Result<bool, Fail>
     requires { program_view program.now ≡ counters }
 {
     let roots = [OpId(1)];
@@ -47,30 +48,37 @@ fn takes_two(alloc: Global, program: &Program) -> Result<bool, Fail>
     let Some(mut cell) = log.cells.pop() else {
         return Ok(false);
     };
-    let mut desk = Desk::new(alloc)?;
-    let ran = add_twice(&mut desk, &mut cell, alloc, program, &heap, 100)?;
-    let spent = add_twice(&mut desk, &mut cell, alloc, program, &heap, 0)?;
-    let kept = add_twice(&mut desk, &mut cell, alloc, program, &heap, 100)?;
-    Ok(is_ran(&ran) && is_spent(&spent) && is_kept(&kept) && cell.entries.len() == 2)
+    let mut desk = Desk::new(alloc).expect(rt, "a desk");
+    let ran = add_twice(&mut desk, &mut cell, alloc, program, &heap, 100);
+    let spent = add_twice(&mut desk, &mut cell, alloc, program, &heap, 0);
+    let kept = add_twice(&mut desk, &mut cell, alloc, program, &heap, 100);
+    let fits = is_ran(&ran) && is_spent(&spent) && is_kept(&kept) && cell.entries.len() == 2;
+    let_go(ran);
+    let_go(spent);
+    let_go(kept);
+    let_go(desk);
+    let_go(cell);
+    let_go(log);
+    Ok(fits)
 }
 
-fn is_ran(answer: &Added) -> bool {
+fn is_ran(answer: &Result<Added, Memory>) -> bool {
     match answer {
-        Added::Ran { tasks, steps } => tasks.len() == 1 && *steps == 1,
+        Ok(Added::Ran { tasks, steps }) => tasks.len() == 1 && *steps == 1,
         _ => false,
     }
 }
 
-fn is_spent(answer: &Added) -> bool {
+fn is_spent(answer: &Result<Added, Memory>) -> bool {
     match answer {
-        Added::Stuck(Stop::Spent) => true,
+        Ok(Added::Stuck(Stop::Spent)) => true,
         _ => false,
     }
 }
 
-fn is_kept(answer: &Added) -> bool {
+fn is_kept(answer: &Result<Added, Memory>) -> bool {
     match answer {
-        Added::Kept => true,
+        Ok(Added::Kept) => true,
         _ => false,
     }
 }
@@ -79,7 +87,7 @@ fn is_kept(answer: &Added) -> bool {
 fn a_history_takes_no_task_behind_a_stop(rt: HostRuntime) -> Result<(), Fail> {
     let alloc = rt.alloc();
     let program = program(alloc)?;
-    let fits = takes_two(alloc, &program);
+    let fits = takes_two(&rt, alloc, &program);
     let_go(program);
     assert!(&rt; fits?);
     Ok(())
@@ -110,7 +118,7 @@ fn apply_twice<'a, R: Wait>(
 }
 
 /// Whether a task that is spent closes its cell to the next one.
-fn closes<R: Wait>(rt: &R, alloc: Global, program: &Program) -> Result<bool, Fail>
+fn closes<R: Wait + Abort>(rt: &R, alloc: Global, program: &Program) -> Result<bool, Fail>
     requires { program_view program.now ≡ counters }
 {
     let roots = [OpId(1)];
@@ -120,7 +128,7 @@ fn closes<R: Wait>(rt: &R, alloc: Global, program: &Program) -> Result<bool, Fai
     let Some(mut seat) = seats.pop() else {
         return Ok(false);
     };
-    let mut desk = Desk::new(alloc)?;
+    let mut desk = Desk::new(alloc).expect(rt, "a desk");
     let first = apply_twice(rt, alloc, &mut desk, &cells, &mut seat, program, &heap, 0);
     let second = apply_twice(rt, alloc, &mut desk, &cells, &mut seat, program, &heap, 100);
     seats.push(seat)?;
