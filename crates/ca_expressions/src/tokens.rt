@@ -12,7 +12,7 @@ use std::alloc::{AllocError, AllocFailed, Global};
 
 /// Why nothing is read: no memory, or the tokens from the first wrong one on, or from the first one
 /// past a limit on.
-#[derive(Drop, Debug)]
+#[derive(Drop)]
 pub enum Fault<'a> {
     Memory,
     Wrong(&'a [Token]),

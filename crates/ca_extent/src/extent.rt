@@ -20,7 +20,7 @@ use std::marker::Model;
 /// The operations that some operations may invoke, directly or indirectly, themselves included; the
 /// value methods that these call; and the fields that they write. Each list rises: operations and value
 /// methods by their numbers, fields by class and then by place. All other fields are the extent's constants.
-#[derive(Drop, Debug)]
+#[derive(Drop)]
 pub struct Extent {
     ops: Vec<OpId>,
     functions: Vec<FunctionId>,

@@ -15,27 +15,27 @@ use std::cmp::Ordering;
 use std::marker::Model;
 
 /// What is added to the items at an index.
-#[derive(Drop, Debug)]
+#[derive(Drop)]
 pub struct Row {
     pub(crate) index: Polynomial,
     pub(crate) addend: Polynomial,
 }
 
 /// Rows by rising indexes, in which nothing that is added is zero.
-#[derive(Drop, Debug)]
+#[derive(Drop)]
 pub struct Rows {
     pub(crate) items: Vec<Row>,
 }
 
 /// The form of an array.
 #[cycle(array)]
-#[derive(Drop, Debug)]
+#[derive(Drop)]
 pub struct Array {
     pub(crate) node: ArrayNode,
 }
 
 #[cycle(array)]
-#[derive(Drop, Debug)]
+#[derive(Drop)]
 pub(crate) enum ArrayNode {
     /// An atom, by the sort of its items, its group and its number there.
     Items(Sort, u32, u32),

@@ -17,7 +17,7 @@ impl Scalar {
 }
 
 /// A normal form: of a number, a truth value or a pointer, or of an array.
-#[derive(Drop, Debug)]
+#[derive(Drop)]
 pub enum Normal {
     Scalar(Scalar),
     Array(Array),

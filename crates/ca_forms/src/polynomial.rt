@@ -11,13 +11,13 @@ use std::marker::Model;
 
 /// What isn't taken apart in a normal form. Parts are compared and copied as deep as they nest.
 #[cycle(polynomial)]
-#[derive(Drop, Debug)]
+#[derive(Drop)]
 pub struct Part {
     pub(crate) node: Node,
 }
 
 #[cycle(polynomial)]
-#[derive(Drop, Debug)]
+#[derive(Drop)]
 pub(crate) enum Node {
     /// An atom, by its sort, its group and its number there.
     Variable(Sort, u32, u32),
@@ -43,7 +43,7 @@ pub(crate) enum Node {
 
 /// A part several times over.
 #[cycle(polynomial)]
-#[derive(Drop, Debug)]
+#[derive(Drop)]
 pub struct Power {
     pub(crate) part: Part,
     pub(crate) exponent: u64,
@@ -51,14 +51,14 @@ pub struct Power {
 
 /// A product of powers, by rising parts. A truth value stands in it once at most.
 #[cycle(polynomial)]
-#[derive(Drop, Debug)]
+#[derive(Drop)]
 pub struct Monomial {
     pub(crate) powers: Vec<Power>,
 }
 
 /// A monomial with its coefficient, modulo 2^64.
 #[cycle(polynomial)]
-#[derive(Drop, Debug)]
+#[derive(Drop)]
 pub struct Product {
     pub(crate) monomial: Monomial,
     pub(crate) coefficient: u64,
@@ -66,20 +66,20 @@ pub struct Product {
 
 /// A sum of products, by rising monomials, in which no coefficient is zero.
 #[cycle(polynomial)]
-#[derive(Drop, Debug)]
+#[derive(Drop)]
 pub struct Polynomial {
     pub(crate) products: Vec<Product>,
 }
 
 /// The form of a pointer.
 #[cycle(polynomial)]
-#[derive(Drop, Debug)]
+#[derive(Drop)]
 pub struct Pointer {
     pub(crate) node: PointerNode,
 }
 
 #[cycle(polynomial)]
-#[derive(Drop, Debug)]
+#[derive(Drop)]
 pub(crate) enum PointerNode {
     Null,
     Part(Box<Part>),
@@ -89,13 +89,13 @@ pub(crate) enum PointerNode {
 
 /// The form of a number, a truth value or a pointer.
 #[cycle(polynomial)]
-#[derive(Drop, Debug)]
+#[derive(Drop)]
 pub struct Scalar {
     pub(crate) node: ScalarNode,
 }
 
 #[cycle(polynomial)]
-#[derive(Drop, Debug)]
+#[derive(Drop)]
 pub(crate) enum ScalarNode {
     Number(Polynomial),
     Truth(Polynomial),
@@ -104,7 +104,7 @@ pub(crate) enum ScalarNode {
 
 /// The forms of the arguments of a call.
 #[cycle(polynomial)]
-#[derive(Drop, Debug)]
+#[derive(Drop)]
 pub struct Scalars {
     pub(crate) items: Vec<Scalar>,
 }

@@ -10,7 +10,7 @@ use std::marker::Model;
 use std::snapshot::Snapshot;
 
 /// An operation that is to run, with the clock of the entry that listed it, or 0.
-#[derive(Drop, Debug)]
+#[derive(Drop)]
 pub struct Task {
     pub op: Op,
     pub after: u64,
@@ -36,7 +36,7 @@ pub enum Stop {
 }
 
 /// A list of operations.
-#[derive(Drop, Debug)]
+#[derive(Drop)]
 pub struct Ops {
     items: Vec<Op>,
 }
@@ -60,7 +60,7 @@ impl Ops {
 }
 
 /// A section that ran on an object, or that stopped there, and then took no steps and listed nothing.
-#[derive(Drop, Debug)]
+#[derive(Drop)]
 pub struct Entry {
     pub task: Task,
     pub clock: u64,
@@ -70,7 +70,7 @@ pub struct Entry {
 }
 
 /// A list of entries.
-#[derive(Drop, Debug)]
+#[derive(Drop)]
 pub struct Entries {
     items: Vec<Entry>,
 }

@@ -17,7 +17,7 @@ pub enum Value {
 }
 
 /// A list of values.
-#[derive(Drop, Debug)]
+#[derive(Drop)]
 pub struct Values {
     pub(crate) items: Vec<Value>,
 }
@@ -90,7 +90,7 @@ impl Values {
 }
 
 /// What a field holds: one value, or the items of an array.
-#[derive(Drop, Debug)]
+#[derive(Drop)]
 pub enum Slot {
     One(Value),
     Many(Values),
@@ -120,7 +120,7 @@ impl Slot {
 }
 
 /// The slots of an object, in the order of its fields.
-#[derive(Drop, Debug)]
+#[derive(Drop)]
 pub struct Slots {
     pub(crate) items: Vec<Slot>,
 }
@@ -227,7 +227,7 @@ pub(crate) fn size_within(fields: &[FieldInfo], room: u32) -> Option<u32>
 }
 
 /// An object of a class.
-#[derive(Drop, Debug)]
+#[derive(Drop)]
 pub struct Object {
     pub class: ClassId,
     pub slots: Slots,

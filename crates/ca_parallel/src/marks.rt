@@ -8,7 +8,7 @@ use std::alloc::Global;
 use std::marker::Model;
 
 /// The operations whose calls may be handed to an engine, and the loops that may.
-#[derive(Drop, Debug)]
+#[derive(Drop)]
 pub struct Marks {
     pub ops: Vec<OpId>,
     pub loops: Vec<LoopId>,

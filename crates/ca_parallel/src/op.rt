@@ -4,7 +4,7 @@ use ca_model::Values;
 use ca_program::OpId;
 
 /// An operation that is called: the number of its receiver, the operation and its arguments.
-#[derive(Drop, Debug)]
+#[derive(Drop)]
 pub struct Op {
     pub receiver: u32,
     pub op: OpId,

@@ -11,7 +11,7 @@ use std::marker::Model;
 use std::rc::Rc;
 
 /// Two operations of one class in an extent, of which the first doesn't come behind the second, and the verdict on them.
-#[derive(Drop, Debug)]
+#[derive(Drop)]
 pub struct PairVerdict {
     pub a: OpId,
     pub b: OpId,

@@ -50,7 +50,7 @@ pub enum ValueType {
 }
 
 /// A field's name and type, and its length where it is an array.
-#[derive(Drop, Debug)]
+#[derive(Drop)]
 pub struct FieldInfo {
     pub name: Name,
     pub ty: ValueType,
@@ -58,14 +58,14 @@ pub struct FieldInfo {
 }
 
 /// A class: its name, and its fields in order.
-#[derive(Drop, Debug)]
+#[derive(Drop)]
 pub struct Class {
     pub name: Name,
     pub fields: Vec<FieldInfo>,
 }
 
 /// An operation, or a value method where it has a result.
-#[derive(Drop, Debug)]
+#[derive(Drop)]
 pub struct Method {
     pub class: ClassId,
     pub name: Name,
@@ -76,7 +76,7 @@ pub struct Method {
 }
 
 /// The types of all locals, parameters first, and the statements.
-#[derive(Drop, Debug)]
+#[derive(Drop)]
 pub struct Body {
     pub locals: Vec<ValueType>,
     pub stmts: Vec<Stmt>,
@@ -84,7 +84,7 @@ pub struct Body {
 
 /// A statement, with the line of its first token.
 #[cycle(stmt)]
-#[derive(Drop, Debug)]
+#[derive(Drop)]
 pub struct Stmt {
     pub line: u32,
     pub kind: StmtForm,
@@ -102,7 +102,7 @@ pub enum FirstPart {
 /// branches. A `for` has its number, what its first part does, and then the first part, the condition,
 /// the last part and the body.
 #[cycle(stmt)]
-#[derive(Drop, Debug)]
+#[derive(Drop)]
 pub enum StmtForm {
     Block(Vec<Stmt>),
     PutLocal(LocalId, AssignOp, Expr),
@@ -121,7 +121,7 @@ pub enum StmtForm {
 
 /// An expression. `Own` fields are those of the receiver, `Read` ones those of the object in front; an
 /// item has its index last. `Value` calls a value method of the object in front.
-#[derive(Drop, Debug)]
+#[derive(Drop)]
 pub enum Expr {
     Number(i64),
     Truth(bool),
@@ -138,7 +138,7 @@ pub enum Expr {
 }
 
 /// A whole program. Each id is a place in its list.
-#[derive(Drop, Debug)]
+#[derive(Drop)]
 pub struct Program {
     pub classes: Vec<Class>,
     pub ops: Vec<Method>,

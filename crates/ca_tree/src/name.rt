@@ -13,7 +13,7 @@ pub struct Place {
 }
 
 /// A name, seen by contracts as the list of its bytes.
-#[derive(Drop, Debug)]
+#[derive(Drop)]
 pub struct Name {
     bytes: Vec<u8>,
 }

@@ -3,7 +3,7 @@
 use crate::name::{Name, Place};
 
 /// A token: what it is, where it begins, and which bytes of the text it takes.
-#[derive(Drop, Debug)]
+#[derive(Drop)]
 pub struct Token {
     pub kind: Kind,
     pub at: Place,
@@ -14,7 +14,7 @@ pub struct Token {
 }
 
 /// What a token is. A word that is no key word is a name; no token spells a negative number.
-#[derive(Drop, Debug)]
+#[derive(Drop)]
 pub enum Kind {
     Word(Name),
     Number(i64),

@@ -3,14 +3,14 @@
 use crate::name::{Name, Place};
 
 /// The tree of a whole text.
-#[derive(Drop, Debug)]
+#[derive(Drop)]
 pub struct Tree {
     pub classes: Vec<ClassNode>,
     pub main: Vec<StmtNode>,
 }
 
 /// A class; its place is that of its name.
-#[derive(Drop, Debug)]
+#[derive(Drop)]
 pub struct ClassNode {
     pub name: Name,
     pub at: Place,
@@ -18,14 +18,14 @@ pub struct ClassNode {
 }
 
 /// A member of a class, each by itself: `long a, b;` is two fields.
-#[derive(Drop, Debug)]
+#[derive(Drop)]
 pub enum Member {
     Field(FieldNode),
     Method(MethodNode),
 }
 
 /// A field, or an array of so many items; its place is that of its name.
-#[derive(Drop, Debug)]
+#[derive(Drop)]
 pub struct FieldNode {
     pub ty: TypeNode,
     pub name: Name,
@@ -34,7 +34,7 @@ pub struct FieldNode {
 }
 
 /// A type as it is written; a pointer has the name of its class and this name's place.
-#[derive(Drop, Debug)]
+#[derive(Drop)]
 pub enum TypeNode {
     Long,
     Bool,
@@ -42,7 +42,7 @@ pub enum TypeNode {
 }
 
 /// A method, an operation where it has no result; its place is that of its name.
-#[derive(Drop, Debug)]
+#[derive(Drop)]
 pub struct MethodNode {
     pub result: Option<TypeNode>,
     pub name: Name,
@@ -52,7 +52,7 @@ pub struct MethodNode {
 }
 
 /// A parameter; its place is that of its name.
-#[derive(Drop, Debug)]
+#[derive(Drop)]
 pub struct ParamNode {
     pub ty: TypeNode,
     pub name: Name,
@@ -61,7 +61,7 @@ pub struct ParamNode {
 
 /// A statement; its place is that of its first token.
 #[cycle(stmt)]
-#[derive(Drop, Debug)]
+#[derive(Drop)]
 pub struct StmtNode {
     pub at: Place,
     pub kind: StmtKind,
@@ -70,7 +70,7 @@ pub struct StmtNode {
 /// What a statement is. The parser makes the first part of a `for` a local or an assignment, its next
 /// part an assignment, a target a name, a field or an index, and a call a call or a method.
 #[cycle(stmt)]
-#[derive(Drop, Debug)]
+#[derive(Drop)]
 pub enum StmtKind {
     Empty,
     Block(Vec<StmtNode>),
@@ -115,7 +115,7 @@ pub enum AssignOp {
 }
 
 /// What a target is put to: a value, or a new object of the class that is named at the place.
-#[derive(Drop, Debug)]
+#[derive(Drop)]
 pub enum Right {
     Value(ExprNode),
     New(Name, Place),
@@ -124,7 +124,7 @@ pub enum Right {
 /// An expression. Its place is the operator's of a unary or binary node, the `->` of a field or a
 /// method, the `[` of an index, and else its first token.
 #[cycle(expr)]
-#[derive(Drop, Debug)]
+#[derive(Drop)]
 pub struct ExprNode {
     pub at: Place,
     pub kind: ExprKind,
@@ -133,7 +133,7 @@ pub struct ExprNode {
 /// What an expression is. A call names a method of the class that it stands in; a field, a method and
 /// an index begin with the object or the array that they are of.
 #[cycle(expr)]
-#[derive(Drop, Debug)]
+#[derive(Drop)]
 pub enum ExprKind {
     Number(i64),
     Truth(bool),

@@ -23,7 +23,7 @@ use std::cmp::Ordering;
 use std::marker::Model;
 
 /// What is demanded: its kind, and the normal forms of its parts.
-#[derive(Drop, Debug)]
+#[derive(Drop)]
 pub struct Key {
     pub kind: DemandKind,
     pub parts: Vec<Scalar>,

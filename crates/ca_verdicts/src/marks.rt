@@ -15,7 +15,7 @@ use std::collections::BTreeMap;
 
 /// The numbers of the conditions under which the two orders demand something, each with how often it does so,
 /// modulo 2^64.
-#[derive(Drop, Debug, PartialEq, Eq, PartialOrd, Ord)]
+#[derive(Drop, PartialEq, Eq, PartialOrd, Ord)]
 pub struct Marks {
     pub first: Vec<(u32, u64)>,
     pub second: Vec<(u32, u64)>,

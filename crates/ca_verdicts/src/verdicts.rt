@@ -7,7 +7,7 @@ use ca_section::Why;
 use ca_symbolic::DemandKind;
 
 /// What is said of two operations of one class.
-#[derive(Drop, Debug)]
+#[derive(Drop)]
 pub enum Verdict {
     /// They commute.
     Commutes,
@@ -16,7 +16,7 @@ pub enum Verdict {
 }
 
 /// Why a pair has no proof: the first reason that there is, in this order.
-#[derive(Drop, Debug)]
+#[derive(Drop)]
 pub enum Reason {
     /// The first of the two that isn't separable, the line of its first offence, and what offends.
     NotSeparable {
