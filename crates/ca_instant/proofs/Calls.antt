@@ -1,21 +1,20 @@
 -- Values of operators and calls from those of their parts.
 use Rattle.std.proofs.Common.{◌≡◌, ℕ, zero, suc, ◌-◌, ◌<◌, List, [], ◌∷◌, None, Ok, refl, ap, sym, ◌∙◌, arith}
-use Rattle.std.specs.Prelude.{Bool, true, false, ℤ, slice_get}
+use Rattle.std.specs.Prelude.{ℤ, slice_get}
 use Rattle.std.specs.declared.alloc.Global.{Global}
 use Rattle.std.specs.declared.vec.Vec.{Vec}
 use Rattle.std.specs.declared.boxed.Box.{Box}
 use Rattle.ca_tree.specs.declared.tree.BinaryOp.{BinaryOp}
 use Rattle.ca_tree.specs.declared.tree.BinaryOp.TheVariants.{Or, And}
-use Rattle.ca_tree.specs.declared.tree.UnaryOp.TheVariants.{Not}
 use Rattle.ca_program.proofs.Rows.{row_is_list}
-use Rattle.ca_program.specs.declared.program.Expr.{Expr, Value, Unary, Binary}
+use Rattle.ca_program.specs.declared.program.Expr.{Expr, Value, Binary}
 use Rattle.ca_program.specs.declared.program.FunctionId.{FunctionId}
-use Rattle.ca_program.specs.Plain.{PlainMethod, Expression, Expressions, Statements, value_call, unary, binary}
+use Rattle.ca_program.specs.Plain.{PlainMethod, Expression, Expressions, Statements, value_call, binary}
 use Rattle.ca_program.specs.View.{expression_view, expressions_view}
 use Rattle.ca_model.specs.declared.value.Value.{Value as Datum}
-use Rattle.ca_model.specs.declared.value.Value.TheVariants.{Long, Bool as Truth, Ref}
+use Rattle.ca_model.specs.declared.value.Value.TheVariants.{Long, Ref}
 use Rattle.ca_model.specs.declared.value.Object.{Object}
-use Rattle.ca_meaning.specs.Operators.{operated, operated_longs, signed}
+use Rattle.ca_meaning.specs.Operators.{operated, operated_longs}
 use Rattle.ca_meaning.specs.Expressions.{Out, gives, traps, over, ◌>>=◌, decided, eval_all}
 use Rattle.ca_meaning.specs.Flows.{exec_all, gives_back}
 use Rattle.ca_meaning.specs.Functions.{body_of, locals_of, value_of_body, functions_of, function_parts}
@@ -52,26 +51,6 @@ binary_is e op a b y z is here there = rw (is, here, there) refl
 
 pub longs_give : {ms : List PlainMethod} {s : Scene} {y z : Expr} {m n : ℤ} {k i j : ℕ} (e : Expr) (op : BinaryOp) (a b : Box Expr Global) (x : Datum) → e ≡ Binary op a b → y ≡ a.value → z ≡ b.value → operated_longs op m n ≡ Ok x → Gives ms s (expression_view y) k (Long m) i → Gives ms s (expression_view z) i (Long n) j → Gives ms s (expression_view e) k x j
 longs_give {y = y} {z = z} {m = m} e op a b x is here there operation left right = rw (binary_is e op a b y z is here there) (binary_gives op x (longs_decide_nothing op m) operation left right)
-
--- both sides count
-pub and_gives : {ms : List PlainMethod} {s : Scene} {y z : Expr} {k i j : ℕ} (e : Expr) (a b : Box Expr Global) (u : Bool) → e ≡ Binary And a b → y ≡ a.value → z ≡ b.value → Gives ms s (expression_view y) k (Truth true) i → Gives ms s (expression_view z) i (Truth u) j → Gives ms s (expression_view e) k (Truth u) j
-and_gives {y = y} {z = z} e a b u is here there left right = rw (binary_is e And a b y z is here there) (binary_gives And (Truth u) refl refl left right)
-
-pub or_gives : {ms : List PlainMethod} {s : Scene} {y z : Expr} {k i j : ℕ} (e : Expr) (a b : Box Expr Global) (u : Bool) → e ≡ Binary Or a b → y ≡ a.value → z ≡ b.value → Gives ms s (expression_view y) k (Truth false) i → Gives ms s (expression_view z) i (Truth u) j → Gives ms s (expression_view e) k (Truth u) j
-or_gives {y = y} {z = z} e a b u is here there left right = rw (binary_is e Or a b y z is here there) (binary_gives Or (Truth u) refl refl left right)
-
--- one that the left side decides
-pub and_decided : {ms : List PlainMethod} {s : Scene} {y : Expr} {k i : ℕ} (e : Expr) (a b : Box Expr Global) → e ≡ Binary And a b → y ≡ a.value → Gives ms s (expression_view y) k (Truth false) i → Gives ms s (expression_view e) k (Truth false) i
-and_decided {y = y} e a b is here left = rw (binary_is e And a b y b.value is here refl) (record { on_line = λ line. rw (left.on_line line) refl })
-
-pub or_decided : {ms : List PlainMethod} {s : Scene} {y : Expr} {k i : ℕ} (e : Expr) (a b : Box Expr Global) → e ≡ Binary Or a b → y ≡ a.value → Gives ms s (expression_view y) k (Truth true) i → Gives ms s (expression_view e) k (Truth true) i
-or_decided {y = y} e a b is here left = rw (binary_is e Or a b y b.value is here refl) (record { on_line = λ line. rw (left.on_line line) refl })
-
-not_is : (e : Expr) (a : Box Expr Global) (y : Expr) → e ≡ Unary Not a → y ≡ a.value → expression_view e ≡ unary Not (expression_view y)
-not_is e a y is here = rw (is, here) refl
-
-pub not_gives : {ms : List PlainMethod} {s : Scene} {y : Expr} {t : Bool} {k i : ℕ} (e : Expr) (a : Box Expr Global) (x : Datum) → e ≡ Unary Not a → y ≡ a.value → signed Not (Truth t) ≡ x → Gives ms s (expression_view y) k (Truth t) i → Gives ms s (expression_view e) k x i
-not_gives {y = y} e a x is here signs given = rw (not_is e a y is here) (record { on_line = λ line. rw (given.on_line line, signs) refl })
 
 -- a call in memory
 call_is : (e : Expr) (b : Box Expr Global) (m : FunctionId) (arguments : Vec Expr Global) → e ≡ Value b m arguments → expression_view e ≡ value_call (expression_view b.value) m (expressions_view arguments.items)

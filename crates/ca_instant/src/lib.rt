@@ -5,11 +5,10 @@
 //! conditions call nothing. That expression may call again: a depth bounds how often expressions stand in each
 //! other on the way, so that the machine's own stack doesn't grow with what a program does.
 //!
-//! `long_in`, `truth_in` and `value_in` answer a number, a truth value or any value, and leave behind how many
-//! steps are left; `None` wherever they do not decide: at a trap, at a step that is wanting, at a loop, at a
-//! value of another type, where the depth is spent. What they answer is what the expression means, on whatever
-//! line it stands. Of `None` nothing is promised, nor of the steps that are left then: the caller keeps its own
-//! number, and goes on with its stack.
+//! `long_in` and `call_in` answer a number, and leave behind how many steps are left; `None` wherever they do
+//! not decide: at a trap, at a step that is wanting, at a loop, at a value that is no number, where the depth is
+//! spent. What they answer is what the expression means, on whatever line it stands. Of `None` nothing is
+//! promised, nor of the steps that are left then: the caller keeps its own number, and goes on with its stack.
 //!
 //! Whoever reads the public clauses must believe `Instant` of `specs/`; what stands in `specs/clauses/` serves
 //! clauses within the crate alone.
@@ -17,7 +16,5 @@
 
 mod bodies;
 mod numbers;
-mod values;
 
 pub use numbers::{call_in, long_in};
-pub use values::{truth_in, value_in};
