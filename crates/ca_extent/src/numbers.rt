@@ -20,25 +20,25 @@ fn add_values(e: &Expr, out: &mut Vec<u32>) -> Result<(), AllocError>
     ensures { IfOk result (λ _. out.new.items ≡ out.old.items ++ values_in (expression_view e.now)) }
 {
     match e {
-        Expr::OwnItem(_, index) => add_values(index, out)?,
-        Expr::Read(object, _) => add_values(object, out)?,
+        Expr::OwnItem(_, index) => add_values(index, out),
+        Expr::Read(object, _) => add_values(object, out),
         Expr::ReadItem(object, _, index) => {
             add_values(object, out)?;
-            add_values(index, out)?;
+            add_values(index, out)
         }
         Expr::Value(object, function, arguments) => {
             add_values(object, out)?;
             add_all_values(arguments, out)?;
             out.push(function.0)?;
+            Ok(())
         }
-        Expr::Unary(_, operand) => add_values(operand, out)?,
+        Expr::Unary(_, operand) => add_values(operand, out),
         Expr::Binary(_, left, right) => {
             add_values(left, out)?;
-            add_values(right, out)?;
+            add_values(right, out)
         }
-        _ => {}
+        _ => Ok(()),
     }
-    Ok(())
 }
 
 /// Adds the value methods that expressions call.
@@ -89,39 +89,38 @@ fn add_numbers(callees: Callees, s: &Stmt, out: &mut Vec<u32>) -> Result<(), All
     ensures { IfOk result (λ _. out.new.items ≡ out.old.items ++ numbers_of callees (statement_view s.now)) }
 {
     match &s.kind {
-        StmtForm::Block(stmts) => add_all_numbers(callees, stmts, out)?,
-        StmtForm::PutLocal(_, _, e) => add_called(callees, e, out)?,
-        StmtForm::PutField(_, _, e) => add_called(callees, e, out)?,
+        StmtForm::Block(stmts) => add_all_numbers(callees, stmts, out),
+        StmtForm::PutLocal(_, _, e) => add_called(callees, e, out),
+        StmtForm::PutField(_, _, e) => add_called(callees, e, out),
         StmtForm::PutItem(_, index, _, e) => {
             add_called(callees, index, out)?;
-            add_called(callees, e, out)?;
+            add_called(callees, e, out)
         }
-        StmtForm::NewLocal(..) | StmtForm::NewField(..) => {}
-        StmtForm::NewItem(_, index, _) => add_called(callees, index, out)?,
+        StmtForm::NewLocal(..) | StmtForm::NewField(..) => Ok(()),
+        StmtForm::NewItem(_, index, _) => add_called(callees, index, out),
         StmtForm::Invoke(receiver, op, arguments) => {
             add_called(callees, receiver, out)?;
             add_call(callees, *op, out)?;
-            add_all_called(callees, arguments, out)?;
+            add_all_called(callees, arguments, out)
         }
         StmtForm::If(cond, yes, no) => {
             add_called(callees, cond, out)?;
             add_numbers(callees, yes, out)?;
-            add_numbers(callees, no, out)?;
+            add_numbers(callees, no, out)
         }
         StmtForm::While(cond, turn) => {
             add_called(callees, cond, out)?;
-            add_numbers(callees, turn, out)?;
+            add_numbers(callees, turn, out)
         }
         StmtForm::For(_, _, first, cond, next, body) => {
             add_numbers(callees, first, out)?;
             add_called(callees, cond, out)?;
             add_numbers(callees, next, out)?;
-            add_numbers(callees, body, out)?;
+            add_numbers(callees, body, out)
         }
-        StmtForm::Return(e) => add_called(callees, e, out)?,
-        StmtForm::Print(e) => add_called(callees, e, out)?,
+        StmtForm::Return(e) => add_called(callees, e, out),
+        StmtForm::Print(e) => add_called(callees, e, out),
     }
-    Ok(())
 }
 
 /// Adds what statements call.

@@ -21,24 +21,23 @@ fn add_targets(s: &Stmt, out: &mut Vec<(u32, u32)>) -> Result<(), AllocError>
     ensures { IfOk result (λ _. out.new.items ≡ out.old.items ++ written_by (statement_view s.now)) }
 {
     match &s.kind {
-        StmtForm::Block(stmts) => add_all_targets(stmts, out)?,
-        StmtForm::PutField(f, _, _) => add_field(*f, out)?,
-        StmtForm::PutItem(f, _, _, _) => add_field(*f, out)?,
-        StmtForm::NewField(f, _) => add_field(*f, out)?,
-        StmtForm::NewItem(f, _, _) => add_field(*f, out)?,
+        StmtForm::Block(stmts) => add_all_targets(stmts, out),
+        StmtForm::PutField(f, _, _) => add_field(*f, out),
+        StmtForm::PutItem(f, _, _, _) => add_field(*f, out),
+        StmtForm::NewField(f, _) => add_field(*f, out),
+        StmtForm::NewItem(f, _, _) => add_field(*f, out),
         StmtForm::If(_, yes, no) => {
             add_targets(yes, out)?;
-            add_targets(no, out)?;
+            add_targets(no, out)
         }
-        StmtForm::While(_, body) => add_targets(body, out)?,
+        StmtForm::While(_, body) => add_targets(body, out),
         StmtForm::For(_, _, first, _, next, body) => {
             add_targets(first, out)?;
             add_targets(next, out)?;
-            add_targets(body, out)?;
+            add_targets(body, out)
         }
-        _ => {}
+        _ => Ok(()),
     }
-    Ok(())
 }
 
 /// Adds the fields that statements write.

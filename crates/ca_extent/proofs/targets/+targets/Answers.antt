@@ -1,4 +1,5 @@
 use Rattle.std.proofs.Common.{◌≡◌, ◌++◌, refl, sym, ap, ◌∙◌, subst, arith}
+use Rattle.std.specs.Prelude.{IfOk}
 use Rattle.ca_program.specs.Plain.{block}
 use Rattle.ca_program.specs.View.{form_view, statement_view, statements_view}
 use Rattle.ca_program.proofs.Rows.{block_is}
@@ -6,11 +7,11 @@ use Rattle.ca_extent.specs.clauses.Targets.{written_by, written_by_all}
 use Rattle.ca_extent.proofs.Walks.{one_more, none_left}
 use Rattle.ca_extent.proofs.targets.+targets.Goals as goal
 
-pub add_targets-returns-in_ok-add_all_targets-in-Block : goal.add_targets-returns-in_ok-add_all_targets-in-Block
-add_targets-returns-in_ok-add_all_targets-in-Block t c =
+pub add_targets-returns-in-Block : goal.add_targets-returns-in-Block
+add_targets-returns-in-Block t c =
     let is : statement_view c.args.s.now ≡ block c.args.s.now.line (statements_view c.in-Block.stmts.items) = ap (λ k. form_view k c.args.s.now.line) c.in-Block.is ∙ block_is c.args.s.now.line c.in-Block.stmts in
-    subst (λ x. c.add_all_targets.new.out.items ≡ c.args.out.now.items ++ written_by x) (sym is)
-    (rw c.deref.ensures.value at c.in_ok-add_all_targets-in-Block.ensures)
+    subst (λ x. IfOk c.add_all_targets.result (λ _. c.add_all_targets.new.out.items ≡ c.args.out.now.items ++ written_by x)) (sym is)
+    (rw c.deref.ensures.value at c.add_all_targets.ensures)
 
 pub add_all_targets-statements-preserved : goal.add_all_targets-statements-preserved
 add_all_targets-statements-preserved t c = one_more (λ s. written_by (statement_view s)) (λ ss. written_by_all (statements_view ss)) (λ s ss. refl) c.args.stmts.now c.statements.s-index c.s-item.result (omega arith) c.s-item.is _ _ _ c.statements.invariant c.in_ok-add_targets.ensures
