@@ -7,7 +7,7 @@ ghost use Rattle.ca_forms.specs.Arrays.{own_items, put_item, item_cmp, row_cmp, 
 ghost use Rattle.ca_forms.specs.ArraysSeen.{array_of};
 
 use crate::order::names;
-use crate::parts::{both, one_box};
+use crate::parts::{add, both, one_box};
 use crate::polynomial::{Polynomial, Scalar};
 use crate::sort::Sort;
 use std::alloc::{AllocError, Global};
@@ -290,7 +290,7 @@ pub(crate) fn copy_rows(alloc: Global, rows: &[Row]) -> Result<Vec<Row>, AllocEr
 {
     let mut copies = Vec::new(alloc);
     for row in rows {
-        copies.push(row.copy(alloc)?)?;
+        add(&mut copies, row.copy(alloc))?;
     }
     Ok(copies)
 }

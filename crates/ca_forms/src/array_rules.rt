@@ -1,12 +1,12 @@
 //! The rules of normal forms of arrays: sums at items are gathered, and choices are taken at each index.
 
-ghost use Rattle.std.specs.Prelude.{◌≡◌, ◌≤◌, ◌<◌, ◌++◌, ℕ, suc, true, length, take, drop, IfOk};
+ghost use Rattle.std.specs.Prelude.{◌≡◌, ◌≤◌, ◌<◌, ◌++◌, ℕ, suc, true, length, take, drop, IfOk, IsOkAnd};
 ghost use Rattle.ca_forms.specs.Arrays.{array_choice};
 ghost use Rattle.ca_forms.specs.ArrayRules.{row_if, row_at, joined_rows, put_row, put_weighed, rest_of, last_rows, summed, added_at, agree, chosen_rows, chosen_if, chosen_array};
 ghost use Rattle.ca_forms.specs.clauses.Places.{IsPlace, is_nothing};
 
 use crate::array::{Array, ArrayNode, Row, Rows, copy_rows};
-use crate::parts::{both, one_box};
+use crate::parts::{both, let_go, one_box};
 use crate::polynomial::Polynomial;
 use crate::sums::{together, weighed};
 use std::alloc::{AllocError, Global};
@@ -78,7 +78,7 @@ fn join_at(
         addend: old,
     } = others.remove(place);
     let sum = together(alloc, old, addend)?;
-    Ok(put_before(others, place, index, sum)?)
+    put_before(others, place, index, sum)
 }
 
 /// One sum more at an index.
@@ -92,8 +92,8 @@ fn put_row(
     ensures { IfOk result (λ v. v.items ≡ put_row index addend rows.items) }
 {
     match place_of(&rows, &index) {
-        Place::At(place) => Ok(join_at(alloc, rows, place, index, addend)?),
-        Place::Before(place) => Ok(put_before(rows, place, index, addend)?),
+        Place::At(place) => join_at(alloc, rows, place, index, addend),
+        Place::Before(place) => put_before(rows, place, index, addend),
     }
 }
 
@@ -129,14 +129,19 @@ fn chosen_rows(
 {
     let minus = copy_rows(alloc, &second)?;
     let more = put_weighed(alloc, second, &condition, &first, 1)?;
-    Ok(put_weighed(alloc, more, &condition, &minus, u64::MAX)?)
+    put_weighed(alloc, more, &condition, &minus, u64::MAX)
 }
 
 /// The array with a last gathered sum, if that has a row.
 #[inline(never)]
-fn summed(alloc: Global, array: Array, rows: Vec<Row>) -> Result<Array, AllocError>
-    ensures { IfOk result (λ a. a ≡ summed array rows.items) }
+fn summed(
+    alloc: Global,
+    array: Array,
+    rows: Result<Vec<Row>, AllocError>,
+) -> Result<Array, AllocError>
+    ensures { IfOk result (λ a. IsOkAnd rows (λ v. a ≡ summed array v.items)) }
 {
+    let (array, rows) = both(Ok(array), rows)?;
     if rows.len() == 0 {
         return Ok(array);
     }
@@ -178,8 +183,7 @@ impl Array {
         ensures { IfOk result (λ a. a ≡ added_at self index addend) }
     {
         let (rest, rows) = self.parted(alloc);
-        let (rest, rows) = both(Ok(rest), put_row(alloc, rows, index, addend))?;
-        Ok(summed(alloc, rest, rows)?)
+        summed(alloc, rest, put_row(alloc, rows, index, addend))
     }
 
     /// Whether both agree but for a last gathered sum.
@@ -224,10 +228,10 @@ fn taken_choice(
 ) -> Result<Array, AllocError>
     ensures { IfOk result (λ a. a ≡ chosen_if true condition first second) }
 {
-    let (_, others) = first.parted(alloc);
+    let (gone, others) = first.parted(alloc);
+    let_go(gone);
     let (rest, rows) = second.parted(alloc);
-    let (rest, rows) = both(Ok(rest), chosen_rows(alloc, condition, others, rows))?;
-    Ok(summed(alloc, rest, rows)?)
+    summed(alloc, rest, chosen_rows(alloc, condition, others, rows))
 }
 
 /// The first array where the condition holds, and else the second.
@@ -241,8 +245,8 @@ pub fn chosen_array(
     ensures { IfOk result (λ a. a ≡ chosen_array condition first second) }
 {
     if first.agrees(&second) {
-        Ok(taken_choice(alloc, condition, first, second)?)
+        taken_choice(alloc, condition, first, second)
     } else {
-        Ok(kept_choice(alloc, condition, first, second)?)
+        kept_choice(alloc, condition, first, second)
     }
 }

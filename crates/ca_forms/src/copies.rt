@@ -2,7 +2,7 @@
 
 ghost use Rattle.std.specs.Prelude.{◌≡◌, IfOk};
 
-use crate::parts::{both, one_box, two_boxes};
+use crate::parts::{add, both, one_box, two_boxes};
 use crate::polynomial::{
     Monomial, Node, Part, Pointer, PointerNode, Polynomial, Power, Product, Scalar, ScalarNode,
     Scalars,
@@ -122,7 +122,7 @@ fn copy_powers(alloc: Global, powers: &[Power]) -> Result<Vec<Power>, AllocError
 {
     let mut copies = Vec::new(alloc);
     for power in powers {
-        copies.push(power.copy(alloc)?)?;
+        add(&mut copies, power.copy(alloc))?;
     }
     Ok(copies)
 }
@@ -157,7 +157,7 @@ fn copy_products(alloc: Global, products: &[Product]) -> Result<Vec<Product>, Al
 {
     let mut copies = Vec::new(alloc);
     for product in products {
-        copies.push(product.copy(alloc)?)?;
+        add(&mut copies, product.copy(alloc))?;
     }
     Ok(copies)
 }
@@ -216,7 +216,7 @@ fn copy_scalars(alloc: Global, scalars: &[Scalar]) -> Result<Vec<Scalar>, AllocE
 {
     let mut copies = Vec::new(alloc);
     for scalar in scalars {
-        copies.push(scalar.copy(alloc)?)?;
+        add(&mut copies, scalar.copy(alloc))?;
     }
     Ok(copies)
 }

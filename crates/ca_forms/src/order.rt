@@ -7,6 +7,7 @@ ghost use Rattle.std.specs.Cmp.{partial_equiv_from_equiv, partial_order_from_agr
 ghost use Rattle.std.proofs.lemmas.Cmp.{eq_by_cmp_equiv};
 ghost use Rattle.std.proofs.Common.{refl};
 ghost use Rattle.ca_forms.specs.Plain.{sort_number};
+ghost use Rattle.ca_forms.specs.clauses.Heads.{rank, part_name, head_cmp};
 ghost use Rattle.ca_forms.specs.Compare.{part_cmp, power_cmp, product_cmp, polynomial_cmp, monomial_cmp, pointer_cmp, scalar_cmp, scalars_cmp, name_cmp, monomial_total};
 
 use crate::polynomial::{
@@ -23,153 +24,87 @@ impl Part {
     pub fn compare(&self, other: &Part) -> Ordering
         ensures { result ≡ part_cmp self.now other.now }
     {
-        match &self.node {
-            Node::Variable(s, g, n) => match &other.node {
-                Node::Variable(t, h, m) => names(*s, *g, *n, *t, *h, *m),
-                Node::Less(_, _)
-                | Node::Zero(_)
-                | Node::SamePointer(_, _)
-                | Node::Quotient(_, _)
-                | Node::Modulus(_, _)
-                | Node::Field(_, _, _, _)
-                | Node::Item(_, _, _, _, _)
-                | Node::Result(_, _, _, _)
-                | Node::OwnItem(_, _, _, _) => Ordering::Less,
-            },
-            Node::Less(a, b) => match &other.node {
-                Node::Variable(_, _, _) => Ordering::Greater,
-                Node::Less(c, d) => match a.compare(c) {
-                    Ordering::Equal => b.compare(d),
-                    order => order,
-                },
-                Node::Zero(_)
-                | Node::SamePointer(_, _)
-                | Node::Quotient(_, _)
-                | Node::Modulus(_, _)
-                | Node::Field(_, _, _, _)
-                | Node::Item(_, _, _, _, _)
-                | Node::Result(_, _, _, _)
-                | Node::OwnItem(_, _, _, _) => Ordering::Less,
-            },
-            Node::Zero(a) => match &other.node {
-                Node::Variable(_, _, _) | Node::Less(_, _) => Ordering::Greater,
-                Node::Zero(c) => a.compare(c),
-                Node::SamePointer(_, _)
-                | Node::Quotient(_, _)
-                | Node::Modulus(_, _)
-                | Node::Field(_, _, _, _)
-                | Node::Item(_, _, _, _, _)
-                | Node::Result(_, _, _, _)
-                | Node::OwnItem(_, _, _, _) => Ordering::Less,
-            },
-            Node::SamePointer(a, b) => match &other.node {
-                Node::Variable(_, _, _) | Node::Less(_, _) | Node::Zero(_) => Ordering::Greater,
-                Node::SamePointer(c, d) => match a.compare(c) {
-                    Ordering::Equal => b.compare(d),
-                    order => order,
-                },
-                Node::Quotient(_, _)
-                | Node::Modulus(_, _)
-                | Node::Field(_, _, _, _)
-                | Node::Item(_, _, _, _, _)
-                | Node::Result(_, _, _, _)
-                | Node::OwnItem(_, _, _, _) => Ordering::Less,
-            },
-            Node::Quotient(a, n) => match &other.node {
-                Node::Variable(_, _, _)
-                | Node::Less(_, _)
-                | Node::Zero(_)
-                | Node::SamePointer(_, _) => Ordering::Greater,
-                Node::Quotient(c, m) => match a.compare(c) {
-                    Ordering::Equal => n.cmp(m),
-                    order => order,
-                },
-                Node::Modulus(_, _)
-                | Node::Field(_, _, _, _)
-                | Node::Item(_, _, _, _, _)
-                | Node::Result(_, _, _, _)
-                | Node::OwnItem(_, _, _, _) => Ordering::Less,
-            },
-            Node::Modulus(a, n) => match &other.node {
-                Node::Variable(_, _, _)
-                | Node::Less(_, _)
-                | Node::Zero(_)
-                | Node::SamePointer(_, _)
-                | Node::Quotient(_, _) => Ordering::Greater,
-                Node::Modulus(c, m) => match a.compare(c) {
-                    Ordering::Equal => n.cmp(m),
-                    order => order,
-                },
-                Node::Field(_, _, _, _)
-                | Node::Item(_, _, _, _, _)
-                | Node::Result(_, _, _, _)
-                | Node::OwnItem(_, _, _, _) => Ordering::Less,
-            },
-            Node::Field(s, a, g, n) => match &other.node {
-                Node::Variable(_, _, _)
-                | Node::Less(_, _)
-                | Node::Zero(_)
-                | Node::SamePointer(_, _)
-                | Node::Quotient(_, _)
-                | Node::Modulus(_, _) => Ordering::Greater,
-                Node::Field(t, c, h, m) => match names(*s, *g, *n, *t, *h, *m) {
-                    Ordering::Equal => a.compare(c),
-                    order => order,
-                },
-                Node::Item(_, _, _, _, _) | Node::Result(_, _, _, _) | Node::OwnItem(_, _, _, _) =>
-                    Ordering::Less,
-            },
-            Node::Item(s, a, g, n, i) => match &other.node {
-                Node::Variable(_, _, _)
-                | Node::Less(_, _)
-                | Node::Zero(_)
-                | Node::SamePointer(_, _)
-                | Node::Quotient(_, _)
-                | Node::Modulus(_, _)
-                | Node::Field(_, _, _, _) => Ordering::Greater,
-                Node::Item(t, c, h, m, j) => match names(*s, *g, *n, *t, *h, *m) {
-                    Ordering::Equal => match a.compare(c) {
-                        Ordering::Equal => i.compare(j),
-                        order => order,
-                    },
-                    order => order,
-                },
-                Node::Result(_, _, _, _) | Node::OwnItem(_, _, _, _) => Ordering::Less,
-            },
-            Node::Result(s, n, a, b) => match &other.node {
-                Node::Variable(_, _, _)
-                | Node::Less(_, _)
-                | Node::Zero(_)
-                | Node::SamePointer(_, _)
-                | Node::Quotient(_, _)
-                | Node::Modulus(_, _)
-                | Node::Field(_, _, _, _)
-                | Node::Item(_, _, _, _, _) => Ordering::Greater,
-                Node::Result(t, m, c, d) => match names(*s, *n, 0, *t, *m, 0) {
-                    Ordering::Equal => match a.compare(c) {
-                        Ordering::Equal => b.compare(d),
-                        order => order,
-                    },
-                    order => order,
-                },
-                Node::OwnItem(_, _, _, _) => Ordering::Less,
-            },
-            Node::OwnItem(s, g, n, a) => match &other.node {
-                Node::Variable(_, _, _)
-                | Node::Less(_, _)
-                | Node::Zero(_)
-                | Node::SamePointer(_, _)
-                | Node::Quotient(_, _)
-                | Node::Modulus(_, _)
-                | Node::Field(_, _, _, _)
-                | Node::Item(_, _, _, _, _)
-                | Node::Result(_, _, _, _) => Ordering::Greater,
-                Node::OwnItem(t, h, m, c) => match names(*s, *g, *n, *t, *h, *m) {
-                    Ordering::Equal => a.compare(c),
-                    order => order,
-                },
-            },
+        match heads(self, other) {
+            Ordering::Equal => {}
+            order => return order,
         }
+        match (&self.node, &other.node) {
+            (Node::Less(a, b), Node::Less(c, d)) => match a.compare(c) {
+                Ordering::Equal => b.compare(d),
+                order => order,
+            },
+            (Node::Zero(a), Node::Zero(c)) => a.compare(c),
+            (Node::SamePointer(a, b), Node::SamePointer(c, d)) => match a.compare(c) {
+                Ordering::Equal => b.compare(d),
+                order => order,
+            },
+            (Node::Quotient(a, n), Node::Quotient(c, m)) => match a.compare(c) {
+                Ordering::Equal => n.cmp(m),
+                order => order,
+            },
+            (Node::Modulus(a, n), Node::Modulus(c, m)) => match a.compare(c) {
+                Ordering::Equal => n.cmp(m),
+                order => order,
+            },
+            (Node::Field(_, a, _, _), Node::Field(_, c, _, _)) => a.compare(c),
+            (Node::Item(_, a, _, _, i), Node::Item(_, c, _, _, j)) => match a.compare(c) {
+                Ordering::Equal => i.compare(j),
+                order => order,
+            },
+            (Node::Result(_, _, a, b), Node::Result(_, _, c, d)) => match a.compare(c) {
+                Ordering::Equal => b.compare(d),
+                order => order,
+            },
+            (Node::OwnItem(_, _, _, a), Node::OwnItem(_, _, _, c)) => a.compare(c),
+            _ => Ordering::Equal,
+        }
+    }
+
+    /// The place of its kind among the kinds.
+    fn rank(&self) -> u32
+        ensures { result ≡ rank self.now }
+    {
+        match &self.node {
+            Node::Variable(_, _, _) => 0,
+            Node::Less(_, _) => 1,
+            Node::Zero(_) => 2,
+            Node::SamePointer(_, _) => 3,
+            Node::Quotient(_, _) => 4,
+            Node::Modulus(_, _) => 5,
+            Node::Field(_, _, _, _) => 6,
+            Node::Item(_, _, _, _, _) => 7,
+            Node::Result(_, _, _, _) => 8,
+            Node::OwnItem(_, _, _, _) => 9,
+        }
+    }
+
+    /// Its name: a sort and two numbers. A part that has none has the least.
+    fn name(&self) -> (Sort, u32, u32)
+        ensures { result ≡ part_name self.now }
+    {
+        match &self.node {
+            Node::Variable(s, g, n) => (*s, *g, *n),
+            Node::Field(s, _, g, n) => (*s, *g, *n),
+            Node::Item(s, _, g, n, _) => (*s, *g, *n),
+            Node::Result(s, n, _, _) => (*s, *n, 0),
+            Node::OwnItem(s, g, n, _) => (*s, *g, *n),
+            _ => (Sort::Long, 0, 0),
+        }
+    }
+}
+
+/// By the kinds of two parts, and then by their names.
+#[inline(never)]
+fn heads(a: &Part, b: &Part) -> Ordering
+    ensures { result ≡ head_cmp a.now b.now }
+{
+    match a.rank().cmp(&b.rank()) {
+        Ordering::Equal => {
+            let (s, g, n) = a.name();
+            let (t, h, m) = b.name();
+            names(s, g, n, t, h, m)
+        }
+        order => order,
     }
 }
 

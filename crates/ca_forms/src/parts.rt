@@ -1,7 +1,7 @@
 //! Parts of a term or a form, in boxes and in lists. Where memory runs out they are dropped here, in functions for values
 //! of all types, since a drop written out for a term or a form takes in each of its kinds.
 
-ghost use Rattle.std.specs.Prelude.{◌≡◌, ◌++◌, ◌∷◌, [], Ok, IfOk, box_value};
+ghost use Rattle.std.specs.Prelude.{◌≡◌, ◌++◌, ◌∷◌, [], Ok, IfOk, OnOk, IsOkAnd, box_value};
 
 use std::alloc::{AllocError, Global};
 
@@ -60,6 +60,19 @@ pub fn three_boxes<T: Drop>(
     let third = one_box(alloc, third)?;
     Ok((first, second, third))
 }
+
+/// One item more behind the others, if it is there.
+pub fn add<T: Drop>(items: &mut Vec<T>, item: Result<T, AllocError>) -> Result<(), AllocError>
+    ensures { OnOk result (IsOkAnd item (λ x. items.new.items ≡ items.old.items ++ x ∷ [])) }
+{
+    let item = item?;
+    items.push(item)?;
+    Ok(())
+}
+
+/// What isn't needed any more.
+#[inline(never)]
+pub fn let_go<T: Drop>(_part: T) {}
 
 /// The items and one more behind them.
 #[inline(never)]

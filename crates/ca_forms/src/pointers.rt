@@ -5,7 +5,7 @@ ghost use Rattle.ca_sums.specs.Sums.{NoZero, AddsSum};
 ghost use Rattle.ca_forms.specs.Plain.{variable, field_of, item_of, result_of, own_item, pointer_part, pointer_choice};
 ghost use Rattle.ca_forms.specs.Rules.{is_pointer_sort, is_receiver_part, is_receiver, is_no_object, differ, unless_false, same_pointers, chosen_pointer};
 
-use crate::parts::{both, one_box, two_boxes};
+use crate::parts::{both, let_go, one_box, two_boxes};
 use crate::polynomial::{Monomial, Node, Part, Pointer, PointerNode, Polynomial, Scalars};
 use crate::rules::{add_part, add_truth};
 use crate::sort::Sort;
@@ -120,6 +120,7 @@ fn add_unless(
     ensures added { OnOk result (AddsSum form.old.entries form.new.entries factor (unless_false known part)) }
 {
     if known {
+        let_go(part);
         Ok(())
     } else {
         add_part(alloc, form, part, factor)
@@ -171,9 +172,20 @@ pub fn chosen_pointer(
     ensures { IfOk result (λ r. r ≡ chosen_pointer condition first second) }
 {
     match first.compare(&second) {
-        Ordering::Equal => Ok(first),
+        Ordering::Equal => {
+            let_go(second);
+            Ok(first)
+        }
         _ => match condition.constant() {
-            Some(n) => { if n == 0 { Ok(second) } else { Ok(first) } }
+            Some(n) => {
+                if n == 0 {
+                    let_go(first);
+                    Ok(second)
+                } else {
+                    let_go(second);
+                    Ok(first)
+                }
+            }
             None => choice(alloc, condition, first, second),
         },
     }

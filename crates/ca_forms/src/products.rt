@@ -1,8 +1,9 @@
 //! Products of monomials.
 
-ghost use Rattle.std.specs.Prelude.{◌≡◌, IfOk};
+ghost use Rattle.std.specs.Prelude.{◌≡◌, ◌++◌, drop, IfOk, OnOk};
 ghost use Rattle.ca_forms.specs.Products.{is_truth, is_truth_sort, joined, merge, times};
 
+use crate::parts::add;
 use crate::polynomial::{Monomial, Node, Part, Power};
 use crate::sort::Sort;
 use std::alloc::{AllocError, Global};
@@ -53,6 +54,23 @@ fn joined(alloc: Global, a: &Power, b: &Power) -> Result<Power, AllocError>
     Ok(Power { part, exponent })
 }
 
+/// The powers of a list from a place on, behind others.
+fn add_powers(
+    alloc: Global,
+    powers: &mut Vec<Power>,
+    list: &[Power],
+    place: usize,
+) -> Result<(), AllocError>
+    ensures { OnOk result (powers.new.items ≡ powers.old.items ++ drop place list.now) }
+{
+    let mut i = place;
+    while i < list.len() {
+        add(powers, list[i].copy(alloc))?;
+        i += 1;
+    }
+    Ok(())
+}
+
 /// The powers of both, by rising parts.
 fn merged(alloc: Global, a: &[Power], b: &[Power]) -> Result<Vec<Power>, AllocError>
     ensures { IfOk result (λ v. v.items ≡ merge a.now b.now) }
@@ -65,28 +83,22 @@ fn merged(alloc: Global, a: &[Power], b: &[Power]) -> Result<Vec<Power>, AllocEr
         let y = &b[j];
         match x.part.compare(&y.part) {
             Ordering::Less => {
-                powers.push(x.copy(alloc)?)?;
+                add(&mut powers, x.copy(alloc))?;
                 i += 1;
             }
             Ordering::Equal => {
-                powers.push(joined(alloc, x, y)?)?;
+                add(&mut powers, joined(alloc, x, y))?;
                 i += 1;
                 j += 1;
             }
             Ordering::Greater => {
-                powers.push(y.copy(alloc)?)?;
+                add(&mut powers, y.copy(alloc))?;
                 j += 1;
             }
         }
     }
-    while i < a.len() {
-        powers.push(a[i].copy(alloc)?)?;
-        i += 1;
-    }
-    while j < b.len() {
-        powers.push(b[j].copy(alloc)?)?;
-        j += 1;
-    }
+    add_powers(alloc, &mut powers, a, i)?;
+    add_powers(alloc, &mut powers, b, j)?;
     Ok(powers)
 }
 

@@ -66,8 +66,7 @@ pub fn add_number(
     let one = Monomial {
         powers: Vec::new(alloc),
     };
-    add_product(form, one, factor.wrapping_mul(n))?;
-    Ok(())
+    add_product(form, one, factor.wrapping_mul(n))
 }
 
 /// Adds a truth value, times the factor.
@@ -105,8 +104,7 @@ pub fn add_part(
 {
     let mut powers = Vec::new(alloc);
     powers.push(Power { part, exponent: 1 })?;
-    add_product(form, Monomial { powers }, factor)?;
-    Ok(())
+    add_product(form, Monomial { powers }, factor)
 }
 
 /// Adds whether one polynomial is less than another, times the factor.
@@ -149,8 +147,7 @@ fn add_zero(
         Some(n) => add_truth(alloc, form, n == 0, factor),
         None => {
             let nearer = smaller_sign(alloc, f)?;
-            add_part(alloc, form, Node::Zero(nearer).part(), factor)?;
-            Ok(())
+            add_part(alloc, form, Node::Zero(nearer).part(), factor)
         }
     }
 }
@@ -169,8 +166,7 @@ pub fn add_same(
     ensures added { OnOk result (AddsSum form.old.entries form.new.entries factor (same_numbers (products_of f) (products_of g))) }
 {
     let between = apart(alloc, f, g)?;
-    add_zero(alloc, form, between, factor)?;
-    Ok(())
+    add_zero(alloc, form, between, factor)
 }
 
 /// Adds whether two truth values are equal, times the factor.
@@ -190,8 +186,7 @@ pub fn add_same_truths(
     add_truth(alloc, form, true, factor)?;
     add_polynomial(alloc, form, f, minus)?;
     add_polynomial(alloc, form, g, minus)?;
-    add_product_of(alloc, form, f, g, factor.wrapping_mul(2))?;
-    Ok(())
+    add_product_of(alloc, form, f, g, factor.wrapping_mul(2))
 }
 
 /// Adds whether one of two truth values holds, times the factor.
@@ -209,8 +204,7 @@ pub fn add_either(
 {
     add_polynomial(alloc, form, f, factor)?;
     add_polynomial(alloc, form, g, factor)?;
-    add_product_of(alloc, form, f, g, factor.wrapping_mul(u64::MAX))?;
-    Ok(())
+    add_product_of(alloc, form, f, g, factor.wrapping_mul(u64::MAX))
 }
 
 /// Adds the second where the first holds, and else the third, times the factor.
@@ -229,8 +223,7 @@ pub fn add_chosen(
 {
     let apart = difference(alloc, g, h)?;
     add_polynomial(alloc, form, h, factor)?;
-    add_product_of(alloc, form, f, &apart, factor)?;
-    Ok(())
+    add_product_of(alloc, form, f, &apart, factor)
 }
 
 fn divided(m: u64, n: i64) -> u64

@@ -1,12 +1,12 @@
 //! Items of arrays by their normal forms.
 
-ghost use Rattle.std.specs.Prelude.{◌≡◌, IfOk, OnOk};
+ghost use Rattle.std.specs.Prelude.{◌≡◌, IfOk, IsOkAnd, OnOk};
 ghost use Rattle.ca_sums.specs.Sums.{NoZero, AddsSum};
 ghost use Rattle.ca_sums.specs.Products.{product};
 ghost use Rattle.ca_forms.specs.Lists.{products_of};
 ghost use Rattle.ca_forms.specs.Products.{times};
-ghost use Rattle.ca_forms.specs.Rules.{alone, gathered, chosen};
-ghost use Rattle.ca_forms.specs.Plain.{own_item};
+ghost use Rattle.ca_forms.specs.Rules.{alone, gathered, chosen, chosen_pointer};
+ghost use Rattle.ca_forms.specs.Plain.{own_item, pointer_part};
 ghost use Rattle.ca_forms.specs.ArrayRules.{same_index, rows_at, products_in, pointer_in, selected, selected_pointer};
 
 use crate::array::{Array, ArrayNode, Row};
@@ -44,8 +44,7 @@ fn add_row_at(
     ensures added { OnOk result (AddsSum form.old.entries form.new.entries factor (product times (same_index row.now.0 index.now) (products_of row.now.1))) }
 {
     let same = same_index(alloc, &row.index, index)?;
-    add_product_of(alloc, form, &same, &row.addend, factor)?;
-    Ok(())
+    add_product_of(alloc, form, &same, &row.addend, factor)
 }
 
 /// Adds what rows add to the item at an index, times the factor.
@@ -88,8 +87,7 @@ fn add_put(
             let none = Polynomial {
                 products: Vec::new(alloc),
             };
-            add_chosen(alloc, form, condition, &none, other, factor)?;
-            Ok(())
+            add_chosen(alloc, form, condition, &none, other, factor)
         }
     }
 }
@@ -115,8 +113,35 @@ fn add_own_item(
         form,
         Part::own_item(sort, group, number, index),
         factor,
-    )?;
-    Ok(())
+    )
+}
+
+/// The item of an atom at an index, of an array of pointers.
+#[inline(never)]
+fn own_pointer(
+    alloc: Global,
+    sort: Sort,
+    group: u32,
+    number: u32,
+    index: Result<Polynomial, AllocError>,
+) -> Result<Pointer, AllocError>
+    ensures { IfOk result (λ p. IsOkAnd index (λ i. p ≡ pointer_part (own_item sort group number i))) }
+{
+    let index = index?;
+    Pointer::of(alloc, Part::own_item(sort, group, number, index))
+}
+
+/// The first of two pointers where the condition holds, and else the second, if there are all three.
+#[inline(never)]
+fn pointer_of_sides(
+    alloc: Global,
+    condition: Result<Polynomial, AllocError>,
+    sides: Result<(Pointer, Pointer), AllocError>,
+) -> Result<Pointer, AllocError>
+    ensures { IfOk result (λ p. IsOkAnd condition (λ c. IsOkAnd sides (λ s. p ≡ chosen_pointer c s.0 s.1))) }
+{
+    let (condition, (first, second)) = both(condition, sides)?;
+    chosen_pointer(alloc, condition, first, second)
 }
 
 impl Array {
@@ -136,26 +161,18 @@ impl Array {
         ensures added { OnOk result (AddsSum form.old.entries form.new.entries factor (selected self.now index.now)) }
     {
         match &self.node {
-            ArrayNode::Items(s, g, n) => {
-                add_own_item(alloc, form, *s, *g, *n, index, factor)?;
-                Ok(())
-            }
+            ArrayNode::Items(s, g, n) => add_own_item(alloc, form, *s, *g, *n, index, factor),
             ArrayNode::Put(a, i, x) => {
-                let other = a.item(alloc, index)?;
-                let same = same_index(alloc, i, index)?;
-                add_put(alloc, form, &same, x, &other, factor)?;
-                Ok(())
+                let (other, same) = both(a.item(alloc, index), same_index(alloc, i, index))?;
+                add_put(alloc, form, &same, x, &other, factor)
             }
             ArrayNode::Sums(a, rows) => {
                 a.add_item(alloc, form, index, factor)?;
-                add_rows_at(alloc, form, &rows.items, index, factor)?;
-                Ok(())
+                add_rows_at(alloc, form, &rows.items, index, factor)
             }
             ArrayNode::Choice(c, a, b) => {
-                let first = a.item(alloc, index)?;
-                let second = b.item(alloc, index)?;
-                add_chosen(alloc, form, c, &first, &second, factor)?;
-                Ok(())
+                let (first, second) = both(a.item(alloc, index), b.item(alloc, index))?;
+                add_chosen(alloc, form, c, &first, &second, factor)
             }
         }
     }
@@ -177,21 +194,15 @@ impl Array {
         ensures { IfOk result (λ p. p ≡ selected_pointer self.now index.now) }
     {
         match &self.node {
-            ArrayNode::Items(s, g, n) => {
-                let index = index.copy(alloc)?;
-                Ok(Pointer::of(alloc, Part::own_item(*s, *g, *n, index))?)
-            }
+            ArrayNode::Items(s, g, n) => own_pointer(alloc, *s, *g, *n, index.copy(alloc)),
             ArrayNode::Put(a, i, x) => {
-                let other = a.pointer_at(alloc, index);
-                let (item, other) = both(x.pointer_in(alloc), other)?;
-                let same = same_index(alloc, i, index)?;
-                Ok(chosen_pointer(alloc, same, item, other)?)
+                let sides = both(x.pointer_in(alloc), a.pointer_at(alloc, index));
+                pointer_of_sides(alloc, same_index(alloc, i, index), sides)
             }
-            ArrayNode::Sums(a, _) => Ok(a.pointer_at(alloc, index)?),
+            ArrayNode::Sums(a, _) => a.pointer_at(alloc, index),
             ArrayNode::Choice(c, a, b) => {
                 let sides = both(a.pointer_at(alloc, index), b.pointer_at(alloc, index));
-                let (condition, (first, second)) = both(c.copy(alloc), sides)?;
-                Ok(chosen_pointer(alloc, condition, first, second)?)
+                pointer_of_sides(alloc, c.copy(alloc), sides)
             }
         }
     }
@@ -206,7 +217,7 @@ impl Scalar {
         match &self.node {
             ScalarNode::Number(_) => Ok(Pointer::null()),
             ScalarNode::Truth(_) => Ok(Pointer::null()),
-            ScalarNode::Pointer(p) => Ok(p.copy(alloc)?),
+            ScalarNode::Pointer(p) => p.copy(alloc),
         }
     }
 }

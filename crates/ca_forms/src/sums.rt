@@ -99,8 +99,7 @@ pub fn add_product_of(
     ensures nonzero { NoZero form.new.entries }
     ensures added { OnOk result (AddsSum form.old.entries form.new.entries factor (product times (products_of f.now) (products_of g.now))) }
 {
-    add_products(alloc, form, &f.products, &g.products, factor)?;
-    Ok(())
+    add_products(alloc, form, &f.products, &g.products, factor)
 }
 
 /// The polynomial of gathered products.
@@ -152,8 +151,7 @@ pub fn add_polynomial(
     ensures nonzero { NoZero form.new.entries }
     ensures added { OnOk result (AddsSum form.old.entries form.new.entries factor (products_of f.now)) }
 {
-    add_all(alloc, form, &f.products, factor)?;
-    Ok(())
+    add_all(alloc, form, &f.products, factor)
 }
 
 /// The difference of two polynomials.

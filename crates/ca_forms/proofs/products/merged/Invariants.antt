@@ -7,15 +7,3 @@ invariant-loop-i l = (l.i ≤ length l.a) × (l.j ≤ length l.b) × (l.powers.i
 
 abbrev pub decreases-loop-i : goal.decreases-loop-i
 decreases-loop-i l = (length l.a - l.i) + (length l.b - l.j)
-
-abbrev pub invariant-loop-i-2 : goal.invariant-loop-i-2
-invariant-loop-i-2 l = (l.i ≤ length l.a) × (l.j ≤ length l.b) × (l.i < length l.a → l.j ≡ length l.b) × (l.powers.items ++ merge (drop l.i l.a) (drop l.j l.b) ≡ merge l.a l.b)
-
-abbrev pub decreases-loop-i-2 : goal.decreases-loop-i-2
-decreases-loop-i-2 l = length l.a - l.i
-
-abbrev pub invariant-loop-j : goal.invariant-loop-j
-invariant-loop-j l = (l.i ≡ length l.a) × (l.j ≤ length l.b) × (l.powers.items ++ merge (drop l.i l.a) (drop l.j l.b) ≡ merge l.a l.b)
-
-abbrev pub decreases-loop-j : goal.decreases-loop-j
-decreases-loop-j l = length l.b - l.j

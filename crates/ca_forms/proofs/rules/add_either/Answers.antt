@@ -1,5 +1,5 @@
-use Rattle.std.proofs.Common.{◌-◌, ◌^◌, ◌++◌}
-use Rattle.ca_sums.specs.Sums.{Sum}
+use Rattle.std.proofs.Common.{◌*◌, ◌-◌, ◌%◌, ◌^◌, ◌++◌}
+use Rattle.ca_sums.specs.Sums.{Sum, AddsSum}
 use Rattle.ca_sums.specs.Products.{product}
 use Rattle.ca_sums.proofs.Additions.{adds_both}
 use Rattle.ca_forms.specs.Plain.{PlainMonomial}
@@ -7,6 +7,7 @@ use Rattle.ca_forms.specs.Lists.{products_of}
 use Rattle.ca_forms.specs.Products.{times}
 use Rattle.ca_forms.specs.Rules.{minus}
 use Rattle.ca_forms.proofs.Gathered.{adds_scaled}
+use Rattle.ca_forms.proofs.Told.{on_ok}
 use Rattle.ca_forms.proofs.rules.add_either.Goals as goal
 
 pub returns-clause-added : goal.returns-clause-added
@@ -18,4 +19,4 @@ returns-clause-added c =
     let a : Sum PlainMonomial = products_of c.args.f.now in
     let b : Sum PlainMonomial = products_of c.args.g.now in
     let ab : Sum PlainMonomial = product times a b in
-    adds_both c.args.form.now.entries first end k a (b ++ minus ab) c.in_ok-add_polynomial.ensures.added (adds_both first second end k b (minus ab) c.in_ok-add_polynomial-2.ensures.added (adds_scaled second end k (2 ^ 64 - 1) ab c.in_ok-add_product_of.ensures.added))
+    on_ok c.add_product_of.result _ _ (λ (last : AddsSum second end ((k * (2 ^ 64 - 1)) % (2 ^ 64)) ab). adds_both c.args.form.now.entries first end k a (b ++ minus ab) c.in_ok-add_polynomial.ensures.added (adds_both first second end k b (minus ab) c.in_ok-add_polynomial-2.ensures.added (adds_scaled second end k (2 ^ 64 - 1) ab last))) c.add_product_of.ensures.added

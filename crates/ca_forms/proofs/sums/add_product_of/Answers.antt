@@ -1,4 +1,4 @@
-use Rattle.std.proofs.Common.{sym, ap₂, ◌∙◌, subst}
+use Rattle.std.proofs.Common.{OnOk, sym, ap₂, ◌∙◌, subst}
 use Rattle.ca_sums.specs.Sums.{Sum, AddsSum}
 use Rattle.ca_sums.specs.Products.{product}
 use Rattle.ca_forms.specs.Plain.{PlainMonomial}
@@ -8,4 +8,4 @@ use Rattle.ca_forms.proofs.sums.add_product_of.Goals as goal
 
 pub returns-clause-added : goal.returns-clause-added
 returns-clause-added c =
-    rw (← c.f.view_is, ← c.g.view_is) (subst (λ (z : Sum PlainMonomial). AddsSum c.args.form.now.entries c.add_products.new.form.entries c.args.factor z) (ap₂ (product times) (c.deref.ensures.value ∙ sym (products_polynomial c.f.inside.products.items)) (c.deref-2.ensures.value ∙ sym (products_polynomial c.g.inside.products.items))) c.in_ok-add_products.ensures.added)
+    rw (← c.f.view_is, ← c.g.view_is) (subst (λ (z : Sum PlainMonomial). OnOk c.add_products.result (AddsSum c.args.form.now.entries c.add_products.new.form.entries c.args.factor z)) (ap₂ (product times) (c.deref.ensures.value ∙ sym (products_polynomial c.f.inside.products.items)) (c.deref-2.ensures.value ∙ sym (products_polynomial c.g.inside.products.items))) c.add_products.ensures.added)

@@ -1,0 +1,33 @@
+-- Powers of two monomials, merged one by one.
+use Rattle.std.proofs.Common.{◌≡◌, ℕ, ◌+◌, ◌<◌, ◌≤◌, ◌⊎◌, inl, inr, List, [], ◌∷◌, ◌++◌, length, get_or, drop, drop-cons, add-one, refl, sym, ap, ◌∙◌, Less, Equal, Greater}
+use Rattle.std.proofs.lemmas.List.{append_assoc, append-nil, drop_all}
+use Rattle.ca_forms.specs.Plain.{PlainPart}
+use Rattle.ca_forms.specs.Compare.{part_cmp}
+use Rattle.ca_forms.specs.Products.{joined, merge}
+
+pub front : {X : Type 0} (xs : List X) (i : ℕ) (x : X) → i < length xs → x ≡ get_or xs i x → drop i xs ≡ x ∷ drop (i + 1) xs
+front xs i x h e = rw (drop-cons xs i x h, ← e, add-one) refl
+
+-- one item is taken from what is left
+pub took : {X : Type 0} (old new rest whole all : List X) (z : X) → new ≡ old ++ z ∷ [] → whole ≡ z ∷ rest → old ++ whole ≡ all → new ++ rest ≡ all
+took old new rest whole all z n w h = ap (λ l. l ++ rest) n ∙ append_assoc old (z ∷ []) rest ∙ ap (λ l. old ++ l) (sym w) ∙ h
+
+pub nothing_left : {X : Type 0} (ps xs all : List X) (i : ℕ) → length xs ≤ i → ps ++ drop i xs ≡ all → ps ≡ all
+nothing_left ps xs all i h e = sym (append-nil ps) ∙ ap (λ l. ps ++ l) (sym (drop_all i xs h)) ∙ e
+
+pub left_first : (xs ys us vs : List (PlainPart × ℕ)) (x y : PlainPart × ℕ) → xs ≡ x ∷ us → ys ≡ y ∷ vs → part_cmp x.0 y.0 ≡ Less → merge xs ys ≡ x ∷ merge us ys
+left_first xs ys us vs x y e f h = rw (e, f, h) refl
+
+pub both_first : (xs ys us vs : List (PlainPart × ℕ)) (x y : PlainPart × ℕ) → xs ≡ x ∷ us → ys ≡ y ∷ vs → part_cmp x.0 y.0 ≡ Equal → merge xs ys ≡ joined x y ∷ merge us vs
+both_first xs ys us vs x y e f h = rw (e, f, h) refl
+
+pub right_first : (xs ys us vs : List (PlainPart × ℕ)) (x y : PlainPart × ℕ) → xs ≡ x ∷ us → ys ≡ y ∷ vs → part_cmp x.0 y.0 ≡ Greater → merge xs ys ≡ y ∷ merge xs vs
+right_first xs ys us vs x y e f h = rw (e, f, h) refl
+
+alone : (us : List (PlainPart × ℕ)) → merge us [] ≡ us ++ []
+alone [] = refl
+alone (a ∷ us) = ap (λ l. a ∷ l) (alone us)
+
+pub merge_end : (xs ys ps mid end all : List (PlainPart × ℕ)) (i j : ℕ) → (length xs ≤ i) ⊎ (length ys ≤ j) → mid ≡ ps ++ drop i xs → end ≡ mid ++ drop j ys → ps ++ merge (drop i xs) (drop j ys) ≡ all → end ≡ all
+merge_end xs ys ps mid end all i j (inl h) e f g = f ∙ ap (λ l. l ++ drop j ys) (e ∙ ap (λ l. ps ++ l) (drop_all i xs h) ∙ append-nil ps) ∙ ap (λ l. ps ++ merge l (drop j ys)) (sym (drop_all i xs h)) ∙ g
+merge_end xs ys ps mid end all i j (inr h) e f g = f ∙ ap (λ l. mid ++ l) (drop_all j ys h) ∙ append-nil mid ∙ e ∙ ap (λ l. ps ++ l) (sym (append-nil (drop i xs)) ∙ sym (alone (drop i xs)) ∙ ap (merge (drop i xs)) (sym (drop_all j ys h))) ∙ g
