@@ -12,3 +12,4 @@ pub mod Pointers
 pub mod Quotients
 pub mod Shapes
 pub mod Counts
+pub mod BothKnown

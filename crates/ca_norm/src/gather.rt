@@ -8,11 +8,12 @@ ghost use Rattle.ca_forms.specs.Plain.{pointer_part};
 ghost use Rattle.ca_forms.specs.Rules.{alone, gathered};
 ghost use Rattle.ca_norm.specs.Forms.{expand, expand_if, is_linear, is_product, is_comparison, is_equation, is_choice, is_division, is_selection, part_of, pointer_of, array_of, scalar_of, arguments_of};
 
+use crate::items::{add_item_of, pointer_of_item};
 use crate::term::{Term, item_sort};
 use ca_forms::Sort;
 use ca_forms::array::Array;
 use ca_forms::array_rules::chosen_array;
-use ca_forms::parts::{both, longer};
+use ca_forms::parts::{add, both};
 use ca_forms::pointers::{add_same_pointers, chosen_pointer};
 use ca_forms::polynomial::{Monomial, Part, Pointer, Polynomial, Scalar, Scalars};
 use ca_forms::rules::{
@@ -77,22 +78,16 @@ fn add_linear(
         Term::Truth(b) => add_truth(alloc, form, *b, factor),
         Term::Add(a, b) => {
             add_term(alloc, form, a, factor)?;
-            add_term(alloc, form, b, factor)?;
-            Ok(())
+            add_term(alloc, form, b, factor)
         }
         Term::Sub(a, b) => {
             add_term(alloc, form, a, factor)?;
-            add_term(alloc, form, b, opposite)?;
-            Ok(())
+            add_term(alloc, form, b, opposite)
         }
-        Term::Neg(a) => {
-            add_term(alloc, form, a, opposite)?;
-            Ok(())
-        }
+        Term::Neg(a) => add_term(alloc, form, a, opposite),
         Term::Not(a) => {
             add_truth(alloc, form, true, factor)?;
-            add_term(alloc, form, a, opposite)?;
-            Ok(())
+            add_term(alloc, form, a, opposite)
         }
         _ => Ok(()),
     }
@@ -113,22 +108,16 @@ fn add_multiplied(
 {
     match term {
         Term::Mul(a, b) => {
-            let f = polynomial_of(alloc, a)?;
-            let g = polynomial_of(alloc, b)?;
-            add_product_of(alloc, form, &f, &g, factor)?;
-            Ok(())
+            let (f, g) = both(polynomial_of(alloc, a), polynomial_of(alloc, b))?;
+            add_product_of(alloc, form, &f, &g, factor)
         }
         Term::And(a, b) => {
-            let f = polynomial_of(alloc, a)?;
-            let g = polynomial_of(alloc, b)?;
-            add_product_of(alloc, form, &f, &g, factor)?;
-            Ok(())
+            let (f, g) = both(polynomial_of(alloc, a), polynomial_of(alloc, b))?;
+            add_product_of(alloc, form, &f, &g, factor)
         }
         Term::Or(a, b) => {
-            let f = polynomial_of(alloc, a)?;
-            let g = polynomial_of(alloc, b)?;
-            add_either(alloc, form, &f, &g, factor)?;
-            Ok(())
+            let (f, g) = both(polynomial_of(alloc, a), polynomial_of(alloc, b))?;
+            add_either(alloc, form, &f, &g, factor)
         }
         _ => Ok(()),
     }
@@ -149,17 +138,13 @@ fn add_compared(
 {
     match term {
         Term::Less(a, b) => {
-            let f = polynomial_of(alloc, a)?;
-            let g = polynomial_of(alloc, b)?;
-            add_less(alloc, form, f, g, factor)?;
-            Ok(())
+            let (f, g) = both(polynomial_of(alloc, a), polynomial_of(alloc, b))?;
+            add_less(alloc, form, f, g, factor)
         }
         Term::LessEqual(a, b) => {
-            let f = polynomial_of(alloc, a)?;
-            let g = polynomial_of(alloc, b)?;
             add_truth(alloc, form, true, factor)?;
-            add_less(alloc, form, g, f, factor.wrapping_mul(u64::MAX))?;
-            Ok(())
+            let (f, g) = both(polynomial_of(alloc, a), polynomial_of(alloc, b))?;
+            add_less(alloc, form, g, f, factor.wrapping_mul(u64::MAX))
         }
         _ => Ok(()),
     }
@@ -181,21 +166,16 @@ fn add_equated(
     match term {
         Term::Same(a, b) => match a.sort() {
             Sort::Long => {
-                let f = polynomial_of(alloc, a)?;
-                let g = polynomial_of(alloc, b)?;
-                add_same(alloc, form, f, g, factor)?;
-                Ok(())
+                let (f, g) = both(polynomial_of(alloc, a), polynomial_of(alloc, b))?;
+                add_same(alloc, form, f, g, factor)
             }
             Sort::Bool => {
-                let f = polynomial_of(alloc, a)?;
-                let g = polynomial_of(alloc, b)?;
-                add_same_truths(alloc, form, &f, &g, factor)?;
-                Ok(())
+                let (f, g) = both(polynomial_of(alloc, a), polynomial_of(alloc, b))?;
+                add_same_truths(alloc, form, &f, &g, factor)
             }
             Sort::Pointer => {
                 let (p, q) = both(pointer_of(alloc, a), pointer_of(alloc, b))?;
-                add_same_pointers(alloc, form, p, q, factor)?;
-                Ok(())
+                add_same_pointers(alloc, form, p, q, factor)
             }
             _ => Ok(()),
         },
@@ -218,11 +198,9 @@ fn add_choice(
 {
     match term {
         Term::Choose(c, a, b) => {
-            let f = polynomial_of(alloc, c)?;
-            let g = polynomial_of(alloc, a)?;
-            let h = polynomial_of(alloc, b)?;
-            add_chosen(alloc, form, &f, &g, &h, factor)?;
-            Ok(())
+            let sides = both(polynomial_of(alloc, a), polynomial_of(alloc, b));
+            let (f, (g, h)) = both(polynomial_of(alloc, c), sides)?;
+            add_chosen(alloc, form, &f, &g, &h, factor)
         }
         _ => Ok(()),
     }
@@ -244,13 +222,11 @@ fn add_divided(
     match term {
         Term::Divide(a, n) => {
             let f = polynomial_of(alloc, a)?;
-            add_quotient(alloc, form, f, *n, factor)?;
-            Ok(())
+            add_quotient(alloc, form, f, *n, factor)
         }
         Term::Remainder(a, n) => {
             let f = polynomial_of(alloc, a)?;
-            add_modulus(alloc, form, f, *n, factor)?;
-            Ok(())
+            add_modulus(alloc, form, f, *n, factor)
         }
         _ => Ok(()),
     }
@@ -271,9 +247,13 @@ fn add_selected(
 {
     match term {
         Term::Select(a, i) => {
-            let (array, index) = both(array_of(alloc, a), polynomial_of(alloc, i))?;
-            array.add_item(alloc, form, &index, factor)?;
-            Ok(())
+            add_item_of(
+                alloc,
+                form,
+                array_of(alloc, a),
+                polynomial_of(alloc, i),
+                factor,
+            )
         }
         _ => Ok(()),
     }
@@ -293,8 +273,7 @@ fn add_own_part(
     ensures added { OnOk result (AddsSum form.old.entries form.new.entries factor (alone (part_of (shape term.now)))) }
 {
     let part = part_of(alloc, term)?;
-    add_part(alloc, form, part, factor)?;
-    Ok(())
+    add_part(alloc, form, part, factor)
 }
 
 /// The part that an atom, a read or a result is; some atom for any other term.
@@ -338,7 +317,7 @@ fn own_pointer(alloc: Global, term: &Term) -> Result<Pointer, AllocError>
     ensures { IfOk result (λ p. p ≡ pointer_part (part_of (shape term.now))) }
 {
     let part = part_of(alloc, term)?;
-    Ok(Pointer::of(alloc, part)?)
+    Pointer::of(alloc, part)
 }
 
 /// The form of a term that is to be a pointer. It recurses as deep as the term is.
@@ -349,15 +328,15 @@ pub fn pointer_of(alloc: Global, term: &Term) -> Result<Pointer, AllocError>
 {
     match term {
         Term::Choose(c, a, b) => {
-            let f = polynomial_of(alloc, c)?;
-            let (p, q) = both(pointer_of(alloc, a), pointer_of(alloc, b))?;
-            Ok(chosen_pointer(alloc, f, p, q)?)
+            let sides = both(pointer_of(alloc, a), pointer_of(alloc, b));
+            let (f, (p, q)) = both(polynomial_of(alloc, c), sides)?;
+            chosen_pointer(alloc, f, p, q)
         }
-        Term::Atom(_, _, _) => Ok(own_pointer(alloc, term)?),
-        Term::Read(_, _, _, _) => Ok(own_pointer(alloc, term)?),
-        Term::ReadAt(_, _, _, _, _) => Ok(own_pointer(alloc, term)?),
-        Term::Result(_, _, _, _) => Ok(own_pointer(alloc, term)?),
-        Term::Select(_, _) => Ok(item_pointer(alloc, term)?),
+        Term::Atom(_, _, _) => own_pointer(alloc, term),
+        Term::Read(_, _, _, _) => own_pointer(alloc, term),
+        Term::ReadAt(_, _, _, _, _) => own_pointer(alloc, term),
+        Term::Result(_, _, _, _) => own_pointer(alloc, term),
+        Term::Select(_, _) => item_pointer(alloc, term),
         _ => Ok(Pointer::null()),
     }
 }
@@ -369,10 +348,7 @@ fn item_pointer(alloc: Global, term: &Term) -> Result<Pointer, AllocError>
     ensures { IfOk result (λ p. p ≡ pointer_of (shape term.now)) }
 {
     match term {
-        Term::Select(a, i) => {
-            let (array, index) = both(array_of(alloc, a), polynomial_of(alloc, i))?;
-            Ok(array.pointer_at(alloc, &index)?)
-        }
+        Term::Select(a, i) => pointer_of_item(alloc, array_of(alloc, a), polynomial_of(alloc, i)),
         _ => Err(AllocError),
     }
 }
@@ -385,9 +361,9 @@ pub fn array_of(alloc: Global, term: &Term) -> Result<Array, AllocError>
 {
     match term {
         Term::Atom(sort, group, number) => Ok(Array::atom(item_sort(*sort), *group, *number)),
-        Term::Choose(_, _, _) => Ok(array_choice(alloc, term)?),
-        Term::Put(_, _, _) => Ok(array_put(alloc, term)?),
-        Term::AddAt(_, _, _) => Ok(array_added(alloc, term)?),
+        Term::Choose(_, _, _) => array_choice(alloc, term),
+        Term::Put(_, _, _) => array_put(alloc, term),
+        Term::AddAt(_, _, _) => array_added(alloc, term),
         _ => Ok(Array::atom(Sort::Long, 0, 0)),
     }
 }
@@ -401,7 +377,7 @@ fn array_choice(alloc: Global, term: &Term) -> Result<Array, AllocError>
         Term::Choose(c, a, b) => {
             let sides = both(array_of(alloc, a), array_of(alloc, b));
             let (condition, (first, second)) = both(polynomial_of(alloc, c), sides)?;
-            Ok(chosen_array(alloc, condition, first, second)?)
+            chosen_array(alloc, condition, first, second)
         }
         _ => Err(AllocError),
     }
@@ -416,7 +392,7 @@ fn array_put(alloc: Global, term: &Term) -> Result<Array, AllocError>
         Term::Put(a, i, x) => {
             let parts = both(polynomial_of(alloc, i), scalar_of(alloc, x));
             let (array, (index, item)) = both(array_of(alloc, a), parts)?;
-            Ok(array.put(alloc, index, item)?)
+            array.put(alloc, index, item)
         }
         _ => Err(AllocError),
     }
@@ -431,7 +407,7 @@ fn array_added(alloc: Global, term: &Term) -> Result<Array, AllocError>
         Term::AddAt(a, i, x) => {
             let parts = both(polynomial_of(alloc, i), polynomial_of(alloc, x));
             let (array, (index, addend)) = both(array_of(alloc, a), parts)?;
-            Ok(array.added_at(alloc, index, addend)?)
+            array.added_at(alloc, index, addend)
         }
         _ => Err(AllocError),
     }
@@ -457,8 +433,7 @@ fn arguments_of(alloc: Global, terms: &[Term]) -> Result<Scalars, AllocError>
 {
     let mut items = Vec::new(alloc);
     for term in terms {
-        let (so_far, item) = both(Ok(items), scalar_of(alloc, term))?;
-        items = longer(so_far, item)?;
+        add(&mut items, scalar_of(alloc, term))?;
     }
     Ok(Scalars::of(items))
 }

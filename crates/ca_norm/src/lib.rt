@@ -14,6 +14,7 @@
 #![tactic(auto)]
 
 pub mod gather;
+mod items;
 pub mod laws;
 mod term;
 mod weigh;

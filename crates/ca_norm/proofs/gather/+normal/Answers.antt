@@ -1,5 +1,5 @@
-use Rattle.std.proofs.Common.{rules, ◌≡◌, ◌-◌, ◌^◌, ◌∙◌, IfOk, ◌≤◌, List, [], length, map, take, ap, ap₂, sym, subst, true}
-use Rattle.std.proofs.lemmas.List.{take_all}
+use Rattle.std.proofs.Common.{rules, refl, ℕ, ◌+◌, ◌∷◌, ◌++◌, ◌≡◌, ◌*◌, ◌-◌, ◌%◌, ◌^◌, ◌∙◌, IfOk, OnOk, ◌≤◌, List, [], length, map, take, ap, ap₂, sym, subst, true}
+use Rattle.std.proofs.lemmas.List.{take_all, map-append}
 use Rattle.ca_sums.specs.Sums.{Sum, AddsSum, collect}
 use Rattle.ca_sums.proofs.Additions.{adds_both}
 use Rattle.ca_sums.proofs.Entries.{gathered_is}
@@ -9,51 +9,132 @@ use Rattle.ca_forms.specs.Lists.{polynomial_of, products_of, scalars_of}
 use Rattle.ca_forms.specs.Compare.{monomial_cmp}
 use Rattle.ca_forms.specs.Rules.{gathered, minus, truth_sum, less_sum, same_numbers, same_truths}
 use Rattle.ca_forms.proofs.Exact.{monomials_exact}
+use Rattle.ca_forms.proofs.Told.{on_ok, put_behind}
 use Rattle.ca_forms.proofs.Gathered.{adds_gathered, adds_chosen, adds_scaled, adds_either, adds_same_truths, same_numbers_gathered}
-use Rattle.ca_norm.specs.Terms.{PlainTerm, result, shape, sort_of, terms_of}
-use Rattle.ca_norm.specs.Forms.{expand, part_of, pointer_of, scalar_of, arguments_of}
-use Rattle.ca_norm.proofs.Shapes.{call_is, arguments_forms}
+use Rattle.ca_norm.specs.declared.term.Term.{Term}
+use Rattle.ca_norm.specs.Terms.{PlainTerm, result, select, shape, sort_of, terms_of}
+use Rattle.ca_forms.specs.ArrayRules.{selected, selected_pointer}
+use Rattle.ca_norm.specs.Forms.{expand, part_of, pointer_of, array_of, scalar_of, arguments_of}
+use Rattle.ca_norm.proofs.Shapes.{call_is, arguments_forms, shapes_more}
+use Rattle.ca_norm.proofs.BothKnown.{both_known, both_made}
 use Rattle.ca_norm.proofs.gather.+normal.Goals as goal
 
-pub add_linear-returns-in_ok-add_term-in-Add-2-clause-added : goal.add_linear-returns-in_ok-add_term-in-Add-2-clause-added
-add_linear-returns-in_ok-add_term-in-Add-2-clause-added t c =
-    rw (c.in-Add.is, ← c.deref.ensures, ← c.deref-in-Add.ensures) (adds_both c.args.form.now.entries c.add_term.new.form.entries c.add_term-in-Add.new.form.entries c.args.factor (expand (shape c.deref.result.now)) (expand (shape c.deref-in-Add.result.now)) c.in_ok-add_term-in-Add.ensures.added c.in_ok-add_term-in-Add-2.ensures.added)
+pub add_linear-returns-in_ok-add_term-in-Add-clause-added : goal.add_linear-returns-in_ok-add_term-in-Add-clause-added
+add_linear-returns-in_ok-add_term-in-Add-clause-added t c =
+    rw (c.in-Add.is, ← c.deref.ensures, ← c.deref-in-Add.ensures) (on_ok c.add_term-in-Add.result _ _
+    (adds_both c.args.form.now.entries c.add_term.new.form.entries c.add_term-in-Add.new.form.entries c.args.factor (expand (shape c.deref.result.now)) (expand (shape c.deref-in-Add.result.now)) c.in_ok-add_term-in-Add.ensures.added)
+    c.add_term-in-Add.ensures.added)
 
-pub add_linear-returns-in_ok-add_term-in-Sub-2-clause-added : goal.add_linear-returns-in_ok-add_term-in-Sub-2-clause-added
-add_linear-returns-in_ok-add_term-in-Sub-2-clause-added t c =
+pub add_linear-returns-in_ok-add_term-in-Sub-clause-added : goal.add_linear-returns-in_ok-add_term-in-Sub-clause-added
+add_linear-returns-in_ok-add_term-in-Sub-clause-added t c =
     let b : Sum PlainMonomial = expand (shape c.deref-in-Sub-2.result.now) in
-    rw (c.in-Sub.is, ← c.deref-in-Sub.ensures, ← c.deref-in-Sub-2.ensures) (adds_both c.args.form.now.entries c.add_term-in-Sub.new.form.entries c.add_term-in-Sub-2.new.form.entries c.args.factor (expand (shape c.deref-in-Sub.result.now)) (minus b) c.in_ok-add_term-in-Sub.ensures.added (adds_scaled c.add_term-in-Sub.new.form.entries c.add_term-in-Sub-2.new.form.entries c.args.factor (2 ^ 64 - 1) b c.in_ok-add_term-in-Sub-2.ensures.added))
+    let mid = c.add_term-in-Sub.new.form.entries in
+    let new = c.add_term-in-Sub-2.new.form.entries in
+    rw (c.in-Sub.is, ← c.deref-in-Sub.ensures, ← c.deref-in-Sub-2.ensures) (on_ok c.add_term-in-Sub-2.result _ _
+    (λ (added : AddsSum mid new ((c.args.factor * (2 ^ 64 - 1)) % (2 ^ 64)) b). adds_both c.args.form.now.entries mid new c.args.factor (expand (shape c.deref-in-Sub.result.now)) (minus b) c.in_ok-add_term-in-Sub.ensures.added (adds_scaled mid new c.args.factor (2 ^ 64 - 1) b added))
+    c.add_term-in-Sub-2.ensures.added)
 
-pub add_linear-returns-in_ok-add_term-in-Neg-clause-added : goal.add_linear-returns-in_ok-add_term-in-Neg-clause-added
-add_linear-returns-in_ok-add_term-in-Neg-clause-added t c =
-    rw (c.in-Neg.is, ← c.deref-in-Neg.ensures) (adds_scaled c.args.form.now.entries c.add_term-in-Neg.new.form.entries c.args.factor (2 ^ 64 - 1) (expand (shape c.deref-in-Neg.result.now)) c.in_ok-add_term-in-Neg.ensures.added)
+pub add_linear-returns-in-Neg-clause-added : goal.add_linear-returns-in-Neg-clause-added
+add_linear-returns-in-Neg-clause-added t c =
+    rw (c.in-Neg.is, ← c.deref-in-Neg.ensures) (on_ok c.add_term-in-Neg.result _ _
+    (adds_scaled c.args.form.now.entries c.add_term-in-Neg.new.form.entries c.args.factor (2 ^ 64 - 1) (expand (shape c.deref-in-Neg.result.now)))
+    c.add_term-in-Neg.ensures.added)
 
-pub add_linear-returns-in_ok-add_term-in-Not-clause-added : goal.add_linear-returns-in_ok-add_term-in-Not-clause-added
-add_linear-returns-in_ok-add_term-in-Not-clause-added t c =
+pub add_linear-returns-in_ok-add_truth-in-Not-clause-added : goal.add_linear-returns-in_ok-add_truth-in-Not-clause-added
+add_linear-returns-in_ok-add_truth-in-Not-clause-added t c =
     let a : Sum PlainMonomial = expand (shape c.deref-in-Not.result.now) in
-    rw (c.in-Not.is, ← c.deref-in-Not.ensures) (adds_both c.args.form.now.entries c.add_truth-in-Not.new.form.entries c.add_term-in-Not.new.form.entries c.args.factor (truth_sum true) (minus a) c.in_ok-add_truth-in-Not.ensures.added (adds_scaled c.add_truth-in-Not.new.form.entries c.add_term-in-Not.new.form.entries c.args.factor (2 ^ 64 - 1) a c.in_ok-add_term-in-Not.ensures.added))
+    let mid = c.add_truth-in-Not.new.form.entries in
+    let new = c.add_term-in-Not.new.form.entries in
+    rw (c.in-Not.is, ← c.deref-in-Not.ensures) (on_ok c.add_term-in-Not.result _ _
+    (λ (added : AddsSum mid new ((c.args.factor * (2 ^ 64 - 1)) % (2 ^ 64)) a). adds_both c.args.form.now.entries mid new c.args.factor (truth_sum true) (minus a) c.in_ok-add_truth-in-Not.ensures.added (adds_scaled mid new c.args.factor (2 ^ 64 - 1) a added))
+    c.add_term-in-Not.ensures.added)
 
-pub add_multiplied-returns-in_ok-add_product_of-in-Mul-clause-added : goal.add_multiplied-returns-in_ok-add_product_of-in-Mul-clause-added
-add_multiplied-returns-in_ok-add_product_of-in-Mul-clause-added t c =
-    rw (c.in-Mul.is, ← c.deref.ensures, ← c.deref-in-Mul.ensures) (adds_gathered c.args.form.now.entries c.add_product_of.new.form.entries c.args.factor (expand (shape c.deref.result.now)) (expand (shape c.deref-in-Mul.result.now)) (rw (← c.in_ok-f-in-Mul.ensures, ← c.in_ok-g-in-Mul.ensures) c.in_ok-add_product_of-in-Mul.ensures.added))
+pub add_multiplied-returns-in_ok-f-in-Mul-clause-added : goal.add_multiplied-returns-in_ok-f-in-Mul-clause-added
+add_multiplied-returns-in_ok-f-in-Mul-clause-added t c =
+    let first : c.in_ok-f-in-Mul.f ≡ gathered (expand (shape c.deref.result.now)) = search rules in
+    let second : c.in_ok-f-in-Mul.g ≡ gathered (expand (shape c.deref-in-Mul.result.now)) = search rules in
+    rw (c.in-Mul.is, ← c.deref.ensures, ← c.deref-in-Mul.ensures) (on_ok c.add_product_of.result _ _
+    (adds_gathered c.args.form.now.entries c.add_product_of.new.form.entries c.args.factor (expand (shape c.deref.result.now)) (expand (shape c.deref-in-Mul.result.now)))
+    (rw (← first, ← second) c.add_product_of.ensures.added))
 
-pub add_multiplied-returns-in_ok-add_product_of-in-And-clause-added : goal.add_multiplied-returns-in_ok-add_product_of-in-And-clause-added
-add_multiplied-returns-in_ok-add_product_of-in-And-clause-added t c =
-    rw (c.in-And.is, ← c.deref-in-And.ensures, ← c.deref-in-And-2.ensures) (adds_gathered c.args.form.now.entries c.add_product_of-in-And.new.form.entries c.args.factor (expand (shape c.deref-in-And.result.now)) (expand (shape c.deref-in-And-2.result.now)) (rw (← c.in_ok-f-in-And.ensures, ← c.in_ok-g-in-And.ensures) c.in_ok-add_product_of-in-And.ensures.added))
+pub add_multiplied-returns-in_ok-f-in-And-clause-added : goal.add_multiplied-returns-in_ok-f-in-And-clause-added
+add_multiplied-returns-in_ok-f-in-And-clause-added t c =
+    let first : c.in_ok-f-in-And.f ≡ gathered (expand (shape c.deref-in-And.result.now)) = search rules in
+    let second : c.in_ok-f-in-And.g ≡ gathered (expand (shape c.deref-in-And-2.result.now)) = search rules in
+    rw (c.in-And.is, ← c.deref-in-And.ensures, ← c.deref-in-And-2.ensures) (on_ok c.add_product_of-in-And.result _ _
+    (adds_gathered c.args.form.now.entries c.add_product_of-in-And.new.form.entries c.args.factor (expand (shape c.deref-in-And.result.now)) (expand (shape c.deref-in-And-2.result.now)))
+    (rw (← first, ← second) c.add_product_of-in-And.ensures.added))
 
-pub add_compared-returns-in_ok-add_less-in-LessEqual-clause-added : goal.add_compared-returns-in_ok-add_less-in-LessEqual-clause-added
-add_compared-returns-in_ok-add_less-in-LessEqual-clause-added t c =
+pub add_multiplied-returns-in_ok-f-in-Or-clause-added : goal.add_multiplied-returns-in_ok-f-in-Or-clause-added
+add_multiplied-returns-in_ok-f-in-Or-clause-added t c =
+    let first : c.in_ok-f-in-Or.f ≡ gathered (expand (shape c.deref-in-Or.result.now)) = search rules in
+    let second : c.in_ok-f-in-Or.g ≡ gathered (expand (shape c.deref-in-Or-2.result.now)) = search rules in
+    rw (c.in-Or.is, ← c.deref-in-Or.ensures, ← c.deref-in-Or-2.ensures) (on_ok c.add_either.result _ _
+    (adds_either c.args.form.now.entries c.add_either.new.form.entries c.args.factor (expand (shape c.deref-in-Or.result.now)) (expand (shape c.deref-in-Or-2.result.now)))
+    (rw (← first, ← second) c.add_either.ensures.added))
+
+pub add_compared-returns-in_ok-f-in-LessEqual-clause-added : goal.add_compared-returns-in_ok-f-in-LessEqual-clause-added
+add_compared-returns-in_ok-f-in-LessEqual-clause-added t c =
+    let first : c.in_ok-f-in-LessEqual.f ≡ gathered (expand (shape c.deref-in-LessEqual.result.now)) = search rules in
+    let second : c.in_ok-f-in-LessEqual.g ≡ gathered (expand (shape c.deref-in-LessEqual-2.result.now)) = search rules in
     let f = gathered (expand (shape c.deref-in-LessEqual.result.now)) in
     let g = gathered (expand (shape c.deref-in-LessEqual-2.result.now)) in
-    rw (c.in-LessEqual.is, ← c.deref-in-LessEqual.ensures, ← c.deref-in-LessEqual-2.ensures) (adds_both c.args.form.now.entries c.add_truth.new.form.entries c.add_less-in-LessEqual.new.form.entries c.args.factor (truth_sum true) (minus (less_sum g f)) c.in_ok-add_truth-in-LessEqual.ensures.added (adds_scaled c.add_truth.new.form.entries c.add_less-in-LessEqual.new.form.entries c.args.factor (2 ^ 64 - 1) (less_sum g f) (rw (← c.in_ok-f-in-LessEqual.ensures, ← c.in_ok-g-in-LessEqual.ensures) c.in_ok-add_less-in-LessEqual.ensures.added)))
+    let mid = c.add_truth.new.form.entries in
+    let new = c.add_less-in-LessEqual.new.form.entries in
+    rw (c.in-LessEqual.is, ← c.deref-in-LessEqual.ensures, ← c.deref-in-LessEqual-2.ensures) (on_ok c.add_less-in-LessEqual.result _ _
+    (λ (added : AddsSum mid new ((c.args.factor * (2 ^ 64 - 1)) % (2 ^ 64)) (less_sum g f)). adds_both c.args.form.now.entries mid new c.args.factor (truth_sum true) (minus (less_sum g f)) c.in_ok-add_truth-in-LessEqual.ensures.added (adds_scaled mid new c.args.factor (2 ^ 64 - 1) (less_sum g f) added))
+    (rw (← first, ← second) c.add_less-in-LessEqual.ensures.added))
 
-pub add_multiplied-returns-in_ok-add_either-in-Or-clause-added : goal.add_multiplied-returns-in_ok-add_either-in-Or-clause-added
-add_multiplied-returns-in_ok-add_either-in-Or-clause-added t c =
-    rw (c.in-Or.is, ← c.deref-in-Or.ensures, ← c.deref-in-Or-2.ensures) (adds_either c.args.form.now.entries c.add_either.new.form.entries c.args.factor (expand (shape c.deref-in-Or.result.now)) (expand (shape c.deref-in-Or-2.result.now)) (rw (← c.in_ok-f-in-Or.ensures, ← c.in_ok-g-in-Or.ensures) c.in_ok-add_either-in-Or.ensures.added))
+pub add_choice-returns-in_ok-f-in-Choose-clause-added : goal.add_choice-returns-in_ok-f-in-Choose-clause-added
+add_choice-returns-in_ok-f-in-Choose-clause-added t c =
+    let one : c.in_ok-f-in-Choose.f ≡ gathered (expand (shape c.in-Choose.c.value)) = search rules in
+    let first : c.in_ok-f-in-Choose.g ≡ gathered (expand (shape c.in-Choose.a.value)) = search rules in
+    let second : c.in_ok-f-in-Choose.h ≡ gathered (expand (shape c.in-Choose.b.value)) = search rules in
+    rw c.in-Choose.is (on_ok c.add_chosen.result _ _
+    (adds_chosen c.args.form.now.entries c.add_chosen.new.form.entries c.args.factor (expand (shape c.in-Choose.c.value)) (expand (shape c.in-Choose.a.value)) (expand (shape c.in-Choose.b.value)))
+    (rw (← one, ← first, ← second) c.add_chosen.ensures.added))
 
-pub add_choice-returns-in_ok-add_chosen-in-Choose-clause-added : goal.add_choice-returns-in_ok-add_chosen-in-Choose-clause-added
-add_choice-returns-in_ok-add_chosen-in-Choose-clause-added t c =
-    rw (c.in-Choose.is, ← c.deref.ensures, ← c.deref-in-Choose.ensures, ← c.deref-in-Choose-2.ensures) (adds_chosen c.args.form.now.entries c.add_chosen.new.form.entries c.args.factor (expand (shape c.deref.result.now)) (expand (shape c.deref-in-Choose.result.now)) (expand (shape c.deref-in-Choose-2.result.now)) (rw (← c.in_ok-f-in-Choose.ensures, ← c.in_ok-g-in-Choose.ensures, ← c.in_ok-h-in-Choose.ensures) c.in_ok-add_chosen-in-Choose.ensures.added))
+pub add_selected-returns-in-Select-clause-added : goal.add_selected-returns-in-Select-clause-added
+add_selected-returns-in-Select-clause-added t c =
+    rw (c.in-Select.is, ← c.deref.ensures, ← c.deref-in-Select.ensures) (on_ok c.add_item_of.result _ _
+    (both_known c.array_of.result c.polynomial_of.result (array_of (shape c.deref.result.now)) (gathered (expand (shape c.deref-in-Select.result.now))) (λ a i. AddsSum c.args.form.now.entries c.add_item_of.new.form.entries c.args.factor (selected a i)) c.array_of.ensures c.polynomial_of.ensures)
+    c.add_item_of.ensures.added)
+
+pub add_equated-returns-in_ok-f-in-Long-clause-added : goal.add_equated-returns-in_ok-f-in-Long-clause-added
+add_equated-returns-in_ok-f-in-Long-clause-added t c =
+    let a : PlainTerm = shape c.deref-in-Long.result.now in
+    let b : PlainTerm = shape c.deref-in-Long-2.result.now in
+    let kind : sort_of a ≡ Long = ap (λ x. sort_of (shape x)) (c.deref-in-Long.ensures ∙ sym c.deref.ensures) ∙ sym c.sort.ensures ∙ c.in-Long.is in
+    let first : c.in_ok-f-in-Long.f ≡ gathered (expand (shape c.deref-in-Long.result.now)) = search rules in
+    let second : c.in_ok-f-in-Long.g ≡ gathered (expand (shape c.deref-in-Long-2.result.now)) = search rules in
+    let parts : OnOk c.add_same.result (AddsSum c.args.form.now.entries c.add_same.new.form.entries c.args.factor (same_numbers (products_of (gathered (expand a))) (products_of (gathered (expand b))))) = rw (← first, ← second) c.add_same.ensures.added in
+    let whole : OnOk c.add_same.result (AddsSum c.args.form.now.entries c.add_same.new.form.entries c.args.factor (same_numbers (expand a) (expand b))) = subst (λ (z : Sum PlainMonomial). OnOk c.add_same.result (AddsSum c.args.form.now.entries c.add_same.new.form.entries c.args.factor z)) (same_numbers_gathered (expand a) (expand b)) parts in
+    rw (c.in-Same.is, ← c.deref-in-Long.ensures, ← c.deref-in-Long-2.ensures, kind) whole
+
+pub add_equated-returns-in_ok-f-in-Bool-clause-added : goal.add_equated-returns-in_ok-f-in-Bool-clause-added
+add_equated-returns-in_ok-f-in-Bool-clause-added t c =
+    let a : PlainTerm = shape c.deref-in-Bool.result.now in
+    let b : PlainTerm = shape c.deref-in-Bool-2.result.now in
+    let kind : sort_of a ≡ Truth = ap (λ x. sort_of (shape x)) (c.deref-in-Bool.ensures ∙ sym c.deref.ensures) ∙ sym c.sort.ensures ∙ c.in-Bool.is in
+    let first : c.in_ok-f-in-Bool.f ≡ gathered (expand (shape c.deref-in-Bool.result.now)) = search rules in
+    let second : c.in_ok-f-in-Bool.g ≡ gathered (expand (shape c.deref-in-Bool-2.result.now)) = search rules in
+    rw (c.in-Same.is, ← c.deref-in-Bool.ensures, ← c.deref-in-Bool-2.ensures, kind) (on_ok c.add_same_truths.result _ _
+    (adds_same_truths c.args.form.now.entries c.add_same_truths.new.form.entries c.args.factor (expand a) (expand b))
+    (rw (← first, ← second) c.add_same_truths.ensures.added))
+
+pub item_pointer-returns-in-Select : goal.item_pointer-returns-in-Select
+item_pointer-returns-in-Select t c =
+    let is : pointer_of (select (shape c.deref.result.now) (shape c.deref-in-Select.result.now)) ≡ pointer_of (shape c.args.term.now) = rw (c.in-Select.is, ← c.deref.ensures, ← c.deref-in-Select.ensures) refl in
+    both_made c.pointer_of_item.result c.array_of.result c.polynomial_of.result selected_pointer (array_of (shape c.deref.result.now)) (gathered (expand (shape c.deref-in-Select.result.now))) (pointer_of (shape c.args.term.now)) is c.array_of.ensures c.polynomial_of.ensures c.pointer_of_item.ensures
+
+pub arguments_of-loop-term-preserved : goal.arguments_of-loop-term-preserved
+arguments_of-loop-term-preserved t c =
+    let i : ℕ = c.loop-term.term-index in
+    let ts : List Term = c.args.terms.now in
+    let x : Term = c.term-item.result in
+    let step : map shape (take (i + 1) ts) ≡ map shape (take i ts) ++ shape x ∷ [] = shapes_more ts i x c.term-item.is c.loop-term-test.true in
+    put_behind c.scalar_of.result (scalar_of (shape x)) c.loop-term.items.items c.add.new.items.items c.in_ok-add.ensures c.scalar_of.ensures
+    ∙ ap (λ z. z ++ scalar_of (shape x) ∷ []) c.loop-term.invariant ∙ sym (map-append scalar_of (map shape (take i ts)) (shape x ∷ [])) ∙ ap (map scalar_of) (sym step)
 
 pub polynomial_of-returns : goal.polynomial_of-returns
 polynomial_of-returns t c =
@@ -61,23 +142,6 @@ polynomial_of-returns t c =
     let added : AddsSum [] es 1 (expand (shape c.args.term.now)) = rw (← c.new-form.ensures.empty) c.in_ok-add_term.ensures.added in
     let e : es ≡ collect monomial_cmp (expand (shape c.args.term.now)) = gathered_is monomial_cmp monomials_exact es (expand (shape c.args.term.now)) c.finish.ensures.ordered c.in_ok-add_term.ensures.nonzero added in
     subst (λ (z : Sum PlainMonomial). IfOk c.finish.result (λ f. f ≡ polynomial_of z)) e c.finish.ensures.value
-
-pub add_equated-returns-in_ok-add_same-in-Long-clause-added : goal.add_equated-returns-in_ok-add_same-in-Long-clause-added
-add_equated-returns-in_ok-add_same-in-Long-clause-added t c =
-    let a : PlainTerm = shape c.deref-in-Long.result.now in
-    let b : PlainTerm = shape c.deref-in-Long-2.result.now in
-    let kind : sort_of a ≡ Long = ap (λ x. sort_of (shape x)) (c.deref-in-Long.ensures ∙ sym c.deref.ensures) ∙ sym c.sort.ensures ∙ c.in-Long.is in
-    let parts : AddsSum c.args.form.now.entries c.add_same.new.form.entries c.args.factor (same_numbers (products_of (gathered (expand a))) (products_of (gathered (expand b)))) = rw (← c.in_ok-f-in-Long.ensures, ← c.in_ok-g-in-Long.ensures) c.in_ok-add_same-in-Long.ensures.added in
-    let whole : AddsSum c.args.form.now.entries c.add_same.new.form.entries c.args.factor (same_numbers (expand a) (expand b)) = subst (λ (z : Sum PlainMonomial). AddsSum c.args.form.now.entries c.add_same.new.form.entries c.args.factor z) (same_numbers_gathered (expand a) (expand b)) parts in
-    rw (c.in-Same.is, ← c.deref-in-Long.ensures, ← c.deref-in-Long-2.ensures, kind) whole
-
-pub add_equated-returns-in_ok-add_same_truths-in-Bool-clause-added : goal.add_equated-returns-in_ok-add_same_truths-in-Bool-clause-added
-add_equated-returns-in_ok-add_same_truths-in-Bool-clause-added t c =
-    let a : PlainTerm = shape c.deref-in-Bool.result.now in
-    let b : PlainTerm = shape c.deref-in-Bool-2.result.now in
-    let kind : sort_of a ≡ Truth = ap (λ x. sort_of (shape x)) (c.deref-in-Bool.ensures ∙ sym c.deref.ensures) ∙ sym c.sort.ensures ∙ c.in-Bool.is in
-    let parts : AddsSum c.args.form.now.entries c.add_same_truths.new.form.entries c.args.factor (same_truths (products_of (gathered (expand a))) (products_of (gathered (expand b)))) = rw (← c.in_ok-f-in-Bool.ensures, ← c.in_ok-g-in-Bool.ensures) c.in_ok-add_same_truths-in-Bool.ensures.added in
-    rw (c.in-Same.is, ← c.deref-in-Bool.ensures, ← c.deref-in-Bool-2.ensures, kind) (adds_same_truths c.args.form.now.entries c.add_same_truths.new.form.entries c.args.factor (expand a) (expand b) parts)
 
 pub part_of-returns-in_ok-receiver-in-Result : goal.part_of-returns-in_ok-receiver-in-Result
 part_of-returns-in_ok-receiver-in-Result t c =
