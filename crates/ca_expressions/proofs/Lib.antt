@@ -4,6 +4,5 @@ pub mod Follow
 pub mod Fronts
 pub mod Lists
 pub mod Outer
-pub mod Readings
 pub mod Rules
 pub mod Terminals

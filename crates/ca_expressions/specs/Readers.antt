@@ -1,6 +1,11 @@
 -- What the clauses of parsing functions speak of: what a call answers, and what may follow.
 use Rattle.std.specs.Prelude.{ℕ, List, Result, Ok, Err}
 use Rattle.std.specs.Borrow.{Bor}
+use Rattle.std.specs.declared.boxed.Box.{Box}
+use Rattle.std.specs.Global.{Global}
+use Rattle.ca_tree.specs.Plain.{Expression}
+use Rattle.ca_tree.specs.View.{expression_view}
+use Rattle.ca_tree.specs.declared.tree.ExprNode.{ExprNode}
 use Rattle.ca_descent.specs.Exact.{Grammar, Unlimited, Before, Failure, NoMemory, Wrong, TooDeep, Answer, Got, Failed}
 use Rattle.ca_tree.specs.declared.token.Token.{Token}
 use Rattle.ca_expressions.specs.Terminals.{goes_on}
@@ -22,3 +27,7 @@ answer view (Err e) = Failed (failure e)
 -- derivations of G behind which stands no token that goes on with an expression of level k
 abbrev pub Closed : {A : Type 0} → ℕ → (List Token → A → List Token → Type 0) → Grammar Token A
 Closed k G = Before (goes_on k) (Unlimited G)
+
+-- an expression in a box
+abbrev pub node_view : Box ExprNode Global → Expression
+node_view b = expression_view b.value

@@ -4,7 +4,7 @@ ghost use Rattle.std.specs.Prelude.{◌≡◌, ◌<◌, ◌≤◌, ◌+◌, leng
 ghost use Rattle.ca_descent.specs.Exact.{Exact, widened};
 ghost use Rattle.ca_tree.specs.View.{expression_view};
 ghost use Rattle.ca_expressions.specs.Grammar.{OuterExpression, ExpressionEnded, OuterChain, ChainEnded, is_call as is_call_tree, is_target as is_target_tree};
-ghost use Rattle.ca_expressions.specs.Readers.{answer};
+ghost use Rattle.ca_expressions.specs.Readers.{answer, node_view};
 
 use crate::inner::{parse_inner_chain, parse_level};
 use crate::tokens::Fault;
@@ -27,10 +27,10 @@ fn first_tokens(tokens: &[Token]) -> &[Token]
 fn limited<'a>(
     tokens: &'a [Token],
     head: &'a [Token],
-    inner: Result<(ExprNode, &'a [Token]), Fault<'a>>,
-) -> Result<(ExprNode, &'a [Token]), Fault<'a>>
+    inner: Result<(Box<ExprNode>, &'a [Token]), Fault<'a>>,
+) -> Result<(Box<ExprNode>, &'a [Token]), Fault<'a>>
     requires { head.now ≡ take (MOST_IN_EXPRESSION + 1) tokens.now }
-    ensures answer { answer expression_view result ≡ widened MOST_IN_EXPRESSION tokens.now (answer expression_view inner.entry) }
+    ensures answer { answer node_view result ≡ widened MOST_IN_EXPRESSION tokens.now (answer node_view inner.entry) }
     ensures shorter { IfOk inner.entry (λ p. length p.1.now < length head.now) → IfOk result (λ p. length p.1.now < length tokens.now) }
 {
     match inner {
@@ -69,8 +69,8 @@ fn behind(tokens: &[Token], read: usize) -> &[Token]
 pub fn parse_expression<'a>(
     alloc: Global,
     tokens: &'a [Token],
-) -> Result<(ExprNode, &'a [Token]), Fault<'a>>
-    ensures answer { Exact OuterExpression ExpressionEnded tokens.now (answer expression_view result) }
+) -> Result<(Box<ExprNode>, &'a [Token]), Fault<'a>>
+    ensures answer { Exact OuterExpression ExpressionEnded tokens.now (answer node_view result) }
     ensures shorter { IfOk result (λ p. length p.1.now < length tokens.now) }
 {
     let head = first_tokens(tokens);
@@ -81,8 +81,8 @@ pub fn parse_expression<'a>(
 pub fn parse_chain<'a>(
     alloc: Global,
     tokens: &'a [Token],
-) -> Result<(ExprNode, &'a [Token]), Fault<'a>>
-    ensures answer { Exact OuterChain ChainEnded tokens.now (answer expression_view result) }
+) -> Result<(Box<ExprNode>, &'a [Token]), Fault<'a>>
+    ensures answer { Exact OuterChain ChainEnded tokens.now (answer node_view result) }
     ensures shorter { IfOk result (λ p. length p.1.now < length tokens.now) }
 {
     let head = first_tokens(tokens);

@@ -6,13 +6,13 @@ ghost use Rattle.ca_tree.specs.View.{expression_view};
 ghost use Rattle.ca_tree.specs.Operators.{unary_level};
 ghost use Rattle.ca_expressions.specs.Terminals.{sign, goes_on};
 ghost use Rattle.ca_expressions.specs.Grammar.{Level, Operands, Unary, Primary, Chain, Tails, Tail, Args};
-ghost use Rattle.ca_expressions.specs.Readers.{answer, Closed};
+ghost use Rattle.ca_expressions.specs.Readers.{answer, node_view, Closed};
 ghost use Rattle.ca_tree.specs.declared.token.Sign.TheVariants.{OpenParenthesis};
 
-use crate::nodes::{binary, field, index, method, unary};
+use crate::nodes::{add, binary, boxed, field, index, method, node, unary};
 use crate::tokens::{
     Fault, is_sign, is_tail, key_at, literal_at, operator_at, sign_at, take_name, take_sign,
-    together, unary_at,
+    unary_at,
 };
 use ca_tree::{ExprKind, ExprNode, Keyword, LEVELS, Sign, Token};
 use std::alloc::Global;
@@ -23,9 +23,9 @@ pub fn parse_level<'a>(
     alloc: Global,
     level: usize,
     tokens: &'a [Token],
-) -> Result<(ExprNode, &'a [Token]), Fault<'a>>
+) -> Result<(Box<ExprNode>, &'a [Token]), Fault<'a>>
     requires { level ≤ LEVELS }
-    ensures answer { Exact (Unlimited (Level level)) (Closed level (Level level)) tokens.now (answer expression_view result) }
+    ensures answer { Exact (Unlimited (Level level)) (Closed level (Level level)) tokens.now (answer node_view result) }
     ensures shorter { IfOk result (λ p. length p.1.now < length tokens.now) }
 {
     let (mut front, mut rest) = parse_unary(alloc, tokens)?;
@@ -42,11 +42,11 @@ pub fn parse_level<'a>(
 fn parse_operands<'a>(
     alloc: Global,
     level: usize,
-    first: ExprNode,
+    first: Box<ExprNode>,
     tokens: &'a [Token],
-) -> Result<(ExprNode, &'a [Token]), Fault<'a>>
+) -> Result<(Box<ExprNode>, &'a [Token]), Fault<'a>>
     requires { level < LEVELS }
-    ensures answer { Exact (Unlimited (Operands level (expression_view first))) (Closed level (Operands level (expression_view first))) tokens.now (answer expression_view result) }
+    ensures answer { Exact (Unlimited (Operands level (node_view first))) (Closed level (Operands level (node_view first))) tokens.now (answer node_view result) }
     ensures shorter { IfOk result (λ p. length p.1.now ≤ length tokens.now) }
 {
     let mut front = first;
@@ -60,8 +60,8 @@ fn parse_operands<'a>(
 }
 
 #[cycle(expression)]
-fn parse_unary<'a>(alloc: Global, tokens: &'a [Token]) -> Result<(ExprNode, &'a [Token]), Fault<'a>>
-    ensures answer { Exact (Unlimited Unary) (Closed unary_level Unary) tokens.now (answer expression_view result) }
+fn parse_unary<'a>(alloc: Global, tokens: &'a [Token]) -> Result<(Box<ExprNode>, &'a [Token]), Fault<'a>>
+    ensures answer { Exact (Unlimited Unary) (Closed unary_level Unary) tokens.now (answer node_view result) }
     ensures shorter { IfOk result (λ p. length p.1.now < length tokens.now) }
 {
     let Some(((op, at), rest)) = unary_at(tokens) else {
@@ -76,18 +76,19 @@ fn parse_unary<'a>(alloc: Global, tokens: &'a [Token]) -> Result<(ExprNode, &'a 
 fn parse_primary<'a>(
     alloc: Global,
     tokens: &'a [Token],
-) -> Result<(ExprNode, &'a [Token]), Fault<'a>>
-    ensures answer { Exact (Unlimited Primary) (Closed unary_level Primary) tokens.now (answer expression_view result) }
+) -> Result<(Box<ExprNode>, &'a [Token]), Fault<'a>>
+    ensures answer { Exact (Unlimited Primary) (Closed unary_level Primary) tokens.now (answer node_view result) }
     ensures shorter { IfOk result (λ p. length p.1.now < length tokens.now) }
 {
     if let Some((literal, rest)) = literal_at(tokens) {
+        let literal = boxed(alloc, literal)?;
         return Ok((literal, rest));
     }
     let Some((_, rest)) = sign_at(tokens, Sign::OpenParenthesis) else {
         return parse_inner_chain(alloc, tokens);
     };
     let (inner, rest) = parse_level(alloc, 0, rest)?;
-    let ((inner, _), rest) = together(inner, take_sign(rest, Sign::CloseParenthesis))?;
+    let (_, rest) = take_sign(rest, Sign::CloseParenthesis)?;
     parse_tails(alloc, inner, rest)
 }
 
@@ -96,32 +97,32 @@ fn parse_primary<'a>(
 pub fn parse_inner_chain<'a>(
     alloc: Global,
     tokens: &'a [Token],
-) -> Result<(ExprNode, &'a [Token]), Fault<'a>>
-    ensures answer { Exact (Unlimited Chain) (Closed unary_level Chain) tokens.now (answer expression_view result) }
+) -> Result<(Box<ExprNode>, &'a [Token]), Fault<'a>>
+    ensures answer { Exact (Unlimited Chain) (Closed unary_level Chain) tokens.now (answer node_view result) }
     ensures shorter { IfOk result (λ p. length p.1.now < length tokens.now) }
 {
     if let Some((at, rest)) = key_at(tokens, Keyword::This) {
-        let kind = ExprKind::This;
-        return parse_tails(alloc, ExprNode { at, kind }, rest);
+        let front = node(alloc, at, ExprKind::This)?;
+        return parse_tails(alloc, front, rest);
     }
     let ((name, at), rest) = take_name(alloc, tokens)?;
     if !is_sign(rest, Sign::OpenParenthesis) {
-        let kind = ExprKind::Named(name);
-        return parse_tails(alloc, ExprNode { at, kind }, rest);
+        let front = node(alloc, at, ExprKind::Named(name))?;
+        return parse_tails(alloc, front, rest);
     }
     let (args, rest) = parse_args(alloc, rest)?;
-    let kind = ExprKind::Call(name, args);
-    parse_tails(alloc, ExprNode { at, kind }, rest)
+    let front = node(alloc, at, ExprKind::Call(name, args))?;
+    parse_tails(alloc, front, rest)
 }
 
 /// The tails of the chain.
 #[cycle(expression)]
 fn parse_tails<'a>(
     alloc: Global,
-    first: ExprNode,
+    first: Box<ExprNode>,
     tokens: &'a [Token],
-) -> Result<(ExprNode, &'a [Token]), Fault<'a>>
-    ensures answer { Exact (Unlimited (Tails (expression_view first))) (Closed unary_level (Tails (expression_view first))) tokens.now (answer expression_view result) }
+) -> Result<(Box<ExprNode>, &'a [Token]), Fault<'a>>
+    ensures answer { Exact (Unlimited (Tails (node_view first))) (Closed unary_level (Tails (node_view first))) tokens.now (answer node_view result) }
     ensures shorter { IfOk result (λ p. length p.1.now ≤ length tokens.now) }
 {
     let mut front = first;
@@ -136,25 +137,25 @@ fn parse_tails<'a>(
 #[cycle(expression)]
 fn parse_tail<'a>(
     alloc: Global,
-    front: ExprNode,
+    front: Box<ExprNode>,
     tokens: &'a [Token],
-) -> Result<(ExprNode, &'a [Token]), Fault<'a>>
-    ensures answer { Exact (Unlimited (Tail (expression_view front))) (Before (sign OpenParenthesis) (Unlimited (Tail (expression_view front)))) tokens.now (answer expression_view result) }
+) -> Result<(Box<ExprNode>, &'a [Token]), Fault<'a>>
+    ensures answer { Exact (Unlimited (Tail (node_view front))) (Before (sign OpenParenthesis) (Unlimited (Tail (node_view front)))) tokens.now (answer node_view result) }
     ensures shorter { IfOk result (λ p. length p.1.now < length tokens.now) }
 {
     if let Some((at, rest)) = sign_at(tokens, Sign::OpenBracket) {
-        let (parts, rest) = together(front, parse_level(alloc, 0, rest))?;
-        let (((front, item), _), rest) = together(parts, take_sign(rest, Sign::CloseBracket))?;
+        let (item, rest) = parse_level(alloc, 0, rest)?;
+        let (_, rest) = take_sign(rest, Sign::CloseBracket)?;
         let node = index(alloc, at, front, item)?;
         return Ok((node, rest));
     }
-    let ((front, at), rest) = together(front, take_sign(tokens, Sign::Arrow))?;
-    let ((front, (name, _)), rest) = together(front, take_name(alloc, rest))?;
+    let (at, rest) = take_sign(tokens, Sign::Arrow)?;
+    let ((name, _), rest) = take_name(alloc, rest)?;
     if !is_sign(rest, Sign::OpenParenthesis) {
         let node = field(alloc, at, front, name)?;
         return Ok((node, rest));
     }
-    let (((front, name), args), rest) = together((front, name), parse_args(alloc, rest))?;
+    let (args, rest) = parse_args(alloc, rest)?;
     let node = method(alloc, at, front, name, args)?;
     Ok((node, rest))
 }
@@ -174,11 +175,11 @@ fn parse_args<'a>(
         return Ok((out, end));
     }
     let (first, more) = parse_level(alloc, 0, behind)?;
-    out.push(first)?;
+    add(&mut out, first)?;
     let mut rest = more;
     'more: while let Some((_, more)) = sign_at(rest, Sign::Comma) {
         let (arg, more) = parse_level(alloc, 0, more)?;
-        out.push(arg)?;
+        add(&mut out, arg)?;
         rest = more;
     }
     let Some((_, end)) = sign_at(rest, Sign::CloseParenthesis) else {

@@ -16,7 +16,8 @@ mod nodes;
 mod tokens;
 
 pub use expressions::{is_call, is_target, parse_chain, parse_expression};
+pub use nodes::{add, boxed};
 pub use tokens::{
     Fault, is_key, is_name, is_sign, is_zero, key_at, number_at, sign_at, take_key, take_name,
-    take_number, take_sign, together,
+    take_number, take_sign,
 };

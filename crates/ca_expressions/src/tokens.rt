@@ -1,6 +1,6 @@
 //! What stands in front of the tokens: a key word, a sign, a name, a number.
 
-ghost use Rattle.std.specs.Prelude.{◌≡◌, ◌<◌, length, IfSome, IfNone, IfOk, IfErr, None, Ok, Err, is_some};
+ghost use Rattle.std.specs.Prelude.{◌≡◌, ◌<◌, length, IfSome, IfNone, IfOk, None, is_some};
 ghost use Rattle.ca_descent.specs.Exact.{Unlimited, Exact, Sees, head_of};
 ghost use Rattle.ca_tree.specs.View.{expression_view};
 ghost use Rattle.ca_expressions.specs.Terminals.{key, sign, name, number, zero, tail_front, literal, unary_operator, operator};
@@ -251,20 +251,4 @@ pub fn take_name<'a>(
     };
     let name = found.copy(alloc)?;
     Ok(((name, token.at), rest))
-}
-
-/// The value and what was read behind it. Where nothing was read the value is dropped here, in one
-/// function for values of all types.
-pub fn together<'a, T: Drop, U>(
-    value: T,
-    read: Result<(U, &'a [Token]), Fault<'a>>,
-) -> Result<((T, U), &'a [Token]), Fault<'a>>
-    ensures value { IfOk result (λ p. p.0.0 ≡ value) }
-    ensures found { IfOk result (λ p. read.entry ≡ Ok (p.0.1, p.1)) }
-    ensures failed { IfErr result (λ fault. read.entry ≡ Err fault) }
-{
-    match read {
-        Ok((found, rest)) => Ok(((value, found), rest)),
-        Err(fault) => Err(fault),
-    }
 }

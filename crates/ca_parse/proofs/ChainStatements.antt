@@ -22,9 +22,11 @@ use Rattle.ca_expressions.proofs.Terminals.{token, start, key_gives, sign_gives,
 use Rattle.ca_expressions.specs.Readers.{answer}
 use Rattle.ca_expressions.specs.declared.tokens.Fault.{Fault}
 use Rattle.std.specs.Borrow.{Bor}
+use Rattle.std.specs.declared.boxed.Box.{Box}
+use Rattle.std.specs.Global.{Global}
 use Rattle.std.specs.Prelude.{Result, Ok, Err, IfOk}
 use Rattle.ca_parse.specs.Grammar.{Deriving, TypeName, long, bool, pointer, Local, declares, begins, Change, puts, changes, increments, decrements, Compound, plus_assign, minus_assign, times_assign, assigns, AssignLine, assign_line, First, first_local, first_assign, Stmt, nothing, a_block, an_assign, a_call, an_if, an_if_else, a_while, a_for, a_return, a_print, Item, a_local, a_statement, is_open, statements, first_place}
-use Rattle.ca_parse.specs.clauses.Closed.{assign_to, Use, calling, putting, use_by, use_of, Used, called, put, StmtClosed, ItemClosed, ReturnRest, return_rest, PrintRest, print_rest, Simple, simple_call, simple_put}
+use Rattle.ca_parse.specs.clauses.Closed.{assign_to, Use, calling, putting, use_by, use_of, Used, called, put, StmtClosed, ItemClosed, ReturnRest, return_rest, PrintRest, print_rest, Simple, simple_call, simple_put, stmt_view}
 use Rattle.ca_parse.proofs.Uses.{a_picked}
 use Rattle.ca_parse.proofs.Locals.{LocalOr, a_local as or_local, another, Other}
 use Rattle.ca_parse.proofs.AssignRules.{put_to, ended_sign, change_ended}
@@ -144,8 +146,8 @@ shut_of f d = f 0 _ _ _ (d.meets.reads 0 [])
 
 -- the same of the answer of a call
 pub tail_shut : {D C : Deriving Statement} {s : List Token} → ((free : ℕ) (s r : List Token) (x : Statement) → D free s x r → is_open x ≡ false)
-    → (o : Result (StmtNode × Bor (List Token)) Fault) → Exact D C s (answer statement_view o)
-    → IfOk o (λ p. is_some (head_of (key Else) p.1.now) ≡ true → is_open (statement_view p.0) ≡ false)
+    → (o : Result (Box StmtNode Global × Bor (List Token)) Fault) → Exact D C s (answer stmt_view o)
+    → IfOk o (λ p. is_some (head_of (key Else) p.1.now) ≡ true → is_open (stmt_view p.0) ≡ false)
 tail_shut f (Ok p) d = λ e. shut_of f d
 tail_shut f (Err e) d = tt
 

@@ -41,3 +41,12 @@ ended_answer view {x} (Err f) d = exact_image view (λ free s r z c. viewed_join
   where
     viewed_join : (free : ℕ) (s r : List Token) (z : _) → Ended x free s z r → (last (view x)).D free s (view z) r
     viewed_join free s r z (semicolon e) = then e done
+
+-- the same of any answer
+pub ended_exact : {A : Type 0} {x : A} {s : List Token} {o : _} → Exact (Ended x) (Ended x) s o → Exact (last x).D (last x).C s o
+ended_exact {x = x} d = exact_map join split d
+  where
+    join : (free : ℕ) (s r : List Token) (y : _) → Ended x free s y r → (last x).D free s y r
+    join free s r y (semicolon e) = then e done
+    split : (free : ℕ) (s r : List Token) (y : _) → (last x).C free s y r → Ended x free s y r
+    split free s r y (upto e done) = semicolon e

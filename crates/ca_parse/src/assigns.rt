@@ -3,12 +3,12 @@
 ghost use Rattle.std.specs.Prelude.{◌≡◌, pos};
 ghost use Rattle.ca_tree.specs.Plain.{value, number};
 ghost use Rattle.ca_descent.specs.Exact.{Exact, Unlimited};
-ghost use Rattle.ca_tree.specs.View.{expression_view, right_view, statement_view};
-ghost use Rattle.ca_expressions.specs.Readers.{answer};
+ghost use Rattle.ca_tree.specs.View.{expression_view, right_view};
+ghost use Rattle.ca_expressions.specs.Readers.{answer, node_view};
 ghost use Rattle.ca_parse.specs.Grammar.{Right as RightSide, Local, Compound, Change, Assign, AssignLine, First, first_place as first_place_of};
-ghost use Rattle.ca_parse.specs.clauses.Closed.{RightClosed, ChangeClosed, AssignClosed, AssignTo, AssignToClosed};
+ghost use Rattle.ca_parse.specs.clauses.Closed.{RightClosed, ChangeClosed, AssignClosed, AssignTo, AssignToClosed, stmt_view};
 
-use crate::endings::ended;
+use crate::endings::{ended, line, statement};
 use crate::types::{begins_local, parse_type};
 use ca_expressions::{
     Fault, is_target, key_at, parse_chain, parse_expression, sign_at, take_name, take_sign,
@@ -40,7 +40,7 @@ pub fn parse_right<'a>(
 {
     let Some((_, rest)) = key_at(tokens, Keyword::New) else {
         let (value, rest) = parse_expression(alloc, tokens)?;
-        return Ok((Right::Value(value), rest));
+        return Ok((Right::Value(Box::into_inner(value)), rest));
     };
     let ((class, at), rest) = take_name(alloc, rest)?;
     let Some((_, more)) = sign_at(rest, Sign::OpenParenthesis) else {
@@ -54,8 +54,8 @@ pub fn parse_right<'a>(
 pub fn parse_local<'a>(
     alloc: Global,
     tokens: &'a [Token],
-) -> Result<(StmtNode, &'a [Token]), Fault<'a>>
-    ensures answer { Exact Local Local tokens.now (answer statement_view result) }
+) -> Result<(Box<StmtNode>, &'a [Token]), Fault<'a>>
+    ensures answer { Exact Local Local tokens.now (answer stmt_view result) }
 {
     let ((ty, at), rest) = parse_type(alloc, tokens)?;
     let ((name, name_at), rest) = take_name(alloc, rest)?;
@@ -66,7 +66,7 @@ pub fn parse_local<'a>(
             name_at,
             value: None,
         };
-        return ended(StmtNode { at, kind }, rest);
+        return line(alloc, at, kind, rest);
     };
     let (value, rest) = parse_right(alloc, more)?;
     let kind = StmtKind::Local {
@@ -75,7 +75,7 @@ pub fn parse_local<'a>(
         name_at,
         value: Some(value),
     };
-    ended(StmtNode { at, kind }, rest)
+    line(alloc, at, kind, rest)
 }
 
 /// `+=`, `-=` or `*=`.
@@ -119,29 +119,30 @@ fn parse_change<'a>(
     }
     let (op, rest) = parse_compound(tokens)?;
     let (value, rest) = parse_expression(alloc, rest)?;
-    Ok(((op, Right::Value(value)), rest))
+    Ok(((op, Right::Value(Box::into_inner(value))), rest))
 }
 
 /// What the assignment does behind its target.
 pub fn parse_assign_to<'a>(
     alloc: Global,
-    target: ExprNode,
+    target: Box<ExprNode>,
     tokens: &'a [Token],
-) -> Result<(StmtNode, &'a [Token]), Fault<'a>>
-    ensures answer { Exact (AssignTo (expression_view target)) (AssignToClosed (expression_view target)) tokens.now (answer statement_view result) }
+) -> Result<(Box<StmtNode>, &'a [Token]), Fault<'a>>
+    ensures answer { Exact (AssignTo (node_view target)) (AssignToClosed (node_view target)) tokens.now (answer stmt_view result) }
 {
     let at = first_place(&target);
     let ((op, right), rest) = parse_change(alloc, tokens)?;
-    let kind = StmtKind::Assign { target, op, right };
-    Ok((StmtNode { at, kind }, rest))
+    let target = Box::into_inner(target);
+    let made = statement(alloc, at, StmtKind::Assign { target, op, right })?;
+    Ok((made, rest))
 }
 
 /// An assignment.
 pub fn parse_assign<'a>(
     alloc: Global,
     tokens: &'a [Token],
-) -> Result<(StmtNode, &'a [Token]), Fault<'a>>
-    ensures answer { Exact Assign AssignClosed tokens.now (answer statement_view result) }
+) -> Result<(Box<StmtNode>, &'a [Token]), Fault<'a>>
+    ensures answer { Exact Assign AssignClosed tokens.now (answer stmt_view result) }
 {
     let (target, rest) = parse_chain(alloc, tokens)?;
     if !is_target(&target) {
@@ -154,8 +155,8 @@ pub fn parse_assign<'a>(
 pub fn parse_first<'a>(
     alloc: Global,
     tokens: &'a [Token],
-) -> Result<(StmtNode, &'a [Token]), Fault<'a>>
-    ensures answer { Exact First First tokens.now (answer statement_view result) }
+) -> Result<(Box<StmtNode>, &'a [Token]), Fault<'a>>
+    ensures answer { Exact First First tokens.now (answer stmt_view result) }
 {
     if begins_local(tokens) {
         return parse_local(alloc, tokens);
@@ -167,8 +168,8 @@ pub fn parse_first<'a>(
 fn parse_assign_line<'a>(
     alloc: Global,
     tokens: &'a [Token],
-) -> Result<(StmtNode, &'a [Token]), Fault<'a>>
-    ensures answer { Exact AssignLine AssignLine tokens.now (answer statement_view result) }
+) -> Result<(Box<StmtNode>, &'a [Token]), Fault<'a>>
+    ensures answer { Exact AssignLine AssignLine tokens.now (answer stmt_view result) }
 {
     let (assign, rest) = parse_assign(alloc, tokens)?;
     ended(assign, rest)

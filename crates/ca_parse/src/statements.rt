@@ -1,21 +1,21 @@
 //! Statements.
 
-ghost use Rattle.std.specs.Prelude.{◌≡◌, ◌≤◌, ◌<◌, IfOk, map, is_some, length, false, true, box_value};
+ghost use Rattle.std.specs.Prelude.{◌≡◌, ◌≤◌, ◌<◌, IfOk, map, is_some, length, false, true};
 ghost use Rattle.ca_descent.specs.Exact.{Exact, head_of};
 ghost use Rattle.ca_tree.specs.declared.token.Keyword.TheVariants.{Else};
 ghost use Rattle.ca_tree.specs.Plain.{if_only as if_only_tree, if_else as if_else_tree, while_loop as while_tree, for_loop as for_tree};
-ghost use Rattle.ca_tree.specs.View.{expression_view, statement_view};
+ghost use Rattle.ca_tree.specs.View.{statement_view};
 ghost use Rattle.ca_expressions.specs.Terminals.{key};
-ghost use Rattle.ca_expressions.specs.Readers.{answer};
+ghost use Rattle.ca_expressions.specs.Readers.{answer, node_view};
 ghost use Rattle.ca_parse.specs.Grammar.{Stmt, Item, Items, is_open};
-ghost use Rattle.ca_parse.specs.clauses.Closed.{StmtClosed, ItemClosed, Condition, IfRest, IfRestClosed, WhileRest, WhileRestClosed, ForRest, ForRestClosed, ReturnRest, PrintRest, Simple, is_nested};
+ghost use Rattle.ca_parse.specs.clauses.Closed.{StmtClosed, ItemClosed, Condition, IfRest, IfRestClosed, WhileRest, WhileRestClosed, ForRest, ForRestClosed, ReturnRest, PrintRest, Simple, is_nested, stmt_view};
 
 use crate::assigns::{first_place, parse_assign, parse_assign_to, parse_first, parse_local};
-use crate::endings::ended;
+use crate::endings::{ended, line, statement};
 use crate::types::begins_local;
 use ca_expressions::{
-    Fault, is_call, is_key, is_sign, is_target, key_at, parse_chain, parse_expression, sign_at,
-    take_sign, together,
+    Fault, add, is_call, is_key, is_sign, is_target, key_at, parse_chain, parse_expression, sign_at,
+    take_sign,
 };
 use ca_tree::{ExprNode, Keyword, Place, Sign, StmtKind, StmtNode, Token};
 use std::alloc::{AllocError, Global};
@@ -24,97 +24,92 @@ use std::alloc::{AllocError, Global};
 pub const DEEPEST: usize = 200;
 
 /// An `if` without `else`.
-fn if_only(at: Place, cond: ExprNode, yes: Box<StmtNode>) -> StmtNode
-    ensures { statement_view result ≡ if_only_tree at (expression_view cond) (statement_view (box_value yes)) }
+fn if_only(
+    alloc: Global,
+    at: Place,
+    cond: Box<ExprNode>,
+    yes: Box<StmtNode>,
+) -> Result<Box<StmtNode>, AllocError>
+    ensures { IfOk result (λ s. stmt_view s ≡ if_only_tree at (node_view cond) (stmt_view yes)) }
 {
+    let cond = Box::into_inner(cond);
     let kind = StmtKind::If {
         cond,
         yes,
         no: None,
     };
-    StmtNode { at, kind }
+    let made = statement(alloc, at, kind)?;
+    Ok(made)
 }
 
 /// An `if` with its `else`.
-fn if_else(at: Place, cond: ExprNode, yes: Box<StmtNode>, other: Box<StmtNode>) -> StmtNode
-    ensures { statement_view result
-        ≡ if_else_tree at (expression_view cond) (statement_view (box_value yes)) (statement_view (box_value other)) }
+fn if_else(
+    alloc: Global,
+    at: Place,
+    cond: Box<ExprNode>,
+    yes: Box<StmtNode>,
+    other: Box<StmtNode>,
+) -> Result<Box<StmtNode>, AllocError>
+    ensures { IfOk result (λ s. stmt_view s ≡ if_else_tree at (node_view cond) (stmt_view yes) (stmt_view other)) }
 {
+    let cond = Box::into_inner(cond);
     let kind = StmtKind::If {
         cond,
         yes,
         no: Some(other),
     };
-    StmtNode { at, kind }
+    let made = statement(alloc, at, kind)?;
+    Ok(made)
 }
 
 /// A `while`.
-fn while_loop(at: Place, cond: ExprNode, body: Box<StmtNode>) -> StmtNode
-    ensures { statement_view result ≡ while_tree at (expression_view cond) (statement_view (box_value body)) }
-{
-    let kind = StmtKind::While { cond, body };
-    StmtNode { at, kind }
-}
-
-/// The first as it is, and the second in a box. Without memory both are dropped here, in one function
-/// for values of all types.
-fn boxed<T: Drop, U: Drop>(alloc: Global, first: T, second: U) -> Result<(T, Box<U>), AllocError>
-    ensures first { IfOk result (λ p. p.0 ≡ first) }
-    ensures second { IfOk result (λ p. box_value p.1 ≡ second) }
-{
-    let second = Box::new(alloc, second)?;
-    Ok((first, second))
-}
-
-/// Each of the three in a box.
-fn boxes<T: Drop>(
+fn while_loop(
     alloc: Global,
-    first: T,
-    second: T,
-    third: T,
-) -> Result<(Box<T>, Box<T>, Box<T>), AllocError>
-    ensures first { IfOk result (λ p. box_value p.0 ≡ first) }
-    ensures second { IfOk result (λ p. box_value p.1 ≡ second) }
-    ensures third { IfOk result (λ p. box_value p.2 ≡ third) }
+    at: Place,
+    cond: Box<ExprNode>,
+    body: Box<StmtNode>,
+) -> Result<Box<StmtNode>, AllocError>
+    ensures { IfOk result (λ s. stmt_view s ≡ while_tree at (node_view cond) (stmt_view body)) }
 {
-    let first = Box::new(alloc, first)?;
-    let second = Box::new(alloc, second)?;
-    let third = Box::new(alloc, third)?;
-    Ok((first, second, third))
+    let cond = Box::into_inner(cond);
+    let made = statement(alloc, at, StmtKind::While { cond, body })?;
+    Ok(made)
 }
 
 /// A `for`.
 fn for_loop(
+    alloc: Global,
     at: Place,
     first: Box<StmtNode>,
-    cond: ExprNode,
+    cond: Box<ExprNode>,
     next: Box<StmtNode>,
     body: Box<StmtNode>,
-) -> StmtNode
-    ensures { statement_view result
-        ≡ for_tree at (statement_view (box_value first)) (expression_view cond) (statement_view (box_value next)) (statement_view (box_value body)) }
+) -> Result<Box<StmtNode>, AllocError>
+    ensures { IfOk result (λ s. stmt_view s ≡ for_tree at (stmt_view first) (node_view cond) (stmt_view next) (stmt_view body)) }
 {
+    let cond = Box::into_inner(cond);
     let kind = StmtKind::For {
         first,
         cond,
         next,
         body,
     };
-    StmtNode { at, kind }
+    let made = statement(alloc, at, kind)?;
+    Ok(made)
 }
 
 /// A statement that begins with a chain: a call, or an assignment.
 fn parse_simple<'a>(
     alloc: Global,
     tokens: &'a [Token],
-) -> Result<(StmtNode, &'a [Token]), Fault<'a>>
-    ensures answer { Exact Simple Simple tokens.now (answer statement_view result) }
+) -> Result<(Box<StmtNode>, &'a [Token]), Fault<'a>>
+    ensures answer { Exact Simple Simple tokens.now (answer stmt_view result) }
 {
     let (chain, rest) = parse_chain(alloc, tokens)?;
     if is_call(&chain) {
         let at = first_place(&chain);
-        let kind = StmtKind::Call(chain);
-        return ended(StmtNode { at, kind }, rest);
+        let kind = StmtKind::Call(Box::into_inner(chain));
+        return line(alloc, at, kind, rest);
     }
     if !is_target(&chain) {
         return Err(Fault::Wrong(rest));
@@ -128,12 +123,12 @@ fn parse_return<'a>(
     alloc: Global,
     at: Place,
     tokens: &'a [Token],
-) -> Result<(StmtNode, &'a [Token]), Fault<'a>>
-    ensures answer { Exact (ReturnRest at) (ReturnRest at) tokens.now (answer statement_view result) }
+) -> Result<(Box<StmtNode>, &'a [Token]), Fault<'a>>
+    ensures answer { Exact (ReturnRest at) (ReturnRest at) tokens.now (answer stmt_view result) }
 {
     let (value, rest) = parse_expression(alloc, tokens)?;
-    let kind = StmtKind::Return(value);
-    ended(StmtNode { at, kind }, rest)
+    let kind = StmtKind::Return(Box::into_inner(value));
+    line(alloc, at, kind, rest)
 }
 
 /// What stands behind the word `print`, which stands at the place.
@@ -141,20 +136,20 @@ fn parse_print<'a>(
     alloc: Global,
     at: Place,
     tokens: &'a [Token],
-) -> Result<(StmtNode, &'a [Token]), Fault<'a>>
-    ensures answer { Exact (PrintRest at) (PrintRest at) tokens.now (answer statement_view result) }
+) -> Result<(Box<StmtNode>, &'a [Token]), Fault<'a>>
+    ensures answer { Exact (PrintRest at) (PrintRest at) tokens.now (answer stmt_view result) }
 {
     let (value, rest) = parse_condition(alloc, tokens)?;
-    let kind = StmtKind::Print(value);
-    ended(StmtNode { at, kind }, rest)
+    let kind = StmtKind::Print(Box::into_inner(value));
+    line(alloc, at, kind, rest)
 }
 
 /// An expression between round brackets.
 fn parse_condition<'a>(
     alloc: Global,
     tokens: &'a [Token],
-) -> Result<(ExprNode, &'a [Token]), Fault<'a>>
-    ensures answer { Exact Condition Condition tokens.now (answer expression_view result) }
+) -> Result<(Box<ExprNode>, &'a [Token]), Fault<'a>>
+    ensures answer { Exact Condition Condition tokens.now (answer node_view result) }
     ensures shorter { IfOk result (λ p. length p.1.now < length tokens.now) }
 {
     let (_, rest) = take_sign(tokens, Sign::OpenParenthesis)?;
@@ -179,16 +174,16 @@ fn parse_nested<'a>(
     alloc: Global,
     depth: usize,
     tokens: &'a [Token],
-) -> Result<(StmtNode, &'a [Token]), Fault<'a>>
+) -> Result<(Box<StmtNode>, &'a [Token]), Fault<'a>>
     requires room { depth < DEEPEST }
     requires nested { is_nested tokens.now ≡ true }
-    ensures answer { Exact (Stmt depth) (StmtClosed depth) tokens.now (answer statement_view result) }
-    ensures shut { IfOk result (λ p. is_some (head_of (key Else) p.1.now) ≡ true → is_open (statement_view p.0) ≡ false) }
+    ensures answer { Exact (Stmt depth) (StmtClosed depth) tokens.now (answer stmt_view result) }
+    ensures shut { IfOk result (λ p. is_some (head_of (key Else) p.1.now) ≡ true → is_open (stmt_view p.0) ≡ false) }
 {
     if let Some((at, rest)) = sign_at(tokens, Sign::OpenBrace) {
         let (items, rest) = parse_items(alloc, depth + 1, rest)?;
-        let kind = StmtKind::Block(items);
-        return Ok((StmtNode { at, kind }, rest));
+        let block = statement(alloc, at, StmtKind::Block(items))?;
+        return Ok((block, rest));
     }
     if let Some((at, rest)) = key_at(tokens, Keyword::If) {
         return parse_if(alloc, depth, at, rest);
@@ -208,10 +203,10 @@ fn parse_statement<'a>(
     alloc: Global,
     depth: usize,
     tokens: &'a [Token],
-) -> Result<(StmtNode, &'a [Token]), Fault<'a>>
+) -> Result<(Box<StmtNode>, &'a [Token]), Fault<'a>>
     requires { depth ≤ DEEPEST }
-    ensures answer { Exact (Stmt depth) (StmtClosed depth) tokens.now (answer statement_view result) }
-    ensures shut { IfOk result (λ p. is_some (head_of (key Else) p.1.now) ≡ true → is_open (statement_view p.0) ≡ false) }
+    ensures answer { Exact (Stmt depth) (StmtClosed depth) tokens.now (answer stmt_view result) }
+    ensures shut { IfOk result (λ p. is_some (head_of (key Else) p.1.now) ≡ true → is_open (stmt_view p.0) ≡ false) }
 {
     if begins_nested(tokens) {
         if depth == DEEPEST {
@@ -220,8 +215,8 @@ fn parse_statement<'a>(
         return parse_nested(alloc, depth, tokens);
     }
     if let Some((at, rest)) = sign_at(tokens, Sign::Semicolon) {
-        let kind = StmtKind::Empty;
-        return Ok((StmtNode { at, kind }, rest));
+        let empty = statement(alloc, at, StmtKind::Empty)?;
+        return Ok((empty, rest));
     }
     if let Some((at, rest)) = key_at(tokens, Keyword::Return) {
         return parse_return(alloc, at, rest);
@@ -238,9 +233,9 @@ pub fn parse_item<'a>(
     alloc: Global,
     depth: usize,
     tokens: &'a [Token],
-) -> Result<(StmtNode, &'a [Token]), Fault<'a>>
+) -> Result<(Box<StmtNode>, &'a [Token]), Fault<'a>>
     requires { depth ≤ DEEPEST }
-    ensures answer { Exact (Item depth) (ItemClosed depth) tokens.now (answer statement_view result) }
+    ensures answer { Exact (Item depth) (ItemClosed depth) tokens.now (answer stmt_view result) }
 {
     if begins_local(tokens) {
         return parse_local(alloc, tokens);
@@ -262,7 +257,7 @@ pub fn parse_items<'a>(
     let mut rest = tokens;
     'items: while !is_sign(rest, Sign::CloseBrace) {
         let (item, more) = parse_item(alloc, depth, rest)?;
-        out.push(item)?;
+        add(&mut out, item)?;
         rest = more;
     }
     let (_, rest) = take_sign(rest, Sign::CloseBrace)?;
@@ -276,23 +271,20 @@ fn parse_if<'a>(
     depth: usize,
     at: Place,
     tokens: &'a [Token],
-) -> Result<(StmtNode, &'a [Token]), Fault<'a>>
+) -> Result<(Box<StmtNode>, &'a [Token]), Fault<'a>>
     requires { depth < DEEPEST }
-    ensures answer { Exact (IfRest depth at) (IfRestClosed depth at) tokens.now (answer statement_view result) }
-    ensures shut { IfOk result (λ p. is_some (head_of (key Else) p.1.now) ≡ true → is_open (statement_view p.0) ≡ false) }
+    ensures answer { Exact (IfRest depth at) (IfRestClosed depth at) tokens.now (answer stmt_view result) }
+    ensures shut { IfOk result (λ p. is_some (head_of (key Else) p.1.now) ≡ true → is_open (stmt_view p.0) ≡ false) }
 {
     let (cond, rest) = parse_condition(alloc, tokens)?;
-    let ((cond, yes), rest) = together(cond, parse_statement(alloc, depth + 1, rest))?;
-    let (cond, yes) = boxed(alloc, cond, yes)?;
+    let (yes, rest) = parse_statement(alloc, depth + 1, rest)?;
     let Some((_, more)) = key_at(rest, Keyword::Else) else {
-        return Ok((if_only(at, cond, yes), rest));
+        let whole = if_only(alloc, at, cond, yes)?;
+        return Ok((whole, rest));
     };
-    let (((cond, yes), other), rest) = together(
-        (cond, yes),
-        parse_statement(alloc, depth + 1, more),
-    )?;
-    let ((cond, yes), other) = boxed(alloc, (cond, yes), other)?;
-    Ok((if_else(at, cond, yes, other), rest))
+    let (other, rest) = parse_statement(alloc, depth + 1, more)?;
+    let whole = if_else(alloc, at, cond, yes, other)?;
+    Ok((whole, rest))
 }
 
 /// What stands behind the word `while`, which stands at the place.
@@ -302,15 +294,15 @@ fn parse_while<'a>(
     depth: usize,
     at: Place,
     tokens: &'a [Token],
-) -> Result<(StmtNode, &'a [Token]), Fault<'a>>
+) -> Result<(Box<StmtNode>, &'a [Token]), Fault<'a>>
     requires { depth < DEEPEST }
-    ensures answer { Exact (WhileRest depth at) (WhileRestClosed depth at) tokens.now (answer statement_view result) }
-    ensures shut { IfOk result (λ p. is_some (head_of (key Else) p.1.now) ≡ true → is_open (statement_view p.0) ≡ false) }
+    ensures answer { Exact (WhileRest depth at) (WhileRestClosed depth at) tokens.now (answer stmt_view result) }
+    ensures shut { IfOk result (λ p. is_some (head_of (key Else) p.1.now) ≡ true → is_open (stmt_view p.0) ≡ false) }
 {
     let (cond, rest) = parse_condition(alloc, tokens)?;
-    let ((cond, body), rest) = together(cond, parse_statement(alloc, depth + 1, rest))?;
-    let (cond, body) = boxed(alloc, cond, body)?;
-    Ok((while_loop(at, cond, body), rest))
+    let (body, rest) = parse_statement(alloc, depth + 1, rest)?;
+    let whole = while_loop(alloc, at, cond, body)?;
+    Ok((whole, rest))
 }
 
 /// What stands behind the word `for`, which stands at the place.
@@ -320,10 +312,10 @@ fn parse_for<'a>(
     depth: usize,
     at: Place,
     tokens: &'a [Token],
-) -> Result<(StmtNode, &'a [Token]), Fault<'a>>
+) -> Result<(Box<StmtNode>, &'a [Token]), Fault<'a>>
     requires { depth < DEEPEST }
-    ensures answer { Exact (ForRest depth at) (ForRestClosed depth at) tokens.now (answer statement_view result) }
-    ensures shut { IfOk result (λ p. is_some (head_of (key Else) p.1.now) ≡ true → is_open (statement_view p.0) ≡ false) }
+    ensures answer { Exact (ForRest depth at) (ForRestClosed depth at) tokens.now (answer stmt_view result) }
+    ensures shut { IfOk result (λ p. is_some (head_of (key Else) p.1.now) ≡ true → is_open (stmt_view p.0) ≡ false) }
 {
     let (_, rest) = take_sign(tokens, Sign::OpenParenthesis)?;
     let (first, rest) = parse_first(alloc, rest)?;
@@ -332,6 +324,6 @@ fn parse_for<'a>(
     let (next, rest) = parse_assign(alloc, rest)?;
     let (_, rest) = take_sign(rest, Sign::CloseParenthesis)?;
     let (body, rest) = parse_statement(alloc, depth + 1, rest)?;
-    let (first, next, body) = boxes(alloc, first, next, body)?;
-    Ok((for_loop(at, first, cond, next, body), rest))
+    let whole = for_loop(alloc, at, first, cond, next, body)?;
+    Ok((whole, rest))
 }

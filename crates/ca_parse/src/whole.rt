@@ -14,7 +14,7 @@ ghost use Rattle.ca_parse.specs.clauses.Closed.{DeclarationRest, MainBody};
 use crate::members::parse_members;
 use crate::statements::parse_item;
 use ca_expressions::{
-    Fault, is_key, is_sign, is_zero, key_at, number_at, sign_at, take_key, take_name, take_sign,
+    Fault, add, is_key, is_sign, is_zero, key_at, number_at, sign_at, take_key, take_name, take_sign,
 };
 use ca_tree::{ClassNode, Keyword, Name, Place, Sign, StmtNode, Token, Tree};
 use std::alloc::{AllocFailed, Global};
@@ -143,7 +143,7 @@ fn parse_main<'a>(
     let mut rest = tokens;
     'items: while !is_sign(rest, Sign::CloseBrace) {
         let (item, more) = parse_item(alloc, 1, rest)?;
-        out.push(item)?;
+        add(&mut out, item)?;
         ends = is_return_zero(rest, more);
         rest = more;
     }

@@ -1,17 +1,25 @@
 -- What the clauses of the parsing functions speak of, and no rule of the grammar has: what may follow, and parts of rules.
 use Rattle.std.specs.Prelude.{◌≡◌, ℕ, ℤ, Bool, true, false, cond, ◌&&◌, ◌||◌, List, [], ◌∷◌, ◌+◌, drop, Option, Some, None, is_some}
+use Rattle.std.specs.declared.boxed.Box.{Box}
+use Rattle.std.specs.Global.{Global}
 use Rattle.ca_descent.specs.Exact.{Sees, head_of, Before, Following}
 use Rattle.ca_tree.specs.declared.name.Place.{Place}
 use Rattle.ca_tree.specs.declared.token.Token.{Token}
 use Rattle.ca_tree.specs.declared.token.Keyword.TheVariants.{Long as LongKey, Bool as BoolKey, Public, If, Else, While, For}
 use Rattle.ca_tree.specs.declared.token.Sign.TheVariants.{OpenBrace, OpenBracket, OpenParenthesis, CloseParenthesis, CloseBrace, Semicolon, Comma, Colon, Times}
 use Rattle.ca_tree.specs.declared.tree.TypeNode.{TypeNode}
+use Rattle.ca_tree.specs.declared.tree.StmtNode.{StmtNode}
+use Rattle.ca_tree.specs.View.{statement_view}
 use Rattle.ca_tree.specs.declared.tree.AssignOp.{AssignOp}
 use Rattle.ca_tree.specs.declared.tree.ParamNode.{ParamNode}
 use Rattle.ca_tree.specs.Plain.{Expression, RightSide, Statement, MemberTree, ClassTree, field_member, method_member, assign, call_statement, if_only, if_else, while_loop, for_loop, return_value, print_value}
 use Rattle.ca_expressions.specs.Terminals.{key, sign, name, goes_on}
 use Rattle.ca_expressions.specs.Grammar.{OuterExpression, OuterChain, is_call, is_target}
 use Rattle.ca_parse.specs.Grammar.{Deriving, Right, Change, Assign, AssignLine, First, Stmt, Item, MainItem, Length, Signature, Further, Member, Lines, One, read, is_return_zero, kept, statements, is_open, first_place}
+
+-- a statement in a box
+abbrev pub stmt_view : Box StmtNode Global → Statement
+stmt_view b = statement_view b.value
 
 -- behind which nothing stands that an expression goes on with
 abbrev pub RightClosed : Deriving RightSide

@@ -14,9 +14,8 @@ use Rattle.ca_tree.specs.View.{expression_view}
 use Rattle.ca_tree.proofs.Rows.{call_is}
 use Rattle.ca_expressions.specs.Terminals.{key, sign, literal, unary_operator, operator}
 use Rattle.ca_expressions.specs.Grammar.{Level, Tails}
-use Rattle.ca_expressions.specs.Readers.{failure, answer, Closed}
+use Rattle.ca_expressions.specs.Readers.{failure, answer, node_view, Closed}
 use Rattle.ca_expressions.proofs.Fronts.{some_of, none_of}
-use Rattle.ca_expressions.proofs.Readings.{read_got, read_failed}
 use Rattle.ca_expressions.proofs.Lists.{listed_none, listed_failed, commas_more, commas_failed, commas_end, commas_wrong, expressions_are}
 use Rattle.ca_expressions.proofs.Rules.{above_failed, level_below, unary_answer, operand_answer, operands_stop, sign_answer, primary_answer, literal_answer, bracket_answer, chain_answer}
 use Rattle.ca_expressions.proofs.ChainRules.{this_answer, name_answer, plain_answer, called_answer, tails_answer, tails_stop, index_answer, member_answer, field_answer, method_answer, argument_rule, args_answer}
@@ -55,7 +54,7 @@ pub parse_level-returns-clause-answer : goal.parse_level-returns-clause-answer
 parse_level-returns-clause-answer t c =
     let i = c.levels.invariant in
     let e : c.levels.reached ≡ c.args.level = omega (arith, c.levels-test.false, i.1) in
-    subst (λ z. Exact (Unlimited (Level z)) (Closed z (Level z)) c.args.tokens.now (Got (expression_view c.levels.front) c.levels.rest.now)) e i.0
+    subst (λ z. Exact (Unlimited (Level z)) (Closed z (Level z)) c.args.tokens.now (Got (node_view c.levels.front) c.levels.rest.now)) e i.0
 
 pub parse_level-returns-clause-shorter : goal.parse_level-returns-clause-shorter
 parse_level-returns-clause-shorter t c = c.levels.invariant.3
@@ -86,7 +85,7 @@ parse_operands-operators-preserved t c = (
 
 pub parse_operands-returns-clause-answer : goal.parse_operands-returns-clause-answer
 parse_operands-returns-clause-answer t c =
-    c.operators.invariant.0 (Got (expression_view c.operators.front) c.operators.rest.now) (operands_stop c.args.level _ c.in_default.ensures.none)
+    c.operators.invariant.0 (Got (node_view c.operators.front) c.operators.rest.now) (operands_stop c.args.level _ c.in_default.ensures.none)
 
 pub parse_operands-returns-clause-shorter : goal.parse_operands-returns-clause-shorter
 parse_operands-returns-clause-shorter t c = c.operators.invariant.1
@@ -110,7 +109,9 @@ parse_unary-returns-clause-answer t c =
 -- primary expressions
 pub parse_primary-returns-in-Some-clause-answer : goal.parse_primary-returns-in-Some-clause-answer
 parse_primary-returns-in-Some-clause-answer t c =
-    let d = c.in-Some.ensures.some in literal_answer (sees_head literal d) (and_ok (sees_got d) and_done)
+    let d = c.in-Some.ensures.some in
+    let e = ap expression_view c.in_ok-literal.ensures in
+    rw e (literal_answer (sees_head literal d) (and_ok (sees_got d) and_done))
 
 pub parse_primary-returns-in_default-sign_at-clause-answer : goal.parse_primary-returns-in_default-sign_at-clause-answer
 parse_primary-returns-in_default-sign_at-clause-answer t c =
@@ -118,38 +119,42 @@ parse_primary-returns-in_default-sign_at-clause-answer t c =
 
 pub parse_primary-returns-in_err-inner-clause-answer : goal.parse_primary-returns-in_err-inner-clause-answer
 parse_primary-returns-in_err-inner-clause-answer t c =
-    let p = err_from_is_err_and c.from_residual.result c.from_residual.ensures.1 in
+    let p = err_from_is_err_and c.from_residual-in_err-inner.result c.from_residual-in_err-inner.ensures.1 in
     let d = c.in-Some-sign_at.ensures.some in
     rw (p.1, p.2) (bracket_answer (sees_head (sign OpenParenthesis) d) (and_ok (sees_got d) (and_failed _ c.in_err-inner.ensures.answer)))
 
-pub parse_primary-returns-in_err-inner-2-clause-answer : goal.parse_primary-returns-in_err-inner-2-clause-answer
-parse_primary-returns-in_err-inner-2-clause-answer t c =
-    let p = err_from_is_err_and c.from_residual-in_err-inner-2.result c.from_residual-in_err-inner-2.ensures.1 in
+pub parse_primary-returns-in_err-rest-clause-answer : goal.parse_primary-returns-in_err-rest-clause-answer
+parse_primary-returns-in_err-rest-clause-answer t c =
+    let p = err_from_is_err_and c.from_residual-in_err-rest.result c.from_residual-in_err-rest.ensures.1 in
     let d = c.in-Some-sign_at.ensures.some in
     rw (p.1, p.2) (bracket_answer (sees_head (sign OpenParenthesis) d) (and_ok (sees_got d) (and_ok c.in_ok-inner.ensures.answer
-    (and_failed _ (read_failed (λ z. z) c.in_err-inner-2.ensures.failed c.take_sign.ensures.answer)))))
+    (and_failed _ c.in_err-rest.ensures.answer))))
 
 pub parse_primary-returns-clause-answer : goal.parse_primary-returns-clause-answer
 parse_primary-returns-clause-answer t c =
     let d = c.in-Some-sign_at.ensures.some in
-    let e = c.in_ok-inner-2.ensures.value in
     bracket_answer (sees_head (sign OpenParenthesis) d) (and_ok (sees_got d) (and_ok c.in_ok-inner.ensures.answer
-    (and_ok (read_got (λ z. z) c.in_ok-inner-2.ensures.found c.take_sign.ensures.answer) (rw e at c.parse_tails.ensures.answer))))
+    (and_ok c.in_ok-rest.ensures.answer c.parse_tails.ensures.answer)))
 
 -- chains
 pub parse_inner_chain-returns-in-Some-clause-answer : goal.parse_inner_chain-returns-in-Some-clause-answer
 parse_inner_chain-returns-in-Some-clause-answer t c =
-    let d = c.in-Some.ensures.some in this_answer (sees_head (key This) d) (and_ok (sees_got d) c.parse_tails.ensures.answer)
+    let d = c.in-Some.ensures.some in
+    let e = ap expression_view c.in_ok-front.ensures in
+    this_answer (sees_head (key This) d) (and_ok (sees_got d)
+    (subst (λ z. Exact (Unlimited (Tails z)) (Closed unary_level (Tails z)) c.in-Some.rest.now (answer node_view c.parse_tails.result)) e c.parse_tails.ensures.answer))
 
 pub parse_inner_chain-returns-in_err-name-clause-answer : goal.parse_inner_chain-returns-in_err-name-clause-answer
 parse_inner_chain-returns-in_err-name-clause-answer t c =
-    let p = err_from_is_err_and c.from_residual.result c.from_residual.ensures.1 in
+    let p = err_from_is_err_and c.from_residual-in_err-name.result c.from_residual-in_err-name.ensures.1 in
     rw (p.1, p.2) (name_answer c.in_default.ensures.none (and_failed _ c.in_err-name.ensures.answer))
 
 pub parse_inner_chain-returns-then-not-is_sign-clause-answer : goal.parse_inner_chain-returns-then-not-is_sign-clause-answer
 parse_inner_chain-returns-then-not-is_sign-clause-answer t c =
+    let e = ap expression_view c.in_ok-front-2.ensures in
     name_answer c.in_default.ensures.none (and_ok c.in_ok-name.ensures.answer
-    (plain_answer (c.in_ok-name.name, c.in_ok-name.at) (none_of _ (sym c.is_sign.ensures ∙ c.if-not-is_sign.true)) c.parse_tails-then-not-is_sign.ensures.answer))
+    (plain_answer (c.in_ok-name.name, c.in_ok-name.at) (none_of _ (sym c.is_sign.ensures ∙ c.if-not-is_sign.true))
+    (subst (λ z. Exact (Unlimited (Tails z)) (Closed unary_level (Tails z)) c.in_ok-name.rest.now (answer node_view c.parse_tails-then-not-is_sign.result)) e c.parse_tails-then-not-is_sign.ensures.answer)))
 
 pub parse_inner_chain-returns-in_err-args-clause-answer : goal.parse_inner_chain-returns-in_err-args-clause-answer
 parse_inner_chain-returns-in_err-args-clause-answer t c =
@@ -161,11 +166,12 @@ parse_inner_chain-returns-in_err-args-clause-answer t c =
 pub parse_inner_chain-returns-clause-answer : goal.parse_inner_chain-returns-clause-answer
 parse_inner_chain-returns-clause-answer t c =
     let h = some_of _ (sym c.is_sign.ensures ∙ c.if-not-is_sign.false) in
-    let e = call_is c.in_ok-name.at c.in_ok-name.name c.in_ok-args.args
-    ∙ ap (λ z. call c.in_ok-name.at c.in_ok-name.name z) (expressions_are c.in_ok-args.args.items) in
+    let e = ap expression_view c.in_ok-front-3.ensures
+    ∙ (call_is c.in_ok-name.at c.in_ok-name.name c.in_ok-args.args
+    ∙ ap (λ z. call c.in_ok-name.at c.in_ok-name.name z) (expressions_are c.in_ok-args.args.items)) in
     name_answer c.in_default.ensures.none (and_ok c.in_ok-name.ensures.answer
     (called_answer (c.in_ok-name.name, c.in_ok-name.at) h.1 (and_ok c.in_ok-args.ensures.answer
-    (subst (λ z. Exact (Unlimited (Tails z)) (Closed unary_level (Tails z)) c.in_ok-args.rest.now (answer expression_view c.parse_tails-2.result)) e c.parse_tails-2.ensures.answer))))
+    (subst (λ z. Exact (Unlimited (Tails z)) (Closed unary_level (Tails z)) c.in_ok-args.rest.now (answer node_view c.parse_tails-2.result)) e c.parse_tails-2.ensures.answer))))
 
 -- tails
 pub parse_tails-tails-init : goal.parse_tails-tails-init
@@ -189,80 +195,61 @@ parse_tails-tails-preserved t c =
 
 pub parse_tails-returns-clause-answer : goal.parse_tails-returns-clause-answer
 parse_tails-returns-clause-answer t c =
-    c.tails.invariant.0 (Got (expression_view c.tails.front) c.tails.rest.now) (tails_stop _ (none_of _ (sym c.is_tail.ensures ∙ c.tails-test.false)))
+    c.tails.invariant.0 (Got (node_view c.tails.front) c.tails.rest.now) (tails_stop _ (none_of _ (sym c.is_tail.ensures ∙ c.tails-test.false)))
 
 pub parse_tails-returns-clause-shorter : goal.parse_tails-returns-clause-shorter
 parse_tails-returns-clause-shorter t c = c.tails.invariant.1
 
 -- one tail
-pub parse_tail-returns-in_err-parts-clause-answer : goal.parse_tail-returns-in_err-parts-clause-answer
-parse_tail-returns-in_err-parts-clause-answer t c =
+pub parse_tail-returns-in_err-item-clause-answer : goal.parse_tail-returns-in_err-item-clause-answer
+parse_tail-returns-in_err-item-clause-answer t c =
     let p = err_from_is_err_and c.from_residual.result c.from_residual.ensures.1 in
     let d = c.in-Some.ensures.some in
-    rw (p.1, p.2) (index_answer _ (sees_head (sign OpenBracket) d) (and_ok (sees_got d)
-    (and_failed _ (read_failed expression_view c.in_err-parts.ensures.failed c.parse_level.ensures.answer))))
+    rw (p.1, p.2) (index_answer _ (sees_head (sign OpenBracket) d) (and_ok (sees_got d) (and_failed _ c.in_err-item.ensures.answer)))
 
-pub parse_tail-returns-in_err-front-clause-answer : goal.parse_tail-returns-in_err-front-clause-answer
-parse_tail-returns-in_err-front-clause-answer t c =
-    let p = err_from_is_err_and c.from_residual-in_err-front.result c.from_residual-in_err-front.ensures.1 in
+pub parse_tail-returns-in_err-rest-clause-answer : goal.parse_tail-returns-in_err-rest-clause-answer
+parse_tail-returns-in_err-rest-clause-answer t c =
+    let p = err_from_is_err_and c.from_residual-in_err-rest.result c.from_residual-in_err-rest.ensures.1 in
     let d = c.in-Some.ensures.some in
-    let item = read_got expression_view c.in_ok-parts.ensures.found c.parse_level.ensures.answer in
-    rw (p.1, p.2) (index_answer _ (sees_head (sign OpenBracket) d) (and_ok (sees_got d) (and_ok item
-    (and_failed _ (read_failed (λ z. z) c.in_err-front.ensures.failed c.take_sign.ensures.answer)))))
+    rw (p.1, p.2) (index_answer _ (sees_head (sign OpenBracket) d) (and_ok (sees_got d) (and_ok c.in_ok-item.ensures.answer
+    (and_failed _ c.in_err-rest.ensures.answer))))
 
 pub parse_tail-returns-in-Some-clause-answer : goal.parse_tail-returns-in-Some-clause-answer
 parse_tail-returns-in-Some-clause-answer t c =
     let d = c.in-Some.ensures.some in
-    let item = read_got expression_view c.in_ok-parts.ensures.found c.parse_level.ensures.answer in
-    let close = read_got (λ z. z) c.in_ok-front.ensures.found c.take_sign.ensures.answer in
-    let v = c.in_ok-front.ensures.value in
-    let f : c.in_ok-front.front ≡ c.args.front = ap (λ z. z.0) v ∙ c.in_ok-parts.ensures.value in
-    let g : c.in_ok-front.item ≡ c.in_ok-parts.parts.1 = ap (λ z. z.1) v in
     let e = c.in_ok-node.ensures in
-    rw (e, f, g) (index_answer _ (sees_head (sign OpenBracket) d) (and_ok (sees_got d) (and_ok item (and_ok close and_done))))
+    rw e (index_answer _ (sees_head (sign OpenBracket) d) (and_ok (sees_got d) (and_ok c.in_ok-item.ensures.answer
+    (and_ok c.in_ok-rest.ensures.answer and_done))))
 
-pub parse_tail-returns-in_err-front-2-clause-answer : goal.parse_tail-returns-in_err-front-2-clause-answer
-parse_tail-returns-in_err-front-2-clause-answer t c =
-    let p = err_from_is_err_and c.from_residual-in_err-front-2.result c.from_residual-in_err-front-2.ensures.1 in
-    rw (p.1, p.2) (member_answer _ c.in_default.ensures.none
-    (and_failed _ (read_failed (λ z. z) c.in_err-front-2.ensures.failed c.take_sign-2.ensures.answer)))
+pub parse_tail-returns-in_err-at-clause-answer : goal.parse_tail-returns-in_err-at-clause-answer
+parse_tail-returns-in_err-at-clause-answer t c =
+    let p = err_from_is_err_and c.from_residual-in_err-at.result c.from_residual-in_err-at.ensures.1 in
+    rw (p.1, p.2) (member_answer _ c.in_default.ensures.none (and_failed _ c.in_err-at.ensures.answer))
 
-pub parse_tail-returns-in_err-front-3-clause-answer : goal.parse_tail-returns-in_err-front-3-clause-answer
-parse_tail-returns-in_err-front-3-clause-answer t c =
-    let p = err_from_is_err_and c.from_residual-in_err-front-3.result c.from_residual-in_err-front-3.ensures.1 in
-    let arrow = read_got (λ z. z) c.in_ok-front-2.ensures.found c.take_sign-2.ensures.answer in
-    rw (p.1, p.2) (member_answer _ c.in_default.ensures.none (and_ok arrow
-    (and_failed _ (read_failed (λ z. z) c.in_err-front-3.ensures.failed c.take_name.ensures.answer))))
+pub parse_tail-returns-in_err-name-clause-answer : goal.parse_tail-returns-in_err-name-clause-answer
+parse_tail-returns-in_err-name-clause-answer t c =
+    let p = err_from_is_err_and c.from_residual-in_err-name.result c.from_residual-in_err-name.ensures.1 in
+    rw (p.1, p.2) (member_answer _ c.in_default.ensures.none (and_ok c.in_ok-at.ensures.answer (and_failed _ c.in_err-name.ensures.answer)))
 
 pub parse_tail-returns-then-not-is_sign-clause-answer : goal.parse_tail-returns-then-not-is_sign-clause-answer
 parse_tail-returns-then-not-is_sign-clause-answer t c =
-    let arrow = read_got (λ z. z) c.in_ok-front-2.ensures.found c.take_sign-2.ensures.answer in
-    let n = read_got (λ z. z) c.in_ok-front-3.ensures.found c.take_name.ensures.answer in
-    let f = c.in_ok-front-3.ensures.value ∙ c.in_ok-front-2.ensures.value in
     let e = c.in_ok-node-2.ensures in
-    rw (e, f) (member_answer _ c.in_default.ensures.none (and_ok arrow (and_ok n
+    rw e (member_answer _ c.in_default.ensures.none (and_ok c.in_ok-at.ensures.answer (and_ok c.in_ok-name.ensures.answer
     (field_answer _ _ _ (none_of _ (sym c.is_sign.ensures ∙ c.if-not-is_sign.true))))))
 
-pub parse_tail-returns-in_err-front-4-clause-answer : goal.parse_tail-returns-in_err-front-4-clause-answer
-parse_tail-returns-in_err-front-4-clause-answer t c =
-    let p = err_from_is_err_and c.from_residual-in_err-front-4.result c.from_residual-in_err-front-4.ensures.1 in
+pub parse_tail-returns-in_err-args-clause-answer : goal.parse_tail-returns-in_err-args-clause-answer
+parse_tail-returns-in_err-args-clause-answer t c =
+    let p = err_from_is_err_and c.from_residual-in_err-args.result c.from_residual-in_err-args.ensures.1 in
     let h = some_of _ (sym c.is_sign.ensures ∙ c.if-not-is_sign.false) in
-    let arrow = read_got (λ z. z) c.in_ok-front-2.ensures.found c.take_sign-2.ensures.answer in
-    let n = read_got (λ z. z) c.in_ok-front-3.ensures.found c.take_name.ensures.answer in
-    rw (p.1, p.2) (member_answer _ c.in_default.ensures.none (and_ok arrow (and_ok n (method_answer _ _ _ h.1
-    (and_failed _ (read_failed (λ v. map expression_view v.items) c.in_err-front-4.ensures.failed c.parse_args.ensures.answer))))))
+    rw (p.1, p.2) (member_answer _ c.in_default.ensures.none (and_ok c.in_ok-at.ensures.answer (and_ok c.in_ok-name.ensures.answer
+    (method_answer _ _ _ h.1 (and_failed _ c.in_err-args.ensures.answer)))))
 
 pub parse_tail-returns-clause-answer : goal.parse_tail-returns-clause-answer
 parse_tail-returns-clause-answer t c =
     let h = some_of _ (sym c.is_sign.ensures ∙ c.if-not-is_sign.false) in
-    let arrow = read_got (λ z. z) c.in_ok-front-2.ensures.found c.take_sign-2.ensures.answer in
-    let n = read_got (λ z. z) c.in_ok-front-3.ensures.found c.take_name.ensures.answer in
-    let args = read_got (λ v. map expression_view v.items) c.in_ok-front-4.ensures.found c.parse_args.ensures.answer in
-    let v = c.in_ok-front-4.ensures.value in
-    let f : c.in_ok-front-4.front ≡ c.args.front = ap (λ z. z.0) v ∙ (c.in_ok-front-3.ensures.value ∙ c.in_ok-front-2.ensures.value) in
-    let g : c.in_ok-front-4.name ≡ c.in_ok-front-3.name = ap (λ z. z.1) v in
     let e = c.in_ok-node-3.ensures in
-    rw (e, f, g) (member_answer _ c.in_default.ensures.none (and_ok arrow (and_ok n (method_answer _ _ _ h.1 (and_ok args and_done)))))
+    rw e (member_answer _ c.in_default.ensures.none (and_ok c.in_ok-at.ensures.answer (and_ok c.in_ok-name.ensures.answer
+    (method_answer _ _ _ h.1 (and_ok c.in_ok-args.ensures.answer and_done)))))
 
 -- arguments
 pub parse_args-returns-in_err-behind-clause-answer : goal.parse_args-returns-in_err-behind-clause-answer
@@ -283,7 +270,7 @@ parse_args-returns-in_err-first-clause-answer t c =
 pub parse_args-more-init : goal.parse_args-more-init
 parse_args-more-init t c =
     let n = c.new-out.ensures.items in
-    let e = ap (map expression_view) c.in_ok-push.ensures.items in (
+    let e = ap (map expression_view) c.in_ok-add.ensures in (
       rw (e, n) (record {
         go = λ o f. args_answer (and_ok c.in_ok-behind.ensures.answer (separated_more argument_rule c.in_default.ensures.none c.in_ok-first.ensures.answer f));
       }),
@@ -300,7 +287,7 @@ parse_args-more-smaller t c = omega (arith, c.in_ok-arg.ensures.shorter, c.in-So
 
 pub parse_args-more-preserved : goal.parse_args-more-preserved
 parse_args-more-preserved t c =
-    let e = ap (map expression_view) c.in_ok-push-2.ensures.items ∙ map-append expression_view c.more.out.items (c.in_ok-arg.arg ∷ []) in (
+    let e = ap (map expression_view) c.in_ok-add-2.ensures ∙ map-append expression_view c.more.out.items (c.in_ok-arg.arg.value ∷ []) in (
       rw e (commas_more argument_rule c.more.invariant.0 c.in-Some-sign_at.ensures.some c.in_ok-arg.ensures.answer),
       omega (arith, c.more.invariant.1, c.in_ok-arg.ensures.shorter, c.in-Some-sign_at.ensures.shorter),
     )

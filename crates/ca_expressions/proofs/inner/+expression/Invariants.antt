@@ -6,7 +6,7 @@ use Rattle.ca_tree.specs.Operators.{unary_level}
 use Rattle.ca_tree.specs.Plain.{Expression}
 use Rattle.ca_tree.specs.View.{expression_view}
 use Rattle.ca_expressions.specs.Grammar.{Level, Operands, Tails, Args, Expr}
-use Rattle.ca_expressions.specs.Readers.{Closed}
+use Rattle.ca_expressions.specs.Readers.{node_view, Closed}
 use Rattle.ca_expressions.proofs.Lists.{MoreItems}
 use Rattle.ca_expressions.proofs.inner.+expression.Given as goal
 
@@ -44,7 +44,7 @@ decreases-parse_args-more l = length l.rest
 
 abbrev pub invariant-parse_level-levels : goal.invariant-parse_level-levels
 invariant-parse_level-levels l =
-    Exact (Unlimited (Level l.reached)) (Closed l.reached (Level l.reached)) l.tokens (Got (expression_view l.front) l.rest)
+    Exact (Unlimited (Level l.reached)) (Closed l.reached (Level l.reached)) l.tokens (Got (node_view l.front) l.rest)
     × (l.level ≤ l.reached) × (l.reached ≤ LEVELS) × (length l.rest < length l.tokens)
 
 abbrev pub decreases-parse_level-levels : goal.decreases-parse_level-levels
@@ -52,8 +52,8 @@ decreases-parse_level-levels l = l.reached - l.level
 
 abbrev pub invariant-parse_operands-operators : goal.invariant-parse_operands-operators
 invariant-parse_operands-operators l =
-    ((o : Answer Token Expression) → Exact (Unlimited (Operands l.level (expression_view l.front))) (Closed l.level (Operands l.level (expression_view l.front))) l.rest o
-    → Exact (Unlimited (Operands l.level (expression_view l.fn.first))) (Closed l.level (Operands l.level (expression_view l.fn.first))) l.tokens o)
+    ((o : Answer Token Expression) → Exact (Unlimited (Operands l.level (node_view l.front))) (Closed l.level (Operands l.level (node_view l.front))) l.rest o
+    → Exact (Unlimited (Operands l.level (node_view l.fn.first))) (Closed l.level (Operands l.level (node_view l.fn.first))) l.tokens o)
     × (length l.rest ≤ length l.tokens)
 
 abbrev pub decreases-parse_operands-operators : goal.decreases-parse_operands-operators
@@ -61,8 +61,8 @@ decreases-parse_operands-operators l = length l.rest
 
 abbrev pub invariant-parse_tails-tails : goal.invariant-parse_tails-tails
 invariant-parse_tails-tails l =
-    ((o : Answer Token Expression) → Exact (Unlimited (Tails (expression_view l.front))) (Closed unary_level (Tails (expression_view l.front))) l.rest o
-    → Exact (Unlimited (Tails (expression_view l.fn.first))) (Closed unary_level (Tails (expression_view l.fn.first))) l.tokens o)
+    ((o : Answer Token Expression) → Exact (Unlimited (Tails (node_view l.front))) (Closed unary_level (Tails (node_view l.front))) l.rest o
+    → Exact (Unlimited (Tails (node_view l.fn.first))) (Closed unary_level (Tails (node_view l.fn.first))) l.tokens o)
     × (length l.rest ≤ length l.tokens)
 
 abbrev pub decreases-parse_tails-tails : goal.decreases-parse_tails-tails

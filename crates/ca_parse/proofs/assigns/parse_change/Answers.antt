@@ -28,4 +28,4 @@ returns-in_err-value c =
     let p = err_from_is_err_and c.from_residual-in_err-value.result c.from_residual-in_err-value.ensures.1 in record { answer = rw (p.1, p.2) (changes_answer c.in_default.ensures.none c.in_default-sign_at.ensures.none c.in_default-sign_at-2.ensures.none (and_ok c.in_ok-op.ensures.answer (and_failed _ c.in_err-value.ensures.answer))) }
 
 pub returns : goal.returns
-returns c = record { answer = changes_answer c.in_default.ensures.none c.in_default-sign_at.ensures.none c.in_default-sign_at-2.ensures.none (and_ok c.in_ok-op.ensures.answer (and_ok c.in_ok-value.ensures.answer and_done)) }
+returns c = record { answer = rw c.into_inner.ensures (changes_answer c.in_default.ensures.none c.in_default-sign_at.ensures.none c.in_default-sign_at-2.ensures.none (and_ok c.in_ok-op.ensures.answer (and_ok c.in_ok-value.ensures.answer and_done))) }

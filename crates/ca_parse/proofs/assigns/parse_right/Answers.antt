@@ -12,7 +12,7 @@ returns-in_err-value c =
     let p = err_from_is_err_and c.from_residual.result c.from_residual.ensures.1 in record { answer = rw (p.1, p.2) (expression_answer c.in_default.ensures.none (and_failed _ c.in_err-value.ensures.answer)) }
 
 pub returns-in_default : goal.returns-in_default
-returns-in_default c = record { answer = expression_answer c.in_default.ensures.none (and_ok c.in_ok-value.ensures.answer and_done) }
+returns-in_default c = record { answer = rw c.into_inner.ensures (expression_answer c.in_default.ensures.none (and_ok c.in_ok-value.ensures.answer and_done)) }
 
 pub returns-in_err-class : goal.returns-in_err-class
 returns-in_err-class c =

@@ -1,11 +1,10 @@
-use Rattle.std.proofs.Common.{◌≡◌, ◌∷◌, [], sym, ◌∙◌, ap, subst, map, arith, is_some}
+use Rattle.std.proofs.Common.{◌∷◌, [], sym, ◌∙◌, refl, ap, subst, map, arith, is_some}
 use Rattle.std.proofs.lemmas.Result.{err_from_is_err_and}
 use Rattle.std.proofs.lemmas.List.{map-append}
 use Rattle.ca_descent.specs.Exact.{Exact}
 use Rattle.ca_descent.proofs.Exact.{sees_got, sees_head, no_memory, sees_shorter, no_longer}
 use Rattle.ca_descent.proofs.Parts.{and_ok, and_failed, and_done}
 use Rattle.ca_expressions.specs.Terminals.{key, sign}
-use Rattle.ca_expressions.proofs.Readings.{read_got, read_failed, read_holds}
 use Rattle.ca_parse.proofs.Lines.{one_answer, loop_more, loop_failed, loop_end, loop_unclosed}
 use Rattle.ca_parse.proofs.Locals.{other_answer, local_answer}
 use Rattle.ca_parse.proofs.StatementFronts.{items_answer, item_lines}
@@ -27,9 +26,14 @@ pub parse_nested-returns-in_err-items-clause-answer : goal.parse_nested-returns-
 parse_nested-returns-in_err-items-clause-answer t c =
     let p = err_from_is_err_and c.from_residual.result c.from_residual.ensures.1 in rw (p.1, p.2) (block_answer _ c.requires.room (sees_head (sign S_OpenBrace) c.in-Some.ensures.some) (and_ok (sees_got c.in-Some.ensures.some) (and_failed _ c.in_err-items.ensures.answer)))
 
+pub parse_nested-returns-in_err-block-clause-answer : goal.parse_nested-returns-in_err-block-clause-answer
+parse_nested-returns-in_err-block-clause-answer t c =
+    let p = err_from_is_err_and c.from_residual-in_err-block.result c.from_residual-in_err-block.ensures.1 in rw (p.1, p.2) no_memory
+
 pub parse_nested-returns-in-Some-clause-answer : goal.parse_nested-returns-in-Some-clause-answer
 parse_nested-returns-in-Some-clause-answer t c =
-    let e = sym (statements_are_list c.in_ok-items.items ∙ statements_are c.in_ok-items.items.items) in subst (λ z. Exact (Stmt c.args.depth) (StmtClosed c.args.depth) c.args.tokens.now (Got (block c.in-Some.at z) c.in_ok-items.rest.now)) e (block_answer _ c.requires.room (sees_head (sign S_OpenBrace) c.in-Some.ensures.some) (and_ok (sees_got c.in-Some.ensures.some) (and_ok c.in_ok-items.ensures.answer and_done)))
+    let e = sym (ap statement_view c.in_ok-block.ensures ∙ ap (λ z. block c.in-Some.at z) (statements_are_list c.in_ok-items.items ∙ statements_are c.in_ok-items.items.items)) in
+    subst (λ z. Exact (Stmt c.args.depth) (StmtClosed c.args.depth) c.args.tokens.now (Got z c.in_ok-items.rest.now)) e (block_answer _ c.requires.room (sees_head (sign S_OpenBrace) c.in-Some.ensures.some) (and_ok (sees_got c.in-Some.ensures.some) (and_ok c.in_ok-items.ensures.answer and_done)))
 
 pub parse_nested-returns-in-Some-key_at-clause-answer : goal.parse_nested-returns-in-Some-key_at-clause-answer
 parse_nested-returns-in-Some-key_at-clause-answer t c =
@@ -57,7 +61,15 @@ parse_statement-returns-then-begins_nested-clause-answer t c =
 
 pub parse_statement-returns-in-Some-clause-answer : goal.parse_statement-returns-in-Some-clause-answer
 parse_statement-returns-in-Some-clause-answer t c =
-    nothing_answer _ (sees_head (sign S_Semicolon) c.in-Some.ensures.some) (and_ok (sees_got c.in-Some.ensures.some) and_done)
+    rw c.in_ok-empty.ensures (nothing_answer _ (sees_head (sign S_Semicolon) c.in-Some.ensures.some) (and_ok (sees_got c.in-Some.ensures.some) and_done))
+
+pub parse_statement-returns-in_err-empty-clause-answer : goal.parse_statement-returns-in_err-empty-clause-answer
+parse_statement-returns-in_err-empty-clause-answer t c =
+    let p = err_from_is_err_and c.from_residual.result c.from_residual.ensures.1 in rw (p.1, p.2) no_memory
+
+pub parse_statement-returns-in-Some-clause-shut : goal.parse_statement-returns-in-Some-clause-shut
+parse_statement-returns-in-Some-clause-shut t c =
+    rw c.in_ok-empty.ensures (λ _. refl)
 
 pub parse_statement-returns-in-Some-key_at-clause-answer : goal.parse_statement-returns-in-Some-key_at-clause-answer
 parse_statement-returns-in-Some-key_at-clause-answer t c =
@@ -95,76 +107,62 @@ pub parse_if-returns-in_err-cond-clause-answer : goal.parse_if-returns-in_err-co
 parse_if-returns-in_err-cond-clause-answer t c =
     let p = err_from_is_err_and c.from_residual.result c.from_residual.ensures.1 in rw (p.1, p.2) (if_rest_answer _ _ (and_failed _ c.in_err-cond.ensures.answer))
 
-pub parse_if-returns-in_err-cond-2-clause-answer : goal.parse_if-returns-in_err-cond-2-clause-answer
-parse_if-returns-in_err-cond-2-clause-answer t c =
-    let p = err_from_is_err_and c.from_residual-in_err-cond-2.result c.from_residual-in_err-cond-2.ensures.1 in rw (p.1, p.2) (if_rest_answer _ _ (and_ok c.in_ok-cond.ensures.answer (and_failed _ (read_failed statement_view c.in_err-cond-2.ensures.failed c.parse_statement.ensures.answer))))
+pub parse_if-returns-in_err-yes-clause-answer : goal.parse_if-returns-in_err-yes-clause-answer
+parse_if-returns-in_err-yes-clause-answer t c =
+    let p = err_from_is_err_and c.from_residual-in_err-yes.result c.from_residual-in_err-yes.ensures.1 in rw (p.1, p.2) (if_rest_answer _ _ (and_ok c.in_ok-cond.ensures.answer (and_failed _ c.in_err-yes.ensures.answer)))
 
-pub parse_if-returns-in_err-cond-3-clause-answer : goal.parse_if-returns-in_err-cond-3-clause-answer
-parse_if-returns-in_err-cond-3-clause-answer t c =
-    let p = err_from_is_err_and c.from_residual-in_err-cond-3.result c.from_residual-in_err-cond-3.ensures.1 in rw (p.1, p.2) (no_memory)
+pub parse_if-returns-in_err-whole-clause-answer : goal.parse_if-returns-in_err-whole-clause-answer
+parse_if-returns-in_err-whole-clause-answer t c =
+    let p = err_from_is_err_and c.from_residual-in_err-whole.result c.from_residual-in_err-whole.ensures.1 in rw (p.1, p.2) no_memory
 
 pub parse_if-returns-in_default-clause-answer : goal.parse_if-returns-in_default-clause-answer
 parse_if-returns-in_default-clause-answer t c =
-    let yes = read_got statement_view c.in_ok-cond-2.ensures.found c.parse_statement.ensures.answer in
-    let e = rw (c.in_ok-cond-3.ensures.first, c.in_ok-cond-3.ensures.second, c.in_ok-cond-2.ensures.value) at c.if_only.ensures in
-    rw e (if_rest_answer _ _ (and_ok c.in_ok-cond.ensures.answer (and_ok yes (without_answer _ _ _ _ c.in_default.ensures.none))))
+    rw c.in_ok-whole.ensures (if_rest_answer _ _ (and_ok c.in_ok-cond.ensures.answer (and_ok c.in_ok-yes.ensures.answer (without_answer _ _ _ _ c.in_default.ensures.none))))
 
-pub parse_if-returns-in_err-cond-4-clause-answer : goal.parse_if-returns-in_err-cond-4-clause-answer
-parse_if-returns-in_err-cond-4-clause-answer t c =
-    let p = err_from_is_err_and c.from_residual-in_err-cond-4.result c.from_residual-in_err-cond-4.ensures.1 in
+pub parse_if-returns-in_err-other-clause-answer : goal.parse_if-returns-in_err-other-clause-answer
+parse_if-returns-in_err-other-clause-answer t c =
+    let p = err_from_is_err_and c.from_residual-in_err-other.result c.from_residual-in_err-other.ensures.1 in
     let d = c.in-Some.ensures.some in
-    let yes = read_got statement_view c.in_ok-cond-2.ensures.found c.parse_statement.ensures.answer in
-    let shut = read_holds _ c.in_ok-cond-2.ensures.found c.parse_statement.ensures.shut in
-    rw (p.1, p.2) (if_rest_answer _ _ (and_ok c.in_ok-cond.ensures.answer (and_ok yes (else_answer _ _ _ _ (shut (ap is_some (sees_head (key K_Else) d))) (sees_head (key K_Else) d)
-    (and_ok (sees_got d) (and_failed _ (read_failed statement_view c.in_err-cond-4.ensures.failed c.parse_statement-2.ensures.answer)))))))
+    rw (p.1, p.2) (if_rest_answer _ _ (and_ok c.in_ok-cond.ensures.answer (and_ok c.in_ok-yes.ensures.answer (else_answer _ _ _ _ (c.in_ok-yes.ensures.shut (ap is_some (sees_head (key K_Else) d))) (sees_head (key K_Else) d)
+    (and_ok (sees_got d) (and_failed _ c.in_err-other.ensures.answer))))))
 
-pub parse_if-returns-in_err-cond-5-clause-answer : goal.parse_if-returns-in_err-cond-5-clause-answer
-parse_if-returns-in_err-cond-5-clause-answer t c =
-    let p = err_from_is_err_and c.from_residual-in_err-cond-5.result c.from_residual-in_err-cond-5.ensures.1 in rw (p.1, p.2) (no_memory)
+pub parse_if-returns-in_err-whole-2-clause-answer : goal.parse_if-returns-in_err-whole-2-clause-answer
+parse_if-returns-in_err-whole-2-clause-answer t c =
+    let p = err_from_is_err_and c.from_residual-in_err-whole-2.result c.from_residual-in_err-whole-2.ensures.1 in rw (p.1, p.2) no_memory
 
 pub parse_if-returns-clause-answer : goal.parse_if-returns-clause-answer
 parse_if-returns-clause-answer t c =
     let d = c.in-Some.ensures.some in
-    let yes = read_got statement_view c.in_ok-cond-2.ensures.found c.parse_statement.ensures.answer in
-    let shut = read_holds _ c.in_ok-cond-2.ensures.found c.parse_statement.ensures.shut in
-    let other = read_got statement_view c.in_ok-cond-4.ensures.found c.parse_statement-2.ensures.answer in
-    let v = c.in_ok-cond-5.ensures.first ∙ c.in_ok-cond-4.ensures.value in
-    let f : c.in_ok-cond-5.cond ≡ c.in_ok-cond-3.cond = ap (λ z. z.0) v in
-    let g : c.in_ok-cond-5.yes ≡ c.in_ok-cond-3.yes = ap (λ z. z.1) v in
-    let e = rw (f, g, c.in_ok-cond-5.ensures.second, c.in_ok-cond-3.ensures.first, c.in_ok-cond-3.ensures.second, c.in_ok-cond-2.ensures.value) at c.if_else.ensures in
-    rw e (if_rest_answer _ _ (and_ok c.in_ok-cond.ensures.answer (and_ok yes (else_answer _ _ _ _ (shut (ap is_some (sees_head (key K_Else) d))) (sees_head (key K_Else) d)
-    (and_ok (sees_got d) (and_ok other and_done))))))
+    rw c.in_ok-whole-2.ensures (if_rest_answer _ _ (and_ok c.in_ok-cond.ensures.answer (and_ok c.in_ok-yes.ensures.answer (else_answer _ _ _ _ (c.in_ok-yes.ensures.shut (ap is_some (sees_head (key K_Else) d))) (sees_head (key K_Else) d)
+    (and_ok (sees_got d) (and_ok c.in_ok-other.ensures.answer and_done))))))
 
 pub parse_if-returns-clause-shut : goal.parse_if-returns-clause-shut
 parse_if-returns-clause-shut t c =
-    let e = rw c.in_ok-cond-5.ensures.second at c.if_else.ensures in rw e (read_holds _ c.in_ok-cond-4.ensures.found c.parse_statement-2.ensures.shut)
+    rw c.in_ok-whole-2.ensures c.in_ok-other.ensures.shut
 
 pub parse_if-parse_statement-requires-2 : goal.parse_if-parse_statement-requires-2
 parse_if-parse_statement-requires-2 t c =
-    let yes = read_got statement_view c.in_ok-cond-2.ensures.found c.parse_statement.ensures.answer in
-    omega (arith, c.requires, sees_shorter c.in-Some.ensures.some, no_longer yes, c.in_ok-cond.ensures.shorter)
+    omega (arith, c.requires, sees_shorter c.in-Some.ensures.some, no_longer c.in_ok-yes.ensures.answer, c.in_ok-cond.ensures.shorter)
 
 pub parse_while-returns-in_err-cond-clause-answer : goal.parse_while-returns-in_err-cond-clause-answer
 parse_while-returns-in_err-cond-clause-answer t c =
     let p = err_from_is_err_and c.from_residual.result c.from_residual.ensures.1 in rw (p.1, p.2) (while_rest_answer _ _ (and_failed _ c.in_err-cond.ensures.answer))
 
-pub parse_while-returns-in_err-cond-2-clause-answer : goal.parse_while-returns-in_err-cond-2-clause-answer
-parse_while-returns-in_err-cond-2-clause-answer t c =
-    let p = err_from_is_err_and c.from_residual-in_err-cond-2.result c.from_residual-in_err-cond-2.ensures.1 in rw (p.1, p.2) (while_rest_answer _ _ (and_ok c.in_ok-cond.ensures.answer (and_failed _ (read_failed statement_view c.in_err-cond-2.ensures.failed c.parse_statement.ensures.answer))))
+pub parse_while-returns-in_err-body-clause-answer : goal.parse_while-returns-in_err-body-clause-answer
+parse_while-returns-in_err-body-clause-answer t c =
+    let p = err_from_is_err_and c.from_residual-in_err-body.result c.from_residual-in_err-body.ensures.1 in rw (p.1, p.2) (while_rest_answer _ _ (and_ok c.in_ok-cond.ensures.answer (and_failed _ c.in_err-body.ensures.answer)))
 
-pub parse_while-returns-in_err-cond-3-clause-answer : goal.parse_while-returns-in_err-cond-3-clause-answer
-parse_while-returns-in_err-cond-3-clause-answer t c =
-    let p = err_from_is_err_and c.from_residual-in_err-cond-3.result c.from_residual-in_err-cond-3.ensures.1 in rw (p.1, p.2) (no_memory)
+pub parse_while-returns-in_err-whole-clause-answer : goal.parse_while-returns-in_err-whole-clause-answer
+parse_while-returns-in_err-whole-clause-answer t c =
+    let p = err_from_is_err_and c.from_residual-in_err-whole.result c.from_residual-in_err-whole.ensures.1 in rw (p.1, p.2) no_memory
 
 pub parse_while-returns-clause-answer : goal.parse_while-returns-clause-answer
 parse_while-returns-clause-answer t c =
-    let body = read_got statement_view c.in_ok-cond-2.ensures.found c.parse_statement.ensures.answer in
-    let e = rw (c.in_ok-cond-3.ensures.first, c.in_ok-cond-3.ensures.second, c.in_ok-cond-2.ensures.value) at c.while_loop.ensures in
-    rw e (while_rest_answer _ _ (and_ok c.in_ok-cond.ensures.answer (and_ok body and_done)))
+    rw c.in_ok-whole.ensures (while_rest_answer _ _ (and_ok c.in_ok-cond.ensures.answer (and_ok c.in_ok-body.ensures.answer and_done)))
 
 pub parse_while-returns-clause-shut : goal.parse_while-returns-clause-shut
 parse_while-returns-clause-shut t c =
-    let e = rw c.in_ok-cond-3.ensures.second at c.while_loop.ensures in rw e (read_holds _ c.in_ok-cond-2.ensures.found c.parse_statement.ensures.shut)
+    rw c.in_ok-whole.ensures c.in_ok-body.ensures.shut
 
 pub parse_for-returns-in_err-rest-clause-answer : goal.parse_for-returns-in_err-rest-clause-answer
 parse_for-returns-in_err-rest-clause-answer t c =
@@ -194,25 +192,29 @@ pub parse_for-returns-in_err-body-clause-answer : goal.parse_for-returns-in_err-
 parse_for-returns-in_err-body-clause-answer t c =
     let p = err_from_is_err_and c.from_residual-in_err-body.result c.from_residual-in_err-body.ensures.1 in rw (p.1, p.2) (for_rest_answer _ _ (and_ok c.in_ok-rest.ensures.answer (and_ok c.in_ok-first.ensures.answer (and_ok c.in_ok-cond.ensures.answer (and_ok c.in_ok-rest-2.ensures.answer (and_ok c.in_ok-next.ensures.answer (and_ok c.in_ok-rest-3.ensures.answer (and_failed _ c.in_err-body.ensures.answer))))))))
 
-pub parse_for-returns-in_err-first-2-clause-answer : goal.parse_for-returns-in_err-first-2-clause-answer
-parse_for-returns-in_err-first-2-clause-answer t c =
-    let p = err_from_is_err_and c.from_residual-in_err-first-2.result c.from_residual-in_err-first-2.ensures.1 in rw (p.1, p.2) (no_memory)
+pub parse_for-returns-in_err-whole-clause-answer : goal.parse_for-returns-in_err-whole-clause-answer
+parse_for-returns-in_err-whole-clause-answer t c =
+    let p = err_from_is_err_and c.from_residual-in_err-whole.result c.from_residual-in_err-whole.ensures.1 in rw (p.1, p.2) no_memory
 
 pub parse_for-returns-clause-answer : goal.parse_for-returns-clause-answer
 parse_for-returns-clause-answer t c =
-    let e = rw (c.in_ok-first-2.ensures.first, c.in_ok-first-2.ensures.second, c.in_ok-first-2.ensures.third) at c.for_loop.ensures in rw e (for_rest_answer _ _ (and_ok c.in_ok-rest.ensures.answer (and_ok c.in_ok-first.ensures.answer (and_ok c.in_ok-cond.ensures.answer (and_ok c.in_ok-rest-2.ensures.answer (and_ok c.in_ok-next.ensures.answer (and_ok c.in_ok-rest-3.ensures.answer (and_ok c.in_ok-body.ensures.answer and_done))))))))
+    rw c.in_ok-whole.ensures (for_rest_answer _ _ (and_ok c.in_ok-rest.ensures.answer (and_ok c.in_ok-first.ensures.answer (and_ok c.in_ok-cond.ensures.answer (and_ok c.in_ok-rest-2.ensures.answer (and_ok c.in_ok-next.ensures.answer (and_ok c.in_ok-rest-3.ensures.answer (and_ok c.in_ok-body.ensures.answer and_done))))))))
+
+pub parse_for-returns-clause-shut : goal.parse_for-returns-clause-shut
+parse_for-returns-clause-shut t c =
+    rw c.in_ok-whole.ensures c.in_ok-body.ensures.shut
 
 pub parse_items-returns-in_err-item : goal.parse_items-returns-in_err-item
 parse_items-returns-in_err-item t c =
     let p = err_from_is_err_and c.from_residual.result c.from_residual.ensures.1 in record { answer = rw (p.1, p.2) (items_answer (loop_failed (item_lines _) _ c.items.invariant.0 (none_of _ (sym c.is_sign.ensures ∙ c.items-test.true)) (one_answer c.in_err-item.ensures.answer))) }
 
-pub parse_items-returns-in_err-push : goal.parse_items-returns-in_err-push
-parse_items-returns-in_err-push t c =
-    let p = err_from_is_err_and c.from_residual-in_err-push.result c.from_residual-in_err-push.ensures.1 in record { answer = rw (p.1, p.2) (no_memory) }
+pub parse_items-returns-in_err-add : goal.parse_items-returns-in_err-add
+parse_items-returns-in_err-add t c =
+    let p = err_from_is_err_and c.from_residual-in_err-add.result c.from_residual-in_err-add.ensures.1 in record { answer = rw (p.1, p.2) (no_memory) }
 
 pub parse_items-items-preserved : goal.parse_items-items-preserved
 parse_items-items-preserved t c =
-    let e = ap (map statement_view) c.in_ok-push.ensures.items ∙ map-append statement_view c.items.out.items ((c.in_ok-item.item) ∷ []) in (rw e (loop_more (item_lines _) c.items.invariant.0 (none_of _ (sym c.is_sign.ensures ∙ c.items-test.true)) (one_answer c.in_ok-item.ensures.answer)), omega (arith, no_longer c.in_ok-item.ensures.answer, c.items.invariant.1))
+    let e = ap (map statement_view) c.in_ok-add.ensures ∙ map-append statement_view c.items.out.items (c.in_ok-item.item.value ∷ []) in (rw e (loop_more (item_lines _) c.items.invariant.0 (none_of _ (sym c.is_sign.ensures ∙ c.items-test.true)) (one_answer c.in_ok-item.ensures.answer)), omega (arith, no_longer c.in_ok-item.ensures.answer, c.items.invariant.1))
 
 pub parse_items-returns-in_err-rest : goal.parse_items-returns-in_err-rest
 parse_items-returns-in_err-rest t c =

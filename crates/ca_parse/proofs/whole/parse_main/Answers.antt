@@ -16,9 +16,9 @@ pub returns-in_err-item : goal.returns-in_err-item
 returns-in_err-item c =
     let p = err_from_is_err_and c.from_residual.result c.from_residual.ensures.1 in record { answer = rw (p.1, p.2) (main_loop_failed _ c.items.invariant (none_of _ (sym c.is_sign.ensures ∙ c.items-test.true)) c.in_err-item.ensures.answer) }
 
-pub returns-in_err-push : goal.returns-in_err-push
-returns-in_err-push c =
-    let p = err_from_is_err_and c.from_residual-in_err-push.result c.from_residual-in_err-push.ensures.1 in record { answer = rw (p.1, p.2) (no_memory) }
+pub returns-in_err-add : goal.returns-in_err-add
+returns-in_err-add c =
+    let p = err_from_is_err_and c.from_residual-in_err-add.result c.from_residual-in_err-add.ensures.1 in record { answer = rw (p.1, p.2) (no_memory) }
 
 pub is_return_zero-ends-requires : goal.is_return_zero-ends-requires
 is_return_zero-ends-requires c =
@@ -26,7 +26,7 @@ is_return_zero-ends-requires c =
 
 pub items-preserved : goal.items-preserved
 items-preserved c =
-    let e = ap (map statement_view) c.in_ok-push.ensures.items ∙ map-append statement_view c.items.out.items ((c.in_ok-item.item) ∷ []) in rw (e, c.is_return_zero-ends.ensures) (main_more c.items.invariant (none_of _ (sym c.is_sign.ensures ∙ c.items-test.true)) c.in_ok-item.ensures.answer)
+    let e = ap (map statement_view) c.in_ok-add.ensures ∙ map-append statement_view c.items.out.items (c.in_ok-item.item.value ∷ []) in rw (e, c.is_return_zero-ends.ensures) (main_more c.items.invariant (none_of _ (sym c.is_sign.ensures ∙ c.items-test.true)) c.in_ok-item.ensures.answer)
 
 pub items-smaller : goal.items-smaller
 items-smaller c =
