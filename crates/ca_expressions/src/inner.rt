@@ -60,7 +60,10 @@ fn parse_operands<'a>(
 }
 
 #[cycle(expression)]
-fn parse_unary<'a>(alloc: Global, tokens: &'a [Token]) -> Result<(Box<ExprNode>, &'a [Token]), Fault<'a>>
+fn parse_unary<'a>(
+    alloc: Global,
+    tokens: &'a [Token],
+) -> Result<(Box<ExprNode>, &'a [Token]), Fault<'a>>
     ensures answer { Exact (Unlimited Unary) (Closed unary_level Unary) tokens.now (answer node_view result) }
     ensures shorter { IfOk result (λ p. length p.1.now < length tokens.now) }
 {

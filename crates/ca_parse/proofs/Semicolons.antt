@@ -48,5 +48,6 @@ ended_exact {x = x} d = exact_map join split d
   where
     join : (free : ℕ) (s r : List Token) (y : _) → Ended x free s y r → (last x).D free s y r
     join free s r y (semicolon e) = then e done
+
     split : (free : ℕ) (s r : List Token) (y : _) → (last x).C free s y r → Ended x free s y r
     split free s r y (upto e done) = semicolon e

@@ -14,8 +14,8 @@ use crate::assigns::{first_place, parse_assign, parse_assign_to, parse_first, pa
 use crate::endings::{ended, line, statement};
 use crate::types::begins_local;
 use ca_expressions::{
-    Fault, add, is_call, is_key, is_sign, is_target, key_at, parse_chain, parse_expression, sign_at,
-    take_sign,
+    Fault, add, is_call, is_key, is_sign, is_target, key_at, parse_chain, parse_expression,
+    sign_at, take_sign,
 };
 use ca_tree::{ExprNode, Keyword, Place, Sign, StmtKind, StmtNode, Token};
 use std::alloc::{AllocError, Global};

@@ -14,7 +14,8 @@ ghost use Rattle.ca_parse.specs.clauses.Closed.{DeclarationRest, MainBody};
 use crate::members::parse_members;
 use crate::statements::parse_item;
 use ca_expressions::{
-    Fault, add, is_key, is_sign, is_zero, key_at, number_at, sign_at, take_key, take_name, take_sign,
+    Fault, add, is_key, is_sign, is_zero, key_at, number_at, sign_at, take_key, take_name,
+    take_sign,
 };
 use ca_tree::{ClassNode, Keyword, Name, Place, Sign, StmtNode, Token, Tree};
 use std::alloc::{AllocFailed, Global};

@@ -13,7 +13,7 @@ ghost use Rattle.ca_resolve.specs.View.{found_view, value_view, values_view, mea
 
 use crate::classes::Meaning;
 use crate::codes::{UNKNOWN_NAME, WRONG_CALL, WRONG_COUNT};
-use crate::errors::{CheckError, both, violation};
+use crate::errors::{CheckError, both, let_go, violation};
 use crate::found::{Found, Invocation};
 use crate::nodes::{receiver_member, whole_value};
 use crate::scope::Scope;
@@ -50,7 +50,8 @@ pub fn check_call<'a>(
         | ExprKind::Index(..)
         | ExprKind::Unary(..)
         | ExprKind::Binary(..) => {
-            whole_value(check_found(alloc, scope, e), e)?;
+            let value = whole_value(check_found(alloc, scope, e), e)?;
+            let_go(value);
             Err(violation(at, WRONG_CALL))
         }
     }
@@ -135,6 +136,7 @@ pub(crate) fn invocation<'a>(
     let (receiver, arguments) = both(receiver, arguments)?;
     let (callee, params) = callee?;
     if arguments.len() != params.len() {
+        let_go((receiver, arguments));
         return Err(violation(at, WRONG_COUNT));
     }
     Ok(Invocation {
@@ -154,7 +156,10 @@ pub(crate) fn call_value<'a>(
 {
     let call = call?;
     match call.callee {
-        Callee::Operation(_) => Err(violation(at, WRONG_CALL)),
+        Callee::Operation(_) => {
+            let_go(call);
+            Err(violation(at, WRONG_CALL))
+        }
         Callee::Function(id, ty) => {
             let receiver = Box::new(alloc, call.receiver)?;
             Ok(Found::Value(Expr::Value(receiver, id, call.arguments), ty))

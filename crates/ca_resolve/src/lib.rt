@@ -29,7 +29,7 @@ mod values;
 
 pub use calls::check_call;
 pub use classes::{ClassTable, Meaning};
-pub use errors::{CheckError, Code, and_one, both, lesser, limit, violation};
+pub use errors::{CheckError, Code, and_one, both, lesser, let_go, limit, violation};
 pub use found::{Found, Invocation, Target};
 pub use locals::{Locals, VisibleLocal};
 pub use members::{member_name, one_more};

@@ -13,7 +13,7 @@ ghost use Rattle.ca_resolve.specs.LocalView.{ty_view};
 
 use crate::classes::Meaning;
 use crate::codes::{THIS_IN_MAIN, TYPES_DISAGREE, UNKNOWN_NAME, WRONG_INDEX};
-use crate::errors::{CheckError, both, violation};
+use crate::errors::{CheckError, both, let_go, violation};
 use crate::found::Found;
 use crate::scope::Scope;
 use crate::types::{Ty, binary_ty, takes_binary, takes_unary, unary_ty};
@@ -61,7 +61,10 @@ fn member_read<'a>(
     match meaning {
         Meaning::Scalar(id, ty) => Ok(Found::Value(field_of(alloc, object, *id)?, *ty)),
         Meaning::Items(id, ty) => Ok(Found::Array(object, *id, *ty)),
-        Meaning::Method(..) => Err(violation(at, UNKNOWN_NAME)),
+        Meaning::Method(..) => {
+            let_go(object);
+            Err(violation(at, UNKNOWN_NAME))
+        }
     }
 }
 
@@ -80,6 +83,7 @@ fn field_of(alloc: Global, object: Expr, id: FieldId) -> Result<Expr, AllocError
     ensures { IfOk result (λ e. expression_view e ≡ field_of (expression_view object) id) }
 {
     if matches!(object, Expr::This) {
+        let_go(object);
         return Ok(Expr::Own(id));
     }
     Ok(Expr::Read(Box::new(alloc, object)?, id))
@@ -90,6 +94,7 @@ fn item_of(alloc: Global, object: Expr, id: FieldId, index: Expr) -> Result<Expr
     ensures { IfOk result (λ e. expression_view e ≡ item_of (expression_view object) id (expression_view index)) }
 {
     if matches!(object, Expr::This) {
+        let_go(object);
         return Ok(Expr::OwnItem(id, Box::new(alloc, index)?));
     }
     let (object, index) = boxes(alloc, object, index)?;
@@ -139,7 +144,10 @@ pub(crate) fn whole_value<'a>(
 {
     match found? {
         Found::Value(value, ty) => Ok((value, ty)),
-        Found::Array(..) => Err(violation(place_of(e), WRONG_INDEX)),
+        Found::Array(array, ..) => {
+            let_go(array);
+            Err(violation(place_of(e), WRONG_INDEX))
+        }
     }
 }
 
@@ -162,7 +170,10 @@ pub(crate) fn item<'a>(
     let (array, index) = both(array, index)?;
     match array {
         Found::Array(object, id, ty) => Ok(Found::Value(item_of(alloc, object, id, index)?, ty)),
-        Found::Value(..) => Err(violation(at, WRONG_INDEX)),
+        Found::Value(value, _) => {
+            let_go((value, index));
+            Err(violation(at, WRONG_INDEX))
+        }
     }
 }
 
@@ -181,6 +192,7 @@ pub(crate) fn value_for(
             if target.can_hold(&ty) {
                 Ok(value)
             } else {
+                let_go(value);
                 Err(violation(place_of(e), TYPES_DISAGREE))
             }
         }
@@ -198,6 +210,7 @@ pub(crate) fn unary<'a>(
 {
     let (operand, ty) = operand?;
     if !takes_unary(op, &ty) {
+        let_go(operand);
         return Err(violation(at, TYPES_DISAGREE));
     }
     let operand = Box::new(alloc, operand)?;
@@ -216,6 +229,7 @@ pub(crate) fn binary<'a>(
 {
     let ((left, left_ty), (right, right_ty)) = both(left, right)?;
     if !takes_binary(op, &left_ty, &right_ty) {
+        let_go((left, right));
         return Err(violation(at, TYPES_DISAGREE));
     }
     let (left, right) = boxes(alloc, left, right)?;

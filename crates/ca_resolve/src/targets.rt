@@ -11,7 +11,7 @@ ghost use Rattle.ca_resolve.specs.Values.{judge_item_target, judge_target};
 ghost use Rattle.ca_resolve.specs.View.{found_view, target_view, scope_view};
 
 use crate::codes::NO_TARGET;
-use crate::errors::{CheckError, both, violation};
+use crate::errors::{CheckError, both, let_go, violation};
 use crate::found::{Found, Target};
 use crate::scope::Scope;
 use crate::types::Ty;
@@ -42,7 +42,12 @@ pub fn check_target<'a>(
         | ExprKind::Field(..)
         | ExprKind::Method(..)
         | ExprKind::Unary(..)
-        | ExprKind::Binary(..) => target(&check_found(alloc, scope, e)?, e.at),
+        | ExprKind::Binary(..) => {
+            let found = check_found(alloc, scope, e)?;
+            let answer = target(&found, e.at);
+            let_go(found);
+            answer
+        }
     }
 }
 
@@ -63,7 +68,10 @@ fn own_item<'a>(array: &Found<'a>, index: Expr, at: Place) -> Result<(Target, Ty
 {
     match array {
         Found::Array(Expr::This, id, ty) => Ok((Target::Item(*id, index), *ty)),
-        Found::Array(..) | Found::Value(..) => Err(violation(at, NO_TARGET)),
+        Found::Array(..) | Found::Value(..) => {
+            let_go(index);
+            Err(violation(at, NO_TARGET))
+        }
     }
 }
 
@@ -76,5 +84,7 @@ fn item_target<'a>(
     ensures { (j : Judged PlainFound) (k : Judged Expression) → Answers found_view array.entry j → Answers expression_view index k → Answers target_view result (judge_item_target j k at) }
 {
     let (array, index) = both(array, index)?;
-    own_item(&array, index, at)
+    let answer = own_item(&array, index, at);
+    let_go(array);
+    answer
 }

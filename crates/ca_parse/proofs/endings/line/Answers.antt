@@ -15,5 +15,7 @@ returns-in_err-made c =
 pub returns : goal.returns
 returns c =
     let e = ap statement_view c.in_ok-made.ensures in
-    record { answer = subst (λ z. Exact (Ended z) (Ended z) c.args.tokens.now (answer stmt_view c.ended.result)) e
-    (ended_join (ended_answer stmt_view c.ended.result c.ended.ensures.answer)) }
+    record {
+      answer = subst (λ z. Exact (Ended z) (Ended z) c.args.tokens.now (answer stmt_view c.ended.result)) e
+          (ended_join (ended_answer stmt_view c.ended.result c.ended.ensures.answer));
+    }
