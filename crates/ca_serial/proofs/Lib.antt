@@ -19,3 +19,5 @@ pub mod FewCalls
 pub mod Tellings
 pub mod Taking
 pub mod Instants
+pub mod Parts
+pub mod Passing

@@ -133,16 +133,14 @@ impl<'a> Machine<'a> {
             Answer::Gives(value) => {
                 self.values.cut(count);
                 self.left -= 1;
-                self.values.push(value)?;
-                Ok(Next::GoesOn)
+                self.give(program, value)
             }
             Answer::Rest(ss) => {
                 self.bodies
                     .enter(receiver, mode_of(target), top.items, called.others)?;
                 self.values.cut(count);
                 self.left -= 1;
-                let next = self.begin_body(program, ss)?;
-                Ok(next)
+                self.begin_body(program, ss)
             }
         }
     }
@@ -179,12 +177,10 @@ impl<'a> Machine<'a> {
         }
         let rest = self.do_all(program, ss);
         if rest.is_empty() {
-            let next = self.leave(program)?;
-            return Ok(next);
+            return self.leave(program);
         }
         self.todo.push(Work::Leave)?;
-        let next = self.put_off(program, rest)?;
-        Ok(next)
+        self.put_off(program, rest)
     }
 
     /// Makes the first statement of a list the next piece of work, and what is behind it the one after that.
@@ -194,13 +190,11 @@ impl<'a> Machine<'a> {
     {
         match ss.split_first() {
             Some((first, rest)) => {
+                let one = Work::Exec(first.line, first);
                 if rest.is_empty() {
-                    self.todo.push(Work::Exec(first.line, first))?;
-                    return Ok(Next::GoesOn);
+                    return self.put(program, one);
                 }
-                self.todo.push(Work::Seq(rest))?;
-                self.todo.push(Work::Exec(first.line, first))?;
-                Ok(Next::GoesOn)
+                self.put_both(program, one, Work::Seq(rest))
             }
             None => Ok(Next::GoesOn),
         }

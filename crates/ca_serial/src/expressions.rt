@@ -22,29 +22,42 @@ impl<'a> Machine<'a> {
         ensures { IfOk result (λ next. (ps : Past) → rest_of (program_view program.now) (Work.Evaluate line e.entry ∷ self.old.todo) self.old ps ≡ after (program_view program.now) self.new ps next) }
     {
         match e {
-            Expr::Number(n) => self.values.push(Value::Long(*n))?,
-            Expr::Truth(b) => self.values.push(Value::Bool(*b))?,
-            Expr::Null => self.values.push(Value::Null)?,
-            Expr::This => self.values.push(self.bodies.this())?,
-            Expr::Local(l) => self.values.push(self.bodies.local(l.0))?,
+            Expr::Number(n) => self.give(program, Value::Long(*n)),
+            Expr::Truth(b) => self.give(program, Value::Bool(*b)),
+            Expr::Null => self.give(program, Value::Null),
+            Expr::This => {
+                let value = self.bodies.this();
+                self.give(program, value)
+            }
+            Expr::Local(l) => {
+                let value = self.bodies.local(l.0);
+                self.give(program, value)
+            }
             Expr::Own(f) => {
                 let value = field_of(&self.heap, self.bodies.this(), *f);
-                self.values.push(value)?;
+                self.give(program, value)
             }
-            Expr::OwnItem(f, i) => self.then(Work::ReadOwnItem(line, *f), line, i)?,
-            Expr::Read(p, f) => self.then(Work::ReadField(line, *f), line, p)?,
-            Expr::ReadItem(p, f, i) => self.then(Work::CheckObject(line, *f, i), line, p)?,
+            Expr::OwnItem(f, i) => {
+                let taker = Work::ReadOwnItem(line, *f);
+                self.put_both(program, Work::Evaluate(line, i), taker)
+            }
+            Expr::Read(p, f) => {
+                let taker = Work::ReadField(line, *f);
+                self.put_both(program, Work::Evaluate(line, p), taker)
+            }
+            Expr::ReadItem(p, f, i) => {
+                let taker = Work::CheckObject(line, *f, i);
+                self.put_both(program, Work::Evaluate(line, p), taker)
+            }
             Expr::Value(receiver, m, arguments) => {
-                let next = self.evaluate_call(program, line, receiver, *m, arguments)?;
-                return Ok(next);
+                self.evaluate_call(program, line, receiver, *m, arguments)
             }
-            Expr::Unary(op, a) => self.then(Work::Sign(*op), line, a)?,
-            Expr::Binary(op, a, b) => {
-                let next = self.evaluate_binary(program, line, *op, a, b)?;
-                return Ok(next);
+            Expr::Unary(op, a) => {
+                let taker = Work::Sign(*op);
+                self.put_both(program, Work::Evaluate(line, a), taker)
             }
+            Expr::Binary(op, a, b) => self.evaluate_binary(program, line, *op, a, b),
         }
-        Ok(Next::GoesOn)
     }
 
     /// Goes on with a call of a value method.
@@ -91,14 +104,11 @@ impl<'a> Machine<'a> {
                     return Ok(next);
                 }
                 self.values.push(object)?;
-                let next = self.collect(program, line, target, arguments, 0)?;
-                Ok(next)
+                self.collect(program, line, target, arguments, 0)
             }
             None => {
-                self.todo
-                    .push(Work::CollectValue(line, arguments, method, 0))?;
-                self.todo.push(Work::Evaluate(line, receiver))?;
-                Ok(Next::GoesOn)
+                let taker = Work::CollectValue(line, arguments, method, 0);
+                self.put_both(program, Work::Evaluate(line, receiver), taker)
             }
         }
     }
@@ -117,13 +127,11 @@ impl<'a> Machine<'a> {
     {
         if is_short(a) {
             if let Some(left) = self.short_of(program, line, a) {
-                let next = self.check_left(program, line, op, b, left)?;
-                return Ok(next);
+                return self.check_left(program, line, op, b, left);
             }
         }
         self.todo.push(Work::CheckLeft(line, op, b))?;
-        let next = self.begin_expression(program, line, a)?;
-        Ok(next)
+        self.begin_expression(program, line, a)
     }
 
     /// Begins an expression: a call at once, and another one as the next piece of work.
@@ -138,13 +146,9 @@ impl<'a> Machine<'a> {
     {
         match e {
             Expr::Value(receiver, m, arguments) => {
-                let next = self.evaluate_call(program, line, receiver, *m, arguments)?;
-                Ok(next)
+                self.evaluate_call(program, line, receiver, *m, arguments)
             }
-            _ => {
-                self.todo.push(Work::Evaluate(line, e))?;
-                Ok(Next::GoesOn)
-            }
+            _ => self.put(program, Work::Evaluate(line, e)),
         }
     }
 
@@ -263,14 +267,10 @@ impl<'a> Machine<'a> {
         ensures { IfOk result (λ next. (ps : Past) → takes (program_view program.now) (Work.CheckLeft line op right.entry) left self.old ps ≡ after (program_view program.now) self.new ps next) }
     {
         match decide(op, left) {
-            Some(value) => {
-                self.values.push(value)?;
-                Ok(Next::GoesOn)
-            }
+            Some(value) => self.give(program, value),
             None => {
                 self.todo.push(Work::Apply(op, line, left))?;
-                let next = self.begin_expression(program, line, right)?;
-                Ok(next)
+                self.begin_expression(program, line, right)
             }
         }
     }

@@ -1,13 +1,10 @@
 //! Calls with few arguments that are all found without a call. These go straight behind the locals of the frames.
 
-ghost use Rattle.std.specs.Prelude.{◌≡◌, ◌<◌, ◌≤◌, ◌∷◌, ℕ, false, List, IfOk};
+ghost use Rattle.std.specs.Prelude.{◌≡◌, ◌<◌, ◌≤◌, ℕ, false, IfOk};
 ghost use Rattle.ca_program.specs.View.{program_view};
-ghost use Rattle.ca_model.specs.declared.value.Value.TheVariants.{Ref};
 ghost use Rattle.ca_parallel.specs.Lists.{op_in};
-ghost use Rattle.ca_serial.specs.declared.work.Work.{Work};
-ghost use Rattle.ca_serial.specs.declared.work.Target.TheVariants.{Function, Operation};
 ghost use Rattle.ca_serial.specs.clauses.Bodies.{marks_of};
-ghost use Rattle.ca_serial.specs.clauses.Resume.{Past, rest_of, calls_with, still, after, CalledFew, EnteredFew};
+ghost use Rattle.ca_serial.specs.clauses.Resume.{CalledFew, EnteredFew, CalledWith, EnteredWith};
 ghost use Rattle.ca_serial.specs.clauses.Few.{FoundFew};
 
 use crate::answers::Answer;
@@ -79,27 +76,15 @@ impl<'a> Machine<'a> {
             return Ok(None);
         }
         match self.few(program, line, arguments) {
-            Few::Zero => {
-                let next = self.call_with(program, method, object, &[])?;
-                Ok(Some(next))
-            }
-            Few::One(x) => {
-                let next = self.call_with(program, method, object, &[x])?;
-                Ok(Some(next))
-            }
-            Few::Two(x, y) => {
-                let next = self.call_with(program, method, object, &[x, y])?;
-                Ok(Some(next))
-            }
-            Few::Three(x, y, z) => {
-                let next = self.call_with(program, method, object, &[x, y, z])?;
-                Ok(Some(next))
-            }
+            Few::Zero => self.call_with(program, method, object, &[]),
+            Few::One(x) => self.call_with(program, method, object, &[x]),
+            Few::Two(x, y) => self.call_with(program, method, object, &[x, y]),
+            Few::Three(x, y, z) => self.call_with(program, method, object, &[x, y, z]),
             Few::Others => Ok(None),
         }
     }
 
-    /// Calls a value method of an object with these arguments. A step is left for it.
+    /// Calls a value method of an object with these arguments, always. A step is left for it.
     #[inline(always)]
     fn call_with(
         &mut self,
@@ -107,9 +92,9 @@ impl<'a> Machine<'a> {
         method: FunctionId,
         receiver: u32,
         arguments: &[Value],
-    ) -> Result<Next, Memory>
+    ) -> Result<Option<Next>, Memory>
         requires { 0 < self.old.left }
-        ensures { IfOk result (λ next. (line : ℕ) (ps : Past) → calls_with (program_view program.now) self.old.todo line (Function method) (Ref receiver) arguments.now self.old ps ≡ after (program_view program.now) self.new ps next) }
+        ensures { IfOk result (λ called. (line : ℕ) → CalledWith called (program_view program.now) line method receiver arguments.now self.old self.new) }
     {
         let target = Target::Function(method);
         let called = body_of(program, target);
@@ -117,14 +102,14 @@ impl<'a> Machine<'a> {
             Answer::Gives(value) => {
                 self.left -= 1;
                 self.values.push(value)?;
-                Ok(Next::GoesOn)
+                Ok(Some(Next::GoesOn))
             }
             Answer::Rest(ss) => {
                 self.bodies
                     .enter(receiver, Mode::InFunction, arguments, called.others)?;
                 self.left -= 1;
                 let next = self.begin_body(program, ss)?;
-                Ok(next)
+                Ok(Some(next))
             }
         }
     }
@@ -155,28 +140,16 @@ impl<'a> Machine<'a> {
             return Ok(None);
         }
         match self.few(program, line, arguments) {
-            Few::Zero => {
-                let whole = self.enter_with(program, op, object, &[])?;
-                Ok(Some(whole))
-            }
-            Few::One(x) => {
-                let whole = self.enter_with(program, op, object, &[x])?;
-                Ok(Some(whole))
-            }
-            Few::Two(x, y) => {
-                let whole = self.enter_with(program, op, object, &[x, y])?;
-                Ok(Some(whole))
-            }
-            Few::Three(x, y, z) => {
-                let whole = self.enter_with(program, op, object, &[x, y, z])?;
-                Ok(Some(whole))
-            }
+            Few::Zero => self.enter_with(program, op, object, &[]),
+            Few::One(x) => self.enter_with(program, op, object, &[x]),
+            Few::Two(x, y) => self.enter_with(program, op, object, &[x, y]),
+            Few::Three(x, y, z) => self.enter_with(program, op, object, &[x, y, z]),
             Few::Others => Ok(None),
         }
     }
 
-    /// Enters the body of an operation of an object with these arguments, and does it at once as far as it goes. A step is
-    /// left for it, and the body that runs doesn't hand the call on.
+    /// Enters the body of an operation of an object with these arguments, and does it at once as far as it goes, always. A
+    /// step is left for it, and the body that runs doesn't hand the call on.
     #[inline(always)]
     fn enter_with(
         &mut self,
@@ -184,18 +157,18 @@ impl<'a> Machine<'a> {
         op: OpId,
         receiver: u32,
         arguments: &[Value],
-    ) -> Result<bool, Memory>
+    ) -> Result<Option<bool>, Memory>
         requires left { 0 < self.old.left }
         requires off { op_in (marks_of self.old.bodies.current).ops op ≡ false }
         ensures todo { self.new.todo ≡ self.old.todo }
         ensures steps { self.new.left ≤ self.old.left }
-        ensures left { IfOk result (λ whole. (line : ℕ) (todo : List Work) (ps : Past) → calls_with (program_view program.now) todo line (Operation op) (Ref receiver) arguments.now self.old ps ≡ rest_of (program_view program.now) (still whole self.new todo) self.new ps) }
+        ensures left { IfOk result (λ entered. (line : ℕ) → EnteredWith entered (program_view program.now) line op receiver arguments.now self.old self.new) }
     {
         let called = body_of(program, Target::Operation(op));
         self.bodies
             .enter(receiver, Mode::InOperation, arguments, called.others)?;
         self.left -= 1;
         let whole = self.run_now(program, called.stmts);
-        Ok(whole)
+        Ok(Some(whole))
     }
 }

@@ -32,6 +32,7 @@ mod listing;
 mod loops;
 mod machine;
 mod marked;
+mod next;
 mod patience;
 mod print;
 mod puts;

@@ -1,9 +1,9 @@
 //! The steps of loops.
 
-ghost use Rattle.std.specs.Prelude.{◌≡◌, ◌∷◌, ℕ, IfOk, true};
+ghost use Rattle.std.specs.Prelude.{◌≡◌, ◌∷◌, ℕ, IfOk, true, false};
 ghost use Rattle.ca_program.specs.View.{program_view, expression_view, expressions_view, statement_view, statements_view};
 ghost use Rattle.ca_model.specs.declared.value.Value.TheVariants.{Bool as Truth};
-ghost use Rattle.ca_serial.specs.clauses.Resume.{Past, rest_of, takes, loops, after, behind, Lessens, LeavesAsMany};
+ghost use Rattle.ca_serial.specs.clauses.Resume.{Past, rest_of, takes, loops, after, behind, all_still, Lessens, LeavesAsMany};
 
 use crate::machine::Machine;
 use crate::work::{Next, Turn, Work};
@@ -103,9 +103,7 @@ impl<'a> Machine<'a> {
                 if whole {
                     return Ok(Turn::Whole);
                 }
-                self.todo.push(Work::Again(line, s))?;
-                let next = self.go_on(program)?;
-                Ok(Turn::Ends(next))
+                self.put_again(program, line, s)
             }
             StmtForm::For(_, _, _, _, next, body) => {
                 let whole = self.start_body(program, body)?;
@@ -113,13 +111,39 @@ impl<'a> Machine<'a> {
                     let turn = self.follow(program, line, s, next)?;
                     return Ok(turn);
                 }
-                self.todo.push(Work::Again(line, s))?;
-                self.todo.push(Work::Exec(line, next))?;
-                let next = self.go_on(program)?;
-                Ok(Turn::Ends(next))
+                self.put_next(program, line, s, next)
             }
             _ => Ok(Turn::Ends(Next::GoesOn)),
         }
+    }
+
+    /// Goes on with what is left of the body of a `while`, and puts the loop behind it.
+    #[inline(always)]
+    fn put_again(&mut self, program: &'a Program, line: u32, s: &'a Stmt) -> Result<Turn, Memory>
+        ensures means { IfOk result (λ turn. (ps : Past) → rest_of (program_view program.now) (all_still false self.old (Work.Again line s.entry ∷ self.old.todo)) self.old ps ≡ behind (program_view program.now) (Work.Again line s.entry) self.new ps turn) }
+        ensures less { IfOk result (λ turn. (new old : ℕ) → Lessens turn new old) }
+    {
+        self.todo.push(Work::Again(line, s))?;
+        let next = self.go_on(program)?;
+        Ok(Turn::Ends(next))
+    }
+
+    /// Goes on with what is left of the body of a `for`, and puts its next part and the loop behind it.
+    #[inline(always)]
+    fn put_next(
+        &mut self,
+        program: &'a Program,
+        line: u32,
+        s: &'a Stmt,
+        next: &'a Stmt,
+    ) -> Result<Turn, Memory>
+        ensures means { IfOk result (λ turn. (ps : Past) → rest_of (program_view program.now) (all_still false self.old (Work.Exec line next.entry ∷ Work.Again line s.entry ∷ self.old.todo)) self.old ps ≡ behind (program_view program.now) (Work.Again line s.entry) self.new ps turn) }
+        ensures less { IfOk result (λ turn. (new old : ℕ) → Lessens turn new old) }
+    {
+        self.todo.push(Work::Again(line, s))?;
+        self.todo.push(Work::Exec(line, next))?;
+        let next = self.go_on(program)?;
+        Ok(Turn::Ends(next))
     }
 
     /// Runs the next part of a `for` behind its body.

@@ -164,11 +164,9 @@ impl<'a> Machine<'a> {
     {
         if let Some(others) = self.others {
             self.todo.push(Work::Seq(others))?;
-            let next = self.go_into(program)?;
-            return Ok(next);
+            return self.go_into(program);
         }
-        let next = self.go_into(program)?;
-        Ok(next)
+        self.go_into(program)
     }
 
     /// Goes on with what is left of a statement.
@@ -177,18 +175,13 @@ impl<'a> Machine<'a> {
         ensures { IfOk result (λ next. (ps : Past) → rest_of (program_view program.now) (pieces self.old.over self.old.todo) self.old ps ≡ after (program_view program.now) self.new ps next) }
     {
         match self.over {
-            Left::Statement(line, s) => {
-                let next = self.exec(program, line, s)?;
-                Ok(next)
-            }
+            Left::Statement(line, s) => self.exec(program, line, s),
             Left::Call(line, arguments, op) => {
-                let next = self.collect(program, line, Target::Operation(op), arguments, 0)?;
-                Ok(next)
+                self.collect(program, line, Target::Operation(op), arguments, 0)
             }
             Left::Body(ss) => {
                 self.todo.push(Work::Leave)?;
-                let next = self.put_off(program, ss)?;
-                Ok(next)
+                self.put_off(program, ss)
             }
         }
     }

@@ -18,38 +18,26 @@ impl<'a> Machine<'a> {
     pub fn exec(&mut self, program: &'a Program, line: u32, s: &'a Stmt) -> Result<Next, Memory>
         ensures { IfOk result (λ next. (ps : Past) → does (program_view program.now) line (statement_view s.now) self.old ps ≡ after (program_view program.now) self.new ps next) }
     {
-        // A part's clause is for every line of the statement's own. `Ok(..?)` in place of a tail call lets the
-        // prover apply it at the line of `s`.
         match &s.kind {
-            StmtForm::Block(ss) => {
-                self.todo.push(Work::Seq(ss.as_slice()))?;
-                Ok(Next::GoesOn)
-            }
-            StmtForm::PutLocal(l, op, e) => Ok(self.put_local(program, line, *l, *op, e)?),
-            StmtForm::PutField(f, op, e) => Ok(self.put_field(program, line, *f, *op, e)?),
-            StmtForm::PutItem(f, i, op, e) => Ok(self.put_item(program, line, *f, i, *op, e)?),
-            StmtForm::NewLocal(l, c) => Ok(self.new_local(program, line, *l, *c)?),
-            StmtForm::NewField(f, c) => Ok(self.new_field(program, line, *f, *c)?),
-            StmtForm::NewItem(f, i, c) => Ok(self.new_item(program, line, *f, i, *c)?),
-            StmtForm::Invoke(e, op, arguments) => {
-                Ok(self.invoke(program, line, e, *op, arguments)?)
-            }
-            StmtForm::If(c, a, b) => Ok(self.branch(program, line, c, a, b)?),
-            StmtForm::While(_, _) => {
-                self.todo.push(Work::Again(line, s))?;
-                Ok(Next::GoesOn)
-            }
+            StmtForm::Block(ss) => self.put(program, Work::Seq(ss.as_slice())),
+            StmtForm::PutLocal(l, op, e) => self.put_local(program, line, *l, *op, e),
+            StmtForm::PutField(f, op, e) => self.put_field(program, line, *f, *op, e),
+            StmtForm::PutItem(f, i, op, e) => self.put_item(program, line, *f, i, *op, e),
+            StmtForm::NewLocal(l, c) => self.new_local(program, line, *l, *c),
+            StmtForm::NewField(f, c) => self.new_field(program, line, *f, *c),
+            StmtForm::NewItem(f, i, c) => self.new_item(program, line, *f, i, *c),
+            StmtForm::Invoke(e, op, arguments) => self.invoke(program, line, e, *op, arguments),
+            StmtForm::If(c, a, b) => self.branch(program, line, c, a, b),
+            StmtForm::While(_, _) => self.put(program, Work::Again(line, s)),
             StmtForm::For(site, _, first, _, _, _) => {
                 if self.bodies.hands_on_loop(*site) {
                     self.todo.push(Work::Exec(line, s))?;
                     return Ok(Next::LoopDue);
                 }
-                self.todo.push(Work::Again(line, s))?;
-                self.todo.push(Work::Exec(line, first))?;
-                Ok(Next::GoesOn)
+                self.put_both(program, Work::Exec(line, first), Work::Again(line, s))
             }
-            StmtForm::Return(e) => Ok(self.return_value(program, line, e)?),
-            StmtForm::Print(e) => Ok(self.print_value(program, line, e)?),
+            StmtForm::Return(e) => self.return_value(program, line, e),
+            StmtForm::Print(e) => self.print_value(program, line, e),
         }
     }
 
@@ -107,14 +95,8 @@ impl<'a> Machine<'a> {
         ensures { IfOk result (λ next. (own : ℕ) (ps : Past) → does (program_view program.now) line (if_else own (expression_view c.now) (statement_view a.now) (statement_view b.now)) self.old ps ≡ after (program_view program.now) self.new ps next) }
     {
         match self.truth_of(program, line, c) {
-            Some(truth) => {
-                let next = self.choose(program, a, b, Value::Bool(truth))?;
-                Ok(next)
-            }
-            None => {
-                self.then(Work::Choose(a, b), line, c)?;
-                Ok(Next::GoesOn)
-            }
+            Some(truth) => self.choose(program, a, b, Value::Bool(truth)),
+            None => self.put_both(program, Work::Evaluate(line, c), Work::Choose(a, b)),
         }
     }
 

@@ -367,10 +367,20 @@ abbrev pub CalledFew : Option Next → PlainProgram → ℕ → FunctionId → D
 CalledFew (Some next) p line m v arguments old new = (ps : Past) → receives p old.todo line (Function m) v arguments old ps ≡ after p new ps next
 CalledFew None p line m v arguments old new = new ≡ old
 
+-- a value method of this object was called with these values
+abbrev pub CalledWith : Option Next → PlainProgram → ℕ → FunctionId → ℕ → List Datum → Machine → Machine → Type 0
+CalledWith (Some next) p line m n xs old new = (ps : Past) → calls_with p old.todo line (Function m) (Ref n) xs old ps ≡ after p new ps next
+CalledWith None p line m n xs old new = ⊥
+
 -- an operation was called, and its body begun, or nothing was done
 abbrev pub EnteredFew : Option Bool → PlainProgram → ℕ → OpId → Datum → List Expr → Machine → Machine → Type 0
 EnteredFew (Some whole) p line op v arguments old new = (todo : List Work) (ps : Past) → receives p todo line (Operation op) v arguments old ps ≡ rest_of p (still whole new todo) new ps
 EnteredFew None p line op v arguments old new = new ≡ old
+
+-- an operation of this object was called with these values, and its body begun
+abbrev pub EnteredWith : Option Bool → PlainProgram → ℕ → OpId → ℕ → List Datum → Machine → Machine → Type 0
+EnteredWith (Some whole) p line op n xs old new = (todo : List Work) (ps : Past) → calls_with p todo line (Operation op) (Ref n) xs old ps ≡ rest_of p (still whole new todo) new ps
+EnteredWith None p line op n xs old new = ⊥
 
 -- after a turn of a loop: the loop comes again, or the work ended so
 abbrev pub behind : PlainProgram → Work → Machine → Past → Turn → Flow World

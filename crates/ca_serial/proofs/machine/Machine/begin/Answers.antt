@@ -1,4 +1,5 @@
 use Rattle.std.proofs.Common.{◌≡◌, ◌∙◌, ◌<◌, ◌+◌, ◌-◌, ◌∷◌, ◌++◌, arith, refl, ap, map, drop}
+use Rattle.std.proofs.lemmas.Result.{IfOk-weaker}
 use Rattle.ca_program.specs.View.{program_view}
 use Rattle.ca_model.specs.declared.value.Value.TheVariants.{Ref}
 use Rattle.ca_model.specs.Slots.{start_of}
@@ -39,11 +40,10 @@ returns-then-self-eq0 c = λ ps.
     taken_there c.args.count m.values (world_of m ps) _ top.below (drop (c.args.count + 1) m.values) top.items.now c.in-Some.ensures.0 c.in-Some.ensures.1
     ∙ rw c.in-Ref.is (call_runs_out (program_view c.args.program.now) c.args.target c.args.line c.in-Ref.receiver top.items.now (drop (c.args.count + 1) m.values) m.bodies.current (world_of m ps) m.left _ c.in_default-handed.ensures (omega arith))
 
-pub returns-in_ok-push-in-Gives : goal.returns-in_ok-push-in-Gives
-returns-in_ok-push-in-Gives c = λ ps.
+pub returns-in-Gives : goal.returns-in-Gives
+returns-in-Gives c =
     let p = program_view c.args.program.now in
     let m = c.args.self.now in
-    let w = world_of m ps in
     let args = c.in-Some.top.items.now in
     let lt : 0 < m.left = omega arith in
     let called = c.body_of-called in
@@ -51,16 +51,17 @@ returns-in_ok-push-in-Gives c = λ ps.
     let there : drop c.args.count m.values ≡ Ref c.in-Ref.receiver ∷ rest = c.in-Some.ensures.0 ∙ ap (λ v. v ∷ rest) c.in-Ref.is in
     let body : Body = record { this = Ref c.in-Ref.receiver; locals = args ++ map start_of called.result.others.now; mode = target_mode c.args.target; marked = m.bodies.current.marked; heeds = m.bodies.current.heeds } in
     let told = c.in-Gives.ensures m.bodies.current.marked m.bodies.current.heeds in
+    IfOk-weaker c.give.result _ _ (λ _ same ps.
+    let w = world_of m ps in
     taken_there c.args.count m.values w _ (Ref c.in-Ref.receiver) rest args there c.in-Some.ensures.1
     ∙ begun p c.args.target c.args.line c.in-Ref.receiver args rest m.bodies.current m.bodies.below m.todo w m.left called.result.stmts called.result.others.now c.in_default-handed.ensures lt called.ensures.stmts called.ensures.others
     ∙ left_with p body m.bodies.current m.bodies.below m.todo rest w (m.left - 1) called.result.stmts c.in-Gives.value told.0 (rw c.in-Ref.is at (told.1 p ps (m.left - 1)))
-    ∙ rw (c.in_ok-push-in-Gives.ensures, c.cut.ensures) refl
+    ∙ (rw c.cut.ensures at same ps)) c.give.ensures
 
-pub returns-in_ok-next-in-Rest : goal.returns-in_ok-next-in-Rest
-returns-in_ok-next-in-Rest c = λ ps.
+pub returns-in_ok-enter-in-Rest : goal.returns-in_ok-enter-in-Rest
+returns-in_ok-enter-in-Rest c =
     let p = program_view c.args.program.now in
     let m = c.args.self.now in
-    let w = world_of m ps in
     let args = c.in-Some.top.items.now in
     let lt : 0 < m.left = omega arith in
     let called = c.body_of-called in
@@ -68,7 +69,9 @@ returns-in_ok-next-in-Rest c = λ ps.
     let there : drop c.args.count m.values ≡ Ref c.in-Ref.receiver ∷ rest = c.in-Some.ensures.0 ∙ ap (λ v. v ∷ rest) c.in-Ref.is in
     let body : Body = record { this = Ref c.in-Ref.receiver; locals = args ++ map start_of called.result.others.now; mode = target_mode c.args.target; marked = m.bodies.current.marked; heeds = m.bodies.current.heeds } in
     let told = c.in-Rest.ensures m.bodies.current.marked m.bodies.current.heeds in
+    IfOk-weaker c.begin_body.result _ _ (λ _ same ps.
+    let w = world_of m ps in
     taken_there c.args.count m.values w _ (Ref c.in-Ref.receiver) rest args there c.in-Some.ensures.1
     ∙ begun p c.args.target c.args.line c.in-Ref.receiver args rest m.bodies.current m.bodies.below m.todo w m.left called.result.stmts called.result.others.now c.in_default-handed.ensures lt called.ensures.stmts called.ensures.others
     ∙ same_rest p body (m.bodies.current ∷ m.bodies.below) (Leave ∷ m.todo) rest w (m.left - 1) called.result.stmts c.in-Rest.ss (rw c.in-Ref.is at (told p ps (m.left - 1)))
-    ∙ (rw (c.cut-in-Rest.ensures, c.in_ok-enter-in-Rest.ensures.current, c.in_ok-enter-in-Rest.ensures.below, c.mode_of.ensures) at c.in_ok-next-in-Rest.ensures ps)
+    ∙ (rw (c.cut-in-Rest.ensures, c.in_ok-enter-in-Rest.ensures.current, c.in_ok-enter-in-Rest.ensures.below, c.mode_of.ensures) at same ps)) c.begin_body.ensures

@@ -1,4 +1,5 @@
 use Rattle.std.proofs.Common.{◌∙◌, ◌<◌, ap, arith}
+use Rattle.std.proofs.lemmas.Result.{IfOk-weaker}
 use Rattle.ca_program.specs.View.{program_view}
 use Rattle.ca_serial.proofs.AtOnce.{while_started, for_started}
 use Rattle.ca_serial.proofs.Beginnings.{less_than_before}
@@ -11,16 +12,17 @@ returns-then-whole-clause-means c = λ ps.
     let w = c.in_ok-whole-in-While in
     rw c.if-whole.true at (while_started (program_view c.args.program.now) m c.start_body.new.self ps c.args.line c.args.s c.in-While.field-0 c.in-While.body c.deref.result.now.line c.deref.result w.whole lt c.in-While.is (ap (λ s. s.line) c.deref.ensures) c.deref.ensures w.ensures.todo w.ensures.left)
 
-pub returns-in_ok-next-in-While : goal.returns-in_ok-next-in-While
-returns-in_ok-next-in-While c = record {
-  means = λ ps.
-      let m = c.args.self.now in
-      let lt : 0 < m.left = omega arith in
-      let w = c.in_ok-whole-in-While in
-      (rw c.if-whole.false at (while_started (program_view c.args.program.now) m c.start_body.new.self ps c.args.line c.args.s c.in-While.field-0 c.in-While.body c.deref.result.now.line c.deref.result w.whole lt c.in-While.is (ap (λ s. s.line) c.deref.ensures) c.deref.ensures w.ensures.todo w.ensures.left))
-      ∙ (rw c.in_ok-push-in-While.ensures at (c.in_ok-next-in-While.ensures ps));
-  less = tt;
-}
+pub returns-else-whole : goal.returns-else-whole
+returns-else-whole c =
+    let m = c.args.self.now in
+    let lt : 0 < m.left = omega arith in
+    let w = c.in_ok-whole-in-While in
+    record {
+      means = IfOk-weaker c.put_again.result _ _ (λ _ same ps.
+          (rw c.if-whole.false at (while_started (program_view c.args.program.now) m c.start_body.new.self ps c.args.line c.args.s c.in-While.field-0 c.in-While.body c.deref.result.now.line c.deref.result w.whole lt c.in-While.is (ap (λ s. s.line) c.deref.ensures) c.deref.ensures w.ensures.todo w.ensures.left))
+          ∙ same ps) c.put_again.ensures.means;
+      less = IfOk-weaker c.put_again.result _ _ (λ _ less. less _ _) c.put_again.ensures.less;
+    }
 
 pub returns-then-whole-2-clause-means : goal.returns-then-whole-2-clause-means
 returns-then-whole-2-clause-means c = λ ps.
@@ -37,15 +39,16 @@ returns-then-whole-2-clause-less c =
     let lt : 0 < c.args.self.now.left = omega arith in
     less_than_before c.in_ok-turn-in-For.turn c.follow.new.self.left c.start_body-in-For.new.self.left c.args.self.now.left lt c.in_ok-whole-in-For.ensures.steps c.in_ok-turn-in-For.ensures.less
 
-pub returns-in_ok-next-in-For : goal.returns-in_ok-next-in-For
-returns-in_ok-next-in-For c = record {
-  means = λ ps.
-      let m = c.args.self.now in
-      let lt : 0 < m.left = omega arith in
-      let f = c.in-For in
-      let w = c.in_ok-whole-in-For in
-      let next = c.deref-in-For-2 in
-      (rw c.if-whole-2.false at (for_started (program_view c.args.program.now) m c.start_body-in-For.new.self ps c.args.line c.args.s f.field-0 f.field-1 f.field-2 f.field-3 f.next f.body c.deref-in-For.result.now.line c.deref-in-For.result next.result w.whole lt f.is (ap (λ s. s.line) c.deref-in-For.ensures) c.deref-in-For.ensures next.ensures w.ensures.todo w.ensures.left))
-      ∙ (rw (c.in_ok-push-in-For-2.ensures, c.in_ok-push-in-For.ensures) at (c.in_ok-next-in-For.ensures ps));
-  less = tt;
-}
+pub returns-else-whole-2 : goal.returns-else-whole-2
+returns-else-whole-2 c =
+    let m = c.args.self.now in
+    let lt : 0 < m.left = omega arith in
+    let f = c.in-For in
+    let w = c.in_ok-whole-in-For in
+    let next = c.deref-in-For-2 in
+    record {
+      means = IfOk-weaker c.put_next.result _ _ (λ _ same ps.
+          (rw c.if-whole-2.false at (for_started (program_view c.args.program.now) m c.start_body-in-For.new.self ps c.args.line c.args.s f.field-0 f.field-1 f.field-2 f.field-3 f.next f.body c.deref-in-For.result.now.line c.deref-in-For.result next.result w.whole lt f.is (ap (λ s. s.line) c.deref-in-For.ensures) c.deref-in-For.ensures next.ensures w.ensures.todo w.ensures.left))
+          ∙ same ps) c.put_next.ensures.means;
+      less = IfOk-weaker c.put_next.result _ _ (λ _ less. less _ _) c.put_next.ensures.less;
+    }

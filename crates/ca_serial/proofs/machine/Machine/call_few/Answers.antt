@@ -1,30 +1,25 @@
-use Rattle.std.proofs.Common.{◌∙◌, [], ◌∷◌}
+use Rattle.std.proofs.Common.{[], ◌∷◌}
+use Rattle.std.proofs.lemmas.Result.{IfOk-weaker}
 use Rattle.ca_program.specs.View.{program_view}
-use Rattle.ca_model.specs.declared.value.Value.TheVariants.{Ref}
-use Rattle.ca_serial.specs.declared.work.Target.TheVariants.{Function}
-use Rattle.ca_serial.proofs.FewCalls.{all_found}
+use Rattle.ca_serial.proofs.FewCalls.{few_called}
 use Rattle.ca_serial.proofs.machine.Machine.call_few.Goals as goal
 
-pub returns-in_ok-next-in-Zero : goal.returns-in_ok-next-in-Zero
-returns-in_ok-next-in-Zero c = λ ps.
+pub returns-in-Zero : goal.returns-in-Zero
+returns-in-Zero c =
     let a = c.args in
-    all_found (program_view a.program.now) a.self.now.todo a.line (Function a.method) a.receiver (Ref c.in-Ref.object) a.arguments.now [] a.self.now ps c.in-Ref.is c.in-Zero.ensures
-    ∙ c.in_ok-next-in-Zero.ensures a.line ps
+    IfOk-weaker c.call_with.result _ _ (λ called made. few_called called (program_view a.program.now) a.line a.method a.receiver c.in-Ref.object a.arguments.now [] a.self.now c.call_with.new.self c.in-Ref.is c.in-Zero.ensures (made a.line)) c.call_with.ensures
 
-pub returns-in_ok-next-in-One : goal.returns-in_ok-next-in-One
-returns-in_ok-next-in-One c = λ ps.
+pub returns-in-One : goal.returns-in-One
+returns-in-One c =
     let a = c.args in
-    all_found (program_view a.program.now) a.self.now.todo a.line (Function a.method) a.receiver (Ref c.in-Ref.object) a.arguments.now (c.in-One.x ∷ []) a.self.now ps c.in-Ref.is c.in-One.ensures
-    ∙ c.in_ok-next-in-One.ensures a.line ps
+    IfOk-weaker c.call_with-in-One.result _ _ (λ called made. few_called called (program_view a.program.now) a.line a.method a.receiver c.in-Ref.object a.arguments.now (c.in-One.x ∷ []) a.self.now c.call_with-in-One.new.self c.in-Ref.is c.in-One.ensures (made a.line)) c.call_with-in-One.ensures
 
-pub returns-in_ok-next-in-Two : goal.returns-in_ok-next-in-Two
-returns-in_ok-next-in-Two c = λ ps.
+pub returns-in-Two : goal.returns-in-Two
+returns-in-Two c =
     let a = c.args in
-    all_found (program_view a.program.now) a.self.now.todo a.line (Function a.method) a.receiver (Ref c.in-Ref.object) a.arguments.now (c.in-Two.x ∷ c.in-Two.y ∷ []) a.self.now ps c.in-Ref.is c.in-Two.ensures
-    ∙ c.in_ok-next-in-Two.ensures a.line ps
+    IfOk-weaker c.call_with-in-Two.result _ _ (λ called made. few_called called (program_view a.program.now) a.line a.method a.receiver c.in-Ref.object a.arguments.now (c.in-Two.x ∷ c.in-Two.y ∷ []) a.self.now c.call_with-in-Two.new.self c.in-Ref.is c.in-Two.ensures (made a.line)) c.call_with-in-Two.ensures
 
-pub returns-in_ok-next-in-Three : goal.returns-in_ok-next-in-Three
-returns-in_ok-next-in-Three c = λ ps.
+pub returns-in-Three : goal.returns-in-Three
+returns-in-Three c =
     let a = c.args in
-    all_found (program_view a.program.now) a.self.now.todo a.line (Function a.method) a.receiver (Ref c.in-Ref.object) a.arguments.now (c.in-Three.x ∷ c.in-Three.y ∷ c.in-Three.z ∷ []) a.self.now ps c.in-Ref.is c.in-Three.ensures
-    ∙ c.in_ok-next-in-Three.ensures a.line ps
+    IfOk-weaker c.call_with-in-Three.result _ _ (λ called made. few_called called (program_view a.program.now) a.line a.method a.receiver c.in-Ref.object a.arguments.now (c.in-Three.x ∷ c.in-Three.y ∷ c.in-Three.z ∷ []) a.self.now c.call_with-in-Three.new.self c.in-Ref.is c.in-Three.ensures (made a.line)) c.call_with-in-Three.ensures

@@ -1,22 +1,20 @@
-use Rattle.std.proofs.Common.{ap, ◌∙◌}
+use Rattle.std.proofs.Common.{ap}
 use Rattle.ca_program.specs.View.{program_view}
 use Rattle.ca_serial.specs.clauses.Resume.{rest_of, pieces}
+use Rattle.ca_serial.proofs.Passing.{passes_on}
 use Rattle.ca_serial.proofs.machine.Machine.go_into.Goals as goal
 
-pub returns-in_ok-next-in-Statement : goal.returns-in_ok-next-in-Statement
-returns-in_ok-next-in-Statement c = λ ps.
+pub returns-in-Statement : goal.returns-in-Statement
+returns-in-Statement c =
     let m = c.args.self.now in
-    ap (λ o. rest_of (program_view c.args.program.now) (pieces o m.todo) m ps) c.in-Statement.is
-    ∙ c.in_ok-next-in-Statement.ensures ps
+    passes_on c.exec.result _ _ _ c.exec.ensures (λ ps. ap (λ o. rest_of (program_view c.args.program.now) (pieces o m.todo) m ps) c.in-Statement.is)
 
-pub returns-in_ok-next-in-Call : goal.returns-in_ok-next-in-Call
-returns-in_ok-next-in-Call c = λ ps.
+pub returns-in-Call : goal.returns-in-Call
+returns-in-Call c =
     let m = c.args.self.now in
-    ap (λ o. rest_of (program_view c.args.program.now) (pieces o m.todo) m ps) c.in-Call.is
-    ∙ c.in_ok-next-in-Call.ensures ps
+    passes_on c.collect.result _ _ _ c.collect.ensures (λ ps. ap (λ o. rest_of (program_view c.args.program.now) (pieces o m.todo) m ps) c.in-Call.is)
 
-pub returns-in_ok-next-in-Body : goal.returns-in_ok-next-in-Body
-returns-in_ok-next-in-Body c = λ ps.
+pub returns-in_ok-push-in-Body : goal.returns-in_ok-push-in-Body
+returns-in_ok-push-in-Body c =
     let m = c.args.self.now in
-    ap (λ o. rest_of (program_view c.args.program.now) (pieces o m.todo) m ps) c.in-Body.is
-    ∙ (rw c.in_ok-push-in-Body.ensures at c.in_ok-next-in-Body.ensures ps)
+    passes_on c.put_off.result _ _ _ c.put_off.ensures (λ ps. rw c.in_ok-push-in-Body.ensures (ap (λ o. rest_of (program_view c.args.program.now) (pieces o m.todo) m ps) c.in-Body.is))

@@ -1,4 +1,5 @@
 use Rattle.std.proofs.Common.{◌≡◌, ◌∙◌, ap, sym}
+use Rattle.std.proofs.lemmas.Result.{IfOk-weaker}
 use Rattle.ca_program.specs.View.{program_view, expression_view, expressions_view}
 use Rattle.ca_serial.specs.declared.work.Target.TheVariants.{Function}
 use Rattle.ca_serial.specs.clauses.Resume.{world_of, receives, resume}
@@ -15,17 +16,19 @@ returns-in-Some-called c = λ ps.
     (ap (λ es. receives p m.todo c.args.line (Function c.args.method) c.in-Some.object es m ps) (sym c.as_slice.ensures.value)
     ∙ called_next c.in_ok-called-in-Some.called c.in-Some-called.next p c.args.line c.args.method c.in-Some.object c.as_slice.result.now m c.call_few.new.self c.in-Some-called.is c.in_ok-called-in-Some.ensures ps)
 
-pub returns-in_ok-next-in-Some : goal.returns-in_ok-next-in-Some
-returns-in_ok-next-in-Some c = λ ps.
+pub returns-in_ok-push-in-Some : goal.returns-in_ok-push-in-Some
+returns-in_ok-push-in-Some c =
     let m = c.args.self.now in
     let p = program_view c.args.program.now in
     let same : c.call_few.new.self ≡ m = called_nothing c.in_ok-called-in-Some.called p c.args.line c.args.method c.in-Some.object c.as_slice.result.now m c.call_few.new.self c.in_default.not-Some c.in_ok-called-in-Some.ensures in
+    IfOk-weaker c.collect.result _ _ (λ _ runs ps.
     value_call_runs p m.bodies.current (world_of m ps) c.args.line (expression_view c.args.receiver.now) c.args.method (expressions_view c.args.arguments.now.items) m.values m.left (λ vs w k. resume p m.todo vs m.bodies.current m.bodies.below w k)
-    ∙ rw c.in-Some.ensures (rw (c.in_ok-push-in-Some.ensures, same) at c.in_ok-next-in-Some.ensures ps)
+    ∙ rw c.in-Some.ensures (rw (c.in_ok-push-in-Some.ensures, same) at runs ps)) c.collect.ensures
 
-pub returns-in_ok-push-in-None-2 : goal.returns-in_ok-push-in-None-2
-returns-in_ok-push-in-None-2 c = λ ps.
+pub returns-in-None : goal.returns-in-None
+returns-in-None c =
     let m = c.args.self.now in
     let p = program_view c.args.program.now in
+    IfOk-weaker c.put_both.result _ _ (λ _ same ps.
     value_call_runs p m.bodies.current (world_of m ps) c.args.line (expression_view c.args.receiver.now) c.args.method (expressions_view c.args.arguments.now.items) m.values m.left (λ vs w k. resume p m.todo vs m.bodies.current m.bodies.below w k)
-    ∙ rw (c.in_ok-push-in-None-2.ensures, c.in_ok-push-in-None.ensures)
+    ∙ same ps) c.put_both.ensures
