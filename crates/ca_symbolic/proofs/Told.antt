@@ -1,17 +1,17 @@
 -- What code finds by numbers of fields and locals is what the definition has.
-use Rattle.std.proofs.Common.{◌≡◌, ℕ, true, false, ◌||◌, List, [], ◌∷◌, ◌++◌, sym, ap, ap₂, ◌∙◌}
+use Rattle.std.proofs.Common.{◌≡◌, ℕ, Bool, true, false, ◌||◌, List, [], ◌∷◌, ◌++◌, sym, ap, ap₂, ◌∙◌}
 use Rattle.std.specs.List.{list_any}
 use Rattle.std.proofs.lemmas.List.Folds.{list_any-append}
 use Rattle.ca_program.specs.declared.program.FirstPart.{FirstPart}
 use Rattle.ca_program.specs.declared.program.LoopId.{LoopId}
-use Rattle.ca_program.specs.Plain.{PlainProgram, Expression, Statement, for_loop}
-use Rattle.ca_norm.specs.Terms.{PlainTerm}
+use Rattle.ca_program.specs.Plain.{PlainProgram, Expression, Statement, if_else, for_loop}
+use Rattle.ca_norm.specs.Terms.{PlainTerm, not}
 use Rattle.ca_symbolic.specs.States.{State, demand, loops}
-use Rattle.ca_symbolic.specs.Execution.{choices, field_target, local_target, joined_state}
-use Rattle.ca_symbolic.specs.Demands.{picked, loop_reads, demanded}
+use Rattle.ca_symbolic.specs.Execution.{term_of, after, choices, field_target, local_target, joined_state}
+use Rattle.ca_symbolic.specs.Demands.{picked, loop_reads, demanded, then_guard, else_guard}
 use Rattle.ca_symbolic.specs.Made.{targets, joined_terms}
 use Rattle.ca_symbolic.specs.clauses.Places.{is_among, fields_put, locals_put, is_read}
-use Rattle.ca_symbolic.specs.clauses.Refusals.{refused_by}
+use Rattle.ca_symbolic.specs.clauses.Refusals.{refused, refused_by}
 use Rattle.ca_shared_terms.specs.Heavy.{is_heavy}
 use Rattle.ca_symbolic.proofs.Among.{reads_told, field_targets_told, local_targets_told}
 use Rattle.ca_symbolic.proofs.Flags.{neither, first_of, second_of}
@@ -59,3 +59,19 @@ module _ (p : PlainProgram) (s : State) (g : PlainTerm) (x : Statement) (line : 
 
   pub loop_refused : refused_by p s g x ≡ list_any is_heavy (picked (is_read x first) 0 s.locals)
   loop_refused = ap (refused_by p s g) is ∙ ap (λ f. list_any is_heavy (picked f 0 s.locals)) reads
+
+either_of : (n e r : Bool) → (n || e) ≡ true → (n || (e || r)) ≡ true
+either_of true e r h = h
+either_of false e r h = first_of e r h
+
+-- an `if` is refused where the condition of its second branch is too heavy
+pub else_refused : (p : PlainProgram) (s : State) (g : PlainTerm) (x : Statement) (line : ℕ) (c : Expression) (a b : Statement) → x ≡ if_else line c a b →
+    (is_heavy (not (term_of p s c)) || is_heavy (else_guard g (term_of p s c))) ≡ true → refused_by p s g x ≡ true
+else_refused p s g x line c a b is h =
+    let n : Bool = is_heavy (not (term_of p s c)) in
+    let e : Bool = is_heavy (else_guard g (term_of p s c)) in
+    let rest : Bool = refused_by p s (else_guard g (term_of p s c)) b || list_any is_heavy (joined_terms a b (after p s (if_else line c a b))) in
+    ap (refused_by p s g) is
+    ∙ second_of (refused p s g c) (is_heavy (then_guard g (term_of p s c)) || (refused_by p s (then_guard g (term_of p s c)) a || (n || (e || rest))))
+    (second_of (is_heavy (then_guard g (term_of p s c))) (refused_by p s (then_guard g (term_of p s c)) a || (n || (e || rest)))
+    (second_of (refused_by p s (then_guard g (term_of p s c)) a) (n || (e || rest)) (either_of n e rest h)))

@@ -1,6 +1,6 @@
 //! The terms of expressions, and what expressions demand.
 
-ghost use Rattle.std.specs.Prelude.{◌≡◌, neg_ℤ, [], ◌∷◌, false, true, slice_get, IfOk, OnOk};
+ghost use Rattle.std.specs.Prelude.{◌≡◌, ◌≢◌, neg_ℤ, [], ◌∷◌, false, true, slice_get, IfOk, OnOk};
 ghost use Rattle.std.specs.Int.{int_wrap, w64};
 ghost use Rattle.ca_program.specs.View.{expression_view, expressions_view, program_view};
 ghost use Rattle.ca_meaning.specs.ProgramTyped.{field_info};
@@ -14,6 +14,7 @@ ghost use Rattle.ca_symbolic.specs.Demanded.{kind_of, with_demands, under};
 ghost use Rattle.ca_symbolic.specs.clauses.Refusals.{refused_guard, refused, refused_all};
 ghost use Rattle.ca_shared_terms.specs.Heavy.{is_heavy};
 
+use crate::carried::{leaf, together};
 use crate::demand::{DemandKind, Demands};
 use crate::state::{SymState, receiver};
 use ca_norm::Sort;
@@ -207,6 +208,20 @@ pub fn ask_call(
     Ok(())
 }
 
+/// The same pointer, which is not to be null.
+fn not_null(
+    alloc: Global,
+    object: LightTerm,
+    out: &mut Demands,
+) -> Result<LightTerm, ExecutionError>
+    ensures same { IfOk result (λ t. t ≡ object) }
+    ensures demands { OnOk result (out.new ≡ with_demands out.old (demand out.old.guard not_null (object ∷ []) ∷ [])) }
+    ensures small { result ≢ Err ExecutionError.Large }
+{
+    ask_not_null(alloc, &object, out)?;
+    Ok(object)
+}
+
 /// The item of an own field at an index, which is demanded to lie in it.
 fn own_item(
     alloc: Global,
@@ -303,6 +318,51 @@ fn enter_right(
     Ok(())
 }
 
+/// The left side of an operator, and the condition under which it stands.
+#[derive(Drop)]
+struct Begun {
+    left: LightTerm,
+    outer: LightTerm,
+}
+
+/// Begins a right side, whose left side is this.
+#[tactic(auto, using(crate::proofs::Flags::neither, crate::proofs::Flags::first_of, crate::proofs::Flags::second_of))]
+fn begin_right(
+    alloc: Global,
+    op: BinaryOp,
+    left: LightTerm,
+    out: &mut Demands,
+) -> Result<Begun, ExecutionError>
+    ensures left { IfOk result (λ b. b.left ≡ left) }
+    ensures outer { IfOk result (λ b. b.outer ≡ out.old.guard) }
+    ensures entered { OnOk result (out.new ≡ under out.old (right_guard op out.old.guard left)) }
+    ensures light { OnOk result (refused_guard op out.old.guard left ≡ false) }
+    ensures large { result ≡ Err ExecutionError.Large → refused_guard op out.old.guard left ≡ true }
+{
+    let outer = out.guard()?;
+    enter_right(alloc, op, &left, out)?;
+    Ok(Begun { left, outer })
+}
+
+/// Ends it, and makes the term of the operator; the divisor is given where it is a literal.
+fn end_right(
+    alloc: Global,
+    op: BinaryOp,
+    begun: Begun,
+    right: LightTerm,
+    n: Option<i64>,
+    out: &mut Demands,
+) -> Result<LightTerm, ExecutionError>
+    ensures made { IfOk result (λ t. t ≡ operation op begun.left right n) }
+    ensures ended { OnOk result (out.new ≡ under out.old begun.outer) }
+    ensures light { IfOk result (λ _. is_heavy (operation op begun.left right n) ≡ false) }
+    ensures large { result ≡ Err ExecutionError.Large → is_heavy (operation op begun.left right n) ≡ true }
+{
+    let Begun { left, outer } = begun;
+    let operands = together((left, right), leaf(out.open(alloc, outer)))?;
+    operation(alloc, op, operands.0.0, operands.0.1, n)
+}
+
 /// The term of an expression. What it demands comes behind what was demanded before.
 #[cycle(value)]
 #[tactic(auto, using(crate::proofs::Flags::neither, crate::proofs::Flags::first_of, crate::proofs::Flags::second_of))]
@@ -319,12 +379,12 @@ pub fn value_of(
     ensures large { result ≡ Err ExecutionError.Large → refused (program_view program.now) state.now out.old.guard (expression_view e.now) ≡ true }
 {
     match e {
-        Expr::Number(n) => Ok(LightTerm::number(alloc, *n)?),
-        Expr::Truth(b) => Ok(LightTerm::truth(alloc, *b)?),
-        Expr::Null => Ok(LightTerm::null(alloc)?),
-        Expr::This => Ok(receiver(alloc)?),
-        Expr::Local(id) => Ok(state.local(alloc, id.0)?),
-        Expr::Own(id) => Ok(state.field(alloc, id.field)?),
+        Expr::Number(n) => leaf(LightTerm::number(alloc, *n)),
+        Expr::Truth(b) => leaf(LightTerm::truth(alloc, *b)),
+        Expr::Null => leaf(LightTerm::null(alloc)),
+        Expr::This => leaf(receiver(alloc)),
+        Expr::Local(id) => leaf(state.local(alloc, id.0)),
+        Expr::Own(id) => leaf(state.field(alloc, id.field)),
         Expr::OwnItem(id, i) => {
             let index = value_of(alloc, program, state, i, out)?;
             own_item(alloc, state, *id, index, out)
@@ -335,15 +395,14 @@ pub fn value_of(
         }
         Expr::ReadItem(p, id, i) => {
             let object = value_of(alloc, program, state, p, out)?;
-            ask_not_null(alloc, &object, out)?;
-            let index = value_of(alloc, program, state, i, out)?;
-            read_item(alloc, program, object, *id, index, out)
+            let asked = not_null(alloc, object, out)?;
+            let parts = together(asked, value_of(alloc, program, state, i, out))?;
+            read_item(alloc, program, parts.0, *id, parts.1, out)
         }
         Expr::Value(p, method, args) => {
             let object = value_of(alloc, program, state, p, out)?;
-            let args = values_of(alloc, program, state, args, out)?;
-            let value = call(alloc, program, object, *method, args, out)?;
-            Ok(value)
+            let parts = together(object, values_of(alloc, program, state, args, out))?;
+            call(alloc, program, parts.0, *method, parts.1, out)
         }
         Expr::Unary(op, a) => {
             let value = value_of(alloc, program, state, a, out)?;
@@ -351,11 +410,9 @@ pub fn value_of(
         }
         Expr::Binary(op, a, b) => {
             let left = value_of(alloc, program, state, a, out)?;
-            let outer = out.guard()?;
-            enter_right(alloc, *op, &left, out)?;
-            let right = value_of(alloc, program, state, b, out)?;
-            out.open(alloc, outer)?;
-            operation(alloc, *op, left, right, divisor(b))
+            let begun = begin_right(alloc, *op, left, out)?;
+            let sides = together(begun, value_of(alloc, program, state, b, out))?;
+            end_right(alloc, *op, sides.0, sides.1, divisor(b), out)
         }
     }
 }

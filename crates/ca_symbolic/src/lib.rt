@@ -9,11 +9,13 @@
 //! crate alone.
 #![tactic(auto)]
 
+mod carried;
 mod demand;
 mod evaluate;
 pub mod laws;
 mod loops;
 mod places;
+mod puts;
 mod running;
 mod same;
 mod state;

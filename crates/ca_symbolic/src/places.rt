@@ -21,24 +21,23 @@ pub fn add_fields(s: &Stmt, out: &mut Vec<u32>) -> Result<(), AllocError>
     ensures { OnOk result (out.new.items ≡ out.old.items ++ fields_put (statement_view s.now)) }
 {
     match &s.kind {
-        StmtForm::Block(stmts) => add_all_fields(stmts, out)?,
-        StmtForm::PutField(f, _, _) => add(f.field, out)?,
-        StmtForm::PutItem(f, _, _, _) => add(f.field, out)?,
-        StmtForm::NewField(f, _) => add(f.field, out)?,
-        StmtForm::NewItem(f, _, _) => add(f.field, out)?,
+        StmtForm::Block(stmts) => add_all_fields(stmts, out),
+        StmtForm::PutField(f, _, _)
+        | StmtForm::PutItem(f, _, _, _)
+        | StmtForm::NewField(f, _)
+        | StmtForm::NewItem(f, _, _) => add(f.field, out),
         StmtForm::If(_, yes, no) => {
             add_fields(yes, out)?;
-            add_fields(no, out)?;
+            add_fields(no, out)
         }
-        StmtForm::While(_, body) => add_fields(body, out)?,
+        StmtForm::While(_, body) => add_fields(body, out),
         StmtForm::For(_, _, first, _, next, body) => {
             add_fields(first, out)?;
             add_fields(next, out)?;
-            add_fields(body, out)?;
+            add_fields(body, out)
         }
-        _ => {}
+        _ => Ok(()),
     }
-    Ok(())
 }
 
 #[cycle(fields)]
@@ -57,15 +56,14 @@ pub fn add_locals(s: &Stmt, out: &mut Vec<u32>) -> Result<(), AllocError>
     ensures { OnOk result (out.new.items ≡ out.old.items ++ locals_put (statement_view s.now)) }
 {
     match &s.kind {
-        StmtForm::Block(stmts) => add_all_locals(stmts, out)?,
-        StmtForm::PutLocal(l, _, _) => add(l.0, out)?,
+        StmtForm::Block(stmts) => add_all_locals(stmts, out),
+        StmtForm::PutLocal(l, _, _) => add(l.0, out),
         StmtForm::If(_, yes, no) => {
             add_locals(yes, out)?;
-            add_locals(no, out)?;
+            add_locals(no, out)
         }
-        _ => {}
+        _ => Ok(()),
     }
-    Ok(())
 }
 
 #[cycle(locals)]
@@ -84,25 +82,24 @@ fn add_names(e: &Expr, out: &mut Vec<u32>) -> Result<(), AllocError>
     ensures { OnOk result (out.new.items ≡ out.old.items ++ locals_in (expression_view e.now)) }
 {
     match e {
-        Expr::Local(l) => add(l.0, out)?,
-        Expr::OwnItem(_, i) => add_names(i, out)?,
-        Expr::Read(p, _) => add_names(p, out)?,
+        Expr::Local(l) => add(l.0, out),
+        Expr::OwnItem(_, i) => add_names(i, out),
+        Expr::Read(p, _) => add_names(p, out),
         Expr::ReadItem(p, _, i) => {
             add_names(p, out)?;
-            add_names(i, out)?;
+            add_names(i, out)
         }
         Expr::Value(p, _, args) => {
             add_names(p, out)?;
-            add_all_names(args, out)?;
+            add_all_names(args, out)
         }
-        Expr::Unary(_, a) => add_names(a, out)?,
+        Expr::Unary(_, a) => add_names(a, out),
         Expr::Binary(_, a, b) => {
             add_names(a, out)?;
-            add_names(b, out)?;
+            add_names(b, out)
         }
-        _ => {}
+        _ => Ok(()),
     }
-    Ok(())
 }
 
 #[cycle(names)]
@@ -121,38 +118,37 @@ pub fn add_named(s: &Stmt, out: &mut Vec<u32>) -> Result<(), AllocError>
     ensures { OnOk result (out.new.items ≡ out.old.items ++ locals_named (statement_view s.now)) }
 {
     match &s.kind {
-        StmtForm::Block(stmts) => add_all_named(stmts, out)?,
-        StmtForm::PutLocal(_, _, e) => add_names(e, out)?,
-        StmtForm::PutField(_, _, e) => add_names(e, out)?,
+        StmtForm::Block(stmts) => add_all_named(stmts, out),
+        StmtForm::PutLocal(_, _, e)
+        | StmtForm::PutField(_, _, e)
+        | StmtForm::Return(e)
+        | StmtForm::Print(e) => add_names(e, out),
         StmtForm::PutItem(_, i, _, e) => {
             add_names(i, out)?;
-            add_names(e, out)?;
+            add_names(e, out)
         }
-        StmtForm::NewItem(_, i, _) => add_names(i, out)?,
+        StmtForm::NewItem(_, i, _) => add_names(i, out),
         StmtForm::Invoke(p, _, args) => {
             add_names(p, out)?;
-            add_all_names(args, out)?;
+            add_all_names(args, out)
         }
         StmtForm::If(c, yes, no) => {
             add_names(c, out)?;
             add_named(yes, out)?;
-            add_named(no, out)?;
+            add_named(no, out)
         }
         StmtForm::While(c, body) => {
             add_names(c, out)?;
-            add_named(body, out)?;
+            add_named(body, out)
         }
         StmtForm::For(_, _, first, c, next, body) => {
             add_named(first, out)?;
             add_names(c, out)?;
             add_named(next, out)?;
-            add_named(body, out)?;
+            add_named(body, out)
         }
-        StmtForm::Return(e) => add_names(e, out)?,
-        StmtForm::Print(e) => add_names(e, out)?,
-        _ => {}
+        _ => Ok(()),
     }
-    Ok(())
 }
 
 #[cycle(named)]

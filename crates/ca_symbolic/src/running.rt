@@ -16,7 +16,7 @@ use ca_shared_terms::ExecutionError;
 use std::alloc::{AllocError, Global};
 
 /// Which operation of a pair.
-#[derive(Clone, Copy, PartialEq, Eq, Debug)]
+#[derive(Clone, Copy)]
 pub enum Side {
     First,
     Second,
@@ -35,7 +35,7 @@ impl Side {
 }
 
 /// Why a symbolic execution stopped.
-#[derive(Clone, Copy, PartialEq, Eq, Debug)]
+#[derive(Clone, Copy)]
 pub enum SymbolicError {
     /// A loop is no loop of calls; it stands on this line.
     LoopForm(u32),

@@ -6,8 +6,10 @@ ghost use Rattle.ca_shared_terms.specs.Starts.{starts};
 ghost use Rattle.ca_symbolic.specs.States.{State, term_at, receiver, start_term, parameters, first_locals};
 ghost use Rattle.ca_symbolic.specs.Execution.{with_field, with_local};
 ghost use Rattle.ca_symbolic.specs.Runs.{fresh, with_locals};
+ghost use Rattle.ca_norm.specs.Terms.{atom};
 ghost use Rattle.ca_shared_terms.specs.Heavy.{is_heavy};
 
+use ca_forms::parts::{both, longer};
 use ca_norm::Sort;
 use ca_program::{FieldInfo, Method, ValueType};
 use ca_shared_terms::{FIELDS, LightTerm, sort_of_slot, sort_of_type};
@@ -85,16 +87,25 @@ fn start_term(alloc: Global, ty: ValueType) -> Result<LightTerm, AllocError>
     }
 }
 
+/// The atom of a group at a place, if a u32 numbers it.
+fn atom_at(alloc: Global, sort: Sort, group: u32, place: usize) -> Result<LightTerm, AllocError>
+    ensures { IfOk result (λ t. t ≡ atom sort group place) }
+{
+    let Ok(number) = u32::try_from(place) else {
+        return Err(AllocError);
+    };
+    LightTerm::atom(alloc, sort, group, number)
+}
+
 /// The parameters as atoms of a group. There is no room for more than a u32 numbers.
 fn parameters(alloc: Global, group: u32, types: &[ValueType]) -> Result<Vec<LightTerm>, AllocError>
     ensures { IfOk result (λ v. v.items ≡ parameters group 0 types.now) }
 {
     let mut terms = Vec::new(alloc);
     for ty in types {
-        let Ok(number) = u32::try_from(terms.len()) else {
-            return Err(AllocError);
-        };
-        terms.push(LightTerm::atom(alloc, sort_of_type(*ty), group, number)?)?;
+        let term = atom_at(alloc, sort_of_type(*ty), group, terms.len());
+        let (so_far, term) = both(Ok(terms), term)?;
+        terms = longer(so_far, term)?;
     }
     Ok(terms)
 }
@@ -108,7 +119,8 @@ fn first_locals(alloc: Global, group: u32, method: &Method) -> Result<Vec<LightT
     let mut terms = parameters(alloc, group, &types[..count])?;
     let others = &types[count..];
     for ty in others {
-        terms.push(start_term(alloc, *ty)?)?;
+        let (so_far, term) = both(Ok(terms), start_term(alloc, *ty))?;
+        terms = longer(so_far, term)?;
     }
     Ok(terms)
 }
@@ -120,10 +132,9 @@ impl SymState {
     {
         let mut terms = Vec::new(alloc);
         for field in fields {
-            let Ok(number) = u32::try_from(terms.len()) else {
-                return Err(AllocError);
-            };
-            terms.push(LightTerm::atom(alloc, sort_of_slot(field), FIELDS, number)?)?;
+            let term = atom_at(alloc, sort_of_slot(field), FIELDS, terms.len());
+            let (so_far, term) = both(Ok(terms), term)?;
+            terms = longer(so_far, term)?;
         }
         Ok(SymState {
             fields: terms,

@@ -1,323 +1,29 @@
 //! Symbolic execution of statements.
 
-ghost use Rattle.std.specs.Prelude.{◌≡◌, ◌<◌, ◌||◌, ◌&&◌, [], ◌∷◌, ◌++◌, length, false, true, IfOk, OnOk};
+ghost use Rattle.std.specs.Prelude.{◌≡◌, ◌≢◌, ◌<◌, ◌||◌, ◌&&◌, [], ◌∷◌, ◌++◌, length, false, true, IfOk, OnOk};
 ghost use Rattle.std.specs.List.{list_any};
-ghost use Rattle.ca_program.specs.Plain.{binary};
 ghost use Rattle.ca_program.specs.View.{expression_view, expressions_view, statement_view, statements_view, program_view};
-ghost use Rattle.ca_norm.specs.Terms.{add_at, put, neg, not, mul, select};
+ghost use Rattle.ca_norm.specs.Terms.{not};
 ghost use Rattle.ca_meaning.specs.Operators.{not_of};
-ghost use Rattle.ca_symbolic.specs.States.{term_at, demand, not_null, in_range, invokes};
-ghost use Rattle.ca_symbolic.specs.Execution.{put_term, is_item, put_right, array_term, with_field, with_local, choose_if, choices, joined_state, term_of, after, after_all};
+ghost use Rattle.ca_symbolic.specs.States.{demand, not_null, invokes, loops};
+ghost use Rattle.ca_symbolic.specs.Execution.{choose_if, choices, joined_state, term_of, after, after_all};
 ghost use Rattle.ca_symbolic.specs.Demands.{then_guard, else_guard, is_counter, picked, terms_in, demands_in, demands_in_all, demanded, demanded_all};
 ghost use Rattle.ca_symbolic.specs.Made.{targets, joined_terms};
 ghost use Rattle.ca_symbolic.specs.Demanded.{with_demands, under};
 ghost use Rattle.ca_symbolic.specs.clauses.Places.{fields_put, locals_put, is_among, is_marked, is_read, one_if};
-ghost use Rattle.ca_symbolic.specs.clauses.Refusals.{refused, refused_all, refused_item, refused_put, refused_addend, refused_negative, refused_product, refused_right, refused_array, refused_by, refused_by_all};
+ghost use Rattle.ca_symbolic.specs.clauses.Refusals.{refused, refused_all, refused_by, refused_by_all};
 ghost use Rattle.ca_shared_terms.specs.Heavy.{is_heavy};
 
+use crate::carried::together;
 use crate::demand::{DemandKind, Demands};
-use crate::evaluate::{ask_call, ask_in_range, value_of, values_of};
+use crate::evaluate::{ask_call, value_of, values_of};
 use crate::places::{add_fields, add_locals, add_named, marks};
-use crate::same::same_expression;
+use crate::puts::{put_field, put_item, put_local};
 use crate::state::SymState;
-use ca_program::{
-    AssignOp, BinaryOp, Expr, FieldId, LocalId, LoopId, OpId, Program, Stmt, StmtForm,
-};
+use ca_program::{Expr, LoopId, OpId, Program, Stmt, StmtForm};
 use ca_shared_terms::{ExecutionError, LightTerm};
 use std::alloc::{AllocError, Global};
-
-/// What a put leaves, from what was there before.
-fn put_term(
-    alloc: Global,
-    op: AssignOp,
-    old: LightTerm,
-    value: LightTerm,
-) -> Result<LightTerm, ExecutionError>
-    ensures made { IfOk result (λ t. t ≡ put_term op old value) }
-    ensures light { IfOk result (λ _. is_heavy (put_term op old value) ≡ false) }
-    ensures large { result ≡ Err ExecutionError.Large → is_heavy (put_term op old value) ≡ true }
-{
-    match op {
-        AssignOp::Put => Ok(value),
-        AssignOp::Add => LightTerm::plus(alloc, old, value),
-        AssignOp::Sub => LightTerm::minus(alloc, old, value),
-        AssignOp::Mul => LightTerm::times(alloc, old, value),
-    }
-}
-
-fn put_local(
-    alloc: Global,
-    id: LocalId,
-    op: AssignOp,
-    value: LightTerm,
-    state: &mut SymState,
-) -> Result<(), ExecutionError>
-    ensures after { OnOk result (state.new ≡ with_local state.old id.0 (put_term op (term_at state.old.locals id.0) value)) }
-    ensures light { OnOk result (is_heavy (put_term op (term_at state.old.locals id.0) value) ≡ false) }
-    ensures large { result ≡ Err ExecutionError.Large → is_heavy (put_term op (term_at state.old.locals id.0) value) ≡ true }
-{
-    let old = state.local(alloc, id.0)?;
-    let term = put_term(alloc, op, old, value)?;
-    state.put_local(id.0, term);
-    Ok(())
-}
-
-fn put_field(
-    alloc: Global,
-    id: FieldId,
-    op: AssignOp,
-    value: LightTerm,
-    state: &mut SymState,
-) -> Result<(), ExecutionError>
-    ensures after { OnOk result (state.new ≡ with_field state.old id.field (put_term op (term_at state.old.fields id.field) value)) }
-    ensures light { OnOk result (is_heavy (put_term op (term_at state.old.fields id.field) value) ≡ false) }
-    ensures large { result ≡ Err ExecutionError.Large → is_heavy (put_term op (term_at state.old.fields id.field) value) ≡ true }
-{
-    let old = state.field(alloc, id.field)?;
-    let term = put_term(alloc, op, old, value)?;
-    state.put_field(id.field, term);
-    Ok(())
-}
-
-/// Whether an expression is the item of the field at the index, written alike.
-fn is_item(field: FieldId, index: &Expr, e: &Expr) -> bool
-    ensures { result ≡ is_item field (expression_view index.now) (expression_view e.now) }
-{
-    match e {
-        Expr::OwnItem(other, i) => field.same(*other) && same_expression(index, i),
-        _ => false,
-    }
-}
-
-/// Looks an item up that isn't made: what it demands alone.
-#[tactic(auto, using(crate::proofs::Flags::neither, crate::proofs::Flags::first_of, crate::proofs::Flags::second_of))]
-fn look_at_item(
-    alloc: Global,
-    program: &Program,
-    state: &SymState,
-    e: &Expr,
-    out: &mut Demands,
-) -> Result<(), ExecutionError>
-    ensures demands { OnOk result (out.new ≡ with_demands out.old (demands_in (program_view program.now) state.now out.old.guard (expression_view e.now))) }
-    ensures light { OnOk result (refused_item (program_view program.now) state.now out.old.guard (expression_view e.now) ≡ false) }
-    ensures large { result ≡ Err ExecutionError.Large → refused_item (program_view program.now) state.now out.old.guard (expression_view e.now) ≡ true }
-{
-    match e {
-        Expr::OwnItem(field, i) => {
-            let index = value_of(alloc, program, state, i, out)?;
-            ask_in_range(alloc, *field, &index, out)?;
-        }
-        _ => {
-            value_of(alloc, program, state, e, out)?;
-        }
-    }
-    Ok(())
-}
-
-/// The array of a field with another item at an index.
-#[tactic(auto, using(crate::proofs::Flags::neither, crate::proofs::Flags::first_of, crate::proofs::Flags::second_of))]
-fn with_item(
-    alloc: Global,
-    program: &Program,
-    state: &SymState,
-    field: FieldId,
-    index: LightTerm,
-    e: &Expr,
-    out: &mut Demands,
-) -> Result<LightTerm, ExecutionError>
-    ensures made { IfOk result (λ t. t ≡ put (term_at state.now.fields field.field) index (term_of (program_view program.now) state.now (expression_view e.now))) }
-    ensures demands { OnOk result (out.new ≡ with_demands out.old (demands_in (program_view program.now) state.now out.old.guard (expression_view e.now))) }
-    ensures light { OnOk result ((refused_put (program_view program.now) state.now out.old.guard field index (expression_view e.now)) ≡ false) }
-    ensures large { result ≡ Err ExecutionError.Large → (refused_put (program_view program.now) state.now out.old.guard field index (expression_view e.now)) ≡ true }
-{
-    let item = value_of(alloc, program, state, e, out)?;
-    let array = state.field(alloc, field.field)?;
-    array.with_item(alloc, index, item)
-}
-
-/// With an addend at an index.
-#[tactic(auto, using(crate::proofs::Flags::neither, crate::proofs::Flags::first_of, crate::proofs::Flags::second_of))]
-fn with_addend(
-    alloc: Global,
-    program: &Program,
-    state: &SymState,
-    field: FieldId,
-    index: LightTerm,
-    e: &Expr,
-    out: &mut Demands,
-) -> Result<LightTerm, ExecutionError>
-    ensures made { IfOk result (λ t. t ≡ add_at (term_at state.now.fields field.field) index (term_of (program_view program.now) state.now (expression_view e.now))) }
-    ensures demands { OnOk result (out.new ≡ with_demands out.old (demands_in (program_view program.now) state.now out.old.guard (expression_view e.now))) }
-    ensures light { OnOk result ((refused_addend (program_view program.now) state.now out.old.guard field index (expression_view e.now)) ≡ false) }
-    ensures large { result ≡ Err ExecutionError.Large → (refused_addend (program_view program.now) state.now out.old.guard field index (expression_view e.now)) ≡ true }
-{
-    let addend = value_of(alloc, program, state, e, out)?;
-    let array = state.field(alloc, field.field)?;
-    array.with_addend(alloc, index, addend)
-}
-
-/// With the negative of an addend at an index.
-#[tactic(auto, using(crate::proofs::Flags::neither, crate::proofs::Flags::first_of, crate::proofs::Flags::second_of))]
-fn with_negative(
-    alloc: Global,
-    program: &Program,
-    state: &SymState,
-    field: FieldId,
-    index: LightTerm,
-    e: &Expr,
-    out: &mut Demands,
-) -> Result<LightTerm, ExecutionError>
-    ensures made { IfOk result (λ t. t ≡ add_at (term_at state.now.fields field.field) index (neg (term_of (program_view program.now) state.now (expression_view e.now)))) }
-    ensures demands { OnOk result (out.new ≡ with_demands out.old (demands_in (program_view program.now) state.now out.old.guard (expression_view e.now))) }
-    ensures light { OnOk result ((refused_negative (program_view program.now) state.now out.old.guard field index (expression_view e.now)) ≡ false) }
-    ensures large { result ≡ Err ExecutionError.Large → (refused_negative (program_view program.now) state.now out.old.guard field index (expression_view e.now)) ≡ true }
-{
-    let value = value_of(alloc, program, state, e, out)?;
-    let addend = value.negated(alloc)?;
-    let array = state.field(alloc, field.field)?;
-    array.with_addend(alloc, index, addend)
-}
-
-/// With an item several times as large at an index.
-#[tactic(auto, using(crate::proofs::Flags::neither, crate::proofs::Flags::first_of, crate::proofs::Flags::second_of))]
-fn with_product(
-    alloc: Global,
-    program: &Program,
-    state: &SymState,
-    field: FieldId,
-    index: LightTerm,
-    e: &Expr,
-    out: &mut Demands,
-) -> Result<LightTerm, ExecutionError>
-    ensures made { IfOk result (λ t. t ≡ put (term_at state.now.fields field.field) index (mul (select (term_at state.now.fields field.field) index) (term_of (program_view program.now) state.now (expression_view e.now)))) }
-    ensures demands { OnOk result (out.new ≡ with_demands out.old (demands_in (program_view program.now) state.now out.old.guard (expression_view e.now))) }
-    ensures light { OnOk result ((refused_product (program_view program.now) state.now out.old.guard field index (expression_view e.now)) ≡ false) }
-    ensures large { result ≡ Err ExecutionError.Large → (refused_product (program_view program.now) state.now out.old.guard field index (expression_view e.now)) ≡ true }
-{
-    let array = state.field(alloc, field.field)?;
-    let item = array.share()?.item(alloc, index.share()?)?;
-    let value = value_of(alloc, program, state, e, out)?;
-    let product = LightTerm::times(alloc, item, value)?;
-    array.with_item(alloc, index, product)
-}
-
-/// The array behind a put of an operator's value to an item.
-#[tactic(auto, using(crate::proofs::Flags::neither, crate::proofs::Flags::first_of, crate::proofs::Flags::second_of))]
-fn put_operation(
-    alloc: Global,
-    program: &Program,
-    state: &SymState,
-    field: FieldId,
-    i: &Expr,
-    index: LightTerm,
-    op: BinaryOp,
-    a: &Expr,
-    b: &Expr,
-    e: &Expr,
-    out: &mut Demands,
-) -> Result<LightTerm, ExecutionError>
-    requires index { index ≡ term_of (program_view program.now) state.now (expression_view i.now) }
-    requires whole { expression_view e.now ≡ binary op (expression_view a.now) (expression_view b.now) }
-    ensures made { IfOk result (λ t. t ≡ put_right (program_view program.now) state.now field (expression_view i.now) (expression_view e.now)) }
-    ensures demands { OnOk result (out.new ≡ with_demands out.old (demands_in (program_view program.now) state.now out.old.guard (expression_view e.now))) }
-    ensures light { OnOk result (refused_right (program_view program.now) state.now out.old.guard field (expression_view i.now) (expression_view e.now) ≡ false) }
-    ensures large { result ≡ Err ExecutionError.Large → refused_right (program_view program.now) state.now out.old.guard field (expression_view i.now) (expression_view e.now) ≡ true }
-{
-    match op {
-        BinaryOp::Plus => {
-            if is_item(field, i, a) {
-                look_at_item(alloc, program, state, a, out)?;
-                with_addend(alloc, program, state, field, index, b, out)
-            } else {
-                with_item(alloc, program, state, field, index, e, out)
-            }
-        }
-        BinaryOp::Minus => {
-            if is_item(field, i, a) {
-                look_at_item(alloc, program, state, a, out)?;
-                with_negative(alloc, program, state, field, index, b, out)
-            } else {
-                with_item(alloc, program, state, field, index, e, out)
-            }
-        }
-        _ => with_item(alloc, program, state, field, index, e, out),
-    }
-}
-
-/// The array behind a put of a value to an item.
-fn put_right(
-    alloc: Global,
-    program: &Program,
-    state: &SymState,
-    field: FieldId,
-    i: &Expr,
-    index: LightTerm,
-    e: &Expr,
-    out: &mut Demands,
-) -> Result<LightTerm, ExecutionError>
-    requires index { index ≡ term_of (program_view program.now) state.now (expression_view i.now) }
-    ensures made { IfOk result (λ t. t ≡ put_right (program_view program.now) state.now field (expression_view i.now) (expression_view e.now)) }
-    ensures demands { OnOk result (out.new ≡ with_demands out.old (demands_in (program_view program.now) state.now out.old.guard (expression_view e.now))) }
-    ensures light { OnOk result ((refused_right (program_view program.now) state.now out.old.guard field (expression_view i.now) (expression_view e.now)) ≡ false) }
-    ensures large { result ≡ Err ExecutionError.Large → (refused_right (program_view program.now) state.now out.old.guard field (expression_view i.now) (expression_view e.now)) ≡ true }
-{
-    match e {
-        Expr::Binary(op, a, b) => {
-            put_operation(alloc, program, state, field, i, index, *op, a, b, e, out)
-        }
-        _ => with_item(alloc, program, state, field, index, e, out),
-    }
-}
-
-/// The array behind a put to one of its items.
-fn array_term(
-    alloc: Global,
-    program: &Program,
-    state: &SymState,
-    field: FieldId,
-    op: AssignOp,
-    i: &Expr,
-    index: LightTerm,
-    e: &Expr,
-    out: &mut Demands,
-) -> Result<LightTerm, ExecutionError>
-    requires index { index ≡ term_of (program_view program.now) state.now (expression_view i.now) }
-    ensures made { IfOk result (λ t. t ≡ array_term (program_view program.now) state.now field (expression_view i.now) op (expression_view e.now)) }
-    ensures demands { OnOk result (out.new ≡ with_demands out.old (demands_in (program_view program.now) state.now out.old.guard (expression_view e.now))) }
-    ensures light { OnOk result ((refused_array (program_view program.now) state.now out.old.guard field (expression_view i.now) op (expression_view e.now)) ≡ false) }
-    ensures large { result ≡ Err ExecutionError.Large → (refused_array (program_view program.now) state.now out.old.guard field (expression_view i.now) op (expression_view e.now)) ≡ true }
-{
-    match op {
-        AssignOp::Put => put_right(alloc, program, state, field, i, index, e, out),
-        AssignOp::Add => with_addend(alloc, program, state, field, index, e, out),
-        AssignOp::Sub => with_negative(alloc, program, state, field, index, e, out),
-        AssignOp::Mul => with_product(alloc, program, state, field, index, e, out),
-    }
-}
-
-/// A put to an item.
-#[tactic(auto, using(crate::proofs::Flags::neither, crate::proofs::Flags::first_of, crate::proofs::Flags::second_of))]
-fn put_item(
-    alloc: Global,
-    program: &Program,
-    field: FieldId,
-    i: &Expr,
-    op: AssignOp,
-    e: &Expr,
-    state: &mut SymState,
-    out: &mut Demands,
-) -> Result<(), ExecutionError>
-    ensures after { OnOk result (state.new ≡ with_field state.old field.field (array_term (program_view program.now) state.old field (expression_view i.now) op (expression_view e.now))) }
-    ensures demands { OnOk result (out.new ≡ with_demands out.old (demands_in (program_view program.now) state.old out.old.guard (expression_view i.now) ++ (demand out.old.guard (in_range field) (term_of (program_view program.now) state.old (expression_view i.now) ∷ []) ∷ demands_in (program_view program.now) state.old out.old.guard (expression_view e.now)))) }
-    ensures light { OnOk result ((refused (program_view program.now) state.old out.old.guard (expression_view i.now) || refused_array (program_view program.now) state.old out.old.guard field (expression_view i.now) op (expression_view e.now)) ≡ false) }
-    ensures large { result ≡ Err ExecutionError.Large → (refused (program_view program.now) state.old out.old.guard (expression_view i.now) || refused_array (program_view program.now) state.old out.old.guard field (expression_view i.now) op (expression_view e.now)) ≡ true }
-{
-    let index = value_of(alloc, program, state, i, out)?;
-    ask_in_range(alloc, field, &index, out)?;
-    let term = array_term(alloc, program, state, field, op, i, index, e, out)?;
-    state.put_field(field.field, term);
-    Ok(())
-}
+use std::mem;
 
 /// A call of an operation.
 #[tactic(auto, using(crate::proofs::Flags::neither, crate::proofs::Flags::first_of, crate::proofs::Flags::second_of))]
@@ -519,6 +225,105 @@ fn enter_else(
     Ok(())
 }
 
+/// What is kept while a branch runs: the condition, that under which the `if` stands, and the state of the other branch.
+#[derive(Drop)]
+struct Fork {
+    condition: LightTerm,
+    outer: LightTerm,
+    other: SymState,
+}
+
+/// Begins the first branch.
+fn begin_then(
+    alloc: Global,
+    condition: LightTerm,
+    state: &SymState,
+    out: &mut Demands,
+) -> Result<Fork, ExecutionError>
+    ensures fork { IfOk result (λ f. f ≡ record { condition = condition; outer = out.old.guard; other = state.now }) }
+    ensures entered { OnOk result (out.new ≡ under out.old (then_guard out.old.guard condition)) }
+    ensures light { OnOk result (is_heavy (then_guard out.old.guard condition) ≡ false) }
+    ensures large { result ≡ Err ExecutionError.Large → is_heavy (then_guard out.old.guard condition) ≡ true }
+{
+    let outer = out.guard()?;
+    let other = state.copy(alloc)?;
+    enter_then(alloc, &outer, &condition, out)?;
+    Ok(Fork {
+        condition,
+        outer,
+        other,
+    })
+}
+
+/// Begins the second branch. What the first one left is kept.
+fn begin_else(
+    alloc: Global,
+    fork: Fork,
+    state: &mut SymState,
+    out: &mut Demands,
+) -> Result<Fork, ExecutionError>
+    ensures fork { IfOk result (λ f. f ≡ record { condition = fork.condition; outer = fork.outer; other = state.old }) }
+    ensures state { OnOk result (state.new ≡ fork.other) }
+    ensures entered { OnOk result (out.new ≡ under out.old (else_guard fork.outer fork.condition)) }
+    ensures light { OnOk result ((is_heavy (not fork.condition) || is_heavy (else_guard fork.outer fork.condition)) ≡ false) }
+    ensures large { result ≡ Err ExecutionError.Large → (is_heavy (not fork.condition) || is_heavy (else_guard fork.outer fork.condition)) ≡ true }
+{
+    let Fork {
+        condition,
+        outer,
+        other,
+    } = fork;
+    let first = mem::replace(state, other);
+    enter_else(alloc, &outer, &condition, out)?;
+    Ok(Fork {
+        condition,
+        outer,
+        other: first,
+    })
+}
+
+/// Joins what both branches left.
+fn end_if(
+    alloc: Global,
+    fork: Fork,
+    yes: &Stmt,
+    no: &Stmt,
+    state: &mut SymState,
+    out: &mut Demands,
+) -> Result<(), ExecutionError>
+    ensures joined { OnOk result (state.new ≡ joined_state fork.condition (statement_view yes.now) (statement_view no.now) fork.other state.old) }
+    ensures ended { OnOk result (out.new ≡ under out.old fork.outer) }
+    ensures light { OnOk result (list_any is_heavy (joined_terms (statement_view yes.now) (statement_view no.now) state.new) ≡ false) }
+    ensures large { result ≡ Err ExecutionError.Large → list_any is_heavy (joined_terms (statement_view yes.now) (statement_view no.now) (joined_state fork.condition (statement_view yes.now) (statement_view no.now) fork.other state.old)) ≡ true }
+{
+    let Fork {
+        condition,
+        outer,
+        other,
+    } = fork;
+    out.open(alloc, outer)?;
+    *state = join(alloc, &condition, yes, no, &other, state)?;
+    Ok(())
+}
+
+/// Demands a loop of calls.
+fn ask_loop(
+    alloc: Global,
+    site: LoopId,
+    s: &Stmt,
+    first: &Stmt,
+    state: &SymState,
+    out: &mut Demands,
+) -> Result<(), ExecutionError>
+    ensures demands { OnOk result (out.new ≡ with_demands out.old (demand out.old.guard (loops site) (picked (is_read (statement_view s.now) (statement_view first.now)) 0 state.now.locals) ∷ [])) }
+    ensures light { OnOk result (list_any is_heavy (picked (is_read (statement_view s.now) (statement_view first.now)) 0 state.now.locals) ≡ false) }
+    ensures small { result ≢ Err ExecutionError.Large }
+{
+    let parts = loop_parts(alloc, s, first, state.locals())?;
+    out.push(DemandKind::Loops(site), parts)?;
+    Ok(())
+}
+
 /// Runs a statement on the state. What it demands comes behind what was demanded before.
 #[cycle(run)]
 #[tactic(auto, using(crate::proofs::Flags::neither, crate::proofs::Flags::first_of, crate::proofs::Flags::second_of))]
@@ -535,35 +340,22 @@ fn run(
     ensures large { result ≡ Err ExecutionError.Large → refused_by (program_view program.now) state.old out.old.guard (statement_view s.now) ≡ true }
 {
     match &s.kind {
-        StmtForm::Block(stmts) => run_all(alloc, program, stmts, state, out)?,
-        StmtForm::PutLocal(id, op, e) => {
-            let value = value_of(alloc, program, state, e, out)?;
-            put_local(alloc, *id, *op, value, state)?;
-        }
-        StmtForm::PutField(id, op, e) => {
-            let value = value_of(alloc, program, state, e, out)?;
-            put_field(alloc, *id, *op, value, state)?;
-        }
-        StmtForm::PutItem(id, i, op, e) => put_item(alloc, program, *id, i, *op, e, state, out)?,
-        StmtForm::Invoke(e, op, args) => invoke(alloc, program, state, e, *op, args, out)?,
+        StmtForm::Block(stmts) => run_all(alloc, program, stmts, state, out),
+        StmtForm::PutLocal(id, op, e) => put_local(alloc, program, *id, *op, e, state, out),
+        StmtForm::PutField(id, op, e) => put_field(alloc, program, *id, *op, e, state, out),
+        StmtForm::PutItem(id, i, op, e) => put_item(alloc, program, *id, i, *op, e, state, out),
+        StmtForm::Invoke(e, op, args) => invoke(alloc, program, state, e, *op, args, out),
         StmtForm::If(c, yes, no) => {
             let condition = value_of(alloc, program, state, c, out)?;
-            let outer = out.guard()?;
-            let mut other = state.copy(alloc)?;
-            enter_then(alloc, &outer, &condition, out)?;
-            run(alloc, program, yes, state, out)?;
-            enter_else(alloc, &outer, &condition, out)?;
-            run(alloc, program, no, &mut other, out)?;
-            out.open(alloc, outer)?;
-            *state = join(alloc, &condition, yes, no, state, &other)?;
+            let fork = begin_then(alloc, condition, state, out)?;
+            let first = together(fork, run(alloc, program, yes, state, out))?;
+            let fork = begin_else(alloc, first.0, state, out)?;
+            let second = together(fork, run(alloc, program, no, state, out))?;
+            end_if(alloc, second.0, yes, no, state, out)
         }
-        StmtForm::For(site, _, first, _, _, _) => {
-            let parts = loop_parts(alloc, s, first, state.locals())?;
-            out.push(DemandKind::Loops(*site), parts)?;
-        }
-        _ => {}
+        StmtForm::For(site, _, first, _, _, _) => ask_loop(alloc, *site, s, first, state, out),
+        _ => Ok(()),
     }
-    Ok(())
 }
 
 /// Runs statements on the state, one behind the other.

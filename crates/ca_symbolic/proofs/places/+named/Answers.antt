@@ -1,9 +1,9 @@
-use Rattle.std.proofs.Common.{◌≡◌, ◌++◌, sym, subst}
+use Rattle.std.proofs.Common.{◌≡◌, ◌++◌, OnOk, sym, subst}
 use Rattle.ca_symbolic.specs.clauses.Places.{locals_named}
 use Rattle.ca_symbolic.proofs.Blocks.{block_view}
 use Rattle.ca_symbolic.proofs.places.+named.Goals as goal
 
-pub add_named-returns-in_ok-add_all_named-in-Block : goal.add_named-returns-in_ok-add_all_named-in-Block
-add_named-returns-in_ok-add_all_named-in-Block t c =
-    subst (λ x. c.add_all_named.new.out.items ≡ c.args.out.now.items ++ locals_named x) (sym (block_view c.args.s.now c.in-Block.stmts c.in-Block.is))
-    (rw c.deref.ensures.value at c.in_ok-add_all_named-in-Block.ensures)
+pub add_named-returns-in-Block : goal.add_named-returns-in-Block
+add_named-returns-in-Block t c =
+    subst (λ x. OnOk c.add_all_named.result (c.add_all_named.new.out.items ≡ c.args.out.now.items ++ locals_named x)) (sym (block_view c.args.s.now c.in-Block.stmts c.in-Block.is))
+    (rw c.deref.ensures.value at c.add_all_named.ensures)

@@ -1,6 +1,6 @@
 use Rattle.std.proofs.Common.{arith}
 use Rattle.ca_symbolic.proofs.Flags.{neither, first_of, second_of}
-use Rattle.ca_symbolic.proofs.walk.with_negative.Goals as goal
+use Rattle.ca_symbolic.proofs.puts.with_negative.Goals as goal
 
 pub returns-in_err-addend-clause-large : goal.returns-in_err-addend-clause-large
 returns-in_err-addend-clause-large c = grind (arith, first_of, second_of)

@@ -1,6 +1,6 @@
 use Rattle.std.proofs.Common.{arith}
 use Rattle.ca_symbolic.proofs.Flags.{neither, first_of, second_of}
-use Rattle.ca_symbolic.proofs.walk.put_operation.Goals as goal
+use Rattle.ca_symbolic.proofs.puts.put_operation.Goals as goal
 
 pub returns-in_err-look_at_item-in-Minus-clause-large : goal.returns-in_err-look_at_item-in-Minus-clause-large
 returns-in_err-look_at_item-in-Minus-clause-large c = grind (arith, first_of, second_of)
