@@ -1,4 +1,4 @@
-use Rattle.std.proofs.Common.{rules, ◌≡◌, ◌++◌, OnOk, sym, ap, subst, ◌∙◌, append_assoc}
+use Rattle.std.proofs.Common.{rules, ◌≡◌, ◌++◌, sym, ap, subst, ◌∙◌, append_assoc}
 use Rattle.ca_program.specs.View.{expression_view, expressions_view}
 use Rattle.ca_symbolic.specs.clauses.Places.{locals_in, locals_in_all}
 use Rattle.ca_symbolic.proofs.Blocks.{call_view}
