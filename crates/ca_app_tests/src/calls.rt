@@ -1,20 +1,25 @@
 //! Calls of `top` over devices in memory. Where memory runs out the test ends, so that nothing is dropped before its end.
 
 use ca_app::top;
-use ca_base::{Gate, MemSink, MemSource, OpenGate};
-use std::alloc::Global;
+use ca_base::{Gate, MemSink, MemSource, OpenGate, Sink, Source};
 use std::process::Abort;
 use std::sync::Wait;
 use std::thread::Threads;
 
-/// The words of a command line that is written with one space between them.
-pub fn words<R: Abort>(rt: &R, alloc: Global, line: &str) -> Vec<String> {
-    let mut words = Vec::new(alloc);
+/// The status of `top` on the words of a command line that is written with one space between them.
+pub fn serve<R: AllocGlobal + Threads + Wait + Sync + Abort, S: Source, K: Sink, G: Gate>(
+    rt: &R,
+    line: &str,
+    source: &mut S,
+    sink: &mut K,
+    gate: &G,
+) -> u8 {
+    let mut words = Vec::new(rt.alloc());
     for word in line.split_whitespace() {
-        let word = String::from_str(alloc, word).expect(rt, "a word");
+        let word = String::from_str(rt.alloc(), word).expect(rt, "a word");
         words.push(word).expect(rt, "words");
     }
-    words
+    top(rt, &words, source, sink, gate)
 }
 
 /// Adds a part to a text.
@@ -73,8 +78,7 @@ impl<'a> Call<'a> {
         let failing_writes = vec![in alloc; self.failing.1; 1].expect(rt, "a number");
         let mut source = MemSource::new(text, failing_reads);
         let mut sink = MemSink::new(alloc, self.room, failing_writes).expect(rt, "a sink");
-        let words = words(rt, alloc, self.line);
-        let status = top(rt, &words, &mut source, &mut sink, gate);
+        let status = serve(rt, self.line, &mut source, &mut sink, gate);
         let written = Vec::from_slice(alloc, sink.bytes()).expect(rt, "what was written");
         (status, written)
     }

@@ -1,8 +1,7 @@
 //! Faulty words, and devices that fail.
 
-use crate::calls::{Call, words};
+use crate::calls::{Call, serve};
 use crate::sources::{FIRST, GRAPH_HEAP, GRAPH_VISIT, PRINTED, PRINTS};
-use ca_app::top;
 use ca_base::{OpenGate, SureSink, SureSource};
 use std::process::Abort;
 use std::sync::Wait;
@@ -112,10 +111,8 @@ fn gives_way_to_each_fault(rt: HostRuntime) {
 /// Over devices that never fail, status 6 and 7 don't come.
 #[test]
 fn runs_over_sure_devices(rt: HostRuntime) {
-    let alloc = rt.alloc();
-    let words = words(&rt, alloc, "run 1 100");
-    let text = Vec::from_slice(alloc, FIRST.as_bytes()).expect(&rt, "a text");
+    let text = Vec::from_slice(rt.alloc(), FIRST.as_bytes()).expect(&rt, "a text");
     let mut source = SureSource::new(text);
-    let status = top(&rt, &words, &mut source, &mut SureSink::new(), &OpenGate);
+    let status = serve(&rt, "run 1 100", &mut source, &mut SureSink::new(), &OpenGate);
     assert!(rt; status == 0);
 }

@@ -8,7 +8,7 @@ use std::sync::Wait;
 use std::thread::Threads;
 
 /// Three nodes, linked by the numbers of seed 7.
-const OF_SEED_7: &str =
+pub const OF_SEED_7: &str =
     "class Node {\npublic:\n  bool mark;\n  long value;\n  long sum;\n  Node *left;\n  Node *right;\n  void set(long v, Node *l, Node *r) {\n    value = v;\n    left = l;\n    right = r;\n  }\n  void visit(long p) {\n    sum += p;\n    if (!mark) {\n      mark = true;\n      left->visit(value);\n      right->visit(value);\n    }\n  }\n};\nclass Table {\npublic:\n  Node *at[3];\n  void fill() {\n    for (long i = 0; i < 3; i++) at[i] = new Node();\n  }\n  void link(long i, long l, long r) {\n    at[i]->set(i + 1, at[l], at[r]);\n  }\n};\nint main() {\n  Table *t = new Table();\n  t->fill();\n  t->link(0, 1, 2);\n  t->link(1, 2, 0);\n  t->link(2, 2, 2);\n  t->at[0]->visit(1);\n  return 0;\n}\n";
 
 const HEAP_OF_SEED_7: &str =

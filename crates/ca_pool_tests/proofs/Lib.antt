@@ -1,1 +1,2 @@
 pub mod FirstTasks
+pub mod SameSeats

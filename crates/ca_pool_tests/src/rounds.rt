@@ -1,145 +1,167 @@
-//! Rounds of a pool over 1,000 counting objects: each task is collected once.
+//! Rounds over counting objects.
 
-ghost use Rattle.std.specs.Prelude.{◌≡◌, ℕ, ◌<◌, ◌≤◌, All, IfOk};
+ghost use Rattle.std.specs.Prelude.{◌≡◌, ◌<◌, ◌≤◌};
+ghost use Rattle.std.specs.Thread.{IsSync};
 ghost use Rattle.ca_program.specs.View.{program_view};
-ghost use Rattle.ca_logs.specs.declared.log.Task.{Task};
-ghost use Rattle.ca_cells.specs.Rounds.{MayRun};
-ghost use Rattle.ca_cells.specs.declared.rule.Given.{Given};
-ghost use Rattle.ca_counters.specs.Counters.{IsSet, counters};
+ghost use Rattle.ca_cells.specs.Seats.{AreAll, IsOf, IsSameSeat, cells_key};
+ghost use Rattle.ca_counters.specs.Counters.{IsSet, counters, starts};
 
 use ca_base::OpenGate;
-use ca_cells::Cells;
+use ca_cells::{Applied, Cells, Seat};
 use ca_counters::{heap, let_go, program, twice};
 use ca_extent::extent_of;
-use ca_logs::{RoundLog, Task};
-use ca_pool::Pool;
+use ca_logs::RoundLog;
+use ca_model::{Heap, Object, Slot, Value};
 use ca_program::{OpId, Program};
-use std::alloc::{AllocError, Global};
+use ca_sections::Desk;
+use std::alloc::Global;
 use std::sync::Wait;
 use std::test::Fail;
-use std::thread::Threads;
+use std::thread::{self, Threads};
 
-/// The task that counts twice on each object.
-fn first_tasks(alloc: Global, count: u32) -> Result<Vec<Task>, AllocError>
-    ensures may_run { IfOk result (λ tasks. (key : Given) → IsSet key count → All (MayRun key) tasks.items) }
-    ensures begins { IfOk result (λ tasks. All (λ (t : Task). t.after ≡ 0) tasks.items) }
+/// Counts twice on an object, by two tasks, and tells whether both ran.
+fn count_twice<'a, R: Wait>(
+    rt: &R,
+    alloc: Global,
+    desk: &mut Desk<'a>,
+    cells: &Cells,
+    seat: &mut Seat,
+    program: &'a Program,
+    frozen: &Heap,
+    object: u32,
+) -> bool
+    requires place { IsOf cells.now seat.old }
+    requires set { IsSet (cells_key cells.now) 10 × (program_view program.now ≡ counters) × (frozen.now ≡ starts 10) }
+    requires object { object < 10 }
+    ensures { IsSameSeat seat.old seat.new }
 {
-    let mut tasks = Vec::new(alloc);
-    for object in 0..count {
-        tasks.push(twice(alloc, object))?;
+    let task = twice(alloc, object);
+    let gate = &OpenGate;
+    match cells.apply(rt, alloc, desk, seat, program, frozen, task, 100, gate) {
+        Ok(Applied::Ran { mut tasks, .. }) => match tasks.pop() {
+            Some(next) => {
+                let again = cells.apply(rt, alloc, desk, seat, program, frozen, next, 100, gate);
+                has_run(again)
+            }
+            None => false,
+        },
+        _ => false,
     }
-    Ok(tasks)
 }
 
-/// How many of the tasks wait for each object.
-fn waiting(alloc: Global, rest: &[Task], objects: usize) -> Result<Vec<u32>, AllocError> {
-    let mut counts: Vec<u32> = vec![in alloc; 0; objects]?;
-    for task in rest {
-        let at = task.op.receiver as usize;
-        if at < counts.len() {
-            counts[at] = counts[at].wrapping_add(1);
-        }
+/// Whether a task ran.
+fn has_run(answer: Result<Applied, ca_cells::Refused>) -> bool {
+    match answer {
+        Ok(Applied::Ran { .. }) => true,
+        _ => false,
     }
-    Ok(counts)
 }
 
-/// Whether each object's first task ran or waits, and where it ran the second one too.
-fn are_there(log: &RoundLog, counts: &[u32]) -> bool {
-    let mut at = 0;
-    for cell in &log.cells {
-        if at >= counts.len() {
-            return false;
+/// Counts twice on one object after the other, so many times in all.
+fn work<'a, R: Wait>(
+    rt: &R,
+    alloc: Global,
+    cells: &Cells,
+    seat: &mut Seat,
+    program: &'a Program,
+    frozen: &Heap,
+    times: u32,
+)
+    requires place { IsOf cells.now seat.old }
+    requires set { IsSet (cells_key cells.now) 10 × (program_view program.now ≡ counters) × (frozen.now ≡ starts 10) }
+    ensures { IsSameSeat seat.old seat.new }
+{
+    let Ok(mut desk) = Desk::new(alloc) else {
+        return;
+    };
+    let mut n = 0;
+    while n < times {
+        if !count_twice(rt, alloc, &mut desk, cells, seat, program, frozen, n % 10) {
+            return;
         }
-        let ran = cell.entries.len();
-        let due = if ran == 0 { 1 } else { 2 };
-        if ran.wrapping_add(counts[at] as usize) != due {
-            return false;
-        }
-        at += 1;
+        n += 1;
     }
-    true
 }
 
-/// Whether a round collects every task once.
-fn collects<R: Threads + Wait + Sync>(
+/// Each seat works on a thread of its own.
+fn work_all<R: Threads + Wait + Sync>(
+    rt: &R,
+    alloc: Global,
+    cells: &Cells,
+    seats: &mut [Seat],
+    program: &Program,
+    frozen: &Heap,
+    times: u32,
+)
+    requires all { AreAll cells.now seats.old }
+    requires set { IsSet (cells_key cells.now) 10 × (program_view program.now ≡ counters) × (frozen.now ≡ starts 10) }
+    ensures { AreAll cells.now seats.new }
+{
+    let part = |_: usize, seat: &mut Seat|
+        requires { IsSync R.row × IsOf cells.now seat.now × IsSet (cells_key cells.now) 10 × (program_view program.now ≡ counters) × (frozen.now ≡ starts 10) }
+        ensures { IsSameSeat seat.entry.now seat.exit.now }
+    { work(rt, alloc, cells, seat, program, frozen, times) };
+    thread::for_each_mut(rt, seats, 4, &part);
+}
+
+/// A round of so many workers, each of which counts twice so many times.
+fn round<R: Threads + Wait + Sync>(
     rt: &R,
     alloc: Global,
     program: &Program,
     workers: u32,
-    quota: u32,
-) -> Result<bool, Fail>
-    requires { (program_view program.now ≡ counters) × (0 < workers) × (workers ≤ 64) × (0 < quota) }
+    times: u32,
+) -> Result<RoundLog, Fail>
+    requires { (program_view program.now ≡ counters) × (0 < workers) × (workers ≤ 64) }
 {
     let roots = [OpId(1)];
     let extent = extent_of(alloc, program, &roots)?;
-    let heap = heap(alloc, program, 1_000)?;
-    let first = first_tasks(alloc, 1_000)?;
-    let (cells, seats) = Cells::make(alloc, program, &extent, &heap, &heap, workers)?;
-    let mut pool = Pool::make(workers);
-    let gate = &OpenGate;
-    let round = pool.round(
-        rt, alloc, program, &heap, cells, seats, first, quota, 100, gate,
-    )?;
-    let counts = waiting(alloc, round.rest.as_slice(), round.log.cells.len())?;
-    let mut entries: usize = 0;
-    for cell in &round.log.cells {
-        entries = entries.wrapping_add(cell.entries.len());
+    let heap = heap(alloc, program, 10)?;
+    let (cells, mut seats) = Cells::make(alloc, program, &extent, &heap, &heap, workers)?;
+    work_all(
+        rt,
+        alloc,
+        &cells,
+        seats.as_mut_slice(),
+        program,
+        &heap,
+        times,
+    );
+    Ok(cells.gather(seats))
+}
+
+/// What an object has counted.
+fn counted(object: &Object) -> i64 {
+    match object.slots.get(0) {
+        Some(Slot::One(Value::Long(n))) => *n,
+        _ => -1,
     }
-    let is_full = round.rest.is_empty() || entries >= quota as usize;
-    Ok(is_full && round.stop.is_none() && are_there(&round.log, counts.as_slice()))
 }
 
-/// Whether rounds with these quotas collect every task once.
-fn collects_all<R: Threads + Wait + Sync>(
-    rt: &R,
-    alloc: Global,
-    program: &Program,
-    workers: u32,
-) -> Result<bool, Fail>
-    requires { (program_view program.now ≡ counters) × (0 < workers) × (workers ≤ 64) }
-{
-    let one = collects(rt, alloc, program, workers, 1)?;
-    let seven = collects(rt, alloc, program, workers, 7)?;
-    let many = collects(rt, alloc, program, workers, 16_384)?;
-    Ok(one && seven && many)
+/// How many entries there are, and whether each object has 1,000 and counted each.
+fn entries(log: &RoundLog) -> (usize, bool) {
+    let mut count: usize = 0;
+    let mut fits = true;
+    for cell in &log.cells {
+        let here = cell.entries.len();
+        if here != 1_000 || counted(&cell.object) != 1_000 {
+            fits = false;
+        }
+        count = count.wrapping_add(here);
+    }
+    (count, fits)
 }
 
 #[test]
-fn one_worker_collects_every_task_once(rt: HostRuntime) -> Result<(), Fail> {
+fn four_threads_share_ten_objects(rt: HostRuntime) -> Result<(), Fail> {
     let alloc = rt.alloc();
     let program = program(alloc)?;
-    let fits = collects_all(&rt, alloc, &program, 1);
+    let log = round(&rt, alloc, &program, 4, 1_250);
     let_go(program);
-    assert!(&rt; fits?);
-    Ok(())
-}
-
-#[test]
-fn two_workers_collect_every_task_once(rt: HostRuntime) -> Result<(), Fail> {
-    let alloc = rt.alloc();
-    let program = program(alloc)?;
-    let fits = collects_all(&rt, alloc, &program, 2);
-    let_go(program);
-    assert!(&rt; fits?);
-    Ok(())
-}
-
-#[test]
-fn four_workers_collect_every_task_once(rt: HostRuntime) -> Result<(), Fail> {
-    let alloc = rt.alloc();
-    let program = program(alloc)?;
-    let fits = collects_all(&rt, alloc, &program, 4);
-    let_go(program);
-    assert!(&rt; fits?);
-    Ok(())
-}
-
-#[test]
-fn sixty_four_workers_collect_every_task_once(rt: HostRuntime) -> Result<(), Fail> {
-    let alloc = rt.alloc();
-    let program = program(alloc)?;
-    let fits = collects_all(&rt, alloc, &program, 64);
-    let_go(program);
-    assert!(&rt; fits?);
+    let log = log?;
+    let (count, fits) = entries(&log);
+    assert!(&rt; log.cells.len() == 10);
+    assert!(&rt; count == 10_000);
+    assert!(&rt; fits);
     Ok(())
 }

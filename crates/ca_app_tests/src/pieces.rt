@@ -1,0 +1,41 @@
+//! Calls of `top` over devices that give and take at most so many bytes a call. Where memory runs out the test ends, so that
+//! nothing is dropped before its end.
+
+ghost use Rattle.std.specs.Prelude.{◌<◌};
+
+use crate::calls::serve;
+use ca_base::{OpenGate, PieceSink, PieceSource};
+use std::process::Abort;
+use std::sync::Wait;
+use std::thread::Threads;
+
+/// The room of each sink: more than any reply of the tests has bytes.
+const ROOM: usize = 2000;
+
+/// A command line, a text, and the right reply of the line to the text: its status and what is written.
+pub type Row = (&'static str, &'static str, u8, &'static str);
+
+/// What a call of `top` left: its status, how many bytes it wrote, and whether these are a beginning of the right ones.
+pub type Ended = (u8, usize, bool);
+
+/// What the call of a row leaves over devices that give and take at most `piece` bytes a call, of which the read and
+/// the write of these numbers fail, where they are not 0.
+pub fn call<R: AllocGlobal + Threads + Wait + Sync + Abort>(
+    rt: &R,
+    row: Row,
+    piece: usize,
+    failing: (u64, u64),
+) -> Ended
+    requires { 0 < piece }
+{
+    let (line, text, _, written) = row;
+    let alloc = rt.alloc();
+    let text = Vec::from_slice(alloc, text.as_bytes()).expect(rt, "a text");
+    let failing_reads = vec![in alloc; failing.0; 1].expect(rt, "a number");
+    let failing_writes = vec![in alloc; failing.1; 1].expect(rt, "a number");
+    let mut source = PieceSource::new(text, piece, failing_reads);
+    let mut sink = PieceSink::new(alloc, piece, ROOM, failing_writes).expect(rt, "a sink");
+    let status = serve(rt, line, &mut source, &mut sink, &OpenGate);
+    let begun = written.as_bytes().starts_with(sink.bytes());
+    (status, sink.bytes().len(), begun)
+}

@@ -1,0 +1,59 @@
+//! Tests of the parts of the program: each call that takes memory, or that a device serves, and an answer of each other, where there
+//! is ample memory. What the calls answer is proved where they stand. The tests have a crate of their own so that those crates are
+//! proved once, and one for them all, since each crate of tests reads all libraries below it twice.
+#![tactic(auto)]
+
+#[cfg(test)]
+mod arrays;
+#[cfg(test)]
+mod canonical;
+#[cfg(test)]
+mod checker;
+#[cfg(test)]
+mod copies;
+#[cfg(test)]
+mod devices;
+#[cfg(test)]
+mod emitted;
+#[cfg(test)]
+mod expressions;
+#[cfg(test)]
+mod extents;
+#[cfg(test)]
+mod forms;
+#[cfg(test)]
+mod generated;
+#[cfg(test)]
+mod heaps;
+#[cfg(test)]
+mod hostile;
+#[cfg(test)]
+mod lexer;
+#[cfg(test)]
+mod operators;
+#[cfg(test)]
+mod resolve;
+#[cfg(test)]
+mod runs;
+#[cfg(test)]
+mod samples;
+#[cfg(test)]
+mod scenes;
+#[cfg(test)]
+mod sections;
+#[cfg(test)]
+mod separable;
+#[cfg(test)]
+mod sources;
+#[cfg(test)]
+mod terms;
+#[cfg(test)]
+mod texts;
+#[cfg(test)]
+mod values;
+#[cfg(test)]
+mod verdicts;
+#[cfg(test)]
+mod wholes;
+#[cfg(test)]
+mod words;

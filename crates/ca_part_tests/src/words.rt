@@ -1,0 +1,83 @@
+//! Words that name a command, and words that name none.
+
+use ca_words::{Command, command_of, usage_line};
+use std::process::Abort;
+
+/// Words that name a command.
+const NAMED: &str = "pairs
+plan
+emit
+run 1 100
+run 64 5
+gen 7 3
+gen 18446744073709551615 20000
+load 7 3 4";
+
+/// Words that name no command.
+const FAULTY: &str = "plans
+gen 18446744073709551616 1
+gen 0 0
+gen 0 20001
+gen 07 3
+gen 7
+run 65 5
+run 1 05
+load 7 3
+load 7 3 0
+load 7 3 65
+load 7 0 4
+load 18446744073709551616 3 4
+--help";
+
+/// The command that the words of a line name.
+fn named<R: AllocGlobal + Abort>(rt: &R, line: &str) -> Option<Command> {
+    let mut words = Vec::new(rt.alloc());
+    for word in line.split_whitespace() {
+        let word = String::from_str(rt.alloc(), word).expect(rt, "a word");
+        words.push(word).expect(rt, "words");
+    }
+    command_of(&words)
+}
+
+/// The words of a command, or none.
+fn words_of<R: AllocGlobal + Abort>(rt: &R, command: Option<Command>) -> String {
+    let alloc = rt.alloc();
+    let words = match command {
+        Some(Command::Pairs) => String::from_str(alloc, "pairs"),
+        Some(Command::Plan) => String::from_str(alloc, "plan"),
+        Some(Command::Emit) => String::from_str(alloc, "emit"),
+        Some(Command::Run { workers, budget }) => format!(in alloc; "run {workers} {budget}"),
+        Some(Command::Gen { seed, size }) => format!(in alloc; "gen {seed} {size}"),
+        Some(
+            Command::Load {
+                seed,
+                size,
+                workers,
+            },
+        ) => format!(in alloc; "load {seed} {size} {workers}"),
+        None => String::from_str(alloc, ""),
+    };
+    words.expect(rt, "words")
+}
+
+/// Whether the words of a line name the command that has these words and reads a text, or none where it is to have no words.
+fn is_named<R: AllocGlobal + Abort>(rt: &R, line: &str, words: &str, reads: bool) -> bool {
+    let command = named(rt, line);
+    let is_read = match command {
+        Some(command) => command.reads(),
+        None => false,
+    };
+    words_of(rt, command).as_str() == words && is_read == reads
+}
+
+#[test]
+fn names_commands(rt: HostRuntime) {
+    for line in NAMED.lines() {
+        let reads = !line.starts_with("gen") && !line.starts_with("load");
+        assert!(rt; is_named(&rt, line, line, reads), "{line}");
+    }
+    for line in FAULTY.lines() {
+        assert!(rt; is_named(&rt, line, "", false), "{line}");
+    }
+    assert!(rt; usage_line().starts_with(b"usage: "));
+}
