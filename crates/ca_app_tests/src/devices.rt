@@ -113,6 +113,12 @@ fn gives_way_to_each_fault(rt: HostRuntime) {
 fn runs_over_sure_devices(rt: HostRuntime) {
     let text = Vec::from_slice(rt.alloc(), FIRST.as_bytes()).expect(&rt, "a text");
     let mut source = SureSource::new(text);
-    let status = serve(&rt, "run 1 100", &mut source, &mut SureSink::new(), &OpenGate);
+    let status = serve(
+        &rt,
+        "run 1 100",
+        &mut source,
+        &mut SureSink::new(),
+        &OpenGate,
+    );
     assert!(rt; status == 0);
 }

@@ -13,7 +13,13 @@ use std::thread::Threads;
 const ROOM: usize = 2000;
 
 /// A command line, a text, and the right reply of the line to the text: its status and what is written.
-pub type Row = (&'static str, &'static str, u8, &'static str);
+#[derive(Drop)]
+pub struct Row<'a> {
+    pub line: &'a str,
+    pub text: String,
+    pub status: u8,
+    pub written: String,
+}
 
 /// What a call of `top` left: its status, how many bytes it wrote, and whether these are a beginning of the right ones.
 pub type Ended = (u8, usize, bool);
@@ -22,20 +28,19 @@ pub type Ended = (u8, usize, bool);
 /// the write of these numbers fail, where they are not 0.
 pub fn call<R: AllocGlobal + Threads + Wait + Sync + Abort>(
     rt: &R,
-    row: Row,
+    row: &Row,
     piece: usize,
     failing: (u64, u64),
 ) -> Ended
     requires { 0 < piece }
 {
-    let (line, text, _, written) = row;
     let alloc = rt.alloc();
-    let text = Vec::from_slice(alloc, text.as_bytes()).expect(rt, "a text");
+    let text = Vec::from_slice(alloc, row.text.as_bytes()).expect(rt, "a text");
     let failing_reads = vec![in alloc; failing.0; 1].expect(rt, "a number");
     let failing_writes = vec![in alloc; failing.1; 1].expect(rt, "a number");
     let mut source = PieceSource::new(text, piece, failing_reads);
     let mut sink = PieceSink::new(alloc, piece, ROOM, failing_writes).expect(rt, "a sink");
-    let status = serve(rt, line, &mut source, &mut sink, &OpenGate);
-    let begun = written.as_bytes().starts_with(sink.bytes());
+    let status = serve(rt, row.line, &mut source, &mut sink, &OpenGate);
+    let begun = row.written.as_bytes().starts_with(sink.bytes());
     (status, sink.bytes().len(), begun)
 }

@@ -1,14 +1,13 @@
 //! Canonical texts of whole sources.
 
-use crate::sources::{let_go, tree, with_lines};
+use crate::sources::{tree, with_lines};
 use ca_canonical::unparse;
 use std::process::Abort;
 
 /// Whether this is the canonical text of the tree of a source.
 fn is_canonical<R: AllocGlobal + Abort>(rt: &R, source: &str, expected: &str) -> bool {
     let tree = tree(rt, source);
-    let text = unparse(rt.alloc(), &tree).expect(rt, "a text");
-    let_go(tree);
+    let text = unparse(rt.alloc(), tree).expect(rt, "a text");
     text.as_slice() == expected.as_bytes()
 }
 
@@ -69,22 +68,24 @@ fn prints<R: AllocGlobal + Abort>(rt: &R, given: &str, expected: &str) -> bool {
     )
 }
 
-/// Whether `(a LOWER b) UPPER c` keeps its brackets, or else loses them.
-fn keeps_left<R: AllocGlobal + Abort>(rt: &R, upper: &str, lower: &str, kept: bool) -> bool {
-    let alloc = rt.alloc();
-    let given = format!(in alloc; "(a {lower} b) {upper} c").expect(rt, "a source");
-    let (open, close) = if kept { ("( ", " )") } else { ("", "") };
-    let expected = format!(in alloc; "{open}a {lower} b{close} {upper} c");
-    prints(rt, &given, &expected.expect(rt, "a text"))
+/// An expression over two operators, for which it has `U` and `L`.
+fn over<R: AllocGlobal + Abort>(rt: &R, text: &str, upper: &str, lower: &str) -> String {
+    let text = text.replace(rt.alloc(), "U", upper).expect(rt, "a text");
+    text.replace(rt.alloc(), "L", lower).expect(rt, "a text")
 }
 
-/// Whether `a UPPER (b LOWER c)` keeps its brackets, or else loses them.
-fn keeps_right<R: AllocGlobal + Abort>(rt: &R, upper: &str, lower: &str, kept: bool) -> bool {
-    let alloc = rt.alloc();
-    let given = format!(in alloc; "a {upper} (b {lower} c)").expect(rt, "a source");
-    let (open, close) = if kept { ("( ", " )") } else { ("", "") };
-    let expected = format!(in alloc; "a {upper} {open}b {lower} c{close}");
-    prints(rt, &given, &expected.expect(rt, "a text"))
+/// Whether an expression over two operators keeps its brackets, or else loses them.
+fn keeps<R: AllocGlobal + Abort>(
+    rt: &R,
+    brackets: &str,
+    bare: &str,
+    operators: (&str, &str),
+    kept: bool,
+) -> bool {
+    let (upper, lower) = operators;
+    let given = over(rt, brackets, upper, lower);
+    let expected = over(rt, if kept { brackets } else { bare }, upper, lower);
+    prints(rt, &given, &expected)
 }
 
 #[test]
@@ -93,8 +94,21 @@ fn writes_each_operator_under_each_other(rt: HostRuntime) {
         let (upper, strength) = operator(&rt, row);
         for row in OPERATORS.lines() {
             let (lower, lower_strength) = operator(&rt, row);
-            let left = keeps_left(&rt, upper, lower, lower_strength < strength);
-            let right = keeps_right(&rt, upper, lower, lower_strength <= strength);
+            let both = (upper, lower);
+            let left = keeps(
+                &rt,
+                "( a L b ) U c",
+                "a L b U c",
+                both,
+                lower_strength < strength,
+            );
+            let right = keeps(
+                &rt,
+                "a U ( b L c )",
+                "a U b L c",
+                both,
+                lower_strength <= strength,
+            );
             assert!(rt; left && right, "{upper} over {lower}");
         }
     }

@@ -9,8 +9,7 @@ use std::process::Abort;
 /// What the checker answers for the tree of a text.
 fn checked<R: AllocGlobal + Abort>(rt: &R, text: &str) -> Result<Program, CheckError> {
     let tree = tree(rt, text);
-    let answer = check(rt.alloc(), &tree);
-    let_go(tree);
+    let answer = check(rt.alloc(), tree);
     answer
 }
 

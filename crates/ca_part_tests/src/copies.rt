@@ -42,8 +42,7 @@ fn are_items<R: Abort>(rt: &R, items: &Values) -> bool {
 fn copies_a_heap(rt: HostRuntime) {
     let text = "class A { public: A *peer; long seen[3]; }; int main() { }";
     let program = program(&rt, text);
-    let mut heap = two_objects(&rt, &program);
-    let_go(program);
+    let mut heap = two_objects(&rt, program);
     let copy = heap.copy().expect(&rt, "a copy");
     assert!(rt; heap.has_slot(1, 1, 2) && copy.len() == 2);
     heap.store(1, 1, 2, Value::Long(8));

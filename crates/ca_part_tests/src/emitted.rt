@@ -1,6 +1,6 @@
 //! Annotated texts, and texts without their marks.
 
-use crate::sources::{let_go, tree, with_lines};
+use crate::sources::{checked, let_go, tree, with_lines};
 use ca_canonical::unparse;
 use ca_emit::emit;
 use ca_erase::{EraseError, erase};
@@ -8,7 +8,6 @@ use ca_lex::LONGEST_TEXT;
 use ca_plan::plan;
 use ca_program::Program;
 use ca_tree::Tree;
-use ca_types::check;
 use std::alloc::Global;
 use std::process::Abort;
 
@@ -38,10 +37,7 @@ fn emitted_of<R: AllocGlobal + Abort>(rt: &R, tree: &Tree, program: &Program) ->
 /// Whether a source has this annotated text.
 fn is_emitted<R: AllocGlobal + Abort>(rt: &R, text: &str, wanted: &str) -> bool {
     let tree = tree(rt, text);
-    let program = check(rt.alloc(), &tree).expect(rt, "a program");
-    let found = emitted_of(rt, &tree, &program);
-    let_go(program);
-    let_go(tree);
+    let found = emitted_of(rt, tree, checked(rt, tree));
     found.as_slice() == wanted.as_bytes()
 }
 
@@ -54,8 +50,7 @@ fn erased<R: Abort>(rt: &R, alloc: Global, text: &str) -> Vec<u8> {
 /// Whether the second text without its marks is the canonical text of the first.
 fn is_canonical<R: AllocGlobal + Abort>(rt: &R, text: &str, marked: &str) -> bool {
     let tree = tree(rt, text);
-    let canonical = unparse(rt.alloc(), &tree).expect(rt, "a text");
-    let_go(tree);
+    let canonical = unparse(rt.alloc(), tree).expect(rt, "a text");
     let found = erased(rt, rt.alloc(), marked);
     found.as_slice() == canonical.as_slice()
 }

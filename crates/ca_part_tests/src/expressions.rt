@@ -23,13 +23,12 @@ fn is_placed(last: &ExprNode) -> bool {
 fn gives_each_node_its_place(rt: HostRuntime) {
     let alloc = rt.alloc();
     let tokens = tokens(&rt, "a-(b-c)-d->e;");
-    let parsed = parse_expression(alloc, &tokens);
+    let parsed = parse_expression(alloc, tokens);
     let is_right = match &parsed {
         Ok((last, left)) => is_placed(last) && left.len() == 1,
         Err(_) => false,
     };
     let_go(parsed);
-    let_go(tokens);
     assert!(rt; is_right);
 }
 
@@ -37,18 +36,17 @@ fn gives_each_node_its_place(rt: HostRuntime) {
 fn reads_a_chain_and_a_name(rt: HostRuntime) {
     let alloc = rt.alloc();
     let tokens = tokens(&rt, "a()->b[1] = 7");
-    let parsed = parse_chain(alloc, &tokens);
+    let parsed = parse_chain(alloc, tokens);
     let is_chain = match &parsed {
         Ok((chain, left)) => is_target(chain) && !is_call(chain) && left.len() == 2,
         Err(_) => false,
     };
     let_go(parsed);
-    let taken = take_name(alloc, &tokens);
+    let taken = take_name(alloc, tokens);
     let is_name = match &taken {
         Ok(((name, _), left)) => name.as_bytes() == b"a".as_slice() && left.len() == 9,
         Err(_) => false,
     };
     let_go(taken);
-    let_go(tokens);
     assert!(rt; is_chain && is_name);
 }

@@ -12,9 +12,8 @@ fn finds_extents(rt: HostRuntime) {
         void a(long p) { while (p > 0) { b(); p = p - 1; } } void b() { m = m + f(); b(); }\
         void c() { n = 1; } }; int main() { }";
     let program = program(&rt, text);
-    let first = extent_of(alloc, &program, [OpId(0)].as_slice()).expect(&rt, "an extent");
-    let last = extent_of(alloc, &program, [OpId(2), OpId(2)].as_slice()).expect(&rt, "an extent");
-    let_go(program);
+    let first = extent_of(alloc, program, [OpId(0)].as_slice()).expect(&rt, "an extent");
+    let last = extent_of(alloc, program, [OpId(2), OpId(2)].as_slice()).expect(&rt, "an extent");
     let n = FieldId {
         class: ClassId(0),
         field: 0,

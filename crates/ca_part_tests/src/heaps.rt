@@ -32,8 +32,7 @@ fn lines_of<R: AllocGlobal + Abort>(rt: &R, program: &Program) -> MemSink {
 fn prints_what_was_stored(rt: HostRuntime) {
     let text = "class Acc { public: long sum; Acc *peer; long seen[3]; }; int main() { }";
     let program = program(&rt, text);
-    let sink = lines_of(&rt, &program);
-    let_go(program);
+    let sink = lines_of(&rt, program);
     let expected = "#0 Acc sum=-8 peer=#1 seen=[0,0,0]\n#1 Acc sum=0 peer=null seen=[0,0,4]\n";
     assert!(rt; sink.bytes() == expected.as_bytes());
 }

@@ -1,6 +1,6 @@
 //! The tokens of a small text.
 
-use crate::sources::{let_go, tokens};
+use crate::sources::tokens;
 use ca_lex::end_place;
 use ca_tree::{Kind, Token};
 use std::process::Abort;
@@ -48,7 +48,6 @@ fn reads_tokens(rt: HostRuntime) {
     for (token, row) in tokens.iter().zip(TOKENS.lines()) {
         assert!(rt; is_shown(&rt, token, row), "{row}");
     }
-    let_go(tokens);
     let end = end_place(b"this\n x1");
     assert!(rt; end.line == 2 && end.column == 4);
 }

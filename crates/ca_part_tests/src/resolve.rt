@@ -88,7 +88,6 @@ fn resolves_expressions(rt: HostRuntime) {
     let name = Name::new(alloc, b"x").expect(&rt, "a name");
     let tree = tree(&rt, text);
     assert!(rt; are_right(&rt, &tree.classes, &tree.main, &name) && tree.main.len() == 4);
-    let_go(tree);
     let_go(name);
 }
 

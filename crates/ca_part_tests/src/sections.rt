@@ -204,19 +204,18 @@ fn a_visit_lists_the_visit_of_its_left_node(rt: HostRuntime) {
     };
     let one = SectionAnswer::Done { steps: 1 };
     let left = Some([(0, 1, 5)].as_slice());
-    assert!(rt; visit.ends(&rt, &program, one, VISITED.as_slice(), left));
+    assert!(rt; visit.ends(&rt, program, one, VISITED.as_slice(), left));
     let visit = Case { left: 0, ..visit };
     let none = Some([].as_slice());
     assert!(rt;
         visit.ends(
             &rt,
-            &program,
+            program,
             SectionAnswer::Spent,
             UNVISITED.as_slice(),
             none
         )
     );
-    let_go(program);
 }
 
 #[test]
@@ -227,8 +226,7 @@ fn undoes_a_visit(rt: HostRuntime) {
         ..Case::new(1, 3, 9)
     };
     let one = SectionAnswer::Done { steps: 1 };
-    assert!(rt; visit.ends(&rt, &program, one, UNVISITED.as_slice(), None));
-    let_go(program);
+    assert!(rt; visit.ends(&rt, program, one, UNVISITED.as_slice(), None));
 }
 
 /// A pair of bins, and a loop that calls each.
@@ -303,9 +301,8 @@ fn a_loop_lists_its_calls(rt: HostRuntime) {
     let program = program(&rt, PAIR);
     let calls = [(1, 0, 1), (2, 0, 2), (1, 0, 1), (2, 0, 2)];
     let done = SectionAnswer::Done { steps: 2 };
-    assert!(rt; bins_end(&rt, &program, 2, done, 2, calls.as_slice()));
-    assert!(rt; bins_end(&rt, &program, 1, SectionAnswer::Spent, 7, [].as_slice()));
-    let_go(program);
+    assert!(rt; bins_end(&rt, program, 2, done, 2, calls.as_slice()));
+    assert!(rt; bins_end(&rt, program, 1, SectionAnswer::Spent, 7, [].as_slice()));
 }
 
 /// Operations without arguments of note: many turns that put into one field, a deep value method, many puts
@@ -367,7 +364,6 @@ fn long_sections_end(rt: HostRuntime) {
     for row in LONG_SECTIONS.as_slice() {
         let (op, argument, steps, answer, left) = *row;
         let case = Case::new(op, argument, steps);
-        assert!(rt; case.ends(&rt, &program, answer, left, None), "of {op}");
+        assert!(rt; case.ends(&rt, program, answer, left, None), "of {op}");
     }
-    let_go(program);
 }

@@ -22,10 +22,9 @@ const ROWS: &str =
 fn said<R: AllocGlobal + Abort>(rt: &R, text: &str, op: OpId) -> Separability {
     let alloc = rt.alloc();
     let program = program(rt, text);
-    let extent = extent_of(alloc, &program, [op].as_slice()).expect(rt, "an extent");
-    let answer = separable(alloc, &program, &extent, op).expect(rt, "an answer");
+    let extent = extent_of(alloc, program, [op].as_slice()).expect(rt, "an extent");
+    let answer = separable(alloc, program, &extent, op).expect(rt, "an answer");
     let_go(extent);
-    let_go(program);
     answer
 }
 
@@ -70,7 +69,6 @@ fn puts_old_values_back(rt: HostRuntime) {
     let program = program(&rt, text);
     assert!(rt; program.classes.len() == 1);
     let mut slots = Slots::start(alloc, &program.classes[0].fields).expect(&rt, "slots");
-    let_go(program);
     let mut olds = Olds::new(alloc);
     assert!(rt; slots.has(0, 0));
     olds.put(&mut slots, 0, 0, Value::Long(5))

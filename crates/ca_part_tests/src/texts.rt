@@ -52,9 +52,8 @@ fn written<R: AllocGlobal + Abort>(
 /// Whether this is written of a source: the verdicts, or what is marked.
 fn is_written<R: AllocGlobal + Abort>(rt: &R, text: &str, verdicts: bool, wanted: &str) -> bool {
     let program = program(rt, text);
-    let plan = plan(rt.alloc(), &program).expect(rt, "a plan");
-    let sink = written(rt, &program, &plan, verdicts);
-    let_go(program);
+    let plan = plan(rt.alloc(), program).expect(rt, "a plan");
+    let sink = written(rt, program, &plan, verdicts);
     let_go(plan);
     sink.bytes() == wanted.as_bytes()
 }

@@ -70,16 +70,15 @@ fn found<R: AllocGlobal + Abort>(
 #[test]
 fn finds_values_with_calls(rt: HostRuntime) {
     let program = program(&rt, TEXT);
-    let deep = found(&rt, &program, 0, 100_000, 1_000_000);
+    let deep = found(&rt, program, 0, 100_000, 1_000_000);
     assert!(rt; deep == Found::Value(Value::Long(100_005), 899_999));
-    let turns = found(&rt, &program, 1, 100_000, 1_000_000);
+    let turns = found(&rt, program, 1, 100_000, 1_000_000);
     assert!(rt; turns == Found::Value(Value::Long(4_999_950_005), 899_999));
-    assert!(rt; found(&rt, &program, 0, 10, 10) == Found::Spent);
+    assert!(rt; found(&rt, program, 0, 10, 10) == Found::Spent);
     let divided = Trap {
         line: 4,
         kind: TrapKind::ZeroDivisor,
     };
-    assert!(rt; found(&rt, &program, 2, 0, 10) == Found::Trapped(divided));
-    assert!(rt; found(&rt, &program, 3, 1, 10) == Found::Value(Value::Long(6), 9));
-    let_go(program);
+    assert!(rt; found(&rt, program, 2, 0, 10) == Found::Trapped(divided));
+    assert!(rt; found(&rt, program, 3, 1, 10) == Found::Value(Value::Long(6), 9));
 }

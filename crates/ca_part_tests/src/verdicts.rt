@@ -89,8 +89,15 @@ fn without_forms<R: AllocGlobal + Abort>(rt: &R, verdict: &Verdict) -> String {
     told.expect(rt, "a text")
 }
 
-/// What is said of two operations of a program, in the extent of a root.
-fn said<R: AllocGlobal + Abort>(rt: &R, program: &Program, root: u32, a: u32, b: u32) -> String {
+/// Whether this is said of two operations of a program, in the extent of a root.
+pub fn is_said<R: AllocGlobal + Abort>(
+    rt: &R,
+    program: &Program,
+    root: u32,
+    a: u32,
+    b: u32,
+    wanted: &str,
+) -> bool {
     let alloc = rt.alloc();
     let roots = [OpId(root)];
     let extent = extent_of(alloc, program, roots.as_slice()).expect(rt, "an extent");
@@ -99,20 +106,6 @@ fn said<R: AllocGlobal + Abort>(rt: &R, program: &Program, root: u32, a: u32, b:
     let told = without_forms(rt, &verdict);
     let_go(verdict);
     let_go(extent);
-    told
-}
-
-/// Whether this is said of two operations of a program, in the extent of a root.
-pub fn is_said<R: AllocGlobal + Abort>(
-    rt: &R,
-    program: Program,
-    root: u32,
-    a: u32,
-    b: u32,
-    wanted: &str,
-) -> bool {
-    let told = said(rt, &program, root, a, b);
-    let_go(program);
     told.as_str() == wanted
 }
 

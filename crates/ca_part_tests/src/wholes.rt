@@ -55,7 +55,6 @@ fn gives_each_part_its_place(rt: HostRuntime) {
         ([class], [local]) => is_class_placed(class) && local.at.column == 80,
         _ => false,
     };
-    let_go(tree);
     assert!(rt; is_placed);
 }
 
@@ -63,12 +62,11 @@ fn gives_each_part_its_place(rt: HostRuntime) {
 fn names_the_first_wrong_token(rt: HostRuntime) {
     let alloc = rt.alloc();
     let tokens = tokens(&rt, "int main() { if (a) f(); else else");
-    let parsed = parse(alloc, &tokens);
+    let parsed = parse(alloc, tokens);
     let is_wrong = match &parsed {
         Err(ParseError::Syntax(number)) => *number == 14,
         _ => false,
     };
     let_go(parsed);
-    let_go(tokens);
     assert!(rt; is_wrong);
 }
