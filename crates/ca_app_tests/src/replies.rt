@@ -44,7 +44,9 @@ fn named<'a>(name: &'a str) -> &'a str {
 
 /// A field of a row as a text.
 fn told<R: AllocGlobal + Abort>(rt: &R, field: &str) -> String {
-    named(field).replace(rt.alloc(), "$", "\n").expect(rt, "a text")
+    named(field)
+        .replace(rt.alloc(), "$", "\n")
+        .expect(rt, "a text")
 }
 
 /// The call of a row.
