@@ -28,7 +28,7 @@ pub const WRONG_TOKEN: Code = Code(10);
 pub const TOO_DEEP: Code = Code(11);
 
 /// Where a text is refused, and by which code.
-#[derive(Clone, Copy, PartialEq, Eq, Debug)]
+#[derive(Clone, Copy, PartialEq, Eq)]
 pub struct Refusal {
     pub at: Place,
     pub code: Code,

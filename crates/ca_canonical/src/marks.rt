@@ -8,7 +8,7 @@ ghost use Rattle.ca_canonical.specs.Marks.{Marking, mark_text, no_marks};
 use ca_tree::{Place, StmtNode};
 
 /// A mark, a comment that stands directly before a token.
-#[derive(Clone, Copy, PartialEq, Eq, Debug)]
+#[derive(Clone, Copy, PartialEq, Eq)]
 pub enum Mark {
     Lock,
     Unlock,

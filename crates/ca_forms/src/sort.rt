@@ -1,7 +1,7 @@
 //! Sorts of values.
 
 /// What kind of value a term stands for.
-#[derive(Clone, Copy, PartialEq, Eq, Debug)]
+#[derive(Clone, Copy, PartialEq, Eq)]
 pub enum Sort {
     Long,
     Bool,

@@ -29,7 +29,7 @@ impl Task {
 }
 
 /// Why a section didn't end.
-#[derive(Clone, Copy, PartialEq, Eq, Debug)]
+#[derive(Clone, Copy, PartialEq, Eq)]
 pub enum Stop {
     Trapped(Trap),
     Spent,

@@ -8,7 +8,7 @@ use std::alloc::{AllocError, Global};
 use std::marker::Model;
 
 /// A value. `Ref` has the number of an object.
-#[derive(Clone, Copy, PartialEq, Eq, Debug)]
+#[derive(Clone, Copy, PartialEq, Eq)]
 pub enum Value {
     Long(i64),
     Bool(bool),
@@ -234,7 +234,7 @@ pub struct Object {
 }
 
 /// Why a run traps.
-#[derive(Clone, Copy, PartialEq, Eq, Debug)]
+#[derive(Clone, Copy, PartialEq, Eq)]
 pub enum TrapKind {
     NullPointer,
     OutOfRange,
@@ -243,7 +243,7 @@ pub enum TrapKind {
 }
 
 /// A trap, with the line of the innermost statement that was being executed.
-#[derive(Clone, Copy, PartialEq, Eq, Debug)]
+#[derive(Clone, Copy, PartialEq, Eq)]
 pub struct Trap {
     pub line: u32,
     pub kind: TrapKind,

@@ -10,7 +10,7 @@ use crate::term::Term;
 use ca_forms::Sort;
 
 /// What the weight is made of, each at most `u64::MAX`.
-#[derive(Clone, Copy, Debug)]
+#[derive(Clone, Copy)]
 pub struct Measure {
     spread: u64,
     nodes: u64,

@@ -3,6 +3,7 @@
 use crate::sources::{let_go, program, with_lines};
 use ca_extent::extent_of;
 use ca_program::{OpId, Program};
+use ca_symbolic::DemandKind;
 use ca_verdicts::{Reason, Verdict, verdict};
 use std::process::Abort;
 
@@ -31,9 +32,9 @@ of class Cell { public: long sum; long base; long last; Cell *next;$ void late(l
 of class M { public: long x; void up(long v) { if (x < v) x = v; } }; int main() { }
 0 0 0:Field 0
 of class D { public: long n; D *o; void m(long p) { n = n + p; o->k(n); } void k(long v) { } }; int main() { }
-0 0 0:Demand Invokes(OpId(1))
+0 0 0:Demand Invokes 1
 of class E { public: long n; long a[4]; void m(long p) { n = n + p; long t = a[n]; } }; int main() { }
-0 0 0:Demand InRange(FieldId { class: ClassId(0), field: 1 })
+0 0 0:Demand InRange 1
 of class F { public: long a[4]; void m() { while (a[0] < 1) a[0] += 1; } }; int main() { }
 0 0 0:LoopForm 1
 of class C { public: long x; bool b; void t(long p) { if (b) x = x + p; else x = x - p; } void s(bool q) { b = b || q; }$ void both(long p, bool q) { t(p); s(q); } };$ int main() { }
@@ -53,7 +54,7 @@ of class H { public: long a[3]; void m(long i, long x) { a[i] = a[i] + x; } void
 2 0 1:Commutes
 // So where the branches leave the same, how often the index is checked depends on the condition, which the other puts.
 of class H { public: bool b; long a[3]; void m(long i, long x) { if (b) a[i] = a[i] + x; else a[i] += x; }$ void s(bool q) { b = b || q; } void both(long i, long x, bool q) { m(i, x); s(q); } }; int main() { }
-2 0 1:Demand InRange(FieldId { class: ClassId(0), field: 1 })
+2 0 1:Demand InRange 1
 // Offences of both stand before loops, and loops of both before what is too heavy.
 of class I { public: long n; void m() { while (n < 1) n = 1; }$ void k() { print(n); } void both() { m(); k(); } }; int main() { }
 2 0 1:NotSeparable 1 2 Prints
@@ -63,10 +64,10 @@ of class J { public: long n; void m(long x) { n = ((x + 1) * (x + 2)) * ((x + 3)
 0 0 0:Large
 // What is demanded on the right side of && is demanded where the left side holds.
 of class K { public: bool b; K *o; long n; void m(bool q) { b = b || q; if (b && o->n < 3) { } } }; int main() { }
-0 0 0:Demand NotNull
+0 0 0:Demand NotNull 0
 // Steps of a value method are demanded.
 of class L { public: long n; L *o; long f(long x) { return x; } void m(long p) { n = n + p; long t = o->f(n); } }; int main() { }
-0 0 0:Demand Calls(FunctionId(0))";
+0 0 0:Demand Calls 0";
 
 /// What a verdict says, without the forms: the operation, the line and why, the line of the loop, the field, or what is
 /// demanded.
@@ -83,10 +84,22 @@ fn without_forms<R: AllocGlobal + Abort>(rt: &R, verdict: &Verdict) -> String {
             format!(in alloc; "Field {}", field.field)
         }
         Verdict::Unproved(Reason::DemandsDiffer { kind, .. }) => {
-            format!(in alloc; "Demand {kind:?}")
+            let (what, number) = demanded(kind);
+            format!(in alloc; "Demand {what} {number}")
         }
     };
     told.expect(rt, "a text")
+}
+
+/// What is demanded, and the number in its class of the field, or that of the function, the operation or the loop.
+fn demanded(kind: &DemandKind) -> (&'static str, u32) {
+    match kind {
+        DemandKind::NotNull => ("NotNull", 0),
+        DemandKind::InRange(field) => ("InRange", field.field),
+        DemandKind::Calls(function) => ("Calls", function.0),
+        DemandKind::Invokes(op) => ("Invokes", op.0),
+        DemandKind::Loops(at) => ("Loops", at.0),
+    }
 }
 
 /// Whether this is said of two operations of a program, in the extent of a root.

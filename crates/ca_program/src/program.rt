@@ -6,27 +6,27 @@ ghost use Rattle.ca_program.specs.Fields.{same_field};
 use ca_tree::{AssignOp, BinaryOp, Name, UnaryOp};
 
 /// The number of a class.
-#[derive(Clone, Copy, PartialEq, Eq, Debug)]
+#[derive(Clone, Copy, PartialEq, Eq)]
 pub struct ClassId(pub u32);
 
 /// The number of an operation.
-#[derive(Clone, Copy, PartialEq, Eq, Debug)]
+#[derive(Clone, Copy, PartialEq, Eq)]
 pub struct OpId(pub u32);
 
 /// The number of a value method.
-#[derive(Clone, Copy, PartialEq, Eq, Debug)]
+#[derive(Clone, Copy, PartialEq, Eq)]
 pub struct FunctionId(pub u32);
 
 /// The number of a `for` statement.
-#[derive(Clone, Copy, PartialEq, Eq, Debug)]
+#[derive(Clone, Copy, PartialEq, Eq)]
 pub struct LoopId(pub u32);
 
 /// The number of a local in its body.
-#[derive(Clone, Copy, PartialEq, Eq, Debug)]
+#[derive(Clone, Copy, PartialEq, Eq)]
 pub struct LocalId(pub u32);
 
 /// A field, by its class and its place among the fields of the class.
-#[derive(Clone, Copy, PartialEq, Eq, Debug)]
+#[derive(Clone, Copy, PartialEq, Eq)]
 pub struct FieldId {
     pub class: ClassId,
     pub field: u32,
@@ -42,7 +42,7 @@ impl FieldId {
 }
 
 /// The type of a value.
-#[derive(Clone, Copy, PartialEq, Eq, Debug)]
+#[derive(Clone, Copy, PartialEq, Eq)]
 pub enum ValueType {
     Long,
     Bool,
@@ -91,7 +91,7 @@ pub struct Stmt {
 }
 
 /// What the first part of a `for` does with its local.
-#[derive(Clone, Copy, PartialEq, Eq, Debug)]
+#[derive(Clone, Copy, PartialEq, Eq)]
 pub enum FirstPart {
     Declares,
     Assigns,

@@ -16,7 +16,7 @@ use ca_sections::{Desk, SectionAnswer};
 use std::alloc::Global;
 
 /// How a round ends: after so many steps, or at an operation that has no complete section within what is left.
-#[derive(Clone, Copy, PartialEq, Eq, Debug)]
+#[derive(Clone, Copy, PartialEq, Eq)]
 pub enum Round {
     Went { steps: u64 },
     Stuck,

@@ -23,7 +23,7 @@ use std::alloc::Global;
 use std::mem;
 
 /// What a section answers: it is done in so many steps, it traps, or a step is too many.
-#[derive(Clone, Copy, PartialEq, Eq, Debug)]
+#[derive(Clone, Copy, PartialEq, Eq)]
 pub enum SectionAnswer {
     Done { steps: u64 },
     Trapped(Trap),

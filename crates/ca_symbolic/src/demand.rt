@@ -13,7 +13,7 @@ use std::mem;
 
 /// What is demanded: that a pointer is not null, that an index lies in an array, a call of a value method, a call of an
 /// operation, or a loop of calls.
-#[derive(Clone, Copy, Debug)]
+#[derive(Clone, Copy)]
 pub enum DemandKind {
     NotNull,
     InRange(FieldId),

@@ -23,7 +23,7 @@ pub enum Kind {
 }
 
 /// The words that are no names.
-#[derive(Clone, Copy, PartialEq, Eq, Debug)]
+#[derive(Clone, Copy, PartialEq, Eq)]
 pub enum Keyword {
     Class,
     Public,
@@ -46,7 +46,7 @@ pub enum Keyword {
 }
 
 /// The signs, of one byte or of two.
-#[derive(Clone, Copy, PartialEq, Eq, Debug)]
+#[derive(Clone, Copy, PartialEq, Eq)]
 pub enum Sign {
     OpenBrace,
     CloseBrace,

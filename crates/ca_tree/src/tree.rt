@@ -106,7 +106,7 @@ pub enum StmtKind {
 }
 
 /// `=`, `+=`, `-=` and `*=`; `x++` is `x += 1`, and `x--` is `x -= 1`.
-#[derive(Clone, Copy, PartialEq, Eq, Debug)]
+#[derive(Clone, Copy, PartialEq, Eq)]
 pub enum AssignOp {
     Put,
     Add,
@@ -149,14 +149,14 @@ pub enum ExprKind {
 }
 
 /// The prefix `-` and `!`.
-#[derive(Clone, Copy, PartialEq, Eq, Debug)]
+#[derive(Clone, Copy, PartialEq, Eq)]
 pub enum UnaryOp {
     Minus,
     Not,
 }
 
 /// The binary operators, from the weakest to the strongest.
-#[derive(Clone, Copy, PartialEq, Eq, Debug)]
+#[derive(Clone, Copy, PartialEq, Eq)]
 pub enum BinaryOp {
     Or,
     And,

@@ -4,7 +4,7 @@ use ca_model::{Trap, Value};
 use ca_program::{AssignOp, BinaryOp, Expr, FieldId, FunctionId, LocalId, Stmt, UnaryOp};
 
 /// How an evaluation ends: with a value and the steps that are left, by a trap, or with a step too many.
-#[derive(Clone, Copy, PartialEq, Eq, Debug)]
+#[derive(Clone, Copy, PartialEq, Eq)]
 pub enum Found {
     Value(Value, u64),
     Trapped(Trap),

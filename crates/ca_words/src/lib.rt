@@ -14,7 +14,7 @@ ghost use Rattle.ca_words.specs.declared.Command.{Command};
 ghost use Rattle.ca_words.specs.Words.{texts, Names, reads, usage_text};
 
 /// What the words name.
-#[derive(Clone, Copy, PartialEq, Eq, Debug)]
+#[derive(Clone, Copy, PartialEq, Eq)]
 pub enum Command {
     /// `run WORKERS BUDGET`: runs the source with 1 to 64 workers, for a budget of 1 to 1,000,000,000 steps.
     Run { workers: u32, budget: u32 },
