@@ -33,9 +33,8 @@ fn wraps_coefficients(rt: HostRuntime) {
 /// monomial keeps each part once: it has at most 320 powers.
 #[test]
 fn keeps_powers(rt: HostRuntime) {
-    let rows = "alike 0f,13:d*,1f,126:2if+,d** 1f,126:2if+,d*0f,13:d*,*
-powers 0f,13:d*,1f,126:2if+,d**";
-    hold(&rt, rows);
+    let rows = "alike 13w,$,$,** $,$,*13w*\npowers 13w,$,$,**";
+    hold_for_each(&rt, "1f,126:2if+", rows);
 }
 
 /// A term inside one more, of each kind.

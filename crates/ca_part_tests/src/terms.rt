@@ -3,7 +3,8 @@
 //!
 //! A text of a term puts terms on a stack, the last of which it stands for. A letter takes the terms on top, and puts one in their
 //! place; in front of some it has a number. Parts are apart by `,`, and `9:` before a part goes through it nine times, each time with
-//! one more at `i`. So `0p1p+` is the sum of the parameters 0 and 1, and `0f,3:1ip+` that of field 0 and the parameters 1 to 3.
+//! one more at `i`. So `0p1p+` is the sum of the parameters 0 and 1, and `0f,3:1ip+` that of field 0 and the parameters 1 to 3. `13w`
+//! is field 0, squared thirteen times.
 
 use crate::sources::let_go;
 use ca_norm::gather::{array_of, polynomial_of, scalar_of};
@@ -85,15 +86,10 @@ fn top_box<R: AllocGlobal + Abort>(rt: &R, stack: &mut Vec<Term>) -> Box<Term> {
     boxed(rt, top(rt, stack))
 }
 
-/// What a letter that takes terms puts in their place. `d` doubles the term on top, and `x` lets two terms change places.
+/// What a letter that takes terms puts in their place. `x` lets two terms change places.
 fn made<R: AllocGlobal + Abort>(rt: &R, stack: &mut Vec<Term>, letter: u8) -> Term {
     let above = top(rt, stack);
     match letter {
-        b'd' => {
-            let copy = above.copy(rt.alloc()).expect(rt, "a copy");
-            stack.push(above).expect(rt, "a term");
-            copy
-        }
         b'x' => {
             let below = top(rt, stack);
             stack.push(above).expect(rt, "a term");
@@ -111,6 +107,18 @@ fn made<R: AllocGlobal + Abort>(rt: &R, stack: &mut Vec<Term>, letter: u8) -> Te
     }
 }
 
+/// Puts field 0 squared so many times: each second field closes a square, each fourth one a square of squares, and so on.
+fn put_squares<R: AllocGlobal + Abort>(rt: &R, stack: &mut Vec<Term>, times: u32) {
+    for n in 0..1_u32.wrapping_shl(times) {
+        stack.push(leaf(b'f', 0, 0)).expect(rt, "a field");
+        for _ in 0..n.trailing_ones() {
+            let above = top_box(rt, stack);
+            let square = beside(b'*', top_box(rt, stack), above);
+            stack.push(square).expect(rt, "a square");
+        }
+    }
+}
+
 /// Goes through a part once.
 fn go<R: AllocGlobal + Abort>(rt: &R, stack: &mut Vec<Term>, part: &str, turn: u32) {
     let mut at: u32 = 0;
@@ -122,6 +130,10 @@ fn go<R: AllocGlobal + Abort>(rt: &R, stack: &mut Vec<Term>, part: &str, turn: u
             number = number.wrapping_mul(10).wrapping_add(digit as i64);
         } else if *letter == b'i' {
             at = at.wrapping_add(turn);
+        } else if *letter == b'w' {
+            put_squares(rt, stack, at);
+            at = 0;
+            number = 0;
         } else {
             let term = match *letter {
                 b'p' | b'b' | b'o' | b'f' | b's' | b'q' | b'n' | b'm' | b'z' => leaf(
@@ -208,11 +220,9 @@ fn longest<R: AllocGlobal + Abort>(rt: &R, text: &str) -> usize {
     longest
 }
 
-/// Whether the form of a copy of the term is the same as its own copy. The term is too heavy for `normal`.
+/// Whether the term's form is the same as its copy. The term is too heavy for `normal`.
 fn has_scalar_form<R: AllocGlobal + Abort>(rt: &R, text: &str) -> bool {
-    let first = term(rt, text);
-    let term = first.copy(rt.alloc()).expect(rt, "a copy");
-    let_go(first);
+    let term = term(rt, text);
     let form = scalar_of(rt.alloc(), &term).expect(rt, "a form");
     let_go(term);
     let copy = form.copy(rt.alloc()).expect(rt, "a copy");
