@@ -1,6 +1,7 @@
 -- The loops of calls of a body, found one after another.
-use Rattle.std.proofs.Common.{◌≡◌, ℕ, Bool, true, false, if◌then◌else◌, List, [], ◌∷◌, ◌++◌, map, refl, sym, ap, ◌∙◌, append_assoc}
-use Rattle.std.specs.Prelude.{flat_map}
+use Rattle.std.proofs.Common.{◌≡◌, ℕ, Bool, true, false, if◌then◌else◌, List, [], ◌∷◌, ◌++◌, map, refl, sym, ap, ◌∙◌, append_assoc, subst, Result, Ok, Err}
+use Rattle.std.specs.Prelude.{flat_map, IfOk}
+use Rattle.std.specs.Result.{result_and}
 use Rattle.ca_program.specs.declared.program.LoopId.{LoopId}
 use Rattle.ca_program.specs.declared.program.FirstPart.{FirstPart}
 use Rattle.ca_program.specs.declared.program.Method.{Method}
@@ -10,6 +11,17 @@ use Rattle.ca_parallel.specs.Bodies.{fors_in, fors_in_all}
 use Rattle.ca_parallel.specs.Marks.{loops_of_method}
 use Rattle.ca_symbolic.specs.OtherLoops.{is_call_loop}
 use Rattle.ca_plan.specs.Plans.{call_loops_of}
+
+-- what two find, one behind the other, and nothing where one of them fails
+pub both_found : {A T U E : Type 0} (r : Result T E) (s t : Result U E) (old mid new x y : List A)
+    → IfOk r (λ _. mid ≡ old ++ x) → IfOk s (λ _. new ≡ mid ++ y) → t ≡ result_and r s → IfOk t (λ _. new ≡ old ++ (x ++ y))
+both_found (Ok a) (Ok b) t old mid new x y p q is = subst (λ z. IfOk z (λ _. new ≡ old ++ (x ++ y))) (sym is) (q ∙ ap (λ z. z ++ y) p ∙ append_assoc old x y)
+both_found (Ok a) (Err e) t old mid new x y p q is = subst (λ z. IfOk z (λ _. new ≡ old ++ (x ++ y))) (sym is) tt
+both_found (Err e) s t old mid new x y p q is = subst (λ z. IfOk z (λ _. new ≡ old ++ (x ++ y))) (sym is) tt
+
+-- what is found in a node, whose view is another's
+pub found_at : {S A T E : Type 0} (found : S → List A) (r : Result T E) (old new : List A) (s t : S) → s ≡ t → IfOk r (λ _. new ≡ old ++ found t) → IfOk r (λ _. new ≡ old ++ found s)
+found_at found r old new s t is h = subst (λ z. IfOk r (λ _. new ≡ old ++ found z)) (sym is) h
 
 by_form : (t : Bool) (x : Statement) (ys zs : List Statement) → (if t then x ∷ (ys ++ zs) else (ys ++ zs)) ≡ (if t then x ∷ ys else ys) ++ zs
 by_form true x ys zs = refl
@@ -24,22 +36,18 @@ call_loops_of_both (x ∷ xs) ys =
 pub of_more : (s : Statement) (ss : Statements) → call_loops_of (fors_in_all (statement_and s ss)) ≡ call_loops_of (fors_in s) ++ call_loops_of (fors_in_all ss)
 of_more s ss = call_loops_of_both (fors_in s) (fors_in_all ss)
 
-pub of_two : (a b : Statement) (old mid new : List Statement) → mid ≡ old ++ call_loops_of (fors_in a) → new ≡ mid ++ call_loops_of (fors_in b) → new ≡ old ++ call_loops_of (fors_in a ++ fors_in b)
-of_two a b old mid new p q =
-    q ∙ ap (λ z. z ++ call_loops_of (fors_in b)) p ∙ append_assoc old (call_loops_of (fors_in a)) (call_loops_of (fors_in b)) ∙ ap (λ z. old ++ z) (sym (call_loops_of_both (fors_in a) (fors_in b)))
+-- what two walks find, one behind the other
+pub of_two : {T U E : Type 0} (xs ys : List Statement) (r : Result T E) (s t : Result U E) (old mid new : List Statement)
+    → IfOk r (λ _. mid ≡ old ++ call_loops_of xs) → IfOk s (λ _. new ≡ mid ++ call_loops_of ys) → t ≡ result_and r s → IfOk t (λ _. new ≡ old ++ call_loops_of (xs ++ ys))
+of_two xs ys r s t old mid new p q is =
+    subst (λ z. IfOk t (λ _. new ≡ old ++ z)) (sym (call_loops_of_both xs ys)) (both_found r s t old mid new (call_loops_of xs) (call_loops_of ys) p q is)
 
 -- a `for`, and the loops in its parts
-pub of_for : (x : Statement) (line : ℕ) (site : LoopId) (part : FirstPart) (first : Statement) (c : Expression) (next body : Statement) → x ≡ for_loop line site part first c next body
-    → (old one two three new : List Statement) → one ≡ old ++ call_loops_of (x ∷ []) → two ≡ one ++ call_loops_of (fors_in first) → three ≡ two ++ call_loops_of (fors_in next)
-    → new ≡ three ++ call_loops_of (fors_in body) → new ≡ old ++ call_loops_of (fors_in x)
-of_for x line site part first c next body is old one two three new p q r s =
-    let inner = fors_in next ++ fors_in body in
-    let behind : new ≡ two ++ call_loops_of inner = of_two next body two three new r s in
-    let parts : new ≡ one ++ call_loops_of (fors_in first ++ inner) =
-    behind ∙ ap (λ z. z ++ call_loops_of inner) q ∙ append_assoc one (call_loops_of (fors_in first)) (call_loops_of inner) ∙ ap (λ z. one ++ z) (sym (call_loops_of_both (fors_in first) inner)) in
-    let whole : new ≡ old ++ call_loops_of (x ∷ (fors_in first ++ inner)) =
-    parts ∙ ap (λ z. z ++ call_loops_of (fors_in first ++ inner)) p ∙ append_assoc old (call_loops_of (x ∷ [])) (call_loops_of (fors_in first ++ inner)) ∙ ap (λ z. old ++ z) (sym (call_loops_of_both (x ∷ []) (fors_in first ++ inner))) in
-    whole ∙ ap (λ z. old ++ call_loops_of (z ∷ (fors_in first ++ inner))) is ∙ ap (λ z. old ++ call_loops_of (fors_in z)) (sym is)
+pub of_for : {T E : Type 0} (x : Statement) (line : ℕ) (site : LoopId) (part : FirstPart) (first : Statement) (c : Expression) (next body : Statement) → x ≡ for_loop line site part first c next body
+    → (r : Result T E) (old new : List Statement) → IfOk r (λ _. new ≡ old ++ call_loops_of (x ∷ (fors_in first ++ (fors_in next ++ fors_in body)))) → IfOk r (λ _. new ≡ old ++ call_loops_of (fors_in x))
+of_for x line site part first c next body is r old new h =
+    let same : x ∷ (fors_in first ++ (fors_in next ++ fors_in body)) ≡ fors_in x = ap (λ z. z ∷ (fors_in first ++ (fors_in next ++ fors_in body))) is ∙ ap fors_in (sym is) in
+    subst (λ z. IfOk r (λ _. new ≡ old ++ call_loops_of z)) same h
 
 -- the operations of a program, one after another
 abbrev pub loops_of_methods : List Method → List Statement

@@ -11,27 +11,31 @@ use ca_program::{OpId, Program, Stmt, StmtForm};
 use ca_symbolic::is_call_loop;
 use std::alloc::{AllocError, Global};
 
+/// Adds an operation.
+fn add_call(op: OpId, out: &mut Vec<OpId>) -> Result<(), AllocError>
+    ensures { IfOk result (λ _. out.new.items ≡ out.old.items ++ op ∷ []) }
+{
+    out.push(op)?;
+    Ok(())
+}
+
 /// Adds the operations that a statement calls.
 #[cycle(calls)]
 pub(crate) fn add_calls(s: &Stmt, out: &mut Vec<OpId>) -> Result<(), AllocError>
     ensures { IfOk result (λ _. out.new.items ≡ out.old.items ++ calls_of (statement_view s.now)) }
 {
     match &s.kind {
-        StmtForm::Block(stmts) => add_all_calls(stmts, out)?,
-        StmtForm::Invoke(_, op, _) => out.push(*op)?,
-        StmtForm::If(_, yes, no) => {
-            add_calls(yes, out)?;
-            add_calls(no, out)?;
-        }
-        StmtForm::While(_, body) => add_calls(body, out)?,
+        StmtForm::Block(stmts) => add_all_calls(stmts, out),
+        StmtForm::Invoke(_, op, _) => add_call(*op, out),
+        StmtForm::If(_, yes, no) => add_calls(yes, out).and(add_calls(no, out)),
+        StmtForm::While(_, body) => add_calls(body, out),
         StmtForm::For(_, _, first, _, next, body) => {
-            add_calls(first, out)?;
-            add_calls(next, out)?;
-            add_calls(body, out)?;
+            let first = add_calls(first, out);
+            let next = add_calls(next, out);
+            first.and(next.and(add_calls(body, out)))
         }
-        _ => {}
+        _ => Ok(()),
     }
-    Ok(())
 }
 
 /// Adds the operations that statements call.
@@ -61,21 +65,17 @@ fn add_loops<'a>(s: &'a Stmt, out: &mut Vec<&'a Stmt>) -> Result<(), AllocError>
     ensures { IfOk result (λ _. seen out.new.items ≡ seen out.old.items ++ call_loops_of (fors_in (statement_view s.now))) }
 {
     match &s.kind {
-        StmtForm::Block(stmts) => add_all_loops(stmts, out)?,
-        StmtForm::If(_, yes, no) => {
-            add_loops(yes, out)?;
-            add_loops(no, out)?;
-        }
-        StmtForm::While(_, body) => add_loops(body, out)?,
+        StmtForm::Block(stmts) => add_all_loops(stmts, out),
+        StmtForm::If(_, yes, no) => add_loops(yes, out).and(add_loops(no, out)),
+        StmtForm::While(_, body) => add_loops(body, out),
         StmtForm::For(_, _, first, _, next, body) => {
-            add_loop(s, out)?;
-            add_loops(first, out)?;
-            add_loops(next, out)?;
-            add_loops(body, out)?;
+            let whole = add_loop(s, out);
+            let first = add_loops(first, out);
+            let next = add_loops(next, out);
+            whole.and(first.and(next.and(add_loops(body, out))))
         }
-        _ => {}
+        _ => Ok(()),
     }
-    Ok(())
 }
 
 /// Adds the loops of calls of statements.
