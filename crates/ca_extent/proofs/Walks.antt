@@ -1,5 +1,7 @@
 -- A list that is read item by item: what was found, and what is found in the items that are left.
-use Rattle.std.proofs.Common.{◌≡◌, ℕ, suc, ◌+◌, ◌<◌, ◌≤◌, List, [], ◌∷◌, ◌++◌, length, drop, get_or, sym, ap, ◌∙◌, arith, append_assoc, append-nil}
+use Rattle.std.proofs.Common.{◌≡◌, ℕ, suc, ◌+◌, ◌<◌, ◌≤◌, List, [], ◌∷◌, ◌++◌, length, drop, get_or, sym, ap, ◌∙◌, arith, append_assoc, append-nil, subst, Result, Ok, Err}
+use Rattle.std.specs.Prelude.{IfOk}
+use Rattle.std.specs.Result.{result_and}
 use Rattle.std.proofs.Math.Seq.{drop-cons}
 use Rattle.std.proofs.lemmas.List.{drop_all, get_or_default}
 
@@ -29,6 +31,13 @@ pub none_left : {A B : Type 0} (found : List A → List B) → found [] ≡ [] �
 none_left found empty xs i h all now was =
     sym (append-nil now) ∙ ap (λ z. now ++ z) (sym empty) ∙ ap (λ z. now ++ found z) (sym (drop_all i xs h)) ∙ was
 
-pub three : {A : Type 0} (old a b new x y z : List A) → a ≡ old ++ x → b ≡ a ++ y → new ≡ b ++ z → new ≡ old ++ (x ++ (y ++ z))
-three old a b new x y z p q r =
-    r ∙ ap (λ u. u ++ z) (q ∙ ap (λ u. u ++ y) p) ∙ append_assoc (old ++ x) y z ∙ append_assoc old x (y ++ z)
+-- what two find, one behind the other, and nothing where one of them fails
+pub both_found : {A T U E : Type 0} (r : Result T E) (s t : Result U E) (old mid new x y : List A)
+    → IfOk r (λ _. mid ≡ old ++ x) → IfOk s (λ _. new ≡ mid ++ y) → t ≡ result_and r s → IfOk t (λ _. new ≡ old ++ (x ++ y))
+both_found (Ok a) (Ok b) t old mid new x y p q is = subst (λ z. IfOk z (λ _. new ≡ old ++ (x ++ y))) (sym is) (q ∙ ap (λ z. z ++ y) p ∙ append_assoc old x y)
+both_found (Ok a) (Err e) t old mid new x y p q is = subst (λ z. IfOk z (λ _. new ≡ old ++ (x ++ y))) (sym is) tt
+both_found (Err e) s t old mid new x y p q is = subst (λ z. IfOk z (λ _. new ≡ old ++ (x ++ y))) (sym is) tt
+
+-- what is found in a node, whose view is another's
+pub found_at : {S A T E : Type 0} (found : S → List A) (r : Result T E) (old new : List A) (s t : S) → s ≡ t → IfOk r (λ _. new ≡ old ++ found t) → IfOk r (λ _. new ≡ old ++ found s)
+found_at found r old new s t is h = subst (λ z. IfOk r (λ _. new ≡ old ++ found z)) (sym is) h

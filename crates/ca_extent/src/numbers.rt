@@ -1,6 +1,6 @@
 //! The numbers of the methods that a body calls.
 
-ghost use Rattle.std.specs.Prelude.{◌≡◌, ◌++◌, IfOk};
+ghost use Rattle.std.specs.Prelude.{◌≡◌, [], ◌∷◌, ◌++◌, IfOk};
 ghost use Rattle.ca_program.specs.View.{expression_view, expressions_view, statement_view, statements_view};
 ghost use Rattle.ca_extent.specs.clauses.Numbers.{values_in, values_in_all, call_number, numbers_in, numbers_in_all, numbers_of, numbers_of_all};
 
@@ -14,6 +14,14 @@ pub(crate) enum Callees {
     Functions,
 }
 
+/// Adds a number.
+fn add(number: u32, out: &mut Vec<u32>) -> Result<(), AllocError>
+    ensures { IfOk result (λ _. out.new.items ≡ out.old.items ++ number ∷ []) }
+{
+    out.push(number)?;
+    Ok(())
+}
+
 /// Adds the value methods that an expression calls.
 #[cycle(values)]
 fn add_values(e: &Expr, out: &mut Vec<u32>) -> Result<(), AllocError>
@@ -22,21 +30,14 @@ fn add_values(e: &Expr, out: &mut Vec<u32>) -> Result<(), AllocError>
     match e {
         Expr::OwnItem(_, index) => add_values(index, out),
         Expr::Read(object, _) => add_values(object, out),
-        Expr::ReadItem(object, _, index) => {
-            add_values(object, out)?;
-            add_values(index, out)
-        }
+        Expr::ReadItem(object, _, index) => add_values(object, out).and(add_values(index, out)),
         Expr::Value(object, function, arguments) => {
-            add_values(object, out)?;
-            add_all_values(arguments, out)?;
-            out.push(function.0)?;
-            Ok(())
+            let object = add_values(object, out);
+            let arguments = add_all_values(arguments, out);
+            object.and(arguments.and(add(function.0, out)))
         }
         Expr::Unary(_, operand) => add_values(operand, out),
-        Expr::Binary(_, left, right) => {
-            add_values(left, out)?;
-            add_values(right, out)
-        }
+        Expr::Binary(_, left, right) => add_values(left, out).and(add_values(right, out)),
         _ => Ok(()),
     }
 }
@@ -90,36 +91,36 @@ fn add_numbers(callees: Callees, s: &Stmt, out: &mut Vec<u32>) -> Result<(), All
 {
     match &s.kind {
         StmtForm::Block(stmts) => add_all_numbers(callees, stmts, out),
-        StmtForm::PutLocal(_, _, e) => add_called(callees, e, out),
-        StmtForm::PutField(_, _, e) => add_called(callees, e, out),
+        StmtForm::PutLocal(_, _, e)
+        | StmtForm::PutField(_, _, e)
+        | StmtForm::Return(e)
+        | StmtForm::Print(e) => add_called(callees, e, out),
         StmtForm::PutItem(_, index, _, e) => {
-            add_called(callees, index, out)?;
-            add_called(callees, e, out)
+            add_called(callees, index, out).and(add_called(callees, e, out))
         }
         StmtForm::NewLocal(..) | StmtForm::NewField(..) => Ok(()),
         StmtForm::NewItem(_, index, _) => add_called(callees, index, out),
         StmtForm::Invoke(receiver, op, arguments) => {
-            add_called(callees, receiver, out)?;
-            add_call(callees, *op, out)?;
-            add_all_called(callees, arguments, out)
+            let receiver = add_called(callees, receiver, out);
+            let call = add_call(callees, *op, out);
+            receiver.and(call.and(add_all_called(callees, arguments, out)))
         }
         StmtForm::If(cond, yes, no) => {
-            add_called(callees, cond, out)?;
-            add_numbers(callees, yes, out)?;
-            add_numbers(callees, no, out)
+            let cond = add_called(callees, cond, out);
+            let yes = add_numbers(callees, yes, out);
+            cond.and(yes.and(add_numbers(callees, no, out)))
         }
         StmtForm::While(cond, turn) => {
             add_called(callees, cond, out)?;
             add_numbers(callees, turn, out)
         }
         StmtForm::For(_, _, first, cond, next, body) => {
-            add_numbers(callees, first, out)?;
-            add_called(callees, cond, out)?;
-            add_numbers(callees, next, out)?;
-            add_numbers(callees, body, out)
+            let first = add_numbers(callees, first, out);
+            let cond = add_called(callees, cond, out);
+            let next = add_numbers(callees, next, out);
+            let body = add_numbers(callees, body, out);
+            first.and(cond.and(next.and(body)))
         }
-        StmtForm::Return(e) => add_called(callees, e, out),
-        StmtForm::Print(e) => add_called(callees, e, out),
     }
 }
 

@@ -22,19 +22,16 @@ fn add_targets(s: &Stmt, out: &mut Vec<(u32, u32)>) -> Result<(), AllocError>
 {
     match &s.kind {
         StmtForm::Block(stmts) => add_all_targets(stmts, out),
-        StmtForm::PutField(f, _, _) => add_field(*f, out),
-        StmtForm::PutItem(f, _, _, _) => add_field(*f, out),
-        StmtForm::NewField(f, _) => add_field(*f, out),
-        StmtForm::NewItem(f, _, _) => add_field(*f, out),
-        StmtForm::If(_, yes, no) => {
-            add_targets(yes, out)?;
-            add_targets(no, out)
-        }
+        StmtForm::PutField(f, _, _)
+        | StmtForm::PutItem(f, _, _, _)
+        | StmtForm::NewField(f, _)
+        | StmtForm::NewItem(f, _, _) => add_field(*f, out),
+        StmtForm::If(_, yes, no) => add_targets(yes, out).and(add_targets(no, out)),
         StmtForm::While(_, body) => add_targets(body, out),
         StmtForm::For(_, _, first, _, next, body) => {
-            add_targets(first, out)?;
-            add_targets(next, out)?;
-            add_targets(body, out)
+            let first = add_targets(first, out);
+            let next = add_targets(next, out);
+            first.and(next.and(add_targets(body, out)))
         }
         _ => Ok(()),
     }
