@@ -20,7 +20,7 @@ ghost use Rattle.ca_symbolic.specs.declared.running.Side.TheVariants as side;
 
 use crate::key::Key;
 use crate::marks::{Marks, mark_groups};
-use crate::sums::{conditions_of, difference};
+use crate::sums::{conditions_of, difference, unless};
 use crate::verdicts::{Reason, Verdict};
 use ca_forms::parts::both;
 use ca_forms::polynomial::{Polynomial, Scalars};
@@ -65,17 +65,6 @@ pub fn run_order(
     symbolic(alloc, program, b, other, &mut state, &mut demands)?;
     let groups = demands.into_groups()?;
     Ok(Order { state, groups })
-}
-
-/// Two values, unless they are alike. It has a function of its own, so that no drop of a form is written out.
-#[inline(never)]
-fn unless<T: Drop>(alike: bool, one: T, other: T) -> Option<(T, T)>
-    ensures first { IfSome result (λ p. p.0 ≡ one) }
-    ensures second { IfSome result (λ p. p.1 ≡ other) }
-    ensures differ { IfSome result (λ _. alike ≡ false) }
-    ensures same { IfNone result (IsTrue alike) }
-{
-    if alike { None } else { Some((one, other)) }
 }
 
 /// The forms of two terms, where these differ. Of terms that are seen to be one no form is made.

@@ -1,12 +1,13 @@
 //! Sums of the conditions that marks name.
 
-ghost use Rattle.std.specs.Prelude.{◌≡◌, ◌≢◌, map, IfOk, IfSome, IfNone, OnOk};
+ghost use Rattle.std.specs.Prelude.{◌≡◌, ◌≢◌, false, map, IfOk, IfSome, IfNone, IsTrue, OnOk};
 ghost use Rattle.ca_sums.specs.Sums.{NoZero, AddsSum};
 ghost use Rattle.ca_forms.specs.Plain.{number_form};
 ghost use Rattle.ca_forms.specs.Rules.{gathered};
 ghost use Rattle.ca_verdicts.specs.clauses.Marks.{products_at, summed_up, condition_of, IsSettled};
 
 use crate::marks::Marks;
+use ca_forms::parts::both;
 use ca_forms::polynomial::{Monomial, Polynomial, Scalar};
 use ca_forms::sums::{add_polynomial, finish};
 use ca_symbolic::Group;
@@ -58,6 +59,17 @@ fn sum_of(
     Ok(Scalar::number(finish(alloc, form)?))
 }
 
+/// Two values, unless they are alike. It has a function of its own, so that no drop of a form is written out.
+#[inline(never)]
+pub(crate) fn unless<T: Drop>(alike: bool, one: T, other: T) -> Option<(T, T)>
+    ensures first { IfSome result (λ p. p.0 ≡ one) }
+    ensures second { IfSome result (λ p. p.1 ≡ other) }
+    ensures differ { IfSome result (λ _. alike ≡ false) }
+    ensures same { IfNone result (IsTrue alike) }
+{
+    if alike { None } else { Some((one, other)) }
+}
+
 /// The two sums of the conditions that the marks of the two orders name, where they differ.
 pub fn difference(
     alloc: Global,
@@ -70,10 +82,8 @@ pub fn difference(
     ensures differ { IfOk result (λ r. IfSome r (λ q. q.0 ≢ q.1)) }
     ensures same { IfOk result (λ r. IfNone r (IsSettled first.now second.now marks.now)) }
 {
-    let one = sum_of(alloc, first, marks.first.as_slice())?;
-    let other = sum_of(alloc, second, marks.second.as_slice())?;
-    if one.same(&other) {
-        return Ok(None);
-    }
-    Ok(Some((one, other)))
+    let one = sum_of(alloc, first, marks.first.as_slice());
+    let (one, other) = both(one, sum_of(alloc, second, marks.second.as_slice()))?;
+    let alike = one.same(&other);
+    Ok(unless(alike, one, other))
 }
