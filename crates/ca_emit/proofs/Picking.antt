@@ -1,7 +1,6 @@
 -- Places that are picked one by one.
-use Rattle.std.proofs.Common.{◌≡◌, ◌+◌, ◌≤◌, ◌<◌, ℕ, zero, suc, Bool, List, [], ◌∷◌, ◌++◌, length, min, drop, get_or, Some, refl, sym, ap, ap₂, ◌∙◌, arith, append_assoc, subst, Result, Ok, Err}
-use Rattle.std.specs.Prelude.{slice_get, option_map, IfOk}
-use Rattle.std.specs.Result.{result_and}
+use Rattle.std.proofs.Common.{◌≡◌, ◌+◌, ◌≤◌, ◌<◌, ℕ, zero, suc, Bool, List, [], ◌∷◌, ◌++◌, length, min, drop, get_or, Some, refl, sym, ap, ap₂, ◌∙◌, arith, append_assoc}
+use Rattle.std.specs.Prelude.{slice_get, option_map}
 use Rattle.std.specs.Borrow.{Bor}
 use Rattle.std.proofs.lemmas.List.{length-map, drop_all}
 use Rattle.std.proofs.lemmas.Option.{slice_get-map}
@@ -52,14 +51,3 @@ method_at ms n m h is = slice_get-map (λ (x : Bor MethodNode). method_view x.no
 
 pub none_behind : {B : Type 0} (from : ℕ → List MethodTree → List B) → ((n : ℕ) → from n [] ≡ []) → (ms : List (Bor MethodNode)) (n : ℕ) → length ms ≤ n → from n (drop n (methods_seen ms)) ≡ []
 none_behind from none ms n h = ap (from n) (drop_all n (methods_seen ms) (omega (arith, h, length-map ms (λ (x : Bor MethodNode). method_view x.now)))) ∙ none n
-
--- what two find, one behind the other, and nothing where one of them fails
-pub both_found : {A T U E : Type 0} (r : Result T E) (s t : Result U E) (old mid new x y : List A)
-    → IfOk r (λ _. mid ≡ old ++ x) → IfOk s (λ _. new ≡ mid ++ y) → t ≡ result_and r s → IfOk t (λ _. new ≡ old ++ (x ++ y))
-both_found (Ok a) (Ok b) t old mid new x y p q is = subst (λ z. IfOk z (λ _. new ≡ old ++ (x ++ y))) (sym is) (q ∙ ap (λ z. z ++ y) p ∙ append_assoc old x y)
-both_found (Ok a) (Err e) t old mid new x y p q is = subst (λ z. IfOk z (λ _. new ≡ old ++ (x ++ y))) (sym is) tt
-both_found (Err e) s t old mid new x y p q is = subst (λ z. IfOk z (λ _. new ≡ old ++ (x ++ y))) (sym is) tt
-
--- what is found in a node, whose view is another's
-pub found_at : {S A T E : Type 0} (found : S → List A) (r : Result T E) (old new : List A) (s t : S) → s ≡ t → IfOk r (λ _. new ≡ old ++ found t) → IfOk r (λ _. new ≡ old ++ found s)
-found_at found r old new s t is h = subst (λ z. IfOk r (λ _. new ≡ old ++ found z)) (sym is) h

@@ -1,5 +1,5 @@
 -- The loops of calls of a body, found one after another.
-use Rattle.std.proofs.Common.{◌≡◌, ℕ, Bool, true, false, if◌then◌else◌, List, [], ◌∷◌, ◌++◌, map, refl, sym, ap, ◌∙◌, append_assoc, subst, Result, Ok, Err}
+use Rattle.std.proofs.Common.{◌≡◌, ℕ, Bool, true, false, if◌then◌else◌, List, [], ◌∷◌, ◌++◌, map, refl, sym, ap, ◌∙◌, subst, Result}
 use Rattle.std.specs.Prelude.{flat_map, IfOk}
 use Rattle.std.specs.Result.{result_and}
 use Rattle.ca_program.specs.declared.program.LoopId.{LoopId}
@@ -9,19 +9,9 @@ use Rattle.ca_program.specs.Plain.{Expression, Statement, Statements, for_loop, 
 use Rattle.ca_program.specs.View.{method_view, statements_view}
 use Rattle.ca_parallel.specs.Bodies.{fors_in, fors_in_all}
 use Rattle.ca_parallel.specs.Marks.{loops_of_method}
+use Rattle.ca_extent.proofs.Walks.{both_found}
 use Rattle.ca_symbolic.specs.OtherLoops.{is_call_loop}
 use Rattle.ca_plan.specs.Plans.{call_loops_of}
-
--- what two find, one behind the other, and nothing where one of them fails
-pub both_found : {A T U E : Type 0} (r : Result T E) (s t : Result U E) (old mid new x y : List A)
-    → IfOk r (λ _. mid ≡ old ++ x) → IfOk s (λ _. new ≡ mid ++ y) → t ≡ result_and r s → IfOk t (λ _. new ≡ old ++ (x ++ y))
-both_found (Ok a) (Ok b) t old mid new x y p q is = subst (λ z. IfOk z (λ _. new ≡ old ++ (x ++ y))) (sym is) (q ∙ ap (λ z. z ++ y) p ∙ append_assoc old x y)
-both_found (Ok a) (Err e) t old mid new x y p q is = subst (λ z. IfOk z (λ _. new ≡ old ++ (x ++ y))) (sym is) tt
-both_found (Err e) s t old mid new x y p q is = subst (λ z. IfOk z (λ _. new ≡ old ++ (x ++ y))) (sym is) tt
-
--- what is found in a node, whose view is another's
-pub found_at : {S A T E : Type 0} (found : S → List A) (r : Result T E) (old new : List A) (s t : S) → s ≡ t → IfOk r (λ _. new ≡ old ++ found t) → IfOk r (λ _. new ≡ old ++ found s)
-found_at found r old new s t is h = subst (λ z. IfOk r (λ _. new ≡ old ++ found z)) (sym is) h
 
 by_form : (t : Bool) (x : Statement) (ys zs : List Statement) → (if t then x ∷ (ys ++ zs) else (ys ++ zs)) ≡ (if t then x ∷ ys else ys) ++ zs
 by_form true x ys zs = refl

@@ -1,11 +1,10 @@
 use Rattle.std.proofs.Common.{◌≡◌, ◌++◌, ◌∷◌, [], ◌||◌, refl, ap, ◌∙◌, arith}
 use Rattle.ca_program.specs.View.{form_view, statement_view, statements_view}
 use Rattle.ca_program.proofs.Rows.{block_is}
-use Rattle.ca_extent.proofs.Walks.{one_more, none_left}
+use Rattle.ca_extent.proofs.Walks.{one_more, none_left, both_found, found_at}
 use Rattle.ca_parallel.specs.Lists.{PlainMarks}
 use Rattle.ca_plan.specs.Texts.{loop_in}
 use Rattle.ca_emit.specs.Annotations.{runs_parallel, run_parallel}
-use Rattle.ca_emit.proofs.Picking.{both_found, found_at}
 use Rattle.ca_emit.proofs.sites.+flags.Goals as goal
 
 pub add_flags-returns-in-Block : goal.add_flags-returns-in-Block

@@ -1,9 +1,8 @@
 use Rattle.std.proofs.Common.{◌++◌, ◌∷◌, [], refl, ap, ◌∙◌, arith}
 use Rattle.ca_tree.specs.View.{form_view, statement_view, statements_view}
 use Rattle.ca_tree.proofs.Rows.{block_is}
-use Rattle.ca_extent.proofs.Walks.{one_more, none_left}
+use Rattle.ca_extent.proofs.Walks.{one_more, none_left, both_found, found_at}
 use Rattle.ca_emit.specs.Annotations.{sites_of, sites_of_all}
-use Rattle.ca_emit.proofs.Picking.{both_found, found_at}
 use Rattle.ca_emit.proofs.sites.+sites.Goals as goal
 
 pub add_sites-returns-in-Block : goal.add_sites-returns-in-Block

@@ -2,8 +2,7 @@ use Rattle.std.proofs.Common.{◌++◌, refl, ap, ◌∙◌, arith}
 use Rattle.ca_program.specs.View.{form_view, statement_view, statements_view}
 use Rattle.ca_program.proofs.Rows.{block_is}
 use Rattle.ca_parallel.specs.Bodies.{calls_of, calls_of_all}
-use Rattle.ca_extent.proofs.Walks.{one_more, none_left}
-use Rattle.ca_plan.proofs.LoopWalks.{both_found, found_at}
+use Rattle.ca_extent.proofs.Walks.{one_more, none_left, both_found, found_at}
 use Rattle.ca_plan.proofs.calls.+calls.Goals as goal
 
 pub add_calls-returns-in-Block : goal.add_calls-returns-in-Block

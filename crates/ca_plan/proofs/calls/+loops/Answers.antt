@@ -2,9 +2,9 @@ use Rattle.std.proofs.Common.{◌++◌, [], ◌∷◌, refl, ap, ◌∙◌, arit
 use Rattle.ca_program.specs.View.{form_view, statement_view, statements_view}
 use Rattle.ca_program.proofs.Rows.{block_is}
 use Rattle.ca_parallel.specs.Bodies.{fors_in, fors_in_all}
-use Rattle.ca_extent.proofs.Walks.{one_more, none_left}
+use Rattle.ca_extent.proofs.Walks.{one_more, none_left, found_at}
 use Rattle.ca_plan.specs.Plans.{call_loops_of}
-use Rattle.ca_plan.proofs.LoopWalks.{found_at, of_more, of_two, of_for}
+use Rattle.ca_plan.proofs.LoopWalks.{of_more, of_two, of_for}
 use Rattle.ca_plan.proofs.calls.+loops.Goals as goal
 
 pub add_loops-returns-in-Block : goal.add_loops-returns-in-Block
