@@ -1,6 +1,8 @@
 -- How right answers for parts make right answers for the whole.
-use Rattle.std.proofs.Common.{◌≡◌, [], ◌∷◌, Option, Some, None, Result, Ok, Err, refl, sym, subst, ap}
+use Rattle.std.proofs.Common.{◌≡◌, [], ◌∷◌, Option, Some, None, Result, Ok, Err, IfOk, IfErr, OnOk, IsOk, is_ok, is_some, true, refl, sym, subst, ap, ◌∙◌}
+use Rattle.std.specs.Option.{option_map}
 use Rattle.ca_resolve.specs.declared.errors.CheckError.{CheckError}
+use Rattle.ca_resolve.specs.declared.errors.CheckError.TheVariants.{Memory}
 use Rattle.ca_resolve.specs.Judged.{Violation, Judged, fine, violations, both, within, unless, beside, Tells, Answers, Finds, Joins}
 use Rattle.ca_resolve.proofs.Judging.{both_violations, finds, within_tells}
 use Rattle.ca_types.specs.Rules.{listed}
@@ -55,3 +57,45 @@ pair_stands a b r p None w x h m n k =
 pair_stands a b r p (Some v) w x h m n k =
     let both_ok = subst (λ z. Joins a b z) k h in
     let first : Finds (Ok p.0) (v ∷ []) = subst (λ z. Finds z (v ∷ [])) both_ok.0 m in absurd (cc)
+
+-- what memory alone can keep from being made
+pub made : {T A : Type 0} (view : T → A) (r : Result T CheckError) (j : Judged A) (a : A) → j ≡ fine a → IfOk r (λ t. view t ≡ a) → IfErr r (λ e. e ≡ Memory) → Answers view r j
+made view (Ok t) j a is h m = is ∙ ap (λ z. fine z) (sym h)
+made view (Err e) j a is h m = rw m (tt, tt)
+
+pub made_so : {T A : Type 0} (view : T → A) (r : Result T CheckError) (j : Judged A) (t : T) → j ≡ fine (view t) → IfOk r (λ u. u ≡ t) → IfErr r (λ e. e ≡ Memory) → Answers view r j
+made_so view (Ok u) j t is h m = is ∙ ap (λ z. fine (view z)) (sym h)
+made_so view (Err e) j t is h m = rw m (tt, tt)
+
+-- what was given room in what is handed on
+pub roomy : {T U E A : Type 0} (view : T → A) (r : Result T CheckError) (room : Result U E) (j : Judged A) (t : T) (a : A)
+    → j ≡ fine a → IfOk r (λ u. u ≡ t) → OnOk r (IsOk room) → IfErr r (λ e. e ≡ Memory) → OnOk room (view t ≡ a) → Answers view r j
+roomy view (Ok u) (Ok v) j t a is h k m n = is ∙ ap (λ z. fine z) (sym (ap view h ∙ n))
+roomy view (Ok u) (Err d) j t a is h k m n = absurd (cc)
+roomy view (Err e) room j t a is h k m n = rw m (tt, tt)
+
+-- what holds where there is a result
+pub on_ok : {T E P Q : Type 0} (r : Result T E) → (P → Q) → OnOk r P → OnOk r Q
+on_ok (Ok t) f h = f h
+on_ok (Err e) f h = tt
+
+-- what was made, of what holds of it
+pub if_made : {T E : Type 0} (P : T → Type 0) (r : Result T E) (t : T) → r ≡ Ok t → IfOk r P → P t
+if_made P r t is h = subst (λ z. IfOk z P) is h
+
+pub on_made : {T E : Type 0} (P : Type 0) (r : Result T E) (t : T) → r ≡ Ok t → OnOk r P → P
+on_made P r t is h = subst (λ z. OnOk z P) is h
+
+-- what holds where there is a result, and there is one
+pub on_ok_so : {T E : Type 0} (P : Type 0) (r : Result T E) → is_ok r ≡ true → OnOk r P → P
+on_ok_so P (Ok t) h p = p
+on_ok_so P (Err e) h p = absurd (cc)
+
+-- what is handed on where there was room
+pub put_where_room : {T A U E F : Type 0} (view : T → A) (r : Result T F) (now : T) (a : A) (room : Result U E) → IfOk r (λ t. t ≡ now) → OnOk r (IsOk room) → (is_ok room ≡ true → view now ≡ a) → IfOk r (λ t. view t ≡ a)
+put_where_room view (Ok t) now a room same is f = ap view same ∙ f is
+put_where_room view (Err e) now a room same is f = tt
+
+pub mapped_some : {A B : Type 0} (f : A → B) (o : Option A) → is_some (option_map f o) ≡ is_some o
+mapped_some f (Some a) = refl
+mapped_some f None = refl

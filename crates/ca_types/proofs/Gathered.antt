@@ -11,6 +11,7 @@ use Rattle.ca_resolve.proofs.Judging.{both_violations}
 use Rattle.ca_types.specs.Statements.{Env}
 use Rattle.ca_types.specs.Classes.{along, behind_parameter, judge_parameter, judge_parameters, MemberEnv, judge_field_member, judge_method, Member, a_field, a_method, Members, no_members, method_and, members_of, behind_member, judge_member, judge_members, ClassEnv, behind_class, judge_class, judge_named, Parts, no_parts, parts_of, judge_classes}
 use Rattle.ca_types.specs.clauses.Adding.{gathered, add_parameter, with_field, with_method, add_member, with_class, add_class}
+use Rattle.ca_types.proofs.Room.{members_are, parts_are}
 
 -- items put to what stands in front, one behind the other
 abbrev folded : {A B : Type 0} → (A → B → A) → A → List B → A
@@ -80,17 +81,13 @@ member_added c j (method_member m) = made_inside j (judge_method c m) (λ i. a_m
 abbrev joined_members : Members → Members → Members
 joined_members a b = record { fields = a.fields ++ b.fields; ops = a.ops ++ b.ops; functions = a.functions ++ b.functions }
 
-same_members : (f g : List FieldInfo) (o p h i : List program.PlainMethod) → f ≡ g → o ≡ p → h ≡ i
-    → (let one : Members = record { fields = f; ops = o; functions = h } in one) ≡ (let other : Members = record { fields = g; ops = p; functions = i } in other)
-same_members f g o p h i d e k = rw (d, e, k) refl
-
 method_joined : (o : Option ValueType) (m : program.PlainMethod) (a r : Members) → joined_members (with_method a o m) r ≡ joined_members a (method_and o m r)
-method_joined None m a r = same_members _ _ _ _ _ _ refl (append_assoc a.ops (m ∷ []) r.ops) refl
-method_joined (Some t) m a r = same_members _ _ _ _ _ _ refl refl (append_assoc a.functions (m ∷ []) r.functions)
+method_joined None m a r = members_are _ _ _ _ _ _ refl (append_assoc a.ops (m ∷ []) r.ops) refl
+method_joined (Some t) m a r = members_are _ _ _ _ _ _ refl refl (append_assoc a.functions (m ∷ []) r.functions)
 
 members_made : (a : Members) (xs : List Member) → folded with_member a xs ≡ joined_members a (members_of xs)
-members_made a [] = same_members _ _ _ _ _ _ (sym (append-nil a.fields)) (sym (append-nil a.ops)) (sym (append-nil a.functions))
-members_made a (a_field f ∷ xs) = members_made (with_field a f) xs ∙ same_members _ _ _ _ _ _ (append_assoc a.fields (f ∷ []) (members_of xs).fields) refl refl
+members_made a [] = members_are _ _ _ _ _ _ (sym (append-nil a.fields)) (sym (append-nil a.ops)) (sym (append-nil a.functions))
+members_made a (a_field f ∷ xs) = members_made (with_field a f) xs ∙ members_are _ _ _ _ _ _ (append_assoc a.fields (f ∷ []) (members_of xs).fields) refl refl
 members_made a (a_method m ∷ xs) = members_made (with_method a m.result m) xs ∙ method_joined m.result m a (members_of xs)
 
 pub members_gathered : (c : MemberEnv) (ms : List MemberTree) → judge_members c ms ≡ gathered behind_member add_member c (fine no_members) ms
@@ -109,16 +106,12 @@ class_added c j t = made_inside j (judge_class c t) (λ m. (t.name, m)) with_par
 abbrev joined_parts : Parts → Parts → Parts
 joined_parts a b = record { classes = a.classes ++ b.classes; ops = a.ops ++ b.ops; functions = a.functions ++ b.functions }
 
-same_parts : (f g : List program.PlainClass) (o p h i : List program.PlainMethod) → f ≡ g → o ≡ p → h ≡ i
-    → (let one : Parts = record { classes = f; ops = o; functions = h } in one) ≡ (let other : Parts = record { classes = g; ops = p; functions = i } in other)
-same_parts f g o p h i d e k = rw (d, e, k) refl
-
 parts_made : (a : Parts) (cs : List (List ℕ × Members)) → folded with_part a cs ≡ joined_parts a (parts_of cs)
-parts_made a [] = same_parts _ _ _ _ _ _ (sym (append-nil a.classes)) (sym (append-nil a.ops)) (sym (append-nil a.functions))
+parts_made a [] = parts_are _ _ _ _ _ _ (sym (append-nil a.classes)) (sym (append-nil a.ops)) (sym (append-nil a.functions))
 parts_made a (c ∷ cs) =
     let r = parts_of cs in
     parts_made (with_part a c) cs
-    ∙ same_parts _ _ _ _ _ _ (append_assoc a.classes (record { name = c.0; fields = c.1.fields } ∷ []) r.classes) (append_assoc a.ops c.1.ops r.ops) (append_assoc a.functions c.1.functions r.functions)
+    ∙ parts_are _ _ _ _ _ _ (append_assoc a.classes (record { name = c.0; fields = c.1.fields } ∷ []) r.classes) (append_assoc a.ops c.1.ops r.ops) (append_assoc a.functions c.1.functions r.functions)
 
 pub classes_gathered : (c : ClassEnv) (ts : List ClassTree) → judge_classes c ts ≡ gathered behind_class add_class c (fine no_parts) ts
 classes_gathered c ts =

@@ -1,25 +1,28 @@
 //! Classes and the whole program.
 
-ghost use Rattle.std.specs.Prelude.{◌≡◌, ◌+◌, ℕ, List, Option, IfOk, OnOk, map};
-ghost use Rattle.ca_tree.specs.View.{class_view, member_view};
+ghost use Rattle.std.specs.Prelude.{◌≡◌, ◌+◌, ℕ, List, Option, IfOk, IfErr, OnOk, map};
+ghost use Rattle.ca_tree.specs.Plain.{field_member, method_member};
+ghost use Rattle.ca_tree.specs.View.{class_view, member_view, method_view as tree_method};
 ghost use Rattle.ca_program.specs.View.{method_view};
 ghost use Rattle.ca_program.specs.Plain.{PlainMethod};
 ghost use Rattle.ca_program.specs.declared.program.FieldInfo.{FieldInfo as PlainField};
 ghost use Rattle.ca_resolve.specs.View.{classes_view};
 ghost use Rattle.ca_resolve.specs.Judged.{Answers, Finds, Judged, Violation, fine, both, within, beside, unless};
 ghost use Rattle.ca_resolve.specs.Scopes.{member_name, after_method};
+ghost use Rattle.ca_resolve.specs.declared.errors.CheckError.TheVariants.{Memory};
 ghost use Rattle.ca_types.specs.Rules.{listed, class_once};
-ghost use Rattle.ca_types.specs.Classes.{behind_member, behind_members, judge_members, class_begin, behind_class, behind_classes, judge_class, judge_classes, first_class, Members as PlainMembers, Parts as PlainParts};
+ghost use Rattle.ca_types.specs.Classes.{behind_member, behind_members, judge_field_member, judge_method, judge_members, class_begin, behind_class, behind_classes, judge_class, judge_classes, first_class, Members as PlainMembers, Parts as PlainParts};
 ghost use Rattle.ca_types.specs.clauses.Adding.{add_member, with_field, with_method, with_class};
 ghost use Rattle.ca_types.specs.clauses.View.{member_env, class_env, counts_view, members_view, parts_view};
 
+use crate::carried::{add, together, with_room};
 use crate::limits::{MOST_CLASSES, bound};
 use crate::members::{Counts, MemberWalk, check_field, check_method};
 use crate::rules::{Answer, rule};
 use ca_program::{Class, ClassId, FieldInfo, Method};
 use ca_resolve::codes::{CLASS_TWICE, TOO_MANY_CLASSES};
-use ca_resolve::{ClassTable, Names, both, member_name, one_more};
-use ca_tree::{ClassNode, Member, Name, TypeNode};
+use ca_resolve::{CheckError, ClassTable, Names, both, let_go, member_name, one_more};
+use ca_tree::{ClassNode, FieldNode, Member, MethodNode, Name, TypeNode};
 use std::alloc::{AllocError, Global};
 
 /// What the members of a class resolve to.
@@ -53,7 +56,7 @@ fn names_of<'a>(alloc: Global, members: &'a [Member]) -> Result<Names<'a>, Alloc
 {
     let mut all = Vec::new(alloc);
     for member in members {
-        all.push(member_name(member))?;
+        add(&mut all, member_name(member))?;
     }
     Names::new(alloc, all)
 }
@@ -63,8 +66,8 @@ fn with_field(front: Answer<Members>, field: Answer<FieldInfo>) -> Answer<Member
     ensures { (j : Judged PlainMembers) (k : Judged PlainField) → Answers members_view front j → Answers (λ f. f) field k → Answers members_view result (within (both j k) (λ p. fine (with_field p.0 p.1))) }
 {
     let (mut members, field) = both(front, field)?;
-    members.fields.push(field)?;
-    Ok(members)
+    let room = add(&mut members.fields, field);
+    with_room(members, room)
 }
 
 /// The members so far and a method.
@@ -73,11 +76,12 @@ fn with_method(front: Answer<Members>, method: Answer<Method>) -> Answer<Members
 {
     let (mut members, method) = both(front, method)?;
     if method.result.is_some() {
-        members.functions.push(method)?;
+        let room = add(&mut members.functions, method);
+        with_room(members, room)
     } else {
-        members.ops.push(method)?;
+        let room = add(&mut members.ops, method);
+        with_room(members, room)
     }
-    Ok(members)
 }
 
 /// The counts behind a method of this result.
@@ -92,6 +96,41 @@ fn behind_method(counts: Counts, returned: &Option<TypeNode>) -> Result<Counts, 
     Ok(behind)
 }
 
+/// A field behind other members.
+fn next_field<'a>(
+    alloc: Global,
+    standing: &mut MemberWalk<'_, 'a>,
+    field: &'a FieldNode,
+) -> Result<Answer<FieldInfo>, AllocError>
+    ensures judged { IfOk result (λ a. Answers (λ f. f) a (judge_field_member (member_env standing.old) field.now)) }
+    ensures behind { OnOk result (member_env standing.new ≡ behind_member (member_env standing.old) (field_member field.now)) }
+{
+    let number = one_more(standing.number)?;
+    let fields = one_more(standing.counts.fields)?;
+    let answer = check_field(alloc, standing, field);
+    standing.number = number;
+    standing.counts.fields = fields;
+    Ok(answer)
+}
+
+/// A method behind other members.
+fn next_method<'a>(
+    alloc: Global,
+    standing: &mut MemberWalk<'_, 'a>,
+    method: &'a MethodNode,
+) -> Result<Answer<Method>, AllocError>
+    ensures judged { IfOk result (λ a. Answers method_view a (judge_method (member_env standing.old) (tree_method method.now))) }
+    ensures behind { OnOk result (member_env standing.new ≡ behind_member (member_env standing.old) (method_member (tree_method method.now))) }
+{
+    let number = one_more(standing.number)?;
+    let counts = behind_method(standing.counts, &method.result)?;
+    let (answer, loops) = check_method(alloc, standing, method)?;
+    standing.number = number;
+    standing.counts = counts;
+    standing.loops = loops;
+    Ok(answer)
+}
+
 /// A member behind others.
 fn check_member<'a>(
     alloc: Global,
@@ -102,22 +141,14 @@ fn check_member<'a>(
     ensures judged { (j : Judged PlainMembers) → Answers members_view front j → IfOk result (λ a. Answers members_view a (add_member (member_env standing.old) j (member_view member.now))) }
     ensures behind { OnOk result (member_env standing.new ≡ behind_member (member_env standing.old) (member_view member.now)) }
 {
-    let number = one_more(standing.number)?;
     match member {
         Member::Field(field) => {
-            let fields = one_more(standing.counts.fields)?;
-            let answer = check_field(alloc, standing, field);
-            standing.number = number;
-            standing.counts.fields = fields;
-            Ok(with_field(front, answer))
+            let (front, field) = together(front, next_field(alloc, standing, field))?;
+            Ok(with_field(front, field))
         }
         Member::Method(method) => {
-            let counts = behind_method(standing.counts, &method.result)?;
-            let (answer, loops) = check_method(alloc, standing, method)?;
-            standing.number = number;
-            standing.counts = counts;
-            standing.loops = loops;
-            Ok(with_method(front, answer))
+            let (front, method) = together(front, next_method(alloc, standing, method))?;
+            Ok(with_method(front, method))
         }
     }
 }
@@ -189,6 +220,19 @@ fn class_of(passed: Answer<()>, members: Answer<Members>, again: Answer<()>) -> 
     Ok(members)
 }
 
+/// The parts of one more class, put behind the others.
+fn put_class(mut parts: Parts, name: Name, mut members: Members) -> Answer<Parts>
+    ensures parts { IfOk result (λ r. parts_view r ≡ with_class (parts_view parts) name (members_view members)) }
+    ensures memory { IfErr result (λ e. e ≡ Memory) }
+{
+    let fields = members.fields;
+    let class = Class { name, fields };
+    let room = add(&mut parts.classes, class)
+        .and(parts.ops.append(&mut members.ops))
+        .and(parts.functions.append(&mut members.functions));
+    with_room(parts, room)
+}
+
 /// The classes so far and one more.
 fn with_class(
     alloc: Global,
@@ -198,15 +242,14 @@ fn with_class(
 ) -> Answer<Parts>
     ensures { (j : Judged PlainParts) (k : Judged PlainMembers) → Answers parts_view front j → Answers members_view members k → Answers parts_view result (within (both j k) (λ p. fine (with_class p.0 name.now p.1))) }
 {
-    let (mut parts, mut members) = both(front, members)?;
-    let class = Class {
-        name: name.copy(alloc)?,
-        fields: members.fields,
-    };
-    parts.classes.push(class)?;
-    parts.ops.append(&mut members.ops)?;
-    parts.functions.append(&mut members.functions)?;
-    Ok(parts)
+    let (parts, members) = both(front, members)?;
+    match name.copy(alloc) {
+        Ok(name) => put_class(parts, name, members),
+        Err(_) => {
+            let_go((parts, members));
+            Err(CheckError::Memory)
+        }
+    }
 }
 
 /// All classes, and how many `for` statements they have.

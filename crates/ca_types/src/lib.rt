@@ -14,6 +14,7 @@
 //! `specs/clauses/` serves clauses within the crate alone.
 #![tactic(auto)]
 
+mod carried;
 mod classes;
 mod limits;
 mod lines;

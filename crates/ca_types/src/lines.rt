@@ -16,7 +16,7 @@ use crate::rules::Answer;
 use crate::walk::Walk;
 use ca_program::{Expr, OpId, Stmt, StmtForm};
 use ca_resolve::codes::{TYPES_DISAGREE, VALUE_METHOD_ACTS, WRONG_CALL, WRONG_RETURN};
-use ca_resolve::{Callee, Scope, Ty, check_call, check_value, violation};
+use ca_resolve::{Callee, Scope, Ty, check_call, check_value, let_go, violation};
 use ca_tree::{ExprNode, Place};
 use std::alloc::Global;
 
@@ -46,11 +46,16 @@ pub(crate) fn check_call_statement(
     ensures { Answers program.statement_view result (judge_call_statement (env_view walk.now) at (expression_view e.now)) }
 {
     let call = check_call(alloc, &walk.scope(), e)?;
-    let op = called_operation(&walk.result, &call.callee, e.at)?;
-    Ok(Stmt {
-        line: at.line,
-        kind: StmtForm::Invoke(call.receiver, op, call.arguments),
-    })
+    match called_operation(&walk.result, &call.callee, e.at) {
+        Ok(op) => Ok(Stmt {
+            line: at.line,
+            kind: StmtForm::Invoke(call.receiver, op, call.arguments),
+        }),
+        Err(e) => {
+            let_go(call);
+            Err(e)
+        }
+    }
 }
 
 /// The condition of an `if` or a loop.
@@ -61,6 +66,7 @@ pub(crate) fn check_condition(alloc: Global, scope: &Scope, e: &ExprNode) -> Ans
     if ty.is_truth() {
         Ok(value)
     } else {
+        let_go(value);
         Err(violation(e.at, TYPES_DISAGREE))
     }
 }
@@ -71,6 +77,7 @@ pub(crate) fn check_return(alloc: Global, walk: &Walk, at: Place, e: &ExprNode) 
 {
     let value = check_wanted(alloc, &walk.scope(), walk.result, e)?;
     if walk.result.is_none() {
+        let_go(value);
         return Err(violation(at, WRONG_RETURN));
     }
     Ok(Stmt {
@@ -94,6 +101,7 @@ fn check_printed(alloc: Global, scope: &Scope, e: &ExprNode) -> Answer<Expr>
     if has_text(&ty) {
         Ok(value)
     } else {
+        let_go(value);
         Err(violation(e.at, TYPES_DISAGREE))
     }
 }
@@ -104,6 +112,7 @@ pub(crate) fn check_print(alloc: Global, walk: &Walk, at: Place, e: &ExprNode) -
 {
     let value = check_printed(alloc, &walk.scope(), e)?;
     if walk.result.is_some() {
+        let_go(value);
         return Err(violation(at, VALUE_METHOD_ACTS));
     }
     Ok(Stmt {

@@ -1,11 +1,12 @@
 //! Fields, parameters and methods.
 
-ghost use Rattle.std.specs.Prelude.{◌≡◌, ℕ, List, Option, IfOk, OnOk, is_some, length, map, false};
+ghost use Rattle.std.specs.Prelude.{◌≡◌, ℕ, List, Option, IfOk, IfErr, OnOk, is_some, length, map, false};
 ghost use Rattle.std.specs.Option.{option_map};
 ghost use Rattle.ca_tree.specs.View.{statement_view, statements_view, method_view as tree_method};
 ghost use Rattle.ca_program.specs.View.{method_view};
 ghost use Rattle.ca_program.specs.Plain.{Statement};
 ghost use Rattle.ca_resolve.specs.Judged.{Answers, Finds, Judged, fine, both, within};
+ghost use Rattle.ca_resolve.specs.declared.errors.CheckError.TheVariants.{Memory};
 ghost use Rattle.ca_resolve.specs.LocalView.{ty_view};
 ghost use Rattle.ca_resolve.specs.View.{classes_view};
 ghost use Rattle.ca_types.specs.Rules.{listed, returns, last_returns, member_once, ends_with_return, length_stands, length_limit};
@@ -13,6 +14,7 @@ ghost use Rattle.ca_types.specs.Classes.{behind_parameters, judge_parameter, jud
 ghost use Rattle.ca_types.specs.clauses.View.{env_view, member_env, all_view, method_parts_view};
 ghost use Rattle.ca_program.specs.declared.program.ValueType.{ValueType as PlainType};
 
+use crate::carried::together;
 use crate::limits::{
     MOST_FIELDS, MOST_FUNCTIONS, MOST_ITEMS, MOST_LOCALS, MOST_OPERATIONS, MOST_PARAMETERS, bound,
 };
@@ -24,7 +26,7 @@ use ca_resolve::codes::{
     EMPTY_ARRAY, MEMBER_TWICE, TOO_LONG_ARRAY, TOO_MANY_FIELDS, TOO_MANY_FUNCTIONS,
     TOO_MANY_LOCALS, TOO_MANY_OPERATIONS, TOO_MANY_PARAMETERS, WRONG_RETURN,
 };
-use ca_resolve::{ClassTable, Names, Ty, both};
+use ca_resolve::{ClassTable, Names, Ty, both, let_go};
 use ca_tree::{FieldNode, MethodNode, Name, ParamNode, Place, StmtKind, StmtNode, TypeNode};
 use std::alloc::{AllocError, Global};
 
@@ -136,6 +138,16 @@ fn item_count(length: Option<i64>) -> Result<Option<u32>, AllocError>
     }
 }
 
+/// A field of this type.
+fn field_of(alloc: Global, field: &FieldNode, ty: ValueType) -> Answer<FieldInfo>
+    ensures made { IfOk result (λ f. f ≡ record { name = field.now.name; ty = ty; length = item_count field.now.length }) }
+    ensures memory { IfErr result (λ e. e ≡ Memory) }
+{
+    let length = item_count(field.length)?;
+    let name = field.name.copy(alloc)?;
+    Ok(FieldInfo { name, ty, length })
+}
+
 /// A field.
 pub(crate) fn check_field(
     alloc: Global,
@@ -155,12 +167,7 @@ pub(crate) fn check_field(
     let again = member_once(standing, &field.name, field.at);
     let empty = length_stands(field.length, field.at);
     both(again, empty)?;
-    let length = item_count(field.length)?;
-    Ok(FieldInfo {
-        name: field.name.copy(alloc)?,
-        ty,
-        length,
-    })
+    field_of(alloc, field, ty)
 }
 
 /// Whether the statement ends with a `return` on each way through it.
@@ -285,6 +292,37 @@ fn count_of(params: &[ParamNode]) -> Result<u32, AllocError>
     u32::try_from(params.len()).or(Err(AllocError))
 }
 
+/// How many parameters a method has, and its name.
+fn head_of(alloc: Global, method: &MethodNode) -> Result<(u32, Name), AllocError>
+    ensures params { IfOk result (λ p. p.0 ≡ length method.now.params.items) }
+    ensures name { IfOk result (λ p. p.1 ≡ method.now.name) }
+{
+    let params = count_of(&method.params)?;
+    let name = method.name.copy(alloc)?;
+    Ok((params, name))
+}
+
+/// The method of its body and the type of its result.
+fn method_with(
+    alloc: Global,
+    class: ClassId,
+    method: &MethodNode,
+    body: Body,
+    result_type: Option<ValueType>,
+) -> Answer<Method>
+    ensures made { IfOk result (λ m. m ≡ record { class = class; name = method.now.name; params = length method.now.params.items; body = body; result = result_type }) }
+    ensures memory { IfErr result (λ e. e ≡ Memory) }
+{
+    let (body, (params, name)) = together(body, head_of(alloc, method))?;
+    Ok(Method {
+        class,
+        name,
+        params,
+        body,
+        result: result_type,
+    })
+}
+
 /// What a method has: its result's type, its parameters and its statements.
 type MethodParts = (Option<ValueType>, ((), Vec<Stmt>));
 
@@ -300,15 +338,14 @@ fn method_of(
 {
     let limit = method_limit(standing, method);
     let (_, (result_type, (_, stmts))) = both(limit, parts)?;
+    let body = Body { locals, stmts };
     let again = member_once(standing, &method.name, method.at);
     let ends = ends_with_return(method);
-    both(again, ends)?;
-    let params = count_of(&method.params)?;
-    Ok(Method {
-        class: standing.class,
-        name: method.name.copy(alloc)?,
-        params,
-        body: Body { locals, stmts },
-        result: result_type,
-    })
+    match both(again, ends) {
+        Ok(_) => method_with(alloc, standing.class, method, body, result_type),
+        Err(e) => {
+            let_go(body);
+            Err(e)
+        }
+    }
 }

@@ -6,7 +6,7 @@ ghost use Rattle.ca_tree.specs.View.{expression_view, right_view, option_right_v
 ghost use Rattle.ca_program.specs.View as program;
 ghost use Rattle.ca_program.specs.declared.program.ValueType.{ValueType as PlainType};
 ghost use Rattle.ca_resolve.specs.Judged.{Answers, Finds, Judged, Violation};
-ghost use Rattle.ca_resolve.specs.Scopes.{Target as PlainTarget, Ty as PlainTy};
+ghost use Rattle.ca_resolve.specs.Scopes.{Target as PlainTarget, Ty as PlainTy, to_local};
 ghost use Rattle.ca_resolve.specs.LocalView.{ty_view};
 ghost use Rattle.ca_resolve.specs.View.{scope_view, target_view};
 ghost use Rattle.ca_types.specs.Rules.{listed, is_own, is_put, compound_agrees, writes_no_field, creates_nothing};
@@ -16,10 +16,10 @@ ghost use Rattle.ca_types.specs.clauses.View.{env_view, source_view, local_parts
 use crate::limits::{MOST_LOCALS, bound};
 use crate::rules::{Answer, check_type, class_defined, rule};
 use crate::walk::Walk;
-use ca_program::{AssignOp, ClassId, Expr, Stmt, StmtForm, ValueType};
+use ca_program::{AssignOp, ClassId, Expr, LocalId, Stmt, StmtForm, ValueType};
 use ca_resolve::codes::{TOO_MANY_LOCALS, TYPES_DISAGREE, VALUE_METHOD_ACTS};
 use ca_resolve::{
-    CheckError, Scope, Target, Ty, both, check_for, check_target, check_value, violation,
+    CheckError, Scope, Target, Ty, both, check_for, check_target, check_value, let_go, violation,
 };
 use ca_tree::{ExprNode, Name, Place, Right, TypeNode};
 use std::alloc::{AllocError, Global};
@@ -156,8 +156,13 @@ fn check_put_target<'a>(
     let target = check_target(alloc, &walk.scope(), e)?;
     let compound = compound_agrees(op, &target, e.at);
     let written = writes_no_field(&walk.result, &target, e.at);
-    both(compound, written)?;
-    Ok(target)
+    match both(compound, written) {
+        Ok(_) => Ok(target),
+        Err(e) => {
+            let_go(target);
+            Err(e)
+        }
+    }
 }
 
 /// The result, unless memory ran out.
@@ -195,8 +200,13 @@ fn assignment(
     ensures { (j : Judged (PlainTarget × PlainTy)) (k : Judged PlainSource) → Answers target_view target.entry j → Answers source_view source k → Answers program.statement_view result (judge_assignment (option_map ty_view returned.now) creates at op j k) }
 {
     let (target, source) = both(target, source)?;
-    creates_nothing(returned, creates, at)?;
-    Ok(put(at.line, target, op, source))
+    match creates_nothing(returned, creates, at) {
+        Ok(()) => Ok(put(at.line, target, op, source)),
+        Err(e) => {
+            let_go((target, source));
+            Err(e)
+        }
+    }
 }
 
 /// An assignment.
@@ -249,16 +259,25 @@ fn start_creates(value: &Option<Right>) -> bool
 /// A local of its judged type and first value.
 fn declaration(
     line: u32,
-    target: (Target, Ty),
+    local: LocalId,
+    ty: Ty,
     created: Answer<()>,
     again: Answer<()>,
     parts: Answer<((), (ValueType, Source))>,
 ) -> Answer<Stmt>
-    ensures { (v w : Option Violation) (j : Judged (PlainType × PlainSource)) → Finds created (listed v) → Finds again (listed w) → Answers local_parts_view parts j → Answers program.statement_view result (judge_declaration line (target_view target.entry).0 v w j) }
+    ensures { (v w : Option Violation) (j : Judged (PlainType × PlainSource)) → Finds created (listed v) → Finds again (listed w) → Answers local_parts_view parts j → Answers program.statement_view result (judge_declaration line (to_local local) v w j) }
 {
     let (_, (_, source)) = parts?;
-    both(created, again)?;
-    Ok(put(line, target, AssignOp::Put, source))
+    match both(created, again) {
+        Ok(_) => {
+            let target = (Target::Local(local), ty);
+            Ok(put(line, target, AssignOp::Put, source))
+        }
+        Err(e) => {
+            let_go(source);
+            Err(e)
+        }
+    }
 }
 
 /// A local, before it is declared.
@@ -281,11 +300,5 @@ pub(crate) fn check_local<'a>(
     let created = creates_nothing(&walk.result, start_creates(value), at);
     let again = walk.local_once(name, name_at);
     let parts = both(passed, both(written, start));
-    declaration(
-        at.line,
-        (Target::Local(id), declared),
-        created,
-        again,
-        parts,
-    )
+    declaration(at.line, id, declared, created, again, parts)
 }

@@ -10,6 +10,7 @@ ghost use Rattle.ca_resolve.specs.Scopes.{ty_of};
 ghost use Rattle.ca_types.specs.Statements.{nothing, first_part, judge_block, judge_if, judge_while, judge_for_loop, judge_statement, judge_statements, judge_local, judge_condition, declare, behind, behind_all, enter_block, counted, leave_block};
 ghost use Rattle.ca_types.specs.clauses.View.{env_view, left, all_view, boxed_view};
 
+use crate::carried::together;
 use crate::limits::{MOST_LOOPS, bound};
 use crate::lines::{check_call_statement, check_condition, check_print, check_return};
 use crate::puts::{check_assign, check_local};
@@ -224,8 +225,8 @@ fn check_while<'a>(
     ensures judged { IfOk result (λ a. Answers program.statement_view a (judge_statement (env_view walk.old) (tree.while_loop at (expression_view cond.now) (tree_view body.now)))) }
     ensures behind { OnOk result (env_view walk.new ≡ behind (env_view walk.old) (tree.while_loop at (expression_view cond.now) (tree_view body.now))) }
 {
-    let cond = check_condition(alloc, &walk.scope(), cond);
     let body = check_inner(alloc, walk, body)?;
+    let cond = check_condition(alloc, &walk.scope(), cond);
     Ok(while_loop(at.line, cond, body))
 }
 
@@ -270,8 +271,8 @@ fn check_if_only<'a>(
     ensures judged { IfOk result (λ a. Answers program.statement_view a (judge_statement (env_view walk.old) (tree.if_only at (expression_view cond.now) (tree_view yes.now)))) }
     ensures behind { OnOk result (env_view walk.new ≡ behind (env_view walk.old) (tree.if_only at (expression_view cond.now) (tree_view yes.now))) }
 {
-    let cond = check_condition(alloc, &walk.scope(), cond);
     let yes_part = check_inner(alloc, walk, yes)?;
+    let cond = check_condition(alloc, &walk.scope(), cond);
     let no_part = boxed(alloc, Ok(nothing(alloc, at.line)));
     Ok(if_else(at.line, cond, yes_part, no_part))
 }
@@ -289,8 +290,8 @@ fn check_else<'a>(
     ensures judged { (j : Judged Statement) → Answers boxed_view yes_part j → IfOk result (λ a. Answers program.statement_view a (judge_if at.line (judge_condition (env_view walk.old).scope (expression_view cond.now)) j (judge_statement (enter_block (env_view walk.old)) (tree_view no.now)))) }
     ensures behind { OnOk result (env_view walk.new ≡ leave_block (env_view walk.old) (behind (enter_block (env_view walk.old)) (tree_view no.now))) }
 {
+    let (yes_part, no_part) = together(yes_part, check_inner(alloc, walk, no))?;
     let cond = check_condition(alloc, &walk.scope(), cond);
-    let no_part = check_inner(alloc, walk, no)?;
     Ok(if_else(at.line, cond, yes_part, no_part))
 }
 
@@ -308,8 +309,8 @@ fn check_rounds<'a>(
     ensures judged { (f j : Judged Statement) → Answers boxed_view head.first f → Answers boxed_view next j → IfOk result (λ a. Answers program.statement_view a (judge_for_loop head.at head.site.0 head.part f (judge_condition (env_view walk.old).scope (expression_view cond.now)) j (judge_statement (enter_block (env_view walk.old)) (tree_view body.now)))) }
     ensures behind { OnOk result (env_view walk.new ≡ left (leave_block (env_view walk.old) (behind (enter_block (env_view walk.old)) (tree_view body.now))) outer.visible outer.first) }
 {
+    let ((head, next), body) = together((head, next), check_inner(alloc, walk, body))?;
     let cond = check_condition(alloc, &walk.scope(), cond);
-    let body = check_inner(alloc, walk, body)?;
     walk.leave_block(outer);
     Ok(for_loop(head, cond, next, body))
 }
@@ -326,8 +327,8 @@ pub(crate) fn check_statements<'a>(
 {
     let mut answers = Ok(Vec::new(alloc));
     for stmt in stmts {
-        let answer = check_statement(alloc, walk, stmt)?;
-        answers = and_one(answers, answer);
+        let (so_far, answer) = together(answers, check_statement(alloc, walk, stmt))?;
+        answers = and_one(so_far, answer);
     }
     Ok(answers)
 }

@@ -11,6 +11,7 @@ ghost use Rattle.ca_types.specs.Statements.{type_of, declare, enter_block, count
 ghost use Rattle.ca_types.specs.Classes.{beginning};
 ghost use Rattle.ca_types.specs.clauses.View.{env_view, left};
 
+use crate::carried::add;
 use crate::rules::{Answer, rule};
 use ca_program::{ClassId, LocalId, LoopId, ValueType};
 use ca_resolve::codes::LOCAL_TWICE;
@@ -96,8 +97,7 @@ impl<'s, 'a> Walk<'s, 'a> {
     {
         let id = self.next_local()?;
         self.visible.push(VisibleLocal { name, id, ty })?;
-        self.locals.push(type_of(&ty))?;
-        Ok(())
+        add(&mut self.locals, type_of(&ty))
     }
 
     /// Begins a block, and gives what the block round it needs at its end.

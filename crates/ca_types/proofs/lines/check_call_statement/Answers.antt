@@ -1,5 +1,4 @@
 use Rattle.std.proofs.Common.{ap, ◌∙◌, sym}
-use Rattle.std.proofs.lemmas.Result.{err_from_is_err_and}
 use Rattle.ca_tree.specs.View.{expression_view}
 use Rattle.ca_program.specs.Plain as program
 use Rattle.ca_resolve.specs.Judged.{fine, within}
@@ -13,24 +12,22 @@ use Rattle.ca_types.proofs.Answering.{own_tells, within_ok}
 use Rattle.ca_resolve.proofs.InMemory.{place_is, in_order_is}
 use Rattle.ca_types.proofs.lines.check_call_statement.Goals as goal
 
-pub returns-in_err-op : goal.returns-in_err-op
-returns-in_err-op c =
+pub returns-in-Err : goal.returns-in-Err
+returns-in-Err c =
     let s = env_view c.args.walk.now in
     let e = expression_view c.args.e.now in
-    let err = c.in_err-op.field-0.0 in
+    let err = c.in-Err.e in
     let i = invocation_view c.in_ok-call.call in
-    let p = err_from_is_err_and c.from_residual-in_err-op.result c.from_residual-in_err-op.ensures.1 in
-    rw (p.1, p.2)
-    (own_tells err (judge_call s.scope e) (λ (i : Invocation). within (called_operation s.result i.callee (place_of e)) (λ o. fine (program.invoke c.args.at.line i.receiver o (in_order i.arguments)))) i
+    own_tells err (judge_call s.scope e) (λ (i : Invocation). within (called_operation s.result i.callee (place_of e)) (λ o. fine (program.invoke c.args.at.line i.receiver o (in_order i.arguments)))) i
     (ap (λ z. judge_call z e) (sym c.scope.ensures) ∙ c.in_ok-call.ensures)
     (rw (place_is c.args.e.now)
-    (within_tells err (called_operation s.result i.callee c.args.e.now.at) (λ o. fine (program.invoke c.args.at.line i.receiver o (in_order i.arguments))) c.in_err-op.ensures)))
+    (within_tells err (called_operation s.result i.callee c.args.e.now.at) (λ o. fine (program.invoke c.args.at.line i.receiver o (in_order i.arguments))) c.in-Err.ensures))
 
-pub returns : goal.returns
-returns c =
+pub returns-in-Ok : goal.returns-in-Ok
+returns-in-Ok c =
     let s = env_view c.args.walk.now in
     let e = expression_view c.args.e.now in
     let i = invocation_view c.in_ok-call.call in
     within_ok (judge_call s.scope e) (λ (i : Invocation). within (called_operation s.result i.callee (place_of e)) (λ o. fine (program.invoke c.args.at.line i.receiver o (in_order i.arguments)))) i
     (ap (λ z. judge_call z e) (sym c.scope.ensures) ∙ c.in_ok-call.ensures)
-    ∙ (rw (place_is c.args.e.now) (rw c.in_ok-op.ensures (ap (λ z. fine (program.invoke c.args.at.line i.receiver c.in_ok-op.op z)) (in_order_is c.in_ok-call.call.arguments.items))))
+    ∙ (rw (place_is c.args.e.now) (rw c.in-Ok.ensures (ap (λ z. fine (program.invoke c.args.at.line i.receiver c.in-Ok.op z)) (in_order_is c.in_ok-call.call.arguments.items))))

@@ -1,12 +1,16 @@
-use Rattle.std.proofs.Common.{◌≡◌, [], ◌∷◌, ◌++◌, map, IfOk, OnOk, refl, sym, subst, ◌∙◌, ap}
+use Rattle.std.proofs.Common.{◌≡◌, [], ◌∷◌, ◌++◌, Result, Box, Global, map, IfOk, OnOk, refl, sym, subst, ◌∙◌, ap}
 use Rattle.ca_tree.specs.Plain.{block, for_loop}
 use Rattle.ca_tree.specs.View.{form_view, expression_view, statement_view as tree_view, statements_view as tree_views}
 use Rattle.ca_tree.proofs.Rows.{block_is}
+use Rattle.ca_program.specs.declared.program.Stmt.{Stmt}
 use Rattle.ca_program.specs.View as resolved
-use Rattle.ca_resolve.specs.Judged.{Answers, fine, each}
+use Rattle.ca_resolve.specs.declared.errors.CheckError.{CheckError}
+use Rattle.ca_resolve.specs.Judged.{Answers, Extends, fine, each}
 use Rattle.ca_resolve.proofs.Judging.{extends_answers}
-use Rattle.ca_types.specs.Statements.{judge_statement, behind}
-use Rattle.ca_types.specs.clauses.View.{env_view, all_view}
+use Rattle.ca_types.specs.declared.statements.Head.{Head}
+use Rattle.ca_types.specs.Statements.{judge_statement, judge_condition, judge_for_loop, nothing, behind, enter_block, leave_block}
+use Rattle.ca_types.specs.clauses.View.{env_view, all_view, boxed_view, left}
+use Rattle.ca_types.proofs.Answering.{if_made, on_made}
 use Rattle.ca_types.proofs.Blocks.{inner_behind, block_behind, loop_behind}
 use Rattle.ca_types.proofs.Walks.{step, ended}
 use Rattle.ca_types.proofs.statements.+statement.Goals as goal
@@ -50,6 +54,57 @@ check_statement-returns-in_ok-next-in-For-clause-behind t c =
     let ends = rw c.deref-in-For-3.ensures at c.check_rounds.ensures.behind in
     subst (λ z. OnOk c.check_rounds.result (env_view c.check_rounds.new.walk ≡ z)) (loop_behind here _ _ _ _ at first cond next body head.visible head.first begins turns ∙ sym (ap (behind here) e)) ends
 
+pub check_while-returns-clause-judged : goal.check_while-returns-clause-judged
+check_while-returns-clause-judged t c =
+    let inner = c.in_ok-body.ensures in
+    let cond = subst (λ z. Answers resolved.expression_view c.check_condition-cond.result (judge_condition z (expression_view c.args.cond.now))) (c.scope.ensures ∙ ap (λ z. z.scope) inner.behind) c.check_condition-cond.ensures in
+    c.while_loop.ensures _ _ cond inner.judged
+
+pub check_if_only-returns-clause-judged : goal.check_if_only-returns-clause-judged
+check_if_only-returns-clause-judged t c =
+    let inner = c.in_ok-yes_part.ensures in
+    let cond = subst (λ z. Answers resolved.expression_view c.check_condition-cond.result (judge_condition z (expression_view c.args.cond.now))) (c.scope.ensures ∙ ap (λ z. z.scope) inner.behind) c.check_condition-cond.ensures in
+    c.if_else.ensures _ _ _ cond inner.judged (c.boxed-no_part.ensures (fine (nothing c.args.at.line)) (ap (λ s. fine s) (sym c.nothing.ensures)))
+
+pub check_else-returns-clause-judged : goal.check_else-returns-clause-judged
+check_else-returns-clause-judged t c = λ j x.
+    let s = env_view c.args.walk.now in
+    let no_tree = tree_view c.args.no.now in
+    let is = c.in_ok-yes_part.ensures.made in
+    let inner = on_made (env_view c.check_inner.new.walk ≡ leave_block s (behind (enter_block s) no_tree)) c.check_inner.result c.in_ok-yes_part.no_part is c.check_inner.ensures.behind in
+    let cond = subst (λ z. Answers resolved.expression_view c.check_condition-cond.result (judge_condition z (expression_view c.args.cond.now))) (c.scope.ensures ∙ ap (λ z. z.scope) inner) c.check_condition-cond.ensures in
+    c.if_else.ensures _ j _ cond (subst (λ z. Answers boxed_view z j) (sym c.in_ok-yes_part.ensures.value) x)
+    (if_made (λ (z : Result (Box Stmt Global) CheckError). Answers boxed_view z (judge_statement (enter_block s) no_tree)) c.check_inner.result c.in_ok-yes_part.no_part is c.check_inner.ensures.judged)
+
+pub check_else-returns-clause-behind : goal.check_else-returns-clause-behind
+check_else-returns-clause-behind t c =
+    let s = env_view c.args.walk.now in
+    on_made (env_view c.check_inner.new.walk ≡ leave_block s (behind (enter_block s) (tree_view c.args.no.now))) c.check_inner.result c.in_ok-yes_part.no_part c.in_ok-yes_part.ensures.made c.check_inner.ensures.behind
+
+abbrev Kept : Type 0
+Kept = Head × Result (Box Stmt Global) CheckError
+
+pub check_rounds-returns-clause-judged : goal.check_rounds-returns-clause-judged
+check_rounds-returns-clause-judged t c = λ f j x y.
+    let s = env_view c.args.walk.now in
+    let body = tree_view c.args.body.now in
+    let same = c.in_ok-head.ensures.value in
+    let is = c.in_ok-head.ensures.made in
+    let inner = on_made (env_view c.check_inner.new.walk ≡ leave_block s (behind (enter_block s) body)) c.check_inner.result c.in_ok-head.body is c.check_inner.ensures.behind in
+    let i = judge_condition s.scope (expression_view c.args.cond.now) in
+    let k = judge_statement (enter_block s) body in
+    let cond = subst (λ z. Answers resolved.expression_view c.check_condition-cond.result (judge_condition z (expression_view c.args.cond.now))) (c.scope.ensures ∙ ap (λ z. z.scope) inner) c.check_condition-cond.ensures in
+    subst (λ (p : Kept). Answers resolved.statement_view c.for_loop.result (judge_for_loop p.0.at p.0.site.0 p.0.part f i j k)) same
+    (c.for_loop.ensures f i j k (subst (λ (p : Kept). Answers boxed_view p.0.first f) (sym same) x) cond (subst (λ (p : Kept). Answers boxed_view p.1 j) (sym same) y)
+    (if_made (λ (z : Result (Box Stmt Global) CheckError). Answers boxed_view z k) c.check_inner.result c.in_ok-head.body is c.check_inner.ensures.judged))
+
+pub check_rounds-returns-clause-behind : goal.check_rounds-returns-clause-behind
+check_rounds-returns-clause-behind t c =
+    let s = env_view c.args.walk.now in
+    c.leave_block.ensures
+    ∙ ap (λ z. left z c.args.outer.visible c.args.outer.first)
+    (on_made (env_view c.check_inner.new.walk ≡ leave_block s (behind (enter_block s) (tree_view c.args.body.now))) c.check_inner.result c.in_ok-head.body c.in_ok-head.ensures.made c.check_inner.ensures.behind)
+
 pub check_statements-loop-stmt-init : goal.check_statements-loop-stmt-init
 check_statements-loop-stmt-init t c =
     ([], ap (λ xs. fine (map resolved.statement_view xs)) (sym c.new.ensures.items), record { judged = refl; standing = refl })
@@ -58,11 +113,16 @@ pub check_statements-loop-stmt-preserved : goal.check_statements-loop-stmt-prese
 check_statements-loop-stmt-preserved t c =
     let s = c.stmt-item.result in
     let front = c.loop-stmt.invariant.0 in
+    let is = c.in_ok-so_far.ensures.made in
     let here = judge_statement (env_view c.loop-stmt.walk) (tree_view s) in (
       front ++ here ∷ [],
-      extends_answers resolved.statement_view c.loop-stmt.answers c.in_ok-answer.answer c.and_one-answers.result front here c.and_one-answers.ensures c.loop-stmt.invariant.1 c.in_ok-answer.ensures.judged,
+      extends_answers resolved.statement_view c.loop-stmt.answers c.in_ok-so_far.answer c.and_one-answers.result front here
+          (subst (λ a. Extends a c.in_ok-so_far.answer c.and_one-answers.result) c.in_ok-so_far.ensures.value c.and_one-answers.ensures) c.loop-stmt.invariant.1
+          (if_made (λ (z : Result Stmt CheckError). Answers resolved.statement_view z here) c.check_statement.result c.in_ok-so_far.answer is c.check_statement.ensures.judged),
       step (env_view c.args.walk.now) (env_view c.loop-stmt.walk) (env_view c.check_statement.new.walk) (tree_views c.args.stmts.now) front c.args.stmts.now c.loop-stmt.stmt-index s
-          c.loop-stmt-test.true c.stmt-item.is c.in_ok-answer.ensures.behind c.loop-stmt.invariant.2,
+          c.loop-stmt-test.true c.stmt-item.is
+          (on_made (env_view c.check_statement.new.walk ≡ behind (env_view c.loop-stmt.walk) (tree_view s)) c.check_statement.result c.in_ok-so_far.answer is c.check_statement.ensures.behind)
+          c.loop-stmt.invariant.2,
     )
 
 pub check_statements-returns-clause-judged : goal.check_statements-returns-clause-judged
