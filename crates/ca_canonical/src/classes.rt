@@ -1,6 +1,6 @@
 //! Classes and `main`.
 
-ghost use Rattle.std.specs.Prelude.{◌≡◌, ◌∷◌, ◌++◌, map, false, IfOk};
+ghost use Rattle.std.specs.Prelude.{◌≡◌, ◌∷◌, ◌++◌, map, false};
 ghost use Rattle.ca_tree.specs.declared.token.Kind.TheVariants.{Word};
 ghost use Rattle.ca_tree.specs.View.{class_view, member_view, method_view, statement_view, statements_view};
 ghost use Rattle.ca_canonical.specs.Annotated.{marked_class, marked_classes, marked_main, marked_member, marked_members, marked_method};
@@ -14,131 +14,116 @@ use ca_tree::{
     ClassNode, ExprKind, FieldNode, Keyword, Member, MethodNode, ParamNode, Sign, StmtKind,
     StmtNode, TypeNode,
 };
-use std::alloc::AllocError;
 
 /// Writes a field.
-fn write_field(pen: &mut Pen, field: &FieldNode) -> Result<(), AllocError>
-    ensures { IfOk result (λ _. Writes pen.old pen.new (spell_field field.now)) }
+fn write_field(pen: &mut Pen, field: &FieldNode)
+    ensures { Writes pen.old pen.new (spell_field field.now) }
 {
-    write_type(pen, &field.ty)?;
-    pen.name(&field.name)?;
-    write_length(pen, field.length)?;
-    pen.sign(Sign::Semicolon)?;
-    Ok(())
+    write_type(pen, &field.ty);
+    pen.name(&field.name);
+    write_length(pen, field.length);
+    pen.sign(Sign::Semicolon);
 }
 
 /// Writes the length of an array field.
-fn write_length(pen: &mut Pen, length: Option<i64>) -> Result<(), AllocError>
-    ensures { IfOk result (λ _. Writes pen.old pen.new (spell_length length)) }
+fn write_length(pen: &mut Pen, length: Option<i64>)
+    ensures { Writes pen.old pen.new (spell_length length) }
 {
     if let Some(n) = length {
-        pen.sign(Sign::OpenBracket)?;
-        pen.number(n)?;
-        pen.sign(Sign::CloseBracket)?;
+        pen.sign(Sign::OpenBracket);
+        pen.number(n);
+        pen.sign(Sign::CloseBracket);
     }
-    Ok(())
 }
 
 /// Writes parameters in round brackets, with commas between them.
-fn write_params(pen: &mut Pen, params: &[ParamNode]) -> Result<(), AllocError>
-    ensures { IfOk result (λ _. Writes pen.old pen.new (in_parentheses (spell_params params.now))) }
+fn write_params(pen: &mut Pen, params: &[ParamNode])
+    ensures { Writes pen.old pen.new (in_parentheses (spell_params params.now)) }
 {
-    pen.sign(Sign::OpenParenthesis)?;
+    pen.sign(Sign::OpenParenthesis);
     let mut begun = false;
     'params: for param in params {
         if begun {
-            pen.sign(Sign::Comma)?;
+            pen.sign(Sign::Comma);
         }
-        write_type(pen, &param.ty)?;
-        pen.name(&param.name)?;
+        write_type(pen, &param.ty);
+        pen.name(&param.name);
         begun = true;
     }
-    pen.sign(Sign::CloseParenthesis)?;
-    Ok(())
+    pen.sign(Sign::CloseParenthesis);
 }
 
 /// Writes the type of a result, or `void`.
-fn write_result(pen: &mut Pen, ty: &Option<TypeNode>) -> Result<(), AllocError>
-    ensures { IfOk result (λ _. Writes pen.old pen.new (spell_result ty.now)) }
+fn write_result(pen: &mut Pen, ty: &Option<TypeNode>)
+    ensures { Writes pen.old pen.new (spell_result ty.now) }
 {
     match ty {
-        None => pen.key(Keyword::Void)?,
-        Some(ty) => write_type(pen, ty)?,
+        None => pen.key(Keyword::Void),
+        Some(ty) => write_type(pen, ty),
     }
-    Ok(())
 }
 
 /// Writes what stands before the body of a method.
-fn write_signature(pen: &mut Pen, method: &MethodNode) -> Result<(), AllocError>
-    ensures { IfOk result (λ _. Writes pen.old pen.new (spell_result method.now.result ++ (Word method.now.name ∷ in_parentheses (spell_params method.now.params.items)))) }
+fn write_signature(pen: &mut Pen, method: &MethodNode)
+    ensures { Writes pen.old pen.new (spell_result method.now.result ++ (Word method.now.name ∷ in_parentheses (spell_params method.now.params.items))) }
 {
-    write_result(pen, &method.result)?;
-    pen.name(&method.name)?;
-    write_params(pen, &method.params)?;
-    Ok(())
+    write_result(pen, &method.result);
+    pen.name(&method.name);
+    write_params(pen, &method.params);
 }
 
 /// Writes a method, with the marks in its body.
-fn write_method<M: Marks>(pen: &mut Pen, marks: &M, method: &MethodNode) -> Result<(), AllocError>
-    ensures { IfOk result (λ _. WritesPieces pen.old pen.new (marked_method (M.marking marks.now) (method_view method.now))) }
+fn write_method<M: Marks>(pen: &mut Pen, marks: &M, method: &MethodNode)
+    ensures { WritesPieces pen.old pen.new (marked_method (M.marking marks.now) (method_view method.now)) }
 {
-    write_signature(pen, method)?;
-    pen.sign(Sign::OpenBrace)?;
-    pen.marks(marks.opening(method.at))?;
-    write_statements(pen, marks, Some(method.at), &method.body)?;
-    pen.marks(marks.closing(method.at))?;
-    pen.sign(Sign::CloseBrace)?;
-    Ok(())
+    write_signature(pen, method);
+    pen.sign(Sign::OpenBrace);
+    pen.marks(marks.opening(method.at));
+    write_statements(pen, marks, Some(method.at), &method.body);
+    pen.marks(marks.closing(method.at));
+    pen.sign(Sign::CloseBrace);
 }
 
 /// Writes a member.
-fn write_member<M: Marks>(pen: &mut Pen, marks: &M, member: &Member) -> Result<(), AllocError>
-    ensures { IfOk result (λ _. WritesPieces pen.old pen.new (marked_member (M.marking marks.now) (member_view member.now))) }
+fn write_member<M: Marks>(pen: &mut Pen, marks: &M, member: &Member)
+    ensures { WritesPieces pen.old pen.new (marked_member (M.marking marks.now) (member_view member.now)) }
 {
     match member {
-        Member::Field(field) => write_field(pen, field)?,
-        Member::Method(method) => write_method(pen, marks, method)?,
+        Member::Field(field) => write_field(pen, field),
+        Member::Method(method) => write_method(pen, marks, method),
     }
-    Ok(())
 }
 
 /// Writes a class.
-fn write_class<M: Marks>(pen: &mut Pen, marks: &M, class: &ClassNode) -> Result<(), AllocError>
-    ensures { IfOk result (λ _. WritesPieces pen.old pen.new (marked_class (M.marking marks.now) (class_view class.now))) }
+fn write_class<M: Marks>(pen: &mut Pen, marks: &M, class: &ClassNode)
+    ensures { WritesPieces pen.old pen.new (marked_class (M.marking marks.now) (class_view class.now)) }
 {
-    pen.key(Keyword::Class)?;
-    pen.name(&class.name)?;
-    pen.sign(Sign::OpenBrace)?;
-    pen.key(Keyword::Public)?;
-    pen.sign(Sign::Colon)?;
-    write_members(pen, marks, &class.members)?;
-    pen.sign(Sign::CloseBrace)?;
-    pen.sign(Sign::Semicolon)?;
-    Ok(())
+    pen.key(Keyword::Class);
+    pen.name(&class.name);
+    pen.sign(Sign::OpenBrace);
+    pen.key(Keyword::Public);
+    pen.sign(Sign::Colon);
+    write_members(pen, marks, &class.members);
+    pen.sign(Sign::CloseBrace);
+    pen.sign(Sign::Semicolon);
 }
 
 /// Writes members, one behind the other.
-fn write_members<M: Marks>(pen: &mut Pen, marks: &M, members: &[Member]) -> Result<(), AllocError>
-    ensures { IfOk result (λ _. WritesPieces pen.old pen.new (marked_members (M.marking marks.now) (map member_view members.now))) }
+fn write_members<M: Marks>(pen: &mut Pen, marks: &M, members: &[Member])
+    ensures { WritesPieces pen.old pen.new (marked_members (M.marking marks.now) (map member_view members.now)) }
 {
     'members: for member in members {
-        write_member(pen, marks, member)?;
+        write_member(pen, marks, member);
     }
-    Ok(())
 }
 
 /// Writes classes, one behind the other.
-pub(crate) fn write_classes<M: Marks>(
-    pen: &mut Pen,
-    marks: &M,
-    classes: &[ClassNode],
-) -> Result<(), AllocError>
-    ensures { IfOk result (λ _. WritesPieces pen.old pen.new (marked_classes (M.marking marks.now) (map class_view classes.now))) }
+pub(crate) fn write_classes<M: Marks>(pen: &mut Pen, marks: &M, classes: &[ClassNode])
+    ensures { WritesPieces pen.old pen.new (marked_classes (M.marking marks.now) (map class_view classes.now)) }
 {
     'classes: for class in classes {
-        write_class(pen, marks, class)?;
+        write_class(pen, marks, class);
     }
-    Ok(())
 }
 
 /// Whether the statement is `return` of the number 0.
@@ -166,32 +151,26 @@ fn ends_in_zero(items: &[StmtNode]) -> bool
 }
 
 /// Writes `main`, with its optional end where its last statement is `return` of the number 0.
-pub(crate) fn write_main<M: Marks>(
-    pen: &mut Pen,
-    marks: &M,
-    items: &[StmtNode],
-) -> Result<(), AllocError>
-    ensures { IfOk result (λ _. WritesPieces pen.old pen.new (marked_main (M.marking marks.now) (statements_view items.now))) }
+pub(crate) fn write_main<M: Marks>(pen: &mut Pen, marks: &M, items: &[StmtNode])
+    ensures { WritesPieces pen.old pen.new (marked_main (M.marking marks.now) (statements_view items.now)) }
 {
-    pen.key(Keyword::Int)?;
-    pen.key(Keyword::Main)?;
-    pen.sign(Sign::OpenParenthesis)?;
-    pen.sign(Sign::CloseParenthesis)?;
-    pen.sign(Sign::OpenBrace)?;
-    write_statements(pen, marks, None, items)?;
-    write_end(pen, ends_in_zero(items))?;
-    pen.sign(Sign::CloseBrace)?;
-    Ok(())
+    pen.key(Keyword::Int);
+    pen.key(Keyword::Main);
+    pen.sign(Sign::OpenParenthesis);
+    pen.sign(Sign::CloseParenthesis);
+    pen.sign(Sign::OpenBrace);
+    write_statements(pen, marks, None, items);
+    write_end(pen, ends_in_zero(items));
+    pen.sign(Sign::CloseBrace);
 }
 
 /// Writes the optional end of `main`, if it is wanted.
-fn write_end(pen: &mut Pen, wanted: bool) -> Result<(), AllocError>
-    ensures { IfOk result (λ _. Writes pen.old pen.new (spell_end wanted)) }
+fn write_end(pen: &mut Pen, wanted: bool)
+    ensures { Writes pen.old pen.new (spell_end wanted) }
 {
     if wanted {
-        pen.key(Keyword::Return)?;
-        pen.number(0)?;
-        pen.sign(Sign::Semicolon)?;
+        pen.key(Keyword::Return);
+        pen.number(0);
+        pen.sign(Sign::Semicolon);
     }
-    Ok(())
 }

@@ -1,6 +1,6 @@
 //! Expressions.
 
-ghost use Rattle.std.specs.Prelude.{◌≡◌, nat_lt, IfOk};
+ghost use Rattle.std.specs.Prelude.{◌≡◌, nat_lt};
 ghost use Rattle.ca_tree.specs.declared.token.Kind.TheVariants.{Key};
 ghost use Rattle.ca_tree.specs.View.{expression_view, expressions_view};
 ghost use Rattle.ca_canonical.specs.Spell.{binds, bracketed, in_parentheses, spell_expression, spell_list, spell_truth};
@@ -9,52 +9,50 @@ ghost use Rattle.ca_canonical.specs.clauses.Pens.{Writes};
 use crate::operators::{TAIL_LEVEL, binds};
 use crate::pen::Pen;
 use ca_tree::{ExprKind, ExprNode, Keyword, Sign};
-use std::alloc::AllocError;
 
 /// Writes an expression.
 #[cycle(expression)]
-pub(crate) fn write_expression(pen: &mut Pen, e: &ExprNode) -> Result<(), AllocError>
-    ensures { IfOk result (λ _. Writes pen.old pen.new (spell_expression (expression_view e.now))) }
+pub(crate) fn write_expression(pen: &mut Pen, e: &ExprNode)
+    ensures { Writes pen.old pen.new (spell_expression (expression_view e.now)) }
 {
     match &e.kind {
-        ExprKind::Number(n) => pen.number(*n)?,
-        ExprKind::Truth(truth) => pen.key(truth_key(*truth))?,
-        ExprKind::Null => pen.key(Keyword::Nullptr)?,
-        ExprKind::This => pen.key(Keyword::This)?,
-        ExprKind::Named(name) => pen.name(name)?,
+        ExprKind::Number(n) => pen.number(*n),
+        ExprKind::Truth(truth) => pen.key(truth_key(*truth)),
+        ExprKind::Null => pen.key(Keyword::Nullptr),
+        ExprKind::This => pen.key(Keyword::This),
+        ExprKind::Named(name) => pen.name(name),
         ExprKind::Call(name, arguments) => {
-            pen.name(name)?;
-            write_arguments(pen, arguments)?;
+            pen.name(name);
+            write_arguments(pen, arguments);
         }
         ExprKind::Field(object, name) => {
-            write_operand(pen, object, TAIL_LEVEL)?;
-            pen.sign(Sign::Arrow)?;
-            pen.name(name)?;
+            write_operand(pen, object, TAIL_LEVEL);
+            pen.sign(Sign::Arrow);
+            pen.name(name);
         }
         ExprKind::Method(object, name, arguments) => {
-            write_operand(pen, object, TAIL_LEVEL)?;
-            pen.sign(Sign::Arrow)?;
-            pen.name(name)?;
-            write_arguments(pen, arguments)?;
+            write_operand(pen, object, TAIL_LEVEL);
+            pen.sign(Sign::Arrow);
+            pen.name(name);
+            write_arguments(pen, arguments);
         }
         ExprKind::Index(array, index) => {
-            write_operand(pen, array, TAIL_LEVEL)?;
-            pen.sign(Sign::OpenBracket)?;
-            write_expression(pen, index)?;
-            pen.sign(Sign::CloseBracket)?;
+            write_operand(pen, array, TAIL_LEVEL);
+            pen.sign(Sign::OpenBracket);
+            write_expression(pen, index);
+            pen.sign(Sign::CloseBracket);
         }
         ExprKind::Unary(op, operand) => {
-            pen.sign(op.sign())?;
-            write_operand(pen, operand, op.level())?;
+            pen.sign(op.sign());
+            write_operand(pen, operand, op.level());
         }
         ExprKind::Binary(op, left, right) => {
             let level = op.level();
-            write_operand(pen, left, level)?;
-            pen.sign(op.sign())?;
-            write_operand(pen, right, level + 1)?;
+            write_operand(pen, left, level);
+            pen.sign(op.sign());
+            write_operand(pen, right, level + 1);
         }
     }
-    Ok(())
 }
 
 /// The key word of a truth value.
@@ -66,33 +64,31 @@ fn truth_key(truth: bool) -> Keyword
 
 /// Writes an operand, in round brackets where its operator binds less tightly than `least`.
 #[cycle(expression)]
-fn write_operand(pen: &mut Pen, e: &ExprNode, least: usize) -> Result<(), AllocError>
-    ensures { IfOk result (λ _. Writes pen.old pen.new (bracketed (nat_lt (binds (expression_view e.now)) least) (spell_expression (expression_view e.now)))) }
+fn write_operand(pen: &mut Pen, e: &ExprNode, least: usize)
+    ensures { Writes pen.old pen.new (bracketed (nat_lt (binds (expression_view e.now)) least) (spell_expression (expression_view e.now))) }
 {
     if binds(e) < least {
-        pen.sign(Sign::OpenParenthesis)?;
-        write_expression(pen, e)?;
-        pen.sign(Sign::CloseParenthesis)?;
+        pen.sign(Sign::OpenParenthesis);
+        write_expression(pen, e);
+        pen.sign(Sign::CloseParenthesis);
     } else {
-        write_expression(pen, e)?;
+        write_expression(pen, e);
     }
-    Ok(())
 }
 
 /// Writes arguments in round brackets, with commas between them.
 #[cycle(expression)]
-fn write_arguments(pen: &mut Pen, arguments: &[ExprNode]) -> Result<(), AllocError>
-    ensures { IfOk result (λ _. Writes pen.old pen.new (in_parentheses (spell_list (expressions_view arguments.now)))) }
+fn write_arguments(pen: &mut Pen, arguments: &[ExprNode])
+    ensures { Writes pen.old pen.new (in_parentheses (spell_list (expressions_view arguments.now))) }
 {
-    pen.sign(Sign::OpenParenthesis)?;
+    pen.sign(Sign::OpenParenthesis);
     let mut begun = false;
     'arguments: for e in arguments {
         if begun {
-            pen.sign(Sign::Comma)?;
+            pen.sign(Sign::Comma);
         }
-        write_expression(pen, e)?;
+        write_expression(pen, e);
         begun = true;
     }
-    pen.sign(Sign::CloseParenthesis)?;
-    Ok(())
+    pen.sign(Sign::CloseParenthesis);
 }

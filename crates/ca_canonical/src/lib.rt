@@ -44,8 +44,8 @@ pub fn annotate<M: Marks>(alloc: Global, tree: &Tree, marks: &M) -> Result<Vec<u
     ensures { IfOk result (λ text. text.items ≡ text_of_pieces (annotated (M.marking marks.now) (tree_view tree.now))) }
 {
     let mut pen = Pen::new(alloc);
-    write_classes(&mut pen, marks, &tree.classes)?;
-    write_main(&mut pen, marks, &tree.main)?;
+    write_classes(&mut pen, marks, &tree.classes);
+    write_main(&mut pen, marks, &tree.main);
     let text = pen.finish()?;
     Ok(text)
 }

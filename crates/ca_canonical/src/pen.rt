@@ -1,10 +1,10 @@
 //! The text as far as it has been written.
 
-ghost use Rattle.std.specs.Prelude.{◌≡◌, ◌<◌, ◌^◌, [], ◌∷◌, ◌++◌, false, IfOk};
+ghost use Rattle.std.specs.Prelude.{◌≡◌, ◌<◌, ◌^◌, [], ◌∷◌, ◌++◌, false, IfOk, OnOk};
 ghost use Rattle.ca_tree.specs.declared.token.Kind.TheVariants.{Word, Number, Key, Sign as SignKind};
 ghost use Rattle.ca_canonical.specs.Texts.{depth_behind_sign, gap_behind, is_semicolon};
 ghost use Rattle.ca_canonical.specs.Marks.{marks};
-ghost use Rattle.ca_canonical.specs.clauses.Pens.{Writes, WritesPieces, put, waiting, whole};
+ghost use Rattle.ca_canonical.specs.clauses.Pens.{Puts, Writes, WritesPieces, put, waiting, whole};
 
 use crate::marks::Mark;
 use ca_tree::{Keyword, Name, Sign};
@@ -20,6 +20,8 @@ pub(crate) struct Pen {
     depth: usize,
     /// Whether the last token is a `}`, and the byte behind it waits for the next token.
     brace: bool,
+    /// Whether memory ran out, so that there is no text in the end.
+    failed: bool,
 }
 
 impl Model for Pen {
@@ -28,7 +30,7 @@ impl Model for Pen {
 
     ghost Value = { Written };
 
-    ghost view = { λ p. record { text = p.text.items; depth = p.depth; brace = p.brace } };
+    ghost view = { λ p. record { text = p.text.items; depth = p.depth; brace = p.brace; failed = p.failed } };
 
     ghost invariant = { λ p. p.depth ≤ length p.text.items };
 }
@@ -68,12 +70,13 @@ fn is_semicolon(sign: Sign) -> bool
 impl Pen {
     /// Nothing has been written.
     pub fn new(alloc: Global) -> Pen
-        ensures { result ≡ record { text = []; depth = 0; brace = false } }
+        ensures { result ≡ record { text = []; depth = 0; brace = false; failed = false } }
     {
         Pen {
             text: Vec::new(alloc),
             depth: 0,
             brace: false,
+            failed: false,
         }
     }
 
@@ -82,6 +85,7 @@ impl Pen {
         ensures text { IfOk result (λ _. self.new.text ≡ self.old.text ++ waiting self.old.brace semicolon) }
         ensures depth { self.new.depth ≡ self.old.depth }
         ensures brace { IfOk result (λ _. self.new.brace ≡ false) }
+        ensures failed { self.new.failed ≡ self.old.failed }
     {
         if self.brace {
             self.text.push(if semicolon { b' ' } else { b'\n' })?;
@@ -90,9 +94,10 @@ impl Pen {
         Ok(())
     }
 
-    /// Writes a piece of this text, a `;` or not, and the byte behind it unless it waits.
-    fn put(&mut self, semicolon: bool, text: &[u8], gap: Option<u8>) -> Result<(), AllocError>
-        ensures { IfOk result (λ _. self.new ≡ put semicolon text.now gap self.old) }
+    /// Writes a piece of this text, a `;` or not, and the byte behind it unless it waits, if there is memory.
+    fn add(&mut self, semicolon: bool, text: &[u8], gap: Option<u8>) -> Result<(), AllocError>
+        ensures put { IfOk result (λ _. self.new ≡ put semicolon text.now gap self.old) }
+        ensures failed { self.new.failed ≡ self.old.failed }
     {
         self.end_brace(semicolon)?;
         self.text.extend_from_slice(text)?;
@@ -103,63 +108,73 @@ impl Pen {
         Ok(())
     }
 
-    /// Writes a name.
-    pub fn name(&mut self, name: &Name) -> Result<(), AllocError>
-        ensures { IfOk result (λ _. Writes self.old self.new (Word name.now ∷ [])) }
+    /// Writes such a piece, or keeps in mind that memory ran out.
+    fn put(&mut self, semicolon: bool, text: &[u8], gap: Option<u8>)
+        ensures { Puts semicolon text.now gap self.old self.new }
     {
-        self.put(false, name.as_bytes(), Some(b' '))?;
-        Ok(())
+        if self.add(semicolon, text, gap).is_err() {
+            self.failed = true;
+        }
+    }
+
+    /// Writes a name.
+    pub fn name(&mut self, name: &Name)
+        ensures { Writes self.old self.new (Word name.now ∷ []) }
+    {
+        self.put(false, name.as_bytes(), Some(b' '));
     }
 
     /// Writes a number.
-    pub fn number(&mut self, n: i64) -> Result<(), AllocError>
-        ensures { IfOk result (λ _. Writes self.old self.new (Number n ∷ [])) }
+    pub fn number(&mut self, n: i64)
+        ensures { Writes self.old self.new (Number n ∷ []) }
     {
         let mut buffer = Buffer::new();
-        self.put(false, buffer.format(n).as_bytes(), Some(b' '))?;
-        Ok(())
+        self.put(false, buffer.format(n).as_bytes(), Some(b' '));
     }
 
     /// Writes a key word.
-    pub fn key(&mut self, key: Keyword) -> Result<(), AllocError>
-        ensures { IfOk result (λ _. Writes self.old self.new (Key key ∷ [])) }
+    pub fn key(&mut self, key: Keyword)
+        ensures { Writes self.old self.new (Key key ∷ []) }
     {
-        self.put(false, key.text().as_bytes(), Some(b' '))?;
-        Ok(())
+        self.put(false, key.text().as_bytes(), Some(b' '));
     }
 
     /// Writes a sign.
-    pub fn sign(&mut self, sign: Sign) -> Result<(), AllocError>
-        ensures { IfOk result (λ _. Writes self.old self.new (SignKind sign ∷ [])) }
+    pub fn sign(&mut self, sign: Sign)
+        ensures { Writes self.old self.new (SignKind sign ∷ []) }
     {
         let gap = gap_behind(self.depth, sign);
-        self.put(is_semicolon(sign), sign.text().as_bytes(), gap)?;
+        self.put(is_semicolon(sign), sign.text().as_bytes(), gap);
+        if self.failed {
+            return;
+        }
         self.depth = depth_behind(self.depth, sign);
-        Ok(())
     }
 
     /// Writes a mark.
-    fn mark(&mut self, mark: Mark) -> Result<(), AllocError>
-        ensures { IfOk result (λ _. WritesPieces self.old self.new (marks (mark ∷ []))) }
+    fn mark(&mut self, mark: Mark)
+        ensures { WritesPieces self.old self.new (marks (mark ∷ [])) }
     {
-        self.put(false, mark.text().as_bytes(), Some(b' '))?;
-        Ok(())
+        self.put(false, mark.text().as_bytes(), Some(b' '));
     }
 
     /// Writes marks.
-    pub fn marks(&mut self, all: &[Mark]) -> Result<(), AllocError>
-        ensures { IfOk result (λ _. WritesPieces self.old self.new (marks all.now)) }
+    pub fn marks(&mut self, all: &[Mark])
+        ensures { WritesPieces self.old self.new (marks all.now) }
     {
         'marks: for one in all {
-            self.mark(*one)?;
+            self.mark(*one);
         }
-        Ok(())
     }
 
-    /// The whole text.
+    /// The whole text, if there was memory for it.
     pub fn finish(mut self) -> Result<Vec<u8>, AllocError>
-        ensures { IfOk result (λ text. text.items ≡ whole self []) }
+        ensures text { IfOk result (λ text. text.items ≡ whole self []) }
+        ensures failed { OnOk result (self.failed ≡ false) }
     {
+        if self.failed {
+            return Err(AllocError);
+        }
         self.end_brace(false)?;
         Ok(self.text)
     }

@@ -1,6 +1,5 @@
 //! Statements.
 
-ghost use Rattle.std.specs.Prelude.{IfOk};
 ghost use Rattle.ca_tree.specs.View.{expression_view, right_view, statement_view, statements_view};
 ghost use Rattle.ca_canonical.specs.Annotated.{marked, marked_all};
 ghost use Rattle.ca_canonical.specs.Spell.{condition, ended, spell_expression, spell_for, spell_header, spell_line, spell_right, spell_type};
@@ -10,42 +9,39 @@ use crate::expressions::write_expression;
 use crate::marks::Marks;
 use crate::pen::Pen;
 use ca_tree::{ExprNode, Keyword, Place, Right, Sign, StmtKind, StmtNode, TypeNode};
-use std::alloc::AllocError;
 
 /// Writes a type.
-pub(crate) fn write_type(pen: &mut Pen, ty: &TypeNode) -> Result<(), AllocError>
-    ensures { IfOk result (λ _. Writes pen.old pen.new (spell_type ty.now)) }
+pub(crate) fn write_type(pen: &mut Pen, ty: &TypeNode)
+    ensures { Writes pen.old pen.new (spell_type ty.now) }
 {
     match ty {
-        TypeNode::Long => pen.key(Keyword::Long)?,
-        TypeNode::Bool => pen.key(Keyword::Bool)?,
+        TypeNode::Long => pen.key(Keyword::Long),
+        TypeNode::Bool => pen.key(Keyword::Bool),
         TypeNode::Pointer(name, _) => {
-            pen.name(name)?;
-            pen.sign(Sign::Times)?;
+            pen.name(name);
+            pen.sign(Sign::Times);
         }
     }
-    Ok(())
 }
 
 /// Writes what a target is put to.
-fn write_right(pen: &mut Pen, right: &Right) -> Result<(), AllocError>
-    ensures { IfOk result (λ _. Writes pen.old pen.new (spell_right (right_view right.now))) }
+fn write_right(pen: &mut Pen, right: &Right)
+    ensures { Writes pen.old pen.new (spell_right (right_view right.now)) }
 {
     match right {
-        Right::Value(e) => write_expression(pen, e)?,
+        Right::Value(e) => write_expression(pen, e),
         Right::New(name, _) => {
-            pen.key(Keyword::New)?;
-            pen.name(name)?;
-            pen.sign(Sign::OpenParenthesis)?;
-            pen.sign(Sign::CloseParenthesis)?;
+            pen.key(Keyword::New);
+            pen.name(name);
+            pen.sign(Sign::OpenParenthesis);
+            pen.sign(Sign::CloseParenthesis);
         }
     }
-    Ok(())
 }
 
 /// Writes a declaration or an assignment without its `;`.
-fn write_header(pen: &mut Pen, s: &StmtNode) -> Result<(), AllocError>
-    ensures { IfOk result (λ _. Writes pen.old pen.new (spell_header (statement_view s.now))) }
+fn write_header(pen: &mut Pen, s: &StmtNode)
+    ensures { Writes pen.old pen.new (spell_header (statement_view s.now)) }
 {
     match &s.kind {
         StmtKind::Local {
@@ -54,120 +50,104 @@ fn write_header(pen: &mut Pen, s: &StmtNode) -> Result<(), AllocError>
             value,
             ..
         } => {
-            write_type(pen, ty)?;
-            pen.name(name)?;
+            write_type(pen, ty);
+            pen.name(name);
             if let Some(right) = value {
-                pen.sign(Sign::Assign)?;
-                write_right(pen, right)?;
+                pen.sign(Sign::Assign);
+                write_right(pen, right);
             }
         }
         StmtKind::Assign { target, op, right } => {
-            write_expression(pen, target)?;
-            pen.sign(op.sign())?;
-            write_right(pen, right)?;
+            write_expression(pen, target);
+            pen.sign(op.sign());
+            write_right(pen, right);
         }
         _ => {}
     }
-    Ok(())
 }
 
 /// Writes a declaration or an assignment and its `;`.
-fn write_ended_header(pen: &mut Pen, s: &StmtNode) -> Result<(), AllocError>
-    ensures { IfOk result (λ _. Writes pen.old pen.new (ended (spell_header (statement_view s.now)))) }
+fn write_ended_header(pen: &mut Pen, s: &StmtNode)
+    ensures { Writes pen.old pen.new (ended (spell_header (statement_view s.now))) }
 {
-    write_header(pen, s)?;
-    pen.sign(Sign::Semicolon)?;
-    Ok(())
+    write_header(pen, s);
+    pen.sign(Sign::Semicolon);
 }
 
 /// Writes an expression and a `;`.
-fn write_ended(pen: &mut Pen, e: &ExprNode) -> Result<(), AllocError>
-    ensures { IfOk result (λ _. Writes pen.old pen.new (ended (spell_expression (expression_view e.now)))) }
+fn write_ended(pen: &mut Pen, e: &ExprNode)
+    ensures { Writes pen.old pen.new (ended (spell_expression (expression_view e.now))) }
 {
-    write_expression(pen, e)?;
-    pen.sign(Sign::Semicolon)?;
-    Ok(())
+    write_expression(pen, e);
+    pen.sign(Sign::Semicolon);
 }
 
 /// Writes a key word and an expression in round brackets.
-fn write_condition(pen: &mut Pen, key: Keyword, e: &ExprNode) -> Result<(), AllocError>
-    ensures { IfOk result (λ _. Writes pen.old pen.new (condition key (expression_view e.now))) }
+fn write_condition(pen: &mut Pen, key: Keyword, e: &ExprNode)
+    ensures { Writes pen.old pen.new (condition key (expression_view e.now)) }
 {
-    pen.key(key)?;
-    pen.sign(Sign::OpenParenthesis)?;
-    write_expression(pen, e)?;
-    pen.sign(Sign::CloseParenthesis)?;
-    Ok(())
+    pen.key(key);
+    pen.sign(Sign::OpenParenthesis);
+    write_expression(pen, e);
+    pen.sign(Sign::CloseParenthesis);
 }
 
 /// Writes the head of a loop that counts.
-fn write_for(
-    pen: &mut Pen,
-    first: &StmtNode,
-    cond: &ExprNode,
-    next: &StmtNode,
-) -> Result<(), AllocError>
-    ensures { IfOk result (λ _. Writes pen.old pen.new (spell_for (statement_view first.now) (expression_view cond.now) (statement_view next.now))) }
+fn write_for(pen: &mut Pen, first: &StmtNode, cond: &ExprNode, next: &StmtNode)
+    ensures { Writes pen.old pen.new (spell_for (statement_view first.now) (expression_view cond.now) (statement_view next.now)) }
 {
-    pen.key(Keyword::For)?;
-    pen.sign(Sign::OpenParenthesis)?;
-    write_ended_header(pen, first)?;
-    write_expression(pen, cond)?;
-    pen.sign(Sign::Semicolon)?;
-    write_header(pen, next)?;
-    pen.sign(Sign::CloseParenthesis)?;
-    Ok(())
+    pen.key(Keyword::For);
+    pen.sign(Sign::OpenParenthesis);
+    write_ended_header(pen, first);
+    write_expression(pen, cond);
+    pen.sign(Sign::Semicolon);
+    write_header(pen, next);
+    pen.sign(Sign::CloseParenthesis);
 }
 
 /// Writes a statement with no other inside, and nothing of one with others.
-fn write_line(pen: &mut Pen, s: &StmtNode) -> Result<(), AllocError>
-    ensures { IfOk result (λ _. Writes pen.old pen.new (spell_line (statement_view s.now))) }
+fn write_line(pen: &mut Pen, s: &StmtNode)
+    ensures { Writes pen.old pen.new (spell_line (statement_view s.now)) }
 {
     match &s.kind {
-        StmtKind::Empty => pen.sign(Sign::Semicolon)?,
-        StmtKind::Local { .. } | StmtKind::Assign { .. } => write_ended_header(pen, s)?,
-        StmtKind::Call(e) => write_ended(pen, e)?,
+        StmtKind::Empty => pen.sign(Sign::Semicolon),
+        StmtKind::Local { .. } | StmtKind::Assign { .. } => write_ended_header(pen, s),
+        StmtKind::Call(e) => write_ended(pen, e),
         StmtKind::Return(e) => {
-            pen.key(Keyword::Return)?;
-            write_ended(pen, e)?;
+            pen.key(Keyword::Return);
+            write_ended(pen, e);
         }
         StmtKind::Print(e) => {
-            write_condition(pen, Keyword::Print, e)?;
-            pen.sign(Sign::Semicolon)?;
+            write_condition(pen, Keyword::Print, e);
+            pen.sign(Sign::Semicolon);
         }
         _ => {}
     }
-    Ok(())
 }
 
 /// Writes a statement of a body behind the marks before it.
 #[cycle(statement)]
-fn write_statement<M: Marks>(
-    pen: &mut Pen,
-    marks: &M,
-    body: Option<Place>,
-    s: &StmtNode,
-) -> Result<(), AllocError>
-    ensures { IfOk result (λ _. WritesPieces pen.old pen.new (marked ((M.marking marks.now).before body) (statement_view s.now))) }
+fn write_statement<M: Marks>(pen: &mut Pen, marks: &M, body: Option<Place>, s: &StmtNode)
+    ensures { WritesPieces pen.old pen.new (marked ((M.marking marks.now).before body) (statement_view s.now)) }
 {
-    pen.marks(marks.before(body, s))?;
+    pen.marks(marks.before(body, s));
     match &s.kind {
         StmtKind::Block(items) => {
-            pen.sign(Sign::OpenBrace)?;
-            write_statements(pen, marks, body, items)?;
-            pen.sign(Sign::CloseBrace)?;
+            pen.sign(Sign::OpenBrace);
+            write_statements(pen, marks, body, items);
+            pen.sign(Sign::CloseBrace);
         }
         StmtKind::If { cond, yes, no } => {
-            write_condition(pen, Keyword::If, cond)?;
-            write_statement(pen, marks, body, yes)?;
+            write_condition(pen, Keyword::If, cond);
+            write_statement(pen, marks, body, yes);
             if let Some(no) = no {
-                pen.key(Keyword::Else)?;
-                write_statement(pen, marks, body, no)?;
+                pen.key(Keyword::Else);
+                write_statement(pen, marks, body, no);
             }
         }
         StmtKind::While { cond, body: turn } => {
-            write_condition(pen, Keyword::While, cond)?;
-            write_statement(pen, marks, body, turn)?;
+            write_condition(pen, Keyword::While, cond);
+            write_statement(pen, marks, body, turn);
         }
         StmtKind::For {
             first,
@@ -175,17 +155,16 @@ fn write_statement<M: Marks>(
             next,
             body: turn,
         } => {
-            write_for(pen, first, cond, next)?;
-            write_statement(pen, marks, body, turn)?;
+            write_for(pen, first, cond, next);
+            write_statement(pen, marks, body, turn);
         }
-        StmtKind::Empty => write_line(pen, s)?,
-        StmtKind::Local { .. } => write_line(pen, s)?,
-        StmtKind::Assign { .. } => write_line(pen, s)?,
-        StmtKind::Call(_) => write_line(pen, s)?,
-        StmtKind::Return(_) => write_line(pen, s)?,
-        StmtKind::Print(_) => write_line(pen, s)?,
+        StmtKind::Empty => write_line(pen, s),
+        StmtKind::Local { .. } => write_line(pen, s),
+        StmtKind::Assign { .. } => write_line(pen, s),
+        StmtKind::Call(_) => write_line(pen, s),
+        StmtKind::Return(_) => write_line(pen, s),
+        StmtKind::Print(_) => write_line(pen, s),
     }
-    Ok(())
 }
 
 /// Writes statements of a body, one behind the other, each behind its marks.
@@ -195,11 +174,10 @@ pub(crate) fn write_statements<M: Marks>(
     marks: &M,
     body: Option<Place>,
     items: &[StmtNode],
-) -> Result<(), AllocError>
-    ensures { IfOk result (λ _. WritesPieces pen.old pen.new (marked_all ((M.marking marks.now).before body) (statements_view items.now))) }
+)
+    ensures { WritesPieces pen.old pen.new (marked_all ((M.marking marks.now).before body) (statements_view items.now)) }
 {
     'items: for s in items {
-        write_statement(pen, marks, body, s)?;
+        write_statement(pen, marks, body, s);
     }
-    Ok(())
 }

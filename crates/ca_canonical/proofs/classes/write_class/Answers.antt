@@ -3,5 +3,5 @@ use Rattle.ca_canonical.proofs.classes.write_class.Goals as goal
 
 pub returns : goal.returns
 returns g c =
-    after (as_pieces (then c.in_ok-key.ensures (then c.in_ok-name.ensures (then c.in_ok-sign.ensures (then c.in_ok-key-2.ensures c.in_ok-sign-2.ensures)))))
-    (after (rw c.deref.ensures.value at c.in_ok-write_members.ensures) (as_pieces (then c.in_ok-sign-3.ensures c.in_ok-sign-4.ensures)))
+    after (as_pieces (then c.key.ensures (then c.name.ensures (then c.sign.ensures (then c.key-2.ensures c.sign-2.ensures)))))
+    (after (rw c.deref.ensures.value at c.write_members.ensures) (as_pieces (then c.sign-3.ensures c.sign-4.ensures)))

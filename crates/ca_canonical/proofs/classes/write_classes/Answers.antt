@@ -9,7 +9,7 @@ pub classes-init : goal.classes-init
 classes-init g c = all_left c.args.pen.now (marked_classes (g.M.Marks.marking c.args.marks.now) (map class_view c.args.classes.now))
 
 pub classes-preserved : goal.classes-preserved
-classes-preserved g c = class_written (g.M.Marks.marking c.args.marks.now) c.args.classes.now c.classes.class-index c.class-item.result (omega arith) c.class-item.is c.classes.invariant c.in_ok-write_class.ensures
+classes-preserved g c = class_written (g.M.Marks.marking c.args.marks.now) c.args.classes.now c.classes.class-index c.class-item.result (omega arith) c.class-item.is c.classes.invariant c.write_class.ensures
 
 pub returns : goal.returns
 returns g c = none_left c.classes.invariant (no_class_left (g.M.Marks.marking c.args.marks.now) c.args.classes.now c.classes.class-index (omega arith))

@@ -1,5 +1,8 @@
 use Rattle.ca_canonical.proofs.Writing.{then}
 use Rattle.ca_canonical.proofs.statements.write_right.Goals as goal
 
-pub returns-in_ok-sign-in-New-2 : goal.returns-in_ok-sign-in-New-2
-returns-in_ok-sign-in-New-2 c = rw c.in-New.is (then c.in_ok-key-in-New.ensures (then c.in_ok-name-in-New.ensures (then c.in_ok-sign-in-New.ensures c.in_ok-sign-in-New-2.ensures)))
+pub returns-in-New : goal.returns-in-New
+returns-in-New c = rw c.in-New.is (then c.key.ensures (then c.name.ensures (then c.sign.ensures c.sign-in-New.ensures)))
+
+pub returns-in-Value : goal.returns-in-Value
+returns-in-Value c = rw c.in-Value.is c.write_expression.ensures

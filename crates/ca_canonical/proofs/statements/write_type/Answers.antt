@@ -1,5 +1,11 @@
 use Rattle.ca_canonical.proofs.Writing.{then}
 use Rattle.ca_canonical.proofs.statements.write_type.Goals as goal
 
-pub returns-in_ok-sign-in-Pointer : goal.returns-in_ok-sign-in-Pointer
-returns-in_ok-sign-in-Pointer c = rw c.in-Pointer.is (then c.in_ok-name-in-Pointer.ensures c.in_ok-sign-in-Pointer.ensures)
+pub returns-in-Pointer : goal.returns-in-Pointer
+returns-in-Pointer c = rw c.in-Pointer.is (then c.name.ensures c.sign.ensures)
+
+pub returns-in-Long : goal.returns-in-Long
+returns-in-Long c = rw c.in-Long.is c.key.ensures
+
+pub returns-in-Bool : goal.returns-in-Bool
+returns-in-Bool c = rw c.in-Bool.is c.key-in-Bool.ensures
