@@ -13,3 +13,4 @@ pub mod Quotients
 pub mod Shapes
 pub mod Counts
 pub mod BothKnown
+pub mod Known

@@ -4,3 +4,4 @@ pub mod Measures
 pub mod Forms
 pub mod Meanings
 pub mod Environments
+pub mod Operators

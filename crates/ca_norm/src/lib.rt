@@ -16,6 +16,7 @@
 pub mod gather;
 mod items;
 pub mod laws;
+pub mod operators;
 mod term;
 mod weigh;
 
