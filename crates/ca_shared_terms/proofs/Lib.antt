@@ -1,3 +1,4 @@
 pub mod Heavier
 pub mod Comparisons
 mod Gathered
+mod Smaller

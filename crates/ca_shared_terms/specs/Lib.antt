@@ -5,3 +5,4 @@ pub mod Codes
 pub mod Sizes
 pub mod Nodes
 pub mod NodeFalls
+pub mod clauses

@@ -8,7 +8,7 @@ ghost use Rattle.ca_norm.specs.Forms.{expand, norm, pointer_of, array_of};
 use crate::light::{LightTerm, Node};
 use ca_forms::array::Array;
 use ca_forms::array_rules::chosen_array;
-use ca_forms::parts::both;
+use ca_forms::parts::{add, both};
 use ca_forms::pointers::chosen_pointer;
 use ca_forms::polynomial::{Monomial, Pointer, Polynomial, Scalar};
 use ca_forms::rules::add_chosen;
@@ -79,8 +79,7 @@ impl Conditions {
         } else {
             self.weight = together;
         }
-        self.kept.push(Kept { condition, form })?;
-        Ok(())
+        add(&mut self.kept, Ok(Kept { condition, form }))
     }
 
     /// The form of a condition.
@@ -136,20 +135,17 @@ impl LightTerm {
         match &*self.node {
             Node::Add(a, b) => {
                 a.add_under(alloc, form, factor, conditions)?;
-                b.add_under(alloc, form, factor, conditions)?;
-                Ok(())
+                b.add_under(alloc, form, factor, conditions)
             }
             Node::Sub(a, b) => {
                 let opposite = factor.wrapping_mul(u64::MAX);
                 a.add_under(alloc, form, factor, conditions)?;
-                b.add_under(alloc, form, opposite, conditions)?;
-                Ok(())
+                b.add_under(alloc, form, opposite, conditions)
             }
             Node::Choose(_, _, _) => self.add_choice_under(alloc, form, factor, conditions),
             _ => {
                 let own = self.polynomial(alloc)?;
-                add_polynomial(alloc, form, &own, factor)?;
-                Ok(())
+                add_polynomial(alloc, form, &own, factor)
             }
         }
     }
@@ -171,11 +167,11 @@ impl LightTerm {
     {
         match &*self.node {
             Node::Choose(c, a, b) => {
-                let f = conditions.form(alloc, c)?;
-                let g = a.polynomial_under(alloc, conditions)?;
-                let h = b.polynomial_under(alloc, conditions)?;
-                add_chosen(alloc, form, &f, &g, &h, factor)?;
-                Ok(())
+                let first = a.polynomial_under(alloc, conditions);
+                let second = b.polynomial_under(alloc, conditions);
+                let sides = both(first, second);
+                let (f, (g, h)) = both(conditions.form(alloc, c), sides)?;
+                add_chosen(alloc, form, &f, &g, &h, factor)
             }
             _ => Err(AllocError),
         }

@@ -11,6 +11,7 @@ mod errors;
 mod formed;
 mod kept;
 mod light;
+mod operands;
 mod same;
 mod starts;
 

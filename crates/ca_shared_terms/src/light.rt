@@ -8,6 +8,7 @@ ghost use Rattle.ca_shared_terms.specs.Nodes.{node_of};
 ghost use Rattle.ca_shared_terms.specs.Heavy.{is_heavy};
 
 use crate::errors::ExecutionError;
+use ca_forms::parts::let_go;
 use ca_norm::{MOST_WEIGHT, Measure, Sort};
 use std::alloc::{AllocError, Global};
 use std::marker::Model;
@@ -101,6 +102,14 @@ impl Model for Arguments {
     ghost size_decreases = { λ a h. omega (arith, most_terms a.items.items) };
 }
 
+/// The node, shared by all that it is to stand in. Where memory runs out it is dropped here, for nodes of all types.
+#[inline(never)]
+fn shared<T: Drop>(alloc: Global, node: T) -> Result<Rc<T>, AllocError>
+    ensures { IfOk result (λ r. r.value ≡ node) }
+{
+    Ok(Rc::new(alloc, node)?)
+}
+
 /// What the measures of terms that stand side by side come to.
 fn measure_of_all(terms: &[LightTerm]) -> Measure
     ensures { MeasuresAll result (terms_of terms.now) }
@@ -133,9 +142,10 @@ impl LightTerm {
         ensures large { result ≡ Err ExecutionError.Large → is_heavy (node_of node) ≡ true }
     {
         if measure.weight() > MOST_WEIGHT {
+            let_go(node);
             return Err(ExecutionError::Large);
         }
-        let node = Rc::new(alloc, node)?;
+        let node = shared(alloc, node)?;
         Ok(LightTerm { node, measure })
     }
 

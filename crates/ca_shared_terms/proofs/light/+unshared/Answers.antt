@@ -1,11 +1,85 @@
-use Rattle.std.proofs.Common.{rules, ◌≡◌, map, sym, ap, ap₂, ◌∙◌}
-use Rattle.ca_norm.specs.Terms.{result, shape, terms_of}
+use Rattle.std.proofs.Common.{rules, ◌≡◌, map, sym, ap, ap₂, ◌∙◌, arith}
+use Rattle.std.specs.Prelude.{box_value}
+use Rattle.ca_norm.specs.Terms.{read, read_at, result, shape, terms_of}
+use Rattle.ca_norm.specs.Operators.{over_one, over_two, over_three}
+use Rattle.ca_norm.proofs.Known.{over_known, over_both, pair_known, over_three_known}
 use Rattle.ca_norm.proofs.Shapes.{call_is}
 use Rattle.ca_shared_terms.specs.Nodes.{node_of}
+use Rattle.ca_shared_terms.specs.Sizes.{term_size}
+use Rattle.ca_shared_terms.proofs.Smaller.{one_smaller, left_smaller, right_smaller, first_smaller, second_smaller, third_smaller}
 use Rattle.ca_shared_terms.proofs.light.+unshared.Goals as goal
 
-pub LightTerm::unshared_call-returns-in_ok-receiver-in-Result : goal.LightTerm::unshared_call-returns-in_ok-receiver-in-Result
-LightTerm::unshared_call-returns-in_ok-receiver-in-Result t c =
+pub LightTerm::unshared-boxed-requires : goal.LightTerm::unshared-boxed-requires
+LightTerm::unshared-boxed-requires t c =
+    let is : over_one c.in-One.f c.in-One.a.now ≡ c.args.self.now = rw c.in-One.is at c.operands.ensures in
+    (omega (arith, one_smaller c.in-One.f c.in-One.a.now c.args.self.now is), tt)
+
+pub LightTerm::unshared-boxed-requires-in-Two : goal.LightTerm::unshared-boxed-requires-in-Two
+LightTerm::unshared-boxed-requires-in-Two t c =
+    let is : over_two c.in-Two.f c.in-Two.a.now c.in-Two.b.now ≡ c.args.self.now = rw c.in-Two.is at c.operands.ensures in
+    (omega (arith, left_smaller c.in-Two.f c.in-Two.a.now c.in-Two.b.now c.args.self.now is), tt)
+
+pub LightTerm::unshared-boxed-requires-in-Two-2 : goal.LightTerm::unshared-boxed-requires-in-Two-2
+LightTerm::unshared-boxed-requires-in-Two-2 t c =
+    let is : over_two c.in-Two.f c.in-Two.a.now c.in-Two.b.now ≡ c.args.self.now = rw c.in-Two.is at c.operands.ensures in
+    (omega (arith, right_smaller c.in-Two.f c.in-Two.a.now c.in-Two.b.now c.args.self.now is), tt)
+
+pub LightTerm::unshared-boxed-requires-in-Three : goal.LightTerm::unshared-boxed-requires-in-Three
+LightTerm::unshared-boxed-requires-in-Three t c =
+    let is : over_three c.in-Three.f c.in-Three.a.now c.in-Three.b.now c.in-Three.c.now ≡ c.args.self.now = rw c.in-Three.is at c.operands.ensures in
+    (omega (arith, second_smaller c.in-Three.f c.in-Three.a.now c.in-Three.b.now c.in-Three.c.now c.args.self.now is), tt)
+
+pub LightTerm::unshared-boxed-requires-in-Three-2 : goal.LightTerm::unshared-boxed-requires-in-Three-2
+LightTerm::unshared-boxed-requires-in-Three-2 t c =
+    let is : over_three c.in-Three.f c.in-Three.a.now c.in-Three.b.now c.in-Three.c.now ≡ c.args.self.now = rw c.in-Three.is at c.operands.ensures in
+    (omega (arith, third_smaller c.in-Three.f c.in-Three.a.now c.in-Three.b.now c.in-Three.c.now c.args.self.now is), tt)
+
+pub LightTerm::unshared-boxed-requires-in-Three-3 : goal.LightTerm::unshared-boxed-requires-in-Three-3
+LightTerm::unshared-boxed-requires-in-Three-3 t c =
+    let is : over_three c.in-Three.f c.in-Three.a.now c.in-Three.b.now c.in-Three.c.now ≡ c.args.self.now = rw c.in-Three.is at c.operands.ensures in
+    (omega (arith, first_smaller c.in-Three.f c.in-Three.a.now c.in-Three.b.now c.in-Three.c.now c.args.self.now is), tt)
+
+pub LightTerm::unshared-returns-in-One : goal.LightTerm::unshared-returns-in-One
+LightTerm::unshared-returns-in-One t c =
+    over_known c.unary.result c.boxed.result shape (λ b. shape (box_value b)) (over_one c.in-One.f) c.in-One.a.now c.args.self.now (rw c.in-One.is at c.operands.ensures) c.boxed.ensures c.unary.ensures
+
+pub LightTerm::unshared-returns-in-Two : goal.LightTerm::unshared-returns-in-Two
+LightTerm::unshared-returns-in-Two t c =
+    over_both c.binary.result c.both.result c.boxed-in-Two.result c.boxed-in-Two-2.result shape (λ b. shape (box_value b)) (λ b. shape (box_value b)) (over_two c.in-Two.f) c.in-Two.a.now c.in-Two.b.now c.args.self.now (rw c.in-Two.is at c.operands.ensures) c.both.ensures.first c.both.ensures.second c.boxed-in-Two.ensures c.boxed-in-Two-2.ensures c.binary.ensures
+
+pub LightTerm::unshared-returns-in-Three : goal.LightTerm::unshared-returns-in-Three
+LightTerm::unshared-returns-in-Three t c =
+    over_three_known c.ternary.result c.both-in-Three.result c.boxed-in-Three-3.result c.both-sides.result shape (λ b. shape (box_value b)) (λ p. shape (box_value p.0)) (λ p. shape (box_value p.1)) (over_three c.in-Three.f) c.in-Three.a.now c.in-Three.b.now c.in-Three.c.now c.args.self.now (rw c.in-Three.is at c.operands.ensures) c.both-in-Three.ensures.first c.both-in-Three.ensures.second c.boxed-in-Three-3.ensures
+    (pair_known c.both-sides.result c.boxed-in-Three.result c.boxed-in-Three-2.result (λ b. shape (box_value b)) (λ b. shape (box_value b)) c.in-Three.b.now c.in-Three.c.now c.both-sides.ensures.first c.both-sides.ensures.second c.boxed-in-Three.ensures c.boxed-in-Three-2.ensures)
+    c.ternary.ensures
+
+pub LightTerm::unshared_other-boxed-requires : goal.LightTerm::unshared_other-boxed-requires
+LightTerm::unshared_other-boxed-requires t c =
+    let is : read c.in-Read.sort c.in-Read.p c.in-Read.class c.in-Read.field ≡ c.args.self.now = ap node_of (sym c.in-Read.is ∙ c.deref.ensures) ∙ c.self.view_is in
+    (omega (arith, ap term_size is), tt)
+
+pub LightTerm::unshared_other-boxed-requires-in-ReadAt : goal.LightTerm::unshared_other-boxed-requires-in-ReadAt
+LightTerm::unshared_other-boxed-requires-in-ReadAt t c =
+    let is : read_at c.in-ReadAt.sort c.in-ReadAt.p c.in-ReadAt.class c.in-ReadAt.field c.in-ReadAt.i ≡ c.args.self.now = ap node_of (sym c.in-ReadAt.is ∙ c.deref.ensures) ∙ c.self.view_is in
+    (omega (arith, ap term_size is), tt)
+
+pub LightTerm::unshared_other-boxed-requires-in-ReadAt-2 : goal.LightTerm::unshared_other-boxed-requires-in-ReadAt-2
+LightTerm::unshared_other-boxed-requires-in-ReadAt-2 t c =
+    let is : read_at c.in-ReadAt.sort c.in-ReadAt.p c.in-ReadAt.class c.in-ReadAt.field c.in-ReadAt.i ≡ c.args.self.now = ap node_of (sym c.in-ReadAt.is ∙ c.deref.ensures) ∙ c.self.view_is in
+    (omega (arith, ap term_size is), tt)
+
+pub LightTerm::unshared_other-boxed-requires-in-Result : goal.LightTerm::unshared_other-boxed-requires-in-Result
+LightTerm::unshared_other-boxed-requires-in-Result t c =
+    let is : result c.in-Result.sort c.in-Result.method c.in-Result.p c.in-Result.args ≡ c.args.self.now = ap node_of (sym c.in-Result.is ∙ c.deref.ensures) ∙ c.self.view_is in
+    (omega (arith, ap term_size is), tt)
+
+pub LightTerm::unshared_other-unshared-requires : goal.LightTerm::unshared_other-unshared-requires
+LightTerm::unshared_other-unshared-requires t c =
+    let is : result c.in-Result.sort c.in-Result.method c.in-Result.p c.in-Result.args ≡ c.args.self.now = ap node_of (sym c.in-Result.is ∙ c.deref.ensures) ∙ c.self.view_is in
+    (omega (arith, ap term_size is), tt)
+
+pub LightTerm::unshared_other-returns-in_ok-receiver-in-Result : goal.LightTerm::unshared_other-returns-in_ok-receiver-in-Result
+LightTerm::unshared_other-returns-in_ok-receiver-in-Result t c =
     let r = c.in_ok-receiver-in-Result in
     let object : shape r.receiver.value ≡ c.in-Result.p = search rules in
     let list : terms_of (map shape r.args.items) ≡ c.in-Result.args = search rules in
