@@ -1,6 +1,6 @@
 //! The forms of a term: polynomials, gathered in an ordered map, pointers and arguments.
 
-ghost use Rattle.std.specs.Prelude.{◌≡◌, map, IfOk, OnOk};
+ghost use Rattle.std.specs.Prelude.{◌≡◌, ◌-◌, ◌*◌, ◌%◌, ◌^◌, map, IfOk, OnOk};
 ghost use Rattle.ca_sums.specs.Sums.{NoZero, AddsSum};
 ghost use Rattle.ca_forms.specs.Lists.{products_of};
 ghost use Rattle.ca_norm.specs.Terms.{shape, terms_of};
@@ -23,6 +23,13 @@ use ca_forms::rules::{
 use ca_forms::sums::{add_product_of, finish};
 use std::alloc::{AllocError, Global};
 use std::collections::BTreeMap;
+
+/// The factor of what is taken away.
+fn opposite(factor: u64) -> u64
+    ensures { result ≡ (factor * (2 ^ 64 - 1)) % 2 ^ 64 }
+{
+    factor.wrapping_mul(u64::MAX)
+}
 
 /// Adds a term's products, each times the factor. It recurses as deep as the term is, so kinds of terms that need
 /// room for polynomials have functions of their own.
@@ -72,7 +79,7 @@ fn add_linear(
     ensures nonzero { NoZero form.new.entries }
     ensures added { OnOk result (AddsSum form.old.entries form.new.entries factor (expand_if (is_linear (shape term.now)) (shape term.now))) }
 {
-    let opposite = factor.wrapping_mul(u64::MAX);
+    let opposite = opposite(factor);
     match term {
         Term::Number(n) => add_number(alloc, form, n.cast_unsigned(), factor),
         Term::Truth(b) => add_truth(alloc, form, *b, factor),
@@ -144,7 +151,7 @@ fn add_compared(
         Term::LessEqual(a, b) => {
             add_truth(alloc, form, true, factor)?;
             let (f, g) = both(polynomial_of(alloc, a), polynomial_of(alloc, b))?;
-            add_less(alloc, form, g, f, factor.wrapping_mul(u64::MAX))
+            add_less(alloc, form, g, f, opposite(factor))
         }
         _ => Ok(()),
     }

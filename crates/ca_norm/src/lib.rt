@@ -64,6 +64,13 @@ pub fn normal(alloc: Global, term: &Term) -> Result<Normal, NormalError>
     if weight(term) > MOST_WEIGHT {
         return Err(NormalError::Large);
     }
+    Ok(form_of(alloc, term)?)
+}
+
+/// The normal form of a term, whatever it weighs.
+fn form_of(alloc: Global, term: &Term) -> Result<Normal, AllocError>
+    ensures { IfOk result (λ n. n ≡ norm (shape term.now)) }
+{
     match term.sort() {
         Sort::Long => Ok(Normal::Scalar(Scalar::number(polynomial_of(alloc, term)?))),
         Sort::Bool => Ok(Normal::Scalar(Scalar::truth(polynomial_of(alloc, term)?))),

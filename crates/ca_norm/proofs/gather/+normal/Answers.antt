@@ -32,13 +32,13 @@ add_linear-returns-in_ok-add_term-in-Sub-clause-added t c =
     let new = c.add_term-in-Sub-2.new.form.entries in
     rw (c.in-Sub.is, ← c.deref-in-Sub.ensures, ← c.deref-in-Sub-2.ensures) (on_ok c.add_term-in-Sub-2.result _ _
     (λ (added : AddsSum mid new ((c.args.factor * (2 ^ 64 - 1)) % (2 ^ 64)) b). adds_both c.args.form.now.entries mid new c.args.factor (expand (shape c.deref-in-Sub.result.now)) (minus b) c.in_ok-add_term-in-Sub.ensures.added (adds_scaled mid new c.args.factor (2 ^ 64 - 1) b added))
-    c.add_term-in-Sub-2.ensures.added)
+    (rw c.opposite-opposite.ensures at c.add_term-in-Sub-2.ensures.added))
 
 pub add_linear-returns-in-Neg-clause-added : goal.add_linear-returns-in-Neg-clause-added
 add_linear-returns-in-Neg-clause-added t c =
     rw (c.in-Neg.is, ← c.deref-in-Neg.ensures) (on_ok c.add_term-in-Neg.result _ _
     (adds_scaled c.args.form.now.entries c.add_term-in-Neg.new.form.entries c.args.factor (2 ^ 64 - 1) (expand (shape c.deref-in-Neg.result.now)))
-    c.add_term-in-Neg.ensures.added)
+    (rw c.opposite-opposite.ensures at c.add_term-in-Neg.ensures.added))
 
 pub add_linear-returns-in_ok-add_truth-in-Not-clause-added : goal.add_linear-returns-in_ok-add_truth-in-Not-clause-added
 add_linear-returns-in_ok-add_truth-in-Not-clause-added t c =
@@ -47,7 +47,7 @@ add_linear-returns-in_ok-add_truth-in-Not-clause-added t c =
     let new = c.add_term-in-Not.new.form.entries in
     rw (c.in-Not.is, ← c.deref-in-Not.ensures) (on_ok c.add_term-in-Not.result _ _
     (λ (added : AddsSum mid new ((c.args.factor * (2 ^ 64 - 1)) % (2 ^ 64)) a). adds_both c.args.form.now.entries mid new c.args.factor (truth_sum true) (minus a) c.in_ok-add_truth-in-Not.ensures.added (adds_scaled mid new c.args.factor (2 ^ 64 - 1) a added))
-    c.add_term-in-Not.ensures.added)
+    (rw c.opposite-opposite.ensures at c.add_term-in-Not.ensures.added))
 
 pub add_multiplied-returns-in_ok-f-in-Mul-clause-added : goal.add_multiplied-returns-in_ok-f-in-Mul-clause-added
 add_multiplied-returns-in_ok-f-in-Mul-clause-added t c =
@@ -83,7 +83,7 @@ add_compared-returns-in_ok-f-in-LessEqual-clause-added t c =
     let new = c.add_less-in-LessEqual.new.form.entries in
     rw (c.in-LessEqual.is, ← c.deref-in-LessEqual.ensures, ← c.deref-in-LessEqual-2.ensures) (on_ok c.add_less-in-LessEqual.result _ _
     (λ (added : AddsSum mid new ((c.args.factor * (2 ^ 64 - 1)) % (2 ^ 64)) (less_sum g f)). adds_both c.args.form.now.entries mid new c.args.factor (truth_sum true) (minus (less_sum g f)) c.in_ok-add_truth-in-LessEqual.ensures.added (adds_scaled mid new c.args.factor (2 ^ 64 - 1) (less_sum g f) added))
-    (rw (← first, ← second) c.add_less-in-LessEqual.ensures.added))
+    (rw (← first, ← second) (rw c.opposite.ensures at c.add_less-in-LessEqual.ensures.added)))
 
 pub add_choice-returns-in_ok-f-in-Choose-clause-added : goal.add_choice-returns-in_ok-f-in-Choose-clause-added
 add_choice-returns-in_ok-f-in-Choose-clause-added t c =
@@ -142,6 +142,9 @@ polynomial_of-returns t c =
     let added : AddsSum [] es 1 (expand (shape c.args.term.now)) = rw (← c.new-form.ensures.empty) c.in_ok-add_term.ensures.added in
     let e : es ≡ collect monomial_cmp (expand (shape c.args.term.now)) = gathered_is monomial_cmp monomials_exact es (expand (shape c.args.term.now)) c.finish.ensures.ordered c.in_ok-add_term.ensures.nonzero added in
     subst (λ (z : Sum PlainMonomial). IfOk c.finish.result (λ f. f ≡ polynomial_of z)) e c.finish.ensures.value
+
+pub part_of-returns-in-Atom : goal.part_of-returns-in-Atom
+part_of-returns-in-Atom t c = c.atom.ensures ∙ ap (λ x. part_of (shape x)) (sym c.in-Atom.is)
 
 pub part_of-returns-in_ok-receiver-in-Result : goal.part_of-returns-in_ok-receiver-in-Result
 part_of-returns-in_ok-receiver-in-Result t c =
