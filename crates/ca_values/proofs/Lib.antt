@@ -5,3 +5,4 @@ pub mod Steps
 pub mod Sizes
 pub mod CallSteps
 mod Examples
+pub mod Parts

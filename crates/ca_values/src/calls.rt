@@ -73,9 +73,7 @@ impl<'a> Evaluator<'a> {
         self.bodies.enter(top.below, top.items, called.others)?;
         self.values.cut(count);
         self.left -= 1;
-        self.todo.push(Work::Leave)?;
-        self.todo.push(Work::Seq(called.stmts))?;
-        Ok(Next::GoesOn)
+        self.put_both(program, outer, Work::Seq(called.stmts), Work::Leave)
     }
 
     /// Gives a value back to the caller: drops what is left of the body, and goes back.

@@ -33,8 +33,7 @@ impl<'a> Evaluator<'a> {
             self.values.push(value)?;
             return Ok(Next::GoesOn);
         }
-        let next = self.by_parts(program, outer, line, e)?;
-        Ok(next)
+        self.by_parts(program, outer, line, e)
     }
 
     /// Goes on with the first part of an expression.
@@ -49,39 +48,45 @@ impl<'a> Evaluator<'a> {
         ensures falls { IfOk result (λ _. Falls self.new.left (weights self.new.todo) self.old.left (weights (Work.Evaluate line e.entry ∷ self.old.todo))) }
     {
         match e {
-            Expr::Number(n) => self.values.push(Value::Long(*n))?,
-            Expr::Truth(b) => self.values.push(Value::Bool(*b))?,
-            Expr::Null => self.values.push(Value::Null)?,
+            Expr::Number(n) => self.give(program, outer, Value::Long(*n)),
+            Expr::Truth(b) => self.give(program, outer, Value::Bool(*b)),
+            Expr::Null => self.give(program, outer, Value::Null),
             Expr::This => {
                 let value = self.this(outer);
-                self.values.push(value)?;
+                self.give(program, outer, value)
             }
             Expr::Local(l) => {
                 let value = self.local(outer, l.0);
-                self.values.push(value)?;
+                self.give(program, outer, value)
             }
             Expr::Own(f) => {
                 let value = self.own(outer, *f);
-                self.values.push(value)?;
+                self.give(program, outer, value)
             }
-            Expr::OwnItem(f, i) => self.then(Work::OwnItem(line, *f), line, i)?,
-            Expr::Read(p, f) => self.then(Work::ReadField(line, *f), line, p)?,
-            Expr::ReadItem(p, f, i) => self.then(Work::CheckObject(line, *f, i), line, p)?,
+            Expr::OwnItem(f, i) => {
+                let taker = Work::OwnItem(line, *f);
+                self.put_both(program, outer, Work::Evaluate(line, i), taker)
+            }
+            Expr::Read(p, f) => {
+                let taker = Work::ReadField(line, *f);
+                self.put_both(program, outer, Work::Evaluate(line, p), taker)
+            }
+            Expr::ReadItem(p, f, i) => {
+                let taker = Work::CheckObject(line, *f, i);
+                self.put_both(program, outer, Work::Evaluate(line, p), taker)
+            }
             Expr::Value(receiver, m, arguments) => {
-                let next = self.evaluate_call(
-                    program,
-                    outer,
-                    line,
-                    receiver,
-                    *m,
-                    arguments.as_slice(),
-                )?;
-                return Ok(next);
+                self.evaluate_call(program, outer, line, receiver, *m, arguments.as_slice())
             }
-            Expr::Unary(op, a) => self.then(Work::Sign(*op), line, a)?,
-            Expr::Binary(op, a, b) => self.then(Work::CheckLeft(line, *op, b), line, a)?,
+            Expr::Unary(op, a) => {
+                let taker = Work::Sign(*op);
+                self.put_both(program, outer, Work::Evaluate(line, a), taker)
+            }
+            Expr::Binary(op, a, b) => {
+                let taker = Work::CheckLeft(line, *op, b);
+                self.put_both(program, outer, Work::Evaluate(line, a), taker)
+            }
         }
-        Ok(Next::GoesOn)
     }
 
     /// The receiver of the body that runs.
@@ -133,12 +138,11 @@ impl<'a> Evaluator<'a> {
         match self.value_of(program, outer, line, receiver) {
             Some(object) => {
                 self.values.push(object)?;
-                let next = self.collect(program, outer, line, method, arguments, 0)?;
-                Ok(next)
+                self.collect(program, outer, line, method, arguments, 0)
             }
             None => {
-                self.then(Work::Collect(line, method, arguments, 0), line, receiver)?;
-                Ok(Next::GoesOn)
+                let taker = Work::Collect(line, method, arguments, 0);
+                self.put_both(program, outer, Work::Evaluate(line, receiver), taker)
             }
         }
     }

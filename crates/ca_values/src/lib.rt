@@ -20,6 +20,7 @@ mod expressions;
 mod items;
 mod loops;
 mod machine;
+mod next;
 mod stack;
 mod statements;
 mod step;

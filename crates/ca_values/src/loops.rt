@@ -117,15 +117,13 @@ impl<'a> Evaluator<'a> {
         self.left -= 1;
         match &s.kind {
             StmtForm::While(_, body) => {
-                self.todo.push(Work::Again(line, s))?;
-                self.todo.push(Work::Exec(body.line, body))?;
-                Ok(Next::GoesOn)
+                let turn = Work::Exec(body.line, body);
+                self.put_both(program, outer, turn, Work::Again(line, s))
             }
             StmtForm::For(_, _, _, _, next, body) => {
                 self.todo.push(Work::Again(line, s))?;
-                self.todo.push(Work::Exec(line, next))?;
-                self.todo.push(Work::Exec(body.line, body))?;
-                Ok(Next::GoesOn)
+                let turn = Work::Exec(body.line, body);
+                self.put_both(program, outer, turn, Work::Exec(line, next))
             }
             _ => Ok(Next::GoesOn),
         }

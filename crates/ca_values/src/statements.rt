@@ -32,22 +32,15 @@ impl<'a> Evaluator<'a> {
             return Ok(Next::Spent);
         };
         match &s.kind {
-            StmtForm::Block(ss) => {
-                self.todo.push(Work::Seq(ss.as_slice()))?;
-                Ok(Next::GoesOn)
-            }
-            StmtForm::PutLocal(l, op, e) => Ok(self.put_local(program, outer, line, *l, *op, e)?),
-            StmtForm::If(c, a, b) => Ok(self.branch(program, outer, line, c, a, b)?),
-            StmtForm::While(_, _) => {
-                self.todo.push(Work::Again(line, s))?;
-                Ok(Next::GoesOn)
-            }
+            StmtForm::Block(ss) => self.put(program, outer, Work::Seq(ss.as_slice())),
+            StmtForm::PutLocal(l, op, e) => self.put_local(program, outer, line, *l, *op, e),
+            StmtForm::If(c, a, b) => self.branch(program, outer, line, c, a, b),
+            StmtForm::While(_, _) => self.put(program, outer, Work::Again(line, s)),
             StmtForm::For(_, _, first, _, _, _) => {
-                self.todo.push(Work::Again(line, s))?;
-                self.todo.push(Work::Exec(line, first))?;
-                Ok(Next::GoesOn)
+                let behind = Work::Again(line, s);
+                self.put_both(program, outer, Work::Exec(line, first), behind)
             }
-            StmtForm::Return(e) => Ok(self.return_value(program, outer, line, e)?),
+            StmtForm::Return(e) => self.return_value(program, outer, line, e),
             StmtForm::PutField(_, _, _) => Ok(Next::GoesOn),
             StmtForm::PutItem(_, _, _, _) => Ok(Next::GoesOn),
             StmtForm::NewLocal(_, _) => Ok(Next::GoesOn),
@@ -74,9 +67,8 @@ impl<'a> Evaluator<'a> {
         };
         match ss.split_first() {
             Some((first, rest)) => {
-                self.todo.push(Work::Seq(rest))?;
-                self.todo.push(Work::Exec(first.line, first))?;
-                Ok(Next::GoesOn)
+                let one = Work::Exec(first.line, first);
+                self.put_both(program, outer, one, Work::Seq(rest))
             }
             None => Ok(Next::GoesOn),
         }

@@ -1,4 +1,5 @@
 use Rattle.std.proofs.Common.{◌≡◌, ◌∙◌, ◌<◌, ◌+◌, drop, refl, arith}
+use Rattle.std.proofs.lemmas.Result.{IfOk-weaker}
 use Rattle.ca_program.specs.View.{program_view}
 use Rattle.ca_values.proofs.CallSteps.{taken_there, taken_none, not_called, call_runs_out, begun}
 use Rattle.ca_values.proofs.machine.Evaluator.begin.Goals as goal
@@ -27,12 +28,16 @@ returns-then-self-eq0-clause-means c =
     taken_there c.args.count m.values _ top.below (drop (c.args.count + 1) m.values) top.items.now c.in-Some.ensures.0 c.in-Some.ensures.1
     ∙ rw (c.in-Ref.is, over) refl
 
-pub returns-clause-means : goal.returns-clause-means
-returns-clause-means c =
+pub returns : goal.returns
+returns c =
     let m = c.args.self.now in
     let top = c.in-Some.top in
     let lt : 0 < m.left = omega arith in
     let called = c.body_of-called in
-    taken_there c.args.count m.values _ top.below (drop (c.args.count + 1) m.values) top.items.now c.in-Some.ensures.0 c.in-Some.ensures.1
-    ∙ rw c.in-Ref.is (begun (program_view c.args.program.now) c.args.outer.now c.args.method c.args.line c.in-Ref.field-0 top.items.now (drop (c.args.count + 1) m.values) m.bodies m.todo m.left called.result.stmts called.result.others.now lt called.ensures.stmts called.ensures.others
-    ∙ rw (c.in_ok-push-2.ensures, c.in_ok-push.ensures, c.cut.ensures, c.in_ok-enter.ensures, c.in-Ref.is) refl)
+    record {
+      means = IfOk-weaker c.put_both.result _ _ (λ _ same.
+          taken_there c.args.count m.values _ top.below (drop (c.args.count + 1) m.values) top.items.now c.in-Some.ensures.0 c.in-Some.ensures.1
+          ∙ rw c.in-Ref.is (begun (program_view c.args.program.now) c.args.outer.now c.args.method c.args.line c.in-Ref.field-0 top.items.now (drop (c.args.count + 1) m.values) m.bodies m.todo m.left called.result.stmts called.result.others.now lt called.ensures.stmts called.ensures.others
+          ∙ (rw (c.cut.ensures, c.in_ok-enter.ensures, c.in-Ref.is) at same))) c.put_both.ensures.means;
+      falls = IfOk-weaker c.put_both.result _ _ (λ _ todo. (omega (arith, c.put_both.ensures.left), λ same. absurd (omega (arith, lt, same, c.put_both.ensures.left)))) c.put_both.ensures.todo;
+    }

@@ -1,13 +1,18 @@
-use Rattle.std.proofs.Common.{◌∙◌, refl}
-use Rattle.ca_program.specs.View.{program_view}
+use Rattle.std.proofs.Common.{◌∙◌, ap, arith}
+use Rattle.std.proofs.lemmas.Result.{IfOk-weaker}
+use Rattle.ca_program.specs.View.{program_view, statements_view}
 use Rattle.ca_values.specs.clauses.Bodies.{Body}
+use Rattle.ca_values.specs.clauses.Cost.{statement_sizes}
 use Rattle.ca_values.proofs.Steps.{list_runs}
+use Rattle.ca_values.proofs.Parts.{falls_to}
 use Rattle.ca_values.proofs.machine.Evaluator.seq.Goals as goal
 
-pub returns-in_ok-push-in-Some-split_first-2-clause-means :
-    goal.returns-in_ok-push-in-Some-split_first-2-clause-means
-returns-in_ok-push-in-Some-split_first-2-clause-means c =
+pub returns-in-Some-split_first : goal.returns-in-Some-split_first
+returns-in-Some-split_first c =
     let f : Body = record { this = c.in-Some.field-0.this; locals = c.in-Some.field-0.locals.now } in
     let s = c.in-Some-split_first in
-    rw c.in-Some.ensures (list_runs (program_view c.args.program.now) c.args.outer.now f _ _ s.first.now s.rest.now c.args.ss.now c.args.self.now.left s.ensures.cases.0
-    ∙ rw (c.in_ok-push-in-Some-split_first-2.ensures, c.in_ok-push-in-Some-split_first.ensures) refl)
+    let put = c.put_both in
+    record {
+      means = IfOk-weaker put.result _ _ (λ _ same. rw c.in-Some.ensures (list_runs (program_view c.args.program.now) c.args.outer.now f _ _ s.first.now s.rest.now c.args.ss.now c.args.self.now.left s.ensures.cases.0 ∙ (rw c.in-Some.ensures at same))) put.ensures.means;
+      falls = falls_to put.result _ _ _ _ _ put.ensures.left (omega (arith, ap (λ ss. statement_sizes (statements_view ss)) s.ensures.cases.0)) put.ensures.todo;
+    }
