@@ -58,14 +58,8 @@ impl<'a> Evaluator<'a> {
         ensures falls { IfOk result (λ _. Falls self.new.left (weights self.new.todo) self.old.left (weights self.old.todo + (size (expression_view c.now) + 3))) }
     {
         match self.value_of(program, outer, line, c) {
-            Some(value) => {
-                let next = self.enter_turn(program, outer, line, s, value)?;
-                Ok(next)
-            }
-            None => {
-                let next = self.wait(program, outer, Work::Turn(line, s), line, c)?;
-                Ok(next)
-            }
+            Some(value) => self.enter_turn(program, outer, line, s, value),
+            None => self.wait(program, outer, Work::Turn(line, s), line, c),
         }
     }
 

@@ -89,14 +89,8 @@ impl<'a> Evaluator<'a> {
         ensures falls { IfOk result (λ _. Falls self.new.left (weights self.new.todo) self.old.left (weights self.old.todo + (size (expression_view e.now) + 2))) }
     {
         match self.value_of(program, outer, line, e) {
-            Some(value) => {
-                let next = self.assign_local(program, outer, l, op, value)?;
-                Ok(next)
-            }
-            None => {
-                let next = self.wait(program, outer, Work::PutLocal(l, op), line, e)?;
-                Ok(next)
-            }
+            Some(value) => self.assign_local(program, outer, l, op, value),
+            None => self.wait(program, outer, Work::PutLocal(l, op), line, e),
         }
     }
 
@@ -183,14 +177,8 @@ impl<'a> Evaluator<'a> {
         ensures falls { IfOk result (λ _. Falls self.new.left (weights self.new.todo) self.old.left (weights self.old.todo + (size (expression_view e.now) + 2))) }
     {
         match self.value_of(program, outer, line, e) {
-            Some(value) => {
-                let next = self.give_back(program, outer, value)?;
-                Ok(next)
-            }
-            None => {
-                let next = self.wait(program, outer, Work::GiveBack, line, e)?;
-                Ok(next)
-            }
+            Some(value) => self.give_back(program, outer, value),
+            None => self.wait(program, outer, Work::GiveBack, line, e),
         }
     }
 

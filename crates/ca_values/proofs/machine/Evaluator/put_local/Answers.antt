@@ -1,22 +1,25 @@
-use Rattle.std.proofs.Common.{◌∙◌}
+use Rattle.std.proofs.Common.{◌∙◌, arith}
+use Rattle.std.proofs.lemmas.Result.{IfOk-weaker}
 use Rattle.ca_program.specs.View.{program_view, expression_view}
 use Rattle.ca_values.proofs.Steps.{put_does, found_in, waits_in}
 use Rattle.ca_values.proofs.machine.Evaluator.put_local.Goals as goal
 
-pub returns-in_ok-next-in-Some-clause-means : goal.returns-in_ok-next-in-Some-clause-means
-returns-in_ok-next-in-Some-clause-means c = λ own.
+pub returns-in-Some : goal.returns-in-Some
+returns-in-Some c =
     let m = c.args.self.now in
     let p = program_view c.args.program.now in
     let e = expression_view c.args.e.now in
-    put_does p c.args.outer.now c.args.line own c.args.l c.args.op e m
-    ∙ found_in p c.args.outer.now m.bodies c.args.line e m.left c.in-Some.value _ c.in-Some.ensures
-    ∙ c.in_ok-next-in-Some.ensures.means
+    record {
+      means = IfOk-weaker c.assign_local.result _ _ (λ _ same own. put_does p c.args.outer.now c.args.line own c.args.l c.args.op e m ∙ found_in p c.args.outer.now m.bodies c.args.line e m.left c.in-Some.value _ c.in-Some.ensures ∙ same) c.assign_local.ensures.means;
+      falls = IfOk-weaker c.assign_local.result _ _ (λ _ falls. (falls.0, λ is. omega (arith, falls.1 is))) c.assign_local.ensures.falls;
+    }
 
-pub returns-in_ok-next-in-None-clause-means : goal.returns-in_ok-next-in-None-clause-means
-returns-in_ok-next-in-None-clause-means c = λ own.
+pub returns-in-None : goal.returns-in-None
+returns-in-None c =
     let m = c.args.self.now in
     let p = program_view c.args.program.now in
     let e = expression_view c.args.e.now in
-    put_does p c.args.outer.now c.args.line own c.args.l c.args.op e m
-    ∙ waits_in p c.args.outer.now m.bodies c.args.line e m.left _
-    ∙ c.in_ok-next-in-None.ensures.means
+    record {
+      means = IfOk-weaker c.wait.result _ _ (λ _ same own. put_does p c.args.outer.now c.args.line own c.args.l c.args.op e m ∙ waits_in p c.args.outer.now m.bodies c.args.line e m.left _ ∙ same) c.wait.ensures.means;
+      falls = IfOk-weaker c.wait.result _ _ (λ _ falls. (falls.0, λ is. omega (arith, falls.1 is))) c.wait.ensures.falls;
+    }

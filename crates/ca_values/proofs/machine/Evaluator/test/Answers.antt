@@ -1,18 +1,25 @@
-use Rattle.std.proofs.Common.{◌∙◌}
+use Rattle.std.proofs.Common.{◌∙◌, arith}
+use Rattle.std.proofs.lemmas.Result.{IfOk-weaker}
 use Rattle.ca_program.specs.View.{program_view, expression_view}
 use Rattle.ca_values.proofs.Steps.{found_in, waits_in}
 use Rattle.ca_values.proofs.machine.Evaluator.test.Goals as goal
 
-pub returns-in_ok-next-in-Some-clause-means : goal.returns-in_ok-next-in-Some-clause-means
-returns-in_ok-next-in-Some-clause-means c =
+pub returns-in-Some : goal.returns-in-Some
+returns-in-Some c =
     let m = c.args.self.now in
     let p = program_view c.args.program.now in
-    found_in p c.args.outer.now m.bodies c.args.line (expression_view c.args.c.now) m.left c.in-Some.value _ c.in-Some.ensures
-    ∙ c.in_ok-next-in-Some.ensures.means
+    let e = expression_view c.args.c.now in
+    record {
+      means = IfOk-weaker c.enter_turn.result _ _ (λ _ same. found_in p c.args.outer.now m.bodies c.args.line e m.left c.in-Some.value _ c.in-Some.ensures ∙ same) c.enter_turn.ensures.means;
+      falls = IfOk-weaker c.enter_turn.result _ _ (λ _ falls. (falls.0, λ is. omega (arith, falls.1 is))) c.enter_turn.ensures.falls;
+    }
 
-pub returns-in_ok-next-in-None-clause-means : goal.returns-in_ok-next-in-None-clause-means
-returns-in_ok-next-in-None-clause-means c =
+pub returns-in-None : goal.returns-in-None
+returns-in-None c =
     let m = c.args.self.now in
     let p = program_view c.args.program.now in
-    waits_in p c.args.outer.now m.bodies c.args.line (expression_view c.args.c.now) m.left _
-    ∙ c.in_ok-next-in-None.ensures.means
+    let e = expression_view c.args.c.now in
+    record {
+      means = IfOk-weaker c.wait.result _ _ (λ _ same. waits_in p c.args.outer.now m.bodies c.args.line e m.left _ ∙ same) c.wait.ensures.means;
+      falls = IfOk-weaker c.wait.result _ _ (λ _ falls. (falls.0, λ is. omega (arith, falls.1 is))) c.wait.ensures.falls;
+    }
