@@ -24,6 +24,6 @@ returns-in_ok-push-in-For c =
     let put = c.put_both-in-For in
     record {
       means = IfOk-weaker put.result _ _ (λ _ same. rw c.in-Some.ensures (for_turn (program_view c.args.program.now) c.args.outer.now f _ _ c.args.line c.args.s.now l.field-0 l.field-1 l.field-2 l.field-3 l.next l.body m.left lt l.is
-      ∙ (rw (c.in-Some.ensures, c.in_ok-push-in-For.ensures, c.deref-in-For.ensures, c.deref-in-For-2.ensures, c.deref-in-For-3.ensures) at same))) put.ensures.means;
+          ∙ (rw (c.in-Some.ensures, c.in_ok-push-in-For.ensures, c.deref-in-For.ensures, c.deref-in-For-2.ensures, c.deref-in-For-3.ensures) at same))) put.ensures.means;
       falls = IfOk-weaker put.result _ _ (λ _ todo. (omega (arith, put.ensures.left), λ same. absurd (omega (arith, lt, same, put.ensures.left)))) put.ensures.todo;
     }
