@@ -4,5 +4,6 @@ pub mod Flows
 pub mod Steps
 pub mod Sizes
 pub mod CallSteps
-mod Examples
 pub mod Parts
+pub mod Passing
+mod Examples

@@ -1,6 +1,5 @@
--- The first part of an expression, and work that is put before the rest.
-use Rattle.std.proofs.Common.{Bor, ◌≡◌, ℕ, ◌<◌, List, ◌∷◌, ◌∙◌, arith}
-use Rattle.std.specs.Prelude.{Result, Ok, Err, IfOk}
+-- The first part of an expression.
+use Rattle.std.proofs.Common.{Bor, ◌≡◌, ℕ, ◌∷◌, ◌∙◌}
 use Rattle.std.specs.declared.boxed.Box.{Box}
 use Rattle.std.specs.declared.alloc.Global.{Global}
 use Rattle.ca_tree.specs.declared.tree.BinaryOp.{BinaryOp}
@@ -12,20 +11,9 @@ use Rattle.ca_program.specs.View.{expression_view}
 use Rattle.ca_meaning.specs.Expressions.{pointed}
 use Rattle.ca_direct.specs.declared.scene.Scene.{Scene}
 use Rattle.ca_values.specs.declared.machine.Evaluator.{Evaluator}
-use Rattle.ca_values.specs.declared.work.Work.{Work}
 use Rattle.ca_values.specs.declared.work.Work.TheVariants.{Evaluate, OwnItem as ReadOwn, ReadField, CheckObject, Sign, CheckLeft}
-use Rattle.ca_values.specs.clauses.Cost.{weights, Falls}
 use Rattle.ca_values.specs.Resume.{value_of, rest_of}
 use Rattle.ca_values.proofs.Flows.{then_then, then_same}
-
--- as many steps are left, and this is the work
-pub falls_to : {A E : Type 0} (r : Result A E) (left left0 : ℕ) (new todo : List Work) (n : ℕ) → left ≡ left0 → weights todo < n → IfOk r (λ _. new ≡ todo) → IfOk r (λ _. Falls left (weights new) left0 n)
-falls_to (Ok a) left left0 new todo n same lt is = rw is (omega (arith, same), λ _. lt)
-falls_to (Err e) left left0 new todo n same lt is = tt
-
-pub fell : {A E : Type 0} (r : Result A E) (left left0 : ℕ) (new todo : List Work) (n : ℕ) → left ≡ left0 → new ≡ todo → weights todo < n → IfOk r (λ _. Falls left (weights new) left0 n)
-fell (Ok a) left left0 new todo n same is lt = rw is (omega (arith, same), λ _. lt)
-fell (Err e) left left0 new todo n same is lt = tt
 
 module _ (p : PlainProgram) (o : Scene) (line : ℕ) (e first : Bor Expr) (m : Evaluator) where
   pub own_item_first : (f : FieldId) (i : Box Expr Global) → e.now ≡ OwnItem f i → first.now ≡ i.value → rest_of p o (Evaluate line e ∷ m.todo) m ≡ rest_of p o (Evaluate line first ∷ ReadOwn line f ∷ m.todo) m

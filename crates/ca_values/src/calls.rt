@@ -32,18 +32,14 @@ impl<'a> Evaluator<'a> {
             match self.value_of(program, outer, line, &arguments[index]) {
                 Some(value) => self.values.push(value)?,
                 None => {
-                    self.then(
-                        Work::Collect(line, method, arguments, index + 1),
-                        line,
-                        &arguments[index],
-                    )?;
-                    return Ok(Next::GoesOn);
+                    let taker = Work::Collect(line, method, arguments, index + 1);
+                    let first = Work::Evaluate(line, &arguments[index]);
+                    return self.put_both(program, outer, first, taker);
                 }
             }
             index += 1;
         }
-        let next = self.begin(program, outer, line, method, index)?;
-        Ok(next)
+        self.begin(program, outer, line, method, index)
     }
 
     /// Begins a call whose arguments are the top values, so many of them, with the receiver below them. It
@@ -89,8 +85,7 @@ impl<'a> Evaluator<'a> {
     {
         while let Some(work) = self.todo.pop() {
             if let Work::Leave = work {
-                let next = self.hand_back(program, outer, value)?;
-                return Ok(next);
+                return self.hand_back(program, outer, value);
             }
         }
         Ok(Next::Spent)
@@ -112,8 +107,7 @@ impl<'a> Evaluator<'a> {
             return Ok(Next::Spent);
         };
         self.bodies.leave();
-        self.values.push(value)?;
-        Ok(Next::GoesOn)
+        self.give(program, outer, value)
     }
 }
 

@@ -30,8 +30,7 @@ impl<'a> Evaluator<'a> {
         ensures falls { IfOk result (λ _. Falls self.new.left (weights self.new.todo) self.old.left (weights (Work.Evaluate line e.entry ∷ self.old.todo))) }
     {
         if let Some(value) = self.value_of(program, outer, line, e) {
-            self.values.push(value)?;
-            return Ok(Next::GoesOn);
+            return self.give(program, outer, value);
         }
         self.by_parts(program, outer, line, e)
     }
@@ -147,19 +146,6 @@ impl<'a> Evaluator<'a> {
         }
     }
 
-    /// Puts the work on an expression before what takes its value.
-    #[inline]
-    pub(crate) fn then(&mut self, taker: Work<'a>, line: u32, e: &'a Expr) -> Result<(), Memory>
-        ensures todo { IfOk result (λ _. self.new.todo ≡ Work.Evaluate line e.entry ∷ taker.entry ∷ self.old.todo) }
-        ensures values { self.new.values ≡ self.old.values }
-        ensures bodies { self.new.bodies ≡ self.old.bodies }
-        ensures left { self.new.left ≡ self.old.left }
-    {
-        self.todo.push(taker)?;
-        self.todo.push(Work::Evaluate(line, e))?;
-        Ok(())
-    }
-
     /// Reads a field of the object.
     #[inline]
     pub(crate) fn read_field(
@@ -178,8 +164,7 @@ impl<'a> Evaluator<'a> {
         let Value::Ref(id) = value else {
             return Ok(trapped(line, TrapKind::NullPointer));
         };
-        self.values.push(field(outer.heap, id, f))?;
-        Ok(Next::GoesOn)
+        self.give(program, outer, field(outer.heap, id, f))
     }
 
     /// Reads an own item.
@@ -198,10 +183,7 @@ impl<'a> Evaluator<'a> {
             return Ok(Next::Spent);
         };
         match self.own_item(outer, f, value) {
-            Some(item) => {
-                self.values.push(item)?;
-                Ok(Next::GoesOn)
-            }
+            Some(item) => self.give(program, outer, item),
             None => Ok(trapped(line, TrapKind::OutOfRange)),
         }
     }
@@ -225,8 +207,8 @@ impl<'a> Evaluator<'a> {
         let Value::Ref(id) = value else {
             return Ok(trapped(line, TrapKind::NullPointer));
         };
-        self.then(Work::ReadItem(line, id, f), line, index)?;
-        Ok(Next::GoesOn)
+        let taker = Work::ReadItem(line, id, f);
+        self.put_both(program, outer, Work::Evaluate(line, index), taker)
     }
 
     /// Reads an item of an object.
@@ -246,10 +228,7 @@ impl<'a> Evaluator<'a> {
             return Ok(Next::Spent);
         };
         match item(outer.heap, id, f, value) {
-            Some(item) => {
-                self.values.push(item)?;
-                Ok(Next::GoesOn)
-            }
+            Some(item) => self.give(program, outer, item),
             None => Ok(trapped(line, TrapKind::OutOfRange)),
         }
     }
@@ -268,8 +247,7 @@ impl<'a> Evaluator<'a> {
         let Some(value) = self.values.pop() else {
             return Ok(Next::Spent);
         };
-        self.values.push(operate_unary(op, value))?;
-        Ok(Next::GoesOn)
+        self.give(program, outer, operate_unary(op, value))
     }
 
     /// Goes on with the right side, unless the left one decides.
@@ -289,10 +267,12 @@ impl<'a> Evaluator<'a> {
             return Ok(Next::Spent);
         };
         match decide(op, value) {
-            Some(value) => self.values.push(value)?,
-            None => self.then(Work::Apply(line, op, value), line, right)?,
+            Some(value) => self.give(program, outer, value),
+            None => {
+                let taker = Work::Apply(line, op, value);
+                self.put_both(program, outer, Work::Evaluate(line, right), taker)
+            }
         }
-        Ok(Next::GoesOn)
     }
 
     /// Applies an operator to both sides.
@@ -312,10 +292,7 @@ impl<'a> Evaluator<'a> {
             return Ok(Next::Spent);
         };
         match operate(op, left, value) {
-            Ok(value) => {
-                self.values.push(value)?;
-                Ok(Next::GoesOn)
-            }
+            Ok(value) => self.give(program, outer, value),
             Err(kind) => Ok(trapped(line, kind)),
         }
     }

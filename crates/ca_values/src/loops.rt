@@ -27,14 +27,8 @@ impl<'a> Evaluator<'a> {
         ensures falls { IfOk result (λ _. Falls self.new.left (weights self.new.todo) self.old.left (weights (Work.Again line s.entry ∷ self.old.todo))) }
     {
         match &s.kind {
-            StmtForm::While(c, _) => {
-                let next = self.test(program, outer, line, s, c)?;
-                Ok(next)
-            }
-            StmtForm::For(_, _, _, c, _, _) => {
-                let next = self.test(program, outer, line, s, c)?;
-                Ok(next)
-            }
+            StmtForm::While(c, _) => self.test(program, outer, line, s, c),
+            StmtForm::For(_, _, _, c, _, _) => self.test(program, outer, line, s, c),
             _ => {
                 let Some(_) = self.bodies.running() else {
                     return Ok(Next::Spent);
@@ -77,10 +71,7 @@ impl<'a> Evaluator<'a> {
         ensures falls { IfOk result (λ _. Falls self.new.left (weights self.new.todo) self.old.left (weights (Work.Turn line s.entry ∷ self.old.todo))) }
     {
         match condition {
-            Value::Bool(true) => {
-                let next = self.begin_turn(program, outer, line, s)?;
-                Ok(next)
-            }
+            Value::Bool(true) => self.begin_turn(program, outer, line, s),
             _ => {
                 let Some(_) = self.bodies.running() else {
                     return Ok(Next::Spent);

@@ -21,7 +21,7 @@ impl<'a> Evaluator<'a> {
         value: Value,
     ) -> Result<Next, Memory>
         ensures means { IfOk result (λ next. resume (program_view program.now) outer.now self.old.todo (value ∷ self.old.values) self.old.bodies self.old.left ≡ after (program_view program.now) outer.now self.new next) }
-        ensures todo { IfOk result (λ _. self.new.todo ≡ self.old.todo) }
+        ensures todo { self.new.todo ≡ self.old.todo }
         ensures left { self.new.left ≡ self.old.left }
     {
         self.values.push(value)?;

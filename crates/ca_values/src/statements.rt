@@ -130,14 +130,8 @@ impl<'a> Evaluator<'a> {
         ensures falls { IfOk result (λ _. Falls self.new.left (weights self.new.todo) self.old.left (weights self.old.todo + (size (expression_view c.now) + statement_size (statement_view a.now) + statement_size (statement_view b.now) + 3))) }
     {
         match self.truth_of(program, outer, line, c) {
-            Some(truth) => {
-                let next = self.choose(program, outer, a, b, Value::Bool(truth))?;
-                Ok(next)
-            }
-            None => {
-                let next = self.wait(program, outer, Work::Choose(a, b), line, c)?;
-                Ok(next)
-            }
+            Some(truth) => self.choose(program, outer, a, b, Value::Bool(truth)),
+            None => self.wait(program, outer, Work::Choose(a, b), line, c),
         }
     }
 
@@ -158,10 +152,9 @@ impl<'a> Evaluator<'a> {
             return Ok(Next::Spent);
         };
         match condition {
-            Value::Bool(true) => self.todo.push(Work::Exec(a.line, a))?,
-            _ => self.todo.push(Work::Exec(b.line, b))?,
+            Value::Bool(true) => self.put(program, outer, Work::Exec(a.line, a)),
+            _ => self.put(program, outer, Work::Exec(b.line, b)),
         }
-        Ok(Next::GoesOn)
     }
 
     /// Gives the value of an expression back.
@@ -198,7 +191,6 @@ impl<'a> Evaluator<'a> {
         let Some(_) = self.bodies.running() else {
             return Ok(Next::Spent);
         };
-        self.then(taker, line, e)?;
-        Ok(Next::GoesOn)
+        self.put_both(program, outer, Work::Evaluate(line, e), taker)
     }
 }

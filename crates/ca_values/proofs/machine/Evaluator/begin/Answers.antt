@@ -1,7 +1,7 @@
 use Rattle.std.proofs.Common.{◌≡◌, ◌∙◌, ◌<◌, ◌+◌, drop, refl, arith}
-use Rattle.std.proofs.lemmas.Result.{IfOk-weaker}
 use Rattle.ca_program.specs.View.{program_view}
 use Rattle.ca_values.proofs.CallSteps.{taken_there, taken_none, not_called, call_runs_out, begun}
+use Rattle.ca_values.proofs.Passing.{passes_on, takes_one}
 use Rattle.ca_values.proofs.machine.Evaluator.begin.Goals as goal
 
 pub returns-in_default-clause-means : goal.returns-in_default-clause-means
@@ -35,9 +35,9 @@ returns c =
     let lt : 0 < m.left = omega arith in
     let called = c.body_of-called in
     record {
-      means = IfOk-weaker c.put_both.result _ _ (λ _ same.
-          taken_there c.args.count m.values _ top.below (drop (c.args.count + 1) m.values) top.items.now c.in-Some.ensures.0 c.in-Some.ensures.1
+      means = passes_on c.put_both.result _ _ _ c.put_both.ensures.means
+          (taken_there c.args.count m.values _ top.below (drop (c.args.count + 1) m.values) top.items.now c.in-Some.ensures.0 c.in-Some.ensures.1
           ∙ rw c.in-Ref.is (begun (program_view c.args.program.now) c.args.outer.now c.args.method c.args.line c.in-Ref.field-0 top.items.now (drop (c.args.count + 1) m.values) m.bodies m.todo m.left called.result.stmts called.result.others.now lt called.ensures.stmts called.ensures.others
-          ∙ (rw (c.cut.ensures, c.in_ok-enter.ensures, c.in-Ref.is) at same))) c.put_both.ensures.means;
-      falls = IfOk-weaker c.put_both.result _ _ (λ _ todo. (omega (arith, c.put_both.ensures.left), λ same. absurd (omega (arith, lt, same, c.put_both.ensures.left)))) c.put_both.ensures.todo;
+          ∙ rw (c.cut.ensures, c.in_ok-enter.ensures, c.in-Ref.is) refl));
+      falls = takes_one c.put_both.result _ _ _ _ c.put_both.ensures.left lt;
     }

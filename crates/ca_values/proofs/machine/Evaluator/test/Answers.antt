@@ -1,7 +1,7 @@
-use Rattle.std.proofs.Common.{◌∙◌, arith}
-use Rattle.std.proofs.lemmas.Result.{IfOk-weaker}
+use Rattle.std.proofs.Common.{arith}
 use Rattle.ca_program.specs.View.{program_view, expression_view}
 use Rattle.ca_values.proofs.Steps.{found_in, waits_in}
+use Rattle.ca_values.proofs.Passing.{passes_on, falls_from}
 use Rattle.ca_values.proofs.machine.Evaluator.test.Goals as goal
 
 pub returns-in-Some : goal.returns-in-Some
@@ -10,8 +10,8 @@ returns-in-Some c =
     let p = program_view c.args.program.now in
     let e = expression_view c.args.c.now in
     record {
-      means = IfOk-weaker c.enter_turn.result _ _ (λ _ same. found_in p c.args.outer.now m.bodies c.args.line e m.left c.in-Some.value _ c.in-Some.ensures ∙ same) c.enter_turn.ensures.means;
-      falls = IfOk-weaker c.enter_turn.result _ _ (λ _ falls. (falls.0, λ is. omega (arith, falls.1 is))) c.enter_turn.ensures.falls;
+      means = passes_on c.enter_turn.result _ _ _ c.enter_turn.ensures.means (found_in p c.args.outer.now m.bodies c.args.line e m.left c.in-Some.value _ c.in-Some.ensures);
+      falls = falls_from c.enter_turn.result _ _ _ _ _ c.enter_turn.ensures.falls (omega arith);
     }
 
 pub returns-in-None : goal.returns-in-None
@@ -20,6 +20,6 @@ returns-in-None c =
     let p = program_view c.args.program.now in
     let e = expression_view c.args.c.now in
     record {
-      means = IfOk-weaker c.wait.result _ _ (λ _ same. waits_in p c.args.outer.now m.bodies c.args.line e m.left _ ∙ same) c.wait.ensures.means;
-      falls = IfOk-weaker c.wait.result _ _ (λ _ falls. (falls.0, λ is. omega (arith, falls.1 is))) c.wait.ensures.falls;
+      means = passes_on c.wait.result _ _ _ c.wait.ensures.means (waits_in p c.args.outer.now m.bodies c.args.line e m.left _);
+      falls = falls_from c.wait.result _ _ _ _ _ c.wait.ensures.falls (omega arith);
     }
