@@ -1,5 +1,6 @@
 -- Parts that are put together and taken apart.
 use Rattle.std.proofs.Common.{◌≡◌, ℕ, suc, ◌+◌, ◌<◌, get_or, Bool, false, List, [], ◌∷◌, ◌++◌, All, Option, Some, None, length, map, reverse, slice_get, sym, refl, ap, ◌∙◌, subst, arith, append_assoc, append-nil}
+use Rattle.std.specs.Prelude.{Result, Ok, Err, IfOk}
 use Rattle.std.proofs.lemmas.List.{reverse-append, map-append}
 use Rattle.std.proofs.lemmas.List.Elements.{All-append}
 use Rattle.ca_meaning.specs.Multisets.{weight}
@@ -18,7 +19,7 @@ use Rattle.ca_deques.proofs.Places.{get_last, get_longer}
 use Rattle.ca_deques.proofs.Moves.{left, right}
 use Rattle.ca_deques.proofs.Bands.{all_last, weight_last}
 use Rattle.ca_pool.specs.Work.{IsSeatOf, StopsWithin, NotedStops, noted_weight, listed_weight}
-use Rattle.ca_pool.specs.Parts.{PartKey, SeatKey, seat_key, Sound, Assembled, Torn}
+use Rattle.ca_pool.specs.Parts.{PartKey, SeatKey, seat_key, Sound, Assembled, Torn, TornOff}
 use Rattle.ca_pool.proofs.Performs.{all_one}
 
 same_head : {A : Type 0} (a b : A) (xs ys : List A) → a ≡ b → xs ≡ ys → a ∷ xs ≡ b ∷ ys
@@ -125,6 +126,30 @@ put_all cells owners₀ owners thieves₀ thieves seats₀ seats parts e i = rec
   thief_keys = moved_all (λ (ts : List ThiefView). map key_of ts) (λ (q : PartKey). q.thieves) thieves₀ thieves parts (empty_of owners thieves e i.count.0) i.thief_keys;
   seat_keys = moved_all seat_key (λ (q : PartKey). q.seat) seats₀ seats parts (empty_of owners seats e i.count.1) i.seat_keys;
 }
+
+-- what two clauses say of a result
+both_ok : {T E : Type 0} (r : Result T E) (P Q R : Type 0) → (P → Q → R) → IfOk r (λ _. P) → IfOk r (λ _. Q) → IfOk r (λ _. R)
+both_ok (Ok x) P Q R f p q = f p q
+both_ok (Err e) P Q R f p q = tt
+
+-- one part was taken apart
+pub torn_off : {T E : Type 0} (s : Setting) (cells : Option Cells) (at_most : ℕ) (owners owners' : List OwnerView) (thieves thieves' : List (List ThiefView)) (seats seats' : List Seat) (rest rest' share : List Task) (p : PartKey) (o : OwnerView) (t : List ThiefView) (seat : Seat) (short : Bool) (r : Result T E)
+    → owners' ≡ owners ++ o ∷ [] → thieves' ≡ thieves ++ t ∷ [] → seats' ≡ seats ++ seat ∷ [] → p ≡ record { owner = owner_key o; thieves = map key_of t; seat = seat_key seat }
+    → Sound s cells at_most o.hand t seat share short → short ≡ false → IfOk r (λ _. (z : Setting) → AllFit z share → AllFit z rest → AllFit z rest') → IfOk r (λ _. (h : Task → ℕ) → weight h rest' ≡ weight h rest + weight h share)
+    → IfOk r (λ _. TornOff s cells at_most p owners owners' thieves thieves' seats seats' rest rest')
+torn_off s cells at_most owners owners' thieves thieves' seats seats' rest rest' share p o t seat short r eo et es is sound all_there fits poured = both_ok r _ _ _ (λ fit more. record {
+  owner = o;
+  passes = t;
+  seat = seat;
+  share = share;
+  owners_are = eo;
+  thieves_are = et;
+  seats_are = es;
+  part_is = is;
+  sound = subst (λ (b : Bool). Sound s cells at_most o.hand t seat share b) all_there sound;
+  fits = fit s sound.fits;
+  poured = more;
+}) fits poured
 
 -- all parts but these were taken apart
 pub record Tearing (s : Setting) (cells : Option Cells) (at_most : ℕ) (parts₀ parts : List PartKey) (owners : List OwnerView) (thieves : List (List ThiefView)) (seats : List Seat) (rest₀ rest : List Task) : Type 0 where

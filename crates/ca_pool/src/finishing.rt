@@ -89,6 +89,37 @@ fn run_one<'a, K: Work>(
     }
 }
 
+/// Runs tasks of the rest as long as there are any, no history is closed by one, and there are fewer entries than the
+/// quota.
+fn run_rest<'a, K: Work>(
+    desk: &mut Desk<'a>,
+    alloc: Global,
+    program: &'a Program,
+    frozen: &Heap,
+    logs: &mut Vec<CellLog>,
+    rest: &mut Vec<Task>,
+    quota: u32,
+    left: u64,
+) -> Result<(), Memory>
+    requires run { IsRunOf K.cells (program_view program.now) frozen.now }
+    requires gathered { Gathered K.cells left K.first logs.old.items rest.old.items }
+    ensures gathered { IfOk result (λ _. Gathered K.cells left K.first logs.new.items rest.new.items) }
+    ensures ended { IfOk result (λ _. Ended quota logs.new.items rest.new.items) }
+{
+    let most = quota as usize;
+    let mut count = count_entries(logs.as_slice(), most);
+    while count < most {
+        let Some(task) = rest.pop() else {
+            return Ok(());
+        };
+        if !run_one::<K>(desk, alloc, program, frozen, logs, rest, task, left)? {
+            return Ok(());
+        }
+        count += 1;
+    }
+    Ok(())
+}
+
 /// Runs tasks of the rest as long as there are any, no history is closed, and there are fewer entries than the quota.
 pub fn finish<K: Work>(
     alloc: Global,
@@ -107,17 +138,6 @@ pub fn finish<K: Work>(
     if any_closed(logs.as_slice()) {
         return Ok(());
     }
-    let most = quota as usize;
-    let mut count = count_entries(logs.as_slice(), most);
     let mut desk = Desk::new(alloc)?;
-    while count < most {
-        let Some(task) = rest.pop() else {
-            return Ok(());
-        };
-        if !run_one::<K>(&mut desk, alloc, program, frozen, logs, rest, task, left)? {
-            return Ok(());
-        }
-        count += 1;
-    }
-    Ok(())
+    run_rest::<K>(&mut desk, alloc, program, frozen, logs, rest, quota, left)
 }
