@@ -14,9 +14,8 @@ use ca_run::{Beside, Round, run_round};
 use ca_sections::Desk;
 use std::alloc::Global;
 
-/// Runs waiting operations one after the other, within a budget of steps, until none waits, or `most` steps are taken,
-/// or one is stuck. The heap stays as it is; what changes is kept beside it.
-pub fn run_alone<'a, G: Gate>(
+/// Runs waiting operations one after the other at this desk.
+fn run_waiting<'a, G: Gate>(
     gate: &G,
     desk: &mut Desk<'a>,
     alloc: Global,
@@ -42,4 +41,24 @@ pub fn run_alone<'a, G: Gate>(
     Ok(Round::Went {
         steps: left - still,
     })
+}
+
+/// Runs waiting operations one after the other, within a budget of steps, until none waits, or `most` steps are taken,
+/// or one is stuck. The heap stays as it is; what changes is kept beside it.
+pub fn run_alone<G: Gate>(
+    gate: &G,
+    alloc: Global,
+    program: &Program,
+    heap: &Heap,
+    beside: &mut Beside,
+    waiting: &mut Vec<Op>,
+    left: u64,
+    most: u64,
+) -> Result<Round, Memory>
+    ensures { IfOk result (λ round. RanAlone (program_view program.now) heap.now (present heap.now beside.old) (invocations_of waiting.old.items) left (present heap.now beside.new) (invocations_of waiting.new.items) round) }
+{
+    let mut desk = Desk::new(alloc)?;
+    run_waiting(
+        gate, &mut desk, alloc, program, heap, beside, waiting, left, most,
+    )
 }

@@ -20,7 +20,6 @@ use ca_model::Heap;
 use ca_parallel::Op;
 use ca_program::Program;
 use ca_run::{Beside, Round, copies};
-use ca_sections::Desk;
 use ca_serial::ExtentAnswer;
 use std::alloc::Global;
 use std::sync::Wait;
@@ -114,12 +113,10 @@ impl<'g, G: Gate> Parallel<'g, G> {
         ensures kept { OnErr result (heap.new ≡ heap.old) }
     {
         let objects = heap.len();
-        let mut desk = Desk::new(self.alloc)?;
         let mut waiting = copies(self.alloc, first)?;
         self.beside.forget();
         let went = run_alone(
             self.gate,
-            &mut desk,
             self.alloc,
             program,
             heap,
