@@ -61,7 +61,8 @@ pub fn normal(alloc: Global, term: &Term) -> Result<Normal, NormalError>
     ensures large { result ≡ Err Large → 65536 < weight_of (shape term.now) }
     ensures heavy { 65536 < weight_of (shape term.now) → result ≡ Err Large }
 {
-    if weight(term) > MOST_WEIGHT {
+    let heavy = weight(term) > MOST_WEIGHT;
+    if heavy {
         return Err(NormalError::Large);
     }
     Ok(form_of(alloc, term)?)
