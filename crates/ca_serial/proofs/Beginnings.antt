@@ -1,6 +1,6 @@
 -- Statements and calls whose beginning is done at once.
 use Rattle.std.proofs.Common.{Bor, ◌≡◌, ◌∙◌, ℕ, List, ◌∷◌, ◌<◌, ◌≤◌, ◌-◌, None, refl, ap, arith}
-use Rattle.std.specs.Prelude.{Bool, true, false}
+use Rattle.std.specs.Prelude.{Bool, true, false, Result, Ok, Err, IfOk}
 use Rattle.std.specs.declared.alloc.Global.{Global}
 use Rattle.std.specs.declared.vec.Vec.{Vec}
 use Rattle.ca_program.specs.declared.program.Expr.{Expr}
@@ -53,6 +53,10 @@ still_alone p true m todo ps = refl
 still_alone p false m todo ps = refl
 
 -- a whole turn took a step, and its next part none
-pub less_than_before : (turn : Turn) (new between old : ℕ) → 0 < old → between ≤ old - 1 → LeavesAsMany turn new between → Lessens turn new old
+less_than_before : (turn : Turn) (new between old : ℕ) → 0 < old → between ≤ old - 1 → LeavesAsMany turn new between → Lessens turn new old
 less_than_before Whole new between old lt le is = omega (arith, is)
 less_than_before (Ends next) new between old lt le is = tt
+
+pub less_behind : {E : Type 0} (r : Result Turn E) (new between old : ℕ) → IfOk r (λ turn. LeavesAsMany turn new between) → 0 < old → between ≤ old - 1 → IfOk r (λ turn. Lessens turn new old)
+less_behind (Ok turn) new between old is lt le = less_than_before turn new between old lt le is
+less_behind (Err e) new between old is lt le = tt

@@ -47,11 +47,10 @@ called_put p todo line own l op e old new ps v j is current below values heap le
     ap (going_on p todo old) (local_put p old.bodies.current.mode old.bodies.current (world_of old ps) line own l op e old.left v j is)
     ∙ rw (current, below, values, heap, left) refl
 
--- a number that was found stands on the values
-pub number_pushed : (p : PlainProgram) (line : ℕ) (e : Expression) (old new : Machine) (ps : Past) (n : ℤ) (vs : List Datum) → new ≡ behind_look old new.left new.patience → value_in p.functions old.heap old.bodies.current.this line old.bodies.current.locals e old.left ≡ gives (Long n) new.left → vs ≡ Long n ∷ new.values → evaluates p line e old ps ≡ rest_of p new.todo (record { todo = new.todo; values = vs; bodies = new.bodies; heap = new.heap; left = new.left; shown = new.shown; trap = new.trap; due = new.due; over = new.over; others = new.others; patience = new.patience }) ps
-number_pushed p line e old new ps n vs same is pushed =
-    rw (is, pushed)
-    (ap (λ (x : Machine). resume p x.todo (Long n ∷ x.values) x.bodies.current x.bodies.below (world_of x ps) new.left) (sym same))
+-- a number that was found is given to the work that is left
+pub number_found : (p : PlainProgram) (line : ℕ) (e : Expression) (old new : Machine) (ps : Past) (n : ℤ) → new ≡ behind_look old new.left new.patience → value_in p.functions old.heap old.bodies.current.this line old.bodies.current.locals e old.left ≡ gives (Long n) new.left → evaluates p line e old ps ≡ resume p new.todo (Long n ∷ new.values) new.bodies.current new.bodies.below (world_of new ps) new.left
+number_found p line e old new ps n same is =
+    rw is (ap (λ (x : Machine). resume p x.todo (Long n ∷ x.values) x.bodies.current x.bodies.below (world_of x ps) new.left) (sym same))
 
 -- a statement in memory means what this statement means
 pub statement_is : (p : PlainProgram) (todo : List Work) (line : ℕ) (s : Bor Stmt) (st : Statement) (m : Machine) (ps : Past) → statement_view s.now ≡ st → rest_of p (Exec line s ∷ todo) m ps ≡ does_before p todo line st m ps

@@ -214,9 +214,6 @@ unaccounted {S = S} p a m o stop = subst (λ l. Reached S p a l a) (sym (none_no
 
 -- ---- where memory is wanting
 
-pub same_part : {A : Type 0} {S : A → PlainProgram → List Object → List Invocation → ℕ → A → Type 0} {p : PlainProgram} {a b : A} (ns ms : List Note) → ms ≡ ns → ReachedPart S p a ns b → ReachedPart S p a ms b
-same_part {S = S} {p} {a} {b} ns ms is part = subst (λ l. ReachedPart S p a l b) (sym is) part
-
 pub none_told : {T E : Type 0} (P : T → Type 0) (r : Result T E) (e : E) → r ≡ Err e → IfOk r P
 none_told P (Ok x) e is = cc
 none_told P (Err y) e is = tt
@@ -224,6 +221,13 @@ none_told P (Err y) e is = tt
 pub part_told : {A T E : Type 0} {S : A → PlainProgram → List Object → List Invocation → ℕ → A → Type 0} {p : PlainProgram} {a b : A} {ns : List Note} (r : Result T E) (e : E) → r ≡ Err e → ReachedPart S p a ns b → HandedOn S p a b r ns
 part_told (Ok x) e is part = cc
 part_told (Err y) e is part = record { all = tt; part = part }
+
+pub handed_same : {A T E : Type 0} {S : A → PlainProgram → List Object → List Invocation → ℕ → A → Type 0} {p : PlainProgram} {a b : A} (r : Result T E) (ns ms : List Note) → HandedOn S p a b r ns → ms ≡ ns → HandedOn S p a b r ms
+handed_same {S = S} {p} {a} {b} r ns ms handed is = subst (λ l. HandedOn S p a b r l) (sym is) handed
+
+pub handed_all : {A T E : Type 0} {S : A → PlainProgram → List Object → List Invocation → ℕ → A → Type 0} {p : PlainProgram} {a b : A} (r : Result T E) (ns : List Note) → Reached S p a ns b → HandedOn S p a b r ns
+handed_all (Ok x) ns reached = record { all = reached; part = tt }
+handed_all (Err y) ns reached = record { all = tt; part = record { done = ns; rest = []; whole = sym (append-nil ns); reached = reached } }
 
 pub none_yet : {A : Type 0} {S : A → PlainProgram → List Object → List Invocation → ℕ → A → Type 0} {p : PlainProgram} {a : A} (ns : List Note) → ReachedPart S p a ns a
 none_yet ns = record { done = []; rest = ns; whole = refl; reached = at_first }
@@ -360,9 +364,6 @@ listing p line s todo m heeds puts = rw (heeds, puts) refl
 
 pub reached_none : {A : Type 0} {S : A → PlainProgram → List Object → List Invocation → ℕ → A → Type 0} {p : PlainProgram} {a : A} (ns : List Note) → ns ≡ [] → Reached S p a ns a
 reached_none {S = S} {p} {a} ns is = subst (λ l. Reached S p a l a) (sym is) at_first
-
-pub reached_same : {A : Type 0} {S : A → PlainProgram → List Object → List Invocation → ℕ → A → Type 0} {p : PlainProgram} {a b : A} (ns ms : List Note) → ms ≡ ns → Reached S p a ns b → Reached S p a ms b
-reached_same {S = S} {p} {a} {b} ns ms is reached = subst (λ l. Reached S p a l b) (sym is) reached
 
 -- what is to be done stays as it is
 pub stays_next : (p : PlainProgram) (m : Machine) (ps : Past) (todo : List Work) → m.todo ≡ todo → notes_next p m.todo m ≡ [] → rest_of p m.todo m ps ≡ rest_of p todo m (and_notes ps (notes_next p m.todo m))

@@ -17,7 +17,7 @@ use std::alloc::Global;
 use std::marker::Model;
 
 /// What kind of body runs: that of a value method, or that of an operation or `main`.
-#[derive(Clone, Copy, PartialEq, Eq)]
+#[derive(Clone, Copy)]
 pub enum Mode {
     InFunction,
     InOperation,

@@ -38,8 +38,7 @@ impl<'a> Machine<'a> {
             self.todo.push(Work::Evaluate(line, &items[count]))?;
             return Ok(Next::GoesOn);
         }
-        let next = self.begin(program, line, target, count)?;
-        Ok(next)
+        self.begin(program, line, target, count)
     }
 
     /// Puts the arguments of a call on the values from one of them on, up to one that isn't found without a call, and gives
@@ -169,9 +168,7 @@ impl<'a> Machine<'a> {
         if let Mode::InFunction = self.bodies.mode() {
             if let Some((first, _)) = ss.split_first() {
                 if let StmtForm::Return(e) = &first.kind {
-                    self.todo.push(Work::Back)?;
-                    self.todo.push(Work::Evaluate(first.line, e))?;
-                    return Ok(Next::GoesOn);
+                    return self.put_both(program, Work::Evaluate(first.line, e), Work::Back);
                 }
             }
         }
@@ -232,8 +229,7 @@ impl<'a> Machine<'a> {
         if !self.bodies.leave() {
             return Ok(Next::Spent);
         }
-        self.values.push(value)?;
-        Ok(Next::GoesOn)
+        self.give(program, value)
     }
 
     /// Goes back to the caller of a value method with the top value.

@@ -73,14 +73,8 @@ impl<'a> Machine<'a> {
         ensures { IfOk result (λ next. (ps : Past) → evaluates (program_view program.now) line (value_call (expression_view receiver.now) method (expressions_view arguments.now.items)) self.old ps ≡ after (program_view program.now) self.new ps next) }
     {
         match self.number_of_call(program, receiver, method, arguments) {
-            Some(number) => {
-                self.values.push(Value::Long(number))?;
-                Ok(Next::GoesOn)
-            }
-            None => {
-                let next = self.stack_call(program, line, receiver, method, arguments)?;
-                Ok(next)
-            }
+            Some(number) => self.give(program, Value::Long(number)),
+            None => self.stack_call(program, line, receiver, method, arguments),
         }
     }
 
@@ -152,20 +146,6 @@ impl<'a> Machine<'a> {
         }
     }
 
-    /// Puts the work on an expression before what takes its value.
-    #[inline]
-    pub fn then(&mut self, taker: Work<'a>, line: u32, e: &'a Expr) -> Result<(), Memory>
-        ensures todo { IfOk result (λ _. self.new.todo ≡ Work.Evaluate line e.entry ∷ taker.entry ∷ self.old.todo) }
-        ensures values { self.new.values ≡ self.old.values }
-        ensures bodies { self.new.bodies ≡ self.old.bodies }
-        ensures heap { self.new.heap ≡ self.old.heap }
-        ensures left { self.new.left ≡ self.old.left }
-    {
-        self.todo.push(taker)?;
-        self.todo.push(Work::Evaluate(line, e))?;
-        Ok(())
-    }
-
     /// Reads a field of the object.
     #[inline]
     pub fn read_field(
@@ -181,8 +161,7 @@ impl<'a> Machine<'a> {
             return Ok(self.stop(line, TrapKind::NullPointer));
         };
         let value = field_of(&self.heap, object, field);
-        self.values.push(value)?;
-        Ok(Next::GoesOn)
+        self.give(program, value)
     }
 
     /// Checks the object, and goes on with the index of an item of it.
@@ -200,8 +179,8 @@ impl<'a> Machine<'a> {
             return Ok(self.stop(line, TrapKind::NullPointer));
         };
         self.values.push(object)?;
-        self.then(Work::ReadItem(line, field), line, index)?;
-        Ok(Next::GoesOn)
+        let taker = Work::ReadItem(line, field);
+        self.put_both(program, Work::Evaluate(line, index), taker)
     }
 
     /// Reads an item of the object that the top value names.
@@ -218,10 +197,7 @@ impl<'a> Machine<'a> {
             return Ok(Next::Spent);
         };
         match self.indexed(line, object, field, index)? {
-            Some(item) => {
-                self.values.push(item.value)?;
-                Ok(Next::GoesOn)
-            }
+            Some(item) => self.give(program, item.value),
             None => Ok(self.stop(line, TrapKind::OutOfRange)),
         }
     }
@@ -237,10 +213,7 @@ impl<'a> Machine<'a> {
         ensures { IfOk result (λ next. (ps : Past) → takes (program_view program.now) (Work.ReadOwnItem line field) index self.old ps ≡ after (program_view program.now) self.new ps next) }
     {
         match self.indexed(line, self.bodies.this(), field, index)? {
-            Some(item) => {
-                self.values.push(item.value)?;
-                Ok(Next::GoesOn)
-            }
+            Some(item) => self.give(program, item.value),
             None => Ok(self.stop(line, TrapKind::OutOfRange)),
         }
     }
@@ -250,8 +223,7 @@ impl<'a> Machine<'a> {
     pub fn sign(&mut self, program: &'a Program, op: UnaryOp, value: Value) -> Result<Next, Memory>
         ensures { IfOk result (λ next. (ps : Past) → takes (program_view program.now) (Work.Sign op) value self.old ps ≡ after (program_view program.now) self.new ps next) }
     {
-        self.values.push(operate_unary(op, value))?;
-        Ok(Next::GoesOn)
+        self.give(program, operate_unary(op, value))
     }
 
     /// Goes on with the right side, unless the left one decides.
@@ -288,14 +260,10 @@ impl<'a> Machine<'a> {
         ensures { IfOk result (λ next. (ps : Past) → takes (program_view program.now) (Work.Apply op line left) right self.old ps ≡ after (program_view program.now) self.new ps next) }
     {
         if let Some(number) = number_of(op, left, right) {
-            self.values.push(Value::Long(number))?;
-            return Ok(Next::GoesOn);
+            return self.give(program, Value::Long(number));
         }
         match operate(op, left, right) {
-            Ok(value) => {
-                self.values.push(value)?;
-                Ok(Next::GoesOn)
-            }
+            Ok(value) => self.give(program, value),
             Err(kind) => Ok(self.stop(line, kind)),
         }
     }

@@ -21,7 +21,7 @@ use std::sync::Wait;
 use std::thread::Threads;
 
 /// What an engine answers: it ran all, in so many steps, or it left the heap as it was.
-#[derive(Clone, Copy, PartialEq, Eq)]
+#[derive(Clone, Copy)]
 pub enum ExtentAnswer {
     Done { steps: u64 },
     Declined,

@@ -53,11 +53,9 @@ pub fn hand_on_loop<'a, R: Threads + Wait + Sync, E: Extents>(
         return Ok(());
     }
     if puts_nothing(s) {
-        list_loop(rt, alloc, program, line, s, machine, lists, engine)?;
-        return Ok(());
+        return list_loop(rt, alloc, program, line, s, machine, lists, engine);
     }
-    machine.put_alone(program, line, s)?;
-    Ok(())
+    machine.put_alone(program, line, s)
 }
 
 /// Lists the calls of a loop that puts nothing into fields, and hands them to an engine.
@@ -82,17 +80,10 @@ fn list_loop<'a, R: Threads + Wait + Sync, E: Extents>(
     let answer = lists.fill(alloc, program, machine, line, s)?;
     match answer {
         SectionAnswer::Done { steps } => {
-            run_listed(rt, program, line, s, steps, machine, lists, engine)?;
-            Ok(())
+            run_listed(rt, program, line, s, steps, machine, lists, engine)
         }
-        SectionAnswer::Trapped(_) => {
-            machine.put_alone(program, line, s)?;
-            Ok(())
-        }
-        SectionAnswer::Spent => {
-            machine.put_alone(program, line, s)?;
-            Ok(())
-        }
+        SectionAnswer::Trapped(_) => machine.put_alone(program, line, s),
+        SectionAnswer::Spent => machine.put_alone(program, line, s),
     }
 }
 
@@ -125,10 +116,7 @@ fn run_listed<'a, R: Threads + Wait + Sync, E: Extents>(
             machine.left = rest.saturating_sub(steps);
             Ok(())
         }
-        ExtentAnswer::Declined => {
-            machine.put_alone(program, line, s)?;
-            Ok(())
-        }
+        ExtentAnswer::Declined => machine.put_alone(program, line, s),
     }
 }
 

@@ -31,14 +31,8 @@ impl<'a> Machine<'a> {
         ensures less { IfOk result (λ turn. Lessens turn self.new.left self.old.left) }
     {
         match &s.kind {
-            StmtForm::While(c, _) => {
-                let turn = self.test(program, line, s, c)?;
-                Ok(turn)
-            }
-            StmtForm::For(_, _, _, c, _, _) => {
-                let turn = self.test(program, line, s, c)?;
-                Ok(turn)
-            }
+            StmtForm::While(c, _) => self.test(program, line, s, c),
+            StmtForm::For(_, _, _, c, _, _) => self.test(program, line, s, c),
             _ => Ok(Turn::Ends(Next::GoesOn)),
         }
     }
@@ -59,8 +53,9 @@ impl<'a> Machine<'a> {
             Some(true) => self.begin_turn(program, line, s),
             Some(false) => Ok(Turn::Ends(Next::GoesOn)),
             None => {
-                self.then(Work::Turn(line, s), line, c)?;
-                Ok(Turn::Ends(Next::GoesOn))
+                let taker = Work::Turn(line, s);
+                let next = self.put_both(program, Work::Evaluate(line, c), taker)?;
+                Ok(Turn::Ends(next))
             }
         }
     }
@@ -77,10 +72,7 @@ impl<'a> Machine<'a> {
     {
         match condition {
             Value::Bool(true) => match self.begin_turn(program, line, s)? {
-                Turn::Whole => {
-                    self.todo.push(Work::Again(line, s))?;
-                    Ok(Next::GoesOn)
-                }
+                Turn::Whole => self.put(program, Work::Again(line, s)),
                 Turn::Ends(next) => Ok(next),
             },
             _ => Ok(Next::GoesOn),
@@ -108,8 +100,7 @@ impl<'a> Machine<'a> {
             StmtForm::For(_, _, _, _, next, body) => {
                 let whole = self.start_body(program, body)?;
                 if whole {
-                    let turn = self.follow(program, line, s, next)?;
-                    return Ok(turn);
+                    return self.follow(program, line, s, next);
                 }
                 self.put_next(program, line, s, next)
             }

@@ -35,8 +35,7 @@ impl<'a> Machine<'a> {
     {
         if calls(e) {
             self.todo.push(Work::PutLocal(local, op))?;
-            let next = self.evaluate(program, line, e)?;
-            return Ok(next);
+            return self.evaluate(program, line, e);
         }
         match self.value_of(program, line, e) {
             Some(value) => {
@@ -44,8 +43,8 @@ impl<'a> Machine<'a> {
                 Ok(Next::GoesOn)
             }
             None => {
-                self.then(Work::PutLocal(local, op), line, e)?;
-                Ok(Next::GoesOn)
+                let taker = Work::PutLocal(local, op);
+                self.put_both(program, Work::Evaluate(line, e), taker)
             }
         }
     }
@@ -85,8 +84,7 @@ impl<'a> Machine<'a> {
         }
         if calls(e) {
             self.todo.push(Work::PutField(field, op))?;
-            let next = self.evaluate(program, line, e)?;
-            return Ok(next);
+            return self.evaluate(program, line, e);
         }
         match self.value_of(program, line, e) {
             Some(value) => {
@@ -94,8 +92,8 @@ impl<'a> Machine<'a> {
                 Ok(Next::GoesOn)
             }
             None => {
-                self.then(Work::PutField(field, op), line, e)?;
-                Ok(Next::GoesOn)
+                let taker = Work::PutField(field, op);
+                self.put_both(program, Work::Evaluate(line, e), taker)
             }
         }
     }
@@ -132,8 +130,8 @@ impl<'a> Machine<'a> {
         match self.value_of(program, line, index) {
             Some(index) => self.check_index(program, line, field, op, e, index),
             None => {
-                self.then(Work::CheckIndex(op, line, field, e), line, index)?;
-                Ok(Next::GoesOn)
+                let taker = Work::CheckIndex(op, line, field, e);
+                self.put_both(program, Work::Evaluate(line, index), taker)
             }
         }
     }
@@ -157,8 +155,8 @@ impl<'a> Machine<'a> {
                     Ok(Next::GoesOn)
                 }
                 None => {
-                    self.then(Work::PutItem(line, field, item.place, op), line, e)?;
-                    Ok(Next::GoesOn)
+                    let taker = Work::PutItem(line, field, item.place, op);
+                    self.put_both(program, Work::Evaluate(line, e), taker)
                 }
             },
             None => Ok(self.stop(line, TrapKind::OutOfRange)),
@@ -268,8 +266,8 @@ impl<'a> Machine<'a> {
         match self.value_of(program, line, index) {
             Some(index) => self.fill_item(program, line, field, class, index),
             None => {
-                self.then(Work::NewItem(line, field, class), line, index)?;
-                Ok(Next::GoesOn)
+                let taker = Work::NewItem(line, field, class);
+                self.put_both(program, Work::Evaluate(line, index), taker)
             }
         }
     }

@@ -38,7 +38,7 @@ pub enum Outcome {
 }
 
 /// Why a run gives up: a write failed, or memory is wanting.
-#[derive(Clone, Copy, PartialEq, Eq, Debug, Error)]
+#[derive(Clone, Copy, Debug, Error)]
 pub enum RunError {
     #[error("a write failed")]
     Write,

@@ -27,8 +27,7 @@ impl<'a> Machine<'a> {
                 if rest.is_empty() {
                     return Ok(true);
                 }
-                let whole = self.start_all(program, rest)?;
-                Ok(whole)
+                self.start_all(program, rest)
             }
             _ => {
                 if self.try_one(program, s) {
@@ -89,10 +88,7 @@ impl<'a> Machine<'a> {
                     return Ok(false);
                 }
                 match self.short_of(program, line, e) {
-                    Some(receiver) => {
-                        let whole = self.call_now(program, line, receiver, *op, arguments)?;
-                        Ok(whole)
-                    }
+                    Some(receiver) => self.call_now(program, line, receiver, *op, arguments),
                     None => {
                         self.over = Left::Statement(line, s);
                         Ok(false)

@@ -51,8 +51,7 @@ impl<'a> Machine<'a> {
         if whole {
             return Ok(Next::GoesOn);
         }
-        let next = self.go_on(program)?;
-        Ok(next)
+        self.go_on(program)
     }
 
     /// Calls an operation.
@@ -75,9 +74,8 @@ impl<'a> Machine<'a> {
                 self.collect(program, line, Target::Operation(op), arguments, 0)
             }
             None => {
-                self.todo.push(Work::CollectCall(line, arguments, op, 0))?;
-                self.todo.push(Work::Evaluate(line, e))?;
-                Ok(Next::GoesOn)
+                let taker = Work::CollectCall(line, arguments, op, 0);
+                self.put_both(program, Work::Evaluate(line, e), taker)
             }
         }
     }
@@ -112,10 +110,9 @@ impl<'a> Machine<'a> {
         ensures { IfOk result (λ next. (ps : Past) → takes (program_view program.now) (Work.Choose a.entry b.entry) condition self.old ps ≡ after (program_view program.now) self.new ps next) }
     {
         match condition {
-            Value::Bool(true) => self.todo.push(Work::Exec(a.line, a))?,
-            _ => self.todo.push(Work::Exec(b.line, b))?,
+            Value::Bool(true) => self.put(program, Work::Exec(a.line, a)),
+            _ => self.put(program, Work::Exec(b.line, b)),
         }
-        Ok(Next::GoesOn)
     }
 
     /// Gives the value of an expression back.
@@ -129,8 +126,7 @@ impl<'a> Machine<'a> {
             }
         }
         self.todo.push(Work::GiveBack)?;
-        let next = self.evaluate(program, line, e)?;
-        Ok(next)
+        self.evaluate(program, line, e)
     }
 
     /// Prints the value of an expression.
@@ -145,10 +141,7 @@ impl<'a> Machine<'a> {
                 self.shown = value;
                 Ok(Next::Printed)
             }
-            None => {
-                self.then(Work::Print, line, e)?;
-                Ok(Next::GoesOn)
-            }
+            None => { self.put_both(program, Work::Evaluate(line, e), Work::Print) }
         }
     }
 }

@@ -36,10 +36,7 @@ impl<'a> Machine<'a> {
             }
             Work::Back => self.back(program),
             _ => match self.values.pop() {
-                Some(value) => {
-                    let next = self.take(program, work, value)?;
-                    Ok(next)
-                }
+                Some(value) => self.take(program, work, value),
                 None => Ok(Next::Spent),
             },
         }

@@ -1,13 +1,14 @@
 use Rattle.std.proofs.Common.{◌≡◌, ◌∙◌, true, false, ap, sym, subst, List, [], ◌∷◌}
 use Rattle.ca_program.specs.View.{program_view, statement_view}
 use Rattle.ca_note_laws.specs.Listing.{puts_nothing}
-use Rattle.ca_serial.specs.clauses.Loops.{heeds_loop, section_next, notes_of, notes_next}
+use Rattle.ca_serial.specs.clauses.Loops.{heeds_loop, section_next, notes_of, notes_next, runs_alone}
 use Rattle.ca_serial.specs.clauses.Resume.{and_notes, rest_of}
 use Rattle.std.proofs.lemmas.Result.{err_from_is_err_and}
-use Rattle.ca_serial.proofs.LoopCalls.{none_told, part_told, none_yet, same_part, reached_none, reached_same, stays_next, other_work, unheeded, putting, listing, nothing_more, puts_alone}
+use Rattle.ca_serial.proofs.LoopCalls.{none_told, part_told, none_yet, handed_same, handed_all, reached_none, stays_next, other_work, unheeded, putting, listing, nothing_more, puts_alone}
 use Rattle.ca_serial.specs.declared.work.Work.{Work}
 use Rattle.ca_serial.specs.declared.work.Work.TheVariants.{Exec}
 use Rattle.std.specs.Prelude.{Contains}
+use Rattle.ca_serial.proofs.Passing.{passes_with, passes_noted}
 use Rattle.ca_serial.proofs.listing.hand_on_loop.Goals as goal
 
 pub returns-in_default : goal.returns-in_default
@@ -92,21 +93,6 @@ list_loop-requires-clause-handed g c =
     let ns : notes_next p m.todo m ≡ notes_of m.heap m.left (section_next p m line st) = ap (λ (todo : List Work). notes_next p todo m) is ∙ listing p line x popped m heeds puts in
     c.requires.handed n (subst (λ l. Contains l n) (sym ns) at)
 
-pub returns-in_err-list_loop : goal.returns-in_err-list_loop
-returns-in_err-list_loop g c =
-    let p = program_view c.args.program.now in
-    let m = c.args.machine.now in
-    let line = c.in-Exec.line in
-    let x = c.in-Exec.s in
-    let st = statement_view x.now in
-    let popped = c.pop.new.self in
-    let is : m.todo ≡ Exec line x ∷ popped = c.in-Some.ensures ∙ ap (λ (work : Work). work ∷ popped) c.in-Exec.is in
-    let heeds : heeds_loop m.bodies.current st ≡ true = sym c.heeds.ensures ∙ c.if-not-heeds.false in
-    let puts : puts_nothing st ≡ true = sym c.puts_nothing.ensures ∙ c.if-puts_nothing.true in
-    let ns : notes_next p m.todo m ≡ notes_of m.heap m.left (section_next p m line st) = ap (λ (todo : List Work). notes_next p todo m) is ∙ listing p line x popped m heeds puts in
-    let e = err_from_is_err_and c.from_residual-in_err-list_loop.result c.from_residual-in_err-list_loop.ensures.1 in
-    record { means = none_told _ c.from_residual-in_err-list_loop.result e.0 e.1; account = part_told c.from_residual-in_err-list_loop.result e.0 e.1 (same_part (notes_of m.heap m.left (section_next p m line st)) (notes_next p m.todo m) ns c.in_err-list_loop.ensures.account.part) }
-
 pub returns-then-puts_nothing : goal.returns-then-puts_nothing
 returns-then-puts_nothing g c =
     let p = program_view c.args.program.now in
@@ -121,20 +107,13 @@ returns-then-puts_nothing g c =
     let ns : notes_next p m.todo m ≡ notes_of m.heap m.left (section_next p m line st) = ap (λ (todo : List Work). notes_next p todo m) is ∙ listing p line x popped m heeds puts in
     let new = c.list_loop.new.machine in
     record {
-      means = λ ps. ap (λ (todo : List Work). rest_of p todo m ps) is ∙ c.in_ok-list_loop.ensures.means ps ∙ ap (λ ns. rest_of p new.todo new (and_notes ps ns)) (sym ns);
-      account = record { all = reached_same (notes_of m.heap m.left (section_next p m line st)) (notes_next p m.todo m) ns c.in_ok-list_loop.ensures.account.all; part = tt };
+      means = passes_noted c.list_loop.result _ _ (rest_of p new.todo new) _ _ c.list_loop.ensures.means (λ ps. ap (λ (todo : List Work). rest_of p todo m ps) is) ns;
+      account = handed_same c.list_loop.result _ _ c.list_loop.ensures.account ns;
     }
 
 pub put_alone-requires : goal.put_alone-requires
 put_alone-requires g c =
     sym c.heeds.ensures ∙ c.if-not-heeds.false
-
-pub returns-in_err-put_alone : goal.returns-in_err-put_alone
-returns-in_err-put_alone g c =
-    let p = program_view c.args.program.now in
-    let m = c.args.machine.now in
-    let e = err_from_is_err_and c.from_residual-in_err-put_alone.result c.from_residual-in_err-put_alone.ensures.1 in
-    record { means = none_told _ c.from_residual-in_err-put_alone.result e.0 e.1; account = part_told c.from_residual-in_err-put_alone.result e.0 e.1 (none_yet (notes_next p m.todo m)) }
 
 pub returns : goal.returns
 returns g c =
@@ -150,6 +129,6 @@ returns g c =
     let ns : notes_next p m.todo m ≡ [] = ap (λ (todo : List Work). notes_next p todo m) is ∙ putting p line x popped m heeds puts in
     let new = c.put_alone.new.self in
     record {
-      means = λ ps. ap (λ (todo : List Work). rest_of p todo m ps) is ∙ puts_alone p line st popped m ps heeds puts ∙ c.in_ok-put_alone.ensures ps ∙ ap (rest_of p new.todo new) (sym (nothing_more ps) ∙ ap (and_notes ps) (sym ns));
-      account = record { all = reached_none (notes_next p m.todo m) ns; part = tt };
+      means = passes_noted c.put_alone.result _ _ (rest_of p new.todo new) [] _ (passes_with c.put_alone.result _ _ (rest_of p new.todo new) (λ ps. and_notes ps []) c.put_alone.ensures (λ ps. puts_alone p line st popped m ps heeds puts ∙ ap (runs_alone p line st (record { todo = popped; values = m.values; bodies = m.bodies; heap = m.heap; left = m.left; shown = m.shown; trap = m.trap; due = m.due; over = m.over; others = m.others; patience = m.patience })) (sym (nothing_more ps)))) (λ ps. ap (λ (todo : List Work). rest_of p todo m ps) is) ns;
+      account = handed_all c.put_alone.result _ (reached_none (notes_next p m.todo m) ns);
     }

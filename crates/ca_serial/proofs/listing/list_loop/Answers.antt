@@ -3,9 +3,10 @@ use Rattle.ca_program.specs.View.{program_view, statement_view}
 use Rattle.ca_sections.specs.declared.operations.SectionAnswer.{SectionAnswer}
 use Rattle.ca_sections.specs.Answers.{LoopIs}
 use Rattle.ca_serial.specs.clauses.Loops.{section_next, notes_of}
-use Rattle.ca_serial.specs.clauses.Resume.{and_notes}
+use Rattle.ca_serial.specs.clauses.Resume.{and_notes, rest_of}
 use Rattle.std.proofs.lemmas.Result.{err_from_is_err_and}
-use Rattle.ca_serial.proofs.LoopCalls.{none_told, part_told, none_yet, Answered, Stopped, trapped_section, spent_section, unaccounted, by_its_section, was_stopped}
+use Rattle.ca_serial.proofs.LoopCalls.{none_told, part_told, none_yet, handed_all, Answered, Stopped, trapped_section, spent_section, unaccounted, by_its_section, was_stopped}
+use Rattle.ca_serial.proofs.Passing.{passes_with}
 use Rattle.ca_serial.proofs.listing.list_loop.Goals as goal
 
 pub returns-in_err-answer : goal.returns-in_err-answer
@@ -35,14 +36,8 @@ run_listed-requires-clause-listed g c = λ κs o.
 pub run_listed-requires-clause-locals : goal.run_listed-requires-clause-locals
 run_listed-requires-clause-locals g c = λ κs o. c.in_ok-answer.ensures.locals
 
-pub returns-in_err-run_listed-in-Done : goal.returns-in_err-run_listed-in-Done
-returns-in_err-run_listed-in-Done g c =
-    let e = err_from_is_err_and c.from_residual-in_err-run_listed-in-Done.result c.from_residual-in_err-run_listed-in-Done.ensures.1 in
-    record { means = none_told _ c.from_residual-in_err-run_listed-in-Done.result e.0 e.1; account = part_told c.from_residual-in_err-run_listed-in-Done.result e.0 e.1 c.in_err-run_listed-in-Done.ensures.account.part }
-
-pub returns-in_ok-run_listed-in-Done : goal.returns-in_ok-run_listed-in-Done
-returns-in_ok-run_listed-in-Done g c =
-    record { means = c.in_ok-run_listed-in-Done.ensures.means; account = record { all = c.in_ok-run_listed-in-Done.ensures.account.all; part = tt } }
+pub returns-in-Done : goal.returns-in-Done
+returns-in-Done g c = record { means = c.run_listed.ensures.means; account = c.run_listed.ensures.account }
 
 pub put_alone-requires : goal.put_alone-requires
 put_alone-requires g c = c.requires.heeded
@@ -50,18 +45,8 @@ put_alone-requires g c = c.requires.heeded
 pub put_alone-requires-in-Spent : goal.put_alone-requires-in-Spent
 put_alone-requires-in-Spent g c = c.requires.heeded
 
-pub returns-in_err-put_alone-in-Trapped : goal.returns-in_err-put_alone-in-Trapped
-returns-in_err-put_alone-in-Trapped g c =
-    let e = err_from_is_err_and c.from_residual-in_err-put_alone-in-Trapped.result c.from_residual-in_err-put_alone-in-Trapped.ensures.1 in
-    record { means = none_told _ c.from_residual-in_err-put_alone-in-Trapped.result e.0 e.1; account = part_told c.from_residual-in_err-put_alone-in-Trapped.result e.0 e.1 (none_yet (notes_of c.args.machine.now.heap c.args.machine.now.left (section_next (program_view c.args.program.now) c.args.machine.now c.args.line (statement_view c.args.s.now)))) }
-
-pub returns-in_err-put_alone-in-Spent : goal.returns-in_err-put_alone-in-Spent
-returns-in_err-put_alone-in-Spent g c =
-    let e = err_from_is_err_and c.from_residual-in_err-put_alone-in-Spent.result c.from_residual-in_err-put_alone-in-Spent.ensures.1 in
-    record { means = none_told _ c.from_residual-in_err-put_alone-in-Spent.result e.0 e.1; account = part_told c.from_residual-in_err-put_alone-in-Spent.result e.0 e.1 (none_yet (notes_of c.args.machine.now.heap c.args.machine.now.left (section_next (program_view c.args.program.now) c.args.machine.now c.args.line (statement_view c.args.s.now)))) }
-
-pub returns-in_ok-put_alone-in-Trapped : goal.returns-in_ok-put_alone-in-Trapped
-returns-in_ok-put_alone-in-Trapped g c =
+pub returns-in-Trapped : goal.returns-in-Trapped
+returns-in-Trapped g c =
     let p = program_view c.args.program.now in
     let m = c.args.machine.now in
     let st = statement_view c.args.s.now in
@@ -69,13 +54,14 @@ returns-in_ok-put_alone-in-Trapped g c =
     let ops = c.fill.new.self.listed.items in
     let h : Answered p m c.args.line st c.in_ok-answer.answer ops = record { is = c.in_ok-answer.ensures.listed } in
     let stop : Stopped o = trapped_section p m c.args.line st c.in_ok-answer.answer ops c.in-Trapped.field-0 h c.in-Trapped.is in
+    let new = c.put_alone.new.self in
     record {
-      means = λ ps. by_its_section p c.args.line st m.todo m ps c.requires.heeded c.requires.nothing o refl ∙ was_stopped p c.args.line st m ps o stop ∙ c.in_ok-put_alone-in-Trapped.ensures (and_notes ps (notes_of m.heap m.left o));
-      account = record { all = unaccounted p _ m o stop; part = tt };
+      means = passes_with c.put_alone.result _ _ (rest_of p new.todo new) (λ ps. and_notes ps (notes_of m.heap m.left o)) c.put_alone.ensures (λ ps. by_its_section p c.args.line st m.todo m ps c.requires.heeded c.requires.nothing o refl ∙ was_stopped p c.args.line st m ps o stop);
+      account = handed_all c.put_alone.result _ (unaccounted p _ m o stop);
     }
 
-pub returns-in_ok-put_alone-in-Spent : goal.returns-in_ok-put_alone-in-Spent
-returns-in_ok-put_alone-in-Spent g c =
+pub returns-in-Spent : goal.returns-in-Spent
+returns-in-Spent g c =
     let p = program_view c.args.program.now in
     let m = c.args.machine.now in
     let st = statement_view c.args.s.now in
@@ -83,7 +69,9 @@ returns-in_ok-put_alone-in-Spent g c =
     let ops = c.fill.new.self.listed.items in
     let h : Answered p m c.args.line st c.in_ok-answer.answer ops = record { is = c.in_ok-answer.ensures.listed } in
     let stop : Stopped o = spent_section p m c.args.line st c.in_ok-answer.answer ops h c.in-Spent.is in
+    let put = c.put_alone-in-Spent in
+    let new = put.new.self in
     record {
-      means = λ ps. by_its_section p c.args.line st m.todo m ps c.requires.heeded c.requires.nothing o refl ∙ was_stopped p c.args.line st m ps o stop ∙ c.in_ok-put_alone-in-Spent.ensures (and_notes ps (notes_of m.heap m.left o));
-      account = record { all = unaccounted p _ m o stop; part = tt };
+      means = passes_with put.result _ _ (rest_of p new.todo new) (λ ps. and_notes ps (notes_of m.heap m.left o)) put.ensures (λ ps. by_its_section p c.args.line st m.todo m ps c.requires.heeded c.requires.nothing o refl ∙ was_stopped p c.args.line st m ps o stop);
+      account = handed_all put.result _ (unaccounted p _ m o stop);
     }

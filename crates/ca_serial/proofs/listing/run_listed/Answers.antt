@@ -11,10 +11,11 @@ use Rattle.ca_parallel.specs.Parallel.{ParallelFrom}
 use Rattle.ca_meaning.specs.WellTyped.{AllWellTyped}
 use Rattle.ca_serial.specs.clauses.Loops.{section_next, notes_of}
 use Rattle.ca_serial.specs.clauses.Bodies.{with_locals}
-use Rattle.ca_serial.specs.clauses.Resume.{and_notes}
+use Rattle.ca_serial.specs.clauses.Resume.{and_notes, rest_of}
 use Rattle.ca_serial.specs.declared.machine.Machine.{Machine}
 use Rattle.std.proofs.lemmas.Result.{err_from_is_err_and}
-use Rattle.ca_serial.proofs.LoopCalls.{none_told, part_told, none_yet, whole_part, IsDone, is_done, said_of, done_locals, alone_with, noted_in, ops_are, accounted, by_its_section, was_listed, was_declined}
+use Rattle.ca_serial.proofs.LoopCalls.{none_told, part_told, none_yet, whole_part, handed_all, IsDone, is_done, said_of, done_locals, alone_with, noted_in, ops_are, accounted, by_its_section, was_listed, was_declined}
+use Rattle.ca_serial.proofs.Passing.{passes_with}
 use Rattle.ca_serial.proofs.listing.run_listed.Goals as goal
 
 pub run-requires-clause-ready : goal.run-requires-clause-ready
@@ -107,23 +108,8 @@ returns-in_ok-put_locals-in-Done g c =
 pub put_alone-requires : goal.put_alone-requires
 put_alone-requires g c = c.requires.heeded
 
-pub returns-in_err-put_alone-in-Declined : goal.returns-in_err-put_alone-in-Declined
-returns-in_err-put_alone-in-Declined g c =
-    let p = program_view c.args.program.now in
-    let m = c.args.machine.now in
-    let st = statement_view c.args.s.now in
-    let o = section_next p m c.args.line st in
-    let ops = c.args.lists.now.listed.items in
-    let taken = c.args.taken in
-    let d : IsDone o taken (invocations_of ops) = is_done o taken ops c.requires.listed in
-    let step : g.E.Extents.Accounts (g.E.Extents.account c.args.engine.now) p m.heap (invocations_of ops) (m.left - taken) (g.E.Extents.account c.run.new.self) =
-    said_of (λ l k. g.E.Extents.Accounts (g.E.Extents.account c.args.engine.now) p m.heap l k (g.E.Extents.account c.run.new.self)) _ ops _ m.left taken c.as_slice-listed.ensures.value c.saturating_sub-rest.ensures c.in_ok-steps.ensures.accounts in
-    let reached : Reached g.E.Extents.Accounts p (g.E.Extents.account c.args.engine.now) (notes_of m.heap m.left o) (g.E.Extents.account c.run.new.self) = accounted p _ _ m o taken (invocations_of ops) d step in
-    let e = err_from_is_err_and c.from_residual-in_err-put_alone-in-Declined.result c.from_residual-in_err-put_alone-in-Declined.ensures.1 in
-    record { means = none_told _ c.from_residual-in_err-put_alone-in-Declined.result e.0 e.1; account = part_told c.from_residual-in_err-put_alone-in-Declined.result e.0 e.1 (whole_part (notes_of m.heap m.left o) reached) }
-
-pub returns-in_ok-put_alone-in-Declined : goal.returns-in_ok-put_alone-in-Declined
-returns-in_ok-put_alone-in-Declined g c =
+pub returns-in-Declined : goal.returns-in-Declined
+returns-in-Declined g c =
     let p = program_view c.args.program.now in
     let m = c.args.machine.now in
     let st = statement_view c.args.s.now in
@@ -136,10 +122,11 @@ returns-in_ok-put_alone-in-Declined g c =
     let reached : Reached g.E.Extents.Accounts p (g.E.Extents.account c.args.engine.now) (notes_of m.heap m.left o) (g.E.Extents.account c.run.new.self) = accounted p _ _ m o taken (invocations_of ops) d step in
     let heap : c.run.new.heap ≡ m.heap = subst (λ (a : ExtentAnswer). Answers p m.heap (invocations_of c.as_slice-listed.result.now) c.saturating_sub-rest.result c.run.new.heap a) c.in-Declined.is c.in_ok-steps.ensures.answer in
     let not : IsNotDone p m.heap (invocations_of ops) (m.left - taken) = said_of (λ l k. IsNotDone p m.heap l k) _ ops _ m.left taken c.as_slice-listed.ensures.value c.saturating_sub-rest.ensures (c.in_ok-steps.ensures.declined (c.requires.handed _ (noted_in m o taken (invocations_of ops) d)).1 c.in-Declined.is) in
-    let after = c.put_alone.new.self in
+    let new = c.put_alone.new.self in
+    let ns = notes_of m.heap m.left o in
     record {
-      means = λ ps. by_its_section p c.args.line st m.todo m ps c.requires.heeded c.requires.nothing o refl
+      means = passes_with c.put_alone.result _ _ (rest_of p new.todo new) (λ ps. and_notes ps ns) c.put_alone.ensures (λ ps. by_its_section p c.args.line st m.todo m ps c.requires.heeded c.requires.nothing o refl
           ∙ was_declined p c.args.line st m ps o taken (invocations_of ops) d not
-          ∙ alone_with p c.args.line st m c.run.new.heap (and_notes ps (notes_of m.heap m.left o)) _ heap (c.in_ok-put_alone-in-Declined.ensures (and_notes ps (notes_of m.heap m.left o)));
-      account = record { all = reached; part = tt };
+          ∙ alone_with p c.args.line st m c.run.new.heap (and_notes ps ns) _ heap refl);
+      account = handed_all c.put_alone.result ns reached;
     }

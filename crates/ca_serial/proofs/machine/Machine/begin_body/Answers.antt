@@ -19,4 +19,4 @@ pub returns : goal.returns
 returns c =
     let done = c.do_all-rest in
     let todo = Leave ∷ c.args.self.now.todo in
-    passes_on c.put_off.result _ _ _ c.put_off.ensures (λ ps. rw (c.in_ok-push-3.ensures, done.ensures.todo) (done.ensures.left todo ps))
+    passes_on c.put_off.result _ _ _ c.put_off.ensures (λ ps. rw (c.in_ok-push.ensures, done.ensures.todo) (done.ensures.left todo ps))

@@ -2,7 +2,8 @@ use Rattle.std.proofs.Common.{◌∙◌, ◌<◌, ap, arith}
 use Rattle.std.proofs.lemmas.Result.{IfOk-weaker}
 use Rattle.ca_program.specs.View.{program_view}
 use Rattle.ca_serial.proofs.AtOnce.{while_started, for_started}
-use Rattle.ca_serial.proofs.Beginnings.{less_than_before}
+use Rattle.ca_serial.proofs.Beginnings.{less_behind}
+use Rattle.ca_serial.proofs.Passing.{passes_on}
 use Rattle.ca_serial.proofs.machine.Machine.begin_turn.Goals as goal
 
 pub returns-then-whole-clause-means : goal.returns-then-whole-clause-means
@@ -24,20 +25,17 @@ returns-else-whole c =
       less = IfOk-weaker c.put_again.result _ _ (λ _ less. less _ _) c.put_again.ensures.less;
     }
 
-pub returns-then-whole-2-clause-means : goal.returns-then-whole-2-clause-means
-returns-then-whole-2-clause-means c = λ ps.
+pub returns-then-whole-2 : goal.returns-then-whole-2
+returns-then-whole-2 c =
     let m = c.args.self.now in
     let lt : 0 < m.left = omega arith in
     let f = c.in-For in
     let w = c.in_ok-whole-in-For in
     let next = c.deref-then-whole-2 in
-    (rw c.if-whole-2.true at (for_started (program_view c.args.program.now) m c.start_body-in-For.new.self ps c.args.line c.args.s f.field-0 f.field-1 f.field-2 f.field-3 f.next f.body c.deref-in-For.result.now.line c.deref-in-For.result next.result w.whole lt f.is (ap (λ s. s.line) c.deref-in-For.ensures) c.deref-in-For.ensures next.ensures w.ensures.todo w.ensures.left))
-    ∙ c.in_ok-turn-in-For.ensures.means ps
-
-pub returns-then-whole-2-clause-less : goal.returns-then-whole-2-clause-less
-returns-then-whole-2-clause-less c =
-    let lt : 0 < c.args.self.now.left = omega arith in
-    less_than_before c.in_ok-turn-in-For.turn c.follow.new.self.left c.start_body-in-For.new.self.left c.args.self.now.left lt c.in_ok-whole-in-For.ensures.steps c.in_ok-turn-in-For.ensures.less
+    record {
+      means = passes_on c.follow.result _ _ _ c.follow.ensures.means (λ ps. (rw c.if-whole-2.true at (for_started (program_view c.args.program.now) m c.start_body-in-For.new.self ps c.args.line c.args.s f.field-0 f.field-1 f.field-2 f.field-3 f.next f.body c.deref-in-For.result.now.line c.deref-in-For.result next.result w.whole lt f.is (ap (λ s. s.line) c.deref-in-For.ensures) c.deref-in-For.ensures next.ensures w.ensures.todo w.ensures.left)));
+      less = less_behind c.follow.result c.follow.new.self.left c.start_body-in-For.new.self.left m.left c.follow.ensures.less lt w.ensures.steps;
+    }
 
 pub returns-else-whole-2 : goal.returns-else-whole-2
 returns-else-whole-2 c =

@@ -4,6 +4,7 @@ use Rattle.ca_serial.specs.declared.work.Work.TheVariants.{Exec}
 use Rattle.ca_serial.specs.clauses.Resume.{rest_of, all_before}
 use Rattle.ca_serial.proofs.AtOnce.{block_all_before, nothing_before}
 use Rattle.ca_serial.proofs.Beginnings.{still_alone}
+use Rattle.ca_serial.proofs.Passing.{passes_before}
 use Rattle.ca_serial.proofs.machine.Machine.start_body.Goals as goal
 
 pub returns-then-is_empty-clause-left : goal.returns-then-is_empty-clause-left
@@ -15,13 +16,13 @@ returns-then-is_empty-clause-left c = λ todo ps.
     ∙ c.do_all-rest.ensures.left todo ps
     ∙ nothing_before p todo c.do_all-rest.new.self c.do_all-rest.result.now ps none
 
-pub returns-in_ok-whole-in-Block-clause-left : goal.returns-in_ok-whole-in-Block-clause-left
-returns-in_ok-whole-in-Block-clause-left c = λ todo ps.
+pub returns-else-is_empty-clause-left : goal.returns-else-is_empty-clause-left
+returns-else-is_empty-clause-left c =
     let p = program_view c.args.program.now in
+    passes_before c.start_all.result _ _ _ c.start_all.ensures.left (λ todo ps.
     block_all_before p c.args.s.now.line c.args.s c.in-Block.ss c.args.self.now todo ps c.in-Block.is
     ∙ ap (λ xs. all_before p todo (statements_view xs) c.args.self.now ps) (sym c.as_slice.ensures.value)
-    ∙ c.do_all-rest.ensures.left todo ps
-    ∙ c.in_ok-whole-in-Block.ensures.left todo ps
+    ∙ c.do_all-rest.ensures.left todo ps)
 
 pub returns-then-try_one-clause-left : goal.returns-then-try_one-clause-left
 returns-then-try_one-clause-left c = λ todo ps. c.if-try_one.ensures.2 todo ps

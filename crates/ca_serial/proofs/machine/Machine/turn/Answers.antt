@@ -1,17 +1,22 @@
-use Rattle.std.proofs.Common.{◌∙◌}
 use Rattle.ca_program.specs.View.{program_view}
 use Rattle.ca_serial.specs.clauses.Resume.{world_of}
 use Rattle.ca_serial.proofs.Steps.{while_again_at, for_again_at}
+use Rattle.ca_serial.proofs.Passing.{passes_on}
 use Rattle.ca_serial.proofs.machine.Machine.turn.Goals as goal
 
-pub returns-in_ok-turn-in-While-clause-means : goal.returns-in_ok-turn-in-While-clause-means
-returns-in_ok-turn-in-While-clause-means c = λ ps.
+pub returns-in-While : goal.returns-in-While
+returns-in-While c =
     let m = c.args.self.now in
-    while_again_at (program_view c.args.program.now) m.bodies.current (world_of m ps) c.args.line c.args.s.now c.in-While.c _ m.left _ _ c.in-While.is
-    ∙ c.in_ok-turn-in-While.ensures.means ps
+    record {
+      means = passes_on c.test.result _ _ _ c.test.ensures.means (λ ps. while_again_at (program_view c.args.program.now) m.bodies.current (world_of m ps) c.args.line c.args.s.now c.in-While.c _ m.left _ _ c.in-While.is);
+      less = c.test.ensures.less;
+    }
 
-pub returns-in_ok-turn-in-For-clause-means : goal.returns-in_ok-turn-in-For-clause-means
-returns-in_ok-turn-in-For-clause-means c = λ ps.
+pub returns-in-For : goal.returns-in-For
+returns-in-For c =
     let m = c.args.self.now in
-    for_again_at (program_view c.args.program.now) m.bodies.current (world_of m ps) c.args.line c.args.s.now _ _ _ c.in-For.c _ _ m.left _ _ c.in-For.is
-    ∙ c.in_ok-turn-in-For.ensures.means ps
+    let test = c.test-in-For in
+    record {
+      means = passes_on test.result _ _ _ test.ensures.means (λ ps. for_again_at (program_view c.args.program.now) m.bodies.current (world_of m ps) c.args.line c.args.s.now _ _ _ c.in-For.c _ _ m.left _ _ c.in-For.is);
+      less = test.ensures.less;
+    }
