@@ -1,13 +1,12 @@
 -- What was added where there was room.
-use Rattle.std.proofs.Common.{◌≡◌, List, ◌∷◌, [], ◌++◌, Bool, true, false, Option, Some, None, Result, Ok, Err, IfOk, OnOk, IsOk, is_ok, is_some, if◌then◌else◌, map, refl, sym, subst, ap, ◌∙◌}
+use Rattle.std.proofs.Common.{◌≡◌, List, ◌∷◌, [], ◌++◌, Bool, true, false, Option, Some, None, Result, Ok, Err, is_ok, is_some, if◌then◌else◌, map, refl, subst, ap, ◌∙◌}
 use Rattle.std.specs.Result.{result_and}
 use Rattle.std.proofs.lemmas.List.{map-append}
-use Rattle.ca_program.specs.declared.program.Class.{Class}
 use Rattle.ca_program.specs.declared.program.FieldInfo.{FieldInfo}
 use Rattle.ca_program.specs.declared.program.Method.{Method}
 use Rattle.ca_program.specs.declared.program.ValueType.{ValueType}
 use Rattle.ca_program.specs.Plain as program
-use Rattle.ca_program.specs.View.{class_view, method_view}
+use Rattle.ca_program.specs.View.{method_view}
 use Rattle.ca_types.specs.Classes.{Members, Parts}
 use Rattle.ca_types.specs.clauses.Adding.{with_method}
 

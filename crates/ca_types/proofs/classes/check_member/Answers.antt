@@ -1,5 +1,4 @@
 use Rattle.std.proofs.Common.{Result, ap, subst, sym}
-use Rattle.ca_tree.specs.Plain.{field_member, method_member}
 use Rattle.ca_tree.specs.View.{member_view, method_view as tree_method}
 use Rattle.ca_program.specs.declared.program.FieldInfo.{FieldInfo}
 use Rattle.ca_program.specs.declared.program.Method.{Method}

@@ -1,4 +1,3 @@
-use Rattle.std.proofs.Common.{arith}
 use Rattle.ca_tree.specs.View.{member_view}
 use Rattle.ca_resolve.specs.Scopes.{member_name}
 use Rattle.ca_types.proofs.Lists.{one_more_seen}
