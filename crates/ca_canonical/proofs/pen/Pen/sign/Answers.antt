@@ -1,4 +1,4 @@
-use Rattle.std.proofs.Common.{◌≡◌, subst, sym, ap}
+use Rattle.std.proofs.Common.{subst, sym, ap}
 use Rattle.ca_tree.specs.Spellings.{sign_text}
 use Rattle.ca_canonical.specs.Texts.{gap_behind, is_semicolon}
 use Rattle.ca_canonical.specs.clauses.Pens.{Written, Puts}
