@@ -6,3 +6,12 @@ use Rattle.ca_shared_terms.proofs.light.LightTerm.minus.Goals as goal
 pub made-requires : goal.made-requires
 made-requires c =
     c.sum-measure.ensures c.args.a c.args.b (subst (λ (t : PlainTerm). Measures c.a.inside.measure t) c.a.view_is c.a.invariant.0) (subst (λ (t : PlainTerm). Measures c.b.inside.measure t) c.b.view_is c.b.invariant.0)
+
+pub returns-clause-made : goal.returns-clause-made
+returns-clause-made c = c.made.ensures.made
+
+pub returns-clause-light : goal.returns-clause-light
+returns-clause-light c = c.made.ensures.light
+
+pub returns-clause-large : goal.returns-clause-large
+returns-clause-large c = c.made.ensures.large
