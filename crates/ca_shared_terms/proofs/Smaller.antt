@@ -1,5 +1,5 @@
 -- What a term stands over is smaller than it, and terms of equal operators over equal terms are equal.
-use Rattle.std.proofs.Common.{◌≡◌, ℕ, ◌+◌, ◌<◌, refl, sym, ap, ap₂, ◌∙◌, arith}
+use Rattle.std.proofs.Common.{◌≡◌, ◌+◌, ◌<◌, refl, sym, ap, ap₂, ◌∙◌, arith}
 use Rattle.ca_norm.specs.declared.operators.Unary.{Unary}
 use Rattle.ca_norm.specs.declared.operators.Unary.TheVariants as unary
 use Rattle.ca_norm.specs.declared.operators.Binary.{Binary}
