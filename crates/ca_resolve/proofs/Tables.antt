@@ -1,6 +1,6 @@
 -- The walks that make the tables of classes and members.
-use Rattle.std.proofs.Common.{◌≡◌, ℕ, ◌+◌, ◌<◌, ◌≤◌, List, [], ◌∷◌, ◌++◌, map, length, drop, get_or, refl, sym, ◌∙◌, ap, arith, Bor}
-use Rattle.std.proofs.lemmas.List.{append_assoc, append-nil, drop_all, drop_more, map-append, length-append}
+use Rattle.std.proofs.Common.{◌≡◌, ℕ, ◌+◌, ◌<◌, ◌≤◌, List, [], ◌∷◌, ◌++◌, map, length, take, drop, get_or, refl, sym, ◌∙◌, ap, arith, Bor}
+use Rattle.std.proofs.lemmas.List.{append_assoc, append-nil, drop_all, drop_more, take_more, map-append, length-append}
 use Rattle.std.specs.List.{zip}
 use Rattle.ca_tree.specs.declared.tree.Member.{Member}
 use Rattle.ca_tree.specs.declared.tree.ClassNode.{ClassNode}
@@ -20,6 +20,19 @@ zip_more [] [] n x h = refl
 zip_more [] (y ∷ ys) n x h = absurd (omega (arith, h))
 zip_more (m ∷ ms) [] n x h = absurd (omega (arith, h))
 zip_more (m ∷ ms) (y ∷ ys) n x h = ap (λ zs. (m, y) ∷ zs) (zip_more ms ys n x (omega (arith, h)))
+
+-- one item more has been read and seen
+pub one_more_seen : {X Y Z V : Type 0} (view : X → Y) (f : Y → Z) (g : V → Z) (xs : List X) (i : ℕ) (x : X) (vs ws : List V) (v : V)
+    → i < length xs → x ≡ get_or xs i x → g v ≡ f (view x) → ws ≡ vs ++ v ∷ [] → map g vs ≡ map f (map view (take i xs)) → map g ws ≡ map f (map view (take (i + 1) xs))
+one_more_seen view f g xs i x vs ws v h is same more seen =
+    let front = take i xs in
+    let taken : take (i + 1) xs ≡ front ++ x ∷ [] = take_more xs i x h ∙ ap (λ y. front ++ y ∷ []) (sym is) in
+    ap (map g) more
+    ∙ (map-append g vs (v ∷ [])
+    ∙ (ap (λ l. l ++ g v ∷ []) seen
+    ∙ (ap (λ z. map f (map view front) ++ z ∷ []) same
+    ∙ (sym (map-append f (map view front) (view x ∷ []))
+    ∙ (ap (map f) (sym (map-append view front (x ∷ []))) ∙ ap (λ l. map f (map view l)) (sym taken))))))
 
 -- members
 
