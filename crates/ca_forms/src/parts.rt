@@ -43,24 +43,6 @@ pub fn two_boxes<T: Drop>(
     Ok((first, second))
 }
 
-/// Each of the three in a box.
-#[inline(never)]
-pub fn three_boxes<T: Drop>(
-    alloc: Global,
-    first: Result<T, AllocError>,
-    second: Result<T, AllocError>,
-    third: Result<T, AllocError>,
-) -> Result<(Box<T>, Box<T>, Box<T>), AllocError>
-    ensures first { IfOk result (λ p. first ≡ Ok (box_value p.0)) }
-    ensures second { IfOk result (λ p. second ≡ Ok (box_value p.1)) }
-    ensures third { IfOk result (λ p. third ≡ Ok (box_value p.2)) }
-{
-    let first = one_box(alloc, first)?;
-    let second = one_box(alloc, second)?;
-    let third = one_box(alloc, third)?;
-    Ok((first, second, third))
-}
-
 /// One item more behind the others, if it is there.
 pub fn add<T: Drop>(items: &mut Vec<T>, item: Result<T, AllocError>) -> Result<(), AllocError>
     ensures { OnOk result (IsOkAnd item (λ x. items.new.items ≡ items.old.items ++ x ∷ [])) }
