@@ -141,7 +141,8 @@ impl LightTerm {
         ensures light { IfOk result (λ _. is_heavy (node_of node) ≡ false) }
         ensures large { result ≡ Err ExecutionError.Large → is_heavy (node_of node) ≡ true }
     {
-        if measure.weight() > MOST_WEIGHT {
+        let heavy = measure.weight() > MOST_WEIGHT;
+        if heavy {
             let_go(node);
             return Err(ExecutionError::Large);
         }
