@@ -1,6 +1,6 @@
 -- A walk over a list of parameters, members or classes.
-use Rattle.std.proofs.Common.{◌≡◌, ℕ, ◌+◌, ◌<◌, ◌≤◌, List, [], ◌∷◌, ◌++◌, map, take, drop, length, get_or, refl, sym, ◌∙◌, ap}
-use Rattle.std.proofs.lemmas.List.{drop_all, take_more, map-append}
+use Rattle.std.proofs.Common.{◌≡◌, ℕ, ◌+◌, ◌<◌, ◌≤◌, List, [], ◌∷◌, map, drop, length, get_or, refl, sym, ◌∙◌, ap}
+use Rattle.std.proofs.lemmas.List.{drop_all}
 use Rattle.ca_resolve.specs.Judged.{Judged}
 use Rattle.ca_resolve.proofs.Tables.{next_read}
 use Rattle.ca_types.specs.Classes.{walked}
@@ -30,16 +30,3 @@ rest_end next add s0 s front0 front all xs e r = (r.judged ∙ ap (gathered next
 
 pub none_left : {X Y : Type 0} (view : X → Y) (xs : List X) (i : ℕ) → length xs ≤ i → map view (drop i xs) ≡ []
 none_left view xs i h = ap (map view) (drop_all i xs h)
-
--- one item more has been read and seen
-pub one_more_seen : {X Y Z V : Type 0} (view : X → Y) (f : Y → Z) (g : V → Z) (xs : List X) (i : ℕ) (x : X) (vs ws : List V) (v : V)
-    → i < length xs → x ≡ get_or xs i x → g v ≡ f (view x) → ws ≡ vs ++ v ∷ [] → map g vs ≡ map f (map view (take i xs)) → map g ws ≡ map f (map view (take (i + 1) xs))
-one_more_seen view f g xs i x vs ws v h is same more seen =
-    let front = take i xs in
-    let taken : take (i + 1) xs ≡ front ++ x ∷ [] = take_more xs i x h ∙ ap (λ y. front ++ y ∷ []) (sym is) in
-    ap (map g) more
-    ∙ (map-append g vs (v ∷ [])
-    ∙ (ap (λ l. l ++ g v ∷ []) seen
-    ∙ (ap (λ z. map f (map view front) ++ z ∷ []) same
-    ∙ (sym (map-append f (map view front) (view x ∷ []))
-    ∙ (ap (map f) (sym (map-append view front (x ∷ []))) ∙ ap (λ l. map f (map view l)) (sym taken))))))

@@ -1,6 +1,6 @@
 use Rattle.ca_tree.specs.View.{member_view}
 use Rattle.ca_resolve.specs.Scopes.{member_name}
-use Rattle.ca_types.proofs.Lists.{one_more_seen}
+use Rattle.ca_resolve.proofs.Tables.{one_more_seen}
 use Rattle.ca_types.proofs.classes.names_of.Goals as goal
 
 pub loop-member-preserved : goal.loop-member-preserved
