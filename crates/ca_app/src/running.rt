@@ -17,7 +17,7 @@ use crate::serving::{DONE, NO_MEMORY, READ_FAULT, SPENT, TRAPPED, USAGE, WRITE_F
 use ca_base::{Gate, Memory, Sink};
 use ca_model::print_heap;
 use ca_parallel::Marks;
-use ca_plan::plan;
+use ca_plan::{let_go, plan};
 use ca_program::Program;
 use ca_run::OneWorker;
 use ca_serial::{Outcome, RunError, drive};
@@ -88,7 +88,11 @@ fn marks_of(alloc: Global, program: &Program) -> Result<Marks, Memory>
     ensures sound { IfOk result (SoundMarks (program_view program.now)) }
 {
     match plan(alloc, program) {
-        Ok(plan) => same_marks(alloc, plan.marks()),
+        Ok(plan) => {
+            let marks = same_marks(alloc, plan.marks());
+            let_go(plan);
+            marks
+        }
         Err(wanting) => Err(wanting),
     }
 }

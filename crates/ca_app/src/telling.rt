@@ -13,7 +13,7 @@ use crate::reading::Reading;
 use crate::serving::{DONE, NO_MEMORY, READ_FAULT, USAGE, finish};
 use ca_base::{Sink, write_all};
 use ca_emit::emit;
-use ca_plan::{Plan, plan, print_pairs, print_plan};
+use ca_plan::{Plan, let_go, plan, print_pairs, print_plan};
 use ca_words::Command;
 use std::alloc::Global;
 
@@ -28,7 +28,11 @@ pub fn tell_plan<K: Sink>(alloc: Global, command: Command, reading: &Reading, si
     ensures no_usage { result ≡ USAGE → ⊥ }
 {
     match plan(alloc, &reading.program) {
-        Ok(plan) => tell(alloc, command, reading, &plan, sink),
+        Ok(plan) => {
+            let status = tell(alloc, command, reading, &plan, sink);
+            let_go(plan);
+            status
+        }
         Err(_) => NO_MEMORY,
     }
 }

@@ -29,7 +29,7 @@ use crate::making::made;
 use ca_base::Memory;
 use ca_program::Program;
 pub use modes::{is_loop_in, is_op_in, print_plan};
-pub use plans::{Judged, JudgedLoop, PairVerdict, Plan};
+pub use plans::{Judged, JudgedLoop, PairVerdict, Plan, let_go};
 use std::alloc::Global;
 pub use texts::print_pairs;
 

@@ -154,3 +154,7 @@ impl Plan {
         &self.marks
     }
 }
+
+/// Lets a plan go. Who calls it drops no plan of its own, so that nothing is proved once more of what a plan holds.
+#[inline(never)]
+pub fn let_go(_plan: Plan) {}
