@@ -18,7 +18,7 @@ use ca_types::check;
 use std::alloc::Global;
 
 /// Why a text has no program: it is refused, or memory is wanting.
-#[derive(Clone, Copy, PartialEq, Eq, Debug)]
+#[derive(Clone, Copy, PartialEq, Eq)]
 pub enum NoProgram {
     Refused(Refusal),
     Memory,
