@@ -1,7 +1,7 @@
 -- Parts that are put together and taken apart.
 use Rattle.std.proofs.Common.{◌≡◌, ℕ, suc, ◌+◌, ◌<◌, get_or, Bool, false, List, [], ◌∷◌, ◌++◌, All, Option, Some, None, length, map, reverse, slice_get, sym, refl, ap, ◌∙◌, subst, arith, append_assoc, append-nil}
 use Rattle.std.specs.Prelude.{Result, Ok, Err, IfOk}
-use Rattle.std.proofs.lemmas.List.{reverse-append, map-append}
+use Rattle.std.proofs.lemmas.List.{length_push, reverse-append, map-append}
 use Rattle.std.proofs.lemmas.List.Elements.{All-append}
 use Rattle.ca_meaning.specs.Multisets.{weight}
 use Rattle.ca_order_laws.proofs.Weights.{weight_append}
@@ -30,6 +30,9 @@ same_lists [] [] n h = refl
 same_lists [] (y ∷ ys) n h = absurd (omega (arith, n))
 same_lists (x ∷ xs) [] n h = absurd (omega (arith, n))
 same_lists (x ∷ xs) (y ∷ ys) n h = same_head y x ys xs (h 0 x (omega arith)) (same_lists xs ys (omega (arith, n)) (λ k d l. h (suc k) d (omega (arith, l))))
+
+pub fewer : {A : Type 0} (xs ys : List A) (x : A) → xs ≡ ys ++ x ∷ [] → length ys < length xs
+fewer xs ys x e = let a = ap length e in let b = length_push ys x in omega (arith, a, b)
 
 pub reverse_twice : {A : Type 0} (xs : List A) → reverse (reverse xs) ≡ xs
 reverse_twice [] = refl
