@@ -6,7 +6,7 @@ use Rattle.ca_run.specs.Rounds.{RanTo, WentTo, Turned}
 use Rattle.ca_run.proofs.Going.{one_more, stuck_turn, all_turns, at_end}
 use Rattle.ca_run.proofs.Answering.{left_waiting}
 use Rattle.ca_run.proofs.Handed.{some_behind, some_front, no_more, at_first}
-use Rattle.ca_run.proofs.rounds.run_all.Goals as goal
+use Rattle.ca_run.proofs.rounds.run_turns.Goals as goal
 
 pub turns-init : goal.turns-init
 turns-init g c =

@@ -3,7 +3,7 @@ use Rattle.ca_program.specs.View.{program_view}
 use Rattle.ca_parallel.specs.Calls.{invocations_of}
 use Rattle.ca_run.specs.Beside.{present}
 use Rattle.ca_run.proofs.Going.{Turns}
-use Rattle.ca_run.proofs.rounds.run_all.Given as goal
+use Rattle.ca_run.proofs.rounds.run_turns.Given as goal
 
 -- behind so many turns the others that were handed in wait, and what was listed
 abbrev pub invariant-turns : goal.invariant-turns
