@@ -1,5 +1,5 @@
 -- The orders tie only equal values.
-use Rattle.std.proofs.Common.{◌≡◌, ◌↔◌, Bool, true, IsTrue, Ordering, Less, Equal, Greater, is_eq, refl, ap, subst}
+use Rattle.std.proofs.Common.{◌≡◌, ◌↔◌, true, IsTrue, Ordering, Less, Equal, Greater, is_eq, refl, ap, subst}
 use Rattle.std.proofs.lemmas.Cmp.{tied_itself, on_total}
 use Rattle.ca_sums.proofs.Collect.{Exact}
 use Rattle.ca_forms.specs.Plain.{PlainPart, PlainPolynomial, PlainPointer, PlainScalar, part_code, part_inj, polynomial_code, polynomial_inj, monomial_code, monomial_inj, pointer_code, pointer_inj, scalar_code, scalar_inj}

@@ -1,5 +1,5 @@
 -- Polynomials in place of the sums that they are gathered from: what they add to a map is the same.
-use Rattle.std.proofs.Common.{◌≡◌, ℕ, ◌+◌, ◌-◌, ◌*◌, ◌%◌, ◌^◌, [], ◌∷◌, ◌++◌, map, refl, sym, ap, ap₂, ◌∙◌, arith, mul_assoc, true}
+use Rattle.std.proofs.Common.{◌≡◌, ℕ, ◌+◌, ◌-◌, ◌*◌, ◌%◌, ◌^◌, [], ◌∷◌, ◌++◌, map, refl, sym, ap, ◌∙◌, arith, mul_assoc, true}
 use Rattle.ca_sums.specs.Sums.{Sum, total, scale, collect, Adds, AddsSum}
 use Rattle.ca_sums.specs.Products.{product}
 use Rattle.ca_sums.proofs.Algebra.{alike_refl, alike_eq, alike_trans, alike_add, alike_mul, alike_mod, total_append, total_scale}
@@ -114,3 +114,10 @@ add_flip m n = omega arith
 pub adds_last : (a b end : Sum PlainMonomial) (k : ℕ) (x : PlainMonomial × ℕ) (xs : Sum PlainMonomial) → Adds a b x.0 ((k * x.1) % (2 ^ 64)) → AddsSum b end k xs → AddsSum a end k (xs ++ x ∷ [])
 adds_last a b end k x xs h t =
     adds_same a end k ((x ∷ []) ++ xs) (xs ++ x ∷ []) (record { same = λ f. alike_eq (total_append f (x ∷ []) xs ∙ add_flip (total f (x ∷ [])) (total f xs) ∙ sym (total_append f xs (x ∷ []))) }) (adds_both a b end k (x ∷ []) xs (adds_one a b k x.1 x.0 h) t)
+
+once : (n : ℕ) → 1 * n ≡ n
+once n = omega arith
+
+-- what is added once
+pub gathered_once : (ps qs : Sum PlainMonomial) → gathered (ps ++ scale 1 qs) ≡ gathered (ps ++ qs)
+gathered_once ps qs = gathered_same _ _ (append_same ps ps (scale 1 qs) qs (same_totals_refl ps) (record { same = λ f. alike_eq (total_scale f 1 qs ∙ once (total f qs)) }))

@@ -1,9 +1,9 @@
 -- A polynomial and its negation.
-use Rattle.std.proofs.Common.{◌≡◌, ℕ, ◌*◌, ◌-◌, ◌%◌, ◌^◌, [], ◌∷◌, map, refl, sym, ap, ◌∙◌, Ordering, Less, Equal, Greater, nat_cmp}
+use Rattle.std.proofs.Common.{◌≡◌, ℕ, ◌*◌, ◌-◌, ◌%◌, ◌^◌, ◌∷◌, map, refl, sym, ap, ◌∙◌, Ordering, Equal, nat_cmp}
 use Rattle.std.specs.Ordering.{ordering_then}
 use Rattle.std.proofs.lemmas.Cmp.{tied_itself}
 use Rattle.ca_sums.specs.Sums.{Sum}
-use Rattle.ca_forms.specs.Plain.{PlainPolynomial, PlainMonomial, no_products, product_and, monomial_code, polynomial_code}
+use Rattle.ca_forms.specs.Plain.{PlainPolynomial, PlainMonomial, no_products, product_and, monomial_code}
 use Rattle.ca_forms.specs.Trees.{tree_cmp, tree_cmp_total}
 use Rattle.ca_forms.specs.Lists.{polynomial_of, products_of}
 use Rattle.ca_forms.specs.Compare.{polynomial_cmp}

@@ -1,5 +1,5 @@
 -- Rows before and behind a place, and what a sum more does there.
-use Rattle.std.proofs.Common.{◌≡◌, ℕ, zero, suc, ◌+◌, ◌<◌, ◌≤◌, Bool, true, false, List, [], ◌∷◌, ◌++◌, length, get_or, take, drop, drop-cons, take-suc, add-one, refl, sym, ap, ap₂, ◌∙◌, Ordering, Less, Equal, Greater, ◌==◌, arith}
+use Rattle.std.proofs.Common.{◌≡◌, ℕ, zero, suc, ◌+◌, ◌<◌, true, false, List, [], ◌∷◌, ◌++◌, length, get_or, take, drop, drop-cons, take-suc, add-one, refl, sym, ap, ◌∙◌, Less, Equal, Greater, ◌==◌, arith}
 use Rattle.std.proofs.lemmas.List.{get_or_default}
 use Rattle.std.specs.List.{remove}
 use Rattle.ca_forms.specs.Plain.{PlainPolynomial, PlainMonomial, no_products, product_and}

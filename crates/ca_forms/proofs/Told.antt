@@ -1,6 +1,7 @@
 -- What is known of a call's answer, taken further.
 use Rattle.std.proofs.Common.{◌≡◌, ℕ, ◌+◌, List, [], ◌∷◌, ◌++◌, take, sym, ap, subst, ◌∙◌}
 use Rattle.std.specs.Prelude.{Result, Ok, Err, OnOk, IfOk, IsOkAnd}
+use Rattle.std.specs.Result.{result_and}
 
 pub on_ok : {T E : Type 0} (r : Result T E) (P Q : Type 0) → (P → Q) → OnOk r P → OnOk r Q
 on_ok (Ok x) P Q f p = f p
@@ -33,3 +34,26 @@ sides_told (Ok z) (Ok v) (Ok p) make k x y t e g h i = i ∙ ap (λ w. make w p.
 sides_told (Ok z) (Ok v) (Err f) make k x y t e g h i = absurd i
 sides_told (Ok z) (Err f) s make k x y t e g h i = absurd i
 sides_told (Err f) c s make k x y t e g h i = tt
+
+-- what is known of a part, of what holds what was made of it
+pub through : {S X E : Type 0} (s : Result S E) (part : Result X E) (f : S → X) (P : X → Type 0) → IfOk s (λ p. part ≡ Ok (f p)) → IfOk part P → IfOk s (λ p. P (f p))
+through (Ok p) part f P e h = subst (λ r. IfOk r P) e h
+through (Err e) part f P g h = tt
+
+-- one step, where it was made of an answer of which something is known
+pub on_made : {T V E : Type 0} (r : Result T E) (part : Result V E) (P Q : V → Type 0) (R : Type 0) → ((v : V) → P v → Q v → R) → IfOk part P → OnOk r (IsOkAnd part Q) → OnOk r R
+on_made (Ok z) (Ok v) P Q R f p h = f v p h
+on_made (Ok z) (Err e) P Q R f p h = absurd h
+on_made (Err e) part P Q R f p h = tt
+
+-- two steps, one behind the other
+pub chained : {T U E : Type 0} (r : Result T E) (s t : Result U E) (P Q R : Type 0) → (P → Q → R) → OnOk r P → OnOk s Q → t ≡ result_and r s → OnOk t R
+chained (Ok a) (Ok b) t P Q R f p q is = subst (λ z. OnOk z R) (sym is) (f p q)
+chained (Ok a) (Err e) t P Q R f p q is = subst (λ z. OnOk z R) (sym is) tt
+chained (Err e) s t P Q R f p q is = subst (λ z. OnOk z R) (sym is) tt
+
+-- a step, and what is made behind it
+pub finished : {T U E : Type 0} (r : Result T E) (s t : Result U E) (P : Type 0) (Q R : U → Type 0) → (P → (x : U) → Q x → R x) → OnOk r P → IfOk s Q → t ≡ result_and r s → IfOk t R
+finished (Ok a) (Ok b) t P Q R f p q is = subst (λ z. IfOk z R) (sym is) (f p b q)
+finished (Ok a) (Err e) t P Q R f p q is = subst (λ z. IfOk z R) (sym is) tt
+finished (Err e) s t P Q R f p q is = subst (λ z. IfOk z R) (sym is) tt

@@ -108,7 +108,7 @@ impl Array {
     pub fn put(self, alloc: Global, index: Polynomial, item: Scalar) -> Result<Array, AllocError>
         ensures { IfOk result (λ a. a ≡ put_item self index item) }
     {
-        let before = one_box(alloc, Ok(self))?;
+        let (before, (index, item)) = both(one_box(alloc, Ok(self)), Ok((index, item)))?;
         Ok(ArrayNode::Put(before, index, item).array())
     }
 

@@ -127,8 +127,9 @@ fn chosen_rows(
 ) -> Result<Vec<Row>, AllocError>
     ensures { IfOk result (λ v. v.items ≡ chosen_rows condition first.items second.items) }
 {
-    let minus = copy_rows(alloc, &second)?;
-    let more = put_weighed(alloc, second, &condition, &first, 1)?;
+    let minus = copy_rows(alloc, &second);
+    let more = put_weighed(alloc, second, &condition, &first, 1);
+    let (more, minus) = both(more, minus)?;
     put_weighed(alloc, more, &condition, &minus, u64::MAX)
 }
 

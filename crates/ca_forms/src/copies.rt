@@ -1,11 +1,12 @@
 //! Copies of forms.
 
-ghost use Rattle.std.specs.Prelude.{◌≡◌, IfOk};
+ghost use Rattle.std.specs.Prelude.{◌≡◌, IfOk, IsOkAnd};
+ghost use Rattle.ca_forms.specs.Seen.{over};
 
 use crate::parts::{add, both, one_box, two_boxes};
 use crate::polynomial::{
     Monomial, Node, Part, Pointer, PointerNode, Polynomial, Power, Product, Scalar, ScalarNode,
-    Scalars,
+    Scalars, Unary,
 };
 use std::alloc::{AllocError, Global};
 
@@ -18,30 +19,26 @@ impl Part {
     {
         match &self.node {
             Node::Variable(s, g, n) => Ok(Node::Variable(*s, *g, *n).part()),
-            Node::Less(_, _) | Node::Zero(_) | Node::Quotient(_, _) | Node::Modulus(_, _) =>
-                self.copy_operation(alloc),
+            Node::Over(_, _) | Node::Less(_, _) => self.copy_operation(alloc),
             Node::SamePointer(_, _) => self.copy_equation(alloc),
-            Node::Field(_, _, _, _) | Node::Item(_, _, _, _, _) | Node::OwnItem(_, _, _, _) =>
-                self.copy_read(alloc),
+            Node::Field(_, _, _, _) | Node::Item(_, _, _, _, _) => self.copy_read(alloc),
             Node::Result(_, _, _, _) => self.copy_result(alloc),
         }
     }
 
-    /// A comparison of numbers or a division once more. Each kind has a function of its own, so that `copy`, which
-    /// recurses, keeps no parts in its frame.
+    /// A comparison of numbers, or what is asked of one, once more. Each kind has a function of its own, so that
+    /// `copy`, which recurses, keeps no parts in its frame.
     #[cycle(copy)]
     #[inline(never)]
     fn copy_operation(&self, alloc: Global) -> Result<Part, AllocError>
         ensures { IfOk result (λ p. p ≡ self.now) }
     {
         match &self.node {
+            Node::Over(f, a) => over(*f, a.copy(alloc)),
             Node::Less(a, b) => {
                 let (first, second) = both(a.copy(alloc), b.copy(alloc))?;
                 Ok(Node::Less(first, second).part())
             }
-            Node::Zero(a) => Ok(Node::Zero(a.copy(alloc)?).part()),
-            Node::Quotient(a, n) => Ok(Node::Quotient(a.copy(alloc)?, *n).part()),
-            Node::Modulus(a, n) => Ok(Node::Modulus(a.copy(alloc)?, *n).part()),
             _ => Err(AllocError),
         }
     }
@@ -71,7 +68,6 @@ impl Part {
                 let (object, index) = both(p.copy(alloc), i.copy(alloc))?;
                 Ok(Node::Item(*s, object, *c, *f, index).part())
             }
-            Node::OwnItem(s, g, n, i) => Ok(Node::OwnItem(*s, *g, *n, i.copy(alloc)?).part()),
             _ => Err(AllocError),
         }
     }
@@ -89,6 +85,14 @@ impl Part {
             _ => Err(AllocError),
         }
     }
+}
+
+/// What is asked of a number that was copied.
+#[inline(never)]
+fn over(f: Unary, copy: Result<Polynomial, AllocError>) -> Result<Part, AllocError>
+    ensures { IfOk result (λ p. IsOkAnd copy (λ a. p ≡ over f a)) }
+{
+    Ok(Node::Over(f, copy?).part())
 }
 
 impl Power {

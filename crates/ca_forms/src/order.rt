@@ -7,12 +7,12 @@ ghost use Rattle.std.specs.Cmp.{partial_equiv_from_equiv, partial_order_from_agr
 ghost use Rattle.std.proofs.lemmas.Cmp.{eq_by_cmp_equiv};
 ghost use Rattle.std.proofs.Common.{refl};
 ghost use Rattle.ca_forms.specs.Plain.{sort_number};
-ghost use Rattle.ca_forms.specs.clauses.Heads.{rank, part_name, head_cmp};
+ghost use Rattle.ca_forms.specs.clauses.Heads.{head, head_cmp, unary_head, word_of};
 ghost use Rattle.ca_forms.specs.Compare.{part_cmp, power_cmp, product_cmp, polynomial_cmp, monomial_cmp, pointer_cmp, scalar_cmp, scalars_cmp, name_cmp, monomial_total};
 
 use crate::polynomial::{
     Monomial, Node, Part, Pointer, PointerNode, Polynomial, Power, Product, Scalar, ScalarNode,
-    Scalars,
+    Scalars, Unary,
 };
 use crate::sort::Sort;
 use std::cmp::Ordering;
@@ -29,21 +29,16 @@ impl Part {
             order => return order,
         }
         match (&self.node, &other.node) {
+            (Node::Over(f, a), Node::Over(g, c)) => match a.compare(c) {
+                Ordering::Equal => f.word().cmp(&g.word()),
+                order => order,
+            },
             (Node::Less(a, b), Node::Less(c, d)) => match a.compare(c) {
                 Ordering::Equal => b.compare(d),
                 order => order,
             },
-            (Node::Zero(a), Node::Zero(c)) => a.compare(c),
             (Node::SamePointer(a, b), Node::SamePointer(c, d)) => match a.compare(c) {
                 Ordering::Equal => b.compare(d),
-                order => order,
-            },
-            (Node::Quotient(a, n), Node::Quotient(c, m)) => match a.compare(c) {
-                Ordering::Equal => n.cmp(m),
-                order => order,
-            },
-            (Node::Modulus(a, n), Node::Modulus(c, m)) => match a.compare(c) {
-                Ordering::Equal => n.cmp(m),
                 order => order,
             },
             (Node::Field(_, a, _, _), Node::Field(_, c, _, _)) => a.compare(c),
@@ -55,40 +50,48 @@ impl Part {
                 Ordering::Equal => b.compare(d),
                 order => order,
             },
-            (Node::OwnItem(_, _, _, a), Node::OwnItem(_, _, _, c)) => a.compare(c),
             _ => Ordering::Equal,
         }
     }
 
-    /// The place of its kind among the kinds.
-    fn rank(&self) -> u32
-        ensures { result ≡ rank self.now }
+    /// The place of its kind among the kinds, and its name: a sort and two numbers. A part that has none has the least.
+    fn head(&self) -> (u32, Sort, u32, u32)
+        ensures { result ≡ head self.now }
     {
         match &self.node {
-            Node::Variable(_, _, _) => 0,
-            Node::Less(_, _) => 1,
-            Node::Zero(_) => 2,
-            Node::SamePointer(_, _) => 3,
-            Node::Quotient(_, _) => 4,
-            Node::Modulus(_, _) => 5,
-            Node::Field(_, _, _, _) => 6,
-            Node::Item(_, _, _, _, _) => 7,
-            Node::Result(_, _, _, _) => 8,
-            Node::OwnItem(_, _, _, _) => 9,
+            Node::Variable(s, g, n) => (0, *s, *g, *n),
+            Node::Over(f, _) => f.head(),
+            Node::Less(_, _) => (1, Sort::Long, 0, 0),
+            Node::SamePointer(_, _) => (3, Sort::Long, 0, 0),
+            Node::Field(s, _, c, f) => (6, *s, *c, *f),
+            Node::Item(s, _, c, f, _) => (7, *s, *c, *f),
+            Node::Result(s, m, _, _) => (8, *s, *m, 0),
+        }
+    }
+}
+
+impl Unary {
+    /// The same of what stands over a number.
+    fn head(self) -> (u32, Sort, u32, u32)
+        ensures { result ≡ unary_head self }
+    {
+        match self {
+            Unary::Zero => (2, Sort::Long, 0, 0),
+            Unary::Quotient(_) => (4, Sort::Long, 0, 0),
+            Unary::Modulus(_) => (5, Sort::Long, 0, 0),
+            Unary::OwnItem(s, g, n) => (9, s, g, n),
         }
     }
 
-    /// Its name: a sort and two numbers. A part that has none has the least.
-    fn name(&self) -> (Sort, u32, u32)
-        ensures { result ≡ part_name self.now }
+    /// What the number is divided by, if it is.
+    fn word(self) -> u64
+        ensures { result ≡ word_of self }
     {
-        match &self.node {
-            Node::Variable(s, g, n) => (*s, *g, *n),
-            Node::Field(s, _, g, n) => (*s, *g, *n),
-            Node::Item(s, _, g, n, _) => (*s, *g, *n),
-            Node::Result(s, n, _, _) => (*s, *n, 0),
-            Node::OwnItem(s, g, n, _) => (*s, *g, *n),
-            _ => (Sort::Long, 0, 0),
+        match self {
+            Unary::Zero => 0,
+            Unary::Quotient(n) => n,
+            Unary::Modulus(n) => n,
+            Unary::OwnItem(_, _, _) => 0,
         }
     }
 }
@@ -98,12 +101,10 @@ impl Part {
 fn heads(a: &Part, b: &Part) -> Ordering
     ensures { result ≡ head_cmp a.now b.now }
 {
-    match a.rank().cmp(&b.rank()) {
-        Ordering::Equal => {
-            let (s, g, n) = a.name();
-            let (t, h, m) = b.name();
-            names(s, g, n, t, h, m)
-        }
+    let (i, s, g, n) = a.head();
+    let (j, t, h, m) = b.head();
+    match i.cmp(&j) {
+        Ordering::Equal => names(s, g, n, t, h, m),
         order => order,
     }
 }

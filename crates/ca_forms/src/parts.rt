@@ -38,9 +38,7 @@ pub fn two_boxes<T: Drop>(
     ensures first { IfOk result (λ p. first ≡ Ok (box_value p.0)) }
     ensures second { IfOk result (λ p. second ≡ Ok (box_value p.1)) }
 {
-    let first = one_box(alloc, first)?;
-    let second = one_box(alloc, second)?;
-    Ok((first, second))
+    both(one_box(alloc, first), one_box(alloc, second))
 }
 
 /// One item more behind the others, if it is there.

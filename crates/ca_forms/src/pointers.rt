@@ -6,7 +6,7 @@ ghost use Rattle.ca_forms.specs.Plain.{variable, field_of, item_of, result_of, o
 ghost use Rattle.ca_forms.specs.Rules.{is_pointer_sort, is_receiver_part, is_receiver, is_no_object, differ, unless_false, same_pointers, chosen_pointer};
 
 use crate::parts::{both, let_go, one_box, two_boxes};
-use crate::polynomial::{Monomial, Node, Part, Pointer, PointerNode, Polynomial, Scalars};
+use crate::polynomial::{Monomial, Node, Part, Pointer, PointerNode, Polynomial, Scalars, Unary};
 use crate::rules::{add_part, add_truth};
 use crate::sort::Sort;
 use std::alloc::{AllocError, Global};
@@ -55,7 +55,7 @@ impl Part {
     pub fn own_item(sort: Sort, group: u32, number: u32, index: Polynomial) -> Part
         ensures { result ≡ own_item sort group number index }
     {
-        Node::OwnItem(sort, group, number, index).part()
+        Node::Over(Unary::OwnItem(sort, group, number), index).part()
     }
 
     fn is_receiver(&self) -> bool
@@ -143,7 +143,11 @@ pub fn add_same_pointers(
     let known = differ(&p, &q);
     match p.compare(&q) {
         Ordering::Less => add_unless(alloc, form, known, Node::SamePointer(p, q).part(), factor),
-        Ordering::Equal => add_truth(alloc, form, true, factor),
+        Ordering::Equal => {
+            let_go(p);
+            let_go(q);
+            add_truth(alloc, form, true, factor)
+        }
         Ordering::Greater => add_unless(alloc, form, known, Node::SamePointer(q, p).part(), factor),
     }
 }

@@ -21,24 +21,31 @@ pub struct Part {
 pub(crate) enum Node {
     /// An atom, by its sort, its group and its number there.
     Variable(Sort, u32, u32),
+    /// What stands over one number.
+    Over(Unary, Polynomial),
     /// Whether the first is less than the second.
     Less(Polynomial, Polynomial),
-    /// Whether it is zero.
-    Zero(Polynomial),
     /// Whether both are equal.
     SamePointer(Pointer, Pointer),
-    /// Divided by a word that is read as a signed number, and rounded towards zero.
-    Quotient(Polynomial, u64),
-    /// What that leaves, with the sign of what is divided.
-    Modulus(Polynomial, u64),
     /// A field of another object: its sort, the object, the field's class and number.
     Field(Sort, Pointer, u32, u32),
     /// The item of such a field at an index.
     Item(Sort, Pointer, u32, u32, Polynomial),
     /// What a value method gives: its sort, its number, the receiver and the arguments.
     Result(Sort, u32, Pointer, Scalars),
-    /// The item at an index of an array that is an atom: its sort, and the atom's group and number.
-    OwnItem(Sort, u32, u32, Polynomial),
+}
+
+/// What is asked of one number.
+#[derive(Clone, Copy)]
+pub(crate) enum Unary {
+    /// Whether it is zero.
+    Zero,
+    /// What it is divided by a word that is read as a signed number, and rounded towards zero.
+    Quotient(u64),
+    /// What that leaves, with the sign of what is divided.
+    Modulus(u64),
+    /// The item at it of an array that is an atom: its sort, and the atom's group and number.
+    OwnItem(Sort, u32, u32),
 }
 
 /// A part several times over.

@@ -1,10 +1,13 @@
 //! Products of monomials.
 
-ghost use Rattle.std.specs.Prelude.{◌≡◌, ◌++◌, drop, IfOk, OnOk};
+ghost use Rattle.std.specs.Prelude.{◌≡◌, ◌<◌, ◌++◌, length, drop, IfOk, OnOk};
+ghost use Rattle.ca_forms.specs.clauses.Next.{IsNext};
+ghost use Rattle.ca_forms.specs.Plain.{no_products};
+ghost use Rattle.ca_forms.specs.Seen.{over};
 ghost use Rattle.ca_forms.specs.Products.{is_truth, is_truth_sort, joined, merge, times};
 
 use crate::parts::add;
-use crate::polynomial::{Monomial, Node, Part, Power};
+use crate::polynomial::{Monomial, Node, Part, Power, Unary};
 use crate::sort::Sort;
 use std::alloc::{AllocError, Global};
 use std::cmp::Ordering;
@@ -25,15 +28,26 @@ impl Part {
     {
         match &self.node {
             Node::Variable(s, _, _) => is_truth_sort(*s),
+            Node::Over(f, _) => f.is_truth(),
             Node::Less(_, _) => true,
-            Node::Zero(_) => true,
             Node::SamePointer(_, _) => true,
-            Node::Quotient(_, _) => false,
-            Node::Modulus(_, _) => false,
             Node::Field(s, _, _, _) => is_truth_sort(*s),
             Node::Item(s, _, _, _, _) => is_truth_sort(*s),
             Node::Result(s, _, _, _) => is_truth_sort(*s),
-            Node::OwnItem(s, _, _, _) => is_truth_sort(*s),
+        }
+    }
+}
+
+impl Unary {
+    /// Whether what is asked of a number is a truth value.
+    fn is_truth(self) -> bool
+        ensures { result ≡ is_truth (over self no_products) }
+    {
+        match self {
+            Unary::Zero => true,
+            Unary::Quotient(_) => false,
+            Unary::Modulus(_) => false,
+            Unary::OwnItem(s, _, _) => is_truth_sort(s),
         }
     }
 }
@@ -71,6 +85,26 @@ fn add_powers(
     Ok(())
 }
 
+/// The next power of the product of what stands from two places on, and the places behind it.
+fn next(
+    alloc: Global,
+    a: &[Power],
+    i: usize,
+    b: &[Power],
+    j: usize,
+) -> (Result<Power, AllocError>, usize, usize)
+    requires { (i < length a.now) × (j < length b.now) }
+    ensures { IsNext a.now i b.now j result }
+{
+    let x = &a[i];
+    let y = &b[j];
+    match x.part.compare(&y.part) {
+        Ordering::Less => (x.copy(alloc), i + 1, j),
+        Ordering::Equal => (joined(alloc, x, y), i + 1, j + 1),
+        Ordering::Greater => (y.copy(alloc), i, j + 1),
+    }
+}
+
 /// The powers of both, by rising parts.
 fn merged(alloc: Global, a: &[Power], b: &[Power]) -> Result<Vec<Power>, AllocError>
     ensures { IfOk result (λ v. v.items ≡ merge a.now b.now) }
@@ -79,27 +113,14 @@ fn merged(alloc: Global, a: &[Power], b: &[Power]) -> Result<Vec<Power>, AllocEr
     let mut i = 0;
     let mut j = 0;
     while i < a.len() && j < b.len() {
-        let x = &a[i];
-        let y = &b[j];
-        match x.part.compare(&y.part) {
-            Ordering::Less => {
-                add(&mut powers, x.copy(alloc))?;
-                i += 1;
-            }
-            Ordering::Equal => {
-                add(&mut powers, joined(alloc, x, y))?;
-                i += 1;
-                j += 1;
-            }
-            Ordering::Greater => {
-                add(&mut powers, y.copy(alloc))?;
-                j += 1;
-            }
-        }
+        let (power, after_i, after_j) = next(alloc, a, i, b, j);
+        add(&mut powers, power)?;
+        i = after_i;
+        j = after_j;
     }
-    add_powers(alloc, &mut powers, a, i)?;
-    add_powers(alloc, &mut powers, b, j)?;
-    Ok(powers)
+    let first = add_powers(alloc, &mut powers, a, i);
+    let both = first.and(add_powers(alloc, &mut powers, b, j));
+    both.and(Ok(powers))
 }
 
 impl Monomial {

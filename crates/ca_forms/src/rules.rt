@@ -6,7 +6,7 @@ ghost use Rattle.ca_sums.specs.Sums.{NoZero, AddsSum};
 ghost use Rattle.ca_forms.specs.Lists.{polynomial_of, products_of};
 ghost use Rattle.ca_forms.specs.Rules.{alone, constant, truth_sum, chosen, either, is_one, constancy, is_below, less_sum, zero_sum, same_numbers, same_truths, divided, left_over, quotient_sum, modulus_sum};
 
-use crate::polynomial::{Monomial, Node, Part, Polynomial, Power, Product};
+use crate::polynomial::{Monomial, Node, Part, Polynomial, Power, Product, Unary};
 use crate::sums::{add_polynomial, add_product, add_product_of, apart, difference, smaller_sign};
 use std::alloc::{AllocError, Global};
 use std::cmp::Ordering;
@@ -147,7 +147,7 @@ fn add_zero(
         Some(n) => add_truth(alloc, form, n == 0, factor),
         None => {
             let nearer = smaller_sign(alloc, f)?;
-            add_part(alloc, form, Node::Zero(nearer).part(), factor)
+            add_part(alloc, form, Node::Over(Unary::Zero, nearer).part(), factor)
         }
     }
 }
@@ -183,10 +183,10 @@ pub fn add_same_truths(
     ensures added { OnOk result (AddsSum form.old.entries form.new.entries factor (same_truths (products_of f.now) (products_of g.now))) }
 {
     let minus = factor.wrapping_mul(u64::MAX);
-    add_truth(alloc, form, true, factor)?;
-    add_polynomial(alloc, form, f, minus)?;
-    add_polynomial(alloc, form, g, minus)?;
-    add_product_of(alloc, form, f, g, factor.wrapping_mul(2))
+    let one = add_truth(alloc, form, true, factor);
+    let first = one.and(add_polynomial(alloc, form, f, minus));
+    let second = first.and(add_polynomial(alloc, form, g, minus));
+    second.and(add_product_of(alloc, form, f, g, factor.wrapping_mul(2)))
 }
 
 /// Adds whether one of two truth values holds, times the factor.
@@ -202,9 +202,9 @@ pub fn add_either(
     ensures nonzero { NoZero form.new.entries }
     ensures added { OnOk result (AddsSum form.old.entries form.new.entries factor (either (products_of f.now) (products_of g.now))) }
 {
-    add_polynomial(alloc, form, f, factor)?;
-    add_polynomial(alloc, form, g, factor)?;
-    add_product_of(alloc, form, f, g, factor.wrapping_mul(u64::MAX))
+    let first = add_polynomial(alloc, form, f, factor);
+    let second = first.and(add_polynomial(alloc, form, g, factor));
+    second.and(add_product_of(alloc, form, f, g, factor.wrapping_mul(u64::MAX)))
 }
 
 /// Adds the second where the first holds, and else the third, times the factor.
@@ -264,7 +264,7 @@ pub fn add_quotient(
         None => add_part(
             alloc,
             form,
-            Node::Quotient(f, n.cast_unsigned()).part(),
+            Node::Over(Unary::Quotient(n.cast_unsigned()), f).part(),
             factor,
         ),
     }
@@ -288,7 +288,7 @@ pub fn add_modulus(
         None => add_part(
             alloc,
             form,
-            Node::Modulus(f, n.cast_unsigned()).part(),
+            Node::Over(Unary::Modulus(n.cast_unsigned()), f).part(),
             factor,
         ),
     }

@@ -92,6 +92,40 @@ fn add_put(
     }
 }
 
+/// The same, of a condition and an other item that were made for it.
+#[inline(never)]
+fn add_put_of(
+    alloc: Global,
+    form: &mut BTreeMap<Monomial, u64>,
+    parts: Result<(Polynomial, Polynomial), AllocError>,
+    item: &Scalar,
+    factor: u64,
+) -> Result<(), AllocError>
+    requires { NoZero form.old.entries }
+    ensures nonzero { NoZero form.new.entries }
+    ensures added { OnOk result (IsOkAnd parts (λ p. AddsSum form.old.entries form.new.entries factor (chosen (products_of p.0) (products_in item.now) (products_of p.1)))) }
+{
+    let (same, other) = parts?;
+    add_put(alloc, form, &same, item, &other, factor)
+}
+
+/// Adds the first of two items that were made for it where the condition holds, and else the second, times the factor.
+#[inline(never)]
+fn add_sides(
+    alloc: Global,
+    form: &mut BTreeMap<Monomial, u64>,
+    condition: &Polynomial,
+    sides: Result<(Polynomial, Polynomial), AllocError>,
+    factor: u64,
+) -> Result<(), AllocError>
+    requires { NoZero form.old.entries }
+    ensures nonzero { NoZero form.new.entries }
+    ensures added { OnOk result (IsOkAnd sides (λ s. AddsSum form.old.entries form.new.entries factor (chosen (products_of condition.now) (products_of s.0) (products_of s.1)))) }
+{
+    let (first, second) = sides?;
+    add_chosen(alloc, form, condition, &first, &second, factor)
+}
+
 /// Adds the item of an atom at an index, times the factor.
 #[inline(never)]
 fn add_own_item(
@@ -163,16 +197,16 @@ impl Array {
         match &self.node {
             ArrayNode::Items(s, g, n) => add_own_item(alloc, form, *s, *g, *n, index, factor),
             ArrayNode::Put(a, i, x) => {
-                let (other, same) = both(a.item(alloc, index), same_index(alloc, i, index))?;
-                add_put(alloc, form, &same, x, &other, factor)
+                let parts = both(same_index(alloc, i, index), a.item(alloc, index));
+                add_put_of(alloc, form, parts, x, factor)
             }
             ArrayNode::Sums(a, rows) => {
-                a.add_item(alloc, form, index, factor)?;
-                add_rows_at(alloc, form, &rows.items, index, factor)
+                let before = a.add_item(alloc, form, index, factor);
+                before.and(add_rows_at(alloc, form, &rows.items, index, factor))
             }
             ArrayNode::Choice(c, a, b) => {
-                let (first, second) = both(a.item(alloc, index), b.item(alloc, index))?;
-                add_chosen(alloc, form, c, &first, &second, factor)
+                let sides = both(a.item(alloc, index), b.item(alloc, index));
+                add_sides(alloc, form, c, sides, factor)
             }
         }
     }

@@ -5,7 +5,7 @@ ghost use Rattle.std.specs.Prelude.{◌≡◌, ◌+◌, ◌*◌, ◌-◌, ◌%�
 ghost use Rattle.std.specs.Option.{unwrap_or};
 ghost use Rattle.std.specs.Map.{lookup};
 ghost use Rattle.std.specs.BTreeMap.{is_at, IsOrdered};
-ghost use Rattle.ca_sums.specs.Sums.{NoZero, Adds, AddsSum};
+ghost use Rattle.ca_sums.specs.Sums.{NoZero, Adds, AddsSum, scale};
 ghost use Rattle.ca_sums.specs.Products.{row, product};
 ghost use Rattle.ca_forms.specs.Lists.{polynomial_of, products_of};
 ghost use Rattle.ca_forms.specs.Compare.{monomial_cmp, polynomial_cmp};
@@ -160,9 +160,9 @@ pub fn difference(alloc: Global, f: &Polynomial, g: &Polynomial) -> Result<Polyn
     ensures { IfOk result (λ d. d ≡ gathered (products_of f.now ++ minus (products_of g.now))) }
 {
     let mut form = BTreeMap::new(alloc);
-    add_polynomial(alloc, &mut form, f, 1)?;
-    add_polynomial(alloc, &mut form, g, u64::MAX)?;
-    finish(alloc, form)
+    let first = add_polynomial(alloc, &mut form, f, 1);
+    let both = first.and(add_polynomial(alloc, &mut form, g, u64::MAX));
+    both.and(finish(alloc, form))
 }
 
 fn products_in(f: Polynomial) -> Vec<Product>
@@ -192,27 +192,35 @@ fn add_owned(
     Ok(())
 }
 
-/// The difference of two polynomials that are not needed any more. Nothing is copied: a chain of comparisons
+/// A polynomial and a multiple of another, which are not needed any more. Nothing is copied: a chain of comparisons
 /// would else be copied once a level.
 #[inline(never)]
+fn with_multiple(
+    alloc: Global,
+    f: Polynomial,
+    g: Polynomial,
+    factor: u64,
+) -> Result<Polynomial, AllocError>
+    ensures { IfOk result (λ s. s ≡ gathered (products_of f ++ scale factor (products_of g))) }
+{
+    let mut form = BTreeMap::new(alloc);
+    let first = add_owned(&mut form, products_in(f), 1);
+    let both = first.and(add_owned(&mut form, products_in(g), factor));
+    both.and(finish(alloc, form))
+}
+
+/// The difference of two polynomials that are not needed any more.
 pub fn apart(alloc: Global, f: Polynomial, g: Polynomial) -> Result<Polynomial, AllocError>
     ensures { IfOk result (λ d. d ≡ gathered (products_of f ++ minus (products_of g))) }
 {
-    let mut form = BTreeMap::new(alloc);
-    add_owned(&mut form, products_in(f), 1)?;
-    add_owned(&mut form, products_in(g), u64::MAX)?;
-    finish(alloc, form)
+    with_multiple(alloc, f, g, u64::MAX)
 }
 
 /// The sum of two polynomials that are not needed any more.
-#[inline(never)]
 pub fn together(alloc: Global, f: Polynomial, g: Polynomial) -> Result<Polynomial, AllocError>
     ensures { IfOk result (λ s. s ≡ gathered (products_of f ++ products_of g)) }
 {
-    let mut form = BTreeMap::new(alloc);
-    add_owned(&mut form, products_in(f), 1)?;
-    add_owned(&mut form, products_in(g), 1)?;
-    finish(alloc, form)
+    with_multiple(alloc, f, g, 1)
 }
 
 /// The factor times the product of two polynomials.

@@ -60,6 +60,26 @@ pub adds_written : {T E : Type 0} (old mid now : Option (List ℕ)) (pending tex
 adds_written old mid now pending text (Ok x) e w = record { whole = went_flushed old mid now pending text e w.whole; part = tt }
 adds_written old mid now pending text (Err x) e w = record { whole = tt; part = began_after old mid now pending text e w.part }
 
+-- the text is pending too
+pub adds_pending : {T E : Type 0} (old : Option (List ℕ)) (pending left text : List ℕ) (x : T) → left ≡ pending ++ text → Adds {E = E} old old pending left (Ok x) text
+adds_pending old pending left text x e = record { whole = record { out = []; told = sym (grown_nothing old); all = sym e }; part = tt }
+
+-- the pending bytes were written, and the text is pending
+pub adds_alone : {T E : Type 0} (old now : Option (List ℕ)) (pending left text : List ℕ) (x : T) → now ≡ grown old pending → left ≡ text → Adds {E = E} old now pending left (Ok x) text
+adds_alone old now pending left text x e f = record { whole = record { out = pending; told = e; all = ap (λ t. pending ++ t) (sym f) }; part = tt }
+
+-- the pending bytes were not written
+pub not_flushed : {T E : Type 0} (old now : Option (List ℕ)) (pending left text : List ℕ) (e : E) → Writes {T = T} old now (Err e) pending → Adds {T = T} old now pending left (Err e) text
+not_flushed old now pending left text e w = record {
+  whole = tt;
+  part = record {
+    done = w.part.done;
+    rest = w.part.rest ++ text;
+    whole = ap (λ t. t ++ text) w.part.whole ∙ append_assoc w.part.done w.part.rest text;
+    told = w.part.told;
+  };
+}
+
 -- of a text whose beginning is done, the next part is done too
 pub further : (text done here item more : List ℕ) → text ≡ done ++ here → here ≡ item ++ more → text ≡ (done ++ item) ++ more
 further text done here item more e f = e ∙ ap (λ t. done ++ t) f ∙ sym (append_assoc done item more)

@@ -7,5 +7,6 @@ pub mod Tables
 pub mod Index
 pub mod Innermost
 pub mod CallNodes
+pub mod Shapes
 pub mod Arguments
 mod Examples

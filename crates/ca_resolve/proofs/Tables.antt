@@ -1,6 +1,6 @@
 -- The walks that make the tables of classes and members.
 use Rattle.std.proofs.Common.{◌≡◌, ℕ, ◌+◌, ◌<◌, ◌≤◌, List, [], ◌∷◌, ◌++◌, map, length, take, drop, get_or, refl, sym, ◌∙◌, ap, arith, Bor}
-use Rattle.std.proofs.lemmas.List.{append_assoc, append-nil, drop_all, drop_more, take_more, map-append, length-append}
+use Rattle.std.proofs.lemmas.List.{append_assoc, append-nil, drop_all, drop_more, take_all, take_more, map-append, length-append}
 use Rattle.std.specs.List.{zip}
 use Rattle.ca_tree.specs.declared.tree.Member.{Member}
 use Rattle.ca_tree.specs.declared.tree.ClassNode.{ClassNode}
@@ -33,6 +33,9 @@ one_more_seen view f g xs i x vs ws v h is same more seen =
     ∙ (ap (λ z. map f (map view front) ++ z ∷ []) same
     ∙ (sym (map-append f (map view front) (view x ∷ []))
     ∙ (ap (map f) (sym (map-append view front (x ∷ []))) ∙ ap (λ l. map f (map view l)) (sym taken))))))
+
+pub all_seen : {X Y Z V : Type 0} (view : X → Y) (f : Y → Z) (g : V → Z) (xs : List X) (i : ℕ) (vs : List V) → length xs ≤ i → map g vs ≡ map f (map view (take i xs)) → map g vs ≡ map f (map view xs)
+all_seen view f g xs i vs h seen = seen ∙ ap (λ l. map f (map view l)) (take_all i xs h)
 
 -- members
 

@@ -38,6 +38,7 @@ pub fn check_call<'a>(
     match &e.kind {
         ExprKind::Call(name, args) => check_own_call(alloc, scope, name, args, at),
         ExprKind::Method(object, name, args) => {
+            let object: &ExprNode = object;
             let value = whole_value(check_found(alloc, scope, object), object);
             check_method_call(alloc, scope, value, name, args, at)
         }

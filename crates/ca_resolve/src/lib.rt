@@ -32,7 +32,7 @@ pub use classes::{ClassTable, Meaning};
 pub use errors::{CheckError, Code, and_one, both, lesser, let_go, limit, violation};
 pub use found::{Found, Invocation, Target};
 pub use locals::{Locals, VisibleLocal};
-pub use members::{member_name, one_more};
+pub use members::{Numbers, member_name, one_more};
 pub use names::Names;
 pub use scope::Scope;
 pub use targets::check_target;

@@ -15,15 +15,16 @@ use std::alloc::{AllocError, Global};
 
 /// The numbers that the next class, field, operation and value method have.
 #[derive(Clone, Copy)]
-pub(crate) struct Numbers {
-    pub(crate) class: u32,
-    pub(crate) field: u32,
-    pub(crate) operation: u32,
-    pub(crate) function: u32,
+pub struct Numbers {
+    pub class: u32,
+    pub field: u32,
+    pub operation: u32,
+    pub function: u32,
 }
 
 impl Numbers {
-    pub(crate) fn new() -> Numbers
+    /// Those of the first class.
+    pub fn new() -> Numbers
         ensures class { result.class ≡ 0 }
         ensures field { result.field ≡ 0 }
         ensures operation { result.operation ≡ 0 }
@@ -38,7 +39,7 @@ impl Numbers {
     }
 
     /// The numbers behind the member.
-    fn after(self, member: &Member) -> Result<Numbers, AllocError>
+    pub fn after(self, member: &Member) -> Result<Numbers, AllocError>
         ensures class { IfOk result (λ n. n.class ≡ self.class) }
         ensures numbers { IfOk result (λ n. numbers_view n ≡ after_member (numbers_view self) (member_view member.now)) }
     {

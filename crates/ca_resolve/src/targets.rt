@@ -33,16 +33,7 @@ pub fn check_target<'a>(
             let array = check_found(alloc, scope, array);
             item_target(array, check_for(alloc, scope, Ty::Long, index), e.at)
         }
-        ExprKind::Number(_)
-        | ExprKind::Truth(_)
-        | ExprKind::Null
-        | ExprKind::This
-        | ExprKind::Named(_)
-        | ExprKind::Call(..)
-        | ExprKind::Field(..)
-        | ExprKind::Method(..)
-        | ExprKind::Unary(..)
-        | ExprKind::Binary(..) => {
+        _ => {
             let found = check_found(alloc, scope, e)?;
             let answer = target(&found, e.at);
             let_go(found);

@@ -58,10 +58,12 @@ pub(crate) fn check_found<'a>(
             call_value(alloc, check_own_call(alloc, scope, name, args, at), at)
         }
         ExprKind::Field(object, name) => {
+            let object: &ExprNode = object;
             let value = whole_value(check_found(alloc, scope, object), object);
             field(alloc, scope, value, name, at)
         }
         ExprKind::Method(object, name, args) => {
+            let object: &ExprNode = object;
             let value = whole_value(check_found(alloc, scope, object), object);
             call_value(
                 alloc,
@@ -71,14 +73,18 @@ pub(crate) fn check_found<'a>(
         }
         ExprKind::Index(array, index) => {
             let array = check_found(alloc, scope, array);
+            let index: &ExprNode = index;
             let number = whole_value(check_found(alloc, scope, index), index);
             item(alloc, array, value_for(Some(Ty::Long), number, index), at)
         }
         ExprKind::Unary(op, operand) => {
+            let operand: &ExprNode = operand;
             let value = whole_value(check_found(alloc, scope, operand), operand);
             unary(alloc, *op, value, at)
         }
         ExprKind::Binary(op, left, right) => {
+            let left: &ExprNode = left;
+            let right: &ExprNode = right;
             let first = whole_value(check_found(alloc, scope, left), left);
             let second = whole_value(check_found(alloc, scope, right), right);
             binary(alloc, *op, first, second, at)

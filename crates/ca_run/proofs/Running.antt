@@ -1,6 +1,6 @@
 -- A section on an object beside the heap.
 use Rattle.std.proofs.Common.{◌≡◌, ℕ, List, Some, ap, subst, ◌∙◌}
-use Rattle.std.specs.Prelude.{slice_get, slice_set}
+use Rattle.std.specs.Prelude.{Result, Ok, Err, IfOk, slice_get, slice_set}
 use Rattle.ca_program.specs.Plain.{PlainProgram}
 use Rattle.ca_model.specs.declared.value.Object.{Object}
 use Rattle.ca_meaning.specs.Sections.{section}
@@ -28,3 +28,11 @@ ran_at p frozen h index cs place c op first left waiting rest after a x same the
       is = is;
       heap = subst (λ n. present frozen (slice_set cs place (changed c.number after)) ≡ slice_set h n after) number (subst (λ g. present frozen (slice_set cs place (changed c.number after)) ≡ slice_set g c.number after) same heap);
     }
+
+-- the same of what is answered, if anything is
+pub may_have_run : {E : Type 0} (r : Result SectionAnswer E) (p : PlainProgram) (frozen h : List Object) (index : List ℕ) (cs : List Changed) (place : ℕ) (c : Changed) (op : Op) (first : Object) (left : ℕ) (waiting rest : List Op) (after : Object)
+    → Indexed index cs → present frozen cs ≡ h → slice_get cs place ≡ Some c → c.number ≡ op.receiver → slice_get frozen op.receiver ≡ Some first
+    → IfOk r (λ a. SectionIs a (section p frozen op.receiver c.object op.op op.args left) c.object after waiting rest)
+    → IfOk r (Sectioned p frozen h op left waiting (present frozen (slice_set cs place (changed c.number after))) rest)
+may_have_run (Ok a) p frozen h index cs place c op first left waiting rest after x same there number old is = ran_at p frozen h index cs place c op first left waiting rest after a x same there number old is
+may_have_run (Err e) p frozen h index cs place c op first left waiting rest after x same there number old is = tt

@@ -141,7 +141,7 @@ impl Beside {
     {
         let place = self.place_of(heap, op.receiver)?;
         let changed = &mut self.changed[place];
-        let answer = section(
+        section(
             desk,
             alloc,
             program,
@@ -150,8 +150,7 @@ impl Beside {
             op,
             left,
             waiting,
-        )?;
-        Ok(answer)
+        )
     }
 
     /// Puts the changed objects into the heap, and forgets them. The memory of the old ones is kept, as far as there is room.

@@ -17,7 +17,6 @@ use ca_base::Memory;
 use ca_model::Heap;
 use ca_parallel::Op;
 use ca_program::Program;
-use ca_sections::Desk;
 use ca_serial::{ExtentAnswer, Extents};
 use std::alloc::{AllocError, Global};
 use std::sync::Wait;
@@ -61,11 +60,9 @@ impl<'g, G: Passes> OneWorker<'g, G> {
         ensures declined { IfOk result (λ answer. answer ≡ Declined → IsNotDone (program_view program.now) heap.old (invocations_of first.now) left) }
         ensures kept { OnErr result (heap.new ≡ heap.old) }
     {
-        let mut desk = Desk::new(self.alloc)?;
         self.beside.forget();
         let ran = run_all(
             self.gate,
-            &mut desk,
             self.alloc,
             program,
             heap,

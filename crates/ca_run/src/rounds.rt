@@ -16,7 +16,7 @@ use ca_sections::{Desk, SectionAnswer};
 use std::alloc::Global;
 
 /// How a round ends: after so many steps, or at an operation that has no complete section within what is left.
-#[derive(Clone, Copy, PartialEq, Eq)]
+#[derive(Clone, Copy)]
 pub enum Round {
     Went { steps: u64 },
     Stuck,
@@ -141,10 +141,8 @@ fn run_next<'a, G: Passes>(
     Ok(turn)
 }
 
-/// Runs operations, and all that they list, within a budget of steps: in so many steps, or one of them is stuck. The heap
-/// stays as it is; what changes is kept beside it. What an operation lists runs before the next one that was handed in, so
-/// no more wait than are listed at one time.
-pub(crate) fn run_all<'a, G: Passes>(
+/// Runs operations, and all that they list, at this desk.
+fn run_turns<'a, G: Passes>(
     gate: &G,
     desk: &mut Desk<'a>,
     alloc: Global,
@@ -185,4 +183,22 @@ pub(crate) fn run_all<'a, G: Passes>(
         return Ok(None);
     }
     Ok(Some(left - still))
+}
+
+/// Runs operations, and all that they list, within a budget of steps: in so many steps, or one of them is stuck. The heap
+/// stays as it is; what changes is kept beside it. What an operation lists runs before the next one that was handed in, so
+/// no more wait than are listed at one time.
+pub(crate) fn run_all<G: Passes>(
+    gate: &G,
+    alloc: Global,
+    program: &Program,
+    heap: &Heap,
+    beside: &mut Beside,
+    ops: &[Op],
+    left: u64,
+) -> Result<Option<u64>, Memory>
+    ensures { IfOk result (λ ran. MatchOption ran (StuckBehind (program_view program.now) heap.now (present heap.now beside.old) (invocations_of ops.now) left) (λ steps. RanTo (program_view program.now) heap.now (present heap.now beside.old) (invocations_of ops.now) left (present heap.now beside.new) [] steps)) }
+{
+    let mut desk = Desk::new(alloc)?;
+    run_turns(gate, &mut desk, alloc, program, heap, beside, ops, left)
 }

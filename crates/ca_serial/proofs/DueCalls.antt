@@ -1,5 +1,5 @@
 -- A call that is due, as an engine runs it and as it is run here.
-use Rattle.std.proofs.Common.{Bor, ◌≡◌, ℕ, zero, suc, ◌+◌, ◌-◌, ◌<◌, List, [], ◌∷◌, ◌++◌, refl, ap, sym, ◌∙◌, arith, reverse, take, drop, map, append-nil, append_assoc, true, false}
+use Rattle.std.proofs.Common.{Bor, ◌≡◌, ℕ, zero, suc, ◌+◌, ◌-◌, ◌<◌, List, [], ◌∷◌, ◌++◌, refl, ap, sym, ◌∙◌, arith, drop, map, append-nil, append_assoc, false}
 use Rattle.std.specs.Prelude.{slice_get}
 use Rattle.ca_program.specs.declared.program.OpId.{OpId}
 use Rattle.ca_program.specs.declared.program.Stmt.{Stmt}
@@ -15,19 +15,18 @@ use Rattle.ca_meaning.specs.Flows.{Flow, goes_on, gives_back, stops, runs_out, a
 use Rattle.ca_meaning.specs.Functions.{body_of, locals_of}
 use Rattle.ca_meaning.specs.Serial.{Note, World, fresh, came_back, run_call, operations_of, serial_parts, serial_ops}
 use Rattle.ca_meaning.proofs.Fix.{invoke_runs}
-use Rattle.ca_parallel.specs.Lists.{op_in}
 use Rattle.ca_parallel.specs.Calls.{RunsTo}
 use Rattle.ca_parallel.specs.Parallel.{ParallelFrom}
 use Rattle.ca_parallel.proofs.Moved.{serial_ops_moved, moved}
-use Rattle.ca_serial.specs.declared.bodies.Mode.TheVariants.{InOperation}
-use Rattle.ca_serial.specs.declared.work.Work.{Work}
-use Rattle.ca_serial.specs.declared.work.Work.TheVariants.{Seq, Leave}
-use Rattle.ca_serial.specs.declared.work.Target.TheVariants.{Operation}
-use Rattle.ca_serial.specs.declared.machine.Machine.{Machine}
-use Rattle.ca_serial.specs.clauses.Bodies.{Body, marks_of}
-use Rattle.ca_serial.specs.clauses.Resume.{Past, and_note, world_of, go_on, resume, begins, call_of, note_of, runs_due, target_method, others_in}
+use Rattle.ca_frames.specs.declared.bodies.Mode.TheVariants.{InOperation}
+use Rattle.ca_machine.specs.declared.work.Work.{Work}
+use Rattle.ca_machine.specs.declared.work.Work.TheVariants.{Seq, Leave}
+use Rattle.ca_machine.specs.declared.work.Target.TheVariants.{Operation}
+use Rattle.ca_machine.specs.declared.machine.Machine.{Machine}
+use Rattle.ca_frames.specs.clauses.Bodies.{Body}
+use Rattle.ca_machine.specs.clauses.Resume.{Past, world_of, go_on, resume, call_of, runs_due, target_method, others_in}
 use Rattle.ca_serial.proofs.Unmarked.{none_all}
-use Rattle.ca_serial.proofs.CallSteps.{taken_there, op_result, locals_are}
+use Rattle.ca_machine.proofs.CallSteps.{op_result, locals_are}
 use Rattle.ca_serial.proofs.Quiet.{run_is}
 
 -- whatever was printed and noted before
@@ -69,10 +68,3 @@ begun_alone p op r args vs f below todo w (suc k) ss others lt is others_are =
     rw (one, is, others_are, locals_are (slice_get p.ops op.0) args, invoke_runs p (invocation r op args) w k)
     (op_result (exec_all (serial_parts p (Ref r)) (locals_of (slice_get p.ops op.0) args) w (body_of (slice_get p.ops op.0)) k) f.locals vs (λ vs w k. resume p todo vs f below w k)
     ∙ ap (λ flow. go_on flow (λ ls w k. resume p todo vs f below w k) (λ v w k. runs_out w)) (sym (none_all p (Ref r) (body_of (slice_get p.ops op.0)) (locals_of (slice_get p.ops op.0) args) w k)))
-
--- a call that the body hands on is due
-pub is_due : (p : PlainProgram) (line n r : ℕ) (op : OpId) (old new : Machine) (ps : Past) → drop n old.values ≡ Ref r ∷ drop (n + 1) old.values → op_in (marks_of old.bodies.current).ops op ≡ true → new.due ≡ record { receiver = r; op = op; count = n } → new.todo ≡ old.todo → new.values ≡ old.values → new.bodies ≡ old.bodies → new.heap ≡ old.heap → new.left ≡ old.left → begins p line (Operation op) n old ps ≡ runs_due p new (and_note ps (note_of new))
-is_due p line n r op old new ps there marked due todo values bodies heap left =
-    rw (due, todo, values, bodies, heap, left)
-    (taken_there n old.values (world_of old ps) _ (Ref r) (drop (n + 1) old.values) (reverse (take n old.values)) there refl
-    ∙ rw marked refl)

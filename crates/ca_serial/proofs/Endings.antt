@@ -1,6 +1,6 @@
 -- What a run that stops has written.
-use Rattle.std.proofs.Common.{◌≡◌, ◌≤◌, ℕ, List, [], ◌∷◌, ◌++◌, arith, Option, refl, ap, sym, ◌∙◌, append_assoc, append-nil}
-use Rattle.ca_base.specs.Devices.{grown, Began, Rose}
+use Rattle.std.proofs.Common.{◌≡◌, ◌≤◌, ℕ, List, [], ◌∷◌, ◌++◌, arith, Option, Result, Ok, Err, refl, ap, sym, ◌∙◌, append_assoc, append-nil}
+use Rattle.ca_base.specs.Devices.{grown, Began, HasCause, Rose}
 use Rattle.ca_base.proofs.Writing.{grown_twice, grown_nothing, began_after, began_more, began_whole}
 use Rattle.ca_program.specs.Plain.{PlainProgram}
 use Rattle.ca_model.specs.declared.value.Value.{Value as Datum}
@@ -8,11 +8,11 @@ use Rattle.ca_meaning.specs.Flows.{Flow, goes_on, gives_back, stops, runs_out}
 use Rattle.ca_meaning.specs.Serial.{World, Ended, ended, serial}
 use Rattle.ca_meaning.specs.Output.{print_text, prints_text}
 use Rattle.ca_parallel.specs.Lists.{world_after}
-use Rattle.ca_serial.specs.declared.machine.Machine.{Machine}
-use Rattle.ca_serial.specs.declared.work.Work.{Work}
+use Rattle.ca_machine.specs.declared.machine.Machine.{Machine}
+use Rattle.ca_machine.specs.declared.work.Work.{Work}
 use Rattle.ca_serial.specs.declared.running.Outcome.{Outcome}
 use Rattle.ca_serial.specs.declared.running.Outcome.TheVariants.{Done, Trapped, Spent}
-use Rattle.ca_serial.specs.clauses.Resume.{Past, and_print, rest_of, world_of}
+use Rattle.ca_machine.specs.clauses.Resume.{Past, and_print, rest_of, world_of}
 use Rattle.ca_serial.specs.Runs.{prints_of, run_with}
 use Rattle.ca_serial.proofs.Prints.{later_of, resume_grows}
 
@@ -74,3 +74,8 @@ written_nothing old = sym (grown_nothing old)
 -- a count that rose behind others
 pub rose_later : (a b c : ℕ) → a ≤ b → Rose b c → Rose a c
 rose_later a b c le rose = omega (arith, le, rose)
+
+-- and its cause
+pub cause_after : {T E : Type 0} (a b c : ℕ) (r : Result T E) → a ≤ b → HasCause b c r → HasCause a c r
+cause_after a b c (Ok x) le h = record { later = omega (arith, le, h.later); failed = tt }
+cause_after a b c (Err e) le h = record { later = omega (arith, le, h.later); failed = rose_later a b c le h.failed }

@@ -1,8 +1,7 @@
 -- A marked loop that is next, as it is listed, as an engine runs what it lists, and as it runs here.
 use Rattle.std.proofs.Common.{Bor, ◌≡◌, ◌≤◌, ℕ, ◌-◌, List, [], ◌∷◌, ◌++◌, refl, ap, sym, subst, ◌∙◌, arith, map, append-nil, append_assoc}
-use Rattle.std.specs.Prelude.{Bool, true, false, ◌&&◌, nat_eq, Contains, Result, Ok, Err, IfOk}
+use Rattle.std.specs.Prelude.{Bool, true, false, ◌&&◌, Contains, Result, Ok, Err, IfOk}
 use Rattle.std.proofs.lemmas.List.Elements.{Contains-push}
-use Rattle.ca_program.specs.declared.program.LoopId.{LoopId}
 use Rattle.ca_program.specs.Plain.{PlainProgram, Statement, block, put_local, put_field, put_item, new_local, new_field, new_item, invoke, if_else, while_loop, for_loop, return_value, print_value}
 use Rattle.ca_program.specs.View.{statement_view}
 use Rattle.ca_model.specs.declared.value.Value.{Value as Datum}
@@ -17,7 +16,7 @@ use Rattle.ca_meaning.proofs.Near.{NearFlow, both_go, both_return, both_stop, bo
 use Rattle.ca_parallel.specs.Accounts.{Reached, ReachedPart, HandedOn, at_first, by_one}
 use Rattle.ca_parallel.specs.Calls.{RunsTo, invocations_of, operation_of}
 use Rattle.ca_parallel.specs.declared.op.Op.{Op}
-use Rattle.ca_parallel.specs.Lists.{PlainMarks, has_site, loop_in, note, either, world_after}
+use Rattle.ca_parallel.specs.Lists.{PlainMarks, loop_in, note, either, world_after}
 use Rattle.ca_parallel.specs.Notes.{op_of}
 use Rattle.ca_parallel.specs.Parallel.{ParallelFrom}
 use Rattle.ca_parallel.proofs.Moved.{moved, serial_ops_moved}
@@ -26,45 +25,23 @@ use Rattle.ca_note_laws.proofs.Listing.{list_self}
 use Rattle.ca_sections.specs.Answers.{LoopIs, locals_after}
 use Rattle.ca_sections.specs.declared.operations.SectionAnswer.{SectionAnswer}
 use Rattle.ca_sections.specs.declared.operations.SectionAnswer.TheVariants.{Done, Trapped, Spent}
-use Rattle.ca_serial.specs.declared.bodies.Mode.{Mode}
-use Rattle.ca_serial.specs.declared.bodies.Mode.TheVariants.{InFunction, InOperation}
-use Rattle.ca_serial.specs.declared.work.Work.{Work}
-use Rattle.ca_serial.specs.declared.work.Work.TheVariants.{Exec, Heed}
-use Rattle.ca_serial.specs.declared.machine.Machine.{Machine}
-use Rattle.ca_serial.specs.clauses.Bodies.{Body, marks_of, heeded, with_locals, alone, heeding}
-use Rattle.ca_serial.specs.clauses.Marked.{site_in}
+use Rattle.ca_frames.specs.declared.bodies.Mode.{Mode}
+use Rattle.ca_frames.specs.declared.bodies.Mode.TheVariants.{InFunction, InOperation}
+use Rattle.ca_machine.specs.declared.work.Work.{Work}
+use Rattle.ca_machine.specs.declared.work.Work.TheVariants.{Exec, Heed}
+use Rattle.ca_machine.specs.declared.machine.Machine.{Machine}
+use Rattle.ca_frames.specs.clauses.Bodies.{Body, marks_of, heeded, with_locals, alone, heeding, in_operation}
+use Rattle.ca_frames.specs.clauses.Marked.{is_marked}
+use Rattle.ca_frames.proofs.Sites.{none_in, marked_is}
 use Rattle.ca_serial.specs.Extents.{IsNotDone}
-use Rattle.ca_serial.specs.clauses.Loops.{is_marked, in_operation, heeds_loop, section_next, notes_of, notes_next, runs_alone}
-use Rattle.ca_serial.specs.clauses.Resume.{Past, and_notes, world_of, runs, going_on, rest_of, heeding_parts, resume, unwind, go_on, by_mode}
+use Rattle.ca_serial.specs.clauses.Loops.{heeds_loop, section_next, notes_of, notes_next, runs_alone}
+use Rattle.ca_machine.specs.clauses.Resume.{Past, and_notes, world_of, runs, going_on, rest_of, heeding_parts, resume, unwind, go_on, by_mode}
 use Rattle.ca_serial.proofs.DueCalls.{runs_in}
-use Rattle.ca_serial.proofs.Flows.{go_on_same}
+use Rattle.ca_machine.proofs.Flows.{go_on_same}
 use Rattle.ca_serial.proofs.Quiet.{run_is}
 use Rattle.ca_serial.proofs.Unmarked.{none_one}
 
 -- ---- which loop is heeded
-
-for_sites : (sites : List LoopId) (own : ℕ) (site : LoopId) (loop : Statement) → ((x : LoopId) → has_site loop x ≡ nat_eq site.0 x.0) → loop_in sites loop ≡ site_in sites site
-for_sites [] own site loop has = refl
-for_sites (x ∷ xs) own site loop has = rw (has x, for_sites xs own site loop has) refl
-
-none_in : (sites : List LoopId) (s : Statement) → ((x : LoopId) → has_site s x ≡ false) → loop_in sites s ≡ false
-none_in [] s free = refl
-none_in (x ∷ xs) s free = rw (free x, none_in xs s free) refl
-
-pub marked_is : (sites : List LoopId) (s : Statement) → is_marked sites s ≡ loop_in sites s
-marked_is sites (for_loop own site part first c next b) = sym (for_sites sites own site (for_loop own site part first c next b) (λ x. refl))
-marked_is sites (block own ss) = sym (none_in sites (block own ss) (λ x. refl))
-marked_is sites (put_local own l op e) = sym (none_in sites (put_local own l op e) (λ x. refl))
-marked_is sites (put_field own f op e) = sym (none_in sites (put_field own f op e) (λ x. refl))
-marked_is sites (put_item own f i op e) = sym (none_in sites (put_item own f i op e) (λ x. refl))
-marked_is sites (new_local own l c) = sym (none_in sites (new_local own l c) (λ x. refl))
-marked_is sites (new_field own f c) = sym (none_in sites (new_field own f c) (λ x. refl))
-marked_is sites (new_item own f i c) = sym (none_in sites (new_item own f i c) (λ x. refl))
-marked_is sites (invoke own e op es) = sym (none_in sites (invoke own e op es) (λ x. refl))
-marked_is sites (if_else own c a b) = sym (none_in sites (if_else own c a b) (λ x. refl))
-marked_is sites (while_loop own c b) = sym (none_in sites (while_loop own c b) (λ x. refl))
-marked_is sites (return_value own e) = sym (none_in sites (return_value own e) (λ x. refl))
-marked_is sites (print_value own e) = sym (none_in sites (print_value own e) (λ x. refl))
 
 and_left : (a b : Bool) → (a && b) ≡ true → a ≡ true
 and_left true b e = refl

@@ -16,14 +16,14 @@ use Rattle.ca_meaning.specs.Sections.{LoopOutcome, LoopSectioned, loop_done, loo
 use Rattle.ca_parallel.specs.Lists.{PlainMarks, op_in, loop_in, note, noted, either, noted_call, world_after}
 use Rattle.ca_note_laws.specs.Listing.{puts_nothing, behind_list, with_list, by_section, listing_parts, listing_operations, listing_of}
 use Rattle.ca_meaning.specs.Serial.{Note, World, came_back, run_call, own_item_at, room_for, operation_act, operation_parts, Operations, operations, operations_of, serial_parts, serial_ops}
-use Rattle.ca_serial.specs.declared.bodies.Mode.{Mode}
-use Rattle.ca_serial.specs.declared.bodies.Mode.TheVariants.{InFunction, InOperation}
-use Rattle.ca_serial.specs.declared.work.Target.{Target}
-use Rattle.ca_serial.specs.declared.work.Target.TheVariants.{Function, Operation}
-use Rattle.ca_serial.specs.declared.work.Work.{Work}
-use Rattle.ca_serial.specs.declared.work.Work.TheVariants.{Evaluate, CollectValue, CollectCall, Exec, Seq, Again, Leave, Back, Heed, ReadField, CheckObject, ReadItem, ReadOwnItem, Sign, CheckLeft, Apply, PutLocal, PutField, CheckIndex, PutItem, NewItem, Print, Choose, Turn, GiveBack}
-use Rattle.ca_serial.specs.clauses.Bodies.{Body, with_locals, marks_of}
-use Rattle.ca_serial.specs.clauses.Resume.{carried, runs, runs_all, comes_again, runs_body, turns, pop, taken, back_in, go_on, by_mode, called, collected, value_of, found_again, used, resume, unwind, heeding_parts}
+use Rattle.ca_frames.specs.declared.bodies.Mode.{Mode}
+use Rattle.ca_frames.specs.declared.bodies.Mode.TheVariants.{InFunction, InOperation}
+use Rattle.ca_machine.specs.declared.work.Target.{Target}
+use Rattle.ca_machine.specs.declared.work.Target.TheVariants.{Function, Operation}
+use Rattle.ca_machine.specs.declared.work.Work.{Work}
+use Rattle.ca_machine.specs.declared.work.Work.TheVariants.{Evaluate, CollectValue, CollectCall, Exec, Seq, Again, Leave, Back, Heed, ReadField, CheckObject, ReadItem, ReadOwnItem, Sign, CheckLeft, Apply, PutLocal, PutField, CheckIndex, PutItem, NewItem, Print, Choose, Turn, GiveBack}
+use Rattle.ca_frames.specs.clauses.Bodies.{Body, with_locals, marks_of}
+use Rattle.ca_machine.specs.clauses.Resume.{carried, runs, runs_all, comes_again, runs_body, turns, pop, taken, back_in, go_on, by_mode, called, collected, value_of, found_again, used, resume, unwind, heeding_parts}
 
 -- what was printed and noted in w stands at the front of what was printed and noted in x
 pub record Later (w x : World) : Type 0 where

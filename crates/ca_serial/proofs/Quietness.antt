@@ -1,6 +1,6 @@
 -- Statements in memory that put nothing into fields.
 use Rattle.std.proofs.Common.{◌≡◌, List, [], ◌∷◌, ◌++◌, refl, ap, ◌∙◌, Global}
-use Rattle.std.specs.Prelude.{Bool, true, false, ◌&&◌}
+use Rattle.std.specs.Prelude.{true, ◌&&◌}
 use Rattle.std.specs.declared.vec.Vec.{Vec}
 use Rattle.ca_program.specs.declared.program.Stmt.{Stmt}
 use Rattle.ca_program.specs.declared.program.StmtForm.{Block}
@@ -19,7 +19,3 @@ none_of_both (x ∷ xs) ys = refl
 pub is_none : {A : Type 0} (xs : List A) → is_empty xs ≡ true → xs ≡ []
 is_none [] e = refl
 is_none (x ∷ xs) e = cc
-
-pub and_false : (b : Bool) → (b && false) ≡ false
-and_false true = refl
-and_false false = refl

@@ -5,14 +5,12 @@ ghost use Rattle.ca_program.specs.View.{program_view};
 ghost use Rattle.ca_meaning.specs.ProgramTyped.{ProgramTyped};
 ghost use Rattle.ca_parallel.specs.Calls.{invocations_of, operation_of};
 ghost use Rattle.ca_parallel.specs.Notes.{NoteGood};
-ghost use Rattle.ca_serial.specs.clauses.Resume.{Past, call_of, note_of, runs_due, after, next_of};
+ghost use Rattle.ca_machine.specs.clauses.Resume.{Past, call_of, note_of, runs_due, after, next_of};
 
-use crate::bodies::Mode;
-use crate::calls::body_of;
 use crate::extents::{ExtentAnswer, Extents};
-use crate::machine::Machine;
-use crate::work::{Target, Work};
 use ca_base::Memory;
+use ca_frames::Mode;
+use ca_machine::{Machine, Target, Work, body_of};
 use ca_model::{Value, Values};
 use ca_parallel::Op;
 use ca_program::Program;
@@ -36,7 +34,7 @@ pub fn hand_on<'a, R: Threads + Wait + Sync, E: Extents>(
     ensures account { OnOk result (E.Accounts (E.account engine.old) (program_view program.now) machine.old.heap (call_of machine.old ∷ []) machine.old.left (E.account engine.new)) }
     ensures account_kept { OnErr result ((E.account engine.new ≡ E.account engine.old) ⊎ E.Accounts (E.account engine.old) (program_view program.now) machine.old.heap (call_of machine.old ∷ []) machine.old.left (E.account engine.new)) }
 {
-    let ops = machine.due_ops(alloc)?;
+    let ops = due_ops(alloc, machine)?;
     let left = machine.left;
     match engine.run(rt, program, &mut machine.heap, ops.as_slice(), left)? {
         ExtentAnswer::Done { steps } => {
@@ -44,50 +42,48 @@ pub fn hand_on<'a, R: Threads + Wait + Sync, E: Extents>(
             machine.left = left.saturating_sub(steps);
             Ok(true)
         }
-        ExtentAnswer::Declined => machine.begin_alone(program),
+        ExtentAnswer::Declined => begin_alone(program, machine),
     }
 }
 
-impl<'a> Machine<'a> {
-    /// The call that is due, as an engine takes it.
-    fn due_ops(&self, alloc: Global) -> Result<Vec<Op>, Memory>
-        ensures calls { IfOk result (λ ops. invocations_of ops.items ≡ call_of self.now ∷ []) }
-        ensures ops { IfOk result (λ ops. map operation_of ops.items ≡ self.now.due.op ∷ []) }
-    {
-        let due = self.due;
-        let mut args = Values::new(alloc);
-        add_all(&mut args, self.values.last(due.count))?;
-        let mut ops = Vec::new(alloc);
-        ops.push(Op {
-            receiver: due.receiver,
-            op: due.op,
-            args,
-        })?;
-        Ok(ops)
-    }
+/// The call that is due, as an engine takes it.
+fn due_ops(alloc: Global, machine: &Machine<'_>) -> Result<Vec<Op>, Memory>
+    ensures calls { IfOk result (λ ops. invocations_of ops.items ≡ call_of machine.now ∷ []) }
+    ensures ops { IfOk result (λ ops. map operation_of ops.items ≡ machine.now.due.op ∷ []) }
+{
+    let due = machine.due;
+    let mut args = Values::new(alloc);
+    add_all(&mut args, machine.values.last(due.count))?;
+    let mut ops = Vec::new(alloc);
+    ops.push(Op {
+        receiver: due.receiver,
+        op: due.op,
+        args,
+    })?;
+    Ok(ops)
+}
 
-    /// Begins the call that is due here. Within it nothing is handed on.
-    fn begin_alone(&mut self, program: &'a Program) -> Result<bool, Memory>
-        ensures { IfOk result (λ goes. (ps : Past) → runs_due (program_view program.now) self.old ps ≡ after (program_view program.now) self.new ps (next_of goes)) }
-    {
-        if self.left == 0 {
-            return Ok(false);
-        }
-        let due = self.due;
-        let called = body_of(program, Target::Operation(due.op));
-        self.bodies.enter(
-            due.receiver,
-            Mode::InOperation,
-            self.values.last(due.count),
-            called.others,
-        )?;
-        self.bodies.be_alone();
-        self.values.cut(due.count);
-        self.left -= 1;
-        self.todo.push(Work::Leave)?;
-        self.todo.push(Work::Seq(called.stmts))?;
-        Ok(true)
+/// Begins the call that is due here. Within it nothing is handed on.
+fn begin_alone<'a>(program: &'a Program, machine: &mut Machine<'a>) -> Result<bool, Memory>
+    ensures { IfOk result (λ goes. (ps : Past) → runs_due (program_view program.now) machine.old ps ≡ after (program_view program.now) machine.new ps (next_of goes)) }
+{
+    if machine.left == 0 {
+        return Ok(false);
     }
+    let due = machine.due;
+    let called = body_of(program, Target::Operation(due.op));
+    machine.bodies.enter(
+        due.receiver,
+        Mode::InOperation,
+        machine.values.last(due.count),
+        called.others,
+    )?;
+    machine.bodies.be_alone();
+    machine.values.cut(due.count);
+    machine.left -= 1;
+    machine.todo.push(Work::Leave)?;
+    machine.todo.push(Work::Seq(called.stmts))?;
+    Ok(true)
 }
 
 /// Adds all of these values.

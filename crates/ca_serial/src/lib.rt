@@ -11,38 +11,19 @@
 //! with the steps that are left behind those of the loop itself. Where the engine is done the call or the loop counts as
 //! run; where it declines, or the loop can't be listed to its end, that runs here, and hands nothing on within.
 //!
-//! Calls stand on a vector and expressions on an explicit stack, so that no depth of calls runs
-//! out of the machine's own stack, and no piece of work takes memory but where a stack grows.
-//! `specs/clauses/Resume.antt` says what a stack of work still means, which is the one clause of every step.
+//! A machine (`ca_machine`) does the pieces of work. What is said here of it is the loop over them, and what is handed on.
 //!
 //! Whoever reads the public clauses must believe `Extents` and `Runs` of `specs/`; what stands in `specs/clauses/`
 //! serves clauses within the crate alone.
 #![tactic(auto)]
 
-mod answers;
-mod at_once;
-mod bodies;
-mod calls;
-mod expressions;
+mod beginning;
 mod extents;
-mod few;
 mod handing;
-mod instant;
 mod listing;
-mod loops;
-mod machine;
-mod marked;
-mod next;
-mod patience;
 mod print;
-mod puts;
 mod running;
-mod stack;
-mod starts;
-mod statements;
-mod step;
 mod targets;
-mod work;
 
 pub use extents::{ExtentAnswer, Extents, NoExtents};
 pub use running::{Outcome, RunError, drive};

@@ -10,13 +10,12 @@ ghost use Rattle.ca_note_laws.specs.Listing.{puts_nothing};
 ghost use Rattle.ca_sections.specs.declared.operations.SectionAnswer.TheVariants.{Done};
 ghost use Rattle.ca_sections.specs.Answers.{LoopIs, locals_after};
 ghost use Rattle.ca_serial.specs.clauses.Loops.{heeds_loop, section_next, notes_of, notes_next, runs_alone};
-ghost use Rattle.ca_serial.specs.clauses.Resume.{Past, and_notes, rest_of};
+ghost use Rattle.ca_machine.specs.clauses.Resume.{Past, and_notes, rest_of};
 
 use crate::extents::{ExtentAnswer, Extents};
-use crate::machine::Machine;
 use crate::targets::puts_nothing;
-use crate::work::Work;
 use ca_base::Memory;
+use ca_machine::{Machine, Work};
 use ca_model::Value;
 use ca_parallel::Op;
 use ca_program::{Program, Stmt, StmtForm};
@@ -48,14 +47,14 @@ pub fn hand_on_loop<'a, R: Threads + Wait + Sync, E: Extents>(
         machine.todo.push(work)?;
         return Ok(());
     };
-    if !machine.heeds(s) {
+    if !heeds(machine, s) {
         machine.todo.push(work)?;
         return Ok(());
     }
     if puts_nothing(s) {
         return list_loop(rt, alloc, program, line, s, machine, lists, engine);
     }
-    machine.put_alone(program, line, s)
+    put_alone(program, line, s, machine)
 }
 
 /// Lists the calls of a loop that puts nothing into fields, and hands them to an engine.
@@ -82,8 +81,8 @@ fn list_loop<'a, R: Threads + Wait + Sync, E: Extents>(
         SectionAnswer::Done { steps } => {
             run_listed(rt, program, line, s, steps, machine, lists, engine)
         }
-        SectionAnswer::Trapped(_) => machine.put_alone(program, line, s),
-        SectionAnswer::Spent => machine.put_alone(program, line, s),
+        SectionAnswer::Trapped(_) => put_alone(program, line, s, machine),
+        SectionAnswer::Spent => put_alone(program, line, s, machine),
     }
 }
 
@@ -116,7 +115,7 @@ fn run_listed<'a, R: Threads + Wait + Sync, E: Extents>(
             machine.left = rest.saturating_sub(steps);
             Ok(())
         }
-        ExtentAnswer::Declined => machine.put_alone(program, line, s),
+        ExtentAnswer::Declined => put_alone(program, line, s, machine),
     }
 }
 
@@ -171,25 +170,28 @@ impl<'a> Lists<'a> {
     }
 }
 
-impl<'a> Machine<'a> {
-    /// Whether the statement is a loop whose mark the body that runs heeds.
-    fn heeds(&self, s: &Stmt) -> bool
-        ensures { result ≡ heeds_loop self.now.bodies.current (statement_view s.now) }
-    {
-        match &s.kind {
-            StmtForm::For(site, _, _, _, _, _) => self.bodies.hands_on_loop(*site),
-            _ => false,
-        }
+/// Whether the statement is a loop whose mark the body that runs heeds.
+fn heeds(machine: &Machine<'_>, s: &Stmt) -> bool
+    ensures { result ≡ heeds_loop machine.now.bodies.current (statement_view s.now) }
+{
+    match &s.kind {
+        StmtForm::For(site, _, _, _, _, _) => machine.bodies.hands_on_loop(*site),
+        _ => false,
     }
+}
 
-    /// Makes a loop whose mark the body heeds the next piece of work, and lets it hand nothing on.
-    fn put_alone(&mut self, program: &'a Program, line: u32, s: &'a Stmt) -> Result<(), Memory>
-        requires { heeds_loop self.old.bodies.current (statement_view s.now) ≡ true }
-        ensures { IfOk result (λ _. (ps : Past) → runs_alone (program_view program.now) line (statement_view s.now) self.old ps ≡ rest_of (program_view program.now) self.new.todo self.new ps) }
-    {
-        self.bodies.be_alone();
-        self.todo.push(Work::Heed)?;
-        self.todo.push(Work::Exec(line, s))?;
-        Ok(())
-    }
+/// Makes a loop whose mark the body heeds the next piece of work, and lets it hand nothing on.
+fn put_alone<'a>(
+    program: &'a Program,
+    line: u32,
+    s: &'a Stmt,
+    machine: &mut Machine<'a>,
+) -> Result<(), Memory>
+    requires { heeds_loop machine.old.bodies.current (statement_view s.now) ≡ true }
+    ensures { IfOk result (λ _. (ps : Past) → runs_alone (program_view program.now) line (statement_view s.now) machine.old ps ≡ rest_of (program_view program.now) machine.new.todo machine.new ps) }
+{
+    machine.bodies.be_alone();
+    machine.todo.push(Work::Heed)?;
+    machine.todo.push(Work::Exec(line, s))?;
+    Ok(())
 }

@@ -10,16 +10,16 @@ ghost use Rattle.ca_parallel.specs.Accounts.{Reached, ReachedPart, HandedOn};
 ghost use Rattle.ca_parallel.specs.Lists.{no_marks, world_after, lists};
 ghost use Rattle.ca_parallel.specs.Marks.{SoundMarks};
 ghost use Rattle.ca_parallel.specs.Notes.{NoteGood};
-ghost use Rattle.ca_serial.specs.clauses.Resume.{no_past, rest_of};
+ghost use Rattle.ca_machine.specs.clauses.Resume.{no_past, rest_of};
 ghost use Rattle.ca_serial.specs.Runs.{run_with, prints_of, OnWrite};
 
+use crate::beginning::before_main;
 use crate::extents::Extents;
 use crate::handing::hand_on;
 use crate::listing::{Lists, hand_on_loop};
-use crate::machine::Machine;
 use crate::print::print_line;
-use crate::work::Next;
 use ca_base::Sink;
+use ca_machine::{Machine, Next};
 use ca_model::{Heap, Trap};
 use ca_parallel::Marks;
 use ca_program::Program;
@@ -74,7 +74,7 @@ pub fn drive<R: Threads + Wait + Sync, E: Extents, K: Sink>(
     // The engine was handed what the run with marks hands on, each once and in order, or a beginning of it.
     ensures account { HandedOn E.Accounts (program_view program.now) (E.account engine.old) (E.account engine.new) result (lists (program_view program.now) marks.now budget) }
 {
-    let Ok(mut machine) = Machine::new(alloc, program, marks, budget) else {
+    let Ok(mut machine) = before_main(alloc, program, marks, budget) else {
         return Err(RunError::Memory);
     };
     let Ok(mut listing) = Lists::new(alloc) else {

@@ -1,4 +1,5 @@
 pub mod Heavier
 pub mod Comparisons
+mod Boxed
 mod Gathered
 mod Smaller

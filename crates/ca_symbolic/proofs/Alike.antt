@@ -8,11 +8,14 @@ use Rattle.ca_tree.specs.declared.tree.BinaryOp.{BinaryOp}
 use Rattle.ca_tree.specs.declared.tree.BinaryOp.TheVariants as op
 use Rattle.ca_tree.specs.declared.tree.UnaryOp.{UnaryOp}
 use Rattle.ca_tree.specs.declared.tree.UnaryOp.TheVariants as sign
+use Rattle.ca_program.specs.declared.program.FieldId.{FieldId}
 use Rattle.ca_program.specs.declared.program.FunctionId.{FunctionId}
 use Rattle.ca_program.specs.declared.program.LocalId.{LocalId}
 use Rattle.ca_program.specs.Fields.{same_field}
 use Rattle.ca_program.specs.Plain.{Expression, Expressions, number, truth, null, this, local, own, own_item, read, read_item, value_call, unary, binary, no_expressions, expression_and}
 use Rattle.ca_program.proofs.Fields.{same_fields, same_itself}
+use Rattle.ca_symbolic.specs.Execution.{is_item}
+use Rattle.ca_symbolic.specs.clauses.Refusals.{is_own_item}
 use Rattle.ca_symbolic.specs.Same.{same_truth, same_sign, place_of, same_expression, same_expressions}
 
 truths : (a b : Bool) → same_truth a b ≡ true → a ≡ b
@@ -145,3 +148,8 @@ mutual
 
 pub alike_is_equal : (d e : Expression) → (same_expression d e ≡ true) ↔ (d ≡ e)
 alike_is_equal d e = (alike d e, λ s. subst (λ x. same_expression d x ≡ true) s (itself d))
+
+-- what is an item of a field at an index is an item of an own field
+pub own_item_alike : (f : FieldId) (i e : Expression) → is_item f i e ≡ true → is_own_item e ≡ true
+own_item_alike f i (own_item g j) h = refl
+own_item_alike f i e h = absurd cc

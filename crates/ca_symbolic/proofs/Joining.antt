@@ -54,7 +54,7 @@ heavy_target f n [] t rest e h =
 heavy_target f n (u ∷ ts) t rest e h =
     behind_one f n u (ts ++ t ∷ rest) (heavy_target f (suc n) ts t rest (subst (λ m. f m ≡ true) (omega arith) e) h) (f n) refl
 
-item_and_rest : {A : Type 0} (xs : List A) (i : ℕ) (x : A) → i < length xs → x ≡ get_or xs i x → drop i xs ≡ x ∷ drop (i + 1) xs
+pub item_and_rest : {A : Type 0} (xs : List A) (i : ℕ) (x : A) → i < length xs → x ≡ get_or xs i x → drop i xs ≡ x ∷ drop (i + 1) xs
 item_and_rest xs i x h e =
     let n : i + 1 ≡ suc i = omega arith in
     drop-cons xs i x h ∙ (ap (λ y. y ∷ drop (suc i) xs) (sym e) ∙ ap (λ m. x ∷ drop m xs) (sym n))

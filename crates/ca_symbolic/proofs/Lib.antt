@@ -7,6 +7,7 @@ pub mod Blocks
 pub mod Flags
 pub mod Among
 pub mod Joining
+pub mod Marks
 pub mod Bodies
 pub mod Told
 pub mod Groups

@@ -18,7 +18,7 @@ use Rattle.ca_symbolic.specs.Execution.{term_of, signed_term, operation, divisor
 use Rattle.ca_symbolic.specs.Demands.{right_guard, then_guard, else_guard, terms_in, demands_in, demands_in_all, loop_parts, demanded, demanded_all}
 use Rattle.ca_symbolic.specs.Made.{new_guard, guards_in, guards_in_all, joined_terms, steps_made, steps_made_all, made_by}
 use Rattle.ca_shared_terms.specs.Heavy.{is_heavy}
-use Rattle.ca_symbolic.specs.clauses.Refusals.{refused_guard, refused, refused_all, refused_item, refused_put, refused_addend, refused_negative, refused_product, refused_right, refused_array, refused_by, refused_by_all}
+use Rattle.ca_symbolic.specs.clauses.Refusals.{refused_guard, refused, refused_all, refused_item, with_put, refused_value, put_sum, refused_sum, refused_right, refused_array, refused_by, refused_by_all}
 use Rattle.ca_symbolic.proofs.Ors.{v, none, either, same_ors, absorbed}
 use Rattle.ca_shared_terms.proofs.Heavier.{neg_heavier, not_heavier, add_left, add_right, sub_left, sub_right, mul_left, mul_right, and_left, and_right, or_left, or_right, less_left, less_right, less_equal_left, less_equal_right, same_heavier_left, same_heavier_right, divide_left, remainder_left, put_item_heavier, add_at_heavier}
 
@@ -235,31 +235,28 @@ module _ (p : PlainProgram) (s : State) (g : PlainTerm) (f : FieldId) where
       ∙ (same_ors (G ∷ D ∷ t ∷ w ∷ []) (either (either (either (v 0) (v 1)) (v 2)) (v 3)) (either (either (v 0) (v 1)) (either (v 2) (v 3))) refl refl
       ∙ ap (λ x. (G || D) || x) (sym (absorbed t w more)))
 
-  put_is : (t : PlainTerm) (e : Expression) → refused_put p s g f t e ≡ ((H (guards_in p s g e) || P (demands_in p s g e)) || is_heavy (put A t (term_of p s e)))
-  put_is t e = ends e (is_heavy (put A t (term_of p s e))) (put_item_heavier A t (term_of p s e))
+  -- the put of an expression is refused for what it makes, or for what stands in the array
+  abbrev ValueIs : AssignOp → PlainTerm → Expression → Type 0
+  ValueIs op t e = refused_value p s g f op t e ≡ ((H (guards_in p s g e) || P (demands_in p s g e)) || is_heavy (with_put op A t (term_of p s e)))
 
-  addend_is : (t : PlainTerm) (e : Expression) → refused_addend p s g f t e ≡ ((H (guards_in p s g e) || P (demands_in p s g e)) || is_heavy (add_at A t (term_of p s e)))
-  addend_is t e = ends e (is_heavy (add_at A t (term_of p s e))) (add_at_heavier A t (term_of p s e))
-
-  negative_is : (t : PlainTerm) (e : Expression) → refused_negative p s g f t e ≡ ((H (guards_in p s g e) || P (demands_in p s g e)) || is_heavy (add_at A t (neg (term_of p s e))))
-  negative_is t e =
+  value_is : (op : AssignOp) (t : PlainTerm) (e : Expression) → ValueIs op t e
+  value_is assign.Put t e = ends e (is_heavy (put A t (term_of p s e))) (put_item_heavier A t (term_of p s e))
+  value_is assign.Add t e = ends e (is_heavy (add_at A t (term_of p s e))) (add_at_heavier A t (term_of p s e))
+  value_is assign.Sub t e =
       let n = is_heavy (neg (term_of p s e)) in
       let w = is_heavy (add_at A t (neg (term_of p s e))) in
       ap (λ x. refused p s g e || x) (sym (absorbed n w (add_at_heavier A t (neg (term_of p s e)))))
       ∙ ends e w (λ h. add_at_heavier A t (neg (term_of p s e)) (neg_heavier (term_of p s e) h))
-
-  product_is : (t : PlainTerm) (e : Expression) → refused_product p s g f t e ≡ ((H (guards_in p s g e) || P (demands_in p s g e)) || is_heavy (put A t (mul (select A t) (term_of p s e))))
-  product_is t e =
+  value_is assign.Mul t e =
       let item : PlainTerm = select A t in
       let r = refused p s g e in
       let i = is_heavy item in
       let m = is_heavy (mul item (term_of p s e)) in
       let w = is_heavy (put A t (mul item (term_of p s e))) in
       let up : m ≡ true → w ≡ true = put_item_heavier A t (mul item (term_of p s e)) in
-      same_ors (i ∷ r ∷ m ∷ w ∷ []) (either (v 0) (either (v 1) (either (v 2) (v 3)))) (either (v 1) (either (v 0) (either (v 2) (v 3)))) refl refl
-      ∙ (ap (λ x. r || (i || x)) (sym (absorbed m w up))
+      ap (λ x. r || (i || x)) (sym (absorbed m w up))
       ∙ (ap (λ x. r || x) (sym (absorbed i w (λ h. up (mul_left item (term_of p s e) h))))
-      ∙ ends e w (λ h. up (mul_right item (term_of p s e) h))))
+      ∙ ends e w (λ h. up (mul_right item (term_of p s e) h)))
 
   -- the two sides of an operator that makes no condition
   sides : (op : BinaryOp) (a b : Expression) → new_guard op g (term_of p s a) ≡ [] → right_guard op g (term_of p s a) ≡ g →
@@ -273,38 +270,32 @@ module _ (p : PlainProgram) (s : State) (g : PlainTerm) (f : FieldId) where
       ∙ (ap₂ (λ x y. x || y) (sym (both (guards_in p s g a) (guards_in p s g b))) (sym (both_parts (demands_in p s g a) (demands_in p s g b)))
       ∙ ap₂ (λ (ns : List PlainTerm) (k : PlainTerm). H (guards_in p s g a ++ (ns ++ guards_in p s k b)) || P (demands_in p s g a ++ demands_in p s k b)) (sym none_new) (sym same_guard))
 
+  sum_is : (op : AssignOp) (o : BinaryOp) (i a b : Expression) → new_guard o g (term_of p s a) ≡ [] → right_guard o g (term_of p s a) ≡ g →
+      refused_sum p s g f i op (term_of p s i) a b (binary o a b) ≡
+      ((H (guards_in p s g (binary o a b)) || P (demands_in p s g (binary o a b))) || is_heavy (put_sum p s f i op (term_of p s i) a b (binary o a b)))
+  sum_is op o i a b none_new same_guard = at (is_item f i a) refl
+    where
+      at : (x : Bool) → is_item f i a ≡ x →
+          (if x then refused_item p s g a || refused_value p s g f op (term_of p s i) b else refused_value p s g f assign.Put (term_of p s i) (binary o a b)) ≡
+          ((H (guards_in p s g (binary o a b)) || P (demands_in p s g (binary o a b))) ||
+          is_heavy (if x then with_put op A (term_of p s i) (term_of p s b) else put A (term_of p s i) (term_of p s (binary o a b))))
+      at true is =
+          let w = is_heavy (with_put op A (term_of p s i) (term_of p s b)) in
+          ap₂ (λ x y. x || y) (item_is i a is) (value_is op (term_of p s i) b)
+          ∙ (same_ors ((H (guards_in p s g a) || P (demands_in p s g a)) ∷ (H (guards_in p s g b) || P (demands_in p s g b)) ∷ w ∷ []) (either (v 0) (either (v 1) (v 2))) (either (either (v 0) (v 1)) (v 2)) refl refl
+          ∙ ap (λ x. x || w) (sides o a b none_new same_guard))
+      at false is = value_is assign.Put (term_of p s i) (binary o a b)
+
   right_is : (i e : Expression) → refused_right p s g f i e ≡ ((H (guards_in p s g e) || P (demands_in p s g e)) || is_heavy (put_right p s f i e))
-  right_is i (binary Plus a b) = at (is_item f i a) refl
-    where
-      at : (x : Bool) → is_item f i a ≡ x →
-          (if x then refused_item p s g a || refused_addend p s g f (term_of p s i) b else refused_put p s g f (term_of p s i) (binary Plus a b)) ≡
-          ((H (guards_in p s g (binary Plus a b)) || P (demands_in p s g (binary Plus a b))) ||
-          is_heavy (if x then add_at A (term_of p s i) (term_of p s b) else put A (term_of p s i) (term_of p s (binary Plus a b))))
-      at true is =
-          let w = is_heavy (add_at A (term_of p s i) (term_of p s b)) in
-          ap₂ (λ x y. x || y) (item_is i a is) (addend_is (term_of p s i) b)
-          ∙ (same_ors ((H (guards_in p s g a) || P (demands_in p s g a)) ∷ (H (guards_in p s g b) || P (demands_in p s g b)) ∷ w ∷ []) (either (v 0) (either (v 1) (v 2))) (either (either (v 0) (v 1)) (v 2)) refl refl
-          ∙ ap (λ x. x || w) (sides Plus a b refl refl))
-      at false is = put_is (term_of p s i) (binary Plus a b)
-  right_is i (binary Minus a b) = at (is_item f i a) refl
-    where
-      at : (x : Bool) → is_item f i a ≡ x →
-          (if x then refused_item p s g a || refused_negative p s g f (term_of p s i) b else refused_put p s g f (term_of p s i) (binary Minus a b)) ≡
-          ((H (guards_in p s g (binary Minus a b)) || P (demands_in p s g (binary Minus a b))) ||
-          is_heavy (if x then add_at A (term_of p s i) (neg (term_of p s b)) else put A (term_of p s i) (term_of p s (binary Minus a b))))
-      at true is =
-          let w = is_heavy (add_at A (term_of p s i) (neg (term_of p s b))) in
-          ap₂ (λ x y. x || y) (item_is i a is) (negative_is (term_of p s i) b)
-          ∙ (same_ors ((H (guards_in p s g a) || P (demands_in p s g a)) ∷ (H (guards_in p s g b) || P (demands_in p s g b)) ∷ w ∷ []) (either (v 0) (either (v 1) (v 2))) (either (either (v 0) (v 1)) (v 2)) refl refl
-          ∙ ap (λ x. x || w) (sides Minus a b refl refl))
-      at false is = put_is (term_of p s i) (binary Minus a b)
-  right_is i e = put_is (term_of p s i) e
+  right_is i (binary Plus a b) = sum_is assign.Add Plus i a b refl refl
+  right_is i (binary Minus a b) = sum_is assign.Sub Minus i a b refl refl
+  right_is i e = value_is assign.Put (term_of p s i) e
 
   array_is : (i : Expression) (op : AssignOp) (e : Expression) → refused_array p s g f i op e ≡ ((H (guards_in p s g e) || P (demands_in p s g e)) || is_heavy (array_term p s f i op e))
   array_is i assign.Put e = right_is i e
-  array_is i assign.Add e = addend_is (term_of p s i) e
-  array_is i assign.Sub e = negative_is (term_of p s i) e
-  array_is i assign.Mul e = product_is (term_of p s i) e
+  array_is i assign.Add e = value_is assign.Add (term_of p s i) e
+  array_is i assign.Sub e = value_is assign.Sub (term_of p s i) e
+  array_is i assign.Mul e = value_is assign.Mul (term_of p s i) e
 
 -- In a statement
 

@@ -1,5 +1,5 @@
 -- What code finds by numbers of fields and locals is what the definition has.
-use Rattle.std.proofs.Common.{◌≡◌, ℕ, Bool, true, false, ◌||◌, List, [], ◌∷◌, ◌++◌, sym, ap, ap₂, ◌∙◌}
+use Rattle.std.proofs.Common.{◌≡◌, ℕ, ◌<◌, Bool, true, false, ◌||◌, List, [], ◌∷◌, ◌++◌, length, replicate, sym, ap, ◌∙◌}
 use Rattle.std.specs.List.{list_any}
 use Rattle.std.proofs.lemmas.List.Folds.{list_any-append}
 use Rattle.ca_program.specs.declared.program.FirstPart.{FirstPart}
@@ -10,43 +10,45 @@ use Rattle.ca_symbolic.specs.States.{State, demand, loops}
 use Rattle.ca_symbolic.specs.Execution.{term_of, after, choices, field_target, local_target, joined_state}
 use Rattle.ca_symbolic.specs.Demands.{picked, loop_reads, demanded, then_guard, else_guard}
 use Rattle.ca_symbolic.specs.Made.{targets, joined_terms}
-use Rattle.ca_symbolic.specs.clauses.Places.{is_among, fields_put, locals_put, is_read}
+use Rattle.ca_symbolic.specs.clauses.Places.{is_among, is_marked, marked, fields_put, locals_put, is_read}
 use Rattle.ca_symbolic.specs.clauses.Refusals.{refused, refused_by}
 use Rattle.ca_shared_terms.specs.Heavy.{is_heavy}
 use Rattle.ca_symbolic.proofs.Among.{reads_told, field_targets_told, local_targets_told}
+use Rattle.ca_symbolic.proofs.Marks.{marked_append, among, so_long}
 use Rattle.ca_symbolic.proofs.Flags.{neither, first_of, second_of}
 
-pub joined_is : (a b : Statement) (c : PlainTerm) (s t : State) (fs ls : List PlainTerm) → fs ≡ choices (is_among (fields_put a ++ fields_put b)) 0 c s.fields t.fields →
-    ls ≡ choices (is_among (locals_put a ++ locals_put b)) 0 c s.locals t.locals → ◌≡◌ {A = State} (record { fields = fs; locals = ls }) (joined_state c a b s t)
-joined_is a b c s t fs ls p q =
-    ap₂ (λ (x y : List PlainTerm). record { fields = x; locals = y }) (p ∙ ap (λ f. choices f 0 c s.fields t.fields) (sym (field_targets_told a b)))
-    (q ∙ ap (λ f. choices f 0 c s.locals t.locals) (sym (local_targets_told a b)))
+-- marks made by two branches, where nothing is marked before
+module _ (count : ℕ) (m0 m1 m2 : List Bool) (xs ys : List ℕ) (p : m0 ≡ replicate count false) (q : m1 ≡ marked m0 xs) (r : m2 ≡ marked m1 ys) where
+  two_marked : m2 ≡ marked (replicate count false) (xs ++ ys)
+  two_marked = r ∙ (ap (λ m. marked m ys) (q ∙ ap (λ m. marked m xs) p) ∙ sym (marked_append (replicate count false) xs ys))
 
--- the choices that two branches end in, by numbers
-joined_by_number : (a b : Statement) (s : State) →
-    list_any is_heavy (joined_terms a b s) ≡
-    (list_any is_heavy (targets (is_among (fields_put a ++ fields_put b)) 0 s.fields) || list_any is_heavy (targets (is_among (locals_put a ++ locals_put b)) 0 s.locals))
-joined_by_number a b s =
-    list_any-append is_heavy (targets (field_target a b) 0 s.fields) (targets (local_target a b) 0 s.locals)
-    ∙ ap₂ (λ f g. list_any is_heavy (targets f 0 s.fields) || list_any is_heavy (targets g 0 s.locals)) (field_targets_told a b) (local_targets_told a b)
+  pub both_long : length m2 ≡ count
+  both_long = ap length two_marked ∙ so_long count (xs ++ ys)
 
-pub joins_lightly : (a b : Statement) (s : State) → list_any is_heavy (targets (is_among (fields_put a ++ fields_put b)) 0 s.fields) ≡ false →
-    list_any is_heavy (targets (is_among (locals_put a ++ locals_put b)) 0 s.locals) ≡ false → list_any is_heavy (joined_terms a b s) ≡ false
-joins_lightly a b s p q = joined_by_number a b s ∙ neither _ _ p q
+  both_among : (n : ℕ) → n < count → is_marked m2 n ≡ is_among (xs ++ ys) n
+  both_among n h = ap (λ m. is_marked m n) two_marked ∙ among count (xs ++ ys) n h
 
-pub heavy_field : (a b : Statement) (c : PlainTerm) (s t : State) →
-    list_any is_heavy (targets (is_among (fields_put a ++ fields_put b)) 0 (choices (is_among (fields_put a ++ fields_put b)) 0 c s.fields t.fields)) ≡ true →
+pub field_marks : (count : ℕ) (m0 m1 m2 : List Bool) (a b : Statement) → m0 ≡ replicate count false → m1 ≡ marked m0 (fields_put a) → m2 ≡ marked m1 (fields_put b) →
+    (n : ℕ) → n < count → is_marked m2 n ≡ field_target a b n
+field_marks count m0 m1 m2 a b p q r n h = both_among count m0 m1 m2 (fields_put a) (fields_put b) p q r n h ∙ sym (ap (λ f. f n) (field_targets_told a b))
+
+pub local_marks : (count : ℕ) (m0 m1 m2 : List Bool) (a b : Statement) → m0 ≡ replicate count false → m1 ≡ marked m0 (locals_put a) → m2 ≡ marked m1 (locals_put b) →
+    (n : ℕ) → n < count → is_marked m2 n ≡ local_target a b n
+local_marks count m0 m1 m2 a b p q r n h = both_among count m0 m1 m2 (locals_put a) (locals_put b) p q r n h ∙ sym (ap (λ f. f n) (local_targets_told a b))
+
+pub joins_lightly : (a b : Statement) (s : State) → list_any is_heavy (targets (field_target a b) 0 s.fields) ≡ false →
+    list_any is_heavy (targets (local_target a b) 0 s.locals) ≡ false → list_any is_heavy (joined_terms a b s) ≡ false
+joins_lightly a b s p q = list_any-append is_heavy (targets (field_target a b) 0 s.fields) (targets (local_target a b) 0 s.locals) ∙ neither _ _ p q
+
+pub heavy_field : (a b : Statement) (c : PlainTerm) (s t : State) → list_any is_heavy (targets (field_target a b) 0 (choices (field_target a b) 0 c s.fields t.fields)) ≡ true →
     list_any is_heavy (joined_terms a b (joined_state c a b s t)) ≡ true
 heavy_field a b c s t h =
-    joined_by_number a b (joined_state c a b s t)
-    ∙ first_of _ _ (ap (λ f. list_any is_heavy (targets (is_among (fields_put a ++ fields_put b)) 0 (choices f 0 c s.fields t.fields))) (field_targets_told a b) ∙ h)
+    list_any-append is_heavy (targets (field_target a b) 0 (choices (field_target a b) 0 c s.fields t.fields)) (targets (local_target a b) 0 (choices (local_target a b) 0 c s.locals t.locals)) ∙ first_of _ _ h
 
-pub heavy_local : (a b : Statement) (c : PlainTerm) (s t : State) →
-    list_any is_heavy (targets (is_among (locals_put a ++ locals_put b)) 0 (choices (is_among (locals_put a ++ locals_put b)) 0 c s.locals t.locals)) ≡ true →
+pub heavy_local : (a b : Statement) (c : PlainTerm) (s t : State) → list_any is_heavy (targets (local_target a b) 0 (choices (local_target a b) 0 c s.locals t.locals)) ≡ true →
     list_any is_heavy (joined_terms a b (joined_state c a b s t)) ≡ true
 heavy_local a b c s t h =
-    joined_by_number a b (joined_state c a b s t)
-    ∙ second_of _ _ (ap (λ f. list_any is_heavy (targets (is_among (locals_put a ++ locals_put b)) 0 (choices f 0 c s.locals t.locals))) (local_targets_told a b) ∙ h)
+    list_any-append is_heavy (targets (field_target a b) 0 (choices (field_target a b) 0 c s.fields t.fields)) (targets (local_target a b) 0 (choices (local_target a b) 0 c s.locals t.locals)) ∙ second_of _ _ h
 
 -- a loop demands one thing, and is refused for what the locals hold that it reads
 module _ (p : PlainProgram) (s : State) (g : PlainTerm) (x : Statement) (line : ℕ) (site : LoopId) (part : FirstPart) (first : Statement) (c : Expression) (next b : Statement)

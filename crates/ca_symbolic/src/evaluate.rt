@@ -1,12 +1,12 @@
 //! The terms of expressions, and what expressions demand.
 
-ghost use Rattle.std.specs.Prelude.{◌≡◌, ◌≢◌, neg_ℤ, [], ◌∷◌, false, true, slice_get, IfOk, OnOk};
+ghost use Rattle.std.specs.Prelude.{◌≡◌, ◌≢◌, neg_ℤ, [], ◌∷◌, false, true, slice_get, ◌||◌, IfOk, OnOk, IsOkAnd};
 ghost use Rattle.std.specs.Int.{int_wrap, w64};
 ghost use Rattle.ca_program.specs.View.{expression_view, expressions_view, program_view};
 ghost use Rattle.ca_meaning.specs.ProgramTyped.{field_info};
 ghost use Rattle.ca_tree.specs.declared.tree.UnaryOp.TheVariants as sign;
 ghost use Rattle.ca_program.specs.Plain.{unary};
-ghost use Rattle.ca_norm.specs.Terms.{not, same, divide, remainder, read, read_at, select, result as call_result, terms_of};
+ghost use Rattle.ca_norm.specs.Terms.{not, and, same, divide, remainder, read, read_at, select, result as call_result, terms_of};
 ghost use Rattle.ca_symbolic.specs.States.{term_at, demand, not_null, in_range, calls};
 ghost use Rattle.ca_symbolic.specs.Execution.{sort_in, sort_of_result, divisor, divided, operation, signed_term, term_of};
 ghost use Rattle.ca_symbolic.specs.Demands.{right_guard, terms_in, demands_in, demands_in_all};
@@ -16,7 +16,8 @@ ghost use Rattle.ca_shared_terms.specs.Heavy.{is_heavy};
 
 use crate::carried::{leaf, together};
 use crate::demand::{DemandKind, Demands};
-use crate::state::{SymState, receiver};
+use crate::state::{SymState, receiver, shared_behind};
+use ca_forms::parts::{both, longer};
 use ca_norm::Sort;
 use ca_program::{BinaryOp, Expr, FieldId, FunctionId, Program, UnaryOp};
 use ca_shared_terms::{ExecutionError, LightTerm, fields_of, sort_of_type};
@@ -157,22 +158,32 @@ fn signed(alloc: Global, op: UnaryOp, a: LightTerm) -> Result<LightTerm, Executi
     }
 }
 
-/// A list of one term.
-fn one(alloc: Global, term: LightTerm) -> Result<Vec<LightTerm>, AllocError>
-    ensures { IfOk result (λ v. v.items ≡ term ∷ []) }
+/// A list of one term, if it is there.
+fn one(alloc: Global, term: Result<LightTerm, AllocError>) -> Result<Vec<LightTerm>, AllocError>
+    ensures { IfOk result (λ v. IsOkAnd term (λ t. v.items ≡ t ∷ [])) }
 {
-    let mut parts = Vec::new(alloc);
-    parts.push(term)?;
-    Ok(parts)
+    let term = term?;
+    longer(Vec::new(alloc), term)
+}
+
+/// One thing is demanded of one term.
+fn ask(
+    alloc: Global,
+    kind: DemandKind,
+    term: &LightTerm,
+    out: &mut Demands,
+) -> Result<(), AllocError>
+    ensures { OnOk result (out.new ≡ with_demands out.old (demand out.old.guard (kind_of kind) (term.now ∷ []) ∷ [])) }
+{
+    let parts = one(alloc, term.share())?;
+    out.push(kind, parts)
 }
 
 /// A pointer is not to be null.
 pub fn ask_not_null(alloc: Global, object: &LightTerm, out: &mut Demands) -> Result<(), AllocError>
     ensures { OnOk result (out.new ≡ with_demands out.old (demand out.old.guard not_null (object.now ∷ []) ∷ [])) }
 {
-    let parts = one(alloc, object.share()?)?;
-    out.push(DemandKind::NotNull, parts)?;
-    Ok(())
+    ask(alloc, DemandKind::NotNull, object, out)
 }
 
 /// An index is to lie in an array.
@@ -184,9 +195,7 @@ pub fn ask_in_range(
 ) -> Result<(), AllocError>
     ensures { OnOk result (out.new ≡ with_demands out.old (demand out.old.guard (in_range field) (index.now ∷ []) ∷ [])) }
 {
-    let parts = one(alloc, index.share()?)?;
-    out.push(DemandKind::InRange(field), parts)?;
-    Ok(())
+    ask(alloc, DemandKind::InRange(field), index, out)
 }
 
 /// A method of an object is to be called with these arguments.
@@ -200,12 +209,9 @@ pub fn ask_call(
     ensures { OnOk result (out.new ≡ with_demands out.old (demand out.old.guard not_null (object.now ∷ []) ∷ demand out.old.guard (kind_of kind) (object.now ∷ args.now) ∷ [])) }
 {
     ask_not_null(alloc, object, out)?;
-    let mut parts = one(alloc, object.share()?)?;
-    for arg in args {
-        parts.push(arg.share()?)?;
-    }
-    out.push(kind, parts)?;
-    Ok(())
+    let receiver = one(alloc, object.share())?;
+    let parts = shared_behind(receiver, args)?;
+    out.push(kind, parts)
 }
 
 /// The same pointer, which is not to be null.
@@ -235,8 +241,8 @@ fn own_item(
     ensures large { result ≡ Err ExecutionError.Large → is_heavy (select (term_at state.now.fields field.field) index) ≡ true }
     ensures demands { OnOk result (out.new ≡ with_demands out.old (demand out.old.guard (in_range field) (index ∷ []) ∷ [])) }
 {
-    ask_in_range(alloc, field, &index, out)?;
-    let array = state.field(alloc, field.field)?;
+    let asked = ask_in_range(alloc, field, &index, out);
+    let (_, array) = both(asked, state.field(alloc, field.field))?;
     array.item(alloc, index)
 }
 
@@ -296,26 +302,57 @@ fn call(
     object.called(alloc, sort, method.0, args)
 }
 
-/// From here on demands come under the condition of a right side, whose left side is this.
+/// From here on demands come under both conditions.
+pub fn enter(
+    alloc: Global,
+    outer: &LightTerm,
+    condition: &LightTerm,
+    out: &mut Demands,
+) -> Result<(), ExecutionError>
+    ensures entered { OnOk result (out.new ≡ under out.old (and outer.now condition.now)) }
+    ensures light { OnOk result (is_heavy (and outer.now condition.now) ≡ false) }
+    ensures large { result ≡ Err ExecutionError.Large → is_heavy (and outer.now condition.now) ≡ true }
+{
+    let (outer, condition) = both(outer.share(), condition.share())?;
+    let guard = LightTerm::and(alloc, outer, condition)?;
+    leaf(out.open(alloc, guard))
+}
+
+/// From here on they come under the first condition, and where the second one doesn't hold.
 #[tactic(auto, using(crate::proofs::Flags::neither, crate::proofs::Flags::first_of, crate::proofs::Flags::second_of))]
+pub fn enter_opposite(
+    alloc: Global,
+    outer: &LightTerm,
+    condition: &LightTerm,
+    out: &mut Demands,
+) -> Result<(), ExecutionError>
+    ensures entered { OnOk result (out.new ≡ under out.old (and outer.now (not condition.now))) }
+    ensures light { OnOk result ((is_heavy (not condition.now) || is_heavy (and outer.now (not condition.now))) ≡ false) }
+    ensures large { result ≡ Err ExecutionError.Large → (is_heavy (not condition.now) || is_heavy (and outer.now (not condition.now))) ≡ true }
+{
+    let condition = condition.share()?;
+    let opposite = condition.opposite(alloc)?;
+    enter(alloc, outer, &opposite, out)
+}
+
+/// From here on they come under the condition of a right side, whose left side is this.
 fn enter_right(
     alloc: Global,
     op: BinaryOp,
+    outer: &LightTerm,
     left: &LightTerm,
     out: &mut Demands,
 ) -> Result<(), ExecutionError>
-    ensures entered { OnOk result (out.new ≡ under out.old (right_guard op out.old.guard left.now)) }
-    ensures light { OnOk result (refused_guard op out.old.guard left.now ≡ false) }
-    ensures large { result ≡ Err ExecutionError.Large → refused_guard op out.old.guard left.now ≡ true }
+    requires { outer.now ≡ out.old.guard }
+    ensures entered { OnOk result (out.new ≡ under out.old (right_guard op outer.now left.now)) }
+    ensures light { OnOk result (refused_guard op outer.now left.now ≡ false) }
+    ensures large { result ≡ Err ExecutionError.Large → refused_guard op outer.now left.now ≡ true }
 {
-    let condition = match op {
-        BinaryOp::And => left.share()?,
-        BinaryOp::Or => left.share()?.opposite(alloc)?,
-        _ => return Ok(()),
-    };
-    let guard = LightTerm::and(alloc, out.guard()?, condition)?;
-    out.open(alloc, guard)?;
-    Ok(())
+    match op {
+        BinaryOp::And => enter(alloc, outer, left, out),
+        BinaryOp::Or => enter_opposite(alloc, outer, left, out),
+        _ => Ok(()),
+    }
 }
 
 /// The left side of an operator, and the condition under which it stands.
@@ -339,8 +376,8 @@ fn begin_right(
     ensures light { OnOk result (refused_guard op out.old.guard left ≡ false) }
     ensures large { result ≡ Err ExecutionError.Large → refused_guard op out.old.guard left ≡ true }
 {
-    let outer = out.guard()?;
-    enter_right(alloc, op, &left, out)?;
+    let (left, outer) = together(left, leaf(out.guard()))?;
+    enter_right(alloc, op, &outer, &left, out)?;
     Ok(Begun { left, outer })
 }
 

@@ -1,177 +1,169 @@
 //! Which fields and locals a statement puts, and which locals it names.
 
-ghost use Rattle.std.specs.Prelude.{◌≡◌, ◌<◌, ℕ, ◌++◌, ◌∷◌, [], length, IfOk, OnOk};
+ghost use Rattle.std.specs.Prelude.{◌≡◌, true, false, replicate, slice_set, IfOk};
 ghost use Rattle.ca_program.specs.View.{expression_view, expressions_view, statement_view, statements_view};
-ghost use Rattle.ca_symbolic.specs.clauses.Places.{is_among, is_marked, fields_put, fields_put_all, locals_put, locals_put_all, locals_in, locals_in_all, locals_named, locals_named_all};
+ghost use Rattle.ca_symbolic.specs.clauses.Places.{marked, fields_put, fields_put_all, locals_put, locals_put_all, locals_in, locals_in_all, locals_named, locals_named_all};
 
 use ca_program::{Expr, Stmt, StmtForm};
 use std::alloc::{AllocError, Global};
 
-/// One more number.
-fn add(number: u32, out: &mut Vec<u32>) -> Result<(), AllocError>
-    ensures { OnOk result (out.new.items ≡ out.old.items ++ number ∷ []) }
+/// Marks a place, where there is one of this number.
+fn mark(number: u32, marks: &mut Vec<bool>)
+    ensures { marks.new.items ≡ slice_set marks.old.items number true }
 {
-    out.push(number)?;
-    Ok(())
+    let place = number as usize;
+    if place < marks.len() {
+        marks[place] = true;
+    }
 }
 
-/// Adds the fields that a statement puts.
+/// Marks the fields that a statement puts.
 #[cycle(fields)]
-pub fn add_fields(s: &Stmt, out: &mut Vec<u32>) -> Result<(), AllocError>
-    ensures { OnOk result (out.new.items ≡ out.old.items ++ fields_put (statement_view s.now)) }
+pub fn mark_fields(s: &Stmt, marks: &mut Vec<bool>)
+    ensures { marks.new.items ≡ marked marks.old.items (fields_put (statement_view s.now)) }
 {
     match &s.kind {
-        StmtForm::Block(stmts) => add_all_fields(stmts, out),
+        StmtForm::Block(stmts) => mark_all_fields(stmts, marks),
         StmtForm::PutField(f, _, _)
         | StmtForm::PutItem(f, _, _, _)
         | StmtForm::NewField(f, _)
-        | StmtForm::NewItem(f, _, _) => add(f.field, out),
+        | StmtForm::NewItem(f, _, _) => mark(f.field, marks),
         StmtForm::If(_, yes, no) => {
-            add_fields(yes, out)?;
-            add_fields(no, out)
+            mark_fields(yes, marks);
+            mark_fields(no, marks);
         }
-        StmtForm::While(_, body) => add_fields(body, out),
+        StmtForm::While(_, body) => mark_fields(body, marks),
         StmtForm::For(_, _, first, _, next, body) => {
-            add_fields(first, out)?;
-            add_fields(next, out)?;
-            add_fields(body, out)
+            mark_fields(first, marks);
+            mark_fields(next, marks);
+            mark_fields(body, marks);
         }
-        _ => Ok(()),
+        _ => {}
     }
 }
 
 #[cycle(fields)]
-fn add_all_fields(stmts: &[Stmt], out: &mut Vec<u32>) -> Result<(), AllocError>
-    ensures { OnOk result (out.new.items ≡ out.old.items ++ fields_put_all (statements_view stmts.now)) }
+fn mark_all_fields(stmts: &[Stmt], marks: &mut Vec<bool>)
+    ensures { marks.new.items ≡ marked marks.old.items (fields_put_all (statements_view stmts.now)) }
 {
     'statements: for s in stmts {
-        add_fields(s, out)?;
+        mark_fields(s, marks);
     }
-    Ok(())
 }
 
-/// Adds the locals that a statement puts, but for the counters of loops.
+/// Marks the locals that a statement puts, but for the counters of loops.
 #[cycle(locals)]
-pub fn add_locals(s: &Stmt, out: &mut Vec<u32>) -> Result<(), AllocError>
-    ensures { OnOk result (out.new.items ≡ out.old.items ++ locals_put (statement_view s.now)) }
+#[tactic(auto, using(crate::proofs::Marks::marked_append))]
+pub fn mark_locals(s: &Stmt, marks: &mut Vec<bool>)
+    ensures { marks.new.items ≡ marked marks.old.items (locals_put (statement_view s.now)) }
 {
     match &s.kind {
-        StmtForm::Block(stmts) => add_all_locals(stmts, out),
-        StmtForm::PutLocal(l, _, _) => add(l.0, out),
+        StmtForm::Block(stmts) => mark_all_locals(stmts, marks),
+        StmtForm::PutLocal(l, _, _) => mark(l.0, marks),
         StmtForm::If(_, yes, no) => {
-            add_locals(yes, out)?;
-            add_locals(no, out)
+            mark_locals(yes, marks);
+            mark_locals(no, marks);
         }
-        _ => Ok(()),
+        _ => {}
     }
 }
 
 #[cycle(locals)]
-fn add_all_locals(stmts: &[Stmt], out: &mut Vec<u32>) -> Result<(), AllocError>
-    ensures { OnOk result (out.new.items ≡ out.old.items ++ locals_put_all (statements_view stmts.now)) }
+fn mark_all_locals(stmts: &[Stmt], marks: &mut Vec<bool>)
+    ensures { marks.new.items ≡ marked marks.old.items (locals_put_all (statements_view stmts.now)) }
 {
     'statements: for s in stmts {
-        add_locals(s, out)?;
+        mark_locals(s, marks);
     }
-    Ok(())
 }
 
-/// Adds the locals that an expression names.
+/// Marks the locals that an expression names.
 #[cycle(names)]
-fn add_names(e: &Expr, out: &mut Vec<u32>) -> Result<(), AllocError>
-    ensures { OnOk result (out.new.items ≡ out.old.items ++ locals_in (expression_view e.now)) }
+#[tactic(auto, using(crate::proofs::Marks::marked_append))]
+fn mark_names(e: &Expr, marks: &mut Vec<bool>)
+    ensures { marks.new.items ≡ marked marks.old.items (locals_in (expression_view e.now)) }
 {
     match e {
-        Expr::Local(l) => add(l.0, out),
-        Expr::OwnItem(_, i) => add_names(i, out),
-        Expr::Read(p, _) => add_names(p, out),
+        Expr::Local(l) => mark(l.0, marks),
+        Expr::OwnItem(_, i) => mark_names(i, marks),
+        Expr::Read(p, _) => mark_names(p, marks),
         Expr::ReadItem(p, _, i) => {
-            add_names(p, out)?;
-            add_names(i, out)
+            mark_names(p, marks);
+            mark_names(i, marks);
         }
         Expr::Value(p, _, args) => {
-            add_names(p, out)?;
-            add_all_names(args, out)
+            mark_names(p, marks);
+            mark_all_names(args, marks);
         }
-        Expr::Unary(_, a) => add_names(a, out),
+        Expr::Unary(_, a) => mark_names(a, marks),
         Expr::Binary(_, a, b) => {
-            add_names(a, out)?;
-            add_names(b, out)
+            mark_names(a, marks);
+            mark_names(b, marks);
         }
-        _ => Ok(()),
+        _ => {}
     }
 }
 
 #[cycle(names)]
-fn add_all_names(es: &[Expr], out: &mut Vec<u32>) -> Result<(), AllocError>
-    ensures { OnOk result (out.new.items ≡ out.old.items ++ locals_in_all (expressions_view es.now)) }
+fn mark_all_names(es: &[Expr], marks: &mut Vec<bool>)
+    ensures { marks.new.items ≡ marked marks.old.items (locals_in_all (expressions_view es.now)) }
 {
     for e in es {
-        add_names(e, out)?;
+        mark_names(e, marks);
     }
-    Ok(())
 }
 
-/// Adds the locals that the expressions of a statement name.
+/// Marks the locals that the expressions of a statement name.
 #[cycle(named)]
-pub fn add_named(s: &Stmt, out: &mut Vec<u32>) -> Result<(), AllocError>
-    ensures { OnOk result (out.new.items ≡ out.old.items ++ locals_named (statement_view s.now)) }
+pub fn mark_named(s: &Stmt, marks: &mut Vec<bool>)
+    ensures { marks.new.items ≡ marked marks.old.items (locals_named (statement_view s.now)) }
 {
     match &s.kind {
-        StmtForm::Block(stmts) => add_all_named(stmts, out),
+        StmtForm::Block(stmts) => mark_all_named(stmts, marks),
         StmtForm::PutLocal(_, _, e)
         | StmtForm::PutField(_, _, e)
         | StmtForm::Return(e)
-        | StmtForm::Print(e) => add_names(e, out),
+        | StmtForm::Print(e) => mark_names(e, marks),
         StmtForm::PutItem(_, i, _, e) => {
-            add_names(i, out)?;
-            add_names(e, out)
+            mark_names(i, marks);
+            mark_names(e, marks);
         }
-        StmtForm::NewItem(_, i, _) => add_names(i, out),
+        StmtForm::NewItem(_, i, _) => mark_names(i, marks),
         StmtForm::Invoke(p, _, args) => {
-            add_names(p, out)?;
-            add_all_names(args, out)
+            mark_names(p, marks);
+            mark_all_names(args, marks);
         }
         StmtForm::If(c, yes, no) => {
-            add_names(c, out)?;
-            add_named(yes, out)?;
-            add_named(no, out)
+            mark_names(c, marks);
+            mark_named(yes, marks);
+            mark_named(no, marks);
         }
         StmtForm::While(c, body) => {
-            add_names(c, out)?;
-            add_named(body, out)
+            mark_names(c, marks);
+            mark_named(body, marks);
         }
         StmtForm::For(_, _, first, c, next, body) => {
-            add_named(first, out)?;
-            add_names(c, out)?;
-            add_named(next, out)?;
-            add_named(body, out)
+            mark_named(first, marks);
+            mark_names(c, marks);
+            mark_named(next, marks);
+            mark_named(body, marks);
         }
-        _ => Ok(()),
+        _ => {}
     }
 }
 
 #[cycle(named)]
-fn add_all_named(stmts: &[Stmt], out: &mut Vec<u32>) -> Result<(), AllocError>
-    ensures { OnOk result (out.new.items ≡ out.old.items ++ locals_named_all (statements_view stmts.now)) }
+fn mark_all_named(stmts: &[Stmt], marks: &mut Vec<bool>)
+    ensures { marks.new.items ≡ marked marks.old.items (locals_named_all (statements_view stmts.now)) }
 {
     'statements: for s in stmts {
-        add_named(s, out)?;
+        mark_named(s, marks);
     }
-    Ok(())
 }
 
-/// A mark for each of so many places: whether its number is among these.
-pub fn marks(alloc: Global, count: usize, numbers: &[u32]) -> Result<Vec<bool>, AllocError>
-    ensures length { IfOk result (λ v. length v.items ≡ count) }
-    ensures marks { IfOk result (λ v. (n : ℕ) → n < count → is_marked v.items n ≡ is_among numbers.now n) }
+/// So many places without a mark.
+pub fn unmarked(alloc: Global, count: usize) -> Result<Vec<bool>, AllocError>
+    ensures { IfOk result (λ v. v.items ≡ replicate count false) }
 {
-    let mut marks = vec![in alloc; false; count]?;
-    for number in numbers {
-        let place = *number as usize;
-        if place < marks.len() {
-            marks[place] = true;
-        }
-    }
-    Ok(marks)
+    vec![in alloc; false; count]
 }

@@ -1,14 +1,15 @@
 //! Puts to locals, to fields and to items of arrays.
 
 ghost use Rattle.std.specs.Prelude.{◌≡◌, ◌||◌, [], ◌∷◌, ◌++◌, false, true, IfOk, OnOk};
+ghost use Rattle.ca_tree.specs.declared.tree.AssignOp.TheVariants as assign;
 ghost use Rattle.ca_program.specs.Plain.{binary};
 ghost use Rattle.ca_program.specs.View.{expression_view, program_view};
-ghost use Rattle.ca_norm.specs.Terms.{add_at, put, neg, mul, select};
+ghost use Rattle.ca_norm.specs.Terms.{PlainTerm};
 ghost use Rattle.ca_symbolic.specs.States.{term_at, demand, in_range};
 ghost use Rattle.ca_symbolic.specs.Execution.{put_term, is_item, put_right, array_term, with_field, with_local, term_of};
 ghost use Rattle.ca_symbolic.specs.Demands.{demands_in};
 ghost use Rattle.ca_symbolic.specs.Demanded.{with_demands};
-ghost use Rattle.ca_symbolic.specs.clauses.Refusals.{refused, refused_item, refused_put, refused_addend, refused_negative, refused_product, refused_right, refused_array};
+ghost use Rattle.ca_symbolic.specs.clauses.Refusals.{refused, refused_item, is_own_item, with_put, refused_put, refused_value, put_sum, refused_sum, refused_right, refused_array};
 ghost use Rattle.ca_shared_terms.specs.Heavy.{is_heavy};
 
 use crate::carried::{leaf, together};
@@ -16,6 +17,7 @@ use crate::demand::Demands;
 use crate::evaluate::{ask_in_range, value_of};
 use crate::same::same_expression;
 use crate::state::SymState;
+use ca_forms::parts::both;
 use ca_program::{AssignOp, BinaryOp, Expr, FieldId, LocalId, Program};
 use ca_shared_terms::{ExecutionError, LightTerm};
 use std::alloc::Global;
@@ -130,6 +132,7 @@ fn look_at_item(
     e: &Expr,
     out: &mut Demands,
 ) -> Result<(), ExecutionError>
+    requires item { is_own_item (expression_view e.now) ≡ true }
     ensures demands { OnOk result (out.new ≡ with_demands out.old (demands_in (program_view program.now) state.now out.old.guard (expression_view e.now))) }
     ensures light { OnOk result (refused_item (program_view program.now) state.now out.old.guard (expression_view e.now) ≡ false) }
     ensures large { result ≡ Err ExecutionError.Large → refused_item (program_view program.now) state.now out.old.guard (expression_view e.now) ≡ true }
@@ -137,104 +140,119 @@ fn look_at_item(
     match e {
         Expr::OwnItem(field, i) => {
             let index = value_of(alloc, program, state, i, out)?;
-            ask_in_range(alloc, *field, &index, out)?;
+            leaf(ask_in_range(alloc, *field, &index, out))
         }
-        _ => {
-            value_of(alloc, program, state, e, out)?;
-        }
+        _ => Ok(()),
     }
-    Ok(())
 }
 
-/// The array of a field with another item at an index.
-#[tactic(auto, using(crate::proofs::Flags::neither, crate::proofs::Flags::first_of, crate::proofs::Flags::second_of))]
-fn with_item(
-    alloc: Global,
-    program: &Program,
-    state: &SymState,
-    field: FieldId,
-    index: LightTerm,
-    e: &Expr,
-    out: &mut Demands,
-) -> Result<LightTerm, ExecutionError>
-    ensures made { IfOk result (λ t. t ≡ put (term_at state.now.fields field.field) index (term_of (program_view program.now) state.now (expression_view e.now))) }
-    ensures demands { OnOk result (out.new ≡ with_demands out.old (demands_in (program_view program.now) state.now out.old.guard (expression_view e.now))) }
-    ensures light { OnOk result ((refused_put (program_view program.now) state.now out.old.guard field index (expression_view e.now)) ≡ false) }
-    ensures large { result ≡ Err ExecutionError.Large → (refused_put (program_view program.now) state.now out.old.guard field index (expression_view e.now)) ≡ true }
-{
-    let item = value_of(alloc, program, state, e, out)?;
-    let array = state.field(alloc, field.field)?;
-    array.with_item(alloc, index, item)
-}
-
-/// With an addend at an index.
-#[tactic(auto, using(crate::proofs::Flags::neither, crate::proofs::Flags::first_of, crate::proofs::Flags::second_of))]
-fn with_addend(
-    alloc: Global,
-    program: &Program,
-    state: &SymState,
-    field: FieldId,
-    index: LightTerm,
-    e: &Expr,
-    out: &mut Demands,
-) -> Result<LightTerm, ExecutionError>
-    ensures made { IfOk result (λ t. t ≡ add_at (term_at state.now.fields field.field) index (term_of (program_view program.now) state.now (expression_view e.now))) }
-    ensures demands { OnOk result (out.new ≡ with_demands out.old (demands_in (program_view program.now) state.now out.old.guard (expression_view e.now))) }
-    ensures light { OnOk result ((refused_addend (program_view program.now) state.now out.old.guard field index (expression_view e.now)) ≡ false) }
-    ensures large { result ≡ Err ExecutionError.Large → (refused_addend (program_view program.now) state.now out.old.guard field index (expression_view e.now)) ≡ true }
-{
-    let addend = value_of(alloc, program, state, e, out)?;
-    let array = state.field(alloc, field.field)?;
-    array.with_addend(alloc, index, addend)
-}
-
-/// With the negative of an addend at an index.
+/// The array with the negative of an addend at an index.
 #[tactic(auto, using(crate::proofs::Flags::neither, crate::proofs::Flags::first_of, crate::proofs::Flags::second_of))]
 fn with_negative(
     alloc: Global,
-    program: &Program,
-    state: &SymState,
-    field: FieldId,
+    array: LightTerm,
     index: LightTerm,
-    e: &Expr,
-    out: &mut Demands,
+    value: LightTerm,
 ) -> Result<LightTerm, ExecutionError>
-    ensures made { IfOk result (λ t. t ≡ add_at (term_at state.now.fields field.field) index (neg (term_of (program_view program.now) state.now (expression_view e.now)))) }
-    ensures demands { OnOk result (out.new ≡ with_demands out.old (demands_in (program_view program.now) state.now out.old.guard (expression_view e.now))) }
-    ensures light { OnOk result ((refused_negative (program_view program.now) state.now out.old.guard field index (expression_view e.now)) ≡ false) }
-    ensures large { result ≡ Err ExecutionError.Large → (refused_negative (program_view program.now) state.now out.old.guard field index (expression_view e.now)) ≡ true }
+    ensures made { IfOk result (λ t. t ≡ with_put assign.Sub array index value) }
+    ensures light { OnOk result (refused_put assign.Sub array index value ≡ false) }
+    ensures large { result ≡ Err ExecutionError.Large → refused_put assign.Sub array index value ≡ true }
 {
-    let value = value_of(alloc, program, state, e, out)?;
     let addend = value.negated(alloc)?;
-    let array = state.field(alloc, field.field)?;
     array.with_addend(alloc, index, addend)
 }
 
-/// With an item several times as large at an index.
+/// The array with an item several times as large at an index.
 #[tactic(auto, using(crate::proofs::Flags::neither, crate::proofs::Flags::first_of, crate::proofs::Flags::second_of))]
 fn with_product(
     alloc: Global,
-    program: &Program,
-    state: &SymState,
-    field: FieldId,
+    array: LightTerm,
     index: LightTerm,
-    e: &Expr,
-    out: &mut Demands,
+    value: LightTerm,
 ) -> Result<LightTerm, ExecutionError>
-    ensures made { IfOk result (λ t. t ≡ put (term_at state.now.fields field.field) index (mul (select (term_at state.now.fields field.field) index) (term_of (program_view program.now) state.now (expression_view e.now)))) }
-    ensures demands { OnOk result (out.new ≡ with_demands out.old (demands_in (program_view program.now) state.now out.old.guard (expression_view e.now))) }
-    ensures light { OnOk result ((refused_product (program_view program.now) state.now out.old.guard field index (expression_view e.now)) ≡ false) }
-    ensures large { result ≡ Err ExecutionError.Large → (refused_product (program_view program.now) state.now out.old.guard field index (expression_view e.now)) ≡ true }
+    ensures made { IfOk result (λ t. t ≡ with_put assign.Mul array index value) }
+    ensures light { OnOk result (refused_put assign.Mul array index value ≡ false) }
+    ensures large { result ≡ Err ExecutionError.Large → refused_put assign.Mul array index value ≡ true }
 {
-    let array = state.field(alloc, field.field)?;
-    let item = array.share()?.item(alloc, index.share()?)?;
-    let value = value_of(alloc, program, state, e, out)?;
+    let (old, place) = both(array.share(), index.share())?;
+    let item = old.item(alloc, place)?;
     let product = LightTerm::times(alloc, item, value)?;
     array.with_item(alloc, index, product)
 }
 
-/// The array behind a put of an operator's value to an item.
+/// The array with a put of a value done to its item at an index.
+fn with_put(
+    alloc: Global,
+    op: AssignOp,
+    array: LightTerm,
+    index: LightTerm,
+    value: LightTerm,
+) -> Result<LightTerm, ExecutionError>
+    ensures made { IfOk result (λ t. t ≡ with_put op array index value) }
+    ensures light { OnOk result (refused_put op array index value ≡ false) }
+    ensures large { result ≡ Err ExecutionError.Large → refused_put op array index value ≡ true }
+{
+    match op {
+        AssignOp::Put => array.with_item(alloc, index, value),
+        AssignOp::Add => array.with_addend(alloc, index, value),
+        AssignOp::Sub => with_negative(alloc, array, index, value),
+        AssignOp::Mul => with_product(alloc, array, index, value),
+    }
+}
+
+/// The array of a field with a put of an expression done to its item at an index.
 #[tactic(auto, using(crate::proofs::Flags::neither, crate::proofs::Flags::first_of, crate::proofs::Flags::second_of))]
+fn with_value(
+    alloc: Global,
+    program: &Program,
+    state: &SymState,
+    field: FieldId,
+    op: AssignOp,
+    index: LightTerm,
+    e: &Expr,
+    out: &mut Demands,
+) -> Result<LightTerm, ExecutionError>
+    ensures made { IfOk result (λ t. t ≡ with_put op (term_at state.now.fields field.field) index (term_of (program_view program.now) state.now (expression_view e.now))) }
+    ensures demands { OnOk result (out.new ≡ with_demands out.old (demands_in (program_view program.now) state.now out.old.guard (expression_view e.now))) }
+    ensures light { OnOk result (refused_value (program_view program.now) state.now out.old.guard field op index (expression_view e.now) ≡ false) }
+    ensures large { result ≡ Err ExecutionError.Large → refused_value (program_view program.now) state.now out.old.guard field op index (expression_view e.now) ≡ true }
+{
+    let kept = together(index, leaf(state.field(alloc, field.field)))?;
+    let parts = together(kept, value_of(alloc, program, state, e, out))?;
+    with_put(alloc, op, parts.0.1, parts.0.0, parts.1)
+}
+
+/// The array behind `a[i] = l op r`, which is `a[i] op= r` where the left side is that item.
+#[tactic(auto, using(crate::proofs::Flags::neither, crate::proofs::Flags::first_of, crate::proofs::Flags::second_of))]
+fn put_sum(
+    alloc: Global,
+    program: &Program,
+    state: &SymState,
+    field: FieldId,
+    i: &Expr,
+    op: AssignOp,
+    index: LightTerm,
+    left: &Expr,
+    right: &Expr,
+    e: &Expr,
+    out: &mut Demands,
+) -> Result<LightTerm, ExecutionError>
+    requires whole { (g : PlainTerm) → demands_in (program_view program.now) state.now g (expression_view e.now) ≡ demands_in (program_view program.now) state.now g (expression_view left.now) ++ demands_in (program_view program.now) state.now g (expression_view right.now) }
+    ensures made { IfOk result (λ t. t ≡ put_sum (program_view program.now) state.now field (expression_view i.now) op index (expression_view left.now) (expression_view right.now) (expression_view e.now)) }
+    ensures demands { OnOk result (out.new ≡ with_demands out.old (demands_in (program_view program.now) state.now out.old.guard (expression_view e.now))) }
+    ensures light { OnOk result (refused_sum (program_view program.now) state.now out.old.guard field (expression_view i.now) op index (expression_view left.now) (expression_view right.now) (expression_view e.now) ≡ false) }
+    ensures large { result ≡ Err ExecutionError.Large → refused_sum (program_view program.now) state.now out.old.guard field (expression_view i.now) op index (expression_view left.now) (expression_view right.now) (expression_view e.now) ≡ true }
+{
+    if is_item(field, i, left) {
+        let seen = look_at_item(alloc, program, state, left, out);
+        let kept = together(index, seen)?;
+        with_value(alloc, program, state, field, op, kept.0, right, out)
+    } else {
+        with_value(alloc, program, state, field, AssignOp::Put, index, e, out)
+    }
+}
+
+/// The array behind a put of an operator's value to an item.
 fn put_operation(
     alloc: Global,
     program: &Program,
@@ -257,22 +275,36 @@ fn put_operation(
 {
     match op {
         BinaryOp::Plus => {
-            if is_item(field, i, a) {
-                look_at_item(alloc, program, state, a, out)?;
-                with_addend(alloc, program, state, field, index, b, out)
-            } else {
-                with_item(alloc, program, state, field, index, e, out)
-            }
+            put_sum(
+                alloc,
+                program,
+                state,
+                field,
+                i,
+                AssignOp::Add,
+                index,
+                a,
+                b,
+                e,
+                out,
+            )
         }
         BinaryOp::Minus => {
-            if is_item(field, i, a) {
-                look_at_item(alloc, program, state, a, out)?;
-                with_negative(alloc, program, state, field, index, b, out)
-            } else {
-                with_item(alloc, program, state, field, index, e, out)
-            }
+            put_sum(
+                alloc,
+                program,
+                state,
+                field,
+                i,
+                AssignOp::Sub,
+                index,
+                a,
+                b,
+                e,
+                out,
+            )
         }
-        _ => with_item(alloc, program, state, field, index, e, out),
+        _ => with_value(alloc, program, state, field, AssignOp::Put, index, e, out),
     }
 }
 
@@ -297,7 +329,7 @@ fn put_right(
         Expr::Binary(op, a, b) => {
             put_operation(alloc, program, state, field, i, index, *op, a, b, e, out)
         }
-        _ => with_item(alloc, program, state, field, index, e, out),
+        _ => with_value(alloc, program, state, field, AssignOp::Put, index, e, out),
     }
 }
 
@@ -321,9 +353,9 @@ fn array_term(
 {
     match op {
         AssignOp::Put => put_right(alloc, program, state, field, i, index, e, out),
-        AssignOp::Add => with_addend(alloc, program, state, field, index, e, out),
-        AssignOp::Sub => with_negative(alloc, program, state, field, index, e, out),
-        AssignOp::Mul => with_product(alloc, program, state, field, index, e, out),
+        AssignOp::Add => with_value(alloc, program, state, field, op, index, e, out),
+        AssignOp::Sub => with_value(alloc, program, state, field, op, index, e, out),
+        AssignOp::Mul => with_value(alloc, program, state, field, op, index, e, out),
     }
 }
 

@@ -1,6 +1,6 @@
 //! What symbolic execution keeps: a term for each field and each local.
 
-ghost use Rattle.std.specs.Prelude.{◌≡◌, ◌≤◌, ◌^◌, length, false, slice_set, Some, IfOk, OnOk};
+ghost use Rattle.std.specs.Prelude.{◌≡◌, ◌≤◌, ◌^◌, ◌++◌, length, false, slice_set, Some, IfOk, OnOk};
 ghost use Rattle.ca_program.specs.View.{method_view};
 ghost use Rattle.ca_shared_terms.specs.Starts.{starts};
 ghost use Rattle.ca_symbolic.specs.States.{State, term_at, receiver, start_term, parameters, first_locals};
@@ -9,7 +9,7 @@ ghost use Rattle.ca_symbolic.specs.Runs.{fresh, with_locals};
 ghost use Rattle.ca_norm.specs.Terms.{atom};
 ghost use Rattle.ca_shared_terms.specs.Heavy.{is_heavy};
 
-use ca_forms::parts::{both, longer};
+use ca_forms::parts::{add, both};
 use ca_norm::Sort;
 use ca_program::{FieldInfo, Method, ValueType};
 use ca_shared_terms::{FIELDS, LightTerm, sort_of_slot, sort_of_type};
@@ -65,15 +65,18 @@ fn put_at(terms: &mut Vec<LightTerm>, place: u32, term: LightTerm)
     }
 }
 
-/// All of them once more.
-fn share_all(alloc: Global, terms: &[LightTerm]) -> Result<Vec<LightTerm>, AllocError>
-    ensures { IfOk result (λ v. v.items ≡ terms.now) }
+/// These terms, and those once more behind them.
+pub fn shared_behind(
+    first: Vec<LightTerm>,
+    others: &[LightTerm],
+) -> Result<Vec<LightTerm>, AllocError>
+    ensures { IfOk result (λ v. v.items ≡ first.items ++ others.now) }
 {
-    let mut copies = Vec::new(alloc);
-    for term in terms {
-        copies.push(term.share()?)?;
+    let mut terms = first;
+    for term in others {
+        add(&mut terms, term.share())?;
     }
-    Ok(copies)
+    Ok(terms)
 }
 
 /// What a local holds before it is put.
@@ -104,8 +107,7 @@ fn parameters(alloc: Global, group: u32, types: &[ValueType]) -> Result<Vec<Ligh
     let mut terms = Vec::new(alloc);
     for ty in types {
         let term = atom_at(alloc, sort_of_type(*ty), group, terms.len());
-        let (so_far, term) = both(Ok(terms), term)?;
-        terms = longer(so_far, term)?;
+        add(&mut terms, term)?;
     }
     Ok(terms)
 }
@@ -119,8 +121,7 @@ fn first_locals(alloc: Global, group: u32, method: &Method) -> Result<Vec<LightT
     let mut terms = parameters(alloc, group, &types[..count])?;
     let others = &types[count..];
     for ty in others {
-        let (so_far, term) = both(Ok(terms), start_term(alloc, *ty))?;
-        terms = longer(so_far, term)?;
+        add(&mut terms, start_term(alloc, *ty))?;
     }
     Ok(terms)
 }
@@ -133,8 +134,7 @@ impl SymState {
         let mut terms = Vec::new(alloc);
         for field in fields {
             let term = atom_at(alloc, sort_of_slot(field), FIELDS, terms.len());
-            let (so_far, term) = both(Ok(terms), term)?;
-            terms = longer(so_far, term)?;
+            add(&mut terms, term)?;
         }
         Ok(SymState {
             fields: terms,
@@ -205,8 +205,9 @@ impl SymState {
     pub fn copy(&self, alloc: Global) -> Result<SymState, AllocError>
         ensures { IfOk result (λ s. s ≡ self.now) }
     {
-        let fields = share_all(alloc, &self.fields)?;
-        let locals = share_all(alloc, &self.locals)?;
+        let fields = shared_behind(Vec::new(alloc), &self.fields);
+        let locals = shared_behind(Vec::new(alloc), &self.locals);
+        let (fields, locals) = both(fields, locals)?;
         Ok(SymState { fields, locals })
     }
 }

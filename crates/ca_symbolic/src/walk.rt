@@ -1,25 +1,26 @@
 //! Symbolic execution of statements.
 
-ghost use Rattle.std.specs.Prelude.{◌≡◌, ◌≢◌, ◌<◌, ◌||◌, ◌&&◌, [], ◌∷◌, ◌++◌, length, false, true, IfOk, OnOk};
+ghost use Rattle.std.specs.Prelude.{◌≡◌, ◌≢◌, ◌<◌, ◌||◌, ◌&&◌, [], ◌∷◌, ◌++◌, length, min, false, true, IfOk, OnOk};
 ghost use Rattle.std.specs.List.{list_any};
 ghost use Rattle.ca_program.specs.View.{expression_view, expressions_view, statement_view, statements_view, program_view};
 ghost use Rattle.ca_norm.specs.Terms.{not};
 ghost use Rattle.ca_meaning.specs.Operators.{not_of};
 ghost use Rattle.ca_symbolic.specs.States.{demand, not_null, invokes, loops};
-ghost use Rattle.ca_symbolic.specs.Execution.{choose_if, choices, joined_state, term_of, after, after_all};
+ghost use Rattle.ca_symbolic.specs.Execution.{choose_if, choices, field_target, local_target, joined_state, term_of, after, after_all};
 ghost use Rattle.ca_symbolic.specs.Demands.{then_guard, else_guard, is_counter, picked, terms_in, demands_in, demands_in_all, demanded, demanded_all};
 ghost use Rattle.ca_symbolic.specs.Made.{targets, joined_terms};
 ghost use Rattle.ca_symbolic.specs.Demanded.{with_demands, under};
-ghost use Rattle.ca_symbolic.specs.clauses.Places.{fields_put, locals_put, is_among, is_marked, is_read, one_if};
+ghost use Rattle.ca_symbolic.specs.clauses.Places.{is_marked, is_read, one_if};
 ghost use Rattle.ca_symbolic.specs.clauses.Refusals.{refused, refused_all, refused_by, refused_by_all};
 ghost use Rattle.ca_shared_terms.specs.Heavy.{is_heavy};
 
-use crate::carried::together;
+use crate::carried::{leaf, together};
 use crate::demand::{DemandKind, Demands};
-use crate::evaluate::{ask_call, value_of, values_of};
-use crate::places::{add_fields, add_locals, add_named, marks};
+use crate::evaluate::{ask_call, enter, enter_opposite, value_of, values_of};
+use crate::places::{mark_fields, mark_locals, mark_named, unmarked};
 use crate::puts::{put_field, put_item, put_local};
 use crate::state::SymState;
+use ca_forms::parts::{add, both};
 use ca_program::{Expr, LoopId, OpId, Program, Stmt, StmtForm};
 use ca_shared_terms::{ExecutionError, LightTerm};
 use std::alloc::{AllocError, Global};
@@ -41,9 +42,8 @@ fn invoke(
     ensures large { result ≡ Err ExecutionError.Large → (refused (program_view program.now) state.now out.old.guard (expression_view e.now) || refused_all (program_view program.now) state.now out.old.guard (expressions_view args.now)) ≡ true }
 {
     let object = value_of(alloc, program, state, e, out)?;
-    let args = values_of(alloc, program, state, args, out)?;
-    ask_call(alloc, DemandKind::Invokes(op), &object, &args, out)?;
-    Ok(())
+    let parts = together(object, values_of(alloc, program, state, args, out))?;
+    leaf(ask_call(alloc, DemandKind::Invokes(op), &parts.0, &parts.1, out))
 }
 
 /// Whether the first part of a `for` puts this local.
@@ -77,13 +77,13 @@ fn add_if(is_added: bool, term: &LightTerm, out: &mut Vec<LightTerm>) -> Result<
     ensures light { list_any is_heavy out.old.items ≡ false → OnOk result (list_any is_heavy out.new.items ≡ false) }
 {
     if is_added {
-        out.push(term.share()?)?;
+        add(out, term.share())
+    } else {
+        Ok(())
     }
-    Ok(())
 }
 
 /// What the locals hold that a loop reads, but for the one that its first part puts.
-#[tactic(auto, using(crate::proofs::Joining::picked_step))]
 fn loop_parts(
     alloc: Global,
     s: &Stmt,
@@ -93,9 +93,8 @@ fn loop_parts(
     ensures parts { IfOk result (λ v. v.items ≡ picked (is_read (statement_view s.now) (statement_view first.now)) 0 locals.now) }
     ensures light { IfOk result (λ v. list_any is_heavy v.items ≡ false) }
 {
-    let mut names = Vec::new(alloc);
-    add_named(s, &mut names)?;
-    let marks = marks(alloc, locals.len(), &names)?;
+    let mut marks = unmarked(alloc, locals.len())?;
+    mark_named(s, &mut marks);
     let mut parts = Vec::new(alloc);
     for place in 0..locals.len() {
         let local = &locals[place];
@@ -118,60 +117,79 @@ fn chosen(
     ensures large { result ≡ Err ExecutionError.Large → (is_target ≡ true) × (is_heavy (choose_if is_target condition.now yes.now no.now) ≡ true) }
 {
     if is_target {
-        LightTerm::choice(alloc, condition.share()?, yes.share()?, no.share()?)
+        let sides = both(yes.share(), no.share());
+        let (condition, (yes, no)) = both(condition.share(), sides)?;
+        LightTerm::choice(alloc, condition, yes, no)
     } else {
-        Ok(yes.share()?)
+        leaf(yes.share())
     }
 }
 
-/// The terms behind two branches, which have these numbers for targets.
+/// The terms behind two branches, whose targets are marked.
 #[tactic(auto, using(crate::proofs::Joining::joined_step, crate::proofs::Joining::joined_light, crate::proofs::Joining::joined_heavy, crate::proofs::Joining::joined_end))]
 fn join_terms(
     alloc: Global,
     condition: &LightTerm,
-    numbers: &[u32],
+    marks: &[bool],
     first: &[LightTerm],
     second: &[LightTerm],
 ) -> Result<Vec<LightTerm>, ExecutionError>
-    ensures made { IfOk result (λ v. v.items ≡ choices (is_among numbers.now) 0 condition.now first.now second.now) }
-    ensures light { IfOk result (λ v. list_any is_heavy (targets (is_among numbers.now) 0 v.items) ≡ false) }
-    ensures large { result ≡ Err ExecutionError.Large → list_any is_heavy (targets (is_among numbers.now) 0 (choices (is_among numbers.now) 0 condition.now first.now second.now)) ≡ true }
+    requires long { length marks.now ≡ min (length first.now) (length second.now) }
+    ensures made { IfOk result (λ v. v.items ≡ choices (is_marked marks.now) 0 condition.now first.now second.now) }
+    ensures light { IfOk result (λ v. list_any is_heavy (targets (is_marked marks.now) 0 v.items) ≡ false) }
+    ensures large { result ≡ Err ExecutionError.Large → list_any is_heavy (targets (is_marked marks.now) 0 (choices (is_marked marks.now) 0 condition.now first.now second.now)) ≡ true }
 {
-    let count = first.len().min(second.len());
-    let marks = marks(alloc, count, numbers)?;
     let mut terms = Vec::new(alloc);
-    for place in 0..count {
+    for place in 0..marks.len() {
         let yes = &first[place];
         let no = &second[place];
-        let is_target = is_marked(&marks, place);
+        let is_target = is_marked(marks, place);
         let term = chosen(alloc, is_target, condition, yes, no)?;
         terms.push(term)?;
     }
     Ok(terms)
 }
 
-/// The fields that two branches put.
-fn fields_of_both(alloc: Global, yes: &Stmt, no: &Stmt) -> Result<Vec<u32>, AllocError>
-    ensures { IfOk result (λ v. v.items ≡ fields_put (statement_view yes.now) ++ fields_put (statement_view no.now)) }
+/// The fields behind two branches.
+fn join_fields(
+    alloc: Global,
+    condition: &LightTerm,
+    yes: &Stmt,
+    no: &Stmt,
+    first: &[LightTerm],
+    second: &[LightTerm],
+) -> Result<Vec<LightTerm>, ExecutionError>
+    ensures made { IfOk result (λ v. v.items ≡ choices (field_target (statement_view yes.now) (statement_view no.now)) 0 condition.now first.now second.now) }
+    ensures light { IfOk result (λ v. list_any is_heavy (targets (field_target (statement_view yes.now) (statement_view no.now)) 0 v.items) ≡ false) }
+    ensures large { result ≡ Err ExecutionError.Large → list_any is_heavy (targets (field_target (statement_view yes.now) (statement_view no.now)) 0 (choices (field_target (statement_view yes.now) (statement_view no.now)) 0 condition.now first.now second.now)) ≡ true }
 {
-    let mut fields = Vec::new(alloc);
-    add_fields(yes, &mut fields)?;
-    add_fields(no, &mut fields)?;
-    Ok(fields)
+    let mut marks = unmarked(alloc, first.len().min(second.len()))?;
+    mark_fields(yes, &mut marks);
+    mark_fields(no, &mut marks);
+    join_terms(alloc, condition, &marks, first, second)
 }
 
-/// The locals that they put.
-fn locals_of_both(alloc: Global, yes: &Stmt, no: &Stmt) -> Result<Vec<u32>, AllocError>
-    ensures { IfOk result (λ v. v.items ≡ locals_put (statement_view yes.now) ++ locals_put (statement_view no.now)) }
+/// The locals behind two branches.
+fn join_locals(
+    alloc: Global,
+    condition: &LightTerm,
+    yes: &Stmt,
+    no: &Stmt,
+    first: &[LightTerm],
+    second: &[LightTerm],
+) -> Result<Vec<LightTerm>, ExecutionError>
+    ensures made { IfOk result (λ v. v.items ≡ choices (local_target (statement_view yes.now) (statement_view no.now)) 0 condition.now first.now second.now) }
+    ensures light { IfOk result (λ v. list_any is_heavy (targets (local_target (statement_view yes.now) (statement_view no.now)) 0 v.items) ≡ false) }
+    ensures large { result ≡ Err ExecutionError.Large → list_any is_heavy (targets (local_target (statement_view yes.now) (statement_view no.now)) 0 (choices (local_target (statement_view yes.now) (statement_view no.now)) 0 condition.now first.now second.now)) ≡ true }
 {
-    let mut locals = Vec::new(alloc);
-    add_locals(yes, &mut locals)?;
-    add_locals(no, &mut locals)?;
-    Ok(locals)
+    let mut marks = unmarked(alloc, first.len().min(second.len()))?;
+    mark_locals(yes, &mut marks);
+    mark_locals(no, &mut marks);
+    join_terms(alloc, condition, &marks, first, second)
 }
 
 /// The state behind two branches, from the states that each of them leaves.
-#[tactic(auto, using(crate::proofs::Told::joined_is, crate::proofs::Told::joins_lightly, crate::proofs::Told::heavy_field, crate::proofs::Told::heavy_local))]
+#[tactic(auto, using(crate::proofs::Told::joins_lightly, crate::proofs::Told::heavy_field, crate::proofs::Told::heavy_local))]
 fn join(
     alloc: Global,
     condition: &LightTerm,
@@ -184,45 +202,10 @@ fn join(
     ensures light { IfOk result (λ s. list_any is_heavy (joined_terms (statement_view yes.now) (statement_view no.now) s) ≡ false) }
     ensures large { result ≡ Err ExecutionError.Large → list_any is_heavy (joined_terms (statement_view yes.now) (statement_view no.now) (joined_state condition.now (statement_view yes.now) (statement_view no.now) first.now second.now)) ≡ true }
 {
-    let fields = fields_of_both(alloc, yes, no)?;
-    let locals = locals_of_both(alloc, yes, no)?;
-    let fields = join_terms(alloc, condition, &fields, first.fields(), second.fields())?;
-    let locals = join_terms(alloc, condition, &locals, first.locals(), second.locals())?;
+    let fields = join_fields(alloc, condition, yes, no, first.fields(), second.fields())?;
+    let locals = join_locals(alloc, condition, yes, no, first.locals(), second.locals());
+    let (fields, locals) = together(fields, locals)?;
     Ok(SymState::of(fields, locals))
-}
-
-/// From here on demands come under the condition of the first branch.
-fn enter_then(
-    alloc: Global,
-    outer: &LightTerm,
-    condition: &LightTerm,
-    out: &mut Demands,
-) -> Result<(), ExecutionError>
-    ensures entered { OnOk result (out.new ≡ under out.old (then_guard outer.now condition.now)) }
-    ensures light { OnOk result (is_heavy (then_guard outer.now condition.now) ≡ false) }
-    ensures large { result ≡ Err ExecutionError.Large → is_heavy (then_guard outer.now condition.now) ≡ true }
-{
-    let guard = LightTerm::and(alloc, outer.share()?, condition.share()?)?;
-    out.open(alloc, guard)?;
-    Ok(())
-}
-
-/// From here on they come under that of the second branch.
-#[tactic(auto, using(crate::proofs::Flags::neither, crate::proofs::Flags::first_of, crate::proofs::Flags::second_of))]
-fn enter_else(
-    alloc: Global,
-    outer: &LightTerm,
-    condition: &LightTerm,
-    out: &mut Demands,
-) -> Result<(), ExecutionError>
-    ensures entered { OnOk result (out.new ≡ under out.old (else_guard outer.now condition.now)) }
-    ensures light { OnOk result ((is_heavy (not condition.now) || is_heavy (else_guard outer.now condition.now)) ≡ false) }
-    ensures large { result ≡ Err ExecutionError.Large → (is_heavy (not condition.now) || is_heavy (else_guard outer.now condition.now)) ≡ true }
-{
-    let opposite = condition.share()?.opposite(alloc)?;
-    let guard = LightTerm::and(alloc, outer.share()?, opposite)?;
-    out.open(alloc, guard)?;
-    Ok(())
 }
 
 /// What is kept while a branch runs: the condition, that under which the `if` stands, and the state of the other branch.
@@ -245,9 +228,8 @@ fn begin_then(
     ensures light { OnOk result (is_heavy (then_guard out.old.guard condition) ≡ false) }
     ensures large { result ≡ Err ExecutionError.Large → is_heavy (then_guard out.old.guard condition) ≡ true }
 {
-    let outer = out.guard()?;
-    let other = state.copy(alloc)?;
-    enter_then(alloc, &outer, &condition, out)?;
+    let (outer, other) = both(out.guard(), state.copy(alloc))?;
+    enter(alloc, &outer, &condition, out)?;
     Ok(Fork {
         condition,
         outer,
@@ -274,7 +256,7 @@ fn begin_else(
         other,
     } = fork;
     let first = mem::replace(state, other);
-    enter_else(alloc, &outer, &condition, out)?;
+    enter_opposite(alloc, &outer, &condition, out)?;
     Ok(Fork {
         condition,
         outer,
@@ -301,9 +283,8 @@ fn end_if(
         outer,
         other,
     } = fork;
-    out.open(alloc, outer)?;
     *state = join(alloc, &condition, yes, no, &other, state)?;
-    Ok(())
+    leaf(out.open(alloc, outer))
 }
 
 /// Demands a loop of calls.
@@ -320,8 +301,7 @@ fn ask_loop(
     ensures small { result ≢ Err ExecutionError.Large }
 {
     let parts = loop_parts(alloc, s, first, state.locals())?;
-    out.push(DemandKind::Loops(site), parts)?;
-    Ok(())
+    leaf(out.push(DemandKind::Loops(site), parts))
 }
 
 /// Runs a statement on the state. What it demands comes behind what was demanded before.

@@ -1,6 +1,7 @@
 pub mod Answering
 pub mod Blocks
 pub mod Nodes
+pub mod Forms
 pub mod Walks
 pub mod Lists
 pub mod Room

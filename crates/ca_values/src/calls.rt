@@ -91,9 +91,19 @@ impl<'a> Evaluator<'a> {
         Ok(Next::Spent)
     }
 
+    /// Ends a body that came to its end without a `return`: it gives null back.
+    #[inline]
+    pub(crate) fn leave(&mut self, program: &'a Program, outer: &Scene<'_>) -> Result<Next, Memory>
+        ensures means { IfOk result (λ next. rest_of (program_view program.now) outer.now (Work.Leave ∷ self.old.todo) self.old ≡ after (program_view program.now) outer.now self.new next) }
+        ensures todo { self.new.todo ≡ self.old.todo }
+        ensures left { self.new.left ≡ self.old.left }
+    {
+        self.hand_back(program, outer, Value::Null)
+    }
+
     /// Goes back to the caller with a value.
     #[inline]
-    pub(crate) fn hand_back(
+    fn hand_back(
         &mut self,
         program: &'a Program,
         outer: &Scene<'_>,

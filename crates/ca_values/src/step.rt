@@ -9,7 +9,6 @@ use crate::machine::Evaluator;
 use crate::work::{Next, Work};
 use ca_base::Memory;
 use ca_direct::Scene;
-use ca_model::Value;
 use ca_program::Program;
 
 impl<'a> Evaluator<'a> {
@@ -57,7 +56,7 @@ impl<'a> Evaluator<'a> {
             Work::Exec(line, s) => self.exec(program, outer, line, s),
             Work::Seq(ss) => self.seq(program, outer, ss),
             Work::Again(line, s) => self.again(program, outer, line, s),
-            Work::Leave => self.hand_back(program, outer, Value::Null),
+            Work::Leave => self.leave(program, outer),
         }
     }
 }

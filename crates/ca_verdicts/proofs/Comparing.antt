@@ -1,6 +1,6 @@
 -- What a comparison of two orders says of a pair.
 use Rattle.std.proofs.Common.{◌≡◌, ℕ, ◌<◌, ◌^◌, false, List, length, map, Some, refl, sym, ap, ap₂, ◌∙◌, subst}
-use Rattle.std.specs.Prelude.{slice_get, ◌||◌}
+use Rattle.std.specs.Prelude.{Bool, true, Result, Err, slice_get, ◌||◌}
 use Rattle.std.proofs.lemmas.Option.{slice_get-map}
 use Rattle.ca_program.specs.declared.program.ClassId.{ClassId}
 use Rattle.ca_program.specs.declared.program.FieldId.{FieldId}
@@ -20,6 +20,8 @@ use Rattle.ca_parallel.specs.Extents.{operation_body}
 use Rattle.ca_shared_terms.specs.Starts.{starts}
 use Rattle.ca_symbolic.specs.States.{PlainDemand}
 use Rattle.ca_symbolic.specs.Runs.{begins, executed}
+use Rattle.ca_symbolic.specs.declared.running.SymbolicError.{SymbolicError}
+use Rattle.ca_symbolic.specs.declared.running.SymbolicError.TheVariants as error
 use Rattle.ca_symbolic_laws.proofs.Choices.{all_fields_kept}
 use Rattle.ca_verdicts.specs.declared.verdicts.Verdict.{Verdict}
 use Rattle.ca_verdicts.specs.declared.verdicts.Verdict.TheVariants.{Commutes, Unproved}
@@ -84,6 +86,29 @@ few_first p a b s ds e f l = subst (λ z. length z < 2 ^ 64) (f ∙ ap (λ z. (i
 
 pub few_second : (p : PlainProgram) (a b : OpId) (s : List PlainTerm) (ds : List PlainDemand) → s ≡ start_of p a → ds ≡ (in_order p b 2 a 1 s).demands → length ds < 2 ^ 64 → length (second_order p a b).demands < 2 ^ 64
 few_second p a b s ds e f l = subst (λ z. length z < 2 ^ 64) (f ∙ ap (λ z. (in_order p b 2 a 1 z).demands) e) l
+
+-- a heavy order makes the pair large
+or_true : (b : Bool) → b || true ≡ true
+or_true true = refl
+or_true false = refl
+
+pub large_first : (p : PlainProgram) (a b : OpId) (s : List PlainTerm) → s ≡ start_of p a → (in_order p a 1 b 2 s).heavy ≡ true → is_large p a b ≡ true
+large_first p a b s e h = ap (λ x. x || (second_order p a b).heavy) (ap (λ z. (in_order p a 1 b 2 z).heavy) (sym e) ∙ h)
+
+pub large_second : (p : PlainProgram) (a b : OpId) (s : List PlainTerm) → s ≡ start_of p a → (in_order p b 2 a 1 s).heavy ≡ true → is_large p a b ≡ true
+large_second p a b s e h =
+    ap (λ x. (first_order p a b).heavy || x) (ap (λ z. (in_order p b 2 a 1 z).heavy) (sym e) ∙ h) ∙ or_true (first_order p a b).heavy
+
+-- the error of a call that was told again is that of the call
+pub again : {T : Type 0} (e f w : SymbolicError) (r : Result T SymbolicError) → f ≡ e → r ≡ Err f → r ≡ Err w → e ≡ w
+again e f w r same is told = cc
+
+-- want of memory is no other error
+pub not_large : {T : Type 0} (r : Result T SymbolicError) (e : SymbolicError) → r ≡ Err e → e ≡ error.Memory → r ≡ Err error.Large → ⊥
+not_large r e is memory large = cc
+
+pub not_loop : {T : Type 0} (r : Result T SymbolicError) (e : SymbolicError) (n : ℕ) → r ≡ Err e → e ≡ error.Memory → r ≡ Err (error.LoopForm n) → ⊥
+not_loop r e n is memory loop = cc
 
 module _ (p : PlainProgram) (written : List FieldId) (a b : OpId) (c : ClassId) (v : Verdict) (s : List PlainTerm) (start : s ≡ start_of p a)
     (ts us : List PlainTerm) (ds es : List PlainDemand)

@@ -1,3 +1,4 @@
+mod Differences
 mod Examples
 pub mod Unique
 pub mod Looks

@@ -4,5 +4,6 @@ pub mod Behind
 pub mod Logs
 pub mod Going
 pub mod Stored
+pub mod Seen
 pub mod Beginning
 mod Examples

@@ -1,7 +1,8 @@
-use Rattle.std.proofs.Common.{rules, ◌≡◌, ℕ, ◌+◌, List, [], ◌∷◌, ◌++◌, take}
+use Rattle.std.proofs.Common.{rules, ◌≡◌, ℕ, ◌+◌, List, [], ◌∷◌, ◌++◌, take, sym, ap, ◌∙◌}
 use Rattle.std.proofs.lemmas.List.{take_more}
 use Rattle.ca_forms.specs.Plain.{PlainPart, PlainMonomial, PlainScalar}
-use Rattle.ca_forms.proofs.Told.{copied}
+use Rattle.ca_forms.specs.Seen.{part_of, over}
+use Rattle.ca_forms.proofs.Told.{copied, made}
 use Rattle.ca_forms.proofs.+copy.Goals as goal
 
 pub copies::copy_powers-loop-power-preserved : goal.copies::copy_powers-loop-power-preserved
@@ -27,3 +28,7 @@ copies::copy_scalars-loop-scalar-preserved t c =
     let x : PlainScalar = c.scalar-item.result in
     let step : take (i + 1) xs ≡ take i xs ++ x ∷ [] = search (rules, take_more) in
     copied xs i x c.copy.result c.loop-scalar.copies.items c.add.new.items.items step c.loop-scalar.invariant c.in_ok-add.ensures c.copy.ensures
+
+pub polynomial::Part::copy_operation-returns-in-Over : goal.polynomial::Part::copy_operation-returns-in-Over
+polynomial::Part::copy_operation-returns-in-Over t c =
+    made c.over.result c.copy.result (over c.in-Over.f) c.args.self.now (λ v. v ≡ c.in-Over.a) (λ v e. ap (over c.in-Over.f) e ∙ (ap part_of (sym c.in-Over.is) ∙ c.self.view_is)) c.copy.ensures c.over.ensures

@@ -1,7 +1,6 @@
 -- A loop that is next: whether its calls are listed first, and what is handed on.
-use Rattle.std.specs.Prelude.{ℕ, ◌-◌, Bool, true, false, ◌&&◌, List, [], ◌∷◌}
-use Rattle.ca_program.specs.declared.program.LoopId.{LoopId}
-use Rattle.ca_program.specs.Plain.{PlainProgram, Statement, for_loop}
+use Rattle.std.specs.Prelude.{ℕ, ◌-◌, Bool, ◌&&◌, List, [], ◌∷◌}
+use Rattle.ca_program.specs.Plain.{PlainProgram, Statement}
 use Rattle.ca_program.specs.View.{statement_view}
 use Rattle.ca_model.specs.declared.value.Object.{Object}
 use Rattle.ca_meaning.specs.Flows.{Flow, exec}
@@ -9,23 +8,12 @@ use Rattle.ca_meaning.specs.Sections.{LoopSectioned, loop_done, loop_stopped, lo
 use Rattle.ca_meaning.specs.Serial.{Note, World, serial_parts}
 use Rattle.ca_parallel.specs.Lists.{note, either}
 use Rattle.ca_note_laws.specs.Listing.{puts_nothing}
-use Rattle.ca_serial.specs.declared.bodies.Mode.{Mode}
-use Rattle.ca_serial.specs.declared.bodies.Mode.TheVariants.{InFunction, InOperation}
-use Rattle.ca_serial.specs.declared.work.Work.{Work}
-use Rattle.ca_serial.specs.declared.work.Work.TheVariants.{Exec}
-use Rattle.ca_serial.specs.declared.machine.Machine.{Machine}
-use Rattle.ca_serial.specs.clauses.Bodies.{Body, marks_of}
-use Rattle.ca_serial.specs.clauses.Marked.{site_in}
-use Rattle.ca_serial.specs.clauses.Resume.{Past, world_of, going_on}
-
--- the statement is a loop with one of these numbers
-abbrev pub is_marked : List LoopId → Statement → Bool
-is_marked sites (for_loop own site part first c next b) = site_in sites site
-is_marked sites _ = false
-
-abbrev pub in_operation : Mode → Bool
-in_operation InFunction = false
-in_operation InOperation = true
+use Rattle.ca_machine.specs.declared.work.Work.{Work}
+use Rattle.ca_machine.specs.declared.work.Work.TheVariants.{Exec}
+use Rattle.ca_machine.specs.declared.machine.Machine.{Machine}
+use Rattle.ca_frames.specs.clauses.Bodies.{Body, marks_of, in_operation}
+use Rattle.ca_frames.specs.clauses.Marked.{is_marked}
+use Rattle.ca_machine.specs.clauses.Resume.{Past, world_of, going_on}
 
 -- a loop in the body of an operation, or of `main`, that heeds its mark
 abbrev pub heeds_loop : Body → Statement → Bool

@@ -1,5 +1,5 @@
 -- Which fields and locals a statement puts, and which locals it names, by their numbers.
-use Rattle.std.specs.Prelude.{ℕ, Bool, true, false, ◌&&◌, nat_eq, List, [], ◌∷◌, ◌++◌, map, get_or}
+use Rattle.std.specs.Prelude.{ℕ, Bool, true, false, ◌&&◌, nat_eq, List, [], ◌∷◌, ◌++◌, map, get_or, slice_set}
 use Rattle.std.specs.List.{list_any}
 use Rattle.ca_program.specs.declared.program.FieldId.{FieldId}
 use Rattle.ca_program.specs.Plain.{Expression, Expressions, number, truth, null, this, local, own, own_item, read, read_item, value_call, unary, binary, no_expressions, expression_and, Statement, Statements, block, put_local, put_field, put_item, new_local, new_field, new_item, invoke, if_else, while_loop, for_loop, return_value, print_value, no_statements, statement_and}
@@ -90,3 +90,8 @@ is_read loop first n = not_of (is_counter first n) && is_among (locals_named loo
 abbrev pub one_if : Bool → PlainTerm → List PlainTerm
 one_if true t = t ∷ []
 one_if false t = []
+
+-- the marks, with the places of these numbers marked too
+abbrev pub marked : List Bool → List ℕ → List Bool
+marked marks [] = marks
+marked marks (n ∷ ns) = marked (slice_set marks n true) ns

@@ -1,5 +1,5 @@
 -- Whether an execution is refused for a term that is too heavy, in the order in which it makes its terms.
-use Rattle.std.specs.Prelude.{Bool, false, ◌||◌, if◌then◌else◌}
+use Rattle.std.specs.Prelude.{Bool, true, false, ◌||◌, if◌then◌else◌}
 use Rattle.std.specs.List.{list_any}
 use Rattle.ca_tree.specs.declared.tree.AssignOp.{AssignOp}
 use Rattle.ca_tree.specs.declared.tree.AssignOp.TheVariants as assign
@@ -50,36 +50,44 @@ abbrev pub refused_item : PlainProgram → State → PlainTerm → Expression �
 refused_item p s g (own_item f i) = refused p s g i
 refused_item p s g e = refused p s g e
 
--- at an index with this term
-abbrev pub refused_put : PlainProgram → State → PlainTerm → FieldId → PlainTerm → Expression → Bool
-refused_put p s g f t e = refused p s g e || is_heavy (put (term_at s.fields f.field) t (term_of p s e))
+abbrev pub is_own_item : Expression → Bool
+is_own_item (own_item f i) = true
+is_own_item e = false
 
-abbrev pub refused_addend : PlainProgram → State → PlainTerm → FieldId → PlainTerm → Expression → Bool
-refused_addend p s g f t e = refused p s g e || is_heavy (add_at (term_at s.fields f.field) t (term_of p s e))
+-- the array with a put of a value done to its item at an index
+abbrev pub with_put : AssignOp → PlainTerm → PlainTerm → PlainTerm → PlainTerm
+with_put assign.Put a t x = put a t x
+with_put assign.Add a t x = add_at a t x
+with_put assign.Sub a t x = add_at a t (neg x)
+with_put assign.Mul a t x = put a t (mul (select a t) x)
 
-abbrev pub refused_negative : PlainProgram → State → PlainTerm → FieldId → PlainTerm → Expression → Bool
-refused_negative p s g f t e =
-    refused p s g e || (is_heavy (neg (term_of p s e)) || is_heavy (add_at (term_at s.fields f.field) t (neg (term_of p s e))))
+abbrev pub refused_put : AssignOp → PlainTerm → PlainTerm → PlainTerm → Bool
+refused_put assign.Put a t x = is_heavy (put a t x)
+refused_put assign.Add a t x = is_heavy (add_at a t x)
+refused_put assign.Sub a t x = is_heavy (neg x) || is_heavy (add_at a t (neg x))
+refused_put assign.Mul a t x = is_heavy (select a t) || (is_heavy (mul (select a t) x) || is_heavy (put a t (mul (select a t) x)))
 
-abbrev pub refused_product : PlainProgram → State → PlainTerm → FieldId → PlainTerm → Expression → Bool
-refused_product p s g f t e =
-    is_heavy (select (term_at s.fields f.field) t) || (refused p s g e || (is_heavy (mul (select (term_at s.fields f.field) t) (term_of p s e)) ||
-    is_heavy (put (term_at s.fields f.field) t (mul (select (term_at s.fields f.field) t) (term_of p s e)))))
+-- the put of an expression, at an index with this term
+abbrev pub refused_value : PlainProgram → State → PlainTerm → FieldId → AssignOp → PlainTerm → Expression → Bool
+refused_value p s g f op t e = refused p s g e || refused_put op (term_at s.fields f.field) t (term_of p s e)
+
+-- the put of `left op right`, where the whole is e
+abbrev pub put_sum : PlainProgram → State → FieldId → Expression → AssignOp → PlainTerm → Expression → Expression → Expression → PlainTerm
+put_sum p s f i op t left right e =
+    if is_item f i left then with_put op (term_at s.fields f.field) t (term_of p s right) else put (term_at s.fields f.field) t (term_of p s e)
+
+abbrev pub refused_sum : PlainProgram → State → PlainTerm → FieldId → Expression → AssignOp → PlainTerm → Expression → Expression → Expression → Bool
+refused_sum p s g f i op t left right e =
+    if is_item f i left then refused_item p s g left || refused_value p s g f op t right else refused_value p s g f assign.Put t e
 
 abbrev pub refused_right : PlainProgram → State → PlainTerm → FieldId → Expression → Expression → Bool
-refused_right p s g f i (binary Plus a b) =
-    if is_item f i a then refused_item p s g a || refused_addend p s g f (term_of p s i) b
-    else refused_put p s g f (term_of p s i) (binary Plus a b)
-refused_right p s g f i (binary Minus a b) =
-    if is_item f i a then refused_item p s g a || refused_negative p s g f (term_of p s i) b
-    else refused_put p s g f (term_of p s i) (binary Minus a b)
-refused_right p s g f i e = refused_put p s g f (term_of p s i) e
+refused_right p s g f i (binary Plus a b) = refused_sum p s g f i assign.Add (term_of p s i) a b (binary Plus a b)
+refused_right p s g f i (binary Minus a b) = refused_sum p s g f i assign.Sub (term_of p s i) a b (binary Minus a b)
+refused_right p s g f i e = refused_value p s g f assign.Put (term_of p s i) e
 
 abbrev pub refused_array : PlainProgram → State → PlainTerm → FieldId → Expression → AssignOp → Expression → Bool
 refused_array p s g f i assign.Put e = refused_right p s g f i e
-refused_array p s g f i assign.Add e = refused_addend p s g f (term_of p s i) e
-refused_array p s g f i assign.Sub e = refused_negative p s g f (term_of p s i) e
-refused_array p s g f i assign.Mul e = refused_product p s g f (term_of p s i) e
+refused_array p s g f i op e = refused_value p s g f op (term_of p s i) e
 
 -- In a statement
 

@@ -1,4 +1,4 @@
-use Rattle.std.proofs.Common.{ℕ, length}
+use Rattle.std.proofs.Common.{length}
 use Rattle.ca_sums.specs.Sums.{Sum, NoZero, AddsSum}
 use Rattle.ca_forms.specs.Plain.{PlainMonomial}
 use Rattle.ca_forms.proofs.sums.add_owned.Given as goal

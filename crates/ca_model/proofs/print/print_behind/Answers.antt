@@ -2,8 +2,14 @@ use Rattle.std.proofs.Common.{◌++◌, ◌∷◌, []}
 use Rattle.std.specs.Prelude.{slice_get}
 use Rattle.ca_program.specs.View.{program_view}
 use Rattle.ca_model.specs.Texts.{class_text}
-use Rattle.ca_model.proofs.Lines.{adds_after, went_after, not_added, flushed}
+use Rattle.ca_model.proofs.Lines.{adds_after, adds_more, went_after, not_added, flushed}
 use Rattle.ca_model.proofs.print.print_behind.Goals as goal
+
+pub returns-in-Err-clause-bytes : goal.returns-in-Err-clause-bytes
+returns-in-Err-clause-bytes g c =
+    let o = c.args.object.now in
+    let class = class_text (slice_get (program_view c.args.program.now).classes o.class.0) o.slots in
+    not_added _ _ _ _ (class ++ 10 ∷ []) (adds_more _ _ _ _ _ class (10 ∷ []) (rw c.new-line.ensures at c.in-Err.ensures.bytes))
 
 pub returns-in-Err-add-clause-bytes : goal.returns-in-Err-add-clause-bytes
 returns-in-Err-add-clause-bytes g c =

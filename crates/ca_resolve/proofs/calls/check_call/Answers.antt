@@ -1,5 +1,5 @@
 use Rattle.ca_tree.specs.View.{expression_view as node_view}
-use Rattle.ca_resolve.specs.Values.{judge_found, value_of}
+use Rattle.ca_resolve.specs.Values.{judge_found, judge_value}
 use Rattle.ca_resolve.specs.View.{scope_view}
 use Rattle.ca_resolve.proofs.CallNodes.{own_call, method_call}
 use Rattle.ca_resolve.proofs.calls.check_call.Goals as goal
@@ -11,9 +11,8 @@ returns-in-Call c =
 pub returns-in-Method : goal.returns-in-Method
 returns-in-Method c =
     let s = scope_view c.args.scope.now in
-    let x = c.deref-in-Method.result.now in
-    let y = c.deref-in-Method-2.result.now in
-    let j = value_of (node_view y) (judge_found s (node_view x)) in
-    method_call s c.args.e.now.kind c.args.e.now.at c.in-Method.object c.in-Method.name c.in-Method.args x y c.deref-in-Method-3.result.now c.check_method_call.result
-    c.in-Method.is c.deref-in-Method.ensures c.deref-in-Method-2.ensures c.deref-in-Method-3.ensures.value
+    let x = c.deref-object.result.now in
+    let j = judge_value s (node_view x) in
+    method_call s c.args.e.now.kind c.args.e.now.at c.in-Method.object c.in-Method.name c.in-Method.args x c.deref-in-Method.result.now c.check_method_call.result
+    c.in-Method.is c.deref-object.ensures c.deref-in-Method.ensures.value
     (c.check_method_call.ensures j (c.whole_value-value.ensures (judge_found s (node_view x)) c.check_found.ensures))

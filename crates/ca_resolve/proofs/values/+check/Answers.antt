@@ -1,11 +1,14 @@
-use Rattle.std.proofs.Common.{arith, refl}
-use Rattle.ca_tree.specs.View.{expression_view as node_view, expressions_view as nodes_view}
+use Rattle.std.proofs.Common.{ap, arith, refl}
+use Rattle.ca_tree.specs.declared.tree.ExprKind.{This, Named}
+use Rattle.ca_tree.specs.View.{kind_view, expression_view as node_view, expressions_view as nodes_view}
 use Rattle.ca_program.specs.Plain.{this}
 use Rattle.ca_resolve.specs.Judged.{fine}
-use Rattle.ca_resolve.specs.Values.{judge_found, judge_value, value_of, judge_own_call, judge_method_call, judge_arguments, own_method, method_through, object_of, parameters_of, count_of}
+use Rattle.ca_resolve.specs.Scopes.{long}
+use Rattle.ca_resolve.specs.Values.{judge_found, judge_value, judge_for, judge_own_call, judge_method_call, judge_arguments, own_method, method_through, object_of, parameters_of, count_of}
 use Rattle.ca_resolve.specs.View.{scope_view}
 use Rattle.ca_resolve.proofs.Arguments.{walk_start, walk_step, walk_end}
 use Rattle.ca_resolve.proofs.CallNodes.{own_call_found, method_call_found, arguments_known}
+use Rattle.ca_resolve.proofs.Shapes.{found_as, field_found, item_found, unary_found, binary_found}
 use Rattle.ca_resolve.proofs.values.+check.Goals as goal
 
 pub check_arguments-loop-i-init : goal.check_arguments-loop-i-init
@@ -31,12 +34,56 @@ check_found-returns-in-Call t c =
 pub check_found-returns-in-Method : goal.check_found-returns-in-Method
 check_found-returns-in-Method t c =
     let s = scope_view c.args.scope.now in
-    let x = c.deref-in-Method.result.now in
-    let j = value_of (node_view c.deref-in-Method-2.result.now) (judge_found s (node_view x)) in
-    method_call_found s c.args.e.now.kind c.args.e.now.at c.in-Method.object c.in-Method.name c.in-Method.args x c.deref-in-Method-2.result.now c.deref-in-Method-3.result.now c.call_value-in-Method.result
-    c.in-Method.is c.deref-in-Method.ensures c.deref-in-Method-2.ensures c.deref-in-Method-3.ensures.value
-    (c.call_value-in-Method.ensures (judge_method_call s j c.in-Method.name (nodes_view c.deref-in-Method-3.result.now) c.args.e.now.at)
+    let x = c.deref-object-in-Method.result.now in
+    let j = judge_value s (node_view x) in
+    method_call_found s c.args.e.now.kind c.args.e.now.at c.in-Method.object c.in-Method.name c.in-Method.args x c.deref-in-Method.result.now c.call_value-in-Method.result
+    c.in-Method.is c.deref-object-in-Method.ensures c.deref-in-Method.ensures.value
+    (c.call_value-in-Method.ensures (judge_method_call s j c.in-Method.name (nodes_view c.deref-in-Method.result.now) c.args.e.now.at)
     (c.check_method_call.ensures j (c.whole_value-value-in-Method.ensures (judge_found s (node_view x)) c.check_found-in-Method.ensures)))
+
+pub check_found-returns-in-Truth : goal.check_found-returns-in-Truth
+check_found-returns-in-Truth t c = ap (λ k. judge_found (scope_view c.args.scope.now) (kind_view k c.args.e.now.at)) c.in-Truth.is
+
+pub check_found-returns-in-Null : goal.check_found-returns-in-Null
+check_found-returns-in-Null t c = ap (λ k. judge_found (scope_view c.args.scope.now) (kind_view k c.args.e.now.at)) c.in-Null.is
+
+pub check_found-returns-in-This : goal.check_found-returns-in-This
+check_found-returns-in-This t c = found_as (scope_view c.args.scope.now) c.args.e.now.kind This c.args.e.now.at c.this.result c.in-This.is c.this.ensures
+
+pub check_found-returns-in-Named : goal.check_found-returns-in-Named
+check_found-returns-in-Named t c = found_as (scope_view c.args.scope.now) c.args.e.now.kind (Named c.in-Named.name) c.args.e.now.at c.named.result c.in-Named.is c.named.ensures
+
+pub check_found-returns-in-Field : goal.check_found-returns-in-Field
+check_found-returns-in-Field t c =
+    let s = scope_view c.args.scope.now in
+    let x = c.deref-object.result.now in
+    field_found s c.args.e.now.kind c.args.e.now.at c.in-Field.object c.in-Field.name x c.field.result c.in-Field.is c.deref-object.ensures
+    (c.field.ensures (judge_value s (node_view x)) (c.whole_value-value.ensures (judge_found s (node_view x)) c.check_found.ensures))
+
+pub check_found-returns-in-Index : goal.check_found-returns-in-Index
+check_found-returns-in-Index t c =
+    let s = scope_view c.args.scope.now in
+    let x = c.deref-in-Index.result.now in
+    let y = c.deref-index.result.now in
+    item_found s c.args.e.now.kind c.args.e.now.at c.in-Index.array c.in-Index.index x y c.item.result c.in-Index.is c.deref-in-Index.ensures c.deref-index.ensures
+    (c.item.ensures (judge_found s (node_view x)) (judge_for s long (node_view y)) c.check_found-array.ensures
+    (c.value_for.ensures (judge_value s (node_view y)) (c.whole_value-number.ensures (judge_found s (node_view y)) c.check_found-in-Index.ensures)))
+
+pub check_found-returns-in-Unary : goal.check_found-returns-in-Unary
+check_found-returns-in-Unary t c =
+    let s = scope_view c.args.scope.now in
+    let x = c.deref-operand.result.now in
+    unary_found s c.args.e.now.kind c.args.e.now.at c.in-Unary.op c.in-Unary.operand x c.unary.result c.in-Unary.is c.deref-operand.ensures
+    (c.unary.ensures (judge_value s (node_view x)) (c.whole_value-value-in-Unary.ensures (judge_found s (node_view x)) c.check_found-in-Unary.ensures))
+
+pub check_found-returns-in-Binary : goal.check_found-returns-in-Binary
+check_found-returns-in-Binary t c =
+    let s = scope_view c.args.scope.now in
+    let x = c.deref-left.result.now in
+    let y = c.deref-right.result.now in
+    binary_found s c.args.e.now.kind c.args.e.now.at c.in-Binary.op c.in-Binary.left c.in-Binary.right x y c.binary.result c.in-Binary.is c.deref-left.ensures c.deref-right.ensures
+    (c.binary.ensures (judge_value s (node_view x)) (judge_value s (node_view y)) (c.whole_value-first.ensures (judge_found s (node_view x)) c.check_found-in-Binary.ensures)
+    (c.whole_value-second.ensures (judge_found s (node_view y)) c.check_found-in-Binary-2.ensures))
 
 pub check_own_call-returns : goal.check_own_call-returns
 check_own_call-returns t c =

@@ -2,13 +2,13 @@ use Rattle.std.proofs.Common.{◌≡◌, ◌∙◌, true, false, ap, sym, subst,
 use Rattle.ca_program.specs.View.{program_view, statement_view}
 use Rattle.ca_note_laws.specs.Listing.{puts_nothing}
 use Rattle.ca_serial.specs.clauses.Loops.{heeds_loop, section_next, notes_of, notes_next, runs_alone}
-use Rattle.ca_serial.specs.clauses.Resume.{and_notes, rest_of}
+use Rattle.ca_machine.specs.clauses.Resume.{and_notes, rest_of}
 use Rattle.std.proofs.lemmas.Result.{err_from_is_err_and}
 use Rattle.ca_serial.proofs.LoopCalls.{none_told, part_told, none_yet, handed_same, handed_all, reached_none, stays_next, other_work, unheeded, putting, listing, nothing_more, puts_alone}
-use Rattle.ca_serial.specs.declared.work.Work.{Work}
-use Rattle.ca_serial.specs.declared.work.Work.TheVariants.{Exec}
+use Rattle.ca_machine.specs.declared.work.Work.{Work}
+use Rattle.ca_machine.specs.declared.work.Work.TheVariants.{Exec}
 use Rattle.std.specs.Prelude.{Contains}
-use Rattle.ca_serial.proofs.Passing.{passes_with, passes_noted}
+use Rattle.ca_machine.proofs.Passing.{passes_with, passes_noted}
 use Rattle.ca_serial.proofs.listing.hand_on_loop.Goals as goal
 
 pub returns-in_default : goal.returns-in_default
@@ -127,7 +127,7 @@ returns g c =
     let heeds : heeds_loop m.bodies.current st ≡ true = sym c.heeds.ensures ∙ c.if-not-heeds.false in
     let puts : puts_nothing st ≡ false = sym c.puts_nothing.ensures ∙ c.if-puts_nothing.false in
     let ns : notes_next p m.todo m ≡ [] = ap (λ (todo : List Work). notes_next p todo m) is ∙ putting p line x popped m heeds puts in
-    let new = c.put_alone.new.self in
+    let new = c.put_alone.new.machine in
     record {
       means = passes_noted c.put_alone.result _ _ (rest_of p new.todo new) [] _ (passes_with c.put_alone.result _ _ (rest_of p new.todo new) (λ ps. and_notes ps []) c.put_alone.ensures (λ ps. puts_alone p line st popped m ps heeds puts ∙ ap (runs_alone p line st (record { todo = popped; values = m.values; bodies = m.bodies; heap = m.heap; left = m.left; shown = m.shown; trap = m.trap; due = m.due; over = m.over; others = m.others; patience = m.patience })) (sym (nothing_more ps)))) (λ ps. ap (λ (todo : List Work). rest_of p todo m ps) is) ns;
       account = handed_all c.put_alone.result _ (reached_none (notes_next p m.todo m) ns);

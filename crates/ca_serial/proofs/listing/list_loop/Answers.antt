@@ -3,10 +3,10 @@ use Rattle.ca_program.specs.View.{program_view, statement_view}
 use Rattle.ca_sections.specs.declared.operations.SectionAnswer.{SectionAnswer}
 use Rattle.ca_sections.specs.Answers.{LoopIs}
 use Rattle.ca_serial.specs.clauses.Loops.{section_next, notes_of}
-use Rattle.ca_serial.specs.clauses.Resume.{and_notes, rest_of}
+use Rattle.ca_machine.specs.clauses.Resume.{and_notes, rest_of}
 use Rattle.std.proofs.lemmas.Result.{err_from_is_err_and}
 use Rattle.ca_serial.proofs.LoopCalls.{none_told, part_told, none_yet, handed_all, Answered, Stopped, trapped_section, spent_section, unaccounted, by_its_section, was_stopped}
-use Rattle.ca_serial.proofs.Passing.{passes_with}
+use Rattle.ca_machine.proofs.Passing.{passes_with}
 use Rattle.ca_serial.proofs.listing.list_loop.Goals as goal
 
 pub returns-in_err-answer : goal.returns-in_err-answer
@@ -54,7 +54,7 @@ returns-in-Trapped g c =
     let ops = c.fill.new.self.listed.items in
     let h : Answered p m c.args.line st c.in_ok-answer.answer ops = record { is = c.in_ok-answer.ensures.listed } in
     let stop : Stopped o = trapped_section p m c.args.line st c.in_ok-answer.answer ops c.in-Trapped.field-0 h c.in-Trapped.is in
-    let new = c.put_alone.new.self in
+    let new = c.put_alone.new.machine in
     record {
       means = passes_with c.put_alone.result _ _ (rest_of p new.todo new) (λ ps. and_notes ps (notes_of m.heap m.left o)) c.put_alone.ensures (λ ps. by_its_section p c.args.line st m.todo m ps c.requires.heeded c.requires.nothing o refl ∙ was_stopped p c.args.line st m ps o stop);
       account = handed_all c.put_alone.result _ (unaccounted p _ m o stop);
@@ -70,7 +70,7 @@ returns-in-Spent g c =
     let h : Answered p m c.args.line st c.in_ok-answer.answer ops = record { is = c.in_ok-answer.ensures.listed } in
     let stop : Stopped o = spent_section p m c.args.line st c.in_ok-answer.answer ops h c.in-Spent.is in
     let put = c.put_alone-in-Spent in
-    let new = put.new.self in
+    let new = put.new.machine in
     record {
       means = passes_with put.result _ _ (rest_of p new.todo new) (λ ps. and_notes ps (notes_of m.heap m.left o)) put.ensures (λ ps. by_its_section p c.args.line st m.todo m ps c.requires.heeded c.requires.nothing o refl ∙ was_stopped p c.args.line st m ps o stop);
       account = handed_all put.result _ (unaccounted p _ m o stop);

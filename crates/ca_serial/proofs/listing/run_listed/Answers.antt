@@ -10,12 +10,12 @@ use Rattle.ca_parallel.specs.declared.op.Op.{Op}
 use Rattle.ca_parallel.specs.Parallel.{ParallelFrom}
 use Rattle.ca_meaning.specs.WellTyped.{AllWellTyped}
 use Rattle.ca_serial.specs.clauses.Loops.{section_next, notes_of}
-use Rattle.ca_serial.specs.clauses.Bodies.{with_locals}
-use Rattle.ca_serial.specs.clauses.Resume.{and_notes, rest_of}
-use Rattle.ca_serial.specs.declared.machine.Machine.{Machine}
+use Rattle.ca_frames.specs.clauses.Bodies.{with_locals}
+use Rattle.ca_machine.specs.clauses.Resume.{and_notes, rest_of}
+use Rattle.ca_machine.specs.declared.machine.Machine.{Machine}
 use Rattle.std.proofs.lemmas.Result.{err_from_is_err_and}
 use Rattle.ca_serial.proofs.LoopCalls.{none_told, part_told, none_yet, whole_part, handed_all, IsDone, is_done, said_of, done_locals, alone_with, noted_in, ops_are, accounted, by_its_section, was_listed, was_declined}
-use Rattle.ca_serial.proofs.Passing.{passes_with}
+use Rattle.ca_machine.proofs.Passing.{passes_with}
 use Rattle.ca_serial.proofs.listing.run_listed.Goals as goal
 
 pub run-requires-clause-ready : goal.run-requires-clause-ready
@@ -122,7 +122,7 @@ returns-in-Declined g c =
     let reached : Reached g.E.Extents.Accounts p (g.E.Extents.account c.args.engine.now) (notes_of m.heap m.left o) (g.E.Extents.account c.run.new.self) = accounted p _ _ m o taken (invocations_of ops) d step in
     let heap : c.run.new.heap ≡ m.heap = subst (λ (a : ExtentAnswer). Answers p m.heap (invocations_of c.as_slice-listed.result.now) c.saturating_sub-rest.result c.run.new.heap a) c.in-Declined.is c.in_ok-steps.ensures.answer in
     let not : IsNotDone p m.heap (invocations_of ops) (m.left - taken) = said_of (λ l k. IsNotDone p m.heap l k) _ ops _ m.left taken c.as_slice-listed.ensures.value c.saturating_sub-rest.ensures (c.in_ok-steps.ensures.declined (c.requires.handed _ (noted_in m o taken (invocations_of ops) d)).1 c.in-Declined.is) in
-    let new = c.put_alone.new.self in
+    let new = c.put_alone.new.machine in
     let ns = notes_of m.heap m.left o in
     record {
       means = passes_with c.put_alone.result _ _ (rest_of p new.todo new) (λ ps. and_notes ps ns) c.put_alone.ensures (λ ps. by_its_section p c.args.line st m.todo m ps c.requires.heeded c.requires.nothing o refl

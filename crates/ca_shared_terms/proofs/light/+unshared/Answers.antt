@@ -6,6 +6,7 @@ use Rattle.ca_norm.proofs.Known.{over_known, over_both, pair_known, over_three_k
 use Rattle.ca_norm.proofs.Shapes.{call_is}
 use Rattle.ca_shared_terms.specs.Nodes.{node_of}
 use Rattle.ca_shared_terms.specs.Sizes.{term_size}
+use Rattle.ca_shared_terms.proofs.Boxed.{boxed_known}
 use Rattle.ca_shared_terms.proofs.Smaller.{one_smaller, left_smaller, right_smaller, first_smaller, second_smaller, third_smaller}
 use Rattle.ca_shared_terms.proofs.light.+unshared.Goals as goal
 
@@ -52,6 +53,41 @@ LightTerm::unshared-returns-in-Three t c =
     over_three_known c.ternary.result c.both-in-Three.result c.boxed-in-Three-3.result c.both-sides.result shape (λ b. shape (box_value b)) (λ p. shape (box_value p.0)) (λ p. shape (box_value p.1)) (over_three c.in-Three.f) c.in-Three.a.now c.in-Three.b.now c.in-Three.c.now c.args.self.now (rw c.in-Three.is at c.operands.ensures) c.both-in-Three.ensures.first c.both-in-Three.ensures.second c.boxed-in-Three-3.ensures
     (pair_known c.both-sides.result c.boxed-in-Three.result c.boxed-in-Three-2.result (λ b. shape (box_value b)) (λ b. shape (box_value b)) c.in-Three.b.now c.in-Three.c.now c.both-sides.ensures.first c.both-sides.ensures.second c.boxed-in-Three.ensures c.boxed-in-Three-2.ensures)
     c.ternary.ensures
+
+pub LightTerm::unshared-unshared_other-requires : goal.LightTerm::unshared-unshared_other-requires
+LightTerm::unshared-unshared_other-requires t c = (omega arith, tt)
+
+pub LightTerm::unshared-returns-in-Other : goal.LightTerm::unshared-returns-in-Other
+LightTerm::unshared-returns-in-Other t c = c.unshared_other.ensures
+
+pub LightTerm::boxed-unshared-requires : goal.LightTerm::boxed-unshared-requires
+LightTerm::boxed-unshared-requires t c = (omega arith, tt)
+
+pub LightTerm::boxed-returns : goal.LightTerm::boxed-returns
+LightTerm::boxed-returns t c = boxed_known c.one_box.result c.unshared.result shape c.args.self.now c.one_box.ensures c.unshared.ensures
+
+pub LightTerm::unshared_other-returns-in-Truth : goal.LightTerm::unshared_other-returns-in-Truth
+LightTerm::unshared_other-returns-in-Truth t c = ap node_of (sym c.in-Truth.is ∙ c.deref.ensures) ∙ c.self.view_is
+
+pub LightTerm::unshared_other-returns-in-Null : goal.LightTerm::unshared_other-returns-in-Null
+LightTerm::unshared_other-returns-in-Null t c = ap node_of (sym c.in-Null.is ∙ c.deref.ensures) ∙ c.self.view_is
+
+pub LightTerm::unshared_other-returns-in-Atom : goal.LightTerm::unshared_other-returns-in-Atom
+LightTerm::unshared_other-returns-in-Atom t c = ap node_of (sym c.in-Atom.is ∙ c.deref.ensures) ∙ c.self.view_is
+
+pub LightTerm::unshared_other-returns-in_ok-object-in-Read : goal.LightTerm::unshared_other-returns-in_ok-object-in-Read
+LightTerm::unshared_other-returns-in_ok-object-in-Read t c =
+    let object : shape c.in_ok-object-in-Read.object.value ≡ c.in-Read.p = search rules in
+    ap (λ x. read c.in-Read.sort x c.in-Read.class c.in-Read.field) object
+    ∙ (ap node_of (sym c.in-Read.is ∙ c.deref.ensures) ∙ c.self.view_is)
+
+pub LightTerm::unshared_other-returns-in_ok-object-in-ReadAt : goal.LightTerm::unshared_other-returns-in_ok-object-in-ReadAt
+LightTerm::unshared_other-returns-in_ok-object-in-ReadAt t c =
+    let r = c.in_ok-object-in-ReadAt in
+    let object : shape r.object.value ≡ c.in-ReadAt.p = search rules in
+    let index : shape r.index.value ≡ c.in-ReadAt.i = search rules in
+    ap₂ (λ x i. read_at c.in-ReadAt.sort x c.in-ReadAt.class c.in-ReadAt.field i) object index
+    ∙ (ap node_of (sym c.in-ReadAt.is ∙ c.deref.ensures) ∙ c.self.view_is)
 
 pub LightTerm::unshared_other-boxed-requires : goal.LightTerm::unshared_other-boxed-requires
 LightTerm::unshared_other-boxed-requires t c =

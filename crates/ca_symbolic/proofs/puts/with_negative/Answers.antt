@@ -5,9 +5,6 @@ use Rattle.ca_symbolic.proofs.puts.with_negative.Goals as goal
 pub returns-in_err-addend-clause-large : goal.returns-in_err-addend-clause-large
 returns-in_err-addend-clause-large c = grind (arith, first_of, second_of)
 
-pub returns-in_err-value-clause-large : goal.returns-in_err-value-clause-large
-returns-in_err-value-clause-large c = grind (arith, first_of, second_of)
-
 pub returns-clause-light : goal.returns-clause-light
 returns-clause-light c = grind (arith, neither)
 

@@ -8,9 +8,6 @@ returns-in_err-item-clause-large c = grind (arith, first_of, second_of)
 pub returns-in_err-product-clause-large : goal.returns-in_err-product-clause-large
 returns-in_err-product-clause-large c = grind (arith, first_of, second_of)
 
-pub returns-in_err-value-clause-large : goal.returns-in_err-value-clause-large
-returns-in_err-value-clause-large c = grind (arith, first_of, second_of)
-
 pub returns-clause-light : goal.returns-clause-light
 returns-clause-light c = grind (arith, neither)
 

@@ -1,17 +1,21 @@
-use Rattle.std.proofs.Common.{◌≡◌, [], ◌∷◌, ◌++◌, Result, Box, Global, map, IfOk, OnOk, refl, sym, subst, ◌∙◌, ap}
+use Rattle.std.proofs.Common.{◌≡◌, ℕ, [], ◌∷◌, ◌++◌, Result, Box, Global, map, IfOk, OnOk, refl, sym, subst, ◌∙◌, ap}
+use Rattle.ca_tree.specs.declared.name.Place.{Place}
 use Rattle.ca_tree.specs.Plain.{block, for_loop}
 use Rattle.ca_tree.specs.View.{form_view, expression_view, statement_view as tree_view, statements_view as tree_views}
 use Rattle.ca_tree.proofs.Rows.{block_is}
 use Rattle.ca_program.specs.declared.program.Stmt.{Stmt}
+use Rattle.ca_program.specs.declared.program.FirstPart.{FirstPart}
+use Rattle.ca_program.specs.Plain.{Statement}
 use Rattle.ca_program.specs.View as resolved
 use Rattle.ca_resolve.specs.declared.errors.CheckError.{CheckError}
-use Rattle.ca_resolve.specs.Judged.{Answers, Extends, fine, each}
+use Rattle.ca_resolve.specs.Judged.{Answers, Extends, Judged, fine, each}
 use Rattle.ca_resolve.proofs.Judging.{extends_answers}
 use Rattle.ca_types.specs.declared.statements.Head.{Head}
-use Rattle.ca_types.specs.Statements.{judge_statement, judge_condition, judge_for_loop, nothing, behind, enter_block, leave_block}
+use Rattle.ca_types.specs.Statements.{Env, judge_statement, judge_condition, judge_if, judge_for_loop, nothing, behind, counted, enter_block, leave_block}
 use Rattle.ca_types.specs.clauses.View.{env_view, all_view, boxed_view, left}
 use Rattle.ca_types.proofs.Answering.{if_made, on_made}
 use Rattle.ca_types.proofs.Blocks.{inner_behind, block_behind, loop_behind}
+use Rattle.ca_types.proofs.Forms.{while_is, only_is, else_is, for_is}
 use Rattle.ca_types.proofs.Walks.{step, ended}
 use Rattle.ca_types.proofs.statements.+statement.Goals as goal
 
@@ -38,6 +42,120 @@ check_statement-returns-in-Block-clause-behind t c =
     let e : tree_view c.args.stmt.now ≡ block at (tree_views c.deref.result.now) =
     ap (λ k. form_view k at) c.in-Block.is ∙ (block_is at c.in-Block.stmts ∙ ap (λ xs. block at (tree_views xs)) (sym c.deref.ensures.value)) in
     subst (λ z. OnOk c.check_block.result (env_view c.check_block.new.walk ≡ behind (env_view c.args.walk.now) z)) (sym e) c.check_block.ensures.behind
+
+pub check_statement-returns-in-Empty-clause-judged : goal.check_statement-returns-in-Empty-clause-judged
+check_statement-returns-in-Empty-clause-judged t c =
+    ap (λ k. judge_statement (env_view c.args.walk.now) (form_view k c.args.stmt.now.at)) c.in-Empty.is ∙ ap (λ s. fine s) (sym c.nothing.ensures)
+
+pub check_statement-returns-in-Empty-clause-behind : goal.check_statement-returns-in-Empty-clause-behind
+check_statement-returns-in-Empty-clause-behind t c = sym (ap (λ k. behind (env_view c.args.walk.now) (form_view k c.args.stmt.now.at)) c.in-Empty.is)
+
+pub check_statement-returns-in-Local-clause-judged : goal.check_statement-returns-in-Local-clause-judged
+check_statement-returns-in-Local-clause-judged t c =
+    subst (λ k. IfOk c.check_declaration.result (λ a. Answers resolved.statement_view a (judge_statement (env_view c.args.walk.now) (form_view k c.args.stmt.now.at)))) (sym c.in-Local.is) c.check_declaration.ensures.judged
+
+pub check_statement-returns-in-Local-clause-behind : goal.check_statement-returns-in-Local-clause-behind
+check_statement-returns-in-Local-clause-behind t c =
+    subst (λ k. OnOk c.check_declaration.result (env_view c.check_declaration.new.walk ≡ behind (env_view c.args.walk.now) (form_view k c.args.stmt.now.at))) (sym c.in-Local.is) c.check_declaration.ensures.behind
+
+pub check_statement-returns-in-Assign-clause-judged : goal.check_statement-returns-in-Assign-clause-judged
+check_statement-returns-in-Assign-clause-judged t c =
+    subst (λ k. Answers resolved.statement_view c.check_assign.result (judge_statement (env_view c.args.walk.now) (form_view k c.args.stmt.now.at))) (sym c.in-Assign.is) c.check_assign.ensures
+
+pub check_statement-returns-in-Assign-clause-behind : goal.check_statement-returns-in-Assign-clause-behind
+check_statement-returns-in-Assign-clause-behind t c = sym (ap (λ k. behind (env_view c.args.walk.now) (form_view k c.args.stmt.now.at)) c.in-Assign.is)
+
+pub check_statement-returns-in-Call-clause-judged : goal.check_statement-returns-in-Call-clause-judged
+check_statement-returns-in-Call-clause-judged t c =
+    subst (λ k. Answers resolved.statement_view c.check_call_statement.result (judge_statement (env_view c.args.walk.now) (form_view k c.args.stmt.now.at))) (sym c.in-Call.is) c.check_call_statement.ensures
+
+pub check_statement-returns-in-Call-clause-behind : goal.check_statement-returns-in-Call-clause-behind
+check_statement-returns-in-Call-clause-behind t c = sym (ap (λ k. behind (env_view c.args.walk.now) (form_view k c.args.stmt.now.at)) c.in-Call.is)
+
+pub check_statement-returns-in-Return-clause-judged : goal.check_statement-returns-in-Return-clause-judged
+check_statement-returns-in-Return-clause-judged t c =
+    subst (λ k. Answers resolved.statement_view c.check_return.result (judge_statement (env_view c.args.walk.now) (form_view k c.args.stmt.now.at))) (sym c.in-Return.is) c.check_return.ensures
+
+pub check_statement-returns-in-Return-clause-behind : goal.check_statement-returns-in-Return-clause-behind
+check_statement-returns-in-Return-clause-behind t c = sym (ap (λ k. behind (env_view c.args.walk.now) (form_view k c.args.stmt.now.at)) c.in-Return.is)
+
+pub check_statement-returns-in-Print-clause-judged : goal.check_statement-returns-in-Print-clause-judged
+check_statement-returns-in-Print-clause-judged t c =
+    subst (λ k. Answers resolved.statement_view c.check_print.result (judge_statement (env_view c.args.walk.now) (form_view k c.args.stmt.now.at))) (sym c.in-Print.is) c.check_print.ensures
+
+pub check_statement-returns-in-Print-clause-behind : goal.check_statement-returns-in-Print-clause-behind
+check_statement-returns-in-Print-clause-behind t c = sym (ap (λ k. behind (env_view c.args.walk.now) (form_view k c.args.stmt.now.at)) c.in-Print.is)
+
+pub check_statement-returns-in-While-clause-judged : goal.check_statement-returns-in-While-clause-judged
+check_statement-returns-in-While-clause-judged t c =
+    let e = while_is c.args.stmt.now.at c.args.stmt.now.kind c.in-While.cond c.in-While.body c.deref-in-While.result.now c.in-While.is c.deref-in-While.ensures in
+    subst (λ z. IfOk c.check_while.result (λ a. Answers resolved.statement_view a (judge_statement (env_view c.args.walk.now) z))) (sym e) c.check_while.ensures.judged
+
+pub check_statement-returns-in-While-clause-behind : goal.check_statement-returns-in-While-clause-behind
+check_statement-returns-in-While-clause-behind t c =
+    let e = while_is c.args.stmt.now.at c.args.stmt.now.kind c.in-While.cond c.in-While.body c.deref-in-While.result.now c.in-While.is c.deref-in-While.ensures in
+    subst (λ z. OnOk c.check_while.result (env_view c.check_while.new.walk ≡ behind (env_view c.args.walk.now) z)) (sym e) c.check_while.ensures.behind
+
+pub check_statement-returns-in-None-clause-judged : goal.check_statement-returns-in-None-clause-judged
+check_statement-returns-in-None-clause-judged t c =
+    let e = only_is c.args.stmt.now.at c.args.stmt.now.kind c.in-If.cond c.in-If.yes c.in-If.no c.deref-in-None.result.now c.in-If.is c.in-None.is c.deref-in-None.ensures in
+    subst (λ z. IfOk c.check_if_only.result (λ a. Answers resolved.statement_view a (judge_statement (env_view c.args.walk.now) z))) (sym e) c.check_if_only.ensures.judged
+
+pub check_statement-returns-in-None-clause-behind : goal.check_statement-returns-in-None-clause-behind
+check_statement-returns-in-None-clause-behind t c =
+    let e = only_is c.args.stmt.now.at c.args.stmt.now.kind c.in-If.cond c.in-If.yes c.in-If.no c.deref-in-None.result.now c.in-If.is c.in-None.is c.deref-in-None.ensures in
+    subst (λ z. OnOk c.check_if_only.result (env_view c.check_if_only.new.walk ≡ behind (env_view c.args.walk.now) z)) (sym e) c.check_if_only.ensures.behind
+
+pub check_statement-returns-in_ok-yes_part-in-Some-clause-judged : goal.check_statement-returns-in_ok-yes_part-in-Some-clause-judged
+check_statement-returns-in_ok-yes_part-in-Some-clause-judged t c =
+    let at = c.args.stmt.now.at in
+    let s = env_view c.args.walk.now in
+    let cond = c.in-If.cond in
+    let yes = tree_view c.deref-in-Some.result.now in
+    let no = tree_view c.deref-in-Some-2.result.now in
+    let e = else_is at c.args.stmt.now.kind cond c.in-If.yes c.in-Some.no c.in-If.no c.deref-in-Some.result.now c.deref-in-Some-2.result.now c.in-If.is c.in-Some.is c.deref-in-Some.ensures c.deref-in-Some-2.ensures in
+    let inner = c.in_ok-yes_part-in-Some.ensures in
+    let j = judge_statement (enter_block s) yes in
+    subst (λ z. IfOk c.check_else.result (λ a. Answers resolved.statement_view a (judge_statement s z))) (sym e)
+    (subst (λ z. IfOk c.check_else.result (λ a. Answers resolved.statement_view a (judge_if at.line (judge_condition z.scope (expression_view cond)) j (judge_statement (enter_block z) no)))) inner.behind (c.check_else.ensures.judged j inner.judged))
+
+pub check_statement-returns-in_ok-yes_part-in-Some-clause-behind : goal.check_statement-returns-in_ok-yes_part-in-Some-clause-behind
+check_statement-returns-in_ok-yes_part-in-Some-clause-behind t c =
+    let at = c.args.stmt.now.at in
+    let s = env_view c.args.walk.now in
+    let cond = c.in-If.cond in
+    let yes = tree_view c.deref-in-Some.result.now in
+    let no = tree_view c.deref-in-Some-2.result.now in
+    let e = else_is at c.args.stmt.now.kind cond c.in-If.yes c.in-Some.no c.in-If.no c.deref-in-Some.result.now c.deref-in-Some-2.result.now c.in-If.is c.in-Some.is c.deref-in-Some.ensures c.deref-in-Some-2.ensures in
+    subst (λ z. OnOk c.check_else.result (env_view c.check_else.new.walk ≡ behind s z)) (sym e)
+    (subst (λ z. OnOk c.check_else.result (env_view c.check_else.new.walk ≡ leave_block z (behind (enter_block z) no))) c.in_ok-yes_part-in-Some.ensures.behind c.check_else.ensures.behind)
+
+pub check_statement-returns-in_ok-next-in-For-clause-judged : goal.check_statement-returns-in_ok-next-in-For-clause-judged
+check_statement-returns-in_ok-next-in-For-clause-judged t c =
+    let at = c.args.stmt.now.at in
+    let s = env_view c.args.walk.now in
+    let first = tree_view c.deref-in-For.result.now in
+    let cond = expression_view c.in-For.cond in
+    let next = tree_view c.deref-in-For-2.result.now in
+    let body = tree_view c.deref-in-For-3.result.now in
+    let e = for_is at c.args.stmt.now.kind c.in-For.cond c.in-For.first c.in-For.next c.in-For.body c.deref-in-For.result.now c.deref-in-For-2.result.now c.deref-in-For-3.result.now c.in-For.is c.deref-in-For.ensures c.deref-in-For-2.ensures c.deref-in-For-3.ensures in
+    let begins = c.in_ok-outer-in-For.ensures in
+    let head = c.in_ok-outer-in-For.head in
+    let turns = c.in_ok-next-in-For.ensures in
+    let r = c.check_rounds.result in
+    let f = judge_statement (enter_block (counted s)) first in
+    let part : Env → Judged Statement → Judged Statement = λ d j. judge_for_loop head.at head.site.0 head.part f (judge_condition d.scope cond) j (judge_statement (enter_block d) body) in
+    let s1 = env_view c.check_head.new.walk in
+    let told = c.check_rounds.ensures.judged f (judge_statement (enter_block s1) next) begins.judged turns.judged in
+    let inside = subst (λ z. IfOk r (λ a. Answers resolved.statement_view a (part z (judge_statement (enter_block s1) next)))) turns.behind told in
+    let begun = subst (λ z. IfOk r (λ a. Answers resolved.statement_view a (part (leave_block z (behind (enter_block z) next)) (judge_statement (enter_block z) next)))) begins.behind inside in
+    let b = behind (enter_block (counted s)) first in
+    let d = leave_block b (behind (enter_block b) next) in
+    let named : FirstPart → Place → ℕ → Judged Statement = λ p l n. judge_for_loop l n p f (judge_condition b.scope cond) (judge_statement (enter_block b) next) (judge_statement (enter_block d) body) in
+    subst (λ z. IfOk r (λ a. Answers resolved.statement_view a (judge_statement s z))) (sym e)
+    (subst (λ p. IfOk r (λ a. Answers resolved.statement_view a (named p at s.loops))) begins.part
+    (subst (λ l. IfOk r (λ a. Answers resolved.statement_view a (named head.part l s.loops))) begins.at
+    (subst (λ n. IfOk r (λ a. Answers resolved.statement_view a (named head.part head.at n))) begins.site begun)))
 
 pub check_statement-returns-in_ok-next-in-For-clause-behind : goal.check_statement-returns-in_ok-next-in-For-clause-behind
 check_statement-returns-in_ok-next-in-For-clause-behind t c =

@@ -4,7 +4,7 @@ use Rattle.ca_model.proofs.Stores.{found}
 use Rattle.ca_program.specs.View.{program_view}
 use Rattle.ca_run.specs.Beside.{present}
 use Rattle.ca_run.proofs.Present.{changed, same_some, found_object}
-use Rattle.ca_run.proofs.Running.{ran_at}
+use Rattle.ca_run.proofs.Running.{may_have_run}
 use Rattle.ca_run.proofs.beside.Beside.run.Goals as goal
 
 pub returns : goal.returns
@@ -18,5 +18,5 @@ returns c =
     let found_it : slice_get cs place ≡ Some c.index_mut-changed.result.now = found cs place c.index_mut-changed.result.now (slice_get_within cs place _ here) c.index_mut-changed.ensures.value in
     let same = same_some (slice_get cs place) c.index_mut-changed.result.now (changed number is_place.object) found_it here in
     let old = found_object frozen number c.requires in
-    ran_at (program_view c.args.program.now) frozen (present frozen c.args.self.now) c.self.inside.index.items cs place c.index_mut-changed.result.now c.args.op.now old.0 c.args.left c.args.waiting.now.items c.section.new.out.items c.section.new.object c.in_ok-answer.answer
-    c.self.invariant (ap (present frozen) c.self.view_is ∙ c.in_ok-place.ensures.same) found_it (ap (λ z. z.number) same) old.1 c.in_ok-answer.ensures.answer
+    may_have_run c.section.result (program_view c.args.program.now) frozen (present frozen c.args.self.now) c.self.inside.index.items cs place c.index_mut-changed.result.now c.args.op.now old.0 c.args.left c.args.waiting.now.items c.section.new.out.items c.section.new.object
+    c.self.invariant (ap (present frozen) c.self.view_is ∙ c.in_ok-place.ensures.same) found_it (ap (λ z. z.number) same) old.1 c.section.ensures.answer

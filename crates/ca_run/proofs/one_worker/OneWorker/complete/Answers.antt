@@ -6,8 +6,8 @@ use Rattle.ca_run.specs.Rounds.{RanTo, StuckBehind}
 use Rattle.ca_run.proofs.Answering.{stuck_not_done, ran_done}
 use Rattle.ca_run.proofs.one_worker.OneWorker.complete.Goals as goal
 
-pub returns-clause-declined : goal.returns-clause-declined
-returns-clause-declined g c = λ e.
+pub returns-in-None-clause-declined : goal.returns-in-None-clause-declined
+returns-in-None-clause-declined g c = λ e.
     let p = program_view c.args.program.now in
     let h = c.args.heap.now in
     let first = c.args.first.now in

@@ -1,0 +1,4 @@
+pub mod Flagged
+pub mod Locals
+pub mod Sites
+pub mod Stacks

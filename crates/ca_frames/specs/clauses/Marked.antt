@@ -1,0 +1,20 @@
+-- Flags of operations, and numbers of loops.
+use Rattle.std.specs.Prelude.{◌≡◌, ◌<◌, ◌||◌, Bool, false, List, [], ◌∷◌, length, get_or, nat_eq}
+use Rattle.ca_program.specs.declared.program.LoopId.{LoopId}
+use Rattle.ca_program.specs.declared.program.OpId.{OpId}
+use Rattle.ca_program.specs.Plain.{Statement, for_loop}
+use Rattle.ca_parallel.specs.Lists.{op_in}
+
+-- the flag of each operation that has one says whether it is one of these
+abbrev pub FlagsOf : List Bool → List OpId → Type 0
+FlagsOf flags ops = (op : OpId) → op.0 < length flags → get_or flags op.0 false ≡ op_in ops op
+
+-- the number is one of these
+abbrev pub site_in : List LoopId → LoopId → Bool
+site_in [] site = false
+site_in (x ∷ xs) site = nat_eq site.0 x.0 || site_in xs site
+
+-- the statement is a loop with one of these numbers
+abbrev pub is_marked : List LoopId → Statement → Bool
+is_marked sites (for_loop own site part first c next b) = site_in sites site
+is_marked sites _ = false

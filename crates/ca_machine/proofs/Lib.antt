@@ -1,0 +1,12 @@
+pub mod AtOnce
+pub mod Steps
+pub mod Beginnings
+pub mod CallSteps
+pub mod Flows
+pub mod FewCalls
+pub mod Instants
+pub mod Items
+pub mod Parts
+pub mod Passing
+pub mod Taking
+pub mod Tellings

@@ -1,0 +1,4 @@
+pub mod Answers
+pub mod Few
+pub mod Instant
+pub mod Resume
