@@ -1,5 +1,5 @@
 //! Programs of texts without violations are well typed, their loops are numbered, and counters stay in their loops; and which
-//! numbers the codes of rules and the limits are.
+//! numbers the codes of rules and the limits on texts are.
 
 ghost use Rattle.std.specs.Prelude.{◌≡◌, ℕ, List};
 ghost use Rattle.ca_tree.specs.declared.token.Token.{Token};
@@ -31,7 +31,7 @@ pub fn counters_stay_in_their_loops()
     ensures { (tree : TextTree) (p : PlainProgram) → judge tree ≡ fine p → OperationsScoped p }
 {}
 
-/// The codes of rules and of limits, and the limits, are these numbers: whoever changes one changes the language.
+/// The codes of rules and of limits, and the limits on texts, are these numbers: whoever changes one changes the language.
 pub fn codes_and_limits_are_these()
     ensures rules { AreCodesOfRules }
     ensures limits { AreCodesOfLimits }
