@@ -105,7 +105,6 @@ impl Extents for NoExtents {
         ensures declines { result ≡ Ok Declined }
         ensures untouched { heap.new ≡ heap.old }
     {
-        let _ = (program, heap, operations, budget);
         Ok(ExtentAnswer::Declined)
     }
 }
