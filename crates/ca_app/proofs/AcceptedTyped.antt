@@ -9,7 +9,7 @@ use Rattle.ca_plan.specs.Checked.{Checked}
 use Rattle.ca_app.specs.Accepted.{Accepted}
 
 pub accepted_is_typed : {text : List ℕ} {p : PlainProgram} → Accepted text p → ProgramTyped p
-accepted_is_typed {text} {p} a = text_is_typed text a.has_tree.tokens a.tree p a.has_tree.has_tokens.lexed a.has_tree.derived a.resolved
+accepted_is_typed {text} {p} a = text_is_typed text a.has_tree.tokens 0 a.tree p a.has_tree.has_tokens.lexed a.has_tree.derived a.resolved
 
 pub accepted_is_checked : {text : List ℕ} {p : PlainProgram} → Accepted text p → Checked p
 accepted_is_checked {p = p} a =

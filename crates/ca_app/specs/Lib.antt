@@ -5,4 +5,5 @@ pub mod Summary
 pub mod Reply
 pub mod Ends
 pub mod Causes
+pub mod Numbers
 pub mod clauses

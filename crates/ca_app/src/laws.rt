@@ -1,10 +1,11 @@
-//! Laws of texts that are accepted, and of replies.
+//! Laws of texts that are accepted, and of replies, and the numbers of codes and statuses.
 
 ghost use Rattle.std.specs.Prelude.{◌≡◌, ℕ, List};
 ghost use Rattle.ca_program.specs.Plain.{PlainProgram};
 ghost use Rattle.ca_meaning.specs.Output.{Reply};
 ghost use Rattle.ca_meaning.specs.ProgramTyped.{ProgramTyped};
 ghost use Rattle.ca_app.specs.Accepted.{Accepted};
+ghost use Rattle.ca_app.specs.Numbers.{AreCodesOfTexts, AreStatuses, IsMostOfText};
 ghost use Rattle.ca_app.specs.Reply.{Replies};
 
 /// The program of an accepted text is well typed.
@@ -15,4 +16,12 @@ pub fn accepted_programs_are_typed()
 /// Words and a text have one reply at most.
 pub fn one_reply()
     ensures { (words : List (List ℕ)) (text : List ℕ) (r s : Reply) → Replies words text r → Replies words text s → r ≡ s }
+{}
+
+/// The codes that the checker doesn't tell, the statuses, and the limit on a text are these numbers: whoever changes one
+/// changes what the program writes.
+pub fn codes_and_statuses_are_these()
+    ensures codes { AreCodesOfTexts }
+    ensures statuses { AreStatuses }
+    ensures most { IsMostOfText }
 {}

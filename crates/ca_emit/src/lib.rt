@@ -3,6 +3,9 @@
 //! `specs/Annotations.antt` says which marks stand where, and `ca_canonical` what a text with marks is. `parallel` finds the
 //! operations that take a lock, `sites` the calls and loops that run in parallel, and `marking` tells the marks at a place.
 //!
+//! `emit` promises that text; that without its marks it is the canonical one; that each body keeps the lock discipline; and that
+//! no call or loop that runs in parallel lacks its mark.
+//!
 //! Whoever reads the public clauses must believe `Annotations` and `Locks` of `specs/`; what stands in
 //! `specs/clauses/` serves clauses within the crate alone.
 #![tactic(auto)]

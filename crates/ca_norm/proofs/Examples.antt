@@ -10,7 +10,7 @@ use Rattle.ca_norm.specs.Terms.{PlainTerm, number, truth, null, atom, add, sub, 
 use Rattle.ca_norm.specs.Weights.{spread, weight_of}
 use Rattle.ca_norm.specs.Forms.{norm}
 use Rattle.ca_norm.specs.Meanings.{Valuation, mean, item_mean}
-use Rattle.ca_norm.proofs.Valuations.{valuation_of}
+use Rattle.ca_norm.specs.Valuations.{valuation_of}
 
 -- the first operation's first parameter, what the second field holds at the start, and a condition
 p : PlainTerm

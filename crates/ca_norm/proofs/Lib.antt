@@ -4,7 +4,6 @@ pub mod Operations
 pub mod Monomials
 pub mod Rules
 pub mod Polynomials
-pub mod Valuations
 pub mod Values
 pub mod SumsCommute
 pub mod Arrays

@@ -4,4 +4,5 @@ pub mod Measures
 pub mod Forms
 pub mod Meanings
 pub mod Environments
+pub mod Valuations
 pub mod Operators

@@ -1,4 +1,4 @@
-//! Engines.
+//! The engine for one worker.
 //!
 //! `OneWorker` runs the operations of a parallel extent one at a time, in an order of its own: each as its section, and
 //! then what that lists waits with the others. It needs no runtime and always returns. Its answers are those of the

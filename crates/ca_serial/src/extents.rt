@@ -1,6 +1,6 @@
 //! Engines, which run operations and all that these invoke.
 
-ghost use Rattle.std.specs.Prelude.{◌≡◌, ℕ, Bool, true, false, List, map, IfOk, OnOk, OnErr};
+ghost use Rattle.std.specs.Prelude.{◌≡◌, ℕ, Bool, true, false, List, map, Ok, IfOk, OnOk, OnErr};
 ghost use Rattle.ca_program.specs.View.{program_view};
 ghost use Rattle.ca_program.specs.Plain.{PlainProgram};
 ghost use Rattle.ca_model.specs.declared.value.Object.{Object};
@@ -86,11 +86,25 @@ impl Extents for NoExtents {
     fn run<R: Threads + Wait + Sync>(
         &mut self,
         _rt: &R,
-        _program: &Program,
-        _heap: &mut Heap,
-        _operations: &[Op],
-        _budget: u64,
-    ) -> Result<ExtentAnswer, Memory> {
+        program: &Program,
+        heap: &mut Heap,
+        operations: &[Op],
+        budget: u64,
+    ) -> Result<ExtentAnswer, Memory>
+        requires ready { Unit {0} }
+        requires program { ProgramTyped (program_view program.now) }
+        requires heap { TypedHeap (program_view program.now) heap.old }
+        requires typed { AllWellTyped (program_view program.now) heap.old (invocations_of operations.now) }
+        requires parallel { ParallelFrom (program_view program.now) (map operation_of operations.now) }
+        ensures answer { IfOk result (λ answer. Answers (program_view program.now) heap.old (invocations_of operations.now) budget heap.new answer) }
+        ensures declined { false ≡ true → IfOk result (λ answer. answer ≡ Declined → IsNotDone (program_view program.now) heap.old (invocations_of operations.now) budget) }
+        ensures accounts { OnOk result (Unit {0}) }
+        ensures heap_kept { OnErr result (heap.new ≡ heap.old) }
+        ensures account_kept { OnErr result (Unit {0}) }
+        // It declines whatever it is handed, and leaves the heap as it was.
+        ensures declines { result ≡ Ok Declined }
+        ensures untouched { heap.new ≡ heap.old }
+    {
         Ok(ExtentAnswer::Declined)
     }
 }

@@ -4,7 +4,8 @@
 //! is too heavy (`specs/Heavy.antt`). The normal form of a term, or its part as a number or as a polynomial, is that of
 //! the term with nothing shared.
 //!
-//! Whoever reads the public clauses must believe each file of `specs/`.
+//! Whoever reads the public clauses must believe each file of `specs/` itself; what stands in `specs/clauses/` serves
+//! clauses within the crate alone.
 #![tactic(auto)]
 
 mod errors;

@@ -63,7 +63,8 @@ pub fn other_loop(program: &Program, op: OpId) -> Option<u32>
 }
 
 /// Runs an operation on a state: it finds the fields as they are, its locals begin anew, and its parameters are the
-/// atoms of its side. What it demands comes behind what was demanded before.
+/// atoms of its side. What it demands comes behind what was demanded before. After an error nothing is said of the state
+/// and of what was demanded.
 pub fn symbolic(
     alloc: Global,
     program: &Program,

@@ -22,7 +22,7 @@ use Rattle.ca_forms.specs.declared.sort.Sort.{Sort}
 use Rattle.ca_norm.specs.Terms.{PlainTerm, atom, item_sort}
 use Rattle.ca_norm.specs.Meanings.{Valuation, mean}
 use Rattle.ca_norm.specs.Environments.{Environment, atom_in, own_item_in}
-use Rattle.ca_norm.proofs.Valuations.{as_sort, valuation_in}
+use Rattle.ca_norm.specs.Valuations.{as_sort, valuation_in}
 use Rattle.ca_shared_terms.specs.Starts.{sort_of_type, sort_of_array, sort_of_slot, starts}
 use Rattle.ca_symbolic.specs.States.{start_term, parameters, first_locals}
 use Rattle.ca_symbolic_laws.specs.Meant.{item_meant, items_meant, TermTyped, FieldsTyped, LocalsTyped, slot_meant, slots_meant}

@@ -17,7 +17,7 @@ use Rattle.ca_norm.specs.Terms.{PlainTerm}
 use Rattle.ca_norm.specs.Terms as term
 use Rattle.ca_norm.specs.Meanings.{Valuation, mean}
 use Rattle.ca_norm.specs.Environments.{Environment}
-use Rattle.ca_norm.proofs.Valuations.{valuation_in}
+use Rattle.ca_norm.specs.Valuations.{valuation_in}
 use Rattle.ca_symbolic.specs.States.{State, PlainDemand}
 use Rattle.ca_symbolic.specs.Execution.{after_all}
 use Rattle.ca_symbolic.specs.Demands.{demanded_all}

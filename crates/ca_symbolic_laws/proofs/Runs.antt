@@ -28,7 +28,7 @@ use Rattle.ca_meaning_laws.proofs.FunctionTypes.{calls_typed}
 use Rattle.ca_forms.specs.declared.sort.Sort.{Sort}
 use Rattle.ca_norm.specs.Meanings.{Valuation, mean}
 use Rattle.ca_norm.specs.Environments.{Environment, read_in, read_at_in, result_in}
-use Rattle.ca_norm.proofs.Valuations.{as_sort, valuation_in}
+use Rattle.ca_norm.specs.Valuations.{as_sort, valuation_in}
 use Rattle.ca_shared_terms.specs.Starts.{sort_of_type}
 use Rattle.ca_symbolic.specs.States.{receiver}
 use Rattle.ca_symbolic.specs.Execution.{sort_in, sort_of_given, sort_of_result}

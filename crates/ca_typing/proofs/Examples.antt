@@ -70,4 +70,4 @@ any_number : (n : ℤ) → judge (tree n) ≡ fine (printing n)
 any_number n = refl
 
 greatest_is_typed : ProgramTyped (printing (pos 9223372036854775807))
-greatest_is_typed = text_is_typed text tokens (tree (pos 9223372036854775807)) (printing (pos 9223372036854775807)) its_tokens its_tree (any_number (pos 9223372036854775807))
+greatest_is_typed = text_is_typed text tokens 0 (tree (pos 9223372036854775807)) (printing (pos 9223372036854775807)) its_tokens its_tree (any_number (pos 9223372036854775807))

@@ -10,7 +10,9 @@
 //!
 //! The crate has no code: a caller calls a function for its clause. The lemmas are in `proofs/`.
 //!
-//! Whoever reads the public clauses must believe `Loops` of `specs/`.
+//! `codes_and_limits_are_these` says which numbers the codes and the limits on texts are that the definitions below name.
+//!
+//! Whoever reads the public clauses must believe each file of `specs/`.
 #![tactic(auto)]
 
 pub mod laws;

@@ -13,7 +13,7 @@ use Rattle.ca_meaning.specs.Sections.{Outcome, Sectioned, done, stopped, over, s
 use Rattle.ca_meaning.specs.Commuting.{joined, IsComplete, SameOutcome, CommutesOn}
 use Rattle.ca_norm.specs.Terms.{PlainTerm}
 use Rattle.ca_norm.specs.Environments.{Environment}
-use Rattle.ca_norm.proofs.Valuations.{valuation_in}
+use Rattle.ca_norm.specs.Valuations.{valuation_in}
 use Rattle.ca_symbolic.specs.States.{PlainDemand}
 use Rattle.ca_symbolic_laws.specs.Costs.{plus, outcome_of, if_within, within}
 use Rattle.ca_symbolic_laws.specs.Demanded.{cost, lists}

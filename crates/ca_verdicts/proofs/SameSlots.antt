@@ -20,7 +20,7 @@ use Rattle.ca_norm.specs.Terms.{PlainTerm, number, truth, select}
 use Rattle.ca_norm.specs.Forms.{norm}
 use Rattle.ca_norm.specs.Meanings.{Valuation, mean}
 use Rattle.ca_norm.proofs.Values.{same_forms}
-use Rattle.ca_norm.proofs.Valuations.{valuation_in}
+use Rattle.ca_norm.specs.Valuations.{valuation_in}
 use Rattle.ca_shared_terms.specs.Starts.{sort_of_array, starts}
 use Rattle.ca_symbolic.specs.States.{first_locals}
 use Rattle.ca_symbolic.specs.Execution.{after_all}

@@ -26,7 +26,7 @@ use Rattle.ca_parallel.specs.Separable.{Separable, AreSeparated}
 use Rattle.ca_norm.specs.Terms.{PlainTerm}
 use Rattle.ca_norm.specs.Terms as term
 use Rattle.ca_norm.specs.Environments.{Environment}
-use Rattle.ca_norm.proofs.Valuations.{valuation_in}
+use Rattle.ca_norm.specs.Valuations.{valuation_in}
 use Rattle.ca_shared_terms.specs.Starts.{starts}
 use Rattle.ca_symbolic.specs.States.{first_locals}
 use Rattle.ca_symbolic.specs.Execution.{after_all}

@@ -1,7 +1,7 @@
--- A valuation from any values: each is taken as a value of the sort that is asked for.
-use Rattle.std.proofs.Common.{ℕ, ℤ, zero, suc, List, pos, w64}
-use Rattle.std.specs.Prelude.{false}
-use Rattle.std.specs.Int.{int_wrap}
+-- The valuation of a run: what atoms, reads and calls stand for there, each taken as a value of the sort that is asked
+-- for; what isn't of that sort is taken as its start value.
+use Rattle.std.specs.Prelude.{ℕ, ℤ, zero, suc, pos, false, List}
+use Rattle.std.specs.Int.{int_wrap, w64}
 use Rattle.std.proofs.lemmas.Int.{SFits-int_wrap}
 use Rattle.ca_model.specs.declared.value.Value.{Value as Datum}
 use Rattle.ca_model.specs.declared.value.Value.TheVariants as datum
