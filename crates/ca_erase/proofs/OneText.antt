@@ -1,4 +1,4 @@
--- A text has one text without its marks, and then none of its comments is a bad mark.
+-- A text has one text without its marks, and then none of its comments is a bad mark; and one first bad mark at most.
 use Prim.Native.Char.{code}
 use Rattle.std.proofs.Common.{◌≡◌, ℕ, ◌+◌, List, [], ◌∷◌, ◌++◌, take, drop, get_or, Bool, true, false, ◌&&◌, Option, Some, None, refl, sym, ap, ap₂, ◌∙◌, arith}
 use Rattle.std.specs.Prelude.{◌==◌, if◌then◌else◌}
@@ -7,11 +7,12 @@ use Rattle.std.proofs.lemmas.Option.{same_Some}
 use Rattle.ca_tree.specs.declared.name.Place.{Place}
 use Rattle.ca_lex.specs.Bytes.{is_no_line_feed}
 use Rattle.ca_lex.specs.Pieces.{close_len}
+use Rattle.ca_lex.specs.Places.{advance, step}
 use Rattle.ca_canonical.specs.declared.marks.Mark.{Mark}
 use Rattle.ca_canonical.specs.declared.marks.Mark.TheVariants.{Lock, Unlock, Spawn, Parallel}
 use Rattle.ca_canonical.specs.Marks.{mark_text}
 use Rattle.ca_canonical.specs.Erased.{block_len, comment_len, opens_mark, behind_space, Erased, at_end, a_mark, a_comment, a_byte}
-use Rattle.ca_erase.specs.BadMarks.{BadMarkFrom, here, behind_mark, behind_comment, behind_byte}
+use Rattle.ca_erase.specs.BadMarks.{space_of, BadMarkFrom, here, behind_mark, behind_comment, behind_byte}
 
 -- What stands in front
 
@@ -68,10 +69,15 @@ behind Unlock s r e = ap (drop 11) e
 behind Spawn s r e = ap (drop 10) e
 behind Parallel s r e = ap (drop 13) e
 
+same_mark : (m k : Mark) (s r : List ℕ) → mark_text m ++ s ≡ mark_text k ++ r → m ≡ k
+same_mark m k s r e = by_letter m k (sym (letter_is m s) ∙ ap (λ z. get_or z 3 0) e ∙ letter_is k r)
+
 same_rest : (m k : Mark) (s r : List ℕ) → mark_text m ++ s ≡ mark_text k ++ r → s ≡ r
-same_rest m k s r e =
-    let same : m ≡ k = by_letter m k (sym (letter_is m s) ∙ ap (λ z. get_or z 3 0) e ∙ letter_is k r) in
-    behind m s r (e ∙ ap (λ x. mark_text x ++ r) (sym same))
+same_rest m k s r e = behind m s r (e ∙ ap (λ x. mark_text x ++ r) (sym (same_mark m k s r e)))
+
+-- with the space behind it
+same_front : (m k : Mark) (s r : List ℕ) → mark_text m ++ s ≡ mark_text k ++ r → mark_text m ++ space_of s ≡ mark_text k ++ space_of r
+same_front m k s r e = ap₂ (λ x z. mark_text x ++ space_of z) (same_mark m k s r e) (same_rest m k s r e)
 
 -- Two of the ways on don't begin with the same bytes
 
@@ -133,3 +139,25 @@ no_bad_mark (a_byte {b = b} {s = x} c d) (here {s = r} o n) e = no_byte_opens r 
 no_bad_mark (a_byte {b = b} {s = x} c d) (behind_mark k y f) e = no_byte_opens (mark_text k ++ y) (b ∷ x) (opens k y) c (sym e)
 no_bad_mark (a_byte c d) (behind_comment {n = k} {s = r} i j f) e = not_both r k i (ap comment_len (sym e) ∙ c)
 no_bad_mark (a_byte c d) (behind_byte i f) e = no_bad_mark d f (ap (drop 1) e)
+
+-- One first bad mark
+
+pub one_place : {s r : List ℕ} {p q x y : Place} → BadMarkFrom p s x → BadMarkFrom q r y → s ≡ r → p ≡ q → x ≡ y
+one_place (here o n) (here i m) e same = same
+one_place (here o n) (behind_mark k z f) e same = absurd (n k z e)
+one_place (here o n) (behind_comment c i f) e same = absurd (let h : true ≡ false = sym o ∙ (ap opens_mark e ∙ i) in cc)
+one_place (here {s = s} o n) (behind_byte {b = b} {s = z} c f) e same = absurd (no_byte_opens s (b ∷ z) o c e)
+one_place (behind_mark m z d) (here o n) e same = absurd (n m z (sym e))
+one_place (behind_mark m z d) (behind_mark k w f) e same = one_place d f (ap behind_space (same_rest m k z w e)) (ap₂ (λ p u. advance p u) same (same_front m k z w e))
+one_place (behind_mark m z d) (behind_comment {s = r} c i f) e same = absurd (no_mark_is_copied m z r i e)
+one_place (behind_mark m z d) (behind_byte {b = b} {s = w} c f) e same = absurd (no_byte_opens (mark_text m ++ z) (b ∷ w) (opens m z) c e)
+one_place (behind_comment c o d) (here i n) e same = absurd (let h : false ≡ true = sym o ∙ (ap opens_mark e ∙ i) in cc)
+one_place (behind_comment {s = s} c o d) (behind_mark k w f) e same = absurd (no_mark_is_copied k w s o (sym e))
+one_place (behind_comment {n = n} {s = s} c o d) (behind_comment {n = k} {s = r} i j f) e same =
+    let long : n ≡ k = same_Some n k (sym c ∙ (ap comment_len e ∙ i)) in
+    one_place d f (ap₂ (λ l z. drop l z) long e) (ap₂ (λ p u. advance p u) same (ap₂ (λ l z. take l z) long e))
+one_place (behind_comment {n = n} {s = s} c o d) (behind_byte i f) e same = absurd (not_both s n c (ap comment_len e ∙ i))
+one_place (behind_byte {b = b} {s = z} c d) (here {s = r} o n) e same = absurd (no_byte_opens r (b ∷ z) o c (sym e))
+one_place (behind_byte {b = b} {s = z} c d) (behind_mark k w f) e same = absurd (no_byte_opens (mark_text k ++ w) (b ∷ z) (opens k w) c (sym e))
+one_place (behind_byte c d) (behind_comment {n = k} {s = r} i j f) e same = absurd (not_both r k i (ap comment_len (sym e) ∙ c))
+one_place (behind_byte c d) (behind_byte i f) e same = one_place d f (ap (drop 1) e) (ap₂ (λ p b. step p b) same (ap (λ z. get_or z 0 0) e))

@@ -1,4 +1,4 @@
-use Rattle.std.proofs.Common.{[], MatchOption, subst, sym}
+use Rattle.std.proofs.Common.{[], MatchOption, refl, subst, sym}
 use Rattle.ca_program.specs.View.{program_view}
 use Rattle.ca_parallel.specs.Calls.{RunsTo, invocations_of}
 use Rattle.ca_run.specs.Beside.{present}
@@ -14,6 +14,9 @@ returns-in-None-clause-declined g c = λ e.
     let cs = c.forget.new.self in
     let stuck = subst (λ r. MatchOption r (StuckBehind p h (present h cs) (invocations_of first) c.args.left) (λ steps. RanTo p h (present h cs) (invocations_of first) c.args.left (present h c.run_all.new.beside) [] steps)) c.in-None.is c.in_ok-ran.ensures in
     stuck_not_done p c.requires.program h c.requires.heap first c.requires.typed c.requires.parallel c.args.left cs c.forget.ensures stuck
+
+pub returns-in-None-clause-answer : goal.returns-in-None-clause-answer
+returns-in-None-clause-answer g c = refl
 
 pub store-requires : goal.store-requires
 store-requires g c =
