@@ -6,8 +6,9 @@
 //! clocks the entries of a round are a run of the pending machine, rounds put together are one run, and all complete
 //! runs end alike.
 //!
-//! A round takes time for each object of the heap. So on a large heap the calling thread first runs operations alone, as
-//! the engine for one worker does, until their steps weigh as much, and a call that ends there costs what it touches.
+//! A round takes time for each object of the heap and for each worker. So the calling thread first runs operations alone, as
+//! the engine for one worker does, until their steps weigh as much, and as long as a single one waits: a call that ends
+//! there costs what it touches. Where two or more come first on a small heap a round begins at once.
 //! Objects change in a copy of the heap, and only a run that is done puts that in the heap's place: nothing has to be put
 //! back. A run that begins with a round and ends in it makes no copy.
 //!

@@ -14,7 +14,7 @@ ghost use Rattle.ca_workers.specs.clauses.Runs.{Placed, answer_by};
 use crate::alone::run_alone;
 use crate::rounds::FIRST_QUOTA;
 use crate::running::{run_from, run_on};
-use crate::tasks::{extent_of_calls, first_tasks};
+use crate::tasks::{extent_of_calls, first_tasks, tasks_of};
 use ca_base::{Gate, Memory};
 use ca_model::Heap;
 use ca_parallel::Op;
@@ -25,10 +25,11 @@ use std::alloc::Global;
 use std::sync::Wait;
 use std::thread::Threads;
 
-/// On a heap of fewer objects the first round begins at once.
+/// On a heap of fewer objects the first round begins at once where two operations come first.
 const FEW_OBJECTS: u32 = 16;
 
-/// On others the calling thread first takes so many steps for each object, which is about what a round costs.
+/// Else the calling thread goes on alone while a single operation waits, and takes at least so many steps for each object,
+/// and for `FEW_OBJECTS`, which is about what a round costs.
 const STEPS_AN_OBJECT: u64 = 16;
 
 /// An engine of many workers, in rounds. It passes its gate before each section that a worker runs, as that worker, and
@@ -96,7 +97,7 @@ impl<'g, G: Gate> Parallel<'g, G> {
         )
     }
 
-    /// Runs operations on the calling thread for some steps, and what waits then in rounds.
+    /// Runs operations on the calling thread at first, and what waits then in rounds.
     fn run_alone_first<R: Threads + Wait + Sync>(
         &mut self,
         rt: &R,
@@ -112,7 +113,7 @@ impl<'g, G: Gate> Parallel<'g, G> {
         ensures placed { IfOk result (Placed (program_view program.now) heap.old heap.old (invocations_of first.now) left heap.new) }
         ensures kept { OnErr result (heap.new ≡ heap.old) }
     {
-        let objects = heap.len();
+        let objects = heap.len().max(FEW_OBJECTS);
         let mut waiting = copies(self.alloc, first)?;
         self.beside.forget();
         let went = run_alone(
@@ -136,7 +137,7 @@ impl<'g, G: Gate> Parallel<'g, G> {
         let extent = extent_of_calls(self.alloc, program, first)?;
         let mut now = heap.copy()?;
         self.beside.store(&mut now);
-        let tasks = first_tasks(self.alloc, waiting.as_slice())?;
+        let tasks = tasks_of(self.alloc, waiting)?;
         let more = run_on(
             rt,
             self.alloc,
@@ -177,7 +178,7 @@ impl<'g, G: Gate> Parallel<'g, G> {
         ensures declined { IfOk result (λ answer. answer ≡ Declined → IsNotDone (program_view program.now) heap.old (invocations_of first.now) left) }
         ensures kept { OnErr result (heap.new ≡ heap.old) }
     {
-        if heap.len() < FEW_OBJECTS {
+        if first.len() > 1 && heap.len() < FEW_OBJECTS {
             let ended = self.run_together(rt, program, heap, first, left)?;
             return Ok(answer_of(ended));
         }

@@ -28,6 +28,15 @@ pub fn first_tasks(alloc: Global, ops: &[Op]) -> Result<Vec<Task>, AllocError>
     Ok(tasks)
 }
 
+/// The same of calls that are owned, of which none is copied.
+pub fn tasks_of(alloc: Global, ops: Vec<Op>) -> Result<Vec<Task>, AllocError>
+    ensures { IfOk result (λ tasks. tasks.items ≡ map (task_after 0) ops.items) }
+{
+    ops.into_iter()
+        .map(|op| Task { op, after: 0 })
+        .collect(alloc)
+}
+
 /// Lets these tasks begin a round: each may run at once.
 pub fn begin_anew(tasks: &mut Vec<Task>)
     ensures calls { task_calls tasks.new.items ≡ task_calls tasks.old.items }

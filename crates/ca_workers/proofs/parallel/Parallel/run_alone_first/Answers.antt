@@ -69,12 +69,12 @@ run_on-requires-clause-waiting g c κs within = let r = c.requires in
     let mid = c.store-2.new.heap in
     let here : mid ≡ last = c.store-2.ensures.stored ∙ ap (λ (q : List Object). present q c.run_alone.new.beside) c.in_ok-now.ensures in
     let more = task_calls c.in_ok-tasks.tasks.items in
-    let calls : more ≡ rest = task_calls_are c.as_slice.result.now c.in_ok-tasks.tasks.items c.in_ok-tasks.ensures ∙ ap invocations_of c.as_slice.ensures.value in
+    let calls : more ≡ rest = task_calls_are c.run_alone.new.waiting.items c.in_ok-tasks.tasks.items c.in_ok-tasks.ensures in
     waits_on p x h (own_setting p r.program h r.heap first r.typed r.parallel x c.in_ok-extent.ensures) h (invocations_of first) (own_waits p r.program h r.heap first r.typed r.parallel x c.in_ok-extent.ensures) c.args.left mid more c.in-Went.steps
     (moved p h h (invocations_of first) c.args.left last rest c.in-Went.steps ran mid here more calls)
 
 pub run_on-requires-clause-begins : goal.run_on-requires-clause-begins
-run_on-requires-clause-begins g c κs within = subst (λ (ts : List Task). All (λ (t : Task). t.after ≡ 0) ts) (sym c.in_ok-tasks.ensures) (tasks_begin c.as_slice.result.now)
+run_on-requires-clause-begins g c κs within = subst (λ (ts : List Task). All (λ (t : Task). t.after ≡ 0) ts) (sym c.in_ok-tasks.ensures) (tasks_begin c.run_alone.new.waiting.items)
 
 pub returns-in-Some-clause-placed : goal.returns-in-Some-clause-placed
 returns-in-Some-clause-placed g c = let r = c.requires in
@@ -89,7 +89,7 @@ returns-in-Some-clause-placed g c = let r = c.requires in
     let mid = c.store-2.new.heap in
     let here : mid ≡ last = c.store-2.ensures.stored ∙ ap (λ (q : List Object). present q c.run_alone.new.beside) c.in_ok-now.ensures in
     let more = task_calls c.in_ok-tasks.tasks.items in
-    let calls : more ≡ rest = task_calls_are c.as_slice.result.now c.in_ok-tasks.tasks.items c.in_ok-tasks.ensures ∙ ap invocations_of c.as_slice.ensures.value in
+    let calls : more ≡ rest = task_calls_are c.run_alone.new.waiting.items c.in_ok-tasks.tasks.items c.in_ok-tasks.ensures in
     then_done p h x (own_setting p r.program h r.heap first r.typed r.parallel x c.in_ok-extent.ensures) (invocations_of first) (own_waits p r.program h r.heap first r.typed r.parallel x c.in_ok-extent.ensures) c.args.left mid more c.in-Went.steps
     (moved p h h (invocations_of first) c.args.left last rest c.in-Went.steps ran mid here more calls) c.run_on.new.heap c.in-Some.more
     (subst (λ (o : Option ℕ). Placed p h mid more (c.args.left - c.in-Went.steps) c.run_on.new.heap o) c.in-Some.is c.in_ok-more.ensures.placed)
@@ -107,7 +107,7 @@ returns-clause-placed g c = let r = c.requires in
     let mid = c.store-2.new.heap in
     let here : mid ≡ last = c.store-2.ensures.stored ∙ ap (λ (q : List Object). present q c.run_alone.new.beside) c.in_ok-now.ensures in
     let more = task_calls c.in_ok-tasks.tasks.items in
-    let calls : more ≡ rest = task_calls_are c.as_slice.result.now c.in_ok-tasks.tasks.items c.in_ok-tasks.ensures ∙ ap invocations_of c.as_slice.ensures.value in
+    let calls : more ≡ rest = task_calls_are c.run_alone.new.waiting.items c.in_ok-tasks.tasks.items c.in_ok-tasks.ensures in
     then_none p h x (own_setting p r.program h r.heap first r.typed r.parallel x c.in_ok-extent.ensures) (invocations_of first) (own_waits p r.program h r.heap first r.typed r.parallel x c.in_ok-extent.ensures) c.args.left mid more c.in-Went.steps
     (moved p h h (invocations_of first) c.args.left last rest c.in-Went.steps ran mid here more calls) c.run_on.new.heap
     (subst (λ (o : Option ℕ). Placed p h mid more (c.args.left - c.in-Went.steps) c.run_on.new.heap o) c.in-None.is c.in_ok-more.ensures.placed)
