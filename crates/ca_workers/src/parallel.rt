@@ -25,11 +25,11 @@ use std::alloc::Global;
 use std::sync::Wait;
 use std::thread::Threads;
 
-/// On a heap of fewer objects the first round begins at once where two operations come first.
+/// Where two operations or more come first on a heap of fewer objects, the first round begins at once.
 const FEW_OBJECTS: u32 = 16;
 
-/// Else the calling thread goes on alone while a single operation waits, and takes at least so many steps for each object,
-/// and for `FEW_OBJECTS`, which is about what a round costs.
+/// Elsewhere the calling thread goes on alone as long as a single operation waits, and until it took so many steps for each
+/// object, and for `FEW_OBJECTS` at least, which is about what a round costs.
 const STEPS_AN_OBJECT: u64 = 16;
 
 /// An engine of many workers, in rounds. It passes its gate before each section that a worker runs, as that worker, and
