@@ -1,4 +1,4 @@
-use Rattle.std.proofs.Common.{Some, sym, ap, subst}
+use Rattle.std.proofs.Common.{Some, sym, subst}
 use Rattle.std.specs.Prelude.{Contains}
 use Rattle.ca_plan.specs.clauses.Keeping.{IsOn}
 use Rattle.ca_plan.specs.Plans.{PairVerdict}
