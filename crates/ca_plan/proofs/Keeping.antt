@@ -11,7 +11,7 @@ use Rattle.ca_program.specs.Plain.{PlainProgram}
 use Rattle.ca_parallel.specs.Extents.{Extent, Invokes, Evaluates, by_operation, by_function, Writes}
 use Rattle.ca_parallel.specs.ExtentsOf.{ExtentOf}
 use Rattle.ca_extent.proofs.Members.{into_map}
-use Rattle.ca_section.proofs.Members.{pick, alone}
+use Rattle.ca_section.proofs.Members.{pick, alone, none}
 use Rattle.ca_plan.specs.Plans.{Judged}
 use Rattle.ca_plan.specs.Told.{AllWhollyTold, WhollyTold, shared}
 
@@ -48,10 +48,13 @@ same_extent p roots others x y same a b =
       written = b.written;
     }
 
+-- none yet
+pub none_told : (p : PlainProgram) (js : List (Rc Judged Global)) → js ≡ [] → AllWhollyTold p (shared js)
+none_told p js is = λ j c. absurd (none j (subst (λ z. Contains (shared z) j) is c))
+
 -- one more
-pub one_more : (js new : List (Rc Judged Global)) (r : Rc Judged Global) (j : Judged) (old all : List Judged) → new ≡ js ++ r ∷ [] → r.value ≡ j → shared js ≡ old → shared new ≡ all → all ≡ old ++ j ∷ []
-one_more js new r j old all is same before after =
-    sym after ∙ ap shared is ∙ map-append (λ (x : Rc Judged Global). x.value) js (r ∷ []) ∙ ap (λ z. z ++ r.value ∷ []) before ∙ ap (λ z. old ++ z ∷ []) same
+pub one_more : (js new : List (Rc Judged Global)) (r : Rc Judged Global) (j : Judged) → new ≡ js ++ r ∷ [] → r.value ≡ j → shared new ≡ shared js ++ j ∷ []
+one_more js new r j is same = ap shared is ∙ map-append (λ (x : Rc Judged Global). x.value) js (r ∷ []) ∙ ap (λ z. shared js ++ z ∷ []) same
 
 pub told_with : (p : PlainProgram) (js new : List Judged) (j : Judged) → new ≡ js ++ j ∷ [] → AllWhollyTold p js → WhollyTold p j → AllWhollyTold p new
 told_with p js new j is all told = λ i c.

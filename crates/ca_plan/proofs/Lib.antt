@@ -4,6 +4,7 @@ pub mod Made
 pub mod Commuting
 pub mod Telling
 pub mod Keeping
+pub mod Knowing
 pub mod LoopWalks
 pub mod Judgements
 pub mod Tested

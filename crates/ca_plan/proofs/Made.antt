@@ -14,13 +14,13 @@ use Rattle.ca_parallel.specs.ExtentsOf.{ExtentOf, Rises, OpBefore}
 use Rattle.ca_parallel.specs.Marks.{HasSite}
 use Rattle.ca_parallel.specs.Separable.{Separable, AreSeparated}
 use Rattle.ca_extent.proofs.Members.{from_map}
-use Rattle.ca_section.proofs.Members.{pick, none}
+use Rattle.ca_section.proofs.Members.{pick}
 use Rattle.ca_symbolic.specs.OtherLoops.{is_call_loop}
 use Rattle.ca_verdicts.specs.declared.verdicts.Verdict.TheVariants.{Commutes}
 use Rattle.ca_verdicts.specs.Verdicts.{VerdictOf}
 use Rattle.ca_plan.specs.Pairs.{Pair, of_one_class, is_one_class, pairs_in}
 use Rattle.ca_plan.specs.Plans.{Judged, JudgedLoop, IsJudged, IsJudgedLoop, AnyOrder, IsMarked, IsMarkedLoop, PlainPlan, PlanOf, LoopBefore, pair_of, op_at, call_loops, call_loops_of}
-use Rattle.ca_plan.specs.Told.{AllWhollyTold, WhollyTold, JudgedOp, PlanTold, AllCommute, CommutingOp, CommutingLoop, shared}
+use Rattle.ca_plan.specs.Told.{WhollyTold, JudgedOp, PlanTold, AllCommute, CommutingOp, CommutingLoop, shared}
 use Rattle.ca_plan.proofs.Sound.{found, of_form}
 
 -- Extents
@@ -135,9 +135,6 @@ all_told p js ls ms sites o l = record {
 }
 
 -- What the parts of the code make
-
-pub none_kept : (p : PlainProgram) → AllWhollyTold p []
-none_kept p = λ j c. absurd (none j c)
 
 pub each_is : (xs loops : List Statement) → loops ≡ call_loops_of xs → (n : ℕ) (s : Statement) → slice_get loops n ≡ Some s → is_call_loop s ≡ true
 each_is xs loops is n s e = of_form xs n s (subst (λ z. slice_get z n ≡ Some s) is e)

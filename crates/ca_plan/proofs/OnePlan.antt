@@ -20,9 +20,8 @@ use Rattle.ca_verdicts.specs.declared.verdicts.Verdict.TheVariants.{Commutes, Un
 use Rattle.ca_verdicts.specs.declared.verdicts.Reason.TheVariants.{NotSeparable, LoopForm, Large, FieldDiffers, DemandsDiffer}
 use Rattle.ca_verdicts.specs.Verdicts.{VerdictOf}
 use Rattle.ca_verdicts.proofs.Unique.{same_verdict}
-use Rattle.ca_plan.specs.declared.plans.PairVerdict.{PairVerdict}
 use Rattle.ca_plan.specs.Pairs.{Pair, pairs_in}
-use Rattle.ca_plan.specs.Plans.{Judged, JudgedLoop, IsJudged, IsJudgedLoop, AnyOrder, IsMarked, IsMarkedLoop, PlainPlan, PlanOf, pair_of, op_at, call_loops, LoopBefore}
+use Rattle.ca_plan.specs.Plans.{PairVerdict, Judged, JudgedLoop, IsJudged, IsJudgedLoop, AnyOrder, IsMarked, IsMarkedLoop, PlainPlan, PlanOf, pair_of, op_at, call_loops, LoopBefore}
 use Rattle.ca_plan.specs.Texts.{verdict_text, names_text, pair_text, head_text, extents_text, loop_text, pairs_text, modes_text, loop_mode_text, op_mode_text, plan_text}
 use Rattle.ca_plan.proofs.Made.{site_is}
 

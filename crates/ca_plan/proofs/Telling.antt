@@ -9,9 +9,9 @@ use Rattle.ca_program.specs.Plain.{PlainProgram}
 use Rattle.ca_parallel.specs.Extents.{Extent}
 use Rattle.ca_parallel.specs.ExtentsOf.{ExtentOf}
 use Rattle.ca_section.proofs.Members.{pick, alone, none}
-use Rattle.ca_plan.specs.declared.plans.PairVerdict.{PairVerdict}
+use Rattle.ca_plan.specs.clauses.Keeping.{IsOn}
 use Rattle.ca_plan.specs.Pairs.{Pair, of_one_class, pairs_with, pairs_in}
-use Rattle.ca_plan.specs.Plans.{pair_of}
+use Rattle.ca_plan.specs.Plans.{PairVerdict, pair_of}
 use Rattle.ca_plan.specs.Told.{PairTold, Told, WhollyTold}
 
 pub told_none : (p : PlainProgram) (x : Extent) (old : List PairVerdict) → Told p x old old []
@@ -27,11 +27,11 @@ told_after p x old mid new ps qs t u = record {
 
 -- one pair
 
-pub told_one : (p : PlainProgram) (x : Extent) (old new : List PairVerdict) (v : PairVerdict) → of_one_class p v.a v.b ≡ true → new ≡ old ++ v ∷ [] → PairTold p x v → Told p x old new (pairs_with p v.a (v.b ∷ []))
-told_one p x old new v t is told = record {
+pub told_one : (p : PlainProgram) (x : Extent) (old new : List PairVerdict) (a b : OpId) (v : PairVerdict) → IsOn a b v → of_one_class p a b ≡ true → new ≡ old ++ v ∷ [] → PairTold p x v → Told p x old new (pairs_with p a (b ∷ []))
+told_one p x old new a b v these t is told = record {
   added = v ∷ [];
   all = is;
-  on = rw t refl;
+  on = rw t (ap (λ (q : Pair). q ∷ []) these);
   each = λ w c. subst (λ z. PairTold p x z) (alone v w c) told;
 }
 

@@ -5,7 +5,7 @@ use Rattle.std.proofs.lemmas.List.{take_more}
 use Rattle.std.proofs.lemmas.List.Elements.{Contains-get_or, Contains-append_cases}
 use Rattle.ca_verdicts.specs.declared.verdicts.Verdict.TheVariants.{Commutes}
 use Rattle.ca_section.proofs.Members.{pick, alone}
-use Rattle.ca_plan.specs.declared.plans.PairVerdict.{PairVerdict}
+use Rattle.ca_plan.specs.Plans.{PairVerdict}
 use Rattle.ca_plan.specs.Told.{Noted, taken, left}
 
 pub not_both : (b : Bool) → b ≡ false → b ≡ true → ⊥

@@ -9,8 +9,7 @@ use Rattle.ca_parallel.specs.Extents.{Extent}
 use Rattle.ca_parallel.specs.Lists.{PlainMarks}
 use Rattle.ca_verdicts.specs.declared.verdicts.Verdict.{Verdict}
 use Rattle.ca_verdicts.specs.contracts.verdicts.Verdict as verdict
-use Rattle.ca_plan.specs.declared.plans.PairVerdict.{PairVerdict}
-use Rattle.ca_plan.specs.Plans.{Judged, JudgedLoop, PlainPlan}
+use Rattle.ca_plan.specs.Plans.{PairVerdict, Judged, JudgedLoop, PlainPlan}
 
 abbrev pub coded_op : Coded OpId
 coded_op = code_by ℕ coded_ℕ (λ o. o.0) (λ n. record { 0 = n }) (λ _. refl)

@@ -13,10 +13,16 @@ use Rattle.ca_parallel.specs.Lists.{PlainMarks}
 use Rattle.ca_parallel.specs.Marks.{loops_of_program, HasSite}
 use Rattle.ca_parallel.specs.Separable.{Separable, IsSeparated}
 use Rattle.ca_symbolic.specs.OtherLoops.{is_call_loop}
+use Rattle.ca_verdicts.specs.declared.verdicts.Verdict.{Verdict}
 use Rattle.ca_verdicts.specs.declared.verdicts.Verdict.TheVariants.{Commutes}
 use Rattle.ca_verdicts.specs.Verdicts.{VerdictOf}
-use Rattle.ca_plan.specs.declared.plans.PairVerdict.{PairVerdict}
 use Rattle.ca_plan.specs.Pairs.{Pair, pairs_in}
+
+-- two operations of one class, of which the first doesn't come behind the second, and the verdict on them
+pub record PairVerdict : Type 0 where
+  pub a : OpId
+  pub b : OpId
+  pub verdict : Verdict
 
 -- an extent, with a verdict on each of its pairs
 pub record Judged : Type 0 where

@@ -14,8 +14,7 @@ use Rattle.ca_verdicts.specs.declared.verdicts.Verdict.{Verdict}
 use Rattle.ca_verdicts.specs.declared.verdicts.Verdict.TheVariants.{Commutes, Unproved}
 use Rattle.ca_verdicts.specs.declared.verdicts.Reason.{Reason}
 use Rattle.ca_verdicts.specs.declared.verdicts.Reason.TheVariants.{NotSeparable, LoopForm, Large, FieldDiffers, DemandsDiffer}
-use Rattle.ca_plan.specs.declared.plans.PairVerdict.{PairVerdict}
-use Rattle.ca_plan.specs.Plans.{PlainPlan, Judged, JudgedLoop}
+use Rattle.ca_plan.specs.Plans.{PairVerdict, PlainPlan, Judged, JudgedLoop}
 
 -- Names
 

@@ -13,9 +13,8 @@ use Rattle.ca_parallel.specs.Separable.{IsSeparated}
 use Rattle.ca_verdicts.specs.Analysed.{Analysed}
 use Rattle.ca_verdicts.specs.declared.verdicts.Verdict.TheVariants.{Commutes}
 use Rattle.ca_verdicts.specs.Verdicts.{VerdictOf}
-use Rattle.ca_plan.specs.declared.plans.PairVerdict.{PairVerdict}
 use Rattle.ca_plan.specs.Pairs.{Pair, pairs_in}
-use Rattle.ca_plan.specs.Plans.{PlainPlan, Judged, JudgedLoop, op_at, pair_of}
+use Rattle.ca_plan.specs.Plans.{PairVerdict, PlainPlan, Judged, JudgedLoop, op_at, pair_of}
 
 -- a verdict, which is right where it says that the two commute
 pub record PairTold (p : PlainProgram) (x : Extent) (v : PairVerdict) : Type 0 where

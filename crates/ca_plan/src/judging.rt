@@ -7,8 +7,9 @@ ghost use Rattle.ca_parallel.specs.ExtentsOf.{ExtentOf};
 ghost use Rattle.ca_parallel.specs.Marks.{HasSite};
 ghost use Rattle.ca_symbolic.specs.OtherLoops.{is_call_loop};
 ghost use Rattle.ca_plan.specs.Plans.{Judged as PlainJudged, JudgedLoop as PlainLoop, IsJudgedLoop, op_at};
+ghost use Rattle.ca_plan.specs.clauses.Keeping.{AreKept};
 ghost use Rattle.ca_plan.specs.clauses.Loops.{seen};
-ghost use Rattle.ca_plan.specs.Told.{AllWhollyTold, JudgedOp, shared, WhollyTold};
+ghost use Rattle.ca_plan.specs.Told.{JudgedOp, shared, WhollyTold};
 
 use crate::calls::add_calls;
 use crate::kept::Kept;
@@ -24,10 +25,10 @@ pub(crate) fn judged_ops(
     program: &Program,
     kept: &mut Kept,
 ) -> Result<Vec<Rc<Judged>>, Memory>
-    requires { AllWhollyTold (program_view program.now) kept.old }
+    requires { AreKept (program_view program.now) kept.old }
     ensures as_many { IfOk result (λ js. length js.items ≡ length program.now.ops.items) }
     ensures each { IfOk result (λ js. (n : ℕ) (j : PlainJudged) → slice_get (shared js.items) n ≡ Some j → JudgedOp (program_view program.now) n j) }
-    ensures kept { OnOk result (AllWhollyTold (program_view program.now) kept.new) }
+    ensures kept { OnOk result (AreKept (program_view program.now) kept.new) }
 {
     // More operations than a number can name don't fit in memory.
     let Ok(count) = u32::try_from(program.ops.len()) else {
@@ -59,11 +60,11 @@ fn judged_loop(
     s: &Stmt,
     kept: &mut Kept,
 ) -> Result<JudgedLoop, Memory>
-    requires told { AllWhollyTold (program_view program.now) kept.old }
+    requires told { AreKept (program_view program.now) kept.old }
     requires form { is_call_loop (statement_view s.now) ≡ true }
     ensures judged { IfOk result (λ l. IsJudgedLoop (program_view program.now) (statement_view s.now) l) }
     ensures told { IfOk result (λ l. WhollyTold (program_view program.now) l.judged) }
-    ensures kept { OnOk result (AllWhollyTold (program_view program.now) kept.new) }
+    ensures kept { OnOk result (AreKept (program_view program.now) kept.new) }
 {
     let Some(site) = site_of(s) else {
         unreachable!();
@@ -85,7 +86,7 @@ pub(crate) fn judged_loops(
     loops: &[&Stmt],
     kept: &mut Kept,
 ) -> Result<Vec<JudgedLoop>, Memory>
-    requires told { AllWhollyTold (program_view program.now) kept.old }
+    requires told { AreKept (program_view program.now) kept.old }
     requires form { (n : ℕ) (s : Statement) → slice_get (seen loops.now) n ≡ Some s → is_call_loop s ≡ true }
     ensures as_many { IfOk result (λ ls. length ls.items ≡ length loops.now) }
     ensures each { IfOk result (λ ls. (n : ℕ) (s : Statement) (l : PlainLoop) → slice_get (seen loops.now) n ≡ Some s → slice_get ls.items n ≡ Some l → IsJudgedLoop (program_view program.now) s l) }

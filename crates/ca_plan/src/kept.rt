@@ -1,37 +1,26 @@
 //! The extents that were judged, each once.
 
-ghost use Rattle.std.specs.Prelude.{◌≡◌, [], ◌∷◌, ◌++◌, Contains, IfOk, OnOk, IfSome, IsTrue};
+ghost use Rattle.std.specs.Prelude.{◌≡◌, Contains, IfOk, OnOk, IfSome, IsTrue};
+ghost use Rattle.ca_program.specs.Plain.{PlainProgram};
 ghost use Rattle.ca_program.specs.View.{program_view};
 ghost use Rattle.ca_parallel.specs.ExtentsOf.{ExtentOf};
-ghost use Rattle.ca_plan.specs.Told.{AllWhollyTold, WhollyTold};
+ghost use Rattle.ca_plan.specs.clauses.Keeping.{AreKept};
+ghost use Rattle.ca_plan.specs.Told.{WhollyTold, shared};
 
+use crate::known::Known;
 use crate::pairs::pairs_of;
 use crate::plans::Judged;
 use ca_base::Memory;
 use ca_extent::{Extent, extent_of};
 use ca_program::{OpId, Program};
 use std::alloc::{AllocError, Global};
-use std::marker::Model;
 use std::rc::Rc;
 
-/// Extents with their verdicts. Where one comes again it is shared, so no pair is executed twice in equal extents.
+/// Extents with their verdicts, each shared where it comes again, and the verdicts that hold in further extents too.
 #[derive(Drop)]
 pub(crate) struct Kept {
     all: Vec<Rc<Judged>>,
-}
-
-impl Model for Kept {
-    ghost use Rattle.std.specs.Prelude.{List, map};
-    ghost use Rattle.ca_plan.specs.Plans.{Judged as PlainJudged};
-
-    ghost Value = { List PlainJudged };
-
-    ghost use Rattle.std.specs.Coded.{coded_list};
-    ghost use Rattle.ca_plan.specs.Codes.{coded_judged};
-
-    ghost coded = { coded_list coded_judged };
-
-    ghost view = { λ k. map (λ j. j.value) k.all.items };
+    known: Known,
 }
 
 /// Whether these are the same operations.
@@ -51,18 +40,18 @@ fn same_ops(a: &[OpId], b: &[OpId]) -> bool
 
 impl Kept {
     /// None.
-    pub fn new(alloc: Global) -> Kept
-        ensures { result ≡ [] }
+    pub fn new(alloc: Global, program: &Program) -> Result<Kept, Memory>
+        ensures { IfOk result (AreKept (program_view program.now)) }
     {
-        Kept {
-            all: Vec::new(alloc),
-        }
+        let known = Known::new(alloc, program)?;
+        let all = Vec::new(alloc);
+        Ok(Kept { all, known })
     }
 
     /// The one with the operations of this extent, if there is one: it is the same extent.
     fn find(&self, extent: &Extent) -> Result<Option<Rc<Judged>>, AllocError>
         ensures extent { IfOk result (λ found. IfSome found (λ j. j.value.extent.ops ≡ extent.now.ops)) }
-        ensures kept { IfOk result (λ found. IfSome found (λ j. Contains self.now j.value)) }
+        ensures kept { IfOk result (λ found. IfSome found (λ j. Contains (shared self.now.all.items) j.value)) }
     {
         for j in &self.all {
             if same_ops(j.extent().ops(), extent.ops()) {
@@ -76,7 +65,7 @@ impl Kept {
     /// Keeps one more.
     fn keep(&mut self, alloc: Global, judged: Judged) -> Result<Rc<Judged>, AllocError>
         ensures result { IfOk result (λ j. j.value ≡ judged) }
-        ensures kept { IfOk result (λ j. self.new ≡ self.old ++ judged ∷ []) }
+        ensures kept { OnOk result ((p : PlainProgram) → AreKept p self.old → WhollyTold p judged → AreKept p self.new) }
     {
         let judged = Rc::new(alloc, judged)?;
         let shared = judged.clone()?;
@@ -91,17 +80,17 @@ impl Kept {
         program: &Program,
         roots: &[OpId],
     ) -> Result<Rc<Judged>, Memory>
-        requires { AllWhollyTold (program_view program.now) self.old }
+        requires { AreKept (program_view program.now) self.old }
         ensures extent { IfOk result (λ j. ExtentOf (program_view program.now) roots.now j.value.extent) }
         ensures told { IfOk result (λ j. WhollyTold (program_view program.now) j.value) }
-        ensures kept { OnOk result (AllWhollyTold (program_view program.now) self.new) }
+        ensures kept { OnOk result (AreKept (program_view program.now) self.new) }
     {
         let extent = extent_of(alloc, program, roots)?;
         let found = self.find(&extent)?;
         match found {
             Some(judged) => Ok(judged),
             None => {
-                let pairs = pairs_of(alloc, program, &extent)?;
+                let pairs = pairs_of(alloc, program, &extent, &mut self.known)?;
                 Ok(self.keep(alloc, Judged { extent, pairs })?)
             }
         }

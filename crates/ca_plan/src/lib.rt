@@ -2,6 +2,8 @@
 //!
 //! `specs/Plans.antt` says what the plan of a program is: for each operation and each call loop the extent with the
 //! verdicts on its pairs (`specs/Pairs.antt`), and the marks. `specs/Texts.antt` has what `pairs` and `plan` write of it.
+//! `kept` has the extents that were judged, `offences` tells which operations of an extent are separable, and `known` has the
+//! verdicts on pairs of such operations, each judged once for all extents.
 //!
 //! Whoever reads the public clauses must believe `Checked`, `Codes`, `Pairs`, `Plans`, `Texts` and `Told` of
 //! `specs/`; what stands in `specs/clauses/` serves clauses within the crate alone.
@@ -10,11 +12,13 @@
 mod calls;
 mod judging;
 mod kept;
+mod known;
 pub mod laws;
 mod making;
 mod marking;
 mod modes;
 mod names;
+mod offences;
 mod pairs;
 mod plans;
 mod texts;

@@ -20,7 +20,7 @@ pub(crate) fn made(alloc: Global, program: &Program) -> Result<Plan, Memory>
     ensures exact { IfOk result (λ plan. PlanOf (program_view program.now) plan) }
     ensures told { IfOk result (λ plan. PlanTold (program_view program.now) plan) }
 {
-    let mut kept = Kept::new(alloc);
+    let mut kept = Kept::new(alloc, program)?;
     let ops = judged_ops(alloc, program, &mut kept)?;
     let found = call_loops(alloc, program)?;
     let loops = judged_loops(alloc, program, &found, &mut kept)?;

@@ -37,7 +37,7 @@ fn all_commute(judged: &Judged) -> bool
     ensures { IsTrue result ↔ AllCommute judged.now }
 {
     for pair in judged.pairs() {
-        if !commutes(&pair.verdict) {
+        if !commutes(pair.verdict()) {
             return false;
         }
     }

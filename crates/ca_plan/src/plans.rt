@@ -1,21 +1,83 @@
 //! What a plan says.
 
-ghost use Rattle.std.specs.Prelude.{◌≡◌};
+ghost use Rattle.std.specs.Prelude.{◌≡◌, IfOk};
 ghost use Rattle.ca_plan.specs.Told.{shared};
 
 use ca_extent::Extent;
 use ca_parallel::Marks;
 use ca_program::{LoopId, OpId};
 use ca_verdicts::Verdict;
+use std::alloc::{AllocError, Global};
 use std::marker::Model;
 use std::rc::Rc;
 
-/// Two operations of one class in an extent, of which the first doesn't come behind the second, and the verdict on them.
+/// Two operations of one class in an extent, of which the first doesn't come behind the second, and the verdict on them,
+/// which is one value in memory for all extents that hold both.
 #[derive(Drop)]
 pub struct PairVerdict {
-    pub a: OpId,
-    pub b: OpId,
-    pub verdict: Verdict,
+    pub(crate) a: OpId,
+    pub(crate) b: OpId,
+    pub(crate) verdict: Rc<Verdict>,
+}
+
+impl Model for PairVerdict {
+    ghost use Rattle.ca_plan.specs.Plans.{PairVerdict as PlainPair};
+
+    ghost Value = { PlainPair };
+
+    ghost use Rattle.ca_plan.specs.Codes.{coded_pair};
+
+    ghost coded = { coded_pair };
+
+    ghost view = { λ v. record { a = v.a; b = v.b; verdict = v.verdict.value } };
+}
+
+impl PairVerdict {
+    /// A verdict on two operations.
+    pub(crate) fn of(
+        alloc: Global,
+        a: OpId,
+        b: OpId,
+        verdict: Verdict,
+    ) -> Result<PairVerdict, AllocError>
+        ensures { IfOk result (λ v. v ≡ record { a = a; b = b; verdict = verdict }) }
+    {
+        let verdict = Rc::new(alloc, verdict)?;
+        Ok(PairVerdict { a, b, verdict })
+    }
+
+    /// The first of the two.
+    pub fn first(&self) -> OpId
+        ensures { result ≡ self.now.a }
+    {
+        self.a
+    }
+
+    /// The second of the two.
+    pub fn second(&self) -> OpId
+        ensures { result ≡ self.now.b }
+    {
+        self.b
+    }
+
+    /// The verdict on them.
+    pub fn verdict(&self) -> &Verdict
+        ensures { result.now ≡ self.now.verdict }
+    {
+        &self.verdict
+    }
+
+    /// The same once more.
+    pub fn share(&self) -> Result<PairVerdict, AllocError>
+        ensures { IfOk result (λ v. v ≡ self.now) }
+    {
+        let verdict = self.verdict.clone()?;
+        Ok(PairVerdict {
+            a: self.a,
+            b: self.b,
+            verdict,
+        })
+    }
 }
 
 /// An extent, with a verdict on each of its pairs.

@@ -107,8 +107,8 @@ fn add_names<'x, K: Sink>(
     ensures bytes { Adds (K.written sink.old) (K.written sink.new) line.old line.new result (names_text (program_view program.now) pair.now.a pair.now.b) }
     ensures cause { HasCause (K.faults sink.old) (K.faults sink.new) result }
 {
-    let a = pair.a.0 as usize;
-    let b = pair.b.0 as usize;
+    let a = pair.first().0 as usize;
+    let b = pair.second().0 as usize;
     add_parts(
         &[
             class_part(program, a),
@@ -138,7 +138,7 @@ fn add_pair<K: Sink>(
     if let Err(failed) = add_names(program, pair, line, sink) {
         return Err(failed);
     }
-    if let Err(failed) = add_verdict(program, &pair.verdict, line, sink) {
+    if let Err(failed) = add_verdict(program, pair.verdict(), line, sink) {
         return Err(failed);
     }
     line.add(sink, b"\n")

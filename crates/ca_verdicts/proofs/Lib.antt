@@ -14,6 +14,7 @@ pub mod FoundLoops
 pub mod RisingLoops
 pub mod ArrayTerms
 pub mod VerdictSound
+pub mod Offending
 pub mod MarkSums
 pub mod Comparing
 pub mod Settled

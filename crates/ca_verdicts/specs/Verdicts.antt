@@ -17,6 +17,7 @@ use Rattle.ca_symbolic.specs.Runs.{first_other_loop}
 use Rattle.ca_shared_terms.specs.Comparisons.{FirstDifference}
 use Rattle.ca_verdicts.specs.declared.verdicts.Verdict.{Verdict}
 use Rattle.ca_verdicts.specs.declared.verdicts.Verdict.TheVariants.{Commutes, Unproved}
+use Rattle.ca_verdicts.specs.declared.verdicts.Reason.{Reason}
 use Rattle.ca_verdicts.specs.declared.verdicts.Reason.TheVariants.{NotSeparable, LoopForm, Large, FieldDiffers, DemandsDiffer}
 use Rattle.ca_symbolic.specs.Demanded.{kind_of}
 use Rattle.ca_verdicts.specs.Demands.{demanded_at, SameDemands}
@@ -26,6 +27,11 @@ use Rattle.ca_verdicts.specs.Orders.{Effect, first_order, second_order}
 abbrev pub Offends : PlainProgram → List FieldId → OpId → OpId → OpId → Offence → Type 0
 Offends p written a b op first =
     ((op ≡ a) × FirstOffence p written a first) ⊎ ((op ≡ b) × Separable p written a × FirstOffence p written b first)
+
+-- the reason names that offence
+abbrev pub OffenceTold : PlainProgram → List FieldId → OpId → OpId → Reason → Type 0
+OffenceTold p written a b (NotSeparable op line why) = Offends p written a b op (record { line = line; why = why })
+OffenceTold p written a b other = ⊥
 
 abbrev pub BothSeparable : PlainProgram → List FieldId → OpId → OpId → Type 0
 BothSeparable p written a b = Separable p written a × Separable p written b

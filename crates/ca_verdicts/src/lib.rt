@@ -5,6 +5,9 @@
 //! the end and what the orders demand (`specs/Demands.antt`) is compared by normal forms. `compare` runs the orders
 //! and compares them, `marks` sorts demands by what is demanded, and `sums` sums up the conditions under which.
 //!
+//! Of the extent a verdict asks only whether both are separable in it. So who asks for many extents asks `offence` in each,
+//! which executes nothing, and `verdict_where_separable` once.
+//!
 //! Whoever reads the public clauses must believe `Analysed`, `Demands`, `Keys`, `Laws`, `Orders` and `Verdicts` of
 //! `specs/`; what stands in `specs/clauses/` serves clauses within the crate alone.
 #![tactic(auto)]
@@ -20,13 +23,15 @@ ghost use Rattle.std.specs.Prelude.{◌≡◌, ◌<◌, ◌^◌, ℕ, List, true
 ghost use Rattle.ca_program.specs.declared.program.FieldId.{FieldId};
 ghost use Rattle.ca_program.specs.View.{program_view};
 ghost use Rattle.ca_meaning.specs.Commuting.{Commutes as DoCommute};
+ghost use Rattle.ca_parallel.specs.Extents.{Extent as PlainExtent};
+ghost use Rattle.ca_section.specs.Offences.{Knows};
+ghost use Rattle.ca_section.specs.Readers.{marked};
 ghost use Rattle.ca_plain_laws.specs.PlainPairs.{IsPlainPair};
 ghost use Rattle.ca_symbolic.specs.declared.running.SymbolicError.TheVariants.{LoopForm, Large};
 ghost use Rattle.ca_verdicts.specs.Analysed.{Analysed};
 ghost use Rattle.ca_verdicts.specs.declared.verdicts.Verdict.TheVariants.{Commutes};
-ghost use Rattle.ca_verdicts.specs.clauses.Comparisons.{OffenceTold};
 ghost use Rattle.ca_verdicts.specs.Orders.{first_order, second_order};
-ghost use Rattle.ca_verdicts.specs.Verdicts.{BothSeparable, loop_of_both, CanExecute, is_large, VerdictOf};
+ghost use Rattle.ca_verdicts.specs.Verdicts.{BothSeparable, loop_of_both, CanExecute, is_large, OffenceTold, VerdictOf};
 
 use crate::compare::{compare_orders, run_order};
 pub use crate::verdicts::{Reason, Verdict};
@@ -38,25 +43,26 @@ use ca_shared_terms::fields_of;
 use ca_symbolic::{Side, SymbolicError, other_loop};
 use std::alloc::Global;
 
-/// The first of the two that isn't separable, with its first offence.
-fn offence(
-    alloc: Global,
+/// The first of the two that isn't separable in the extent whose readers these are, with its first offence. It takes no
+/// memory.
+pub fn offence(
+    readers: &Readers,
     program: &Program,
     extent: &Extent,
     a: OpId,
     b: OpId,
-) -> Result<Option<Reason>, Memory>
-    ensures told { IfOk result (λ r. IfSome r (OffenceTold (program_view program.now) extent.now.written a b)) }
-    ensures separable { IfOk result (λ r. IfNone r (BothSeparable (program_view program.now) extent.now.written a b)) }
+) -> Option<Reason>
+    requires { Knows (program_view program.now) extent.now.written (marked readers.now) }
+    ensures told { IfSome result (OffenceTold (program_view program.now) extent.now.written a b) }
+    ensures separable { IfNone result (BothSeparable (program_view program.now) extent.now.written a b) }
 {
-    let readers = Readers::of(alloc, program, extent)?;
     if let Separability::No { line, why } = readers.separable(program, extent, a) {
-        return Ok(Some(Reason::NotSeparable { op: a, line, why }));
+        return Some(Reason::NotSeparable { op: a, line, why });
     }
     if let Separability::No { line, why } = readers.separable(program, extent, b) {
-        return Ok(Some(Reason::NotSeparable { op: b, line, why }));
+        return Some(Reason::NotSeparable { op: b, line, why });
     }
-    Ok(None)
+    None
 }
 
 /// The line of the first loop that is no call loop, of the first of the two that has one.
@@ -88,22 +94,13 @@ fn compared(alloc: Global, program: &Program, a: OpId, b: OpId) -> Result<Verdic
     Ok(compare_orders(alloc, class, &first, &second)?)
 }
 
-/// The verdict, and that little is demanded where it is Commutes.
-fn decided(
-    alloc: Global,
-    program: &Program,
-    extent: &Extent,
-    a: OpId,
-    b: OpId,
-) -> Result<Verdict, Memory>
+/// The verdict on two separable operations, and that little is demanded where it is Commutes.
+fn decided(alloc: Global, program: &Program, a: OpId, b: OpId) -> Result<Verdict, Memory>
     requires first { a.0 < length program.now.ops.items }
     requires second { b.0 < length program.now.ops.items }
-    ensures exact { IfOk result (λ v. VerdictOf (program_view program.now) extent.now.written a b v) }
+    ensures exact { (written : List FieldId) → BothSeparable (program_view program.now) written a b → IfOk result (λ v. VerdictOf (program_view program.now) written a b v) }
     ensures few { IfOk result (λ v. v ≡ Commutes → (length (first_order (program_view program.now) a b).demands < 2 ^ 64) × (length (second_order (program_view program.now) a b).demands < 2 ^ 64)) }
 {
-    if let Some(reason) = offence(alloc, program, extent, a, b)? {
-        return Ok(Verdict::Unproved(reason));
-    }
     if let Some(line) = loop_of_both(program, a, b) {
         return Ok(Verdict::Unproved(Reason::LoopForm(line)));
     }
@@ -113,6 +110,22 @@ fn decided(
         Err(SymbolicError::LoopForm(_)) => unreachable!(),
         Err(SymbolicError::Memory) => Err(Memory),
     }
+}
+
+/// The verdict on two operations in each extent in which both are separable: it is one in all of them. Two operations with
+/// the verdict Commutes do commute there, for every receiver and all arguments.
+pub fn verdict_where_separable(
+    alloc: Global,
+    program: &Program,
+    a: OpId,
+    b: OpId,
+) -> Result<Verdict, Memory>
+    requires first { a.0 < length program.now.ops.items }
+    requires second { b.0 < length program.now.ops.items }
+    ensures exact { (written : List FieldId) → BothSeparable (program_view program.now) written a b → IfOk result (λ v. VerdictOf (program_view program.now) written a b v) }
+    ensures sound { (x : PlainExtent) → Analysed (program_view program.now) x a b → BothSeparable (program_view program.now) x.written a b → IfOk result (λ v. v ≡ Commutes → DoCommute (program_view program.now) x.written a b) }
+{
+    decided(alloc, program, a, b)
 }
 
 /// The verdict on two operations in an extent: the first reason why they aren't shown to commute, or Commutes. Two
@@ -130,5 +143,9 @@ pub fn verdict(
     ensures sound { Analysed (program_view program.now) extent.now a b → IfOk result (λ v. v ≡ Commutes → DoCommute (program_view program.now) extent.now.written a b) }
     ensures plain { IsPlainPair (program_view program.now) extent.now.written a b → IfOk result (λ v. v ≡ Commutes) }
 {
-    decided(alloc, program, extent, a, b)
+    let readers = Readers::of(alloc, program, extent)?;
+    match offence(&readers, program, extent, a, b) {
+        Some(reason) => Ok(Verdict::Unproved(reason)),
+        None => verdict_where_separable(alloc, program, a, b),
+    }
 }

@@ -1,9 +1,6 @@
 -- What the comparison of two orders tells.
 use Rattle.std.specs.Prelude.{◌≡◌, ◌≢◌, List, map}
 use Rattle.ca_program.specs.declared.program.ClassId.{ClassId}
-use Rattle.ca_program.specs.declared.program.FieldId.{FieldId}
-use Rattle.ca_program.specs.declared.program.OpId.{OpId}
-use Rattle.ca_program.specs.Plain.{PlainProgram}
 use Rattle.ca_forms.specs.declared.form.Normal.{Normal}
 use Rattle.ca_forms.specs.declared.form.Normal.TheVariants.{Scalar}
 use Rattle.ca_forms.specs.Plain.{PlainPolynomial, number_form}
@@ -18,7 +15,6 @@ use Rattle.ca_verdicts.specs.declared.verdicts.Verdict.{Verdict}
 use Rattle.ca_verdicts.specs.declared.verdicts.Verdict.TheVariants.{Commutes, Unproved}
 use Rattle.ca_verdicts.specs.Keys.{Key}
 use Rattle.ca_verdicts.specs.Demands.{demanded_at, SameDemands}
-use Rattle.ca_verdicts.specs.Verdicts.{Offends}
 
 -- the first field of the class at which two lists of forms differ
 abbrev pub FieldsDiffer : ClassId → List Normal → List Normal → Reason → Type 0
@@ -58,8 +54,3 @@ IsCompared c ts us ds es (Unproved (reason.DemandsDiffer kind parts x y)) =
     (y ≡ Scalar (number_form (demanded_at (record { kind = kind_of kind; parts = parts }) es))) × (x ≢ y)
 IsCompared c ts us ds es Commutes = (map norm ts ≡ map norm us) × SameDemands ds es
 IsCompared c ts us ds es other = ⊥
-
--- the first offence of one of two operations
-abbrev pub OffenceTold : PlainProgram → List FieldId → OpId → OpId → Reason → Type 0
-OffenceTold p written a b (reason.NotSeparable op line why) = Offends p written a b op (record { line = line; why = why })
-OffenceTold p written a b other = ⊥

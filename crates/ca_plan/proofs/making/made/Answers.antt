@@ -1,4 +1,4 @@
-use Rattle.std.proofs.Common.{◌≡◌, length, sym, ap, ◌∙◌, subst}
+use Rattle.std.proofs.Common.{◌≡◌, length, sym, ap, ◌∙◌}
 use Rattle.std.specs.Borrow.{Bor}
 use Rattle.std.proofs.lemmas.List.{length-map}
 use Rattle.ca_program.specs.declared.program.Stmt.{Stmt}
@@ -6,12 +6,12 @@ use Rattle.ca_program.specs.View.{program_view, statement_view}
 use Rattle.ca_parallel.specs.Marks.{loops_of_program}
 use Rattle.ca_plan.specs.clauses.Loops.{seen}
 use Rattle.ca_plan.specs.Plans.{call_loops}
-use Rattle.ca_plan.specs.Told.{AllWhollyTold, shared}
-use Rattle.ca_plan.proofs.Made.{AreLoops, AreMarks, is_plan, all_told, none_kept, are_ops, are_loops, are_marks, each_is}
+use Rattle.ca_plan.specs.Told.{shared}
+use Rattle.ca_plan.proofs.Made.{AreLoops, AreMarks, is_plan, all_told, are_ops, are_loops, are_marks, each_is}
 use Rattle.ca_plan.proofs.making.made.Goals as goal
 
 pub judged_ops-requires : goal.judged_ops-requires
-judged_ops-requires c = subst (λ js. AllWhollyTold (program_view c.args.program.now) js) (sym c.new-kept.ensures) (none_kept (program_view c.args.program.now))
+judged_ops-requires c = c.in_ok-kept.ensures
 
 pub judged_loops-requires-clause-form : goal.judged_loops-requires-clause-form
 judged_loops-requires-clause-form c =

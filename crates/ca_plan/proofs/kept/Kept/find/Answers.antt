@@ -12,4 +12,4 @@ returns-then-same_ops-clause-extent c =
     ap (λ (j : Judged). j.extent.ops) one ∙ (ap (λ (x : Extent). x.ops) (sym c.extent.ensures) ∙ (sym c.ops.ensures ∙ (said ∙ c.ops-in-loop-j.ensures)))
 
 pub returns-then-same_ops-clause-kept : goal.returns-then-same_ops-clause-kept
-returns-then-same_ops-clause-kept c = among c.deref-j-items.result.now c.loop-j.j-index c.j-item.result _ c.args.self.now (omega arith) c.j-item.is c.in_ok-shared.ensures.cases (ap shared c.deref-j-items.ensures.value ∙ c.self.view_is)
+returns-then-same_ops-clause-kept c = among c.deref-j-items.result.now c.loop-j.j-index c.j-item.result _ (shared c.args.self.now.all.items) (omega arith) c.j-item.is c.in_ok-shared.ensures.cases (ap shared c.deref-j-items.ensures.value)

@@ -1,0 +1,6 @@
+use Rattle.std.proofs.Common.{ap}
+use Rattle.ca_plan.proofs.Knowing.{verdict_on}
+use Rattle.ca_plan.proofs.plans.PairVerdict.of.Goals as goal
+
+pub returns : goal.returns
+returns c = ap (verdict_on c.args.a c.args.b) c.in_ok-verdict.ensures.ok
