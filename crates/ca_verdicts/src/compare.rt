@@ -88,6 +88,7 @@ fn fields_differ(
 /// What the two orders demand, under its keys.
 fn table_of(
     alloc: Global,
+    forms: &mut LastForms,
     first: &[Group],
     second: &[Group],
 ) -> Result<Vec<(Key, Marks)>, AllocError>
@@ -96,8 +97,8 @@ fn table_of(
     ensures each { IfOk result (λ v. EachMarked first.now second.now v.items) }
 {
     let mut table: BTreeMap<Key, Marks> = BTreeMap::new(alloc);
-    mark_groups(alloc, &mut table, first, Side::First)?;
-    mark_groups(alloc, &mut table, second, Side::Second)?;
+    mark_groups(alloc, forms, &mut table, first, Side::First)?;
+    mark_groups(alloc, forms, &mut table, second, Side::Second)?;
     // Asked for its clause, that the keys are in order.
     let _count = table.len();
     let entries = table.into_iter().collect(alloc)?;
@@ -198,9 +199,9 @@ fn demands_differ(
     ensures differ { IfOk result (λ r. IfSome r (λ w. DemandsDiffer (demands_of first.now) (demands_of second.now) w)) }
     ensures same { IfOk result (λ r. IfNone r (SameDemands (demands_of first.now) (demands_of second.now))) }
 {
-    let mut entries = table_of(alloc, first, second)?;
+    let mut forms = LastForms::new(alloc);
+    let mut entries = table_of(alloc, &mut forms, first, second)?;
     let settled = BTreeSet::new(alloc);
-    let forms = LastForms::new(alloc);
     let mut known = Known { settled, forms };
     while let Some((key, marks)) = entries.pop() {
         let told = demand_tested(alloc, first, second, turn, &mut known, key, marks)?;

@@ -2,10 +2,11 @@
 
 ghost use Rattle.std.specs.Prelude.{◌≡◌, IfOk, IfSome};
 ghost use Rattle.ca_forms.specs.Rules.{gathered};
-ghost use Rattle.ca_norm.specs.Forms.{expand};
+ghost use Rattle.ca_norm.specs.Forms.{expand, scalar_of};
 
 use ca_forms::parts::{add, both};
-use ca_forms::polynomial::Polynomial;
+use ca_forms::polynomial::{Polynomial, Scalar};
+use ca_norm::Sort;
 use ca_shared_terms::LightTerm;
 use std::alloc::{AllocError, Global};
 
@@ -67,5 +68,16 @@ impl LastForms {
         let form = term.polynomial(alloc)?;
         self.keep(alloc, term, &form)?;
         Ok(form)
+    }
+
+    /// The form of a number, a truth value or a pointer; that of a pointer isn't kept.
+    pub fn scalar(&mut self, alloc: Global, term: &LightTerm) -> Result<Scalar, AllocError>
+        ensures { IfOk result (λ x. x ≡ scalar_of term.now) }
+    {
+        match term.sort() {
+            Sort::Long => Ok(Scalar::number(self.polynomial(alloc, term)?)),
+            Sort::Bool => Ok(Scalar::truth(self.polynomial(alloc, term)?)),
+            _ => term.scalar(alloc),
+        }
     }
 }
