@@ -1,4 +1,6 @@
 mod Differences
+mod JoinedGroups
+mod SeenMarks
 mod Examples
 pub mod Unique
 pub mod Looks

@@ -113,7 +113,7 @@ summed_total gs f (m ∷ ms) = total_append f (scale m.1 (products_at gs m.0)) (
 pub same_summed : (gs : List PlainPolynomial) (ms ns : Sum ℕ) → SameTotals ms ns → SameTotals (summed_up gs ms) (summed_up gs ns)
 same_summed gs ms ns h = record { same = λ f. alike_trans (alike_eq (summed_total gs f ms)) (alike_trans (h.same (λ n. total f (products_at gs n))) (alike_eq (sym (summed_total gs f ns)))) }
 
-summed_append : (gs : List PlainPolynomial) (ms ns : Sum ℕ) → summed_up gs (ms ++ ns) ≡ summed_up gs ms ++ summed_up gs ns
+pub summed_append : (gs : List PlainPolynomial) (ms ns : Sum ℕ) → summed_up gs (ms ++ ns) ≡ summed_up gs ms ++ summed_up gs ns
 summed_append gs [] ns = refl
 summed_append gs (m ∷ ms) ns = ap (λ z. scale m.1 (products_at gs m.0) ++ z) (summed_append gs ms ns) ∙ sym (append_assoc (scale m.1 (products_at gs m.0)) (summed_up gs ms) (summed_up gs ns))
 

@@ -1,71 +1,33 @@
 //! Both orders, compared.
 
-ghost use Rattle.std.specs.Prelude.{◌≡◌, ◌≢◌, ◌<◌, ◌^◌, ℕ, List, true, false, length, map, slice_get, None, Err, IsTrue, IfOk, OnOk, IfSome, IfNone};
-ghost use Rattle.ca_program.specs.View.{program_view};
-ghost use Rattle.ca_meaning.specs.WellTyped.{IsMethodOf};
+ghost use Rattle.std.specs.Prelude.{◌≡◌, ◌≢◌, List, length, map, IsTrue, IfOk, OnOk, IfSome, IfNone};
 ghost use Rattle.ca_norm.specs.Forms.{norm};
 ghost use Rattle.ca_symbolic.specs.Demanded.{demands_of};
-ghost use Rattle.ca_symbolic.specs.Runs.{group_of, first_other_loop};
-ghost use Rattle.ca_shared_terms.specs.Starts.{starts};
-ghost use Rattle.ca_symbolic.specs.declared.running.SymbolicError.TheVariants.{LoopForm, Large};
-ghost use Rattle.ca_verdicts.specs.Orders.{in_order};
 ghost use Rattle.ca_forms.specs.Rules.{gathered};
 ghost use Rattle.ca_forms.specs.Plain.{PlainPolynomial};
 ghost use Rattle.ca_verdicts.specs.clauses.Comparisons.{FieldsDiffer, TellsKey, TellsFirst, TellsSecond, TellsApart, DemandsDiffer, IsCompared};
 ghost use Rattle.ca_verdicts.specs.Demands.{SameDemands};
 ghost use Rattle.ca_verdicts.specs.Keys.{Key};
-ghost use Rattle.ca_verdicts.specs.clauses.Marks.{found, marks_at, marks_in, summed_up, IsSettled, AllSettled, EachMarked};
+ghost use Rattle.ca_verdicts.specs.clauses.Marks.{found, marks_at, marks_in, summed_up, condition_of, IsSettled, AllSettled, EachMarked};
 ghost use Rattle.ca_sums.proofs.Products.{SameTotals};
 ghost use Rattle.ca_symbolic.specs.declared.running.Side.TheVariants as side;
 
+pub use crate::compare::orders::{Order, run_order};
 use crate::key::Key;
 use crate::marks::{Marks, mark_groups};
-use crate::sums::{conditions_of, difference, unless};
+use crate::sums::forms::LastForms;
+use crate::sums::{difference, unless};
 use crate::verdicts::{Reason, Verdict};
 use ca_forms::parts::both;
-use ca_forms::polynomial::{Polynomial, Scalars};
+use ca_forms::polynomial::Scalars;
 use ca_norm::{Normal, same};
-use ca_program::{ClassId, FieldId, FieldInfo, OpId, Program};
+use ca_program::{ClassId, FieldId};
 use ca_shared_terms::{Conditions, LightTerm};
-use ca_symbolic::{Demands, Group, Side, SymState, SymbolicError, symbolic};
+use ca_symbolic::{Group, Side};
 use std::alloc::{AllocError, Global};
 use std::collections::{BTreeMap, BTreeSet};
 
-/// What an order of two operations leaves and demands.
-#[derive(Drop)]
-pub struct Order {
-    pub state: SymState,
-    pub groups: Vec<Group>,
-}
-
-/// Runs one operation and then another, each with its side.
-pub fn run_order(
-    alloc: Global,
-    program: &Program,
-    fields: &[FieldInfo],
-    a: OpId,
-    one: Side,
-    b: OpId,
-    other: Side,
-) -> Result<Order, SymbolicError>
-    requires first { a.0 < length program.now.ops.items }
-    requires second { b.0 < length program.now.ops.items }
-    requires first_loops { first_other_loop (program_view program.now) a ≡ None }
-    requires second_loops { first_other_loop (program_view program.now) b ≡ None }
-    ensures fields { IfOk result (λ o. o.state.fields ≡ (in_order (program_view program.now) a (group_of one) b (group_of other) (starts 0 fields.now)).fields) }
-    ensures demands { IfOk result (λ o. demands_of o.groups.items ≡ (in_order (program_view program.now) a (group_of one) b (group_of other) (starts 0 fields.now)).demands) }
-    ensures few { IfOk result (λ o. length (demands_of o.groups.items) < 2 ^ 64) }
-    ensures light { IfOk result (λ o. (in_order (program_view program.now) a (group_of one) b (group_of other) (starts 0 fields.now)).heavy ≡ false) }
-    ensures large { result ≡ Err Large → (in_order (program_view program.now) a (group_of one) b (group_of other) (starts 0 fields.now)).heavy ≡ true }
-    ensures call_loops { (n : ℕ) → result ≡ Err (LoopForm n) → ⊥ }
-{
-    let mut state = SymState::starting(alloc, fields)?;
-    let mut demands = Demands::new(alloc)?;
-    symbolic(alloc, program, a, one, &mut state, &mut demands)?;
-    symbolic(alloc, program, b, other, &mut state, &mut demands)?;
-    let groups = demands.into_groups()?;
-    Ok(Order { state, groups })
-}
+mod orders;
 
 /// The forms of two terms, where these differ. Of terms that are seen to be one no form is made.
 fn forms_apart(
@@ -126,6 +88,7 @@ fn fields_differ(
 /// What the two orders demand, under its keys.
 fn table_of(
     alloc: Global,
+    forms: &mut LastForms,
     first: &[Group],
     second: &[Group],
 ) -> Result<Vec<(Key, Marks)>, AllocError>
@@ -134,29 +97,39 @@ fn table_of(
     ensures each { IfOk result (λ v. EachMarked first.now second.now v.items) }
 {
     let mut table: BTreeMap<Key, Marks> = BTreeMap::new(alloc);
-    mark_groups(alloc, &mut table, first, Side::First)?;
-    mark_groups(alloc, &mut table, second, Side::Second)?;
+    mark_groups(alloc, forms, &mut table, first, Side::First)?;
+    mark_groups(alloc, forms, &mut table, second, Side::Second)?;
     // Asked for its clause, that the keys are in order.
     let _count = table.len();
     let entries = table.into_iter().collect(alloc)?;
     Ok(entries)
 }
 
+/// What is known from the keys that were compared.
+#[derive(Drop)]
+struct Known {
+    /// Marks of which both orders name conditions of the same sum.
+    settled: BTreeSet<Marks>,
+    forms: LastForms,
+}
+
 /// What is demanded under a key, where the sums of its conditions in the two orders differ.
 fn demand_differs(
     alloc: Global,
-    first: &[Polynomial],
-    second: &[Polynomial],
+    first: &[Group],
+    second: &[Group],
+    turn: usize,
+    forms: &mut LastForms,
     key: Key,
     marks: &Marks,
 ) -> Result<Option<Reason>, AllocError>
     ensures key { IfOk result (λ r. IfSome r (TellsKey key)) }
-    ensures first { IfOk result (λ r. IfSome r (TellsFirst (gathered (summed_up first.now marks.now.first.items)))) }
-    ensures second { IfOk result (λ r. IfSome r (TellsSecond (gathered (summed_up second.now marks.now.second.items)))) }
+    ensures first { IfOk result (λ r. IfSome r (TellsFirst (gathered (summed_up (map condition_of first.now) marks.now.first.items)))) }
+    ensures second { IfOk result (λ r. IfSome r (TellsSecond (gathered (summed_up (map condition_of second.now) marks.now.second.items)))) }
     ensures differ { IfOk result (λ r. IfSome r TellsApart) }
-    ensures same { IfOk result (λ r. IfNone r (IsSettled first.now second.now marks.now)) }
+    ensures same { IfOk result (λ r. IfNone r (IsSettled (map condition_of first.now) (map condition_of second.now) marks.now)) }
 {
-    let sums = difference(alloc, first, second, marks)?;
+    let sums = difference(alloc, first, second, turn, forms, marks)?;
     match sums {
         None => Ok(None),
         Some((one, other)) => {
@@ -172,70 +145,66 @@ fn demand_differs(
 }
 
 /// Whether marks are among those of which it is known that both orders name conditions of the same sum.
-fn is_settled(known: &BTreeSet<Marks>, marks: &Marks) -> bool
-    ensures { (fs gs : List PlainPolynomial) → AllSettled fs gs known.now.keys → IsTrue result → IsSettled fs gs marks.now }
+fn is_settled(settled: &BTreeSet<Marks>, marks: &Marks) -> bool
+    ensures { (fs gs : List PlainPolynomial) → AllSettled fs gs settled.now.keys → IsTrue result → IsSettled fs gs marks.now }
 {
-    known.contains(marks)
+    settled.contains(marks)
 }
 
-fn settle(known: &mut BTreeSet<Marks>, marks: Marks) -> Result<(), AllocError>
-    ensures { OnOk result ((fs gs : List PlainPolynomial) → AllSettled fs gs known.old.keys → IsSettled fs gs marks → AllSettled fs gs known.new.keys) }
+fn settle(settled: &mut BTreeSet<Marks>, marks: Marks) -> Result<(), AllocError>
+    ensures { OnOk result ((fs gs : List PlainPolynomial) → AllSettled fs gs settled.old.keys → IsSettled fs gs marks → AllSettled fs gs settled.new.keys) }
 {
-    known.insert(marks)?;
+    settled.insert(marks)?;
     Ok(())
 }
 
-/// As `demand_differs`; what is settled is kept, so that the sums of heavy conditions are not made for each demand.
+/// As `demand_differs`; what is settled is kept, so that the same marks are not looked at for each demand.
 fn demand_tested(
     alloc: Global,
-    first: &[Polynomial],
-    second: &[Polynomial],
-    known: &mut BTreeSet<Marks>,
+    first: &[Group],
+    second: &[Group],
+    turn: usize,
+    known: &mut Known,
     key: Key,
     marks: Marks,
 ) -> Result<Option<Reason>, AllocError>
     ensures key { IfOk result (λ r. IfSome r (TellsKey key)) }
-    ensures first { IfOk result (λ r. IfSome r (TellsFirst (gathered (summed_up first.now marks.first.items)))) }
-    ensures second { IfOk result (λ r. IfSome r (TellsSecond (gathered (summed_up second.now marks.second.items)))) }
+    ensures first { IfOk result (λ r. IfSome r (TellsFirst (gathered (summed_up (map condition_of first.now) marks.first.items)))) }
+    ensures second { IfOk result (λ r. IfSome r (TellsSecond (gathered (summed_up (map condition_of second.now) marks.second.items)))) }
     ensures differ { IfOk result (λ r. IfSome r TellsApart) }
-    ensures same { IfOk result (λ r. IfNone r (AllSettled first.now second.now known.old.keys → IsSettled first.now second.now marks)) }
-    ensures kept { IfOk result (λ r. IfNone r (AllSettled first.now second.now known.old.keys → AllSettled first.now second.now known.new.keys)) }
+    ensures same { IfOk result (λ r. IfNone r (AllSettled (map condition_of first.now) (map condition_of second.now) known.old.settled.keys → IsSettled (map condition_of first.now) (map condition_of second.now) marks)) }
+    ensures kept { IfOk result (λ r. IfNone r (AllSettled (map condition_of first.now) (map condition_of second.now) known.old.settled.keys → AllSettled (map condition_of first.now) (map condition_of second.now) known.new.settled.keys)) }
 {
-    if is_settled(known, &marks) {
+    if is_settled(&known.settled, &marks) {
         return Ok(None);
     }
-    let told = demand_differs(alloc, first, second, key, &marks)?;
+    let told = demand_differs(alloc, first, second, turn, &mut known.forms, key, &marks)?;
     match told {
         Some(reason) => Ok(Some(reason)),
         None => {
-            settle(known, marks)?;
+            settle(&mut known.settled, marks)?;
             Ok(None)
         }
     }
 }
 
-/// What the two orders demand under different conditions, with the two sums of these.
+/// What the two orders demand under different conditions, with the two sums of these; `turn` is as `Order` has it of the
+/// second one.
 fn demands_differ(
     alloc: Global,
     first: &[Group],
     second: &[Group],
+    turn: usize,
 ) -> Result<Option<Reason>, AllocError>
     ensures differ { IfOk result (λ r. IfSome r (λ w. DemandsDiffer (demands_of first.now) (demands_of second.now) w)) }
     ensures same { IfOk result (λ r. IfNone r (SameDemands (demands_of first.now) (demands_of second.now))) }
 {
-    let one = conditions_of(alloc, first)?;
-    let other = conditions_of(alloc, second)?;
-    let mut entries = table_of(alloc, first, second)?;
-    let mut known = BTreeSet::new(alloc);
+    let mut forms = LastForms::new(alloc);
+    let mut entries = table_of(alloc, &mut forms, first, second)?;
+    let settled = BTreeSet::new(alloc);
+    let mut known = Known { settled, forms };
     while let Some((key, marks)) = entries.pop() {
-        let told = demand_tested(
-            alloc,
-            one.as_slice(),
-            other.as_slice(),
-            &mut known,
-            key,
-            marks,
-        )?;
+        let told = demand_tested(alloc, first, second, turn, &mut known, key, marks)?;
         match told {
             Some(reason) => return Ok(Some(reason)),
             None => {}
@@ -262,6 +231,7 @@ pub fn compare_orders(
                 alloc,
                 first.groups.as_slice(),
                 second.groups.as_slice(),
+                second.turn,
             )?;
             match by_demand {
                 Some(reason) => Ok(Verdict::Unproved(reason)),

@@ -13,6 +13,7 @@ ghost use Rattle.ca_symbolic.specs.Demanded.{kind_of};
 ghost use Rattle.ca_verdicts.specs.Keys.{numbers, kind_code, key_cmp, key_total};
 ghost use Rattle.ca_verdicts.specs.clauses.Marks.{key_at};
 
+use crate::sums::forms::LastForms;
 use ca_forms::compare_scalars;
 use ca_forms::parts::{both, longer};
 use ca_forms::polynomial::Scalar;
@@ -71,12 +72,16 @@ fn compare_kinds(a: DemandKind, b: DemandKind) -> Ordering
 }
 
 /// The normal forms of the parts of a demand.
-fn forms_of(alloc: Global, parts: &[LightTerm]) -> Result<Vec<Scalar>, AllocError>
+fn forms_of(
+    alloc: Global,
+    forms: &mut LastForms,
+    parts: &[LightTerm],
+) -> Result<Vec<Scalar>, AllocError>
     ensures { IfOk result (λ v. scalars_of v.items ≡ arguments_of (terms_of parts.now)) }
 {
     let mut items = Vec::new(alloc);
     for part in parts {
-        let (so_far, item) = both(Ok(items), part.scalar(alloc))?;
+        let (so_far, item) = both(Ok(items), forms.scalar(alloc, part))?;
         items = longer(so_far, item)?;
     }
     Ok(items)
@@ -84,10 +89,10 @@ fn forms_of(alloc: Global, parts: &[LightTerm]) -> Result<Vec<Scalar>, AllocErro
 
 impl Key {
     /// The key of a demand.
-    pub fn of(alloc: Global, demand: &Demand) -> Result<Key, AllocError>
+    pub fn of(alloc: Global, forms: &mut LastForms, demand: &Demand) -> Result<Key, AllocError>
         ensures { IfOk result (λ k. k ≡ key_at demand.now) }
     {
-        let parts = forms_of(alloc, demand.parts.as_slice())?;
+        let parts = forms_of(alloc, forms, demand.parts.as_slice())?;
         Ok(Key {
             kind: demand.kind,
             parts,

@@ -9,6 +9,7 @@ ghost use Rattle.ca_verdicts.specs.Keys.{Key, key_cmp};
 ghost use Rattle.ca_verdicts.specs.clauses.Marks.{key_at, mark_if, marks_of, marks_in, same_side, marks_at, found, if_side};
 
 use crate::key::Key;
+use crate::sums::forms::LastForms;
 use ca_symbolic::{Demand, Group, Side};
 use std::alloc::{AllocError, Global};
 use std::collections::BTreeMap;
@@ -83,6 +84,7 @@ fn mark_key(
 /// Marks demands of one condition.
 fn mark_all(
     alloc: Global,
+    forms: &mut LastForms,
     table: &mut BTreeMap<Key, Marks>,
     demands: &[Demand],
     side: Side,
@@ -91,7 +93,7 @@ fn mark_all(
     ensures { OnOk result ((s : Side) (k : Key) → SameTotals (marks_at s (found table.new.entries k)) (marks_at s (found table.old.entries k) ++ if_side side s (marks_of k number demands.now))) }
 {
     for demand in demands {
-        let key = Key::of(alloc, demand)?;
+        let key = Key::of(alloc, forms, demand)?;
         mark_key(alloc, table, key, side, number)?;
     }
     Ok(())
@@ -100,6 +102,7 @@ fn mark_all(
 /// Marks the demands of an order, each group with its number.
 pub fn mark_groups(
     alloc: Global,
+    forms: &mut LastForms,
     table: &mut BTreeMap<Key, Marks>,
     groups: &[Group],
     side: Side,
@@ -111,7 +114,7 @@ pub fn mark_groups(
             return Err(AllocError);
         };
         let group = &groups[place];
-        mark_all(alloc, table, group.items.as_slice(), side, number)?;
+        mark_all(alloc, forms, table, group.items.as_slice(), side, number)?;
     }
     Ok(())
 }

@@ -7,54 +7,52 @@ ghost use Rattle.ca_forms.specs.Rules.{gathered};
 ghost use Rattle.ca_verdicts.specs.clauses.Marks.{products_at, summed_up, condition_of, IsSettled};
 
 use crate::marks::Marks;
+use crate::sums::forms::LastForms;
+use crate::sums::seen::is_seen;
 use ca_forms::parts::both;
-use ca_forms::polynomial::{Monomial, Polynomial, Scalar};
+use ca_forms::polynomial::{Monomial, Scalar};
 use ca_forms::sums::{add_polynomial, finish};
 use ca_symbolic::Group;
 use std::alloc::{AllocError, Global};
 use std::collections::BTreeMap;
 
-/// The conditions of groups, each as a polynomial.
-pub fn conditions_of(alloc: Global, groups: &[Group]) -> Result<Vec<Polynomial>, AllocError>
-    ensures { IfOk result (λ v. v.items ≡ map condition_of groups.now) }
-{
-    let mut conditions = Vec::new(alloc);
-    for group in groups {
-        conditions.push(group.guard.polynomial(alloc)?)?;
-    }
-    Ok(conditions)
-}
+pub mod forms;
+mod seen;
 
-/// Adds a condition so many times; nothing where there is none with the number.
+/// Adds a condition so many times; nothing where there is no group with the number.
 fn add_condition(
     alloc: Global,
     form: &mut BTreeMap<Monomial, u64>,
-    conditions: &[Polynomial],
+    groups: &[Group],
+    forms: &mut LastForms,
     number: u32,
     times: u64,
 ) -> Result<(), AllocError>
     requires { NoZero form.old.entries }
     ensures nonzero { NoZero form.new.entries }
-    ensures added { OnOk result (AddsSum form.old.entries form.new.entries times (products_at conditions.now number)) }
+    ensures added { OnOk result (AddsSum form.old.entries form.new.entries times (products_at (map condition_of groups.now) number)) }
 {
     let place = number as usize;
-    if place < conditions.len() {
-        add_polynomial(alloc, form, &conditions[place], times)?;
+    if place >= groups.len() {
+        return Ok(());
     }
-    Ok(())
+    let group = &groups[place];
+    let condition = forms.polynomial(alloc, &group.guard)?;
+    add_polynomial(alloc, form, &condition, times)
 }
 
 /// The sum of the conditions that the marks name.
 fn sum_of(
     alloc: Global,
-    conditions: &[Polynomial],
+    groups: &[Group],
+    forms: &mut LastForms,
     marks: &[(u32, u64)],
 ) -> Result<Scalar, AllocError>
-    ensures { IfOk result (λ x. x ≡ number_form (gathered (summed_up conditions.now marks.now))) }
+    ensures { IfOk result (λ x. x ≡ number_form (gathered (summed_up (map condition_of groups.now) marks.now))) }
 {
     let mut form = BTreeMap::new(alloc);
     for mark in marks {
-        add_condition(alloc, &mut form, conditions, mark.0, mark.1)?;
+        add_condition(alloc, &mut form, groups, forms, mark.0, mark.1)?;
     }
     Ok(Scalar::number(finish(alloc, form)?))
 }
@@ -71,19 +69,41 @@ pub(crate) fn unless<T: Drop>(alike: bool, one: T, other: T) -> Option<(T, T)>
 }
 
 /// The two sums of the conditions that the marks of the two orders name, where they differ.
-pub fn difference(
+fn sums_apart(
     alloc: Global,
-    first: &[Polynomial],
-    second: &[Polynomial],
+    first: &[Group],
+    second: &[Group],
+    forms: &mut LastForms,
     marks: &Marks,
 ) -> Result<Option<(Scalar, Scalar)>, AllocError>
-    ensures first { IfOk result (λ r. IfSome r (λ q. q.0 ≡ number_form (gathered (summed_up first.now marks.now.first.items)))) }
-    ensures second { IfOk result (λ r. IfSome r (λ q. q.1 ≡ number_form (gathered (summed_up second.now marks.now.second.items)))) }
+    ensures first { IfOk result (λ r. IfSome r (λ q. q.0 ≡ number_form (gathered (summed_up (map condition_of first.now) marks.now.first.items)))) }
+    ensures second { IfOk result (λ r. IfSome r (λ q. q.1 ≡ number_form (gathered (summed_up (map condition_of second.now) marks.now.second.items)))) }
     ensures differ { IfOk result (λ r. IfSome r (λ q. q.0 ≢ q.1)) }
-    ensures same { IfOk result (λ r. IfNone r (IsSettled first.now second.now marks.now)) }
+    ensures same { IfOk result (λ r. IfNone r (IsSettled (map condition_of first.now) (map condition_of second.now) marks.now)) }
 {
-    let one = sum_of(alloc, first, marks.first.as_slice());
-    let (one, other) = both(one, sum_of(alloc, second, marks.second.as_slice()))?;
+    let one = sum_of(alloc, first, forms, marks.first.as_slice());
+    let (one, other) = both(one, sum_of(alloc, second, forms, marks.second.as_slice()))?;
     let alike = one.same(&other);
     Ok(unless(alike, one, other))
+}
+
+/// As `sums_apart`. No form is made where it is seen that the orders name the same conditions; `turn` is how many groups
+/// the second order has of the operation that comes first in it.
+pub fn difference(
+    alloc: Global,
+    first: &[Group],
+    second: &[Group],
+    turn: usize,
+    forms: &mut LastForms,
+    marks: &Marks,
+) -> Result<Option<(Scalar, Scalar)>, AllocError>
+    ensures first { IfOk result (λ r. IfSome r (λ q. q.0 ≡ number_form (gathered (summed_up (map condition_of first.now) marks.now.first.items)))) }
+    ensures second { IfOk result (λ r. IfSome r (λ q. q.1 ≡ number_form (gathered (summed_up (map condition_of second.now) marks.now.second.items)))) }
+    ensures differ { IfOk result (λ r. IfSome r (λ q. q.0 ≢ q.1)) }
+    ensures same { IfOk result (λ r. IfNone r (IsSettled (map condition_of first.now) (map condition_of second.now) marks.now)) }
+{
+    if is_seen(first, second, turn, marks) {
+        return Ok(None);
+    }
+    sums_apart(alloc, first, second, forms, marks)
 }

@@ -1,4 +1,4 @@
-use Rattle.std.proofs.Common.{◌≡◌, ◌++◌, [], ◌∷◌, List, map, sym, ap, ◌∙◌, subst, rules}
+use Rattle.std.proofs.Common.{◌≡◌, ◌++◌, [], ◌∷◌, List, map, sym, subst, rules}
 use Rattle.std.specs.Prelude.{IfSome, IfNone}
 use Rattle.ca_forms.specs.Plain.{PlainPolynomial}
 use Rattle.ca_forms.specs.Rules.{gathered}
@@ -14,7 +14,7 @@ use Rattle.ca_verdicts.proofs.MarkSums.{demanded_is, each_front, each_last, sett
 use Rattle.ca_verdicts.proofs.compare.demands_differ.Goals as goal
 
 pub loop-key-init : goal.loop-key-init
-loop-key-init c = (c.in_ok-entries.ensures.each, λ s. s, subst (AllSettled (map condition_of c.args.first.now) (map condition_of c.args.second.now)) (sym c.new-known.ensures.empty) tt)
+loop-key-init c = (c.in_ok-entries.ensures.each, λ s. s, subst (AllSettled (map condition_of c.args.first.now) (map condition_of c.args.second.now)) (sym c.new-settled.ensures.empty) tt)
 
 pub loop-key-preserved : goal.loop-key-preserved
 loop-key-preserved c =
@@ -24,17 +24,11 @@ loop-key-preserved c =
     let each : EachMarked c.args.first.now c.args.second.now (left ++ e ∷ []) = subst (EachMarked c.args.first.now c.args.second.now) items c.loop-key.invariant.0 in
     let fs : List PlainPolynomial = map condition_of c.args.first.now in
     let gs : List PlainPolynomial = map condition_of c.args.second.now in
-    let one : c.as_slice.result.now ≡ fs = c.as_slice.ensures.value ∙ c.in_ok-one.ensures in
-    let other : c.as_slice-in-Some.result.now ≡ gs = c.as_slice-in-Some.ensures.value ∙ c.in_ok-other.ensures in
-    let before : AllSettled c.as_slice.result.now c.as_slice-in-Some.result.now c.loop-key.known.keys =
-    subst (λ z. AllSettled z c.as_slice-in-Some.result.now c.loop-key.known.keys) (sym one) (subst (λ z. AllSettled fs z c.loop-key.known.keys) (sym other) c.loop-key.invariant.2) in
-    let here : IsSettled c.as_slice.result.now c.as_slice-in-Some.result.now c.in-Some.marks =
-    subst (λ (z : _). IfNone z (AllSettled c.as_slice.result.now c.as_slice-in-Some.result.now c.loop-key.known.keys → IsSettled c.as_slice.result.now c.as_slice-in-Some.result.now c.in-Some.marks)) c.in-None.is c.in_ok-told.ensures.same before in
-    let kept : AllSettled c.as_slice.result.now c.as_slice-in-Some.result.now c.demand_tested.new.known.keys =
-    subst (λ (z : _). IfNone z (AllSettled c.as_slice.result.now c.as_slice-in-Some.result.now c.loop-key.known.keys → AllSettled c.as_slice.result.now c.as_slice-in-Some.result.now c.demand_tested.new.known.keys)) c.in-None.is c.in_ok-told.ensures.kept before in
-    let settled : IsSettled fs gs c.in-Some.marks = subst (λ z. IsSettled z gs c.in-Some.marks) one (subst (λ z. IsSettled c.as_slice.result.now z c.in-Some.marks) other here) in
-    let known : AllSettled fs gs c.demand_tested.new.known.keys =
-    subst (λ z. AllSettled z gs c.demand_tested.new.known.keys) one (subst (λ z. AllSettled c.as_slice.result.now z c.demand_tested.new.known.keys) other kept) in
+    let before : AllSettled fs gs c.loop-key.known.settled.keys = c.loop-key.invariant.2 in
+    let settled : IsSettled fs gs c.in-Some.marks =
+    subst (λ (z : _). IfNone z (AllSettled fs gs c.loop-key.known.settled.keys → IsSettled fs gs c.in-Some.marks)) c.in-None.is c.in_ok-told.ensures.same before in
+    let known : AllSettled fs gs c.demand_tested.new.known.settled.keys =
+    subst (λ (z : _). IfNone z (AllSettled fs gs c.loop-key.known.settled.keys → AllSettled fs gs c.demand_tested.new.known.settled.keys)) c.in-None.is c.in_ok-told.ensures.kept before in
     (each_front c.args.first.now c.args.second.now left e each, λ s. c.loop-key.invariant.1 (subst (AreSettled fs gs) (sym items) (settled_more fs gs left e s settled)), known)
 
 pub returns-in-Some-told-clause-differ : goal.returns-in-Some-told-clause-differ
@@ -45,14 +39,12 @@ returns-in-Some-told-clause-differ c =
     let each : EachMarked c.args.first.now c.args.second.now (left ++ e ∷ []) = subst (EachMarked c.args.first.now c.args.second.now) items c.loop-key.invariant.0 in
     let marked : SameTotals c.in-Some.marks.first.items (marks_in c.in-Some.key 0 c.args.first.now) × SameTotals c.in-Some.marks.second.items (marks_in c.in-Some.key 0 c.args.second.now) = each_last c.args.first.now c.args.second.now left e each in
     let w : Reason = c.in-Some-told.reason in
-    let one : c.as_slice.result.now ≡ map condition_of c.args.first.now = c.as_slice.ensures.value ∙ c.in_ok-one.ensures in
-    let other : c.as_slice-in-Some.result.now ≡ map condition_of c.args.second.now = c.as_slice-in-Some.ensures.value ∙ c.in_ok-other.ensures in
-    told_of c.in-Some.key (gathered (summed_up c.as_slice.result.now c.in-Some.marks.first.items)) (gathered (summed_up c.as_slice-in-Some.result.now c.in-Some.marks.second.items)) (demands_of c.args.first.now) (demands_of c.args.second.now) w
-    (ap (λ z. gathered (summed_up z c.in-Some.marks.first.items)) one ∙ demanded_is c.args.first.now c.in-Some.key c.in-Some.marks.first.items marked.0)
-    (ap (λ z. gathered (summed_up z c.in-Some.marks.second.items)) other ∙ demanded_is c.args.second.now c.in-Some.key c.in-Some.marks.second.items marked.1)
+    told_of c.in-Some.key (gathered (summed_up (map condition_of c.args.first.now) c.in-Some.marks.first.items)) (gathered (summed_up (map condition_of c.args.second.now) c.in-Some.marks.second.items)) (demands_of c.args.first.now) (demands_of c.args.second.now) w
+    (demanded_is c.args.first.now c.in-Some.key c.in-Some.marks.first.items marked.0)
+    (demanded_is c.args.second.now c.in-Some.key c.in-Some.marks.second.items marked.1)
     (subst (λ z. IfSome z (TellsKey c.in-Some.key)) c.in-Some-told.is c.in_ok-told.ensures.key)
-    (subst (λ z. IfSome z (TellsFirst (gathered (summed_up c.as_slice.result.now c.in-Some.marks.first.items)))) c.in-Some-told.is c.in_ok-told.ensures.first)
-    (subst (λ z. IfSome z (TellsSecond (gathered (summed_up c.as_slice-in-Some.result.now c.in-Some.marks.second.items)))) c.in-Some-told.is c.in_ok-told.ensures.second)
+    (subst (λ z. IfSome z (TellsFirst (gathered (summed_up (map condition_of c.args.first.now) c.in-Some.marks.first.items)))) c.in-Some-told.is c.in_ok-told.ensures.first)
+    (subst (λ z. IfSome z (TellsSecond (gathered (summed_up (map condition_of c.args.second.now) c.in-Some.marks.second.items)))) c.in-Some-told.is c.in_ok-told.ensures.second)
     (subst (λ z. IfSome z TellsApart) c.in-Some-told.is c.in_ok-told.ensures.differ)
 
 pub returns-clause-same : goal.returns-clause-same

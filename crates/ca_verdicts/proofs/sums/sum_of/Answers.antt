@@ -1,4 +1,4 @@
-use Rattle.std.proofs.Common.{◌≡◌, ◌≤◌, ℕ, ◌+◌, [], ◌∷◌, List, length, drop, drop-cons, add-one, get_or, sym, ap, ◌∙◌, subst}
+use Rattle.std.proofs.Common.{◌≡◌, ◌≤◌, ℕ, ◌+◌, [], ◌∷◌, List, length, map, drop, drop-cons, add-one, get_or, sym, ap, ◌∙◌, subst}
 use Rattle.std.proofs.lemmas.List.{drop_all}
 use Rattle.ca_sums.specs.Sums.{Sum, AddsSum, scale, collect}
 use Rattle.ca_sums.proofs.Additions.{adds_both}
@@ -7,7 +7,7 @@ use Rattle.ca_forms.specs.Plain.{PlainMonomial, number_form}
 use Rattle.ca_forms.specs.Lists.{polynomial_of}
 use Rattle.ca_forms.specs.Compare.{monomial_cmp}
 use Rattle.ca_forms.proofs.Exact.{monomials_exact}
-use Rattle.ca_verdicts.specs.clauses.Marks.{products_at, summed_up}
+use Rattle.ca_verdicts.specs.clauses.Marks.{products_at, summed_up, condition_of}
 use Rattle.ca_verdicts.proofs.MarkSums.{adds_times, adds_none}
 use Rattle.ca_verdicts.proofs.sums.sum_of.Goals as goal
 
@@ -19,9 +19,9 @@ loop-mark-preserved c =
     let step : drop i c.args.marks.now ≡ m ∷ rest = drop-cons c.args.marks.now i (0, 0) c.loop-mark-test.true ∙ ap (λ n. m ∷ drop n c.args.marks.now) (sym (add-one i)) in (
       c.in_ok-add_condition.ensures.nonzero,
       λ end t. c.loop-mark.invariant.1 end
-          (subst (λ z. AddsSum c.loop-mark.form.entries end 1 (summed_up c.args.conditions.now z)) (sym step)
-          (adds_both c.loop-mark.form.entries c.add_condition.new.form.entries end 1 (scale m.1 (products_at c.args.conditions.now m.0)) (summed_up c.args.conditions.now rest)
-          (adds_times c.loop-mark.form.entries c.add_condition.new.form.entries m.1 (products_at c.args.conditions.now m.0) c.in_ok-add_condition.ensures.added) t)),
+          (subst (λ z. AddsSum c.loop-mark.form.entries end 1 (summed_up (map condition_of c.args.groups.now) z)) (sym step)
+          (adds_both c.loop-mark.form.entries c.add_condition.new.form.entries end 1 (scale m.1 (products_at (map condition_of c.args.groups.now) m.0)) (summed_up (map condition_of c.args.groups.now) rest)
+          (adds_times c.loop-mark.form.entries c.add_condition.new.form.entries m.1 (products_at (map condition_of c.args.groups.now) m.0) c.in_ok-add_condition.ensures.added) t)),
     )
 
 pub returns : goal.returns
@@ -29,8 +29,8 @@ returns c =
     let es : Sum PlainMonomial = c.loop-mark.form.entries in
     let end : length c.args.marks.now ≤ c.loop-mark.mark-index = c.loop-mark-test.false in
     let over : drop c.loop-mark.mark-index c.args.marks.now ≡ [] = drop_all c.loop-mark.mark-index c.args.marks.now end in
-    let last : AddsSum c.new-form.result.entries es 1 (summed_up c.args.conditions.now c.args.marks.now) =
-    c.loop-mark.invariant.1 es (subst (λ z. AddsSum es es 1 (summed_up c.args.conditions.now z)) (sym over) (adds_none es)) in
-    let begun : AddsSum [] es 1 (summed_up c.args.conditions.now c.args.marks.now) = subst (λ z. AddsSum z es 1 (summed_up c.args.conditions.now c.args.marks.now)) c.new-form.ensures.empty last in
-    let e : es ≡ collect monomial_cmp (summed_up c.args.conditions.now c.args.marks.now) = gathered_is monomial_cmp monomials_exact es (summed_up c.args.conditions.now c.args.marks.now) c.in_ok-finish.ensures.ordered c.loop-mark.invariant.0 begun in
+    let last : AddsSum c.new-form.result.entries es 1 (summed_up (map condition_of c.args.groups.now) c.args.marks.now) =
+    c.loop-mark.invariant.1 es (subst (λ z. AddsSum es es 1 (summed_up (map condition_of c.args.groups.now) z)) (sym over) (adds_none es)) in
+    let begun : AddsSum [] es 1 (summed_up (map condition_of c.args.groups.now) c.args.marks.now) = subst (λ z. AddsSum z es 1 (summed_up (map condition_of c.args.groups.now) c.args.marks.now)) c.new-form.ensures.empty last in
+    let e : es ≡ collect monomial_cmp (summed_up (map condition_of c.args.groups.now) c.args.marks.now) = gathered_is monomial_cmp monomials_exact es (summed_up (map condition_of c.args.groups.now) c.args.marks.now) c.in_ok-finish.ensures.ordered c.loop-mark.invariant.0 begun in
     c.number.ensures ∙ ap number_form (c.in_ok-finish.ensures.value ∙ ap polynomial_of e)
