@@ -1,5 +1,5 @@
 -- Statements and calls in memory, and what they are viewed as.
-use Rattle.std.proofs.Common.{◌≡◌, ℕ, ◌<◌, Bool, true, false, ◌&&◌, List, [], ◌∷◌, length, refl, ap, ◌∙◌, arith, Global}
+use Rattle.std.proofs.Common.{◌≡◌, ℕ, ◌<◌, Bool, true, false, ◌&&◌, List, [], ◌∷◌, length, refl, sym, ap, ap₂, ◌∙◌, arith, Global}
 use Rattle.std.specs.Prelude.{nat_eq}
 use Rattle.std.specs.declared.vec.Vec.{Vec}
 use Rattle.std.specs.declared.boxed.Box.{Box}
@@ -7,9 +7,9 @@ use Rattle.ca_program.specs.declared.program.Expr.{Expr, Value}
 use Rattle.ca_program.specs.declared.program.FunctionId.{FunctionId}
 use Rattle.ca_program.specs.declared.program.Stmt.{Stmt}
 use Rattle.ca_program.specs.declared.program.StmtForm.{Block}
-use Rattle.ca_program.specs.Plain.{Expression, Expressions, block, value_call}
+use Rattle.ca_program.specs.Plain.{Expression, Expressions, expression_and, Statement, Statements, statement_and, block, value_call}
 use Rattle.ca_program.specs.View.{form_view, statement_view, statements_view, expression_view, expressions_view}
-use Rattle.ca_symbolic.specs.OtherLoops.{are_calls, calls_alone}
+use Rattle.ca_symbolic.specs.OtherLoops.{is_call, are_calls, calls_alone}
 use Rattle.ca_symbolic.specs.Same.{same_expression, same_expressions}
 use Rattle.ca_program.proofs.Rows.{block_is, row_is_list}
 
@@ -37,6 +37,18 @@ unequal (x ∷ xs) (y ∷ ys) h = differs (same_expression (expression_view x) (
     differs true e = e
     differs false e = refl
 
-pub same_calls : (m n : FunctionId) (d e : Expression) (xs ys : Expressions) (r : Bool) → nat_eq m.0 n.0 ≡ true → same_expression d e ≡ true → r ≡ same_expressions xs ys →
-    r ≡ same_expression (value_call d m xs) (value_call e n ys)
-same_calls m n d e xs ys r p q s = s ∙ (rw (p, q) refl)
+-- two rows whose first items are written alike, or aren't
+module _ (d e : Expression) (ds es ls ms : Expressions) (r : Bool) (p : ls ≡ expression_and d ds) (q : ms ≡ expression_and e es) (was : same_expressions ls ms ≡ r) where
+  pub alike_so_far : same_expression d e ≡ true → same_expressions ds es ≡ r
+  alike_so_far h = sym (ap₂ same_expressions p q ∙ ap (λ b. b && same_expressions ds es) h) ∙ was
+
+  pub not_alike : same_expression d e ≡ false → false ≡ r
+  not_alike h = sym (ap₂ same_expressions p q ∙ ap (λ b. b && same_expressions ds es) h) ∙ was
+
+-- a row whose first statement is a call, or isn't
+module _ (y : Statement) (rest left : Statements) (r : Bool) (opened : left ≡ statement_and y rest) (was : are_calls left ≡ r) where
+  pub calls_so_far : is_call y ≡ true → are_calls rest ≡ r
+  calls_so_far h = sym (ap are_calls opened ∙ ap (λ b. b && are_calls rest) h) ∙ was
+
+  pub no_call : is_call y ≡ false → false ≡ r
+  no_call h = sym (ap are_calls opened ∙ ap (λ b. b && are_calls rest) h) ∙ was

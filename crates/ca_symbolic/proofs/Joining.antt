@@ -1,5 +1,5 @@
 -- Terms behind two branches, and those that a loop reads, one place after the other.
-use Rattle.std.proofs.Common.{◌≡◌, ℕ, zero, suc, min, ◌+◌, ◌<◌, ◌≤◌, ◌⊎◌, inl, inr, Bool, true, false, ◌||◌, List, [], ◌∷◌, ◌++◌, length, drop, get_or, refl, sym, ap, ap₂, ◌∙◌, subst, arith, append_assoc, append-nil}
+use Rattle.std.proofs.Common.{◌≡◌, ℕ, zero, suc, min, ◌+◌, ◌<◌, ◌≤◌, ◌⊎◌, inl, inr, Bool, true, false, ◌||◌, List, [], ◌∷◌, ◌++◌, length, length-append, map, take, drop, get_or, take-suc, add-one, refl, sym, ap, ap₂, ◌∙◌, subst, arith, append_assoc, append-nil}
 use Rattle.std.proofs.Math.Seq.{drop-cons}
 use Rattle.std.proofs.lemmas.List.{drop_all}
 use Rattle.std.specs.List.{list_any}
@@ -53,6 +53,10 @@ heavy_target f n [] t rest e h =
     rw here (ap (λ x. x || heavy_targets f (suc n) rest) h)
 heavy_target f n (u ∷ ts) t rest e h =
     behind_one f n u (ts ++ t ∷ rest) (heavy_target f (suc n) ts t rest (subst (λ m. f m ≡ true) (omega arith) e) h) (f n) refl
+
+-- the items up to a place, and one more
+pub taken_more : {A : Type 0} (xs : List A) (i : ℕ) (x : A) → i < length xs → x ≡ get_or xs i x → take (i + 1) xs ≡ take i xs ++ x ∷ []
+taken_more xs i x h e = rw (add-one, take-suc xs i x h, ← e) refl
 
 pub item_and_rest : {A : Type 0} (xs : List A) (i : ℕ) (x : A) → i < length xs → x ≡ get_or xs i x → drop i xs ≡ x ∷ drop (i + 1) xs
 item_and_rest xs i x h e =
@@ -133,3 +137,23 @@ picked_step f ts i now next all t b h p was told more =
     ∙ (append_assoc now (one_if b t) rest
     ∙ (ap (λ k. now ++ (one_if k t ++ rest)) told
     ∙ (ap (λ z. now ++ z) (sym (picked_opened f ts i t h p)) ∙ was)))
+
+-- one item made for each of a list, where those that are left are still to be made; each may know its number
+module _ {A B : Type 0} (xs : List A) (i : ℕ) where
+  module _ (x : A) (before : i < length xs) (is : x ≡ get_or xs i x) (now next all : List B) where
+    pub mapped_step : (f : A → B) → next ≡ now ++ f x ∷ [] → now ++ map f (drop i xs) ≡ all → next ++ map f (drop (i + 1) xs) ≡ all
+    mapped_step f more was =
+        ap (λ (ys : List B). ys ++ map f (drop (i + 1) xs)) more
+        ∙ (append_assoc now (f x ∷ []) (map f (drop (i + 1) xs)) ∙ (ap (λ (ys : List A). now ++ map f ys) (sym (item_and_rest xs i x before is)) ∙ was))
+
+    pub numbered_step : (made : ℕ → List A → List B) (y : B) → made i (x ∷ drop (i + 1) xs) ≡ y ∷ made (i + 1) (drop (i + 1) xs) → next ≡ now ++ y ∷ [] → (length now ≡ i) × (now ++ made i (drop i xs) ≡ all) →
+        (length next ≡ i + 1) × (next ++ made (i + 1) (drop (i + 1) xs) ≡ all)
+    numbered_step made y one more was = (
+      omega (arith, ap length more, length-append now (y ∷ []), was.0),
+      ap (λ (ys : List B). ys ++ made (i + 1) (drop (i + 1) xs)) more
+          ∙ (append_assoc now (y ∷ []) (made (i + 1) (drop (i + 1) xs)) ∙ (ap (λ (ys : List B). now ++ ys) (sym one) ∙ (ap (λ (ys : List A). now ++ made i ys) (sym (item_and_rest xs i x before is)) ∙ was.1))),
+    )
+
+  pub all_made : (made : List A → List B) → made [] ≡ [] → length xs ≤ i → (now all : List B) → now ++ made (drop i xs) ≡ all → now ≡ all
+  all_made made none end now all was =
+      sym (append-nil now) ∙ (ap (λ (ys : List B). now ++ ys) (sym none) ∙ (ap (λ (ys : List A). now ++ made ys) (sym (drop_all i xs end)) ∙ was))

@@ -12,3 +12,9 @@ pub mod Bodies
 pub mod Told
 pub mod Groups
 pub mod Calling
+pub mod Views
+pub mod Valued
+pub mod Ran
+pub mod Rows
+pub mod Making
+pub mod Summing

@@ -37,7 +37,7 @@ fn place_of(op: BinaryOp) -> u8
     }
 }
 
-/// Whether the two are written alike.
+/// Whether the two are written alike. Both sides of `&` are looked at, so that there is one way out for each kind.
 #[cycle(same)]
 pub fn same_expression(a: &Expr, b: &Expr) -> bool
     ensures { result ≡ same_expression (expression_view a.now) (expression_view b.now) }
@@ -49,17 +49,17 @@ pub fn same_expression(a: &Expr, b: &Expr) -> bool
         (Expr::This, Expr::This) => true,
         (Expr::Local(l), Expr::Local(m)) => l.0 == m.0,
         (Expr::Own(f), Expr::Own(g)) => f.same(*g),
-        (Expr::OwnItem(f, i), Expr::OwnItem(g, j)) => f.same(*g) && same_expression(i, j),
-        (Expr::Read(d, f), Expr::Read(e, g)) => f.same(*g) && same_expression(d, e),
+        (Expr::OwnItem(f, i), Expr::OwnItem(g, j)) => f.same(*g) & same_expression(i, j),
+        (Expr::Read(d, f), Expr::Read(e, g)) => f.same(*g) & same_expression(d, e),
         (Expr::ReadItem(d, f, i), Expr::ReadItem(e, g, j)) => {
-            f.same(*g) && (same_expression(d, e) && same_expression(i, j))
+            f.same(*g) & (same_expression(d, e) & same_expression(i, j))
         }
         (Expr::Value(d, m, xs), Expr::Value(e, n, ys)) => {
-            m.0 == n.0 && (same_expression(d, e) && same_expressions(xs, ys))
+            (m.0 == n.0) & (same_expression(d, e) & same_expressions(xs, ys))
         }
-        (Expr::Unary(o, d), Expr::Unary(s, e)) => same_sign(*o, *s) && same_expression(d, e),
+        (Expr::Unary(o, d), Expr::Unary(s, e)) => same_sign(*o, *s) & same_expression(d, e),
         (Expr::Binary(o, a, b), Expr::Binary(s, c, d)) => {
-            place_of(*o) == place_of(*s) && (same_expression(a, c) && same_expression(b, d))
+            (place_of(*o) == place_of(*s)) & (same_expression(a, c) & same_expression(b, d))
         }
         _ => false,
     }

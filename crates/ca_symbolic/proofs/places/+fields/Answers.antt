@@ -1,6 +1,7 @@
-use Rattle.std.proofs.Common.{◌≡◌, ◌+◌, ◌∷◌, ◌++◌, drop, sym, ap, ◌∙◌}
-use Rattle.std.proofs.lemmas.List.{map-append}
+use Rattle.std.proofs.Common.{◌≡◌, ◌+◌, ◌∷◌, ◌++◌, drop, List, sym, ap, ◌∙◌}
+use Rattle.std.proofs.lemmas.List.{drop_all, map-append}
 use Rattle.ca_program.specs.declared.program.FieldId.{FieldId}
+use Rattle.ca_program.specs.declared.program.Stmt.{Stmt}
 use Rattle.ca_program.specs.View.{form_view, statement_view, statements_view}
 use Rattle.ca_parallel.specs.Bodies.{targets_of, targets_of_all}
 use Rattle.ca_symbolic.specs.clauses.Places.{marked, fields_put, fields_put_all}
@@ -44,3 +45,7 @@ mark_all_fields-statements-preserved t c =
     let opened : drop c.statements.s-index c.args.stmts.now ≡ c.s-item.result ∷ rest = item_and_rest c.args.stmts.now c.statements.s-index c.s-item.result c.statements-test.true c.s-item.is in
     marked_step c.statements.marks.items c.mark_fields.new.marks.items _ (fields_put (statement_view c.s-item.result)) (fields_put_all (statements_view rest)) c.mark_fields.ensures
     (ap (λ ns. marked c.statements.marks.items ns) (sym (map-append (λ (f : FieldId). f.field) (targets_of (statement_view c.s-item.result)) (targets_of_all (statements_view rest)))) ∙ (ap (λ l. marked c.statements.marks.items (fields_put_all (statements_view l))) (sym opened) ∙ c.statements.invariant))
+
+pub mark_all_fields-returns : goal.mark_all_fields-returns
+mark_all_fields-returns t c =
+    ap (λ (xs : List Stmt). marked c.statements.marks.items (fields_put_all (statements_view xs))) (sym (drop_all c.statements.s-index c.args.stmts.now c.statements-test.false)) ∙ c.statements.invariant

@@ -1,4 +1,6 @@
-use Rattle.std.proofs.Common.{◌≡◌, ◌+◌, ◌∷◌, ◌++◌, drop, sym, ap, ◌∙◌}
+use Rattle.std.proofs.Common.{◌≡◌, ◌+◌, ◌∷◌, ◌++◌, drop, List, sym, ap, ◌∙◌}
+use Rattle.std.proofs.lemmas.List.{drop_all}
+use Rattle.ca_program.specs.declared.program.Stmt.{Stmt}
 use Rattle.ca_program.specs.View.{form_view, expression_view, expressions_view, statement_view, statements_view}
 use Rattle.ca_symbolic.specs.clauses.Places.{marked, locals_in, locals_in_all, locals_named, locals_named_all}
 use Rattle.ca_symbolic.proofs.Blocks.{block_view}
@@ -85,3 +87,7 @@ mark_all_named-statements-preserved t c =
     let opened : drop c.statements.s-index c.args.stmts.now ≡ c.s-item.result ∷ rest = item_and_rest c.args.stmts.now c.statements.s-index c.s-item.result c.statements-test.true c.s-item.is in
     marked_step c.statements.marks.items c.mark_named.new.marks.items _ (locals_named (statement_view c.s-item.result)) (locals_named_all (statements_view rest)) c.mark_named.ensures
     (ap (λ l. marked c.statements.marks.items (locals_named_all (statements_view l))) (sym opened) ∙ c.statements.invariant)
+
+pub mark_all_named-returns : goal.mark_all_named-returns
+mark_all_named-returns t c =
+    ap (λ (xs : List Stmt). marked c.statements.marks.items (locals_named_all (statements_view xs))) (sym (drop_all c.statements.s-index c.args.stmts.now c.statements-test.false)) ∙ c.statements.invariant
