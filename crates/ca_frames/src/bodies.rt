@@ -111,7 +111,10 @@ impl<'a> Bodies<'a> {
     pub fn hands_on(&self, op: OpId) -> bool
         ensures { result ≡ op_in (marks_of self.now.current).ops op }
     {
-        self.current.heeds && self.marked.holds(op)
+        if !self.current.heeds {
+            return false;
+        }
+        self.marked.holds(op)
     }
 
     /// Whether the body that runs is that of an operation, and heeds the mark of the loop with this number.
