@@ -6,7 +6,7 @@ use Rattle.std.proofs.lemmas.Grind.{get_or-set_at}
 use Rattle.std.proofs.lemmas.List.{get_or-set_other, get_or-replicate}
 use Rattle.ca_program.specs.declared.program.OpId.{OpId}
 use Rattle.ca_parallel.specs.Lists.{op_in}
-use Rattle.ca_frames.specs.clauses.Marked.{FlagsOf}
+use Rattle.ca_frames.specs.clauses.Flags.{FlagsOf}
 
 or_true : (b : Bool) → b || true ≡ true
 or_true true = refl

@@ -1,4 +1,5 @@
 pub mod Flagged
 pub mod Locals
+pub mod Nests
 pub mod Sites
 pub mod Stacks

@@ -1,2 +1,2 @@
-pub mod Bodies
-pub mod Marked
+pub mod Flags
+pub mod View

@@ -5,8 +5,8 @@ ghost use Rattle.ca_model.specs.Slots.{start_of};
 ghost use Rattle.ca_model.specs.declared.value.Value.TheVariants.{Ref};
 ghost use Rattle.ca_meaning.specs.Expressions.{value_at};
 ghost use Rattle.ca_parallel.specs.Lists.{op_in};
-ghost use Rattle.ca_frames.specs.clauses.Marked.{site_in};
-ghost use Rattle.ca_frames.specs.clauses.Bodies.{in_operation};
+ghost use Rattle.ca_frames.specs.Marked.{site_in};
+ghost use Rattle.ca_frames.specs.Bodies.{in_operation};
 
 use crate::marked::Marked;
 use ca_base::Memory;
@@ -46,7 +46,8 @@ pub struct Bodies<'a> {
 
 impl<'a> Model for Bodies<'a> {
     ghost use Rattle.std.specs.Prelude.{reverse};
-    ghost use Rattle.ca_frames.specs.clauses.Bodies.{Nest, nest_of};
+    ghost use Rattle.ca_frames.specs.Bodies.{Nest};
+    ghost use Rattle.ca_frames.specs.clauses.View.{nest_of};
 
     ghost Value = { Nest };
 
@@ -54,7 +55,7 @@ impl<'a> Model for Bodies<'a> {
 }
 
 impl<'a> Bodies<'a> {
-    ghost use Rattle.ca_frames.specs.clauses.Bodies.{main_body, with_locals, alone, heeding, marks_of, Went};
+    ghost use Rattle.ca_frames.specs.Bodies.{main_body, with_locals, alone, heeding, marks_of, Went};
 
     /// The body of `main`, whose locals have these types, in a program of so many operations. It heeds these marks.
     pub fn new(
@@ -110,7 +111,10 @@ impl<'a> Bodies<'a> {
     pub fn hands_on(&self, op: OpId) -> bool
         ensures { result ≡ op_in (marks_of self.now.current).ops op }
     {
-        self.current.heeds && self.marked.holds(op)
+        if !self.current.heeds {
+            return false;
+        }
+        self.marked.holds(op)
     }
 
     /// Whether the body that runs is that of an operation, and heeds the mark of the loop with this number.

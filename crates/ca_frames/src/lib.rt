@@ -5,7 +5,8 @@
 //! of all stand in one vector, and each heeds the marks or doesn't. `Patience` says when a call is looked into; no clause
 //! reads it.
 //!
-//! Whoever reads the public clauses must believe `Bodies` and `Marked` of `specs/clauses/`.
+//! Whoever reads the public clauses must believe `Bodies` and `Marked` of `specs/`; what stands in `specs/clauses/`
+//! serves clauses within the crate alone.
 #![tactic(auto)]
 
 mod bodies;

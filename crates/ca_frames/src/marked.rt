@@ -2,7 +2,8 @@
 
 ghost use Rattle.std.specs.Prelude.{◌≡◌, IfOk};
 ghost use Rattle.ca_parallel.specs.Lists.{op_in};
-ghost use Rattle.ca_frames.specs.clauses.Marked.{FlagsOf, site_in};
+ghost use Rattle.ca_frames.specs.Marked.{site_in};
+ghost use Rattle.ca_frames.specs.clauses.Flags.{FlagsOf};
 
 use ca_parallel::Marks;
 use ca_program::{LoopId, OpId};
@@ -18,7 +19,7 @@ pub struct Marked<'a> {
 
 impl<'a> Model for Marked<'a> {
     ghost use Rattle.ca_parallel.specs.Lists.{PlainMarks};
-    ghost use Rattle.ca_frames.specs.clauses.Marked.{FlagsOf};
+    ghost use Rattle.ca_frames.specs.clauses.Flags.{FlagsOf};
 
     ghost Value = { PlainMarks };
 

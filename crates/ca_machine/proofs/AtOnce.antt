@@ -18,7 +18,9 @@ use Rattle.ca_meaning.specs.Functions.{value_in}
 use Rattle.ca_machine.specs.declared.machine.Machine.{Machine}
 use Rattle.ca_machine.specs.declared.work.Work.{Work}
 use Rattle.ca_machine.specs.declared.work.Work.TheVariants.{Exec, Seq, Again, Turn}
-use Rattle.ca_machine.specs.clauses.Resume.{Past, rest_of, going_on, does_before, all_before, world_of, AtOnce, Puts, all_still, takes}
+use Rattle.ca_machine.specs.Machines.{Past, rest_of, going_on, world_of}
+use Rattle.ca_machine.specs.clauses.Steps.{does_before, all_before, takes}
+use Rattle.ca_machine.specs.clauses.Begun.{AtOnce, Puts, all_still}
 use Rattle.ca_machine.proofs.Steps.{line_is, list_runs, last_runs, none_run, block_runs, branch_of, if_runs, while_turn, for_turn}
 
 -- the first statement of a list was done at once

@@ -20,8 +20,11 @@ use Rattle.ca_machine.specs.declared.work.Turn.{Turn}
 use Rattle.ca_machine.specs.declared.work.Turn.TheVariants.{Whole, Ends}
 use Rattle.ca_machine.specs.declared.work.Work.{Work}
 use Rattle.ca_machine.specs.declared.work.Work.TheVariants.{Exec, Seq, Leave}
-use Rattle.ca_frames.specs.clauses.Bodies.{Nest, with_locals}
-use Rattle.ca_machine.specs.clauses.Resume.{Past, rest_of, does_before, all_before, world_of, runs, go_on, by_mode, unwind, receives, still, all_still, Lessens, LeavesAsMany, resume}
+use Rattle.ca_frames.specs.Bodies.{Nest, with_locals}
+use Rattle.ca_machine.specs.Machines.{Past, rest_of, world_of}
+use Rattle.ca_machine.specs.Resume.{runs, go_on, by_mode, unwind, resume}
+use Rattle.ca_machine.specs.clauses.Steps.{does_before, all_before, receives}
+use Rattle.ca_machine.specs.clauses.Begun.{still, all_still, Lessens, LeavesAsMany}
 use Rattle.ca_machine.proofs.Steps.{list_runs}
 use Rattle.ca_machine.proofs.CallSteps.{invoke_is}
 

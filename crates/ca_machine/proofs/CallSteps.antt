@@ -31,8 +31,11 @@ use Rattle.ca_machine.specs.declared.work.Target.TheVariants.{Function, Operatio
 use Rattle.ca_machine.specs.declared.machine.Machine.{Machine}
 use Rattle.ca_machine.specs.declared.work.Work.{Work}
 use Rattle.ca_machine.specs.declared.work.Work.TheVariants.{Seq, Leave}
-use Rattle.ca_frames.specs.clauses.Bodies.{Body, with_locals, marks_of}
-use Rattle.ca_machine.specs.clauses.Resume.{Past, and_note, world_of, begins, note_of, runs_due, carried, runs, pop, taken, go_on, called, collected, resume, target_method, target_mode, others_in, Unheeded, heeding_parts}
+use Rattle.ca_frames.specs.Bodies.{Body, with_locals, marks_of}
+use Rattle.ca_machine.specs.Machines.{Past, and_note, world_of, note_of, runs_due}
+use Rattle.ca_machine.specs.Resume.{carried, runs, pop, taken, go_on, called, collected, resume, heeding_parts}
+use Rattle.ca_machine.specs.Targets.{target_method, others_in}
+use Rattle.ca_machine.specs.clauses.Steps.{begins, target_mode, Unheeded}
 use Rattle.ca_machine.proofs.Flows.{with_then, with_same, go_on_with}
 
 -- the values that are taken from a stack

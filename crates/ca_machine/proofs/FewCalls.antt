@@ -16,7 +16,9 @@ use Rattle.ca_machine.specs.declared.work.Next.{Next}
 use Rattle.ca_machine.specs.declared.work.Work.{Work}
 use Rattle.ca_machine.specs.declared.machine.Machine.{Machine}
 use Rattle.ca_machine.specs.clauses.Few.{FindsAll}
-use Rattle.ca_machine.specs.clauses.Resume.{Past, rest_of, receives, calls_with, still, after, CalledFew, EnteredFew, CalledWith, EnteredWith}
+use Rattle.ca_machine.specs.Machines.{Past, rest_of, after}
+use Rattle.ca_machine.specs.clauses.Steps.{receives, calls_with}
+use Rattle.ca_machine.specs.clauses.Begun.{still, CalledFew, EnteredFew, CalledWith, EnteredWith}
 
 -- there are no expressions
 pub none_found : (p : PlainProgram) (line : ℕ) (m : Machine) (es : List Expr) → es ≡ [] → FindsAll p line es m []

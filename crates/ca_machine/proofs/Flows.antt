@@ -6,7 +6,7 @@ use Rattle.ca_model.specs.declared.value.Value.TheVariants.{Long, Bool as Truth,
 use Rattle.ca_meaning.specs.Expressions.{Out, gives, traps, over, ◌>>=◌}
 use Rattle.ca_meaning.specs.Flows.{Flow, goes_on, gives_back, stops, runs_out, and_on, with, choose}
 use Rattle.ca_meaning.specs.Serial.{World}
-use Rattle.ca_machine.specs.clauses.Resume.{carried, go_on}
+use Rattle.ca_machine.specs.Resume.{carried, go_on}
 
 pub with_then : {A B S : Type 0} (o : Out A) (f : A → ℕ → Out B) (s : S) (go : B → ℕ → Flow S) → with (o >>= f) s go ≡ with o s (λ v k. with (f v k) s go)
 with_then (gives v k) f s go = refl

@@ -24,8 +24,10 @@ use Rattle.ca_frames.specs.declared.bodies.Mode.TheVariants.{InFunction, InOpera
 use Rattle.ca_machine.specs.declared.machine.Machine.{Machine}
 use Rattle.ca_machine.specs.declared.work.Work.{Work}
 use Rattle.ca_machine.specs.declared.work.Work.TheVariants.{Exec}
-use Rattle.ca_frames.specs.clauses.Bodies.{Body, with_locals}
-use Rattle.ca_machine.specs.clauses.Resume.{Past, resume, rest_of, does_before, going_on, world_of, runs, evaluates}
+use Rattle.ca_frames.specs.Bodies.{Body, with_locals}
+use Rattle.ca_machine.specs.Machines.{Past, rest_of, going_on, world_of}
+use Rattle.ca_machine.specs.Resume.{resume, runs}
+use Rattle.ca_machine.specs.clauses.Steps.{does_before, evaluates}
 use Rattle.ca_machine.specs.clauses.Instant.{behind_look}
 
 -- a number that is found in the scene of a machine

@@ -19,7 +19,7 @@ use Rattle.ca_direct.specs.Direct.{direct}
 use Rattle.ca_direct.proofs.Steady.{direct_is}
 use Rattle.ca_meaning.specs.Serial.{room_for, unless_full}
 use Rattle.ca_machine.specs.declared.machine.Found.{Found}
-use Rattle.ca_machine.specs.clauses.Resume.{looked_up, HasOwn}
+use Rattle.ca_machine.specs.clauses.Items.{looked_up, HasOwn}
 
 found_there : (line i : ℕ) (o : Option Datum) (k j : ℕ) (item : Item) → found line i o k ≡ gives item j → (o ≡ Some item.value) × (item.place ≡ i)
 found_there line i None k j item is = absurd (cc)

@@ -15,7 +15,9 @@ use Rattle.ca_meaning.specs.Operators.{operated}
 use Rattle.ca_meaning.specs.Serial.{own_item_at}
 use Rattle.ca_machine.specs.declared.machine.Machine.{Machine}
 use Rattle.ca_machine.specs.declared.work.Work.TheVariants.{Evaluate, ReadOwnItem, ReadField, CheckObject, Sign}
-use Rattle.ca_machine.specs.clauses.Resume.{Past, rest_of, value_of, world_of, evaluates, resume}
+use Rattle.ca_machine.specs.Machines.{Past, rest_of, world_of}
+use Rattle.ca_machine.specs.Resume.{value_of, resume}
+use Rattle.ca_machine.specs.clauses.Steps.{evaluates}
 use Rattle.ca_machine.proofs.Flows.{with_then, with_same}
 
 module _ (p : PlainProgram) (line : ℕ) (e first : Bor Expr) (m : Machine) (ps : Past) where

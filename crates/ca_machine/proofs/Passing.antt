@@ -4,7 +4,7 @@ use Rattle.std.specs.Prelude.{Result, Ok, Err, IfOk}
 use Rattle.ca_meaning.specs.Flows.{Flow}
 use Rattle.ca_meaning.specs.Serial.{World, Note}
 use Rattle.ca_machine.specs.declared.work.Work.{Work}
-use Rattle.ca_machine.specs.clauses.Resume.{Past, and_notes}
+use Rattle.ca_machine.specs.Machines.{Past, and_notes}
 
 pub passes_on : {A E : Type 0} (r : Result A E) (x y : Past → Flow World) (f : A → Past → Flow World) → IfOk r (λ a. (ps : Past) → y ps ≡ f a ps) → ((ps : Past) → x ps ≡ y ps) → IfOk r (λ a. (ps : Past) → x ps ≡ f a ps)
 passes_on (Ok a) x y f same is = λ ps. is ps ∙ same ps

@@ -23,9 +23,9 @@ use Rattle.ca_parallel.specs.Lists.{loop_in}
 use Rattle.ca_note_laws.proofs.Listing.{listing_loop_runs}
 use Rattle.ca_frames.specs.declared.bodies.Mode.{Mode}
 use Rattle.ca_frames.specs.declared.bodies.Mode.TheVariants.{InFunction, InOperation}
-use Rattle.ca_frames.specs.clauses.Bodies.{Body, with_locals, marks_of, in_operation}
-use Rattle.ca_frames.specs.clauses.Marked.{site_in}
-use Rattle.ca_machine.specs.clauses.Resume.{carried, parts_in, runs, runs_all, comes_again, runs_body, turns, go_on, heeding_parts}
+use Rattle.ca_frames.specs.Bodies.{Body, with_locals, marks_of, in_operation}
+use Rattle.ca_frames.specs.Marked.{site_in}
+use Rattle.ca_machine.specs.Resume.{carried, parts_in, runs, runs_all, comes_again, runs_body, turns, go_on, heeding_parts}
 use Rattle.ca_frames.proofs.Sites.{marked_is}
 use Rattle.ca_machine.proofs.Flows.{go_on_and_on, go_on_same, go_on_with, and_on_same, carried_on, carried_with, carried_choose}
 

@@ -23,9 +23,11 @@ use Rattle.ca_machine.specs.declared.work.Target.{Target}
 use Rattle.ca_machine.specs.declared.work.Target.TheVariants.{Function, Operation}
 use Rattle.ca_machine.specs.declared.work.Work.{Work}
 use Rattle.ca_machine.specs.declared.work.Work.TheVariants.{Evaluate, CollectValue, CollectCall, Exec, Seq, Again, Leave, Back, Heed, ReadField, CheckObject, ReadItem, ReadOwnItem, Sign, CheckLeft, Apply, PutLocal, PutField, CheckIndex, PutItem, NewItem, Print, Choose, Turn, GiveBack}
-use Rattle.ca_frames.specs.clauses.Bodies.{Body}
+use Rattle.ca_frames.specs.Bodies.{Body}
 use Rattle.ca_machine.specs.declared.machine.Machine.{Machine}
-use Rattle.ca_machine.specs.clauses.Resume.{Past, pop, used, by_mode, resume, unwind, value_of, world_of, collected, collect_work}
+use Rattle.ca_machine.specs.Machines.{Past, world_of}
+use Rattle.ca_machine.specs.Resume.{pop, used, by_mode, resume, unwind, value_of, collected}
+use Rattle.ca_machine.specs.clauses.Steps.{collect_work}
 
 -- what is no other work takes a value
 pub takes_value : (p : PlainProgram) (work : Work) (todo : List Work) (vs : List Datum) (f : Body) (below : List Body) (w : World) (k : ℕ) → ((line : ℕ) (e : Bor Expr) → work ≡ Evaluate line e → ⊥) → ((line : ℕ) (es : Bor (Vec Expr Global)) (m : FunctionId) (n : ℕ) → work ≡ CollectValue line es m n → ⊥) → ((line : ℕ) (es : Bor (Vec Expr Global)) (m : OpId) (n : ℕ) → work ≡ CollectCall line es m n → ⊥) → ((line : ℕ) (s : Bor Stmt) → work ≡ Exec line s → ⊥) → ((ss : Bor (List Stmt)) → work ≡ Seq ss → ⊥) → ((line : ℕ) (s : Bor Stmt) → work ≡ Again line s → ⊥) → (work ≡ Leave → ⊥) → (work ≡ Back → ⊥) → (work ≡ Heed → ⊥) → resume p (work ∷ todo) vs f below w k ≡ pop vs w (λ v vs. used p work v vs f w k (λ vs f w k. resume p todo vs f below w k) (λ v w k. by_mode f.mode (unwind p todo vs below w k v) (runs_out w)))

@@ -31,9 +31,10 @@ use Rattle.ca_machine.specs.declared.answers.Look.{Look}
 use Rattle.ca_machine.specs.declared.answers.Look.TheVariants.{Returns, Passes, Stays}
 use Rattle.ca_machine.specs.declared.work.Work.{Work}
 use Rattle.ca_machine.specs.declared.work.Work.TheVariants.{Seq, Evaluate, Leave, Back}
-use Rattle.ca_frames.specs.clauses.Bodies.{Body, with_locals}
+use Rattle.ca_frames.specs.Bodies.{Body, with_locals}
 use Rattle.ca_machine.specs.clauses.Answers.{OwnsSlots, runs_in, all_run_in, Shows, Tells, Told}
-use Rattle.ca_machine.specs.clauses.Resume.{past_in, carried, runs, runs_all, resume, unwind, by_mode, go_on}
+use Rattle.ca_machine.specs.Machines.{past_in}
+use Rattle.ca_machine.specs.Resume.{carried, runs, runs_all, resume, unwind, by_mode, go_on}
 use Rattle.ca_machine.proofs.Flows.{carried_with, go_on_with}
 use Rattle.ca_machine.proofs.Steps.{list_runs, branch_of}
 

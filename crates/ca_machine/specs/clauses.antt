@@ -1,4 +1,6 @@
 pub mod Answers
+pub mod Begun
 pub mod Few
 pub mod Instant
-pub mod Resume
+pub mod Items
+pub mod Steps

@@ -6,7 +6,8 @@ ghost use Rattle.ca_program.specs.Plain.{put_local, put_field, put_item};
 ghost use Rattle.ca_model.specs.declared.value.Value.TheVariants.{Bool as Truth};
 ghost use Rattle.ca_meaning.specs.Expressions.{gives};
 ghost use Rattle.ca_meaning.specs.Functions.{value_in};
-ghost use Rattle.ca_machine.specs.clauses.Resume.{Past, rest_of, AtOnce, Puts};
+ghost use Rattle.ca_machine.specs.Machines.{Past, rest_of};
+ghost use Rattle.ca_machine.specs.clauses.Begun.{AtOnce, Puts};
 
 use crate::machine::Machine;
 use crate::work::Work;
@@ -17,7 +18,7 @@ use ca_program::{AssignOp, BinaryOp, Expr, FieldId, LocalId, Program, Stmt, Stmt
 impl<'a> Machine<'a> {
     /// Does the first statements of a list at once, and gives back the others.
     #[inline(always)]
-    pub fn do_all(&mut self, program: &'a Program, ss: &'a [Stmt]) -> &'a [Stmt]
+    pub(crate) fn do_all(&mut self, program: &'a Program, ss: &'a [Stmt]) -> &'a [Stmt]
         ensures todo { self.new.todo ≡ self.old.todo }
         ensures steps { self.new.left ≡ self.old.left }
         ensures fewer { length result.now ≤ length ss.now }
@@ -34,7 +35,7 @@ impl<'a> Machine<'a> {
     }
 
     /// Does a statement on a line at once, if it only puts values that are found without a call.
-    pub fn do_one(&mut self, program: &'a Program, line: u32, s: &'a Stmt) -> bool
+    pub(crate) fn do_one(&mut self, program: &'a Program, line: u32, s: &'a Stmt) -> bool
         ensures { AtOnce result (program_view program.now) (Work.Exec line s.entry) self.old self.new }
     {
         match &s.kind {
@@ -63,7 +64,7 @@ impl<'a> Machine<'a> {
 
     /// The value of an expression, where it is found without a call. A number goes no way through memory.
     #[inline(always)]
-    pub fn value_now(&self, program: &Program, line: u32, e: &Expr) -> Option<Value>
+    pub(crate) fn value_now(&self, program: &Program, line: u32, e: &Expr) -> Option<Value>
         ensures { IfSome result (λ v. value_in (program_view program.now).functions self.now.heap self.now.bodies.current.this line self.now.bodies.current.locals (expression_view e.now) self.now.left ≡ gives v self.now.left) }
     {
         match e {

@@ -5,9 +5,11 @@ ghost use Rattle.ca_program.specs.View.{program_view, method_view, statements_vi
 ghost use Rattle.ca_meaning.specs.Functions.{body_of};
 ghost use Rattle.ca_model.specs.Slots.{start_of};
 ghost use Rattle.ca_parallel.specs.Lists.{PlainMarks};
-ghost use Rattle.ca_machine.specs.clauses.Resume.{Past, rest_of, back_of, unwound, handed_back, begins, collects, collects_before, collect_work, after, target_method, target_mode, others_in, Handed};
+ghost use Rattle.ca_machine.specs.Machines.{Past, rest_of, after};
+ghost use Rattle.ca_machine.specs.Targets.{target_method, others_in};
+ghost use Rattle.ca_machine.specs.clauses.Steps.{back_of, unwound, handed_back, begins, collects, collects_before, collect_work, target_mode, Handed};
 ghost use Rattle.ca_machine.specs.clauses.Answers.{Told};
-ghost use Rattle.ca_frames.specs.clauses.Bodies.{marks_of};
+ghost use Rattle.ca_frames.specs.Bodies.{marks_of};
 
 use crate::answers::{Answer, answer_of};
 use crate::machine::Machine;
@@ -21,7 +23,7 @@ use ca_program::{Expr, Method, OpId, Program, Stmt, StmtForm, ValueType};
 impl<'a> Machine<'a> {
     /// Goes on with the arguments of a call from one of them on, and then begins the call.
     #[inline(always)]
-    pub fn collect(
+    pub(crate) fn collect(
         &mut self,
         program: &'a Program,
         line: u32,
@@ -162,7 +164,11 @@ impl<'a> Machine<'a> {
     }
 
     /// Begins a body that was entered. One that is done at once is left again with no work on the stack.
-    pub fn begin_body(&mut self, program: &'a Program, ss: &'a [Stmt]) -> Result<Next, Memory>
+    pub(crate) fn begin_body(
+        &mut self,
+        program: &'a Program,
+        ss: &'a [Stmt],
+    ) -> Result<Next, Memory>
         ensures { IfOk result (λ next. (ps : Past) → rest_of (program_view program.now) (Work.Seq ss.entry ∷ Work.Leave ∷ self.old.todo) self.old ps ≡ after (program_view program.now) self.new ps next) }
     {
         if let Mode::InFunction = self.bodies.mode() {
@@ -182,7 +188,7 @@ impl<'a> Machine<'a> {
 
     /// Makes the first statement of a list the next piece of work, and what is behind it the one after that.
     #[inline]
-    pub fn put_off(&mut self, program: &'a Program, ss: &'a [Stmt]) -> Result<Next, Memory>
+    pub(crate) fn put_off(&mut self, program: &'a Program, ss: &'a [Stmt]) -> Result<Next, Memory>
         ensures { IfOk result (λ next. (ps : Past) → rest_of (program_view program.now) (Work.Seq ss.entry ∷ self.old.todo) self.old ps ≡ after (program_view program.now) self.new ps next) }
     {
         match ss.split_first() {
@@ -199,7 +205,7 @@ impl<'a> Machine<'a> {
 
     /// Gives a value back to the caller of a value method. In another body that ends the run.
     #[inline]
-    pub fn give_back(&mut self, program: &'a Program, value: Value) -> Result<Next, Memory>
+    pub(crate) fn give_back(&mut self, program: &'a Program, value: Value) -> Result<Next, Memory>
         ensures { IfOk result (λ next. (ps : Past) → back_of (program_view program.now) self.old ps value ≡ after (program_view program.now) self.new ps next) }
     {
         match self.bodies.mode() {
@@ -223,7 +229,7 @@ impl<'a> Machine<'a> {
 
     /// Goes back to the caller of a value method with a value.
     #[inline]
-    pub fn hand_back(&mut self, program: &'a Program, value: Value) -> Result<Next, Memory>
+    pub(crate) fn hand_back(&mut self, program: &'a Program, value: Value) -> Result<Next, Memory>
         ensures { IfOk result (λ next. (ps : Past) → handed_back (program_view program.now) self.old ps value ≡ after (program_view program.now) self.new ps next) }
     {
         if !self.bodies.leave() {
@@ -234,7 +240,7 @@ impl<'a> Machine<'a> {
 
     /// Goes back to the caller of a value method with the top value.
     #[inline]
-    pub fn back(&mut self, program: &'a Program) -> Result<Next, Memory>
+    pub(crate) fn back(&mut self, program: &'a Program) -> Result<Next, Memory>
         ensures { IfOk result (λ next. (ps : Past) → rest_of (program_view program.now) (Work.Back ∷ self.old.todo) self.old ps ≡ after (program_view program.now) self.new ps next) }
     {
         if self.values.is_empty() {
@@ -249,7 +255,7 @@ impl<'a> Machine<'a> {
 
     /// Goes back to the caller behind the last statement of a body.
     #[inline]
-    pub fn leave(&mut self, program: &'a Program) -> Result<Next, Memory>
+    pub(crate) fn leave(&mut self, program: &'a Program) -> Result<Next, Memory>
         ensures { IfOk result (λ next. (ps : Past) → rest_of (program_view program.now) (Work.Leave ∷ self.old.todo) self.old ps ≡ after (program_view program.now) self.new ps next) }
     {
         match self.bodies.mode() {

@@ -6,7 +6,8 @@ ghost use Rattle.ca_program.specs.Plain.{value_call, binary};
 ghost use Rattle.ca_model.specs.declared.value.Value.TheVariants.{Long};
 ghost use Rattle.ca_meaning.specs.Expressions.{decided};
 ghost use Rattle.ca_meaning.specs.Operators.{operated};
-ghost use Rattle.ca_machine.specs.clauses.Resume.{Past, rest_of, takes, evaluates, after};
+ghost use Rattle.ca_machine.specs.Machines.{Past, rest_of, after};
+ghost use Rattle.ca_machine.specs.clauses.Steps.{takes, evaluates};
 
 use crate::machine::{Machine, field_of};
 use crate::work::{Next, Target, Work};
@@ -18,7 +19,12 @@ use ca_program::{BinaryOp, Expr, FieldId, FunctionId, Program, UnaryOp};
 impl<'a> Machine<'a> {
     /// Goes on with an expression: its value, or its first part.
     #[inline]
-    pub fn evaluate(&mut self, program: &'a Program, line: u32, e: &'a Expr) -> Result<Next, Memory>
+    pub(crate) fn evaluate(
+        &mut self,
+        program: &'a Program,
+        line: u32,
+        e: &'a Expr,
+    ) -> Result<Next, Memory>
         ensures { IfOk result (λ next. (ps : Past) → rest_of (program_view program.now) (Work.Evaluate line e.entry ∷ self.old.todo) self.old ps ≡ after (program_view program.now) self.new ps next) }
     {
         match e {
@@ -148,7 +154,7 @@ impl<'a> Machine<'a> {
 
     /// Reads a field of the object.
     #[inline]
-    pub fn read_field(
+    pub(crate) fn read_field(
         &mut self,
         program: &'a Program,
         line: u32,
@@ -166,7 +172,7 @@ impl<'a> Machine<'a> {
 
     /// Checks the object, and goes on with the index of an item of it.
     #[inline]
-    pub fn check_object(
+    pub(crate) fn check_object(
         &mut self,
         program: &'a Program,
         line: u32,
@@ -186,7 +192,7 @@ impl<'a> Machine<'a> {
 
     /// Reads an item of the object that the top value names.
     #[inline]
-    pub fn read_item(
+    pub(crate) fn read_item(
         &mut self,
         program: &'a Program,
         line: u32,
@@ -206,7 +212,7 @@ impl<'a> Machine<'a> {
 
     /// Reads an own item.
     #[inline]
-    pub fn read_own_item(
+    pub(crate) fn read_own_item(
         &mut self,
         program: &'a Program,
         line: u32,
@@ -223,7 +229,12 @@ impl<'a> Machine<'a> {
 
     /// Applies an operator to its one side.
     #[inline]
-    pub fn sign(&mut self, program: &'a Program, op: UnaryOp, value: Value) -> Result<Next, Memory>
+    pub(crate) fn sign(
+        &mut self,
+        program: &'a Program,
+        op: UnaryOp,
+        value: Value,
+    ) -> Result<Next, Memory>
         ensures { IfOk result (λ next. (ps : Past) → takes (program_view program.now) (Work.Sign op) value self.old ps ≡ after (program_view program.now) self.new ps next) }
     {
         self.give(program, operate_unary(op, value))
@@ -231,7 +242,7 @@ impl<'a> Machine<'a> {
 
     /// Goes on with the right side, unless the left one decides.
     #[inline(always)]
-    pub fn check_left(
+    pub(crate) fn check_left(
         &mut self,
         program: &'a Program,
         line: u32,
@@ -252,7 +263,7 @@ impl<'a> Machine<'a> {
 
     /// Applies an operator to both sides.
     #[inline]
-    pub fn apply(
+    pub(crate) fn apply(
         &mut self,
         program: &'a Program,
         line: u32,

@@ -3,8 +3,8 @@
 ghost use Rattle.std.specs.Prelude.{◌≡◌, ◌<◌, ◌≤◌, ℕ, false, IfOk};
 ghost use Rattle.ca_program.specs.View.{program_view};
 ghost use Rattle.ca_parallel.specs.Lists.{op_in};
-ghost use Rattle.ca_frames.specs.clauses.Bodies.{marks_of};
-ghost use Rattle.ca_machine.specs.clauses.Resume.{CalledFew, EnteredFew, CalledWith, EnteredWith};
+ghost use Rattle.ca_frames.specs.Bodies.{marks_of};
+ghost use Rattle.ca_machine.specs.clauses.Begun.{CalledFew, EnteredFew, CalledWith, EnteredWith};
 ghost use Rattle.ca_machine.specs.clauses.Few.{FoundFew};
 
 use crate::answers::Answer;
@@ -59,7 +59,7 @@ impl<'a> Machine<'a> {
     /// Calls a value method with at most three arguments that are found without a call. It does nothing where there are
     /// others, the receiver is no object or no step is left.
     #[inline(always)]
-    pub fn call_few(
+    pub(crate) fn call_few(
         &mut self,
         program: &'a Program,
         line: u32,
@@ -118,7 +118,7 @@ impl<'a> Machine<'a> {
     /// it goes. It does nothing where there are others, the receiver is no object, no step is left or the body hands the
     /// call on.
     #[inline(always)]
-    pub fn enter_few(
+    pub(crate) fn enter_few(
         &mut self,
         program: &'a Program,
         line: u32,

@@ -3,7 +3,8 @@
 ghost use Rattle.std.specs.Prelude.{◌≡◌, ◌≤◌, ℕ, List};
 ghost use Rattle.ca_program.specs.View.{program_view, expression_view, expressions_view};
 ghost use Rattle.ca_program.specs.Plain.{value_call, put_local};
-ghost use Rattle.ca_machine.specs.clauses.Resume.{Past, does_before};
+ghost use Rattle.ca_machine.specs.Machines.{Past};
+ghost use Rattle.ca_machine.specs.clauses.Steps.{does_before};
 ghost use Rattle.ca_machine.specs.clauses.Instant.{Looked, done_or};
 
 use crate::expressions::calls;
@@ -19,7 +20,7 @@ const DEEP: u32 = 64;
 impl<'a> Machine<'a> {
     /// The number that a call gives, where it is looked into and found at once. Its steps are taken.
     #[inline(always)]
-    pub fn number_of_call(
+    pub(crate) fn number_of_call(
         &mut self,
         program: &Program,
         receiver: &Expr,
@@ -78,7 +79,7 @@ impl<'a> Machine<'a> {
     /// Puts the number that an expression with calls is into a local, where it is looked into and found at once, and
     /// tells whether it was.
     #[inline(always)]
-    pub fn put_called(
+    pub(crate) fn put_called(
         &mut self,
         program: &'a Program,
         line: u32,

@@ -3,7 +3,9 @@
 ghost use Rattle.std.specs.Prelude.{◌≡◌, ◌∷◌, ℕ, IfOk, true, false};
 ghost use Rattle.ca_program.specs.View.{program_view, expression_view, expressions_view, statement_view, statements_view};
 ghost use Rattle.ca_model.specs.declared.value.Value.TheVariants.{Bool as Truth};
-ghost use Rattle.ca_machine.specs.clauses.Resume.{Past, rest_of, takes, loops, after, behind, all_still, Lessens, LeavesAsMany};
+ghost use Rattle.ca_machine.specs.Machines.{Past, rest_of, after};
+ghost use Rattle.ca_machine.specs.clauses.Steps.{takes, loops};
+ghost use Rattle.ca_machine.specs.clauses.Begun.{behind, all_still, Lessens, LeavesAsMany};
 
 use crate::machine::Machine;
 use crate::work::{Next, Turn, Work};
@@ -14,7 +16,12 @@ use ca_program::{Expr, Program, Stmt, StmtForm};
 impl<'a> Machine<'a> {
     /// Goes on with a loop that comes again. Turns that are done at once come one after another.
     #[inline(never)]
-    pub fn again(&mut self, program: &'a Program, line: u32, s: &'a Stmt) -> Result<Next, Memory>
+    pub(crate) fn again(
+        &mut self,
+        program: &'a Program,
+        line: u32,
+        s: &'a Stmt,
+    ) -> Result<Next, Memory>
         ensures { IfOk result (λ next. (ps : Past) → rest_of (program_view program.now) (Work.Again line s.entry ∷ self.old.todo) self.old ps ≡ after (program_view program.now) self.new ps next) }
     {
         loop {
@@ -62,7 +69,7 @@ impl<'a> Machine<'a> {
 
     /// Enters a turn of a loop if the value of its condition is true.
     #[inline]
-    pub fn enter_turn(
+    pub(crate) fn enter_turn(
         &mut self,
         program: &'a Program,
         line: u32,

@@ -7,7 +7,7 @@ ghost use Rattle.ca_model.specs.declared.value.Trap.{Trap};
 ghost use Rattle.ca_meaning.specs.Expressions.{gives, one_in, items_in, indexed};
 ghost use Rattle.ca_meaning.specs.Functions.{own_of, value_in};
 ghost use Rattle.ca_meaning.specs.Serial.{put_own};
-ghost use Rattle.ca_machine.specs.clauses.Resume.{HasOwn};
+ghost use Rattle.ca_machine.specs.clauses.Items.{HasOwn};
 ghost use Rattle.ca_machine.specs.declared.work.Next.TheVariants.{Trapped};
 
 use crate::work::{Call, Left, Next, Work};
@@ -39,11 +39,11 @@ pub struct Machine<'a> {
 }
 
 impl<'a> Machine<'a> {
-    ghost use Rattle.ca_machine.specs.clauses.Resume.{looked_up, PassesPlaces};
+    ghost use Rattle.ca_machine.specs.clauses.Items.{looked_up, PassesPlaces};
 
     /// Stops with a trap on a line.
     #[inline]
-    pub fn stop(&mut self, line: u32, kind: TrapKind) -> Next
+    pub(crate) fn stop(&mut self, line: u32, kind: TrapKind) -> Next
         ensures stops { result ≡ Trapped }
         ensures trap { self.new.trap ≡ record { line = line; kind = kind } }
         ensures heap { self.new.heap ≡ self.old.heap }
@@ -54,7 +54,7 @@ impl<'a> Machine<'a> {
 
     /// What expressions are read in.
     #[inline]
-    pub fn scene(&self) -> Scene<'_>
+    pub(crate) fn scene(&self) -> Scene<'_>
         ensures heap { result.heap.now ≡ self.now.heap }
         ensures this { result.this ≡ self.now.bodies.current.this }
         ensures own { result.own ≡ None }
@@ -70,7 +70,7 @@ impl<'a> Machine<'a> {
 
     /// The value of an expression, where it is found without a call.
     #[inline]
-    pub fn value_of(&self, program: &Program, line: u32, e: &Expr) -> Option<Value>
+    pub(crate) fn value_of(&self, program: &Program, line: u32, e: &Expr) -> Option<Value>
         ensures { IfSome result (λ v. value_in (program_view program.now).functions self.now.heap self.now.bodies.current.this line self.now.bodies.current.locals (expression_view e.now) self.now.left ≡ gives v self.now.left) }
     {
         self.scene().value_of(e)
@@ -79,7 +79,7 @@ impl<'a> Machine<'a> {
     /// The value of an expression, where it is found without a call. The receiver, a local and an own field go no way
     /// through a scene.
     #[inline(always)]
-    pub fn short_of(&self, program: &Program, line: u32, e: &Expr) -> Option<Value>
+    pub(crate) fn short_of(&self, program: &Program, line: u32, e: &Expr) -> Option<Value>
         ensures { IfSome result (λ v. value_in (program_view program.now).functions self.now.heap self.now.bodies.current.this line self.now.bodies.current.locals (expression_view e.now) self.now.left ≡ gives v self.now.left) }
     {
         match e {
@@ -92,7 +92,7 @@ impl<'a> Machine<'a> {
 
     /// The number that an expression is, where it is found without a call.
     #[inline(always)]
-    pub fn long_of(&self, program: &Program, line: u32, e: &Expr) -> Option<i64>
+    pub(crate) fn long_of(&self, program: &Program, line: u32, e: &Expr) -> Option<i64>
         ensures { IfSome result (λ n. value_in (program_view program.now).functions self.now.heap self.now.bodies.current.this line self.now.bodies.current.locals (expression_view e.now) self.now.left ≡ gives (Long n) self.now.left) }
     {
         self.scene().long_of(e)
@@ -100,7 +100,7 @@ impl<'a> Machine<'a> {
 
     /// The truth value of an expression, where it is found without a call.
     #[inline(always)]
-    pub fn truth_of(&self, program: &Program, line: u32, e: &Expr) -> Option<bool>
+    pub(crate) fn truth_of(&self, program: &Program, line: u32, e: &Expr) -> Option<bool>
         ensures { IfSome result (λ b. value_in (program_view program.now).functions self.now.heap self.now.bodies.current.this line self.now.bodies.current.locals (expression_view e.now) self.now.left ≡ gives (Truth b) self.now.left) }
     {
         self.scene().truth_of(e)
@@ -109,7 +109,7 @@ impl<'a> Machine<'a> {
     /// The item that an index names in an array field of the object that a value names. An item that
     /// stands where no u32 reaches is want of memory.
     #[inline]
-    pub fn indexed(
+    pub(crate) fn indexed(
         &self,
         line: u32,
         object: Value,

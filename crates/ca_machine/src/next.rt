@@ -2,7 +2,8 @@
 
 ghost use Rattle.std.specs.Prelude.{◌≡◌, ◌∷◌, IfOk};
 ghost use Rattle.ca_program.specs.View.{program_view};
-ghost use Rattle.ca_machine.specs.clauses.Resume.{Past, resume, rest_of, world_of, after};
+ghost use Rattle.ca_machine.specs.Machines.{Past, rest_of, world_of, after};
+ghost use Rattle.ca_machine.specs.Resume.{resume};
 
 use crate::machine::Machine;
 use crate::work::{Next, Work};
@@ -13,7 +14,7 @@ use ca_program::Program;
 impl<'a> Machine<'a> {
     /// Gives a value to the work that is left.
     #[inline(always)]
-    pub fn give(&mut self, program: &'a Program, value: Value) -> Result<Next, Memory>
+    pub(crate) fn give(&mut self, program: &'a Program, value: Value) -> Result<Next, Memory>
         ensures { IfOk result (λ next. (ps : Past) → resume (program_view program.now) self.old.todo (value ∷ self.old.values) self.old.bodies.current self.old.bodies.below (world_of self.old ps) self.old.left ≡ after (program_view program.now) self.new ps next) }
     {
         self.values.push(value)?;
@@ -22,7 +23,7 @@ impl<'a> Machine<'a> {
 
     /// Puts a piece of work before the rest.
     #[inline(always)]
-    pub fn put(&mut self, program: &'a Program, work: Work<'a>) -> Result<Next, Memory>
+    pub(crate) fn put(&mut self, program: &'a Program, work: Work<'a>) -> Result<Next, Memory>
         ensures { IfOk result (λ next. (ps : Past) → rest_of (program_view program.now) (work.entry ∷ self.old.todo) self.old ps ≡ after (program_view program.now) self.new ps next) }
     {
         self.todo.push(work)?;
@@ -31,7 +32,7 @@ impl<'a> Machine<'a> {
 
     /// Puts two pieces of work before the rest.
     #[inline(always)]
-    pub fn put_both(
+    pub(crate) fn put_both(
         &mut self,
         program: &'a Program,
         first: Work<'a>,

@@ -8,8 +8,10 @@ ghost use Rattle.ca_meaning.specs.Operators.{assigned};
 ghost use Rattle.ca_meaning.specs.Expressions.{one_in, items_in, indexed, value_at};
 ghost use Rattle.ca_meaning.specs.Functions.{own_of};
 ghost use Rattle.ca_meaning.specs.Serial.{put_own};
-ghost use Rattle.ca_frames.specs.clauses.Bodies.{with_locals};
-ghost use Rattle.ca_machine.specs.clauses.Resume.{Past, takes, does, after, looked_up, HasOwn, PassesPlaces};
+ghost use Rattle.ca_frames.specs.Bodies.{with_locals};
+ghost use Rattle.ca_machine.specs.Machines.{Past, after};
+ghost use Rattle.ca_machine.specs.clauses.Steps.{takes, does};
+ghost use Rattle.ca_machine.specs.clauses.Items.{looked_up, HasOwn, PassesPlaces};
 
 use crate::expressions::calls;
 use crate::machine::{Found, Machine, field_of, item_of, put, store};
@@ -23,7 +25,7 @@ use ca_program::{AssignOp, ClassId, Expr, FieldId, LocalId, Program};
 impl<'a> Machine<'a> {
     /// Puts the value of an expression into a local.
     #[inline]
-    pub fn put_local(
+    pub(crate) fn put_local(
         &mut self,
         program: &'a Program,
         line: u32,
@@ -51,7 +53,7 @@ impl<'a> Machine<'a> {
 
     /// Puts what an operator gives for the old value and a value into a local.
     #[inline(always)]
-    pub fn assign_local(&mut self, local: LocalId, op: AssignOp, value: Value)
+    pub(crate) fn assign_local(&mut self, local: LocalId, op: AssignOp, value: Value)
         ensures current { self.new.bodies.current ≡ with_locals self.old.bodies.current (slice_set self.old.bodies.current.locals local.0 (assigned op (value_at self.old.bodies.current.locals local.0) value)) }
         ensures below { self.new.bodies.below ≡ self.old.bodies.below }
         ensures todo { self.new.todo ≡ self.old.todo }
@@ -69,7 +71,7 @@ impl<'a> Machine<'a> {
 
     /// Puts the value of an expression into an own field.
     #[inline]
-    pub fn put_field(
+    pub(crate) fn put_field(
         &mut self,
         program: &'a Program,
         line: u32,
@@ -100,7 +102,7 @@ impl<'a> Machine<'a> {
 
     /// Puts what an operator gives for the old value and a value into an own field.
     #[inline]
-    pub fn assign_field(&mut self, field: FieldId, op: AssignOp, value: Value)
+    pub(crate) fn assign_field(&mut self, field: FieldId, op: AssignOp, value: Value)
         ensures heap { self.new.heap ≡ put_own self.old.heap self.old.bodies.current.this field 0 (assigned op (one_in (slice_get (own_of self.old.heap self.old.bodies.current.this) field.field)) value) }
         ensures bodies { self.new.bodies ≡ self.old.bodies }
         ensures todo { self.new.todo ≡ self.old.todo }
@@ -113,7 +115,7 @@ impl<'a> Machine<'a> {
     }
 
     /// Puts the value of an expression into an own item.
-    pub fn put_item(
+    pub(crate) fn put_item(
         &mut self,
         program: &'a Program,
         line: u32,
@@ -138,7 +140,7 @@ impl<'a> Machine<'a> {
 
     /// Checks the index of an own item, and goes on with the right side.
     #[inline]
-    pub fn check_index(
+    pub(crate) fn check_index(
         &mut self,
         program: &'a Program,
         line: u32,
@@ -165,7 +167,7 @@ impl<'a> Machine<'a> {
     }
 
     /// Puts what an operator gives for the old value and a value into an own item.
-    pub fn set_item(
+    pub(crate) fn set_item(
         &mut self,
         program: &'a Program,
         line: u32,
@@ -189,7 +191,7 @@ impl<'a> Machine<'a> {
 
     /// Puts what an operator gives for the value of an own item and a value into it.
     #[inline]
-    pub fn assign_item(&mut self, field: FieldId, item: Found, op: AssignOp, value: Value)
+    pub(crate) fn assign_item(&mut self, field: FieldId, item: Found, op: AssignOp, value: Value)
         requires { HasOwn self.old.heap self.old.bodies.current.this field item.place }
         ensures heap { self.new.heap ≡ put_own self.old.heap self.old.bodies.current.this field item.place (assigned op item.value value) }
         ensures bodies { self.new.bodies ≡ self.old.bodies }
@@ -203,7 +205,7 @@ impl<'a> Machine<'a> {
     }
 
     /// Puts a new object into a local.
-    pub fn new_local(
+    pub(crate) fn new_local(
         &mut self,
         program: &'a Program,
         line: u32,
@@ -227,7 +229,7 @@ impl<'a> Machine<'a> {
     }
 
     /// Puts a new object into an own field.
-    pub fn new_field(
+    pub(crate) fn new_field(
         &mut self,
         program: &'a Program,
         line: u32,
@@ -251,7 +253,7 @@ impl<'a> Machine<'a> {
     }
 
     /// Puts a new object into an own item.
-    pub fn new_item(
+    pub(crate) fn new_item(
         &mut self,
         program: &'a Program,
         line: u32,
@@ -275,7 +277,7 @@ impl<'a> Machine<'a> {
 
     /// Puts a new object into the own item that an index names.
     #[inline]
-    pub fn fill_item(
+    pub(crate) fn fill_item(
         &mut self,
         program: &'a Program,
         line: u32,

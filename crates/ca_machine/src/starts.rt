@@ -4,7 +4,9 @@
 ghost use Rattle.std.specs.Prelude.{◌≡◌, ◌≤◌, ◌∷◌, ℕ, List, IfOk};
 ghost use Rattle.ca_program.specs.View.{program_view};
 ghost use Rattle.ca_machine.specs.declared.work.Target.TheVariants.{Operation};
-ghost use Rattle.ca_machine.specs.clauses.Resume.{Past, rest_of, receives, still, all_still, pieces, others_before, after, AtOnce};
+ghost use Rattle.ca_machine.specs.Machines.{Past, rest_of, after};
+ghost use Rattle.ca_machine.specs.clauses.Steps.{receives};
+ghost use Rattle.ca_machine.specs.clauses.Begun.{still, all_still, pieces, others_before, AtOnce};
 
 use crate::machine::Machine;
 use crate::work::{Left, Next, Target, Work};
@@ -16,7 +18,7 @@ use ca_program::{Expr, OpId, Program, Stmt, StmtForm};
 impl<'a> Machine<'a> {
     /// Does what it can of the body of a loop at once, and tells whether that is all.
     #[inline(always)]
-    pub fn start_body(&mut self, program: &'a Program, s: &'a Stmt) -> Result<bool, Memory>
+    pub(crate) fn start_body(&mut self, program: &'a Program, s: &'a Stmt) -> Result<bool, Memory>
         ensures todo { self.new.todo ≡ self.old.todo }
         ensures steps { self.new.left ≤ self.old.left }
         ensures left { IfOk result (λ whole. (todo : List Work) (ps : Past) → rest_of (program_view program.now) (Work.Exec s.now.line s.entry ∷ todo) self.old ps ≡ rest_of (program_view program.now) (all_still whole self.new todo) self.new ps) }
@@ -54,7 +56,7 @@ impl<'a> Machine<'a> {
     /// Does what it can of a list of statements at once, of which the first is no put to be done at once, and tells whether that
     /// is all.
     #[inline(never)]
-    pub fn start_all(&mut self, program: &'a Program, ss: &'a [Stmt]) -> Result<bool, Memory>
+    pub(crate) fn start_all(&mut self, program: &'a Program, ss: &'a [Stmt]) -> Result<bool, Memory>
         ensures todo { self.new.todo ≡ self.old.todo }
         ensures steps { self.new.left ≤ self.old.left }
         ensures left { IfOk result (λ whole. (todo : List Work) (ps : Past) → rest_of (program_view program.now) (Work.Seq ss.entry ∷ todo) self.old ps ≡ rest_of (program_view program.now) (all_still whole self.new todo) self.new ps) }
@@ -135,7 +137,7 @@ impl<'a> Machine<'a> {
 
     /// Does a body that was entered at once as far as it goes, and leaves it where all is done.
     #[inline(always)]
-    pub fn run_now(&mut self, program: &'a Program, ss: &'a [Stmt]) -> bool
+    pub(crate) fn run_now(&mut self, program: &'a Program, ss: &'a [Stmt]) -> bool
         ensures todo { self.new.todo ≡ self.old.todo }
         ensures steps { self.new.left ≡ self.old.left }
         ensures left { (todo : List Work) (ps : Past) → rest_of (program_view program.now) (Work.Seq ss.entry ∷ Work.Leave ∷ todo) self.old ps ≡ rest_of (program_view program.now) (still result self.new todo) self.new ps }
@@ -155,7 +157,7 @@ impl<'a> Machine<'a> {
     }
 
     /// Goes on with what is left of a list of statements.
-    pub fn go_on(&mut self, program: &'a Program) -> Result<Next, Memory>
+    pub(crate) fn go_on(&mut self, program: &'a Program) -> Result<Next, Memory>
         ensures { IfOk result (λ next. (ps : Past) → rest_of (program_view program.now) (pieces self.old.over (others_before self.old.others self.old.todo)) self.old ps ≡ after (program_view program.now) self.new ps next) }
     {
         if let Some(others) = self.others {

@@ -3,7 +3,8 @@
 ghost use Rattle.std.specs.Prelude.{◌≡◌, ◌∷◌, ℕ, IfOk};
 ghost use Rattle.ca_program.specs.View.{program_view, expression_view, expressions_view, statement_view, statements_view};
 ghost use Rattle.ca_program.specs.Plain.{invoke, if_else, return_value, print_value};
-ghost use Rattle.ca_machine.specs.clauses.Resume.{Past, rest_of, takes, does, after};
+ghost use Rattle.ca_machine.specs.Machines.{Past, rest_of, after};
+ghost use Rattle.ca_machine.specs.clauses.Steps.{takes, does};
 
 use crate::expressions::calls;
 use crate::machine::Machine;
@@ -15,7 +16,12 @@ use ca_program::{Expr, OpId, Program, Stmt, StmtForm};
 
 impl<'a> Machine<'a> {
     /// Begins a statement on a line.
-    pub fn exec(&mut self, program: &'a Program, line: u32, s: &'a Stmt) -> Result<Next, Memory>
+    pub(crate) fn exec(
+        &mut self,
+        program: &'a Program,
+        line: u32,
+        s: &'a Stmt,
+    ) -> Result<Next, Memory>
         ensures { IfOk result (λ next. (ps : Past) → does (program_view program.now) line (statement_view s.now) self.old ps ≡ after (program_view program.now) self.new ps next) }
     {
         match &s.kind {
@@ -43,7 +49,7 @@ impl<'a> Machine<'a> {
 
     /// Goes on with a list of statements.
     #[inline]
-    pub fn seq(&mut self, program: &'a Program, ss: &'a [Stmt]) -> Result<Next, Memory>
+    pub(crate) fn seq(&mut self, program: &'a Program, ss: &'a [Stmt]) -> Result<Next, Memory>
         ensures { IfOk result (λ next. (ps : Past) → rest_of (program_view program.now) (Work.Seq ss.entry ∷ self.old.todo) self.old ps ≡ after (program_view program.now) self.new ps next) }
     {
         let rest = self.do_all(program, ss);
@@ -100,7 +106,7 @@ impl<'a> Machine<'a> {
 
     /// Takes a branch.
     #[inline]
-    pub fn choose(
+    pub(crate) fn choose(
         &mut self,
         program: &'a Program,
         a: &'a Stmt,

@@ -2,7 +2,8 @@
 
 ghost use Rattle.std.specs.Prelude.{◌≡◌, ◌∷◌, ℕ, IfOk};
 ghost use Rattle.ca_program.specs.View.{program_view, expression_view, expressions_view, statement_view, statements_view};
-ghost use Rattle.ca_machine.specs.clauses.Resume.{Past, rest_of, takes, after};
+ghost use Rattle.ca_machine.specs.Machines.{Past, rest_of, after};
+ghost use Rattle.ca_machine.specs.clauses.Steps.{takes};
 
 use crate::machine::Machine;
 use crate::work::{Next, Target, Work};

@@ -23,8 +23,10 @@ use Rattle.ca_machine.specs.declared.work.Work.{Work}
 use Rattle.ca_machine.specs.declared.work.Work.TheVariants.{Seq, Leave}
 use Rattle.ca_machine.specs.declared.work.Target.TheVariants.{Operation}
 use Rattle.ca_machine.specs.declared.machine.Machine.{Machine}
-use Rattle.ca_frames.specs.clauses.Bodies.{Body}
-use Rattle.ca_machine.specs.clauses.Resume.{Past, world_of, go_on, resume, call_of, runs_due, target_method, others_in}
+use Rattle.ca_frames.specs.Bodies.{Body}
+use Rattle.ca_machine.specs.Machines.{Past, world_of, call_of, runs_due}
+use Rattle.ca_machine.specs.Resume.{go_on, resume}
+use Rattle.ca_machine.specs.Targets.{target_method, others_in}
 use Rattle.ca_serial.proofs.Unmarked.{none_all}
 use Rattle.ca_machine.proofs.CallSteps.{op_result, locals_are}
 use Rattle.ca_serial.proofs.Quiet.{run_is}

@@ -12,7 +12,7 @@ use Rattle.ca_machine.specs.declared.machine.Machine.{Machine}
 use Rattle.ca_machine.specs.declared.work.Work.{Work}
 use Rattle.ca_serial.specs.declared.running.Outcome.{Outcome}
 use Rattle.ca_serial.specs.declared.running.Outcome.TheVariants.{Done, Trapped, Spent}
-use Rattle.ca_machine.specs.clauses.Resume.{Past, and_print, rest_of, world_of}
+use Rattle.ca_machine.specs.Machines.{Past, and_print, rest_of, world_of}
 use Rattle.ca_serial.specs.Runs.{prints_of, run_with}
 use Rattle.ca_serial.proofs.Prints.{later_of, resume_grows}
 

@@ -27,9 +27,10 @@ use Rattle.ca_sections.proofs.Fitting.{call_loop_fits}
 use Rattle.ca_machine.specs.declared.machine.Machine.{Machine}
 use Rattle.ca_machine.specs.declared.work.Work.{Work}
 use Rattle.ca_machine.specs.declared.work.Work.TheVariants.{Exec, Seq}
-use Rattle.ca_frames.specs.clauses.Bodies.{main_body, heeded, with_locals}
+use Rattle.ca_frames.specs.Bodies.{main_body, heeded, with_locals}
 use Rattle.ca_serial.specs.clauses.Loops.{heeds_loop, section_next, notes_of, loop_notes, notes_next}
-use Rattle.ca_machine.specs.clauses.Resume.{Past, no_past, and_note, world_of, go_on, going_on, rest_of, call_of, note_of, runs_due}
+use Rattle.ca_machine.specs.Machines.{Past, no_past, and_note, world_of, going_on, rest_of, call_of, note_of, runs_due}
+use Rattle.ca_machine.specs.Resume.{go_on}
 use Rattle.ca_serial.proofs.Prints.{Later, Grows, grows, later_of, from, grows_go, grows_mode, run_grows, all_ops_grow, listed_grows, resume_grows, unwind_grows}
 use Rattle.ca_serial.proofs.LoopCalls.{by_its_section}
 

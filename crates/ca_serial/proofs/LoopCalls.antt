@@ -30,12 +30,13 @@ use Rattle.ca_frames.specs.declared.bodies.Mode.TheVariants.{InFunction, InOpera
 use Rattle.ca_machine.specs.declared.work.Work.{Work}
 use Rattle.ca_machine.specs.declared.work.Work.TheVariants.{Exec, Heed}
 use Rattle.ca_machine.specs.declared.machine.Machine.{Machine}
-use Rattle.ca_frames.specs.clauses.Bodies.{Body, marks_of, heeded, with_locals, alone, heeding, in_operation}
-use Rattle.ca_frames.specs.clauses.Marked.{is_marked}
+use Rattle.ca_frames.specs.Bodies.{Body, marks_of, heeded, with_locals, alone, heeding, in_operation}
+use Rattle.ca_frames.specs.Marked.{is_marked}
 use Rattle.ca_frames.proofs.Sites.{none_in, marked_is}
 use Rattle.ca_serial.specs.Extents.{IsNotDone}
 use Rattle.ca_serial.specs.clauses.Loops.{heeds_loop, section_next, notes_of, notes_next, runs_alone}
-use Rattle.ca_machine.specs.clauses.Resume.{Past, and_notes, world_of, runs, going_on, rest_of, heeding_parts, resume, unwind, go_on, by_mode}
+use Rattle.ca_machine.specs.Machines.{Past, and_notes, world_of, going_on, rest_of}
+use Rattle.ca_machine.specs.Resume.{runs, heeding_parts, resume, unwind, go_on, by_mode}
 use Rattle.ca_serial.proofs.DueCalls.{runs_in}
 use Rattle.ca_machine.proofs.Flows.{go_on_same}
 use Rattle.ca_serial.proofs.Quiet.{run_is}

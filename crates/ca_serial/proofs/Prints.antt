@@ -22,8 +22,8 @@ use Rattle.ca_machine.specs.declared.work.Target.{Target}
 use Rattle.ca_machine.specs.declared.work.Target.TheVariants.{Function, Operation}
 use Rattle.ca_machine.specs.declared.work.Work.{Work}
 use Rattle.ca_machine.specs.declared.work.Work.TheVariants.{Evaluate, CollectValue, CollectCall, Exec, Seq, Again, Leave, Back, Heed, ReadField, CheckObject, ReadItem, ReadOwnItem, Sign, CheckLeft, Apply, PutLocal, PutField, CheckIndex, PutItem, NewItem, Print, Choose, Turn, GiveBack}
-use Rattle.ca_frames.specs.clauses.Bodies.{Body, with_locals, marks_of}
-use Rattle.ca_machine.specs.clauses.Resume.{carried, runs, runs_all, comes_again, runs_body, turns, pop, taken, back_in, go_on, by_mode, called, collected, value_of, found_again, used, resume, unwind, heeding_parts}
+use Rattle.ca_frames.specs.Bodies.{Body, with_locals, marks_of}
+use Rattle.ca_machine.specs.Resume.{carried, runs, runs_all, comes_again, runs_body, turns, pop, taken, back_in, go_on, by_mode, called, collected, value_of, found_again, used, resume, unwind, heeding_parts}
 
 -- what was printed and noted in w stands at the front of what was printed and noted in x
 pub record Later (w x : World) : Type 0 where

@@ -11,7 +11,7 @@ use Rattle.ca_meaning.proofs.Near.{le_self, NearFlow, flow_same, CloseParts, exe
 use Rattle.ca_meaning.proofs.Fix.{CloseOps, operation_agree, close_all_ops}
 use Rattle.ca_parallel.specs.Lists.{no_marks}
 use Rattle.ca_note_laws.specs.Listing.{listing_parts, listing_operations, listing_of}
-use Rattle.ca_machine.specs.clauses.Resume.{heeding_parts}
+use Rattle.ca_machine.specs.Resume.{heeding_parts}
 
 abbrev built : PlainProgram → Operations → Operations
 built p o = record {

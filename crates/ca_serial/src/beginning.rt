@@ -6,7 +6,7 @@ ghost use Rattle.ca_meaning.specs.ProgramTyped.{ProgramTyped};
 ghost use Rattle.ca_meaning.specs.Serial.{serial, ended};
 ghost use Rattle.ca_parallel.specs.Lists.{world_after, lists};
 ghost use Rattle.ca_parallel.specs.Marks.{SoundMarks};
-ghost use Rattle.ca_machine.specs.clauses.Resume.{rest_of, no_past};
+ghost use Rattle.ca_machine.specs.Machines.{rest_of, no_past};
 
 use ca_base::Memory;
 use ca_frames::{Bodies, Patience, Stack};

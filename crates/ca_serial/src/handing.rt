@@ -5,7 +5,8 @@ ghost use Rattle.ca_program.specs.View.{program_view};
 ghost use Rattle.ca_meaning.specs.ProgramTyped.{ProgramTyped};
 ghost use Rattle.ca_parallel.specs.Calls.{invocations_of, operation_of};
 ghost use Rattle.ca_parallel.specs.Notes.{NoteGood};
-ghost use Rattle.ca_machine.specs.clauses.Resume.{Past, call_of, note_of, runs_due, after, next_of};
+ghost use Rattle.ca_machine.specs.Machines.{Past, call_of, note_of, runs_due, after};
+ghost use Rattle.ca_serial.specs.clauses.Handing.{next_of};
 
 use crate::extents::{ExtentAnswer, Extents};
 use ca_base::Memory;

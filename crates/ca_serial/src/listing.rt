@@ -10,7 +10,7 @@ ghost use Rattle.ca_note_laws.specs.Listing.{puts_nothing};
 ghost use Rattle.ca_sections.specs.declared.operations.SectionAnswer.TheVariants.{Done};
 ghost use Rattle.ca_sections.specs.Answers.{LoopIs, locals_after};
 ghost use Rattle.ca_serial.specs.clauses.Loops.{heeds_loop, section_next, notes_of, notes_next, runs_alone};
-ghost use Rattle.ca_machine.specs.clauses.Resume.{Past, and_notes, rest_of};
+ghost use Rattle.ca_machine.specs.Machines.{Past, and_notes, rest_of};
 
 use crate::extents::{ExtentAnswer, Extents};
 use crate::targets::puts_nothing;

@@ -10,7 +10,7 @@ ghost use Rattle.ca_parallel.specs.Accounts.{Reached, ReachedPart, HandedOn};
 ghost use Rattle.ca_parallel.specs.Lists.{no_marks, world_after, lists};
 ghost use Rattle.ca_parallel.specs.Marks.{SoundMarks};
 ghost use Rattle.ca_parallel.specs.Notes.{NoteGood};
-ghost use Rattle.ca_machine.specs.clauses.Resume.{no_past, rest_of};
+ghost use Rattle.ca_machine.specs.Machines.{no_past, rest_of};
 ghost use Rattle.ca_serial.specs.Runs.{run_with, prints_of, OnWrite};
 
 use crate::beginning::before_main;

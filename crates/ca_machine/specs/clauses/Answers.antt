@@ -14,8 +14,9 @@ use Rattle.ca_machine.specs.declared.answers.Answer.{Answer}
 use Rattle.ca_machine.specs.declared.answers.Answer.TheVariants.{Gives, Rest}
 use Rattle.ca_machine.specs.declared.answers.Look.{Look}
 use Rattle.ca_machine.specs.declared.answers.Look.TheVariants.{Returns, Passes, Stays}
-use Rattle.ca_frames.specs.clauses.Bodies.{Body}
-use Rattle.ca_machine.specs.clauses.Resume.{Past, runs_all, past_in}
+use Rattle.ca_frames.specs.Bodies.{Body}
+use Rattle.ca_machine.specs.Machines.{Past, past_in}
+use Rattle.ca_machine.specs.Resume.{runs_all}
 
 -- the scene's receiver has its slots in the heap
 abbrev pub OwnsSlots : Scene → Type 0

@@ -9,13 +9,15 @@ use Rattle.ca_meaning.specs.Serial.{World}
 use Rattle.ca_machine.specs.declared.machine.Machine.{Machine}
 use Rattle.ca_frames.specs.declared.patience.Patience.{Patience}
 use Rattle.ca_machine.specs.declared.work.Work.{Work}
-use Rattle.ca_machine.specs.clauses.Resume.{Past, rest_of, does_before}
+use Rattle.ca_machine.specs.Machines.{Past, rest_of}
+use Rattle.ca_machine.specs.clauses.Steps.{does_before}
 
 -- a machine with so many steps left, and this patience
 abbrev pub behind_look : Machine → ℕ → Patience → Machine
 behind_look m k x = record { todo = m.todo; values = m.values; bodies = m.bodies; heap = m.heap; left = k; shown = m.shown; trap = m.trap; due = m.due; over = m.over; others = m.others; patience = x }
 
--- a number was looked for: on each line the expression gives it, and its steps are taken
+-- A number was looked for. Where it was found, the expression gives it on each line, and its steps are taken; else nothing changed
+-- but the patience.
 abbrev pub Looked : Option ℤ → PlainProgram → Expression → Machine → Machine → Type 0
 Looked (Some n) p e old new = (new ≡ behind_look old new.left new.patience) × ((line : ℕ) → value_in p.functions old.heap old.bodies.current.this line old.bodies.current.locals e old.left ≡ gives (Long n) new.left)
 Looked None p e old new = new ≡ behind_look old old.left new.patience

@@ -11,9 +11,9 @@ use Rattle.ca_note_laws.specs.Listing.{puts_nothing}
 use Rattle.ca_machine.specs.declared.work.Work.{Work}
 use Rattle.ca_machine.specs.declared.work.Work.TheVariants.{Exec}
 use Rattle.ca_machine.specs.declared.machine.Machine.{Machine}
-use Rattle.ca_frames.specs.clauses.Bodies.{Body, marks_of, in_operation}
-use Rattle.ca_frames.specs.clauses.Marked.{is_marked}
-use Rattle.ca_machine.specs.clauses.Resume.{Past, world_of, going_on}
+use Rattle.ca_frames.specs.Bodies.{Body, marks_of, in_operation}
+use Rattle.ca_frames.specs.Marked.{is_marked}
+use Rattle.ca_machine.specs.Machines.{Past, world_of, going_on}
 
 -- a loop in the body of an operation, or of `main`, that heeds its mark
 abbrev pub heeds_loop : Body → Statement → Bool
@@ -33,11 +33,12 @@ notes_of h k loop_over = []
 abbrev pub loop_notes : PlainProgram → Machine → ℕ → Statement → List Note
 loop_notes p m line s = either (heeds_loop m.bodies.current s && puts_nothing s) (notes_of m.heap m.left (section_next p m line s)) []
 
+-- what the next piece of work hands on, if that is such a loop
 abbrev pub notes_next : PlainProgram → List Work → Machine → List Note
 notes_next p [] m = []
 notes_next p (Exec line s ∷ todo) m = loop_notes p m line (statement_view s.now)
 notes_next p (_ ∷ todo) m = []
 
--- that runs this statement as the serial run does
+-- what is left of the run of a machine that begins by this statement, run as the serial run does it
 abbrev pub runs_alone : PlainProgram → ℕ → Statement → Machine → Past → Flow World
 runs_alone p line s m ps = going_on p m.todo m (exec (serial_parts p m.bodies.current.this) line m.bodies.current.locals (world_of m ps) s m.left)

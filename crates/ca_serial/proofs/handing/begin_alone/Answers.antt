@@ -1,6 +1,6 @@
 use Rattle.std.proofs.Common.{◌<◌, ◌+◌, arith, drop, take, reverse}
 use Rattle.ca_program.specs.View.{program_view}
-use Rattle.ca_machine.specs.clauses.Resume.{world_of}
+use Rattle.ca_machine.specs.Machines.{world_of}
 use Rattle.ca_serial.proofs.DueCalls.{begun_alone}
 use Rattle.ca_serial.proofs.handing.begin_alone.Goals as goal
 

@@ -2,7 +2,7 @@ use Rattle.std.proofs.Common.{refl, ◌∷◌, []}
 use Rattle.ca_program.specs.View.{program_view}
 use Rattle.ca_parallel.specs.Calls.{RunsTo}
 use Rattle.ca_machine.specs.declared.machine.Machine.{Machine}
-use Rattle.ca_machine.specs.clauses.Resume.{call_of}
+use Rattle.ca_machine.specs.Machines.{call_of}
 use Rattle.ca_serial.proofs.DueCalls.{was_run}
 use Rattle.ca_serial.proofs.handing.hand_on.Goals as goal
 

@@ -2,7 +2,7 @@ use Rattle.std.proofs.Common.{◌≡◌, ◌∙◌, true, false, ap, sym, subst,
 use Rattle.ca_program.specs.View.{program_view, statement_view}
 use Rattle.ca_note_laws.specs.Listing.{puts_nothing}
 use Rattle.ca_serial.specs.clauses.Loops.{heeds_loop, section_next, notes_of, notes_next, runs_alone}
-use Rattle.ca_machine.specs.clauses.Resume.{and_notes, rest_of}
+use Rattle.ca_machine.specs.Machines.{and_notes, rest_of}
 use Rattle.std.proofs.lemmas.Result.{err_from_is_err_and}
 use Rattle.ca_serial.proofs.LoopCalls.{none_told, part_told, none_yet, handed_same, handed_all, reached_none, stays_next, other_work, unheeded, putting, listing, nothing_more, puts_alone}
 use Rattle.ca_machine.specs.declared.work.Work.{Work}

@@ -3,7 +3,7 @@ use Rattle.ca_program.specs.View.{program_view, statement_view}
 use Rattle.ca_sections.specs.declared.operations.SectionAnswer.{SectionAnswer}
 use Rattle.ca_sections.specs.Answers.{LoopIs}
 use Rattle.ca_serial.specs.clauses.Loops.{section_next, notes_of}
-use Rattle.ca_machine.specs.clauses.Resume.{and_notes, rest_of}
+use Rattle.ca_machine.specs.Machines.{and_notes, rest_of}
 use Rattle.std.proofs.lemmas.Result.{err_from_is_err_and}
 use Rattle.ca_serial.proofs.LoopCalls.{none_told, part_told, none_yet, handed_all, Answered, Stopped, trapped_section, spent_section, unaccounted, by_its_section, was_stopped}
 use Rattle.ca_machine.proofs.Passing.{passes_with}

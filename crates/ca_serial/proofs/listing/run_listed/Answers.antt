@@ -10,8 +10,8 @@ use Rattle.ca_parallel.specs.declared.op.Op.{Op}
 use Rattle.ca_parallel.specs.Parallel.{ParallelFrom}
 use Rattle.ca_meaning.specs.WellTyped.{AllWellTyped}
 use Rattle.ca_serial.specs.clauses.Loops.{section_next, notes_of}
-use Rattle.ca_frames.specs.clauses.Bodies.{with_locals}
-use Rattle.ca_machine.specs.clauses.Resume.{and_notes, rest_of}
+use Rattle.ca_frames.specs.Bodies.{with_locals}
+use Rattle.ca_machine.specs.Machines.{and_notes, rest_of}
 use Rattle.ca_machine.specs.declared.machine.Machine.{Machine}
 use Rattle.std.proofs.lemmas.Result.{err_from_is_err_and}
 use Rattle.ca_serial.proofs.LoopCalls.{none_told, part_told, none_yet, whole_part, handed_all, IsDone, is_done, said_of, done_locals, alone_with, noted_in, ops_are, accounted, by_its_section, was_listed, was_declined}

@@ -5,7 +5,7 @@ use Rattle.ca_parallel.specs.Accounts.{at_first, by_one}
 use Rattle.ca_parallel.specs.Lists.{world_after, lists}
 use Rattle.ca_serial.specs.Runs.{run_with}
 use Rattle.ca_serial.specs.clauses.Loops.{notes_next}
-use Rattle.ca_machine.specs.clauses.Resume.{rest_of, no_past, and_print, and_note, and_notes, note_of, runs_due}
+use Rattle.ca_machine.specs.Machines.{rest_of, no_past, and_print, and_note, and_notes, note_of, runs_due}
 use Rattle.ca_serial.specs.declared.running.Outcome.TheVariants.{Trapped, Spent}
 use Rattle.ca_serial.proofs.Endings.{began_with, began_value, told_more, told_so, ended_so, written_nothing, rose_later}
 use Rattle.ca_serial.proofs.Handings.{notes_are, due_notes, due_good, part_of, whole_of, kept_of, next_stands, stands_in, reached_on, part_on}

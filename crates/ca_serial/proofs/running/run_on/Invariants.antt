@@ -5,7 +5,7 @@ use Rattle.ca_meaning.specs.Serial.{ended, serial}
 use Rattle.ca_meaning.specs.Output.{prints_text}
 use Rattle.ca_parallel.specs.Accounts.{Reached}
 use Rattle.ca_parallel.specs.Lists.{world_after, lists}
-use Rattle.ca_machine.specs.clauses.Resume.{Past, rest_of}
+use Rattle.ca_machine.specs.Machines.{Past, rest_of}
 use Rattle.ca_serial.proofs.running.run_on.Given as goal
 
 abbrev pub invariant-loop : goal.invariant-loop

@@ -1,5 +1,6 @@
 use Rattle.std.proofs.Common.{rules, ◌≡◌, ◌∙◌, ap, reverse, min, length}
-use Rattle.ca_frames.specs.clauses.Bodies.{body_at, waiting, with_locals}
+use Rattle.ca_frames.specs.Bodies.{with_locals}
+use Rattle.ca_frames.specs.clauses.View.{body_at, waiting}
 use Rattle.ca_frames.proofs.Locals.{new_locals, same_below}
 use Rattle.ca_frames.proofs.bodies.Bodies.put_locals.Goals as goal
 

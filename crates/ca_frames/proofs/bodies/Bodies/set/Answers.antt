@@ -1,6 +1,7 @@
 use Rattle.std.proofs.Common.{ap}
 use Rattle.std.proofs.lemmas.List.{drop-set-add}
-use Rattle.ca_frames.specs.clauses.Bodies.{body_at, with_locals}
+use Rattle.ca_frames.specs.Bodies.{with_locals}
+use Rattle.ca_frames.specs.clauses.View.{body_at}
 use Rattle.ca_frames.proofs.bodies.Bodies.set.Goals as goal
 
 pub returns-then-index-len-clause-current : goal.returns-then-index-len-clause-current

@@ -1,6 +1,7 @@
 use Rattle.std.proofs.Common.{◌≡◌}
 use Rattle.ca_program.specs.View.{program_view, statement_view}
-use Rattle.ca_machine.specs.clauses.Resume.{Past, again_before}
+use Rattle.ca_machine.specs.Machines.{Past}
+use Rattle.ca_machine.specs.clauses.Steps.{again_before}
 use Rattle.ca_machine.proofs.machine.Machine.again.Given as goal
 
 abbrev pub invariant-loop-next : goal.invariant-loop-next

@@ -1,6 +1,6 @@
 use Rattle.std.proofs.Common.{◌∙◌, sym}
 use Rattle.ca_program.specs.View.{program_view}
-use Rattle.ca_machine.specs.clauses.Resume.{world_of}
+use Rattle.ca_machine.specs.Machines.{world_of}
 use Rattle.ca_machine.proofs.Taking.{nothing_back, back_to, back_nowhere}
 use Rattle.ca_machine.proofs.machine.Machine.back.Goals as goal
 

@@ -4,9 +4,10 @@ use Rattle.ca_program.specs.View.{program_view}
 use Rattle.ca_model.specs.declared.value.Value.TheVariants.{Ref}
 use Rattle.ca_model.specs.Slots.{start_of}
 use Rattle.ca_machine.specs.declared.work.Work.TheVariants.{Leave}
-use Rattle.ca_frames.specs.clauses.Bodies.{Body}
+use Rattle.ca_frames.specs.Bodies.{Body}
 use Rattle.ca_machine.specs.declared.machine.Machine.{Machine}
-use Rattle.ca_machine.specs.clauses.Resume.{world_of, begins, target_mode}
+use Rattle.ca_machine.specs.Machines.{world_of}
+use Rattle.ca_machine.specs.clauses.Steps.{begins, target_mode}
 use Rattle.ca_machine.proofs.Tellings.{left_with, same_rest}
 use Rattle.ca_machine.proofs.CallSteps.{taken_there, taken_none, not_called, call_runs_out, begun, is_due}
 use Rattle.ca_machine.proofs.machine.Machine.begin.Goals as goal

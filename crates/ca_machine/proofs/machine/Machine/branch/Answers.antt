@@ -1,6 +1,6 @@
 use Rattle.std.proofs.Common.{◌∙◌, refl}
 use Rattle.ca_program.specs.View.{program_view, expression_view}
-use Rattle.ca_machine.specs.clauses.Resume.{world_of}
+use Rattle.ca_machine.specs.Machines.{world_of}
 use Rattle.ca_machine.proofs.Steps.{if_runs}
 use Rattle.ca_machine.proofs.Passing.{passes_for}
 use Rattle.ca_machine.proofs.machine.Machine.branch.Goals as goal

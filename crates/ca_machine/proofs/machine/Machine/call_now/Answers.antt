@@ -1,7 +1,7 @@
 use Rattle.std.proofs.Common.{◌≡◌, ◌∙◌, refl, ap, sym}
 use Rattle.ca_program.specs.View.{program_view}
 use Rattle.ca_machine.specs.declared.work.Target.TheVariants.{Operation}
-use Rattle.ca_machine.specs.clauses.Resume.{receives}
+use Rattle.ca_machine.specs.clauses.Steps.{receives}
 use Rattle.ca_machine.proofs.FewCalls.{entered_whole, entered_nothing}
 use Rattle.ca_machine.proofs.machine.Machine.call_now.Goals as goal
 

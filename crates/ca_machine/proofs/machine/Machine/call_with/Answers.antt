@@ -5,8 +5,8 @@ use Rattle.ca_model.specs.Slots.{start_of}
 use Rattle.ca_frames.specs.declared.bodies.Mode.TheVariants.{InFunction}
 use Rattle.ca_machine.specs.declared.work.Target.TheVariants.{Function}
 use Rattle.ca_machine.specs.declared.work.Work.TheVariants.{Leave}
-use Rattle.ca_frames.specs.clauses.Bodies.{Body}
-use Rattle.ca_machine.specs.clauses.Resume.{world_of}
+use Rattle.ca_frames.specs.Bodies.{Body}
+use Rattle.ca_machine.specs.Machines.{world_of}
 use Rattle.ca_machine.proofs.Tellings.{left_with, same_rest}
 use Rattle.ca_machine.proofs.CallSteps.{begun}
 use Rattle.ca_machine.proofs.machine.Machine.call_with.Goals as goal

@@ -1,7 +1,8 @@
 use Rattle.std.proofs.Common.{◌∙◌}
 use Rattle.std.proofs.lemmas.Result.{IfOk-weaker}
 use Rattle.ca_program.specs.View.{program_view}
-use Rattle.ca_machine.specs.clauses.Resume.{value_of, world_of}
+use Rattle.ca_machine.specs.Resume.{value_of}
+use Rattle.ca_machine.specs.Machines.{world_of}
 use Rattle.ca_machine.proofs.Flows.{with_then}
 use Rattle.ca_machine.proofs.machine.Machine.check_left.Goals as goal
 

@@ -1,6 +1,8 @@
 use Rattle.std.proofs.Common.{◌∙◌, ◌≤◌, ◌+◌, ap, sym, length, arith}
 use Rattle.ca_program.specs.View.{program_view}
-use Rattle.ca_machine.specs.clauses.Resume.{collects, begins_before, world_of, resume}
+use Rattle.ca_machine.specs.Machines.{world_of}
+use Rattle.ca_machine.specs.Resume.{resume}
+use Rattle.ca_machine.specs.clauses.Steps.{collects, begins_before}
 use Rattle.ca_machine.proofs.CallSteps.{collect_next, collect_all}
 use Rattle.ca_machine.proofs.Taking.{collect_put}
 use Rattle.ca_machine.proofs.Passing.{passes_on}

@@ -1,6 +1,6 @@
 use Rattle.std.proofs.Common.{rules, ap, sym, arith, length, ◌≡◌, ◌∙◌, ◌≤◌, ◌∷◌}
 use Rattle.ca_program.specs.View.{program_view, statements_view}
-use Rattle.ca_machine.specs.clauses.Resume.{all_before}
+use Rattle.ca_machine.specs.clauses.Steps.{all_before}
 use Rattle.ca_machine.proofs.AtOnce.{one_more}
 use Rattle.ca_machine.proofs.machine.Machine.do_all.Goals as goal
 

@@ -1,7 +1,8 @@
 use Rattle.std.proofs.Common.{◌≡◌, ◌≤◌, List, length}
 use Rattle.ca_program.specs.View.{program_view, statements_view}
 use Rattle.ca_machine.specs.declared.work.Work.{Work}
-use Rattle.ca_machine.specs.clauses.Resume.{Past, all_before}
+use Rattle.ca_machine.specs.Machines.{Past}
+use Rattle.ca_machine.specs.clauses.Steps.{all_before}
 use Rattle.ca_machine.proofs.machine.Machine.do_all.Given as goal
 
 abbrev pub invariant-loop-first : goal.invariant-loop-first

@@ -1,7 +1,7 @@
 use Rattle.std.proofs.Common.{◌∙◌}
 use Rattle.ca_program.specs.View.{program_view}
 use Rattle.ca_machine.specs.declared.work.Target.TheVariants.{Operation}
-use Rattle.ca_machine.specs.clauses.Resume.{world_of}
+use Rattle.ca_machine.specs.Machines.{world_of}
 use Rattle.ca_machine.proofs.CallSteps.{begun}
 use Rattle.ca_machine.proofs.machine.Machine.enter_with.Goals as goal
 

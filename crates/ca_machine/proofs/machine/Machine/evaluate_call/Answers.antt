@@ -5,7 +5,9 @@ use Rattle.ca_program.specs.View.{program_view, expression_view, expressions_vie
 use Rattle.ca_program.specs.Plain.{value_call}
 use Rattle.ca_model.specs.declared.value.Value.TheVariants.{Long}
 use Rattle.ca_machine.specs.declared.machine.Machine.{Machine}
-use Rattle.ca_machine.specs.clauses.Resume.{evaluates, resume, world_of}
+use Rattle.ca_machine.specs.Resume.{resume}
+use Rattle.ca_machine.specs.Machines.{world_of}
+use Rattle.ca_machine.specs.clauses.Steps.{evaluates}
 use Rattle.ca_machine.proofs.Instants.{number_found}
 use Rattle.ca_machine.proofs.Passing.{passes_on}
 use Rattle.ca_machine.proofs.machine.Machine.evaluate_call.Goals as goal

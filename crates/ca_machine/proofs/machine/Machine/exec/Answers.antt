@@ -1,6 +1,7 @@
 use Rattle.std.proofs.Common.{◌∙◌, ap, refl, sym}
 use Rattle.ca_program.specs.View.{program_view, form_view}
-use Rattle.ca_machine.specs.clauses.Resume.{world_of, does}
+use Rattle.ca_machine.specs.Machines.{world_of}
+use Rattle.ca_machine.specs.clauses.Steps.{does}
 use Rattle.ca_machine.proofs.Steps.{block_runs, while_begins, for_runs_at}
 use Rattle.ca_machine.proofs.Passing.{passes_on, passes_at}
 use Rattle.ca_machine.proofs.machine.Machine.exec.Goals as goal

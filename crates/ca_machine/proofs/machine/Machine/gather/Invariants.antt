@@ -1,7 +1,8 @@
 use Rattle.std.proofs.Common.{◌≡◌, List, ◌-◌, length, drop}
 use Rattle.ca_program.specs.View.{program_view}
 use Rattle.ca_machine.specs.declared.work.Work.{Work}
-use Rattle.ca_machine.specs.clauses.Resume.{Past, collected, world_of, resume}
+use Rattle.ca_machine.specs.Machines.{Past, world_of}
+use Rattle.ca_machine.specs.Resume.{collected, resume}
 use Rattle.ca_machine.proofs.machine.Machine.gather.Given as goal
 
 abbrev pub invariant-loop-index : goal.invariant-loop-index

@@ -1,6 +1,7 @@
 use Rattle.std.proofs.Common.{ap}
 use Rattle.ca_program.specs.View.{program_view}
-use Rattle.ca_machine.specs.clauses.Resume.{rest_of, pieces}
+use Rattle.ca_machine.specs.Machines.{rest_of}
+use Rattle.ca_machine.specs.clauses.Begun.{pieces}
 use Rattle.ca_machine.proofs.Passing.{passes_on}
 use Rattle.ca_machine.proofs.machine.Machine.go_into.Goals as goal
 

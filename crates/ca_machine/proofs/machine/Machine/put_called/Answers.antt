@@ -8,8 +8,8 @@ use Rattle.ca_model.specs.declared.value.Value.TheVariants.{Long}
 use Rattle.ca_meaning.specs.Operators.{assigned}
 use Rattle.ca_meaning.specs.Expressions.{value_at}
 use Rattle.ca_machine.specs.declared.machine.Machine.{Machine}
-use Rattle.ca_frames.specs.clauses.Bodies.{with_locals}
-use Rattle.ca_machine.specs.clauses.Resume.{does_before}
+use Rattle.ca_frames.specs.Bodies.{with_locals}
+use Rattle.ca_machine.specs.clauses.Steps.{does_before}
 use Rattle.ca_machine.proofs.Instants.{no_steps_back, called_put}
 use Rattle.ca_machine.proofs.machine.Machine.put_called.Goals as goal
 

@@ -2,7 +2,7 @@ use Rattle.std.proofs.Common.{◌≡◌, [], sym}
 use Rattle.std.proofs.lemmas.Bool.{eqb-true}
 use Rattle.std.proofs.lemmas.List.{nil_from_length}
 use Rattle.ca_program.specs.View.{program_view}
-use Rattle.ca_machine.specs.clauses.Resume.{world_of}
+use Rattle.ca_machine.specs.Machines.{world_of}
 use Rattle.ca_machine.proofs.Steps.{list_runs, last_runs}
 use Rattle.ca_machine.proofs.Passing.{passes_on}
 use Rattle.ca_machine.proofs.machine.Machine.put_off.Goals as goal

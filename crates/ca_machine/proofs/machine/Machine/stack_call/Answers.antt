@@ -2,7 +2,9 @@ use Rattle.std.proofs.Common.{◌≡◌, ◌∙◌, ap, sym}
 use Rattle.std.proofs.lemmas.Result.{IfOk-weaker}
 use Rattle.ca_program.specs.View.{program_view, expression_view, expressions_view}
 use Rattle.ca_machine.specs.declared.work.Target.TheVariants.{Function}
-use Rattle.ca_machine.specs.clauses.Resume.{world_of, receives, resume}
+use Rattle.ca_machine.specs.Machines.{world_of}
+use Rattle.ca_machine.specs.Resume.{resume}
+use Rattle.ca_machine.specs.clauses.Steps.{receives}
 use Rattle.ca_machine.proofs.CallSteps.{value_call_runs}
 use Rattle.ca_machine.proofs.FewCalls.{called_next, called_nothing}
 use Rattle.ca_machine.proofs.machine.Machine.stack_call.Goals as goal

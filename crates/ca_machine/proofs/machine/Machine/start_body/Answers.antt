@@ -1,7 +1,8 @@
 use Rattle.std.proofs.Common.{rules, ap, sym, length, ◌≡◌, ◌∙◌, ◌∷◌}
 use Rattle.ca_program.specs.View.{program_view, statements_view}
 use Rattle.ca_machine.specs.declared.work.Work.TheVariants.{Exec}
-use Rattle.ca_machine.specs.clauses.Resume.{rest_of, all_before}
+use Rattle.ca_machine.specs.Machines.{rest_of}
+use Rattle.ca_machine.specs.clauses.Steps.{all_before}
 use Rattle.ca_machine.proofs.AtOnce.{block_all_before, nothing_before}
 use Rattle.ca_machine.proofs.Beginnings.{still_alone}
 use Rattle.ca_machine.proofs.Passing.{passes_before}

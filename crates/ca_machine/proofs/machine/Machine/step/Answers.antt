@@ -1,6 +1,6 @@
 use Rattle.std.proofs.Common.{◌∙◌, refl}
 use Rattle.ca_program.specs.View.{program_view}
-use Rattle.ca_machine.specs.clauses.Resume.{world_of}
+use Rattle.ca_machine.specs.Machines.{world_of}
 use Rattle.ca_machine.proofs.Taking.{takes_value}
 use Rattle.ca_machine.proofs.Passing.{passes_on}
 use Rattle.ca_machine.proofs.machine.Machine.step.Goals as goal

@@ -1,5 +1,5 @@
 use Rattle.ca_program.specs.View.{program_view}
-use Rattle.ca_machine.specs.clauses.Resume.{world_of}
+use Rattle.ca_machine.specs.Machines.{world_of}
 use Rattle.ca_machine.proofs.Taking.{used_up}
 use Rattle.ca_machine.proofs.machine.Machine.take.Goals as goal
 

@@ -1,5 +1,5 @@
 use Rattle.ca_program.specs.View.{program_view}
-use Rattle.ca_machine.specs.clauses.Resume.{world_of}
+use Rattle.ca_machine.specs.Machines.{world_of}
 use Rattle.ca_machine.proofs.Steps.{while_again_at, for_again_at}
 use Rattle.ca_machine.proofs.Passing.{passes_on}
 use Rattle.ca_machine.proofs.machine.Machine.turn.Goals as goal

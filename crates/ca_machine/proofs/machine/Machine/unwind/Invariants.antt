@@ -1,6 +1,7 @@
 use Rattle.std.proofs.Common.{◌≡◌, length}
 use Rattle.ca_program.specs.View.{program_view}
-use Rattle.ca_machine.specs.clauses.Resume.{Past, unwound}
+use Rattle.ca_machine.specs.Machines.{Past}
+use Rattle.ca_machine.specs.clauses.Steps.{unwound}
 use Rattle.ca_machine.proofs.machine.Machine.unwind.Given as goal
 
 abbrev pub invariant-loop-work : goal.invariant-loop-work
