@@ -17,9 +17,12 @@ METHOD = re.compile(r"^  (?:void|long|bool|\w+ \*)\s*(\w+)\((?:.*\}|.*\{\n(?:   
 
 @cache
 def run(program, *words, source=""):
-    """The bytes and the status of a command of the program."""
-    done = subprocess.run([program, *words], input=source.encode(), capture_output=True, timeout=SECONDS)
-    return done.stdout.decode(), done.returncode
+    """The bytes and the status of a command of the program; no status where the time is up or it tells errors."""
+    try:
+        done = subprocess.run([program, *words], input=source.encode(), cwd=ROOT, capture_output=True, timeout=SECONDS)
+    except subprocess.TimeoutExpired:
+        return "", None
+    return done.stdout.decode(), None if done.stderr else done.returncode
 
 
 def parts(text):
@@ -53,9 +56,8 @@ def commands(page, program):
             continue
         for shown in re.split(r"(?m)^\$ ", text)[1:]:
             command, _, output = shown.partition("\n")
-            done = subprocess.run(["sh", "-c", command.replace("./commute", shlex.quote(program))], cwd=ROOT, stdin=subprocess.DEVNULL,
-                                  capture_output=True, timeout=SECONDS)
-            yield f"{page.name}:{line} {command}", done.stdout.decode() == output and not done.stderr
+            found, status = run("sh", "-c", command.replace("./commute", shlex.quote(program)))
+            yield f"{page.name}:{line} {command}", status is not None and found == output
 
 
 def programs(page, program):
@@ -69,14 +71,15 @@ def programs(page, program):
             yield f"{page.name}:{line} a program", text in samples or filled == generated
 
 
-def after_a_colon(page, program):
-    """A command in a paragraph that ends with a colon writes the block below it."""
+def told_before(page, program):
+    """A command that a paragraph tells, which ends with a colon or so, writes the block below it."""
     before = ""
     for kind, line, text in parts(page.read_text()):
-        if kind == "block" and before.endswith(":"):
-            for command in re.findall(r"`\./commute ([^`<|]*) < ([^`]*)`", before):
-                words, source = command[0].split(), ROOT / command[1]
-                yield f"{page.name}:{line} {' '.join(words)}", run(program, *words, source=source.read_text())[0] == text
+        told = re.findall(r"`\./commute ([^`<|]*) < ([^`]*)`.*:$", before) + [
+            (command, "samples/first_program.cc") for command in re.findall(r"On the sample `(\w+)` writes:?$", before)]
+        for command, path in told if kind == "block" else ():
+            found, _ = run(program, *command.split(), source=(ROOT / path).read_text())
+            yield f"{page.name}:{line} {command}", found == text
         before = re.sub(r"\s+", " ", text).strip()
 
 
@@ -169,5 +172,5 @@ def samples(program):
 
 
 def shown(page, program):
-    for look in commands, programs, after_a_colon, small_runs, classes:
+    for look in commands, programs, told_before, small_runs, classes:
         yield from look(page, program)
