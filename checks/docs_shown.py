@@ -75,9 +75,9 @@ def told_before(page, program):
     """A command that a paragraph tells, which ends with a colon or so, writes the block below it."""
     before = ""
     for kind, line, text in parts(page.read_text()):
-        told = re.findall(r"`\./commute ([^`<|]*) < ([^`]*)`.*:$", before) + [
+        commands_told = re.findall(r"`\./commute ([^`<|]*) < ([^`]*)`.*:$", before) + [
             (command, "samples/first_program.cc") for command in re.findall(r"On the sample `(\w+)` writes:?$", before)]
-        for command, path in told if kind == "block" else ():
+        for command, path in commands_told if kind == "block" else ():
             found, _ = run(program, *command.split(), source=(ROOT / path).read_text())
             yield f"{page.name}:{line} {command}", found == text
         before = re.sub(r"\s+", " ", text).strip()
