@@ -33,13 +33,14 @@ def owner_of(line):
 
 
 class Crate:
-    """The names of a crate. `calls` has for each call, by its own name and by that of its type, the names of its clauses;
-    `open` has the traits, whose methods are all public, and `told` what `specs/` declares."""
+    """The names of a crate. `calls` has for each call, by its own name and by that of its type, the names of its clauses, and
+    `public` those of public calls; `traits` has for each type the traits that it has, `open` the traits themselves, `parts`
+    variants and fields, and `told` what `specs/` declares."""
 
     def __init__(self, name):
-        self.path = ROOT / "crates" / name
-        self.name, self.calls, self.public, self.types, self.traits, self.modules = name, {}, set(), set(), {}, set()
-        self.open = set()
+        self.name, self.path = name, ROOT / "crates" / name
+        self.calls, self.traits = {}, {}
+        self.public, self.types, self.open, self.parts, self.modules = set(), set(), set(), set(), set()
         for path in sorted((self.path / "src").rglob("*.rt")):
             self.modules.add(path.stem)
             self.read(path)
@@ -52,19 +53,20 @@ class Crate:
         for line in path.read_text().splitlines():
             if line.startswith("}"):
                 owner = trait = within = None
-            elif OWNER.match(line):
+            elif found := OWNER.match(line):
                 owner, trait = owner_of(line)
                 self.types.add(owner)
-                self.open.update({owner} if OWNER.match(line).group(1) == "trait" else ())
+                self.open.update({owner} if found.group(1) == "trait" else ())
                 self.traits.setdefault(owner, set()).update({trait} - {None})
             elif found := FUNCTION.match(line):
                 within = self.begin(found, owner, trait)
-            elif (found := CLAUSE.match(line)) and within:
-                for clauses in within:
+            elif found := CLAUSE.match(line):
+                for clauses in within or ():
                     clauses.add(found.group(1))
-            self.types.update(TYPE.match(line.strip()).groups() if TYPE.match(line.strip()) else ())
-            self.types.update(VARIANT.match(line).groups() if VARIANT.match(line) else ())
-            self.types.update(FIELD.match(line).groups() if FIELD.match(line) else ())
+            elif found := TYPE.match(line.strip()):
+                self.types.add(found.group(1))
+            elif found := VARIANT.match(line) or FIELD.match(line):
+                self.parts.add(found.group(1))
 
     def begin(self, found, owner, trait):
         """The sets of clauses that a function has, one for each of its names; what a type's methods have is had by the type."""
@@ -104,10 +106,10 @@ class Crate:
 
     def has(self, name):
         """Whether a name is one of the crate's: a call, a type or a part of one, a module, a definition or a lemma."""
-        last = name.split("::")[-1]
-        if name in self.calls or name in self.types or name in self.modules or name in self.definitions:
+        if any(name in names for names in (self.calls, self.types, self.parts, self.modules, self.definitions)):
             return True
-        return "::" in name and name.split("::")[0] in self.types | self.modules and last in self.types | set(self.calls)
+        head, _, last = name.rpartition("::")
+        return head in self.types | self.modules and (last in self.types | self.parts or last in self.calls)
 
 
 @cache

@@ -54,7 +54,8 @@ class Page:
         return any(crate.has(word) or word in crate.all_clauses() or word in crate.edits() for crate in self.near)
 
     def is_call(self, word):
-        return word in self.crate.public or word in self.crate.types or word in self.crate.told
+        """A public call or a type; of a crate that has no calls, a definition."""
+        return word in self.crate.public or word in self.crate.types or not self.crate.public and word in self.crate.told
 
     def names(self):
         """Each name in backquotes."""
