@@ -8,9 +8,9 @@ So it has to of the samples, whose texts `samples/NAME.pairs` and `samples/NAME.
 import pathlib
 import sys
 
-from analysis import Plan
-from annotated import BadMark, annotated, canonical, erase
-from reader import tree_of
+from reference.analysis import Plan
+from reference.annotated import BadMark, annotated, canonical, erase
+from reference.reader import tree_of
 
 GRAPH = """class Graph {
 public:

@@ -199,7 +199,7 @@ module _ {words : List (List ℕ)} {text : List ℕ} {status : ℕ} {old now : O
   pub when_8 : status ≡ 8 → IsRefused true text
   when_8 is = let s = given headline (λ e. omega arith) (λ e. omega arith) (λ e. omega arith) in limit_status s.is_one (sym is ∙ s.same)
 
-  -- where no device failed, only memory can have been wanting
+  -- where no device failed, only memory can have run out
   pub completely : (status ≡ 6 → ⊥) → (status ≡ 7 → ⊥) → (reply : Reply) → Replies words text reply → Complete reply status old now
   completely six seven reply replies = at (headline.each reply replies)
     where

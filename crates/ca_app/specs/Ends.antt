@@ -4,14 +4,14 @@ use Rattle.ca_base.specs.Devices.{Rose, grown, Began}
 use Rattle.ca_meaning.specs.Output.{Reply}
 use Rattle.ca_app.specs.declared.serving.TheConstants.{DONE, REFUSED, TRAPPED, SPENT, NO_MEMORY, READ_FAULT, WRITE_FAULT}
 
--- The reply was given whole; or memory was wanting, a read failed or a write failed, and the status says which.
+-- The reply was given whole; or memory ran out, a read failed or a write failed, and the status says which.
 pub data Ends (reply : Reply) (status : ℕ) (old now : Option (List ℕ)) : Type 0 where
   whole : status ≡ reply.status → now ≡ grown old reply.bytes → Ends reply status old now
   no_memory : status ≡ NO_MEMORY → Began old now reply.bytes → Ends reply status old now
   read_fault : status ≡ READ_FAULT → now ≡ old → Ends reply status old now
   write_fault : status ≡ WRITE_FAULT → Began old now reply.bytes → Ends reply status old now
 
--- Memory was wanting or a read failed before there was a reply, and nothing was written.
+-- Memory ran out or a read failed before there was a reply, and nothing was written.
 pub record Unreplied (status : ℕ) (old now : Option (List ℕ)) : Type 0 where
   pub cause : (status ≡ NO_MEMORY) ⊎ (status ≡ READ_FAULT)
   pub same : now ≡ old
@@ -26,7 +26,7 @@ pub record SinkCause (status faults faults' : ℕ) : Type 0 where
   pub later : faults ≤ faults'
   pub rose : status ≡ WRITE_FAULT → Rose faults faults'
 
--- the reply was given whole, or memory was wanting
+-- the reply was given whole, or memory ran out
 abbrev pub Complete : Reply → ℕ → Option (List ℕ) → Option (List ℕ) → Type 0
 Complete reply status old now = (status ≡ NO_MEMORY) ⊎ ((status ≡ reply.status) × (now ≡ grown old reply.bytes))
 

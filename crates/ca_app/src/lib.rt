@@ -1,7 +1,7 @@
 //! All that the program does: words and a source in, bytes and a status out.
 //!
 //! `top` promises that what it writes is the reply of the words and the text, which for a run is the
-//! text of the depth-first serial run; or it answers want of memory, or a failed read or write of a
+//! text of the depth-first serial run; or it answers out of memory, or a failed read or write of a
 //! device whose count of faults rose in this call. It holds for every source and sink, since it is
 //! stated on what they tell. It serves `run WORKERS BUDGET`, by `ca_serial` and the engine `OneWorker`
 //! of `ca_run` or, for more workers, that of `ca_workers`, and `pairs`, `plan` and `emit`, all by the plan of `ca_plan`.

@@ -1,4 +1,4 @@
-//! The lines that stand alone.
+//! Writes the line of a trap and of a budget that is spent: `trap_text` and `spent_text` of `ca_meaning/specs/Output.antt`.
 
 ghost use Rattle.std.specs.Prelude.{◌≡◌};
 ghost use Rattle.ca_base.specs.Devices.{HasCause, Writes};

@@ -1,4 +1,5 @@
-//! From a text to its program.
+//! From a text to its program, or the refusal that it is told: `specs/clauses/Reading.antt`, by `specs/Accepted.antt` and
+//! `Refusals.antt`.
 
 ghost use Rattle.std.specs.Prelude.{◌≡◌, ◌≤◌, length, IfOk};
 ghost use Rattle.std.specs.Result.{IfErr};
@@ -17,7 +18,7 @@ use ca_tree::{Place, Token, Tree};
 use ca_types::check;
 use std::alloc::Global;
 
-/// Why a text has no program: it is refused, or memory is wanting.
+/// Why a text has no program: it is refused, or memory runs out.
 #[derive(Clone, Copy, PartialEq, Eq)]
 pub enum NoProgram {
     Refused(Refusal),

@@ -1,4 +1,4 @@
-//! All that the program does.
+//! From words and a text to the reply and the status: `Replies` of `specs/Reply.antt`, and `Ends` of `specs/Ends.antt`.
 
 ghost use Rattle.std.specs.Prelude.{◌≡◌, ℕ, ◌≤◌, ◌⊎◌, true, false, List, length, Some};
 ghost use Rattle.ca_base.specs.Devices.{Rose, at_end};
@@ -44,7 +44,7 @@ pub const TRAPPED: u8 = 3;
 /// The budget was spent.
 pub const SPENT: u8 = 4;
 
-/// Memory was wanting.
+/// Memory ran out.
 pub const NO_MEMORY: u8 = 5;
 
 /// A read failed.
@@ -60,7 +60,7 @@ pub const PAST_LIMIT: u8 = 8;
 /// the exit status.
 ///
 /// A command that reads its source reads the whole of it before anything is written.
-/// `NO_MEMORY` is want of memory, `READ_FAULT` a failed read, `WRITE_FAULT` a failed write; every
+/// `NO_MEMORY` is out of memory, `READ_FAULT` a failed read, `WRITE_FAULT` a failed write; every
 /// other status is that of the reply. A run passes the gate before each section that its engine runs.
 pub fn top<R: AllocGlobal + Threads + Wait + Sync, S: Source, K: Sink, G: Gate>(
     rt: &R,
@@ -70,7 +70,7 @@ pub fn top<R: AllocGlobal + Threads + Wait + Sync, S: Source, K: Sink, G: Gate>(
     gate: &G,
 ) -> u8
     // Where the source tells its bytes: what was written is the reply of the words and the text,
-    // or a beginning of it before memory was wanting or a device failed.
+    // or a beginning of it before memory ran out or a device failed.
     ensures headline { (text : List ℕ) → S.left source.old ≡ Some text → EndsWith (Replies (texts words.now) text) result (K.written sink.old) (K.written sink.new) }
 
     // What each of its statuses says of the text and its serial run.
@@ -80,7 +80,7 @@ pub fn top<R: AllocGlobal + Threads + Wait + Sync, S: Source, K: Sink, G: Gate>(
     ensures spent { (text : List ℕ) → S.left source.old ≡ Some text → result ≡ SPENT → RunEnds (texts words.now) text IsSpent }
     ensures limit { (text : List ℕ) → S.left source.old ≡ Some text → result ≡ PAST_LIMIT → IsRefused true text }
 
-    // Where neither device failed, the reply was given whole, or memory was wanting.
+    // Where neither device failed, the reply was given whole, or memory ran out.
     ensures complete { (text : List ℕ) → S.left source.old ≡ Some text → (Rose (S.faults source.old) (S.faults source.new) → ⊥) → (Rose (K.faults sink.old) (K.faults sink.new) → ⊥)
         → (reply : Reply) → Replies (texts words.now) text reply → Complete reply result (K.written sink.old) (K.written sink.new) }
 
@@ -90,7 +90,7 @@ pub fn top<R: AllocGlobal + Threads + Wait + Sync, S: Source, K: Sink, G: Gate>(
     ensures unread_headline { ReadsNothing (texts words.now) → (text : List ℕ) → EndsWith (Replies (texts words.now) text) result (K.written sink.old) (K.written sink.new) }
     ensures unread_fault { ReadsNothing (texts words.now) → result ≡ READ_FAULT → ⊥ }
 
-    // `USAGE` comes only where the words name no command. Then memory is never wanting.
+    // `USAGE` comes only where the words name no command. Then memory never runs out.
     ensures usage_status { IsUsageFault (texts words.now) → (result ≡ USAGE) ⊎ (result ≡ WRITE_FAULT) }
     ensures usage_only { result ≡ USAGE → IsUsageFault (texts words.now) }
 

@@ -1,4 +1,4 @@
-//! Refused texts.
+//! Texts that are refused, each with the line that is told of it: `refusal_text` of `ca_app/specs/Refusals.antt`.
 
 /// A line for each text: the text, `=>` and what is told.
 pub const REFUSED: &str = "int main() { print(1 & 2); } => error 1:22 E01

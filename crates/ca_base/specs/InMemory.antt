@@ -1,4 +1,4 @@
--- Devices in memory.
+-- Devices in memory: what a source has left, what a sink holds, and which of their calls are to fail.
 use Rattle.std.specs.Prelude.{ℕ, ◌-◌, List, length}
 use Rattle.std.specs.List.{Contains}
 use Rattle.ca_base.specs.Devices.{one_more}

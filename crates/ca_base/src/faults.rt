@@ -1,4 +1,4 @@
-//! What a call answers where a device fails, or where memory is wanting.
+//! What a call answers where a device fails, or where memory runs out.
 
 use std::alloc::{AllocError, AllocFailed};
 
@@ -6,7 +6,7 @@ use std::alloc::{AllocError, AllocFailed};
 #[derive(Clone, Copy, PartialEq, Eq, Debug)]
 pub struct Failed;
 
-/// Want of memory. No clause says when it comes.
+/// Out of memory. No clause says when it comes.
 #[derive(Clone, Copy, PartialEq, Eq, Debug)]
 pub struct Memory;
 

@@ -1,4 +1,5 @@
-//! Reads a source to its end.
+//! Reads a source to its end, which is `at_end` of `specs/Devices.antt`, or tells the fault or the limit
+//! (`specs/Reading.antt`).
 
 ghost use Rattle.std.specs.Prelude.{◌≡◌, ℕ, ◌≤◌, ◌<◌, List, length, IfOk, OnOk, IfSome};
 ghost use Rattle.ca_base.specs.Devices.{Rose, at_end};
@@ -18,7 +19,7 @@ pub enum ReadError {
     /// The source has more bytes than the limit.
     #[error("the source has too many bytes")]
     Limit,
-    /// Want of memory.
+    /// Out of memory.
     #[error("out of memory")]
     Memory,
 }

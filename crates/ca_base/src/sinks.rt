@@ -1,4 +1,4 @@
-//! What bytes are written to.
+//! Sinks, which bytes are written to: what each write takes is `Wrote` of `specs/Devices.antt`.
 
 ghost use Rattle.std.specs.Prelude.{◌≡◌, ℕ, ◌<◌, ◌≤◌, List, length, Option, IfOk};
 ghost use Rattle.ca_base.specs.Devices.{HasCause, TakesSome, Wrote};

@@ -1,4 +1,4 @@
-//! What bytes are read from.
+//! Sources, which bytes are read from: what each read gives is `Reads` of `specs/Devices.antt`.
 
 ghost use Rattle.std.specs.Prelude.{◌≡◌, ℕ, ◌<◌, ◌≤◌, List, length, Option, IfOk};
 ghost use Rattle.ca_base.specs.Devices.{HasCause, Reads};

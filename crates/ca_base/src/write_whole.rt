@@ -1,4 +1,4 @@
-//! Writes a piece whole.
+//! Writes a piece whole, or a beginning of it before a fault: `Writes` of `specs/Devices.antt`.
 
 ghost use Rattle.std.specs.Prelude.{◌≡◌, ℕ, List, [], length, IsOk};
 ghost use Rattle.ca_base.specs.Devices.{HasCause, Writes};

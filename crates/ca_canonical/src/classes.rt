@@ -1,4 +1,5 @@
-//! Classes and `main`.
+//! Writes classes, their members and `main`: the tokens of `specs/Spell.antt`, with marks as `specs/Annotated.antt` has
+//! them.
 
 ghost use Rattle.std.specs.Prelude.{◌≡◌, ◌∷◌, ◌++◌, map, false};
 ghost use Rattle.ca_tree.specs.declared.token.Kind.TheVariants.{Word};

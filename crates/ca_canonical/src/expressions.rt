@@ -1,4 +1,4 @@
-//! Expressions.
+//! Writes an expression: `spell_expression` of `specs/Spell.antt`.
 
 ghost use Rattle.std.specs.Prelude.{◌≡◌, nat_lt};
 ghost use Rattle.ca_tree.specs.declared.token.Kind.TheVariants.{Key};

@@ -1,4 +1,4 @@
-//! Statements.
+//! Writes statements: the tokens of `specs/Spell.antt`, with marks as `specs/Annotated.antt` has them.
 
 ghost use Rattle.ca_tree.specs.View.{expression_view, right_view, statement_view, statements_view};
 ghost use Rattle.ca_canonical.specs.Annotated.{marked, marked_all};

@@ -174,7 +174,7 @@ module _ {T A B : Type 0} {Part PartClosed : Grammar T A} {E F : A → Grammar T
     along = λ free w s' q' r y e e' h n c. let k = rule.split free s' r y c in d.along free w s' q' k.1 k.0 e e' h n k.2;
   }
 
--- want of memory claims nothing
+-- out of memory claims nothing
 pub no_memory : {T A : Type 0} {D C : Grammar T A} {s : List T} → Exact D C s (Failed NoMemory)
 no_memory = record { meets = tt; along = tt }
 

@@ -1,4 +1,4 @@
-//! Expressions and values that are pointers.
+//! From an expression that is a pointer to its value: `seen` and `pointer` of `specs/Direct.antt`.
 
 ghost use Rattle.std.specs.Prelude.{◌≡◌, IfSome, None, Ok};
 ghost use Rattle.ca_program.specs.View.{expression_view};

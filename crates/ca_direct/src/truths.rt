@@ -1,4 +1,4 @@
-//! Expressions that are truth values.
+//! From an expression that is a truth value to that value: `seen` of `specs/Direct.antt`.
 
 ghost use Rattle.std.specs.Prelude.{◌≡◌, IfSome, None, Ok};
 ghost use Rattle.ca_program.specs.View.{expression_view};

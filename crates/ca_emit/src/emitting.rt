@@ -1,4 +1,4 @@
-//! The annotated text.
+//! Writes a tree as its canonical text with the marks of a plan: `annotated_text` of `specs/Annotations.antt`.
 
 ghost use Rattle.std.specs.Prelude.{◌≡◌, ◌++◌, ℕ, List, map, slice_get, IfOk};
 ghost use Rattle.ca_tree.specs.declared.token.Token.{Token};

@@ -1,4 +1,4 @@
-//! Which marks stand where.
+//! From the places that run in parallel to the marks before each statement: `marking_by` of `specs/Annotations.antt`.
 
 ghost use Rattle.std.specs.Prelude.{◌≡◌};
 ghost use Rattle.ca_canonical.specs.declared.marks.Mark.TheVariants.{Lock, Unlock, Parallel};

@@ -28,7 +28,7 @@ pub enum EraseError {
     /// The first comment that begins with `/*@` and is no mark stands there.
     #[error("no mark")]
     BadMark(Place),
-    /// Want of memory.
+    /// Out of memory.
     #[error("out of memory")]
     Memory,
 }

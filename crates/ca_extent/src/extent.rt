@@ -1,4 +1,4 @@
-//! Extents.
+//! From operations to their extent, all that they may reach: `ExtentOf` of `ca_parallel/specs/ExtentsOf.antt`.
 
 ghost use Rattle.std.specs.Prelude.{◌≡◌, ◌↔◌, ◌++◌, List, IfOk, IsTrue, Contains, map, flat_map};
 ghost use Rattle.ca_program.specs.View.{method_view, program_view};

@@ -1,4 +1,4 @@
-//! Lists in order, without repeats.
+//! From numbers in any order to a list that rises: `Rises` of `ca_parallel/specs/ExtentsOf.antt`.
 
 ghost use Rattle.std.specs.Prelude.{ℕ, Contains};
 ghost use Rattle.std.specs.List.Sorted.{IsStrictlyIncreasing};

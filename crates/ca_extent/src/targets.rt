@@ -1,4 +1,4 @@
-//! The fields that a body writes.
+//! From a body to the fields that it writes: `written_by_all` of `specs/clauses/Targets.antt`.
 
 ghost use Rattle.std.specs.Prelude.{◌≡◌, ◌++◌, IfOk};
 ghost use Rattle.ca_program.specs.View.{statement_view, statements_view};

@@ -1,4 +1,4 @@
-//! Copies of forms.
+//! From a form to a copy that is the same value (`specs/Plain.antt`).
 
 ghost use Rattle.std.specs.Prelude.{◌≡◌, IfOk, IsOkAnd};
 ghost use Rattle.ca_forms.specs.Seen.{over};

@@ -1,4 +1,4 @@
-//! Products of monomials.
+//! From two monomials to their product: `times` of `specs/Products.antt`.
 
 ghost use Rattle.std.specs.Prelude.{◌≡◌, ◌<◌, ◌++◌, length, drop, IfOk, OnOk};
 ghost use Rattle.ca_forms.specs.clauses.Next.{IsNext};
@@ -52,7 +52,7 @@ impl Unary {
     }
 }
 
-/// Two powers of one part. An exponent that has no room in 64 bits is want of memory.
+/// Two powers of one part. An exponent that has no room in 64 bits counts as out of memory.
 fn joined(alloc: Global, a: &Power, b: &Power) -> Result<Power, AllocError>
     ensures { IfOk result (λ p. p ≡ joined a.now b.now) }
 {

@@ -1,4 +1,5 @@
--- Flags of operations.
+-- Flags that are set one after another say in the end which operations stand in a list: `FlagsOf` of
+-- `specs/clauses/Flags.antt`.
 use Rattle.std.proofs.Common.{◌≡◌, ◌≢◌, ◌<◌, ◌≤◌, ℕ, List, [], ◌∷◌, length, get_or, replicate, refl, sym, ◌∙◌, arith}
 use Rattle.std.specs.Prelude.{Bool, true, false, ◌&&◌, ◌||◌, nat_eq, slice_set}
 use Rattle.std.proofs.lemmas.Bool.{eqb-true, eqb-false}

@@ -26,7 +26,7 @@ abbrev pub heeded : Bool → PlainMarks → PlainMarks
 heeded true marked = marked
 heeded false marked = no_marks
 
--- the marks that a body heeds: the calls and the loops that it hands on
+-- the marks that a body heeds: the calls and the loops that it hands off
 abbrev pub marks_of : Body → PlainMarks
 marks_of f = heeded f.heeds f.marked
 

@@ -155,7 +155,7 @@ impl<'a> Bodies<'a> {
         Ok(())
     }
 
-    /// Lets the body that runs hand nothing on.
+    /// Lets the body that runs hand nothing off.
     pub fn be_alone(&mut self)
         ensures current { self.new.current ≡ alone self.old.current }
         ensures below { self.new.below ≡ self.old.below }
@@ -201,7 +201,7 @@ impl<'a> Bodies<'a> {
     }
 
     /// Begins a body with this receiver, whose first locals are the arguments; the others have these types. It heeds the
-    /// marks where the body that runs does. A place of locals that no `u32` holds is want of memory.
+    /// marks where the body that runs does. A place of locals that no `u32` holds counts as out of memory.
     #[inline(always)]
     pub fn enter(
         &mut self,

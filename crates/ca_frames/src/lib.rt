@@ -1,5 +1,5 @@
 //! What a run of the serial interpreter stands on beside its work: stacks, the bodies that run, and which calls and
-//! loops these hand on.
+//! loops these hand off.
 //!
 //! A `Stack` is seen as a list with its top first. `Bodies` are the body that runs and those that wait for it: the locals
 //! of all stand in one vector, and each heeds the marks or doesn't. `Patience` says when a call is looked into; no clause

@@ -1,4 +1,4 @@
-//! The calls and loops that are handed on.
+//! The calls and loops that are handed off.
 
 ghost use Rattle.std.specs.Prelude.{◌≡◌, IfOk};
 ghost use Rattle.ca_parallel.specs.Lists.{op_in};

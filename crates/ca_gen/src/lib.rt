@@ -32,7 +32,7 @@ const MAIN_END: &str = "  t->at[0]->visit(1);\n  return 0;\n}\n";
 
 /// The text of a seed and a size.
 ///
-/// Errors: want of memory.
+/// Errors: out of memory.
 pub fn generated_text(alloc: Global, seed: u64, size: u32) -> Result<Vec<u8>, Memory>
     requires { (1 ≤ size) × (size ≤ 20000) }
     ensures { IfOk result (λ text. text.items ≡ generated seed size) }

@@ -6,7 +6,7 @@
 //! other on the way, so that the machine's own stack doesn't grow with what a program does.
 //!
 //! `long_in` and `call_in` answer a number, and leave behind how many steps are left; `None` wherever they do
-//! not decide: at a trap, at a step that is wanting, at a loop, at a value that is no number, where the depth is
+//! not decide: at a trap, at a step too many, at a loop, at a value that is no number, where the depth is
 //! spent. What they answer is what the expression means, on whatever line it stands. Of `None` nothing is
 //! promised, nor of the steps that are left then: the caller keeps its own number, and goes on with its stack.
 //!

@@ -1,4 +1,4 @@
--- Kinds of bytes.
+-- Kinds of bytes: blanks, letters, what a name goes on with; and the number that digits spell.
 use Prim.Native.Char.{code}
 use Rattle.std.specs.Prelude.{ℕ, ◌+◌, ◌-◌, ◌*◌, List, Bool, not, ◌||◌, ◌==◌}
 use Rattle.std.specs.List.{fold}

@@ -1,4 +1,5 @@
-//! Laws of tokens.
+//! Laws of tokens: a text has one list of them (`specs/Tokens.antt`) or one first refused place (`specs/Faults.antt`), and
+//! each is the longest (`specs/Pieces.antt`).
 
 ghost use Rattle.std.specs.Prelude.{◌≡◌, ◌≤◌, ℕ, List, length, take};
 ghost use Rattle.ca_tree.specs.declared.name.Place.{Place};

@@ -53,7 +53,7 @@ pub enum LexError {
     /// The first byte of the token behind `MOST_TOKENS` tokens.
     #[error("too many tokens")]
     Limit(Place),
-    /// Want of memory.
+    /// Out of memory.
     #[error("out of memory")]
     Memory,
 }

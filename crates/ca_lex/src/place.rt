@@ -1,4 +1,4 @@
-//! Places behind bytes.
+//! From a place and the bytes that stand there to the place behind them: `advance` of `specs/Places.antt`.
 
 ghost use Rattle.std.specs.Prelude.{◌≡◌, ◌<◌, ◌≤◌, ◌+◌, ◌^◌, length};
 ghost use Rattle.ca_lex.specs.Places.{advance};

@@ -157,7 +157,7 @@ begun p (Operation m) line n args vs f below todo w (suc k) ss others off lt is 
 pub call_is : (e : Expr) (b : Box Expr Global) (m : FunctionId) (arguments : Vec Expr Global) → e ≡ Value b m arguments → expression_view e ≡ value_call (expression_view b.value) m (expressions_view arguments.items)
 call_is e b m arguments is = rw is (ap (λ es. value_call (expression_view b.value) m es) (row_is_list arguments))
 
--- a call that the body hands on is due
+-- a call that the body hands off is due
 pub is_due : (p : PlainProgram) (line n r : ℕ) (op : OpId) (old new : Machine) (ps : Past) → drop n old.values ≡ Ref r ∷ drop (n + 1) old.values → op_in (marks_of old.bodies.current).ops op ≡ true → new.due ≡ record { receiver = r; op = op; count = n } → new.todo ≡ old.todo → new.values ≡ old.values → new.bodies ≡ old.bodies → new.heap ≡ old.heap → new.left ≡ old.left → begins p line (Operation op) n old ps ≡ runs_due p new (and_note ps (note_of new))
 is_due p line n r op old new ps there marked due todo values bodies heap left =
     rw (due, todo, values, bodies, heap, left)

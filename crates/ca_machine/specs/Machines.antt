@@ -60,7 +60,7 @@ call_of m = invocation m.due.receiver m.due.op (reverse (take m.due.count m.valu
 abbrev pub note_of : Machine → Note
 note_of m = note m.heap (call_of m ∷ []) m.left
 
--- what is left of the run where the call that is due runs as the serial run does, and hands nothing on within it
+-- what is left of the run where the call that is due runs as the serial run does, and hands nothing off within it
 abbrev pub runs_due : PlainProgram → Machine → Past → Flow World
 runs_due p m ps =
     go_on (run_call (operations_of p) m.bodies.current.locals (call_of m) (world_of m ps) m.left) (λ ls w k. resume p m.todo (drop (m.due.count + 1) m.values) m.bodies.current m.bodies.below w k) (λ v w k. runs_out w)

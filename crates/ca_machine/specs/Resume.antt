@@ -1,4 +1,4 @@
--- What the work that is left means: how the run goes on from it.
+-- What the work that is left means: how the run goes on from it, its continuation.
 use Rattle.std.specs.Prelude.{ℕ, zero, suc, List, [], ◌∷◌, slice_get, slice_set, drop}
 use Rattle.ca_program.specs.declared.program.FieldId.{FieldId}
 use Rattle.ca_program.specs.declared.program.Expr.{Expr}

@@ -1,4 +1,4 @@
--- What is called.
+-- What a call's target is in the program: the method, and the types of its locals that are no parameters.
 use Rattle.std.specs.Prelude.{List, [], Option, Some, None, slice_get, drop}
 use Rattle.ca_program.specs.Plain.{PlainProgram, PlainMethod}
 use Rattle.ca_program.specs.declared.program.ValueType.{ValueType}

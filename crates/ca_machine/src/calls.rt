@@ -1,4 +1,4 @@
-//! The steps of calls.
+//! The steps of calls: from the work on a call to what is left of the run, `rest_of` of `specs/Machines.antt`.
 
 ghost use Rattle.std.specs.Prelude.{◌≡◌, ◌∷◌, ◌++◌, Bool, List, map, IfOk, Some, None};
 ghost use Rattle.ca_program.specs.View.{program_view, method_view, statements_view};
@@ -69,7 +69,7 @@ impl<'a> Machine<'a> {
         Ok(index)
     }
 
-    /// Puts the rest of a call before other work. A number of arguments that no `u32` holds is want of memory.
+    /// Puts the rest of a call before other work. A number of arguments that no `u32` holds counts as out of memory.
     #[inline]
     fn put_collect(
         &mut self,
@@ -99,7 +99,7 @@ impl<'a> Machine<'a> {
     }
 
     /// Begins a call whose arguments are the top values, so many of them, with the receiver below them. One that the
-    /// body hands on is due, before its step.
+    /// body hands off is due, before its step.
     #[inline(always)]
     fn begin(
         &mut self,
@@ -146,7 +146,7 @@ impl<'a> Machine<'a> {
         }
     }
 
-    /// The operation, where the body hands calls of it on.
+    /// The operation, where the body hands calls of it off.
     #[inline(always)]
     fn handed(&self, target: Target) -> Option<OpId>
         ensures { Handed result target (marks_of self.now.bodies.current).ops }

@@ -1,4 +1,4 @@
-//! The steps of loops.
+//! The steps of loops: from the work on one to what is left of the run, `rest_of` of `specs/Machines.antt`.
 
 ghost use Rattle.std.specs.Prelude.{◌≡◌, ◌∷◌, ℕ, IfOk, true, false};
 ghost use Rattle.ca_program.specs.View.{program_view, expression_view, expressions_view, statement_view, statements_view};

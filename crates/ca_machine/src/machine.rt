@@ -1,4 +1,4 @@
-//! The state of a run.
+//! The state of a run: heap, stacks, work and what is left of the budget, which `specs/Machines.antt` takes to a meaning.
 
 ghost use Rattle.std.specs.Prelude.{◌≡◌, IfOk, IfSome, OnErr, slice_get, Some, None, option_copied};
 ghost use Rattle.ca_program.specs.View.{program_view, expression_view};
@@ -107,7 +107,7 @@ impl<'a> Machine<'a> {
     }
 
     /// The item that an index names in an array field of the object that a value names. An item that
-    /// stands where no u32 reaches is want of memory.
+    /// stands where no u32 reaches counts as out of memory.
     #[inline]
     pub(crate) fn indexed(
         &self,

@@ -1,4 +1,4 @@
-//! One piece of work.
+//! Does one piece of work: `after` of `specs/Machines.antt` is what is left of the run behind it.
 
 ghost use Rattle.std.specs.Prelude.{◌≡◌, ◌∷◌, ℕ, IfOk};
 ghost use Rattle.ca_program.specs.View.{program_view, expression_view, expressions_view, statement_view, statements_view};

@@ -1,4 +1,4 @@
-//! What is left to do.
+//! Pieces of work that are left to do, which `specs/Resume.antt` takes to a meaning.
 
 use ca_model::Value;
 use ca_program::{
@@ -70,7 +70,7 @@ pub enum Work<'a> {
 }
 
 /// How a piece of work ends: the run goes on, where it printed a value behind that print, it stops, or a call that
-/// is handed on is due, or a loop is the next piece of work whose calls are listed first. The printed value, the trap and
+/// is handed off is due, or a loop is the next piece of work whose calls are listed first. The printed value, the trap and
 /// the call stand in the machine.
 #[derive(Clone, Copy)]
 pub enum Next {

@@ -16,7 +16,7 @@ use Rattle.ca_meaning.specs.Expressions.{Out, gives, traps, trap_at, take_step, 
 use Rattle.ca_meaning.specs.Flows.{Flow, goes_on, gives_back, stops, runs_out, and_on, with, Parts, exec_all, turn}
 use Rattle.ca_meaning.specs.Functions.{own_of, place, body_of, locals_of, functions_of, value_in}
 
--- A note on operations that are about to run: the heap before them, the operations, and the steps left.
+-- A note, of a hand-off: the heap before operations that are about to run, the operations, and the steps left.
 pub record Note : Type 0 where
   pub heap : List Object
   pub first : List Invocation

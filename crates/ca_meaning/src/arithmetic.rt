@@ -1,4 +1,4 @@
-//! The operators on values.
+//! From values to what an operator makes of them: `operated`, `signed` and `assigned` of `specs/Operators.antt`.
 
 ghost use Rattle.std.specs.Prelude.{◌≡◌, IfErr};
 ghost use Rattle.ca_model.specs.declared.value.TrapKind.TheVariants.{ZeroDivisor};

@@ -1,4 +1,4 @@
-//! A well typed program keeps a typed heap typed.
+//! Type preservation: a well typed program keeps a typed heap typed.
 
 ghost use Rattle.std.specs.Prelude.{ℕ, List, [], slice_get};
 ghost use Rattle.ca_program.specs.declared.program.ClassId.{ClassId};

@@ -19,7 +19,7 @@ const MOST_OBJECTS: usize = 1_000_000;
 /// The most values that all objects of a heap hold together.
 const MOST_VALUES: u32 = 4_000_000;
 
-/// Why no object was made: the heap has no room for it, or memory is wanting.
+/// Why no object was made: the heap has no room for it, or memory runs out.
 #[derive(Clone, Copy, PartialEq, Eq, Debug)]
 pub enum CreateError {
     Full,

@@ -1,4 +1,4 @@
-//! The heap's text.
+//! Writes values and the heap as text: `value_text` and `heap_text` of `specs/Texts.antt`.
 
 ghost use Rattle.std.specs.Prelude.{◌≡◌, ◌∷◌, ◌++◌, [], codes, option_copied, slice_get};
 ghost use Rattle.ca_base.specs.Devices.{HasCause, Writes};

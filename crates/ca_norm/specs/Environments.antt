@@ -9,7 +9,7 @@ use Rattle.ca_meaning.specs.Expressions.{Out, gives, traps, over, value_at, one_
 use Rattle.ca_meaning.specs.Functions.{functions_of}
 
 -- A program and a heap; the receiver's number and its object at the start; the arguments of two operations; and how
--- many steps each call of a value method may take.
+-- many steps each call of a value method may take (a step index).
 pub record Environment : Type 0 where
   pub program : PlainProgram
   pub heap : List Object

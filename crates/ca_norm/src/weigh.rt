@@ -1,4 +1,4 @@
-//! The weight of a term.
+//! From a term to its weight: `weight_of` of `specs/Weights.antt`, by the measures of `specs/Measures.antt`.
 
 ghost use Rattle.std.specs.Prelude.{◌≡◌, ℕ, ◌+◌, ◌-◌, ◌*◌, ◌^◌, List, [], ◌∷◌, ◌++◌, map, max, min};
 ghost use Rattle.ca_forms.specs.declared.sort.Sort.{Sort};

@@ -123,7 +123,7 @@ module _ (p : PlainProgram) where
     pub listing_loop_runs : (this : Datum) (line : ℕ) (ls : List Datum) (w : World) (x : Statement) (k : ℕ) → (listing_of p ms).again this line ls w x k ≡ turn (listing_parts p ms (listing_of p ms) this) line ls w x k
     listing_loop_runs this line ls w x k = flow_same (loop_near k _ _ (listing_agree k _ _ (close_all_listing k) this) x line ls w k (le_self k))
 
-    -- ---- the run with marks, by the whole serial run of what is handed on
+    -- ---- the run with marks, by the whole serial run of what is handed off
 
     abbrev even_operations : ℕ → Operations
     even_operations zero = record { invoke = λ i w k. runs_out w; again = λ this line ls w loop k. runs_out w }

@@ -1,4 +1,4 @@
--- What a run with marks hands on, as statements.
+-- What a run with marks hands off, as statements.
 use Rattle.std.specs.Prelude.{◌≡◌, ℕ, [], Contains}
 use Rattle.ca_program.specs.Plain.{PlainProgram}
 use Rattle.ca_meaning.specs.Flows.{Flow, goes_on, gives_back, stops, runs_out}

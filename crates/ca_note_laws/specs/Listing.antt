@@ -79,7 +79,7 @@ listing_run p ms k = exec_all (listing_parts p ms (listing_of p ms) Null) (map s
 abbrev pub CallLoopsPutNothing : Type 0
 CallLoopsPutNothing = (loop : Statement) → IsCallLoop loop → targets_of loop ≡ []
 
--- Of a typed program with sound marks it is the run with marks: whoever lists the calls of a loop first, and hands on
+-- Of a typed program with sound marks it is the run with marks: whoever lists the calls of a loop first, and hands off
 -- what that lists, runs what the serial run does.
 abbrev pub ListsFirst : Type 0
 ListsFirst = (p : PlainProgram) → ProgramTyped p → (marks : PlainMarks) → SoundMarks p marks → CallLoopsPutNothing → (budget : ℕ) → listing_run p marks budget ≡ noted_run p marks budget

@@ -1,4 +1,4 @@
--- Where sections commute, every complete run ends alike.
+-- Confluence, the diamond: where sections commute, every complete run ends alike.
 use Rattle.std.proofs.Common.{◌≡◌, ℕ, suc, ◌+◌, List, [], ◌∷◌, ◌++◌, length, Some, refl, ap, sym, subst, ◌∙◌, arith, ◌≢◌}
 use Rattle.std.specs.Prelude.{slice_get, slice_set}
 use Rattle.ca_program.specs.Plain.{PlainProgram}

@@ -1,4 +1,4 @@
--- Any heap that stands for the frozen one serves as well.
+-- Any heap that stands for the frozen one, the snapshot, serves as well.
 use Rattle.std.proofs.Common.{◌≡◌, ℕ, zero, suc, List, [], ◌∷◌, length, Option, Some, None, refl, ap, sym, ◌∙◌, arith}
 use Rattle.std.specs.Prelude.{slice_get, Contains}
 use Rattle.ca_program.specs.declared.program.FieldId.{FieldId}

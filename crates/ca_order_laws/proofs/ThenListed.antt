@@ -1,4 +1,4 @@
--- Section then list, for a call.
+-- Section then list, for a call: reduction, with the section as a left mover.
 use Rattle.std.proofs.Common.{◌≡◌, ℕ, suc, ◌+◌, ◌-◌, [], refl, ap, sym, subst, ◌∙◌, arith}
 use Rattle.std.specs.Prelude.{slice_set}
 use Rattle.ca_program.specs.Plain.{PlainProgram}

@@ -1,5 +1,5 @@
 -- The pending machine: operations wait, and any of them runs its section next, on the object that is there now. All
--- else is read in a heap that stays as it is.
+-- else is read in a heap that stays as it is: the frozen heap, a snapshot.
 use Rattle.std.specs.Prelude.{ℕ, ◌≡◌, ◌+◌, List, [], ◌∷◌, ◌++◌, Some, slice_get, slice_set}
 use Rattle.ca_program.specs.Plain.{PlainProgram}
 use Rattle.ca_model.specs.declared.value.Object.{Object}

@@ -1,4 +1,4 @@
--- Worked examples of what a run with marks hands on, and of runs of operations in order.
+-- Worked examples of what a run with marks hands off, and of runs of operations in order.
 use Rattle.std.proofs.Common.{◌≡◌, ℕ, List, [], ◌∷◌, None, refl, codes, pos}
 use Rattle.std.specs.Int.{int_wrap}
 use Rattle.ca_tree.specs.declared.tree.AssignOp.TheVariants.{Put, Add}
@@ -89,9 +89,9 @@ marks ops loops = record { ops = ops; loops = loops }
 abbrev the_loop : List LoopId
 the_loop = record { 0 = 0 } ∷ []
 
--- ---- what is handed on, with ten steps
+-- ---- what is handed off, with ten steps
 
--- a call is handed on with the heap before it and the steps before its own
+-- a call is handed off with the heap before it and the steps before its own
 one_call : lists whole (marks (twice ∷ []) []) 10 ≡ note (heap 0) (of twice 3 ∷ []) 10 ∷ []
 unfolding int_wrap
 one_call = refl
@@ -102,17 +102,17 @@ each_call : lists whole (marks (add ∷ []) []) 10
 unfolding int_wrap
 each_call = refl
 
--- within a marked call or loop nothing is handed on; a loop hands on all that it calls, with the steps behind its own two
+-- within a marked call or loop nothing is handed off; a loop hands off all that it calls, with the steps behind its own two
 outermost : lists whole (marks (add ∷ twice ∷ []) the_loop) 10 ≡ note (heap 0) (of twice 3 ∷ []) 10 ∷ note (heap 6) (of add 0 ∷ of add 1 ∷ []) 5 ∷ []
 unfolding int_wrap
 outermost = refl
 
--- with one step left behind the call the loop's two turns aren't done: it is handed on in no other way either
+-- with one step left behind the call the loop's two turns aren't done: it is handed off in no other way either
 loop_not_done : lists whole (marks (add ∷ []) the_loop) 4 ≡ note (heap 0) (of add 3 ∷ []) 3 ∷ note (heap 3) (of add 3 ∷ []) 2 ∷ []
 unfolding int_wrap
 loop_not_done = refl
 
--- a call on null traps before it is handed on
+-- a call on null traps before it is handed off
 call_on_null : lists (program (statement_and (call twice (number (pos 3))) no_statements)) (marks (twice ∷ []) []) 10 ≡ []
 call_on_null = refl
 

@@ -1,4 +1,4 @@
--- The account of an engine: what it keeps of what it was handed, as a plain value. Each note that is handed on is one
+-- The account of an engine, a trace of hand-offs: what it keeps of what it was handed, as a plain value. Each note that is handed off is one
 -- step of it, which an engine says by the program, the heap, the operations and the steps that were left.
 use Rattle.std.specs.Prelude.{◌≡◌, ℕ, List, [], ◌∷◌, ◌++◌, Result, OnOk, OnErr}
 use Rattle.ca_program.specs.Plain.{PlainProgram}

@@ -1,4 +1,4 @@
-//! Copies of calls.
+//! From a call of an operation to a copy that is the same value.
 
 ghost use Rattle.std.specs.Prelude.{◌≡◌, IfOk};
 

@@ -1,4 +1,4 @@
-//! Marks on calls and loops.
+//! Marks on calls and loops in memory; `PlainMarks` of `specs/Lists.antt` is their plain value.
 
 ghost use Rattle.std.specs.Prelude.{◌≡◌};
 ghost use Rattle.ca_parallel.specs.Lists.{no_marks};

@@ -1,4 +1,4 @@
-//! Calls of operations.
+//! A call of an operation in memory, which `invocation_of` of `specs/Calls.antt` takes to its plain value.
 
 use ca_model::Values;
 use ca_program::OpId;

@@ -1,4 +1,4 @@
-//! Locals and assignments.
+//! From tokens to declarations of locals and assignments: `Local`, `Assign` and `First` of `specs/Grammar.antt`.
 
 ghost use Rattle.std.specs.Prelude.{◌≡◌, pos};
 ghost use Rattle.ca_tree.specs.Plain.{value, number};

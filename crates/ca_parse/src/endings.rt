@@ -1,4 +1,4 @@
-//! What ends a statement.
+//! Reads the `;` that ends a statement: `Ended` of `specs/clauses/Closed.antt`.
 
 ghost use Rattle.std.specs.Prelude.{◌≡◌, IfOk};
 ghost use Rattle.ca_descent.specs.Exact.{Exact};

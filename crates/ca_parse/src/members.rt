@@ -1,4 +1,4 @@
-//! Fields and methods.
+//! From tokens to the fields and methods of a class: `Member` of `specs/Grammar.antt`.
 
 ghost use Rattle.std.specs.Prelude.{◌≡◌, ◌∷◌, ◌++◌, [], None, map, IfOk};
 ghost use Rattle.ca_descent.specs.Exact.{Exact, head_of};

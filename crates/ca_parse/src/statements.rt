@@ -1,4 +1,4 @@
-//! Statements.
+//! From tokens to statements: `Stmt`, `Item` and `Items` of `specs/Grammar.antt`.
 
 ghost use Rattle.std.specs.Prelude.{◌≡◌, ◌≤◌, ◌<◌, IfOk, map, is_some, length, false, true};
 ghost use Rattle.ca_descent.specs.Exact.{Exact, head_of};

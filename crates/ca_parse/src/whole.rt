@@ -1,4 +1,4 @@
-//! Classes, `main` and whole texts.
+//! From the tokens of a text to its tree, or the first wrong token: `Derives` of `specs/Grammar.antt`.
 
 ghost use Rattle.std.specs.Prelude.{◌≡◌, ◌++◌, ◌≤◌, ◌-◌, ℕ, cond, length, take, map, option_to_list, IfOk, Err};
 ghost use Rattle.ca_descent.specs.Exact.{Exact};

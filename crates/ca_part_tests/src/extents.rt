@@ -1,4 +1,4 @@
-//! Extents of operations.
+//! Tests of `ca_extent`: from operations of small programs to their extents.
 
 use crate::sources::{let_go, program};
 use ca_extent::extent_of;

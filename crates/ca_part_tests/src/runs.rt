@@ -1,4 +1,4 @@
-//! Serial runs.
+//! Tests of `ca_serial`: runs of small programs, and what they print.
 
 ghost use Rattle.std.specs.Prelude.{IfOk};
 ghost use Rattle.ca_program.specs.View.{program_view};

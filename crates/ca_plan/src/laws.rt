@@ -1,4 +1,5 @@
-//! Laws of plans.
+//! Laws of plans: all plans of a program (`specs/Plans.antt`) have one list of marks, and one text each of
+//! `specs/Texts.antt`.
 
 ghost use Rattle.std.specs.Prelude.{◌≡◌};
 ghost use Rattle.ca_program.specs.Plain.{PlainProgram};

@@ -5,6 +5,9 @@
 //! `kept` has the extents that were judged, `offences` tells which operations of an extent are separable, and `known` has the
 //! verdicts on pairs of such operations, each judged once for all extents.
 //!
+//! `plan` promises the plan of the definition, and of a program of the checker that its marks are sound and that each pair
+//! which it calls commuting does commute; `print_pairs` and `print_plan` write these texts, or a beginning before a fault.
+//!
 //! Whoever reads the public clauses must believe `Checked`, `Codes`, `Pairs`, `Plans`, `Texts` and `Told` of
 //! `specs/`; what stands in `specs/clauses/` serves clauses within the crate alone.
 #![tactic(auto)]

@@ -1,4 +1,4 @@
-//! Plans.
+//! From a program to its plan, the verdicts and then the marks: `PlanOf` of `specs/Plans.antt`.
 
 ghost use Rattle.std.specs.Prelude.{IfOk};
 ghost use Rattle.ca_program.specs.View.{program_view};

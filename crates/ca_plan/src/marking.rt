@@ -1,4 +1,4 @@
-//! The marks.
+//! From verdicts to the marks of a plan: `IsMarked` and `IsMarkedLoop` of `specs/Plans.antt`.
 
 ghost use Rattle.std.specs.Prelude.{◌≡◌, ◌≢◌, ◌↔◌, ◌<◌, ℕ, [], length, map, true, Contains, IfOk, IsTrue};
 ghost use Rattle.std.specs.List.Sorted.{IsStrictlyIncreasing};
@@ -101,7 +101,7 @@ pub(crate) fn marked_ops(
 }
 
 /// Whether a loop with this extent is marked: all that its calls may invoke commutes, and its own expressions read only
-/// locals and constants of the extent, and divide by literals alone.
+/// locals and constants of the extent, and divide by literals other than 0 alone.
 fn is_marked_loop(
     alloc: Global,
     program: &Program,

@@ -1,4 +1,4 @@
-//! What `plan` writes of a plan.
+//! From a plan to what `plan` writes of it: `plan_text` of `specs/Texts.antt`.
 
 ghost use Rattle.std.specs.Prelude.{◌≡◌, flat_map};
 ghost use Rattle.ca_base.specs.Devices.{HasCause, Writes};

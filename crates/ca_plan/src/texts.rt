@@ -1,4 +1,4 @@
-//! What `pairs` writes of a plan.
+//! From a plan to what `pairs` writes of it: `pairs_text` of `specs/Texts.antt`.
 
 ghost use Rattle.std.specs.Prelude.{◌++◌, flat_map, decimal};
 ghost use Rattle.ca_base.specs.Devices.{HasCause, Writes};

@@ -1,4 +1,4 @@
--- The plain program of a program in memory.
+-- The plain program of a program in memory: the abstraction function of programs.
 use Rattle.std.specs.Prelude.{ℕ, List, [], ◌∷◌, map}
 use Rattle.ca_program.specs.declared.program.Expr.{Expr, Number, Truth, Null, This, Local, Own, OwnItem', Read', ReadItem', Value', Unary', Binary', Row_of-Expr, end_of-Expr, more_of-Expr}
 use Rattle.ca_program.specs.declared.program.Stmt.{Stmt}

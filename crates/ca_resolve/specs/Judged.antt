@@ -77,7 +77,7 @@ pub record IsLeast (v : Violation) (vs : List Violation) : Type 0 where
 abbrev pub is_limit : ℕ → Bool
 is_limit code = nat_le FIRST_LIMIT code && nat_le code LAST_LIMIT
 
--- the violation that an error tells; want of memory tells none
+-- the violation that an error tells; out of memory tells none
 abbrev pub told : CheckError → Option Violation
 told (Tells_violation at code) = Some (record { at = at; code = code.0 })
 told (Tells_limit at code) = Some (record { at = at; code = code.0 })
@@ -93,7 +93,7 @@ abbrev pub IsLeastIfTold : Option Violation → List Violation → Type 0
 IsLeastIfTold None vs = Unit {0}
 IsLeastIfTold (Some v) vs = IsLeast v vs
 
--- an error tells the least of the violations; want of memory says nothing of them
+-- an error tells the least of the violations; out of memory says nothing of them
 abbrev pub Tells : CheckError → List Violation → Type 0
 Tells e vs = HasItsKind e × IsLeastIfTold (told e) vs
 

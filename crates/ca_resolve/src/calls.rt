@@ -1,4 +1,4 @@
-//! Calls.
+//! From a call in the tree to its receiver, method and arguments in the program: `judge_call` of `specs/Values.antt`.
 
 ghost use Rattle.std.specs.Prelude.{◌≡◌, List, map, IfOk, IfErr};
 ghost use Rattle.ca_tree.specs.View.{expression_view as node_view};

@@ -86,7 +86,7 @@ fn is_at_most(first: &(Place, Code), second: &(Place, Code)) -> bool
     }
 }
 
-/// The lesser of two violations, or want of memory.
+/// The lesser of two violations, or out of memory.
 pub fn lesser(a: CheckError, b: CheckError) -> CheckError
     ensures { (vs us : List Violation) → Tells a vs → Tells b us → Tells result (vs ++ us) }
 {

@@ -3,7 +3,7 @@
 //! `check_value`, `check_for`, `check_call` and `check_target` promise the checker of statements
 //! that each answer is right for what the definitions judge an expression in its scope to be
 //! (`specs/Values.antt`): the resolved expression and its type, or the least violation in it, by
-//! place and then by code. Want of memory alone is free. The rules are told in `specs/Rules.antt`,
+//! place and then by code. Out of memory alone is free. The rules are told in `specs/Rules.antt`,
 //! one for each code, what names mean in `specs/Scopes.antt`, and how violations are joined in
 //! `specs/Judged.antt`. `both`, `and_one` and `lesser` join answers as the definitions join what
 //! is judged, so that no walk stops at its first violation. Classes and members are found in a

@@ -1,4 +1,4 @@
-//! The locals that are visible.
+//! The locals that are visible, from a name to its local: `find_local` of `specs/Scopes.antt`.
 
 ghost use Rattle.std.specs.Prelude.{◌≡◌, ◌∷◌, [], drop, length, slice_get, IfOk};
 ghost use Rattle.std.specs.Option.{option_map};

@@ -1,4 +1,4 @@
-//! Names by their numbers.
+//! Names by their numbers, from a name to its number: `number_of` of `specs/Scopes.antt`.
 
 ghost use Rattle.std.specs.Prelude.{◌≡◌, IfOk, map};
 ghost use Rattle.ca_resolve.specs.Scopes.{number_of};

@@ -1,4 +1,5 @@
-//! Targets.
+//! From what stands on the left of an assignment to the local, field or item that it names: `judge_target` of
+//! `specs/Values.antt`.
 
 ghost use Rattle.std.specs.Prelude.{◌≡◌};
 ghost use Rattle.ca_tree.specs.View.{expression_view as node_view};

@@ -1,4 +1,4 @@
-//! Expressions.
+//! From an expression of the tree to the one of the program, with its type: `judge_value` of `specs/Values.antt`.
 
 ghost use Rattle.std.specs.Prelude.{◌≡◌, map, slice_get};
 ghost use Rattle.ca_program.specs.Plain.{Expression};

@@ -1,4 +1,4 @@
-//! The engine for one worker.
+//! The engine for one worker: an `Extents` of `ca_serial` that needs no threads.
 //!
 //! `OneWorker` runs the operations of a parallel extent one at a time, in an order of its own: each as its section, and
 //! then what that lists waits with the others. It needs no runtime and always returns. Its answers are those of the

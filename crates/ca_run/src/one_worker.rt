@@ -43,7 +43,7 @@ impl<'g, G: Passes> OneWorker<'g, G> {
     /// Runs the operations, and all that these invoke, within a budget of steps.
     ///
     /// `Done` leaves the heap of their serial run in order, which takes so many steps, and is answered exactly where that
-    /// run is done within the budget; else the answer is `Declined`. After that, and where memory is wanting, the heap is
+    /// run is done within the budget; else the answer is `Declined`. After that, and where memory runs out, the heap is
     /// as it was. It always returns.
     pub fn complete(
         &mut self,

@@ -1,4 +1,4 @@
-//! Rounds of the pending machine.
+//! Runs operations that wait, one after another: `Rounded` of `specs/Rounds.antt`, on the pending machine.
 
 ghost use Rattle.std.specs.Prelude.{◌≡◌, ◌∷◌, ◌++◌, [], drop, IfOk, MatchOption};
 ghost use Rattle.ca_program.specs.View.{program_view};

@@ -1,4 +1,4 @@
-//! Sections of operations.
+//! From an operation and its receiver to what its section leaves and lists: `section` of `ca_meaning/specs/Sections.antt`.
 
 ghost use Rattle.std.specs.Prelude.{◌≡◌, ◌≤◌, ℕ, IfOk, OnErr, slice_get};
 ghost use Rattle.ca_program.specs.View.{program_view, statements_view};
@@ -96,7 +96,7 @@ impl<'a> Desk<'a> {
 /// receiver, and all but its own accesses read the frozen heap.
 ///
 /// Done leaves the object of the section and puts what it lists behind what stands in `out`. On each other
-/// answer, and where memory is wanting, object and `out` are as before.
+/// answer, and where memory runs out, object and `out` are as before.
 pub fn section<'a>(
     desk: &mut Desk<'a>,
     alloc: Global,

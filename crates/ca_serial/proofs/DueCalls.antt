@@ -62,7 +62,7 @@ was_run p m new after steps ps from run heap values bodies todo left =
 pub none_left : (p : PlainProgram) (m : Machine) (ps : Past) → m.left ≡ 0 → runs_due p m ps ≡ runs_out (world_of m ps)
 none_left p m ps none = rw none refl
 
--- it is begun here, and hands nothing on
+-- it is begun here, and hands nothing off
 pub begun_alone : (p : PlainProgram) (op : OpId) (r : ℕ) (args vs : List Datum) (f : Body) (below : List Body) (todo : List Work) (w : World) (k : ℕ) (ss : Bor (List Stmt)) (others : List ValueType) → 0 < k → statements_view ss.now ≡ body_of (target_method p (Operation op)) → others ≡ others_in (target_method p (Operation op)) → go_on (run_call (operations_of p) f.locals (invocation r op args) w k) (λ ls w k. resume p todo vs f below w k) (λ v w k. runs_out w) ≡ resume p (Seq ss ∷ Leave ∷ todo) vs record { this = Ref r; locals = args ++ map start_of others; mode = InOperation; marked = f.marked; heeds = false } (f ∷ below) w (k - 1)
 begun_alone p op r args vs f below todo w zero ss others lt is others_are = absurd (omega arith)
 begun_alone p op r args vs f below todo w (suc k) ss others lt is others_are =

@@ -1,4 +1,4 @@
--- What was handed on, and what is to come.
+-- What was handed off, and what is to come.
 use Rattle.std.proofs.Common.{Bor, ◌≡◌, ℕ, ◌+◌, List, [], ◌∷◌, ◌++◌, refl, ap, sym, subst, ◌∙◌, drop, map, append-nil, append_assoc}
 use Rattle.std.specs.Prelude.{Bool, true, false, ◌&&◌, Contains}
 use Rattle.std.proofs.lemmas.List.Elements.{Contains-push, Contains-append_left, Contains-append_right}
@@ -110,7 +110,7 @@ none_listed p budget =
     ∙ sym (all_serial_moved (λ ps. ps) (λ ns. []) (λ ps v. refl) p (operations_of p) (all_ops_moved (λ ps. ps) (λ ns. []) (λ ps v. refl) p) Null p.main.statements ls (fresh []) budget))
     ∙ takes_none (exec_all (serial_parts p Null) ls (fresh []) p.main.statements budget)
 
--- what is handed on is good, and goes to an engine that serves
+-- what is handed off is good, and goes to an engine that serves
 pub all_good : (p : PlainProgram) → ProgramTyped p → (marks : PlainMarks) → SoundMarks p marks → (budget : ℕ) (serves : Bool) → (serves ≡ false → marks ≡ no_marks) → (n : Note) → Contains (lists p marks budget) n → NoteGood p n × (serves ≡ true)
 all_good p typed marks sound budget true served n at = (lists_good p typed marks sound budget n at, refl)
 all_good p typed marks sound budget false served n at = absurd (none_of n (subst (λ l. Contains l n) (none_listed p budget) (subst (λ ms. Contains (lists p ms budget) n) (served refl) at)))
@@ -147,7 +147,7 @@ module _ (p : PlainProgram) (m : Machine) (ps : Past) where
   next_split (Exec line s ∷ todo) = loop_split todo line s
   next_split (work ∷ todo) = none_more (work ∷ todo)
 
--- what a loop that is next hands on stands in the list
+-- what a loop that is next hands off stands in the list
 pub next_stands : (p : PlainProgram) (todo : List Work) (m : Machine) (ps : Past) (all : List Note) → (world_after (rest_of p todo m ps)).notes ≡ all → Split all (ps.notes ++ notes_next p todo m)
 next_stands p todo m ps all is = let s : Split (world_after (rest_of p todo m ps)).notes (ps.notes ++ notes_next p todo m) = next_split p m ps todo in record { rest = s.rest; whole = sym is ∙ s.whole }
 

@@ -190,7 +190,7 @@ accounted {S = S} p a b m o steps listed d step = subst (λ l. Reached S p a l b
 pub unaccounted : {A : Type 0} {S : A → PlainProgram → List Object → List Invocation → ℕ → A → Type 0} (p : PlainProgram) (a : A) (m : Machine) (o : LoopSectioned) → Stopped o → Reached S p a (notes_of m.heap m.left o) a
 unaccounted {S = S} p a m o stop = subst (λ l. Reached S p a l a) (sym (none_noted m o stop)) at_first
 
--- ---- where memory is wanting
+-- ---- where memory runs out
 
 pub none_told : {T E : Type 0} (P : T → Type 0) (r : Result T E) (e : E) → r ≡ Err e → IfOk r P
 none_told P (Ok x) e is = cc

@@ -1,4 +1,4 @@
--- What an engine answers of the serial run of operations in order.
+-- Engines: what one answers of the serial run of operations in order.
 use Rattle.std.specs.Prelude.{◌≡◌, ℕ, List}
 use Rattle.ca_program.specs.Plain.{PlainProgram}
 use Rattle.ca_model.specs.declared.value.Object.{Object}

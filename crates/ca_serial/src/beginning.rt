@@ -1,4 +1,4 @@
-//! Where a run begins.
+//! From a program to the machine before `main`, whose rest is the whole run: `serial` of `ca_meaning/specs/Serial.antt`.
 
 ghost use Rattle.std.specs.Prelude.{◌≡◌, IfOk};
 ghost use Rattle.ca_program.specs.View.{program_view};

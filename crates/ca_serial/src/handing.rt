@@ -64,7 +64,7 @@ fn due_ops(alloc: Global, machine: &Machine<'_>) -> Result<Vec<Op>, Memory>
     Ok(ops)
 }
 
-/// Begins the call that is due here. Within it nothing is handed on.
+/// Begins the call that is due here. Within it nothing is handed off.
 fn begin_alone<'a>(program: &'a Program, machine: &mut Machine<'a>) -> Result<bool, Memory>
     ensures { IfOk result (λ goes. (ps : Past) → runs_due (program_view program.now) machine.old ps ≡ after (program_view program.now) machine.new ps (next_of goes)) }
 {

@@ -1,4 +1,4 @@
-//! The serial interpreter of the whole language.
+//! The serial interpreter of the whole language, and the trait of the engines that it hands calls off to (`Extents`).
 //!
 //! `drive` runs `main` of a program from the empty heap with a budget of steps. It promises its caller
 //! the outcome of the depth-first serial run of that program, exactly, with its heap, its steps or its
@@ -6,12 +6,12 @@
 //! After an error a beginning of them did. A failed write comes only where the sink's count of faults
 //! rose.
 //!
-//! An engine (`Extents`) runs operations in an order of its own. `drive` hands it each call of a marked operation, before
+//! An engine runs operations in an order of its own. `drive` hands it each call of a marked operation, before
 //! the call takes its step, with the heap and the steps that are left then; and of a marked loop the calls that it lists,
 //! with the steps that are left behind those of the loop itself. Where the engine is done the call or the loop counts as
-//! run; where it declines, or the loop can't be listed to its end, that runs here, and hands nothing on within.
+//! run; where it declines, or the loop can't be listed to its end, that runs here, and hands nothing off within.
 //!
-//! A machine (`ca_machine`) does the pieces of work. What is said here of it is the loop over them, and what is handed on.
+//! A machine (`ca_machine`) does the pieces of work. What is said here of it is the loop over them, and what is handed off.
 //!
 //! Whoever reads the public clauses must believe `Extents` and `Runs` of `specs/`; what stands in `specs/clauses/`
 //! serves clauses within the crate alone.

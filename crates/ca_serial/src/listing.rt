@@ -25,7 +25,7 @@ use std::sync::Wait;
 use std::thread::Threads;
 
 /// Goes on with the next piece of work. If it is a loop whose mark the body heeds, its calls are listed and handed to an
-/// engine; where they can't be listed or the engine declines, the loop runs here, and hands nothing on within.
+/// engine; where they can't be listed or the engine declines, the loop runs here, and hands nothing off within.
 pub fn hand_on_loop<'a, R: Threads + Wait + Sync, E: Extents>(
     rt: &R,
     alloc: Global,
@@ -180,7 +180,7 @@ fn heeds(machine: &Machine<'_>, s: &Stmt) -> bool
     }
 }
 
-/// Makes a loop whose mark the body heeds the next piece of work, and lets it hand nothing on.
+/// Makes a loop whose mark the body heeds the next piece of work, and lets it hand nothing off.
 fn put_alone<'a>(
     program: &'a Program,
     line: u32,

@@ -1,4 +1,4 @@
-//! The lines that a program prints.
+//! Writes the line of a printed value: `print_text` of `ca_meaning/specs/Output.antt`.
 
 ghost use Rattle.std.specs.Prelude.{◌≡◌};
 ghost use Rattle.ca_base.specs.Devices.{HasCause, Writes};

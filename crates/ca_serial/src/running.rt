@@ -1,4 +1,5 @@
-//! The whole run.
+//! From a program to its whole run, part of which may be handed off to an engine: `serial` of
+//! `ca_meaning/specs/Serial.antt`.
 
 ghost use Rattle.std.specs.Prelude.{◌≡◌, ◌≤◌, true, false, IfOk, OnOk, OnErr, Contains};
 ghost use Rattle.ca_base.specs.Devices.{Rose, Writes};
@@ -37,7 +38,7 @@ pub enum Outcome {
     Spent,
 }
 
-/// Why a run gives up: a write failed, or memory is wanting.
+/// Why a run gives up: a write failed, or memory runs out.
 #[derive(Clone, Copy, Debug, Error)]
 pub enum RunError {
     #[error("a write failed")]
@@ -50,7 +51,7 @@ pub enum RunError {
 ///
 /// What the engine rests on holds, the program is typed, the marks are sound, and there are none where the engine
 /// doesn't serve. Each call of a marked operation is handed to the engine, and so are the calls that a marked loop lists;
-/// what the engine declines runs here. Within what was handed on nothing is. After an error a beginning of the prints was
+/// what the engine declines runs here. Within what was handed off nothing is. After an error a beginning of the prints was
 /// written.
 pub fn drive<R: Threads + Wait + Sync, E: Extents, K: Sink>(
     rt: &R,
@@ -71,7 +72,7 @@ pub fn drive<R: Threads + Wait + Sync, E: Extents, K: Sink>(
     ensures prints { Writes (K.written sink.old) (K.written sink.new) result (prints_text (prints_of (serial (program_view program.now) budget))) }
     ensures write { OnWrite result (Rose (K.faults sink.old) (K.faults sink.new)) }
     ensures later { K.faults sink.old ≤ K.faults sink.new }
-    // The engine was handed what the run with marks hands on, each once and in order, or a beginning of it.
+    // The engine was handed what the run with marks hands off, each once and in order, or a beginning of it.
     ensures account { HandedOn E.Accounts (program_view program.now) (E.account engine.old) (E.account engine.new) result (lists (program_view program.now) marks.now budget) }
 {
     let Ok(mut machine) = before_main(alloc, program, marks, budget) else {

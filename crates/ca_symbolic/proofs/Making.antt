@@ -30,7 +30,7 @@ fails r t b f e is same heavy = record {
   large = λ told. heavy (again r f e Large is same told);
 }
 
--- want of memory is no weight
+-- out of memory is no weight
 pub memory_is_light : Memory ≡ Large → ⊥
 memory_is_light e = cc
 

@@ -1,4 +1,4 @@
-//! What an execution demands.
+//! The demands of an execution, in groups under their conditions: `demands_of` of `specs/Demanded.antt`.
 
 ghost use Rattle.std.specs.Prelude.{◌≡◌, ◌<◌, ◌^◌, [], ◌∷◌, length, false, IfOk, OnOk};
 ghost use Rattle.ca_symbolic.specs.States.{demand};

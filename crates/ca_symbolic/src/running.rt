@@ -1,4 +1,4 @@
-//! Symbolic execution of operations.
+//! From an operation and terms to what it leaves and demands: `executed` and `demanded_by` of `specs/Runs.antt`.
 
 ghost use Rattle.std.specs.Prelude.{◌≡◌, ◌<◌, ℕ, true, false, length, slice_get, Some, None, Err, OnOk};
 ghost use Rattle.ca_program.specs.View.{program_view};

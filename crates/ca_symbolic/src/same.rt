@@ -1,4 +1,4 @@
-//! Whether two expressions are written alike.
+//! Whether two expressions are written alike: `same_expression` of `specs/Same.antt`.
 
 ghost use Rattle.std.specs.Prelude.{◌≡◌};
 ghost use Rattle.ca_program.specs.View.{expression_view, expressions_view};

@@ -1,4 +1,5 @@
-//! Symbolic execution of statements.
+//! From statements and a state of terms to the state behind them: `after` of `specs/Execution.antt`, and `demanded` of
+//! `Demands.antt`.
 
 ghost use Rattle.std.specs.Prelude.{◌≡◌, ◌≢◌, ◌<◌, ◌||◌, ◌&&◌, [], ◌∷◌, ◌++◌, length, min, false, true, IfOk, OnOk};
 ghost use Rattle.std.specs.List.{list_any};

@@ -1,4 +1,4 @@
--- The plain tree of the nodes that the parser makes.
+-- The plain tree of the nodes that the parser makes: the abstraction function of trees.
 use Rattle.std.specs.Prelude.{List, [], ◌∷◌, map, Option, Some, None}
 use Rattle.ca_tree.specs.declared.name.Place.{Place}
 use Rattle.ca_tree.specs.declared.tree.ExprNode.{ExprNode}

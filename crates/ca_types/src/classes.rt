@@ -1,4 +1,4 @@
-//! Classes and the whole program.
+//! From the classes of a tree to those of the program: `judge_class` of `specs/Classes.antt`.
 
 ghost use Rattle.std.specs.Prelude.{◌≡◌, ◌+◌, ℕ, List, Option, IfOk, IfErr, OnOk, map};
 ghost use Rattle.ca_tree.specs.Plain.{field_member, method_member};

@@ -5,7 +5,7 @@
 //! and expressions mean is told in `ca_resolve`. Here `specs/Rules.antt` has the rules of
 //! declarations and statements, one for each code, and the limits; `specs/Statements.antt` says
 //! where each statement stands and what it resolves to, and `specs/Classes.antt` does the same for
-//! members, classes and the whole tree (`judge`, `Violations`, `Resolved`).
+//! members, classes and the whole tree (`judge`, `Violations`).
 //!
 //! The walk goes once over the tree, and once more over the bodies of value methods, for their
 //! `return`s. It looks at everything, whatever is broken, and of two violations it keeps the lesser.

@@ -1,4 +1,4 @@
-//! Calls, conditions, `return` and `print`.
+//! Checks calls, conditions, `return` and `print`: `judge_call_statement` and so on of `specs/Statements.antt`.
 
 ghost use Rattle.std.specs.Prelude.{◌≡◌, map};
 ghost use Rattle.std.specs.Option.{option_map};

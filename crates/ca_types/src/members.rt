@@ -1,4 +1,4 @@
-//! Fields, parameters and methods.
+//! Checks fields, parameters and methods: `judge_field_member`, `judge_parameters` and so on of `specs/Classes.antt`.
 
 ghost use Rattle.std.specs.Prelude.{◌≡◌, ℕ, List, Option, IfOk, IfErr, OnOk, is_some, length, map, false};
 ghost use Rattle.std.specs.Option.{option_map};

@@ -1,4 +1,4 @@
-//! The program of a whole tree.
+//! From a whole tree to its program, or its least violation: `judge` of `specs/Classes.antt`.
 
 ghost use Rattle.std.specs.Prelude.{◌≡◌, List, IfOk, IfErr};
 ghost use Rattle.ca_tree.specs.View.{tree_view};

@@ -1,4 +1,4 @@
-//! Assignments and declarations of locals.
+//! Checks assignments and declarations of locals: `judge_assign` and `judge_local` of `specs/Statements.antt`.
 
 ghost use Rattle.std.specs.Prelude.{◌≡◌, IfOk, Option};
 ghost use Rattle.std.specs.Option.{option_map};

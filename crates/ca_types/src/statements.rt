@@ -1,4 +1,5 @@
-//! Statements.
+//! From statements of the tree to those of the program, or their least violation: `judge_statements` of
+//! `specs/Statements.antt`.
 
 ghost use Rattle.std.specs.Prelude.{◌≡◌, List, ◌∷◌, [], map, length, IfOk, OnOk};
 ghost use Rattle.ca_tree.specs.View.{statement_view as tree_view, statements_view as tree_views, expression_view, option_right_view};
@@ -133,7 +134,7 @@ fn check_declaration<'a>(
     walk.declare(declared, name).and(Ok(answer))
 }
 
-/// A statement. Want of memory ends the walk.
+/// A statement. Running out of memory ends the walk.
 #[cycle(statement)]
 pub(crate) fn check_statement<'a>(
     alloc: Global,

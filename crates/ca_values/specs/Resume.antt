@@ -1,4 +1,4 @@
--- What is left to do, as a meaning.
+-- What is left to do, as a meaning: the continuation.
 use Rattle.std.specs.Prelude.{ℕ, zero, suc, List, [], ◌∷◌, Option, Some, None, slice_get, slice_set, drop}
 use Rattle.ca_program.specs.declared.program.FunctionId.{FunctionId}
 use Rattle.ca_program.specs.declared.program.ValueType.{ValueType}

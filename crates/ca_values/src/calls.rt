@@ -1,4 +1,4 @@
-//! The steps of calls.
+//! The steps of calls: from the work on a call to what is left of the evaluation, `rest_of` of `specs/Resume.antt`.
 
 ghost use Rattle.std.specs.Prelude.{◌≡◌, [], ◌∷◌, ◌+◌, Some, IfOk, slice_get};
 ghost use Rattle.ca_program.specs.View.{program_view, method_view, statements_view};

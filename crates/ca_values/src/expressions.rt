@@ -1,4 +1,4 @@
-//! The steps of expressions.
+//! The steps of expressions: from the work on one to what is left of the evaluation, `rest_of` of `specs/Resume.antt`.
 
 ghost use Rattle.std.specs.Prelude.{◌≡◌, ◌∷◌, ◌+◌, ℕ, IfOk, slice_get};
 ghost use Rattle.ca_program.specs.View.{program_view, expression_view, expressions_view};

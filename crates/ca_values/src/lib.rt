@@ -4,7 +4,7 @@
 //! and the steps that are left, the trap, or that a step is too many. It borrows the heap and changes
 //! nothing. The scene's own slots are read by that expression alone: a value method reads its receiver in
 //! the heap. An evaluator keeps its stacks from call to call and begins each with empty ones, so that it
-//! serves again after want of memory.
+//! serves again after running out of memory.
 //!
 //! Expressions and calls stand on explicit stacks, so that no depth of them runs out of the machine's own
 //! stack. `specs/Resume.antt` says what a stack of work still means, which is the one clause of every step;

@@ -1,4 +1,4 @@
-//! The steps of loops.
+//! The steps of loops: from the work on one to what is left of the evaluation, `rest_of` of `specs/Resume.antt`.
 
 ghost use Rattle.std.specs.Prelude.{◌≡◌, ◌∷◌, ◌+◌, IfOk, true};
 ghost use Rattle.ca_program.specs.View.{program_view, expression_view, statement_view};

@@ -1,4 +1,4 @@
-//! The state of an evaluation.
+//! The state of an evaluation: its stacks and its work, and the value of an expression by them (`specs/Found.antt`).
 
 ghost use Rattle.std.specs.Prelude.{◌≡◌, ◌∷◌, [], IfOk, IfSome};
 ghost use Rattle.ca_program.specs.View.{program_view, expression_view};
@@ -43,7 +43,7 @@ impl<'a> Evaluator<'a> {
     }
 
     /// The value of an expression in a scene, where a statement on this line is innermost and so many steps
-    /// are left. Only want of memory is an error, and the evaluator serves again after it.
+    /// are left. Running out of memory is the only error, and the evaluator serves again after it.
     pub fn value(
         &mut self,
         program: &'a Program,

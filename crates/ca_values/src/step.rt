@@ -1,4 +1,4 @@
-//! One piece of work.
+//! Does one piece of work: `after` of `specs/Resume.antt` is what is left of the evaluation behind it.
 
 ghost use Rattle.std.specs.Prelude.{◌≡◌, ◌∷◌, IfOk};
 ghost use Rattle.ca_program.specs.View.{program_view};

@@ -1,4 +1,4 @@
-//! What is left to do.
+//! Pieces of work that are left to do, which `specs/Resume.antt` takes to a meaning.
 
 use ca_model::{Trap, Value};
 use ca_program::{AssignOp, BinaryOp, Expr, FieldId, FunctionId, LocalId, Stmt, UnaryOp};

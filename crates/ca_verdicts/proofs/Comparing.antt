@@ -103,7 +103,7 @@ large_second p a b s e h =
 pub again : {T : Type 0} (e f w : SymbolicError) (r : Result T SymbolicError) → f ≡ e → r ≡ Err f → r ≡ Err w → e ≡ w
 again e f w r same is told = cc
 
--- want of memory is no other error
+-- out of memory is no other error
 pub not_large : {T : Type 0} (r : Result T SymbolicError) (e : SymbolicError) → r ≡ Err e → e ≡ error.Memory → r ≡ Err error.Large → ⊥
 not_large r e is memory large = cc
 

@@ -1,4 +1,4 @@
--- Laws of verdicts.
+-- The law of verdicts as a statement: a pair has one.
 use Rattle.std.specs.Prelude.{◌≡◌, List}
 use Rattle.ca_program.specs.declared.program.FieldId.{FieldId}
 use Rattle.ca_program.specs.declared.program.OpId.{OpId}

@@ -1,4 +1,5 @@
-//! Both orders, compared.
+//! From what both orders leave and demand to a verdict: `IsCompared` of `specs/clauses/Comparisons.antt`, for `VerdictOf`
+//! of `specs/Verdicts.antt`.
 
 ghost use Rattle.std.specs.Prelude.{◌≡◌, ◌≢◌, List, length, map, IsTrue, IfOk, OnOk, IfSome, IfNone};
 ghost use Rattle.ca_norm.specs.Forms.{norm};

@@ -1,4 +1,4 @@
-//! Keys of demands.
+//! From a demand to its key, by which demands are compared: `key_of` of `specs/Keys.antt`.
 
 ghost use Rattle.std.specs.Prelude.{◌≡◌, IfOk};
 ghost use Rattle.std.specs.Ordering.{is_eq, as_partial_cmp};

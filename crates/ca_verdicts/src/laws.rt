@@ -1,4 +1,4 @@
-//! Laws of verdicts.
+//! The law that a pair has one verdict: `OneVerdict` of `specs/Laws.antt`.
 
 ghost use Rattle.ca_verdicts.specs.Laws.{OneVerdict};
 

@@ -8,6 +8,9 @@
 //! Of the extent a verdict asks only whether both are separable in it. So who asks for many extents asks `offence` in each,
 //! which executes nothing, and `verdict_where_separable` once.
 //!
+//! `verdict` promises that verdict exactly; that two operations which it calls commuting do commute, for every receiver and all
+//! arguments; and that a plain pair is always called so.
+//!
 //! Whoever reads the public clauses must believe `Analysed`, `Demands`, `Keys`, `Laws`, `Orders` and `Verdicts` of
 //! `specs/`; what stands in `specs/clauses/` serves clauses within the crate alone.
 #![tactic(auto)]

@@ -1,4 +1,4 @@
-//! Verdicts on pairs of operations.
+//! Verdicts on pairs of operations, and the reasons: the values that `VerdictOf` of `specs/Verdicts.antt` speaks of.
 
 use ca_forms::polynomial::Scalars;
 use ca_norm::Normal;

@@ -4,7 +4,7 @@
 //! other list of words, `--help` too, with the usage line. The words of a command are a function
 //! of it, `words_of` of `specs/Words.antt`, so each command has one list of words, and
 //! `names_one_command` says that a list of words names one command at most. Nothing here takes
-//! memory, so a faulty command line is told from want of memory whatever is left.
+//! memory, so a faulty command line is told from out of memory whatever is left.
 //!
 //! Whoever reads the public clauses must believe `Words` of `specs/`.
 #![tactic(auto)]

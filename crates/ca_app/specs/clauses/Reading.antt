@@ -26,7 +26,7 @@ pub record IsRefusalOf (text : List ℕ) (at : Place) (code : ℕ) : Type 0 wher
   pub number : (other : Place) (number : ℕ) → RefusedAt text other number → number ≡ code
   pub unaccepted : (program : PlainProgram) → Accepted text program → ⊥
 
--- a refusal is that of the text; want of memory says nothing of it
+-- a refusal is that of the text; out of memory says nothing of it
 abbrev pub IsCauseFor : List ℕ → NoProgram → Type 0
 IsCauseFor text (Refused r) = IsRefusalOf text r.at r.code.0
 IsCauseFor text Memory = Unit {0}

@@ -1,4 +1,4 @@
-//! Running a task in its cell.
+//! Runs a task on the object in its receiver's cell, and adds the entry to the history: `Applies` of `specs/Seats.antt`.
 
 ghost use Rattle.std.specs.Prelude.{◌≡◌, IfOk, IfErr};
 ghost use Rattle.ca_program.specs.View.{program_view};

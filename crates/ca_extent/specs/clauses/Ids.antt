@@ -1,4 +1,4 @@
--- Ids as numbers.
+-- Ids as numbers: the number of an operation, and the operations, value methods and fields that numbers stand for.
 use Rattle.std.specs.Prelude.{ℕ}
 use Rattle.ca_program.specs.declared.program.FieldId.{FieldId}
 use Rattle.ca_program.specs.declared.program.FunctionId.{FunctionId}

@@ -1,4 +1,4 @@
--- Flags of operations.
+-- A list of operations as flags by their numbers.
 use Rattle.std.specs.Prelude.{◌≡◌, ◌<◌, Bool, false, List, length, get_or}
 use Rattle.ca_program.specs.declared.program.OpId.{OpId}
 use Rattle.ca_parallel.specs.Lists.{op_in}

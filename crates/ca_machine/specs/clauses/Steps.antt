@@ -106,12 +106,12 @@ abbrev pub target_mode : Target → Mode
 target_mode (Function m) = InFunction
 target_mode (Operation m) = InOperation
 
--- the body that runs hands no call of the target on
+-- the body that runs hands off no call of the target
 abbrev pub Unheeded : Target → List OpId → Type 0
 Unheeded (Function m) heeds = Unit {0}
 Unheeded (Operation m) heeds = op_in heeds m ≡ false
 
--- the target is this operation, whose calls are handed on; or, where none is named, no call of the target is
+-- the target is this operation, whose calls are handed off; or, where none is named, no call of the target is
 abbrev pub Handed : Option OpId → Target → List OpId → Type 0
 Handed None t heeds = Unheeded t heeds
 Handed (Some op) t heeds = (t ≡ Operation op) × (op_in heeds op ≡ true)

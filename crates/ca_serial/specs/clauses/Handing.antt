@@ -1,4 +1,4 @@
--- How handing on ends.
+-- How handing off ends.
 use Rattle.std.specs.Prelude.{Bool, true, false}
 use Rattle.ca_machine.specs.declared.work.Next.{Next}
 use Rattle.ca_machine.specs.declared.work.Next.TheVariants.{GoesOn, Spent}

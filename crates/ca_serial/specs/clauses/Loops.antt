@@ -1,4 +1,4 @@
--- A loop that is next: whether its calls are listed first, and what is handed on.
+-- A loop that is next: whether its calls are listed first, and what is handed off.
 use Rattle.std.specs.Prelude.{ℕ, ◌-◌, Bool, ◌&&◌, List, [], ◌∷◌}
 use Rattle.ca_program.specs.Plain.{PlainProgram, Statement}
 use Rattle.ca_program.specs.View.{statement_view}
@@ -29,11 +29,11 @@ notes_of h k (loop_done o) = note h o.listed (k - o.steps) ∷ []
 notes_of h k (loop_stopped t) = []
 notes_of h k loop_over = []
 
--- what a statement that is next hands on, if it is a loop whose mark is heeded and which puts nothing into fields
+-- what a statement that is next hands off, if it is a loop whose mark is heeded and which puts nothing into fields
 abbrev pub loop_notes : PlainProgram → Machine → ℕ → Statement → List Note
 loop_notes p m line s = either (heeds_loop m.bodies.current s && puts_nothing s) (notes_of m.heap m.left (section_next p m line s)) []
 
--- what the next piece of work hands on, if that is such a loop
+-- what the next piece of work hands off, if that is such a loop
 abbrev pub notes_next : PlainProgram → List Work → Machine → List Note
 notes_next p [] m = []
 notes_next p (Exec line s ∷ todo) m = loop_notes p m line (statement_view s.now)

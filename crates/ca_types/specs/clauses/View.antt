@@ -54,7 +54,7 @@ source_view (New c) = of_new c
 abbrev pub local_parts_view : Unit {0} × (ValueType × CodeSource) → ValueType × Source
 local_parts_view p = (p.1.0, source_view p.1.1)
 
--- a result other than want of memory
+-- a result other than out of memory
 abbrev pub Tells_something : {T : Type 0} → Result T CheckError → Type 0
 Tells_something (Ok t) = Unit {0}
 Tells_something (Err (Tells_violation at code)) = Unit {0}

@@ -1,6 +1,6 @@
 """Rows on the grammar: the place of the first wrong token, what belongs to what, and how deep a text nests."""
 
-from answers_forms import main_of, ok, refused, refused_at
+from by_hand.forms import main_of, ok, refused, refused_at
 
 HEAD = "int main() "
 # 999 tokens of an expression.

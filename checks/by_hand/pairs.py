@@ -1,6 +1,6 @@
 """Rows on `pairs`: what makes an operation not separable, which loops are call loops, and extents."""
 
-from answers_forms import caller, class_of, k_and_m, lone, offence, pairs, single
+from by_hand.forms import caller, class_of, k_and_m, lone, offence, pairs, single
 
 ROWS = [
     # behind a call: targets, and what is read of fields that the extent writes

@@ -1,6 +1,6 @@
 """Rows on `plan` and `emit`: what is parallel, where marks stand, and how a program is written."""
 
-from answers_forms import pairs, row
+from by_hand.forms import pairs, row
 
 # Operations and loops that commute or don't, for each reason.
 MIXED = """class B { public: long n; void add(long v) { n += v; } };

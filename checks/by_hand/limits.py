@@ -1,6 +1,6 @@
 """Rows on the limits on names and loops: at each, past it, and beside other codes."""
 
-from answers_forms import EMPTY, class_of, main_of, many, ok, refused_at
+from by_hand.forms import EMPTY, class_of, main_of, many, ok, refused_at
 
 CLASSES = many("class C# { public: };", 256)
 NAMES = "long " + many("f#", 256, ",")

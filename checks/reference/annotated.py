@@ -1,6 +1,6 @@
 """The canonical text of a tree, with the marks of a plan in it or with none, and a text without its marks."""
 
-from reader import STRENGTH
+from reference.reader import STRENGTH
 
 LOCK, UNLOCK, SPAWN, PARALLEL = (f"/*@{word}*/" for word in ("lock", "unlock", "spawn", "parallel"))
 MARKS = (LOCK, UNLOCK, SPAWN, PARALLEL)

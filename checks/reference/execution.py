@@ -1,6 +1,6 @@
 """Symbolic execution of two operations one after the other, and the verdict on a pair by both orders."""
 
-from terms import BOOL, LONG, NOTHING, POINTER, Term, atom, combined, null, number, operation, sort_of, truth
+from reference.terms import BOOL, LONG, NOTHING, POINTER, Term, atom, combined, null, number, operation, sort_of, truth
 
 GREATEST_WEIGHT = 65536
 RECEIVER_GROUP, START_GROUP = 0, 3

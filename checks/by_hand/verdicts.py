@@ -1,6 +1,6 @@
 """Rows on verdicts of separable operations: fields, demands, and what normal forms show."""
 
-from answers_forms import class_of, doubled, k_and_m, pairs, single
+from by_hand.forms import class_of, doubled, k_and_m, pairs, single
 
 ROWS = [
     # the first field that differs, in the order of the class

@@ -5,7 +5,7 @@ may be put behind the last of these parts to pass the limit, with `^` before the
 rule is broken by what declares a name past its limit, the limit is refused.
 """
 
-from faults import place_of, refusal
+from reference.faults import place_of, refusal
 
 END = "int main() { }"
 LOOP = "for (i = 0; false; i++) "

@@ -4,8 +4,8 @@ The first letter of a field says what operations do with it: k is read alone, s 
 literal, a an array whose items are added to, and d is set where an operation does something once.
 """
 
-from programs import BOOL, LONG, Class, Method, Program
-from texts import Writer, type_text
+from reference.programs import BOOL, LONG, Class, Method, Program
+from reference.texts import Writer, type_text
 
 HEAVY = 17
 

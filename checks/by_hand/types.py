@@ -1,6 +1,6 @@
 """Rows on types: operands, values, targets, arguments, and arrays."""
 
-from answers_forms import class_of, main_of, ok, refused_at
+from by_hand.forms import class_of, main_of, ok, refused_at
 
 ROWS = [
     # first values, conditions

@@ -1,6 +1,6 @@
 """The text of a program, with the line of each statement."""
 
-from programs import BOOL, LONG
+from reference.programs import BOOL, LONG
 
 STRENGTH = {"||": 0, "&&": 1, "==": 2, "!=": 2, "<": 3, ">": 3, "<=": 3, ">=": 3, "+": 4, "-": 4, "*": 5, "/": 5, "%": 5}
 UNARY, TAIL = 6, 7

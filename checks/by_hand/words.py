@@ -1,6 +1,6 @@
 """Rows on the words of a command, and on `gen` and `load`."""
 
-from answers_forms import EMPTY, ok, row, spent
+from by_hand.forms import EMPTY, ok, row, spent
 
 USAGE = "usage: commute run WORKERS BUDGET | pairs | plan | emit | gen SEED SIZE | load SEED SIZE WORKERS\n"
 USAGE_FAULT = 2

@@ -1,6 +1,6 @@
 """Rows on bodies: what a target is, operations as values, value methods, and `return`."""
 
-from answers_forms import class_of, main_of, ok, refused_at
+from by_hand.forms import class_of, main_of, ok, refused_at
 
 ROWS = [
     # a target is a local or an own field

@@ -1,6 +1,6 @@
 """Rows on tokens: bytes, comments, numbers, names and operators, and the limits on their number and on the size."""
 
-from answers_forms import main_of, ok, refused, refused_at
+from by_hand.forms import main_of, ok, refused, refused_at
 
 ROWS = [
     # the end of a text, and comments

@@ -1,7 +1,7 @@
 """The analysis by docs/LANGUAGE.md: extents, separability, verdicts, marks, and the texts of `pairs` and `plan`."""
 
-from execution import compared, expressions_of, first_other_loop, is_call_loop, statements_in
-from resolved import Program
+from reference.execution import compared, expressions_of, first_other_loop, is_call_loop, statements_in
+from reference.resolved import Program
 
 
 def calls_in(statements):

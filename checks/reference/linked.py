@@ -4,9 +4,9 @@ An operation calls those that stand before it in the text; under a mark, which i
 call any.
 """
 
-from objects import FreeWriter, Objects, put
-from programs import LONG, Method
-from texts import Writer
+from reference.objects import FreeWriter, Objects, put
+from reference.programs import LONG, Method
+from reference.texts import Writer
 
 SIZES = [2, 3, 5, 8, 15, 16, 17, 40]
 

@@ -1,6 +1,6 @@
 """Rows on runs by several workers: marked operations and loops end as one worker does, with the same steps."""
 
-from answers_forms import TRAPPED, main_of, ok, row, spent
+from by_hand.forms import TRAPPED, main_of, ok, row, spent
 
 # A loop of 3 calls at receivers of which the first COUNT aren't null, with 0, 1 and 5: the second adds past its array.
 THREE_CALLS = """class B { public: long n; long a[2]; void add(long i) {

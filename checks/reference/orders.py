@@ -6,8 +6,8 @@ all other objects are as they were at the start.
 
 from collections import Counter
 
-from programs import BOOL, LONG
-from reference import OPERATORS, start_of, wrap
+from reference.programs import BOOL, LONG
+from reference.reference import OPERATORS, start_of, wrap
 
 BUDGET = 300
 TRIALS = 20

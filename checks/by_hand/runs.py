@@ -1,6 +1,6 @@
 """Rows on runs: values, the order of checks, the lines of traps, the heap, steps and budgets."""
 
-from answers_forms import class_and_main, main_of, ok, row, spent, trapped
+from by_hand.forms import class_and_main, main_of, ok, row, spent, trapped
 
 MEMBERS = "long a[2]; A *o; long n; long z;\n"
 WHILE = main_of("long i; while (i < 3) { print(i); i++; }")

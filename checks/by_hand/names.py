@@ -1,6 +1,6 @@
 """Rows on names: classes, members, parameters and locals, where each is visible, and `this`."""
 
-from answers_forms import class_and_main, class_of, main_of, ok, refused, refused_at
+from by_hand.forms import class_and_main, class_of, main_of, ok, refused, refused_at
 
 ROWS = [
     # a class is defined once

@@ -1,6 +1,6 @@
 """Rows on the limit on weights: nodes, products and levels, at it and past it."""
 
-from answers_forms import class_of, k_and_m, pairs, repeated, single
+from by_hand.forms import class_of, k_and_m, pairs, repeated, single
 
 PRODUCT = "*".join(["(c + p)"] * 16)
 # The text of an operation `u`, a heavier one that is `Large` only with itself, and one that calls both.
