@@ -2,6 +2,7 @@ pub mod Bodies
 pub mod Extents
 pub mod ExtentsOf
 pub mod Separable
+pub mod Free
 pub mod Loops
 pub mod Parallel
 pub mod Marks
