@@ -36,10 +36,7 @@ fn count_entries(logs: &[CellLog], most: usize) -> usize
 fn is_closed(log: &CellLog) -> bool
     ensures { result ≡ closes (last_of log.now.entries) }
 {
-    match log.entries.last() {
-        None => false,
-        Some(entry) => entry.stop.is_some() || entry.clock == u64::MAX,
-    }
+    log.entries.stuck().is_some() || log.entries.last_clock() == u64::MAX
 }
 
 /// Whether some history takes no more entries.

@@ -4,6 +4,5 @@ pub mod Behind
 pub mod Logs
 pub mod Going
 pub mod Stored
-pub mod Seen
 pub mod Beginning
 mod Examples
