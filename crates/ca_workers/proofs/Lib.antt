@@ -5,4 +5,5 @@ pub mod Logs
 pub mod Going
 pub mod Stored
 pub mod Beginning
+pub mod Parts
 mod Examples
