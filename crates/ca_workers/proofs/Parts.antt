@@ -1,8 +1,9 @@
 -- A round of some of what waits, beside which the others stay where they are.
-use Rattle.std.proofs.Common.{◌≡◌, ◌<◌, ℕ, zero, suc, List, [], ◌∷◌, ◌++◌, All, length, length-append, take, drop, Option, Result, Ok, Err, IfOk, refl, sym, ap, ◌∙◌, subst, arith}
+use Rattle.std.proofs.Common.{◌≡◌, ◌<◌, ℕ, List, [], ◌∷◌, ◌++◌, All, length, length-append, take, drop, Option, Result, Ok, Err, IfOk, refl, sym, ap, ◌∙◌, subst, arith}
 use Rattle.std.specs.Prelude.{Contains, flat_map}
 use Rattle.std.proofs.lemmas.List.{map-append}
 use Rattle.std.proofs.lemmas.List.Elements.{All-append, All-take, All-drop, Contains-append_left, Contains-append_right}
+use Rattle.ca_base.specs.declared.faults.Memory.{Memory}
 use Rattle.ca_program.specs.Plain.{PlainProgram}
 use Rattle.ca_model.specs.declared.value.Object.{Object}
 use Rattle.ca_meaning.specs.Expressions.{Invocation}
@@ -16,9 +17,10 @@ use Rattle.ca_logs.specs.declared.log.CellLog.{CellLog}
 use Rattle.ca_logs.specs.Entries.{entries_of, ran_in, tasks_in, listed_by, call_of, task_calls}
 use Rattle.ca_cells.specs.declared.rule.Given.{Given}
 use Rattle.ca_cells.specs.Rounds.{IsGiven, MayRun}
+use Rattle.ca_pool.specs.declared.round.Round.{Round}
 use Rattle.ca_pool.specs.Rounded.{Rounded}
 use Rattle.ca_run.specs.Rounds.{RanTo}
-use Rattle.ca_workers.specs.clauses.Runs.{MayWait}
+use Rattle.ca_workers.specs.clauses.Runs.{MayWait, InCells}
 use Rattle.ca_workers.proofs.Beginning.{may_run}
 
 typed_before : (p : PlainProgram) (h : List Object) (xs ys : List Invocation) → AllWellTyped p h (xs ++ ys) → AllWellTyped p h xs
@@ -34,14 +36,14 @@ module _ (p : PlainProgram) (x : Extent) (frozen h : List Object) (others first 
   parted = subst (λ (is : List Invocation). MayWait p x frozen h is) (map-append call_of others first) w
 
   pub others_wait : MayWait p x frozen h (task_calls others)
-  others_wait = let v = parted in record {
+  others_wait = let v : MayWait p x frozen h (task_calls others ++ task_calls first) = parted in record {
     stands = v.stands;
     typed = typed_before p frozen (task_calls others) (task_calls first) v.typed;
     inside = λ i c. v.inside i (Contains-append_left (task_calls others) (task_calls first) i c);
   }
 
   pub first_wait : MayWait p x frozen h (task_calls first)
-  first_wait = let v = parted in record {
+  first_wait = let v : MayWait p x frozen h (task_calls others ++ task_calls first) = parted in record {
     stands = v.stands;
     typed = typed_behind p frozen (task_calls others) (task_calls first) v.typed;
     inside = λ i c. v.inside i (Contains-append_right (task_calls others) (task_calls first) i c);
@@ -116,7 +118,8 @@ went_on p frozen now others first all is left after rest anew same more behind s
       r.1,
     )
 
--- what holds where it is done holds of what follows from it
-pub ok_of : {A E : Type 0} (r : Result A E) (P Q : A → Type 0) → IfOk r P → ((a : A) → P a → Q a) → IfOk r Q
-ok_of (Ok a) P Q told f = f a told
-ok_of (Err e) P Q told f = tt
+-- what a round answers, in its cells
+pub in_cells : (p : PlainProgram) (x : Extent) (frozen now : List Object) (left quota : ℕ) (first : List Task) (given : Given) → IsGiven p x frozen now given → (r : Result Round Memory) →
+    IfOk r (λ q. Rounded given left quota first q.log.cells.items q.rest.items q.stop) → IfOk r (InCells p x frozen now left quota first)
+in_cells p x frozen now left quota first given is (Ok q) told = record { given = given; is = is; rounded = told }
+in_cells p x frozen now left quota first given is (Err e) told = tt

@@ -1,6 +1,6 @@
 use Rattle.ca_program.specs.View.{program_view}
 use Rattle.ca_workers.proofs.Beginning.{may_run, separable}
-use Rattle.ca_workers.proofs.Parts.{ok_of}
+use Rattle.ca_workers.proofs.Parts.{in_cells}
 use Rattle.ca_workers.proofs.rounds.Rounds.run_in_cells.Goals as goal
 
 pub make-requires-clause-program : goal.make-requires-clause-program
@@ -22,4 +22,4 @@ pub round-requires-clause-first : goal.round-requires-clause-first
 round-requires-clause-first g c = λ κs o. (may_run _ (program_view c.args.self.now.program.now) c.args.self.now.extent.now c.args.frozen.now c.args.now.now c.in_ok-cells.ensures.key c.args.first.items c.requires.waiting, c.requires.begins)
 
 pub returns : goal.returns
-returns g c = ok_of c.round.result _ _ c.round.ensures.rounded (λ r told. record { given = _; is = c.in_ok-cells.ensures.key; rounded = told })
+returns g c = in_cells (program_view c.args.self.now.program.now) c.args.self.now.extent.now c.args.frozen.now c.args.now.now c.args.left c.args.quota c.args.first.items _ c.in_ok-cells.ensures.key c.round.result c.round.ensures.rounded
