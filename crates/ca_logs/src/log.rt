@@ -1,8 +1,8 @@
 //! Tasks, entries and histories, as plain data.
 
-ghost use Rattle.std.specs.Prelude.{◌≡◌, ◌<◌, [], ◌∷◌, ◌++◌, length, slice_get, Some, IfOk, OnErr, option_copied};
-ghost use Rattle.ca_logs.specs.Lasts.{last_of};
+ghost use Rattle.std.specs.Prelude.{◌≡◌, IfOk};
 
+use crate::entries::Entries;
 use ca_model::{Object, Trap};
 use ca_parallel::Op;
 use std::alloc::{AllocError, Global};
@@ -67,67 +67,6 @@ pub struct Entry {
     pub steps: u64,
     pub invoked: Ops,
     pub stop: Option<Stop>,
-}
-
-/// A list of entries.
-#[derive(Drop)]
-pub struct Entries {
-    items: Vec<Entry>,
-}
-
-impl Model for Entries {
-    ghost use Rattle.std.specs.Prelude.{List};
-    ghost use Rattle.ca_logs.specs.declared.log.Entry.{Entry};
-
-    ghost Value = { List Entry };
-
-    ghost view = { λ s. s.items.items };
-}
-
-impl Entries {
-    /// No entries. It takes no memory.
-    pub fn none(alloc: Global) -> Entries
-        ensures { result ≡ [] }
-    {
-        Entries {
-            items: Vec::new(alloc),
-        }
-    }
-
-    /// Adds one at the end. Without memory for it the entries are as before.
-    pub fn push(&mut self, entry: Entry) -> Result<(), AllocError>
-        ensures added { IfOk result (λ _. self.new ≡ self.old ++ entry ∷ []) }
-        ensures kept { OnErr result (self.new ≡ self.old) }
-    {
-        self.items.push(entry)?;
-        Ok(())
-    }
-
-    /// How many there are.
-    pub fn len(&self) -> usize
-        ensures { result ≡ length self.now }
-    {
-        self.items.len()
-    }
-
-    /// The entry at this place.
-    pub fn get(&self, place: usize) -> &Entry
-        requires { place < length self.now }
-        ensures { slice_get self.now place ≡ Some result.now }
-    {
-        &self.items[place]
-    }
-
-    /// The newest one.
-    pub fn last(&self) -> Option<&Entry>
-        ensures { option_copied result ≡ last_of self.now }
-    {
-        let count = self.items.len();
-        if count == 0 {
-            return None;
-        }
-        Some(&self.items[count - 1])
-    }
 }
 
 /// A cell's history: the object as it was opened, which only contracts see, the object as its entries left it, and

@@ -6,10 +6,10 @@ ghost use Rattle.ca_logs.specs.Entries.{entries_of};
 ghost use Rattle.ca_logs.specs.Lasts.{last_of};
 ghost use Rattle.ca_pool.specs.Gathered.{Ended, Gathered, HasClosing, IsRunOf, closes};
 
-use crate::taking::pour;
 use crate::work::Work;
 use ca_base::Memory;
 use ca_cells::{Added, add};
+use ca_deques::taking::pour;
 use ca_logs::{CellLog, Task};
 use ca_model::Heap;
 use ca_program::Program;
@@ -36,10 +36,7 @@ fn count_entries(logs: &[CellLog], most: usize) -> usize
 fn is_closed(log: &CellLog) -> bool
     ensures { result ≡ closes (last_of log.now.entries) }
 {
-    match log.entries.last() {
-        None => false,
-        Some(entry) => entry.stop.is_some() || entry.clock == u64::MAX,
-    }
+    log.entries.stuck().is_some() || log.entries.last_clock() == u64::MAX
 }
 
 /// Whether some history takes no more entries.

@@ -74,7 +74,7 @@ fn collects<R: Threads + Wait + Sync>(
     let extent = extent_of(alloc, program, &roots)?;
     let heap = heap(alloc, program, 1_000)?;
     let first = first_tasks(alloc, 1_000)?;
-    let (cells, seats) = Cells::make(alloc, program, &extent, &heap, &heap, workers)?;
+    let (cells, seats) = Cells::make(alloc, program, &extent, &heap, &heap, workers, false)?;
     let mut pool = Pool::make(workers);
     let gate = &OpenGate;
     let round = pool.round(

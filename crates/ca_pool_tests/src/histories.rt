@@ -36,14 +36,33 @@ fn add_twice<'a>(
     add(desk, log, alloc, program, frozen, &task, left)
 }
 
-/// Whether a fresh history takes a task, then one that is spent, and then none.
-fn takes_two<R: Abort>(rt: &R, alloc: Global, program: &Program) -> Result<bool, Fail>
+/// Whether the two entries stand in memory where they are kept: one that ran in a step, and one with a stop.
+fn are_kept(log: &CellLog, keeps: bool) -> bool {
+    match log.entries.kept() {
+        Some(entries) => {
+            keeps
+                && entries.len() == 2
+                && entries[0].stop.is_none()
+                && entries[0].steps == 1
+                && entries[1].stop.is_some()
+        }
+        None => !keeps,
+    }
+}
+
+/// Whether a fresh history takes a task, then one that is spent, and then none, and keeps these entries or none.
+fn takes_two<R: Abort>(
+    rt: &R,
+    alloc: Global,
+    program: &Program,
+    keeps: bool,
+) -> Result<bool, Fail>
     requires { program_view program.now ≡ counters }
 {
     let roots = [OpId(1)];
     let extent = extent_of(alloc, program, &roots)?;
     let heap = heap(alloc, program, 1)?;
-    let (cells, seats) = Cells::make(alloc, program, &extent, &heap, &heap, 1)?;
+    let (cells, seats) = Cells::make(alloc, program, &extent, &heap, &heap, 1, keeps)?;
     let mut log = cells.gather(seats);
     let Some(mut cell) = log.cells.pop() else {
         return Ok(false);
@@ -52,7 +71,8 @@ fn takes_two<R: Abort>(rt: &R, alloc: Global, program: &Program) -> Result<bool,
     let ran = add_twice(&mut desk, &mut cell, alloc, program, &heap, 100);
     let spent = add_twice(&mut desk, &mut cell, alloc, program, &heap, 0);
     let kept = add_twice(&mut desk, &mut cell, alloc, program, &heap, 100);
-    let fits = is_ran(&ran) && is_spent(&spent) && is_kept(&kept) && cell.entries.len() == 2;
+    let added = is_ran(&ran) && is_spent(&spent) && is_kept(&kept);
+    let fits = added && cell.entries.len() == 2 && are_kept(&cell, keeps);
     let_go(ran);
     let_go(spent);
     let_go(kept);
@@ -87,7 +107,17 @@ fn is_kept(answer: &Result<Added, Memory>) -> bool {
 fn a_history_takes_no_task_behind_a_stop(rt: HostRuntime) -> Result<(), Fail> {
     let alloc = rt.alloc();
     let program = program(alloc)?;
-    let fits = takes_two(&rt, alloc, &program);
+    let fits = takes_two(&rt, alloc, &program, false);
+    let_go(program);
+    assert!(&rt; fits?);
+    Ok(())
+}
+
+#[test]
+fn entries_that_are_kept_stand_in_memory(rt: HostRuntime) -> Result<(), Fail> {
+    let alloc = rt.alloc();
+    let program = program(alloc)?;
+    let fits = takes_two(&rt, alloc, &program, true);
     let_go(program);
     assert!(&rt; fits?);
     Ok(())
@@ -124,7 +154,7 @@ fn closes<R: Wait + Abort>(rt: &R, alloc: Global, program: &Program) -> Result<b
     let roots = [OpId(1)];
     let extent = extent_of(alloc, program, &roots)?;
     let heap = heap(alloc, program, 1)?;
-    let (cells, mut seats) = Cells::make(alloc, program, &extent, &heap, &heap, 1)?;
+    let (cells, mut seats) = Cells::make(alloc, program, &extent, &heap, &heap, 1, false)?;
     let Some(mut seat) = seats.pop() else {
         return Ok(false);
     };

@@ -117,7 +117,7 @@ fn round<R: Threads + Wait + Sync>(
     let roots = [OpId(1)];
     let extent = extent_of(alloc, program, &roots)?;
     let heap = heap(alloc, program, 10)?;
-    let (cells, mut seats) = Cells::make(alloc, program, &extent, &heap, &heap, workers)?;
+    let (cells, mut seats) = Cells::make(alloc, program, &extent, &heap, &heap, workers, false)?;
     work_all(
         rt,
         alloc,

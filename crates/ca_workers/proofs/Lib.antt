@@ -4,6 +4,6 @@ pub mod Behind
 pub mod Logs
 pub mod Going
 pub mod Stored
-pub mod Seen
 pub mod Beginning
+pub mod Parts
 mod Examples

@@ -1,0 +1,56 @@
+-- Entries as they are told to contracts, and what stands in memory beside a list of them.
+use Rattle.std.specs.Prelude.{◌≡◌, ◌<◌, ℕ, cond, List, [], map, Option, Some, None, is_some, Vec}
+use Rattle.std.specs.Global.{Global}
+use Rattle.ca_meaning.specs.Multisets.{weight}
+use Rattle.ca_parallel.specs.declared.op.Op.{Op}
+use Rattle.ca_logs.specs.Lasts.{last_of}
+use Rattle.ca_logs.specs.declared.log.Task.{Task}
+use Rattle.ca_logs.specs.declared.log.Stop.{Stop}
+use Rattle.ca_logs.specs.declared.log.Entry.{Entry}
+use Rattle.ca_logs.specs.declared.entries.Told.{Told}
+
+abbrev pub entry_with : Task → ℕ → ℕ → List Op → Option Stop → Entry
+entry_with task clock steps invoked stop = record { task = task; clock = clock; steps = steps; invoked = invoked; stop = stop }
+
+-- of a section that ran
+abbrev pub ran_entry : Task → ℕ → ℕ → List Op → Entry
+ran_entry task clock steps invoked = entry_with task clock steps invoked None
+
+-- of one that stopped: it took no steps and listed nothing
+abbrev pub stuck_entry : Task → ℕ → Stop → Entry
+stuck_entry task clock stop = entry_with task clock 0 [] (Some stop)
+
+abbrev pub operation_in : Task → Op
+operation_in t = t.op
+
+abbrev pub told_entry : Told → Entry
+told_entry t = entry_with t.task.value t.clock.value t.steps.value (map operation_in t.listed.value.items) t.stop.value
+
+-- those that are kept, or else those that are told
+abbrev pub entries_by : Option (Vec Entry Global) → List Told → List Entry
+entries_by None told = map told_entry told
+entries_by (Some kept) told = kept.items
+
+-- a last entry's clock, and 0 where there is none
+abbrev pub clock_of : Option Entry → ℕ
+clock_of None = 0
+clock_of (Some e) = e.clock
+
+-- a last entry, where it has a stop
+abbrev pub stopped_in : Option Entry → Option Entry
+stopped_in None = None
+stopped_in (Some e) = cond (is_some e.stop) (Some e) None
+
+abbrev pub steps_of : List Entry → ℕ
+steps_of es = weight (λ (e : Entry). e.steps) es
+
+-- so many, or more than a number tells
+abbrev pub StepsAre : Option ℕ → ℕ → Type 0
+StepsAre None total = 18446744073709551615 < total
+StepsAre (Some sum) total = sum ≡ total
+
+-- the last clock, the steps of all, and the last entry where it has a stop
+pub record Tallies (es : List Entry) (clock : ℕ) (steps : Option ℕ) (stuck : Option Entry) : Type 0 where
+  pub last : clock ≡ clock_of (last_of es)
+  pub all_steps : StepsAre steps (steps_of es)
+  pub stopped : stuck ≡ stopped_in (last_of es)

@@ -1,0 +1,39 @@
+//! Which lists of operations begin with a round, by how the lists before them ended. No clause speaks of it.
+
+/// The most lists that run alone first behind one that wasn't worth a round.
+const MOST_ALONE: u32 = 1_024;
+
+/// How many of the next lists run alone first, and how many will behind the next list that isn't worth a round.
+#[derive(Clone, Copy)]
+pub struct Habit {
+    alone: u32,
+    next: u32,
+}
+
+impl Habit {
+    /// None runs alone yet.
+    pub fn new() -> Habit {
+        Habit { alone: 0, next: 1 }
+    }
+
+    /// Whether the list that comes now runs alone first.
+    pub fn goes_alone(&mut self) -> bool {
+        if self.alone == 0 {
+            return false;
+        }
+        self.alone -= 1;
+        true
+    }
+
+    /// A list ended within rounds that were worth less than their start: as many lists run alone first as were to, and twice as
+    /// many behind the next such list.
+    pub fn was_small(&mut self) {
+        self.alone = self.next;
+        self.next = self.next.saturating_mul(2).min(MOST_ALONE);
+    }
+
+    /// A list outlasted its run alone: the next ones begin with a round again.
+    pub fn was_large(&mut self) {
+        *self = Habit::new();
+    }
+}
