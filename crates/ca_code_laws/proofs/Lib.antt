@@ -1,0 +1,12 @@
+pub mod Steps
+pub mod Values
+pub mod Statements
+pub mod Methods
+pub mod Acts
+pub mod Operations
+pub mod Quiet
+pub mod Sections
+pub mod Counted
+pub mod Heeding
+pub mod Typed
+pub mod OneEnd
