@@ -10,3 +10,5 @@ pub mod Counted
 pub mod Heeding
 pub mod Typed
 pub mod OneEnd
+pub mod Examples
+pub mod LayoutExamples
