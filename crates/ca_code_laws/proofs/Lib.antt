@@ -1,4 +1,5 @@
 pub mod Steps
+pub mod Words
 pub mod Values
 pub mod Statements
 pub mod Methods
@@ -7,8 +8,8 @@ pub mod Operations
 pub mod Quiet
 pub mod Sections
 pub mod Counted
-pub mod Heeding
 pub mod Typed
+pub mod Heeding
 pub mod OneEnd
 pub mod Examples
 pub mod LayoutExamples

@@ -1,15 +1,16 @@
 -- Bodies that make no objects and print nothing are well formed where neither is done; call loops are such.
-use Rattle.std.proofs.Common.{ℕ, List, true, false}
+use Rattle.std.proofs.Common.{ℕ, true, false}
 use Rattle.ca_program.specs.declared.program.FirstPart.{FirstPart}
 use Rattle.ca_program.specs.declared.program.FirstPart.TheVariants.{Declares, Assigns}
 use Rattle.ca_program.specs.declared.program.LocalId.{LocalId}
-use Rattle.ca_program.specs.Plain.{Statement, Statements, block, put_local, put_field, put_item, new_local, new_field, new_item, invoke, if_else, while_loop, for_loop, return_value, print_value, no_statements, statement_and, PlainMethod}
+use Rattle.ca_program.specs.Plain.{Statement, Statements, block, put_local, put_field, put_item, new_local, new_field, new_item, invoke, if_else, while_loop, for_loop, return_value, print_value, no_statements, statement_and, PlainProgram}
 use Rattle.ca_parallel.specs.Loops.{Begins, CountsUp, CallsAlone, AreCalls, IsCallLoop}
+use Rattle.ca_code_laws.specs.Kinds.{Kind, Kinds}
 use Rattle.ca_code_laws.specs.Fine.{FineStatement, FineStatements, IsQuiet, AreQuiet}
 
-module _ (ms ops : List PlainMethod) (n : ℕ) where
+module _ (p : PlainProgram) (ks : Kinds) (ret : Kind) (n : ℕ) where
   mutual
-    pub fine_where_quiet : (x : Statement) → FineStatement ms ops true n x → IsQuiet x → FineStatement ms ops false n x
+    pub fine_where_quiet : (x : Statement) → FineStatement p true ks ret n x → IsQuiet x → FineStatement p false ks ret n x
     fine_where_quiet (block line ss) fine quiet = all_fine_where_quiet ss fine quiet
     fine_where_quiet (put_local line l op e) fine quiet = fine
     fine_where_quiet (put_field line f op e) fine quiet = fine
@@ -25,7 +26,7 @@ module _ (ms ops : List PlainMethod) (n : ℕ) where
     fine_where_quiet (return_value line e) fine quiet = fine
     fine_where_quiet (print_value line e) fine quiet = absurd quiet
 
-    pub all_fine_where_quiet : (xs : Statements) → FineStatements ms ops true n xs → AreQuiet xs → FineStatements ms ops false n xs
+    pub all_fine_where_quiet : (xs : Statements) → FineStatements p true ks ret n xs → AreQuiet xs → FineStatements p false ks ret n xs
     all_fine_where_quiet no_statements fine quiet = tt
     all_fine_where_quiet (statement_and x rest) fine quiet = (fine_where_quiet x fine.0 quiet.0, all_fine_where_quiet rest fine.1 quiet.1)
 
