@@ -1,0 +1,15 @@
+pub mod Steps
+pub mod Words
+pub mod Values
+pub mod Statements
+pub mod Methods
+pub mod Acts
+pub mod Operations
+pub mod Quiet
+pub mod Sections
+pub mod Counted
+pub mod Typed
+pub mod Heeding
+pub mod OneEnd
+pub mod Examples
+pub mod LayoutExamples

@@ -1,0 +1,9 @@
+pub mod Kinds
+pub mod Instructions
+pub mod Layout
+pub mod Heeding
+pub mod Fine
+pub mod Words
+pub mod Machine
+pub mod Runs
+pub mod Told
