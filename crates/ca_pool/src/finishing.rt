@@ -6,10 +6,10 @@ ghost use Rattle.ca_logs.specs.Entries.{entries_of};
 ghost use Rattle.ca_logs.specs.Lasts.{last_of};
 ghost use Rattle.ca_pool.specs.Gathered.{Ended, Gathered, HasClosing, IsRunOf, closes};
 
-use crate::taking::pour;
 use crate::work::Work;
 use ca_base::Memory;
 use ca_cells::{Added, add};
+use ca_deques::taking::pour;
 use ca_logs::{CellLog, Task};
 use ca_model::Heap;
 use ca_program::Program;

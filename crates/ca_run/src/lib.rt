@@ -6,23 +6,20 @@
 //! that any order ends alike.
 //!
 //! The heap that the operations were handed with stays as it is until the end, and serves as the frozen one. An object
-//! is copied beside it when it is first changed (`Beside`), and only a run that is done puts these into the heap. So a
-//! run costs what it touches, and one that isn't done has nothing to put back. The memory of an object whose place was taken
-//! serves a later copy (`refill`). What is handed in is run by reference, each behind all that the one before it listed.
+//! is copied beside it when it is first changed (`ca_beside`), and only a run that is done puts these into the heap. So a
+//! run costs what it touches, and one that isn't done has nothing to put back. What is handed in is run by reference, each
+//! behind all that the one before it listed.
 //! `run_round` runs waiting operations; its clause is a run of the pending machine, from where it began to where it ended,
 //! of as many operations as its limit says, or of fewer where none waits any more.
-//! `specs/Beside.antt` says what heap the changed objects stand for, `specs/Rounds.antt` what a round leaves.
+//! `specs/Rounds.antt` says what a round leaves.
 //!
 //! Whoever reads the public clauses must believe each file of `specs/`.
 #![tactic(auto)]
 
-mod beside;
 mod one_worker;
 mod passing;
-mod refill;
 mod rounds;
 
-pub use beside::{Beside, Changed};
 pub use one_worker::{OneWorker, copies};
 pub use passing::Passes;
 pub use rounds::{Round, run_round};
