@@ -22,11 +22,7 @@ pub enum TraceError {
 }
 
 /// The lines of a schedule's text, from the second on.
-pub fn read_lines(
-    alloc: Global,
-    program: &Program,
-    text: &[u8],
-) -> Result<Vec<Line>, TraceError>
+pub fn read_lines(alloc: Global, program: &Program, text: &[u8]) -> Result<Vec<Line>, TraceError>
     requires header { HasHeader text.now }
     requires short { length text.now ≤ 67108864 }
     requires names { NamesGood (program_view program.now) }

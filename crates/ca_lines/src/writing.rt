@@ -131,11 +131,7 @@ fn add_words(program: &Program, line: &Line, out: &mut Vec<u8>) -> Result<(), Al
 }
 
 /// The text of a schedule of these lines.
-pub fn write_lines(
-    alloc: Global,
-    program: &Program,
-    lines: &[Line],
-) -> Result<Vec<u8>, Memory>
+pub fn write_lines(alloc: Global, program: &Program, lines: &[Line]) -> Result<Vec<u8>, Memory>
     requires { All (IsLineOf (program_view program.now)) lines.now }
     ensures { IfOk result (λ text. text.items ≡ schedule_text (program_view program.now) lines.now) }
 {

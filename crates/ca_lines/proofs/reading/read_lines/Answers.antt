@@ -17,6 +17,8 @@ returns-in_default-read-clause-bad c = subst (λ n. BadText (program_view c.args
 pub lines-preserved : goal.lines-preserved
 lines-preserved c =
     let more = line_fits _ c.lines.place _ _ c.in-Some-split_at.ensures c.lines.invariant.0 in
-    let longer = ap length c.in-Ok-push.ensures.items ∙ length-append c.lines.lines.items _ in
-    (more, omega (arith, longer, c.lines.invariant.1),
-     read_then _ _ _ _ _ c.lines.place _ _ _ c.in-Ok-push.ensures.items c.lines.invariant.2 c.in-Some-split_at.ensures (of_some _ _ _ _ c.in-Ok-line_of.ensures c.in-Some-read.is))
+    let longer = ap length c.in-Ok-push.ensures.items ∙ length-append c.lines.lines.items _ in (
+      more,
+      omega (arith, longer, c.lines.invariant.1),
+      read_then _ _ _ _ _ c.lines.place _ _ _ c.in-Ok-push.ensures.items c.lines.invariant.2 c.in-Some-split_at.ensures (of_some _ _ _ _ c.in-Ok-line_of.ensures c.in-Some-read.is),
+    )
