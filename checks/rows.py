@@ -208,13 +208,82 @@ void add ( long v ) {
 /*@lock*/ n += v ;
 /*@unlock*/ }
 void two ( long v ) {
-/*@lock*/ /*@unlock*/ /*@spawn*/ add ( v ) ;
-/*@unlock*/ /*@spawn*/ add ( v + 1 ) ;
-/*@unlock*/ }
+/*@spawn*/ add ( v ) ;
+add ( v + 1 ) ;
+}
 } ;
 int main ( ) {
 A * a = new A ( ) ;
 /*@parallel*/ a -> two ( 3 ) ;
+}
+"""),
+    # a follower stands directly behind a call of its list on an equal receiver; a bare call has the receiver `this`
+    ("""class A { public: long n; A *q; A *b[2]; void add(long v) { n += v; }
+ void go(long v) { n += v; add(v); this->add(1); q->add(v); this->q->add(v); this->q->add(1);
+ b[v]->add(v); b[v]->add(1); b[1]->add(v); { b[1]->add(2); add(3); } add(4); if (v < 3) add(5); add(6);
+ for (long i = 0; i < v; i++) { add(i); add(7); } } };
+ int main() { A *a = new A(); a->go(1); }""", """class A {
+public :
+long n ;
+A * q ;
+A * b [ 2 ] ;
+void add ( long v ) {
+/*@lock*/ n += v ;
+/*@unlock*/ }
+void go ( long v ) {
+/*@lock*/ n += v ;
+/*@unlock*/ /*@spawn*/ add ( v ) ;
+this -> add ( 1 ) ;
+/*@unlock*/ /*@spawn*/ q -> add ( v ) ;
+/*@unlock*/ /*@spawn*/ this -> q -> add ( v ) ;
+this -> q -> add ( 1 ) ;
+/*@unlock*/ /*@spawn*/ b [ v ] -> add ( v ) ;
+b [ v ] -> add ( 1 ) ;
+/*@unlock*/ /*@spawn*/ b [ 1 ] -> add ( v ) ;
+{
+/*@unlock*/ /*@spawn*/ b [ 1 ] -> add ( 2 ) ;
+/*@unlock*/ /*@spawn*/ add ( 3 ) ;
+}
+/*@unlock*/ /*@spawn*/ add ( 4 ) ;
+if ( v < 3 ) /*@unlock*/ /*@spawn*/ add ( 5 ) ;
+/*@unlock*/ /*@spawn*/ add ( 6 ) ;
+for ( long i = 0 ; i < v ; i += 1 ) {
+/*@unlock*/ /*@spawn*/ add ( i ) ;
+add ( 7 ) ;
+}
+/*@unlock*/ }
+} ;
+int main ( ) {
+A * a = new A ( ) ;
+/*@parallel*/ a -> go ( 1 ) ;
+}
+"""),
+    # free in one extent of a marked call or loop and not in another
+    ("""class A { public: long n; long k; A *q; void add(long v) { n += v; } void up(long v) { k += v; }
+ void ask(long v) { long t = k; q->add(v); } };
+ int main() { A *a = new A(); for (long i = 0; i < 2; i++) { a->ask(i); a->up(i); } a->ask(1); }""", """class A {
+public :
+long n ;
+long k ;
+A * q ;
+void add ( long v ) {
+/*@lock*/ n += v ;
+/*@unlock*/ }
+void up ( long v ) {
+/*@lock*/ k += v ;
+/*@unlock*/ }
+void ask ( long v ) {
+/*@lock*/ long t = k ;
+/*@unlock*/ /*@spawn*/ q -> add ( v ) ;
+/*@unlock*/ }
+} ;
+int main ( ) {
+A * a = new A ( ) ;
+/*@parallel*/ for ( long i = 0 ; i < 2 ; i += 1 ) {
+a -> ask ( i ) ;
+a -> up ( i ) ;
+}
+/*@parallel*/ a -> ask ( 1 ) ;
 }
 """),
 ]

@@ -1,5 +1,5 @@
-// What the text of `emit` needs before it is C++ with OpenMP: a lock in each object, which a body holds until it gives
-// it back or ends.
+// What the text of `emit` needs before it is C++ with OpenMP: a lock in each object, which the body of an operation that isn't
+// free holds until it gives it back or ends.
 #include <cstdio>
 #include <omp.h>
 static void print(long v) { std::printf("%ld\n", v); }

@@ -132,8 +132,8 @@ B * b [ 4 ] ;
 long w ;
 long d ;
 void all ( long v ) {
-/*@lock*/ for ( long i = 0 ; i < 4 ; i += 1 ) /*@unlock*/ /*@spawn*/ b [ i ] -> add ( v ) ;
-/*@unlock*/ }
+for ( long i = 0 ; i < 4 ; i += 1 ) /*@spawn*/ b [ i ] -> add ( v ) ;
+}
 void put ( long v ) {
 w = v ;
 b [ 0 ] -> add ( v ) ;
@@ -146,9 +146,9 @@ w = w + v ;
 /*@parallel*/ for ( long i = 0 ; i < w ; i += 1 ) b [ i ] -> add ( w ) ;
 }
 void two ( ) {
-/*@lock*/ /*@unlock*/ /*@spawn*/ all ( 1 ) ;
-/*@unlock*/ /*@spawn*/ all ( 2 ) ;
-/*@unlock*/ }
+/*@spawn*/ all ( 1 ) ;
+all ( 2 ) ;
+}
 } ;
 int main ( ) {
 S * s = new S ( ) ;
@@ -178,19 +178,19 @@ public :
 A * p ;
 long n ;
 void e ( ) {
-/*@lock*/ /*@unlock*/ }
-void m ( long x ) {
-/*@lock*/ if ( x > 0 ) /*@unlock*/ /*@spawn*/ p -> m ( x - 1 ) ;
-else /*@unlock*/ /*@spawn*/ e ( ) ;
-/*@unlock*/ }
-void w ( ) {
-/*@lock*/ /*@unlock*/ /*@spawn*/ m ( 1 ) ;
-/*@unlock*/ }
-void v ( ) {
-/*@lock*/ {
-/*@unlock*/ /*@spawn*/ m ( 2 ) ;
 }
-/*@unlock*/ }
+void m ( long x ) {
+if ( x > 0 ) /*@spawn*/ p -> m ( x - 1 ) ;
+else /*@spawn*/ e ( ) ;
+}
+void w ( ) {
+/*@spawn*/ m ( 1 ) ;
+}
+void v ( ) {
+{
+/*@spawn*/ m ( 2 ) ;
+}
+}
 void s ( ) {
 n = 1 ;
 print ( n ) ;

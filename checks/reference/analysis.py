@@ -82,6 +82,12 @@ def expressions_by(method):
     return [e for s in method.body for e in expressions_of(s)]
 
 
+def accessed(method):
+    """The fields that a body puts or reads, receivers and arguments of calls included."""
+    put = {s[2] for top in method.body for s in statements_in(top) if s[0] in ("put_field", "put_item")}
+    return put | fields_in(expressions_by(method))
+
+
 # What may offend, in the order of the text: the line, the cause, and the field or method in question.
 
 
@@ -185,6 +191,7 @@ class Plan:
         self.marked_loops = [s for s, x in self.loops if self.is_free(x) and not x.offence([s], behind=True)]
         marked = [x for it, x in self.ops + self.loops if it in self.marked_ops or self.is_marked_loop(it)]
         self.parallel = {op for extent in marked for op in extent.ops}
+        self.locked = {op for extent in marked for op in extent.ops if accessed(op) & extent.written}
         self.inside = {id(s) for loop in self.marked_loops for s in statements_in(loop)}
 
     def is_free(self, extent):
@@ -218,6 +225,10 @@ class Plan:
 
     def is_parallel(self, node):
         return any(op.node is node for op in self.parallel)
+
+    def takes_lock(self, node):
+        """Whether a body accesses what an extent of a marked operation or loop writes; value methods aren't looked into."""
+        return any(op.node is node for op in self.locked)
 
     def is_marked(self, node):
         """Whether a statement of a body that isn't parallel has a mark."""

@@ -13,6 +13,9 @@ class Unmarked:
     def is_parallel(self, method):
         return False
 
+    def takes_lock(self, method):
+        return False
+
     def is_marked(self, statement):
         return False
 
@@ -20,11 +23,11 @@ class Unmarked:
 class Pen:
     """Writes tokens and marks with what stands between them.
 
-    The plan tells whether the body of a method is parallel, and whether a call or loop elsewhere is marked.
+    The plan tells whether the body of a method is parallel and takes a lock, and whether a call or loop elsewhere is marked.
     """
 
     def __init__(self, plan):
-        self.plan, self.parallel, self.pieces = plan, False, []
+        self.plan, self.parallel, self.locked, self.pieces = plan, False, False, []
 
     def put(self, *tokens):
         self.pieces += tokens
@@ -67,24 +70,25 @@ class Pen:
         self.put(method.name, "(")
         self.listed([lambda p=p: (self.type(p[0]), self.put(p[1])) for p in method.params])
         self.put(")", "{")
-        self.parallel = self.plan.is_parallel(method)
-        if self.parallel:
+        self.parallel, self.locked = self.plan.is_parallel(method), self.plan.takes_lock(method)
+        if self.locked:
             self.put(LOCK)
         self.statements(method.body)
-        if self.parallel:
+        if self.locked:
             self.put(UNLOCK)
         self.put("}")
-        self.parallel = False
+        self.parallel = self.locked = False
 
     # Statements
 
     def statements(self, statements):
-        for s in statements:
-            self.statement(s)
+        for front, s in zip([None, *statements], statements):
+            self.statement(s, front)
 
-    def statement(self, s):
+    def statement(self, s, front=None):
+        """A statement with the one in front of it in its list."""
         if self.parallel:
-            self.put(*([UNLOCK, SPAWN] if s[0] == "call" else []))
+            self.put(*self.spawned(s, front))
         elif self.plan.is_marked(s):
             self.put(PARALLEL)
         if s[0] in ("if", "while", "for", "block"):
@@ -94,6 +98,12 @@ class Pen:
         elif s[0] != "empty":
             self.simple(s)
         self.put(";")
+
+    def spawned(self, s, front):
+        """What stands before a statement of a parallel body: before each call but those that follow another."""
+        if s[0] != "call" or front is not None and front[0] == "call" and receiver(front[2]) == receiver(s[2]):
+            return []
+        return [UNLOCK, SPAWN] if self.locked else [SPAWN]
 
     def block_statement(self, s):
         self.put("{")
@@ -210,6 +220,11 @@ class Pen:
             ends = piece in ("{", ":") or piece == ";" and depth == 0 or piece == "}" and behind != ";"
             text.append(piece + ("\n" if ends else " "))
         return "".join(text)
+
+
+def receiver(call):
+    """The receiver of a call; that of a bare one is `this`."""
+    return ("this",) if call[0] == "call" else call[1]
 
 
 def annotated(tree, plan):

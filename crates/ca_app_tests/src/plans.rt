@@ -25,7 +25,7 @@ pairs:extent A::put$A::put A::put unproved FieldDiffers f$extent A::add$A::add A
 of $ /* of visits */ class A { public: void m() { ; } }; int main() { }
 plan:op A::m serial$
 of class A { public: void m() { ; } void n() { m(); } void e() { } }; int main() { A *a = new A(); { a->n(); } ; while (a == nullptr) a->n(); }
-emit:class A {$public :$void m ( ) {$/*@lock*/ ;$/*@unlock*/ }$void n ( ) {$/*@lock*/ /*@unlock*/ /*@spawn*/ m ( ) ;$/*@unlock*/ }$void e ( ) {$}$} ;$int main ( ) {$A * a = new A ( ) ;${$/*@parallel*/ a -> n ( ) ;$} ;$while ( a == nullptr ) /*@parallel*/ a -> n ( ) ;$}$";
+emit:class A {$public :$void m ( ) {$;$}$void n ( ) {$/*@spawn*/ m ( ) ;$}$void e ( ) {$}$} ;$int main ( ) {$A * a = new A ( ) ;${$/*@parallel*/ a -> n ( ) ;$} ;$while ( a == nullptr ) /*@parallel*/ a -> n ( ) ;$}$";
 
 const OF_FIRST: &str =
     "pairs:extent Acc::add$Acc::add Acc::add commutes$extent Acc::tie$Acc::tie Acc::tie unproved FieldDiffers peer$";
@@ -38,7 +38,7 @@ emit:class Graph {$public :$bool mark ;$long value ;$long sum ;$Graph * left ;$G
 const OF_ACCUMULATOR: &str =
     "pairs:extent Acc::add$Acc::add Acc::add commutes$extent Acc::sub$Acc::sub Acc::sub commutes$extent Acc::mul$Acc::mul Acc::mul commutes$extent Acc::mix$Acc::add Acc::add commutes$Acc::add Acc::mul unproved FieldDiffers sum$Acc::add Acc::mix commutes$Acc::mul Acc::mul commutes$Acc::mul Acc::mix commutes$Acc::mix Acc::mix commutes$extent Acc::par$Acc::add Acc::add commutes$Acc::add Acc::sub commutes$Acc::add Acc::par commutes$Acc::sub Acc::sub commutes$Acc::sub Acc::par commutes$Acc::par Acc::par commutes$
 plan:op Acc::add serial$op Acc::sub serial$op Acc::mul serial$op Acc::mix serial$op Acc::par parallel$
-emit:class Acc {$public :$long sum ;$void add ( long p ) {$/*@lock*/ sum = sum + p ;$/*@unlock*/ }$void sub ( long p ) {$/*@lock*/ sum = sum - p ;$/*@unlock*/ }$void mul ( long p ) {$sum = sum * p ;$}$void mix ( long p ) {$add ( p ) ;$mul ( p ) ;$}$void par ( long p ) {$/*@lock*/ /*@unlock*/ /*@spawn*/ add ( p ) ;$/*@unlock*/ /*@spawn*/ sub ( p ) ;$/*@unlock*/ }$} ;$int main ( ) {$Acc * a = new Acc ( ) ;$a -> mix ( 2 ) ;$/*@parallel*/ a -> par ( 3 ) ;$}$";
+emit:class Acc {$public :$long sum ;$void add ( long p ) {$/*@lock*/ sum = sum + p ;$/*@unlock*/ }$void sub ( long p ) {$/*@lock*/ sum = sum - p ;$/*@unlock*/ }$void mul ( long p ) {$sum = sum * p ;$}$void mix ( long p ) {$add ( p ) ;$mul ( p ) ;$}$void par ( long p ) {$/*@spawn*/ add ( p ) ;$sub ( p ) ;$}$} ;$int main ( ) {$Acc * a = new Acc ( ) ;$a -> mix ( 2 ) ;$/*@parallel*/ a -> par ( 3 ) ;$}$";
 
 const OF_STACK: &str = "pairs:extent Stack::put$Stack::put Stack::put unproved FieldDiffers buf$
 emit:class Stack {$public :$long buf [ 8 ] ;$long n ;$void put ( long v ) {$buf [ n ] = v ;$n = n + 1 ;$}$} ;$int main ( ) {$}$";
@@ -46,7 +46,7 @@ emit:class Stack {$public :$long buf [ 8 ] ;$long n ;$void put ( long v ) {$buf 
 const OF_BINS: &str =
     "pairs:extent Bins::add$Bins::add Bins::add commutes$extent Set::fill$Set::fill Set::fill unproved NotSeparable Set::fill 10 Creates$extent Set::all$Bins::add Bins::add commutes$Set::all Set::all commutes$loop 13$Bins::add Bins::add commutes$
 plan:op Bins::add serial$op Set::fill serial$op Set::all parallel$loop 13 parallel$
-emit:class Bins {$public :$long a [ 3 ] ;$void add ( long i , long v ) {$/*@lock*/ a [ i ] = a [ i ] + v ;$/*@unlock*/ }$} ;$class Set {$public :$Bins * b [ 1000 ] ;$void fill ( ) {$for ( long i = 0 ; i < 1000 ; i += 1 ) b [ i ] = new Bins ( ) ;$}$void all ( long v ) {$/*@lock*/ for ( long i = 0 ; i < 1000 ; i += 1 ) /*@unlock*/ /*@spawn*/ b [ i ] -> add ( i % 3 , v ) ;$/*@unlock*/ }$} ;$int main ( ) {$Set * s = new Set ( ) ;$s -> fill ( ) ;$/*@parallel*/ s -> all ( 7 ) ;$/*@parallel*/ s -> all ( 8 ) ;$}$";
+emit:class Bins {$public :$long a [ 3 ] ;$void add ( long i , long v ) {$/*@lock*/ a [ i ] = a [ i ] + v ;$/*@unlock*/ }$} ;$class Set {$public :$Bins * b [ 1000 ] ;$void fill ( ) {$for ( long i = 0 ; i < 1000 ; i += 1 ) b [ i ] = new Bins ( ) ;$}$void all ( long v ) {$for ( long i = 0 ; i < 1000 ; i += 1 ) /*@spawn*/ b [ i ] -> add ( i % 3 , v ) ;$}$} ;$int main ( ) {$Set * s = new Set ( ) ;$s -> fill ( ) ;$/*@parallel*/ s -> all ( 7 ) ;$/*@parallel*/ s -> all ( 8 ) ;$}$";
 
 const OF_CELLS: &str =
     "pairs:extent Cell::late$Cell::late Cell::late unproved NotSeparable Cell::late 10 AccessAfterCall$extent Cell::early$Cell::early Cell::early commutes$
@@ -61,7 +61,7 @@ const OF_BOUND: &str = "pairs:extent M::up$M::up M::up unproved FieldDiffers x$
 emit:class M {$public :$long x ;$void up ( long v ) {$if ( x < v ) x = v ;$}$} ;$int main ( ) {$}$";
 
 const OF_TWO_SUMS: &str =
-    "emit:class A {$public :$long n ;$void add ( long v ) {$/*@lock*/ n += v ;$/*@unlock*/ }$void two ( long v ) {$/*@lock*/ /*@unlock*/ /*@spawn*/ add ( v ) ;$/*@unlock*/ /*@spawn*/ add ( v + 1 ) ;$/*@unlock*/ }$} ;$int main ( ) {$A * a = new A ( ) ;$/*@parallel*/ a -> two ( 3 ) ;$}$";
+    "emit:class A {$public :$long n ;$void add ( long v ) {$/*@lock*/ n += v ;$/*@unlock*/ }$void two ( long v ) {$/*@spawn*/ add ( v ) ;$add ( v + 1 ) ;$}$} ;$int main ( ) {$A * a = new A ( ) ;$/*@parallel*/ a -> two ( 3 ) ;$}$";
 
 /// Ends the test where a row of a text isn't told.
 fn are_told<R: AllocGlobal + Threads + Wait + Sync + Abort>(rt: &R, text: &str, rows: &str) {

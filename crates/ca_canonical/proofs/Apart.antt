@@ -114,7 +114,7 @@ abbrev is_empty : Statement → Bool
 is_empty (empty at) = true
 is_empty other = false
 
-begins : (f : Statement → List Mark) (s : Statement) → is_empty s ≡ false → NoSemicolon (pieces_of f s)
+begins : (f : Option Statement → Statement → List Mark) (s : Statement) → is_empty s ≡ false → NoSemicolon (pieces_of f s)
 begins f (empty at) h = absurd (cc)
 begins f (local at ty name name_at v) h =
     let rest = Word name ∷ spell_start v in
@@ -133,12 +133,12 @@ begins f (print_value at e) h = λ rest. refl
 
 -- statements
 
-abbrev SparesEmpty : (Statement → List Mark) → Type 0
-SparesEmpty f = (at : Place) → f (empty at) ≡ []
+abbrev SparesEmpty : (Option Statement → Statement → List Mark) → Type 0
+SparesEmpty f = (front : Option Statement) (at : Place) → f front (empty at) ≡ []
 
-behind_its_marks : (f : Statement → List Mark) → SparesEmpty f → (s : Statement) → Apart (pieces_of f s) → Apart (marks (f s) ++ pieces_of f s)
-behind_its_marks f n (empty at) p = subst (λ ms. Apart (marks ms ++ pieces_of f (empty at))) (sym (n at)) p
-behind_its_marks f n other p = apart_marked (f other) (pieces_of f other) p (begins f other refl)
+behind_its_marks : (f : Option Statement → Statement → List Mark) → SparesEmpty f → (front : Option Statement) (s : Statement) → Apart (pieces_of f s) → Apart (marks (f front s) ++ pieces_of f s)
+behind_its_marks f n front (empty at) p = subst (λ ms. Apart (marks ms ++ pieces_of f (empty at))) (sym (n front at)) p
+behind_its_marks f n front other p = apart_marked (f front other) (pieces_of f other) p (begins f other refl)
 
 body_apart : (ps : List Piece) → Apart ps → Apart (in_body ps)
 body_apart ps p =
@@ -146,25 +146,26 @@ body_apart ps p =
     (apart_both ps (tokens (Sign sign.CloseBrace ∷ [])) p (apart_tokens (Sign sign.CloseBrace ∷ [])))
 
 mutual
-  statement_apart : (f : Statement → List Mark) → SparesEmpty f → (s : Statement) → Apart (pieces_of f s)
-  statement_apart f n (block at ss) = body_apart (marked_all f ss) (all_apart f n ss)
+  statement_apart : (f : Option Statement → Statement → List Mark) → SparesEmpty f → (s : Statement) → Apart (pieces_of f s)
+  statement_apart f n (block at ss) = body_apart (marked_all f None ss) (all_apart f n None ss)
   statement_apart f n (if_only at c s) =
-      apart_both (tokens (condition key.If c)) (marks (f s) ++ pieces_of f s) (apart_tokens (condition key.If c)) (behind_its_marks f n s (statement_apart f n s))
+      apart_both (tokens (condition key.If c)) (marks (f None s) ++ pieces_of f s) (apart_tokens (condition key.If c)) (behind_its_marks f n None s (statement_apart f n s))
   statement_apart f n (if_else at c s t) =
-      let yes_part = marks (f s) ++ pieces_of f s in
-      let no_part = marks (f t) ++ pieces_of f t in
+      let yes_part = marks (f None s) ++ pieces_of f s in
+      let no_part = marks (f None t) ++ pieces_of f t in
       apart_both (tokens (condition key.If c)) (yes_part ++ (token (Key key.Else) ∷ no_part)) (apart_tokens (condition key.If c))
-      (apart_both yes_part (token (Key key.Else) ∷ no_part) (behind_its_marks f n s (statement_apart f n s))
-      (apart_both (tokens (Key key.Else ∷ [])) no_part (apart_tokens (Key key.Else ∷ [])) (behind_its_marks f n t (statement_apart f n t))))
+      (apart_both yes_part (token (Key key.Else) ∷ no_part) (behind_its_marks f n None s (statement_apart f n s))
+      (apart_both (tokens (Key key.Else ∷ [])) no_part (apart_tokens (Key key.Else ∷ [])) (behind_its_marks f n None t (statement_apart f n t))))
   statement_apart f n (while_loop at c s) =
-      apart_both (tokens (condition key.While c)) (marks (f s) ++ pieces_of f s) (apart_tokens (condition key.While c)) (behind_its_marks f n s (statement_apart f n s))
+      apart_both (tokens (condition key.While c)) (marks (f None s) ++ pieces_of f s) (apart_tokens (condition key.While c)) (behind_its_marks f n None s (statement_apart f n s))
   statement_apart f n (for_loop at first c next s) =
-      apart_both (tokens (spell_for first c next)) (marks (f s) ++ pieces_of f s) (apart_tokens (spell_for first c next)) (behind_its_marks f n s (statement_apart f n s))
+      apart_both (tokens (spell_for first c next)) (marks (f None s) ++ pieces_of f s) (apart_tokens (spell_for first c next)) (behind_its_marks f n None s (statement_apart f n s))
   statement_apart f n other = apart_tokens (spell_line other)
 
-  all_apart : (f : Statement → List Mark) → SparesEmpty f → (ss : Statements) → Apart (marked_all f ss)
-  all_apart f n no_statements = apart_tokens []
-  all_apart f n (statement_and s ss) = apart_both (marks (f s) ++ pieces_of f s) (marked_all f ss) (behind_its_marks f n s (statement_apart f n s)) (all_apart f n ss)
+  all_apart : (f : Option Statement → Statement → List Mark) → SparesEmpty f → (front : Option Statement) (ss : Statements) → Apart (marked_all f front ss)
+  all_apart f n front no_statements = apart_tokens []
+  all_apart f n front (statement_and s ss) =
+      apart_both (marks (f front s) ++ pieces_of f s) (marked_all f (Some s) ss) (behind_its_marks f n front s (statement_apart f n s)) (all_apart f n (Some s) ss)
 
 -- the whole
 
@@ -179,7 +180,7 @@ method_apart : (m : Marking) → ((body : Option Place) → SparesEmpty (m.befor
 method_apart m n x =
     let signature = spell_result x.result ++ (Word x.name ∷ in_parentheses (spell_params x.params)) in
     let opening = marks (m.opening x.at) in
-    let inside = marked_all (m.before (Some x.at)) x.body in
+    let inside = marked_all (m.before (Some x.at)) None x.body in
     let closing = marks (m.closing x.at) in
     let close = token (Sign sign.CloseBrace) ∷ [] in
     let cut : (opening ++ (inside ++ closing)) ++ close ≡ opening ++ (inside ++ (closing ++ close)) =
@@ -187,7 +188,7 @@ method_apart m n x =
     let end = apart_marked (m.closing x.at) close (apart_tokens (Sign sign.CloseBrace ∷ [])) (λ rest. refl) in
     apart_both (tokens signature) (in_body (opening ++ (inside ++ closing))) (apart_tokens signature)
     (subst (λ z. Apart (token (Sign sign.OpenBrace) ∷ z)) (sym cut)
-    (opening_apart (m.opening x.at) (inside ++ (closing ++ close)) (apart_both inside (closing ++ close) (all_apart (m.before (Some x.at)) (n (Some x.at)) x.body) end)))
+    (opening_apart (m.opening x.at) (inside ++ (closing ++ close)) (apart_both inside (closing ++ close) (all_apart (m.before (Some x.at)) (n (Some x.at)) None x.body) end)))
 
 member_apart : (m : Marking) → ((body : Option Place) → SparesEmpty (m.before body)) → (x : MemberTree) → Apart (marked_member m x)
 member_apart m n (field_member f) = apart_tokens (spell_field f)
@@ -209,11 +210,11 @@ classes_apart m n (c ∷ cs) =
 main_apart : (m : Marking) → ((body : Option Place) → SparesEmpty (m.before body)) → (ss : Statements) → Apart (marked_main m ss)
 main_apart m n ss =
     let head = Key key.Int ∷ Key key.Main ∷ in_parentheses [] in
-    let inside = marked_all (m.before None) ss in
+    let inside = marked_all (m.before None) None ss in
     let end = spell_end (ends_in_zero ss) in
-    apart_both (tokens head) (in_body (inside ++ tokens end)) (apart_tokens head) (body_apart (inside ++ tokens end) (apart_both inside (tokens end) (all_apart (m.before None) (n None) ss) (apart_tokens end)))
+    apart_both (tokens head) (in_body (inside ++ tokens end)) (apart_tokens head) (body_apart (inside ++ tokens end) (apart_both inside (tokens end) (all_apart (m.before None) (n None) None ss) (apart_tokens end)))
 
-pub annotated_clear : (m : Marking) (t : TextTree) → ((body : Option Place) (at : Place) → m.before body (empty at) ≡ []) → Clear (annotated m t)
+pub annotated_clear : (m : Marking) (t : TextTree) → ((body : Option Place) (front : Option Statement) (at : Place) → m.before body front (empty at) ≡ []) → Clear (annotated m t)
 annotated_clear m t n =
     let all = apart_both (marked_classes m t.classes) (marked_main m t.main) (classes_apart m n t.classes) (main_apart m n t.main) in
     subst Clear (append-nil (annotated m t)) (all.clear [] tt refl)

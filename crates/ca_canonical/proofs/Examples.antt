@@ -93,15 +93,16 @@ two_adds_text : text_of (spell two_adds) ≡ codes "class A {\npublic :\nlong n 
 unfolding digits
 two_adds_text = refl
 
--- marks before calls, in the body of a method and in `main`
-abbrev before_calls : Option Place → Statement → List Mark
-before_calls (Some at) (call_statement at2 e) = Unlock ∷ Spawn ∷ []
-before_calls None (call_statement at2 e) = Parallel ∷ []
-before_calls body other = []
+-- marks before calls, in the body of a method but where another call stands in front, and in `main`
+abbrev before_calls : Option Place → Option Statement → Statement → List Mark
+before_calls (Some at) (Some (call_statement at1 e1)) (call_statement at2 e) = []
+before_calls (Some at) front (call_statement at2 e) = Unlock ∷ Spawn ∷ []
+before_calls None front (call_statement at2 e) = Parallel ∷ []
+before_calls body front other = []
 
 abbrev some_marks : Marking
 some_marks = record { before = before_calls; opening = λ at. Lock ∷ []; closing = λ at. Unlock ∷ [] }
 
-two_adds_marked : text_of_pieces (annotated some_marks two_adds) ≡ codes "class A {\npublic :\nlong n ;\nvoid add ( long v ) {\n/*@lock*/ n += v ;\n/*@unlock*/ }\nvoid two ( long v ) {\n/*@lock*/ /*@unlock*/ /*@spawn*/ add ( v ) ;\n/*@unlock*/ /*@spawn*/ add ( v + 1 ) ;\n/*@unlock*/ }\n} ;\nint main ( ) {\nA * a = new A ( ) ;\n/*@parallel*/ a -> two ( 3 ) ;\n}\n"
+two_adds_marked : text_of_pieces (annotated some_marks two_adds) ≡ codes "class A {\npublic :\nlong n ;\nvoid add ( long v ) {\n/*@lock*/ n += v ;\n/*@unlock*/ }\nvoid two ( long v ) {\n/*@lock*/ /*@unlock*/ /*@spawn*/ add ( v ) ;\nadd ( v + 1 ) ;\n/*@unlock*/ }\n} ;\nint main ( ) {\nA * a = new A ( ) ;\n/*@parallel*/ a -> two ( 3 ) ;\n}\n"
 unfolding digits
 two_adds_marked = refl

@@ -1,5 +1,5 @@
 -- Lists that are written item by item.
-use Rattle.std.proofs.Common.{map, ◌≡◌, ℕ, suc, ◌+◌, ◌<◌, ◌≤◌, List, [], ◌∷◌, ◌++◌, Bool, true, false, length, drop, get_or, refl, sym, ap, ◌∙◌, subst, arith}
+use Rattle.std.proofs.Common.{map, ◌≡◌, ℕ, suc, ◌+◌, ◌<◌, ◌≤◌, List, [], ◌∷◌, ◌++◌, Bool, true, false, Option, Some, length, drop, get_or, refl, sym, ap, ◌∙◌, subst, arith}
 use Rattle.std.proofs.Math.Seq.{drop-cons}
 use Rattle.std.proofs.lemmas.List.{drop_all}
 use Rattle.ca_tree.specs.declared.token.Kind.{Kind}
@@ -73,24 +73,25 @@ no_param_left true ps i h = ap spell_other_params (drop_all i ps h)
 no_param_left false ps i h = ap spell_params (drop_all i ps h)
 
 -- a statement, behind its marks
-pub with_marks : {a b c : Written} (f : Statement → List Mark) (x y : Statement) → x ≡ y → WritesPieces a b (marks (f x)) → WritesPieces b c (pieces_of f y) → WritesPieces a c (marked f x)
-with_marks {b = b} {c = c} f x y e front w = after front (subst (λ z. WritesPieces b c (pieces_of f z)) (sym e) w)
+pub with_marks : {a b c : Written} (f : Option Statement → Statement → List Mark) (front : Option Statement) (x y : Statement) → x ≡ y → WritesPieces a b (marks (f front x)) → WritesPieces b c (pieces_of f y) → WritesPieces a c (marked f front x)
+with_marks {b = b} {c = c} f front x y e before w = after before (subst (λ z. WritesPieces b c (pieces_of f z)) (sym e) w)
 
 -- one with no other inside
-pub line_with_marks : {a b c : Written} (f : Statement → List Mark) (x y : Statement) → x ≡ y → pieces_of f y ≡ tokens (spell_line y) → WritesPieces a b (marks (f x)) → Writes b c (spell_line x) → WritesPieces a c (marked f x)
-line_with_marks {b = b} {c = c} f x y e is front w =
+pub line_with_marks : {a b c : Written} (f : Option Statement → Statement → List Mark) (front : Option Statement) (x y : Statement) → x ≡ y → pieces_of f y ≡ tokens (spell_line y) → WritesPieces a b (marks (f front x)) → Writes b c (spell_line x)
+    → WritesPieces a c (marked f front x)
+line_with_marks {b = b} {c = c} f front x y e is before w =
     let same : WritesPieces b c (tokens (spell_line y)) = subst (λ z. WritesPieces b c (tokens (spell_line z))) e (as_pieces w) in
-    with_marks f x y e front (subst (λ ps. WritesPieces b c ps) (sym is) same)
+    with_marks f front x y e before (subst (λ ps. WritesPieces b c ps) (sym is) same)
 
 -- statements, members and classes stand one behind the other
-pub statement_written : {old now next : Written} {all : List Piece} (f : Statement → List Mark) (ss : List StmtNode) (i : ℕ) (s : StmtNode) → i < length ss → s ≡ get_or ss i s
-    → Leaves old all now (marked_all f (statements_view (drop i ss))) → WritesPieces now next (marked f (statement_view s))
-    → Leaves old all next (marked_all f (statements_view (drop (i + 1) ss)))
-statement_written {old = old} {now = now} {all = all} f ss i s h e l w =
-    fewer_left (subst (λ ps. Leaves old all now ps) (ap (λ z. marked_all f (statements_view z)) (item_and_rest ss i s h e)) l) w
+pub statement_written : {old now next : Written} {all : List Piece} (f : Option Statement → Statement → List Mark) (front : Option Statement) (ss : List StmtNode) (i : ℕ) (s : StmtNode) → i < length ss → s ≡ get_or ss i s
+    → Leaves old all now (marked_all f front (statements_view (drop i ss))) → WritesPieces now next (marked f front (statement_view s))
+    → Leaves old all next (marked_all f (Some (statement_view s)) (statements_view (drop (i + 1) ss)))
+statement_written {old = old} {now = now} {all = all} f front ss i s h e l w =
+    fewer_left (subst (λ ps. Leaves old all now ps) (ap (λ z. marked_all f front (statements_view z)) (item_and_rest ss i s h e)) l) w
 
-pub no_statement_left : (f : Statement → List Mark) (ss : List StmtNode) (i : ℕ) → length ss ≤ i → marked_all f (statements_view (drop i ss)) ≡ []
-no_statement_left f ss i h = ap (λ z. marked_all f (statements_view z)) (drop_all i ss h)
+pub no_statement_left : (f : Option Statement → Statement → List Mark) (front : Option Statement) (ss : List StmtNode) (i : ℕ) → length ss ≤ i → marked_all f front (statements_view (drop i ss)) ≡ []
+no_statement_left f front ss i h = ap (λ z. marked_all f front (statements_view z)) (drop_all i ss h)
 
 pub member_written : {old now next : Written} {all : List Piece} (f : Marking) (ms : List Member) (i : ℕ) (m : Member) → i < length ms → m ≡ get_or ms i m
     → Leaves old all now (marked_members f (map member_view (drop i ms))) → WritesPieces now next (marked_member f (member_view m))

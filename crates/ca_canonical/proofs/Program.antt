@@ -203,7 +203,7 @@ read_back text ts us t d e f =
     let l = canonical_tokens (spell t) g.writable in
     derived t (g.reads.at us (ap kinds (one_list f l.tokens l.are) ∙ l.same))
 
-pub erased : (text : List ℕ) (ts : List Token) (t : TextTree) (m : Marking) → Tokens text ts → Derives ts t → ((body : Option Place) (at : Place) → m.before body (empty at) ≡ [])
+pub erased : (text : List ℕ) (ts : List Token) (t : TextTree) (m : Marking) → Tokens text ts → Derives ts t → ((body : Option Place) (front : Option Statement) (at : Place) → m.before body front (empty at) ≡ [])
     → Erased (text_of_pieces (annotated m t)) (text_of (spell t))
 erased text ts t m d e none =
     let is = annotated_unmarked m t in

@@ -1,6 +1,6 @@
 -- Pieces without their marks are the canonical tokens, and where nothing is marked these are all pieces.
 use Rattle.std.proofs.Common.{◌≡◌, List, [], ◌∷◌, ◌++◌, refl, sym, ap, ◌∙◌, append_assoc, append-nil}
-use Rattle.std.specs.Prelude.{Some, None}
+use Rattle.std.specs.Prelude.{Option, Some, None}
 use Rattle.ca_tree.specs.declared.token.Kind.{Kind}
 use Rattle.ca_tree.specs.declared.token.Kind.TheVariants.{Word, Key, Sign}
 use Rattle.ca_tree.specs.declared.token.Keyword.TheVariants as key
@@ -36,29 +36,29 @@ body_unmarked : {ks : List Kind} (ps : List Piece) → unmarked ps ≡ ks → un
 body_unmarked ps e = ap (λ z. Sign sign.OpenBrace ∷ z) (both_unmarked ps (token (Sign sign.CloseBrace) ∷ []) e refl)
 
 mutual
-  statement_unmarked : (f : Statement → List Mark) (s : Statement) → unmarked (pieces_of f s) ≡ spell_statement s
-  statement_unmarked f (block at ss) = body_unmarked (marked_all f ss) (all_unmarked f ss)
-  statement_unmarked f (if_only at c s) = behind_tokens (condition key.If c) (marked f s) (behind_marks (f s) (pieces_of f s) (statement_unmarked f s))
+  statement_unmarked : (f : Option Statement → Statement → List Mark) (s : Statement) → unmarked (pieces_of f s) ≡ spell_statement s
+  statement_unmarked f (block at ss) = body_unmarked (marked_all f None ss) (all_unmarked f None ss)
+  statement_unmarked f (if_only at c s) = behind_tokens (condition key.If c) (marked f None s) (behind_marks (f None s) (pieces_of f s) (statement_unmarked f s))
   statement_unmarked f (if_else at c s t) =
-      behind_tokens (condition key.If c) (marked f s ++ (token (Key key.Else) ∷ marked f t))
-      (both_unmarked (marked f s) (token (Key key.Else) ∷ marked f t) (behind_marks (f s) (pieces_of f s) (statement_unmarked f s))
-      (ap (λ z. Key key.Else ∷ z) (behind_marks (f t) (pieces_of f t) (statement_unmarked f t))))
-  statement_unmarked f (while_loop at c s) = behind_tokens (condition key.While c) (marked f s) (behind_marks (f s) (pieces_of f s) (statement_unmarked f s))
-  statement_unmarked f (for_loop at first c next s) = behind_tokens (spell_for first c next) (marked f s) (behind_marks (f s) (pieces_of f s) (statement_unmarked f s))
+      behind_tokens (condition key.If c) (marked f None s ++ (token (Key key.Else) ∷ marked f None t))
+      (both_unmarked (marked f None s) (token (Key key.Else) ∷ marked f None t) (behind_marks (f None s) (pieces_of f s) (statement_unmarked f s))
+      (ap (λ z. Key key.Else ∷ z) (behind_marks (f None t) (pieces_of f t) (statement_unmarked f t))))
+  statement_unmarked f (while_loop at c s) = behind_tokens (condition key.While c) (marked f None s) (behind_marks (f None s) (pieces_of f s) (statement_unmarked f s))
+  statement_unmarked f (for_loop at first c next s) = behind_tokens (spell_for first c next) (marked f None s) (behind_marks (f None s) (pieces_of f s) (statement_unmarked f s))
   statement_unmarked f other = tokens_unmarked (spell_line other)
 
-  all_unmarked : (f : Statement → List Mark) (ss : Statements) → unmarked (marked_all f ss) ≡ spell_statements ss
-  all_unmarked f no_statements = refl
-  all_unmarked f (statement_and s ss) = both_unmarked (marked f s) (marked_all f ss) (behind_marks (f s) (pieces_of f s) (statement_unmarked f s)) (all_unmarked f ss)
+  all_unmarked : (f : Option Statement → Statement → List Mark) (front : Option Statement) (ss : Statements) → unmarked (marked_all f front ss) ≡ spell_statements ss
+  all_unmarked f front no_statements = refl
+  all_unmarked f front (statement_and s ss) = both_unmarked (marked f front s) (marked_all f (Some s) ss) (behind_marks (f front s) (pieces_of f s) (statement_unmarked f s)) (all_unmarked f (Some s) ss)
 
 method_unmarked : (m : Marking) (x : MethodTree) → unmarked (marked_method m x) ≡ spell_method x
 method_unmarked m x =
-    let inside = marked_all (m.before (Some x.at)) x.body in
+    let inside = marked_all (m.before (Some x.at)) None x.body in
     let signature = in_parentheses (spell_params x.params) in
     behind_tokens (spell_result x.result ++ (Word x.name ∷ signature)) (in_body (marks (m.opening x.at) ++ (inside ++ marks (m.closing x.at))))
     (body_unmarked (marks (m.opening x.at) ++ (inside ++ marks (m.closing x.at)))
     (behind_marks (m.opening x.at) (inside ++ marks (m.closing x.at))
-    (both_unmarked inside (marks (m.closing x.at)) (all_unmarked (m.before (Some x.at)) x.body) (marks_unmarked (m.closing x.at)) ∙ append-nil (spell_statements x.body))))
+    (both_unmarked inside (marks (m.closing x.at)) (all_unmarked (m.before (Some x.at)) None x.body) (marks_unmarked (m.closing x.at)) ∙ append-nil (spell_statements x.body))))
     ∙ append_assoc (spell_result x.result) (Word x.name ∷ signature) (in_braces (spell_statements x.body))
 
 member_unmarked : (m : Marking) (x : MemberTree) → unmarked (marked_member m x) ≡ spell_member x
@@ -84,8 +84,8 @@ main_unmarked : (m : Marking) (ss : Statements) → unmarked (marked_main m ss) 
 main_unmarked m ss =
     let end = spell_end (ends_in_zero ss) in
     ap (λ z. Key key.Int ∷ Key key.Main ∷ Sign sign.OpenParenthesis ∷ Sign sign.CloseParenthesis ∷ z)
-    (body_unmarked (marked_all (m.before None) ss ++ tokens end)
-    (both_unmarked (marked_all (m.before None) ss) (tokens end) (all_unmarked (m.before None) ss) (tokens_unmarked end)))
+    (body_unmarked (marked_all (m.before None) None ss ++ tokens end)
+    (both_unmarked (marked_all (m.before None) None ss) (tokens end) (all_unmarked (m.before None) None ss) (tokens_unmarked end)))
 
 pub annotated_unmarked : (m : Marking) (t : TextTree) → unmarked (annotated m t) ≡ spell t
 annotated_unmarked m t = both_unmarked (marked_classes m t.classes) (marked_main m t.main) (classes_unmarked m t.classes) (main_unmarked m t.main)
@@ -114,30 +114,30 @@ only_tokens (k ∷ ks) = only_tokens ks
 only_body : (ps : List Piece) → OnlyTokens ps → OnlyTokens (in_body ps)
 only_body ps h = only_both ps (token (Sign sign.CloseBrace) ∷ []) h tt
 
-abbrev nothing : Statement → List Mark
-nothing s = []
+abbrev nothing : Option Statement → Statement → List Mark
+nothing front s = []
 
 mutual
   only_statement : (s : Statement) → OnlyTokens (pieces_of nothing s)
-  only_statement (block at ss) = only_body (marked_all nothing ss) (only_all ss)
-  only_statement (if_only at c s) = only_both (tokens (condition key.If c)) (marked nothing s) (only_tokens (condition key.If c)) (only_statement s)
+  only_statement (block at ss) = only_body (marked_all nothing None ss) (only_all None ss)
+  only_statement (if_only at c s) = only_both (tokens (condition key.If c)) (marked nothing None s) (only_tokens (condition key.If c)) (only_statement s)
   only_statement (if_else at c s t) =
-      only_both (tokens (condition key.If c)) (marked nothing s ++ (token (Key key.Else) ∷ marked nothing t)) (only_tokens (condition key.If c))
-      (only_both (marked nothing s) (token (Key key.Else) ∷ marked nothing t) (only_statement s) (only_statement t))
-  only_statement (while_loop at c s) = only_both (tokens (condition key.While c)) (marked nothing s) (only_tokens (condition key.While c)) (only_statement s)
-  only_statement (for_loop at first c next s) = only_both (tokens (spell_for first c next)) (marked nothing s) (only_tokens (spell_for first c next)) (only_statement s)
+      only_both (tokens (condition key.If c)) (marked nothing None s ++ (token (Key key.Else) ∷ marked nothing None t)) (only_tokens (condition key.If c))
+      (only_both (marked nothing None s) (token (Key key.Else) ∷ marked nothing None t) (only_statement s) (only_statement t))
+  only_statement (while_loop at c s) = only_both (tokens (condition key.While c)) (marked nothing None s) (only_tokens (condition key.While c)) (only_statement s)
+  only_statement (for_loop at first c next s) = only_both (tokens (spell_for first c next)) (marked nothing None s) (only_tokens (spell_for first c next)) (only_statement s)
   only_statement other = only_tokens (spell_line other)
 
-  only_all : (ss : Statements) → OnlyTokens (marked_all nothing ss)
-  only_all no_statements = tt
-  only_all (statement_and s ss) = only_both (marked nothing s) (marked_all nothing ss) (only_statement s) (only_all ss)
+  only_all : (front : Option Statement) (ss : Statements) → OnlyTokens (marked_all nothing front ss)
+  only_all front no_statements = tt
+  only_all front (statement_and s ss) = only_both (marked nothing front s) (marked_all nothing (Some s) ss) (only_statement s) (only_all (Some s) ss)
 
 only_member : (x : MemberTree) → OnlyTokens (marked_member no_marks x)
 only_member (field_member f) = only_tokens (spell_field f)
 only_member (method_member x) =
     let signature = spell_result x.result ++ (Word x.name ∷ in_parentheses (spell_params x.params)) in
-    let inside = marked_all nothing x.body ++ [] in
-    only_both (tokens signature) (in_body inside) (only_tokens signature) (only_body inside (only_both (marked_all nothing x.body) [] (only_all x.body) tt))
+    let inside = marked_all nothing None x.body ++ [] in
+    only_both (tokens signature) (in_body inside) (only_tokens signature) (only_body inside (only_both (marked_all nothing None x.body) [] (only_all None x.body) tt))
 
 only_members : (xs : List MemberTree) → OnlyTokens (marked_members no_marks xs)
 only_members [] = tt
@@ -152,7 +152,7 @@ only_classes (c ∷ cs) =
 only_main : (ss : Statements) → OnlyTokens (marked_main no_marks ss)
 only_main ss =
     let end = tokens (spell_end (ends_in_zero ss)) in
-    only_body (marked_all nothing ss ++ end) (only_both (marked_all nothing ss) end (only_all ss) (only_tokens (spell_end (ends_in_zero ss))))
+    only_body (marked_all nothing None ss ++ end) (only_both (marked_all nothing None ss) end (only_all None ss) (only_tokens (spell_end (ends_in_zero ss))))
 
 pub nothing_annotated : (t : TextTree) → annotated no_marks t ≡ tokens (spell t)
 nothing_annotated t =

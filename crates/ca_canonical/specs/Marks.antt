@@ -1,8 +1,11 @@
 -- Marks, the pieces of a text, and which marks stand where.
-use Rattle.std.specs.Prelude.{ℕ, List, [], ◌∷◌, map, Option, codes}
+use Rattle.std.specs.Prelude.{ℕ, List, [], ◌∷◌, map, Option, Some, None, codes}
+use Rattle.std.specs.Borrow.{Bor}
 use Rattle.ca_tree.specs.declared.name.Place.{Place}
 use Rattle.ca_tree.specs.declared.token.Kind.{Kind}
+use Rattle.ca_tree.specs.declared.tree.StmtNode.{StmtNode}
 use Rattle.ca_tree.specs.Plain.{Statement}
+use Rattle.ca_tree.specs.View.{statement_view}
 use Rattle.ca_canonical.specs.declared.marks.Mark.{Mark}
 use Rattle.ca_canonical.specs.declared.marks.Mark.TheVariants.{Lock, Unlock, Spawn, Parallel}
 
@@ -30,11 +33,17 @@ unmarked (token k ∷ ps) = k ∷ unmarked ps
 unmarked (mark m ∷ ps) = unmarked ps
 
 -- Which marks stand before each statement of a body, behind the `{` of a method's body and before its `}`. A body is named
--- by the place of its method's name, and that of `main` by none.
+-- by the place of its method's name, and that of `main` by none. Told is also which statement stands in front in the same
+-- list; none does at the beginning of a list, of a branch and of the body of a loop.
 pub record Marking : Type 0 where
-  pub before : Option Place → Statement → List Mark
+  pub before : Option Place → Option Statement → Statement → List Mark
   pub opening : Place → List Mark
   pub closing : Place → List Mark
 
 abbrev pub no_marks : Marking
-no_marks = record { before = λ body s. []; opening = λ body. []; closing = λ body. [] }
+no_marks = record { before = λ body front s. []; opening = λ body. []; closing = λ body. [] }
+
+-- the statement in front, as a plain one
+abbrev pub front_view : Option (Bor StmtNode) → Option Statement
+front_view None = None
+front_view (Some s) = Some (statement_view s.now)

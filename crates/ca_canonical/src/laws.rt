@@ -3,7 +3,7 @@
 ghost use Rattle.std.specs.Prelude.{◌≡◌, ℕ, List, [], Option};
 ghost use Rattle.ca_tree.specs.declared.name.Place.{Place};
 ghost use Rattle.ca_tree.specs.declared.token.Token.{Token};
-ghost use Rattle.ca_tree.specs.Plain.{TextTree, empty};
+ghost use Rattle.ca_tree.specs.Plain.{Statement, TextTree, empty};
 ghost use Rattle.ca_lex.specs.Tokens.{Tokens};
 ghost use Rattle.ca_parse.specs.Grammar.{Derives};
 ghost use Rattle.ca_canonical.specs.Annotated.{annotated};
@@ -30,5 +30,5 @@ pub fn annotated_trees_are_canonical()
 /// The annotated text of a tree that the tokens of some text derive is, without its marks, the
 /// canonical text, where no mark stands before an empty statement.
 pub fn annotated_texts_are_erased()
-    ensures { (text : List ℕ) (ts : List Token) (t : TextTree) (m : Marking) → Tokens text ts → Derives ts t → ((body : Option Place) (at : Place) → m.before body (empty at) ≡ []) → Erased (text_of_pieces (annotated m t)) (text_of (spell t)) }
+    ensures { (text : List ℕ) (ts : List Token) (t : TextTree) (m : Marking) → Tokens text ts → Derives ts t → ((body : Option Place) (front : Option Statement) (at : Place) → m.before body front (empty at) ≡ []) → Erased (text_of_pieces (annotated m t)) (text_of (spell t)) }
 {}

@@ -3,7 +3,7 @@
 ghost use Rattle.std.specs.Prelude.{◌≡◌};
 ghost use Rattle.ca_tree.specs.Plain.{Statement};
 ghost use Rattle.ca_tree.specs.View.{statement_view};
-ghost use Rattle.ca_canonical.specs.Marks.{Marking, mark_text, no_marks};
+ghost use Rattle.ca_canonical.specs.Marks.{Marking, front_view, mark_text, no_marks};
 
 use ca_tree::{Place, StmtNode};
 
@@ -37,9 +37,10 @@ pub trait Marks {
     /// Which marks stand where.
     ghost marking: { Self → Marking };
 
-    /// The marks before a statement of a body.
-    fn before(&self, body: Option<Place>, s: &StmtNode) -> &'static [Mark]
-        ensures { result.now ≡ (marking self.now).before body (statement_view s.now) };
+    /// The marks before a statement of a body, with the statement in front of it in the same list; there is none at the
+    /// beginning of a list, of a branch and of the body of a loop.
+    fn before(&self, body: Option<Place>, front: Option<&StmtNode>, s: &StmtNode) -> &'static [Mark]
+        ensures { result.now ≡ (marking self.now).before body (front_view front.entry) (statement_view s.now) };
 
     /// The marks behind the `{` of a method's body.
     fn opening(&self, body: Place) -> &'static [Mark]
@@ -56,7 +57,12 @@ pub struct NoMarks;
 impl Marks for NoMarks {
     ghost marking = { λ marks. no_marks };
 
-    fn before(&self, _body: Option<Place>, _s: &StmtNode) -> &'static [Mark] {
+    fn before(
+        &self,
+        _body: Option<Place>,
+        _front: Option<&StmtNode>,
+        _s: &StmtNode,
+    ) -> &'static [Mark] {
         &[]
     }
 

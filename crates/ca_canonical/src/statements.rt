@@ -1,7 +1,9 @@
 //! Writes statements: the tokens of `specs/Spell.antt`, with marks as `specs/Annotated.antt` has them.
 
 ghost use Rattle.ca_tree.specs.View.{expression_view, right_view, statement_view, statements_view};
+ghost use Rattle.std.specs.Prelude.{None};
 ghost use Rattle.ca_canonical.specs.Annotated.{marked, marked_all};
+ghost use Rattle.ca_canonical.specs.Marks.{front_view};
 ghost use Rattle.ca_canonical.specs.Spell.{condition, ended, spell_expression, spell_for, spell_header, spell_line, spell_right, spell_type};
 ghost use Rattle.ca_canonical.specs.clauses.Pens.{Writes, WritesPieces};
 
@@ -125,12 +127,18 @@ fn write_line(pen: &mut Pen, s: &StmtNode)
     }
 }
 
-/// Writes a statement of a body behind the marks before it.
+/// Writes a statement of a body behind the marks before it, with the statement in front of it in the same list.
 #[cycle(statement)]
-fn write_statement<M: Marks>(pen: &mut Pen, marks: &M, body: Option<Place>, s: &StmtNode)
-    ensures { WritesPieces pen.old pen.new (marked ((M.marking marks.now).before body) (statement_view s.now)) }
+fn write_statement<M: Marks>(
+    pen: &mut Pen,
+    marks: &M,
+    body: Option<Place>,
+    front: Option<&StmtNode>,
+    s: &StmtNode,
+)
+    ensures { WritesPieces pen.old pen.new (marked ((M.marking marks.now).before body) (front_view front.entry) (statement_view s.now)) }
 {
-    pen.marks(marks.before(body, s));
+    pen.marks(marks.before(body, front, s));
     match &s.kind {
         StmtKind::Block(items) => {
             pen.sign(Sign::OpenBrace);
@@ -139,15 +147,15 @@ fn write_statement<M: Marks>(pen: &mut Pen, marks: &M, body: Option<Place>, s: &
         }
         StmtKind::If { cond, yes, no } => {
             write_condition(pen, Keyword::If, cond);
-            write_statement(pen, marks, body, yes);
+            write_statement(pen, marks, body, None, yes);
             if let Some(no) = no {
                 pen.key(Keyword::Else);
-                write_statement(pen, marks, body, no);
+                write_statement(pen, marks, body, None, no);
             }
         }
         StmtKind::While { cond, body: turn } => {
             write_condition(pen, Keyword::While, cond);
-            write_statement(pen, marks, body, turn);
+            write_statement(pen, marks, body, None, turn);
         }
         StmtKind::For {
             first,
@@ -156,7 +164,7 @@ fn write_statement<M: Marks>(pen: &mut Pen, marks: &M, body: Option<Place>, s: &
             body: turn,
         } => {
             write_for(pen, first, cond, next);
-            write_statement(pen, marks, body, turn);
+            write_statement(pen, marks, body, None, turn);
         }
         StmtKind::Empty => write_line(pen, s),
         StmtKind::Local { .. } => write_line(pen, s),
@@ -175,9 +183,11 @@ pub(crate) fn write_statements<M: Marks>(
     body: Option<Place>,
     items: &[StmtNode],
 )
-    ensures { WritesPieces pen.old pen.new (marked_all ((M.marking marks.now).before body) (statements_view items.now)) }
+    ensures { WritesPieces pen.old pen.new (marked_all ((M.marking marks.now).before body) None (statements_view items.now)) }
 {
+    let mut front = None;
     'items: for s in items {
-        write_statement(pen, marks, body, s);
+        write_statement(pen, marks, body, front, s);
+        front = Some(s);
     }
 }

@@ -14,9 +14,9 @@ use Rattle.ca_meaning.specs.Flows.{Flow, goes_on, with}
 use Rattle.ca_meaning.specs.Functions.{functions_of}
 use Rattle.ca_program.specs.declared.program.ValueType.{ValueType}
 use Rattle.ca_code_laws.specs.Words.{word, read_as}
-use Rattle.ca_code_laws.specs.Kinds.{Kind, as_long, as_pointer, Kinds, kinds_in, kind_of}
-use Rattle.ca_code_laws.specs.Instructions.{Instruction, CheckItem, PutField, PutItem, NewLocal, NewField, NewItem, Print, Code, Placed, on, IsAt, HasAt}
-use Rattle.ca_code_laws.specs.Layout.{stands, expression_code, expressions_code, operand_code, how_many, all_acts, FunctionsLaidOut}
+use Rattle.ca_program.specs.Kinds.{Kind, as_long, as_pointer, Kinds, kinds_in, kind_of}
+use Rattle.ca_program.specs.Instructions.{Instruction, CheckItem, PutField, PutItem, NewLocal, NewField, NewItem, Print, Code, Placed, on, IsAt, HasAt}
+use Rattle.ca_program.specs.Layout.{stands, expression_code, expressions_code, operand_code, how_many, all_acts, FunctionsLaidOut}
 use Rattle.ca_code_laws.specs.Fine.{Takes, Fine, FineAll, FineStatement, FineAs, ArgumentsFit}
 use Rattle.ca_code_laws.specs.Machine.{Store, store, Back, Accesses, State, Outcome, Trapped, Spent, Next, after, act}
 use Rattle.ca_code_laws.specs.Told.{Below, Holds}

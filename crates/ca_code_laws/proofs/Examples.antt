@@ -23,8 +23,8 @@ use Rattle.ca_meaning.specs.Expressions.{traps, trap_at, invocation}
 use Rattle.ca_meaning.specs.Serial.{World, fresh, printed, unless_full}
 use Rattle.ca_meaning.specs.Sections.{Section}
 use Rattle.ca_parallel.specs.Lists.{note, noted}
-use Rattle.ca_code_laws.specs.Kinds.{as_long, as_truth, as_pointer}
-use Rattle.ca_code_laws.specs.Instructions.{Instruction, Constant, Receiver, Move, Own, OwnItem, Field, Item, Unary, Binary, Update, Check, CheckItem, Decide, Jump, Unless, Turn, Call, Return, Lack, Leave, PutField, PutItem, NewLocal, NewField, NewItem, Print, Invoke, Heed, Hand, Begin, Code}
+use Rattle.ca_program.specs.Kinds.{as_long, as_truth, as_pointer}
+use Rattle.ca_program.specs.Instructions.{Instruction, Constant, Receiver, Move, Own, OwnItem, Field, Item, Unary, Binary, Update, Check, CheckItem, Decide, Jump, Unless, Turn, Call, Return, Lack, Leave, PutField, PutItem, NewLocal, NewField, NewItem, Print, Invoke, Heed, Hand, Begin, Code}
 use Rattle.ca_code_laws.specs.Machine.{Back, Accesses, State, Outcome, Finished, Trapped, Spent, Wanting, Stuck, Next, loaded, act}
 use Rattle.ca_code_laws.specs.Runs.{run_access, section_access}
 

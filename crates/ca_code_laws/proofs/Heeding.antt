@@ -19,9 +19,9 @@ use Rattle.ca_program.specs.declared.program.ValueType.{ValueType}
 use Rattle.ca_code_laws.proofs.Typed.{width_is}
 use Rattle.ca_code_laws.proofs.Words.{back}
 use Rattle.ca_code_laws.specs.Words.{word, read_as, has_kind, all_have}
-use Rattle.ca_code_laws.specs.Kinds.{Kind, as_pointer, kind_type, kind_at, param_kind, kinds_in}
-use Rattle.ca_code_laws.specs.Instructions.{Return, Leave, Heed, Hand, Code, Placed, on, IsAt, HasAt, StandsAt}
-use Rattle.ca_code_laws.specs.Layout.{no_hands, all_acts, statements_code, starts_code, others_of, width_of, FunctionsLaidOut, OperationsLaidOut, kinds_of, main_kinds}
+use Rattle.ca_program.specs.Kinds.{Kind, as_pointer, kind_type, kind_at, param_kind, kinds_in}
+use Rattle.ca_program.specs.Instructions.{Return, Leave, Heed, Hand, Code, Placed, on, IsAt, HasAt, StandsAt}
+use Rattle.ca_program.specs.Layout.{no_hands, all_acts, statements_code, starts_code, others_of, width_of, FunctionsLaidOut, OperationsLaidOut, kinds_of, main_kinds}
 use Rattle.ca_code_laws.specs.Heeding.{heeding_call, heed_acts, handed_code, heed_hands, heeding_code, HeedingLaidOut, MainHeeds, begin_at, plain_loop}
 use Rattle.ca_code_laws.specs.Fine.{Takes, Fine, FineStatement, FineMethods, FineMain}
 use Rattle.ca_code_laws.specs.Machine.{Store, Back, enters, plainly, State, Finished, Trapped, Spent, Next, moved, after, row, loaded, invoking, entering, beginning_by, act, Comes, Ends, Outcome, Wanting, kinds_there, handing, behind}

@@ -21,9 +21,9 @@ use Rattle.ca_meaning.specs.Serial.{World, fresh, serial}
 use Rattle.ca_meaning.specs.Sections.{section_start}
 use Rattle.ca_parallel.specs.Lists.{PlainMarks, note}
 use Rattle.ca_note_laws.specs.Listing.{listing_run}
-use Rattle.ca_code_laws.specs.Kinds.{Kinds, as_long, as_truth, as_pointer, kinds_in}
-use Rattle.ca_code_laws.specs.Instructions.{Constant, Receiver, Move, Own, OwnItem, Field, Item, Unary, Binary, Update, Check, CheckItem, Decide, Jump, Unless, Turn, Call, Return, Lack, Leave, PutField, PutItem, NewLocal, NewField, NewItem, Print, Invoke, Heed, Hand, Placed, on, Code}
-use Rattle.ca_code_laws.specs.Layout.{no_acts, all_acts, no_hands, expression_code, statement_code, function_code, operation_code, main_code}
+use Rattle.ca_program.specs.Kinds.{Kinds, as_long, as_truth, as_pointer, kinds_in}
+use Rattle.ca_program.specs.Instructions.{Constant, Receiver, Move, Own, OwnItem, Field, Item, Unary, Binary, Update, Check, CheckItem, Decide, Jump, Unless, Turn, Call, Return, Lack, Leave, PutField, PutItem, NewLocal, NewField, NewItem, Print, Invoke, Heed, Hand, Placed, on, Code}
+use Rattle.ca_program.specs.Layout.{no_acts, all_acts, no_hands, expression_code, statement_code, function_code, operation_code, main_code}
 use Rattle.ca_code_laws.specs.Heeding.{begin_at, heed_acts, heed_hands, heeding_code, main_heeding}
 use Rattle.ca_code_laws.specs.Machine.{Outcome, Finished, Trapped, Spent, runs}
 use Rattle.ca_code_laws.specs.Runs.{run_access, section_access, beginning, outcome_of, ended_as}

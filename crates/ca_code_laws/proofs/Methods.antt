@@ -13,9 +13,9 @@ use Rattle.ca_meaning.specs.Flows.{Flow, goes_on, gives_back, stops, runs_out, e
 use Rattle.ca_meaning.specs.Functions.{own_of, place, body_of, locals_of, value_of_body, function_parts, functions_of}
 use Rattle.ca_meaning.proofs.Fix.{call_runs, again_runs}
 use Rattle.ca_code_laws.specs.Words.{read_as}
-use Rattle.ca_code_laws.specs.Kinds.{Kind, kind_type, kind_at, param_kind, result_kind, kinds_in, kind_of}
-use Rattle.ca_code_laws.specs.Instructions.{Return, Code, Placed, on, IsAt, HasAt, StandsAt, Constant, Lack}
-use Rattle.ca_code_laws.specs.Layout.{stands, expression_code, operand_code, no_acts, no_hands, statements_code, starts_code, others_of, width_of, function_code, FunctionsLaidOut, kinds_of}
+use Rattle.ca_program.specs.Kinds.{Kind, kind_type, kind_at, param_kind, result_kind, kinds_in, kind_of}
+use Rattle.ca_program.specs.Instructions.{Return, Code, Placed, on, IsAt, HasAt, StandsAt, Constant, Lack}
+use Rattle.ca_program.specs.Layout.{stands, expression_code, operand_code, no_acts, no_hands, statements_code, starts_code, others_of, width_of, function_code, FunctionsLaidOut, kinds_of}
 use Rattle.ca_code_laws.specs.Fine.{Takes, Fine, FineStatement, FineMethods}
 use Rattle.ca_code_laws.specs.Machine.{Store, store, Back, Accesses, State, Trapped, Spent, moved, returning, Comes, Ends, Wanting}
 use Rattle.ca_code_laws.specs.Told.{Below, Holds, Returned}

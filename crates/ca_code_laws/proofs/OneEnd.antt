@@ -18,9 +18,9 @@ use Rattle.ca_parallel.proofs.Noted.{notes_change_nothing}
 use Rattle.ca_note_laws.specs.Listing.{CallLoopsPutNothing, listing_run}
 use Rattle.ca_note_laws.proofs.Listing.{lists_first}
 use Rattle.ca_model.specs.declared.value.Slot.{Slot}
-use Rattle.ca_code_laws.specs.Kinds.{kind_at}
-use Rattle.ca_code_laws.specs.Instructions.{HasAt, Code, Placed, StandsAt}
-use Rattle.ca_code_laws.specs.Layout.{operation_code, width_of, MainLaidOut, kinds_of}
+use Rattle.ca_program.specs.Kinds.{kind_at}
+use Rattle.ca_program.specs.Instructions.{HasAt, Code, Placed, StandsAt}
+use Rattle.ca_program.specs.Layout.{operation_code, width_of, MainLaidOut, kinds_of}
 use Rattle.ca_code_laws.specs.Fine.{AreQuiet}
 use Rattle.ca_code_laws.specs.Machine.{Store, Accesses, State, Outcome, runs, Comes, Ends, Wanting}
 use Rattle.ca_code_laws.specs.Runs.{section_access, section_outcome, sectioned_as, run_access, beginning, outcome_of, ended_as}

@@ -15,9 +15,9 @@ use Rattle.ca_meaning.specs.Serial.{World, fresh, unless_full, came_back, run_ca
 use Rattle.ca_meaning.proofs.Fix.{invoke_runs, loop_runs as loop_means}
 use Rattle.ca_program.specs.declared.program.ValueType.{ValueType}
 use Rattle.ca_code_laws.specs.Words.{read_as}
-use Rattle.ca_code_laws.specs.Kinds.{Kind, Kinds, as_pointer, kind_at, param_kind, kinds_in}
-use Rattle.ca_code_laws.specs.Instructions.{Return, Leave, Invoke, Code, Placed, on, IsAt, HasAt, StandsAt}
-use Rattle.ca_code_laws.specs.Layout.{all_acts, no_hands, statements_code, starts_code, others_of, width_of, operation_code, FunctionsLaidOut, OperationsLaidOut, MainLaidOut, kinds_of, main_kinds}
+use Rattle.ca_program.specs.Kinds.{Kind, Kinds, as_pointer, kind_at, param_kind, kinds_in}
+use Rattle.ca_program.specs.Instructions.{Return, Leave, Invoke, Code, Placed, on, IsAt, HasAt, StandsAt}
+use Rattle.ca_program.specs.Layout.{all_acts, no_hands, statements_code, starts_code, others_of, width_of, operation_code, FunctionsLaidOut, OperationsLaidOut, MainLaidOut, kinds_of, main_kinds}
 use Rattle.ca_code_laws.specs.Fine.{Takes, Fine, FineStatement, FineMethods, FineMain}
 use Rattle.ca_code_laws.specs.Machine.{Store, store, Back, Accesses, enters, State, Finished, Trapped, Spent, Next, moved, after, invoking, entering, returning, leaving, act, Comes, Outcome}
 use Rattle.ca_code_laws.specs.Runs.{run_access, beginning, outcome_of}

@@ -5,7 +5,7 @@ use Rattle.ca_program.specs.declared.program.FirstPart.TheVariants.{Declares, As
 use Rattle.ca_program.specs.declared.program.LocalId.{LocalId}
 use Rattle.ca_program.specs.Plain.{Statement, Statements, block, put_local, put_field, put_item, new_local, new_field, new_item, invoke, if_else, while_loop, for_loop, return_value, print_value, no_statements, statement_and, PlainProgram}
 use Rattle.ca_parallel.specs.Loops.{Begins, CountsUp, CallsAlone, AreCalls, IsCallLoop}
-use Rattle.ca_code_laws.specs.Kinds.{Kind, Kinds}
+use Rattle.ca_program.specs.Kinds.{Kind, Kinds}
 use Rattle.ca_code_laws.specs.Fine.{FineStatement, FineStatements, IsQuiet, AreQuiet}
 
 module _ (p : PlainProgram) (ks : Kinds) (ret : Kind) (n : ℕ) where

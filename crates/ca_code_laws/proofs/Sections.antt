@@ -17,9 +17,9 @@ use Rattle.ca_meaning.proofs.Fix.{section_loop_runs}
 use Rattle.ca_program.specs.declared.program.ValueType.{ValueType}
 use Rattle.ca_program.specs.declared.program.OpId.{OpId}
 use Rattle.ca_code_laws.specs.Words.{read_as}
-use Rattle.ca_code_laws.specs.Kinds.{Kind, as_pointer, kind_type, kind_at, param_kind, param_kinds, kinds_in}
-use Rattle.ca_code_laws.specs.Instructions.{Return, Leave, Invoke, Code, Placed, on, IsAt, HasAt}
-use Rattle.ca_code_laws.specs.Layout.{all_acts, no_hands, statement_code, statements_code, starts_code, others_of, width_of, operation_code, FunctionsLaidOut, kinds_of, OperationsLaidOut}
+use Rattle.ca_program.specs.Kinds.{Kind, as_pointer, kind_type, kind_at, param_kind, param_kinds, kinds_in}
+use Rattle.ca_program.specs.Instructions.{Return, Leave, Invoke, Code, Placed, on, IsAt, HasAt}
+use Rattle.ca_program.specs.Layout.{all_acts, no_hands, statement_code, statements_code, starts_code, others_of, width_of, operation_code, FunctionsLaidOut, kinds_of, OperationsLaidOut}
 use Rattle.ca_code_laws.specs.Fine.{Fine, FineStatement, FineStatements, FineMethods, Takes}
 use Rattle.ca_code_laws.specs.Machine.{Store, State, Finished, Trapped, Spent, Next, after, row, act, Outcome, Comes, kinds_there}
 use Rattle.ca_code_laws.specs.Runs.{section_access, section_outcome}

@@ -14,9 +14,9 @@ use Rattle.ca_meaning.specs.Flows.{Flow, goes_on, gives_back, stops, runs_out, a
 use Rattle.ca_program.specs.declared.program.ValueType.{ValueType}
 use Rattle.ca_code_laws.proofs.Words.{back}
 use Rattle.ca_code_laws.specs.Words.{word, read_as, has_kind}
-use Rattle.ca_code_laws.specs.Kinds.{Kind, as_truth, Kinds, kinds_in, kind_of}
-use Rattle.ca_code_laws.specs.Instructions.{Return, Jump, Unless, Turn, Update, Code, Placed, on, IsAt, HasAt}
-use Rattle.ca_code_laws.specs.Layout.{stands, expression_code, operand_code, loop_code, Acts, Hands, unless_handed, update_code, statement_code, statements_code}
+use Rattle.ca_program.specs.Kinds.{Kind, as_truth, Kinds, kinds_in, kind_of}
+use Rattle.ca_program.specs.Instructions.{Return, Jump, Unless, Turn, Update, Code, Placed, on, IsAt, HasAt}
+use Rattle.ca_program.specs.Layout.{stands, expression_code, operand_code, loop_code, Acts, Hands, unless_handed, update_code, statement_code, statements_code}
 use Rattle.ca_code_laws.specs.Fine.{Fine, FineStatement, FineStatements, FineAs}
 use Rattle.ca_code_laws.specs.Machine.{Store, store, Back, Accesses, State, Spent, Next, moved, after, if_true, act, Comes, Wanting, put_as}
 use Rattle.ca_code_laws.specs.Told.{Holds}

@@ -12,9 +12,9 @@ use Rattle.ca_tree.specs.declared.tree.UnaryOp.{UnaryOp}
 use Rattle.ca_tree.specs.declared.tree.BinaryOp.{BinaryOp}
 use Rattle.ca_meaning.specs.WellTyped.{parameters_of}
 use Rattle.ca_code_laws.proofs.Steps.{length_taken}
-use Rattle.ca_code_laws.specs.Kinds.{Kind, as_long, as_truth, as_pointer, kind_type, kind_at, field_kind, param_kind, result_kind, kinds_in, unary_kind, binary_kind, kind_of}
-use Rattle.ca_code_laws.specs.Instructions.{Code}
-use Rattle.ca_code_laws.specs.Layout.{how_many, width_of, FunctionsLaidOut, OperationsLaidOut, is_lazy, kinds_of}
+use Rattle.ca_program.specs.Kinds.{Kind, as_long, as_truth, as_pointer, kind_type, kind_at, field_kind, param_kind, result_kind, kinds_in, unary_kind, binary_kind, kind_of}
+use Rattle.ca_program.specs.Instructions.{Code}
+use Rattle.ca_program.specs.Layout.{how_many, width_of, FunctionsLaidOut, OperationsLaidOut, is_lazy, kinds_of}
 use Rattle.ca_code_laws.specs.Fine.{Takes, Fine, FineAll, FineStatement, FineStatements, FineMethods, ArgumentsFit, FineAs}
 use Rattle.ca_code_laws.specs.Told.{IsLaidOut}
 use Rattle.ca_tree.specs.declared.tree.UnaryOp.TheVariants as one

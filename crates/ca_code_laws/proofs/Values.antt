@@ -14,9 +14,9 @@ use Rattle.ca_meaning.specs.Expressions.{Out, gives, traps, over, ◌>>=◌, tra
 use Rattle.ca_program.specs.declared.program.ValueType.{ValueType}
 use Rattle.ca_code_laws.proofs.Words.{back}
 use Rattle.ca_code_laws.specs.Words.{word, read_as, has_kind}
-use Rattle.ca_code_laws.specs.Kinds.{Kind, as_long, as_truth, as_pointer, Kinds, kinds_in, param_kind, result_kind, unary_kind, binary_kind, kind_of}
-use Rattle.ca_code_laws.specs.Instructions.{Receiver, Move, Own, OwnItem, Check, Field, Item, Unary, Binary, Decide, Call, Code, Placed, on, IsAt, HasAt, StandsAt, Constant}
-use Rattle.ca_code_laws.specs.Layout.{stands, is_lazy, if_lazy, expression_code, expressions_code, operand_code, how_many, FunctionsLaidOut, function_code, truth_number}
+use Rattle.ca_program.specs.Kinds.{Kind, as_long, as_truth, as_pointer, Kinds, kinds_in, param_kind, result_kind, unary_kind, binary_kind, kind_of}
+use Rattle.ca_program.specs.Instructions.{Receiver, Move, Own, OwnItem, Check, Field, Item, Unary, Binary, Decide, Call, Code, Placed, on, IsAt, HasAt, StandsAt, Constant}
+use Rattle.ca_program.specs.Layout.{stands, is_lazy, if_lazy, expression_code, expressions_code, operand_code, how_many, FunctionsLaidOut, function_code, truth_number}
 use Rattle.ca_code_laws.specs.Fine.{Takes, Fine, FineAll, ArgumentsFit}
 use Rattle.ca_code_laws.specs.Machine.{Store, store, Back, Accesses, State, Trapped, Spent, Next, moved, after, giving, deciding, entering, act, Comes, Wanting, put_as}
 use Rattle.ca_code_laws.specs.Told.{Holds, Below, Returned}

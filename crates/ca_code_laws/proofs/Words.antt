@@ -2,7 +2,7 @@
 use Rattle.std.proofs.Common.{◌≡◌, true, false, refl}
 use Rattle.ca_model.specs.declared.value.Value.{Value as Datum}
 use Rattle.ca_model.specs.declared.value.Value.TheVariants.{Long, Bool as Truth, Null, Ref}
-use Rattle.ca_code_laws.specs.Kinds.{Kind, as_long, as_truth, as_pointer}
+use Rattle.ca_program.specs.Kinds.{Kind, as_long, as_truth, as_pointer}
 use Rattle.ca_code_laws.specs.Words.{word, read_as, has_kind}
 
 pub back : (κ : Kind) (v : Datum) → has_kind κ v ≡ true → read_as κ (word v) ≡ v

@@ -2,8 +2,8 @@
 -- kinds of operands, arguments, right sides and results fit. Each body of a typed program is.
 use Rattle.std.specs.Prelude.{◌≡◌, Bool, true, ℕ, suc, ◌<◌, ◌≤◌, List, length, Option, Some, None, slice_get}
 use Rattle.ca_program.specs.Plain.{Expression, Expressions, number, truth, null, this, local, own, own_item, read, read_item, value_call, unary, binary, no_expressions, expression_and, Statement, Statements, block, put_local, put_field, put_item, new_local, new_field, new_item, invoke, if_else, while_loop, for_loop, return_value, print_value, no_statements, statement_and, PlainMethod, PlainProgram}
-use Rattle.ca_code_laws.specs.Kinds.{Kind, as_long, as_truth, as_pointer, kind_at, Kinds, unary_kind, kind_of}
-use Rattle.ca_code_laws.specs.Layout.{width_of, how_many, is_lazy, kinds_of, main_kinds}
+use Rattle.ca_program.specs.Kinds.{Kind, as_long, as_truth, as_pointer, kind_at, Kinds, unary_kind, kind_of}
+use Rattle.ca_program.specs.Layout.{width_of, how_many, is_lazy, kinds_of, main_kinds}
 
 -- the method is there, and takes so many arguments
 abbrev pub Takes : Option PlainMethod → ℕ → Type 0

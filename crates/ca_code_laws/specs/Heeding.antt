@@ -4,9 +4,9 @@ use Rattle.std.specs.Prelude.{◌≡◌, ℕ, ◌+◌, List, [], ◌∷◌, ◌+
 use Rattle.ca_program.specs.declared.program.OpId.{OpId}
 use Rattle.ca_program.specs.Plain.{PlainProgram, Statement, invoke, PlainMethod}
 use Rattle.ca_parallel.specs.Lists.{PlainMarks, op_in, loop_in, either}
-use Rattle.ca_code_laws.specs.Kinds.{Kind, Kinds, kind_type}
-use Rattle.ca_code_laws.specs.Instructions.{Instruction, Heed, Hand, Begin, Leave, Placed, on, Code, HasAt, StandsAt}
-use Rattle.ca_code_laws.specs.Layout.{Acts, Hands, no_hands, expression_code, expressions_code, all_acts, statement_code, statements_code, starts_code, others_of, width_of, kinds_of, main_kinds}
+use Rattle.ca_program.specs.Kinds.{Kind, Kinds, kind_type}
+use Rattle.ca_program.specs.Instructions.{Instruction, Heed, Hand, Begin, Leave, Placed, on, Code, HasAt, StandsAt}
+use Rattle.ca_program.specs.Layout.{Acts, Hands, no_hands, expression_code, expressions_code, all_acts, statement_code, statements_code, starts_code, others_of, width_of, kinds_of, main_kinds}
 
 -- a call of an operation
 abbrev pub heeding_call : PlainMarks → OpId → ℕ → Instruction

@@ -1,6 +1,3 @@
-pub mod Kinds
-pub mod Instructions
-pub mod Layout
 pub mod Heeding
 pub mod Fine
 pub mod Words

@@ -3,5 +3,7 @@ mod Found
 mod Placing
 mod Emitted
 pub mod OneText
+mod Equal
+mod Alike
 mod Locked
 mod Marked

@@ -1,23 +1,26 @@
 -- The marks in the body of a parallel operation are those with which it keeps the lock discipline.
-use Rattle.std.proofs.Common.{◌≡◌, ℕ, zero, suc, ◌+◌, Bool, true, false, List, [], ◌∷◌, ◌++◌, map, Some, Result, Ok, Err, IfOk, refl, sym, ap, subst, ◌∙◌, if◌then◌else◌, arith}
+use Rattle.std.proofs.Common.{◌≡◌, ℕ, zero, suc, ◌+◌, Bool, true, false, List, [], ◌∷◌, ◌++◌, map, Option, Some, Result, Ok, Err, IfOk, refl, sym, ap, ap₂, subst, ◌∙◌, if◌then◌else◌, true≢false, arith}
 use Rattle.std.specs.Prelude.{Contains, nat_eq, slice_get}
 use Rattle.std.proofs.lemmas.Bool.{eq-eqb, or_left, or_right}
 use Rattle.std.proofs.lemmas.List.Elements.{Contains-append_left, Contains-append_right}
 use Rattle.ca_tree.specs.declared.name.Place.{Place}
-use Rattle.ca_tree.specs.Plain.{Statement as Node, call_statement, MethodTree, TextTree}
+use Rattle.ca_tree.specs.Plain.{Expression, Statement as Node, call_statement, MethodTree, TextTree}
+use Rattle.ca_program.specs.declared.program.FieldId.{FieldId}
 use Rattle.ca_program.specs.declared.program.LoopId.{LoopId}
 use Rattle.ca_program.specs.declared.program.OpId.{OpId}
 use Rattle.ca_program.specs.Plain.{PlainProgram, Statement}
 use Rattle.ca_parallel.specs.Bodies.{calls_of}
 use Rattle.ca_parallel.specs.Extents.{Extent, IsExtentOf, operation_body}
-use Rattle.ca_parallel.specs.Lists.{PlainMarks, op_in}
+use Rattle.ca_parallel.specs.Free.{IsFree}
+use Rattle.ca_parallel.specs.Lists.{op_in}
 use Rattle.ca_parallel.specs.Marks.{loops_of_program, HasSite, SoundMarks}
+use Rattle.ca_section.specs.TakesLock.{takes_lock}
+use Rattle.ca_section.proofs.Locking.{free}
 use Rattle.ca_symbolic.specs.OtherLoops.{is_call_loop}
 use Rattle.ca_lock_laws.specs.Events.{Event, locks, unlocks}
 use Rattle.ca_lock_laws.specs.Paths.{Guards, Through}
-use Rattle.ca_lock_laws.specs.Guarded.{Begins, a_call, a_loop, parallel_guards}
-use Rattle.ca_lock_laws.specs.Guarded as locked
-use Rattle.ca_lock_laws.proofs.Kept.{parallel_keeps}
+use Rattle.ca_lock_laws.specs.Guarded.{Begins, a_call, a_loop, KeepsLock, follows as follows_by, before_calls, before_in, locked_guards, free_guards}
+use Rattle.ca_lock_laws.proofs.Kept.{parallel_keeps, free_parallel_keeps}
 use Rattle.ca_canonical.specs.declared.marks.Mark.TheVariants.{Lock, Unlock}
 use Rattle.ca_canonical.specs.Annotated.{annotated}
 use Rattle.ca_canonical.specs.Texts.{text_of_pieces}
@@ -25,25 +28,42 @@ use Rattle.ca_plan.specs.Checked.{Checked}
 use Rattle.ca_plan.specs.Plans.{Judged, JudgedLoop, PlainPlan, PlanOf, op_at, call_loops_of}
 use Rattle.ca_plan.specs.Texts.{loop_in}
 use Rattle.ca_plan.proofs.Made.{site_is}
-use Rattle.ca_emit.specs.Annotations.{annotated_text, before_call, before_statement, bodies_from, marking_by, marking_of, marks_if, number_in, operations_of, ops_if, parallel_bodies, parallel_ops, parallel_sites, place_if, place_in, place_number, reached_by_loops, reached_by_ops}
+use Rattle.ca_emit.specs.Annotations.{all_ops, annotated_text, before_call, before_statement, bodies_from, call_marks, locked_bodies, locked_in, locked_of, locked_ops, marking_by, marking_of, marks_if, number_in, operations_of, ops_if, parallel_bodies, parallel_ops, parallel_sites, place_if, place_in, place_number, reached, reached_by_loops, reached_by_ops}
 use Rattle.ca_emit.specs.Locks.{events_of, guards_of, KeepsLocks, KeptText}
+use Rattle.ca_emit.specs.Receivers.{follows, same_receiver}
 
 -- ---- marks and guards
 
-same_before : (s : Node) → events_of (before_call s) ≡ locked.before_call s
-same_before (call_statement at e) = refl
-same_before other = refl
+events_if : (b locked : Bool) → events_of (if b then [] else call_marks locked) ≡ (if b then [] else before_calls locked)
+events_if true locked = refl
+events_if false true = refl
+events_if false false = refl
 
-abbrev with_before : (Node → List Event) → Guards
-with_before f = record { opening = locks ∷ []; before = f; closing = unlocks ∷ [] }
+same_follows : (front : Option Node) (at : Place) (e : Expression) → follows front e ≡ follows_by same_receiver front (call_statement at e)
+same_follows (Some (call_statement place other)) at e = refl
+same_follows front at e = refl
 
-abbrev guards_by : (Place → Bool) → Bool → Guards
-guards_by sites b = record { opening = events_of (marks_if b Lock); before = λ s. events_of (before_statement b sites s); closing = events_of (marks_if b Unlock) }
+same_before : (locked : Bool) (front : Option Node) (s : Node) → events_of (before_call locked front s) ≡ before_in locked same_receiver front s
+same_before locked front (call_statement at e) = events_if (follows front e) locked ∙ ap (λ b. if b then [] else before_calls locked) (same_follows front at e)
+same_before locked front other = refl
 
-guards_are : (bodies sites : Place → Bool) (at : Place) → bodies at ≡ true → guards_of (marking_by bodies sites) at ≡ parallel_guards
-guards_are bodies sites at e =
-    let marked : guards_by sites (bodies at) ≡ guards_by sites true = ap (guards_by sites) e in
-    let same : guards_by sites true ≡ parallel_guards = λ i. with_before (λ s. same_before s i) in
+abbrev guards_with : List Event → (Option Node → Node → List Event) → List Event → Guards
+guards_with first f last = record { opening = first; before = f; closing = last }
+
+-- where the body takes a lock, and where it is parallel
+abbrev guards_by : (Place → Bool) → Bool → Bool → Guards
+guards_by sites l b = record { opening = events_of (marks_if l Lock); before = λ front s. events_of (before_statement l b sites front s); closing = events_of (marks_if l Unlock) }
+
+locked_are : (bodies parallel sites : Place → Bool) (at : Place) → bodies at ≡ true → guards_of (marking_by bodies parallel sites) at ≡ locked_guards same_receiver
+locked_are bodies parallel sites at e =
+    let marked : guards_by sites (bodies at) (parallel at) ≡ guards_by sites true (parallel at) = ap (λ l. guards_by sites l (parallel at)) e in
+    let same : guards_by sites true (parallel at) ≡ locked_guards same_receiver = λ i. guards_with (locks ∷ []) (λ front s. same_before true front s i) (unlocks ∷ []) in
+    marked ∙ same
+
+free_are : (bodies parallel sites : Place → Bool) (at : Place) → bodies at ≡ false → parallel at ≡ true → guards_of (marking_by bodies parallel sites) at ≡ free_guards same_receiver
+free_are bodies parallel sites at e d =
+    let marked : guards_by sites (bodies at) (parallel at) ≡ guards_by sites false true = ap₂ (guards_by sites) e d in
+    let same : guards_by sites false true ≡ free_guards same_receiver = λ i. guards_with [] (λ front s. same_before false front s i) [] in
     marked ∙ same
 
 -- ---- places of bodies
@@ -81,30 +101,30 @@ loop_among [] site n e (k, below, is) = absurd (omega (arith, below))
 loop_among (x ∷ xs) site n e (zero, below, is) = or_left (nat_eq x.0 site.0) (loop_in xs site) (eq-eqb x.0 site.0 (ap (λ (z : LoopId). z.0) is ∙ sym e))
 loop_among (x ∷ xs) site n e (suc k, below, is) = or_right (nat_eq x.0 site.0) (loop_in xs site) (loop_among xs site n e (k, omega (arith, below), is))
 
-in_if : (b : Bool) (x : Extent) (op : OpId) → b ≡ true → Contains x.ops op → Contains (ops_if b x) op
-in_if true x op e c = c
-in_if false x op e c = absurd cc
+in_if : (b : Bool) (ops : List OpId) (op : OpId) → b ≡ true → Contains ops op → Contains (ops_if b ops) op
+in_if true ops op e c = c
+in_if false ops op e c = absurd cc
 
-by_ops : (marked : List OpId) (n k : ℕ) (js : List Judged) (j : Judged) (op : OpId) → slice_get js k ≡ Some j → op_in marked (op_at (n + k)) ≡ true → Contains j.extent.ops op → Contains (reached_by_ops marked n js) op
-by_ops marked n k [] j op e h c = absurd cc
-by_ops marked n zero (x ∷ xs) j op e h c =
+by_ops : (of : Extent → List OpId) (marked : List OpId) (n k : ℕ) (js : List Judged) (j : Judged) (op : OpId) → slice_get js k ≡ Some j → op_in marked (op_at (n + k)) ≡ true → Contains (of j.extent) op → Contains (reached_by_ops of marked n js) op
+by_ops of marked n k [] j op e h c = absurd cc
+by_ops of marked n zero (x ∷ xs) j op e h c =
     let same : j ≡ x = cc in
     let at_n : n + 0 ≡ n = omega arith in
-    let here = in_if (op_in marked (op_at n)) x.extent op (subst (λ z. op_in marked (op_at z) ≡ true) at_n h) (subst (λ (y : Judged). Contains y.extent.ops op) same c) in
-    Contains-append_left (ops_if (op_in marked (op_at n)) x.extent) (reached_by_ops marked (n + 1) xs) op here
-by_ops marked n (suc k) (x ∷ xs) j op e h c =
+    let here = in_if (op_in marked (op_at n)) (of x.extent) op (subst (λ z. op_in marked (op_at z) ≡ true) at_n h) (subst (λ (y : Judged). Contains (of y.extent) op) same c) in
+    Contains-append_left (ops_if (op_in marked (op_at n)) (of x.extent)) (reached_by_ops of marked (n + 1) xs) op here
+by_ops of marked n (suc k) (x ∷ xs) j op e h c =
     let further : n + suc k ≡ (n + 1) + k = omega arith in
-    Contains-append_right (ops_if (op_in marked (op_at n)) x.extent) (reached_by_ops marked (n + 1) xs) op
-    (by_ops marked (n + 1) k xs j op e (subst (λ z. op_in marked (op_at z) ≡ true) further h) c)
+    Contains-append_right (ops_if (op_in marked (op_at n)) (of x.extent)) (reached_by_ops of marked (n + 1) xs) op
+    (by_ops of marked (n + 1) k xs j op e (subst (λ z. op_in marked (op_at z) ≡ true) further h) c)
 
-by_loops : (marked : List LoopId) (k : ℕ) (ls : List JudgedLoop) (l : JudgedLoop) (op : OpId) → slice_get ls k ≡ Some l → loop_in marked l.site ≡ true → Contains l.judged.extent.ops op → Contains (reached_by_loops marked ls) op
-by_loops marked k [] l op e h c = absurd cc
-by_loops marked zero (x ∷ xs) l op e h c =
+by_loops : (of : Extent → List OpId) (marked : List LoopId) (k : ℕ) (ls : List JudgedLoop) (l : JudgedLoop) (op : OpId) → slice_get ls k ≡ Some l → loop_in marked l.site ≡ true → Contains (of l.judged.extent) op → Contains (reached_by_loops of marked ls) op
+by_loops of marked k [] l op e h c = absurd cc
+by_loops of marked zero (x ∷ xs) l op e h c =
     let same : l ≡ x = cc in
-    let here = in_if (loop_in marked x.site) x.judged.extent op (subst (λ (y : JudgedLoop). loop_in marked y.site ≡ true) same h) (subst (λ (y : JudgedLoop). Contains y.judged.extent.ops op) same c) in
-    Contains-append_left (ops_if (loop_in marked x.site) x.judged.extent) (reached_by_loops marked xs) op here
-by_loops marked (suc k) (x ∷ xs) l op e h c =
-    Contains-append_right (ops_if (loop_in marked x.site) x.judged.extent) (reached_by_loops marked xs) op (by_loops marked k xs l op e h c)
+    let here = in_if (loop_in marked x.site) (of x.judged.extent) op (subst (λ (y : JudgedLoop). loop_in marked y.site ≡ true) same h) (subst (λ (y : JudgedLoop). Contains (of y.judged.extent) op) same c) in
+    Contains-append_left (ops_if (loop_in marked x.site) (of x.judged.extent)) (reached_by_loops of marked xs) op here
+by_loops of marked (suc k) (x ∷ xs) l op e h c =
+    Contains-append_right (ops_if (loop_in marked x.site) (of x.judged.extent)) (reached_by_loops of marked xs) op (by_loops of marked k xs l op e h c)
 
 if_there : (b : Bool) (x y : Statement) (xs ys : List Statement) (n : ℕ) → slice_get (if b then x ∷ ys else ys) n ≡ Some y → ((m : ℕ) → slice_get ys m ≡ Some y → Contains xs y) → Contains (x ∷ xs) y
 if_there true x y xs ys zero e later = let same : x ≡ y = cc in (0, omega arith, same)
@@ -115,42 +135,96 @@ loop_there : (xs : List Statement) (n : ℕ) (y : Statement) → slice_get (call
 loop_there [] n y e = absurd cc
 loop_there (x ∷ xs) n y e = if_there (is_call_loop x) x y xs (call_loops_of xs) n e (λ m h. loop_there xs m y h)
 
+-- ---- what takes a lock
+
+lock_among : (p : PlainProgram) (written : List FieldId) (ops : List OpId) (op : OpId) → Contains ops op → takes_lock written (operation_body p op) ≡ true → Contains (locked_of p written ops) op
+lock_among p written [] op (k, below, is) e = absurd (omega (arith, below))
+lock_among p written (x ∷ xs) op (zero, below, is) e =
+    let here : takes_lock written (operation_body p x) ≡ true = subst (λ (y : OpId). takes_lock written (operation_body p y) ≡ true) (sym is) e in
+    Contains-append_left (ops_if (takes_lock written (operation_body p x)) (x ∷ [])) (locked_of p written xs) op
+    (in_if (takes_lock written (operation_body p x)) (x ∷ []) op here (zero, omega arith, is))
+lock_among p written (x ∷ xs) op (suc k, below, is) e =
+    Contains-append_right (ops_if (takes_lock written (operation_body p x)) (x ∷ [])) (locked_of p written xs) op (lock_among p written xs op (k, omega (arith, below), is) e)
+
+pub is_false : (b : Bool) → (b ≡ true → ⊥) → b ≡ false
+is_false true h = absurd (h refl)
+is_false false h = refl
+
+-- extents of the same operations write the same fields
+free_in : (p : PlainProgram) (roots : List OpId) (x y : Extent) (op : OpId) → IsExtentOf p roots x → IsExtentOf p roots y → IsFree p x.written op → IsFree p y.written op
+free_in p roots x y op a b f = record { untouched = λ g c w. f.untouched g c ((a.written g).1 ((b.written g).0 w)) }
+
 module _ (p : PlainProgram) (plan : PlainPlan) (is : PlanOf p plan) (checked : Checked p) where
-  by_call : (r op : OpId) (x : Extent) → Contains plan.marks.ops r → IsExtentOf p (r ∷ []) x → Contains x.ops op → Contains (parallel_ops plan) op
-  by_call r op x c e there =
+  -- the plan's own extent of these operations, whose operations it reaches
+  record PlanExtent (roots : List OpId) : Type 0 where
+    extent : Extent
+    holds : IsExtentOf p roots extent
+    reaches : (of : Extent → List OpId) (op : OpId) → Contains (of extent) op → Contains (reached of plan) op
+
+  by_call : (r : OpId) → Contains plan.marks.ops r → PlanExtent (r ∷ [])
+  by_call r c =
       let m = (is.marks.ops r).0 c in
-      let extent = (is.ops r.0 m.judged m.found).extent.holds in
-      let reached : Contains m.judged.extent.ops op = (extent.ops op).1 ((e.ops op).0 there) in
       let at_zero : r.0 ≡ 0 + r.0 = omega arith in
       let marked = subst (λ z. op_in plan.marks.ops (op_at z) ≡ true) at_zero (op_among plan.marks.ops r c) in
-      Contains-append_left (reached_by_ops plan.marks.ops 0 plan.ops) (reached_by_loops plan.marks.loops plan.loops) op
-      (by_ops plan.marks.ops 0 r.0 plan.ops m.judged op m.found marked reached)
+      record {
+        extent = m.judged.extent;
+        holds = (is.ops r.0 m.judged m.found).extent.holds;
+        reaches = λ of op h. Contains-append_left (reached_by_ops of plan.marks.ops 0 plan.ops) (reached_by_loops of plan.marks.loops plan.loops) op
+            (by_ops of plan.marks.ops 0 r.0 plan.ops m.judged op m.found marked h);
+      }
 
-  by_loop : (id : LoopId) (loop : Statement) (op : OpId) (x : Extent) → Contains plan.marks.loops id → Contains (loops_of_program p) loop → HasSite loop id → IsExtentOf p (calls_of loop) x → Contains x.ops op
-      → Contains (parallel_ops plan) op
-  by_loop id loop op x c stands numbered e there =
+  by_loop : (id : LoopId) (loop : Statement) → Contains plan.marks.loops id → Contains (loops_of_program p) loop → HasSite loop id → PlanExtent (calls_of loop)
+  by_loop id loop c stands numbered =
       let m = (is.marks.loops id).0 c in
       let among = loop_there (loops_of_program p) m.place m.loop m.stands in
       let same : loop ≡ m.loop = checked.one id loop m.loop stands among numbered m.numbered in
       let judged = is.loops m.place m.loop m.judged m.stands m.found in
-      let mine : IsExtentOf p (calls_of m.loop) x = subst (λ y. IsExtentOf p (calls_of y) x) same e in
-      let reached : Contains m.judged.judged.extent.ops op = (judged.judged.extent.holds.ops op).1 ((mine.ops op).0 there) in
       let marked = loop_among plan.marks.loops m.judged.site id.0 (site_is m.loop m.judged.site id judged.site m.numbered) c in
-      Contains-append_right (reached_by_ops plan.marks.ops 0 plan.ops) (reached_by_loops plan.marks.loops plan.loops) op
-      (by_loops plan.marks.loops m.place plan.loops m.judged op m.found marked reached)
+      record {
+        extent = m.judged.judged.extent;
+        holds = subst (λ y. IsExtentOf p (calls_of y) m.judged.judged.extent) (sym same) judged.judged.extent.holds;
+        reaches = λ of op h. Contains-append_right (reached_by_ops of plan.marks.ops 0 plan.ops) (reached_by_loops of plan.marks.loops plan.loops) op
+            (by_loops of plan.marks.loops m.place plan.loops m.judged op m.found marked h);
+      }
 
-  is_reached : {roots : List OpId} → Begins p plan.marks roots → (x : Extent) → IsExtentOf p roots x → (op : OpId) → Contains x.ops op → Contains (parallel_ops plan) op
-  is_reached (a_call {op = r} c) x e op there = by_call r op x c e there
-  is_reached (a_loop {id} {loop} c stands numbered) x e op there = by_loop id loop op x c stands numbered e there
+  reached_from : {roots : List OpId} → Begins p plan.marks roots → PlanExtent roots
+  reached_from (a_call {op = r} c) = by_call r c
+  reached_from (a_loop {id} {loop} c stands numbered) = by_loop id loop c stands numbered
+
+  -- an operation of an extent of these is among the operations of the plan's
+  among_ops : {roots : List OpId} (r : PlanExtent roots) (x : Extent) → IsExtentOf p roots x → (op : OpId) → Contains x.ops op → Contains r.extent.ops op
+  among_ops r x e op there = (r.holds.ops op).1 ((e.ops op).0 there)
+
+  -- one that isn't among those that take a lock is free
+  is_free : (op : OpId) → (Contains (locked_ops p plan) op → ⊥) → (roots : List OpId) → Begins p plan.marks roots → (x : Extent) → IsExtentOf p roots x → Contains x.ops op → IsFree p x.written op
+  is_free op none roots b x e there =
+      let r = reached_from b in
+      let without : takes_lock r.extent.written (operation_body p op) ≡ false =
+      is_false (takes_lock r.extent.written (operation_body p op)) (λ h. none (r.reaches (locked_in p) op (lock_among p r.extent.written r.extent.ops op (among_ops r x e op there) h))) in
+      free_in p roots r.extent x op r.holds e (free p op r.extent.written without).1
+
+  module _ (sound : SoundMarks p plan.marks) (t : TextTree) (n : ℕ) (x : MethodTree) (found : slice_get (operations_of t.classes) n ≡ Some x) where
+    -- where the operation is among these, its name is among theirs
+    named : (ops : List OpId) → Contains ops (op_at n) → place_in (bodies_from ops 0 (operations_of t.classes)) x.at ≡ true
+    named ops c =
+        let at_zero : n ≡ 0 + n = omega arith in
+        body_there ops 0 n (operations_of t.classes) x found (subst (λ z. op_in ops (op_at z) ≡ true) at_zero (op_among ops (op_at n) c))
+
+    is_parallel : {roots : List OpId} → Begins p plan.marks roots → (y : Extent) → IsExtentOf p roots y → Contains y.ops (op_at n) → place_in (parallel_bodies plan t) x.at ≡ true
+    is_parallel b y e there = let r = reached_from b in named (parallel_ops plan) (r.reaches all_ops (op_at n) (among_ops r y e (op_at n) there))
+
+    by_body : (b : Bool) → place_in (locked_bodies p plan t) x.at ≡ b → KeepsLock p plan.marks (op_at n) (guards_of (marking_of p plan t) x.at) x.body
+    by_body true e =
+        let guards = locked_are (place_in (locked_bodies p plan t)) (place_in (parallel_bodies plan t)) (place_in (parallel_sites p plan t)) x.at e in
+        subst (λ g. KeepsLock p plan.marks (op_at n) g x.body) (sym guards) (parallel_keeps p checked.typed plan.marks sound same_receiver (op_at n) x.body)
+    by_body false e = λ roots b y holds there es path.
+        let guards = free_are (place_in (locked_bodies p plan t)) (place_in (parallel_bodies plan t)) (place_in (parallel_sites p plan t)) x.at e (is_parallel b y holds there) in
+        let none : Contains (locked_ops p plan) (op_at n) → ⊥ = λ c. true≢false (sym (named (locked_ops p plan) c) ∙ e) in
+        free_parallel_keeps p checked.typed plan.marks sound same_receiver (op_at n) (is_free (op_at n) none) x.body roots b y holds there es
+        (subst (λ g. Through g x.body (operation_body p (op_at n)) es) guards path)
 
   pub locks_kept : SoundMarks p plan.marks → (t : TextTree) → KeepsLocks p plan.marks (marking_of p plan t) t
-  locks_kept sound t n x found roots b y e there es path =
-      let op = op_at n in
-      let marked = op_among (parallel_ops plan) op (is_reached b y e op there) in
-      let at_zero : n ≡ 0 + n = omega arith in
-      let at_body = body_there (parallel_ops plan) 0 n (operations_of t.classes) x found (subst (λ z. op_in (parallel_ops plan) (op_at z) ≡ true) at_zero marked) in
-      let guards = guards_are (place_in (parallel_bodies plan t)) (place_in (parallel_sites p plan t)) x.at at_body in
-      parallel_keeps p checked.typed plan.marks sound op x.body roots b y e there es (subst (λ g. Through g x.body (operation_body p op) es) guards path)
+  locks_kept sound t n x found = by_body sound t n x found (place_in (locked_bodies p plan t) x.at) refl
 
   pub kept_text : {V E : Type 0} (items : V → List ℕ) (r : Result V E) (t : TextTree) → SoundMarks p plan.marks → IfOk r (λ v. items v ≡ annotated_text p plan t) → IfOk r (λ v. KeptText p plan t (items v))
   kept_text items (Ok v) t sound h = record { marking = marking_of p plan t; is = h; keeps = locks_kept sound t }

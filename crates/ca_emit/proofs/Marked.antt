@@ -1,6 +1,6 @@
 -- No mark of a call or a loop that runs in parallel is lost.
-use Rattle.std.proofs.Common.{◌≡◌, ℕ, zero, suc, ◌+◌, Bool, true, false, ◌||◌, List, [], ◌∷◌, ◌++◌, map, length, Option, Some, None, Result, Ok, Err, IfOk, refl, sym, ap, subst, ◌∙◌, arith}
-use Rattle.std.specs.Prelude.{slice_get, nat_eq}
+use Rattle.std.proofs.Common.{◌≡◌, ℕ, zero, suc, ◌+◌, Bool, true, false, ◌||◌, List, [], ◌∷◌, ◌++◌, map, length, Option, Some, None, Result, Ok, Err, IfOk, refl, sym, ap, ap₂, subst, ◌∙◌, arith}
+use Rattle.std.specs.Prelude.{slice_get, nat_eq, Contains}
 use Rattle.std.specs.List.{list_any}
 use Rattle.std.proofs.lemmas.Bool.{or_left, or_right}
 use Rattle.std.proofs.lemmas.List.{length-map, length-append}
@@ -17,12 +17,12 @@ use Rattle.ca_lock_laws.specs.Resolves.{AllBodies, ProgramResolves}
 use Rattle.ca_lock_laws.specs.Sites.{lines_of, lines_of_all, SameSites, ProgramSites}
 use Rattle.ca_lock_laws.proofs.Paired.{sites_paired}
 use Rattle.ca_canonical.specs.declared.marks.Mark.{Mark}
-use Rattle.ca_canonical.specs.declared.marks.Mark.TheVariants.{Lock, Parallel}
+use Rattle.ca_canonical.specs.declared.marks.Mark.TheVariants.{Spawn, Parallel}
 use Rattle.ca_plan.specs.Plans.{PlainPlan, op_at}
 use Rattle.ca_plan.specs.Texts.{loop_in}
-use Rattle.ca_emit.specs.Annotations.{all_sites, annotated_text, before_statement, bodies_from, is_parallel, marking_by, marking_of, marks_if, number_in, operations_of, parallel_bodies, parallel_ops, parallel_sites, picked, place_if, place_in, place_number, run_parallel, runs_parallel, sites_from, sites_in, sites_of_all, sites_of_method}
-use Rattle.ca_emit.specs.Locks.{Marks, MarksEach, MarkedText}
-use Rattle.ca_emit.proofs.Locked.{behind, in_front, body_there}
+use Rattle.ca_emit.specs.Annotations.{all_sites, annotated_text, before_statement, bodies_from, is_among, locked_bodies, marking_by, marking_of, marks_if, number_in, operations_of, parallel_bodies, parallel_ops, parallel_sites, picked, place_if, place_in, place_number, run_parallel, runs_parallel, sites_from, sites_in, sites_of_all, sites_of_method}
+use Rattle.ca_emit.specs.Locks.{Marks, MarksEach, MarkedText, SpawnsNothing}
+use Rattle.ca_emit.proofs.Locked.{behind, in_front, body_there, is_false}
 
 -- ---- as many flags as lines
 
@@ -88,27 +88,32 @@ has_right (x ∷ xs) ys at h = or_right (nat_eq (place_number x) (place_number a
 
 -- ---- what is marked
 
-marks_at : (bodies sites : Place → Bool) (body : Option Place) (at : Place) → is_parallel bodies body ≡ false → sites at ≡ true → Marks (marking_by bodies sites) body at
-marks_at bodies sites body at none here = record {
-  call = λ e. ap (λ b. before_statement b sites (tree.call_statement at e)) none ∙ ap (λ b. marks_if b Parallel) here;
-  loop = λ first c next s. ap (λ b. before_statement b sites (tree.for_loop at first c next s)) none ∙ ap (λ b. marks_if b Parallel) here;
+-- the body takes no lock and isn't parallel
+abbrev IsPlain : (Place → Bool) → (Place → Bool) → Option Place → Type 0
+IsPlain locked parallel body = (is_among locked body ≡ false) × (is_among parallel body ≡ false)
+
+marks_at : (locked parallel sites : Place → Bool) (body : Option Place) (at : Place) → IsPlain locked parallel body → sites at ≡ true → Marks (marking_by locked parallel sites) body at
+marks_at locked parallel sites body at none here = record {
+  call = λ front e. ap₂ (λ a b. before_statement a b sites front (tree.call_statement at e)) none.0 none.1 ∙ ap (λ b. marks_if b Parallel) here;
+  loop = λ front first c next s. ap₂ (λ a b. before_statement a b sites front (tree.for_loop at first c next s)) none.0 none.1 ∙ ap (λ b. marks_if b Parallel) here;
 }
 
 -- the nth flag of a body tells of its nth place
-module _ (ms : PlainMarks) (bodies sites : Place → Bool) where
-  marks_each : (body : Option Place) (ss : tree.Statements) (xs : program.Statements) → SameSites ss xs → is_parallel bodies body ≡ false
-      → ((at : Place) → Has (picked (sites_of_all ss) (run_parallel ms false xs)) at → sites at ≡ true) → MarksEach ms (marking_by bodies sites) body ss xs
+module _ (ms : PlainMarks) (locked parallel sites : Place → Bool) where
+  marks_each : (body : Option Place) (ss : tree.Statements) (xs : program.Statements) → SameSites ss xs → IsPlain locked parallel body
+      → ((at : Place) → Has (picked (sites_of_all ss) (run_parallel ms false xs)) at → sites at ≡ true) → MarksEach ms (marking_by locked parallel sites) body ss xs
   marks_each body ss xs same none all n h =
       let a = beside (sites_of_all ss) (run_parallel ms false xs) n true (as_many ms ss xs same) h in
-      (a.0, a.1, marks_at bodies sites body a.0 none (all a.0 (is_picked (sites_of_all ss) (run_parallel ms false xs) n a.0 a.1 h)))
+      (a.0, a.1, marks_at locked parallel sites body a.0 none (all a.0 (is_picked (sites_of_all ss) (run_parallel ms false xs) n a.0 a.1 h)))
 
-no_lock : (b : Bool) → marks_if b Lock ≡ [] → b ≡ false
-no_lock true h = absurd cc
-no_lock false h = refl
+-- a call of a parallel operation with no statement in front of it is spawned
+spawned : (a b : Bool) (sites : Place → Bool) (e : tree.Expression) (at : Place) → (Contains (before_statement a b sites None (tree.call_statement at e)) Spawn → ⊥) → (a ≡ false) × (b ≡ false)
+spawned true b sites e at h = absurd (h (1, omega arith, refl))
+spawned false true sites e at h = absurd (h (0, omega arith, refl))
+spawned false false sites e at h = (refl, refl)
 
-is_false : (b : Bool) → (b ≡ true → ⊥) → b ≡ false
-is_false true h = absurd (h refl)
-is_false false h = refl
+is_plain : (locked parallel sites : Place → Bool) (at : Place) → SpawnsNothing (marking_by locked parallel sites) at → IsPlain locked parallel (Some at)
+is_plain locked parallel sites at h = spawned (locked at) (parallel at) sites (tree.this at) at (h None (tree.call_statement at (tree.this at)))
 
 true_is_false : (b : Bool) → b ≡ true → b ≡ false → ⊥
 true_is_false b h g = absurd cc
@@ -143,18 +148,18 @@ module _ (p : PlainProgram) (plan : PlainPlan) (t : TextTree) (resolves : Progra
   main_marked : MarksEach plan.marks (marking_of p plan t) None t.main p.main.statements
   main_marked =
       let ops = parallel_ops plan in
-      marks_each plan.marks (place_in (parallel_bodies plan t)) (place_in (parallel_sites p plan t)) None t.main p.main.statements (sites_paired t p resolves).main refl
+      marks_each plan.marks (place_in (locked_bodies p plan t)) (place_in (parallel_bodies plan t)) (place_in (parallel_sites p plan t)) None t.main p.main.statements (sites_paired t p resolves).main (refl, refl)
       (λ at h. has_right (sites_from p plan.marks ops 0 (operations_of t.classes)) (sites_in plan.marks false t.main p.main.statements) at h)
 
-  operation_marked : (n : ℕ) (x : MethodTree) → slice_get (operations_of t.classes) n ≡ Some x → (marking_of p plan t).opening x.at ≡ [] → MarksEach plan.marks (marking_of p plan t) (Some x.at) x.body (operation_body p (op_at n))
-  operation_marked n x found free =
+  operation_marked : (n : ℕ) (x : MethodTree) → slice_get (operations_of t.classes) n ≡ Some x → SpawnsNothing (marking_of p plan t) x.at → MarksEach plan.marks (marking_of p plan t) (Some x.at) x.body (operation_body p (op_at n))
+  operation_marked n x found quiet =
       let ops = parallel_ops plan in
       let bodies = place_in (parallel_bodies plan t) in
-      let unlocked : bodies x.at ≡ false = no_lock (bodies x.at) free in
+      let plain = is_plain (place_in (locked_bodies p plan t)) bodies (place_in (parallel_sites p plan t)) x.at quiet in
       let at_zero : n ≡ 0 + n = omega arith in
-      let none : op_in ops (op_at (0 + n)) ≡ false = is_false (op_in ops (op_at (0 + n))) (λ h. let there : bodies x.at ≡ true = body_there ops 0 n (operations_of t.classes) x found h in absurd (true_is_false (bodies x.at) there unlocked)) in
+      let none : op_in ops (op_at (0 + n)) ≡ false = is_false (op_in ops (op_at (0 + n))) (λ h. let there : bodies x.at ≡ true = body_there ops 0 n (operations_of t.classes) x found h in absurd (true_is_false (bodies x.at) there plain.1)) in
       let same = same_body (operations_of t.classes) p.ops n x (sites_paired t p resolves).operations found in
-      marks_each plan.marks bodies (place_in (parallel_sites p plan t)) (Some x.at) x.body (operation_body p (op_at n)) same unlocked
+      marks_each plan.marks (place_in (locked_bodies p plan t)) bodies (place_in (parallel_sites p plan t)) (Some x.at) x.body (operation_body p (op_at n)) same plain
       (λ at h. has_left (sites_from p plan.marks ops 0 (operations_of t.classes)) (sites_in plan.marks false t.main p.main.statements) at
       (from_body p plan.marks ops 0 n (operations_of t.classes) x at found none (subst (λ z. Has (picked (sites_of_all x.body) (run_parallel plan.marks false (operation_body p (op_at z)))) at) at_zero h)))
 

@@ -1,10 +1,11 @@
 -- The annotated text of a tree whose program has a plan: which marks stand where.
-use Rattle.std.specs.Prelude.{ℕ, ◌+◌, ◌*◌, Bool, true, false, ◌&&◌, ◌||◌, nat_eq, List, [], ◌∷◌, ◌++◌, map, Option, Some, None}
+use Rattle.std.specs.Prelude.{ℕ, ◌+◌, ◌*◌, Bool, true, false, if◌then◌else◌, ◌&&◌, ◌||◌, nat_eq, List, [], ◌∷◌, ◌++◌, map, Option, Some, None}
 use Rattle.std.specs.List.{list_any}
 use Rattle.ca_tree.specs.declared.name.Place.{Place}
 use Rattle.ca_tree.specs.declared.tree.TypeNode.{TypeNode}
 use Rattle.ca_tree.specs.Plain as tree
 use Rattle.ca_tree.specs.Plain.{MethodTree, MemberTree, ClassTree, TextTree, field_member, method_member}
+use Rattle.ca_program.specs.declared.program.FieldId.{FieldId}
 use Rattle.ca_program.specs.declared.program.LoopId.{LoopId}
 use Rattle.ca_program.specs.declared.program.OpId.{OpId}
 use Rattle.ca_program.specs.Plain as program
@@ -21,24 +22,45 @@ use Rattle.ca_canonical.specs.Annotated.{annotated}
 use Rattle.ca_canonical.specs.Texts.{text_of_pieces}
 use Rattle.ca_plan.specs.Plans.{PlainPlan, Judged, JudgedLoop, op_at}
 use Rattle.ca_plan.specs.Texts.{loop_in}
+use Rattle.ca_section.specs.TakesLock.{takes_lock}
+use Rattle.ca_emit.specs.Receivers.{follows}
 
--- Parallel operations are those in the extent of a marked operation or of a marked loop.
+-- What is picked from the extents of marked operations and of marked loops.
 
-abbrev pub ops_if : Bool → Extent → List OpId
-ops_if true x = x.ops
-ops_if false x = []
+abbrev pub ops_if : Bool → List OpId → List OpId
+ops_if true ops = ops
+ops_if false ops = []
 
 -- of the operations from number n on
-abbrev pub reached_by_ops : List OpId → ℕ → List Judged → List OpId
-reached_by_ops marked n [] = []
-reached_by_ops marked n (j ∷ js) = ops_if (op_in marked (op_at n)) j.extent ++ reached_by_ops marked (n + 1) js
+abbrev pub reached_by_ops : (Extent → List OpId) → List OpId → ℕ → List Judged → List OpId
+reached_by_ops of marked n [] = []
+reached_by_ops of marked n (j ∷ js) = ops_if (op_in marked (op_at n)) (of j.extent) ++ reached_by_ops of marked (n + 1) js
 
-abbrev pub reached_by_loops : List LoopId → List JudgedLoop → List OpId
-reached_by_loops marked [] = []
-reached_by_loops marked (l ∷ ls) = ops_if (loop_in marked l.site) l.judged.extent ++ reached_by_loops marked ls
+abbrev pub reached_by_loops : (Extent → List OpId) → List LoopId → List JudgedLoop → List OpId
+reached_by_loops of marked [] = []
+reached_by_loops of marked (l ∷ ls) = ops_if (loop_in marked l.site) (of l.judged.extent) ++ reached_by_loops of marked ls
+
+abbrev pub reached : (Extent → List OpId) → PlainPlan → List OpId
+reached of plan = reached_by_ops of plan.marks.ops 0 plan.ops ++ reached_by_loops of plan.marks.loops plan.loops
+
+-- Parallel operations are those of such an extent.
+abbrev pub all_ops : Extent → List OpId
+all_ops x = x.ops
 
 abbrev pub parallel_ops : PlainPlan → List OpId
-parallel_ops plan = reached_by_ops plan.marks.ops 0 plan.ops ++ reached_by_loops plan.marks.loops plan.loops
+parallel_ops plan = reached all_ops plan
+
+-- Those that take a lock in one of these extents take it everywhere. All others are free: their bodies access no field that
+-- such an extent writes.
+abbrev pub locked_of : PlainProgram → List FieldId → List OpId → List OpId
+locked_of p written [] = []
+locked_of p written (op ∷ ops) = ops_if (takes_lock written (operation_body p op)) (op ∷ []) ++ locked_of p written ops
+
+abbrev pub locked_in : PlainProgram → Extent → List OpId
+locked_in p x = locked_of p x.written x.ops
+
+abbrev pub locked_ops : PlainProgram → PlainPlan → List OpId
+locked_ops p plan = reached (locked_in p) plan
 
 -- Which calls and loops run in parallel: calls of marked operations outside marked loops, and marked loops. Whether the statement
 -- stands inside a marked loop is told.
@@ -74,10 +96,10 @@ picked (at ∷ ats) (b ∷ bs) = place_if b at ++ picked ats bs
 
 -- Where marks stand
 
--- the parallel ones of the operations from number n on
+-- of the operations from number n on, the names of these
 abbrev pub bodies_from : List OpId → ℕ → List MethodTree → List Place
-bodies_from parallel n [] = []
-bodies_from parallel n (m ∷ ms) = place_if (op_in parallel (op_at n)) m.at ++ bodies_from parallel (n + 1) ms
+bodies_from ops n [] = []
+bodies_from ops n (m ∷ ms) = place_if (op_in ops (op_at n)) m.at ++ bodies_from ops (n + 1) ms
 
 -- what runs in parallel in a body that isn't itself parallel
 abbrev pub sites_in : PlainMarks → Bool → tree.Statements → program.Statements → List Place
@@ -93,9 +115,12 @@ abbrev pub sites_from : PlainProgram → PlainMarks → List OpId → ℕ → Li
 sites_from p ms parallel n [] = []
 sites_from p ms parallel n (m ∷ rest) = sites_of_method p ms parallel n m ++ sites_from p ms parallel (n + 1) rest
 
--- the names of the parallel operations
+-- the names of the parallel operations, and of those of them that take a lock
 abbrev pub parallel_bodies : PlainPlan → TextTree → List Place
 parallel_bodies plan t = bodies_from (parallel_ops plan) 0 (operations_of t.classes)
+
+abbrev pub locked_bodies : PlainProgram → PlainPlan → TextTree → List Place
+locked_bodies p plan t = bodies_from (locked_ops p plan) 0 (operations_of t.classes)
 
 -- the calls and loops of other operations and of `main` that run in parallel
 abbrev pub all_sites : PlainProgram → PlainMarks → List OpId → TextTree → List Place
@@ -104,8 +129,8 @@ all_sites p ms parallel t = sites_from p ms parallel 0 (operations_of t.classes)
 abbrev pub parallel_sites : PlainProgram → PlainPlan → TextTree → List Place
 parallel_sites p plan t = all_sites p plan.marks (parallel_ops plan) t
 
--- Which marks stand there: a parallel operation takes its receiver's lock behind its `{`, gives it back before each call,
--- which is spawned, and before its `}`.
+-- Which marks stand there: a parallel operation that isn't free takes its receiver's lock behind its `{`, gives it back
+-- before each call that is spawned, and before its `}`. A free one only spawns. A follower goes with the call before it.
 
 -- lines and columns fit 32 bits, so one number tells a place
 abbrev pub place_number : Place → ℕ
@@ -120,9 +145,13 @@ has_place numbers at = number_in numbers (place_number at)
 abbrev pub place_in : List Place → Place → Bool
 place_in places at = has_place (map place_number places) at
 
-abbrev pub before_call : tree.Statement → List Mark
-before_call (tree.call_statement at e) = Unlock ∷ Spawn ∷ []
-before_call other = []
+abbrev pub call_marks : Bool → List Mark
+call_marks true = Unlock ∷ Spawn ∷ []
+call_marks false = Spawn ∷ []
+
+abbrev pub before_call : Bool → Option tree.Statement → tree.Statement → List Mark
+before_call locked front (tree.call_statement at e) = if follows front e then [] else call_marks locked
+before_call locked front other = []
 
 abbrev pub marks_if : Bool → Mark → List Mark
 marks_if true m = m ∷ []
@@ -133,23 +162,26 @@ before_site sites (tree.call_statement at e) = marks_if (sites at) Parallel
 before_site sites (tree.for_loop at first c next s) = marks_if (sites at) Parallel
 before_site sites other = []
 
-abbrev pub is_parallel : (Place → Bool) → Option Place → Bool
-is_parallel bodies None = false
-is_parallel bodies (Some at) = bodies at
+-- the body is among these
+abbrev pub is_among : (Place → Bool) → Option Place → Bool
+is_among bodies None = false
+is_among bodies (Some at) = bodies at
 
-abbrev pub before_statement : Bool → (Place → Bool) → tree.Statement → List Mark
-before_statement true sites s = before_call s
-before_statement false sites s = before_site sites s
+-- of a body that takes a lock, or of one that is parallel
+abbrev pub before_statement : Bool → Bool → (Place → Bool) → Option tree.Statement → tree.Statement → List Mark
+before_statement true parallel sites front s = before_call true front s
+before_statement false true sites front s = before_call false front s
+before_statement false false sites front s = before_site sites s
 
-abbrev pub marking_by : (Place → Bool) → (Place → Bool) → Marking
-marking_by bodies sites = record {
-  before = λ body s. before_statement (is_parallel bodies body) sites s;
-  opening = λ at. marks_if (bodies at) Lock;
-  closing = λ at. marks_if (bodies at) Unlock;
+abbrev pub marking_by : (Place → Bool) → (Place → Bool) → (Place → Bool) → Marking
+marking_by locked parallel sites = record {
+  before = λ body front s. before_statement (is_among locked body) (is_among parallel body) sites front s;
+  opening = λ at. marks_if (locked at) Lock;
+  closing = λ at. marks_if (locked at) Unlock;
 }
 
 abbrev pub marking_of : PlainProgram → PlainPlan → TextTree → Marking
-marking_of p plan t = marking_by (place_in (parallel_bodies plan t)) (place_in (parallel_sites p plan t))
+marking_of p plan t = marking_by (place_in (locked_bodies p plan t)) (place_in (parallel_bodies plan t)) (place_in (parallel_sites p plan t))
 
 abbrev pub annotated_text : PlainProgram → PlainPlan → TextTree → List ℕ
 annotated_text p plan t = text_of_pieces (annotated (marking_of p plan t) t)

@@ -1,3 +1,4 @@
+pub mod Receivers
 pub mod Annotations
 pub mod Locks
 pub mod clauses

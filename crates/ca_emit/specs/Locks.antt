@@ -1,6 +1,6 @@
 -- The lock discipline of an annotated text: which of its marks tell of a lock, and that its bodies keep it; and that the text
 -- marks each call and each loop that runs in parallel.
-use Rattle.std.specs.Prelude.{ℕ, ◌≡◌, Bool, true, false, List, [], ◌∷◌, flat_map, Option, Some, None, slice_get}
+use Rattle.std.specs.Prelude.{ℕ, ◌≡◌, true, false, List, [], ◌∷◌, flat_map, Option, Some, None, slice_get, Contains}
 use Rattle.ca_tree.specs.declared.name.Place.{Place}
 use Rattle.ca_tree.specs.Plain as tree
 use Rattle.ca_tree.specs.Plain.{MethodTree, TextTree}
@@ -31,7 +31,7 @@ events_of ms = flat_map event_of ms
 
 -- the marks of the method whose name stands at this place
 abbrev pub guards_of : Marking → Place → Guards
-guards_of m at = record { opening = events_of (m.opening at); before = λ s. events_of (m.before (Some at) s); closing = events_of (m.closing at) }
+guards_of m at = record { opening = events_of (m.opening at); before = λ front s. events_of (m.before (Some at) front s); closing = events_of (m.closing at) }
 
 -- On every path through the body of every operation that a marked call or loop may reach, the lock is held at each access to
 -- a field that the extent of that call or loop writes, and isn't held at a call or at the end.
@@ -46,17 +46,21 @@ pub record KeptText (p : PlainProgram) (plan : PlainPlan) (t : TextTree) (text :
 
 -- a call or a loop at this place of the body has a mark before it
 pub record Marks (m : Marking) (body : Option Place) (at : Place) : Type 0 where
-  pub call : (e : tree.Expression) → m.before body (tree.call_statement at e) ≡ Parallel ∷ []
-  pub loop : (first : tree.Statement) (c : tree.Expression) (next s : tree.Statement) → m.before body (tree.for_loop at first c next s) ≡ Parallel ∷ []
+  pub call : (front : Option tree.Statement) (e : tree.Expression) → m.before body front (tree.call_statement at e) ≡ Parallel ∷ []
+  pub loop : (front : Option tree.Statement) (first : tree.Statement) (c : tree.Expression) (next s : tree.Statement) → m.before body front (tree.for_loop at first c next s) ≡ Parallel ∷ []
 
 -- Where the nth call or loop of a body runs in parallel, the nth of its text has a mark before it.
 abbrev pub MarksEach : PlainMarks → Marking → Option Place → tree.Statements → program.Statements → Type 0
 MarksEach marks m body ss xs = (n : ℕ) → slice_get (run_parallel marks false xs) n ≡ Some true → (at : Place) × (slice_get (sites_of_all ss) n ≡ Some at) × Marks m body at
 
+-- no call is spawned in the body of the method whose name stands at this place
+abbrev pub SpawnsNothing : Marking → Place → Type 0
+SpawnsNothing m at = (front : Option tree.Statement) (s : tree.Statement) → ¬ Contains (m.before (Some at) front s) Spawn
+
 -- The text is that of a tree with a mark for each call and each loop that runs in parallel, in `main` and in each operation
--- that takes no lock.
+-- that spawns nothing.
 pub record MarkedText (p : PlainProgram) (plan : PlainPlan) (t : TextTree) (text : List ℕ) : Type 0 where
   pub marking : Marking
   pub is : text ≡ text_of_pieces (annotated marking t)
   pub main : MarksEach plan.marks marking None t.main p.main.statements
-  pub operations : (n : ℕ) (x : MethodTree) → slice_get (operations_of t.classes) n ≡ Some x → marking.opening x.at ≡ [] → MarksEach plan.marks marking (Some x.at) x.body (operation_body p (op_at n))
+  pub operations : (n : ℕ) (x : MethodTree) → slice_get (operations_of t.classes) n ≡ Some x → SpawnsNothing marking x.at → MarksEach plan.marks marking (Some x.at) x.body (operation_body p (op_at n))

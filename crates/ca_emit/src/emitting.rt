@@ -14,13 +14,13 @@ ghost use Rattle.ca_plan.specs.Plans.{PlanOf};
 ghost use Rattle.ca_canonical.specs.Erased.{Erased};
 ghost use Rattle.ca_canonical.specs.Spell.{spell};
 ghost use Rattle.ca_canonical.specs.Texts.{text_of};
-ghost use Rattle.ca_emit.specs.Annotations.{all_sites, annotated_text, bodies_from, has_place, operations_of, parallel_bodies, parallel_sites, place_if, place_in, sites_of_method};
+ghost use Rattle.ca_emit.specs.Annotations.{all_sites, annotated_text, bodies_from, has_place, locked_bodies, operations_of, parallel_bodies, parallel_sites, place_if, place_in, sites_of_method};
 ghost use Rattle.ca_lock_laws.specs.Resolves.{ProgramResolves};
 ghost use Rattle.ca_emit.specs.Locks.{KeptText, MarkedText};
 ghost use Rattle.ca_emit.specs.clauses.Seen.{methods_seen};
 
 use crate::marking::Marked;
-use crate::parallel::{operations, parallel_ops};
+use crate::parallel::{locked_ops, operations, parallel_ops};
 use crate::places::Places;
 use crate::sites::add_parallel;
 use ca_base::Memory;
@@ -32,22 +32,22 @@ use ca_tree::{MethodNode, Place, Tree};
 use std::alloc::{AllocError, Global};
 
 /// Adds a place, or not.
-fn add_body(parallel: bool, at: Place, out: &mut Vec<Place>) -> Result<(), AllocError>
-    ensures { IfOk result (λ _. out.new.items ≡ out.old.items ++ place_if parallel at) }
+fn add_body(wanted: bool, at: Place, out: &mut Vec<Place>) -> Result<(), AllocError>
+    ensures { IfOk result (λ _. out.new.items ≡ out.old.items ++ place_if wanted at) }
 {
-    if parallel {
+    if wanted {
         out.push(at)?;
     }
     Ok(())
 }
 
-/// The names of the parallel operations.
-fn bodies(alloc: Global, parallel: &[OpId], methods: &[&MethodNode]) -> Result<Vec<Place>, Memory>
-    ensures { IfOk result (λ places. places.items ≡ bodies_from parallel.now 0 (methods_seen methods.now)) }
+/// The names of these operations.
+fn bodies(alloc: Global, ops: &[OpId], methods: &[&MethodNode]) -> Result<Vec<Place>, Memory>
+    ensures { IfOk result (λ places. places.items ≡ bodies_from ops.now 0 (methods_seen methods.now)) }
 {
     let mut places = Vec::new(alloc);
     for n in 0..methods.len() {
-        add_body(is_op_in(parallel, n), methods[n].at, &mut places)?;
+        add_body(is_op_in(ops, n), methods[n].at, &mut places)?;
     }
     Ok(places)
 }
@@ -103,16 +103,24 @@ fn sites(
 
 /// What is marked.
 fn marked(alloc: Global, program: &Program, tree: &Tree, plan: &Plan) -> Result<Marked, Memory>
-    ensures bodies { IfOk result (λ m. (at : Place) → has_place m.bodies at ≡ place_in (parallel_bodies plan.now (tree_view tree.now)) at) }
+    ensures locked { IfOk result (λ m. (at : Place) → has_place m.locked at ≡ place_in (locked_bodies (program_view program.now) plan.now (tree_view tree.now)) at) }
+    ensures parallel { IfOk result (λ m. (at : Place) → has_place m.parallel at ≡ place_in (parallel_bodies plan.now (tree_view tree.now)) at) }
     ensures sites { IfOk result (λ m. (at : Place) → has_place m.sites at ≡ place_in (parallel_sites (program_view program.now) plan.now (tree_view tree.now)) at) }
 {
-    let parallel = parallel_ops(alloc, plan)?;
+    let parallel_ops = parallel_ops(alloc, plan)?;
+    let locked_ops = locked_ops(alloc, program, plan)?;
     let methods = operations(alloc, tree)?;
-    let named = bodies(alloc, &parallel, &methods)?;
-    let called = sites(alloc, program, tree, plan.marks(), &parallel, &methods)?;
-    let bodies = Places::of(alloc, &named)?;
+    let named = bodies(alloc, &parallel_ops, &methods)?;
+    let taking = bodies(alloc, &locked_ops, &methods)?;
+    let called = sites(alloc, program, tree, plan.marks(), &parallel_ops, &methods)?;
+    let locked = Places::of(alloc, &taking)?;
+    let parallel = Places::of(alloc, &named)?;
     let sites = Places::of(alloc, &called)?;
-    Ok(Marked { bodies, sites })
+    Ok(Marked {
+        locked,
+        parallel,
+        sites,
+    })
 }
 
 /// The annotated text of a tree, of its program and of the program's plan. Without its marks it is the canonical text. Where

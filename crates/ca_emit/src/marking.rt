@@ -2,17 +2,21 @@
 
 ghost use Rattle.std.specs.Prelude.{◌≡◌};
 ghost use Rattle.ca_canonical.specs.declared.marks.Mark.TheVariants.{Lock, Unlock, Parallel};
+ghost use Rattle.ca_canonical.specs.Marks.{front_view};
 ghost use Rattle.ca_tree.specs.View.{statement_view};
-ghost use Rattle.ca_emit.specs.Annotations.{before_call, before_site, has_place, is_parallel, marking_by, marks_if};
+ghost use Rattle.ca_emit.specs.Annotations.{before_call, before_site, call_marks, has_place, is_among, marking_by, marks_if};
 
 use crate::places::Places;
+use crate::receivers::follows;
 use ca_canonical::{Mark, Marks};
 use ca_tree::{Place, StmtKind, StmtNode};
 
-/// The bodies of parallel operations, and the calls and loops of other bodies that run in parallel.
+/// The bodies of parallel operations that take a lock, those of all parallel operations, and the calls and loops of other
+/// bodies that run in parallel.
 #[derive(Drop)]
 pub(crate) struct Marked {
-    pub bodies: Places,
+    pub locked: Places,
+    pub parallel: Places,
     pub sites: Places,
 }
 
@@ -34,13 +38,40 @@ fn parallel_if(marked: bool) -> &'static [Mark]
     if marked { &[Mark::Parallel] } else { &[] }
 }
 
-/// Before a statement of a parallel operation.
-fn before_call(s: &StmtNode) -> &'static [Mark]
-    ensures { result.now ≡ before_call (statement_view s.now) }
+/// Before a call that is spawned, in an operation that takes a lock or in a free one.
+fn call_marks(locked: bool) -> &'static [Mark]
+    ensures { result.now ≡ call_marks locked }
+{
+    if locked {
+        &[Mark::Unlock, Mark::Spawn]
+    } else {
+        &[Mark::Spawn]
+    }
+}
+
+/// Before a statement of a parallel operation, with the statement in front of it.
+fn before_call(locked: bool, front: Option<&StmtNode>, s: &StmtNode) -> &'static [Mark]
+    ensures { result.now ≡ before_call locked (front_view front.entry) (statement_view s.now) }
 {
     match &s.kind {
-        StmtKind::Call(_) => &[Mark::Unlock, Mark::Spawn],
+        StmtKind::Call(call) => {
+            if follows(front, call) {
+                &[]
+            } else {
+                call_marks(locked)
+            }
+        }
         _ => &[],
+    }
+}
+
+/// Whether a body is among these.
+fn is_among(bodies: &Places, body: Option<Place>) -> bool
+    ensures { result ≡ is_among (has_place bodies.now) body }
+{
+    match body {
+        None => false,
+        Some(at) => bodies.has(at),
     }
 }
 
@@ -55,33 +86,31 @@ impl Marked {
             _ => &[],
         }
     }
-
-    fn is_parallel(&self, body: Option<Place>) -> bool
-        ensures { result ≡ is_parallel (has_place self.now.bodies) body }
-    {
-        match body {
-            None => false,
-            Some(at) => self.bodies.has(at),
-        }
-    }
 }
 
 impl Marks for Marked {
-    ghost marking = { λ m. marking_by (has_place m.bodies) (has_place m.sites) };
+    ghost marking = { λ m. marking_by (has_place m.locked) (has_place m.parallel) (has_place m.sites) };
 
-    fn before(&self, body: Option<Place>, s: &StmtNode) -> &'static [Mark] {
-        if self.is_parallel(body) {
-            before_call(s)
+    fn before(
+        &self,
+        body: Option<Place>,
+        front: Option<&StmtNode>,
+        s: &StmtNode,
+    ) -> &'static [Mark] {
+        if is_among(&self.locked, body) {
+            before_call(true, front, s)
+        } else if is_among(&self.parallel, body) {
+            before_call(false, front, s)
         } else {
             self.before_site(s)
         }
     }
 
     fn opening(&self, body: Place) -> &'static [Mark] {
-        lock_if(self.bodies.has(body))
+        lock_if(self.locked.has(body))
     }
 
     fn closing(&self, body: Place) -> &'static [Mark] {
-        unlock_if(self.bodies.has(body))
+        unlock_if(self.locked.has(body))
     }
 }

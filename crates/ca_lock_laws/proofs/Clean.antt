@@ -12,13 +12,14 @@ use Rattle.ca_parallel.specs.Bodies.{fields_in, fields_in_all, functions_in, fun
 use Rattle.ca_parallel.specs.Separable.{ReadsWritten, MayAccess, IsClean, AreClean, IsSeparated}
 use Rattle.ca_lock_laws.specs.Events.{Event, accesses, evaluates, evaluated, happens}
 use Rattle.ca_lock_laws.specs.Paths.{IsPut, puts_local, puts_field, puts_item, creates_local, creates_field, creates_item, IsLine, declared, assigned, printed}
-use Rattle.ca_lock_laws.specs.Discipline.{Lock, free, held, spawning, Allows, access, access_constant, evaluate, evaluate_constant, Leads, nowhere, and_then}
+use Rattle.ca_lock_laws.specs.Discipline.{Lock, free, held, spawning, behind, Allows, access, access_constant, evaluate, evaluate_constant, Leads, nowhere, forgets, and_then}
 
 -- a call may have come before, or the lock is held
 abbrev pub Ready : Bool → Lock → Type 0
 Ready after held = Unit {0}
 Ready after free = after ≡ true
 Ready after spawning = ⊥
+Ready after behind = ⊥
 
 all_and : {A : Type 0} (P : A → Type 0) (xs ys : List A) → AllByRecursion P xs → AllByRecursion P ys → AllByRecursion P (xs ++ ys)
 all_and P [] ys a b = b
@@ -42,6 +43,7 @@ module _ (p : PlainProgram) (written : List FieldId) where
   pub chained : {l m n : Lock} {es fs : List Event} → Leads p written l es m → Leads p written m fs n → Leads p written l (es ++ fs) n
   chained nowhere t = t
   chained (and_then a s) t = and_then a (chained s t)
+  chained (forgets s) t = forgets (chained s t)
 
   abbrev Constant : FieldId → Type 0
   Constant f = ¬ Contains written f
@@ -112,11 +114,13 @@ module _ (p : PlainProgram) (written : List FieldId) where
       let k = subst (λ b. IsClean p written b e) r c in
       chained (free_fields (fields_in e) (fields_clean e k)) (free_functions (functions_in e) (functions_clean e k))
   evaluated_leads after spawning e c r = absurd r
+  evaluated_leads after behind e c r = absurd r
 
   access_leads : (after : Bool) (l : Lock) (f : FieldId) → MayAccess written after f → Ready after l → Allows p written l (accesses f) l
   access_leads after held f a r = access f
   access_leads after free f a r = access_constant f (subst (λ b. MayAccess written b f) r a)
   access_leads after spawning f a r = absurd r
+  access_leads after behind f a r = absurd r
 
   put_leads : {x : program.Statement} → IsPut x → (after : Bool) (l : Lock) → IsSeparated p written after x → Ready after l → Leads p written l (happens x) l
   put_leads (puts_local line n op e) after l s r = evaluated_leads after l e s r

@@ -1,5 +1,5 @@
 -- Each course of a body is a path through its text, with the marks between.
-use Rattle.std.proofs.Common.{◌≡◌, List, [], ◌∷◌, ◌++◌, map, refl, sym, subst, ap, ap₂, ◌∙◌}
+use Rattle.std.proofs.Common.{◌≡◌, List, [], ◌∷◌, ◌++◌, Option, Some, None, map, refl, sym, subst, ap, ap₂, ◌∙◌}
 use Rattle.std.proofs.lemmas.List.{append-nil}
 use Rattle.ca_tree.specs.Plain as tree
 use Rattle.ca_program.specs.declared.program.FieldId.{FieldId}
@@ -78,7 +78,7 @@ head_line (a_for at e site part c a b r) h = absurd h
 
 -- ---- all bodies
 
-module _ (before : tree.Statement → List Event) (marks : (s : tree.Statement) → unmarked (before s) ≡ []) where
+module _ (before : Option tree.Statement → tree.Statement → List Event) (marks : (front : Option tree.Statement) (s : tree.Statement) → unmarked (before front s) ≡ []) where
   -- a path that does so, but for the marks
   record Taken (P : List Event → Type 0) (es : List Event) : Type 0 where
     events : List Event
@@ -86,11 +86,11 @@ module _ (before : tree.Statement → List Event) (marks : (s : tree.Statement) 
     same : unmarked events ≡ es
 
   -- behind the marks of a statement
-  behind_marks : (s : tree.Statement) (fs es : List Event) → unmarked fs ≡ es → unmarked (before s ++ fs) ≡ es
-  behind_marks s fs es h = two (before s) fs [] es (marks s) h
+  behind_marks : (front : Option tree.Statement) (s : tree.Statement) (fs es : List Event) → unmarked fs ≡ es → unmarked (before front s ++ fs) ≡ es
+  behind_marks front s fs es h = two (before front s) fs [] es (marks front s) h
 
-  behind_test : (c : Expression) (s : tree.Statement) (fs es : List Event) → unmarked fs ≡ es → unmarked (evaluated c ++ (before s ++ fs)) ≡ evaluated c ++ es
-  behind_test c s fs es h = two (evaluated c) (before s ++ fs) (evaluated c) es (plain c) (behind_marks s fs es h)
+  behind_test : (c : Expression) (s : tree.Statement) (fs es : List Event) → unmarked fs ≡ es → unmarked (evaluated c ++ (before None s ++ fs)) ≡ evaluated c ++ es
+  behind_test c s fs es h = two (evaluated c) (before None s ++ fs) (evaluated c) es (plain c) (behind_marks None s fs es h)
 
   line_taken : {s : tree.Statement} {x : program.Statement} {es : List Event} {w : Way} → IsLine s x → Course x es w → Taken (λ fs. Path before s x fs w) es
   line_taken {s} {x} i c =
@@ -103,17 +103,17 @@ module _ (before : tree.Statement → List Event) (marks : (s : tree.Statement) 
     course (a_line i) h d = line_taken i d
     course (a_call at e receiver op arguments) h by_call = record { events = calls op ∷ []; path = call at e at.line receiver op arguments; same = refl }
     course (a_return at e v) h by_return = record { events = evaluated v; path = gives_back at e at.line v; same = plain v }
-    course (a_block at rs) h (in_block d) = let t = courses rs h d in record { events = t.events; path = block at at.line t.path; same = t.same }
+    course (a_block at rs) h (in_block d) = let t = courses None rs h d in record { events = t.events; path = block at at.line t.path; same = t.same }
     course (an_if at e c {s} {x} r) h (by_first {es} d) =
         let t = course r h d in
-        record { events = evaluated c ++ (before s ++ t.events); path = taken at e at.line at.line c t.path; same = behind_test c s t.events es t.same }
+        record { events = evaluated c ++ (before None s ++ t.events); path = taken at e at.line at.line c t.path; same = behind_test c s t.events es t.same }
     course (an_if at e c {s} {x} r) h (by_second (in_block at_end)) = record { events = evaluated c; path = passed at e s at.line at.line c x; same = plain c ∙ sym (append-nil (evaluated c)) }
     course (an_else at e c {s} {t} {x} {y} r q) h (by_first {es} d) =
         let b = course r h.0 d in
-        record { events = evaluated c ++ (before s ++ b.events); path = one_branch at e t at.line c y b.path; same = behind_test c s b.events es b.same }
+        record { events = evaluated c ++ (before None s ++ b.events); path = one_branch at e t at.line c y b.path; same = behind_test c s b.events es b.same }
     course (an_else at e c {s} {t} {x} {y} r q) h (by_second {es} d) =
         let b = course q h.1 d in
-        record { events = evaluated c ++ (before t ++ b.events); path = other_branch at e s at.line c x b.path; same = behind_test c t b.events es b.same }
+        record { events = evaluated c ++ (before None t ++ b.events); path = other_branch at e s at.line c x b.path; same = behind_test c t b.events es b.same }
     course (a_while at e c r) h (by_while d) = let t = rounds r h refl d in record { events = t.events; path = repeated at e at.line t.path; same = t.same }
     course (a_for at e site part c {start} {step} a b r) h (by_for {es} d) =
         let one = head_line a h.0 in
@@ -121,15 +121,15 @@ module _ (before : tree.Statement → List Event) (marks : (s : tree.Statement) 
         let t = rounds r h.2 (line_plain two_of) d in
         record { events = happens start ++ t.events; path = counted at e at.line site part one two_of t.path; same = two (happens start) t.events (happens start) es (line_plain one) t.same }
 
-    courses : {ss : tree.Statements} {xs : program.Statements} {es : List Event} {w : Way} → AllResolve ss xs → AllHeadsStand ss → Courses xs es w → Taken (λ fs. Paths before ss xs fs w) es
-    courses none h at_end = record { events = []; path = no_path; same = refl }
-    courses (and_all {s} r rs) h (and_next {es} {fs} d ds) =
+    courses : {ss : tree.Statements} {xs : program.Statements} {es : List Event} {w : Way} (front : Option tree.Statement) → AllResolve ss xs → AllHeadsStand ss → Courses xs es w → Taken (λ fs. Paths before front ss xs fs w) es
+    courses front none h at_end = record { events = []; path = no_path front; same = refl }
+    courses front (and_all {s} r rs) h (and_next {es} {fs} d ds) =
         let t = course r h.0 d in
-        let more = courses rs h.1 ds in
-        record { events = (before s ++ t.events) ++ more.events; path = and_then t.path more.path; same = two (before s ++ t.events) more.events es fs (behind_marks s t.events es t.same) more.same }
-    courses (and_all {s} {ss} {xs} r rs) h (and_return {es} d) =
+        let more = courses (Some s) rs h.1 ds in
+        record { events = (before front s ++ t.events) ++ more.events; path = and_then front t.path more.path; same = two (before front s ++ t.events) more.events es fs (behind_marks front s t.events es t.same) more.same }
+    courses front (and_all {s} {ss} {xs} r rs) h (and_return {es} d) =
         let t = course r h.0 d in
-        record { events = before s ++ t.events; path = no_more ss xs t.path; same = behind_marks s t.events es t.same }
+        record { events = before front s ++ t.events; path = no_more front ss xs t.path; same = behind_marks front s t.events es t.same }
 
     rounds : {s : tree.Statement} {x : program.Statement} {c : Expression} {step es : List Event} {w : Way} → Resolves s x → HeadsStand s → unmarked step ≡ step → Rounds c x step es w
         → Taken (λ fs. Turns before c s x step fs w) es
@@ -138,14 +138,14 @@ module _ (before : tree.Statement → List Event) (marks : (s : tree.Statement) 
         let t = course r h d in
         let more = rounds r h p ds in
         record {
-          events = evaluated c ++ ((before s ++ t.events) ++ (step ++ more.events));
+          events = evaluated c ++ ((before None s ++ t.events) ++ (step ++ more.events));
           path = turn t.path more.path;
-          same = two (evaluated c) ((before s ++ t.events) ++ (step ++ more.events)) (evaluated c) (es ++ (step ++ fs)) (plain c)
-              (two (before s ++ t.events) (step ++ more.events) es (step ++ fs) (behind_marks s t.events es t.same) (two step more.events step fs p more.same));
+          same = two (evaluated c) ((before None s ++ t.events) ++ (step ++ more.events)) (evaluated c) (es ++ (step ++ fs)) (plain c)
+              (two (before None s ++ t.events) (step ++ more.events) es (step ++ fs) (behind_marks None s t.events es t.same) (two step more.events step fs p more.same));
         }
     rounds {s} {x} {c} {step} r h p (last_round {es} d) =
         let t = course r h d in
-        record { events = evaluated c ++ (before s ++ t.events); path = broken c step t.path; same = behind_test c s t.events es t.same }
+        record { events = evaluated c ++ (before None s ++ t.events); path = broken c step t.path; same = behind_test c s t.events es t.same }
 
-  pub each_course : (ss : tree.Statements) (xs : program.Statements) → AllResolve ss xs → AllHeadsStand ss → (es : List Event) (w : Way) → Courses xs es w → (fs : List Event) × Paths before ss xs fs w × (unmarked fs ≡ es)
-  each_course ss xs r h es w d = let t = courses r h d in (t.events, t.path, t.same)
+  pub each_course : (ss : tree.Statements) (xs : program.Statements) → AllResolve ss xs → AllHeadsStand ss → (es : List Event) (w : Way) → Courses xs es w → (fs : List Event) × Paths before None ss xs fs w × (unmarked fs ≡ es)
+  each_course ss xs r h es w d = let t = courses None r h d in (t.events, t.path, t.same)

@@ -1,6 +1,6 @@
 -- Which bodies keep the lock discipline: those of all operations that a marked operation or a marked loop may reach, with
 -- the marks of a parallel operation.
-use Rattle.std.specs.Prelude.{List, [], ◌∷◌, Contains}
+use Rattle.std.specs.Prelude.{Bool, true, false, if◌then◌else◌, List, [], ◌∷◌, Option, Some, Contains}
 use Rattle.ca_tree.specs.Plain as tree
 use Rattle.ca_program.specs.declared.program.LoopId.{LoopId}
 use Rattle.ca_program.specs.declared.program.OpId.{OpId}
@@ -13,14 +13,31 @@ use Rattle.ca_lock_laws.specs.Events.{Event, locks, unlocks, spawns}
 use Rattle.ca_lock_laws.specs.Paths.{Guards, Through}
 use Rattle.ca_lock_laws.specs.Discipline.{Disciplined}
 
--- A parallel operation takes its receiver's lock behind its `{`, gives it back before each call, which is spawned, and
--- before its `}`.
-abbrev pub before_call : tree.Statement → List Event
-before_call (tree.call_statement at e) = unlocks ∷ spawns ∷ []
-before_call other = []
+-- A follower is a call directly behind another call of the same list, on the same receiver. Which receivers are the same is
+-- told.
+abbrev pub follows : (tree.Expression → tree.Expression → Bool) → Option tree.Statement → tree.Statement → Bool
+follows same (Some (tree.call_statement at e)) (tree.call_statement place other) = same e other
+follows same front s = false
 
-abbrev pub parallel_guards : Guards
-parallel_guards = record { opening = locks ∷ []; before = before_call; closing = unlocks ∷ [] }
+-- Before a call: a parallel operation that takes its receiver's lock gives it back, and the call is spawned. One that is free
+-- has none to give back.
+abbrev pub before_calls : Bool → List Event
+before_calls true = unlocks ∷ spawns ∷ []
+before_calls false = spawns ∷ []
+
+-- a follower is spawned with the call in front of it
+abbrev pub before_in : Bool → (tree.Expression → tree.Expression → Bool) → Option tree.Statement → tree.Statement → List Event
+before_in locked same front (tree.call_statement at e) = if follows same front (tree.call_statement at e) then [] else before_calls locked
+before_in locked same front other = []
+
+-- A parallel operation takes its receiver's lock behind its `{`, gives it back before each call that is spawned, and before
+-- its `}`.
+abbrev pub locked_guards : (tree.Expression → tree.Expression → Bool) → Guards
+locked_guards same = record { opening = locks ∷ []; before = before_in true same; closing = unlocks ∷ [] }
+
+-- a free one takes none
+abbrev pub free_guards : (tree.Expression → tree.Expression → Bool) → Guards
+free_guards same = record { opening = []; before = before_in false same; closing = [] }
 
 -- the operations that a marked call or loop begins with
 pub data Begins (p : PlainProgram) (marks : PlainMarks) : List OpId → Type 0 where

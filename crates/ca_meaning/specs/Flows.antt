@@ -3,6 +3,7 @@
 -- parts of a `for`, which run on the line of the `for`.
 use Rattle.std.specs.Prelude.{ℕ, true, List, slice_set}
 use Rattle.ca_program.specs.declared.program.OpId.{OpId}
+pub use Rattle.ca_program.specs.Lines.{line_of}
 use Rattle.ca_program.specs.Plain.{Expression, Expressions, Statement, Statements, block, put_local, put_field, put_item, new_local, new_field, new_item, invoke, if_else, while_loop, for_loop, return_value, print_value, no_statements, statement_and}
 use Rattle.ca_model.specs.declared.value.Value.{Value as Datum}
 use Rattle.ca_model.specs.declared.value.Value.TheVariants.{Bool as Truth}
@@ -44,21 +45,6 @@ pub record Parts (S : Type 0) : Type 0 where
   pub call : ℕ → List Datum → S → Expression → OpId → Expressions → ℕ → Flow S
   pub again : ℕ → List Datum → S → Statement → ℕ → Flow S
   pub begin : ℕ → List Datum → S → Statement → ℕ → Flow S → Flow S
-
-abbrev pub line_of : Statement → ℕ
-line_of (block line ss) = line
-line_of (put_local line l op e) = line
-line_of (put_field line f op e) = line
-line_of (put_item line f i op e) = line
-line_of (new_local line l c) = line
-line_of (new_field line f c) = line
-line_of (new_item line f i c) = line
-line_of (invoke line e op arguments) = line
-line_of (if_else line c a b) = line
-line_of (while_loop line c b) = line
-line_of (for_loop line site part first c next b) = line
-line_of (return_value line e) = line
-line_of (print_value line e) = line
 
 -- a loop from its condition on: a condition that is true takes a step, then the body runs, and then the
 -- loop comes again

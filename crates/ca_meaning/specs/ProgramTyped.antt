@@ -2,6 +2,7 @@
 -- method that is named is there, and arguments match their parameters. The checker makes no others.
 use Rattle.std.specs.Prelude.{ℕ, ◌≡◌, ◌≤◌, ◌⊎◌, List, [], ◌∷◌, length, Option, Some, None, slice_get, FitsSigned, IsSome}
 use Rattle.std.specs.Int.{w64}
+pub use Rattle.ca_program.specs.Fields.{field_info}
 use Rattle.ca_tree.specs.declared.tree.AssignOp.{AssignOp}
 use Rattle.ca_tree.specs.declared.tree.AssignOp.TheVariants.{Put, Add, Sub, Mul}
 use Rattle.ca_tree.specs.declared.tree.UnaryOp.{UnaryOp}
@@ -14,7 +15,6 @@ use Rattle.ca_program.specs.declared.program.FieldInfo.{FieldInfo}
 use Rattle.ca_program.specs.declared.program.ValueType.{ValueType}
 use Rattle.ca_program.specs.declared.program.ValueType.TheVariants.{Long, Bool, Pointer}
 use Rattle.ca_program.specs.Plain.{PlainProgram, PlainMethod, Expression, Expressions, number, truth, null, this, local, own, own_item, read, read_item, value_call, unary, binary, no_expressions, expression_and, Statement, Statements, block, put_local, put_field, put_item, new_local, new_field, new_item, invoke, if_else, while_loop, for_loop, return_value, print_value, no_statements, statement_and}
-use Rattle.ca_model.specs.Heaps.{fields_of}
 use Rattle.ca_meaning.specs.WellTyped.{parameters_of}
 
 -- where an expression or statement stands: the class of the receiver, which `main` has none of, the types
@@ -33,9 +33,6 @@ IsScalar (Some f) ty = (f.ty ≡ ty) × (f.length ≡ None)
 abbrev pub IsArray : Option FieldInfo → ValueType → Type 0
 IsArray None ty = ⊥
 IsArray (Some f) ty = (f.ty ≡ ty) × IsSome f.length
-
-abbrev pub field_info : PlainProgram → FieldId → Option FieldInfo
-field_info p f = slice_get (fields_of (slice_get p.classes f.class.0)) f.field
 
 -- what the sides of an operator have, and what it gives
 abbrev pub SidesTyped : BinaryOp → ValueType → ValueType → Type 0

@@ -1,8 +1,8 @@
 -- Heaps: the objects in the order of their creation, each found by its place.
 use Rattle.std.specs.Prelude.{ℕ, zero, suc, ◌+◌, Bool, List, [], ◌∷◌, ◌++◌, length, Option, Some, None, slice_get, nat_le, nat_lt, ◌||◌}
+pub use Rattle.ca_program.specs.Fields.{fields_of}
 use Rattle.ca_program.specs.declared.program.ClassId.{ClassId}
-use Rattle.ca_program.specs.declared.program.FieldInfo.{FieldInfo}
-use Rattle.ca_program.specs.Plain.{PlainProgram, PlainClass}
+use Rattle.ca_program.specs.Plain.{PlainProgram}
 use Rattle.ca_model.specs.declared.value.Value.{Value as Datum}
 use Rattle.ca_model.specs.declared.value.Slot.{Slot}
 use Rattle.ca_model.specs.declared.value.Object.{Object}
@@ -23,10 +23,6 @@ abbrev pub stored : List Object → ℕ → ℕ → ℕ → Datum → List Objec
 stored [] n f i v = []
 stored (o ∷ os) zero f i v = record { class = o.class; slots = put_slot o.slots f i v } ∷ os
 stored (o ∷ os) (suc n) f i v = o ∷ stored os n f i v
-
-abbrev pub fields_of : Option PlainClass → List FieldInfo
-fields_of None = []
-fields_of (Some c) = c.fields
 
 -- what an object of the class starts with
 abbrev pub starts_of : PlainProgram → ClassId → List Slot

@@ -4,7 +4,8 @@
 //! serial meaning, the extents, the analysis) reads it. Classes, operations, value methods and
 //! `for` statements are numbered in source order, and parameters are the first locals.
 //! `specs/Plain.antt` has the program as numbers, variants and lists, which is what definitions
-//! speak of, and `specs/View.antt` the one function from a program in memory to it.
+//! speak of, and `specs/View.antt` the one function from a program in memory to it. How a program is laid out as
+//! instructions is said in `specs/Kinds.antt`, `Instructions.antt` and `Layout.antt`.
 //!
 //! Whoever reads the public clauses must believe each file of `specs/`.
 #![tactic(auto)]

@@ -60,10 +60,13 @@ module _ (p : PlainProgram) (op : OpId) where
   body = operation_body p op
 
   pub free : (written : List FieldId) → takes_lock written body ≡ false → (targets_of_all body ≡ []) × IsFree p written op
-  free written e = let n = neither (hold_target body) (list_any (is_written written) (reads_of_body body)) e in let none : targets_of_all body ≡ [] = no_targets (targets_of_all body) n.0 in (none, record {
-    untouched = λ f c w. let d : Contains (reads_of_body body) f = subst (λ (fs : List FieldId). Contains (fs ++ reads_of_body body) f) none c in
-        true≢false (sym (any_of (is_written written) (reads_of_body body) f d ((written_decided written f).1 w)) ∙ n.1);
-  })
+  free written e = let n = neither (hold_target body) (list_any (is_written written) (reads_of_body body)) e in let none : targets_of_all body ≡ [] = no_targets (targets_of_all body) n.0 in (
+    none,
+    record {
+      untouched = λ f c w. let d : Contains (reads_of_body body) f = subst (λ (fs : List FieldId). Contains (fs ++ reads_of_body body) f) none c in
+          true≢false (sym (any_of (is_written written) (reads_of_body body) f d ((written_decided written f).1 w)) ∙ n.1);
+    },
+  )
 
   a_target : (x : Extent) (roots : List OpId) → IsExtentOf p roots x → Contains x.ops op → (fs : List FieldId) → targets_of_all body ≡ fs → is_some_of fs ≡ true → IsFree p x.written op → ⊥
   a_target x roots is inside [] e q free = absurd cc

@@ -1,6 +1,6 @@
 use Rattle.ca_meaning.specs.Functions.{own_of}
 use Rattle.ca_meaning.specs.Sections.{section_start}
-use Rattle.ca_code_laws.specs.Kinds.{kinds_in}
+use Rattle.ca_program.specs.Kinds.{kinds_in}
 use Rattle.ca_code_laws.proofs.Quiet.{fine_where_quiet}
 use Rattle.ca_code_laws.proofs.Sections.{section_loop_passes}
 use Rattle.ca_code_laws.proofs.laws.sections_of_loops_run_the_same_code.Goals as goal

@@ -15,7 +15,7 @@ loop-n-init c = rw c.new-places.ensures.items refl
 
 pub loop-n-preserved : goal.loop-n-preserved
 loop-n-preserved c =
-    let ops = c.args.parallel.now in
+    let ops = c.args.ops.now in
     let m = c.index-methods-n.result in
     one_at (bodies_from ops) (λ n (x : MethodTree). place_if (op_in ops (op_at n)) x.at) (λ n x xs. refl) (methods_seen c.args.methods.now) c.loop-n.n (method_view m.now)
     (method_at c.args.methods.now c.loop-n.n m (omega arith) c.index-methods-n.is) _ _ _ c.loop-n.invariant
@@ -23,4 +23,4 @@ loop-n-preserved c =
 
 pub returns : goal.returns
 returns c =
-    sym (append-nil _) ∙ (ap (λ z. c.loop-n.places.items ++ z) (sym (none_behind (bodies_from c.args.parallel.now) (λ n. refl) c.args.methods.now c.loop-n.n (omega arith))) ∙ c.loop-n.invariant)
+    sym (append-nil _) ∙ (ap (λ z. c.loop-n.places.items ++ z) (sym (none_behind (bodies_from c.args.ops.now) (λ n. refl) c.args.methods.now c.loop-n.n (omega arith))) ∙ c.loop-n.invariant)

@@ -8,7 +8,7 @@ use Rattle.ca_plan.specs.Plans.{Judged, op_at}
 use Rattle.ca_plan.specs.Texts.{loop_in}
 use Rattle.ca_plan.specs.Told.{shared}
 use Rattle.ca_plan.proofs.Chosen.{shared_at}
-use Rattle.ca_emit.specs.Annotations.{ops_if, reached_by_ops, reached_by_loops}
+use Rattle.ca_emit.specs.Annotations.{all_ops, ops_if, reached_by_ops, reached_by_loops}
 use Rattle.ca_emit.proofs.Picking.{one_at}
 use Rattle.ca_emit.proofs.parallel.parallel_ops.Goals as goal
 
@@ -21,7 +21,7 @@ loop-n-preserved c =
     let js = shared c.ops-ops.result.now in
     let j = c.deref.result.now in
     let at : slice_get js c.loop-n.n ≡ Some j = shared_at c.ops-ops.result.now c.loop-n.n c.index-ops-n.result j (omega arith) c.index-ops-n.is c.deref.ensures in
-    one_at (reached_by_ops marked) (λ n (x : Judged). ops_if (op_in marked (op_at n)) x.extent) (λ n x xs. refl) js c.loop-n.n j at _ _ _ c.loop-n.invariant
+    one_at (reached_by_ops all_ops marked) (λ n (x : Judged). ops_if (op_in marked (op_at n)) (all_ops x.extent)) (λ n x xs. refl) js c.loop-n.n j at _ _ _ c.loop-n.invariant
     (rw (c.is_op_in-marked.ensures, c.marked_ops.ensures, c.extent.ensures) at c.in_ok-add_reached.ensures)
 
 pub loop-one-init : goal.loop-one-init
@@ -29,15 +29,15 @@ loop-one-init c =
     let marked = c.args.plan.now.marks.ops in
     let js = shared c.ops-ops.result.now in
     let past : length js ≤ c.loop-n.n = omega (arith, length-map c.ops-ops.result.now (λ (r : Rc Judged Global). r.value)) in
-    let none : reached_by_ops marked c.loop-n.n (drop c.loop-n.n js) ≡ [] = ap (reached_by_ops marked c.loop-n.n) (drop_all c.loop-n.n js past) in
-    let whole : c.loop-n.parallel.items ≡ reached_by_ops marked 0 c.args.plan.now.ops = sym (append-nil c.loop-n.parallel.items) ∙ (ap (λ z. c.loop-n.parallel.items ++ z) (sym none) ∙ c.loop-n.invariant) in
-    rw c.loops-loops.ensures (ap (λ z. z ++ reached_by_loops c.args.plan.now.marks.loops c.args.plan.now.loops) whole)
+    let none : reached_by_ops all_ops marked c.loop-n.n (drop c.loop-n.n js) ≡ [] = ap (reached_by_ops all_ops marked c.loop-n.n) (drop_all c.loop-n.n js past) in
+    let whole : c.loop-n.parallel.items ≡ reached_by_ops all_ops marked 0 c.args.plan.now.ops = sym (append-nil c.loop-n.parallel.items) ∙ (ap (λ z. c.loop-n.parallel.items ++ z) (sym none) ∙ c.loop-n.invariant) in
+    rw c.loops-loops.ensures (ap (λ z. z ++ reached_by_loops all_ops c.args.plan.now.marks.loops c.args.plan.now.loops) whole)
 
 pub loop-one-preserved : goal.loop-one-preserved
 loop-one-preserved c =
     let marked = c.args.plan.now.marks.loops in
-    one_more (λ l. ops_if (loop_in marked l.site) l.judged.extent) (reached_by_loops marked) (λ l ls. refl) c.loops-loops.result.now c.loop-one.one-index c.one-item.result (omega arith) c.one-item.is _ _ _ c.loop-one.invariant
+    one_more (λ l. ops_if (loop_in marked l.site) (all_ops l.judged.extent)) (reached_by_loops all_ops marked) (λ l ls. refl) c.loops-loops.result.now c.loop-one.one-index c.one-item.result (omega arith) c.one-item.is _ _ _ c.loop-one.invariant
     (rw (c.is_loop_in-marked.ensures, c.marked_loops.ensures, c.site.ensures, c.extent-in-loop-one.ensures, c.judged.ensures) at c.in_ok-add_reached-2.ensures)
 
 pub returns : goal.returns
-returns c = none_left (reached_by_loops c.args.plan.now.marks.loops) refl c.loops-loops.result.now c.loop-one.one-index (omega arith) _ _ c.loop-one.invariant
+returns c = none_left (reached_by_loops all_ops c.args.plan.now.marks.loops) refl c.loops-loops.result.now c.loop-one.one-index (omega arith) _ _ c.loop-one.invariant
