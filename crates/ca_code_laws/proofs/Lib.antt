@@ -6,6 +6,7 @@ pub mod Methods
 pub mod Acts
 pub mod Operations
 pub mod Quiet
+pub mod Loops
 pub mod Sections
 pub mod Counted
 pub mod Typed

@@ -2,11 +2,11 @@
 //!
 //! In place of what a law tells the machine may want memory: where a value hasn't the kind that the layout knows.
 
-ghost use Rattle.std.specs.Prelude.{◌≡◌, ◌<◌, ◌⊎◌, ℕ, List, ◌∷◌, [], suc, length, Some, slice_get, Bool, false, true};
+ghost use Rattle.std.specs.Prelude.{◌≡◌, ◌<◌, ◌⊎◌, ℕ, Contains, List, ◌∷◌, [], suc, length, Some, slice_get, Bool, false, true};
 ghost use Rattle.ca_program.specs.declared.program.FunctionId.{FunctionId};
 ghost use Rattle.ca_program.specs.declared.program.OpId.{OpId};
 ghost use Rattle.ca_program.specs.declared.program.ValueType.{ValueType};
-ghost use Rattle.ca_program.specs.Plain.{PlainProgram, PlainMethod, Statement};
+ghost use Rattle.ca_program.specs.Plain.{PlainProgram, PlainMethod, Statement, Statements};
 ghost use Rattle.ca_model.specs.declared.value.Value.{Value as Datum};
 ghost use Rattle.ca_model.specs.declared.value.Value.TheVariants.{Ref};
 ghost use Rattle.ca_model.specs.declared.value.Slot.{Slot};
@@ -16,15 +16,16 @@ ghost use Rattle.ca_meaning.specs.Functions.{own_of, functions_of};
 ghost use Rattle.ca_meaning.specs.Serial.{World, operations_of, main_run, serial};
 ghost use Rattle.ca_meaning.specs.Sections.{Section, section, section_start, loop_run};
 ghost use Rattle.ca_meaning.specs.ProgramTyped.{ProgramTyped};
+ghost use Rattle.ca_parallel.specs.Bodies.{fors_in_all};
 ghost use Rattle.ca_parallel.specs.Lists.{PlainMarks};
 ghost use Rattle.ca_parallel.specs.Loops.{IsCallLoop};
 ghost use Rattle.ca_parallel.specs.Marks.{SoundMarks};
 ghost use Rattle.ca_note_laws.specs.Listing.{CallLoopsPutNothing, listing_run};
-ghost use Rattle.ca_program.specs.Kinds.{Kind, kinds_in, param_kind, result_kind};
+ghost use Rattle.ca_program.specs.Kinds.{Kind, Kinds, kinds_in, param_kind, result_kind};
 ghost use Rattle.ca_program.specs.Instructions.{Code, HasAt};
 ghost use Rattle.ca_program.specs.Layout.{FunctionsLaidOut, OperationsLaidOut, MainLaidOut, all_acts, no_hands, statement_code, kinds_of};
 ghost use Rattle.ca_code_laws.specs.Heeding.{HeedingLaidOut, MainHeeds};
-ghost use Rattle.ca_code_laws.specs.Fine.{Takes, FineStatement, FineMethods, IsQuiet, AreQuiet};
+ghost use Rattle.ca_code_laws.specs.Fine.{Takes, FineStatement, FineStatements, FineMethods, IsQuiet, AreQuiet};
 ghost use Rattle.ca_code_laws.specs.Machine.{Store, Back, Accesses, State, Outcome, Wanting, Comes, Ends};
 ghost use Rattle.ca_code_laws.specs.Runs.{run_access, section_access, section_outcome, sectioned_as, beginning, outcome_of, ended_as};
 ghost use Rattle.ca_code_laws.specs.Told.{IsLaidOut, Holds, EndsSo, Returned, Came, Passed, section_of};
@@ -79,6 +80,11 @@ pub fn whoever_runs_the_body_knows_the_section()
 /// They run the section of a loop, wherever its code stands.
 pub fn sections_of_loops_run_the_same_code()
     ensures { (p : PlainProgram) (code : Code) → IsLaidOut p code → (frozen : List Object) (me : Datum) (tys : List ValueType) (ret : Kind) (loop : Statement) (line top : ℕ) (ls : List Datum) (at base k : ℕ) (f : Store) → HasAt code at (statement_code (kinds_in p tys) (all_acts (kinds_in p tys)) no_hands line loop top) → FineStatement p true (kinds_in p tys) ret top loop → IsQuiet loop → length ls ≡ top → Holds (kinds_in p tys).locals f base ls → Passed (kinds_in p tys).locals frozen code (record { at = at; base = base; left = k; this = me; below = []; slots = f; world = section_start (own_of frozen me) }) (length (statement_code (kinds_in p tys) (all_acts (kinds_in p tys)) no_hands line loop top)) (loop_run p frozen me ls line loop k) }
+{}
+
+/// A loop of a well formed body is well formed.
+pub fn loops_fit()
+    ensures { (p : PlainProgram) (makes : Bool) (ks : Kinds) (ret : Kind) (n : ℕ) (xs : Statements) → FineStatements p makes ks ret n xs → (loop : Statement) → Contains (fors_in_all xs) loop → FineStatement p makes ks ret n loop }
 {}
 
 /// A call loop makes no object and prints nothing.

@@ -25,6 +25,9 @@ monomials_exact = record { order = monomial_total; same = λ m n e. monomial_inj
 pub polynomials_exact : Exact polynomial_cmp
 polynomials_exact = record { order = polynomial_total; same = polynomial_same }
 
+pub scalars_exact : Exact scalar_cmp
+scalars_exact = record { order = scalar_total; same = scalar_same }
+
 is_tie : (o : Ordering) → is_eq o ≡ true → o ≡ Equal
 is_tie Less e = cc
 is_tie Equal e = refl

@@ -9,12 +9,13 @@ use Rattle.ca_forms.specs.declared.polynomial.Node.{Node}
 use Rattle.ca_forms.specs.declared.polynomial.Node.TheVariants as node
 use Rattle.ca_forms.specs.declared.polynomial.Unary.{Unary}
 use Rattle.ca_forms.specs.declared.polynomial.Unary.TheVariants as unary
-use Rattle.ca_forms.specs.Plain.{PlainPart, PlainPolynomial, PlainPointer, PlainScalars, variable, is_less, is_zero, same_pointer, quotient, modulus, field_of, item_of, result_of, own_item, polynomial_code, pointer_code, scalars_code}
+use Rattle.ca_forms.specs.Plain.{PlainPart, PlainPolynomial, PlainPointer, PlainScalars, variable, is_less, is_zero, same_pointer, quotient, modulus, field_of, item_of, result_of, own_item, fold_of, polynomial_code, pointer_code, scalars_code}
 use Rattle.ca_forms.specs.Seen.{part_of, over}
 use Rattle.ca_forms.specs.Trees.{tree_cmp}
 use Rattle.ca_forms.specs.Compare.{part_cmp}
 use Rattle.ca_forms.specs.clauses.Heads.{head, rank, head_cmp, unary_head, word_of}
 use Rattle.ca_forms.proofs.Lists.{kept}
+use Rattle.ca_folds.specs.declared.operator.FoldOp.{FoldOp}
 
 -- what stands behind a part's kind and name
 abbrev pub rest_code : PlainPart → Gv
@@ -28,6 +29,7 @@ rest_code (field_of s p c f) = pointer_code p
 rest_code (item_of s p c f i) = gcons (pointer_code p) (polynomial_code i)
 rest_code (result_of s m p xs) = gcons (pointer_code p) (scalars_code xs)
 rest_code (own_item s g n i) = gcons (polynomial_code i) (gnum 0)
+rest_code (fold_of o w xs) = gcons (gnum w) (scalars_code xs)
 
 nothing_behind : (o : Ordering) → o ≡ ordering_then o Equal
 nothing_behind Less = refl
@@ -45,6 +47,7 @@ headed (field_of s a c f) (field_of t b d g) = refl
 headed (item_of s a c f i) (item_of t b d g j) = refl
 headed (result_of s m a xs) (result_of t n b ys) = refl
 headed (own_item s g n i) (own_item t h m j) = ap (ordering_then (head_cmp (own_item s g n i) (own_item t h m j))) (nothing_behind _)
+headed (fold_of o w xs) (fold_of p v ys) = refl
 headed p q = refl
 
 -- two orders, one behind the other, by what the first was found to be
@@ -144,3 +147,8 @@ pub no_result : (m : Node) → rank (part_of m) ≡ 8 → ((s : Sort) (k : ℕ) 
 no_result (node.Result s k p xs) e n = n s k p xs refl
 no_result (node.Over f a) e n = over_apart 8 f a refl e
 no_result m e n = absurd (omega (arith, e))
+
+pub no_fold : (m : Node) → rank (part_of m) ≡ 10 → ((o : FoldOp) (w : ℕ) (xs : PlainScalars) → m ≡ node.Fold o w xs → ⊥) → ⊥
+no_fold (node.Fold o w xs) e n = n o w xs refl
+no_fold (node.Over f a) e n = over_apart 10 f a refl e
+no_fold m e n = absurd (omega (arith, e))

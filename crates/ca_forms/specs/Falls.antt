@@ -23,6 +23,7 @@ part_falls (node.SamePointer p q) = omega arith
 part_falls (node.Field s p c f) = omega arith
 part_falls (node.Item s p c f i) = omega arith
 part_falls (node.Result s m p xs) = omega arith
+part_falls (node.Fold o w xs) = omega arith
 
 pub pointer_falls : (n : PointerNode) → max (deep-PointerNode n) 0 ≤ pointer_size (pointer_of n)
 pointer_falls pointer.Null = omega arith

@@ -10,4 +10,5 @@ pub mod ArrayFalls
 pub mod Products
 pub mod Rules
 pub mod ArrayRules
+pub mod Folds
 pub mod clauses

@@ -3,7 +3,7 @@ use Rattle.std.specs.Prelude.{ℕ, ◌+◌, ◌≤◌, List, [], ◌∷◌, leng
 use Rattle.std.proofs.Common.{arith}
 use Rattle.std.specs.Coded.{Coded, coded×, coded_ℕ}
 use denote.Param.Weighed.{most}
-use Rattle.ca_forms.specs.Plain.{PlainPart, PlainPolynomial, PlainMonomial, PlainPointer, PlainScalar, PlainScalars, variable, is_less, is_zero, same_pointer, quotient, modulus, field_of, item_of, result_of, own_item, no_products, product_and, no_powers, power_and, no_object, pointer_part, pointer_choice, number_form, truth_form, pointer_form, no_scalars, scalar_and, coded_part, coded_monomial}
+use Rattle.ca_forms.specs.Plain.{PlainPart, PlainPolynomial, PlainMonomial, PlainPointer, PlainScalar, PlainScalars, variable, is_less, is_zero, same_pointer, quotient, modulus, field_of, item_of, result_of, own_item, fold_of, no_products, product_and, no_powers, power_and, no_object, pointer_part, pointer_choice, number_form, truth_form, pointer_form, no_scalars, scalar_and, coded_part, coded_monomial}
 
 abbrev pub coded_product : Coded (PlainMonomial × ℕ)
 coded_product = coded× coded_monomial coded_ℕ
@@ -48,6 +48,7 @@ abbrev mutual
   part_size (item_of s p c f i) = pointer_size p + polynomial_size i + 1
   part_size (result_of s m p xs) = pointer_size p + scalars_size xs + 1
   part_size (own_item s g n i) = polynomial_size i + 1
+  part_size (fold_of o w xs) = scalars_size xs + 1
 
   pub polynomial_size : PlainPolynomial → ℕ
   polynomial_size no_products = 1

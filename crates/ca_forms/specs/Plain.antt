@@ -6,6 +6,8 @@ use base.Stored.{Gv, gnil, gnum, gcons}
 use Rattle.std.proofs.Common.{ap, ap₂, arith}
 use Rattle.ca_forms.specs.declared.sort.Sort.{Sort}
 use Rattle.ca_forms.specs.declared.sort.Sort.TheVariants.{Long, Bool, Pointer, LongArray, BoolArray, PointerArray}
+use Rattle.ca_folds.specs.declared.operator.FoldOp.{FoldOp}
+use Rattle.ca_folds.specs.Operators.{fold_number, fold_inj}
 
 mutual
   -- what isn't taken apart
@@ -27,6 +29,8 @@ mutual
     result_of : Sort → ℕ → PlainPointer → PlainScalars → PlainPart
     -- the item at an index of an array that is an atom: its sort, and the atom's group and number
     own_item : Sort → ℕ → ℕ → PlainPolynomial → PlainPart
+    -- an operator on operands in any order: the word that those which are words come to, and the others in order
+    fold_of : FoldOp → ℕ → PlainScalars → PlainPart
 
   -- products, each a monomial and its coefficient
   pub data PlainPolynomial : Type 0 where
@@ -67,7 +71,7 @@ kind n v = gcons (gnum n) v
 -- by which parts of two kinds are told apart
 abbrev kind_of : Gv → ℕ
 kind_of (gcons (gnum n) v) = n
-kind_of v = 10
+kind_of v = 11
 
 -- a sort and two numbers
 abbrev pub name_code : Sort → ℕ → ℕ → Gv
@@ -86,6 +90,7 @@ abbrev mutual
   part_code (item_of s p c f i) = kind 7 (gcons (name_code s c f) (gcons (pointer_code p) (polynomial_code i)))
   part_code (result_of s m p xs) = kind 8 (gcons (name_code s m 0) (gcons (pointer_code p) (scalars_code xs)))
   part_code (own_item s g n i) = kind 9 (gcons (name_code s g n) (polynomial_code i))
+  part_code (fold_of o w xs) = kind 10 (gcons (name_code Long (fold_number o) 0) (gcons (gnum w) (scalars_code xs)))
 
   pub polynomial_code : PlainPolynomial → Gv
   polynomial_code no_products = gnil
@@ -140,6 +145,9 @@ mutual
   part_inj (own_item s g n x) (own_item t h m y) e =
       let same : s ≡ t = sort_inj s t cc in
       let j : x ≡ y = polynomial_inj x y cc in cc
+  part_inj (fold_of o w xs) (fold_of p v ys) e =
+      let same : o ≡ p = fold_inj o p cc in
+      let j : xs ≡ ys = scalars_inj xs ys cc in cc
   part_inj p q e = let kinds : kind_of (part_code p) ≡ kind_of (part_code q) = ap kind_of e in absurd (omega (arith, kinds))
 
   pub polynomial_inj : (p q : PlainPolynomial) → polynomial_code p ≡ polynomial_code q → p ≡ q

@@ -3,7 +3,7 @@ use Rattle.std.specs.Prelude.{ℕ, ◌+◌, Bool, true, false, cond, List, [], �
 use Rattle.std.specs.Ordering.{match_ordering}
 use Rattle.ca_forms.specs.declared.sort.Sort.{Sort}
 use Rattle.ca_forms.specs.declared.sort.Sort.TheVariants.{Bool as Truth}
-use Rattle.ca_forms.specs.Plain.{PlainPart, PlainMonomial, variable, is_less, is_zero, same_pointer, quotient, modulus, field_of, item_of, result_of, own_item}
+use Rattle.ca_forms.specs.Plain.{PlainPart, PlainMonomial, variable, is_less, is_zero, same_pointer, quotient, modulus, field_of, item_of, result_of, own_item, fold_of}
 use Rattle.ca_forms.specs.Lists.{monomial_of, powers_of}
 use Rattle.ca_forms.specs.Compare.{part_cmp}
 
@@ -22,6 +22,7 @@ is_truth (field_of s p c f) = is_truth_sort s
 is_truth (item_of s p c f i) = is_truth_sort s
 is_truth (result_of s m p xs) = is_truth_sort s
 is_truth (own_item s g n i) = is_truth_sort s
+is_truth (fold_of o w xs) = false
 
 -- two powers of one part
 abbrev pub joined : PlainPart × ℕ → PlainPart × ℕ → PlainPart × ℕ

@@ -1,5 +1,5 @@
 -- What parts, pointers and arguments in memory are seen as.
-use Rattle.ca_forms.specs.Plain.{PlainPart, PlainPolynomial, PlainPointer, PlainScalar, variable, is_less, is_zero, same_pointer, quotient, modulus, field_of, item_of, result_of, own_item, no_object, pointer_part, pointer_choice, number_form, truth_form, pointer_form}
+use Rattle.ca_forms.specs.Plain.{PlainPart, PlainPolynomial, PlainPointer, PlainScalar, variable, is_less, is_zero, same_pointer, quotient, modulus, field_of, item_of, result_of, own_item, fold_of, no_object, pointer_part, pointer_choice, number_form, truth_form, pointer_form}
 use Rattle.ca_forms.specs.declared.polynomial.Node.{Node}
 use Rattle.ca_forms.specs.declared.polynomial.Node.TheVariants as node
 use Rattle.ca_forms.specs.declared.polynomial.Unary.{Unary}
@@ -23,6 +23,7 @@ part_of (node.SamePointer p q) = same_pointer p q
 part_of (node.Field s p c f) = field_of s p c f
 part_of (node.Item s p c f i) = item_of s p c f i
 part_of (node.Result s m p xs) = result_of s m p xs
+part_of (node.Fold o w xs) = fold_of o w xs
 
 abbrev pub pointer_of : PointerNode → PlainPointer
 pointer_of pointer.Null = no_object

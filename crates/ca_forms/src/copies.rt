@@ -22,7 +22,7 @@ impl Part {
             Node::Over(_, _) | Node::Less(_, _) => self.copy_operation(alloc),
             Node::SamePointer(_, _) => self.copy_equation(alloc),
             Node::Field(_, _, _, _) | Node::Item(_, _, _, _, _) => self.copy_read(alloc),
-            Node::Result(_, _, _, _) => self.copy_result(alloc),
+            Node::Result(_, _, _, _) | Node::Fold(_, _, _) => self.copy_result(alloc),
         }
     }
 
@@ -82,6 +82,7 @@ impl Part {
                 let (receiver, args) = both(p.copy(alloc), xs.copy(alloc))?;
                 Ok(Node::Result(*s, *m, receiver, args).part())
             }
+            Node::Fold(o, w, xs) => Ok(Node::Fold(*o, *w, xs.copy(alloc)?).part()),
             _ => Err(AllocError),
         }
     }

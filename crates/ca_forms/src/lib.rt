@@ -10,6 +10,7 @@
 pub mod array;
 pub mod array_rules;
 mod copies;
+pub mod folds;
 mod form;
 mod order;
 pub mod parts;

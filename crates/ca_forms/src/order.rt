@@ -50,6 +50,10 @@ impl Part {
                 Ordering::Equal => b.compare(d),
                 order => order,
             },
+            (Node::Fold(_, w, a), Node::Fold(_, v, c)) => match w.cmp(v) {
+                Ordering::Equal => a.compare(c),
+                order => order,
+            },
             _ => Ordering::Equal,
         }
     }
@@ -66,6 +70,7 @@ impl Part {
             Node::Field(s, _, c, f) => (6, *s, *c, *f),
             Node::Item(s, _, c, f, _) => (7, *s, *c, *f),
             Node::Result(s, m, _, _) => (8, *s, *m, 0),
+            Node::Fold(o, _, _) => (10, Sort::Long, o.number(), 0),
         }
     }
 }

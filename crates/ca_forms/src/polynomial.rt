@@ -7,6 +7,7 @@ ghost use Rattle.ca_forms.specs.Lists.{longest, polynomial_of, powers_of, scalar
 ghost use Rattle.ca_forms.specs.Seen.{part_of, pointer_of, scalar_of};
 
 use crate::sort::Sort;
+use ca_folds::FoldOp;
 use std::marker::Model;
 
 /// What isn't taken apart in a normal form. Parts are compared and copied as deep as they nest.
@@ -33,6 +34,9 @@ pub(crate) enum Node {
     Item(Sort, Pointer, u32, u32, Polynomial),
     /// What a value method gives: its sort, its number, the receiver and the arguments.
     Result(Sort, u32, Pointer, Scalars),
+    /// An operator on operands that may stand in any order: the word that those which are words come to, and the
+    /// others in order, each once.
+    Fold(FoldOp, u64, Scalars),
 }
 
 /// What is asked of one number.

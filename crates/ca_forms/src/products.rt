@@ -34,6 +34,7 @@ impl Part {
             Node::Field(s, _, _, _) => is_truth_sort(*s),
             Node::Item(s, _, _, _, _) => is_truth_sort(*s),
             Node::Result(s, _, _, _) => is_truth_sort(*s),
+            Node::Fold(_, _, _) => false,
         }
     }
 }

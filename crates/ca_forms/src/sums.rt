@@ -165,7 +165,7 @@ pub fn difference(alloc: Global, f: &Polynomial, g: &Polynomial) -> Result<Polyn
     both.and(finish(alloc, form))
 }
 
-fn products_in(f: Polynomial) -> Vec<Product>
+pub(crate) fn products_in(f: Polynomial) -> Vec<Product>
     ensures { result.items ≡ products_of f }
 {
     f.products
@@ -190,6 +190,21 @@ fn add_owned(
         add_product(form, monomial, factor.wrapping_mul(coefficient))?;
     }
     Ok(())
+}
+
+/// Adds a polynomial that is not needed any more, times the factor. Nothing is copied: a chain of operands would else be
+/// copied once a level.
+#[inline(never)]
+pub fn add_whole(
+    form: &mut BTreeMap<Monomial, u64>,
+    f: Polynomial,
+    factor: u64,
+) -> Result<(), AllocError>
+    requires { NoZero form.old.entries }
+    ensures nonzero { NoZero form.new.entries }
+    ensures added { OnOk result (AddsSum form.old.entries form.new.entries factor (products_of f)) }
+{
+    add_owned(form, products_in(f), factor)
 }
 
 /// A polynomial and a multiple of another, which are not needed any more. Nothing is copied: a chain of comparisons

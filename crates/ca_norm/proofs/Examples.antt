@@ -4,9 +4,10 @@ use Rattle.std.specs.Int.{int_wrap}
 use Rattle.ca_model.specs.declared.value.Value.TheVariants as datum
 use Rattle.ca_forms.specs.declared.sort.Sort.TheVariants.{Long, Bool as Truth, Pointer, LongArray}
 use Rattle.ca_forms.specs.declared.form.Normal.TheVariants as normal
-use Rattle.ca_forms.specs.Plain.{PlainPolynomial, variable, no_powers, power_and, no_products, product_and, number_form, truth_form, pointer_form, pointer_part}
+use Rattle.ca_folds.specs.declared.operator.FoldOp.TheVariants.{Max, Min, BitAnd, BitOr, BitXor}
+use Rattle.ca_forms.specs.Plain.{PlainPolynomial, PlainPart, PlainScalars, variable, fold_of, no_powers, power_and, no_products, product_and, number_form, truth_form, pointer_form, pointer_part, no_scalars, scalar_and}
 use Rattle.ca_forms.specs.Arrays.{own_items, put_item, with_sums, array_choice}
-use Rattle.ca_norm.specs.Terms.{PlainTerm, number, truth, null, atom, add, sub, mul, divide, remainder, less, same, and, choose, select, put, add_at}
+use Rattle.ca_norm.specs.Terms.{PlainTerm, number, truth, null, atom, add, sub, mul, divide, remainder, less, same, and, choose, select, put, add_at, fold}
 use Rattle.ca_norm.specs.Weights.{spread, weight_of}
 use Rattle.ca_norm.specs.Forms.{norm}
 use Rattle.ca_norm.specs.Meanings.{Valuation, mean, item_mean}
@@ -141,6 +142,37 @@ choice_is_kept : norm (choose c (put a p s) a) ≡ normal.Array (array_choice (p
 unfolding a c p s only
 choice_is_kept = refl
 
+-- operators whose operands may stand in any order: a part alone, and two operands
+part_alone : PlainPart → PlainPolynomial
+part_alone r = product_and (power_and r 1 no_powers) 1 no_products
+
+two : PlainPolynomial → PlainPolynomial → PlainScalars
+two f g = scalar_and (number_form f) (scalar_and (number_form g) no_scalars)
+
+other_operator_inside : norm (fold Max (fold Min s p) q1) ≡ normal.Scalar (number_form (part_alone (fold_of Max 9223372036854775808 (two (only 2 1) (part_alone (fold_of Min 9223372036854775807 (two (only 1 0) (only 3 1))))))))
+unfolding s p q1 only part_alone two
+other_operator_inside = refl
+
+numbers_joined : norm (fold BitAnd (fold BitAnd s (number (pos 6))) (fold BitAnd (number (pos 3)) p)) ≡ normal.Scalar (number_form (part_alone (fold_of BitAnd 2 (two (only 1 0) (only 3 1)))))
+unfolding s p only part_alone two
+numbers_joined = refl
+
+once_only : norm (fold BitOr (fold BitOr s p) s) ≡ norm (fold BitOr p s)
+unfolding s p
+once_only = refl
+
+pair_cancelled : norm (fold BitXor (fold BitXor s p) s) ≡ norm p
+unfolding s p
+pair_cancelled = refl
+
+neutral_dropped : norm (fold BitAnd s (number (negsuc 0))) ≡ norm s
+unfolding s
+neutral_dropped = refl
+
+absorbed : norm (fold BitAnd (fold BitAnd s (number (pos 6))) (number (pos 1))) ≡ norm (number (pos 0))
+unfolding s
+absorbed = refl
+
 -- each atom stands for its number in its group
 numbered : Valuation
 numbered = valuation_of (λ group n. datum.Long (pos n))
@@ -148,6 +180,10 @@ numbered = valuation_of (λ group n. datum.Long (pos n))
 sum_of_numbers : mean numbered (sub (add s (number (pos 7))) p) ≡ datum.Long (pos 8)
 unfolding s p numbered int_wrap
 sum_of_numbers = refl
+
+greatest_of_numbers : mean numbered (fold Max (sub p (number (pos 7))) s) ≡ datum.Long (pos 1)
+unfolding s p numbered int_wrap
+greatest_of_numbers = refl
 
 sum_is_no_pointer : mean numbered (add s null) ≡ datum.Null
 unfolding s numbered int_wrap

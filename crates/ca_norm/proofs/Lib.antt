@@ -9,7 +9,10 @@ pub mod SumsCommute
 pub mod Arrays
 pub mod Pointers
 pub mod Quotients
+pub mod Foldings
 pub mod Shapes
 pub mod Counts
 pub mod BothKnown
 pub mod Known
+pub mod Neat
+pub mod FoldsCommute

@@ -5,7 +5,7 @@ use Rattle.ca_model.specs.declared.value.Value.{Value as Datum}
 use Rattle.ca_model.specs.declared.value.Value.TheVariants as datum
 use Rattle.ca_forms.specs.declared.sort.Sort.{Sort}
 use Rattle.ca_forms.specs.declared.sort.Sort.TheVariants.{Long, Bool as Truth, Pointer, LongArray, BoolArray, PointerArray}
-use Rattle.ca_forms.specs.Plain.{PlainPart, PlainMonomial, variable, is_less, is_zero, same_pointer, quotient, modulus, field_of, item_of, result_of, own_item, no_powers, power_and}
+use Rattle.ca_forms.specs.Plain.{PlainPart, PlainMonomial, variable, is_less, is_zero, same_pointer, quotient, modulus, field_of, item_of, result_of, own_item, fold_of, no_powers, power_and}
 use Rattle.ca_forms.specs.Lists.{monomial_of, powers_of}
 use Rattle.ca_forms.specs.Compare.{part_cmp}
 use Rattle.ca_forms.specs.Products.{is_truth, is_truth_sort, joined, merge_in, merge, times}
@@ -56,6 +56,7 @@ module _ (v : Valuation) where
   truth_twice (field_of s p c f) e = sort_twice s _ e (v.read_sorted s (pointer_mean v p) c f)
   truth_twice (item_of s p c f i) e = sort_twice s _ e (v.read_at_sorted s (pointer_mean v p) c f (number_in (polynomial_value v i)))
   truth_twice (result_of s m p xs) e = sort_twice s _ e (v.result_sorted s m (pointer_mean v p) (scalars_mean v xs))
+  truth_twice (fold_of o w xs) e = absurd cc
   truth_twice (own_item s g n i) e = sort_twice s _ e (v.item_sorted s g n (index_in (polynomial_value v i)))
 
   joined_at : (b : Bool) (p : PlainPart) (d e : ℕ) → is_truth p ≡ b → power b (part_value v p) (cond b d (d + e)) ≡ power b (part_value v p) d * power b (part_value v p) e

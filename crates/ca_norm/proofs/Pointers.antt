@@ -7,7 +7,7 @@ use Rattle.ca_model.specs.declared.value.Value.TheVariants as datum
 use Rattle.ca_meaning.specs.Operators.{same_value}
 use Rattle.ca_forms.specs.declared.sort.Sort.{Sort}
 use Rattle.ca_forms.specs.declared.sort.Sort.TheVariants.{Long, Bool as Truth, Pointer, LongArray, BoolArray, PointerArray}
-use Rattle.ca_forms.specs.Plain.{PlainPart, PlainPolynomial, PlainPointer, variable, is_less, is_zero, same_pointer, quotient, modulus, field_of, item_of, result_of, own_item, no_object, pointer_part, pointer_choice}
+use Rattle.ca_forms.specs.Plain.{PlainPart, PlainPolynomial, PlainPointer, variable, is_less, is_zero, same_pointer, quotient, modulus, field_of, item_of, result_of, own_item, fold_of, no_object, pointer_part, pointer_choice}
 use Rattle.ca_forms.specs.Compare.{pointer_cmp}
 use Rattle.ca_forms.specs.Rules.{constancy, is_pointer_sort, is_receiver_part, is_receiver, is_no_object, differ, unless_false, same_pointers_at, same_pointers, chosen_kind, chosen_pointer_at, chosen_pointer}
 use Rattle.ca_forms.proofs.Exact.{pointer_same}
@@ -86,6 +86,7 @@ module _ (v : Valuation) where
   receiver_part (item_of s p c f i) e = absurd cc
   receiver_part (result_of s m p xs) e = absurd cc
   receiver_part (own_item s g n i) e = absurd cc
+  receiver_part (fold_of o w xs) e = absurd cc
 
   receiver_means : (p : PlainPointer) → is_receiver p ≡ true → IsObject (pointer_mean v p)
   receiver_means no_object e = absurd cc

@@ -50,7 +50,7 @@ times_one : (c : ℕ) → c * 1 + 0 ≡ c
 times_one c = omega arith
 
 module _ (v : Valuation) where
-  polynomial_sum : (ps : Sum PlainMonomial) → polynomial_value v (polynomial_of ps) ≡ total (monomial_value v) ps
+  pub polynomial_sum : (ps : Sum PlainMonomial) → polynomial_value v (polynomial_of ps) ≡ total (monomial_value v) ps
   polynomial_sum [] = refl
   polynomial_sum (p ∷ ps) = ap (λ k. p.1 * monomial_value v p.0 + k) (polynomial_sum ps)
 

@@ -14,7 +14,7 @@ use Rattle.ca_forms.specs.ArrayRules.{products_in, pointer_in}
 use Rattle.ca_sums.specs.Sums.{Sum, total, Alike, scale}
 use Rattle.ca_sums.specs.Products.{product}
 use Rattle.ca_sums.proofs.Algebra.{alike_refl, alike_eq, alike_sym, alike_trans, alike_add, alike_mul, total_append, total_scale}
-use Rattle.ca_norm.specs.Terms.{PlainTerm, PlainTerms, number, truth, null, atom, add, sub, neg, mul, divide, remainder, less, less_equal, same, not, and, or, choose, read, read_at, result, select, put, add_at, no_terms, term_and, sort_of, item_sort, IsWord, IsScalar, IsArray, IsOf, AreSorted}
+use Rattle.ca_norm.specs.Terms.{PlainTerm, PlainTerms, number, truth, null, atom, add, sub, neg, mul, divide, remainder, less, less_equal, same, not, and, or, choose, read, read_at, result, select, put, add_at, fold, no_terms, term_and, sort_of, item_sort, IsWord, IsScalar, IsArray, IsOf, AreSorted}
 use Rattle.ca_norm.specs.Forms.{expand, pointer_of, arguments_of, same_sum, scalar_at, array_of, form_at, norm}
 use Rattle.ca_meaning.specs.Operators.{signed, same_int, same_value}
 use Rattle.ca_norm.specs.Meanings.{Valuation, IsOfSort, operate, chosen, number_of, mean, item_mean, means as means_all, bit, word_of, number_in, truth_in, index_in, polynomial_value, monomial_value, pointer_mean, scalar_mean, scalars_mean, array_item, form_mean, form_item}
@@ -23,6 +23,8 @@ use Rattle.ca_norm.proofs.Operations.{IsLong, IsTruth, IsTyped, sort_typed, wrap
 use Rattle.ca_norm.proofs.Rules.{gathered_value, alone_value, truth_value, less_value, zero_value, quotient_value, modulus_value, product_value, minus_value, equal_words}
 use Rattle.ca_norm.proofs.Pointers.{same_pointers_value, chosen_pointer_means}
 use Rattle.ca_norm.proofs.Arrays.{bit_small, bit_one, cond_typed, Told, PutTyped, FormTyped, products_value, added_typed, added_item, chosen_array_typed, chosen_array_item, selected_value, selected_pointer_value}
+use Rattle.ca_forms.specs.Folds.{fold_form}
+use Rattle.ca_norm.proofs.Foldings.{folded_typed, folded_word, fold_form_value}
 use Rattle.ca_norm.proofs.Quotients.{quotient_typed, remainder_typed, quotient_word, remainder_word}
 
 times_one : (k : ℕ) → k ≡ k * 1 + 0
@@ -80,6 +82,7 @@ array_term r (same a b) w i = absurd (no_array r Truth i.0 tt w)
 array_term r (not a) w i = absurd (no_array r Truth i.0 tt w)
 array_term r (and a b) w i = absurd (no_array r Truth i.0 tt w)
 array_term r (or a b) w i = absurd (no_array r Truth i.0 tt w)
+array_term r (fold o a b) w i = absurd (no_array r Long i.0 tt w)
 array_term r (read s p c f) w i = absurd (no_array r s (sym i.0) i.1 w)
 array_term r (read_at s p c f j) w i = absurd (no_array r s (sym i.0) i.1 w)
 array_term r (result s m p ts) w i = absurd (no_array r s (sym i.0) i.1 w)
@@ -106,6 +109,7 @@ sort_is s (same a b) i = sym i.0
 sort_is s (not a) i = sym i.0
 sort_is s (and a b) i = sym i.0
 sort_is s (or a b) i = sym i.0
+sort_is s (fold o a b) i = sym i.0
 sort_is s (choose c a b) i = sort_is s a i.1
 sort_is s (read r p c f) i = i.0
 sort_is s (read_at r p c f j) i = i.0
@@ -163,6 +167,7 @@ module _ (v : Valuation) where
     typed s (not a) i = subst (λ z. IsTyped z (mean v (not a))) (sym i.0) (let g = typed Truth a i.1 in record { truth = _; is = ap (signed sign.Not) g.is })
     typed s (and a b) i = subst (λ z. IsTyped z (mean v (and a b))) (sym i.0) (let g = typed Truth a i.1 in let h = typed Truth b i.2 in record { truth = _; is = ap₂ (operate op.And) g.is h.is })
     typed s (or a b) i = subst (λ z. IsTyped z (mean v (or a b))) (sym i.0) (let g = typed Truth a i.1 in let h = typed Truth b i.2 in record { truth = _; is = ap₂ (operate op.Or) g.is h.is })
+    typed s (fold o a b) i = subst (λ z. IsTyped z (mean v (fold o a b))) (sym i.0) (folded_typed o (mean v a) (mean v b) (typed Long a i.1) (typed Long b i.2))
     typed s (choose c a b) i = chosen_typed s (mean v c) (mean v a) (mean v b) (typed Truth c i.0) (typed s a i.1) (typed s b i.2)
     typed s (read r p c f) i = sort_typed s _ (subst (λ z. IsOfSort z (v.read r (mean v p) c f)) i.0 (v.read_sorted r (mean v p) c f))
     typed s (read_at r p c f j) i = sort_typed s _ (subst (λ z. IsOfSort z (v.read_at r (mean v p) c f (mean v j))) i.0 (v.read_at_sorted r (mean v p) c f (mean v j)))
@@ -302,6 +307,11 @@ module _ (v : Valuation) where
         let is = array_means r a i.0 i.2 in
         let k : index_in (polynomial_value v (gathered (expand j))) ≡ number_of (mean v j) = ap number_of (number_given j i.3 (λ u. expand_means Long j u i.3)) in
         alike_trans (alike_eq (ap (λ z. word_of (item_mean v a z)) (sym k) ∙ ap word_of (sym (is.1 _)))) (alike_sym (selected_value v (item_sort r) (array_of a) (gathered (expand j)) word is.0))
+    expand_means s (fold o a b) w i =
+        let f : PlainPolynomial = gathered (expand a) in
+        let g : PlainPolynomial = gathered (expand b) in
+        alike_trans (alike_eq (folded_word o (mean v a) (mean v b) _ _ (typed Long a i.1) (typed Long b i.2) (given a (expand_means Long a tt i.1)) (given b (expand_means Long b tt i.2))))
+        (alike_trans (alike_sym (fold_form_value v o f g)) (alike_eq (sym (products_value v (fold_form o f g)))))
     expand_means s (put a j x) w i = absurd (scalar_no_array s (word_scalar s w) i.0)
     expand_means s (add_at a j x) w i = absurd (subst IsWord i.0 w)
 
@@ -329,6 +339,7 @@ module _ (v : Valuation) where
     pointer_means (not a) i = absurd (subst IsWord (sym i.0) tt)
     pointer_means (and a b) i = absurd (subst IsWord (sym i.0) tt)
     pointer_means (or a b) i = absurd (subst IsWord (sym i.0) tt)
+    pointer_means (fold o a b) i = absurd (subst IsWord (sym i.0) tt)
     pointer_means (select a j) i =
         let r : Sort = sort_of a in
         let is = array_means r a i.0 i.2 in

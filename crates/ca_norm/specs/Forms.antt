@@ -15,10 +15,11 @@ use Rattle.ca_forms.specs.Lists.{products_of}
 use Rattle.ca_forms.specs.Compare.{monomial_cmp}
 use Rattle.ca_forms.specs.Products.{times}
 use Rattle.ca_forms.specs.Rules.{alone, constant, truth_sum, minus, negated, either, chosen, gathered, less_sum, same_numbers, same_truths, same_pointers, quotient_sum, modulus_sum, chosen_pointer}
+use Rattle.ca_forms.specs.Folds.{fold_form}
 use Rattle.ca_forms.specs.ArrayRules.{added_at, chosen_array, selected, selected_pointer}
 use Rattle.ca_sums.specs.Sums.{Sum, total, is_tied, NoZero}
 use Rattle.ca_sums.specs.Products.{product}
-use Rattle.ca_norm.specs.Terms.{PlainTerm, PlainTerms, number, truth, atom, add, sub, neg, mul, divide, remainder, less, less_equal, same, not, and, or, choose, read, read_at, result, select, put, add_at, no_terms, term_and, sort_of, item_sort}
+use Rattle.ca_norm.specs.Terms.{PlainTerm, PlainTerms, number, truth, atom, add, sub, neg, mul, divide, remainder, less, less_equal, same, not, and, or, choose, read, read_at, result, select, put, add_at, fold, no_terms, term_and, sort_of, item_sort}
 
 -- `same` by the sort of its sides, from what these are as words and as pointers
 abbrev pub same_sum : Sort → Sum PlainMonomial → Sum PlainMonomial → PlainPointer → PlainPointer → Sum PlainMonomial
@@ -56,6 +57,7 @@ abbrev mutual
   expand (read_at sort p c f i) = alone (item_of sort (pointer_of p) c f (gathered (expand i)))
   expand (result sort m p ts) = alone (result_of sort m (pointer_of p) (arguments_of ts))
   expand (select a i) = selected (array_of a) (gathered (expand i))
+  expand (fold o a b) = products_of (fold_form o (gathered (expand a)) (gathered (expand b)))
   expand t = []
 
   -- The form of a pointer; any other term has that of null.
@@ -125,6 +127,10 @@ is_division t = false
 abbrev pub is_selection : PlainTerm → Bool
 is_selection (select a i) = true
 is_selection t = false
+
+abbrev pub is_folding : PlainTerm → Bool
+is_folding (fold o a b) = true
+is_folding t = false
 
 -- the term's products, if it is of the kind
 abbrev pub expand_if : Bool → PlainTerm → Sum PlainMonomial

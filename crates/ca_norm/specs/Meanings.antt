@@ -12,11 +12,13 @@ use Rattle.ca_forms.specs.declared.sort.Sort.{Sort}
 use Rattle.ca_forms.specs.declared.sort.Sort.TheVariants.{Long, Bool as Truth, Pointer, LongArray, BoolArray, PointerArray}
 use Rattle.ca_forms.specs.declared.form.Normal.{Normal}
 use Rattle.ca_forms.specs.declared.form.Normal.TheVariants as normal
-use Rattle.ca_forms.specs.Plain.{PlainPart, PlainPolynomial, PlainMonomial, PlainPointer, PlainScalar, PlainScalars, variable, is_less, is_zero, same_pointer, quotient, modulus, field_of, item_of, result_of, own_item, no_products, product_and, no_powers, power_and, no_object, pointer_part, pointer_choice, number_form, truth_form, pointer_form, no_scalars, scalar_and}
+use Rattle.ca_forms.specs.Plain.{PlainPart, PlainPolynomial, PlainMonomial, PlainPointer, PlainScalar, PlainScalars, variable, is_less, is_zero, same_pointer, quotient, modulus, field_of, item_of, result_of, own_item, fold_of, no_products, product_and, no_powers, power_and, no_object, pointer_part, pointer_choice, number_form, truth_form, pointer_form, no_scalars, scalar_and}
 use Rattle.ca_forms.specs.Arrays.{PlainRows, PlainArray, own_items, put_item, with_sums, array_choice}
 use Rattle.ca_forms.specs.Products.{is_truth}
 use Rattle.ca_forms.specs.Rules.{is_below, divided, left_over}
-use Rattle.ca_norm.specs.Terms.{PlainTerm, PlainTerms, number, truth, atom, add, sub, neg, mul, divide, remainder, less, less_equal, same, not, and, or, choose, read, read_at, result, select, put, add_at, no_terms, term_and, item_sort}
+use Rattle.ca_folds.specs.declared.operator.FoldOp.{FoldOp}
+use Rattle.ca_folds.specs.Operators.{folded_longs, folded, neutral}
+use Rattle.ca_norm.specs.Terms.{PlainTerm, PlainTerms, number, truth, atom, add, sub, neg, mul, divide, remainder, less, less_equal, same, not, and, or, choose, read, read_at, result, select, put, add_at, fold, no_terms, term_and, item_sort}
 
 -- An array is no single value and stands as null; its items have values of their own.
 abbrev pub IsOfSort : Sort → Datum → Type 0
@@ -58,6 +60,11 @@ value_or_null (Err kind) = datum.Null
 abbrev pub operate : BinaryOp → Datum → Datum → Datum
 operate op a b = value_or_null (operated op a b)
 
+-- what an operator gives whose operands may stand in any order
+abbrev pub folded_values : FoldOp → Datum → Datum → Datum
+folded_values o (datum.Long a) (datum.Long b) = datum.Long (folded_longs o a b)
+folded_values o a b = datum.Null
+
 abbrev pub chosen : Datum → Datum → Datum → Datum
 chosen (datum.Bool true) a b = a
 chosen c a b = b
@@ -90,6 +97,7 @@ abbrev mutual
   mean v (read_at sort p c f i) = v.read_at sort (mean v p) c f (mean v i)
   mean v (result sort m p ts) = v.result sort m (mean v p) (means v ts)
   mean v (select a i) = item_mean v a (number_of (mean v i))
+  mean v (fold o a b) = folded_values o (mean v a) (mean v b)
   mean v t = datum.Null
 
   -- the item of an array at a number
@@ -143,6 +151,7 @@ abbrev mutual
   part_value v (item_of sort p c f i) = word_of (v.read_at sort (pointer_mean v p) c f (number_in (polynomial_value v i)))
   part_value v (result_of sort m p xs) = word_of (v.result sort m (pointer_mean v p) (scalars_mean v xs))
   part_value v (own_item sort group n i) = word_of (v.item sort group n (index_in (polynomial_value v i)))
+  part_value v (fold_of o w xs) = folded o w (scalars_worth v o xs)
 
   -- each monomial's value times its coefficient, summed
   pub polynomial_value : Valuation → PlainPolynomial → ℕ
@@ -152,6 +161,16 @@ abbrev mutual
   pub monomial_value : Valuation → PlainMonomial → ℕ
   monomial_value v no_powers = 1
   monomial_value v (power_and p e m) = power (is_truth p) (part_value v p) e * monomial_value v m
+
+  -- a form as a word, and what operands come to
+  pub scalar_value : Valuation → PlainScalar → ℕ
+  scalar_value v (number_form f) = polynomial_value v f
+  scalar_value v (truth_form f) = polynomial_value v f
+  scalar_value v (pointer_form p) = 0
+
+  pub scalars_worth : Valuation → FoldOp → PlainScalars → ℕ
+  scalars_worth v o no_scalars = neutral o
+  scalars_worth v o (scalar_and x xs) = folded o (scalar_value v x) (scalars_worth v o xs)
 
   -- a part that is a pointer
   pub part_mean : Valuation → PlainPart → Datum

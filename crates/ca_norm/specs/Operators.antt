@@ -5,7 +5,7 @@ use Rattle.ca_norm.specs.declared.operators.Binary.{Binary}
 use Rattle.ca_norm.specs.declared.operators.Binary.TheVariants as binary
 use Rattle.ca_norm.specs.declared.operators.Ternary.{Ternary}
 use Rattle.ca_norm.specs.declared.operators.Ternary.TheVariants as ternary
-use Rattle.ca_norm.specs.Terms.{PlainTerm, add, sub, neg, mul, divide, remainder, less, less_equal, same, not, and, or, choose, select, put, add_at}
+use Rattle.ca_norm.specs.Terms.{PlainTerm, add, sub, neg, mul, divide, remainder, less, less_equal, same, not, and, or, choose, select, put, add_at, fold}
 
 abbrev pub over_one : Unary → PlainTerm → PlainTerm
 over_one unary.Neg a = neg a
@@ -23,6 +23,7 @@ over_two binary.Same a b = same a b
 over_two binary.And a b = and a b
 over_two binary.Or a b = or a b
 over_two binary.Select a i = select a i
+over_two (binary.Fold o) a b = fold o a b
 
 abbrev pub over_three : Ternary → PlainTerm → PlainTerm → PlainTerm → PlainTerm
 over_three ternary.Choose c a b = choose c a b

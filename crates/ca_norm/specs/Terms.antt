@@ -3,6 +3,7 @@ use Rattle.std.specs.Prelude.{ℕ, ℤ, pos, ◌≡◌, ◌≢◌, Bool, FitsSig
 use Rattle.std.specs.Int.{w64}
 use Rattle.ca_forms.specs.declared.sort.Sort.{Sort}
 use Rattle.ca_forms.specs.declared.sort.Sort.TheVariants.{Long, Bool as Truth, Pointer, LongArray, BoolArray, PointerArray}
+use Rattle.ca_folds.specs.declared.operator.FoldOp.{FoldOp}
 use Rattle.ca_norm.specs.declared.term.Term.{Term, Row_of-Term, end_of-Term, more_of-Term}
 use Rattle.ca_norm.specs.declared.term.Term.TheVariants as term
 
@@ -36,6 +37,8 @@ mutual
     -- an array with another item at an index, and with an addend at its item there
     put : PlainTerm → PlainTerm → PlainTerm → PlainTerm
     add_at : PlainTerm → PlainTerm → PlainTerm → PlainTerm
+    -- an operator whose operands may stand in any order
+    fold : FoldOp → PlainTerm → PlainTerm → PlainTerm
 
   pub data PlainTerms : Type 0 where
     no_terms : PlainTerms
@@ -66,6 +69,7 @@ abbrev mutual
   shape (term.Select' p a q i) = select (shape a) (shape i)
   shape (term.Put' p a q i r v) = put (shape a) (shape i) (shape v)
   shape (term.AddAt' p a q i r v) = add_at (shape a) (shape i) (shape v)
+  shape (term.Fold' o p a q b) = fold o (shape a) (shape b)
 
   pub row_shape : {m : _} → Row_of-Term m → PlainTerms
   row_shape end_of-Term = no_terms
@@ -106,6 +110,7 @@ sort_of (result sort m p ts) = sort
 sort_of (select a i) = item_sort (sort_of a)
 sort_of (put a i v) = sort_of a
 sort_of (add_at a i v) = sort_of a
+sort_of (fold o a b) = Long
 
 -- numbers and truth values
 abbrev pub IsWord : Sort → Type 0
@@ -153,6 +158,7 @@ abbrev mutual
   IsOf sort (select a i) = IsArray (sort_of a) × (sort ≡ item_sort (sort_of a)) × IsOf (sort_of a) a × IsOf Long i
   IsOf sort (put a i x) = IsArray sort × IsOf sort a × IsOf Long i × IsOf (item_sort sort) x
   IsOf sort (add_at a i x) = (sort ≡ LongArray) × IsOf LongArray a × IsOf Long i × IsOf Long x
+  IsOf sort (fold o a b) = (sort ≡ Long) × IsOf Long a × IsOf Long b
 
   pub AreSorted : PlainTerms → Type 0
   AreSorted no_terms = Unit {0}

@@ -2,7 +2,7 @@
 use Rattle.std.specs.Prelude.{ℕ, ◌+◌, ◌*◌, max}
 use Rattle.ca_forms.specs.declared.sort.Sort.{Sort}
 use Rattle.ca_forms.specs.declared.sort.Sort.TheVariants.{Bool as Truth}
-use Rattle.ca_norm.specs.Terms.{PlainTerm, PlainTerms, number, truth, null, atom, add, sub, neg, mul, divide, remainder, less, less_equal, same, not, and, or, choose, read, read_at, result, select, put, add_at, no_terms, term_and, sort_of}
+use Rattle.ca_norm.specs.Terms.{PlainTerm, PlainTerms, number, truth, null, atom, add, sub, neg, mul, divide, remainder, less, less_equal, same, not, and, or, choose, read, read_at, result, select, put, add_at, fold, no_terms, term_and, sort_of}
 
 -- what the products of the two sides of `same` come to, by their sort
 abbrev pub same_spread : Sort → ℕ → ℕ → ℕ
@@ -35,6 +35,7 @@ abbrev mutual
   spread (select a i) = 1 + spread i * share a
   spread (put a i v) = spread a + spread i + spread v
   spread (add_at a i v) = spread a + spread i + spread v
+  spread (fold o a b) = spread a + spread b
 
   pub spreads : PlainTerms → ℕ
   spreads no_terms = 0
@@ -72,6 +73,7 @@ abbrev mutual
   nodes (select a i) = 1 + nodes a + nodes i
   nodes (put a i v) = 1 + nodes a + nodes i + nodes v
   nodes (add_at a i v) = 1 + nodes a + nodes i + nodes v
+  nodes (fold o a b) = 1 + nodes a + nodes b
 
   pub all_nodes : PlainTerms → ℕ
   all_nodes no_terms = 0
@@ -103,6 +105,7 @@ abbrev mutual
   depth (select a i) = 1 + max (depth a) (depth i)
   depth (put a i v) = 1 + max (max (depth a) (depth i)) (depth v)
   depth (add_at a i v) = 1 + max (max (depth a) (depth i)) (depth v)
+  depth (fold o a b) = 1 + max (depth a) (depth b)
 
   pub most_depth : PlainTerms → ℕ
   most_depth no_terms = 0

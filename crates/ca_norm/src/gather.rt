@@ -6,13 +6,14 @@ ghost use Rattle.ca_forms.specs.Lists.{products_of};
 ghost use Rattle.ca_norm.specs.Terms.{shape, terms_of};
 ghost use Rattle.ca_forms.specs.Plain.{pointer_part};
 ghost use Rattle.ca_forms.specs.Rules.{alone, gathered};
-ghost use Rattle.ca_norm.specs.Forms.{expand, expand_if, is_linear, is_product, is_comparison, is_equation, is_choice, is_division, is_selection, part_of, pointer_of, array_of, scalar_of, arguments_of};
+ghost use Rattle.ca_norm.specs.Forms.{expand, expand_if, is_linear, is_product, is_comparison, is_equation, is_choice, is_division, is_selection, is_folding, part_of, pointer_of, array_of, scalar_of, arguments_of};
 
 use crate::items::{add_item_of, pointer_of_item};
 use crate::term::{Term, item_sort};
 use ca_forms::Sort;
 use ca_forms::array::Array;
 use ca_forms::array_rules::chosen_array;
+use ca_forms::folds::fold_form;
 use ca_forms::parts::{add, both};
 use ca_forms::pointers::{add_same_pointers, chosen_pointer};
 use ca_forms::polynomial::{Monomial, Part, Pointer, Polynomial, Scalar, Scalars};
@@ -20,7 +21,7 @@ use ca_forms::rules::{
     add_chosen, add_either, add_less, add_modulus, add_number, add_part, add_quotient, add_same,
     add_same_truths, add_truth,
 };
-use ca_forms::sums::{add_product_of, finish};
+use ca_forms::sums::{add_product_of, add_whole, finish};
 use std::alloc::{AllocError, Global};
 use std::collections::BTreeMap;
 
@@ -62,6 +63,7 @@ fn add_term(
             alloc, form, term, factor,
         ),
         Term::Select(_, _) => add_selected(alloc, form, term, factor),
+        Term::Fold(_, _, _) => add_folded(alloc, form, term, factor),
         Term::Null | Term::Put(_, _, _) | Term::AddAt(_, _, _) => Ok(()),
     }
 }
@@ -261,6 +263,29 @@ fn add_selected(
                 polynomial_of(alloc, i),
                 factor,
             )
+        }
+        _ => Ok(()),
+    }
+}
+
+/// Adds an operator whose operands may stand in any order, times the factor; nothing for any other term.
+#[cycle(normal)]
+#[inline(never)]
+fn add_folded(
+    alloc: Global,
+    form: &mut BTreeMap<Monomial, u64>,
+    term: &Term,
+    factor: u64,
+) -> Result<(), AllocError>
+    requires { NoZero form.old.entries }
+    ensures nonzero { NoZero form.new.entries }
+    ensures added { OnOk result (AddsSum form.old.entries form.new.entries factor (expand_if (is_folding (shape term.now)) (shape term.now))) }
+{
+    match term {
+        Term::Fold(op, a, b) => {
+            let (f, g) = both(polynomial_of(alloc, a), polynomial_of(alloc, b))?;
+            let whole = fold_form(alloc, *op, f, g)?;
+            add_whole(form, whole, factor)
         }
         _ => Ok(()),
     }

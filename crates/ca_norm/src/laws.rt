@@ -1,7 +1,9 @@
 //! Laws of normal forms.
 
-ghost use Rattle.std.specs.Prelude.{◌≡◌, ℤ};
-ghost use Rattle.ca_norm.specs.Terms.{PlainTerm, add_at, IsWord, IsArray, IsOf, sort_of};
+ghost use Rattle.std.specs.Prelude.{◌≡◌, ℤ, false};
+ghost use Rattle.ca_folds.specs.declared.operator.FoldOp.{FoldOp};
+ghost use Rattle.ca_folds.specs.Operators.{cancels};
+ghost use Rattle.ca_norm.specs.Terms.{PlainTerm, add_at, fold, IsWord, IsArray, IsOf, sort_of};
 ghost use Rattle.ca_norm.specs.Forms.{norm, SamePolynomial, IsPolynomialOf};
 ghost use Rattle.ca_norm.specs.Meanings.{Valuation, mean, item_mean, form_mean, form_item};
 
@@ -38,4 +40,19 @@ pub fn same_items()
 /// Two sums at items have one normal form in either order, whatever the indexes are.
 pub fn sums_commute()
     ensures { (a i x j y : PlainTerm) → norm (add_at (add_at a i x) j y) ≡ norm (add_at (add_at a j y) i x) }
+{}
+
+/// The operands of an operator whose operands may stand in any order have one normal form in either order.
+pub fn folds_commute()
+    ensures { (o : FoldOp) (a b : PlainTerm) → norm (fold o a b) ≡ norm (fold o b a) }
+{}
+
+/// However they are nested, they have one normal form.
+pub fn folds_associate()
+    ensures { (o : FoldOp) (a b c : PlainTerm) → norm (fold o (fold o a b) c) ≡ norm (fold o a (fold o b c)) }
+{}
+
+/// An operand that stands twice stands once, where two equal ones don't cancel.
+pub fn repeats_vanish()
+    ensures { (o : FoldOp) (t a : PlainTerm) → cancels o ≡ false → norm (fold o (fold o t a) a) ≡ norm (fold o t a) }
 {}

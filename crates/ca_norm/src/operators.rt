@@ -5,6 +5,7 @@ ghost use Rattle.ca_norm.specs.Terms.{shape};
 ghost use Rattle.ca_norm.specs.Operators.{over_one, over_two, over_three};
 
 use crate::term::Term;
+use ca_folds::FoldOp;
 use std::alloc::AllocError;
 
 /// An operator on one term.
@@ -28,6 +29,7 @@ pub enum Binary {
     And,
     Or,
     Select,
+    Fold(FoldOp),
 }
 
 /// An operator on three terms.
@@ -75,6 +77,7 @@ impl Term {
             Binary::And => Ok(Term::And(a, b)),
             Binary::Or => Ok(Term::Or(a, b)),
             Binary::Select => Ok(Term::Select(a, b)),
+            Binary::Fold(o) => Ok(Term::Fold(o, a, b)),
         }
     }
 

@@ -4,6 +4,7 @@ ghost use Rattle.std.specs.Prelude.{◌≡◌, IfOk};
 ghost use Rattle.ca_forms.specs.declared.sort.Sort.{Sort};
 ghost use Rattle.ca_norm.specs.Terms.{PlainTerm, add, sub, shape, sort_of, item_sort};
 
+use ca_folds::FoldOp;
 use ca_forms::Sort;
 use ca_forms::parts::two_boxes;
 use std::alloc::{AllocError, Global};
@@ -46,6 +47,8 @@ pub enum Term {
     Put(Box<Term>, Box<Term>, Box<Term>),
     /// An array of numbers with an addend at the item at an index.
     AddAt(Box<Term>, Box<Term>, Box<Term>),
+    /// An operator on two numbers, of those whose operands may stand in any order.
+    Fold(FoldOp, Box<Term>, Box<Term>),
 }
 
 impl Term {
@@ -72,7 +75,7 @@ impl Term {
         match self {
             Term::Number(_) | Term::Neg(_) | Term::Divide(_, _) | Term::Remainder(_, _) =>
                 Sort::Long,
-            Term::Add(_, _) | Term::Sub(_, _) | Term::Mul(_, _) => Sort::Long,
+            Term::Add(_, _) | Term::Sub(_, _) | Term::Mul(_, _) | Term::Fold(_, _, _) => Sort::Long,
             Term::Truth(_) | Term::Not(_) | Term::And(_, _) | Term::Or(_, _) => Sort::Bool,
             Term::Less(_, _) | Term::LessEqual(_, _) | Term::Same(_, _) => Sort::Bool,
             Term::Null => Sort::Pointer,

@@ -229,6 +229,7 @@ fn measure_of(term: &Term) -> Measure
         Term::Sub(a, b) => measure_of(a).sum(measure_of(b)),
         Term::Less(a, b) => measure_of(a).sum(measure_of(b)),
         Term::LessEqual(a, b) => measure_of(a).sum(measure_of(b)),
+        Term::Fold(_, a, b) => measure_of(a).sum(measure_of(b)),
         Term::Mul(a, b) => measure_of(a).product(measure_of(b)),
         Term::And(a, b) => measure_of(a).product(measure_of(b)),
         Term::Or(a, b) => measure_of(a).either(measure_of(b)),

@@ -4,7 +4,7 @@ use Rattle.std.proofs.Math.Nat.{mul-pos, le-mul_of_pos_right}
 use Rattle.std.proofs.lemmas.Bool.{lt-ltb, ltb-true}
 use Rattle.ca_forms.specs.declared.sort.Sort.{Sort}
 use Rattle.ca_forms.specs.declared.sort.Sort.TheVariants.{Bool as Truth}
-use Rattle.ca_norm.specs.Terms.{PlainTerm, number, truth, null, atom, add, sub, neg, mul, divide, remainder, less, less_equal, same, not, and, or, choose, read, read_at, result, select, put, add_at, sort_of}
+use Rattle.ca_norm.specs.Terms.{PlainTerm, number, truth, null, atom, add, sub, neg, mul, divide, remainder, less, less_equal, same, not, and, or, choose, read, read_at, result, select, put, add_at, fold, sort_of}
 use Rattle.ca_norm.specs.Weights.{same_spread, spread, share, nodes, depth, weight_of}
 use Rattle.ca_shared_terms.specs.Heavy.{is_heavy}
 
@@ -38,6 +38,7 @@ mutual
   some_spread (select a i) = omega arith
   some_spread (put a i x) = omega (arith, some_spread a)
   some_spread (add_at a i x) = omega (arith, some_spread a)
+  some_spread (fold o a b) = omega (arith, some_spread a)
 
 pub some_share : (t : PlainTerm) → 0 < share t
 some_share (put a i x) = omega (arith, some_share a)
@@ -63,6 +64,7 @@ some_share (read s p c f) = omega arith
 some_share (read_at s p c f i) = omega arith
 some_share (result s m p ts) = omega arith
 some_share (select a i) = omega arith
+some_share (fold o a b) = omega arith
 
 -- a term that is no smaller in each of the three numbers
 pub heavier : (t u : PlainTerm) → spread t ≤ spread u → nodes t ≤ nodes u → depth t ≤ depth u → is_heavy t ≡ true → is_heavy u ≡ true

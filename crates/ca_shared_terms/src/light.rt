@@ -2,12 +2,13 @@
 
 ghost use Rattle.std.specs.Prelude.{◌≡◌, false, true, IfOk};
 ghost use Rattle.ca_forms.specs.declared.sort.Sort.{Sort};
-ghost use Rattle.ca_norm.specs.Terms.{number, truth, null, atom, add, sub, neg, mul, divide, remainder, less, less_equal, same, not, and, or, choose, read, read_at, result as call_result, select, put, add_at, sort_of, item_sort, terms_of};
+ghost use Rattle.ca_norm.specs.Terms.{number, truth, null, atom, add, sub, neg, mul, divide, remainder, less, less_equal, same, not, and, or, choose, read, read_at, result as call_result, select, put, add_at, fold, sort_of, item_sort, terms_of};
 ghost use Rattle.ca_norm.specs.Measures.{Measures, MeasuresAll};
 ghost use Rattle.ca_shared_terms.specs.Nodes.{node_of};
 ghost use Rattle.ca_shared_terms.specs.Heavy.{is_heavy};
 
 use crate::errors::ExecutionError;
+use ca_folds::FoldOp;
 use ca_forms::parts::let_go;
 use ca_norm::{MOST_WEIGHT, Measure, Sort};
 use std::alloc::{AllocError, Global};
@@ -57,6 +58,7 @@ pub(crate) enum Node {
     Select(LightTerm, LightTerm),
     Put(LightTerm, LightTerm, LightTerm),
     AddAt(LightTerm, LightTerm, LightTerm),
+    Fold(FoldOp, LightTerm, LightTerm),
 }
 
 impl Model for LightTerm {
@@ -421,6 +423,21 @@ impl LightTerm {
         LightTerm::made(alloc, Node::AddAt(self, index, addend), measure)
     }
 
+    /// An operator on two numbers, of those whose operands may stand in any order.
+    pub fn folded(
+        alloc: Global,
+        operator: FoldOp,
+        a: LightTerm,
+        b: LightTerm,
+    ) -> Result<LightTerm, ExecutionError>
+        ensures made { IfOk result (λ t. t ≡ fold operator a b) }
+        ensures light { IfOk result (λ _. is_heavy (fold operator a b) ≡ false) }
+        ensures large { result ≡ Err ExecutionError.Large → is_heavy (fold operator a b) ≡ true }
+    {
+        let measure = a.measure.sum(b.measure);
+        LightTerm::made(alloc, Node::Fold(operator, a, b), measure)
+    }
+
     /// The same term once more, which takes no memory; it fails where it is shared too often to be counted.
     pub fn share(&self) -> Result<LightTerm, AllocError>
         ensures same { IfOk result (λ t. t ≡ self.now) }
@@ -440,7 +457,7 @@ impl LightTerm {
         match &*self.node {
             Node::Number(_) | Node::Neg(_) | Node::Divide(_, _) | Node::Remainder(_, _) =>
                 Sort::Long,
-            Node::Add(_, _) | Node::Sub(_, _) | Node::Mul(_, _) => Sort::Long,
+            Node::Add(_, _) | Node::Sub(_, _) | Node::Mul(_, _) | Node::Fold(_, _, _) => Sort::Long,
             Node::Truth(_) | Node::Not(_) | Node::And(_, _) | Node::Or(_, _) => Sort::Bool,
             Node::Less(_, _) | Node::LessEqual(_, _) | Node::Same(_, _) => Sort::Bool,
             Node::Null => Sort::Pointer,

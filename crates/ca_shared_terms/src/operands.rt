@@ -34,6 +34,7 @@ impl LightTerm {
             Node::And(a, b) => Operands::Two(Binary::And, a, b),
             Node::Or(a, b) => Operands::Two(Binary::Or, a, b),
             Node::Select(a, i) => Operands::Two(Binary::Select, a, i),
+            Node::Fold(o, a, b) => Operands::Two(Binary::Fold(*o), a, b),
             Node::Choose(c, a, b) => Operands::Three(Ternary::Choose, c, a, b),
             Node::Put(a, i, v) => Operands::Three(Ternary::Put, a, i, v),
             Node::AddAt(a, i, v) => Operands::Three(Ternary::AddAt, a, i, v),

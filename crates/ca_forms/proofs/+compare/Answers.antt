@@ -4,7 +4,7 @@ use Rattle.ca_forms.specs.Compare.{power_cmp, product_cmp, scalar_cmp}
 use Rattle.ca_forms.proofs.Lists.{powers_cmp, products_cmp, arguments_cmp, ends}
 use Rattle.ca_forms.specs.Seen.{part_of}
 use Rattle.ca_forms.specs.clauses.Heads.{rank, head_cmp}
-use Rattle.ca_forms.proofs.Heads.{tied, told_first, head_told, rest_told, rest_over, variables_end, other_rank, same_ranks, no_over, no_less, no_same, no_field, no_item, no_result}
+use Rattle.ca_forms.proofs.Heads.{tied, told_first, head_told, rest_told, rest_over, variables_end, other_rank, same_ranks, no_over, no_less, no_same, no_field, no_item, no_result, no_fold}
 use Rattle.ca_forms.proofs.+compare.Goals as goal
 
 pub polynomial::Polynomial::compare-returns : goal.polynomial::Polynomial::compare-returns
@@ -105,6 +105,10 @@ polynomial::Part::compare-returns-in_default-2-6 t c =
 
 pub polynomial::Part::compare-returns-in_default-2-7 : goal.polynomial::Part::compare-returns-in_default-2-7
 polynomial::Part::compare-returns-in_default-2-7 t c =
+    absurd (no_fold c.other.inside.node (other_rank c.self.inside.node c.other.inside.node _ _ _ _ c.self.view_is c.other.view_is c.heads.ensures c.in-Equal.is c.in_default-2.is-0) c.in_default-2.not-Fold-1)
+
+pub polynomial::Part::compare-returns-in_default-2-8 : goal.polynomial::Part::compare-returns-in_default-2-8
+polynomial::Part::compare-returns-in_default-2-8 t c =
     let none : rank c.args.self.now ≡ 0 = ap rank (sym c.self.view_is) ∙ ap (λ z. rank (part_of z)) c.in_default-2.is-0 in
     let same : head_cmp c.args.self.now c.args.other.now ≡ Equal = sym c.heads.ensures ∙ c.in-Equal.is in
     rest_told c.args.self.now c.args.other.now c.heads.result Equal c.heads.ensures c.in-Equal.is (variables_end c.args.self.now c.args.other.now none same)

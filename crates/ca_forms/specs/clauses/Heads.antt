@@ -7,8 +7,9 @@ use Rattle.ca_forms.specs.declared.sort.Sort.{Sort}
 use Rattle.ca_forms.specs.declared.sort.Sort.TheVariants.{Long}
 use Rattle.ca_forms.specs.declared.polynomial.Unary.{Unary}
 use Rattle.ca_forms.specs.declared.polynomial.Unary.TheVariants as unary
-use Rattle.ca_forms.specs.Plain.{PlainPart, variable, is_less, is_zero, same_pointer, quotient, modulus, field_of, item_of, result_of, own_item, kind, name_code}
+use Rattle.ca_forms.specs.Plain.{PlainPart, variable, is_less, is_zero, same_pointer, quotient, modulus, field_of, item_of, result_of, own_item, fold_of, kind, name_code}
 use Rattle.ca_forms.specs.Trees.{tree_cmp}
+use Rattle.ca_folds.specs.Operators.{fold_number}
 
 -- a part with no name has the least
 abbrev pub head : PlainPart → ℕ × Sort × ℕ × ℕ
@@ -22,6 +23,7 @@ head (field_of s p c f) = (6, s, c, f)
 head (item_of s p c f i) = (7, s, c, f)
 head (result_of s m p xs) = (8, s, m, 0)
 head (own_item s g n i) = (9, s, g, n)
+head (fold_of o w xs) = (10, Long, fold_number o, 0)
 
 abbrev pub rank : PlainPart → ℕ
 rank p = (head p).0

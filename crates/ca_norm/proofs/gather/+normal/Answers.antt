@@ -13,6 +13,7 @@ use Rattle.ca_forms.proofs.Told.{on_ok, put_behind}
 use Rattle.ca_forms.proofs.Gathered.{adds_gathered, adds_chosen, adds_scaled, adds_either, adds_same_truths, same_numbers_gathered}
 use Rattle.ca_norm.specs.declared.term.Term.{Term}
 use Rattle.ca_norm.specs.Terms.{PlainTerm, result, select, shape, sort_of, terms_of}
+use Rattle.ca_forms.specs.Folds.{fold_form}
 use Rattle.ca_forms.specs.ArrayRules.{selected, selected_pointer}
 use Rattle.ca_norm.specs.Forms.{expand, part_of, pointer_of, array_of, scalar_of, arguments_of}
 use Rattle.ca_norm.proofs.Shapes.{call_is, arguments_forms, shapes_more}
@@ -160,3 +161,10 @@ arguments_of-returns t c =
     let so_far : c.loop-term.items.items ≡ map scalar_of (map shape (take c.loop-term.term-index c.args.terms.now)) = c.loop-term.invariant in
     let all : c.loop-term.items.items ≡ map scalar_of (map shape c.args.terms.now) = so_far ∙ ap (λ xs. map scalar_of (map shape xs)) (take_all c.loop-term.term-index c.args.terms.now end) in
     c.of.ensures ∙ ap scalars_of all ∙ arguments_forms (map shape c.args.terms.now)
+
+pub add_folded-returns-in_ok-whole-in-Fold-clause-added : goal.add_folded-returns-in_ok-whole-in-Fold-clause-added
+add_folded-returns-in_ok-whole-in-Fold-clause-added t c =
+    let first : c.in_ok-f-in-Fold.f ≡ gathered (expand (shape c.deref.result.now)) = search rules in
+    let second : c.in_ok-f-in-Fold.g ≡ gathered (expand (shape c.deref-in-Fold.result.now)) = search rules in
+    let whole : c.in_ok-whole-in-Fold.whole ≡ fold_form c.in-Fold.op c.in_ok-f-in-Fold.f c.in_ok-f-in-Fold.g = search rules in
+    rw (c.in-Fold.is, ← c.deref.ensures, ← c.deref-in-Fold.ensures, ← first, ← second, ← whole) c.add_whole.ensures.added

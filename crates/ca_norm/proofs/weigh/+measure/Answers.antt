@@ -20,6 +20,10 @@ pub measure_of-returns-in-LessEqual : goal.measure_of-returns-in-LessEqual
 measure_of-returns-in-LessEqual t c =
     rw (c.in-LessEqual.is, ← c.deref-in-LessEqual.ensures, ← c.deref-in-LessEqual-2.ensures) (c.sum-in-LessEqual.ensures (shape c.deref-in-LessEqual.result.now) (shape c.deref-in-LessEqual-2.result.now) c.measure_of-in-LessEqual.ensures c.measure_of-in-LessEqual-2.ensures)
 
+pub measure_of-returns-in-Fold : goal.measure_of-returns-in-Fold
+measure_of-returns-in-Fold t c =
+    rw (c.in-Fold.is, ← c.deref-in-Fold.ensures, ← c.deref-in-Fold-2.ensures) (c.sum-in-Fold.ensures (shape c.deref-in-Fold.result.now) (shape c.deref-in-Fold-2.result.now) c.measure_of-in-Fold.ensures c.measure_of-in-Fold-2.ensures)
+
 pub measure_of-returns-in-Mul : goal.measure_of-returns-in-Mul
 measure_of-returns-in-Mul t c =
     rw (c.in-Mul.is, ← c.deref-in-Mul.ensures, ← c.deref-in-Mul-2.ensures) (c.product.ensures (shape c.deref-in-Mul.result.now) (shape c.deref-in-Mul-2.result.now) c.measure_of-in-Mul.ensures c.measure_of-in-Mul-2.ensures)
