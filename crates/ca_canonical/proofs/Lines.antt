@@ -11,17 +11,19 @@ use Rattle.ca_tree.specs.declared.token.Token.{Token}
 use Rattle.ca_tree.specs.declared.tree.TypeNode.{TypeNode}
 use Rattle.ca_tree.specs.declared.tree.TypeNode.TheVariants.{Long, Bool as BoolType, Pointer}
 use Rattle.ca_tree.specs.declared.tree.AssignOp.{AssignOp}
-use Rattle.ca_tree.specs.declared.tree.AssignOp.TheVariants.{Put, Add, Sub, Mul}
+use Rattle.ca_tree.specs.declared.tree.AssignOp.TheVariants.{Put, Add, Sub}
 use Rattle.ca_tree.specs.Plain.{Expression, RightSide, Statement, number, truth, null, this, named, call, field, method, index, unary, binary, value, new, empty, block, local, assign, call_statement, if_only, if_else, while_loop, for_loop, return_value, print_value, statement_and}
 use Rattle.ca_expressions.specs.Terminals as terminal
 use Rattle.ca_expressions.specs.Grammar.{OuterExpression, is_call, is_target}
-use Rattle.ca_parse.specs.Grammar.{statements, first_place, is_open, TypeName, long, bool, pointer, Right, expression, creation, creation_call, Local, declares, begins, Compound, plus_assign, minus_assign, times_assign, Change, puts, changes, increments, decrements, Assign, assigns, AssignLine, assign_line, First, first_local, first_assign, Stmt, nothing, a_block, an_assign, a_call, an_if, an_if_else, a_while, a_for, a_return, a_print, Item, a_local, a_statement, Items, items_end, items_and}
+use Rattle.ca_parse.specs.Grammar.{statements, first_place, is_open, TypeName, long, bool, pointer, Right, expression, creation, creation_call, Local, declares, begins, Change, puts, changes, increments, decrements, Assign, assigns, AssignLine, assign_line, First, first_local, first_assign, Stmt, nothing, a_block, an_assign, a_call, an_if, an_if_else, a_while, a_for, a_return, a_print, Item, a_local, a_statement, Items, items_end, items_and}
+use Rattle.ca_parse.specs.Compounds.{compound_of_sign, compound_of, compound}
+use Rattle.ca_parse.proofs.Compounds.{compound_back}
 use Rattle.ca_tree.specs.Operators.{assign_sign}
 use Rattle.ca_canonical.specs.Spell.{spell_expression, spell_type, spell_right, spell_header, spell_statement, spell_statements, ended, condition}
 use Rattle.ca_canonical.specs.Bare.{bare_expression, bare_type, bare_right, bare_start, bare_statement, bare_statements, nowhere}
 use Rattle.ca_canonical.proofs.ReadBack.{IsName}
 use Rattle.ca_canonical.proofs.Texts.{AllWritable}
-use Rattle.ca_canonical.proofs.Fronts.{Spelled, Free, lift, outer, of_short, Both, pair, by}
+use Rattle.ca_canonical.proofs.Fronts.{Spelled, Free, one, lift, outer, of_short, Both, pair, by}
 use Rattle.ca_canonical.proofs.Terminals.{AllRead, behind, name_read, number_literal, a_sign, a_key, a_name}
 use Rattle.ca_canonical.proofs.Levels.{Like, Good, whole_expression}
 use Rattle.ca_canonical.proofs.Operands.{writable_both, writable_brackets, good_literal, Out, good_level, good_chain}
@@ -114,22 +116,14 @@ record GoodChange (op : AssignOp) (x : RightSide) : Type 0 where
   writable : AllWritable (spell_right x)
   reads : Spelled (Free Change) (λ y. (y.0 ≡ op) × (bare_right y.1 ≡ bare_right x)) (Sign (assign_sign op) ∷ spell_right x)
 
-compound_change : (k : _) (op : AssignOp) → assign_sign op ≡ k → ((s r : List Token) (p : Place) → Sees (terminal.sign k) s p r → Compound s op r) → (x : Expression) → Good x → GoodChange op (value x)
-compound_change k op is rule x g = record {
+a_compound : (op : AssignOp) → compound_of_sign (assign_sign op) ≡ Some op → Spelled (Sees compound) (λ o. o ≡ op) (Sign (assign_sign op) ∷ [])
+a_compound op is = one compound (λ o. o ≡ op) (Sign (assign_sign op)) (λ t e. (op, refl, ap (λ z. compound_of z t.at) e ∙ is))
+
+compound_change : (op : AssignOp) → compound_of_sign (assign_sign op) ≡ Some op → (x : Expression) → Good x → GoodChange op (value x)
+compound_change op is x g = record {
   writable = g.writable;
-  reads = subst (λ z. Spelled (Free Change) (λ y. (y.0 ≡ op) × (bare_right y.1 ≡ value (bare_expression x))) (Sign z ∷ spell_expression x)) (sym is)
-      (by (λ y. (op, value y.1)) (λ y free s r b w d. changes (rule s d.mid y.0 d.first) d.second) (λ y w. (refl, ap value w.1))
-      (pair (lift (a_sign k)) (outer (whole_expression g))));
+  reads = by (λ y. (y.0, value y.1)) (λ y free s r b w d. changes d.first d.second) (λ y w. (w.0, ap value w.1)) (pair (lift (a_compound op is)) (outer (whole_expression g)));
 }
-
-add_change : (x : Expression) → Good x → GoodChange Add (value x)
-add_change = compound_change sign.PlusAssign Add refl (λ s r p d. plus_assign d)
-
-sub_change : (x : Expression) → Good x → GoodChange Sub (value x)
-sub_change = compound_change sign.MinusAssign Sub refl (λ s r p d. minus_assign d)
-
-mul_change : (x : Expression) → Good x → GoodChange Mul (value x)
-mul_change = compound_change sign.TimesAssign Mul refl (λ s r p d. times_assign d)
 
 one_is_good : (at : Place) → Good (number at (pos 1))
 one_is_good at = good_literal (number_literal {at = at} (1, refl, omega arith))
@@ -144,11 +138,9 @@ good_change h (puts {x = x} a d) =
       };
       rest = o.rest;
     }
-good_change h (changes {x = x} (plus_assign c) d) = let o = good_level (behind h c) (of_short d) in record { good = add_change x o.good; rest = o.rest }
-good_change h (changes {x = x} (minus_assign c) d) = let o = good_level (behind h c) (of_short d) in record { good = sub_change x o.good; rest = o.rest }
-good_change h (changes {x = x} (times_assign c) d) = let o = good_level (behind h c) (of_short d) in record { good = mul_change x o.good; rest = o.rest }
-good_change h (increments {p = p} d) = record { good = add_change (number p (pos 1)) (one_is_good p); rest = behind h d }
-good_change h (decrements {p = p} d) = record { good = sub_change (number p (pos 1)) (one_is_good p); rest = behind h d }
+good_change h (changes {op = op} {x = x} c d) = let o = good_level (behind h c) (of_short d) in record { good = compound_change op (compound_back c) x o.good; rest = o.rest }
+good_change h (increments {p = p} d) = record { good = compound_change Add refl (number p (pos 1)) (one_is_good p); rest = behind h d }
+good_change h (decrements {p = p} d) = record { good = compound_change Sub refl (number p (pos 1)) (one_is_good p); rest = behind h d }
 
 target_but_places : (x : Expression) → is_target (bare_expression x) ≡ is_target x
 target_but_places (number at n) = refl

@@ -1,5 +1,5 @@
 -- Forms that an operator made of operands.
-use Rattle.std.proofs.Common.{◌≡◌, ℕ, zero, suc, ◌+◌, Bool, true, false, cond, List, [], ◌∷◌, ◌++◌, Option, Some, None, is_some, length, get_or, refl, sym, ap, ap₂, ◌∙◌, arith}
+use Rattle.std.proofs.Common.{◌≡◌, ℕ, ◌+◌, Bool, true, false, cond, List, [], ◌∷◌, ◌++◌, Option, Some, None, is_some, length, get_or, refl, sym, ap, ◌∙◌, arith}
 use Rattle.std.specs.Prelude.{nat_eq}
 use Rattle.std.proofs.lemmas.Bool.Decides.{nat_tests}
 use Rattle.ca_folds.specs.declared.operator.FoldOp.{FoldOp}
@@ -8,7 +8,7 @@ use Rattle.ca_folds.specs.Operands.{parts_of}
 use Rattle.ca_forms.specs.declared.polynomial.Node.{Node}
 use Rattle.ca_forms.specs.declared.polynomial.Node.TheVariants as node
 use Rattle.ca_forms.specs.declared.polynomial.Unary.TheVariants as unary
-use Rattle.ca_forms.specs.Plain.{PlainPart, PlainPolynomial, PlainMonomial, PlainScalar, PlainScalars, no_powers, power_and, no_products, product_and, no_scalars, scalar_and}
+use Rattle.ca_forms.specs.Plain.{PlainPart, PlainPolynomial, PlainMonomial, PlainScalar, PlainScalars, no_products, product_and}
 use Rattle.ca_forms.specs.Lists.{polynomial_of, products_of, monomial_of, scalars_of}
 use Rattle.ca_forms.specs.Seen.{part_of}
 use Rattle.ca_forms.specs.Folds.{items_of, part_made, monomial_made, made_in}

@@ -1,9 +1,9 @@
 -- The forms of operators whose operands may stand in any order.
-use Rattle.std.specs.Prelude.{ℕ, Bool, true, false, cond, nat_eq, List, [], ◌∷◌, Option, Some, None}
+use Rattle.std.specs.Prelude.{ℕ, cond, nat_eq, List, [], ◌∷◌, Option, Some, None}
 use Rattle.ca_sums.specs.Sums.{put_if}
 use Rattle.ca_folds.specs.declared.operator.FoldOp.{FoldOp}
 use Rattle.ca_folds.specs.Operators.{fold_number}
-use Rattle.ca_folds.specs.Operands.{parts_of, gives}
+use Rattle.ca_folds.specs.Operands.{gives}
 use Rattle.ca_forms.specs.Plain.{PlainPart, PlainPolynomial, PlainMonomial, PlainScalar, PlainScalars, fold_of, no_powers, power_and, no_products, product_and, number_form, truth_form, pointer_form, no_scalars, scalar_and}
 use Rattle.ca_forms.specs.Lists.{polynomial_of, scalars_of}
 use Rattle.ca_forms.specs.Compare.{scalar_cmp}

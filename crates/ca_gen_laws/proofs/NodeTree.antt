@@ -8,7 +8,7 @@ use Rattle.ca_tree.specs.declared.tree.AssignOp.TheVariants.{Put, Add}
 use Rattle.ca_tree.specs.declared.tree.UnaryOp.TheVariants.{Not}
 use Rattle.ca_tree.specs.Plain.{ClassTree, truth, named, method, unary, no_expressions, expression_and, value, block, assign, call_statement, if_only, no_statements, statement_and, field_member, method_member}
 use Rattle.ca_expressions.specs.Grammar.{unary_first, unary_last, a_literal, a_chain, name_chain, tails_end, tails_more, method_tail, args, listed, further_none}
-use Rattle.ca_parse.specs.Grammar.{long, bool, pointer, expression, plus_assign, puts, changes, assigns, assign_line, a_block, an_assign, a_call, an_if, a_statement, items_end, items_and, lines_end, lines_and, param, signature, scalar, fields, operation, Declaration, a_class}
+use Rattle.ca_parse.specs.Grammar.{long, bool, pointer, expression, puts, changes, assigns, assign_line, a_block, an_assign, a_call, an_if, a_statement, items_end, items_and, lines_end, lines_and, param, signature, scalar, fields, operation, Declaration, a_class}
 use Rattle.ca_gen_laws.proofs.Chunks.{spread, tokens_at}
 use Rattle.ca_gen_laws.proofs.Scans.{node_kinds}
 use Rattle.ca_gen_laws.proofs.Deriving.{alone, a_name, short}
@@ -72,7 +72,7 @@ node_derives f r =
     (lines_and (operation (sees refl) (sees refl) (signature (sees refl)
     (separated (param (long (sees refl)) (sees refl)) (following_end (sees refl)))
     (sees refl)
-    (items_and (a_statement (an_assign (assign_line (assigns (short (tokens_at f node_kinds 57 1) _ (λ z. (name_chain (sees refl) tails_end)) (omega arith)) refl (changes (plus_assign (sees refl)) (short (tokens_at f node_kinds 59 1) _ (λ z. a_name) (omega arith)))) (sees refl))))
+    (items_and (a_statement (an_assign (assign_line (assigns (short (tokens_at f node_kinds 57 1) _ (λ z. (name_chain (sees refl) tails_end)) (omega arith)) refl (changes (sees refl) (short (tokens_at f node_kinds 59 1) _ (λ z. a_name) (omega arith)))) (sees refl))))
     (items_and (a_statement (an_if (inl (omega arith)) (sees refl) (sees refl) (short (tokens_at f node_kinds 63 2) _ (λ z. alone (unary_first (sees refl) (unary_last (a_chain (name_chain (sees refl) tails_end))))) (omega arith)) (sees refl)
     (a_block (inl (omega arith)) (sees refl)
     (items_and (a_statement (an_assign (assign_line (assigns (short (tokens_at f node_kinds 67 1) _ (λ z. (name_chain (sees refl) tails_end)) (omega arith)) refl (puts (sees refl) (expression (short (tokens_at f node_kinds 69 1) _ (λ z. alone (unary_last (a_literal (sees refl)))) (omega arith))))) (sees refl))))

@@ -1,26 +1,24 @@
 -- What operators leave as words whose operands may stand in any order.
-use Rattle.std.proofs.Common.{◌≡◌, ℕ, zero, suc, ◌+◌, ◌*◌, ◌%◌, ◌^◌, ◌<◌, ℤ, FitsSigned, Bool, true, false, cond, List, [], ◌∷◌, Option, Some, None, refl, sym, ap, ap₂, ◌∙◌, arith, w64, of_z, to_z}
+use Rattle.std.proofs.Common.{◌≡◌, ℕ, zero, suc, ◌%◌, ◌^◌, ℤ, FitsSigned, Bool, true, false, cond, List, [], ◌∷◌, Some, None, refl, sym, ap, ap₂, ◌∙◌, arith, w64, of_z, to_z}
 use Rattle.std.specs.Prelude.{nat_eq, int_lt}
 use Rattle.std.proofs.lemmas.Bool.Decides.{nat_tests}
-use Rattle.std.proofs.lemmas.Int.{ints, to_z-of_z}
 use Rattle.std.proofs.Math.Nat.{mod-eq_of_lt}
-use Rattle.ca_sums.specs.Sums.{total, Alike, put_if}
-use Rattle.ca_sums.proofs.Algebra.{alike_trans, alike_sym, alike_eq}
+use Rattle.ca_sums.specs.Sums.{Alike}
 use Rattle.ca_folds.specs.declared.operator.FoldOp.{FoldOp}
 use Rattle.ca_folds.specs.declared.operator.FoldOp.TheVariants.{Max, Min, BitAnd, BitOr, BitXor}
-use Rattle.ca_folds.specs.Operators.{fold_number, fold_inj, folded_longs, folded, neutral}
+use Rattle.ca_folds.specs.Operators.{fold_number, fold_inj, folded_longs, folded}
 use Rattle.ca_folds.proofs.Laws.{fold_small}
 use Rattle.ca_folds.proofs.Worth.{worth, gives_worth}
 use Rattle.ca_forms.specs.Plain.{PlainPart, PlainPolynomial, PlainMonomial, PlainScalar, PlainScalars, variable, is_less, is_zero, same_pointer, quotient, modulus, field_of, item_of, result_of, own_item, fold_of, no_powers, power_and, no_products, product_and, number_form, truth_form, pointer_form, no_scalars, scalar_and}
-use Rattle.ca_forms.specs.Lists.{products_of, polynomial_of, scalars_of}
+use Rattle.ca_forms.specs.Lists.{scalars_of}
 use Rattle.ca_forms.specs.Compare.{scalar_cmp}
-use Rattle.ca_forms.specs.Rules.{alone, constancy}
-use Rattle.ca_forms.specs.Folds.{items_of, word_form, alone_form, part_made, monomial_made, made_in, scalar_word, scalar_made, word_scalar, fold_scalar, number_in, folded_scalars, fold_form}
+use Rattle.ca_forms.specs.Rules.{alone}
+use Rattle.ca_forms.specs.Folds.{items_of, part_made, monomial_made, made_in, scalar_word, scalar_made, word_scalar, fold_scalar, number_in, folded_scalars, fold_form}
 use Rattle.ca_forms.proofs.Exact.{scalars_exact}
 use Rattle.ca_model.specs.declared.value.Value.{Value as Datum}
 use Rattle.ca_model.specs.declared.value.Value.TheVariants as datum
-use Rattle.ca_norm.specs.Meanings.{Valuation, folded_values, word_of, polynomial_value, monomial_value, part_value, scalar_value, scalars_worth}
-use Rattle.ca_norm.proofs.Words.{word_fits, word_small, word}
+use Rattle.ca_norm.specs.Meanings.{Valuation, folded_values, word_of, polynomial_value, part_value, scalar_value, scalars_worth}
+use Rattle.ca_norm.proofs.Words.{word_fits}
 use Rattle.ca_norm.proofs.Operations.{IsLong, back}
 use Rattle.ca_norm.proofs.Quotients.{cast_fits}
 use Rattle.ca_norm.proofs.Rules.{constancy_value, alone_value, polynomial_sum}

@@ -1,29 +1,29 @@
 -- Operands have one form in either order, however they are nested.
-use Rattle.std.proofs.Common.{◌≡◌, ℕ, ◌-◌, ◌^◌, Bool, true, false, cond, [], ◌∷◌, ◌++◌, Option, Some, None, Ordering, Less, Equal, Greater, refl, sym, ap, ap₂, ◌∙◌}
+use Rattle.std.proofs.Common.{◌≡◌, ℕ, ◌-◌, ◌^◌, Bool, true, false, [], ◌∷◌, ◌++◌, Option, Some, None, Ordering, Less, Equal, Greater, refl, sym, ap, ◌∙◌}
 use Rattle.ca_sums.specs.Sums.{Sum, total, scale}
 use Rattle.ca_sums.proofs.Algebra.{alike_eq, alike_sym, alike_trans}
 use Rattle.ca_sums.proofs.Products.{SameTotals}
 use Rattle.ca_sums.specs.Products.{product}
 use Rattle.ca_folds.specs.declared.operator.FoldOp.{FoldOp}
-use Rattle.ca_folds.specs.Operators.{neutral, cancels}
+use Rattle.ca_folds.specs.Operators.{cancels}
 use Rattle.ca_folds.proofs.Order as order
 use Rattle.ca_forms.specs.declared.sort.Sort.{Sort}
 use Rattle.ca_forms.specs.declared.sort.Sort.TheVariants.{Long, Bool as Truth, Pointer, LongArray, BoolArray, PointerArray}
 use Rattle.ca_forms.specs.declared.form.Normal.TheVariants as normal
-use Rattle.ca_forms.specs.Plain.{PlainPart, PlainPolynomial, PlainMonomial, PlainPointer, PlainScalar, is_less, same_pointer, no_products, product_and, number_form, truth_form, pointer_form}
+use Rattle.ca_forms.specs.Plain.{PlainPolynomial, PlainMonomial, PlainPointer, PlainScalar, is_less, same_pointer, no_products, product_and, number_form, truth_form, pointer_form}
 use Rattle.ca_forms.specs.Lists.{products_of}
 use Rattle.ca_forms.specs.Compare.{scalar_cmp, polynomial_cmp, pointer_cmp}
 use Rattle.ca_forms.specs.Products.{times}
-use Rattle.ca_forms.specs.Rules.{alone, constancy, constant, truth_sum, minus, negated, either, chosen, gathered, unless_tied, less_kinds, less_sum, zero_kind, zero_sum, same_numbers, same_truths, differ, unless_false, same_pointers_at, same_pointers, quotient_kind, quotient_sum, modulus_kind, modulus_sum, is_below, smaller, opposite}
+use Rattle.ca_forms.specs.Rules.{alone, constancy, truth_sum, minus, either, chosen, gathered, unless_tied, less_kinds, less_sum, zero_kind, same_numbers, same_truths, differ, unless_false, same_pointers_at, quotient_kind, modulus_kind, is_below}
 use Rattle.ca_forms.specs.Arrays.{PlainRows, PlainArray, own_items, put_item, with_sums, array_choice}
-use Rattle.ca_forms.specs.ArrayRules.{row_if, joined_rows, put_row_at, put_row, rest_of, last_rows, summed, added_at, weighed, put_weighed, agree, chosen_rows, chosen_if, chosen_array, same_index, rows_at, products_in, selected}
+use Rattle.ca_forms.specs.ArrayRules.{row_if, joined_rows, put_row_at, put_row, rest_of, last_rows, summed, added_at, weighed, put_weighed, agree, chosen_rows, chosen_if, same_index, rows_at, products_in, selected}
 use Rattle.ca_forms.specs.Folds.{scalar_word, scalar_made, word_scalar, fold_scalar, number_in, folded_scalars, fold_form}
 use Rattle.ca_forms.proofs.Gathered.{gathered_same, gathered_same_totals}
 use Rattle.ca_forms.proofs.Exact.{scalars_exact}
-use Rattle.ca_forms.proofs.RowOrder.{IsGathered, gathered_itself}
+use Rattle.ca_forms.proofs.RowOrder.{gathered_itself}
 use Rattle.ca_norm.specs.Terms.{PlainTerm, number, truth, null, atom, add, sub, neg, mul, divide, remainder, less, less_equal, same, not, and, or, choose, read, read_at, result, select, put, add_at, fold, sort_of}
-use Rattle.ca_norm.specs.Forms.{expand, pointer_of, array_of, same_sum, scalar_at, form_at, norm}
-use Rattle.ca_norm.proofs.Neat.{NeatPart, NeatPolynomial, NeatSum, NeatScalar, Kept, word_is, fold_no_word, fold_made, sum_neat, append_neat, scale_neat, product_neat, gathered_neat, truth_neat, minus_neat, parts, parts_kept, folded_neat, number_of_neat, gathered_again}
+use Rattle.ca_norm.specs.Forms.{expand, pointer_of, array_of, same_sum, scalar_at, norm}
+use Rattle.ca_norm.proofs.Neat.{NeatPolynomial, NeatSum, NeatScalar, Kept, word_is, fold_no_word, fold_made, sum_neat, append_neat, scale_neat, product_neat, gathered_neat, truth_neat, minus_neat, parts, parts_kept, folded_neat, number_of_neat, gathered_again}
 
 chosen_neat : (c a b : Sum PlainMonomial) → NeatSum c → NeatSum a → NeatSum b → NeatSum (chosen c a b)
 chosen_neat c a b f g h = append_neat b (product times c (a ++ minus b)) h (product_neat c (a ++ minus b) f (append_neat a (minus b) g (minus_neat b h)))

@@ -1,26 +1,25 @@
 -- Sums in which what operators were made of is in order, and what keeps them so.
-use Rattle.std.proofs.Common.{◌≡◌, ℕ, zero, suc, ◌^◌, ◌<◌, Bool, true, false, cond, List, [], ◌∷◌, ◌++◌, Option, Some, None, Ordering, Less, Equal, Greater, refl, sym, ap, ap₂, ◌∙◌, arith, subst}
+use Rattle.std.proofs.Common.{◌≡◌, ℕ, zero, suc, ◌^◌, ◌<◌, Bool, true, false, cond, List, [], ◌∷◌, ◌++◌, Option, Some, None, Ordering, Less, Equal, Greater, refl, sym, ap, ◌∙◌, arith, subst}
 use Rattle.std.specs.Prelude.{nat_eq}
 use Rattle.std.specs.Ordering.{match_ordering}
 use Rattle.std.specs.List.Sorted.{IsStrictlySortedBy}
 use Rattle.std.proofs.lemmas.Bool.Decides.{nat_tests}
-use Rattle.ca_sums.specs.Sums.{Sum, scale, put_if, insert_at, insert, collect, NoZero}
+use Rattle.ca_sums.specs.Sums.{Sum, scale, put_if, insert_at, insert, collect}
 use Rattle.ca_sums.specs.Products.{row, product}
 use Rattle.ca_folds.specs.declared.operator.FoldOp.{FoldOp}
-use Rattle.ca_folds.specs.declared.operator.FoldOp.TheVariants.{Max, Min, BitAnd, BitOr, BitXor}
+use Rattle.ca_folds.specs.declared.operator.FoldOp.TheVariants.{Max}
 use Rattle.ca_folds.specs.Operators.{fold_number, fold_inj, folded, neutral, is_absorbing, cancels}
 use Rattle.ca_folds.specs.Operands.{parts_of, together, settled, formed}
 use Rattle.ca_folds.specs.Operands as folds
 use Rattle.ca_folds.proofs.Laws.{neutral_small}
-use Rattle.ca_folds.proofs.Rising.{Rising}
 use Rattle.ca_folds.proofs.Order.{Each}
 use Rattle.ca_folds.proofs.Order as order
-use Rattle.ca_forms.specs.Plain.{PlainPart, PlainPolynomial, PlainMonomial, PlainPointer, PlainScalar, PlainScalars, variable, is_less, is_zero, same_pointer, quotient, modulus, field_of, item_of, result_of, own_item, fold_of, no_powers, power_and, no_products, product_and, number_form, truth_form, pointer_form, no_scalars, scalar_and}
+use Rattle.ca_forms.specs.Plain.{PlainPart, PlainPolynomial, PlainMonomial, PlainScalar, PlainScalars, variable, is_less, is_zero, same_pointer, quotient, modulus, field_of, item_of, result_of, own_item, fold_of, no_powers, power_and, no_products, product_and, number_form, truth_form, pointer_form, no_scalars, scalar_and}
 use Rattle.ca_forms.specs.Lists.{products_of, polynomial_of, powers_of, monomial_of, scalars_of}
 use Rattle.ca_forms.specs.Compare.{part_cmp, monomial_cmp, scalar_cmp}
 use Rattle.ca_forms.specs.Products.{joined, merge_in, merge, times}
-use Rattle.ca_forms.specs.Rules.{alone, constancy, gathered, minus, truth_sum}
-use Rattle.ca_forms.specs.Folds.{items_of, word_form, alone_form, part_made, monomial_made, made_in, scalar_word, scalar_made, word_scalar, fold_scalar, number_in, folded_scalars, fold_form}
+use Rattle.ca_forms.specs.Rules.{constancy, gathered, minus, truth_sum}
+use Rattle.ca_forms.specs.Folds.{items_of, part_made, monomial_made, made_in, scalar_word, scalar_made, word_scalar, fold_scalar, number_in, folded_scalars}
 use Rattle.ca_sums.specs.Sums.{is_tied}
 use Rattle.ca_sums.proofs.Collect.{Gathered, SameCoefficients, gathered_same, gathered_collect, total_collect}
 use Rattle.ca_forms.proofs.Exact.{scalars_exact, monomials_exact}

@@ -1,6 +1,6 @@
 -- The rules of types, locals and assignments as their parts.
 use Rattle.std.proofs.Common.{◌≡◌, ℕ, pos, List, [], ◌∷◌, Bool, true, false, cond, Option, Some, None, refl, ◌∙◌, subst}
-use Rattle.ca_descent.specs.Exact.{Unlimited, Answer, Exact, Sees, sees, head_of, Seen, Unseen, Before}
+use Rattle.ca_descent.specs.Exact.{Answer, Exact, Sees, sees, head_of, Seen, Unseen, Before}
 use Rattle.ca_descent.proofs.Exact.{seen, unseen, exact_map, sees_head}
 use Rattle.ca_descent.proofs.Parts.{then, upto, done, Part, ◌⨾◌, finish, default_of}
 use Rattle.ca_tree.specs.declared.name.Place.{Place}
@@ -8,11 +8,11 @@ use Rattle.ca_tree.specs.declared.token.Token.{Token}
 use Rattle.ca_tree.specs.declared.token.Kind.TheVariants.{Sign as SignKind}
 use Rattle.ca_tree.specs.declared.token.Sign.{Sign}
 use Rattle.ca_tree.specs.declared.token.Keyword.TheVariants.{Long as LongKey, Bool as BoolKey, New}
-use Rattle.ca_tree.specs.declared.token.Sign.TheVariants.{OpenParenthesis, CloseParenthesis, Semicolon, Assign as AssignSign, Times, PlusAssign, MinusAssign, TimesAssign, Increment, Decrement}
+use Rattle.ca_tree.specs.declared.token.Sign.TheVariants.{OpenParenthesis, CloseParenthesis, Semicolon, Assign as AssignSign, Times, Increment, Decrement}
 use Rattle.ca_tree.specs.declared.tree.TypeNode.{TypeNode}
 use Rattle.ca_tree.specs.declared.tree.TypeNode.TheVariants.{Long, Bool as BoolType, Pointer}
 use Rattle.ca_tree.specs.declared.tree.AssignOp.{AssignOp}
-use Rattle.ca_tree.specs.declared.tree.AssignOp.TheVariants.{Put, Add, Sub, Mul}
+use Rattle.ca_tree.specs.declared.tree.AssignOp.TheVariants.{Put, Add, Sub}
 use Rattle.ca_tree.specs.Operators.{unary_level}
 use Rattle.ca_tree.specs.Plain.{Expression, RightSide, Statement, number as number_tree, value, new, local, assign}
 use Rattle.ca_expressions.specs.Terminals.{key, key_of, sign, sign_of, goes_on, goes_on_of}
@@ -21,7 +21,8 @@ use Rattle.ca_expressions.proofs.Outer.{an_expression, expression_begins}
 use Rattle.ca_expressions.proofs.Terminals.{key_gives, sign_gives, name_gives, word, mark, a_name}
 use Rattle.ca_parse.proofs.Uses.{a_picked}
 use Rattle.ca_parse.proofs.Alone.{Alone, fewer_alone}
-use Rattle.ca_parse.specs.Grammar.{Deriving, TypeName, long, bool, pointer, Right, expression, creation, creation_call, Local, declares, begins, Compound, plus_assign, minus_assign, times_assign, Change, puts, changes, increments, decrements, Assign, assigns, AssignLine, assign_line, first_place}
+use Rattle.ca_parse.proofs.Compounds.{compound_none, a_compound}
+use Rattle.ca_parse.specs.Grammar.{Deriving, TypeName, long, bool, pointer, Right, expression, creation, creation_call, Local, declares, begins, Change, puts, changes, increments, decrements, Assign, assigns, AssignLine, assign_line, first_place}
 use Rattle.ca_parse.specs.clauses.Closed.{RightClosed, ChangeClosed, AssignClosed, AssignTo, assign_to, AssignToClosed, target_of}
 
 -- behind the token stands nothing that goes on with an expression
@@ -270,75 +271,6 @@ local_answer d = exact_map (local_join) (local_split) d
 pub local_alone : {s r : List Token} {x : Statement} → Alone local_parts.C s x r → Alone Local s x r
 local_alone {s = s} d = fewer_alone (λ free q w c. local_split free s q w c) d
 
-abbrev pub plus_parts : Part Token AssignOp
-plus_parts = mark PlusAssign ⨾ λ p. finish Add
-
-pub plus_join : (free : ℕ) (s r : List Token) (x : AssignOp) → plus_parts.D free s x r → (Unlimited Compound) free s x r
-plus_join free s r x (then d done) = plus_assign d
-
-plus_split : (a0 : Place) (free : ℕ) (s r : List Token) (x : AssignOp) → Seen (sign PlusAssign) a0 (Unlimited Compound) free s x r → plus_parts.C free s x r
-plus_split a0 free s r x c = at free s r x c.it c.seen
-  where
-    at : (free : ℕ) (s r : List Token) (x : AssignOp) → (Unlimited Compound) free s x r → head_of (sign PlusAssign) s ≡ Some a0 → plus_parts.C free s x r
-    at free s r x (plus_assign d) g0 = upto d done
-    at free s r x (minus_assign d) g0 = let f = sign_gives (sign_of PlusAssign) MinusAssign d in absurd cc
-    at free s r x (times_assign d) g0 = let f = sign_gives (sign_of PlusAssign) TimesAssign d in absurd cc
-
-pub plus_answer : {a0 : Place} {s : List Token} {o : Answer Token AssignOp} → head_of (sign PlusAssign) s ≡ Some a0 → Exact plus_parts.D plus_parts.C s o → Exact (Unlimited Compound) (Unlimited Compound) s o
-plus_answer {a0} h0 d = seen {want = sign PlusAssign} h0 (exact_map (plus_join) (plus_split a0) d)
-
-pub plus_alone : {a0 : Place} {s r : List Token} {x : AssignOp} → head_of (sign PlusAssign) s ≡ Some a0 → Alone plus_parts.C s x r → Alone (Unlimited Compound) s x r
-plus_alone {a0} {s = s} h0 d = fewer_alone (λ free q w c. plus_split a0 free s q w (record { it = c; seen = h0 })) d
-
-abbrev pub minus_parts : Part Token AssignOp
-minus_parts = mark MinusAssign ⨾ λ p. finish Sub
-
-pub minus_join : (free : ℕ) (s r : List Token) (x : AssignOp) → minus_parts.D free s x r → (Unlimited Compound) free s x r
-minus_join free s r x (then d done) = minus_assign d
-
-minus_split : (a0 : Place) (free : ℕ) (s r : List Token) (x : AssignOp) → Seen (sign MinusAssign) a0 (Unlimited Compound) free s x r → minus_parts.C free s x r
-minus_split a0 free s r x c = at free s r x c.it c.seen
-  where
-    at : (free : ℕ) (s r : List Token) (x : AssignOp) → (Unlimited Compound) free s x r → head_of (sign MinusAssign) s ≡ Some a0 → minus_parts.C free s x r
-    at free s r x (minus_assign d) g0 = upto d done
-    at free s r x (plus_assign d) g0 = let f = sign_gives (sign_of MinusAssign) PlusAssign d in absurd cc
-    at free s r x (times_assign d) g0 = let f = sign_gives (sign_of MinusAssign) TimesAssign d in absurd cc
-
-pub minus_answer : {a0 : Place} {s : List Token} {o : Answer Token AssignOp} → head_of (sign MinusAssign) s ≡ Some a0 → Exact minus_parts.D minus_parts.C s o → Exact (Unlimited Compound) (Unlimited Compound) s o
-minus_answer {a0} h0 d = seen {want = sign MinusAssign} h0 (exact_map (minus_join) (minus_split a0) d)
-
-pub minus_alone : {a0 : Place} {s r : List Token} {x : AssignOp} → head_of (sign MinusAssign) s ≡ Some a0 → Alone minus_parts.C s x r → Alone (Unlimited Compound) s x r
-minus_alone {a0} {s = s} h0 d = fewer_alone (λ free q w c. minus_split a0 free s q w (record { it = c; seen = h0 })) d
-
-abbrev pub times_parts : Part Token AssignOp
-times_parts = mark TimesAssign ⨾ λ p. finish Mul
-
-pub times_join : (free : ℕ) (s r : List Token) (x : AssignOp) → times_parts.D free s x r → (Unlimited Compound) free s x r
-times_join free s r x (then d done) = times_assign d
-
-times_split : (free : ℕ) (s r : List Token) (x : AssignOp) → Unseen (sign MinusAssign) (Unseen (sign PlusAssign) (Unlimited Compound)) free s x r → times_parts.C free s x r
-times_split free s r x c = at free s r x c.it.it c.it.unseen c.unseen
-  where
-    at : (free : ℕ) (s r : List Token) (x : AssignOp) → (Unlimited Compound) free s x r → head_of (sign PlusAssign) s ≡ None → head_of (sign MinusAssign) s ≡ None → times_parts.C free s x r
-    at free s r x (times_assign d) g0 g1 = upto d done
-    at free s r x (plus_assign d) g0 g1 = let f = sees_head (sign PlusAssign) d in absurd cc
-    at free s r x (minus_assign d) g0 g1 = let f = sees_head (sign MinusAssign) d in absurd cc
-
-pub times_answer : {s : List Token} {o : Answer Token AssignOp} → head_of (sign PlusAssign) s ≡ None → head_of (sign MinusAssign) s ≡ None → Exact times_parts.D times_parts.C s o → Exact (Unlimited Compound) (Unlimited Compound) s o
-times_answer h0 h1 d = unseen {want = sign PlusAssign} h0 (unseen {want = sign MinusAssign} h1 (exact_map (times_join) (times_split) d))
-
-pub times_alone : {s r : List Token} {x : AssignOp} → head_of (sign PlusAssign) s ≡ None → head_of (sign MinusAssign) s ≡ None → Alone times_parts.C s x r → Alone (Unlimited Compound) s x r
-times_alone {s = s} h0 h1 d = fewer_alone (λ free q w c. times_split free s q w (record { it = (record { it = c; unseen = h0 }); unseen = h1 })) d
-
-abbrev pub a_compound : Part Token AssignOp
-a_compound = record { D = Unlimited Compound; C = Unlimited Compound; some = default_of times_parts.D (Unlimited Compound) times_join times_parts.some }
-
-pub compound_not : (k : Sign) → ((p : Place) → sign_of k (SignKind PlusAssign) p ≡ None) → ((p : Place) → sign_of k (SignKind MinusAssign) p ≡ None)
-    → ((p : Place) → sign_of k (SignKind TimesAssign) p ≡ None) → (s r : List Token) (o : AssignOp) → Compound s o r → head_of (sign k) s ≡ None
-compound_not k f g h s r o (plus_assign d) = sign_gives (sign_of k) PlusAssign d ∙ f _
-compound_not k f g h s r o (minus_assign d) = sign_gives (sign_of k) MinusAssign d ∙ g _
-compound_not k f g h s r o (times_assign d) = sign_gives (sign_of k) TimesAssign d ∙ h _
-
 abbrev pub puts_parts : Part Token (AssignOp × RightSide)
 puts_parts = mark AssignSign ⨾ λ a. a_right ⨾ λ v. finish (Put, v)
 
@@ -350,7 +282,7 @@ puts_split a0 free s r x c = at free s r x c.it.it c.it.stop c.seen
   where
     at : (free : ℕ) (s r : List Token) (x : (AssignOp × RightSide)) → Change free s x r → head_of (goes_on 0) r ≡ None → head_of (sign AssignSign) s ≡ Some a0 → puts_parts.C free s x r
     at free s r x (puts a v) h g0 = upto a (upto (record { it = v; stop = h }) done)
-    at free s r x (changes o e) h g0 = let f = compound_not AssignSign (λ p. refl) (λ p. refl) (λ p. refl) _ _ _ o in absurd cc
+    at free s r x (changes o e) h g0 = let f = compound_none (sign_of AssignSign) (λ at. refl) o in absurd cc
     at free s r x (increments d) h g0 = let f = sign_gives (sign_of AssignSign) Increment d in absurd cc
     at free s r x (decrements d) h g0 = let f = sign_gives (sign_of AssignSign) Decrement d in absurd cc
 
@@ -372,7 +304,7 @@ increments_split a0 free s r x c = at free s r x c.it.it c.it.stop c.seen
     at : (free : ℕ) (s r : List Token) (x : (AssignOp × RightSide)) → Change free s x r → head_of (goes_on 0) r ≡ None → head_of (sign Increment) s ≡ Some a0 → increments_parts.C free s x r
     at free s r x (increments d) h g0 = upto d done
     at free s r x (puts a v) h g0 = let f = sign_gives (sign_of Increment) AssignSign a in absurd cc
-    at free s r x (changes o e) h g0 = let f = compound_not Increment (λ p. refl) (λ p. refl) (λ p. refl) _ _ _ o in absurd cc
+    at free s r x (changes o e) h g0 = let f = compound_none (sign_of Increment) (λ at. refl) o in absurd cc
     at free s r x (decrements d) h g0 = let f = sign_gives (sign_of Increment) Decrement d in absurd cc
 
 pub increments_answer : {a0 : Place} {s : List Token} {o : Answer Token (AssignOp × RightSide)} → head_of (sign Increment) s ≡ Some a0 → Exact increments_parts.D increments_parts.C s o → Exact Change ChangeClosed s o
@@ -393,7 +325,7 @@ decrements_split a0 free s r x c = at free s r x c.it.it c.it.stop c.seen
     at : (free : ℕ) (s r : List Token) (x : (AssignOp × RightSide)) → Change free s x r → head_of (goes_on 0) r ≡ None → head_of (sign Decrement) s ≡ Some a0 → decrements_parts.C free s x r
     at free s r x (decrements d) h g0 = upto d done
     at free s r x (puts a v) h g0 = let f = sign_gives (sign_of Decrement) AssignSign a in absurd cc
-    at free s r x (changes o e) h g0 = let f = compound_not Decrement (λ p. refl) (λ p. refl) (λ p. refl) _ _ _ o in absurd cc
+    at free s r x (changes o e) h g0 = let f = compound_none (sign_of Decrement) (λ at. refl) o in absurd cc
     at free s r x (increments d) h g0 = let f = sign_gives (sign_of Decrement) Increment d in absurd cc
 
 pub decrements_answer : {a0 : Place} {s : List Token} {o : Answer Token (AssignOp × RightSide)} → head_of (sign Decrement) s ≡ Some a0 → Exact decrements_parts.D decrements_parts.C s o → Exact Change ChangeClosed s o
@@ -452,12 +384,7 @@ pub change_ended : (free : ℕ) (s r : List Token) (c : AssignOp × RightSide) �
 change_ended free s r c (puts a v) = sign_gives (goes_on_of unary_level) AssignSign a
 change_ended free s r c (increments d) = sign_gives (goes_on_of unary_level) Increment d
 change_ended free s r c (decrements d) = sign_gives (goes_on_of unary_level) Decrement d
-change_ended free s r c (changes o e) = compound_ended _ _ _ o
-  where
-    compound_ended : (s r : List Token) (o : AssignOp) → Compound s o r → head_of (goes_on unary_level) s ≡ None
-    compound_ended s r o (plus_assign d) = sign_gives (goes_on_of unary_level) PlusAssign d
-    compound_ended s r o (minus_assign d) = sign_gives (goes_on_of unary_level) MinusAssign d
-    compound_ended s r o (times_assign d) = sign_gives (goes_on_of unary_level) TimesAssign d
+change_ended free s r c (changes o e) = compound_none (goes_on_of unary_level) (λ at. refl) o
 
 -- a target
 abbrev pub a_target : Part Token Expression

@@ -8,7 +8,7 @@ use Rattle.ca_tree.specs.declared.token.Token.{Token}
 use Rattle.ca_tree.specs.declared.token.Kind.TheVariants.{Sign as SignKind}
 use Rattle.ca_tree.specs.declared.token.Keyword.TheVariants.{Long as LongKey, Bool as BoolKey, If, Else, While, For, Return, Print, This}
 use Rattle.ca_tree.specs.declared.token.Sign.{Sign}
-use Rattle.ca_tree.specs.declared.token.Sign.TheVariants.{OpenBrace, OpenParenthesis, OpenBracket, Semicolon, Times, Arrow, Assign as AssignSign, PlusAssign, MinusAssign, TimesAssign, Increment, Decrement}
+use Rattle.ca_tree.specs.declared.token.Sign.TheVariants.{OpenBrace, OpenParenthesis, OpenBracket, Semicolon, Times, Arrow, Assign as AssignSign, Increment, Decrement}
 use Rattle.ca_tree.specs.declared.tree.AssignOp.{AssignOp}
 use Rattle.ca_tree.specs.declared.tree.AssignOp.TheVariants.{Add}
 use Rattle.ca_tree.specs.declared.tree.StmtNode.{StmtNode}
@@ -25,10 +25,11 @@ use Rattle.std.specs.Borrow.{Bor}
 use Rattle.std.specs.declared.boxed.Box.{Box}
 use Rattle.std.specs.Global.{Global}
 use Rattle.std.specs.Prelude.{Result, Ok, Err, IfOk}
-use Rattle.ca_parse.specs.Grammar.{Deriving, TypeName, long, bool, pointer, Local, declares, begins, Change, puts, changes, increments, decrements, Compound, plus_assign, minus_assign, times_assign, assigns, AssignLine, assign_line, First, first_local, first_assign, Stmt, nothing, a_block, an_assign, a_call, an_if, an_if_else, a_while, a_for, a_return, a_print, Item, a_local, a_statement, is_open, statements, first_place}
+use Rattle.ca_parse.specs.Grammar.{Deriving, TypeName, long, bool, pointer, Local, declares, begins, Change, puts, changes, increments, decrements, assigns, AssignLine, assign_line, First, first_local, first_assign, Stmt, nothing, a_block, an_assign, a_call, an_if, an_if_else, a_while, a_for, a_return, a_print, Item, a_local, a_statement, is_open, statements, first_place}
 use Rattle.ca_parse.specs.clauses.Closed.{assign_to, Use, calling, putting, use_by, use_of, Used, called, put, StmtClosed, ItemClosed, ReturnRest, return_rest, PrintRest, print_rest, Simple, simple_call, simple_put, stmt_view}
 use Rattle.ca_parse.proofs.Uses.{a_picked}
 use Rattle.ca_parse.proofs.Locals.{LocalOr, a_local as or_local, another, Other}
+use Rattle.ca_parse.proofs.Compounds.{compound_none}
 use Rattle.ca_parse.proofs.AssignRules.{put_to, ended_sign, change_ended}
 use Rattle.ca_parse.proofs.StatementFronts.{shut_here, assign_front, stmt_not_long, stmt_not_bool}
 
@@ -231,12 +232,7 @@ change_not_star : (free : ℕ) (s r : List Token) (c : AssignOp × RightSide) �
 change_not_star free s r c (puts a v) = sign_gives (sign_of Times) AssignSign a
 change_not_star free s r c (increments d) = sign_gives (sign_of Times) Increment d
 change_not_star free s r c (decrements d) = sign_gives (sign_of Times) Decrement d
-change_not_star free s r c (changes o e) = at _ _ _ o
-  where
-    at : (s r : List Token) (o : AssignOp) → Compound s o r → head_of (sign Times) s ≡ None
-    at s r o (plus_assign d) = sign_gives (sign_of Times) PlusAssign d
-    at s r o (minus_assign d) = sign_gives (sign_of Times) MinusAssign d
-    at s r o (times_assign d) = sign_gives (sign_of Times) TimesAssign d
+change_not_star free s r c (changes o e) = compound_none (sign_of Times) (λ at. refl) o
 
 line_not_star : (free : ℕ) (t : Token) (s r : List Token) (n : List ℕ × Place) (x : Statement) → name t ≡ Some n → AssignLine free (t ∷ s) x r
     → head_of (sign Times) s ≡ None

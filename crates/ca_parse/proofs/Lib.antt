@@ -3,6 +3,7 @@ pub mod Semicolons
 pub mod Uses
 pub mod Locals
 pub mod Alone
+pub mod Compounds
 pub mod AssignRules
 pub mod StatementFronts
 pub mod StatementRules

@@ -9,7 +9,7 @@ use Rattle.ca_tree.specs.declared.token.Kind.TheVariants.{Key as KeyKind}
 use Rattle.ca_tree.specs.declared.token.Keyword.{Keyword}
 use Rattle.ca_tree.specs.declared.token.Keyword.TheVariants.{This, Long as LongKey, Bool as BoolKey, Void, If, Else, While, For, Return, New, Print}
 use Rattle.ca_tree.specs.declared.token.Sign.{Sign}
-use Rattle.ca_tree.specs.declared.token.Sign.TheVariants.{OpenBrace, CloseBrace, OpenParenthesis, CloseParenthesis, OpenBracket, Semicolon, Comma, Times, Assign as AssignSign, PlusAssign, MinusAssign, TimesAssign, Increment, Decrement}
+use Rattle.ca_tree.specs.declared.token.Sign.TheVariants.{OpenBrace, CloseBrace, OpenParenthesis, CloseParenthesis, OpenBracket, Semicolon, Comma, Times, Assign as AssignSign, Increment, Decrement}
 use Rattle.ca_tree.specs.declared.tree.TypeNode.{TypeNode}
 use Rattle.ca_tree.specs.declared.tree.AssignOp.{AssignOp}
 use Rattle.ca_tree.specs.declared.tree.ParamNode.{ParamNode}
@@ -18,12 +18,13 @@ use Rattle.ca_tree.specs.Plain.{Expression, RightSide, Statement, MemberTree, Cl
 use Rattle.ca_expressions.specs.Terminals.{key, key_of, sign, sign_of, goes_on, goes_on_of}
 use Rattle.ca_expressions.specs.Grammar.{OuterChain}
 use Rattle.ca_expressions.proofs.Terminals.{sign_gives, name_gives}
-use Rattle.ca_parse.specs.Grammar.{Deriving, TypeName, long, bool, pointer, Right, expression, creation, creation_call, Local, declares, begins, Compound, plus_assign, minus_assign, times_assign, Change, puts, changes, increments, decrements, Assign, assigns, AssignLine, assign_line, First, first_local, first_assign, Stmt, nothing, a_block, an_assign, a_call, an_if, an_if_else, a_while, a_for, a_return, a_print, Item, a_local, a_statement, Items, items_end, items_and, Lines, One, one, Param, param, Signature, signature, Length, scalar, array, Further, further_plain, further_pointer, Member, fields, operation, value_method, Declaration, forward, a_class, read, is_return_zero, MainItem, kept, Program, program, is_open, first_place, DerivesFree}
+use Rattle.ca_parse.specs.Grammar.{Deriving, TypeName, long, bool, pointer, Right, expression, creation, creation_call, Local, declares, begins, Change, puts, changes, increments, decrements, Assign, assigns, AssignLine, assign_line, First, first_local, first_assign, Stmt, nothing, a_block, an_assign, a_call, an_if, an_if_else, a_while, a_for, a_return, a_print, Item, a_local, a_statement, Items, items_end, items_and, Lines, One, one, Param, param, Signature, signature, Length, scalar, array, Further, further_plain, further_pointer, Member, fields, operation, value_method, Declaration, forward, a_class, read, is_return_zero, MainItem, kept, Program, program, is_open, first_place, DerivesFree}
 use Rattle.ca_parse.specs.clauses.Closed.{RightClosed, ChangeClosed, AssignClosed, StmtClosed, ItemClosed, LengthClosed, Condition, condition, Otherwise, with_else, without, OtherwiseClosed, Simple, simple_call, simple_put, calling, putting, Used, called, put, AssignToClosed, Named, NamedClosed, named_field, FurtherClosed, MainItemClosed, main_closed, MainBody}
 use Rattle.ca_parse.proofs.Alone.{Alone, exact_alone, sees_alone, then_alone, done_alone, fewer_alone, picked_alone, lines_alone, one_alone}
 use Rattle.ca_parse.proofs.OneExpression.{expression_alone as value_alone, chain_alone as target_alone}
 use Rattle.ca_parse.proofs.Locals.{TypeFront, front_long, front_bool, front_name, local_front, LocalOr, a_local as or_local, another, Other}
-use Rattle.ca_parse.proofs.AssignRules.{long_alone, bool_alone, pointer_alone, expression_alone, expression_not_new, creation_alone, created_alone, created_call_alone, no_bracket, bare_alone, valued_alone, local_alone, plus_alone, minus_alone, times_alone, puts_alone, increments_alone, decrements_alone, changes_alone, compound_not, assign_to_alone, change_ended, ended_sign, is_targeted, assign_alone, assign_line_alone}
+use Rattle.ca_parse.proofs.Compounds.{compound_none}
+use Rattle.ca_parse.proofs.AssignRules.{long_alone, bool_alone, pointer_alone, expression_alone, expression_not_new, creation_alone, created_alone, created_call_alone, no_bracket, bare_alone, valued_alone, local_alone, puts_alone, increments_alone, decrements_alone, changes_alone, assign_to_alone, change_ended, ended_sign, is_targeted, assign_alone, assign_line_alone}
 use Rattle.ca_parse.proofs.StatementRules.{nothing_alone, block_alone, if_alone, while_alone, for_alone, return_alone, print_alone, return_rest_alone, print_rest_alone, condition_split, if_rest_split, while_rest_split, for_rest_split, branch_shut, else_split}
 use Rattle.ca_parse.proofs.ChainStatements.{simple_split, chain_split, call_use, put_use, other_line, other_statement, first_split, item_split}
 use Rattle.ca_parse.proofs.StatementFronts.{chain_front, assign_front, item_not_else, item_not_close, no_else, type_front}
@@ -50,19 +51,12 @@ local_tells free s r x (begins t n a v e) = local_alone (then_alone (type_tells 
     (valued_alone _ _ (sees_head (sign AssignSign) a) (then_alone (sees_alone a)
     (then_alone (right_tells _ _ _ _ v (ended_sign Semicolon e (λ at. refl))) (then_alone (sees_alone e) done_alone))))))
 
-compound_tells : (s r : List Token) (o : AssignOp) → Compound s o r → Alone (λ free. Compound) s o r
-compound_tells s r o (plus_assign d) = plus_alone (sees_head (sign PlusAssign) d) (then_alone (sees_alone d) done_alone)
-compound_tells s r o (minus_assign d) = minus_alone (sees_head (sign MinusAssign) d) (then_alone (sees_alone d) done_alone)
-compound_tells s r o (times_assign d) = times_alone (sign_gives (sign_of PlusAssign) TimesAssign d) (sign_gives (sign_of MinusAssign) TimesAssign d)
-    (then_alone (sees_alone d) done_alone)
-
 change_tells : (free : ℕ) (s r : List Token) (c : AssignOp × RightSide) → Change free s c r → head_of (goes_on 0) r ≡ None → Alone ChangeClosed s c r
 change_tells free s r c (puts a v) h = puts_alone (sees_head (sign AssignSign) a) (then_alone (sees_alone a) (then_alone (right_tells _ _ _ _ v h) done_alone))
 change_tells free s r c (increments d) h = increments_alone (sees_head (sign Increment) d) (then_alone (sees_alone d) done_alone)
 change_tells free s r c (decrements d) h = decrements_alone (sees_head (sign Decrement) d) (then_alone (sees_alone d) done_alone)
-change_tells free s r c (changes o e) h = changes_alone (compound_not AssignSign (λ p. refl) (λ p. refl) (λ p. refl) _ _ _ o)
-    (compound_not Increment (λ p. refl) (λ p. refl) (λ p. refl) _ _ _ o) (compound_not Decrement (λ p. refl) (λ p. refl) (λ p. refl) _ _ _ o)
-    (then_alone (compound_tells _ _ _ o) (then_alone (value_alone _ _ _ _ e h) done_alone))
+change_tells free s r c (changes o e) h = changes_alone (compound_none (sign_of AssignSign) (λ at. refl) o) (compound_none (sign_of Increment) (λ at. refl) o)
+    (compound_none (sign_of Decrement) (λ at. refl) o) (then_alone (sees_alone o) (then_alone (value_alone _ _ _ _ e h) done_alone))
 
 assign_tells : (free : ℕ) (s r : List Token) (x : Statement) → Assign free s x r → head_of (goes_on 0) r ≡ None → Alone AssignClosed s x r
 assign_tells free s r x (assigns c t d) h = assign_alone (then_alone (picked_alone (is_targeted _ t) (target_alone _ _ _ _ c (change_ended _ _ _ _ d)))

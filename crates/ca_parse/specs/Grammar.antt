@@ -32,16 +32,17 @@ use Rattle.ca_descent.specs.Exact.{Grammar, Sees, Asked, Separated, Following}
 use Rattle.ca_tree.specs.declared.name.Place.{Place}
 use Rattle.ca_tree.specs.declared.token.Token.{Token}
 use Rattle.ca_tree.specs.declared.token.Keyword.TheVariants.{Class as ClassKey, Public, Long as LongKey, Bool as BoolKey, Int, Void, If, Else, While, For, Return, New, Print, Main}
-use Rattle.ca_tree.specs.declared.token.Sign.TheVariants.{OpenBrace, CloseBrace, OpenParenthesis, CloseParenthesis, OpenBracket, CloseBracket, Semicolon, Comma, Colon, Assign as AssignSign, Times, PlusAssign, MinusAssign, TimesAssign, Increment, Decrement}
+use Rattle.ca_tree.specs.declared.token.Sign.TheVariants.{OpenBrace, CloseBrace, OpenParenthesis, CloseParenthesis, OpenBracket, CloseBracket, Semicolon, Comma, Colon, Assign as AssignSign, Times, Increment, Decrement}
 use Rattle.ca_tree.specs.declared.tree.TypeNode.{TypeNode}
 use Rattle.ca_tree.specs.declared.tree.TypeNode.TheVariants.{Long, Bool as BoolType, Pointer}
 use Rattle.ca_tree.specs.declared.tree.ParamNode.{ParamNode}
 use Rattle.ca_tree.specs.declared.tree.AssignOp.{AssignOp}
-use Rattle.ca_tree.specs.declared.tree.AssignOp.TheVariants.{Put, Add, Sub, Mul}
+use Rattle.ca_tree.specs.declared.tree.AssignOp.TheVariants.{Put, Add, Sub}
 use Rattle.ca_tree.specs.Plain.{Expression, RightSide, Statement, Statements, MemberTree, ClassTree, TextTree, number as number_tree, truth, null, this, named, call, field, method, index, unary, binary, value, new, empty, block, local, assign, call_statement, if_only, if_else, while_loop, for_loop, return_value, print_value, no_statements, statement_and, field_member, method_member}
 use Rattle.ca_expressions.specs.Terminals.{key, sign, name, number, zero}
 use Rattle.ca_expressions.specs.Grammar.{OuterExpression, OuterChain, is_call, is_target}
 use Rattle.ca_parse.specs.declared.statements.TheConstants.{DEEPEST}
+use Rattle.ca_parse.specs.Compounds.{compound}
 
 abbrev pub Deriving : Type 0 → Type 1
 Deriving A = Grammar Token A
@@ -89,16 +90,11 @@ pub data Local : ℕ → List Token → Statement → List Token → Type 0 wher
       → TypeName free s ty s1 → Sees name s1 n s2 → Sees (sign AssignSign) s2 a s3 → Right free s3 x s4
       → Sees (sign Semicolon) s4 e r → Local free s (local ty.1 ty.0 n.0 n.1 (Some x)) r
 
-pub data Compound : List Token → AssignOp → List Token → Type 0 where
-  plus_assign : {s r : List Token} {p : Place} → Sees (sign PlusAssign) s p r → Compound s Add r
-  minus_assign : {s r : List Token} {p : Place} → Sees (sign MinusAssign) s p r → Compound s Sub r
-  times_assign : {s r : List Token} {p : Place} → Sees (sign TimesAssign) s p r → Compound s Mul r
-
 -- `++` is `+= 1` and `--` is `-= 1`, where the 1 has the place of the sign
 pub data Change : ℕ → List Token → AssignOp × RightSide → List Token → Type 0 where
   puts : {free : ℕ} {s s1 r : List Token} {a : Place} {x : RightSide} → Sees (sign AssignSign) s a s1
       → Right free s1 x r → Change free s (Put, x) r
-  changes : {free : ℕ} {s s1 r : List Token} {op : AssignOp} {x : Expression} → Compound s op s1
+  changes : {free : ℕ} {s s1 r : List Token} {op : AssignOp} {x : Expression} → Sees compound s op s1
       → OuterExpression free s1 x r → Change free s (op, value x) r
   increments : {free : ℕ} {s r : List Token} {p : Place} → Sees (sign Increment) s p r
       → Change free s (Add, value (number_tree p (pos 1))) r

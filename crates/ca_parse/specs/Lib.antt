@@ -1,2 +1,3 @@
+pub mod Compounds
 pub mod Grammar
 pub mod clauses

@@ -1,11 +1,12 @@
 //! From tokens to declarations of locals and assignments: `Local`, `Assign` and `First` of `specs/Grammar.antt`.
 
-ghost use Rattle.std.specs.Prelude.{◌≡◌, pos};
+ghost use Rattle.std.specs.Prelude.{◌≡◌, None, pos, IfSome, IfNone};
 ghost use Rattle.ca_tree.specs.Plain.{value, number};
-ghost use Rattle.ca_descent.specs.Exact.{Exact, Unlimited};
+ghost use Rattle.ca_descent.specs.Exact.{Exact, Unlimited, Sees, head_of};
 ghost use Rattle.ca_tree.specs.View.{expression_view, right_view};
 ghost use Rattle.ca_expressions.specs.Readers.{answer, node_view};
-ghost use Rattle.ca_parse.specs.Grammar.{Right as RightSide, Local, Compound, Change, Assign, AssignLine, First, first_place as first_place_of};
+ghost use Rattle.ca_parse.specs.Compounds.{compound_of_sign, compound};
+ghost use Rattle.ca_parse.specs.Grammar.{Right as RightSide, Local, Change, Assign, AssignLine, First, first_place as first_place_of};
 ghost use Rattle.ca_parse.specs.clauses.Closed.{RightClosed, ChangeClosed, AssignClosed, AssignTo, AssignToClosed, stmt_view};
 
 use crate::endings::{ended, line, statement};
@@ -14,7 +15,7 @@ use ca_expressions::{
     Fault, is_target, key_at, parse_chain, parse_expression, sign_at, take_name, take_sign,
 };
 use ca_tree::{
-    AssignOp, ExprKind, ExprNode, Keyword, Place, Right, Sign, StmtKind, StmtNode, Token,
+    AssignOp, ExprKind, ExprNode, Keyword, Kind, Place, Right, Sign, StmtKind, StmtNode, Token,
 };
 use std::alloc::Global;
 
@@ -78,18 +79,43 @@ pub fn parse_local<'a>(
     line(alloc, at, kind, rest)
 }
 
+/// The assignment that a sign writes, of those that change what their target holds.
+fn compound_of_sign(sign: Sign) -> Option<AssignOp>
+    ensures { result ≡ compound_of_sign sign }
+{
+    match sign {
+        Sign::PlusAssign => Some(AssignOp::Add),
+        Sign::MinusAssign => Some(AssignOp::Sub),
+        Sign::TimesAssign => Some(AssignOp::Mul),
+        _ => None,
+    }
+}
+
+/// The same of the sign in front, and what stands behind it.
+fn compound_at(tokens: &[Token]) -> Option<(AssignOp, &[Token])>
+    ensures some { IfSome result (λ p. Sees compound tokens.now p.0 p.1.now) }
+    ensures none { IfNone result (head_of compound tokens.now ≡ None) }
+{
+    let [token, rest @ ..] = tokens else {
+        return None;
+    };
+    let Kind::Sign(sign) = &token.kind else {
+        return None;
+    };
+    let Some(op) = compound_of_sign(*sign) else {
+        return None;
+    };
+    Some((op, rest))
+}
+
 /// `+=`, `-=` or `*=`.
 fn parse_compound<'a>(tokens: &'a [Token]) -> Result<(AssignOp, &'a [Token]), Fault<'a>>
-    ensures answer { Exact (Unlimited Compound) (Unlimited Compound) tokens.now (answer (λ o. o) result) }
+    ensures answer { Exact (Unlimited (Sees compound)) (Unlimited (Sees compound)) tokens.now (answer (λ o. o) result) }
 {
-    if let Some((_, rest)) = sign_at(tokens, Sign::PlusAssign) {
-        return Ok((AssignOp::Add, rest));
+    match compound_at(tokens) {
+        Some((op, rest)) => Ok((op, rest)),
+        None => Err(Fault::Wrong(tokens)),
     }
-    if let Some((_, rest)) = sign_at(tokens, Sign::MinusAssign) {
-        return Ok((AssignOp::Sub, rest));
-    }
-    let (_, rest) = take_sign(tokens, Sign::TimesAssign)?;
-    Ok((AssignOp::Mul, rest))
 }
 
 /// The 1 of `++` and `--`, at the place of the sign.

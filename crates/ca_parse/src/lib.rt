@@ -7,7 +7,7 @@
 //! A parsing function reads at the front of the tokens and gives what stands behind; its clause
 //! says that its answer is exact, at a wrong token and past a limit too.
 //!
-//! Whoever reads the public clauses must believe `Grammar` of `specs/`; what stands in `specs/clauses/` serves
+//! Whoever reads the public clauses must believe `Grammar` and `Compounds` of `specs/`; what stands in `specs/clauses/` serves
 //! clauses within the crate alone.
 #![tactic(auto)]
 

@@ -51,6 +51,8 @@ C
 0p+
 0px-
 0p*
+0pG
+0px^
 0pP
 0pxI
 0pS

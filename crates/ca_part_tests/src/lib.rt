@@ -20,6 +20,8 @@ mod expressions;
 #[cfg(test)]
 mod extents;
 #[cfg(test)]
+mod folds;
+#[cfg(test)]
 mod forms;
 #[cfg(test)]
 mod generated;

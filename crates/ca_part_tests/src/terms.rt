@@ -7,6 +7,7 @@
 //! is field 0, squared thirteen times.
 
 use crate::sources::let_go;
+use ca_folds::FoldOp;
 use ca_norm::gather::{array_of, polynomial_of, scalar_of};
 use ca_norm::{MOST_WEIGHT, Normal, NormalError, Sort, Term, normal, same, weight};
 use std::process::Abort;
@@ -52,6 +53,17 @@ fn alone<R: AllocGlobal>(rt: &R, letter: u8, part: Box<Term>) -> Term {
     }
 }
 
+/// The operator of a letter, of those whose operands may stand in any order.
+fn operator(letter: u8) -> FoldOp {
+    match letter {
+        b'G' => FoldOp::Max,
+        b'K' => FoldOp::Min,
+        b'B' => FoldOp::BitAnd,
+        b'T' => FoldOp::BitOr,
+        _ => FoldOp::BitXor,
+    }
+}
+
 /// A term with two parts.
 fn beside(letter: u8, a: Box<Term>, b: Box<Term>) -> Term {
     match letter {
@@ -61,6 +73,7 @@ fn beside(letter: u8, a: Box<Term>, b: Box<Term>) -> Term {
         b'=' => Term::Same(a, b),
         b'&' => Term::And(a, b),
         b'|' => Term::Or(a, b),
+        b'G' | b'K' | b'B' | b'T' | b'^' => Term::Fold(operator(letter), a, b),
         b'P' => Term::ReadAt(Sort::Pointer, a, 1, 2, b),
         b'I' => Term::ReadAt(Sort::Long, a, 1, 2, b),
         _ => Term::Select(a, b),

@@ -11,7 +11,7 @@ use Rattle.ca_tree.specs.declared.tree.TypeNode.{TypeNode}
 use Rattle.ca_tree.specs.declared.tree.ParamNode.{ParamNode}
 use Rattle.ca_tree.specs.declared.tree.AssignOp.{AssignOp}
 use Rattle.ca_tree.specs.Plain.{RightSide, Statement, TextTree}
-use Rattle.ca_parse.specs.Grammar.{Deriving, statements, TypeName, long, bool, pointer, Right, expression, creation, creation_call, Local, declares, begins, Compound, plus_assign, minus_assign, times_assign, Change, puts, changes, increments, decrements, Assign, assigns, AssignLine, assign_line, First, first_local, first_assign, Stmt, nothing, a_block, an_assign, a_call, an_if, an_if_else, a_while, a_for, a_return, a_print, Item, a_local, a_statement, Items, items_end, items_and, Lines, lines_end, lines_and, One, one, Listed, Param, param, Signature, signature, Length, scalar, array, Further, further_plain, further_pointer, Member, fields, operation, value_method, Declaration, forward, a_class, MainItem, main_item, kept, program, DerivesFree}
+use Rattle.ca_parse.specs.Grammar.{Deriving, statements, TypeName, long, bool, pointer, Right, expression, creation, creation_call, Local, declares, begins, Change, puts, changes, increments, decrements, Assign, assigns, AssignLine, assign_line, First, first_local, first_assign, Stmt, nothing, a_block, an_assign, a_call, an_if, an_if_else, a_while, a_for, a_return, a_print, Item, a_local, a_statement, Items, items_end, items_and, Lines, lines_end, lines_and, One, one, Listed, Param, param, Signature, signature, Length, scalar, array, Further, further_plain, further_pointer, Member, fields, operation, value_method, Declaration, forward, a_class, MainItem, main_item, kept, program, DerivesFree}
 use Rattle.ca_typing.proofs.Lists.{all_append}
 use Rattle.ca_typing.proofs.Fits.{TokensFit, RightFits, StatementFits, StatementsFit, MemberFits, ClassFits, LiteralsFit}
 use Rattle.ca_typing.proofs.LiteralExpressions.{behind, expression_fits, outer_chain_fits}
@@ -61,14 +61,9 @@ local_fits : {free : ℕ} {s r : List Token} {x : Statement} → Local free s x 
 local_fits (declares t n e) h = (tt, behind e (behind n (type_fits t h)))
 local_fits (begins t n a x e) h = let start = right_fits x (behind a (behind n (type_fits t h))) in (start.0, behind e start.1)
 
-compound_fits : {s r : List Token} {op : AssignOp} → Compound s op r → TokensFit s → TokensFit r
-compound_fits (plus_assign p) h = behind p h
-compound_fits (minus_assign p) h = behind p h
-compound_fits (times_assign p) h = behind p h
-
 change_fits : {free : ℕ} {s r : List Token} {c : AssignOp × RightSide} → Change free s c r → TokensFit s → RightFits c.1 × TokensFit r
 change_fits (puts a x) h = right_fits x (behind a h)
-change_fits (changes c e) h = expression_fits e (compound_fits c h)
+change_fits (changes c e) h = expression_fits e (behind c h)
 change_fits (increments p) h = (fits_signed_from_abs w64 (pos 1) (omega arith), behind p h)
 change_fits (decrements p) h = (fits_signed_from_abs w64 (pos 1) (omega arith), behind p h)
 

@@ -1,4 +1,4 @@
-use Rattle.std.proofs.Common.{◌≡◌, ◌++◌, [], List, ◌⊎◌, inl, inr, Ok, reverse, arith, refl, sym, ap, ap₂, ◌∙◌}
+use Rattle.std.proofs.Common.{◌≡◌, ◌++◌, [], List, ◌⊎◌, inl, inr, Ok, reverse, arith, refl, ap, ap₂, ◌∙◌}
 use Rattle.std.proofs.lemmas.List.{reverse-reverse}
 use Rattle.ca_folds.specs.Operators.{cancels}
 use Rattle.ca_folds.specs.Operands.{merge}

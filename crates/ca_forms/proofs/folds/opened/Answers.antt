@@ -1,4 +1,4 @@
-use Rattle.std.proofs.Common.{sym, ap, ◌∙◌}
+use Rattle.std.proofs.Common.{ap, ◌∙◌}
 use Rattle.ca_forms.specs.Lists.{polynomial_of}
 use Rattle.ca_forms.specs.Folds.{made_in}
 use Rattle.ca_forms.proofs.Made.{last_product, polynomial_back}

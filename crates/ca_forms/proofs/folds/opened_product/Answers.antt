@@ -1,4 +1,4 @@
-use Rattle.std.proofs.Common.{sym, ap, ◌∙◌}
+use Rattle.std.proofs.Common.{ap, ◌∙◌}
 use Rattle.ca_forms.specs.Folds.{part_made, monomial_made}
 use Rattle.ca_forms.proofs.Made.{last_power}
 use Rattle.ca_forms.proofs.folds.opened_product.Goals as goal

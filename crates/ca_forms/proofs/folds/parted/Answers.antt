@@ -1,4 +1,4 @@
-use Rattle.std.proofs.Common.{◌∷◌, ◌++◌, [], refl, sym, ap, ap₂, ◌∙◌}
+use Rattle.std.proofs.Common.{◌∷◌, ◌++◌, [], sym, ap, ap₂, ◌∙◌}
 use Rattle.ca_folds.specs.Operands.{parts_of}
 use Rattle.ca_forms.specs.Plain.{number_form}
 use Rattle.ca_forms.specs.Rules.{constancy}

@@ -7,7 +7,7 @@ use Rattle.ca_forms.specs.declared.sort.Sort.TheVariants.{Long, Bool as Truth}
 use Rattle.ca_forms.specs.Plain.{PlainMonomial, result_of}
 use Rattle.ca_forms.specs.Lists.{polynomial_of, products_of, scalars_of}
 use Rattle.ca_forms.specs.Compare.{monomial_cmp}
-use Rattle.ca_forms.specs.Rules.{gathered, minus, truth_sum, less_sum, same_numbers, same_truths}
+use Rattle.ca_forms.specs.Rules.{gathered, minus, truth_sum, less_sum, same_numbers}
 use Rattle.ca_forms.proofs.Exact.{monomials_exact}
 use Rattle.ca_forms.proofs.Told.{on_ok, put_behind}
 use Rattle.ca_forms.proofs.Gathered.{adds_gathered, adds_chosen, adds_scaled, adds_either, adds_same_truths, same_numbers_gathered}

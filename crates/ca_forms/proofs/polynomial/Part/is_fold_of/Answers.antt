@@ -1,7 +1,7 @@
-use Rattle.std.proofs.Common.{◌≡◌, is_some, sym, ap, ap₂, ◌∙◌}
+use Rattle.std.proofs.Common.{is_some, sym, ap, ap₂, ◌∙◌}
 use Rattle.std.specs.Prelude.{nat_eq}
 use Rattle.ca_forms.specs.Seen.{part_of}
-use Rattle.ca_forms.specs.Folds.{items_of, part_made}
+use Rattle.ca_forms.specs.Folds.{part_made}
 use Rattle.ca_forms.proofs.Made.{told, no_made}
 use Rattle.ca_forms.proofs.polynomial.Part.is_fold_of.Goals as goal
 
