@@ -85,13 +85,7 @@ fn entry_of(
 }
 
 /// An entry of this task, told.
-fn tell(
-    task: &Task,
-    clock: u64,
-    steps: u64,
-    listed: &Vec<Task>,
-    stop: Option<Stop>,
-) -> Told
+fn tell(task: &Task, clock: u64, steps: u64, listed: &Vec<Task>, stop: Option<Stop>) -> Told
     ensures { told_entry result ≡ entry_with task.now clock steps (map operation_in listed.now.items) stop }
 {
     Told {

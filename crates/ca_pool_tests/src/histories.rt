@@ -51,12 +51,7 @@ fn are_kept(log: &CellLog, keeps: bool) -> bool {
 }
 
 /// Whether a fresh history takes a task, then one that is spent, and then none, and keeps these entries or none.
-fn takes_two<R: Abort>(
-    rt: &R,
-    alloc: Global,
-    program: &Program,
-    keeps: bool,
-) -> Result<bool, Fail>
+fn takes_two<R: Abort>(rt: &R, alloc: Global, program: &Program, keeps: bool) -> Result<bool, Fail>
     requires { program_view program.now ≡ counters }
 {
     let roots = [OpId(1)];
