@@ -1,5 +1,5 @@
 -- Derivations of short expressions.
-use Rattle.std.proofs.Common.{ℕ, zero, suc, ◌≤◌, List, ◌∷◌, ◌++◌, length, refl, arith, inl}
+use Rattle.std.proofs.Common.{◌≡◌, ℕ, zero, suc, ◌+◌, ◌≤◌, List, ◌∷◌, ◌++◌, length, refl, subst, arith, inl}
 use Rattle.std.specs.Prelude.{ℤ}
 use Rattle.ca_descent.specs.Exact.{sees, Short}
 use Rattle.ca_tree.specs.declared.name.Place.{Place}
@@ -12,9 +12,11 @@ use Rattle.ca_tree.specs.Plain.{Expression, number, named}
 use Rattle.ca_expressions.specs.Grammar.{Level, operands, one_operand, operands_end, Unary, unary_last, a_literal, a_chain, Chain, name_chain, tails_end}
 
 -- an expression of a level is one operand of each weaker level
-weakest : (k : ℕ) → k ≤ LEVELS → {s r : List Token} {x : Expression} → Level k s x r → Level 0 s x r
+weakest : {s r : List Token} {x : Expression} (k : ℕ) → k ≤ LEVELS → Level k s x r → Level 0 s x r
 weakest zero h d = d
-weakest (suc k) h d = weakest k (omega (arith, h)) (operands (omega (arith, h)) d operands_end)
+weakest {s} {r} {x} (suc k) h d =
+    let e : suc k ≡ k + 1 = omega arith in
+    weakest k (omega (arith, h)) (operands (omega (arith, h)) (subst (λ n. Level n s x r) e d) operands_end)
 
 -- an expression without binary operators, at the level of a sum's operands, of a comparison's, and of all
 pub a_factor : {s r : List Token} {x : Expression} → Unary s x r → Level (level Times) s x r
