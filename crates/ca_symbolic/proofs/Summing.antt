@@ -109,11 +109,17 @@ module _ (p : PlainProgram) (s : State) (g : PlainTerm) (f : FieldId) (i : Expre
       refused_value p s g f assign.Put t (expression_view e) ≡ refused_right p s g f i (expression_view e)
   value_refused e other = ap (λ (u : PlainTerm). refused_value p s g f assign.Put u (expression_view e)) named ∙ plain_refused e other
 
-  module _ (op o : AssignOp) (is : op ≡ o) (e : Expression) where
-    pub array_made : with_put o (term_at s.fields f.field) (term_of p s i) (term_of p s e) ≡ array_term p s f i o e → with_put op (term_at s.fields f.field) t (term_of p s e) ≡ array_term p s f i op e
-    array_made same =
-        ap₂ (λ (k : AssignOp) (u : PlainTerm). with_put k (term_at s.fields f.field) u (term_of p s e)) is named ∙ (same ∙ sym (ap (λ (k : AssignOp). array_term p s f i k e) is))
+  no_put_made : (op : AssignOp) (e : Expression) → (op ≡ assign.Put → ⊥) → with_put op (term_at s.fields f.field) (term_of p s i) (term_of p s e) ≡ array_term p s f i op e
+  no_put_made assign.Put e n = absurd (n refl)
+  no_put_made op e n = refl
 
-    pub array_refused : refused_value p s g f o (term_of p s i) e ≡ refused_array p s g f i o e → refused_value p s g f op t e ≡ refused_array p s g f i op e
-    array_refused same =
-        ap₂ (λ (k : AssignOp) (u : PlainTerm). refused_value p s g f k u e) is named ∙ (same ∙ sym (ap (λ (k : AssignOp). refused_array p s g f i k e) is))
+  no_put_refused : (op : AssignOp) (e : Expression) → (op ≡ assign.Put → ⊥) → refused_value p s g f op (term_of p s i) e ≡ refused_array p s g f i op e
+  no_put_refused assign.Put e n = absurd (n refl)
+  no_put_refused op e n = refl
+
+  module _ (op : AssignOp) (no_put : op ≡ assign.Put → ⊥) (e : Expression) where
+    pub array_made : with_put op (term_at s.fields f.field) t (term_of p s e) ≡ array_term p s f i op e
+    array_made = ap (λ (u : PlainTerm). with_put op (term_at s.fields f.field) u (term_of p s e)) named ∙ no_put_made op e no_put
+
+    pub array_refused : refused_value p s g f op t e ≡ refused_array p s g f i op e
+    array_refused = ap (λ (u : PlainTerm). refused_value p s g f op u e) named ∙ no_put_refused op e no_put

@@ -6,7 +6,7 @@ use Rattle.std.proofs.lemmas.Int.{int_wrap_fits, int_wrap-sub_right, ints, SFits
 use Rattle.ca_tree.specs.declared.tree.AssignOp.{AssignOp}
 use Rattle.ca_tree.specs.declared.tree.AssignOp.TheVariants as assign
 use Rattle.ca_tree.specs.declared.tree.BinaryOp.{BinaryOp}
-use Rattle.ca_tree.specs.declared.tree.BinaryOp.TheVariants.{Or, And, Equal, NotEqual, Less, Greater, LessEqual, GreaterEqual, Plus, Minus, Times, Divide, Remainder}
+use Rattle.ca_tree.specs.declared.tree.BinaryOp.TheVariants.{Or, And, Equal, NotEqual, Less, Greater, LessEqual, GreaterEqual, Plus, Minus, Times, Divide, Remainder, BitAnd, BitOr, BitXor, Max, Min}
 use Rattle.ca_tree.specs.declared.tree.UnaryOp.{UnaryOp}
 use Rattle.ca_tree.specs.declared.tree.UnaryOp.TheVariants as sign
 use Rattle.ca_program.specs.declared.program.ClassId.{ClassId}
@@ -203,6 +203,11 @@ operation_good Divide side ty s a b g h n d =
     subst (λ z. IsGood (sort_of_type ty) (operation Divide a b z)) (sym d.is) (good ty Long _ (ap sort_of_type s.1) refl (ap sort_of_type s.1, of_type side type.Long a s.0 g, d.fits, d.nonzero))
 operation_good Remainder side ty s a b g h n d =
     subst (λ z. IsGood (sort_of_type ty) (operation Remainder a b z)) (sym d.is) (good ty Long _ (ap sort_of_type s.1) refl (ap sort_of_type s.1, of_type side type.Long a s.0 g, d.fits, d.nonzero))
+operation_good BitAnd side ty s a b g h n d = good ty Long _ (ap sort_of_type s.1) refl (ap sort_of_type s.1, of_type side type.Long a s.0 g, of_type side type.Long b s.0 h)
+operation_good BitOr side ty s a b g h n d = good ty Long _ (ap sort_of_type s.1) refl (ap sort_of_type s.1, of_type side type.Long a s.0 g, of_type side type.Long b s.0 h)
+operation_good BitXor side ty s a b g h n d = good ty Long _ (ap sort_of_type s.1) refl (ap sort_of_type s.1, of_type side type.Long a s.0 g, of_type side type.Long b s.0 h)
+operation_good Max side ty s a b g h n d = good ty Long _ (ap sort_of_type s.1) refl (ap sort_of_type s.1, of_type side type.Long a s.0 g, of_type side type.Long b s.0 h)
+operation_good Min side ty s a b g h n d = good ty Long _ (ap sort_of_type s.1) refl (ap sort_of_type s.1, of_type side type.Long a s.0 g, of_type side type.Long b s.0 h)
 
 pub signed_good : (op : UnaryOp) (ty : ValueType) (a : PlainTerm) → ty ≡ signed_type op → IsGood (sort_of_type (signed_type op)) a → IsGood (sort_of_type ty) (signed_term op a)
 signed_good sign.Minus ty a e g = good ty Long _ (ap sort_of_type e) refl (ap sort_of_type e, g.is)
@@ -218,6 +223,9 @@ put_good assign.Put ty a old t g h = h
 put_good assign.Add ty a old t g h = good ty Long _ (ap sort_of_type a) refl (ap sort_of_type a, of_type ty type.Long old a g, of_type ty type.Long t a h)
 put_good assign.Sub ty a old t g h = good ty Long _ (ap sort_of_type a) refl (ap sort_of_type a, of_type ty type.Long old a g, of_type ty type.Long t a h)
 put_good assign.Mul ty a old t g h = good ty Long _ (ap sort_of_type a) refl (ap sort_of_type a, of_type ty type.Long old a g, of_type ty type.Long t a h)
+put_good assign.BitAnd ty a old t g h = good ty Long _ (ap sort_of_type a) refl (ap sort_of_type a, of_type ty type.Long old a g, of_type ty type.Long t a h)
+put_good assign.BitOr ty a old t g h = good ty Long _ (ap sort_of_type a) refl (ap sort_of_type a, of_type ty type.Long old a g, of_type ty type.Long t a h)
+put_good assign.BitXor ty a old t g h = good ty Long _ (ap sort_of_type a) refl (ap sort_of_type a, of_type ty type.Long old a g, of_type ty type.Long t a h)
 
 pub both_sorted : (ds es : List PlainDemand) → DemandsSorted ds → DemandsSorted es → DemandsSorted (ds ++ es)
 both_sorted [] es s t = t
