@@ -9,7 +9,7 @@ use Rattle.ca_program.specs.declared.program.FirstPart.TheVariants.{Declares, As
 use Rattle.ca_program.specs.declared.program.FunctionId.{FunctionId}
 use Rattle.ca_program.specs.declared.program.OpId.{OpId}
 use Rattle.ca_program.specs.declared.program.ValueType.TheVariants as type
-use Rattle.ca_program.specs.Plain.{PlainProgram, PlainMethod, Expression, Statement, Statements, null, local, own, own_item, value_call, unary, binary, no_expressions, expression_and, block, put_local, put_field, put_item, invoke, if_else, while_loop, for_loop, return_value, no_statements, statement_and}
+use Rattle.ca_program.specs.Plain.{PlainProgram, PlainMethod, Expression, Statement, local, own, own_item, value_call, binary, no_expressions, expression_and, block, put_local, put_field, put_item, invoke, if_else, while_loop, for_loop, return_value, no_statements, statement_and}
 use Rattle.ca_program.specs.Plain as plain
 use Rattle.ca_folds.specs.declared.operator.FoldOp.TheVariants as fold_op
 use Rattle.ca_forms.specs.declared.sort.Sort.TheVariants.{Long, Bool, Pointer, LongArray}

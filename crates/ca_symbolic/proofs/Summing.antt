@@ -1,5 +1,5 @@
 -- A put to an item, by its right side: `left op right` adds to the item where the left side is that item.
-use Rattle.std.proofs.Common.{◌≡◌, Bool, true, false, ◌||◌, List, ◌++◌, Result, Ok, Err, OnOk, Global, refl, sym, ap, ap₂, ◌∙◌}
+use Rattle.std.proofs.Common.{◌≡◌, Bool, true, false, ◌||◌, ◌++◌, Result, Ok, Err, OnOk, Global, refl, sym, ap, ap₂, ◌∙◌}
 use Rattle.std.specs.Prelude.{if◌then◌else◌}
 use Rattle.std.specs.declared.boxed.Box.{Box}
 use Rattle.ca_tree.specs.declared.tree.AssignOp.{AssignOp}
@@ -16,7 +16,7 @@ use Rattle.ca_symbolic.specs.Execution.{term_of, is_item, put_right, array_term}
 use Rattle.ca_symbolic.specs.Demands.{demands_in}
 use Rattle.ca_symbolic.specs.Demanded.{Demanded, with_demands}
 use Rattle.ca_symbolic.specs.clauses.Refusals.{refused_item, with_put, refused_value, put_sum, refused_sum, refused_right, refused_array}
-use Rattle.ca_symbolic.proofs.Flags.{neither, first_of, second_of}
+use Rattle.ca_symbolic.proofs.Flags.{first_of}
 use Rattle.ca_symbolic.proofs.Valued.{behind, guard_of}
 
 pub was_ok : {T E : Type 0} (r : Result T E) (x : T) (P : Type 0) → r ≡ Ok x → OnOk r P → P

@@ -12,7 +12,7 @@ use Rattle.ca_program.specs.declared.program.FieldId.{FieldId}
 use Rattle.ca_program.specs.declared.program.FieldInfo.{FieldInfo}
 use Rattle.ca_program.specs.declared.program.ValueType.{ValueType}
 use Rattle.ca_program.specs.Fields.{same_field}
-use Rattle.ca_program.specs.Plain.{PlainProgram, PlainMethod, Expression, Expressions, this, local, own, own_item, read_item, value_call, unary, binary, no_expressions, expression_and, Statement, Statements, block, put_local, put_field, put_item, new_local, new_field, new_item, invoke, if_else, while_loop, for_loop, return_value, print_value, no_statements, statement_and}
+use Rattle.ca_program.specs.Plain.{PlainProgram, PlainMethod, Expression, Expressions, this, local, own, own_item, read_item, value_call, unary, binary, no_expressions, expression_and, Statement, Statements, block, put_local, put_field, put_item, if_else, no_statements, statement_and}
 use Rattle.ca_program.specs.Plain as plain
 use Rattle.ca_meaning.specs.ProgramTyped.{field_info}
 use Rattle.ca_parallel.specs.Bodies.{targets_of}

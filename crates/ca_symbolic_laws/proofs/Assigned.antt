@@ -11,7 +11,7 @@ use Rattle.ca_tree.specs.declared.tree.UnaryOp.TheVariants as sign
 use Rattle.ca_program.specs.declared.program.FieldId.{FieldId}
 use Rattle.ca_program.specs.declared.program.ValueType.{ValueType}
 use Rattle.ca_program.specs.declared.program.ValueType.TheVariants as type
-use Rattle.ca_program.specs.Plain.{PlainProgram, Expression, Expressions, this, local, own, own_item, read_item, value_call, unary, binary}
+use Rattle.ca_program.specs.Plain.{PlainProgram, Expression, this, local, own, own_item, read_item, value_call, unary, binary}
 use Rattle.ca_program.specs.Plain as plain
 use Rattle.ca_model.specs.declared.value.Value.{Value as Datum}
 use Rattle.ca_model.specs.declared.value.Value.TheVariants.{Long, Bool as Truth, Null, Ref}

@@ -8,7 +8,7 @@ use Rattle.ca_program.specs.declared.program.ClassId.{ClassId}
 use Rattle.ca_program.specs.declared.program.FieldId.{FieldId}
 use Rattle.ca_program.specs.declared.program.ValueType.{ValueType}
 use Rattle.ca_program.specs.declared.program.ValueType.TheVariants as type
-use Rattle.ca_program.specs.Plain.{PlainProgram, PlainMethod, Expression, Expressions, local, own, own_item, read_item, value_call, unary, binary, no_expressions, expression_and, Statement, Statements, block, put_local, put_field, put_item, new_local, new_field, new_item, invoke, if_else, while_loop, for_loop, return_value, print_value, no_statements, statement_and}
+use Rattle.ca_program.specs.Plain.{PlainProgram, Expression, Expressions, local, own, own_item, read_item, value_call, unary, binary, no_expressions, expression_and, Statement, Statements, block, put_local, put_field, put_item, new_local, new_field, new_item, invoke, if_else, while_loop, for_loop, return_value, print_value, no_statements, statement_and}
 use Rattle.ca_program.specs.Plain as plain
 use Rattle.ca_model.specs.Heaps.{fields_of}
 use Rattle.ca_meaning.specs.ProgramTyped.{Scope, IsArray, field_info, signed_type, ExpressionTyped, ExpressionsTyped, AssignTyped, StatementTyped, StatementsTyped}
@@ -18,7 +18,7 @@ use Rattle.ca_forms.specs.declared.sort.Sort.TheVariants.{Long, Bool as Truth, P
 use Rattle.ca_norm.specs.Terms.{PlainTerm, neg, select, put, add_at, sort_of, terms_of, IsOf, AreSorted}
 use Rattle.ca_shared_terms.specs.Starts.{sort_of_type, sort_of_array}
 use Rattle.ca_symbolic.specs.States.{State, term_at}
-use Rattle.ca_symbolic.specs.Execution.{sort_in, sort_of_result, divisor, operation, signed_term, term_of, put_term, is_item, put_right, array_term, choose_if, choices, field_target, local_target, after, after_all}
+use Rattle.ca_symbolic.specs.Execution.{sort_in, sort_of_result, divisor, term_of, put_term, is_item, put_right, array_term, choose_if, choices, field_target, local_target, after, after_all}
 use Rattle.ca_symbolic.specs.Execution as execution
 use Rattle.ca_symbolic.specs.Demands.{terms_in, right_guard, demands_in, demands_in_all, picked, loop_reads, demanded, demanded_all}
 use Rattle.ca_verdicts.proofs.MetDemands.{DemandsSorted}

@@ -13,9 +13,9 @@ use Rattle.ca_program.specs.declared.program.ClassId.{ClassId}
 use Rattle.ca_program.specs.declared.program.FieldInfo.{FieldInfo}
 use Rattle.ca_program.specs.declared.program.ValueType.{ValueType}
 use Rattle.ca_program.specs.declared.program.ValueType.TheVariants as type
-use Rattle.ca_program.specs.Plain.{PlainProgram, PlainMethod, Expression, Expressions, local, own, own_item, read_item, value_call, unary, binary, no_expressions, expression_and, Statement, Statements, block, put_local, put_field, put_item, new_local, new_field, new_item, invoke, if_else, while_loop, for_loop, return_value, print_value, no_statements, statement_and}
+use Rattle.ca_program.specs.Plain.{PlainProgram, PlainMethod, Expression, unary}
 use Rattle.ca_program.specs.Plain as plain
-use Rattle.ca_meaning.specs.ProgramTyped.{Scope, IsArray, field_info, SidesTyped, signed_type, IsFunction, ExpressionTyped, ExpressionsTyped, AssignTyped, StatementTyped, StatementsTyped}
+use Rattle.ca_meaning.specs.ProgramTyped.{Scope, IsArray, SidesTyped, signed_type, IsFunction, ExpressionTyped, AssignTyped}
 use Rattle.ca_meaning.specs.ProgramTyped as typing
 use Rattle.ca_parallel.specs.Separable.{IsNonzeroLiteral, MayStandRight}
 use Rattle.ca_forms.specs.declared.sort.Sort.{Sort}
@@ -23,7 +23,7 @@ use Rattle.ca_forms.specs.declared.sort.Sort.TheVariants.{Long, Bool as Truth, L
 use Rattle.ca_norm.specs.Terms.{PlainTerm, choose, select, put, add_at, sort_of, IsScalar, IsOf}
 use Rattle.ca_shared_terms.specs.Starts.{sort_of_type, sort_of_array, sort_of_slot, starts}
 use Rattle.ca_symbolic.specs.States.{PlainDemand, term_at, start_term, parameters}
-use Rattle.ca_symbolic.specs.Execution.{sort_in, sort_of_result, divisor, operation, signed_term, term_of, put_term, is_item, put_right, array_term, choose_if, choices, field_target, local_target, after, after_all}
+use Rattle.ca_symbolic.specs.Execution.{sort_in, sort_of_result, divisor, operation, signed_term, put_term}
 use Rattle.ca_symbolic.specs.Execution as execution
 use Rattle.ca_symbolic.specs.Demands.{right_guard}
 use Rattle.ca_verdicts.proofs.MetDemands.{DemandsSorted}
