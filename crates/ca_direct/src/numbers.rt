@@ -203,13 +203,38 @@ fn long(value: Value) -> Option<i64>
     }
 }
 
+/// Whether an operator gives a number for two numbers. It decides only which way is taken, so every answer is right.
+#[inline(always)]
+pub fn gives_number(op: BinaryOp) -> bool {
+    match op {
+        BinaryOp::Plus
+        | BinaryOp::Minus
+        | BinaryOp::Times
+        | BinaryOp::Divide
+        | BinaryOp::Remainder
+        | BinaryOp::BitAnd
+        | BinaryOp::BitOr
+        | BinaryOp::BitXor
+        | BinaryOp::Max
+        | BinaryOp::Min => true,
+        _ => false,
+    }
+}
+
 /// The number that an operator that can't fail gives for two numbers.
 #[inline(always)]
 fn quick(op: BinaryOp, left: i64, right: i64) -> Option<i64>
     ensures { IfSome result (λ n. operated_longs op left right ≡ Ok (Long n)) }
 {
     match op {
-        BinaryOp::Plus | BinaryOp::Minus | BinaryOp::Times => arithmetic(op, left, right),
+        BinaryOp::Plus
+        | BinaryOp::Minus
+        | BinaryOp::Times
+        | BinaryOp::BitAnd
+        | BinaryOp::BitOr
+        | BinaryOp::BitXor
+        | BinaryOp::Max
+        | BinaryOp::Min => arithmetic(op, left, right),
         _ => None,
     }
 }
@@ -237,6 +262,11 @@ pub fn arithmetic(op: BinaryOp, left: i64, right: i64) -> Option<i64>
                 Some(left.wrapping_rem(right))
             }
         }
+        BinaryOp::BitAnd => Some(left & right),
+        BinaryOp::BitOr => Some(left | right),
+        BinaryOp::BitXor => Some(left ^ right),
+        BinaryOp::Max => Some(left.max(right)),
+        BinaryOp::Min => Some(left.min(right)),
         _ => None,
     }
 }

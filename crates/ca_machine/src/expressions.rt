@@ -298,6 +298,11 @@ fn number_of(op: BinaryOp, left: Value, right: Value) -> Option<i64>
         BinaryOp::Plus => Some(a.wrapping_add(b)),
         BinaryOp::Minus => Some(a.wrapping_sub(b)),
         BinaryOp::Times => Some(a.wrapping_mul(b)),
+        BinaryOp::BitAnd => Some(a & b),
+        BinaryOp::BitOr => Some(a | b),
+        BinaryOp::BitXor => Some(a ^ b),
+        BinaryOp::Max => Some(a.max(b)),
+        BinaryOp::Min => Some(a.min(b)),
         _ => None,
     }
 }
