@@ -85,14 +85,14 @@ impl<'a> Scene<'a> {
         }
     }
 
-    /// What an operator that can't fail gives for two leaves.
+    /// What an operator of numbers gives for two leaves.
     #[inline(always)]
     fn on_leaves(&self, op: BinaryOp, a: &Expr, b: &Expr) -> Option<i64>
         ensures { IfSome result (λ n. seen self.now (binary op (expression_view a.now) (expression_view b.now)) ≡ gives (Long n) 0) }
     {
         match self.leaf(a) {
             Some(left) => match self.leaf(b) {
-                Some(right) => quick(op, left, right),
+                Some(right) => arithmetic(op, left, right),
                 None => None,
             },
             None => None,
@@ -218,24 +218,6 @@ pub fn gives_number(op: BinaryOp) -> bool {
         | BinaryOp::Max
         | BinaryOp::Min => true,
         _ => false,
-    }
-}
-
-/// The number that an operator that can't fail gives for two numbers.
-#[inline(always)]
-fn quick(op: BinaryOp, left: i64, right: i64) -> Option<i64>
-    ensures { IfSome result (λ n. operated_longs op left right ≡ Ok (Long n)) }
-{
-    match op {
-        BinaryOp::Plus
-        | BinaryOp::Minus
-        | BinaryOp::Times
-        | BinaryOp::BitAnd
-        | BinaryOp::BitOr
-        | BinaryOp::BitXor
-        | BinaryOp::Max
-        | BinaryOp::Min => arithmetic(op, left, right),
-        _ => None,
     }
 }
 
