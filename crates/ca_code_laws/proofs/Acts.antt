@@ -1,6 +1,6 @@
 -- Puts, creations, prints and calls of operations: their instructions do what they mean, however a world is accessed.
 use Rattle.std.proofs.Common.{◌≡◌, ℕ, ◌+◌, ◌<◌, ◌≤◌, List, [], ◌∷◌, ◌++◌, length, Option, Some, None, refl, sym, ap, ◌∙◌, subst, arith, length-set, ◌⊎◌, inl, inr}
-use Rattle.std.specs.Prelude.{Bool, pos, negsuc, slice_get, slice_set}
+use Rattle.std.specs.Prelude.{pos, negsuc, slice_get, slice_set}
 use Rattle.std.proofs.lemmas.Option.{slice_get_within}
 use Rattle.ca_tree.specs.declared.tree.AssignOp.{AssignOp}
 use Rattle.ca_program.specs.declared.program.ClassId.{ClassId}

@@ -9,11 +9,11 @@ use Rattle.ca_model.specs.Typed.{TypedHeap}
 use Rattle.ca_meaning.specs.Expressions.{Invocation}
 use Rattle.ca_meaning.specs.Flows.{Flow, goes_on, gives_back, stops, runs_out, exec, exec_all}
 use Rattle.ca_meaning.specs.Functions.{own_of, place, body_of, locals_of, functions_of}
-use Rattle.ca_meaning.specs.Serial.{World, Operations, operations_of, serial_parts, serial_ops}
+use Rattle.ca_meaning.specs.Serial.{World, Operations, operations_of, serial_parts}
 use Rattle.ca_meaning.specs.Sections.{Section, section_start, section_parts, LoopSectioned, loop_done, loop_stopped, loop_over, loop_sectioned, loop_section}
 use Rattle.ca_meaning.specs.WellTyped.{ValuesTyped, CallTyped, WellTyped, AllWellTyped}
 use Rattle.ca_meaning.specs.ProgramTyped.{Scope, StatementTyped, scope_of, ProgramTyped}
-use Rattle.ca_meaning_laws.specs.Typed.{Extends, IsReceiver, FlowTyped, goes_on_typed, runs_out_typed, KeepsHeap, goes_on_kept, gives_back_kept, stops_kept, runs_out_kept, WorldTyped, SectionTyped, heap_of, frozen_heap}
+use Rattle.ca_meaning_laws.specs.Typed.{Extends, IsReceiver, FlowTyped, goes_on_typed, runs_out_typed, KeepsHeap, goes_on_kept, runs_out_kept, WorldTyped, SectionTyped, heap_of, frozen_heap}
 use Rattle.ca_meaning_laws.proofs.Values.{frame_typed}
 use Rattle.ca_meaning_laws.proofs.Heaps.{extends_self, extends_then, values_kept, receiver_kept, own_typed}
 use Rattle.ca_meaning_laws.proofs.Evals.{due_typed}

@@ -21,7 +21,7 @@ use Rattle.ca_meaning.specs.Expressions.{Out, gives, traps, over, ◌>>=◌}
 use Rattle.ca_meaning.specs.Flows.{Flow, goes_on, gives_back, stops, runs_out}
 use Rattle.ca_meaning.specs.WellTyped.{ValuesTyped, parameters_of, CallTyped}
 use Rattle.ca_meaning.specs.ProgramTyped.{Scope, IsFunction, IsOperation, ExpressionTyped, ExpressionsTyped, IsScalar, IsArray, SidesTyped, signed_type}
-use Rattle.ca_meaning_laws.specs.Typed.{Yields, yields, yields_trap, yields_over, FlowTyped, goes_on_typed, gives_back_typed, stops_typed, runs_out_typed}
+use Rattle.ca_meaning_laws.specs.Typed.{Yields, yields, yields_trap, yields_over, FlowTyped, goes_on_typed}
 use Rattle.ca_code_laws.specs.Words.{has_kind, all_have}
 use Rattle.ca_code_laws.proofs.Steps.{length_taken, Goes}
 
