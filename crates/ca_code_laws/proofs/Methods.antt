@@ -1,6 +1,6 @@
 -- Calls of value methods do what they mean: no bound on their nesting is left.
-use Rattle.std.proofs.Common.{◌≡◌, ℕ, zero, suc, ◌+◌, ◌<◌, ◌≤◌, List, [], ◌∷◌, ◌++◌, length, Option, Some, None, refl, sym, ap, ◌∙◌, subst, ⊎_elim, arith, length-append, append_assoc, map, inl, inr, drop}
-use Rattle.std.specs.Prelude.{Bool, true, cond, slice_get, ℤ, pos}
+use Rattle.std.proofs.Common.{◌≡◌, ℕ, zero, suc, ◌+◌, ◌<◌, ◌≤◌, List, [], ◌∷◌, ◌++◌, length, Option, Some, None, refl, sym, ap, ◌∙◌, subst, ⊎_elim, arith, length-append, append_assoc, map, drop}
+use Rattle.std.specs.Prelude.{true, cond, slice_get, ℤ, pos}
 use Rattle.std.proofs.lemmas.Bool.{cases_lt}
 use Rattle.ca_program.specs.Plain.{Statement, invoke, PlainMethod, PlainProgram}
 use Rattle.ca_program.specs.declared.program.ValueType.{ValueType}
@@ -8,19 +8,27 @@ use Rattle.ca_program.specs.declared.program.ValueType.TheVariants.{Long as Long
 use Rattle.ca_model.specs.declared.value.Value.{Value as Datum}
 use Rattle.ca_model.specs.declared.value.Value.TheVariants.{Ref}
 use Rattle.ca_model.specs.Slots.{start_of}
+use Rattle.ca_model.specs.Typed.{IsOfClass, TypedHeap}
+use Rattle.ca_meaning.specs.WellTyped.{ValuesTyped, parameters_of, CallTyped}
+use Rattle.ca_meaning.specs.ProgramTyped.{Scope, StatementTyped, scope_of, ProgramTyped}
+use Rattle.ca_meaning_laws.specs.Typed.{IsReceiver, PlaceTyped, frozen_heap}
+use Rattle.ca_meaning_laws.proofs.Values.{frame_typed}
+use Rattle.ca_meaning_laws.proofs.Statements.{Returned as GivesBack, all_returned}
+use Rattle.ca_meaning_laws.proofs.FunctionTypes.{nothing, FunctionsTyped, serial_place, function_parts_typed, functions_typed, calls_typed}
 use Rattle.ca_meaning.specs.Expressions.{Out, gives, traps, over, value_at, eval}
 use Rattle.ca_meaning.specs.Flows.{Flow, goes_on, gives_back, stops, runs_out, exec_all}
-use Rattle.ca_meaning.specs.Functions.{own_of, place, body_of, locals_of, value_of_body, function_parts, functions_of}
+use Rattle.ca_meaning.specs.Functions.{own_of, body_of, locals_of, value_of_body, function_parts, functions_of}
 use Rattle.ca_meaning.proofs.Fix.{call_runs, again_runs}
 use Rattle.ca_code_laws.specs.Words.{read_as}
 use Rattle.ca_program.specs.Kinds.{Kind, kind_type, kind_at, param_kind, result_kind, kinds_in, kind_of}
 use Rattle.ca_program.specs.Instructions.{Return, Code, Placed, on, IsAt, HasAt, StandsAt, Constant, Lack}
 use Rattle.ca_program.specs.Layout.{stands, expression_code, operand_code, no_acts, no_hands, statements_code, starts_code, others_of, width_of, function_code, FunctionsLaidOut, kinds_of}
-use Rattle.ca_code_laws.specs.Fine.{Takes, Fine, FineStatement, FineMethods}
-use Rattle.ca_code_laws.specs.Machine.{Store, store, Back, Accesses, State, Trapped, Spent, moved, returning, Comes, Ends, Wanting}
+use Rattle.ca_code_laws.specs.Machine.{Store, store, Back, Accesses, State, Trapped, Spent, moved, returning, Comes, Ends}
 use Rattle.ca_code_laws.specs.Told.{Below, Holds, Returned}
-use Rattle.ca_code_laws.proofs.Steps.{stored_here, stored_there, has_front, has_back, joins, joins_end, steps, rests, Reaches, Flows, length_mapped, steps_end}
+use Rattle.ca_code_laws.proofs.Steps.{stored_here, stored_there, has_front, has_back, joins, joins_end, steps, rests, Reaches, Flows, length_mapped}
 use Rattle.ca_code_laws.proofs.Values.{Valued, Stood, CallsRun, expression_runs, operand_runs}
+use Rattle.ca_code_laws.proofs.Typed.{width_is, arguments_counted}
+use Rattle.ca_code_laws.proofs.Quiet.{each_may, all_may}
 use Rattle.ca_code_laws.proofs.Statements.{LocalsAt, body_of_loop, tail_of_loop, IsLoop, acted, PartsRun, statements_run, loop_runs}
 
 append_nil : (xs : List Datum) → xs ++ [] ≡ xs
@@ -80,57 +88,70 @@ module _ {S : Type 0} (acc : Accesses S) (code : Code) where
       let e : s.at + 1 + length (starts_code (first + 1) others) ≡ s.at + length (starts_code first (ty ∷ others)) = omega arith in
       (rest.0, joins acc code (steps acc code s s1 (on 0 (Constant first (pos 0))) h.0 (λ next. refl)) (subst (λ q. Comes acc code s1 (moved s q s.left rest.0 s.world)) e rest.1), subst (λ ls. Holds κs rest.0 s.base ls) (append_assoc vs (v ∷ []) (map start_of others)) rest.2, λ j lt. rest.3 j lt ∙ stored_there s.slots (s.base + first) j (pos 0) (λ e. absurd (omega (arith, lt, e))))
 
-module _ {S : Type 0} (acc : Accesses S) (code : Code) (p : PlainProgram) (laid : FunctionsLaidOut p code) (makes : Bool) (fine : FineMethods p makes p.functions) (inner : (b : Back) (bs : List Back) (w : S) (me : Datum) → acc.own (b ∷ bs) w me ≡ own_of (acc.heap w) me) (w : S) where
+module _ {S : Type 0} (acc : Accesses S) (code : Code) (p : PlainProgram) (typed : ProgramTyped p) (laid : FunctionsLaidOut p code) (inner : (b : Back) (bs : List Back) (w : S) (me : Datum) → acc.own (b ∷ bs) w me ≡ own_of (acc.heap w) me) (w : S) (typed_heap : TypedHeap p (acc.heap w)) where
   -- loops of value methods that come again with fewer than n steps left run as they mean
   abbrev AgainsRun : ℕ → Type 0
   AgainsRun n =
-      (tys : List ValueType) (ret : Kind) (me : Datum) (b : Back) (bs : List Back) (base top : ℕ) (x : Statement) (line : ℕ) (ls : List Datum) (u : Unit {0}) (at k : ℕ) (f : Store) → IsLoop x → HasAt code at (body_of_loop (kinds_in p tys) no_acts no_hands line x top ++ tail_of_loop (kinds_in p tys) no_acts no_hands line x top) → FineStatement p makes (kinds_in p tys) ret top x → length ls ≡ top → k < n → Holds (kinds_in p tys).locals f base ls → Flows acc code (λ (u : Unit {0}). w) ret (record { at = at + length (body_of_loop (kinds_in p tys) no_acts no_hands line x top); base = base; left = k; this = me; below = b ∷ bs; slots = f; world = w }) (length (tail_of_loop (kinds_in p tys) no_acts no_hands line x top)) (LocalsAt (kinds_in p tys) base top) ((functions_of p.functions (acc.heap w)).again me line ls u x k)
+      (s : Scope) (me : Datum) (b : Back) (bs : List Back) (base top : ℕ) → length s.locals ≡ top → IsReceiver (acc.heap w) s.class me → (x : Statement) (line : ℕ) (ls : List Datum) (u : Unit {0}) (at k : ℕ) (f : Store) → IsLoop x → HasAt code at (body_of_loop (kinds_in p s.locals) no_acts no_hands line x top ++ tail_of_loop (kinds_in p s.locals) no_acts no_hands line x top) → StatementTyped p s x → length ls ≡ top → ValuesTyped (acc.heap w) ls s.locals → k < n → Holds (kinds_in p s.locals).locals f base ls → Flows acc code (λ (u : Unit {0}). w) (kind_at s.result) (record { at = at + length (body_of_loop (kinds_in p s.locals) no_acts no_hands line x top); base = base; left = k; this = me; below = b ∷ bs; slots = f; world = w }) (length (tail_of_loop (kinds_in p s.locals) no_acts no_hands line x top)) (LocalsAt (kinds_in p s.locals) base top) ((functions_of p.functions (acc.heap w)).again me line ls u x k)
 
   acts_nothing : (me : Datum) (line : ℕ) (ls : List Datum) (u : Unit {0}) (x : Statement) (k : ℕ) → acted (function_parts (functions_of p.functions (acc.heap w)) (acc.heap w) me) line ls u x k ≡ goes_on ls u k
   acts_nothing me line ls u (invoke l e op es) k = refl
   acts_nothing me line ls u other k = refl
 
-  parts_run : (n : ℕ) → CallsRun acc code p laid w (functions_of p.functions (acc.heap w)).call n → AgainsRun n → (tys : List ValueType) (ret : Kind) (me : Datum) (b : Back) (bs : List Back) (base top : ℕ) → PartsRun acc code p makes (λ (u : Unit {0}). w) no_acts no_hands (function_parts (functions_of p.functions (acc.heap w)) (acc.heap w) me) tys ret me (b ∷ bs) base n top
-  parts_run n calls agains tys ret me b bs base top = record {
-    values = λ e line to ls u at k f h fe len le left holds.
-        subst (λ o. Reaches acc code (there at k f) (length (expression_code (kinds_in p tys) line e to top)) (Valued base f to top (kind_of (kinds_in p tys) e)) (eval (functions_of p.functions (acc.heap w)).call (record { heap = acc.heap w; this = me; own = o; locals = ls; line = line }) e k)) (inner b bs w me)
-        (expression_runs acc code p laid tys (there at k f) (functions_of p.functions (acc.heap w)).call n calls e line to top ls at k f h (subst (λ x. Fine p (kinds_in p tys) x e) (sym len) fe) (omega (arith, len)) le left holds);
-    operands = λ e line ls u at k f h fe len left holds.
-        subst (λ o. Reaches acc code (there at k f) (length (operand_code (kinds_in p tys) line e top)) (Stood base f (stands e top) top (kind_of (kinds_in p tys) e)) (eval (functions_of p.functions (acc.heap w)).call (record { heap = acc.heap w; this = me; own = o; locals = ls; line = line }) e k)) (inner b bs w me)
-        (operand_runs acc code p laid tys (there at k f) (functions_of p.functions (acc.heap w)).call n calls e line top ls at k f h (subst (λ x. Fine p (kinds_in p tys) x e) (sym len) fe) (omega (arith, len)) left holds);
-    acts = λ x line ls u at k f is h fe len left holds.
-        subst (λ o. Flows acc code (λ (u : Unit {0}). w) ret (there at k f) 0 (LocalsAt (kinds_in p tys) base top) o) (sym (acts_nothing me line ls u x k))
-        (inl (f, rests acc code (there at k f), (holds, len), (λ j lt. refl), omega arith));
-    agains = λ x line ls u at k f is h fe len lt holds. agains tys ret me b bs base top x line ls u at k f is h fe len lt holds;
+  all_typed : FunctionsTyped p (acc.heap w) (functions_of p.functions (acc.heap w))
+  all_typed = record {
+    calls = calls_typed p typed (acc.heap w) typed_heap;
+    agains = λ s r line ls x k e v t. (functions_typed p typed (acc.heap w) typed_heap (suc k)).agains s r line ls x k e v t;
+  }
+
+  parts_run : (n : ℕ) → CallsRun acc code p laid w (functions_of p.functions (acc.heap w)).call n → AgainsRun n → (s : Scope) (me : Datum) (b : Back) (bs : List Back) (base top : ℕ) → length s.locals ≡ top → IsReceiver (acc.heap w) s.class me → PartsRun acc code p true (λ (u : Unit {0}). w) no_acts no_hands (function_parts (functions_of p.functions (acc.heap w)) (acc.heap w) me) s (frozen_heap (acc.heap w)) nothing me (b ∷ bs) base n top
+  parts_run n calls agains s me b bs base top wide receiver = record {
+    types = function_parts_typed p (acc.heap w) (functions_of p.functions (acc.heap w)) all_typed typed_heap s me receiver;
+    wide = wide;
+    values = λ e ty t line to ls u at k f h len good le left holds.
+        subst (λ o. Reaches acc code (there at k f) (length (expression_code (kinds_in p s.locals) line e to top)) (Valued base f to top (kind_of (kinds_in p s.locals) e)) (eval (functions_of p.functions (acc.heap w)).call (record { heap = acc.heap w; this = me; own = o; locals = ls; line = line }) e k)) (inner b bs w me)
+        (expression_runs acc code p laid s (there at k f) (functions_of p.functions (acc.heap w)).call n calls (calls_typed p typed (acc.heap w) typed_heap) e ty t line to top ls (stands_typed line ls good.1) at k f h (omega (arith, len)) le left holds);
+    operands = λ e ty t line ls u at k f h len good left holds.
+        subst (λ o. Reaches acc code (there at k f) (length (operand_code (kinds_in p s.locals) line e top)) (Stood base f (stands e top) top (kind_of (kinds_in p s.locals) e)) (eval (functions_of p.functions (acc.heap w)).call (record { heap = acc.heap w; this = me; own = o; locals = ls; line = line }) e k)) (inner b bs w me)
+        (operand_runs acc code p laid s (there at k f) (functions_of p.functions (acc.heap w)).call n calls (calls_typed p typed (acc.heap w) typed_heap) e ty t line top ls (stands_typed line ls good.1) at k f h (omega (arith, len)) left holds);
+    acts = λ x line ls u at k f is h fits len good left holds.
+        subst (λ o. Flows acc code (λ (u : Unit {0}). w) (kind_at s.result) (there at k f) 0 (LocalsAt (kinds_in p s.locals) base top) o) (sym (acts_nothing me line ls u x k))
+        (f, rests acc code (there at k f), (holds, len), (λ j lt. refl), omega arith);
+    agains = λ x line ls u at k f is h fits len good lt holds. agains s me b bs base top wide receiver x line ls u at k f is h fits.0 len good.1 lt holds;
     begins = λ line ls u x k plain e. refl;
-    handed = λ line ls u x at k f plain cx e h fe len left holds. absurd (none_is e);
+    handed = λ line ls u x at k f plain cx e h fits len good left holds. absurd (none_is e);
   }
     where
       there : ℕ → ℕ → Store → State S
       there at k f = record { at = at; base = base; left = k; this = me; below = b ∷ bs; slots = f; world = w }
 
+      stands_typed : (line : ℕ) (ls : List Datum) → ValuesTyped (acc.heap w) ls s.locals → PlaceTyped p s (record { heap = acc.heap w; this = me; own = acc.own (b ∷ bs) w me; locals = ls; line = line })
+      stands_typed line ls v = subst (λ o. PlaceTyped p s (record { heap = acc.heap w; this = me; own = o; locals = ls; line = line })) (sym (inner b bs w me)) (serial_place p (acc.heap w) s me line ls typed_heap receiver v)
+
   agains_too : (n : ℕ) → CallsRun acc code p laid w (functions_of p.functions (acc.heap w)).call n → AgainsRun n → AgainsRun (suc n)
-  agains_too n calls agains tys ret me b bs base top x line ls u at k f is h fe len lt holds =
-      subst (λ o. Flows acc code (λ (u : Unit {0}). w) ret (record { at = at + length (body_of_loop (kinds_in p tys) no_acts no_hands line x top); base = base; left = k; this = me; below = b ∷ bs; slots = f; world = w }) (length (tail_of_loop (kinds_in p tys) no_acts no_hands line x top)) (LocalsAt (kinds_in p tys) base top) o) (sym (again_runs p.functions (acc.heap w) me line ls x k))
-      (loop_runs acc code p makes (λ (u : Unit {0}). w) no_acts no_hands (function_parts (functions_of p.functions (acc.heap w)) (acc.heap w) me) tys ret me (b ∷ bs) base n top (parts_run n calls agains tys ret me b bs base top) x line ls tt at k f is h fe len (omega (arith, lt)) holds)
+  agains_too n calls agains s me b bs base top wide receiver x line ls u at k f is h t len v lt holds =
+      subst (λ o. Flows acc code (λ (u : Unit {0}). w) (kind_at s.result) (record { at = at + length (body_of_loop (kinds_in p s.locals) no_acts no_hands line x top); base = base; left = k; this = me; below = b ∷ bs; slots = f; world = w }) (length (tail_of_loop (kinds_in p s.locals) no_acts no_hands line x top)) (LocalsAt (kinds_in p s.locals) base top) o) (sym (again_runs p.functions (acc.heap w) me line ls x k))
+      (loop_runs acc code p true (λ (u : Unit {0}). w) no_acts no_hands (function_parts (functions_of p.functions (acc.heap w)) (acc.heap w) me) s (frozen_heap (acc.heap w)) nothing me (b ∷ bs) base n top (parts_run n calls agains s me b bs base top wide receiver) x line ls tt at k f is h (t, each_may x) len (tt, v) (omega (arith, lt)) holds)
 
   -- what comes to a return returns
   returned_from : (κ : Kind) (s t : State S) (b : Back) (bs : List Back) (o : Out Datum) → Comes acc code s t → s.base ≡ t.base → s.world ≡ t.world → Below s.base s.slots t.slots → t.left ≤ s.left → Returned acc code κ t b bs o → Returned acc code κ s b bs o
-  returned_from κ s t b bs o c same world below le (inr wants) = inr (joins_end acc code c wants)
-  returned_from κ s t b bs (gives v k) c same world below le (inl r) =
-      inl (r.0, r.1, subst (λ x. Comes acc code s (record { at = b.at; base = b.base; left = k; this = b.this; below = bs; slots = store r.0 (b.base + b.to) r.1; world = x })) (sym world) (joins acc code c r.2), (λ j lt. r.3 j (subst (λ x. j < x) same lt) ∙ below j lt), omega (arith, le, r.4), r.5)
-  returned_from κ s t b bs (traps x) c same world below le (inl r) = inl (subst (λ y. Ends acc code s (Trapped x y)) (sym world) (joins_end acc code c r))
-  returned_from κ s t b bs over c same world below le (inl r) = inl (subst (λ y. Ends acc code s (Spent y)) (sym world) (joins_end acc code c r))
+  returned_from κ s t b bs (gives v k) c same world below le r =
+      (r.0, r.1, subst (λ x. Comes acc code s (record { at = b.at; base = b.base; left = k; this = b.this; below = bs; slots = store r.0 (b.base + b.to) r.1; world = x })) (sym world) (joins acc code c r.2), (λ j lt. r.3 j (subst (λ x. j < x) same lt) ∙ below j lt), omega (arith, le, r.4), r.5)
+  returned_from κ s t b bs (traps x) c same world below le r = subst (λ y. Ends acc code s (Trapped x y)) (sym world) (joins_end acc code c r)
+  returned_from κ s t b bs over c same world below le r = subst (λ y. Ends acc code s (Spent y)) (sym world) (joins_end acc code c r)
 
   -- a value is given back to the body below
   returns : (κ : Kind) (s : State S) (b : Back) (bs : List Back) (a line : ℕ) (v : Datum) → b.wants ≡ true → s.below ≡ b ∷ bs → IsAt code s.at (on line (Return a)) → read_as κ (s.slots (s.base + a)) ≡ v → Returned acc code κ s b bs (gives v s.left)
   returns κ s b bs a line v wants below h is =
       let x = s.slots (s.base + a) in
-      inl (s.slots, x, steps acc code s (record { at = b.at; base = b.base; left = s.left; this = b.this; below = bs; slots = store s.slots (b.base + b.to) x; world = s.world }) (on line (Return a)) h (λ next. ap (λ y. returning y s next x) below ∙ ap (λ y. cond y (next (record { at = b.at; base = b.base; left = s.left; this = b.this; below = bs; slots = store s.slots (b.base + b.to) x; world = s.world })) (Spent s.world)) wants), (λ j lt. refl), omega arith, is)
+      (s.slots, x, steps acc code s (record { at = b.at; base = b.base; left = s.left; this = b.this; below = bs; slots = store s.slots (b.base + b.to) x; world = s.world }) (on line (Return a)) h (λ next. ap (λ y. returning y s next x) below ∙ ap (λ y. cond y (next (record { at = b.at; base = b.base; left = s.left; this = b.this; below = bs; slots = store s.slots (b.base + b.to) x; world = s.world })) (Spent s.world)) wants), (λ j lt. refl), omega arith, is)
 
-  -- a body, from its beginning to what it gives
-  body_runs : (n : ℕ) → CallsRun acc code p laid w (functions_of p.functions (acc.heap w)).call n → AgainsRun n → (m : PlainMethod) (i : ℕ) → slice_get p.functions i ≡ Some m → (r : ℕ) (vs : List Datum) (at base k : ℕ) (b : Back) (bs : List Back) (f : Store) → b.wants ≡ true → k ≤ n → HasAt code at (function_code p m) → m.params ≡ length vs → Holds (kinds_of p m).locals f base vs → Returned acc code (kind_at m.result) (record { at = at; base = base; left = k; this = Ref r; below = b ∷ bs; slots = f; world = w }) b bs (value_of_body (exec_all (function_parts (functions_of p.functions (acc.heap w)) (acc.heap w) (Ref r)) (vs ++ map start_of (others_of m)) tt m.body.statements k))
-  body_runs n calls agains m i found r vs at base k b bs f wants left h params holds =
+  -- a body, from its beginning to what it gives: it never comes to its end
+  body_runs : (n : ℕ) → CallsRun acc code p laid w (functions_of p.functions (acc.heap w)).call n → AgainsRun n → (m : PlainMethod) (i : ℕ) → slice_get p.functions i ≡ Some m → (r : ℕ) (vs : List Datum) (at base k : ℕ) (b : Back) (bs : List Back) (f : Store) → b.wants ≡ true → k ≤ n → HasAt code at (function_code p m) → IsOfClass (slice_get (acc.heap w) r) m.class → ValuesTyped (acc.heap w) vs (parameters_of m) → Holds (kinds_of p m).locals f base vs → Returned acc code (kind_at m.result) (record { at = at; base = base; left = k; this = Ref r; below = b ∷ bs; slots = f; world = w }) b bs (value_of_body (exec_all (function_parts (functions_of p.functions (acc.heap w)) (acc.heap w) (Ref r)) (vs ++ map start_of (others_of m)) tt m.body.statements k))
+  body_runs n calls agains m i found r vs at base k b bs f wants left h of_class arguments holds =
+      let mt = typed.functions i m found in
+      let parts = function_parts (functions_of p.functions (acc.heap w)) (acc.heap w) (Ref r) in
+      let params : m.params ≡ length vs = arguments_counted (acc.heap w) m vs mt.method.parameters arguments in
       let first = starts_code m.params (others_of m) in
       let body = statements_code (kinds_of p m) no_acts no_hands m.body.statements (width_of m) in
       let rest = on 0 Lack ∷ [] in
@@ -138,34 +159,34 @@ module _ {S : Type 0} (acc : Accesses S) (code : Code) (p : PlainProgram) (laid 
       let ls = vs ++ map start_of (others_of m) in
       let len : length ls ≡ width_of m = omega (arith, length-append vs (map start_of (others_of m)), length_mapped start_of (others_of m), params) in
       let hb = has_back code at first (body ++ rest) h in
-      let flows = statements_run acc code p makes (λ (u : Unit {0}). w) no_acts no_hands (function_parts (functions_of p.functions (acc.heap w)) (acc.heap w) (Ref r)) m.body.locals (kind_at m.result) (Ref r) (b ∷ bs) base n (width_of m) (parts_run n calls agains m.body.locals (kind_at m.result) (Ref r) b bs base (width_of m)) m.body.statements ls tt (at + length first) k g.0 (has_front code (at + length first) body rest hb) (fine i m found).1 len left g.2 in
-      returned_from (kind_at m.result) (there at k f) (there (at + length first) k g.0) b bs (value_of_body (exec_all (function_parts (functions_of p.functions (acc.heap w)) (acc.heap w) (Ref r)) ls tt m.body.statements k)) g.1 refl refl g.3 (omega arith)
-      (ends (at + length first) k g.0 (length body) (has_back code (at + length first) body rest hb) (exec_all (function_parts (functions_of p.functions (acc.heap w)) (acc.heap w) (Ref r)) ls tt m.body.statements k) flows)
+      let frame : ValuesTyped (acc.heap w) ls m.body.locals = frame_typed (acc.heap w) vs m.params m.body.locals arguments in
+      let flows = statements_run acc code p true (λ (u : Unit {0}). w) no_acts no_hands parts (scope_of m) (frozen_heap (acc.heap w)) nothing (Ref r) (b ∷ bs) base n (width_of m) (parts_run n calls agains (scope_of m) (Ref r) b bs base (width_of m) (sym (width_is m mt.method.parameters)) of_class) m.body.statements ls tt (at + length first) k g.0 (has_front code (at + length first) body rest hb) (mt.method.body, all_may m.body.statements) len (tt, frame) left g.2 in
+      returned_from (kind_at m.result) (there at k f) (there (at + length first) k g.0) b bs (value_of_body (exec_all parts ls tt m.body.statements k)) g.1 refl refl g.3 (omega arith)
+      (ends (at + length first) k g.0 (length body) (exec_all parts ls tt m.body.statements k) (all_returned parts m.body.statements mt.returns ls tt k) flows)
     where
       there : ℕ → ℕ → Store → State S
       there at k f = record { at = at; base = base; left = k; this = Ref r; below = b ∷ bs; slots = f; world = w }
 
-      ends : (at k : ℕ) (f : Store) (l : ℕ) → HasAt code (at + l) (on 0 Lack ∷ []) → (o : Flow (Unit {0})) → Flows acc code (λ (u : Unit {0}). w) (kind_at m.result) (there at k f) l (LocalsAt (kinds_of p m) base (width_of m)) o → Returned acc code (kind_at m.result) (there at k f) b bs (value_of_body o)
-      ends at k f l h o (inr lacks) = inr lacks
-      ends at k f l h (goes_on ls u j) (inl t) = inr (joins_end acc code t.1 (steps_end acc code (there (at + l) j t.0) Wanting (on 0 Lack) h.0 (λ next. refl)))
-      ends at k f l h (gives_back v u j) (inl t) =
+      ends : (at k : ℕ) (f : Store) (l : ℕ) (o : Flow (Unit {0})) → GivesBack o → Flows acc code (λ (u : Unit {0}). w) (kind_at m.result) (there at k f) l (LocalsAt (kinds_of p m) base (width_of m)) o → Returned acc code (kind_at m.result) (there at k f) b bs (value_of_body o)
+      ends at k f l (goes_on ls u j) gives_one t = absurd gives_one
+      ends at k f l (gives_back v u j) gives_one t =
           returned_from (kind_at m.result) (there at k f) (there t.1 j t.0) b bs (gives v j) t.4 refl refl t.7 t.8 (returns (kind_at m.result) (there t.1 j t.0) b bs t.2 t.3 v wants refl t.5 t.6)
-      ends at k f l h (stops x u) (inl t) = inl t
-      ends at k f l h (runs_out u) (inl t) = inl t
+      ends at k f l (stops x u) gives_one t = t
+      ends at k f l (runs_out u) gives_one t = t
 
   calls_too : (n : ℕ) → CallsRun acc code p laid w (functions_of p.functions (acc.heap w)).call n → AgainsRun n → CallsRun acc code p laid w (functions_of p.functions (acc.heap w)).call (suc n)
-  calls_too n calls agains m r vs at base k b bs f wants lt place takes holds =
-      subst (λ o. Returned acc code (result_kind (slice_get p.functions m.0)) (record { at = at; base = base; left = k; this = Ref r; below = b ∷ bs; slots = f; world = w }) b bs o) (sym (call_runs p.functions (acc.heap w) m r vs k)) (by (slice_get p.functions m.0) refl takes holds)
+  calls_too n calls agains m r vs at base k b bs f wants lt place call holds =
+      subst (λ o. Returned acc code (result_kind (slice_get p.functions m.0)) (record { at = at; base = base; left = k; this = Ref r; below = b ∷ bs; slots = f; world = w }) b bs o) (sym (call_runs p.functions (acc.heap w) m r vs k)) (by (slice_get p.functions m.0) refl call holds)
     where
       at_its_place : (o : Option ℕ) (x : List Placed) → o ≡ Some at → StandsAt code o x → HasAt code at x
       at_its_place o x e h = subst (λ o. StandsAt code o x) e h
 
-      by : (o : Option PlainMethod) → slice_get p.functions m.0 ≡ o → Takes o (length vs) → Holds (λ i. param_kind o i) f base vs → Returned acc code (result_kind o) (record { at = at; base = base; left = k; this = Ref r; below = b ∷ bs; slots = f; world = w }) b bs (value_of_body (exec_all (function_parts (functions_of p.functions (acc.heap w)) (acc.heap w) (Ref r)) (locals_of o vs) tt (body_of o) k))
-      by None e t holds = absurd t
-      by (Some x) e t holds = body_runs n calls agains x m.0 e r vs at base k b bs f wants (omega (arith, lt)) (at_its_place (slice_get code.functions m.0) (function_code p x) place (laid m.0 x e)) t holds
+      by : (o : Option PlainMethod) → slice_get p.functions m.0 ≡ o → CallTyped (acc.heap w) o r vs → Holds (λ i. param_kind o i) f base vs → Returned acc code (result_kind o) (record { at = at; base = base; left = k; this = Ref r; below = b ∷ bs; slots = f; world = w }) b bs (value_of_body (exec_all (function_parts (functions_of p.functions (acc.heap w)) (acc.heap w) (Ref r)) (locals_of o vs) tt (body_of o) k))
+      by None e c holds = absurd c
+      by (Some x) e c holds = body_runs n calls agains x m.0 e r vs at base k b bs f wants (omega (arith, lt)) (at_its_place (slice_get code.functions m.0) (function_code p x) place (laid m.0 x e)) c.0 c.1 holds
 
   both_run : (n : ℕ) → CallsRun acc code p laid w (functions_of p.functions (acc.heap w)).call n × AgainsRun n
-  both_run zero = ((λ m r vs at base k b bs f wants lt place takes holds. absurd (omega (arith, lt))), (λ tys ret me b bs base top x line ls u at k f is h fe len lt holds. absurd (omega (arith, lt))))
+  both_run zero = ((λ m r vs at base k b bs f wants lt place call holds. absurd (omega (arith, lt))), (λ s me b bs base top wide receiver x line ls u at k f is h t len v lt holds. absurd (omega (arith, lt))))
   both_run (suc n) = let r = both_run n in (calls_too n r.0 r.1, agains_too n r.0 r.1)
 
   -- calls of value methods run as they mean, whatever is left

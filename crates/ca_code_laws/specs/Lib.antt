@@ -1,5 +1,4 @@
 pub mod Heeding
-pub mod Fine
 pub mod Words
 pub mod Machine
 pub mod Runs
