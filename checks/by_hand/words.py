@@ -2,7 +2,7 @@
 
 from by_hand.forms import EMPTY, ok, row, spent
 
-USAGE = "usage: commute run WORKERS BUDGET | pairs | plan | emit | gen SEED SIZE | load SEED SIZE WORKERS\n"
+USAGE = "usage: commute run WORKERS BUDGET | pairs | plan | emit | gen SEED SIZE | load SEED SIZE WORKERS | verify BUDGET\n"
 USAGE_FAULT = 2
 # Standard input of commands that don't read it.
 UNREAD = "$ not read"

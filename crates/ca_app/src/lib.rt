@@ -25,6 +25,7 @@ mod serving;
 mod summary;
 mod telling;
 mod unread;
+mod verifying;
 
 pub use generating::generate;
 pub use laws::{accepted_programs_are_typed, one_reply};
