@@ -145,12 +145,12 @@ module _ {words : List (List ℕ)} {text : List ℕ} (budget : ℕ) (names : Nam
   told_check : {reply : Reply} → VerifyReplies budget text reply → Told words text reply
   told_check (v.too_long more) = told_refusal (causes.too_long more)
   told_check (v.unscheduled short none) = told_refusal (causes.unscheduled short none)
-  told_check (v.scheduled short split (v.refuses refused)) = told_refusal (causes.source_refused split refused)
-  told_check (v.scheduled short split (v.reads accepted (v.ill_formed line))) = told_refusal (causes.ill_formed split accepted line)
+  told_check (v.scheduled short split (v.refuses refused)) = told_refusal (causes.source_refused short split refused)
+  told_check (v.scheduled short split (v.reads accepted (v.ill_formed line))) = told_refusal (causes.ill_formed short split accepted line)
   told_check (v.scheduled {source = a} {schedule = b} short split (v.reads {p = p} accepted (v.judges {lines = ls} read (v.follows f)))) =
-      that_they_follow (record { budget = budget; source = a; schedule = b; program = p; lines = ls; named = names; split = split; accepted = accepted; read = read; so = f }) refl
+      that_they_follow (record { budget = budget; source = a; schedule = b; program = p; lines = ls; named = names; short = short; split = split; accepted = accepted; read = read; so = f }) refl
   told_check (v.scheduled {source = a} {schedule = b} short split (v.reads {p = p} accepted (v.judges {lines = ls} read (v.goes_wrong {n = n} f)))) =
-      that_they_go_wrong (record { budget = budget; source = a; schedule = b; program = p; lines = ls; named = names; split = split; accepted = accepted; read = read; so = (n, f) }) refl
+      that_they_go_wrong (record { budget = budget; source = a; schedule = b; program = p; lines = ls; named = names; short = short; split = split; accepted = accepted; read = read; so = (n, f) }) refl
 
 -- by its status
 refusal_told : {words : List (List ℕ)} {text : List ℕ} {reply : Reply} (limit : Bool) → Told words text reply → refusal_status limit ≡ reply.status → IsCheckRefused words limit text
@@ -191,21 +191,21 @@ module _ {words : List (List ℕ)} {text : List ℕ} where
     ends = ends p run.budget (serial p run.budget) run.same;
   }
 
-  error_status : {reply : Reply} → Replies words text reply → 1 ≡ reply.status → IsRefused false text ⊎ IsCheckRefused words false text
+  error_status : {reply : Reply} → Replies words text reply → 1 ≡ reply.status → IsRefused words false text ⊎ IsCheckRefused words false text
   error_status (verifies {budget = b} names replies) e = inr (refusal_told false (told_check b names replies) e)
   error_status (usage fault) e = absurd (omega arith)
   error_status (unread names replies) e = absurd (omega (arith, unread_at replies))
-  error_status (named names reading (refuses {at = at} {code = code} refused)) e =
-      inl (record { at = at; code = code; refused = refused; kind = kind_of false (is_limit_code code) e })
+  error_status (named {command = command} names reading (refuses {at = at} {code = code} refused)) e =
+      inl (record { command = command; named = names; reading = reading; at = at; code = code; refused = refused; kind = kind_of false (is_limit_code code) e })
   error_status (named {command = command} {reply = reply} names reading (serves {p = p} accepted replies)) e =
       absurd ((no_refusal_at accepted.tree p command reply replies).0 e)
 
-  limit_status : {reply : Reply} → Replies words text reply → 8 ≡ reply.status → IsRefused true text ⊎ IsCheckRefused words true text
+  limit_status : {reply : Reply} → Replies words text reply → 8 ≡ reply.status → IsRefused words true text ⊎ IsCheckRefused words true text
   limit_status (verifies {budget = b} names replies) e = inr (refusal_told true (told_check b names replies) e)
   limit_status (usage fault) e = absurd (omega arith)
   limit_status (unread names replies) e = absurd (omega (arith, unread_at replies))
-  limit_status (named names reading (refuses {at = at} {code = code} refused)) e =
-      inl (record { at = at; code = code; refused = refused; kind = kind_of true (is_limit_code code) e })
+  limit_status (named {command = command} names reading (refuses {at = at} {code = code} refused)) e =
+      inl (record { command = command; named = names; reading = reading; at = at; code = code; refused = refused; kind = kind_of true (is_limit_code code) e })
   limit_status (named {command = command} {reply = reply} names reading (serves {p = p} accepted replies)) e =
       absurd ((no_refusal_at accepted.tree p command reply replies).1 e)
 
@@ -262,7 +262,7 @@ module _ {words : List (List ℕ)} {text : List ℕ} {status : ℕ} {old now : O
   when_0 told is = let s = given headline (λ e. omega arith) (λ e. omega arith) (λ e. omega arith) in
       done_status (λ n. told n is) s.is_one (sym is ∙ s.same) s.bytes
 
-  pub when_1 : status ≡ 1 → IsRefused false text ⊎ IsCheckRefused words false text
+  pub when_1 : status ≡ 1 → IsRefused words false text ⊎ IsCheckRefused words false text
   when_1 is = let s = given headline (λ e. omega arith) (λ e. omega arith) (λ e. omega arith) in error_status s.is_one (sym is ∙ s.same)
 
   pub when_3 : status ≡ 3 → RunEnds words text IsTrapped
@@ -273,7 +273,7 @@ module _ {words : List (List ℕ)} {text : List ℕ} {status : ℕ} {old now : O
   when_4 is = let s = given headline (λ e. omega arith) (λ e. omega arith) (λ e. omega arith) in
       run_status 4 IsSpent (λ e. omega arith) (λ e. omega arith) (λ e. omega arith) (λ e. omega arith) (λ e. omega arith) spent_end s.is_one (sym is ∙ s.same)
 
-  pub when_8 : status ≡ 8 → IsRefused true text ⊎ IsCheckRefused words true text
+  pub when_8 : status ≡ 8 → IsRefused words true text ⊎ IsCheckRefused words true text
   when_8 is = let s = given headline (λ e. omega arith) (λ e. omega arith) (λ e. omega arith) in limit_status s.is_one (sym is ∙ s.same)
 
   pub when_9 : status ≡ 9 → IsChecked words text LinesGoWrong

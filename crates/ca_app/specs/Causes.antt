@@ -9,7 +9,7 @@ use Rattle.ca_model.specs.declared.value.Value.{Value as Datum}
 use Rattle.ca_meaning.specs.Serial.{Ended, done, trapped, spent, serial}
 use Rattle.ca_words.specs.declared.Command.{Command}
 use Rattle.ca_words.specs.declared.Command.TheVariants.{Run, Gen, Load, Verify}
-use Rattle.ca_words.specs.Words.{Names, reads}
+use Rattle.ca_words.specs.Words.{Names, reads, reads_program}
 use Rattle.ca_gen.specs.Generated.{generated}
 use Rattle.ca_app.specs.Accepted.{Accepted}
 use Rattle.ca_app.specs.Refusals.{RefusedAt, is_limit_code}
@@ -34,8 +34,11 @@ ReadsNothing words = (c : Command) → Names words c → reads c ≡ false
 abbrev pub ReadsSource : List (List ℕ) → Type 0
 ReadsSource words = (c : Command) × Names words c × (reads c ≡ true)
 
--- The text is refused, by a limit or not.
-pub record IsRefused (limit : Bool) (text : List ℕ) : Type 0 where
+-- The words name a command that reads a source and nothing behind it, and the text is refused, by a limit or not.
+pub record IsRefused (words : List (List ℕ)) (limit : Bool) (text : List ℕ) : Type 0 where
+  pub command : Command
+  pub named : Names words command
+  pub reading : reads_program command ≡ true
   pub at : Place
   pub code : ℕ
   pub refused : RefusedAt text at code
@@ -46,8 +49,8 @@ pub record IsRefused (limit : Bool) (text : List ℕ) : Type 0 where
 pub data CheckRefused (text : List ℕ) : Place → ℕ → Type 0 where
   too_long : most_with_schedule < length text → CheckRefused text nowhere TOO_LONG.0
   unscheduled : length text ≤ most_with_schedule → NoSchedule text → CheckRefused text nowhere NO_SCHEDULE.0
-  source_refused : {source schedule : List ℕ} {at : Place} {code : ℕ} → SplitAt text source schedule → RefusedAt source at code → CheckRefused text at code
-  ill_formed : {source schedule : List ℕ} {p : PlainProgram} {n : ℕ} → SplitAt text source schedule → Accepted source p → BadText p schedule n → CheckRefused text (at_line n) ILL_FORMED.0
+  source_refused : {source schedule : List ℕ} {at : Place} {code : ℕ} → length text ≤ most_with_schedule → SplitAt text source schedule → RefusedAt source at code → CheckRefused text at code
+  ill_formed : {source schedule : List ℕ} {p : PlainProgram} {n : ℕ} → length text ≤ most_with_schedule → SplitAt text source schedule → Accepted source p → BadText p schedule n → CheckRefused text (at_line n) ILL_FORMED.0
 
 -- The words name `verify`, and the text is refused, by a limit or not.
 pub record IsCheckRefused (words : List (List ℕ)) (limit : Bool) (text : List ℕ) : Type 0 where
@@ -66,6 +69,7 @@ pub record IsChecked (words : List (List ℕ)) (text : List ℕ) (is : PlainProg
   pub program : PlainProgram
   pub lines : List Line
   pub named : Names words (Verify budget)
+  pub short : length text ≤ most_with_schedule
   pub split : SplitAt text source schedule
   pub accepted : Accepted source program
   pub read : ReadsAs program schedule lines

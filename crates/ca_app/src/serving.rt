@@ -83,10 +83,10 @@ pub fn top<R: AllocGlobal + Threads + Wait + Sync, S: Source, K: Sink, G: Gate>(
 
     // What each of its statuses says of the text and its serial run.
     ensures done { (text : List ℕ) → S.left source.old ≡ Some text → result ≡ DONE → RunEnds (texts words.now) text IsDone ⊎ (PlanTold (texts words.now) text (K.written sink.old) (K.written sink.new) ⊎ (Generates (texts words.now) (K.written sink.old) (K.written sink.new) ⊎ (Loads (texts words.now) (K.written sink.old) (K.written sink.new) ⊎ IsChecked (texts words.now) text LinesFollow))) }
-    ensures refused { (text : List ℕ) → S.left source.old ≡ Some text → result ≡ REFUSED → IsRefused false text ⊎ IsCheckRefused (texts words.now) false text }
+    ensures refused { (text : List ℕ) → S.left source.old ≡ Some text → result ≡ REFUSED → IsRefused (texts words.now) false text ⊎ IsCheckRefused (texts words.now) false text }
     ensures trapped { (text : List ℕ) → S.left source.old ≡ Some text → result ≡ TRAPPED → RunEnds (texts words.now) text IsTrapped }
     ensures spent { (text : List ℕ) → S.left source.old ≡ Some text → result ≡ SPENT → RunEnds (texts words.now) text IsSpent }
-    ensures limit { (text : List ℕ) → S.left source.old ≡ Some text → result ≡ PAST_LIMIT → IsRefused true text ⊎ IsCheckRefused (texts words.now) true text }
+    ensures limit { (text : List ℕ) → S.left source.old ≡ Some text → result ≡ PAST_LIMIT → IsRefused (texts words.now) true text ⊎ IsCheckRefused (texts words.now) true text }
     ensures goes_wrong { (text : List ℕ) → S.left source.old ≡ Some text → result ≡ GOES_WRONG → IsChecked (texts words.now) text LinesGoWrong }
 
     // Where neither device failed, the reply was given whole, or memory ran out.

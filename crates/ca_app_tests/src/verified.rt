@@ -52,9 +52,11 @@ fn with<R: AllocGlobal + Abort>(rt: &R, schedule: &str) -> Vec<u8> {
     text
 }
 
-/// Ends the test unless the words on the visit with this behind it end so.
-fn verifies<R: AllocGlobal + Threads + Wait + Sync + Abort>(
+/// Ends the test unless the words on the visit with this behind it end so. Of the reads and writes the one of this number
+/// fails, where it is not 0.
+fn verifies_failing<R: AllocGlobal + Threads + Wait + Sync + Abort>(
     rt: &R,
+    failing: (u64, u64),
     line: &str,
     schedule: &str,
     status: u8,
@@ -62,8 +64,23 @@ fn verifies<R: AllocGlobal + Threads + Wait + Sync + Abort>(
 ) {
     let text = with(rt, schedule);
     let reply = reply.replace(rt.alloc(), "$", "\n").expect(rt, "a reply");
-    let ends = Call::of_bytes(line, &text).ends(rt, status, reply.as_bytes());
-    assert!(rt; ends, "{line} of {schedule}");
+    let call = Call {
+        failing,
+        ..Call::of_bytes(line, &text)
+    };
+    let (reads, writes) = failing;
+    assert!(rt; call.ends(rt, status, reply.as_bytes()), "{line} of {schedule}, {reads} and {writes}");
+}
+
+/// The same over devices that don't fail.
+fn verifies<R: AllocGlobal + Threads + Wait + Sync + Abort>(
+    rt: &R,
+    line: &str,
+    schedule: &str,
+    status: u8,
+    reply: &str,
+) {
+    verifies_failing(rt, (0, 0), line, schedule, status, reply);
 }
 
 #[test]
@@ -110,21 +127,50 @@ fn takes_the_last_first_line(rt: HostRuntime) {
     assert!(rt; Call::of_bytes("verify 1", &text).ends(&rt, 0, b"yes\n"));
 }
 
-/// A source that is too long, and one that isn't.
+/// Whether `verify 1` tells this of a source with so many bytes.
+fn tells_of_length<R: AllocGlobal + Threads + Wait + Sync + Abort>(
+    rt: &R,
+    bytes: usize,
+    status: u8,
+    reply: &str,
+) -> bool {
+    let mut text = Vec::new(rt.alloc());
+    add(rt, &mut text, b"int main() { }");
+    for _ in 14..bytes {
+        add(rt, &mut text, b" ");
+    }
+    add_lines(rt, &mut text, "$/*schedule$done 0$*/$");
+    Call::of_bytes("verify 1", &text).ends(rt, status, reply.as_bytes())
+}
+
+/// The longest source, and one that is longer.
 #[test]
 fn tells_where_the_source_is_too_long(rt: HostRuntime) {
-    let mut text = Vec::new(rt.alloc());
-    add(&rt, &mut text, b"int main() { }");
-    for _ in 14..1_048_576 {
-        add(&rt, &mut text, b" ");
-    }
-    let fits = text.clone().expect(&rt, "a copy");
-    add(&rt, &mut text, b" ");
-    for (mut source, status, reply) in [(fits, 0, "yes\n"), (text, 8, "limit 0:0 E04\n")] {
-        add_lines(&rt, &mut source, "$/*schedule$done 0$*/$");
-        let ends = Call::of_bytes("verify 1", &source).ends(&rt, status, reply.as_bytes());
-        assert!(rt; ends, "{reply}");
-    }
+    assert!(rt; tells_of_length(&rt, 1_048_576, 0, "yes\n"));
+    assert!(rt; tells_of_length(&rt, 1_048_577, 8, "limit 0:0 E04\n"));
+}
+
+/// Ends the test unless a failed read leaves nothing and status 6, and a failed write nothing and status 7.
+fn gives_way<R: AllocGlobal + Threads + Wait + Sync + Abort>(
+    rt: &R,
+    schedule: &str,
+    status: u8,
+    reply: &str,
+) {
+    verifies_failing(rt, (1, 0), "verify 100", schedule, 6, "");
+    verifies_failing(rt, (2, 0), "verify 100", schedule, 6, "");
+    verifies_failing(rt, (3, 0), "verify 100", schedule, status, reply);
+    verifies_failing(rt, (0, 1), "verify 100", schedule, 7, "");
+    verifies_failing(rt, (0, 2), "verify 100", schedule, status, reply);
+}
+
+/// Each read and each write fails in turn, over a right schedule, a bad one and one that is refused.
+#[test]
+fn gives_way_to_faults(rt: HostRuntime) {
+    gives_way(&rt, ORDER, 0, "yes$");
+    gives_way(&rt, "$/*schedule$declined$", 9, "no 2$");
+    gives_way(&rt, "$/*schedule$x$", 1, "error 2:1 E61$");
+    gives_way(&rt, "", 1, "error 0:0 E60$");
 }
 
 /// Where the lines don't follow, each beginning of a right schedule that ends behind a line tells the number behind its last one.
