@@ -69,7 +69,10 @@ fn verifies_failing<R: AllocGlobal + Threads + Wait + Sync + Abort>(
         ..Call::of_bytes(line, &text)
     };
     let (reads, writes) = failing;
-    assert!(rt; call.ends(rt, status, reply.as_bytes()), "{line} of {schedule}, {reads} and {writes}");
+    assert!(rt;
+        call.ends(rt, status, reply.as_bytes()),
+        "{line} of {schedule}, {reads} and {writes}"
+    );
 }
 
 /// The same over devices that don't fail.
