@@ -1,4 +1,7 @@
-//! The command `verify`: a source and a schedule behind it.
+//! The command `verify`, from a source and a schedule behind it to the reply: `VerifyReplies` of `specs/Verified.antt`.
+//!
+//! `verify` reads to the end, `split` finds the last line feed that a first line of a schedule follows, the front is read as a
+//! source, `read_lines` reads the rest, `marks_of` makes the marks of the plan, and `check` tells the first bad line.
 
 ghost use Rattle.std.specs.Prelude.{◌≡◌, ◌≤◌, ◌<◌, ◌++◌, ◌+◌, ℕ, List, length, codes, decimal, Some, IfOk};
 ghost use Rattle.std.specs.Result.{IfErr};
