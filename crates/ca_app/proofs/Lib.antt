@@ -12,4 +12,4 @@ pub mod OneReply
 mod PlannedMarks
 pub mod StatusLemmas
 pub mod Totals
-pub mod Verifying
+pub mod Scheduled

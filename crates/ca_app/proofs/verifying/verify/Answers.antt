@@ -1,5 +1,5 @@
 use Rattle.std.proofs.Common.{arith}
-use Rattle.ca_app.proofs.Verifying.{ends_too_long}
+use Rattle.ca_app.proofs.Scheduled.{ends_too_long}
 use Rattle.ca_app.proofs.verifying.verify.Goals as goal
 
 pub returns-in-Err-Limit-clause-headline : goal.returns-in-Err-Limit-clause-headline

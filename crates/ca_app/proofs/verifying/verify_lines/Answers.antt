@@ -6,7 +6,7 @@ use Rattle.ca_lines.proofs.Bytes.{of_none, of_some}
 use Rattle.ca_replay.proofs.Ends.{bad_within}
 use Rattle.ca_app.specs.Verified.{yes_reply, no_reply}
 use Rattle.ca_app.proofs.Endings.{ends_written}
-use Rattle.ca_app.proofs.Verifying.{ends_yes, ends_no}
+use Rattle.ca_app.proofs.Scheduled.{ends_yes, ends_no}
 use Rattle.ca_app.proofs.verifying.verify_lines.Goals as goal
 
 pub returns-in-None-clause-ends : goal.returns-in-None-clause-ends

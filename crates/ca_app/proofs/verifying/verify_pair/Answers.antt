@@ -2,7 +2,7 @@ use Rattle.std.proofs.Common.{rules}
 use Rattle.ca_program.specs.View.{program_view}
 use Rattle.ca_app.proofs.AcceptedNames.{accepted_names}
 use Rattle.ca_app.proofs.AcceptedTyped.{accepted_is_checked}
-use Rattle.ca_app.proofs.Verifying.{ends_source_refused, ends_read}
+use Rattle.ca_app.proofs.Scheduled.{ends_source_refused, ends_read}
 use Rattle.ca_app.proofs.verifying.verify_pair.Goals as goal
 
 pub returns-in-Ok-clause-ends : goal.returns-in-Ok-clause-ends

@@ -1,5 +1,5 @@
 use Rattle.std.proofs.Common.{arith, rules, ap, ◌∷◌, length, length-append}
-use Rattle.ca_app.proofs.Verifying.{ends_unscheduled, ends_scheduled}
+use Rattle.ca_app.proofs.Scheduled.{ends_unscheduled, ends_scheduled}
 use Rattle.ca_app.proofs.verifying.verify_text.Goals as goal
 
 pub returns-in-Some-clause-ends : goal.returns-in-Some-clause-ends
