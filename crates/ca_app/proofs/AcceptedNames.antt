@@ -3,14 +3,13 @@ use Rattle.std.proofs.Common.{◌≡◌, ℕ, false, true, List, [], ◌∷◌, 
 use Rattle.std.specs.Prelude.{Option, Some, slice_get}
 use Rattle.ca_program.specs.Plain.{PlainProgram, PlainClass, PlainMethod}
 use Rattle.ca_lex.specs.Bytes.{is_name_byte}
-use Rattle.ca_meaning.specs.ProgramTyped.{IsClass}
 use Rattle.ca_typing.specs.Names.{NamedOnce, IsName, NamesSpelled}
 use Rattle.ca_typing.proofs.Once.{names_once}
 use Rattle.ca_typing.proofs.Spelled.{names_spelled}
 use Rattle.ca_trace.specs.Texts.{class_name, method_name}
 use Rattle.ca_lines.specs.Pieces.{Without}
 use Rattle.ca_lines.specs.Named.{NamesGood}
-use Rattle.ca_lines.proofs.Bytes.{SameSplit, same_split, head_is, without_append}
+use Rattle.ca_lines.proofs.Bytes.{same_split, head_is, without_append}
 use Rattle.ca_app.specs.Accepted.{Accepted}
 use Rattle.ca_app.proofs.AcceptedTyped.{accepted_is_typed}
 

@@ -1,6 +1,5 @@
 -- Words and a text have one reply at most.
 use Rattle.std.proofs.Common.{◌≡◌, ℕ, true, false, List, refl, sym, ap, ◌∙◌, subst}
-use Rattle.ca_tree.specs.declared.name.Place.{Place}
 use Rattle.ca_tree.specs.Plain.{TextTree}
 use Rattle.ca_program.specs.Plain.{PlainProgram}
 use Rattle.ca_model.specs.declared.value.Object.{Object}
@@ -14,8 +13,7 @@ use Rattle.ca_words.proofs.OneCommand.{one_command}
 use Rattle.ca_plan.specs.Plans.{PlainPlan, PlanOf}
 use Rattle.ca_plan.proofs.OnePlan.{one_pairs_text, one_plan_text}
 use Rattle.ca_emit.proofs.OneText.{one_annotated_text}
-use Rattle.ca_app.specs.Accepted.{HasTree, Accepted}
-use Rattle.ca_app.specs.Refusals.{RefusedAt, refusal_reply}
+use Rattle.ca_app.specs.Refusals.{refusal_reply}
 use Rattle.ca_app.specs.Verified.{VerifyReplies}
 use Rattle.ca_app.specs.Reply.{ProgramReplies, runs, tells, CommandReplies, refuses, serves, IsLoaded, UnreadReplies, generates, loads, Replies, usage, unread, named, verifies, loaded_reply}
 use Rattle.ca_app.specs.Told.{Tells, verdicts, marks, annotated, tells_plan}

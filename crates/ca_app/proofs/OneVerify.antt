@@ -1,5 +1,5 @@
 -- A text has one reply of `verify`.
-use Rattle.std.proofs.Common.{◌≡◌, ℕ, ◌<◌, ◌≤◌, List, [], ◌∷◌, ◌++◌, length, refl, sym, ap, ◌∙◌, subst, arith}
+use Rattle.std.proofs.Common.{◌≡◌, ℕ, List, [], ◌∷◌, ◌++◌, refl, sym, ap, ◌∙◌, subst, arith}
 use Rattle.ca_program.specs.Plain.{PlainProgram}
 use Rattle.ca_meaning.specs.Output.{Reply}
 use Rattle.ca_plan.specs.Plans.{PlainPlan, PlanOf}
@@ -9,13 +9,12 @@ use Rattle.ca_trace.specs.declared.line.Line.{Line}
 use Rattle.ca_trace.specs.Lines.{Follows}
 use Rattle.ca_trace.specs.Bad.{Begins, FirstBad}
 use Rattle.ca_trace.specs.Bad as bad
-use Rattle.ca_trace.specs.Texts.{ReadsAs, BadText, HasHeader, SplitAt}
+use Rattle.ca_trace.specs.Texts.{HasHeader, SplitAt}
 use Rattle.ca_trace.proofs.Splitting.{one_first_bad, none_where_bad}
 use Rattle.ca_lines.specs.Named.{NamesGood}
 use Rattle.ca_lines.proofs.Once.{one_list, reads_or_bad, one_bad_line}
-use Rattle.ca_app.specs.Accepted.{Accepted}
 use Rattle.ca_app.specs.Refusals.{refusal_reply}
-use Rattle.ca_app.specs.Verified.{FollowsPlan, at_line, yes_reply, no_reply, LinesReplies, follows, goes_wrong, ScheduleReplies, ill_formed, judges, PairReplies, refuses, reads, VerifyReplies, too_long, unscheduled, scheduled}
+use Rattle.ca_app.specs.Verified.{FollowsPlan, at_line, no_reply, LinesReplies, follows, goes_wrong, ScheduleReplies, ill_formed, judges, PairReplies, refuses, reads, VerifyReplies, too_long, unscheduled, scheduled}
 use Rattle.ca_app.proofs.AcceptedNames.{accepted_names}
 use Rattle.ca_app.proofs.OneReading.{is_refusal, is_program}
 

@@ -1,5 +1,5 @@
 -- What was given is the one reply of `verify` that there is.
-use Rattle.std.proofs.Common.{◌≡◌, ℕ, ◌<◌, ◌≤◌, List, length, Option, ◌⊎◌, inl, inr, subst, sym, ap, arith}
+use Rattle.std.proofs.Common.{◌≡◌, ℕ, ◌<◌, ◌≤◌, List, length, Option, ◌⊎◌, inl, inr, subst, arith}
 use Rattle.ca_tree.specs.declared.name.Place.{Place}
 use Rattle.ca_program.specs.Plain.{PlainProgram}
 use Rattle.ca_meaning.specs.Output.{Reply}
@@ -11,12 +11,10 @@ use Rattle.ca_trace.specs.Bad.{FirstBad}
 use Rattle.ca_trace.specs.Texts.{ReadsAs, BadText, SplitAt, NoSchedule}
 use Rattle.ca_lines.specs.Named.{NamesGood}
 use Rattle.ca_lines.proofs.Once.{one_list, reads_or_bad}
-use Rattle.ca_app.specs.Accepted.{Accepted}
-use Rattle.ca_app.specs.Refusals.{RefusedAt, refusal_reply}
+use Rattle.ca_app.specs.Refusals.{refusal_reply}
 use Rattle.ca_app.specs.clauses.Reading.{IsProgramOf, IsRefusalOf}
 use Rattle.ca_app.specs.Ends.{Ends, Unreplied, EndsWith}
 use Rattle.ca_app.specs.Verified.{FollowsPlan, at_line, nowhere, most_with_schedule, yes_reply, no_reply, LinesReplies, follows, goes_wrong, ScheduleReplies, ill_formed, judges, PairReplies, refuses, reads, VerifyReplies, too_long, unscheduled, scheduled}
-use Rattle.ca_app.proofs.AcceptedNames.{accepted_names}
 use Rattle.ca_app.proofs.Endings.{only_reply}
 use Rattle.ca_app.proofs.OneVerify.{lines_one, schedule_one, pair_one, verify_one, split_one, marks_follow, marks_go_wrong}
 

@@ -6,10 +6,9 @@ use Rattle.ca_program.specs.Plain.{PlainProgram}
 use Rattle.ca_meaning.specs.Output.{Reply, reply_of}
 use Rattle.ca_meaning.specs.Serial.{Ended, done, trapped, spent, serial}
 use Rattle.ca_words.specs.declared.Command.{Command}
-use Rattle.ca_words.specs.declared.Command.TheVariants.{Run, Pairs, Plan, Emit, Verify}
+use Rattle.ca_words.specs.declared.Command.TheVariants.{Run, Verify}
 use Rattle.ca_words.specs.Words.{Names, reads}
-use Rattle.ca_trace.specs.declared.line.Line.{Line}
-use Rattle.ca_app.specs.Verified.{VerifyReplies, PairReplies, ScheduleReplies, LinesReplies}
+use Rattle.ca_app.specs.Verified.{VerifyReplies}
 use Rattle.ca_app.specs.Verified as v
 use Rattle.ca_words.proofs.OneCommand.{one_command}
 use Rattle.ca_app.specs.Accepted.{Accepted}

@@ -1,21 +1,17 @@
 -- Names that are given once: an item of the number that its name has first.
 use Rattle.std.proofs.Common.{◌≡◌, ℕ, zero, suc, ◌+◌, ◌<◌, ◌≤◌, ◌⊎◌, inl, inr, List, [], ◌∷◌, ◌++◌, Bool, true, false, length, map, get_or, refl, sym, subst, ap, ◌∙◌, arith, append_assoc}
 use Rattle.std.proofs.lemmas.List.{length_push}
-use Rattle.std.specs.Prelude.{Option, Some, None, slice_get, not, nat_eq}
+use Rattle.std.specs.Prelude.{Option, Some, None, slice_get, not}
 use Rattle.std.proofs.lemmas.Bool.{eqb-true}
 use Rattle.std.proofs.lemmas.Option.{same_Some}
 use Rattle.ca_tree.specs.declared.name.Place.{Place}
-use Rattle.ca_tree.specs.declared.tree.FieldNode.{FieldNode}
-use Rattle.ca_tree.specs.declared.tree.TypeNode.{TypeNode}
 use Rattle.ca_tree.specs.Plain.{MethodTree, MemberTree, ClassTree, TextTree, field_member, method_member}
-use Rattle.ca_program.specs.declared.program.ClassId.{ClassId}
-use Rattle.ca_program.specs.declared.program.FieldInfo.{FieldInfo}
 use Rattle.ca_program.specs.declared.program.ValueType.{ValueType}
 use Rattle.ca_program.specs.Plain.{PlainProgram, PlainClass, PlainMethod}
 use Rattle.ca_program.specs.Plain as program
 use Rattle.ca_resolve.specs.Judged.{Violation, Judged, fine, faulty, both, within, unless, beside, each, broken_if}
-use Rattle.ca_resolve.specs.Scopes.{Classes, classes_of, member_name, number_of}
-use Rattle.ca_types.specs.Rules.{class_once, member_once, ends_with_return, is_number, class_limit, operation_limit}
+use Rattle.ca_resolve.specs.Scopes.{classes_of, member_name, number_of}
+use Rattle.ca_types.specs.Rules.{class_once, member_once, is_number, class_limit}
 use Rattle.ca_types.specs.Classes.{MemberEnv, Member, a_field, a_method, Members, members_of, method_and, judge_field_member, judge_method, judge_member, judge_members, judge_parts, method_of, method_limit, behind_member, along, ClassEnv, class_begin, behind_class, judge_class, judge_named, judge_classes, Parts, parts_of, first_class, judge, program_of, main_begin}
 use Rattle.ca_types.specs.Statements.{judge_statements, behind_all}
 use Rattle.ca_typing.specs.Names.{NamedOnce}

@@ -1,5 +1,5 @@
 -- Names of classes and of operations.
-use Rattle.std.specs.Prelude.{ℕ, ◌≡◌, true, List, Option, Some, slice_get}
+use Rattle.std.specs.Prelude.{ℕ, ◌≡◌, true, List, Some, slice_get}
 use Rattle.std.specs.List.{AllByRecursion}
 use Rattle.ca_program.specs.Plain.{PlainProgram, PlainClass, PlainMethod}
 use Rattle.ca_lex.specs.Bytes.{is_name_byte}

@@ -1,10 +1,8 @@
-use Rattle.std.proofs.Common.{◌≡◌, subst, sym, arith, rules, length}
+use Rattle.std.proofs.Common.{arith, rules}
 use Rattle.ca_program.specs.View.{program_view}
 use Rattle.ca_trace.specs.Lines.{Follows}
-use Rattle.ca_trace.specs.Bad.{FirstBad}
 use Rattle.ca_lines.proofs.Bytes.{of_none, of_some}
 use Rattle.ca_replay.proofs.Ends.{bad_within}
-use Rattle.ca_app.specs.Verified.{yes_reply, no_reply}
 use Rattle.ca_app.proofs.Endings.{ends_written}
 use Rattle.ca_app.proofs.Scheduled.{ends_yes, ends_no}
 use Rattle.ca_app.proofs.verifying.verify_lines.Goals as goal

@@ -1,7 +1,4 @@
-use Rattle.std.proofs.Common.{subst}
 use Rattle.ca_program.specs.View.{program_view}
-use Rattle.ca_trace.specs.Texts.{BadText}
-use Rattle.ca_lines.specs.Reads.{Bad}
 use Rattle.ca_app.proofs.Scheduled.{ends_ill_formed, ends_judged}
 use Rattle.ca_app.proofs.verifying.verify_schedule.Goals as goal
 
