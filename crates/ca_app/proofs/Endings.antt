@@ -12,18 +12,19 @@ use Rattle.ca_meaning.specs.Output.{Reply, output, reply_of, prints_text, trap_t
 use Rattle.ca_parallel.specs.Marks.{SoundMarks}
 use Rattle.ca_serial.specs.Runs.{prints_of}
 use Rattle.ca_words.specs.declared.Command.{Command}
-use Rattle.ca_words.specs.declared.Command.TheVariants.{Run, Pairs, Plan, Emit, Gen, Load}
-use Rattle.ca_words.specs.Words.{Names, reads}
+use Rattle.ca_words.specs.declared.Command.TheVariants.{Run, Pairs, Plan, Emit, Gen, Load, Verify}
+use Rattle.ca_words.specs.Words.{Names, reads, reads_program}
 use Rattle.ca_words.proofs.OneCommand.{one_command}
 use Rattle.ca_plan.specs.Plans.{PlainPlan, PlanOf, CommuteAsTold}
 use Rattle.ca_plan.specs.Texts.{pairs_text, plan_text}
 use Rattle.ca_emit.specs.Annotations.{annotated_text}
 use Rattle.ca_app.specs.Refusals.{refusal_reply}
 use Rattle.ca_app.specs.clauses.Reading.{HasOneTree, IsProgramOf, IsRefusalOf}
-use Rattle.ca_app.specs.Reply.{ProgramReplies, runs, tells, CommandReplies, refuses, serves, IsLoaded, UnreadReplies, generates, loads, Replies, usage, unread, named, usage_reply, generated_reply, loaded_reply}
+use Rattle.ca_app.specs.Reply.{ProgramReplies, runs, tells, CommandReplies, refuses, serves, IsLoaded, UnreadReplies, generates, loads, Replies, usage, unread, named, verifies, usage_reply, generated_reply, loaded_reply}
 use Rattle.ca_app.specs.Ends.{Ends, whole, no_memory, read_fault, write_fault, Unreplied, EndsWith, status_after}
 use Rattle.ca_app.specs.Told.{Tells, verdicts, marks, annotated, tells_plan, ProgramTold, CommandTold}
-use Rattle.ca_app.proofs.OneReply.{program_reply, command_reply, unread_reply, unread_reads, other_reads, one_reply}
+use Rattle.ca_app.proofs.OneReply.{program_reply, command_reply, unread_reply, unread_reads, other_reads, program_reads, no_verify, same_budget, one_reply}
+use Rattle.ca_app.specs.Verified.{VerifyReplies}
 use Rattle.ca_app.specs.Causes.{IsUsageFault, ReadsNothing, ReadsSource}
 
 -- what came of writing a reply
@@ -42,7 +43,7 @@ after_seven before now (Ok x) status ended cause e other seven = absurd (other (
 after_seven before now (Err x) status ended cause e other seven = cause.failed
 
 module _ {status : ℕ} {old now : Option (List ℕ)} where
-  only_reply : (replies : Reply → Type 0) (is : Reply) → replies is → ((reply : Reply) → replies reply → reply ≡ is) → Ends is status old now → EndsWith replies status old now
+  pub only_reply : (replies : Reply → Type 0) (is : Reply) → replies is → ((reply : Reply) → replies reply → reply ≡ is) → Ends is status old now → EndsWith replies status old now
   only_reply replies is one only ends = record {
     some = inr (is, one);
     each = λ reply this. let P : Reply → Type 0 = λ r. Ends r status old now in subst P (sym (only reply this)) ends;
@@ -134,6 +135,7 @@ module _ {status : ℕ} {old now : Option (List ℕ)} where
       some_telling (Run w b) e = absurd cc
       some_telling (Gen x n) e = absurd cc
       some_telling (Load x n w) e = absurd cc
+      some_telling (Verify b) e = absurd cc
 
   -- and where the status is 0 it was written whole
   pub was_told : (tree : TextTree) (p : PlainProgram) (plan : PlainPlan) (command : Command) → PlanOf p plan → SoundMarks p plan.marks → CommuteAsTold p plan → tells_plan command ≡ true
@@ -153,6 +155,7 @@ module _ {status : ℕ} {old now : Option (List ℕ)} where
       at (Run w b) e f = absurd cc
       at (Gen x n) e f = absurd cc
       at (Load x n w) e f = absurd cc
+      at (Verify b) e f = absurd cc
 
 module _ {words : List (List ℕ)} {text : List ℕ} {status : ℕ} {old now : Option (List ℕ)} where
   pub ends_usage : IsUsageFault words → Ends usage_reply status old now → EndsWith (Replies words text) status old now
@@ -171,9 +174,10 @@ module _ {words : List (List ℕ)} {text : List ℕ} {status : ℕ} {old now : O
       each reply (unread {command = other} names' replies) =
           let P : Command → Type 0 = λ c. UnreadReplies c reply in
           ends.each reply (subst P (one_command _ other command names' names) replies)
-      each reply (named {command = other} names' reading replies) = absurd (other_reads other command names' names nothing reading)
+      each reply (named {command = other} names' reading replies) = absurd (other_reads other command names' names nothing (program_reads other reading))
+      each reply (verifies {budget = b} names' replies) = absurd (other_reads (Verify b) command names' names nothing refl)
 
-  pub ends_named : (command : Command) → Names words command → reads command ≡ true → EndsWith (CommandReplies command text) status old now → EndsWith (Replies words text) status old now
+  pub ends_named : (command : Command) → Names words command → reads_program command ≡ true → EndsWith (CommandReplies command text) status old now → EndsWith (Replies words text) status old now
   ends_named command names reading ends = record { some = some ends.some; each = each }
     where
       some : Unreplied status old now ⊎ ((reply : Reply) × CommandReplies command text reply) → Unreplied status old now ⊎ ((reply : Reply) × Replies words text reply)
@@ -182,10 +186,26 @@ module _ {words : List (List ℕ)} {text : List ℕ} {status : ℕ} {old now : O
 
       each : (reply : Reply) → Replies words text reply → Ends reply status old now
       each reply (usage fault) = absurd (fault _ names)
-      each reply (unread {command = other} names' replies) = absurd (other_reads command other names names' (unread_reads replies) reading)
+      each reply (unread {command = other} names' replies) = absurd (other_reads command other names names' (unread_reads replies) (program_reads command reading))
+      each reply (verifies {budget = b} names' replies) = absurd (no_verify command b names names' reading)
       each reply (named {command = other} names' reading' replies) =
           let P : Command → Type 0 = λ c. CommandReplies c text reply in
           ends.each reply (subst P (one_command _ other command names' names) replies)
+
+  pub ends_verified : (budget : ℕ) → Names words (Verify budget) → EndsWith (VerifyReplies budget text) status old now → EndsWith (Replies words text) status old now
+  ends_verified budget names ends = record { some = some ends.some; each = each }
+    where
+      some : Unreplied status old now ⊎ ((reply : Reply) × VerifyReplies budget text reply) → Unreplied status old now ⊎ ((reply : Reply) × Replies words text reply)
+      some (inl u) = inl u
+      some (inr s) = inr (s.0, verifies names s.1)
+
+      each : (reply : Reply) → Replies words text reply → Ends reply status old now
+      each reply (usage fault) = absurd (fault _ names)
+      each reply (unread {command = other} names' replies) = absurd (other_reads (Verify budget) other names names' (unread_reads replies) refl)
+      each reply (named {command = other} names' reading replies) = absurd (no_verify other budget names' names reading)
+      each reply (verifies {budget = b} names' replies) =
+          let P : ℕ → Type 0 = λ k. VerifyReplies k text reply in
+          ends.each reply (subst P (same_budget b budget names' names) replies)
 
 -- words that name a command that reads its source don't name one that reads nothing
 pub some_read : {words : List (List ℕ)} (command : Command) → Names words command → reads command ≡ true → ReadsNothing words → ⊥
@@ -207,6 +227,7 @@ tells_reads Emit e = refl
 tells_reads (Run w b) e = absurd cc
 tells_reads (Gen x n) e = absurd cc
 tells_reads (Load x n w) e = absurd cc
+tells_reads (Verify b) e = absurd cc
 
 -- what each of these commands tells
 pub told_verdicts : {tree : TextTree} {p : PlainProgram} {plan : PlainPlan} {command : Command} {bytes : List ℕ} {status : ℕ} {old now : Option (List ℕ)} → command ≡ Pairs → Tells tree p plan command bytes
@@ -226,3 +247,13 @@ pub told_annotated : {tree : TextTree} {p : PlainProgram} {plan : PlainPlan} {co
 told_annotated e verdicts ends = absurd cc
 told_annotated e marks ends = absurd cc
 told_annotated e annotated ends = ends
+
+-- a command that reads no program and isn't `verify` reads nothing
+pub reads_none : (command : Command) → reads_program command ≡ false → ((b : ℕ) → ¬ (command ≡ Verify b)) → reads command ≡ false
+reads_none (Run w b) e other = absurd cc
+reads_none Pairs e other = absurd cc
+reads_none Plan e other = absurd cc
+reads_none Emit e other = absurd cc
+reads_none (Gen x n) e other = refl
+reads_none (Load x n w) e other = refl
+reads_none (Verify b) e other = absurd (other b refl)

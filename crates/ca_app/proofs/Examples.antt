@@ -27,6 +27,7 @@ use Rattle.ca_meaning.specs.Output.{output}
 use Rattle.ca_app.specs.Accepted.{token_place}
 use Rattle.ca_app.specs.Refusals.{refusal_reply}
 use Rattle.ca_app.specs.Summary.{total_of, summary_text}
+use Rattle.ca_app.specs.Verified.{at_line, nowhere, no_reply}
 
 text : List ℕ
 text = codes "class Acc {\npublic:\n  long sum;\n  Acc *peer;\n  void add(long p) { sum = sum + p; }\n  void tie(Acc *q) { peer = q; }\n};\nint main() {\n  Acc *a = new Acc();\n  Acc *b = new Acc();\n  a->add(3);\n  b->add(4);\n  a->tie(b);\n  a->add(5);\n  return 0;\n}\n"
@@ -201,3 +202,18 @@ crowded = refl
 -- a text without tokens is refused behind its last byte
 end : token_place (codes "\n") [] 0 ≡ place 2 1
 end = refl
+
+-- ---- what `verify` tells
+
+-- the seventh line behind the first one of a schedule is its eighth
+a_bad_line : no_reply 6 ≡ record { status = 9; bytes = codes "no 8\n" }
+unfolding digits
+a_bad_line = refl
+
+an_ill_formed_line : refusal_reply (at_line 3) 61 ≡ record { status = 1; bytes = codes "error 3:1 E61\n" }
+unfolding digits
+an_ill_formed_line = refl
+
+no_schedule : refusal_reply nowhere 60 ≡ record { status = 1; bytes = codes "error 0:0 E60\n" }
+unfolding digits
+no_schedule = refl

@@ -1,11 +1,15 @@
 pub mod AcceptedTyped
+pub mod AcceptedNames
 pub mod Endings
 mod Examples
 pub mod GeneratedRuns
 pub mod LoadedTexts
 pub mod OneProgram
 pub mod OneRefusal
+pub mod OneReading
+pub mod OneVerify
 pub mod OneReply
 mod PlannedMarks
 pub mod StatusLemmas
 pub mod Totals
+pub mod Scheduled

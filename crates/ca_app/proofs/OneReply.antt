@@ -1,41 +1,24 @@
 -- Words and a text have one reply at most.
 use Rattle.std.proofs.Common.{◌≡◌, ℕ, true, false, List, refl, sym, ap, ◌∙◌, subst}
-use Rattle.ca_tree.specs.declared.name.Place.{Place}
 use Rattle.ca_tree.specs.Plain.{TextTree}
 use Rattle.ca_program.specs.Plain.{PlainProgram}
-use Rattle.ca_parse.proofs.OneTree.{tree_is_one}
 use Rattle.ca_model.specs.declared.value.Object.{Object}
 use Rattle.ca_model.specs.declared.value.Value.{Value as Datum}
 use Rattle.ca_meaning.specs.Output.{Reply}
 use Rattle.ca_meaning.specs.Serial.{Ended, done, serial}
 use Rattle.ca_words.specs.declared.Command.{Command}
-use Rattle.ca_words.specs.declared.Command.TheVariants.{Run}
-use Rattle.ca_words.specs.Words.{Names, reads}
+use Rattle.ca_words.specs.declared.Command.TheVariants.{Run, Pairs, Plan, Emit, Gen, Load, Verify}
+use Rattle.ca_words.specs.Words.{Names, reads, reads_program}
 use Rattle.ca_words.proofs.OneCommand.{one_command}
 use Rattle.ca_plan.specs.Plans.{PlainPlan, PlanOf}
 use Rattle.ca_plan.proofs.OnePlan.{one_pairs_text, one_plan_text}
 use Rattle.ca_emit.proofs.OneText.{one_annotated_text}
-use Rattle.ca_app.specs.Accepted.{HasTree, Accepted}
-use Rattle.ca_app.specs.Refusals.{RefusedAt, too_long, no_token, wrong_token, deep_token, violates, refusal_reply}
-use Rattle.ca_app.specs.clauses.Reading.{HasOneTree, IsProgramOf, IsRefusalOf}
-use Rattle.ca_app.specs.Reply.{ProgramReplies, runs, tells, CommandReplies, refuses, serves, IsLoaded, UnreadReplies, generates, loads, Replies, usage, unread, named, loaded_reply}
+use Rattle.ca_app.specs.Refusals.{refusal_reply}
+use Rattle.ca_app.specs.Verified.{VerifyReplies}
+use Rattle.ca_app.specs.Reply.{ProgramReplies, runs, tells, CommandReplies, refuses, serves, IsLoaded, UnreadReplies, generates, loads, Replies, usage, unread, named, verifies, loaded_reply}
 use Rattle.ca_app.specs.Told.{Tells, verdicts, marks, annotated, tells_plan}
-use Rattle.ca_app.proofs.OneProgram.{derived_by}
-use Rattle.ca_app.proofs.OneRefusal.{refused_as_long, refused_no_token, refused_wrong, refused_deep, refused_violation, program_of_tree}
-
--- a text has one tree at most
-has_one : {text : List ℕ} {tree : TextTree} → HasTree text tree → HasOneTree text tree
-has_one {tree = tree} h = record { is = h; only = λ other o. tree_is_one h.tokens 0 0 other tree (derived_by h.has_tokens o) h.derived }
-
-is_refusal : {text : List ℕ} {at : Place} {code : ℕ} → RefusedAt text at code → IsRefusalOf text at code
-is_refusal (too_long more) = refused_as_long more
-is_refusal (no_token short fault) = refused_no_token short fault
-is_refusal (wrong_token tokens first) = refused_wrong tokens first
-is_refusal (deep_token tokens first) = refused_deep tokens first
-is_refusal (violates {v = v} tree least) = refused_violation v (has_one tree) least
-
-is_program : {text : List ℕ} {p : PlainProgram} → Accepted text p → IsProgramOf text p
-is_program accepted = program_of_tree (has_one accepted.has_tree) accepted.resolved
+use Rattle.ca_app.proofs.OneReading.{has_one, is_refusal, is_program}
+use Rattle.ca_app.proofs.OneVerify.{verify_one}
 
 -- what a command tells of a program is one, whichever plan it is told of
 one_telling : {tree : TextTree} {p : PlainProgram} {command : Command} {bytes others : List ℕ} (x y : PlainPlan) → PlanOf p x → PlanOf p y
@@ -85,6 +68,29 @@ other_reads {words} command other names names' nothing reading =
     let bad : reads other ≡ true = subst P (one_command words command other names names') reading in
     cc
 
+-- a command that reads a source and nothing behind it reads its source, and isn't `verify`
+pub program_reads : (command : Command) → reads_program command ≡ true → reads command ≡ true
+program_reads (Run w b) e = refl
+program_reads Pairs e = refl
+program_reads Plan e = refl
+program_reads Emit e = refl
+program_reads (Gen x n) e = absurd cc
+program_reads (Load x n w) e = absurd cc
+program_reads (Verify b) e = absurd cc
+
+pub no_verify : {words : List (List ℕ)} (command : Command) (budget : ℕ) → Names words command → Names words (Verify budget) → reads_program command ≡ true → ⊥
+no_verify {words} command budget names names' reading =
+    let P : Command → Type 0 = λ c. reads_program c ≡ true in
+    let bad : reads_program (Verify budget) ≡ true = subst P (one_command words command (Verify budget) names names') reading in
+    cc
+
+-- the budget that words name
+pub same_budget : {words : List (List ℕ)} (a b : ℕ) → Names words (Verify a) → Names words (Verify b) → a ≡ b
+same_budget {words} a b names names' = from (one_command words (Verify a) (Verify b) names names')
+  where
+    from : ◌≡◌ {A = Command} (Verify a) (Verify b) → a ≡ b
+    from e = cc
+
 -- a run has one end
 one_heap : {prints others : List Datum} {h k : List Object} {steps more : ℕ} → ◌≡◌ {A = Ended} (done prints h steps) (done others k more) → h ≡ k
 one_heap e = cc
@@ -108,13 +114,22 @@ pub one_reply : {words : List (List ℕ)} {text : List ℕ} {r s : Reply} → Re
 one_reply (usage fault) (usage fault') = refl
 one_reply (usage fault) (unread names replies) = absurd (fault _ names)
 one_reply (usage fault) (named names reading replies) = absurd (fault _ names)
+one_reply (usage fault) (verifies names replies) = absurd (fault _ names)
 one_reply (unread names replies) (usage fault) = absurd (fault _ names)
 one_reply {words} {r = r} (unread {command = c} names replies) (unread {command = d} names' replies') =
     let P : Command → Type 0 = λ x. UnreadReplies x r in
     unread_reply (subst P (one_command words c d names names') replies) replies'
-one_reply (unread {command = c} names replies) (named {command = d} names' reading replies') = absurd (other_reads d c names' names (unread_reads replies) reading)
+one_reply (unread {command = c} names replies) (named {command = d} names' reading replies') = absurd (other_reads d c names' names (unread_reads replies) (program_reads d reading))
+one_reply (unread {command = c} names replies) (verifies {budget = b} names' replies') = absurd (other_reads (Verify b) c names' names (unread_reads replies) refl)
 one_reply (named names reading replies) (usage fault) = absurd (fault _ names)
-one_reply (named {command = c} names reading replies) (unread {command = d} names' replies') = absurd (other_reads c d names names' (unread_reads replies') reading)
+one_reply (named {command = c} names reading replies) (unread {command = d} names' replies') = absurd (other_reads c d names names' (unread_reads replies') (program_reads c reading))
 one_reply {words} {text} {r = r} (named {command = c} names reading replies) (named {command = d} names' reading' replies') =
     let P : Command → Type 0 = λ x. CommandReplies x text r in
     command_reply (subst P (one_command words c d names names') replies) replies'
+one_reply (named {command = c} names reading replies) (verifies {budget = b} names' replies') = absurd (no_verify c b names names' reading)
+one_reply (verifies names replies) (usage fault) = absurd (fault _ names)
+one_reply (verifies {budget = b} names replies) (unread {command = d} names' replies') = absurd (other_reads (Verify b) d names names' (unread_reads replies') refl)
+one_reply (verifies {budget = b} names replies) (named {command = d} names' reading' replies') = absurd (no_verify d b names' names reading')
+one_reply {text = text} {r = r} {s = s} (verifies {budget = a} names replies) (verifies {budget = b} names' replies') =
+    let P : ℕ → Type 0 = λ k. VerifyReplies k text r in
+    verify_one b text r s (subst P (same_budget a b names names') replies) replies'

@@ -6,15 +6,19 @@ use Rattle.ca_program.specs.Plain.{PlainProgram}
 use Rattle.ca_meaning.specs.Output.{Reply, reply_of}
 use Rattle.ca_meaning.specs.Serial.{Ended, done, trapped, spent, serial}
 use Rattle.ca_words.specs.declared.Command.{Command}
-use Rattle.ca_words.specs.declared.Command.TheVariants.{Run}
+use Rattle.ca_words.specs.declared.Command.TheVariants.{Run, Verify}
 use Rattle.ca_words.specs.Words.{Names, reads}
+use Rattle.ca_app.specs.Verified.{VerifyReplies}
+use Rattle.ca_app.specs.Verified as v
 use Rattle.ca_words.proofs.OneCommand.{one_command}
 use Rattle.ca_app.specs.Accepted.{Accepted}
-use Rattle.ca_app.specs.Refusals.{is_limit_code, refusal_status}
-use Rattle.ca_app.specs.Reply.{ProgramReplies, runs, tells, refuses, serves, UnreadReplies, generates, loads, Replies, usage, unread, named}
+use Rattle.ca_tree.specs.declared.name.Place.{Place}
+use Rattle.ca_app.specs.Refusals.{is_limit_code, refusal_status, refusal_reply}
+use Rattle.ca_app.specs.Reply.{ProgramReplies, runs, tells, refuses, serves, UnreadReplies, generates, loads, Replies, usage, unread, named, verifies}
 use Rattle.ca_app.specs.Told.{tells_plan, CommandTold}
 use Rattle.ca_app.specs.Ends.{Ends, whole, no_memory, read_fault, write_fault, Unreplied, EndsWith, Complete}
-use Rattle.ca_app.specs.Causes.{IsRefused, RunEnds, PlanTold, Generates, Loads, IsDone, IsTrapped, IsSpent}
+use Rattle.ca_app.specs.Causes.{IsRefused, CheckRefused, IsCheckRefused, IsChecked, LinesFollow, LinesGoWrong, RunEnds, PlanTold, Generates, Loads, IsDone, IsTrapped, IsSpent}
+use Rattle.ca_app.specs.Causes as causes
 use Rattle.ca_app.proofs.OneReply.{tells_is}
 use Rattle.ca_app.proofs.Endings.{tells_reads}
 
@@ -28,6 +32,13 @@ tells_none {words} command names nothing n =
     let same = one_command words n.0 command n.1 names in
     let P : Command → Type 0 = λ c. reads c ≡ true in
     let reading : reads command ≡ true = subst P same (tells_reads n.0 n.2) in
+    absurd cc
+
+-- so it is with `verify`
+pub tells_no_check : {words : List (List ℕ)} {A : Type 0} (budget : ℕ) → Names words (Verify budget) → TellsPlan words → A
+tells_no_check {words} budget names n =
+    let P : Command → Type 0 = λ c. tells_plan c ≡ true in
+    let telling : tells_plan (Verify budget) ≡ true = subst P (one_command words n.0 (Verify budget) n.1 names) n.2 in
     absurd cc
 
 -- what was told is told of the words
@@ -86,10 +97,10 @@ spent_end p b (done prints heap steps) e = absurd (omega arith)
 spent_end p b (trapped prints t) e = absurd (omega arith)
 spent_end p b (spent prints) e = (prints, refl)
 
-refusals_end : (p : PlainProgram) (b : ℕ) (end : Ended) → ((reply_of p b end).status ≡ 1 → ⊥) × ((reply_of p b end).status ≡ 8 → ⊥)
-refusals_end p b (done prints heap steps) = (λ e. omega arith, λ e. omega arith)
-refusals_end p b (trapped prints t) = (λ e. omega arith, λ e. omega arith)
-refusals_end p b (spent prints) = (λ e. omega arith, λ e. omega arith)
+refusals_end : (p : PlainProgram) (b : ℕ) (end : Ended) → ((reply_of p b end).status ≡ 1 → ⊥) × ((reply_of p b end).status ≡ 8 → ⊥) × ((reply_of p b end).status ≡ 9 → ⊥)
+refusals_end p b (done prints heap steps) = (λ e. omega arith, λ e. omega arith, λ e. omega arith)
+refusals_end p b (trapped prints t) = (λ e. omega arith, λ e. omega arith, λ e. omega arith)
+refusals_end p b (spent prints) = (λ e. omega arith, λ e. omega arith, λ e. omega arith)
 
 -- The command is a run, which replies with this status.
 record IsRun (p : PlainProgram) (command : Command) (status : ℕ) : Type 0 where
@@ -99,9 +110,9 @@ record IsRun (p : PlainProgram) (command : Command) (status : ℕ) : Type 0 wher
   pub same : status ≡ (reply_of p budget (serial p budget)).status
 
 -- what a command replied to a program, by its status
-no_refusal_at : (tree : TextTree) (p : PlainProgram) (command : Command) (reply : Reply) → ProgramReplies tree p command reply → (1 ≡ reply.status → ⊥) × (8 ≡ reply.status → ⊥)
-no_refusal_at tree p command reply (runs {budget = b}) = (λ e. (refusals_end p b (serial p b)).0 (sym e), λ e. (refusals_end p b (serial p b)).1 (sym e))
-no_refusal_at tree p command reply (tells is t) = (λ e. omega arith, λ e. omega arith)
+no_refusal_at : (tree : TextTree) (p : PlainProgram) (command : Command) (reply : Reply) → ProgramReplies tree p command reply → (1 ≡ reply.status → ⊥) × (8 ≡ reply.status → ⊥) × (9 ≡ reply.status → ⊥)
+no_refusal_at tree p command reply (runs {budget = b}) = (λ e. (refusals_end p b (serial p b)).0 (sym e), λ e. (refusals_end p b (serial p b)).1 (sym e), λ e. (refusals_end p b (serial p b)).2 (sym e))
+no_refusal_at tree p command reply (tells is t) = (λ e. omega arith, λ e. omega arith, λ e. omega arith)
 
 run_at : (tree : TextTree) (p : PlainProgram) (command : Command) (reply : Reply) (status : ℕ) → (status ≡ 0 → ⊥)
     → ProgramReplies tree p command reply → status ≡ reply.status → IsRun p command status
@@ -118,6 +129,54 @@ unread_at : {command : Command} {reply : Reply} → UnreadReplies command reply 
 unread_at generates = refl
 unread_at (loads loaded) = refl
 
+-- ---- what `verify` replied, by its status
+
+-- The refusal that was told, or what was told of the lines.
+data Told (words : List (List ℕ)) (text : List ℕ) (reply : Reply) : Type 0 where
+  a_refusal : {limit : Bool} → IsCheckRefused words limit text → reply.status ≡ refusal_status limit → Told words text reply
+  that_they_follow : IsChecked words text LinesFollow → reply.status ≡ 0 → Told words text reply
+  that_they_go_wrong : IsChecked words text LinesGoWrong → reply.status ≡ 9 → Told words text reply
+
+module _ {words : List (List ℕ)} {text : List ℕ} (budget : ℕ) (names : Names words (Verify budget)) where
+  told_refusal : {at : Place} {code : ℕ} → CheckRefused text at code → Told words text (refusal_reply at code)
+  told_refusal {at} {code} refused = a_refusal {limit = is_limit_code code} (record { budget = budget; named = names; at = at; code = code; refused = refused; kind = refl }) refl
+
+  told_check : {reply : Reply} → VerifyReplies budget text reply → Told words text reply
+  told_check (v.too_long more) = told_refusal (causes.too_long more)
+  told_check (v.unscheduled short none) = told_refusal (causes.unscheduled short none)
+  told_check (v.scheduled short split (v.refuses refused)) = told_refusal (causes.source_refused short split refused)
+  told_check (v.scheduled short split (v.reads accepted (v.ill_formed line))) = told_refusal (causes.ill_formed short split accepted line)
+  told_check (v.scheduled {source = a} {schedule = b} short split (v.reads {p = p} accepted (v.judges {lines = ls} read (v.follows f)))) =
+      that_they_follow (record { budget = budget; source = a; schedule = b; program = p; lines = ls; named = names; short = short; split = split; accepted = accepted; read = read; so = f }) refl
+  told_check (v.scheduled {source = a} {schedule = b} short split (v.reads {p = p} accepted (v.judges {lines = ls} read (v.goes_wrong {n = n} f)))) =
+      that_they_go_wrong (record { budget = budget; source = a; schedule = b; program = p; lines = ls; named = names; short = short; split = split; accepted = accepted; read = read; so = (n, f) }) refl
+
+-- by its status
+refusal_told : {words : List (List ℕ)} {text : List ℕ} {reply : Reply} (limit : Bool) → Told words text reply → refusal_status limit ≡ reply.status → IsCheckRefused words limit text
+refusal_told {words} {text} limit (a_refusal {limit = b} is e) same = subst (λ z. IsCheckRefused words z text) (kind_of limit b (same ∙ e)) is
+refusal_told true (that_they_follow is e) same = absurd (omega (arith, e, same))
+refusal_told false (that_they_follow is e) same = absurd (omega (arith, e, same))
+refusal_told true (that_they_go_wrong is e) same = absurd (omega (arith, e, same))
+refusal_told false (that_they_go_wrong is e) same = absurd (omega (arith, e, same))
+
+follows_told : {words : List (List ℕ)} {text : List ℕ} {reply : Reply} → Told words text reply → 0 ≡ reply.status → IsChecked words text LinesFollow
+follows_told (a_refusal {limit = true} is e) same = absurd (omega (arith, e, same))
+follows_told (a_refusal {limit = false} is e) same = absurd (omega (arith, e, same))
+follows_told (that_they_follow is e) same = is
+follows_told (that_they_go_wrong is e) same = absurd (omega (arith, e, same))
+
+wrong_told : {words : List (List ℕ)} {text : List ℕ} {reply : Reply} → Told words text reply → 9 ≡ reply.status → IsChecked words text LinesGoWrong
+wrong_told (a_refusal {limit = true} is e) same = absurd (omega (arith, e, same))
+wrong_told (a_refusal {limit = false} is e) same = absurd (omega (arith, e, same))
+wrong_told (that_they_follow is e) same = absurd (omega (arith, e, same))
+wrong_told (that_they_go_wrong is e) same = is
+
+no_other_status : {words : List (List ℕ)} {text : List ℕ} {reply : Reply} (status : ℕ) → (status ≡ 0 → ⊥) → (status ≡ 1 → ⊥) → (status ≡ 8 → ⊥) → (status ≡ 9 → ⊥) → Told words text reply → status ≡ reply.status → ⊥
+no_other_status status zero one eight nine (a_refusal {limit = true} is e) same = eight (same ∙ e)
+no_other_status status zero one eight nine (a_refusal {limit = false} is e) same = one (same ∙ e)
+no_other_status status zero one eight nine (that_they_follow is e) same = zero (same ∙ e)
+no_other_status status zero one eight nine (that_they_go_wrong is e) same = nine (same ∙ e)
+
 module _ {words : List (List ℕ)} {text : List ℕ} where
   run_ends : (status : ℕ) (End : Ended → Type 0) {p : PlainProgram} {command : Command}
       → ((p : PlainProgram) (b : ℕ) (end : Ended) → status ≡ (reply_of p b end).status → End end)
@@ -131,43 +190,47 @@ module _ {words : List (List ℕ)} {text : List ℕ} where
     ends = ends p run.budget (serial p run.budget) run.same;
   }
 
-  error_status : {reply : Reply} → Replies words text reply → 1 ≡ reply.status → IsRefused false text
+  error_status : {reply : Reply} → Replies words text reply → 1 ≡ reply.status → IsRefused words false text ⊎ IsCheckRefused words false text
+  error_status (verifies {budget = b} names replies) e = inr (refusal_told false (told_check b names replies) e)
   error_status (usage fault) e = absurd (omega arith)
   error_status (unread names replies) e = absurd (omega (arith, unread_at replies))
-  error_status (named names reading (refuses {at = at} {code = code} refused)) e =
-      record { at = at; code = code; refused = refused; kind = kind_of false (is_limit_code code) e }
+  error_status (named {command = command} names reading (refuses {at = at} {code = code} refused)) e =
+      inl (record { command = command; named = names; reading = reading; at = at; code = code; refused = refused; kind = kind_of false (is_limit_code code) e })
   error_status (named {command = command} {reply = reply} names reading (serves {p = p} accepted replies)) e =
       absurd ((no_refusal_at accepted.tree p command reply replies).0 e)
 
-  limit_status : {reply : Reply} → Replies words text reply → 8 ≡ reply.status → IsRefused true text
+  limit_status : {reply : Reply} → Replies words text reply → 8 ≡ reply.status → IsRefused words true text ⊎ IsCheckRefused words true text
+  limit_status (verifies {budget = b} names replies) e = inr (refusal_told true (told_check b names replies) e)
   limit_status (usage fault) e = absurd (omega arith)
   limit_status (unread names replies) e = absurd (omega (arith, unread_at replies))
-  limit_status (named names reading (refuses {at = at} {code = code} refused)) e =
-      record { at = at; code = code; refused = refused; kind = kind_of true (is_limit_code code) e }
+  limit_status (named {command = command} names reading (refuses {at = at} {code = code} refused)) e =
+      inl (record { command = command; named = names; reading = reading; at = at; code = code; refused = refused; kind = kind_of true (is_limit_code code) e })
   limit_status (named {command = command} {reply = reply} names reading (serves {p = p} accepted replies)) e =
       absurd ((no_refusal_at accepted.tree p command reply replies).1 e)
 
   -- the end of the run is the one with this status
-  run_status : (status : ℕ) (End : Ended → Type 0) → (status ≡ 0 → ⊥) → (status ≡ 1 → ⊥) → (status ≡ 2 → ⊥) → (status ≡ 8 → ⊥)
+  run_status : (status : ℕ) (End : Ended → Type 0) → (status ≡ 0 → ⊥) → (status ≡ 1 → ⊥) → (status ≡ 2 → ⊥) → (status ≡ 8 → ⊥) → (status ≡ 9 → ⊥)
       → ((p : PlainProgram) (b : ℕ) (end : Ended) → status ≡ (reply_of p b end).status → End end)
       → {reply : Reply} → Replies words text reply → status ≡ reply.status → RunEnds words text End
-  run_status status End zero one two eight ends (usage fault) e = absurd (two e)
-  run_status status End zero one two eight ends (unread names replies) e = absurd (zero (e ∙ unread_at replies))
-  run_status status End zero one two eight ends (named names reading (refuses {code = code} refused)) e = absurd (at (is_limit_code code) e)
+  run_status status End zero one two eight nine ends (usage fault) e = absurd (two e)
+  run_status status End zero one two eight nine ends (verifies {budget = b} names replies) e = absurd (no_other_status status zero one eight nine (told_check b names replies) e)
+  run_status status End zero one two eight nine ends (unread names replies) e = absurd (zero (e ∙ unread_at replies))
+  run_status status End zero one two eight nine ends (named names reading (refuses {code = code} refused)) e = absurd (at (is_limit_code code) e)
     where
       at : (b : Bool) → status ≡ refusal_status b → ⊥
       at true e = eight e
       at false e = one e
-  run_status status End zero one two eight ends (named {command = command} {reply = reply} names reading (serves {p = p} accepted replies)) e =
+  run_status status End zero one two eight nine ends (named {command = command} {reply = reply} names reading (serves {p = p} accepted replies)) e =
       run_ends status End ends names accepted (run_at accepted.tree p command reply status zero replies e)
 
   -- the end of status 0 is that of a run, of a plan that was told, of gen or of load
   done_status : {old now : Option (List ℕ)} {reply : Reply} → (TellsPlan words → PlanTold words text old now) → Replies words text reply → 0 ≡ reply.status → now ≡ grown old reply.bytes
-      → RunEnds words text IsDone ⊎ (PlanTold words text old now ⊎ (Generates words old now ⊎ Loads words old now))
+      → RunEnds words text IsDone ⊎ (PlanTold words text old now ⊎ (Generates words old now ⊎ (Loads words old now ⊎ IsChecked words text LinesFollow)))
   done_status told (usage fault) e bytes = absurd (omega arith)
+  done_status told (verifies {budget = b} names replies) e bytes = inr (inr (inr (inr (follows_told (told_check b names replies) e))))
   done_status told (unread names (generates {seed = x} {size = n})) e bytes = inr (inr (inl (record { seed = x; size = n; named = names; bytes = bytes })))
   done_status told (unread names (loads {seed = x} {size = n} {workers = w} {steps = s} {heap = h} loaded)) e bytes =
-      inr (inr (inr (record { seed = x; size = n; workers = w; named = names; heap = h; steps = s; loaded = loaded; bytes = bytes })))
+      inr (inr (inr (inl (record { seed = x; size = n; workers = w; named = names; heap = h; steps = s; loaded = loaded; bytes = bytes }))))
   done_status told (named names reading (refuses {code = code} refused)) e bytes = absurd (at (is_limit_code code) e)
     where
       at : (b : Bool) → 0 ≡ refusal_status b → ⊥
@@ -176,28 +239,44 @@ module _ {words : List (List ℕ)} {text : List ℕ} where
   done_status {old} {now} told (named {command = command} {reply = reply} names reading (serves {p = p} accepted replies)) e bytes =
       ends (done_at accepted.tree p command reply replies e)
     where
-      ends : IsRun p command 0 ⊎ (tells_plan command ≡ true) → RunEnds words text IsDone ⊎ (PlanTold words text old now ⊎ (Generates words old now ⊎ Loads words old now))
+      ends : IsRun p command 0 ⊎ (tells_plan command ≡ true) → RunEnds words text IsDone ⊎ (PlanTold words text old now ⊎ (Generates words old now ⊎ (Loads words old now ⊎ IsChecked words text LinesFollow)))
       ends (inl run) = inl (run_ends 0 IsDone done_end names accepted run)
       ends (inr is) = inr (inl (told (command, names, is)))
 
+  -- status 9 is that of a schedule that goes wrong
+  wrong_status : {reply : Reply} → Replies words text reply → 9 ≡ reply.status → IsChecked words text LinesGoWrong
+  wrong_status (verifies {budget = b} names replies) e = wrong_told (told_check b names replies) e
+  wrong_status (usage fault) e = absurd (omega arith)
+  wrong_status (unread names replies) e = absurd (omega (arith, unread_at replies))
+  wrong_status (named names reading (refuses {code = code} refused)) e = absurd (at (is_limit_code code) e)
+    where
+      at : (b : Bool) → 9 ≡ refusal_status b → ⊥
+      at true e = omega arith
+      at false e = omega arith
+  wrong_status (named {command = command} {reply = reply} names reading (serves {p = p} accepted replies)) e =
+      absurd ((no_refusal_at accepted.tree p command reply replies).2 e)
+
 module _ {words : List (List ℕ)} {text : List ℕ} {status : ℕ} {old now : Option (List ℕ)} (headline : EndsWith (Replies words text) status old now) where
-  pub when_0 : (TellsPlan words → status ≡ 0 → PlanTold words text old now) → status ≡ 0 → RunEnds words text IsDone ⊎ (PlanTold words text old now ⊎ (Generates words old now ⊎ Loads words old now))
+  pub when_0 : (TellsPlan words → status ≡ 0 → PlanTold words text old now) → status ≡ 0 → RunEnds words text IsDone ⊎ (PlanTold words text old now ⊎ (Generates words old now ⊎ (Loads words old now ⊎ IsChecked words text LinesFollow)))
   when_0 told is = let s = given headline (λ e. omega arith) (λ e. omega arith) (λ e. omega arith) in
       done_status (λ n. told n is) s.is_one (sym is ∙ s.same) s.bytes
 
-  pub when_1 : status ≡ 1 → IsRefused false text
+  pub when_1 : status ≡ 1 → IsRefused words false text ⊎ IsCheckRefused words false text
   when_1 is = let s = given headline (λ e. omega arith) (λ e. omega arith) (λ e. omega arith) in error_status s.is_one (sym is ∙ s.same)
 
   pub when_3 : status ≡ 3 → RunEnds words text IsTrapped
   when_3 is = let s = given headline (λ e. omega arith) (λ e. omega arith) (λ e. omega arith) in
-      run_status 3 IsTrapped (λ e. omega arith) (λ e. omega arith) (λ e. omega arith) (λ e. omega arith) trapped_end s.is_one (sym is ∙ s.same)
+      run_status 3 IsTrapped (λ e. omega arith) (λ e. omega arith) (λ e. omega arith) (λ e. omega arith) (λ e. omega arith) trapped_end s.is_one (sym is ∙ s.same)
 
   pub when_4 : status ≡ 4 → RunEnds words text IsSpent
   when_4 is = let s = given headline (λ e. omega arith) (λ e. omega arith) (λ e. omega arith) in
-      run_status 4 IsSpent (λ e. omega arith) (λ e. omega arith) (λ e. omega arith) (λ e. omega arith) spent_end s.is_one (sym is ∙ s.same)
+      run_status 4 IsSpent (λ e. omega arith) (λ e. omega arith) (λ e. omega arith) (λ e. omega arith) (λ e. omega arith) spent_end s.is_one (sym is ∙ s.same)
 
-  pub when_8 : status ≡ 8 → IsRefused true text
+  pub when_8 : status ≡ 8 → IsRefused words true text ⊎ IsCheckRefused words true text
   when_8 is = let s = given headline (λ e. omega arith) (λ e. omega arith) (λ e. omega arith) in limit_status s.is_one (sym is ∙ s.same)
+
+  pub when_9 : status ≡ 9 → IsChecked words text LinesGoWrong
+  when_9 is = let s = given headline (λ e. omega arith) (λ e. omega arith) (λ e. omega arith) in wrong_status s.is_one (sym is ∙ s.same)
 
   -- where no device failed, only memory can have run out
   pub completely : (status ≡ 6 → ⊥) → (status ≡ 7 → ⊥) → (reply : Reply) → Replies words text reply → Complete reply status old now

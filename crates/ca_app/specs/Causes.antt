@@ -1,5 +1,5 @@
 -- What each status says of the words and the text.
-use Rattle.std.specs.Prelude.{ℕ, ◌≡◌, Bool, true, false, List, Option}
+use Rattle.std.specs.Prelude.{ℕ, ◌≡◌, ◌<◌, ◌≤◌, Bool, true, false, List, length, Option}
 use Rattle.ca_tree.specs.declared.name.Place.{Place}
 use Rattle.ca_base.specs.Devices.{grown}
 use Rattle.ca_program.specs.Plain.{PlainProgram}
@@ -8,14 +8,19 @@ use Rattle.ca_model.specs.declared.value.Trap.{Trap}
 use Rattle.ca_model.specs.declared.value.Value.{Value as Datum}
 use Rattle.ca_meaning.specs.Serial.{Ended, done, trapped, spent, serial}
 use Rattle.ca_words.specs.declared.Command.{Command}
-use Rattle.ca_words.specs.declared.Command.TheVariants.{Run, Gen, Load}
-use Rattle.ca_words.specs.Words.{Names, reads}
+use Rattle.ca_words.specs.declared.Command.TheVariants.{Run, Gen, Load, Verify}
+use Rattle.ca_words.specs.Words.{Names, reads, reads_program}
 use Rattle.ca_gen.specs.Generated.{generated}
 use Rattle.ca_app.specs.Accepted.{Accepted}
 use Rattle.ca_app.specs.Refusals.{RefusedAt, is_limit_code}
 use Rattle.ca_app.specs.Reply.{IsLoaded}
 use Rattle.ca_app.specs.Summary.{summary_text}
 use Rattle.ca_app.specs.Told.{CommandTold}
+use Rattle.ca_trace.specs.declared.line.Line.{Line}
+use Rattle.ca_trace.specs.Bad.{FirstBad}
+use Rattle.ca_trace.specs.Texts.{ReadsAs, BadText, SplitAt, NoSchedule}
+use Rattle.ca_app.specs.declared.refusals.TheConstants.{TOO_LONG, NO_SCHEDULE, ILL_FORMED}
+use Rattle.ca_app.specs.Verified.{FollowsPlan, most_with_schedule, at_line, nowhere}
 
 -- the words name no command
 abbrev pub IsUsageFault : List (List ℕ) → Type 0
@@ -29,12 +34,53 @@ ReadsNothing words = (c : Command) → Names words c → reads c ≡ false
 abbrev pub ReadsSource : List (List ℕ) → Type 0
 ReadsSource words = (c : Command) × Names words c × (reads c ≡ true)
 
--- The text is refused, by a limit or not.
-pub record IsRefused (limit : Bool) (text : List ℕ) : Type 0 where
+-- The words name a command that reads a source and nothing behind it, and the text is refused, by a limit or not.
+pub record IsRefused (words : List (List ℕ)) (limit : Bool) (text : List ℕ) : Type 0 where
+  pub command : Command
+  pub named : Names words command
+  pub reading : reads_program command ≡ true
   pub at : Place
   pub code : ℕ
   pub refused : RefusedAt text at code
   pub kind : is_limit_code code ≡ limit
+
+-- What refuses a source with a schedule behind it, in this order: its length, that there is no schedule, what refuses the
+-- source, and the first ill-formed line of the schedule.
+pub data CheckRefused (text : List ℕ) : Place → ℕ → Type 0 where
+  too_long : most_with_schedule < length text → CheckRefused text nowhere TOO_LONG.0
+  unscheduled : length text ≤ most_with_schedule → NoSchedule text → CheckRefused text nowhere NO_SCHEDULE.0
+  source_refused : {source schedule : List ℕ} {at : Place} {code : ℕ} → length text ≤ most_with_schedule → SplitAt text source schedule → RefusedAt source at code → CheckRefused text at code
+  ill_formed : {source schedule : List ℕ} {p : PlainProgram} {n : ℕ} → length text ≤ most_with_schedule → SplitAt text source schedule → Accepted source p → BadText p schedule n → CheckRefused text (at_line n) ILL_FORMED.0
+
+-- The words name `verify`, and the text is refused, by a limit or not.
+pub record IsCheckRefused (words : List (List ℕ)) (limit : Bool) (text : List ℕ) : Type 0 where
+  pub budget : ℕ
+  pub named : Names words (Verify budget)
+  pub at : Place
+  pub code : ℕ
+  pub refused : CheckRefused text at code
+  pub kind : is_limit_code code ≡ limit
+
+-- The words name `verify`, and the lines of the schedule are so for the source's program and the budget.
+pub record IsChecked (words : List (List ℕ)) (text : List ℕ) (is : PlainProgram → ℕ → List Line → Type 0) : Type 0 where
+  pub budget : ℕ
+  pub source : List ℕ
+  pub schedule : List ℕ
+  pub program : PlainProgram
+  pub lines : List Line
+  pub named : Names words (Verify budget)
+  pub short : length text ≤ most_with_schedule
+  pub split : SplitAt text source schedule
+  pub accepted : Accepted source program
+  pub read : ReadsAs program schedule lines
+  pub so : is program budget lines
+
+abbrev pub LinesFollow : PlainProgram → ℕ → List Line → Type 0
+LinesFollow p budget lines = FollowsPlan p budget lines
+
+-- they don't, and there is a first bad one
+abbrev pub LinesGoWrong : PlainProgram → ℕ → List Line → Type 0
+LinesGoWrong p budget lines = (n : ℕ) × FirstBad (FollowsPlan p budget) lines n
 
 -- The words name a run, and the serial run of the text's program ends so.
 pub record RunEnds (words : List (List ℕ)) (text : List ℕ) (end : Ended → Type 0) : Type 0 where

@@ -2,7 +2,7 @@
 use Rattle.std.specs.Prelude.{ℕ, ◌≡◌, ◌≤◌, ◌⊎◌, List, Option, Result, Ok, Err}
 use Rattle.ca_base.specs.Devices.{Rose, grown, Began}
 use Rattle.ca_meaning.specs.Output.{Reply}
-use Rattle.ca_app.specs.declared.serving.TheConstants.{DONE, REFUSED, TRAPPED, SPENT, NO_MEMORY, READ_FAULT, WRITE_FAULT}
+use Rattle.ca_app.specs.declared.serving.TheConstants.{DONE, REFUSED, TRAPPED, SPENT, NO_MEMORY, READ_FAULT, WRITE_FAULT, GOES_WRONG}
 
 -- The reply was given whole; or memory ran out, a read failed or a write failed, and the status says which.
 pub data Ends (reply : Reply) (status : ℕ) (old now : Option (List ℕ)) : Type 0 where
@@ -37,4 +37,4 @@ status_after (Err e) status = WRITE_FAULT
 
 -- the statuses behind which the source is read to its end
 abbrev pub IsReadToEnd : ℕ → Type 0
-IsReadToEnd status = ((status ≡ DONE) ⊎ (status ≡ REFUSED)) ⊎ ((status ≡ TRAPPED) ⊎ (status ≡ SPENT))
+IsReadToEnd status = ((status ≡ DONE) ⊎ (status ≡ REFUSED)) ⊎ ((status ≡ TRAPPED) ⊎ ((status ≡ SPENT) ⊎ (status ≡ GOES_WRONG)))

@@ -2,6 +2,7 @@ pub mod Accepted
 pub mod Refusals
 pub mod Told
 pub mod Summary
+pub mod Verified
 pub mod Reply
 pub mod Ends
 pub mod Causes

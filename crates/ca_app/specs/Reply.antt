@@ -8,8 +8,8 @@ use Rattle.ca_model.specs.declared.value.Value.{Value as Datum}
 use Rattle.ca_meaning.specs.Output.{Reply, output}
 use Rattle.ca_meaning.specs.Serial.{done, serial}
 use Rattle.ca_words.specs.declared.Command.{Command}
-use Rattle.ca_words.specs.declared.Command.TheVariants.{Run, Gen, Load}
-use Rattle.ca_words.specs.Words.{Names, reads, usage_text}
+use Rattle.ca_words.specs.declared.Command.TheVariants.{Run, Gen, Load, Verify}
+use Rattle.ca_words.specs.Words.{Names, reads_program, usage_text}
 use Rattle.ca_gen.specs.Generated.{generated}
 use Rattle.ca_plan.specs.Plans.{PlainPlan, PlanOf}
 use Rattle.ca_app.specs.declared.serving.TheConstants.{DONE, USAGE}
@@ -17,6 +17,7 @@ use Rattle.ca_app.specs.Accepted.{Accepted}
 use Rattle.ca_app.specs.Refusals.{RefusedAt, refusal_reply}
 use Rattle.ca_app.specs.Summary.{summary_text}
 use Rattle.ca_app.specs.Told.{Tells}
+use Rattle.ca_app.specs.Verified.{VerifyReplies}
 
 abbrev pub usage_reply : Reply
 usage_reply = record { status = USAGE; bytes = usage_text }
@@ -52,8 +53,10 @@ pub data CommandReplies (command : Command) (text : List ℕ) : Reply → Type 0
   refuses : {at : Place} {code : ℕ} → RefusedAt text at code → CommandReplies command text (refusal_reply at code)
   serves : {p : PlainProgram} {reply : Reply} → (accepted : Accepted text p) → ProgramReplies accepted.tree p command reply → CommandReplies command text reply
 
--- what words on a text reply: they name no command, or one that reads nothing, or one that reads the text
+-- what words on a text reply: they name no command, or one that reads nothing, or one that reads a source, or the one that
+-- reads a source and a schedule
 pub data Replies (words : List (List ℕ)) (text : List ℕ) : Reply → Type 0 where
   usage : ((command : Command) → Names words command → ⊥) → Replies words text usage_reply
   unread : {command : Command} {reply : Reply} → Names words command → UnreadReplies command reply → Replies words text reply
-  named : {command : Command} {reply : Reply} → Names words command → reads command ≡ true → CommandReplies command text reply → Replies words text reply
+  named : {command : Command} {reply : Reply} → Names words command → reads_program command ≡ true → CommandReplies command text reply → Replies words text reply
+  verifies : {budget : ℕ} {reply : Reply} → Names words (Verify budget) → VerifyReplies budget text reply → Replies words text reply

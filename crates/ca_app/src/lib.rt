@@ -7,11 +7,12 @@
 //! of `ca_run` or, for more workers, that of `ca_workers`, and `pairs`, `plan` and `emit`, all by the plan of `ca_plan`.
 //! `gen SEED SIZE` and `load SEED SIZE WORKERS` read no text: the one writes that which `generate` gives, which is accepted and
 //! runs to its end, and the other runs it and writes what it left in one line.
+//! `verify BUDGET` reads a source with a schedule behind it, and tells whether a run can have had that order.
 //! `specs/Accepted.antt` and `specs/Refusals.antt` say which texts are accepted and where the others
 //! are refused, `specs/Reply.antt` has the replies, and `specs/Ends.antt` how a call ends.
 //!
-//! Whoever reads the public clauses must believe `Accepted`, `Causes`, `Ends`, `Refusals`, `Reply`, `Summary` and
-//! `Told` of `specs/`; what stands in `specs/clauses/` serves clauses within the crate alone.
+//! Whoever reads the public clauses must believe `Accepted`, `Causes`, `Ends`, `Refusals`, `Reply`, `Summary`, `Told` and
+//! `Verified` of `specs/`; what stands in `specs/clauses/` serves clauses within the crate alone.
 #![tactic(auto)]
 
 mod generating;
@@ -25,6 +26,7 @@ mod serving;
 mod summary;
 mod telling;
 mod unread;
+mod verifying;
 
 pub use generating::generate;
 pub use laws::{accepted_programs_are_typed, one_reply};

@@ -2,6 +2,7 @@
 
 ghost use Rattle.std.specs.Prelude.{◌≡◌};
 ghost use Rattle.ca_base.specs.Devices.{HasCause, Writes};
+ghost use Rattle.ca_app.specs.Verified.{at_line};
 ghost use Rattle.ca_app.specs.Refusals.{is_limit_code, leading_zero, refusal_word, refusal_status, refusal_text};
 
 use crate::serving::{PAST_LIMIT, REFUSED};
@@ -27,6 +28,11 @@ pub const WRONG_TOKEN: Code = Code(10);
 /// A token that is nested too deeply.
 pub const TOO_DEEP: Code = Code(11);
 
+/// No line feed of the text is followed by the first line of a schedule. Such a refusal has no place in the text.
+pub const NO_SCHEDULE: Code = Code(60);
+/// A line of the schedule that is none of a schedule of the program.
+pub const ILL_FORMED: Code = Code(61);
+
 /// Where a text is refused, and by which code.
 #[derive(Clone, Copy, PartialEq, Eq)]
 pub struct Refusal {
@@ -40,6 +46,23 @@ impl Refusal {
         at: Place { line: 0, column: 0 },
         code: TOO_LONG,
     };
+
+    /// The refusal of a text that has no schedule.
+    pub const UNSCHEDULED: Refusal = Refusal {
+        at: Place { line: 0, column: 0 },
+        code: NO_SCHEDULE,
+    };
+
+    /// The refusal of a line of the schedule, by its number, counted from the first line of the schedule, which is 1.
+    pub fn of_line(line: u32) -> Refusal
+        ensures at { result.at ≡ at_line line }
+        ensures code { result.code.0 ≡ 61 }
+    {
+        Refusal {
+            at: Place { line, column: 1 },
+            code: ILL_FORMED,
+        }
+    }
 
     /// The status with which a call ends that tells this refusal.
     pub fn status(self) -> u8

@@ -82,7 +82,7 @@ pub fn run_by_plan<R: Threads + Wait + Sync, K: Sink, G: Gate>(
 }
 
 /// The marks of a program's plan. The rest of the plan is let go before the run.
-fn marks_of(alloc: Global, program: &Program) -> Result<Marks, Memory>
+pub fn marks_of(alloc: Global, program: &Program) -> Result<Marks, Memory>
     requires { Checked (program_view program.now) }
     ensures planned { IfOk result (λ marks. (of : PlainPlan) × PlanOf (program_view program.now) of × (marks ≡ of.marks)) }
     ensures sound { IfOk result (SoundMarks (program_view program.now)) }

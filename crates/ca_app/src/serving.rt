@@ -5,8 +5,9 @@ ghost use Rattle.ca_base.specs.Devices.{Rose, at_end};
 ghost use Rattle.ca_tree.specs.View.{tree_view};
 ghost use Rattle.ca_program.specs.View.{program_view};
 ghost use Rattle.ca_meaning.specs.Output.{Reply};
-ghost use Rattle.ca_words.specs.Words.{IsInRange, texts, reads};
-ghost use Rattle.ca_app.specs.Causes.{IsUsageFault, ReadsNothing, ReadsSource, IsRefused, RunEnds, PlanTold, Generates, Loads, IsDone, IsTrapped, IsSpent};
+ghost use Rattle.ca_words.specs.declared.Command.TheVariants.{Verify};
+ghost use Rattle.ca_words.specs.Words.{IsInRange, texts, reads_program, Names};
+ghost use Rattle.ca_app.specs.Causes.{IsUsageFault, ReadsNothing, ReadsSource, IsRefused, IsCheckRefused, IsChecked, LinesFollow, LinesGoWrong, RunEnds, PlanTold, Generates, Loads, IsDone, IsTrapped, IsSpent};
 ghost use Rattle.ca_app.specs.Ends.{Ends, EndsWith, SinkCause, Complete, IsReadToEnd, status_after};
 ghost use Rattle.ca_app.specs.Refusals.{refusal_reply};
 ghost use Rattle.ca_app.specs.Reply.{ProgramReplies, CommandReplies, Replies};
@@ -18,6 +19,7 @@ use crate::refusals::Refusal;
 use crate::running::run_program;
 use crate::telling::tell_plan;
 use crate::unread::serve_unread;
+use crate::verifying::verify;
 use ca_base::{Failed, Gate, ReadError, Sink, Source, read_all, write_all};
 use ca_words::{Command, command_of, usage_line};
 use std::alloc::Global;
@@ -26,6 +28,9 @@ use std::thread::Threads;
 
 /// The most bytes of a source.
 pub const MOST_BYTES: u64 = 1_048_576;
+
+/// The most bytes of a source with a schedule behind it.
+pub const MOST_WITH_SCHEDULE: u64 = 67_108_864;
 
 // The exit statuses.
 
@@ -56,6 +61,9 @@ pub const WRITE_FAULT: u8 = 7;
 /// The text is refused by a limit.
 pub const PAST_LIMIT: u8 = 8;
 
+/// A schedule doesn't follow.
+pub const GOES_WRONG: u8 = 9;
+
 /// Serves the words, which stand behind the program's name, over a source and a sink, and answers
 /// the exit status.
 ///
@@ -74,11 +82,12 @@ pub fn top<R: AllocGlobal + Threads + Wait + Sync, S: Source, K: Sink, G: Gate>(
     ensures headline { (text : List ℕ) → S.left source.old ≡ Some text → EndsWith (Replies (texts words.now) text) result (K.written sink.old) (K.written sink.new) }
 
     // What each of its statuses says of the text and its serial run.
-    ensures done { (text : List ℕ) → S.left source.old ≡ Some text → result ≡ DONE → RunEnds (texts words.now) text IsDone ⊎ (PlanTold (texts words.now) text (K.written sink.old) (K.written sink.new) ⊎ (Generates (texts words.now) (K.written sink.old) (K.written sink.new) ⊎ Loads (texts words.now) (K.written sink.old) (K.written sink.new))) }
-    ensures refused { (text : List ℕ) → S.left source.old ≡ Some text → result ≡ REFUSED → IsRefused false text }
+    ensures done { (text : List ℕ) → S.left source.old ≡ Some text → result ≡ DONE → RunEnds (texts words.now) text IsDone ⊎ (PlanTold (texts words.now) text (K.written sink.old) (K.written sink.new) ⊎ (Generates (texts words.now) (K.written sink.old) (K.written sink.new) ⊎ (Loads (texts words.now) (K.written sink.old) (K.written sink.new) ⊎ IsChecked (texts words.now) text LinesFollow))) }
+    ensures refused { (text : List ℕ) → S.left source.old ≡ Some text → result ≡ REFUSED → IsRefused (texts words.now) false text ⊎ IsCheckRefused (texts words.now) false text }
     ensures trapped { (text : List ℕ) → S.left source.old ≡ Some text → result ≡ TRAPPED → RunEnds (texts words.now) text IsTrapped }
     ensures spent { (text : List ℕ) → S.left source.old ≡ Some text → result ≡ SPENT → RunEnds (texts words.now) text IsSpent }
-    ensures limit { (text : List ℕ) → S.left source.old ≡ Some text → result ≡ PAST_LIMIT → IsRefused true text }
+    ensures limit { (text : List ℕ) → S.left source.old ≡ Some text → result ≡ PAST_LIMIT → IsRefused (texts words.now) true text ⊎ IsCheckRefused (texts words.now) true text }
+    ensures goes_wrong { (text : List ℕ) → S.left source.old ≡ Some text → result ≡ GOES_WRONG → IsChecked (texts words.now) text LinesGoWrong }
 
     // Where neither device failed, the reply was given whole, or memory ran out.
     ensures complete { (text : List ℕ) → S.left source.old ≡ Some text → (Rose (S.faults source.old) (S.faults source.new) → ⊥) → (Rose (K.faults sink.old) (K.faults sink.new) → ⊥)
@@ -100,17 +109,21 @@ pub fn top<R: AllocGlobal + Threads + Wait + Sync, S: Source, K: Sink, G: Gate>(
     ensures source_later { S.faults source.old ≤ S.faults source.new }
     ensures read_to_end { ReadsSource (texts words.now) → IsReadToEnd result → S.left source.new ≡ at_end (S.left source.old) }
     ensures limit_read_to_end { (text : List ℕ) → S.left source.old ≡ Some text → length text ≤ MOST_BYTES → result ≡ PAST_LIMIT → S.left source.new ≡ at_end (S.left source.old) }
+    ensures schedule_read_to_end { (text : List ℕ) → S.left source.old ≡ Some text → (budget : ℕ) → Names (texts words.now) (Verify budget) → length text ≤ MOST_WITH_SCHEDULE → result ≡ PAST_LIMIT → S.left source.new ≡ at_end (S.left source.old) }
 {
     let Some(command) = command_of(words) else {
         return finish(write_all(sink, usage_line()), USAGE);
     };
-    if command.reads() {
+    if let Command::Verify { budget } = command {
+        return verify(rt, rt.alloc(), budget, source, sink);
+    }
+    if command.reads_program() {
         return serve(rt, rt.alloc(), command, source, sink, gate);
     }
     serve_unread(rt, rt.alloc(), command, sink, gate)
 }
 
-/// Serves a command that reads its source, on the text that the source has.
+/// Serves a command that reads a source and nothing behind it, on the text that the source has.
 fn serve<R: Threads + Wait + Sync, S: Source, K: Sink, G: Gate>(
     rt: &R,
     alloc: Global,
@@ -119,7 +132,7 @@ fn serve<R: Threads + Wait + Sync, S: Source, K: Sink, G: Gate>(
     sink: &mut K,
     gate: &G,
 ) -> u8
-    requires reading { reads command ≡ true }
+    requires reading { reads_program command ≡ true }
     requires in_range { IsInRange command }
     ensures headline { (text : List ℕ) → S.left source.old ≡ Some text → EndsWith (CommandReplies command text) result (K.written sink.old) (K.written sink.new) }
     ensures told { (text : List ℕ) → S.left source.old ≡ Some text → tells_plan command ≡ true → result ≡ DONE → CommandTold command text (K.written sink.old) (K.written sink.new) }
@@ -148,7 +161,7 @@ fn serve_text<R: Threads + Wait + Sync, K: Sink, G: Gate>(
     gate: &G,
 ) -> u8
     requires short { length text.now ≤ MOST_BYTES }
-    requires reading { reads command ≡ true }
+    requires reading { reads_program command ≡ true }
     requires in_range { IsInRange command }
     ensures ends { EndsWith (CommandReplies command text.now) result (K.written sink.old) (K.written sink.new) }
     ensures told { tells_plan command ≡ true → result ≡ DONE → CommandTold command text.now (K.written sink.old) (K.written sink.new) }
@@ -173,7 +186,7 @@ fn serve_program<R: Threads + Wait + Sync, K: Sink, G: Gate>(
     gate: &G,
 ) -> u8
     requires checked { Checked (program_view reading.now.program) }
-    requires reading { reads command ≡ true }
+    requires reading { reads_program command ≡ true }
     requires in_range { IsInRange command }
     ensures ends { EndsWith (ProgramReplies (tree_view reading.now.tree) (program_view reading.now.program) command) result (K.written sink.old) (K.written sink.new) }
     ensures told { tells_plan command ≡ true → result ≡ DONE → ProgramTold (tree_view reading.now.tree) (program_view reading.now.program) command (K.written sink.old) (K.written sink.new) }
@@ -186,12 +199,12 @@ fn serve_program<R: Threads + Wait + Sync, K: Sink, G: Gate>(
             run_program(rt, alloc, &reading.program, workers, budget, sink, gate)
         }
         Command::Pairs | Command::Plan | Command::Emit => tell_plan(alloc, command, reading, sink),
-        Command::Gen { .. } | Command::Load { .. } => unreachable!(),
+        Command::Gen { .. } | Command::Load { .. } | Command::Verify { .. } => unreachable!(),
     }
 }
 
 /// Tells a refusal.
-fn refuse<K: Sink>(refusal: Refusal, sink: &mut K) -> u8
+pub fn refuse<K: Sink>(refusal: Refusal, sink: &mut K) -> u8
     ensures ends { Ends (refusal_reply refusal.at refusal.code.0) result (K.written sink.old) (K.written sink.new) }
     ensures write_fault { SinkCause result (K.faults sink.old) (K.faults sink.new) }
     ensures no_read_fault { result ≡ READ_FAULT → ⊥ }

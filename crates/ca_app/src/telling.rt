@@ -58,6 +58,7 @@ fn tell<K: Sink>(
             Ok(text) => finish(write_all(sink, &text), DONE),
             Err(_) => NO_MEMORY,
         },
-        Command::Run { .. } | Command::Gen { .. } | Command::Load { .. } => unreachable!(),
+        Command::Run { .. } | Command::Gen { .. } | Command::Load { .. } | Command::Verify { .. } =>
+            unreachable!(),
     }
 }

@@ -41,6 +41,10 @@ pub fn serve_unread<R: Threads + Wait + Sync, K: Sink, G: Gate>(
             size,
             workers,
         } => load(rt, alloc, seed, size, workers, sink, gate),
-        Command::Run { .. } | Command::Pairs | Command::Plan | Command::Emit => unreachable!(),
+        Command::Run { .. }
+        | Command::Pairs
+        | Command::Plan
+        | Command::Emit
+        | Command::Verify { .. } => unreachable!(),
     }
 }

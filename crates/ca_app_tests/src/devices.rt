@@ -8,7 +8,7 @@ use std::sync::Wait;
 use std::thread::Threads;
 
 const USAGE: &str =
-    "usage: commute run WORKERS BUDGET | pairs | plan | emit | gen SEED SIZE | load SEED SIZE WORKERS\n";
+    "usage: commute run WORKERS BUDGET | pairs | plan | emit | gen SEED SIZE | load SEED SIZE WORKERS | verify BUDGET\n";
 
 /// Faulty command lines. The first is empty.
 const FAULTY: &str = "
@@ -27,6 +27,11 @@ load 0 1 65
 load 0 20001 1
 load 18446744073709551616 1 1
 pairs x
+verify
+verify 0
+verify 1000000001
+verify 1 100
+trace 4 100
 --help";
 
 /// Faulty command lines, one of them with a failing write.

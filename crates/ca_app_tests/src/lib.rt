@@ -31,3 +31,5 @@ mod replies;
 mod runs;
 #[cfg(test)]
 mod sources;
+#[cfg(test)]
+mod verified;

@@ -11,7 +11,9 @@ run 1 100
 run 64 5
 gen 7 3
 gen 18446744073709551615 20000
-load 7 3 4";
+load 7 3 4
+verify 1
+verify 1000000000";
 
 /// Words that name no command.
 const FAULTY: &str = "plans
@@ -27,6 +29,12 @@ load 7 3 0
 load 7 3 65
 load 7 0 4
 load 18446744073709551616 3 4
+verify
+verify 0
+verify 1000000001
+verify 01
+verify 4 100
+trace 4 100
 --help";
 
 /// The command that the words of a line name.
@@ -47,6 +55,7 @@ fn words_of<R: AllocGlobal + Abort>(rt: &R, command: Option<Command>) -> String 
         Some(Command::Plan) => String::from_str(alloc, "plan"),
         Some(Command::Emit) => String::from_str(alloc, "emit"),
         Some(Command::Run { workers, budget }) => format!(in alloc; "run {workers} {budget}"),
+        Some(Command::Verify { budget }) => format!(in alloc; "verify {budget}"),
         Some(Command::Gen { seed, size }) => format!(in alloc; "gen {seed} {size}"),
         Some(
             Command::Load {

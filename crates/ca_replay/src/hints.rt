@@ -74,7 +74,8 @@ fn is_negative(value: Value) -> bool {
     }
 }
 
-/// A number by which calls differ, mostly: nobody can make many calls that share it.
+/// A number by which calls differ, mostly. A `DefaultHasher` made so has a fixed key, so whoever searches long enough finds calls
+/// that share one; a step then looks at each of them.
 pub(crate) fn hash_of(op: &Op) -> u64 {
     let mut state = DefaultHasher::new();
     state.write_u32(op.receiver);

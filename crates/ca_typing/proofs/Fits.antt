@@ -1,15 +1,17 @@
--- Tokens of which each number fits the type `long`, and trees of which each number in an expression does.
+-- Tokens of which each number fits the type `long` and each word is a name, and trees of which each number in an expression
+-- and each name of a class or method is so.
 use Rattle.std.specs.Prelude.{List, Option, Some, None, FitsSigned}
 use Rattle.std.specs.Int.{w64}
 use Rattle.std.specs.List.{AllByRecursion}
 use Rattle.ca_tree.specs.declared.token.Token.{Token}
 use Rattle.ca_tree.specs.declared.token.Kind.{Kind}
 use Rattle.ca_tree.specs.declared.token.Kind.TheVariants.{Word, Number, Key, Sign}
+use Rattle.ca_typing.specs.Names.{IsName}
 use Rattle.ca_tree.specs.Plain.{Expression, Expressions, number, truth, null, this, named, call, field, method, index, unary, binary, no_expressions, expression_and, RightSide, value, new, Statement, Statements, empty, block, local, assign, call_statement, if_only, if_else, while_loop, for_loop, return_value, print_value, no_statements, statement_and, MemberTree, ClassTree, TextTree, field_member, method_member}
 
 abbrev pub KindFits : Kind → Type 0
 KindFits (Number n) = FitsSigned w64 n
-KindFits (Word name) = Unit {0}
+KindFits (Word name) = IsName name
 KindFits (Key key) = Unit {0}
 KindFits (Sign sign) = Unit {0}
 
@@ -67,10 +69,10 @@ abbrev mutual
 -- the length of an array field is no expression: a limit of its own bounds it
 abbrev pub MemberFits : MemberTree → Type 0
 MemberFits (field_member f) = Unit {0}
-MemberFits (method_member m) = StatementsFit m.body
+MemberFits (method_member m) = IsName m.name × StatementsFit m.body
 
 abbrev pub ClassFits : ClassTree → Type 0
-ClassFits c = AllByRecursion MemberFits c.members
+ClassFits c = IsName c.name × AllByRecursion MemberFits c.members
 
 pub record LiteralsFit (t : TextTree) : Type 0 where
   pub classes : AllByRecursion ClassFits t.classes

@@ -17,4 +17,6 @@ mod LiteralTokens
 mod LiteralExpressions
 mod LiteralTrees
 pub mod Texts
+pub mod Once
+pub mod Spelled
 mod Examples

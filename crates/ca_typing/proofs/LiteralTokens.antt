@@ -1,10 +1,11 @@
--- Each number among the tokens of a text fits the type `long`.
+-- Each number among the tokens of a text fits the type `long`, and each word is a name.
 use Prim.Native.Char.{code}
-use Rattle.std.proofs.Common.{◌≡◌, ℕ, ◌^◌, List, [], ◌∷◌, length, drop, Bool, true, false, refl, subst}
+use Rattle.std.proofs.Common.{◌≡◌, ℕ, ◌^◌, List, [], ◌∷◌, length, drop, Bool, true, false, refl, sym, subst, cond}
 use Rattle.std.specs.Prelude.{Option, Some, None, ◌==◌, ◌&&◌, nat_lt, nat_le, pos, if◌then◌else◌, FitsSigned}
 use Rattle.std.specs.Int.{w64}
 use Rattle.std.specs.Char.{is_ascii_digit}
-use Rattle.std.specs.List.{prefix_len, take_while}
+use Rattle.std.specs.List.{AllByRecursion, prefix_len, take_while}
+use Rattle.std.proofs.lemmas.List.Sums.{take_while-cons}
 use Rattle.std.proofs.lemmas.Bool.{leb-false}
 use Rattle.std.proofs.lemmas.Int.{fits_signed_from_abs}
 use Rattle.ca_tree.specs.declared.name.Place.{Place}
@@ -16,6 +17,7 @@ use Rattle.ca_lex.specs.Bytes.{is_blank, is_letter, is_name_byte, value_of}
 use Rattle.ca_tree.specs.Spellings.{keyword_of, double_sign, single_sign}
 use Rattle.ca_lex.specs.Pieces.{Piece, blank_of, comment_of, token_of, too_great, letter_behind, refused, piece_of, begins, kind_of_word, number_piece, slash_piece, sign_piece, longer_sign, closed_comment, close_len}
 use Rattle.ca_lex.specs.Tokens.{TokensFrom, at_end, blank, comment, token}
+use Rattle.ca_typing.specs.Names.{IsName}
 use Rattle.ca_typing.proofs.Fits.{KindFits, TokensFit}
 
 abbrev PieceFits : Piece → Type 0
@@ -30,9 +32,18 @@ choice : (b : Bool) (x y : Piece) → PieceFits x → PieceFits y → PieceFits 
 choice true x y f g = f
 choice false x y f g = g
 
-word_fits : (n : ℕ) (word : List ℕ) (k : Option Keyword) → PieceFits (token_of n (kind_of_word word k))
-word_fits n word None = tt
-word_fits n word (Some k) = tt
+-- what is taken while it passes passes
+all_taken : (p : ℕ → Bool) (xs : List ℕ) → AllByRecursion (λ x. p x ≡ true) (take_while p xs)
+all_taken p [] = tt
+all_taken p (x ∷ xs) = subst (AllByRecursion (λ y. p y ≡ true)) (sym (take_while-cons p x xs)) (from (all_taken p xs) (p x) refl)
+  where
+    from : AllByRecursion (λ y. p y ≡ true) (take_while p xs) → (b : Bool) → p x ≡ b → AllByRecursion (λ y. p y ≡ true) (cond b (x ∷ take_while p xs) [])
+    from rest true e = (e, rest)
+    from rest false e = tt
+
+word_fits : (n : ℕ) (word : List ℕ) (k : Option Keyword) → IsName word → PieceFits (token_of n (kind_of_word word k))
+word_fits n word None h = h
+word_fits n word (Some k) h = tt
 
 below_fits : (v : ℕ) → nat_le (2 ^ 63) v ≡ false → FitsSigned w64 (pos v)
 below_fits v h = fits_signed_from_abs w64 (pos v) (leb-false (2 ^ 63) v h)
@@ -69,7 +80,7 @@ unfolding piece_of
 piece_fits [] = tt
 piece_fits (b ∷ s) =
     choice (is_blank b) _ _ tt
-    (choice (is_letter b) _ _ (word_fits (prefix_len is_name_byte (b ∷ s)) (take_while is_name_byte (b ∷ s)) (keyword_of (take_while is_name_byte (b ∷ s))))
+    (choice (is_letter b) _ _ (word_fits (prefix_len is_name_byte (b ∷ s)) (take_while is_name_byte (b ∷ s)) (keyword_of (take_while is_name_byte (b ∷ s))) (all_taken is_name_byte (b ∷ s)))
     (choice (is_ascii_digit b) _ _ (number_fits (b ∷ s))
     (choice (b == code "/") _ _ (slash_fits s) (sign_fits b s))))
 

@@ -1,11 +1,14 @@
--- Where each number among the tokens fits, each number in an expression of their tree fits.
-use Rattle.std.proofs.Common.{ℕ, pos, List, [], ◌∷◌, Bool, true, false, Option, cond, arith}
+-- Where each number and each word among the tokens fits, each number in an expression of their tree does, and each name of a
+-- class or method.
+use Rattle.std.proofs.Common.{ℕ, pos, List, [], ◌∷◌, Bool, true, false, Option, Some, None, cond, subst, arith}
 use Rattle.std.specs.Prelude.{ℤ}
 use Rattle.std.specs.Int.{w64}
 use Rattle.std.specs.List.{AllByRecursion}
 use Rattle.std.proofs.lemmas.Int.{fits_signed_from_abs}
-use Rattle.ca_descent.specs.Exact.{Following, following_end, following, separated_none, separated}
+use Rattle.ca_descent.specs.Exact.{Sees, sees, Following, following_end, following, separated_none, separated}
 use Rattle.ca_tree.specs.declared.name.Place.{Place}
+use Rattle.ca_tree.specs.declared.token.Kind.{Kind}
+use Rattle.ca_tree.specs.declared.token.Kind.TheVariants.{Word, Number, Key, Sign}
 use Rattle.ca_tree.specs.declared.token.Token.{Token}
 use Rattle.ca_tree.specs.declared.tree.TypeNode.{TypeNode}
 use Rattle.ca_tree.specs.declared.tree.ParamNode.{ParamNode}
@@ -13,7 +16,9 @@ use Rattle.ca_tree.specs.declared.tree.AssignOp.{AssignOp}
 use Rattle.ca_tree.specs.Plain.{RightSide, Statement, TextTree}
 use Rattle.ca_parse.specs.Grammar.{Deriving, statements, TypeName, long, bool, pointer, Right, expression, creation, creation_call, Local, declares, begins, Change, puts, changes, increments, decrements, Assign, assigns, AssignLine, assign_line, First, first_local, first_assign, Stmt, nothing, a_block, an_assign, a_call, an_if, an_if_else, a_while, a_for, a_return, a_print, Item, a_local, a_statement, Items, items_end, items_and, Lines, lines_end, lines_and, One, one, Listed, Param, param, Signature, signature, Length, scalar, array, Further, further_plain, further_pointer, Member, fields, operation, value_method, Declaration, forward, a_class, MainItem, main_item, kept, program, DerivesFree}
 use Rattle.ca_typing.proofs.Lists.{all_append}
-use Rattle.ca_typing.proofs.Fits.{TokensFit, RightFits, StatementFits, StatementsFit, MemberFits, ClassFits, LiteralsFit}
+use Rattle.ca_expressions.specs.Terminals.{name, name_of}
+use Rattle.ca_typing.specs.Names.{IsName}
+use Rattle.ca_typing.proofs.Fits.{KindFits, TokensFit, RightFits, StatementFits, StatementsFit, MemberFits, ClassFits, LiteralsFit}
 use Rattle.ca_typing.proofs.LiteralExpressions.{behind, expression_fits, outer_chain_fits}
 
 -- whatever D derives, P holds of it, and what stands behind fits
@@ -118,6 +123,20 @@ mutual
   items_fit (items_end c) h = (tt, behind c h)
   items_fit (items_and d ds) h = let first = item_fits d h in let rest = items_fit ds first.1 in ((first.0, rest.0), rest.1)
 
+-- what a token carries is a name, if it carries one
+abbrev CarriedName : Option (List ℕ × Place) → Type 0
+CarriedName None = Unit {0}
+CarriedName (Some x) = IsName x.0
+
+kind_name : (k : Kind) (at : Place) → KindFits k → CarriedName (name_of k at)
+kind_name (Word n) at h = h
+kind_name (Number n) at h = tt
+kind_name (Key k) at h = tt
+kind_name (Sign s) at h = tt
+
+name_fits : {s r : List Token} {x : List ℕ × Place} → Sees name s x r → TokensFit s → IsName x.0
+name_fits (sees {t = t} e) h = subst CarriedName e (kind_name t.kind t.at h.0)
+
 param_fits : Gives Any Param
 param_fits free s r x (param t n) h = (tt, behind n (type_fits t h))
 
@@ -137,14 +156,14 @@ member_fits : Gives (AllByRecursion MemberFits) Member
 member_fits free s r xs (fields {s3 = s3} {ty = ty} {fs = fs} t n l ds) h =
     let rest = following_fit (further_fits ty.0) free s3 r fs ds (length_fits l (behind n (type_fits t h))) in
     ((tt, rest.0), rest.1)
-member_fits free s r xs (operation v n d) h = let body = signature_fits d (behind n (behind v h)) in ((body.0, tt), body.1)
-member_fits free s r xs (value_method t n d) h = let body = signature_fits d (behind n (type_fits t h)) in ((body.0, tt), body.1)
+member_fits free s r xs (operation v n d) h = let body = signature_fits d (behind n (behind v h)) in (((name_fits n (behind v h), body.0), tt), body.1)
+member_fits free s r xs (value_method t n d) h = let body = signature_fits d (behind n (type_fits t h)) in (((name_fits n (type_fits t h), body.0), tt), body.1)
 
 declaration_fits : Gives (AllByRecursion ClassFits) Declaration
 declaration_fits free s r xs (forward c n e) h = (tt, behind e (behind n (behind c h)))
 declaration_fits free s r xs (a_class {s5 = s5} {s6 = s6} {ms = ms} c n o p d m e) h =
     let all = lines_fit member_fits free s5 s6 ms m (behind d (behind p (behind o (behind n (behind c h))))) in
-    ((all.0, tt), behind e all.1)
+    (((name_fits n (behind c h), all.0), tt), behind e all.1)
 
 abbrev MainFits : Statement × Bool → Type 0
 MainFits x = StatementFits x.0

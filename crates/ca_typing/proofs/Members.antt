@@ -216,6 +216,6 @@ module _ (p : PlainProgram) where
       let f = method_fine c m x d.1 in
       let result = result_is c m x f in
       let made : with_method a f.result x ≡ w.0 = ap (λ r. with_method a r x) (sym result) ∙ d.2 in
-      let body = method_typed c m x f p classes class fits.0 in
+      let body = method_typed c m x f p classes class fits.0.1 in
       let one = method_adds c.classes.names a x f.result m.result result (result_typed c.classes.names m.result f.result f.result_is) body (λ k. method_returns c m x f k) typed in
       members_typed (behind_member c (method_member m)) w.0 all ms classes class fits.1 (subst (MembersTyped p) made one) w.2

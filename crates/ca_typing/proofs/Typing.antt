@@ -162,7 +162,7 @@ module _ (p : PlainProgram) where
       let row = class_row c a w.0 all t d.0 n holds d.1 d.2 g in
       let there = class_there c a w.0 all t d.0 n holds d.2 g in
       let none : MembersTyped p no_members = record { ops = tt; functions = tt } in
-      let m = members_typed p (class_begin c t.members) no_members d.0 t.members classes (_, there) fits.0 none d.1 in
+      let m = members_typed p (class_begin c t.members) no_members d.0 t.members classes (_, there) fits.0.1 none d.1 in
       let one : BodiesTyped (with_class a t.name d.0) =
       record { ops = all_append (OperationTyped p) a.ops d.0.ops typed.ops m.ops; functions = all_append (FunctionTyped p) a.functions d.0.functions typed.functions m.functions } in
       bodies_typed next w.0 all ts classes (counted_next c a w.0 t d.0 n d.2 row.1) holds fits.1 (subst BodiesTyped d.2 one) w.2

@@ -1,4 +1,5 @@
-//! Programs of texts without violations are well typed, their loops are numbered, and counters stay in their loops; and which
+//! Programs of texts without violations are well typed, their loops are numbered, counters stay in their loops, and names are
+//! given once and are letters, digits and underscores; and which
 //! numbers the codes of rules and the limits on texts are.
 
 ghost use Rattle.std.specs.Prelude.{◌≡◌, ℕ, List};
@@ -12,6 +13,7 @@ ghost use Rattle.ca_types.specs.Classes.{judge};
 ghost use Rattle.ca_meaning.specs.ProgramTyped.{ProgramTyped};
 ghost use Rattle.ca_parallel.specs.Scoped.{OperationsScoped};
 ghost use Rattle.ca_typing.specs.Loops.{LoopsNumbered};
+ghost use Rattle.ca_typing.specs.Names.{NamedOnce, NamesSpelled};
 ghost use Rattle.ca_typing.specs.Numbers.{AreCodesOfRules, AreCodesOfLimits, AreLimits};
 
 /// The program of a text whose tree breaks no rule is well typed, also where the tree is nested past the limits.
@@ -29,6 +31,17 @@ pub fn loop_numbers_are_different()
 /// last part and body alone: whoever runs a loop of calls at once may leave its counter as it was.
 pub fn counters_stay_in_their_loops()
     ensures { (tree : TextTree) (p : PlainProgram) → judge tree ≡ fine p → OperationsScoped p }
+{}
+
+/// In a program that a tree resolves to no two classes have one name, and no two operations of a class: whoever names an
+/// operation by the two names it from the program.
+pub fn names_are_given_once()
+    ensures { (tree : TextTree) (p : PlainProgram) → judge tree ≡ fine p → NamedOnce p }
+{}
+
+/// The names of classes and operations of a text's program are letters, digits and underscores alone.
+pub fn names_are_spelled_so()
+    ensures { (text : List ℕ) (tokens : List Token) (free : ℕ) (tree : TextTree) (p : PlainProgram) → Tokens text tokens → DerivesFree free tokens tree → judge tree ≡ fine p → NamesSpelled p }
 {}
 
 /// The codes of rules and of limits, and the limits on texts, are these numbers: whoever changes one changes the language.

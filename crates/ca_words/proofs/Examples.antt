@@ -1,7 +1,7 @@
 -- Worked examples of the words of a command and of the usage line.
 use Rattle.std.proofs.Common.{◌≡◌, [], ◌∷◌, take, drop, codes, refl, arith, true, false}
 use Rattle.std.specs.Fmt.{digits}
-use Rattle.ca_words.specs.declared.Command.TheVariants.{Run, Plan, Gen, Load}
+use Rattle.ca_words.specs.declared.Command.TheVariants.{Run, Plan, Gen, Load, Verify}
 use Rattle.ca_words.specs.Words.{words_of, Names, reads, usage_text}
 
 run_with_budget_100 : words_of (Run 1 100) ≡ codes "run" ∷ codes "1" ∷ codes "100" ∷ []
@@ -27,11 +27,15 @@ load_names = record { spelled = refl; in_range = (omega arith, (omega arith, ome
 usage_begins : take 14 usage_text ≡ codes "usage: commute"
 usage_begins = refl
 
-usage_ends : drop 89 usage_text ≡ codes "WORKERS\n"
+usage_ends : drop 97 usage_text ≡ codes "| verify BUDGET\n"
 usage_ends = refl
 
 plan_names : Names (codes "plan" ∷ []) Plan
 plan_names = record { spelled = refl; in_range = tt }
+
+verify_names : Names (codes "verify" ∷ codes "100" ∷ []) (Verify 100)
+unfolding digits
+verify_names = record { spelled = refl; in_range = (omega arith, omega arith) }
 
 reads_its_source : reads (Run 1 100) ≡ true
 reads_its_source = refl

@@ -2,7 +2,7 @@
 use Rattle.std.proofs.Common.{◌≡◌, ◌+◌, ◌*◌, ℕ, List, [], get_or, decimal, refl, ap, sym, ◌∙◌, arith}
 use Rattle.std.proofs.lemmas.Fmt.{decimal_injective}
 use Rattle.ca_words.specs.declared.Command.{Command}
-use Rattle.ca_words.specs.declared.Command.TheVariants.{Run, Pairs, Plan, Emit, Gen, Load}
+use Rattle.ca_words.specs.declared.Command.TheVariants.{Run, Pairs, Plan, Emit, Gen, Load, Verify}
 use Rattle.ca_words.specs.Words.{words_of, Names}
 
 -- the first and the third letter of the words, by which commands differ
@@ -16,6 +16,7 @@ letters_of Plan = 28769
 letters_of Emit = 25961
 letters_of (Gen x n) = 26478
 letters_of (Load x n w) = 27745
+letters_of (Verify b) = 30322
 
 pub are_letters : (c : Command) → letters (words_of c) ≡ letters_of c
 are_letters (Run w b) = refl
@@ -78,4 +79,20 @@ one_command words (Load x n w) (Load y m v) s t =
     let seed : x ≡ y = decimal_injective x y (omega arith) (omega arith) same_seed in
     let size : n ≡ m = decimal_injective n m (omega arith) (omega arith) same_size in
     let workers : w ≡ v = decimal_injective w v (omega arith) (omega arith) same_workers in
+    cc
+one_command words (Verify k) (Run w b) s t = absurd (omega (arith, same_letters (Verify k) (Run w b) s t))
+one_command words (Run w b) (Verify k) s t = absurd (omega (arith, same_letters (Run w b) (Verify k) s t))
+one_command words (Verify k) Pairs s t = absurd (omega (arith, same_letters (Verify k) Pairs s t))
+one_command words Pairs (Verify k) s t = absurd (omega (arith, same_letters Pairs (Verify k) s t))
+one_command words (Verify k) Plan s t = absurd (omega (arith, same_letters (Verify k) Plan s t))
+one_command words Plan (Verify k) s t = absurd (omega (arith, same_letters Plan (Verify k) s t))
+one_command words (Verify k) Emit s t = absurd (omega (arith, same_letters (Verify k) Emit s t))
+one_command words Emit (Verify k) s t = absurd (omega (arith, same_letters Emit (Verify k) s t))
+one_command words (Verify k) (Gen x n) s t = absurd (omega (arith, same_letters (Verify k) (Gen x n) s t))
+one_command words (Gen x n) (Verify k) s t = absurd (omega (arith, same_letters (Gen x n) (Verify k) s t))
+one_command words (Verify k) (Load x n w) s t = absurd (omega (arith, same_letters (Verify k) (Load x n w) s t))
+one_command words (Load x n w) (Verify k) s t = absurd (omega (arith, same_letters (Load x n w) (Verify k) s t))
+one_command words (Verify b) (Verify a) s t =
+    let same_budget : decimal b ≡ decimal a = cc in
+    let budget : b ≡ a = decimal_injective b a (omega arith) (omega arith) same_budget in
     cc

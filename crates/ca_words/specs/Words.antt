@@ -2,7 +2,7 @@
 use Rattle.std.specs.Prelude.{◌≡◌, Bool, true, false, ℕ, ◌≤◌, List, [], ◌∷◌, map, codes, decimal, String, string_bytes}
 use Rattle.std.specs.declared.alloc.Global.{Global}
 use Rattle.ca_words.specs.declared.Command.{Command}
-use Rattle.ca_words.specs.declared.Command.TheVariants.{Run, Pairs, Plan, Emit, Gen, Load}
+use Rattle.ca_words.specs.declared.Command.TheVariants.{Run, Pairs, Plan, Emit, Gen, Load, Verify}
 
 -- each word as its bytes
 abbrev pub texts : List (String Global) → List (List ℕ)
@@ -16,6 +16,7 @@ words_of Plan = codes "plan" ∷ []
 words_of Emit = codes "emit" ∷ []
 words_of (Gen seed size) = codes "gen" ∷ decimal seed ∷ decimal size ∷ []
 words_of (Load seed size workers) = codes "load" ∷ decimal seed ∷ decimal size ∷ decimal workers ∷ []
+words_of (Verify budget) = codes "verify" ∷ decimal budget ∷ []
 
 abbrev pub IsWorkers : ℕ → Type 0
 IsWorkers n = (1 ≤ n) × (n ≤ 64)
@@ -37,6 +38,7 @@ IsInRange Plan = Unit {0}
 IsInRange Emit = Unit {0}
 IsInRange (Gen seed size) = IsSeed seed × IsSize size
 IsInRange (Load seed size workers) = IsSeed seed × IsSize size × IsWorkers workers
+IsInRange (Verify budget) = IsBudget budget
 
 -- the words are those of the command, and its numbers are in their ranges
 pub record Names (words : List (List ℕ)) (command : Command) : Type 0 where
@@ -49,5 +51,12 @@ reads (Gen seed size) = false
 reads (Load seed size workers) = false
 reads other = true
 
+-- whether it reads a source and nothing behind it
+abbrev pub reads_program : Command → Bool
+reads_program (Verify budget) = false
+reads_program (Gen seed size) = false
+reads_program (Load seed size workers) = false
+reads_program other = true
+
 abbrev pub usage_text : List ℕ
-usage_text = codes "usage: commute run WORKERS BUDGET | pairs | plan | emit | gen SEED SIZE | load SEED SIZE WORKERS\n"
+usage_text = codes "usage: commute run WORKERS BUDGET | pairs | plan | emit | gen SEED SIZE | load SEED SIZE WORKERS | verify BUDGET\n"

@@ -11,7 +11,7 @@
 
 ghost use Rattle.std.specs.Prelude.{◌≡◌, ◌∷◌, [], ℕ, ◌<◌, ◌≤◌, List, IfSome, IfNone, codes, decimal};
 ghost use Rattle.ca_words.specs.declared.Command.{Command};
-ghost use Rattle.ca_words.specs.Words.{texts, Names, reads, usage_text};
+ghost use Rattle.ca_words.specs.Words.{texts, Names, reads, reads_program, usage_text};
 
 /// What the words name.
 #[derive(Clone, Copy, PartialEq, Eq)]
@@ -28,6 +28,9 @@ pub enum Command {
     Gen { seed: u64, size: u32 },
     /// `load SEED SIZE WORKERS`: runs that text with 1 to 64 workers, and tells the sum of what it leaves.
     Load { seed: u64, size: u32, workers: u32 },
+    /// `verify BUDGET`: tells whether a run of the source, for a budget of 1 to 1,000,000,000 steps, can have the order of the
+    /// schedule behind it.
+    Verify { budget: u32 },
 }
 
 impl Command {
@@ -43,7 +46,18 @@ impl Command {
     {
         match self {
             Command::Run { .. } | Command::Pairs | Command::Plan | Command::Emit => true,
+            Command::Verify { .. } => true,
             Command::Gen { .. } | Command::Load { .. } => false,
+        }
+    }
+
+    /// Whether it reads a source and nothing behind it.
+    pub fn reads_program(self) -> bool
+        ensures { result ≡ reads_program self }
+    {
+        match self {
+            Command::Run { .. } | Command::Pairs | Command::Plan | Command::Emit => true,
+            Command::Gen { .. } | Command::Load { .. } | Command::Verify { .. } => false,
         }
     }
 }
@@ -55,6 +69,7 @@ pub fn command_of(words: &[String]) -> Option<Command>
 {
     match words {
         [name] => alone(name.as_str()),
+        [name, budget] => with_one(name.as_str(), budget.as_str()),
         [name, first, second] => with_two(name.as_str(), first.as_str(), second.as_str()),
         [name, seed, size, workers] => with_three(
             name.as_str(),
@@ -79,6 +94,17 @@ fn alone(name: &str) -> Option<Command>
     }
     if name == "emit" {
         return Some(Command::Emit);
+    }
+    None
+}
+
+// The command that two words name.
+fn with_one(name: &str, budget: &str) -> Option<Command>
+    ensures named { IfSome result (Names (name.now ∷ budget.now ∷ [])) }
+    ensures only { IfNone result ((c : Command) → Names (name.now ∷ budget.now ∷ []) c → ⊥) }
+{
+    if name == "verify" {
+        return verify_of(budget);
     }
     None
 }
@@ -143,6 +169,15 @@ fn load_of(seed: &str, size: &str, workers: &str) -> Option<Command>
     })
 }
 
+// The check of a schedule that the word behind its name names.
+fn verify_of(budget: &str) -> Option<Command>
+    ensures named { IfSome result (Names (codes "verify" ∷ budget.now ∷ [])) }
+    ensures only { IfNone result ((c : Command) → Names (codes "verify" ∷ budget.now ∷ []) c → ⊥) }
+{
+    let budget = count_of(budget, Command::MOST_BUDGET)?;
+    Some(Command::Verify { budget })
+}
+
 /// Words name one command at most.
 pub fn names_one_command()
     ensures { (words : List (List ℕ)) (c d : Command) → Names words c → Names words d → c ≡ d }
@@ -152,7 +187,7 @@ pub fn names_one_command()
 pub fn usage_line() -> &'static [u8]
     ensures { result.now ≡ usage_text }
 {
-    b"usage: commute run WORKERS BUDGET | pairs | plan | emit | gen SEED SIZE | load SEED SIZE WORKERS\n"
+    b"usage: commute run WORKERS BUDGET | pairs | plan | emit | gen SEED SIZE | load SEED SIZE WORKERS | verify BUDGET\n"
 }
 
 /// The number from `least` to `most` that the word is. A number is its decimal digits, with no sign and

@@ -9,6 +9,8 @@ returns-clause-codes c = record {
   too_long = refl;
   wrong_token = refl;
   too_deep = refl;
+  no_schedule = refl;
+  ill_formed = refl;
 }
 
 pub returns-clause-statuses : goal.returns-clause-statuses
@@ -22,7 +24,8 @@ returns-clause-statuses c = record {
   read_fault = refl;
   write_fault = refl;
   past_limit = refl;
+  goes_wrong = refl;
 }
 
 pub returns-clause-most : goal.returns-clause-most
-returns-clause-most c = record { bytes = refl }
+returns-clause-most c = record { bytes = refl; with_schedule = refl }

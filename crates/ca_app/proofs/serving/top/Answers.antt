@@ -1,6 +1,9 @@
-use Rattle.std.proofs.Common.{arith, rules, sym, ◌∙◌}
-use Rattle.ca_app.proofs.Endings.{ends_usage, ends_named, ends_written, after_six, after_seven, some_read, none_read, ends_unread}
-use Rattle.ca_app.proofs.StatusLemmas.{tells_none, words_told, when_0, when_1, when_3, when_4, when_8, completely}
+use Rattle.std.proofs.Common.{arith, rules, sym, refl, subst, ◌∙◌}
+use Rattle.ca_words.specs.declared.Command.TheVariants.{Verify}
+use Rattle.ca_words.specs.Words.{Names, texts}
+use Rattle.ca_app.proofs.Endings.{ends_usage, ends_named, ends_written, after_six, after_seven, some_read, none_read, ends_unread, ends_verified, reads_none}
+use Rattle.ca_app.proofs.OneReply.{program_reads, no_verify}
+use Rattle.ca_app.proofs.StatusLemmas.{tells_none, words_told, when_0, when_1, when_3, when_4, when_8, when_9, tells_no_check, completely}
 use Rattle.ca_app.proofs.serving.top.Goals as goal
 
 pub returns-in_default-clause-unread_headline : goal.returns-in_default-clause-unread_headline
@@ -33,65 +36,118 @@ returns-in_default-clause-spent g c = λ text told. when_4 (returns-in_default-c
 pub returns-in_default-clause-limit : goal.returns-in_default-clause-limit
 returns-in_default-clause-limit g c = λ text told. when_8 (returns-in_default-clause-headline g c text told)
 
+pub returns-in_default-clause-goes_wrong : goal.returns-in_default-clause-goes_wrong
+returns-in_default-clause-goes_wrong g c = λ text told. when_9 (returns-in_default-clause-headline g c text told)
+
 pub returns-in_default-clause-complete : goal.returns-in_default-clause-complete
 returns-in_default-clause-complete g c = λ text told unread unwritten.
     completely (returns-in_default-clause-headline g c text told)
     (after_six c.write_all.result 2 _ c.finish.ensures (λ e. omega arith))
     (λ seven. unwritten (after_seven _ _ c.write_all.result 2 _ c.write_all.ensures.cause c.finish.ensures (λ e. omega arith) seven))
 
+pub returns-in_default-clause-schedule_read_to_end : goal.returns-in_default-clause-schedule_read_to_end
+returns-in_default-clause-schedule_read_to_end g c = λ text told budget names. absurd (c.in_default.ensures.only _ names)
+
+pub returns-in-Verify-clause-headline : goal.returns-in-Verify-clause-headline
+returns-in-Verify-clause-headline g c = λ text told. ends_verified c.in-Verify.budget (subst (λ x. Names (texts c.args.words.now) x) c.in-Verify.is c.in-Some.ensures.named) (c.verify.ensures.headline text told)
+
+pub returns-in-Verify-clause-unread : goal.returns-in-Verify-clause-unread
+returns-in-Verify-clause-unread g c = λ nothing. absurd (some_read (Verify c.in-Verify.budget) (subst (λ x. Names (texts c.args.words.now) x) c.in-Verify.is c.in-Some.ensures.named) refl nothing)
+
+pub returns-in-Verify-clause-unread_headline : goal.returns-in-Verify-clause-unread_headline
+returns-in-Verify-clause-unread_headline g c = λ nothing. absurd (some_read (Verify c.in-Verify.budget) (subst (λ x. Names (texts c.args.words.now) x) c.in-Verify.is c.in-Some.ensures.named) refl nothing)
+
+pub returns-in-Verify-clause-unread_fault : goal.returns-in-Verify-clause-unread_fault
+returns-in-Verify-clause-unread_fault g c = λ nothing. absurd (some_read (Verify c.in-Verify.budget) (subst (λ x. Names (texts c.args.words.now) x) c.in-Verify.is c.in-Some.ensures.named) refl nothing)
+
+pub returns-in-Verify-clause-read_to_end : goal.returns-in-Verify-clause-read_to_end
+returns-in-Verify-clause-read_to_end g c = λ reads is. c.verify.ensures.read_to_end is
+
+pub returns-in-Verify-clause-limit_read_to_end : goal.returns-in-Verify-clause-limit_read_to_end
+returns-in-Verify-clause-limit_read_to_end g c = λ text told short eight. c.verify.ensures.limit_read_to_end text told (omega (arith, short)) eight
+
+pub returns-in-Verify-clause-schedule_read_to_end : goal.returns-in-Verify-clause-schedule_read_to_end
+returns-in-Verify-clause-schedule_read_to_end g c = λ text told budget names short eight. c.verify.ensures.limit_read_to_end text told short eight
+
+pub returns-in-Verify-clause-done : goal.returns-in-Verify-clause-done
+returns-in-Verify-clause-done g c = λ text told. when_0 (returns-in-Verify-clause-headline g c text told)
+    (λ n is. tells_no_check c.in-Verify.budget (subst (λ x. Names (texts c.args.words.now) x) c.in-Verify.is c.in-Some.ensures.named) n)
+
+pub returns-in-Verify-clause-refused : goal.returns-in-Verify-clause-refused
+returns-in-Verify-clause-refused g c = λ text told. when_1 (returns-in-Verify-clause-headline g c text told)
+
+pub returns-in-Verify-clause-trapped : goal.returns-in-Verify-clause-trapped
+returns-in-Verify-clause-trapped g c = λ text told. when_3 (returns-in-Verify-clause-headline g c text told)
+
+pub returns-in-Verify-clause-spent : goal.returns-in-Verify-clause-spent
+returns-in-Verify-clause-spent g c = λ text told. when_4 (returns-in-Verify-clause-headline g c text told)
+
+pub returns-in-Verify-clause-limit : goal.returns-in-Verify-clause-limit
+returns-in-Verify-clause-limit g c = λ text told. when_8 (returns-in-Verify-clause-headline g c text told)
+
+pub returns-in-Verify-clause-goes_wrong : goal.returns-in-Verify-clause-goes_wrong
+returns-in-Verify-clause-goes_wrong g c = λ text told. when_9 (returns-in-Verify-clause-headline g c text told)
+
+pub returns-in-Verify-clause-complete : goal.returns-in-Verify-clause-complete
+returns-in-Verify-clause-complete g c = λ text told unread unwritten.
+    completely (returns-in-Verify-clause-headline g c text told) (λ six. unread (c.verify.ensures.read_fault six)) (λ seven. unwritten (c.verify.ensures.write_fault.rose seven))
+
 pub serve-requires : goal.serve-requires
-serve-requires g c = (search rules, (search rules, (sym c.reads.ensures ∙ c.if-reads.true, c.in-Some.ensures.named.in_range)))
+serve-requires g c = (search rules, (search rules, (sym c.reads_program.ensures ∙ c.if-reads_program.true, c.in-Some.ensures.named.in_range)))
 
-pub returns-then-reads-clause-read_to_end : goal.returns-then-reads-clause-read_to_end
-returns-then-reads-clause-read_to_end g c = λ reads is. c.serve.ensures.read_to_end is
+pub returns-then-reads_program-clause-read_to_end : goal.returns-then-reads_program-clause-read_to_end
+returns-then-reads_program-clause-read_to_end g c = λ reads is. c.serve.ensures.read_to_end is
 
-pub returns-then-reads-clause-unread : goal.returns-then-reads-clause-unread
-returns-then-reads-clause-unread g c = λ nothing. absurd (some_read _ c.in-Some.ensures.named (sym c.reads.ensures ∙ c.if-reads.true) nothing)
+pub returns-then-reads_program-clause-unread : goal.returns-then-reads_program-clause-unread
+returns-then-reads_program-clause-unread g c = λ nothing. absurd (some_read _ c.in-Some.ensures.named (program_reads _ (sym c.reads_program.ensures ∙ c.if-reads_program.true)) nothing)
 
-pub returns-then-reads-clause-unread_headline : goal.returns-then-reads-clause-unread_headline
-returns-then-reads-clause-unread_headline g c = λ nothing. absurd (some_read _ c.in-Some.ensures.named (sym c.reads.ensures ∙ c.if-reads.true) nothing)
+pub returns-then-reads_program-clause-unread_headline : goal.returns-then-reads_program-clause-unread_headline
+returns-then-reads_program-clause-unread_headline g c = λ nothing. absurd (some_read _ c.in-Some.ensures.named (program_reads _ (sym c.reads_program.ensures ∙ c.if-reads_program.true)) nothing)
 
-pub returns-then-reads-clause-unread_fault : goal.returns-then-reads-clause-unread_fault
-returns-then-reads-clause-unread_fault g c = λ nothing. absurd (some_read _ c.in-Some.ensures.named (sym c.reads.ensures ∙ c.if-reads.true) nothing)
+pub returns-then-reads_program-clause-unread_fault : goal.returns-then-reads_program-clause-unread_fault
+returns-then-reads_program-clause-unread_fault g c = λ nothing. absurd (some_read _ c.in-Some.ensures.named (program_reads _ (sym c.reads_program.ensures ∙ c.if-reads_program.true)) nothing)
 
-pub returns-then-reads-clause-headline : goal.returns-then-reads-clause-headline
-returns-then-reads-clause-headline g c = λ text told. ends_named _ c.in-Some.ensures.named (sym c.reads.ensures ∙ c.if-reads.true) (c.serve.ensures.headline text told)
+pub returns-then-reads_program-clause-headline : goal.returns-then-reads_program-clause-headline
+returns-then-reads_program-clause-headline g c = λ text told. ends_named _ c.in-Some.ensures.named (sym c.reads_program.ensures ∙ c.if-reads_program.true) (c.serve.ensures.headline text told)
 
-pub returns-then-reads-clause-done : goal.returns-then-reads-clause-done
-returns-then-reads-clause-done g c = λ text told. when_0 (returns-then-reads-clause-headline g c text told)
+pub returns-then-reads_program-clause-done : goal.returns-then-reads_program-clause-done
+returns-then-reads_program-clause-done g c = λ text told. when_0 (returns-then-reads_program-clause-headline g c text told)
     (λ n is. words_told _ c.in-Some.ensures.named (λ tells. c.serve.ensures.told text told tells is) n)
 
-pub returns-then-reads-clause-refused : goal.returns-then-reads-clause-refused
-returns-then-reads-clause-refused g c = λ text told. when_1 (returns-then-reads-clause-headline g c text told)
+pub returns-then-reads_program-clause-refused : goal.returns-then-reads_program-clause-refused
+returns-then-reads_program-clause-refused g c = λ text told. when_1 (returns-then-reads_program-clause-headline g c text told)
 
-pub returns-then-reads-clause-trapped : goal.returns-then-reads-clause-trapped
-returns-then-reads-clause-trapped g c = λ text told. when_3 (returns-then-reads-clause-headline g c text told)
+pub returns-then-reads_program-clause-trapped : goal.returns-then-reads_program-clause-trapped
+returns-then-reads_program-clause-trapped g c = λ text told. when_3 (returns-then-reads_program-clause-headline g c text told)
 
-pub returns-then-reads-clause-spent : goal.returns-then-reads-clause-spent
-returns-then-reads-clause-spent g c = λ text told. when_4 (returns-then-reads-clause-headline g c text told)
+pub returns-then-reads_program-clause-spent : goal.returns-then-reads_program-clause-spent
+returns-then-reads_program-clause-spent g c = λ text told. when_4 (returns-then-reads_program-clause-headline g c text told)
 
-pub returns-then-reads-clause-limit : goal.returns-then-reads-clause-limit
-returns-then-reads-clause-limit g c = λ text told. when_8 (returns-then-reads-clause-headline g c text told)
+pub returns-then-reads_program-clause-limit : goal.returns-then-reads_program-clause-limit
+returns-then-reads_program-clause-limit g c = λ text told. when_8 (returns-then-reads_program-clause-headline g c text told)
 
-pub returns-then-reads-clause-complete : goal.returns-then-reads-clause-complete
-returns-then-reads-clause-complete g c = λ text told unread unwritten.
-    completely (returns-then-reads-clause-headline g c text told) (λ six. unread (c.serve.ensures.read_fault six)) (λ seven. unwritten (c.serve.ensures.write_fault.rose seven))
+pub returns-then-reads_program-clause-goes_wrong : goal.returns-then-reads_program-clause-goes_wrong
+returns-then-reads_program-clause-goes_wrong g c = λ text told. when_9 (returns-then-reads_program-clause-headline g c text told)
+
+pub returns-then-reads_program-clause-complete : goal.returns-then-reads_program-clause-complete
+returns-then-reads_program-clause-complete g c = λ text told unread unwritten.
+    completely (returns-then-reads_program-clause-headline g c text told) (λ six. unread (c.serve.ensures.read_fault six)) (λ seven. unwritten (c.serve.ensures.write_fault.rose seven))
 
 pub serve_unread-requires : goal.serve_unread-requires
-serve_unread-requires g c = (search rules, (search rules, (sym c.reads.ensures ∙ c.if-reads.false, c.in-Some.ensures.named.in_range)))
+serve_unread-requires g c = (search rules, (search rules, (reads_none _ (sym c.reads_program.ensures ∙ c.if-reads_program.false) c.in_default-command.not-Verify, c.in-Some.ensures.named.in_range)))
 
 pub returns-clause-unread_headline : goal.returns-clause-unread_headline
-returns-clause-unread_headline g c = λ nothing text. ends_unread _ c.in-Some.ensures.named (sym c.reads.ensures ∙ c.if-reads.false) c.serve_unread.ensures.ends
+returns-clause-unread_headline g c = λ nothing text. ends_unread _ c.in-Some.ensures.named (reads_none _ (sym c.reads_program.ensures ∙ c.if-reads_program.false) c.in_default-command.not-Verify) c.serve_unread.ensures.ends
 
 pub returns-clause-read_to_end : goal.returns-clause-read_to_end
-returns-clause-read_to_end g c = λ reads is. absurd (none_read _ c.in-Some.ensures.named (sym c.reads.ensures ∙ c.if-reads.false) reads)
+returns-clause-read_to_end g c = λ reads is. absurd (none_read _ c.in-Some.ensures.named (reads_none _ (sym c.reads_program.ensures ∙ c.if-reads_program.false) c.in_default-command.not-Verify) reads)
 
 pub returns-clause-headline : goal.returns-clause-headline
-returns-clause-headline g c = λ text told. ends_unread _ c.in-Some.ensures.named (sym c.reads.ensures ∙ c.if-reads.false) c.serve_unread.ensures.ends
+returns-clause-headline g c = λ text told. ends_unread _ c.in-Some.ensures.named (reads_none _ (sym c.reads_program.ensures ∙ c.if-reads_program.false) c.in_default-command.not-Verify) c.serve_unread.ensures.ends
 
 pub returns-clause-done : goal.returns-clause-done
 returns-clause-done g c = λ text told. when_0 (returns-clause-headline g c text told)
-    (λ n is. tells_none _ c.in-Some.ensures.named (sym c.reads.ensures ∙ c.if-reads.false) n)
+    (λ n is. tells_none _ c.in-Some.ensures.named (reads_none _ (sym c.reads_program.ensures ∙ c.if-reads_program.false) c.in_default-command.not-Verify) n)
 
 pub returns-clause-refused : goal.returns-clause-refused
 returns-clause-refused g c = λ text told. when_1 (returns-clause-headline g c text told)
@@ -105,6 +161,15 @@ returns-clause-spent g c = λ text told. when_4 (returns-clause-headline g c tex
 pub returns-clause-limit : goal.returns-clause-limit
 returns-clause-limit g c = λ text told. when_8 (returns-clause-headline g c text told)
 
+pub returns-clause-goes_wrong : goal.returns-clause-goes_wrong
+returns-clause-goes_wrong g c = λ text told. when_9 (returns-clause-headline g c text told)
+
 pub returns-clause-complete : goal.returns-clause-complete
 returns-clause-complete g c = λ text told unread unwritten.
     completely (returns-clause-headline g c text told) c.serve_unread.ensures.no_read_fault (λ seven. unwritten (c.serve_unread.ensures.write_fault.rose seven))
+
+pub returns-then-reads_program-clause-schedule_read_to_end : goal.returns-then-reads_program-clause-schedule_read_to_end
+returns-then-reads_program-clause-schedule_read_to_end g c = λ text told budget names. absurd (no_verify _ budget c.in-Some.ensures.named names (sym c.reads_program.ensures ∙ c.if-reads_program.true))
+
+pub returns-clause-schedule_read_to_end : goal.returns-clause-schedule_read_to_end
+returns-clause-schedule_read_to_end g c = λ text told budget names. absurd (none_read _ c.in-Some.ensures.named (reads_none _ (sym c.reads_program.ensures ∙ c.if-reads_program.false) c.in_default-command.not-Verify) (Verify budget, names, refl))
