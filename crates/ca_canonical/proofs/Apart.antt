@@ -1,6 +1,6 @@
 -- No mark stands between a `}` and a `;` of an annotated tree in which none stands before an empty statement.
 use Rattle.std.proofs.Common.{◌≡◌, List, [], ◌∷◌, ◌++◌, Bool, true, false, refl, sym, ap, subst, ◌∙◌, append_assoc, append-nil}
-use Rattle.std.specs.Prelude.{◌+◌, nat_lt, Option, Some, None}
+use Rattle.std.specs.Prelude.{ℕ, ◌+◌, nat_lt, Option, Some, None}
 use Rattle.ca_tree.specs.declared.name.Place.{Place}
 use Rattle.ca_tree.specs.declared.token.Kind.{Kind}
 use Rattle.ca_tree.specs.declared.token.Kind.TheVariants.{Word, Key, Sign}
@@ -10,12 +10,14 @@ use Rattle.ca_tree.specs.declared.tree.TypeNode.{TypeNode}
 use Rattle.ca_tree.specs.declared.tree.TypeNode.TheVariants.{Long, Bool as BoolType, Pointer}
 use Rattle.ca_tree.specs.declared.tree.UnaryOp.{UnaryOp}
 use Rattle.ca_tree.specs.declared.tree.UnaryOp.TheVariants as unary_op
-use Rattle.ca_tree.specs.Operators.{level, binary_sign, unary_sign, assign_sign}
+use Rattle.ca_tree.specs.declared.operators.Writing.{Writing}
+use Rattle.ca_tree.specs.declared.operators.Writing.TheVariants.{Between, Before}
+use Rattle.ca_tree.specs.Operators.{level, writing, unary_sign, assign_sign}
 use Rattle.ca_tree.specs.Plain.{Expression, Statement, Statements, MethodTree, MemberTree, ClassTree, TextTree, number, truth, null, this, named, call, field, method, index, unary, binary, empty, block, local, assign, call_statement, if_only, if_else, while_loop, for_loop, return_value, print_value, no_statements, statement_and, field_member, method_member}
 use Rattle.ca_canonical.specs.declared.marks.Mark.{Mark}
 use Rattle.ca_canonical.specs.Marks.{Piece, token, tokens, marks, unmarked, Marking}
 use Rattle.ca_canonical.specs.Annotated.{in_body, pieces_of, marked_all, marked_method, marked_member, marked_members, marked_class, marked_classes, marked_main, annotated}
-use Rattle.ca_canonical.specs.Spell.{spell_expression, spell_list, spell_type, spell_start, spell_right, spell_line, spell_field, spell_result, spell_params, spell_end, spell_for, condition, bracketed, binds, tail_level, in_parentheses, ends_in_zero}
+use Rattle.ca_canonical.specs.Spell.{spell_expression, spell_list, spell_type, spell_start, spell_right, spell_line, spell_field, spell_result, spell_params, spell_end, spell_for, condition, spelled_by, bracketed, binds, tail_level, in_parentheses, ends_in_zero}
 use Rattle.ca_canonical.specs.Texts.{semicolon, is_semicolon, semicolon_first}
 use Rattle.ca_canonical.proofs.Unmarked.{behind_marks}
 use Rattle.ca_canonical.proofs.Erasing.{Same, Clear}
@@ -79,6 +81,13 @@ first_unary : (o : UnaryOp) → is_semicolon (unary_sign o) ≡ false
 first_unary unary_op.Minus = refl
 first_unary other = refl
 
+first_by : (w : Writing) (k m n : ℕ) (ks ls more : List Kind) → ((more : List Kind) → First (ks ++ more)) → First (spelled_by w k m n ks ls ++ more)
+first_by (Between s) k m n ks ls more h =
+    let t = nat_lt m k in
+    let tail = Sign s ∷ bracketed (nat_lt n (k + 1)) ls in
+    subst First (sym (append_assoc (bracketed t ks) tail more)) (first_bracketed t ks (tail ++ more) h)
+first_by (Before w) k m n ks ls more h = refl
+
 first_expression : (e : Expression) (more : List Kind) → First (spell_expression e ++ more)
 first_expression (number at n) more = refl
 first_expression (truth at true) more = refl
@@ -100,10 +109,7 @@ first_expression (index at e i) more =
     let tail = Sign sign.OpenBracket ∷ (spell_expression i ++ Sign sign.CloseBracket ∷ []) in
     subst First (sym (append_assoc (bracketed t (spell_expression e)) tail more)) (first_bracketed t (spell_expression e) (tail ++ more) (first_expression e))
 first_expression (unary at o e) more = first_unary o
-first_expression (binary at o a b) more =
-    let t = nat_lt (binds a) (level o) in
-    let tail = Sign (binary_sign o) ∷ bracketed (nat_lt (binds b) (level o + 1)) (spell_expression b) in
-    subst First (sym (append_assoc (bracketed t (spell_expression a)) tail more)) (first_bracketed t (spell_expression a) (tail ++ more) (first_expression a))
+first_expression (binary at o a b) more = first_by (writing o) (level o) (binds a) (binds b) (spell_expression a) (spell_expression b) more (first_expression a)
 
 first_type : (ty : TypeNode) (more : List Kind) → First (spell_type ty ++ more)
 first_type Long more = refl

@@ -1,6 +1,6 @@
 -- The optional end of `main`: which statements are spelled `return 0 ;`.
 use Rattle.std.proofs.Common.{◌≡◌, ◌+◌, ◌-◌, ◌≤◌, List, [], ◌∷◌, ◌++◌, length, take, Bool, true, false, refl, sym, ap, ◌∙◌, arith, length-append}
-use Rattle.std.specs.Prelude.{pos, cond, nat_lt, ◌&&◌, Some, None, is_some}
+use Rattle.std.specs.Prelude.{ℕ, pos, ◌+◌, cond, nat_lt, ◌&&◌, Some, None, is_some}
 use Rattle.std.specs.Ordering.{int_eq}
 use Rattle.std.proofs.Math.Seq.{take-append_seam}
 use Rattle.ca_tree.specs.declared.name.Place.{Place}
@@ -13,11 +13,13 @@ use Rattle.ca_tree.specs.declared.token.Token.{Token}
 use Rattle.ca_tree.specs.declared.tree.TypeNode.{TypeNode}
 use Rattle.ca_tree.specs.declared.tree.TypeNode.TheVariants.{Long, Bool as BoolType, Pointer}
 use Rattle.ca_tree.specs.Codes.{same_key, same_sign}
-use Rattle.ca_tree.specs.Operators.{level, unary_level, binary_sign, unary_sign, assign_sign}
+use Rattle.ca_tree.specs.declared.operators.Writing.{Writing}
+use Rattle.ca_tree.specs.declared.operators.Writing.TheVariants.{Between, Before}
+use Rattle.ca_tree.specs.Operators.{level, writing, unary_level, unary_sign, assign_sign}
 use Rattle.ca_tree.specs.Plain.{Expression, Statement, Statements, no_statements, statement_and, number, truth, null, this, named, call, field, method, index, unary, binary, empty, block, local, assign, call_statement, if_only, if_else, while_loop, for_loop, return_value, print_value}
 use Rattle.ca_expressions.specs.Terminals.{key_of, sign_of, zero_of}
 use Rattle.ca_parse.specs.Grammar.{read, is_return_zero}
-use Rattle.ca_canonical.specs.Spell.{tail_level, binds, bracketed, in_parentheses, spell_expression, spell_list, spell_truth, spell_type, spell_right, spell_start, spell_header, ended, spell_statement, spell_statements, is_zero, returns_zero, ends_in_zero}
+use Rattle.ca_canonical.specs.Spell.{tail_level, binds, bracketed, in_parentheses, spelled_by, spell_expression, spell_list, spell_truth, spell_type, spell_right, spell_start, spell_header, ended, spell_statement, spell_statements, is_zero, returns_zero, ends_in_zero}
 use Rattle.ca_canonical.specs.Bare.{nowhere}
 use Rattle.ca_canonical.proofs.Texts.{kinds}
 use Rattle.ca_canonical.proofs.Fronts.{Front, front_is}
@@ -111,6 +113,14 @@ returned_inside [] ls s = second_no (Key key.Return) (Sign s) (ls ++ Sign sign.S
 returned_inside (a ∷ []) ls s = long_no (Key key.Return) a (Sign s) (ls ++ Sign sign.Semicolon ∷ []) (ends_long ls (Sign sign.Semicolon))
 returned_inside (a ∷ b ∷ ks) ls s = long_no (Key key.Return) a b ((ks ++ (Sign s ∷ ls)) ++ Sign sign.Semicolon ∷ []) (ends_long (ks ++ (Sign s ∷ ls)) (Sign sign.Semicolon))
 
+called_by : (w : Writing) (k m n : ℕ) (ks ls : List Kind) → is_end (spelled_by w k m n ks ls ++ Sign sign.Semicolon ∷ []) ≡ false
+called_by (Between s) k m n ks ls = inside (bracketed (nat_lt m k) ks) (bracketed (nat_lt n (k + 1)) ls) s
+called_by (Before w) k m n ks ls = second_no (Key w) (Sign sign.OpenParenthesis) ((ks ++ (Sign sign.Comma ∷ (ls ++ Sign sign.CloseParenthesis ∷ []))) ++ Sign sign.Semicolon ∷ []) refl
+
+returned_by : (w : Writing) (k m n : ℕ) (ks ls : List Kind) → is_end (Key key.Return ∷ (spelled_by w k m n ks ls ++ Sign sign.Semicolon ∷ [])) ≡ false
+returned_by (Between s) k m n ks ls = returned_inside (bracketed (nat_lt m k) ks) (bracketed (nat_lt n (k + 1)) ls) s
+returned_by (Before w) k m n ks ls = second_no (Key key.Return) (Key w) ((Sign sign.OpenParenthesis ∷ (ks ++ (Sign sign.Comma ∷ (ls ++ Sign sign.CloseParenthesis ∷ [])))) ++ Sign sign.Semicolon ∷ []) refl
+
 called : (e : Expression) → is_end (spell_expression e ++ Sign sign.Semicolon ∷ []) ≡ false
 called (number at n) = refl
 called (truth at b) = refl
@@ -122,7 +132,7 @@ called (field at e n) = inside (bracketed (nat_lt (binds e) tail_level) (spell_e
 called (method at e n es) = inside (bracketed (nat_lt (binds e) tail_level) (spell_expression e)) (Word n ∷ in_parentheses (spell_list es)) sign.Arrow
 called (index at e i) = inside (bracketed (nat_lt (binds e) tail_level) (spell_expression e)) (spell_expression i ++ Sign sign.CloseBracket ∷ []) sign.OpenBracket
 called (unary at o e) = first_no (Sign (unary_sign o)) (bracketed (nat_lt (binds e) unary_level) (spell_expression e) ++ Sign sign.Semicolon ∷ []) refl
-called (binary at o a b) = inside (bracketed (nat_lt (binds a) (level o)) (spell_expression a)) (bracketed (nat_lt (binds b) (level o + 1)) (spell_expression b)) (binary_sign o)
+called (binary at o a b) = called_by (writing o) (level o) (binds a) (binds b) (spell_expression a) (spell_expression b)
 
 abbrev Implies : Bool → Bool → Type 0
 Implies a b = a ≡ true → b ≡ true
@@ -149,7 +159,7 @@ returned (field at e n) = refuted (returned_inside (bracketed (nat_lt (binds e) 
 returned (method at e n es) = refuted (returned_inside (bracketed (nat_lt (binds e) tail_level) (spell_expression e)) (Word n ∷ in_parentheses (spell_list es)) sign.Arrow)
 returned (index at e i) = refuted (returned_inside (bracketed (nat_lt (binds e) tail_level) (spell_expression e)) (spell_expression i ++ Sign sign.CloseBracket ∷ []) sign.OpenBracket)
 returned (unary at o e) = refuted (second_no (Key key.Return) (Sign (unary_sign o)) (bracketed (nat_lt (binds e) unary_level) (spell_expression e) ++ Sign sign.Semicolon ∷ []) refl)
-returned (binary at o a b) = refuted (returned_inside (bracketed (nat_lt (binds a) (level o)) (spell_expression a)) (bracketed (nat_lt (binds b) (level o + 1)) (spell_expression b)) (binary_sign o))
+returned (binary at o a b) = refuted (returned_by (writing o) (level o) (binds a) (binds b) (spell_expression a) (spell_expression b))
 
 declared : (ty : TypeNode) (ks : List Kind) → is_end ((spell_type ty ++ ks) ++ Sign sign.Semicolon ∷ []) ≡ false
 declared Long ks = first_no (Key key.Long) (ks ++ Sign sign.Semicolon ∷ []) refl

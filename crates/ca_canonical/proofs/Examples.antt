@@ -4,7 +4,7 @@ use Rattle.std.specs.Prelude.{codes, pos, Option, Some, None}
 use Rattle.std.specs.Fmt.{digits}
 use Rattle.ca_tree.specs.declared.tree.TypeNode.TheVariants.{Long, Pointer}
 use Rattle.ca_tree.specs.declared.tree.AssignOp.TheVariants.{Add}
-use Rattle.ca_tree.specs.declared.tree.BinaryOp.TheVariants.{Plus, Minus, Times, Less}
+use Rattle.ca_tree.specs.declared.tree.BinaryOp.TheVariants.{Plus, Minus, Times, Less, Equal, BitAnd, BitOr, BitXor, Max, Min}
 use Rattle.ca_tree.specs.declared.tree.UnaryOp.TheVariants as unary_op
 use Rattle.ca_tree.specs.Plain.{Expression, Statement, TextTree, number, named, call, field, method, index, unary, binary, no_expressions, expression_and, value, new, empty, block, local, assign, call_statement, if_only, if_else, return_value, no_statements, statement_and, field_member, method_member}
 use Rattle.ca_tree.specs.declared.name.Place.{Place}
@@ -39,6 +39,26 @@ binds_more = refl
 
 under_unary : text_of (spell_expression (unary nowhere unary_op.Not (unary nowhere unary_op.Not (binary nowhere Less a b)))) ≡ codes "! ! ( a < b ) "
 under_unary = refl
+
+-- a key word before its sides with its brackets is an operand without an operator ..
+key_word_before : text_of (spell_expression (binary nowhere Times (binary nowhere Max (binary nowhere Plus a b) (binary nowhere Min b c)) c)) ≡ codes "max ( a + b , min ( b , c ) ) * c "
+key_word_before = refl
+
+key_word_under_unary : text_of (spell_expression (unary nowhere unary_op.Minus (binary nowhere Max a b))) ≡ codes "- max ( a , b ) "
+key_word_under_unary = refl
+
+-- .. but has brackets round it before a tail
+key_word_before_arrow : text_of (spell_expression (field nowhere (binary nowhere Max a b) (codes "f"))) ≡ codes "( max ( a , b ) ) -> f "
+key_word_before_arrow = refl
+
+key_word_before_index : text_of (spell_expression (index nowhere (binary nowhere Max a b) c)) ≡ codes "( max ( a , b ) ) [ c ] "
+key_word_before_index = refl
+
+bits_bind_less : text_of (spell_expression (binary nowhere BitAnd a (binary nowhere Equal b c))) ≡ codes "a & b == c "
+bits_bind_less = refl
+
+bits_by_level : text_of (spell_expression (binary nowhere BitAnd (binary nowhere BitOr a b) (binary nowhere BitXor b c))) ≡ codes "( a | b ) & ( b ^ c ) "
+bits_by_level = refl
 
 before_tails : text_of (spell_expression (index nowhere (field nowhere (unary nowhere unary_op.Minus a) (codes "f")) (number nowhere (pos 1)))) ≡ codes "( - a ) -> f [ 1 ] "
 unfolding digits

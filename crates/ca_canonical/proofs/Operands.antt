@@ -9,16 +9,18 @@ use Rattle.ca_tree.specs.declared.token.Sign.TheVariants.{OpenParenthesis, Close
 use Rattle.ca_tree.specs.declared.token.Token.{Token}
 use Rattle.ca_tree.specs.declared.tree.BinaryOp.{BinaryOp}
 use Rattle.ca_tree.specs.declared.tree.UnaryOp.{UnaryOp}
-use Rattle.ca_tree.specs.Operators.{level, unary_level}
-use Rattle.ca_tree.proofs.Table.{level_below}
+use Rattle.ca_tree.specs.Operators.{level, writing, unary_level}
+use Rattle.ca_tree.specs.declared.operators.Writing.{Writing}
+use Rattle.ca_tree.specs.declared.operators.Writing.TheVariants.{Between, Before}
+use Rattle.ca_tree.proofs.Table.{IsBelow, level_below}
 use Rattle.ca_tree.specs.Plain.{Expression, Expressions, this, named, call, field, method, index, unary, binary, no_expressions, expression_and}
-use Rattle.ca_expressions.specs.Grammar.{expressions, Level, operands, one_operand, Operands, operands_end, operands_more, Unary, unary_first, unary_last, Primary, a_literal, a_chain, in_brackets, Chain, this_chain, name_chain, call_chain, Tails, tails_end, tails_more, Tail, field_tail, method_tail, index_tail, Args, args, Listed, listed_none, listed, Further, further_none, further}
-use Rattle.ca_canonical.specs.Spell.{tail_level, binds, bracketed, in_parentheses, spell_expression, spell_list, spell_others, spell_truth}
+use Rattle.ca_expressions.specs.Grammar.{expressions, Level, operands, one_operand, Operands, operands_end, operands_more, Unary, unary_first, unary_last, Primary, a_literal, a_chain, in_brackets, by_word, sides, Chain, this_chain, name_chain, call_chain, Tails, tails_end, tails_more, Tail, field_tail, method_tail, index_tail, Args, args, Listed, listed_none, listed, Further, further_none, further}
+use Rattle.ca_canonical.specs.Spell.{tail_level, binds, bracketed, in_parentheses, spelled_by, spell_expression, spell_list, spell_others, spell_truth}
 use Rattle.ca_canonical.specs.Bare.{bare_expression, bare_expressions, nowhere}
 use Rattle.ca_canonical.proofs.ReadBack.{IsName}
 use Rattle.ca_canonical.proofs.Texts.{AllWritable}
 use Rattle.ca_canonical.proofs.Fronts.{Spelled, seq, under}
-use Rattle.ca_canonical.proofs.Terminals.{AllRead, behind, name_read, literal_read, Literal, number_literal, truth_literal, null_literal, a_sign, a_key, a_name, a_number_literal, a_truth, a_null, an_operator, a_unary}
+use Rattle.ca_canonical.proofs.Terminals.{AllRead, behind, name_read, literal_read, Literal, number_literal, truth_literal, null_literal, a_sign, a_key, a_name, a_number_literal, a_truth, a_null, an_operator, a_word_operator, a_unary}
 use Rattle.ca_canonical.proofs.Levels.{Headed, chain_head, headed_more, chain_more, level_more, unary_of_level, At, at_level, at_primary, at_head, Like, Good, whole_expression, operand, head}
 
 -- writable tokens and then others
@@ -35,17 +37,34 @@ writable_bracketed false ks a = a
 
 -- operators
 
+-- an operator on two sides, as it is written
+record GoodBy (at : Place) (o : BinaryOp) (a b : Expression) (w : Writing) : Type 0 where
+  writable : AllWritable (spelled_by w (level o) (binds a) (binds b) (spell_expression a) (spell_expression b))
+  reads : Spelled (At (level o)) (Like (binary at o a b)) (spelled_by w (level o) (binds a) (binds b) (spell_expression a) (spell_expression b))
+
+same_sides : (o p : BinaryOp) (a b x y : Expression) → bare_expression x ≡ bare_expression a → p ≡ o → bare_expression y ≡ bare_expression b → binary nowhere p (bare_expression x) (bare_expression y) ≡ binary nowhere o (bare_expression a) (bare_expression b)
+same_sides o p a b x y d e f = ap (λ z. binary nowhere p z (bare_expression y)) d ∙ ap (λ q. binary nowhere q (bare_expression a) (bare_expression y)) e ∙ ap (λ z. binary nowhere o (bare_expression a) z) f
+
+good_by : (at : Place) (o : BinaryOp) (a b : Expression) (w : Writing) → writing o ≡ w → IsBelow o w → Good a → Good b → GoodBy at o a b w
+good_by at o a b (Between k) e low g h = record {
+  writable = writable_both (bracketed (nat_lt (binds a) (level o)) (spell_expression a)) _ (writable_bracketed (nat_lt (binds a) (level o)) (spell_expression a) g.writable)
+      (tt, writable_bracketed (nat_lt (binds b) (level o + 1)) (spell_expression b) h.writable);
+  reads = under (λ y. binary y.1.0.1 y.1.0.0 y.0 y.1.1)
+      (λ y s r w d. at_level (omega (arith, low)) (level_more low d.first d.second.first d.second.second))
+      (λ y w. same_sides o y.1.0.0 a b y.0 y.1.1 w.0 w.1.0 w.1.1)
+      (seq (operand (level o) a (omega (arith, low)) g) (seq (an_operator o k e) (operand (level o + 1) b (omega (arith, low)) h)));
+}
+good_by at o a b (Before k) e high g h = record {
+  writable = (tt, (tt, writable_both (spell_expression a) _ g.writable (tt, writable_both (spell_expression b) _ h.writable (tt, tt))));
+  reads = subst (λ n. Spelled (At n) (Like (binary at o a b)) (spelled_by (Before k) (level o) (binds a) (binds b) (spell_expression a) (spell_expression b))) (sym high)
+      (under (λ y. binary y.0.1 y.0.0 y.1.1.0 y.1.1.1.1.0)
+      (λ y s r w d. at_primary (by_word d.first (sides d.second.first d.second.second.first d.second.second.second.first d.second.second.second.second.first d.second.second.second.second.second)))
+      (λ y w. same_sides o y.0.0 a b y.1.1.0 y.1.1.1.1.0 w.1.1.0 w.0 w.1.1.1.1.0)
+      (seq (a_word_operator o k e) (seq (a_sign OpenParenthesis) (seq (whole_expression g) (seq (a_sign Comma) (seq (whole_expression h) (a_sign CloseParenthesis)))))));
+}
+
 good_binary : (at : Place) (o : BinaryOp) (a b : Expression) → Good a → Good b → Good (binary at o a b)
-good_binary at o a b g h =
-    let low = level_below o in
-    record {
-      writable = writable_both (bracketed (nat_lt (binds a) (level o)) (spell_expression a)) _ (writable_bracketed (nat_lt (binds a) (level o)) (spell_expression a) g.writable)
-          (tt, writable_bracketed (nat_lt (binds b) (level o + 1)) (spell_expression b) h.writable);
-      reads = under (λ y. binary y.1.0.1 y.1.0.0 y.0 y.1.1)
-          (λ y s r w d. at_level (omega (arith, low)) (level_more low d.first d.second.first d.second.second))
-          (λ y w. ap (λ x. binary nowhere y.1.0.0 x (bare_expression y.1.1)) w.0 ∙ ap (λ p. binary nowhere p (bare_expression a) (bare_expression y.1.1)) w.1.0 ∙ ap (λ x. binary nowhere o (bare_expression a) x) w.1.1)
-          (seq (operand (level o) a (omega (arith, low)) g) (seq (an_operator o) (operand (level o + 1) b (omega (arith, low)) h)));
-    }
+good_binary at o a b g h = let p = good_by at o a b (writing o) refl (level_below o) g h in record { writable = p.writable; reads = p.reads }
 
 good_unary : (at : Place) (o : UnaryOp) (a : Expression) → Good a → Good (unary at o a)
 good_unary at o a g = record {
@@ -215,6 +234,10 @@ mutual
   good_primary {x = x} h (a_literal d) = record { good = good_literal (literal_read h d); rest = behind h d }
   good_primary h (a_chain c) = let p = good_chain h c in record { good = p.good.good; rest = p.rest }
   good_primary h (in_brackets o d c us) = let p = good_level (behind h o) d in good_tails (behind p.rest c) p.good us
+  good_primary h (by_word {o = o} w (sides {a = a} {b = b} d e f k i)) =
+      let p = good_level (behind (behind h w) d) e in
+      let q = good_level (behind p.rest f) k in
+      record { good = good_binary o.1 o.0 a b p.good q.good; rest = behind q.rest i }
 
   pub good_chain : {s r : List Token} {x : Expression} → AllRead s → Chain s x r → Out (GoodChain x) r
   good_chain h (this_chain {p = p} d us) = chain_tails (behind h d) (chain_this p) us

@@ -13,11 +13,12 @@ use Rattle.ca_tree.specs.declared.token.Token.{Token}
 use Rattle.ca_tree.specs.declared.tree.BinaryOp.{BinaryOp}
 use Rattle.ca_tree.specs.declared.tree.UnaryOp.{UnaryOp}
 use Rattle.ca_tree.specs.Codes.{key_code, sign_code}
-use Rattle.ca_tree.specs.Operators.{level, binary_sign, unary_sign}
-use Rattle.ca_tree.proofs.Table.{binary_back, unary_back}
+use Rattle.ca_tree.specs.declared.operators.Writing.TheVariants.{Between, Before}
+use Rattle.ca_tree.specs.Operators.{level, writing, binary_of_sign, binary_of_word, unary_sign}
+use Rattle.ca_tree.proofs.Table.{IsBack, binary_back, unary_back}
 use Rattle.ca_tree.specs.Plain.{Expression, number, truth, null}
 use Rattle.ca_expressions.specs.Terminals as terminal
-use Rattle.ca_expressions.specs.Terminals.{key_of, sign_of, name_of, number_of, literal_of, literal_of_key, with_place, of_level, operator_of, unary_of}
+use Rattle.ca_expressions.specs.Terminals.{key_of, sign_of, name_of, number_of, literal_of, literal_of_key, with_place, of_level, operator_of, word_of, unary_of}
 use Rattle.ca_canonical.specs.Spell.{spell_truth}
 use Rattle.ca_canonical.specs.Bare.{bare_expression, nowhere}
 use Rattle.ca_canonical.proofs.ReadBack.{Writable, IsName}
@@ -46,11 +47,19 @@ a_truth false = one terminal.literal (λ x. bare_expression x ≡ truth nowhere 
 pub a_null : Spelled (Sees terminal.literal) (λ x. bare_expression x ≡ null nowhere) (Key key.Nullptr ∷ [])
 a_null = one terminal.literal (λ x. bare_expression x ≡ null nowhere) (Key key.Nullptr) (λ t e. (null t.at, refl, ap (λ z. literal_of z t.at) e))
 
-known_operator : (o : BinaryOp) (at : Place) → operator_of (level o) (Sign (binary_sign o)) at ≡ Some (o, at)
-known_operator o at = ap (λ p. with_place at (of_level (level o) p)) (binary_back o) ∙ ap (λ t. with_place at (cond t (Some o) None)) (eq-eqb (level o) (level o) refl)
+known_operator : (o : BinaryOp) (k : TheSign) (at : Place) → writing o ≡ Between k → operator_of (level o) (Sign k) at ≡ Some (o, at)
+known_operator o k at e =
+    let back : binary_of_sign k ≡ Some o = subst (IsBack o) e (binary_back o) in
+    ap (λ p. with_place at (of_level (level o) p)) back ∙ ap (λ t. with_place at (cond t (Some o) None)) (eq-eqb (level o) (level o) refl)
 
-pub an_operator : (o : BinaryOp) → Spelled (Sees (terminal.operator (level o))) (λ a. a.0 ≡ o) (Sign (binary_sign o) ∷ [])
-an_operator o = one (terminal.operator (level o)) (λ a. a.0 ≡ o) (Sign (binary_sign o)) (λ t e. ((o, t.at), refl, ap (λ z. operator_of (level o) z t.at) e ∙ known_operator o t.at))
+pub an_operator : (o : BinaryOp) (k : TheSign) → writing o ≡ Between k → Spelled (Sees (terminal.operator (level o))) (λ a. a.0 ≡ o) (Sign k ∷ [])
+an_operator o k h = one (terminal.operator (level o)) (λ a. a.0 ≡ o) (Sign k) (λ t e. ((o, t.at), refl, ap (λ z. operator_of (level o) z t.at) e ∙ known_operator o k t.at h))
+
+known_word : (o : BinaryOp) (w : Keyword) (at : Place) → writing o ≡ Before w → word_of (Key w) at ≡ Some (o, at)
+known_word o w at e = let back : binary_of_word w ≡ Some o = subst (IsBack o) e (binary_back o) in ap (with_place at) back
+
+pub a_word_operator : (o : BinaryOp) (w : Keyword) → writing o ≡ Before w → Spelled (Sees terminal.word_operator) (λ a. a.0 ≡ o) (Key w ∷ [])
+a_word_operator o w h = one terminal.word_operator (λ a. a.0 ≡ o) (Key w) (λ t e. ((o, t.at), refl, ap (λ z. word_of z t.at) e ∙ known_word o w t.at h))
 
 known_unary : (o : UnaryOp) (at : Place) → unary_of (Sign (unary_sign o)) at ≡ Some (o, at)
 known_unary o at = ap (with_place at) (unary_back o)

@@ -11,9 +11,12 @@ use Rattle.ca_tree.specs.declared.tree.TypeNode.TheVariants.{Long, Bool as BoolT
 use Rattle.ca_tree.specs.declared.tree.FieldNode.{FieldNode}
 use Rattle.ca_tree.specs.declared.tree.ParamNode.{ParamNode}
 use Rattle.ca_tree.specs.Plain.{Expression, Expressions, RightSide, Statement, Statements, MethodTree, MemberTree, ClassTree, TextTree, number, truth, null, this, named, call, field, method, index, unary, binary, no_expressions, expression_and, value, new, empty, block, local, assign, call_statement, if_only, if_else, while_loop, for_loop, return_value, print_value, no_statements, statement_and, field_member, method_member}
-use Rattle.ca_tree.specs.Operators.{level, unary_level, binary_sign, unary_sign, assign_sign}
+use Rattle.ca_tree.specs.declared.operators.Writing.{Writing}
+use Rattle.ca_tree.specs.declared.operators.Writing.TheVariants.{Between, Before}
+use Rattle.ca_tree.specs.Operators.{level, writing, unary_level, unary_sign, assign_sign}
 
--- A literal binds more tightly than a unary operator and less than `->` and an index, before which it has round brackets.
+-- A literal, and an operator whose key word stands before its sides, binds more tightly than a unary operator and less than
+-- `->` and an index, before which it has round brackets.
 abbrev pub literal_level : ℕ
 literal_level = unary_level + 1
 
@@ -42,6 +45,11 @@ abbrev pub spell_truth : Bool → Kind
 spell_truth true = Key key.True
 spell_truth false = Key key.False
 
+-- An operator of level k: between its sides, which bind as tightly as m and n, or as a key word before both in round brackets
+abbrev pub spelled_by : Writing → (k m n : ℕ) → List Kind → List Kind → List Kind
+spelled_by (Between s) k m n ks ls = bracketed (nat_lt m k) ks ++ (Sign s ∷ bracketed (nat_lt n (k + 1)) ls)
+spelled_by (Before w) k m n ks ls = Key w ∷ Sign sign.OpenParenthesis ∷ (ks ++ (Sign sign.Comma ∷ (ls ++ Sign sign.CloseParenthesis ∷ [])))
+
 -- A left operand is to bind as tightly as its operator, a right operand more tightly.
 abbrev mutual
   pub spell_expression : Expression → List Kind
@@ -55,7 +63,7 @@ abbrev mutual
   spell_expression (method at e n es) = bracketed (nat_lt (binds e) tail_level) (spell_expression e) ++ (Sign sign.Arrow ∷ Word n ∷ in_parentheses (spell_list es))
   spell_expression (index at e i) = bracketed (nat_lt (binds e) tail_level) (spell_expression e) ++ (Sign sign.OpenBracket ∷ (spell_expression i ++ Sign sign.CloseBracket ∷ []))
   spell_expression (unary at o e) = Sign (unary_sign o) ∷ bracketed (nat_lt (binds e) unary_level) (spell_expression e)
-  spell_expression (binary at o a b) = bracketed (nat_lt (binds a) (level o)) (spell_expression a) ++ (Sign (binary_sign o) ∷ bracketed (nat_lt (binds b) (level o + 1)) (spell_expression b))
+  spell_expression (binary at o a b) = spelled_by (writing o) (level o) (binds a) (binds b) (spell_expression a) (spell_expression b)
 
   -- with commas between them
   pub spell_list : Expressions → List Kind

@@ -8,7 +8,7 @@ ghost use Rattle.ca_canonical.specs.clauses.Pens.{Writes};
 
 use crate::operators::{TAIL_LEVEL, binds};
 use crate::pen::Pen;
-use ca_tree::{ExprKind, ExprNode, Keyword, Sign};
+use ca_tree::{ExprKind, ExprNode, Keyword, Sign, Writing};
 
 /// Writes an expression.
 #[cycle(expression)]
@@ -48,9 +48,21 @@ pub(crate) fn write_expression(pen: &mut Pen, e: &ExprNode)
         }
         ExprKind::Binary(op, left, right) => {
             let level = op.level();
-            write_operand(pen, left, level);
-            pen.sign(op.sign());
-            write_operand(pen, right, level + 1);
+            match op.writing() {
+                Writing::Between(sign) => {
+                    write_operand(pen, left, level);
+                    pen.sign(sign);
+                    write_operand(pen, right, level + 1);
+                }
+                Writing::Before(word) => {
+                    pen.key(word);
+                    pen.sign(Sign::OpenParenthesis);
+                    write_expression(pen, left);
+                    pen.sign(Sign::Comma);
+                    write_expression(pen, right);
+                    pen.sign(Sign::CloseParenthesis);
+                }
+            }
         }
     }
 }

@@ -243,7 +243,7 @@ argument_rule = comma_rule (Unlimited Expr) (Closed 0 Expr)
     (λ free s q x c d h. record { it = d; stop = head_gives (goes_on_of 0) Comma q c h })
     (λ free s q x c d h. record { it = d; stop = head_gives (goes_on_of 0) CloseParenthesis q c h })
     (λ free s r x d. level_begins (sign_of CloseParenthesis)
-    (record { number = λ n at. refl; word = λ n at. refl; truth = λ at. refl; falsehood = λ at. refl; null = λ at. refl; this = λ at. refl; minus = λ at. refl; negation = λ at. refl; bracket = λ at. refl })
+    (record { number = λ n at. refl; word = λ n at. refl; truth = λ at. refl; falsehood = λ at. refl; null = λ at. refl; this = λ at. refl; minus = λ at. refl; negation = λ at. refl; bracket = λ at. refl; by_word = λ w at h. refl })
     d)
 
 further_out : (free : ℕ) (s r : List Token) (xs : List Expression) → Further s xs r → MoreItems (Unlimited Expr) free s xs r

@@ -1,5 +1,5 @@
 -- What stands at the front of an expression, and behind it.
-use Rattle.std.proofs.Common.{◌≡◌, ℕ, ◌+◌, ℤ, List, [], ◌∷◌, Bool, true, false, cond, nat_eq, nat_le, Option, Some, None, refl, ◌∙◌, arith}
+use Rattle.std.proofs.Common.{◌≡◌, ℕ, ◌+◌, ℤ, List, [], ◌∷◌, Bool, true, false, cond, nat_eq, nat_le, Option, Some, None, is_some, refl, ◌∙◌, arith}
 use Rattle.std.proofs.lemmas.Bool.{eqb-true, le-leb, lt-leb, leb-false}
 use Rattle.ca_descent.specs.Exact.{Sees, sees, head_of}
 use Rattle.ca_tree.specs.declared.name.Place.{Place}
@@ -14,9 +14,9 @@ use Rattle.ca_tree.specs.declared.token.Sign.TheVariants.{OpenParenthesis, OpenB
 use Rattle.ca_tree.specs.declared.tree.UnaryOp.{UnaryOp}
 use Rattle.ca_tree.specs.declared.tree.BinaryOp.{BinaryOp}
 use Rattle.ca_tree.specs.Plain.{Expression}
-use Rattle.ca_tree.specs.Operators.{level, unary_level, binary_of_sign, unary_of_sign}
-use Rattle.ca_expressions.specs.Terminals.{sign, sign_of, literal_of_key, literal_of, unary_of, with_place, of_level, operator_of, is_tail_sign, binds, goes_on_of, tail_of, literal, unary_operator, operator, goes_on, tail_front}
-use Rattle.ca_expressions.specs.Grammar.{Level, operands, one_operand, Operands, operands_end, operands_more, Unary, unary_first, unary_last, Primary, a_literal, a_chain, in_brackets, Chain, this_chain, name_chain, call_chain, Tails, tails_end, tails_more, Tail, field_tail, method_tail, index_tail}
+use Rattle.ca_tree.specs.Operators.{level, unary_level, binary_of_sign, binary_of_word, unary_of_sign}
+use Rattle.ca_expressions.specs.Terminals.{sign, sign_of, literal_of_key, literal_of, unary_of, word_of, with_place, of_level, operator_of, is_tail_sign, binds, goes_on_of, tail_of, literal, unary_operator, operator, word_operator, goes_on, tail_front}
+use Rattle.ca_expressions.specs.Grammar.{Level, operands, one_operand, Operands, operands_end, operands_more, Unary, unary_first, unary_last, Primary, a_literal, a_chain, in_brackets, by_word, Chain, this_chain, name_chain, call_chain, Tails, tails_end, tails_more, Tail, field_tail, method_tail, index_tail}
 use Rattle.ca_expressions.proofs.Terminals.{test, sign_kind, key_gives, sign_gives, name_gives}
 
 -- a test that holds of no token with which an expression can begin
@@ -30,6 +30,7 @@ pub record NoFront {A : Type 0} (f : Kind → Place → Option A) : Type 0 where
   pub minus : (at : Place) → f (SignKind Minus) at ≡ None
   pub negation : (at : Place) → f (SignKind Not) at ≡ None
   pub bracket : (at : Place) → f (SignKind OpenParenthesis) at ≡ None
+  pub by_word : (w : Keyword) (at : Place) → is_some (binary_of_word w) ≡ true → f (KeyKind w) at ≡ None
 
 -- a test that holds of no token with which a chain can begin
 pub record NoChainFront {A : Type 0} (f : Kind → Place → Option A) : Type 0 where
@@ -72,10 +73,24 @@ module _ {A : Type 0} (f : Kind → Place → Option A) where
   unary_front : NoFront f → {s r : List Token} {o : UnaryOp × Place} → Sees unary_operator s o r → head_of (test f) s ≡ None
   unary_front h (sees {t = t} {a = o} e) = unary_at_kind h t.kind t.at o e
 
+  word_at_kind : ((w : Keyword) (at : Place) → is_some (binary_of_word w) ≡ true → f (KeyKind w) at ≡ None) → (k : Kind) (at : Place) (o : BinaryOp × Place) → word_of k at ≡ Some o → f k at ≡ None
+  word_at_kind h (KeyKind w) at o e = h w at (found (binary_of_word w) e)
+    where
+      found : (m : Option BinaryOp) → with_place at m ≡ Some o → is_some m ≡ true
+      found (Some p) g = refl
+      found None g = cc
+  word_at_kind h (SignKind w) at o e = absurd cc
+  word_at_kind h (Number w) at o e = absurd cc
+  word_at_kind h (Word w) at o e = absurd cc
+
+  pub word_front : ((w : Keyword) (at : Place) → is_some (binary_of_word w) ≡ true → f (KeyKind w) at ≡ None) → {s r : List Token} {o : BinaryOp × Place} → Sees word_operator s o r → head_of (test f) s ≡ None
+  word_front h (sees {t = t} {a = o} e) = word_at_kind h t.kind t.at o e
+
   primary_begins : NoFront f → {s r : List Token} {x : Expression} → Primary s x r → head_of (test f) s ≡ None
   primary_begins h (a_literal d) = literal_front h d
   primary_begins h (a_chain d) = chain_front (record { word = h.word; this = h.this }) d
   primary_begins h (in_brackets {o = p} o e c t) = sign_gives f OpenParenthesis o ∙ h.bracket p
+  primary_begins h (by_word d l) = word_front h.by_word d
 
   unary_begins : NoFront f → {s r : List Token} {x : Expression} → Unary s x r → head_of (test f) s ≡ None
   unary_begins h (unary_first o u) = unary_front h o
@@ -96,6 +111,7 @@ pub primary_no_unary : {s r : List Token} {x : Expression} → Primary s x r →
 primary_no_unary (a_literal (sees {t = t} {a = x} e)) = primary_kind t.kind t.at x e
 primary_no_unary (a_chain d) = chain_front unary_of (record { word = λ n at. refl; this = λ at. refl }) d
 primary_no_unary (in_brackets o e c t) = sign_gives unary_of OpenParenthesis o
+primary_no_unary (by_word d l) = word_front unary_of (λ w at h. refl) d
 
 -- a chain begins with no literal
 pub chain_no_literal : {s r : List Token} {x : Expression} → Chain s x r → head_of literal s ≡ None
@@ -210,3 +226,34 @@ tails_follow (tails_more t m) h = (tail_begins t).2
 pub tails_nothing : {a x : Expression} {s r : List Token} → Tails a s x r → head_of tail_front s ≡ None → (x ≡ a) × (r ≡ s)
 tails_nothing tails_end h = (refl, refl)
 tails_nothing (tails_more t m) h = let b = (tail_begins t).1 in absurd cc
+
+-- the key word of an operator is no literal, and no chain begins with it
+no_literal_word : (w : Keyword) (at : Place) → is_some (binary_of_word w) ≡ true → literal_of (KeyKind w) at ≡ None
+no_literal_word True at h = absurd cc
+no_literal_word False at h = absurd cc
+no_literal_word Nullptr at h = absurd cc
+no_literal_word other at h = refl
+
+pub word_no_literal : {s r : List Token} {o : BinaryOp × Place} → Sees word_operator s o r → head_of literal s ≡ None
+word_no_literal d = word_front literal_of no_literal_word d
+
+pub word_no_bracket : {s r : List Token} {o : BinaryOp × Place} → Sees word_operator s o r → head_of (sign OpenParenthesis) s ≡ None
+word_no_bracket d = word_front (sign_of OpenParenthesis) (λ w at h. refl) d
+
+pub chain_no_word : {s r : List Token} {x : Expression} → Chain s x r → head_of word_operator s ≡ None
+chain_no_word d = chain_front word_of (record { word = λ n at. refl; this = λ at. refl }) d
+
+literal_key_word : (w : Keyword) (at : Place) (x : Expression) → literal_of_key w at ≡ Some x → word_of (KeyKind w) at ≡ None
+literal_key_word True at x e = refl
+literal_key_word False at x e = refl
+literal_key_word Nullptr at x e = refl
+literal_key_word other at x e = absurd cc
+
+literal_kind_word : (k : Kind) (at : Place) (x : Expression) → literal_of k at ≡ Some x → word_of k at ≡ None
+literal_kind_word (Number n) at x e = refl
+literal_kind_word (KeyKind w) at x e = literal_key_word w at x e
+literal_kind_word (SignKind w) at x e = refl
+literal_kind_word (Word n) at x e = refl
+
+pub literal_no_word : {s r : List Token} {x : Expression} → Sees literal s x r → head_of word_operator s ≡ None
+literal_no_word (sees {t = t} {a = x} e) = literal_kind_word t.kind t.at x e

@@ -14,8 +14,8 @@ use Rattle.ca_tree.specs.declared.token.Sign.{Sign}
 use Rattle.ca_tree.specs.declared.token.Sign.TheVariants.{Minus, Not}
 use Rattle.ca_tree.specs.declared.tree.BinaryOp.{BinaryOp}
 use Rattle.ca_tree.specs.Codes.{same_sign}
-use Rattle.ca_tree.specs.Operators.{level, binary_of_sign, unary_of_sign}
-use Rattle.ca_expressions.specs.Terminals.{key_of, sign_of, name_of, number_of, literal_of_key, literal_of, unary_of, of_level, with_place, operator_of, key, sign, number, literal, unary_operator}
+use Rattle.ca_tree.specs.Operators.{level, binary_of_sign, binary_of_word, unary_of_sign}
+use Rattle.ca_expressions.specs.Terminals.{key_of, sign_of, name_of, number_of, literal_of_key, literal_of, unary_of, of_level, with_place, operator_of, word_of, key, sign, number, literal, unary_operator}
 
 -- how a test of the code tells
 pub some_of : {A : Type 0} (o : Option A) → is_some o ≡ true → (a : A) × (o ≡ Some a)
@@ -127,3 +127,7 @@ operator_is k x w o at e h = ap (λ z. operator_of k z at) e ∙ ap (λ z. with_
 
 pub of_the_level : (k : ℕ) (o : BinaryOp) (at : Place) → level o ≡ k → with_place at (of_level k (Some o)) ≡ Some (o, at)
 of_the_level k o at e = rw (eq-eqb (level o) k e) refl
+
+-- the operator that the table gives for the key word
+pub word_is : (x : Kind) (w : Keyword) (o : BinaryOp) (at : Place) → x ≡ KeyKind w → Some o ≡ binary_of_word w → word_of x at ≡ Some (o, at)
+word_is x w o at e h = ap (λ z. word_of z at) e ∙ ap (with_place at) (sym h)

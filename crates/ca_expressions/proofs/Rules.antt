@@ -7,17 +7,19 @@ use Rattle.ca_descent.proofs.Parts.{Then, then, Upto, upto, done, Part, ◌⨾�
 use Rattle.ca_tree.specs.declared.name.Place.{Place}
 use Rattle.ca_tree.specs.declared.token.Token.{Token}
 use Rattle.ca_tree.specs.declared.token.Kind.TheVariants.{Number}
-use Rattle.ca_tree.specs.declared.token.Sign.TheVariants.{OpenParenthesis, CloseParenthesis}
+use Rattle.ca_tree.specs.declared.token.Kind.TheVariants.{Key as KeyKind, Sign as SignKind}
+use Rattle.ca_tree.specs.declared.token.Keyword.TheVariants.{Max}
+use Rattle.ca_tree.specs.declared.token.Sign.TheVariants.{OpenParenthesis, CloseParenthesis, Comma}
 use Rattle.ca_tree.specs.declared.tree.UnaryOp.{UnaryOp}
 use Rattle.ca_tree.specs.declared.tree.BinaryOp.{BinaryOp}
 use Rattle.ca_tree.specs.declared.operators.TheConstants.{LEVELS}
 use Rattle.ca_tree.specs.Operators.{unary_level}
 use Rattle.ca_tree.specs.Plain.{Expression, number, unary, binary}
-use Rattle.ca_expressions.specs.Terminals.{sign, literal, literal_of, unary_operator, operator, goes_on, goes_on_of}
-use Rattle.ca_expressions.specs.Grammar.{Level, operands, one_operand, Operands, operands_end, operands_more, Unary, unary_first, unary_last, Primary, a_literal, a_chain, in_brackets, Chain, Tails, tails_end}
+use Rattle.ca_expressions.specs.Terminals.{sign, literal, literal_of, unary_operator, operator, word_operator, word_of, goes_on, goes_on_of}
+use Rattle.ca_expressions.specs.Grammar.{Level, operands, one_operand, Operands, operands_end, operands_more, Unary, unary_first, unary_last, Primary, a_literal, a_chain, in_brackets, by_word, Sides, sides, Chain, Tails, tails_end}
 use Rattle.ca_expressions.specs.Readers.{Closed}
-use Rattle.ca_expressions.proofs.Terminals.{sign_gives, token, start, mark}
-use Rattle.ca_expressions.proofs.Follow.{chain_no_literal, chain_no_bracket, literal_no_bracket, primary_no_unary, operator_goes_on, operands_follow}
+use Rattle.ca_expressions.proofs.Terminals.{sign_gives, token, start, mark, terminal, sign_sees}
+use Rattle.ca_expressions.proofs.Follow.{chain_no_literal, chain_no_bracket, literal_no_bracket, word_no_literal, word_no_bracket, chain_no_word, literal_no_word, primary_no_unary, operator_goes_on, operands_follow}
 
 -- a number is an expression of every level
 abbrev pub a_number_tree : Expression
@@ -211,6 +213,7 @@ literal_split b free s r x c = at s r x c.it.it c.seen
     at s r x (a_literal d) g = upto d done
     at s r x (a_chain d) g = let n = chain_no_literal d in absurd cc
     at s r x (in_brackets o l c t) g = let n = sign_gives literal_of OpenParenthesis o in absurd cc
+    at s r x (by_word d l) g = let n = word_no_literal d in absurd cc
 
 literal_join : (free : ℕ) (s r : List Token) (x : Expression) → LiteralRead free s x r → Primary s x r
 literal_join free s r x (then d done) = a_literal d
@@ -233,6 +236,7 @@ bracket_split b free s r x c = at s r x c.it.it c.it.stop c.seen
         upto o (upto (record { it = l; stop = sign_gives (goes_on_of 0) CloseParenthesis c }) (upto c (record { it = t; stop = h })))
     at s r x (a_literal d) h g = let n = literal_no_bracket d in absurd cc
     at s r x (a_chain d) h g = let n = chain_no_bracket d in absurd cc
+    at s r x (by_word d l) h g = let n = word_no_bracket d in absurd cc
 
 bracket_join : (free : ℕ) (s r : List Token) (x : Expression) → bracket_parts.D free s x r → Primary s x r
 bracket_join free s r x (then o (then l (then c t))) = in_brackets o l c t
@@ -241,17 +245,62 @@ pub bracket_answer : {b : Place} {s : List Token} {o : Answer Token Expression} 
     → Exact bracket_parts.D bracket_parts.C s o → Exact (Unlimited Primary) (Closed unary_level Primary) s o
 bracket_answer {b} h d = seen h (exact_map bracket_join (bracket_split b) d)
 
--- a chain, where neither a literal nor a bracket stands
+-- the key word of an operator, and its sides in round brackets
+abbrev pub some_sides : BinaryOp × Place → Part Token Expression
+some_sides o = record {
+  D = Unlimited (Sides o);
+  C = Unlimited (Sides o);
+  some = record {
+    more = token (SignKind OpenParenthesis) ∷ token (Number (pos 0)) ∷ token (SignKind Comma) ∷ token (Number (pos 0)) ∷ token (SignKind CloseParenthesis) ∷ [];
+    tree = binary o.1 o.0 a_number_tree a_number_tree;
+    reads = λ free r h. sides (sees (sign_sees OpenParenthesis)) (level_number LEVELS 0 (omega arith) _) (sees (sign_sees Comma)) (level_number LEVELS 0 (omega arith) _) (sees (sign_sees CloseParenthesis));
+  };
+}
+
+abbrev pub word_parts : Part Token Expression
+word_parts = terminal word_operator {t = token (KeyKind Max)} refl ⨾ λ o. some_sides o
+
+word_split : (b : BinaryOp × Place) (free : ℕ) (s r : List Token) (x : Expression) → Seen word_operator b (Closed unary_level Primary) free s x r → word_parts.C free s x r
+word_split b free s r x c = at s r x c.it.it c.seen
+  where
+    at : (s r : List Token) (x : Expression) → Primary s x r → head_of word_operator s ≡ Some b → word_parts.C free s x r
+    at s r x (by_word d l) g = upto d l
+    at s r x (a_literal d) g = let n = literal_no_word d in absurd cc
+    at s r x (a_chain d) g = let n = chain_no_word d in absurd cc
+    at s r x (in_brackets o l c t) g = let n = sign_gives word_of OpenParenthesis o in absurd cc
+
+word_join : (free : ℕ) (s r : List Token) (x : Expression) → word_parts.D free s x r → Primary s x r
+word_join free s r x (then d l) = by_word d l
+
+pub word_answer : {b : BinaryOp × Place} {s : List Token} {o : Answer Token Expression} → head_of word_operator s ≡ Some b
+    → Exact word_parts.D word_parts.C s o → Exact (Unlimited Primary) (Closed unary_level Primary) s o
+word_answer {b} h d = seen h (exact_map word_join (word_split b) d)
+
+abbrev pub sides_parts : BinaryOp × Place → Part Token Expression
+sides_parts o = mark OpenParenthesis ⨾ λ p. a_level 0 ⨾ λ a. mark Comma ⨾ λ c. a_level 0 ⨾ λ b. mark CloseParenthesis ⨾ λ d. finish (binary o.1 o.0 a b)
+
+sides_split : (o : BinaryOp × Place) (free : ℕ) (s r : List Token) (x : Expression) → (Unlimited (Sides o)) free s x r → (sides_parts o).C free s x r
+sides_split o free s r x (sides p a c b d) =
+    upto p (upto (record { it = a; stop = sign_gives (goes_on_of 0) Comma c }) (upto c (upto (record { it = b; stop = sign_gives (goes_on_of 0) CloseParenthesis d }) (upto d done))))
+
+sides_join : (o : BinaryOp × Place) (free : ℕ) (s r : List Token) (x : Expression) → (sides_parts o).D free s x r → (Unlimited (Sides o)) free s x r
+sides_join o free s r x (then p (then a (then c (then b (then d done))))) = sides p a c b d
+
+pub sides_answer : (o : BinaryOp × Place) {s : List Token} {r : Answer Token Expression} → Exact (sides_parts o).D (sides_parts o).C s r → Exact (Unlimited (Sides o)) (Unlimited (Sides o)) s r
+sides_answer o d = exact_map (sides_join o) (sides_split o) d
+
+-- a chain, where neither a literal nor such a key word nor a bracket stands
 chain_split : (free : ℕ) (s r : List Token) (x : Expression)
-    → Unseen (sign OpenParenthesis) (Unseen literal (Closed unary_level Primary)) free s x r → Closed unary_level Chain free s x r
-chain_split free s r x c = at s r x c.it.it.it c.it.it.stop c.it.unseen c.unseen
+    → Unseen (sign OpenParenthesis) (Unseen word_operator (Unseen literal (Closed unary_level Primary))) free s x r → Closed unary_level Chain free s x r
+chain_split free s r x c = at s r x c.it.it.it.it c.it.it.it.stop c.it.it.unseen c.it.unseen c.unseen
   where
     at : (s r : List Token) (x : Expression) → Primary s x r → head_of (goes_on unary_level) r ≡ None → head_of literal s ≡ None
-        → head_of (sign OpenParenthesis) s ≡ None → Closed unary_level Chain free s x r
-    at s r x (a_chain d) h l b = record { it = d; stop = h }
-    at s r x (a_literal d) h l b = let n = sees_head literal d in absurd cc
-    at s r x (in_brackets o e c t) h l b = let n = sees_head (sign OpenParenthesis) o in absurd cc
+        → head_of word_operator s ≡ None → head_of (sign OpenParenthesis) s ≡ None → Closed unary_level Chain free s x r
+    at s r x (a_chain d) h l w b = record { it = d; stop = h }
+    at s r x (a_literal d) h l w b = let n = sees_head literal d in absurd cc
+    at s r x (in_brackets o e c t) h l w b = let n = sees_head (sign OpenParenthesis) o in absurd cc
+    at s r x (by_word d e) h l w b = let n = sees_head word_operator d in absurd cc
 
-pub chain_answer : {s : List Token} {o : Answer Token Expression} → head_of literal s ≡ None → head_of (sign OpenParenthesis) s ≡ None
+pub chain_answer : {s : List Token} {o : Answer Token Expression} → head_of literal s ≡ None → head_of word_operator s ≡ None → head_of (sign OpenParenthesis) s ≡ None
     → Exact (Unlimited Chain) (Closed unary_level Chain) s o → Exact (Unlimited Primary) (Closed unary_level Primary) s o
-chain_answer h g d = unseen h (unseen g (exact_map (λ free s r x c. a_chain c) chain_split d))
+chain_answer h w g d = unseen h (unseen w (unseen g (exact_map (λ free s r x c. a_chain c) chain_split d)))

@@ -2,21 +2,25 @@
 -- `{ x }` is any number of x, `[ x ]` is x or nothing, and signs stand in quotes:
 --
 --   Expr    = And { "||" And }
---   And     = Equal { "&&" Equal }
+--   And     = BitOr { "&&" BitOr }
+--   BitOr   = BitXor { "|" BitXor }
+--   BitXor  = BitAnd { "^" BitAnd }
+--   BitAnd  = Equal { "&" Equal }
 --   Equal   = Rel { ( "==" | "!=" ) Rel }
 --   Rel     = Sum { ( "<" | ">" | "<=" | ">=" ) Sum }
 --   Sum     = Prod { ( "+" | "-" ) Prod }
 --   Prod    = Unary { ( "*" | "/" | "%" ) Unary }
 --   Unary   = { "-" | "!" } Primary
 --   Primary = number | "true" | "false" | "nullptr" | Chain | "(" Expr ")" { Tail }
+--           | ( "max" | "min" ) "(" Expr "," Expr ")"
 --   Chain   = ( "this" | name [ Args ] ) { Tail }
 --   Tail    = "->" name [ Args ] | "[" Expr "]"
 --   Args    = "(" [ Expr { "," Expr } ] ")"
 --
--- The first six lines are one rule, `Level`, with the levels of the operators and their signs: Expr is level 0, Prod the
--- last of the LEVELS, and Unary stands behind them. Operators of a level associate to the left. The place of a unary or binary node is its operator's,
--- of a field or method that of `->`, of an index that of `[`, and of any other node that of its first token. Brackets
--- round an expression leave no node.
+-- The first nine lines are one rule, `Level`, with the levels of the operators and their signs: Expr is level 0, Prod the
+-- last of the LEVELS, and Unary stands behind them. Operators of a level associate to the left. The place of a unary or
+-- binary node is that of its operator, a sign or a key word, of a field or method that of `->`, of an index that of `[`,
+-- and of any other node that of its first token. Brackets round an expression leave no node.
 use Rattle.std.specs.Prelude.{ℕ, ◌+◌, ◌<◌, ◌≤◌, List, [], ◌∷◌, Bool, true, false}
 use Rattle.ca_descent.specs.Exact.{Grammar, Sees, Before, Short}
 use Rattle.ca_tree.specs.declared.name.Place.{Place}
@@ -29,7 +33,7 @@ use Rattle.ca_tree.specs.declared.operators.TheConstants.{LEVELS}
 use Rattle.ca_tree.specs.Operators.{unary_level}
 use Rattle.ca_tree.specs.Plain.{Expression, Expressions, number, truth, null, this, named, call, field, method, index, unary, binary, no_expressions, expression_and}
 use Rattle.ca_expressions.specs.declared.expressions.TheConstants.{MOST_IN_EXPRESSION}
-use Rattle.ca_expressions.specs.Terminals.{key, sign, name, literal, unary_operator, operator, goes_on}
+use Rattle.ca_expressions.specs.Terminals.{key, sign, name, literal, unary_operator, operator, word_operator, goes_on}
 
 -- the arguments as the tree has them
 abbrev pub expressions : List Expression → Expressions
@@ -59,6 +63,14 @@ mutual
     a_chain : {s r : List Token} {x : Expression} → Chain s x r → Primary s x r
     in_brackets : {s s1 s2 s3 r : List Token} {a x : Expression} {o c : Place} → Sees (sign OpenParenthesis) s o s1
         → Level 0 s1 a s2 → Sees (sign CloseParenthesis) s2 c s3 → Tails a s3 x r → Primary s x r
+    by_word : {s s1 r : List Token} {x : Expression} {o : BinaryOp × Place} → Sees word_operator s o s1 → Sides o s1 x r
+        → Primary s x r
+
+  -- "(" Expr "," Expr ")" behind the key word of the operator o
+  pub data Sides : BinaryOp × Place → List Token → Expression → List Token → Type 0 where
+    sides : {o : BinaryOp × Place} {s s1 s2 s3 s4 r : List Token} {a b : Expression} {p c d : Place} → Sees (sign OpenParenthesis) s p s1
+        → Level 0 s1 a s2 → Sees (sign Comma) s2 c s3 → Level 0 s3 b s4 → Sees (sign CloseParenthesis) s4 d r
+        → Sides o s (binary o.1 o.0 a b) r
 
   pub data Chain : List Token → Expression → List Token → Type 0 where
     this_chain : {s s1 r : List Token} {x : Expression} {p : Place} → Sees (key This) s p s1 → Tails (this p) s1 x r → Chain s x r

@@ -13,7 +13,7 @@ use Rattle.ca_tree.specs.declared.token.Sign.TheVariants.{Arrow, OpenBracket, Op
 use Rattle.ca_tree.specs.declared.tree.BinaryOp.{BinaryOp}
 use Rattle.ca_tree.specs.declared.tree.UnaryOp.{UnaryOp}
 use Rattle.ca_tree.specs.Codes.{same_key, same_sign}
-use Rattle.ca_tree.specs.Operators.{level, binary_of_sign, unary_of_sign}
+use Rattle.ca_tree.specs.Operators.{level, binary_of_sign, binary_of_word, unary_of_sign}
 use Rattle.ca_tree.specs.Plain.{Expression, truth, null}
 use Rattle.ca_tree.specs.Plain.{number as number_tree}
 
@@ -72,6 +72,11 @@ abbrev pub operator_of : ℕ → Kind → Place → Option (BinaryOp × Place)
 operator_of k (SignKind s) at = with_place at (of_level k (binary_of_sign s))
 operator_of k other at = None
 
+-- the operator that is written by a key word before its sides
+abbrev pub word_of : Kind → Place → Option (BinaryOp × Place)
+word_of (KeyKind w) at = with_place at (binary_of_word w)
+word_of other at = None
+
 -- whether a tail of a chain or the arguments of a call begin with the sign
 abbrev pub is_tail_sign : Sign → Bool
 is_tail_sign Arrow = true
@@ -116,6 +121,9 @@ unary_operator t = unary_of t.kind t.at
 
 abbrev pub operator : ℕ → Token → Option (BinaryOp × Place)
 operator k t = operator_of k t.kind t.at
+
+abbrev pub word_operator : Token → Option (BinaryOp × Place)
+word_operator t = word_of t.kind t.at
 
 -- what a tail begins with carries its place
 abbrev pub tail_front : Token → Option Place

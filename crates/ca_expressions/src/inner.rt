@@ -5,16 +5,16 @@ ghost use Rattle.ca_descent.specs.Exact.{Exact, Unlimited, Before};
 ghost use Rattle.ca_tree.specs.View.{expression_view};
 ghost use Rattle.ca_tree.specs.Operators.{unary_level};
 ghost use Rattle.ca_expressions.specs.Terminals.{sign, goes_on};
-ghost use Rattle.ca_expressions.specs.Grammar.{Level, Operands, Unary, Primary, Chain, Tails, Tail, Args};
+ghost use Rattle.ca_expressions.specs.Grammar.{Level, Operands, Unary, Primary, Sides, Chain, Tails, Tail, Args};
 ghost use Rattle.ca_expressions.specs.Readers.{answer, node_view, Closed};
 ghost use Rattle.ca_tree.specs.declared.token.Sign.TheVariants.{OpenParenthesis};
 
 use crate::nodes::{add, binary, boxed, field, index, method, node, unary};
 use crate::tokens::{
     Fault, is_sign, is_tail, key_at, literal_at, operator_at, sign_at, take_name, take_sign,
-    unary_at,
+    unary_at, word_at,
 };
-use ca_tree::{ExprKind, ExprNode, Keyword, LEVELS, Sign, Token};
+use ca_tree::{BinaryOp, ExprKind, ExprNode, Keyword, LEVELS, Place, Sign, Token};
 use std::alloc::Global;
 
 /// An expression whose operators outside of brackets are of the level or bind more tightly.
@@ -87,12 +87,35 @@ fn parse_primary<'a>(
         let literal = boxed(alloc, literal)?;
         return Ok((literal, rest));
     }
+    if let Some((found, rest)) = word_at(tokens) {
+        return parse_by_word(alloc, found, rest);
+    }
     let Some((_, rest)) = sign_at(tokens, Sign::OpenParenthesis) else {
         return parse_inner_chain(alloc, tokens);
     };
     let (inner, rest) = parse_level(alloc, 0, rest)?;
     let (_, rest) = take_sign(rest, Sign::CloseParenthesis)?;
     parse_tails(alloc, inner, rest)
+}
+
+/// The operator that is written by a key word, on its sides in round brackets.
+#[cycle(expression)]
+fn parse_by_word<'a>(
+    alloc: Global,
+    found: (BinaryOp, Place),
+    tokens: &'a [Token],
+) -> Result<(Box<ExprNode>, &'a [Token]), Fault<'a>>
+    ensures answer { Exact (Unlimited (Sides found)) (Unlimited (Sides found)) tokens.now (answer node_view result) }
+    ensures shorter { IfOk result (λ p. length p.1.now < length tokens.now) }
+{
+    let (_, rest) = take_sign(tokens, Sign::OpenParenthesis)?;
+    let (left, rest) = parse_level(alloc, 0, rest)?;
+    let (_, rest) = take_sign(rest, Sign::Comma)?;
+    let (right, rest) = parse_level(alloc, 0, rest)?;
+    let (_, rest) = take_sign(rest, Sign::CloseParenthesis)?;
+    let (op, at) = found;
+    let node = binary(alloc, op, at, left, right)?;
+    Ok((node, rest))
 }
 
 /// A chain within an expression or of its own.

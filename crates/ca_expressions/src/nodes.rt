@@ -44,7 +44,7 @@ pub fn unary(
     Ok(made)
 }
 
-/// The two expressions with the operator between them.
+/// The operator on the two expressions.
 pub fn binary(
     alloc: Global,
     op: BinaryOp,

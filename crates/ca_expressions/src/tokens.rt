@@ -3,7 +3,7 @@
 ghost use Rattle.std.specs.Prelude.{◌≡◌, ◌<◌, length, IfSome, IfNone, IfOk, None, is_some};
 ghost use Rattle.ca_descent.specs.Exact.{Unlimited, Exact, Sees, head_of};
 ghost use Rattle.ca_tree.specs.View.{expression_view};
-ghost use Rattle.ca_expressions.specs.Terminals.{key, sign, name, number, zero, tail_front, literal, unary_operator, operator};
+ghost use Rattle.ca_expressions.specs.Terminals.{key, sign, name, number, zero, tail_front, literal, unary_operator, operator, word_operator};
 ghost use Rattle.ca_expressions.specs.Readers.{answer};
 ghost use Rattle.ca_expressions.specs.declared.tokens.Fault.TheVariants.{Memory};
 
@@ -178,6 +178,24 @@ pub fn unary_at(tokens: &[Token]) -> Option<((UnaryOp, Place), &[Token])>
         return Some(((UnaryOp::Not, at), rest));
     }
     None
+}
+
+/// The operator in front that is written by a key word, with its place, and what stands behind it.
+pub fn word_at(tokens: &[Token]) -> Option<((BinaryOp, Place), &[Token])>
+    ensures some { IfSome result (λ p. Sees word_operator tokens.now p.0 p.1.now) }
+    ensures none { IfNone result (head_of word_operator tokens.now ≡ None) }
+    ensures shorter { IfSome result (λ p. length p.1.now < length tokens.now) }
+{
+    let [token, rest @ ..] = tokens else {
+        return None;
+    };
+    let Kind::Key(word) = &token.kind else {
+        return None;
+    };
+    let Some(op) = word.binary() else {
+        return None;
+    };
+    Some(((op, token.at), rest))
 }
 
 /// The binary operator of the level in front with its place, and what stands behind it.

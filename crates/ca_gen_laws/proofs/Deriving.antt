@@ -1,25 +1,35 @@
 -- Derivations of short expressions.
-use Rattle.std.proofs.Common.{ℕ, ◌≤◌, List, ◌∷◌, ◌++◌, length, refl, arith, inl}
+use Rattle.std.proofs.Common.{◌≡◌, ℕ, zero, suc, ◌+◌, ◌≤◌, List, ◌∷◌, ◌++◌, length, refl, subst, arith, inl}
 use Rattle.std.specs.Prelude.{ℤ}
 use Rattle.ca_descent.specs.Exact.{sees, Short}
 use Rattle.ca_tree.specs.declared.name.Place.{Place}
 use Rattle.ca_tree.specs.declared.token.Kind.TheVariants.{Word, Number}
 use Rattle.ca_tree.specs.declared.token.Token.{Token}
+use Rattle.ca_tree.specs.declared.tree.BinaryOp.TheVariants.{Less, Plus, Times}
+use Rattle.ca_tree.specs.declared.operators.TheConstants.{LEVELS}
+use Rattle.ca_tree.specs.Operators.{level}
 use Rattle.ca_tree.specs.Plain.{Expression, number, named}
 use Rattle.ca_expressions.specs.Grammar.{Level, operands, one_operand, operands_end, Unary, unary_last, a_literal, a_chain, Chain, name_chain, tails_end}
 
+-- an expression of a level is one operand of each weaker level
+weakest : {s r : List Token} {x : Expression} (k : ℕ) → k ≤ LEVELS → Level k s x r → Level 0 s x r
+weakest zero h d = d
+weakest {s} {r} {x} (suc k) h d =
+    let e : suc k ≡ k + 1 = omega arith in
+    weakest k (omega (arith, h)) (operands (omega (arith, h)) (subst (λ n. Level n s x r) e d) operands_end)
+
 -- an expression without binary operators, at the level of a sum's operands, of a comparison's, and of all
-pub a_factor : {s r : List Token} {x : Expression} → Unary s x r → Level 5 s x r
+pub a_factor : {s r : List Token} {x : Expression} → Unary s x r → Level (level Times) s x r
 a_factor d = operands (omega arith) (one_operand (omega arith) d) operands_end
 
-pub a_summand : {s r : List Token} {x : Expression} → Unary s x r → Level 4 s x r
+pub a_summand : {s r : List Token} {x : Expression} → Unary s x r → Level (level Plus) s x r
 a_summand d = operands (omega arith) (a_factor d) operands_end
 
-pub from_sum : {s r : List Token} {x : Expression} → Level 4 s x r → Level 0 s x r
-from_sum d = operands (omega arith) (operands (omega arith) (operands (omega arith) (operands (omega arith) d operands_end) operands_end) operands_end) operands_end
+pub from_sum : {s r : List Token} {x : Expression} → Level (level Plus) s x r → Level 0 s x r
+from_sum d = weakest (level Plus) (omega arith) d
 
-pub from_comparison : {s r : List Token} {x : Expression} → Level 3 s x r → Level 0 s x r
-from_comparison d = operands (omega arith) (operands (omega arith) (operands (omega arith) d operands_end) operands_end) operands_end
+pub from_comparison : {s r : List Token} {x : Expression} → Level (level Less) s x r → Level 0 s x r
+from_comparison d = weakest (level Less) (omega arith) d
 
 pub alone : {s r : List Token} {x : Expression} → Unary s x r → Level 0 s x r
 alone d = from_sum (a_summand d)

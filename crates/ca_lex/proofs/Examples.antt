@@ -30,9 +30,50 @@ equal : piece_of (codes "===") ≡ token_of 2 (kind.Sign sign.Equal)
 unfolding piece_of
 equal = refl
 
-lone_ampersand : piece_of (codes "& &") ≡ refused
+-- The longest sign is taken from the left: signs of one byte come only where no sign of two begins.
+lone_ampersand : piece_of (codes "& &") ≡ token_of 1 (kind.Sign sign.BitAnd)
 unfolding piece_of
 lone_ampersand = refl
+
+lone_bar : piece_of (codes "|x") ≡ token_of 1 (kind.Sign sign.BitOr)
+unfolding piece_of
+lone_bar = refl
+
+lone_caret : piece_of (codes "^^") ≡ token_of 1 (kind.Sign sign.BitXor)
+unfolding piece_of
+lone_caret = refl
+
+three_ampersands : piece_of (codes "&&&") ≡ token_of 2 (kind.Sign sign.And)
+unfolding piece_of
+three_ampersands = refl
+
+and_before_assign : piece_of (codes "&&=") ≡ token_of 2 (kind.Sign sign.And)
+unfolding piece_of
+and_before_assign = refl
+
+and_assign : piece_of (codes "&=") ≡ token_of 2 (kind.Sign sign.BitAndAssign)
+unfolding piece_of
+and_assign = refl
+
+bars : piece_of (codes "||") ≡ token_of 2 (kind.Sign sign.Or)
+unfolding piece_of
+bars = refl
+
+or_assign : piece_of (codes "|=") ≡ token_of 2 (kind.Sign sign.BitOrAssign)
+unfolding piece_of
+or_assign = refl
+
+xor_assign : piece_of (codes "^=") ≡ token_of 2 (kind.Sign sign.BitXorAssign)
+unfolding piece_of
+xor_assign = refl
+
+operator_word : piece_of (codes "max(") ≡ token_of 3 (kind.Key key.Max)
+unfolding piece_of
+operator_word = refl
+
+longer_than_operator_word : piece_of (codes "min_of") ≡ token_of 6 (kind.Word (codes "min_of"))
+unfolding piece_of
+longer_than_operator_word = refl
 
 zero_alone : piece_of (codes "0;") ≡ token_of 1 (kind.Number (pos 0))
 unfolding piece_of
@@ -75,6 +116,13 @@ two_tokens : Tokens (codes "x//\n/**/ +")
     ∷ [])
 unfolding piece_of
 two_tokens = token refl (comment refl (blank refl (comment refl (blank refl (token refl at_end)))))
+
+three_ampersands_are_two_signs : Tokens (codes "&&&")
+    (record { kind = kind.Sign sign.And; at = record { line = 1; column = 1 }; start = 0; len = 2 }
+    ∷ record { kind = kind.Sign sign.BitAnd; at = record { line = 1; column = 3 }; start = 2; len = 1 }
+    ∷ [])
+unfolding piece_of
+three_ampersands_are_two_signs = token refl (token refl at_end)
 
 letter_refused : LexFault (codes ";\n 12a") (record { line = 2; column = 4 }) bad_byte
 unfolding piece_of

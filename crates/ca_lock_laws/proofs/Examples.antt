@@ -1,6 +1,6 @@
 -- Worked examples of paths and of the lock discipline, in an extent that writes `sum` alone.
 use Rattle.std.proofs.Common.{◌≡◌, List, [], ◌∷◌, refl, subst}
-use Rattle.std.specs.Prelude.{Bool, true, Option, Some, None, pos, Contains}
+use Rattle.std.specs.Prelude.{Bool, true, Some, None, pos, Contains}
 use Rattle.ca_tree.specs.declared.name.Place.{Place}
 use Rattle.ca_tree.specs.declared.tree.AssignOp.TheVariants.{Put, Add}
 use Rattle.ca_tree.specs.declared.tree.BinaryOp.TheVariants.{NotEqual, Less, Plus}

@@ -4,8 +4,9 @@ use Rattle.std.specs.Prelude.{count_by}
 use Rattle.std.specs.Int.{int_wrap}
 use Rattle.std.specs.Fmt.{digits}
 use Rattle.ca_tree.specs.declared.tree.AssignOp.TheVariants.{Put, Add, Sub, Mul}
+use Rattle.ca_tree.specs.declared.tree.AssignOp.TheVariants as change
 use Rattle.ca_tree.specs.declared.tree.UnaryOp.TheVariants as sign
-use Rattle.ca_tree.specs.declared.tree.BinaryOp.TheVariants.{Or, And, Equal, NotEqual, Less, LessEqual, Plus, Minus, Times, Divide, Remainder}
+use Rattle.ca_tree.specs.declared.tree.BinaryOp.TheVariants.{Or, And, Equal, NotEqual, Less, LessEqual, Plus, Minus, Times, Divide, Remainder, BitAnd, BitOr, BitXor, Max, Min}
 use Rattle.ca_program.specs.declared.program.ValueType.TheVariants.{Long as LongType, Pointer}
 use Rattle.ca_program.specs.declared.program.ClassId.{ClassId}
 use Rattle.ca_program.specs.declared.program.FieldId.{FieldId}
@@ -91,6 +92,37 @@ other_object = refl
 mixed : operated Plus (Truth true) (Truth true) ≡ Ok Null
 mixed = refl
 
+-- 6 & 3, 6 | 3 and 6 ^ 3
+common_bits : operated BitAnd (Long (pos 6)) (Long (pos 3)) ≡ Ok (Long (pos 2))
+common_bits = refl
+
+bits_of_either : operated BitOr (Long (pos 6)) (Long (pos 3)) ≡ Ok (Long (pos 7))
+bits_of_either = refl
+
+bits_of_one : operated BitXor (Long (pos 6)) (Long (pos 3)) ≡ Ok (Long (pos 5))
+bits_of_one = refl
+
+-- -1 has all 64 bits
+minus_one_and_zero : operated BitXor (Long (negsuc 0)) (Long (pos 0)) ≡ Ok (Long (negsuc 0))
+minus_one_and_zero = refl
+
+last_bit : operated BitAnd (Long (negsuc 0)) (Long (pos 9223372036854775807)) ≡ Ok (Long (pos 9223372036854775807))
+last_bit = refl
+
+first_bit : operated BitXor (Long (negsuc 9223372036854775807)) (Long (pos 9223372036854775807)) ≡ Ok (Long (negsuc 0))
+first_bit = refl
+
+-- max(-1, 2) and min(-1, 2), of signed numbers
+greater : operated Max (Long (negsuc 0)) (Long (pos 2)) ≡ Ok (Long (pos 2))
+greater = refl
+
+lesser : operated Min (Long (negsuc 0)) (Long (pos 2)) ≡ Ok (Long (negsuc 0))
+lesser = refl
+
+-- and no typed program takes the bits of truth values
+bits_of_truth_values : operated BitAnd (Truth true) (Truth true) ≡ Ok Null
+bits_of_truth_values = refl
+
 takes_three : assigned Sub (Long (pos 5)) (Long (pos 3)) ≡ Long (pos 2)
 unfolding int_wrap
 takes_three = refl
@@ -98,6 +130,16 @@ takes_three = refl
 times_three : assigned Mul (Long (pos 5)) (Long (pos 3)) ≡ Long (pos 15)
 unfolding int_wrap
 times_three = refl
+
+-- from 6, by &= 3, |= 3 and ^= 3
+and_three : assigned change.BitAnd (Long (pos 6)) (Long (pos 3)) ≡ Long (pos 2)
+and_three = refl
+
+or_three : assigned change.BitOr (Long (pos 6)) (Long (pos 3)) ≡ Long (pos 7)
+or_three = refl
+
+exclusive_or_three : assigned change.BitXor (Long (pos 6)) (Long (pos 3)) ≡ Long (pos 5)
+exclusive_or_three = refl
 
 -- ---- the order of evaluation
 
@@ -129,6 +171,16 @@ left_first k = refl
 
 right_next : (k : ℕ) → value_in [] [] Null 4 [] (binary Plus bad behind_null) k ≡ traps (trap_at 4 ZeroDivisor)
 right_next k = refl
+
+-- 1 | 6 & 3, and max(1, 1 / 0): both sides are evaluated, without a step
+bits_of_a_tree : (k : ℕ) → value_in [] [] Null 4 [] (binary BitOr (number (pos 1)) (binary BitAnd (number (pos 6)) (number (pos 3)))) k ≡ gives (Long (pos 3)) k
+bits_of_a_tree k = refl
+
+both_sides : (k : ℕ) → value_in [] [] Null 4 [] (binary Max (number (pos 1)) bad) k ≡ traps (trap_at 4 ZeroDivisor)
+both_sides k = refl
+
+first_side_first : (k : ℕ) → value_in [] [] Null 4 [] (binary Min behind_null bad) k ≡ traps (trap_at 4 NullPointer)
+first_side_first k = refl
 
 -- null->a[1 / 0]: the pointer is checked before the index is evaluated
 pointer_before_index : (k : ℕ) → value_in [] [] Null 4 [] (read_item null (record { class = record { 0 = 0 }; field = 1 }) bad) k ≡ traps (trap_at 4 NullPointer)

@@ -1,13 +1,15 @@
 -- What the operators do with values. Numbers have 64 bits and wrap round; a quotient is rounded toward
--- zero, and a remainder has the sign of the dividend. What no typed program asks for is null.
+-- zero, and a remainder has the sign of the dividend. `&`, `|` and `^` work on the bits of two's complement, and
+-- `max` and `min` give the greater and the lesser signed number. What no typed program asks for is null.
 use Rattle.std.specs.Prelude.{◌≡◌, zero, suc, Bool, true, false, cond, eqb, ℤ, pos, negsuc, ◌+ℤ◌, ◌-ℤ◌, ◌*ℤ◌, neg_ℤ, int_lt, int_rem, Result, Ok, Err}
-use Rattle.std.specs.Int.{int_wrap, int_wrapping_div, w64}
+use Rattle.std.specs.Int.{int_wrap, int_wrapping_div, int_bit_and, int_bit_or, int_bit_xor, int_max, int_min, w64}
 use Rattle.ca_tree.specs.declared.tree.AssignOp.{AssignOp}
 use Rattle.ca_tree.specs.declared.tree.AssignOp.TheVariants.{Put, Add, Sub, Mul}
+use Rattle.ca_tree.specs.declared.tree.AssignOp.TheVariants as change
 use Rattle.ca_tree.specs.declared.tree.UnaryOp.{UnaryOp}
 use Rattle.ca_tree.specs.declared.tree.UnaryOp.TheVariants as sign
 use Rattle.ca_tree.specs.declared.tree.BinaryOp.{BinaryOp}
-use Rattle.ca_tree.specs.declared.tree.BinaryOp.TheVariants.{Or, And, Equal, NotEqual, Less, Greater, LessEqual, GreaterEqual, Plus, Minus, Times, Divide, Remainder}
+use Rattle.ca_tree.specs.declared.tree.BinaryOp.TheVariants.{Or, And, Equal, NotEqual, Less, Greater, LessEqual, GreaterEqual, Plus, Minus, Times, Divide, Remainder, BitAnd, BitOr, BitXor, Max, Min}
 use Rattle.ca_model.specs.declared.value.Value.{Value as Datum}
 use Rattle.ca_model.specs.declared.value.Value.TheVariants.{Long, Bool as Truth, Null, Ref}
 use Rattle.ca_model.specs.declared.value.TrapKind.{TrapKind}
@@ -64,6 +66,11 @@ operated_longs Equal a b = Ok (Truth (same_int a b))
 operated_longs NotEqual a b = Ok (Truth (not_of (same_int a b)))
 operated_longs And a b = Ok Null
 operated_longs Or a b = Ok Null
+operated_longs BitAnd a b = Ok (Long (int_bit_and w64 a b))
+operated_longs BitOr a b = Ok (Long (int_bit_or w64 a b))
+operated_longs BitXor a b = Ok (Long (int_bit_xor w64 a b))
+operated_longs Max a b = Ok (Long (int_max a b))
+operated_longs Min a b = Ok (Long (int_min a b))
 
 abbrev pub operated_truths : BinaryOp → Bool → Bool → Datum
 operated_truths And a b = Truth (both a b)
@@ -94,6 +101,9 @@ assigned_longs Put old right = right
 assigned_longs Add old right = int_wrap w64 (old +ℤ right)
 assigned_longs Sub old right = int_wrap w64 (old -ℤ right)
 assigned_longs Mul old right = int_wrap w64 (old *ℤ right)
+assigned_longs change.BitAnd old right = int_bit_and w64 old right
+assigned_longs change.BitOr old right = int_bit_or w64 old right
+assigned_longs change.BitXor old right = int_bit_xor w64 old right
 
 abbrev pub assigned_others : AssignOp → Datum → Datum
 assigned_others Put right = right

@@ -5,10 +5,11 @@ use Rattle.std.specs.Int.{w64}
 pub use Rattle.ca_program.specs.Fields.{field_info}
 use Rattle.ca_tree.specs.declared.tree.AssignOp.{AssignOp}
 use Rattle.ca_tree.specs.declared.tree.AssignOp.TheVariants.{Put, Add, Sub, Mul}
+use Rattle.ca_tree.specs.declared.tree.AssignOp.TheVariants as change
 use Rattle.ca_tree.specs.declared.tree.UnaryOp.{UnaryOp}
 use Rattle.ca_tree.specs.declared.tree.UnaryOp.TheVariants as sign
 use Rattle.ca_tree.specs.declared.tree.BinaryOp.{BinaryOp}
-use Rattle.ca_tree.specs.declared.tree.BinaryOp.TheVariants.{Or, And, Equal, NotEqual, Less, Greater, LessEqual, GreaterEqual, Plus, Minus, Times, Divide, Remainder}
+use Rattle.ca_tree.specs.declared.tree.BinaryOp.TheVariants.{Or, And, Equal, NotEqual, Less, Greater, LessEqual, GreaterEqual, Plus, Minus, Times, Divide, Remainder, BitAnd, BitOr, BitXor, Max, Min}
 use Rattle.ca_program.specs.declared.program.ClassId.{ClassId}
 use Rattle.ca_program.specs.declared.program.FieldId.{FieldId}
 use Rattle.ca_program.specs.declared.program.FieldInfo.{FieldInfo}
@@ -49,6 +50,11 @@ SidesTyped Minus side ty = (side ≡ Long) × (ty ≡ Long)
 SidesTyped Times side ty = (side ≡ Long) × (ty ≡ Long)
 SidesTyped Divide side ty = (side ≡ Long) × (ty ≡ Long)
 SidesTyped Remainder side ty = (side ≡ Long) × (ty ≡ Long)
+SidesTyped BitAnd side ty = (side ≡ Long) × (ty ≡ Long)
+SidesTyped BitOr side ty = (side ≡ Long) × (ty ≡ Long)
+SidesTyped BitXor side ty = (side ≡ Long) × (ty ≡ Long)
+SidesTyped Max side ty = (side ≡ Long) × (ty ≡ Long)
+SidesTyped Min side ty = (side ≡ Long) × (ty ≡ Long)
 
 abbrev pub signed_type : UnaryOp → ValueType
 signed_type sign.Minus = Long
@@ -94,6 +100,9 @@ AssignTyped Put ty = Unit {0}
 AssignTyped Add ty = ty ≡ Long
 AssignTyped Sub ty = ty ≡ Long
 AssignTyped Mul ty = ty ≡ Long
+AssignTyped change.BitAnd ty = ty ≡ Long
+AssignTyped change.BitOr ty = ty ≡ Long
+AssignTyped change.BitXor ty = ty ≡ Long
 
 -- the right side of an assignment to a target of the type
 abbrev pub RightTyped : PlainProgram → Scope → AssignOp → Expression → ValueType → Type 0

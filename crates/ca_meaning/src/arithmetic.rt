@@ -50,6 +50,11 @@ fn operate_longs(op: BinaryOp, a: i64, b: i64) -> Result<Value, TrapKind>
         BinaryOp::Equal => Ok(Value::Bool(a == b)),
         BinaryOp::NotEqual => Ok(Value::Bool(a != b)),
         BinaryOp::And | BinaryOp::Or => Ok(Value::Null),
+        BinaryOp::BitAnd => Ok(Value::Long(a & b)),
+        BinaryOp::BitOr => Ok(Value::Long(a | b)),
+        BinaryOp::BitXor => Ok(Value::Long(a ^ b)),
+        BinaryOp::Max => Ok(Value::Long(a.max(b))),
+        BinaryOp::Min => Ok(Value::Long(a.min(b))),
     }
 }
 
@@ -104,6 +109,9 @@ fn assign_longs(op: AssignOp, old: i64, right: i64) -> i64
         AssignOp::Add => old.wrapping_add(right),
         AssignOp::Sub => old.wrapping_sub(right),
         AssignOp::Mul => old.wrapping_mul(right),
+        AssignOp::BitAnd => old & right,
+        AssignOp::BitOr => old | right,
+        AssignOp::BitXor => old ^ right,
     }
 }
 

@@ -1,14 +1,15 @@
 -- The types of values: of what operators give, of locals, and of what slots hold.
 use Rattle.std.proofs.Common.{◌≡◌, ℕ, zero, suc, List, [], ◌∷◌, ◌++◌, length, map, take, drop, Option, Some, None, Result, Ok, Err, refl, ap, sym, subst, ◌∙◌, arith, Bool, true, false, ℤ, pos, negsuc, ◌+ℤ◌, ◌-ℤ◌, ◌*ℤ◌, length-set, inl, inr, neg_ℤ}
-use Rattle.std.specs.Prelude.{slice_get, slice_set, FitsSigned, replicate, int_rem, int_div, ◌⊎◌, IsSome}
-use Rattle.std.specs.Int.{w64, cast_signed, cast_unsigned}
+use Rattle.std.specs.Prelude.{slice_get, slice_set, FitsSigned, replicate, int_rem, int_div, int_lt, bit_and, bit_or, bit_xor, cond, ◌⊎◌, IsSome}
+use Rattle.std.specs.Int.{w64, cast_signed, cast_unsigned, int_bit_and, int_bit_or, int_bit_xor}
 use Rattle.std.proofs.lemmas.Int.{SFits-int_wrap, fits_signed_from_abs, rem_below, ints}
 use Rattle.ca_tree.specs.declared.tree.AssignOp.{AssignOp}
 use Rattle.ca_tree.specs.declared.tree.AssignOp.TheVariants.{Put, Add, Sub, Mul}
+use Rattle.ca_tree.specs.declared.tree.AssignOp.TheVariants as change
 use Rattle.ca_tree.specs.declared.tree.UnaryOp.{UnaryOp}
 use Rattle.ca_tree.specs.declared.tree.UnaryOp.TheVariants as sign
 use Rattle.ca_tree.specs.declared.tree.BinaryOp.{BinaryOp}
-use Rattle.ca_tree.specs.declared.tree.BinaryOp.TheVariants.{Or, And, Equal, NotEqual, Less, Greater, LessEqual, GreaterEqual, Plus, Minus, Times, Divide, Remainder}
+use Rattle.ca_tree.specs.declared.tree.BinaryOp.TheVariants.{Or, And, Equal, NotEqual, Less, Greater, LessEqual, GreaterEqual, Plus, Minus, Times, Divide, Remainder, BitAnd, BitOr, BitXor, Max, Min}
 use Rattle.ca_program.specs.declared.program.ClassId.{ClassId}
 use Rattle.ca_program.specs.declared.program.FieldInfo.{FieldInfo}
 use Rattle.ca_program.specs.declared.program.ValueType.{ValueType}
@@ -33,6 +34,20 @@ use Rattle.ca_meaning_laws.specs.Typed.{Yields, yields, yields_trap}
 
 cast_fits : (n : ℕ) → FitsSigned w64 (cast_signed w64 n)
 cast_fits n = omega (arith, ints)
+
+and_fits : (a b : ℤ) → FitsSigned w64 (int_bit_and w64 a b)
+and_fits a b = cast_fits (bit_and (cast_unsigned w64 a) (cast_unsigned w64 b))
+
+or_fits : (a b : ℤ) → FitsSigned w64 (int_bit_or w64 a b)
+or_fits a b = cast_fits (bit_or (cast_unsigned w64 a) (cast_unsigned w64 b))
+
+xor_fits : (a b : ℤ) → FitsSigned w64 (int_bit_xor w64 a b)
+xor_fits a b = cast_fits (bit_xor (cast_unsigned w64 a) (cast_unsigned w64 b))
+
+-- one of two numbers that fit
+one_fits : (c : Bool) (a b : ℤ) → FitsSigned w64 a → FitsSigned w64 b → FitsSigned w64 (cond c a b)
+one_fits true a b f g = f
+one_fits false a b f g = g
 
 rem_fits : (a b : ℤ) → FitsSigned w64 b → is_zero b ≡ false → FitsSigned w64 (int_rem a b)
 rem_fits a (pos zero) f z = cc
@@ -72,6 +87,11 @@ longs_typed h Minus a b ty f g t = rw t.1 (SFits-int_wrap w64 (a -ℤ b))
 longs_typed h Times a b ty f g t = rw t.1 (SFits-int_wrap w64 (a *ℤ b))
 longs_typed h Divide a b ty f g t = rw t.1 (divided_typed h Divide a b g (inl refl))
 longs_typed h Remainder a b ty f g t = rw t.1 (divided_typed h Remainder a b g (inr refl))
+longs_typed h BitAnd a b ty f g t = rw t.1 (and_fits a b)
+longs_typed h BitOr a b ty f g t = rw t.1 (or_fits a b)
+longs_typed h BitXor a b ty f g t = rw t.1 (xor_fits a b)
+longs_typed h Max a b ty f g t = rw t.1 (one_fits (int_lt b a) a b f g)
+longs_typed h Min a b ty f g t = rw t.1 (one_fits (int_lt b a) b a g f)
 
 truths_typed : (h : List Object) (op : BinaryOp) (a b : Bool) (ty : ValueType) → SidesTyped op BoolType ty → HasType h (operated_truths op a b) ty
 truths_typed h Or a b ty t = rw t.1 tt
@@ -87,6 +107,11 @@ truths_typed h Minus a b ty t = let e : BoolType ≡ LongType = t.0 in cc
 truths_typed h Times a b ty t = let e : BoolType ≡ LongType = t.0 in cc
 truths_typed h Divide a b ty t = let e : BoolType ≡ LongType = t.0 in cc
 truths_typed h Remainder a b ty t = let e : BoolType ≡ LongType = t.0 in cc
+truths_typed h BitAnd a b ty t = let e : BoolType ≡ LongType = t.0 in cc
+truths_typed h BitOr a b ty t = let e : BoolType ≡ LongType = t.0 in cc
+truths_typed h BitXor a b ty t = let e : BoolType ≡ LongType = t.0 in cc
+truths_typed h Max a b ty t = let e : BoolType ≡ LongType = t.0 in cc
+truths_typed h Min a b ty t = let e : BoolType ≡ LongType = t.0 in cc
 
 pointers_typed : (h : List Object) (op : BinaryOp) (v w : Datum) (c : ClassId) (ty : ValueType) → SidesTyped op (Pointer c) ty → HasType h (operated_others op v w) ty
 pointers_typed h Or v w c ty t = let e : Pointer c ≡ BoolType = t.0 in cc
@@ -102,6 +127,11 @@ pointers_typed h Minus v w c ty t = let e : Pointer c ≡ LongType = t.0 in cc
 pointers_typed h Times v w c ty t = let e : Pointer c ≡ LongType = t.0 in cc
 pointers_typed h Divide v w c ty t = let e : Pointer c ≡ LongType = t.0 in cc
 pointers_typed h Remainder v w c ty t = let e : Pointer c ≡ LongType = t.0 in cc
+pointers_typed h BitAnd v w c ty t = let e : Pointer c ≡ LongType = t.0 in cc
+pointers_typed h BitOr v w c ty t = let e : Pointer c ≡ LongType = t.0 in cc
+pointers_typed h BitXor v w c ty t = let e : Pointer c ≡ LongType = t.0 in cc
+pointers_typed h Max v w c ty t = let e : Pointer c ≡ LongType = t.0 in cc
+pointers_typed h Min v w c ty t = let e : Pointer c ≡ LongType = t.0 in cc
 
 operated_typed : (h : List Object) (op : BinaryOp) (v w : Datum) (side ty : ValueType) → SidesTyped op side ty → HasType h v side → HasType h w side → ResultTyped h (operated op v w) ty
 operated_typed h op (Long a) (Long b) LongType ty t hv hw = longs_typed h op a b ty hv hw t
@@ -158,6 +188,11 @@ decided_typed h Minus v side ty t = tt
 decided_typed h Times v side ty t = tt
 decided_typed h Divide v side ty t = tt
 decided_typed h Remainder v side ty t = tt
+decided_typed h BitAnd v side ty t = tt
+decided_typed h BitOr v side ty t = tt
+decided_typed h BitXor v side ty t = tt
+decided_typed h Max v side ty t = tt
+decided_typed h Min v side ty t = tt
 
 unless_of : (h : List Object) (d : Option Datum) (k : ℕ) (o : Out Datum) (ty : ValueType) → OptionTyped h d ty → Yields (λ v. HasType h v ty) o → Yields (λ v. HasType h v ty) (unless_decided d k o)
 unless_of h (Some v) k o ty t y = yields v k t
@@ -190,6 +225,9 @@ assigned_fits Put a b f = f
 assigned_fits Add a b f = SFits-int_wrap w64 (a +ℤ b)
 assigned_fits Sub a b f = SFits-int_wrap w64 (a -ℤ b)
 assigned_fits Mul a b f = SFits-int_wrap w64 (a *ℤ b)
+assigned_fits change.BitAnd a b f = and_fits a b
+assigned_fits change.BitOr a b f = or_fits a b
+assigned_fits change.BitXor a b f = xor_fits a b
 
 numbers_assigned : (h : List Object) (op : AssignOp) (old v : Datum) → HasType h old LongType → HasType h v LongType → HasType h (assigned op old v) LongType
 numbers_assigned h op (Long a) (Long b) ho hv = assigned_fits op a b hv
@@ -209,6 +247,9 @@ assigned_typed h Put old v ty t ho hv = rw (put_is old v) hv
 assigned_typed h Add old v ty t ho hv = compound_typed h Add old v ty t ho hv
 assigned_typed h Sub old v ty t ho hv = compound_typed h Sub old v ty t ho hv
 assigned_typed h Mul old v ty t ho hv = compound_typed h Mul old v ty t ho hv
+assigned_typed h change.BitAnd old v ty t ho hv = compound_typed h change.BitAnd old v ty t ho hv
+assigned_typed h change.BitOr old v ty t ho hv = compound_typed h change.BitOr old v ty t ho hv
+assigned_typed h change.BitXor old v ty t ho hv = compound_typed h change.BitXor old v ty t ho hv
 
 -- ---- locals
 

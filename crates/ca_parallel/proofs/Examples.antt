@@ -3,7 +3,7 @@ use Rattle.std.proofs.Common.{◌≡◌, ◌≢◌, ℕ, zero, suc, true, false,
 use Rattle.std.specs.Prelude.{pos, Contains}
 use Rattle.ca_tree.specs.declared.tree.AssignOp.TheVariants.{Put, Add}
 use Rattle.ca_tree.specs.declared.tree.UnaryOp.TheVariants as sign
-use Rattle.ca_tree.specs.declared.tree.BinaryOp.TheVariants.{NotEqual, Less, Plus, Divide, Remainder}
+use Rattle.ca_tree.specs.declared.tree.BinaryOp.TheVariants.{NotEqual, Less, Plus, Divide, Remainder, BitXor, Max}
 use Rattle.ca_program.specs.declared.program.ClassId.{ClassId}
 use Rattle.ca_program.specs.declared.program.FieldId.{FieldId}
 use Rattle.ca_program.specs.declared.program.LocalId.{LocalId}
@@ -220,6 +220,13 @@ by_sum p s = s.0
 
 by_constant : (p : PlainProgram) → ¬ IsClean p written false (binary Divide (own sum_field) (own base_field))
 by_constant p s = s.0
+
+-- n ^ p and max(n, n / p): these operators ask nothing of their right sides, but divisions in them do
+by_any_bits : (p : PlainProgram) → IsClean p written false (binary BitXor (own sum_field) parameter)
+by_any_bits p = (tt, tt, tt)
+
+division_in_a_side : (p : PlainProgram) → ¬ IsClean p written false (binary Max (own sum_field) (binary Divide (own sum_field) parameter))
+division_in_a_side p s = s.2.0
 
 -- a division that stands in an index, under an operator
 division_inside : (p : PlainProgram) → ¬ IsClean p written false (binary Plus (number (pos 1)) (own_item seen_field (binary Remainder (number (pos 7)) parameter)))

@@ -1,19 +1,21 @@
 -- The rules of types, locals and assignments as their parts.
 use Rattle.std.proofs.Common.{◌≡◌, ℕ, pos, List, [], ◌∷◌, Bool, true, false, cond, Option, Some, None, refl, ◌∙◌, subst}
+use Rattle.std.specs.Prelude.{is_some}
 use Rattle.ca_descent.specs.Exact.{Answer, Exact, Sees, sees, head_of, Seen, Unseen, Before}
 use Rattle.ca_descent.proofs.Exact.{seen, unseen, exact_map, sees_head}
 use Rattle.ca_descent.proofs.Parts.{then, upto, done, Part, ◌⨾◌, finish, default_of}
 use Rattle.ca_tree.specs.declared.name.Place.{Place}
 use Rattle.ca_tree.specs.declared.token.Token.{Token}
-use Rattle.ca_tree.specs.declared.token.Kind.TheVariants.{Sign as SignKind}
+use Rattle.ca_tree.specs.declared.token.Kind.TheVariants.{Key as KeyKind, Sign as SignKind}
 use Rattle.ca_tree.specs.declared.token.Sign.{Sign}
+use Rattle.ca_tree.specs.declared.token.Keyword.{Keyword}
 use Rattle.ca_tree.specs.declared.token.Keyword.TheVariants.{Long as LongKey, Bool as BoolKey, New}
 use Rattle.ca_tree.specs.declared.token.Sign.TheVariants.{OpenParenthesis, CloseParenthesis, Semicolon, Assign as AssignSign, Times, Increment, Decrement}
 use Rattle.ca_tree.specs.declared.tree.TypeNode.{TypeNode}
 use Rattle.ca_tree.specs.declared.tree.TypeNode.TheVariants.{Long, Bool as BoolType, Pointer}
 use Rattle.ca_tree.specs.declared.tree.AssignOp.{AssignOp}
 use Rattle.ca_tree.specs.declared.tree.AssignOp.TheVariants.{Put, Add, Sub}
-use Rattle.ca_tree.specs.Operators.{unary_level}
+use Rattle.ca_tree.specs.Operators.{unary_level, binary_of_word}
 use Rattle.ca_tree.specs.Plain.{Expression, RightSide, Statement, number as number_tree, value, new, local, assign}
 use Rattle.ca_expressions.specs.Terminals.{key, key_of, sign, sign_of, goes_on, goes_on_of}
 use Rattle.ca_expressions.specs.Grammar.{OuterExpression, is_target}
@@ -131,6 +133,11 @@ no_bracket (t ∷ s) h = at (sign OpenParenthesis t) refl
     at (Some p) e = let d : Sees (sign OpenParenthesis) (t ∷ s) p s = sees e in
         let f = sign_gives (goes_on_of 0) OpenParenthesis d in let g : goes_on 0 t ≡ None = h in absurd cc
 
+-- `new` writes no operator
+no_new : (w : Keyword) (at : Place) → is_some (binary_of_word w) ≡ true → key_of New (KeyKind w) at ≡ None
+no_new New at h = absurd cc
+no_new other at h = refl
+
 -- no expression begins with `new`
 pub expression_not_new : (free : ℕ) (s r : List Token) (x : Expression) → OuterExpression free s x r → head_of (key New) s ≡ None
 expression_not_new = expression_begins (key_of New) (record {
@@ -143,6 +150,7 @@ expression_not_new = expression_begins (key_of New) (record {
   minus = λ at. refl;
   negation = λ at. refl;
   bracket = λ at. refl;
+  by_word = no_new;
 })
 
 abbrev pub creation_parts : Part Token RightSide

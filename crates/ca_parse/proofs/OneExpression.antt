@@ -12,13 +12,13 @@ use Rattle.ca_tree.specs.declared.tree.BinaryOp.{BinaryOp}
 use Rattle.ca_tree.specs.declared.operators.TheConstants.{LEVELS}
 use Rattle.ca_tree.specs.Operators.{unary_level}
 use Rattle.ca_tree.specs.Plain.{Expression}
-use Rattle.ca_expressions.specs.Terminals.{key, key_of, sign, sign_of, goes_on, goes_on_of, literal, unary_operator, operator, tail_front, tail_of}
-use Rattle.ca_expressions.specs.Grammar.{Level, operands, one_operand, Operands, operands_end, operands_more, Unary, unary_first, unary_last, Primary, a_literal, a_chain, in_brackets, Chain, this_chain, name_chain, call_chain, Tails, tails_end, tails_more, Tail, field_tail, method_tail, index_tail, Args, args, Listed, listed_none, listed, Further, further_none, further, Expr, OuterExpression, ExpressionEnded, OuterChain, ChainEnded}
+use Rattle.ca_expressions.specs.Terminals.{key, key_of, sign, sign_of, goes_on, goes_on_of, literal, unary_operator, operator, word_operator, tail_front, tail_of}
+use Rattle.ca_expressions.specs.Grammar.{Level, operands, one_operand, Operands, operands_end, operands_more, Unary, unary_first, unary_last, Primary, a_literal, a_chain, in_brackets, by_word, Sides, sides, Chain, this_chain, name_chain, call_chain, Tails, tails_end, tails_more, Tail, field_tail, method_tail, index_tail, Args, args, Listed, listed_none, listed, Further, further_none, further, Expr, OuterExpression, ExpressionEnded, OuterChain, ChainEnded}
 use Rattle.ca_expressions.specs.Readers.{Closed}
 use Rattle.ca_expressions.proofs.Terminals.{sign_gives, name_gives}
-use Rattle.ca_expressions.proofs.Follow.{primary_no_unary, chain_no_literal, chain_no_bracket, operator_goes_on, operands_follow, tail_goes_on, tails_follow}
+use Rattle.ca_expressions.proofs.Follow.{primary_no_unary, chain_no_literal, chain_no_word, chain_no_bracket, operator_goes_on, operands_follow, tail_goes_on, tails_follow}
 use Rattle.ca_expressions.proofs.Lists.{InBrackets, MoreItems}
-use Rattle.ca_expressions.proofs.Rules.{level_answer, unary_answer, operand_answer, operands_stop, sign_answer, primary_answer, literal_answer, bracket_answer, chain_answer}
+use Rattle.ca_expressions.proofs.Rules.{level_answer, unary_answer, operand_answer, operands_stop, sign_answer, primary_answer, literal_answer, bracket_answer, word_answer, sides_answer, chain_answer}
 use Rattle.ca_expressions.proofs.ChainRules.{TailClosed, this_answer, name_answer, plain_answer, called_answer, tails_answer, tails_stop, index_answer, member_answer, field_answer, method_answer, argument_rule, args_answer}
 use Rattle.ca_parse.proofs.Alone.{Alone, exact_alone}
 
@@ -71,9 +71,14 @@ mutual
   primary_tells : {s r : List Token} {x : Expression} → Primary s x r → head_of (goes_on unary_level) r ≡ None
       → Exact (Unlimited Primary) (Closed unary_level Primary) s (Got x r)
   primary_tells (a_literal d) e = literal_answer (sees_head literal d) (and_ok (sees_got d) and_done)
-  primary_tells (a_chain c) e = chain_answer (chain_no_literal c) (chain_no_bracket c) (chain_tells c e)
+  primary_tells (a_chain c) e = chain_answer (chain_no_literal c) (chain_no_word c) (chain_no_bracket c) (chain_tells c e)
   primary_tells (in_brackets o l c t) e = bracket_answer (sees_head (sign OpenParenthesis) o) (and_ok (sees_got o)
       (and_ok (level_tells 0 (omega arith) l (sign_gives (goes_on_of 0) CloseParenthesis c)) (and_ok (sees_got c) (tails_tells t e))))
+  primary_tells (by_word w l) e = word_answer (sees_head word_operator w) (and_ok (sees_got w) (sides_tells l))
+
+  sides_tells : {o : BinaryOp × Place} {s r : List Token} {x : Expression} → Sides o s x r → Exact (Unlimited (Sides o)) (Unlimited (Sides o)) s (Got x r)
+  sides_tells {o} (sides p a c b d) = sides_answer o (and_ok (sees_got p) (and_ok (level_tells 0 (omega arith) a (sign_gives (goes_on_of 0) Comma c))
+      (and_ok (sees_got c) (and_ok (level_tells 0 (omega arith) b (sign_gives (goes_on_of 0) CloseParenthesis d)) (and_ok (sees_got d) and_done)))))
 
   pub chain_tells : {s r : List Token} {x : Expression} → Chain s x r → head_of (goes_on unary_level) r ≡ None
       → Exact (Unlimited Chain) (Closed unary_level Chain) s (Got x r)

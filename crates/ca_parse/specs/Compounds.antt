@@ -6,12 +6,12 @@ use Rattle.ca_tree.specs.declared.token.Kind.{Kind}
 use Rattle.ca_tree.specs.declared.token.Kind.TheVariants.{Sign as SignKind}
 use Rattle.ca_tree.specs.declared.token.Sign.{Sign}
 use Rattle.ca_tree.specs.declared.tree.AssignOp.{AssignOp}
-use Rattle.ca_tree.specs.declared.tree.AssignOp.TheVariants.{Add, Sub, Mul}
+use Rattle.ca_tree.specs.declared.tree.AssignOp.TheVariants.{Add, Sub, Mul, BitAnd, BitOr, BitXor}
 use Rattle.ca_tree.specs.Codes.{same_sign}
 use Rattle.ca_tree.specs.Operators.{assign_sign}
 
 abbrev pub compounds : List AssignOp
-compounds = Add ∷ Sub ∷ Mul ∷ []
+compounds = Add ∷ Sub ∷ Mul ∷ BitAnd ∷ BitOr ∷ BitXor ∷ []
 
 -- the one that is written by the sign, if there is one
 abbrev pub compound_of_sign : Sign → Option AssignOp

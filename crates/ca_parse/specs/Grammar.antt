@@ -20,7 +20,7 @@
 --             | "return" Expr ";" | "print" "(" Expr ")" ";"
 --   First     = Local | Assign ";"
 --   Assign    = Chain Change
---   Change    = "=" Right | ( "+=" | "-=" | "*=" ) Expr | "++" | "--"
+--   Change    = "=" Right | ( "+=" | "-=" | "*=" | "&=" | "|=" | "^=" ) Expr | "++" | "--"
 --   Right     = Expr | "new" name [ "(" ")" ]
 --
 -- A chain that is a statement ends in a call, and one that is a target in a name or an index. An `else` belongs to the nearest `if`

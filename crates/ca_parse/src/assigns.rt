@@ -87,6 +87,9 @@ fn compound_of_sign(sign: Sign) -> Option<AssignOp>
         Sign::PlusAssign => Some(AssignOp::Add),
         Sign::MinusAssign => Some(AssignOp::Sub),
         Sign::TimesAssign => Some(AssignOp::Mul),
+        Sign::BitAndAssign => Some(AssignOp::BitAnd),
+        Sign::BitOrAssign => Some(AssignOp::BitOr),
+        Sign::BitXorAssign => Some(AssignOp::BitXor),
         _ => None,
     }
 }
@@ -108,7 +111,7 @@ fn compound_at(tokens: &[Token]) -> Option<(AssignOp, &[Token])>
     Some((op, rest))
 }
 
-/// `+=`, `-=` or `*=`.
+/// The sign of an assignment that changes what its target holds, such as `+=`.
 fn parse_compound<'a>(tokens: &'a [Token]) -> Result<(AssignOp, &'a [Token]), Fault<'a>>
     ensures answer { Exact (Unlimited (Sees compound)) (Unlimited (Sees compound)) tokens.now (answer (λ o. o) result) }
 {

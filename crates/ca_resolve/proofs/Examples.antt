@@ -14,7 +14,7 @@ use Rattle.std.proofs.Common.{◌≡◌, ℕ, ℤ, true, List, [], ◌∷◌, Op
 use Rattle.ca_tree.specs.declared.name.Place.{Place}
 use Rattle.ca_tree.specs.declared.tree.TypeNode.{TypeNode}
 use Rattle.ca_tree.specs.declared.tree.TypeNode.TheVariants.{Long, Pointer}
-use Rattle.ca_tree.specs.declared.tree.BinaryOp.TheVariants.{Equal, Plus}
+use Rattle.ca_tree.specs.declared.tree.BinaryOp.TheVariants.{Equal, Plus, BitAnd, Max}
 use Rattle.ca_tree.specs.Plain.{ClassTree, MemberTree, Expression, Expressions, number, truth, null, this, named, call, field, index, binary, no_expressions, expression_and, no_statements, field_member, method_member}
 use Rattle.ca_program.specs.declared.program.ClassId.{ClassId}
 use Rattle.ca_program.specs.declared.program.FieldId.{FieldId}
@@ -132,6 +132,16 @@ long_and_null = refl
 
 both_told : violations (judge_value inside (binary (at 3) Plus (name 1 121) (name 5 122))) ≡ record { at = at 1; code = 24 } ∷ record { at = at 5; code = 24 } ∷ []
 both_told = refl
+
+-- `x & n`, `true & 1`, which tells at the operator, and `max(x, p)`, which tells at its word
+long_and_long : judge_value inside (binary (at 3) BitAnd (name 1 120) (name 5 110)) ≡ fine (program.binary BitAnd (program.local (record { 0 = 1 })) (program.own n), long)
+long_and_long = refl
+
+truth_and_long : violations (judge_value inside (binary (at 6) BitAnd (truth (at 1) true) (number (at 8) (pos 1)))) ≡ told 6 25
+truth_and_long = refl
+
+greater_of_a_pointer : violations (judge_value inside (binary (at 1) Max (name 5 120) (name 8 112))) ≡ told 1 25
+greater_of_a_pointer = refl
 
 -- targets: `a[x]`, `a`, `x[1]`, `p->n`, `y`, `x->n` and `o`
 item_target : judge_target inside (index (at 2) (name 1 97) (name 3 120)) ≡ fine (to_item a (program.local (record { 0 = 1 })), long)

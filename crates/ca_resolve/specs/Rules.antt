@@ -4,7 +4,7 @@ use Rattle.ca_tree.specs.declared.name.Place.{Place}
 use Rattle.ca_tree.specs.declared.tree.UnaryOp.{UnaryOp}
 use Rattle.ca_tree.specs.declared.tree.UnaryOp.TheVariants.{Minus as Negative, Not}
 use Rattle.ca_tree.specs.declared.tree.BinaryOp.{BinaryOp}
-use Rattle.ca_tree.specs.declared.tree.BinaryOp.TheVariants.{Or, And, Equal, NotEqual, Less, Greater, LessEqual, GreaterEqual, Plus, Minus, Times, Divide, Remainder}
+use Rattle.ca_tree.specs.declared.tree.BinaryOp.TheVariants.{Or, And, Equal, NotEqual, Less, Greater, LessEqual, GreaterEqual, Plus, Minus, Times, Divide, Remainder, BitAnd, BitOr, BitXor, Max, Min}
 use Rattle.ca_program.specs.declared.program.ClassId.{ClassId}
 use Rattle.ca_program.specs.declared.program.FieldId.{FieldId}
 use Rattle.ca_program.specs.declared.program.FunctionId.{FunctionId}
@@ -93,6 +93,11 @@ takes_binary Minus a b = is_long a && is_long b
 takes_binary Times a b = is_long a && is_long b
 takes_binary Divide a b = is_long a && is_long b
 takes_binary Remainder a b = is_long a && is_long b
+takes_binary BitAnd a b = is_long a && is_long b
+takes_binary BitOr a b = is_long a && is_long b
+takes_binary BitXor a b = is_long a && is_long b
+takes_binary Max a b = is_long a && is_long b
+takes_binary Min a b = is_long a && is_long b
 
 abbrev pub unary_ty : UnaryOp → Ty
 unary_ty Negative = long
@@ -112,6 +117,11 @@ binary_ty Minus = long
 binary_ty Times = long
 binary_ty Divide = long
 binary_ty Remainder = long
+binary_ty BitAnd = long
+binary_ty BitOr = long
+binary_ty BitXor = long
+binary_ty Max = long
+binary_ty Min = long
 
 -- 24, at the node: a name is a member of the class
 abbrev pub member_known : Option Meaning → Place → Judged Meaning

@@ -118,7 +118,12 @@ pub(crate) fn takes_binary(op: BinaryOp, left: &Ty, right: &Ty) -> bool
         | BinaryOp::Minus
         | BinaryOp::Times
         | BinaryOp::Divide
-        | BinaryOp::Remainder => left.is_long() && right.is_long(),
+        | BinaryOp::Remainder
+        | BinaryOp::BitAnd
+        | BinaryOp::BitOr
+        | BinaryOp::BitXor
+        | BinaryOp::Max
+        | BinaryOp::Min => left.is_long() && right.is_long(),
     }
 }
 
@@ -141,7 +146,12 @@ pub(crate) fn binary_ty<'a>(op: BinaryOp) -> Ty<'a>
         | BinaryOp::Minus
         | BinaryOp::Times
         | BinaryOp::Divide
-        | BinaryOp::Remainder => Ty::Long,
+        | BinaryOp::Remainder
+        | BinaryOp::BitAnd
+        | BinaryOp::BitOr
+        | BinaryOp::BitXor
+        | BinaryOp::Max
+        | BinaryOp::Min => Ty::Long,
         BinaryOp::Or
         | BinaryOp::And
         | BinaryOp::Equal

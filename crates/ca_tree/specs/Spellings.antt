@@ -27,6 +27,8 @@ keyword_text key.True = codes "true"
 keyword_text key.False = codes "false"
 keyword_text key.Print = codes "print"
 keyword_text key.Main = codes "main"
+keyword_text key.Max = codes "max"
+keyword_text key.Min = codes "min"
 
 -- the key words of declarations
 abbrev pub declaration_words : List Keyword
@@ -35,7 +37,8 @@ declaration_words = key.Class ∷ key.Public ∷ key.Long ∷ key.Bool ∷ key.I
 -- the key words of bodies
 abbrev pub body_words : List Keyword
 body_words =
-    key.If ∷ key.Else ∷ key.While ∷ key.For ∷ key.Return ∷ key.Print ∷ key.New ∷ key.Nullptr ∷ key.This ∷ key.True ∷ key.False ∷ []
+    key.If ∷ key.Else ∷ key.While ∷ key.For ∷ key.Return ∷ key.Print ∷ key.New ∷ key.Nullptr ∷ key.This ∷ key.True ∷ key.False
+    ∷ key.Max ∷ key.Min ∷ []
 
 abbrev pub spells_keyword : List ℕ → Keyword → Bool
 spells_keyword word k = bytes_eq word (keyword_text k)
@@ -77,19 +80,26 @@ sign_text sign.MinusAssign = codes "-="
 sign_text sign.TimesAssign = codes "*="
 sign_text sign.Increment = codes "++"
 sign_text sign.Decrement = codes "--"
+sign_text sign.BitAnd = codes "&"
+sign_text sign.BitOr = codes "|"
+sign_text sign.BitXor = codes "^"
+sign_text sign.BitAndAssign = codes "&="
+sign_text sign.BitOrAssign = codes "|="
+sign_text sign.BitXorAssign = codes "^="
 
 -- the signs of one byte
 abbrev pub single_signs : List Sign
 single_signs =
     sign.OpenBrace ∷ sign.CloseBrace ∷ sign.OpenParenthesis ∷ sign.CloseParenthesis ∷ sign.OpenBracket ∷ sign.CloseBracket
     ∷ sign.Semicolon ∷ sign.Comma ∷ sign.Colon ∷ sign.Assign ∷ sign.Less ∷ sign.Greater ∷ sign.Plus ∷ sign.Minus ∷ sign.Times
-    ∷ sign.Divide ∷ sign.Remainder ∷ sign.Not ∷ []
+    ∷ sign.Divide ∷ sign.Remainder ∷ sign.Not ∷ sign.BitAnd ∷ sign.BitOr ∷ sign.BitXor ∷ []
 
 -- the signs of two bytes
 abbrev pub double_signs : List Sign
 double_signs =
     sign.Equal ∷ sign.NotEqual ∷ sign.LessEqual ∷ sign.GreaterEqual ∷ sign.And ∷ sign.Or ∷ sign.Arrow ∷ sign.PlusAssign
-    ∷ sign.MinusAssign ∷ sign.TimesAssign ∷ sign.Increment ∷ sign.Decrement ∷ []
+    ∷ sign.MinusAssign ∷ sign.TimesAssign ∷ sign.Increment ∷ sign.Decrement ∷ sign.BitAndAssign ∷ sign.BitOrAssign
+    ∷ sign.BitXorAssign ∷ []
 
 abbrev pub spells_sign : List ℕ → Sign → Bool
 spells_sign bytes s = bytes_eq bytes (sign_text s)

@@ -20,7 +20,7 @@ pub mod token;
 pub mod tree;
 
 pub use name::{Name, Place};
-pub use operators::LEVELS;
+pub use operators::{LEVELS, Writing};
 pub use token::{Keyword, Kind, Sign, Token};
 pub use tree::{
     AssignOp, BinaryOp, ClassNode, ExprKind, ExprNode, FieldNode, Member, MethodNode, ParamNode,

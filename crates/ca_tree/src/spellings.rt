@@ -30,6 +30,8 @@ impl Keyword {
             Keyword::False => "false",
             Keyword::Print => "print",
             Keyword::Main => "main",
+            Keyword::Max => "max",
+            Keyword::Min => "min",
         }
     }
 
@@ -90,6 +92,10 @@ fn body_word(word: &[u8]) -> Option<Keyword>
         Some(Keyword::True)
     } else if spells(word, Keyword::False) {
         Some(Keyword::False)
+    } else if spells(word, Keyword::Max) {
+        Some(Keyword::Max)
+    } else if spells(word, Keyword::Min) {
+        Some(Keyword::Min)
     } else {
         None
     }
@@ -131,6 +137,12 @@ impl Sign {
             Sign::TimesAssign => "*=",
             Sign::Increment => "++",
             Sign::Decrement => "--",
+            Sign::BitAnd => "&",
+            Sign::BitOr => "|",
+            Sign::BitXor => "^",
+            Sign::BitAndAssign => "&=",
+            Sign::BitOrAssign => "|=",
+            Sign::BitXorAssign => "^=",
         }
     }
 
@@ -157,6 +169,9 @@ impl Sign {
             b'/' => Some(Sign::Divide),
             b'%' => Some(Sign::Remainder),
             b'!' => Some(Sign::Not),
+            b'&' => Some(Sign::BitAnd),
+            b'|' => Some(Sign::BitOr),
+            b'^' => Some(Sign::BitXor),
             _ => None,
         }
     }
@@ -178,6 +193,9 @@ impl Sign {
             (b'*', b'=') => Some(Sign::TimesAssign),
             (b'+', b'+') => Some(Sign::Increment),
             (b'-', b'-') => Some(Sign::Decrement),
+            (b'&', b'=') => Some(Sign::BitAndAssign),
+            (b'|', b'=') => Some(Sign::BitOrAssign),
+            (b'^', b'=') => Some(Sign::BitXorAssign),
             _ => None,
         }
     }

@@ -43,6 +43,8 @@ pub enum Keyword {
     False,
     Print,
     Main,
+    Max,
+    Min,
 }
 
 /// The signs, of one byte or of two.
@@ -78,4 +80,10 @@ pub enum Sign {
     TimesAssign,
     Increment,
     Decrement,
+    BitAnd,
+    BitOr,
+    BitXor,
+    BitAndAssign,
+    BitOrAssign,
+    BitXorAssign,
 }

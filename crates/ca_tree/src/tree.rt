@@ -105,13 +105,16 @@ pub enum StmtKind {
     Print(ExprNode),
 }
 
-/// `=`, `+=`, `-=` and `*=`; `x++` is `x += 1`, and `x--` is `x -= 1`.
+/// `=`, `+=`, `-=`, `*=`, `&=`, `|=` and `^=`; `x++` is `x += 1`, and `x--` is `x -= 1`.
 #[derive(Clone, Copy, PartialEq, Eq)]
 pub enum AssignOp {
     Put,
     Add,
     Sub,
     Mul,
+    BitAnd,
+    BitOr,
+    BitXor,
 }
 
 /// What a target is put to: a value, or a new object of the class that is named at the place.
@@ -121,8 +124,8 @@ pub enum Right {
     New(Name, Place),
 }
 
-/// An expression. Its place is the operator's of a unary or binary node, the `->` of a field or a
-/// method, the `[` of an index, and else its first token.
+/// An expression. Its place is the operator's of a unary or binary node, be it a sign or a key word,
+/// the `->` of a field or a method, the `[` of an index, and else its first token.
 #[cycle(expr)]
 #[derive(Drop)]
 pub struct ExprNode {
@@ -155,7 +158,7 @@ pub enum UnaryOp {
     Not,
 }
 
-/// The binary operators, from the weakest to the strongest.
+/// The binary operators; `operators.rt` says how tightly each binds, and how it is written.
 #[derive(Clone, Copy, PartialEq, Eq)]
 pub enum BinaryOp {
     Or,
@@ -171,4 +174,9 @@ pub enum BinaryOp {
     Times,
     Divide,
     Remainder,
+    BitAnd,
+    BitOr,
+    BitXor,
+    Max,
+    Min,
 }

@@ -13,8 +13,8 @@
 --    11 }
 use Rattle.std.proofs.Common.{◌≡◌, ℕ, true, false, List, [], ◌∷◌, Some, None, pos, refl}
 use Rattle.ca_tree.specs.declared.name.Place.{Place}
-use Rattle.ca_tree.specs.declared.tree.TypeNode.TheVariants.{Long, Pointer}
-use Rattle.ca_tree.specs.declared.tree.AssignOp.TheVariants.{Put, Add}
+use Rattle.ca_tree.specs.declared.tree.TypeNode.TheVariants.{Long, Bool, Pointer}
+use Rattle.ca_tree.specs.declared.tree.AssignOp.TheVariants.{Put, Add, BitOr}
 use Rattle.ca_tree.specs.declared.tree.BinaryOp.TheVariants.{Plus, Less}
 use Rattle.ca_tree.specs.Plain.{TextTree, MemberTree, Statement, Expression, Expressions, number, truth, null, named, method, binary, no_expressions, expression_and, value, new, empty, block, local, assign, call_statement, if_else, for_loop, return_value, no_statements, statement_and, field_member, method_member}
 use Rattle.ca_program.specs.declared.program.ValueType.TheVariants.{Long as LongValue, Pointer as PointerTo}
@@ -110,6 +110,11 @@ behind_its_block = refl
 declared_twice : Violations (main_of (local (place 1 1) Long x (place 1 6) None) (local (place 1 9) Long x (place 1 14) (Some (value (named (place 1 18) x)))))
     ≡ record { at = place 1 14; code = 23 } ∷ []
 declared_twice = refl
+
+-- `bool x; x |= 1;`: a compound assignment is to a number
+truth_target : Violations (main_of (local (place 1 1) Bool x (place 1 6) None) (assign (place 1 9) (named (place 1 9) x) BitOr (value (number (place 1 14) (pos 1)))))
+    ≡ record { at = place 1 9; code = 25 } ∷ []
+truth_target = refl
 
 -- `;` and `for (long x; x < 3; x += 1) ;`: the loop is the first, and declares its local, which begins at 0
 loop : judge (main_of (empty (place 1 1))

@@ -9,7 +9,7 @@ use Rattle.ca_program.specs.declared.program.ClassId.{ClassId}
 use Rattle.ca_program.specs.declared.program.FieldInfo.{FieldInfo}
 use Rattle.ca_program.specs.declared.program.ValueType.{ValueType}
 use Rattle.ca_program.specs.Plain as program
-use Rattle.ca_resolve.specs.Judged.{Violation, Judged, fine, faulty, both, within, unless, beside, each, violations}
+use Rattle.ca_resolve.specs.Judged.{Violation, Judged, fine, both, within, unless, beside, each, violations}
 use Rattle.ca_resolve.specs.Scopes.{Ty, ty_of, find_local, Classes, classes_of, Numbers, after_member, member_name}
 use Rattle.ca_types.specs.Rules.{class_once, member_once, local_once, ends_with_return, length_stands, class_limit, field_limit, operation_limit, function_limit, parameter_limit, local_limit, length_limit}
 use Rattle.ca_types.specs.Statements.{Env, declare, behind_all, judge_type, judge_statements, statements_in}
@@ -243,11 +243,3 @@ judge t =
 -- all violations of a tree, passed limits among them
 abbrev pub Violations : TextTree → List Violation
 Violations t = violations (judge t)
-
-abbrev pub program_in : {A : Type 0} → Judged A → Option A
-program_in (fine a) = Some a
-program_in (faulty v vs) = None
-
--- the program of a tree without violations
-abbrev pub Resolved : TextTree → Option program.PlainProgram
-Resolved t = program_in (judge t)

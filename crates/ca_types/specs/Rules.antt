@@ -2,7 +2,7 @@
 use Rattle.std.specs.Prelude.{ℕ, ℤ, pos, int_le, int_lt, Bool, true, false, not, ◌&&◌, ◌||◌, List, [], ◌∷◌, Option, Some, None, is_some, nat_eq, nat_le}
 use Rattle.ca_tree.specs.declared.name.Place.{Place}
 use Rattle.ca_tree.specs.declared.tree.AssignOp.{AssignOp}
-use Rattle.ca_tree.specs.declared.tree.AssignOp.TheVariants.{Put, Add, Sub, Mul}
+use Rattle.ca_tree.specs.declared.tree.AssignOp.TheVariants.{Put, Add, Sub, Mul, BitAnd, BitOr, BitXor}
 use Rattle.ca_tree.specs.Plain.{Statement, Statements, empty, block, local, assign, call_statement, if_only, if_else, while_loop, for_loop, return_value, print_value, no_statements, statement_and}
 use Rattle.ca_program.specs.declared.program.OpId.{OpId}
 use Rattle.ca_types.specs.declared.limits.TheConstants.{MOST_CLASSES, MOST_FIELDS, MOST_OPERATIONS, MOST_FUNCTIONS, MOST_PARAMETERS, MOST_LOCALS, MOST_ITEMS, MOST_LOOPS}
@@ -53,6 +53,9 @@ is_put Put = true
 is_put Add = false
 is_put Sub = false
 is_put Mul = false
+is_put BitAnd = false
+is_put BitOr = false
+is_put BitXor = false
 
 -- 25, at the target's node: a compound assignment is to a number
 abbrev pub compound_agrees : AssignOp → Ty → Place → Option Violation

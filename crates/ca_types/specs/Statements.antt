@@ -4,7 +4,7 @@ use Rattle.ca_tree.specs.declared.name.Place.{Place}
 use Rattle.ca_tree.specs.declared.tree.TypeNode.{TypeNode}
 use Rattle.ca_tree.specs.declared.tree.TypeNode.TheVariants.{Long, Bool as Truth, Pointer}
 use Rattle.ca_tree.specs.declared.tree.AssignOp.{AssignOp}
-use Rattle.ca_tree.specs.declared.tree.AssignOp.TheVariants.{Put, Add, Sub, Mul}
+use Rattle.ca_tree.specs.declared.tree.AssignOp.TheVariants.{Put, Add, Sub, Mul, BitAnd, BitOr, BitXor}
 use Rattle.ca_tree.specs.Plain.{Expression, RightSide, value, new, Statement, Statements, empty, block, local, assign, call_statement, if_only, if_else, while_loop, for_loop, return_value, print_value, no_statements, statement_and}
 use Rattle.ca_program.specs.declared.program.ClassId.{ClassId}
 use Rattle.ca_program.specs.declared.program.ValueType.{ValueType}
@@ -140,6 +140,9 @@ right_ty Put (faulty v vs) = None
 right_ty Add t = Some long
 right_ty Sub t = Some long
 right_ty Mul t = Some long
+right_ty BitAnd t = Some long
+right_ty BitOr t = Some long
+right_ty BitXor t = Some long
 
 -- an assignment of judged parts
 abbrev pub judge_assignment : Option Ty → Bool → Place → AssignOp → Judged (Target × Ty) → Judged Source → Judged program.Statement

@@ -9,28 +9,28 @@ use ca_resolve::limit;
 use ca_tree::Place;
 
 /// The most classes of a program.
-pub(crate) const MOST_CLASSES: u32 = 256;
+pub const MOST_CLASSES: u32 = 256;
 
 /// The most fields of a class.
-pub(crate) const MOST_FIELDS: u32 = 256;
+pub const MOST_FIELDS: u32 = 256;
 
 /// The most operations of a program.
-pub(crate) const MOST_OPERATIONS: u32 = 256;
+pub const MOST_OPERATIONS: u32 = 256;
 
 /// The most value methods of a program.
-pub(crate) const MOST_FUNCTIONS: u32 = 256;
+pub const MOST_FUNCTIONS: u32 = 256;
 
 /// The most parameters of a method.
-pub(crate) const MOST_PARAMETERS: usize = 32;
+pub const MOST_PARAMETERS: usize = 32;
 
 /// The most locals of a body, with its parameters.
-pub(crate) const MOST_LOCALS: usize = 256;
+pub const MOST_LOCALS: usize = 256;
 
 /// The most items of an array.
-pub(crate) const MOST_ITEMS: i64 = 1_000_000;
+pub const MOST_ITEMS: i64 = 1_000_000;
 
 /// The most `for` statements of a program.
-pub(crate) const MOST_LOOPS: u32 = 256;
+pub const MOST_LOOPS: u32 = 256;
 
 /// A limit, which may be passed.
 pub(crate) fn bound(is_passed: bool, at: Place, code: u32) -> Answer<()>

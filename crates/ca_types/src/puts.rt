@@ -99,7 +99,12 @@ fn is_put(op: AssignOp) -> bool
 {
     match op {
         AssignOp::Put => true,
-        AssignOp::Add | AssignOp::Sub | AssignOp::Mul => false,
+        AssignOp::Add
+        | AssignOp::Sub
+        | AssignOp::Mul
+        | AssignOp::BitAnd
+        | AssignOp::BitOr
+        | AssignOp::BitXor => false,
     }
 }
 
@@ -180,7 +185,12 @@ fn right_ty<'a>(op: AssignOp, target: &Answer<(Target, Ty<'a>)>) -> Option<Ty<'a
     ensures { (j : Judged (PlainTarget × PlainTy)) → Tells_something target.now → Answers target_view target.now j → option_map ty_view result ≡ right_ty op j }
 {
     match op {
-        AssignOp::Add | AssignOp::Sub | AssignOp::Mul => Some(Ty::Long),
+        AssignOp::Add
+        | AssignOp::Sub
+        | AssignOp::Mul
+        | AssignOp::BitAnd
+        | AssignOp::BitOr
+        | AssignOp::BitXor => Some(Ty::Long),
         AssignOp::Put => match target {
             Ok((_, ty)) => Some(*ty),
             Err(_) => None,

@@ -56,8 +56,8 @@ its_tokens = token refl (blank refl (token refl (token refl (token refl (token r
 
 a_number : (r : List Token) → Expr (greatest ∷ r) (number (place 18) (pos 9223372036854775807)) r
 a_number r =
-    operands (omega arith) (operands (omega arith) (operands (omega arith) (operands (omega arith) (operands (omega arith) (operands (omega arith)
-    (one_operand (omega arith) (unary_last (a_literal (sees refl)))) operands_end) operands_end) operands_end) operands_end) operands_end) operands_end
+    operands (omega arith) (operands (omega arith) (operands (omega arith) (operands (omega arith) (operands (omega arith) (operands (omega arith) (operands (omega arith) (operands (omega arith) (operands (omega arith)
+    (one_operand (omega arith) (unary_last (a_literal (sees refl)))) operands_end) operands_end) operands_end) operands_end) operands_end) operands_end) operands_end) operands_end) operands_end
 
 its_tree : DerivesWithin tokens (tree (pos 9223372036854775807))
 its_tree =

@@ -8,9 +8,10 @@ use Rattle.ca_tree.specs.declared.token.Keyword.{Keyword}
 use Rattle.ca_tree.specs.declared.token.Keyword.TheVariants.{True}
 use Rattle.ca_tree.specs.declared.token.Kind.{Kind}
 use Rattle.ca_tree.specs.declared.token.Kind.TheVariants.{Word, Number, Key, Sign}
+use Rattle.ca_tree.specs.declared.tree.BinaryOp.{BinaryOp}
 use Rattle.ca_tree.specs.Plain.{Expression}
 use Rattle.ca_expressions.specs.Terminals.{literal, literal_of, literal_of_key}
-use Rattle.ca_expressions.specs.Grammar.{expressions, Level, operands, one_operand, Operands, operands_end, operands_more, Unary, unary_first, unary_last, Primary, a_literal, a_chain, in_brackets, Chain, this_chain, name_chain, call_chain, Tails, tails_end, tails_more, Tail, field_tail, method_tail, index_tail, Args, args, Listed, listed_none, listed, Further, further_none, further, OuterExpression, OuterChain}
+use Rattle.ca_expressions.specs.Grammar.{expressions, Level, operands, one_operand, Operands, operands_end, operands_more, Unary, unary_first, unary_last, Primary, a_literal, a_chain, in_brackets, by_word, Sides, sides, Chain, this_chain, name_chain, call_chain, Tails, tails_end, tails_more, Tail, field_tail, method_tail, index_tail, Args, args, Listed, listed_none, listed, Further, further_none, further, OuterExpression, OuterChain}
 use Rattle.ca_typing.proofs.Fits.{KindFits, TokensFit, NumbersFit, AllNumbersFit}
 
 -- the tokens behind the first
@@ -52,6 +53,13 @@ mutual
   primary_fits (a_literal d) h = literal_fits d h
   primary_fits (a_chain c) h = chain_fits c h
   primary_fits (in_brackets o l c d) h = let inner = level_fits l (behind o h) in tails_fit d inner.0 (behind c inner.1)
+  primary_fits (by_word w d) h = sides_fit d (behind w h)
+
+  sides_fit : {o : BinaryOp × Place} {s r : List Token} {x : Expression} → Sides o s x r → TokensFit s → NumbersFit x × TokensFit r
+  sides_fit (sides p a c b d) h =
+      let first = level_fits a (behind p h) in
+      let next = level_fits b (behind c first.1) in
+      ((first.0, next.0), behind d next.1)
 
   pub chain_fits : {s r : List Token} {x : Expression} → Chain s x r → TokensFit s → NumbersFit x × TokensFit r
   chain_fits (this_chain k d) h = tails_fit d tt (behind k h)

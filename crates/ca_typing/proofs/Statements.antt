@@ -7,7 +7,7 @@ use Rattle.std.proofs.lemmas.Int.{fits_signed_from_abs}
 use Rattle.ca_tree.specs.declared.name.Place.{Place}
 use Rattle.ca_tree.specs.declared.tree.TypeNode.{TypeNode}
 use Rattle.ca_tree.specs.declared.tree.AssignOp.{AssignOp}
-use Rattle.ca_tree.specs.declared.tree.AssignOp.TheVariants.{Put, Add, Sub, Mul}
+use Rattle.ca_tree.specs.declared.tree.AssignOp.TheVariants.{Put, Add, Sub, Mul, BitAnd, BitOr, BitXor}
 use Rattle.ca_tree.specs.Plain.{Expression, RightSide, value, new, index, Statement, Statements, empty, block, local, assign, call_statement, if_only, if_else, while_loop, for_loop, return_value, print_value, no_statements, statement_and}
 use Rattle.ca_program.specs.declared.program.OpId.{OpId}
 use Rattle.ca_program.specs.declared.program.ValueType.{ValueType}
@@ -197,6 +197,12 @@ module _ (p : PlainProgram) (q : TypesOf) where
         compound_typed line t Sub right source at holds own (not_not (is_long t.1) (not_broken (not (is_long t.1)) place TYPES_DISAGREE k)) refl fits n h
     assigned_typed line t Mul right source at place holds own k fits n h =
         compound_typed line t Mul right source at holds own (not_not (is_long t.1) (not_broken (not (is_long t.1)) place TYPES_DISAGREE k)) refl fits n h
+    assigned_typed line t BitAnd right source at place holds own k fits n h =
+        compound_typed line t BitAnd right source at holds own (not_not (is_long t.1) (not_broken (not (is_long t.1)) place TYPES_DISAGREE k)) refl fits n h
+    assigned_typed line t BitOr right source at place holds own k fits n h =
+        compound_typed line t BitOr right source at holds own (not_not (is_long t.1) (not_broken (not (is_long t.1)) place TYPES_DISAGREE k)) refl fits n h
+    assigned_typed line t BitXor right source at place holds own k fits n h =
+        compound_typed line t BitXor right source at holds own (not_not (is_long t.1) (not_broken (not (is_long t.1)) place TYPES_DISAGREE k)) refl fits n h
 
     assign_typed : (at : Place) (target : Expression) (op : AssignOp) (right : RightSide) (x : program.Statement) → NumbersFit target → RightFits right
         → judge_assign c at (judge_put_target c op target) op right ≡ fine x → StatementTyped p q x

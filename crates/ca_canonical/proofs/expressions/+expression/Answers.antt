@@ -2,7 +2,9 @@ use Rattle.std.proofs.Common.{◌≡◌, sym, ap, ◌∙◌, subst, arith}
 use Rattle.ca_tree.specs.Plain.{call, method, field, index, unary, binary}
 use Rattle.ca_tree.specs.View.{kind_view, expression_view, expressions_view}
 use Rattle.ca_tree.proofs.Rows.{call_is}
-use Rattle.ca_canonical.specs.Spell.{spell_expression, spell_list}
+use Rattle.ca_tree.specs.declared.operators.Writing.TheVariants.{Between, Before}
+use Rattle.ca_tree.specs.Operators.{level, writing}
+use Rattle.ca_canonical.specs.Spell.{binds, spelled_by, spell_expression, spell_list}
 use Rattle.ca_canonical.specs.Marks.{tokens}
 use Rattle.ca_canonical.specs.clauses.Pens.{Writes}
 use Rattle.ca_canonical.proofs.Writing.{nothing, then, all_left, no_token_left}
@@ -60,10 +62,28 @@ write_expression-returns-in-Unary t c =
     subst (λ x. Writes c.args.pen.now c.write_operand-in-Unary.new.pen (spell_expression x)) (sym is)
     (then (rw c.sign-in-Unary.ensures at c.sign-in-Unary-2.ensures) (rw (c.deref-in-Unary.ensures, c.level.ensures) at c.write_operand-in-Unary.ensures))
 
-pub write_expression-returns-in-Binary : goal.write_expression-returns-in-Binary
-write_expression-returns-in-Binary t c =
+pub write_expression-returns-in-Between : goal.write_expression-returns-in-Between
+write_expression-returns-in-Between t c =
     let at = c.args.e.now.at in
-    let is : expression_view c.args.e.now ≡ binary at c.in-Binary.op (expression_view c.in-Binary.left.value) (expression_view c.in-Binary.right.value) = ap (λ k. kind_view k at) c.in-Binary.is in
-    subst (λ x. Writes c.args.pen.now c.write_operand-in-Binary-2.new.pen (spell_expression x)) (sym is)
-    (then (rw (c.deref-in-Binary.ensures, c.level-level.ensures.level) at c.write_operand-in-Binary.ensures)
-    (then (rw c.sign-in-Binary.ensures at c.sign-in-Binary-2.ensures) (rw (c.deref-in-Binary-2.ensures, c.level-level.ensures.level) at c.write_operand-in-Binary-2.ensures)))
+    let o = c.in-Binary.op in
+    let a = expression_view c.in-Binary.left.value in
+    let b = expression_view c.in-Binary.right.value in
+    let is : expression_view c.args.e.now ≡ binary at o a b = ap (λ k. kind_view k at) c.in-Binary.is in
+    let how : writing o ≡ Between c.in-Between.sign = sym c.writing.ensures ∙ c.in-Between.is in
+    subst (λ x. Writes c.args.pen.now c.write_operand-in-Between-2.new.pen (spell_expression x)) (sym is)
+    (subst (λ w. Writes c.args.pen.now c.write_operand-in-Between-2.new.pen (spelled_by w (level o) (binds a) (binds b) (spell_expression a) (spell_expression b))) (sym how)
+    (then (rw (c.deref-in-Between.ensures, c.level-level.ensures.level) at c.write_operand-in-Between.ensures)
+    (then c.sign-in-Between.ensures (rw (c.deref-in-Between-2.ensures, c.level-level.ensures.level) at c.write_operand-in-Between-2.ensures))))
+
+pub write_expression-returns-in-Before : goal.write_expression-returns-in-Before
+write_expression-returns-in-Before t c =
+    let at = c.args.e.now.at in
+    let o = c.in-Binary.op in
+    let a = expression_view c.in-Binary.left.value in
+    let b = expression_view c.in-Binary.right.value in
+    let is : expression_view c.args.e.now ≡ binary at o a b = ap (λ k. kind_view k at) c.in-Binary.is in
+    let how : writing o ≡ Before c.in-Before.word = sym c.writing.ensures ∙ c.in-Before.is in
+    subst (λ x. Writes c.args.pen.now c.sign-in-Before-3.new.self (spell_expression x)) (sym is)
+    (subst (λ w. Writes c.args.pen.now c.sign-in-Before-3.new.self (spelled_by w (level o) (binds a) (binds b) (spell_expression a) (spell_expression b))) (sym how)
+    (then c.key-in-Before.ensures (then c.sign-in-Before.ensures (then (rw c.deref-in-Before.ensures at c.write_expression-in-Before.ensures)
+    (then c.sign-in-Before-2.ensures (then (rw c.deref-in-Before-2.ensures at c.write_expression-in-Before-2.ensures) c.sign-in-Before-3.ensures))))))

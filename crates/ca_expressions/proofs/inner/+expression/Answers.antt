@@ -12,12 +12,12 @@ use Rattle.ca_tree.specs.Operators.{unary_level}
 use Rattle.ca_tree.specs.Plain.{call}
 use Rattle.ca_tree.specs.View.{expression_view}
 use Rattle.ca_tree.proofs.Rows.{call_is}
-use Rattle.ca_expressions.specs.Terminals.{key, sign, literal, unary_operator, operator}
+use Rattle.ca_expressions.specs.Terminals.{key, sign, literal, unary_operator, operator, word_operator}
 use Rattle.ca_expressions.specs.Grammar.{Level, Tails}
 use Rattle.ca_expressions.specs.Readers.{failure, answer, node_view, Closed}
 use Rattle.ca_expressions.proofs.Fronts.{some_of, none_of}
 use Rattle.ca_expressions.proofs.Lists.{listed_none, listed_failed, commas_more, commas_failed, commas_end, commas_wrong, expressions_are}
-use Rattle.ca_expressions.proofs.Rules.{above_failed, level_below, unary_answer, operand_answer, operands_stop, sign_answer, primary_answer, literal_answer, bracket_answer, chain_answer}
+use Rattle.ca_expressions.proofs.Rules.{above_failed, level_below, unary_answer, operand_answer, operands_stop, sign_answer, primary_answer, literal_answer, bracket_answer, chain_answer, word_answer, sides_answer}
 use Rattle.ca_expressions.proofs.ChainRules.{this_answer, name_answer, plain_answer, called_answer, tails_answer, tails_stop, index_answer, member_answer, field_answer, method_answer, argument_rule, args_answer}
 use Rattle.ca_expressions.proofs.inner.+expression.Goals as goal
 
@@ -115,7 +115,7 @@ parse_primary-returns-in-Some-clause-answer t c =
 
 pub parse_primary-returns-in_default-sign_at-clause-answer : goal.parse_primary-returns-in_default-sign_at-clause-answer
 parse_primary-returns-in_default-sign_at-clause-answer t c =
-    chain_answer c.in_default.ensures.none c.in_default-sign_at.ensures.none c.parse_inner_chain.ensures.answer
+    chain_answer c.in_default.ensures.none c.in_default-word_at.ensures.none c.in_default-sign_at.ensures.none c.parse_inner_chain.ensures.answer
 
 pub parse_primary-returns-in_err-inner-clause-answer : goal.parse_primary-returns-in_err-inner-clause-answer
 parse_primary-returns-in_err-inner-clause-answer t c =
@@ -135,6 +135,42 @@ parse_primary-returns-clause-answer t c =
     let d = c.in-Some-sign_at.ensures.some in
     bracket_answer (sees_head (sign OpenParenthesis) d) (and_ok (sees_got d) (and_ok c.in_ok-inner.ensures.answer
     (and_ok c.in_ok-rest.ensures.answer c.parse_tails.ensures.answer)))
+
+pub parse_primary-returns-in-Some-word_at-clause-answer : goal.parse_primary-returns-in-Some-word_at-clause-answer
+parse_primary-returns-in-Some-word_at-clause-answer t c =
+    let d = c.in-Some-word_at.ensures.some in
+    word_answer (sees_head word_operator d) (and_ok (sees_got d) c.parse_by_word.ensures.answer)
+
+-- sides of an operator that is written by a key word
+pub parse_by_word-returns-in_err-rest-clause-answer : goal.parse_by_word-returns-in_err-rest-clause-answer
+parse_by_word-returns-in_err-rest-clause-answer t c =
+    let p = err_from_is_err_and c.from_residual.result c.from_residual.ensures.1 in
+    rw (p.1, p.2) (sides_answer c.args.found (and_failed _ c.in_err-rest.ensures.answer))
+
+pub parse_by_word-returns-in_err-left-clause-answer : goal.parse_by_word-returns-in_err-left-clause-answer
+parse_by_word-returns-in_err-left-clause-answer t c =
+    let p = err_from_is_err_and c.from_residual-in_err-left.result c.from_residual-in_err-left.ensures.1 in
+    rw (p.1, p.2) (sides_answer c.args.found (and_ok c.in_ok-rest.ensures.answer (and_failed _ c.in_err-left.ensures.answer)))
+
+pub parse_by_word-returns-in_err-rest-2-clause-answer : goal.parse_by_word-returns-in_err-rest-2-clause-answer
+parse_by_word-returns-in_err-rest-2-clause-answer t c =
+    let p = err_from_is_err_and c.from_residual-in_err-rest-2.result c.from_residual-in_err-rest-2.ensures.1 in
+    rw (p.1, p.2) (sides_answer c.args.found (and_ok c.in_ok-rest.ensures.answer (and_ok c.in_ok-left.ensures.answer (and_failed _ c.in_err-rest-2.ensures.answer))))
+
+pub parse_by_word-returns-in_err-right-clause-answer : goal.parse_by_word-returns-in_err-right-clause-answer
+parse_by_word-returns-in_err-right-clause-answer t c =
+    let p = err_from_is_err_and c.from_residual-in_err-right.result c.from_residual-in_err-right.ensures.1 in
+    rw (p.1, p.2) (sides_answer c.args.found (and_ok c.in_ok-rest.ensures.answer (and_ok c.in_ok-left.ensures.answer (and_ok c.in_ok-rest-2.ensures.answer (and_failed _ c.in_err-right.ensures.answer)))))
+
+pub parse_by_word-returns-in_err-rest-3-clause-answer : goal.parse_by_word-returns-in_err-rest-3-clause-answer
+parse_by_word-returns-in_err-rest-3-clause-answer t c =
+    let p = err_from_is_err_and c.from_residual-in_err-rest-3.result c.from_residual-in_err-rest-3.ensures.1 in
+    rw (p.1, p.2) (sides_answer c.args.found (and_ok c.in_ok-rest.ensures.answer (and_ok c.in_ok-left.ensures.answer (and_ok c.in_ok-rest-2.ensures.answer (and_ok c.in_ok-right.ensures.answer (and_failed _ c.in_err-rest-3.ensures.answer))))))
+
+pub parse_by_word-returns-clause-answer : goal.parse_by_word-returns-clause-answer
+parse_by_word-returns-clause-answer t c =
+    let e = c.in_ok-node.ensures in
+    rw e (sides_answer c.args.found (and_ok c.in_ok-rest.ensures.answer (and_ok c.in_ok-left.ensures.answer (and_ok c.in_ok-rest-2.ensures.answer (and_ok c.in_ok-right.ensures.answer (and_ok c.in_ok-rest-3.ensures.answer and_done))))))
 
 -- chains
 pub parse_inner_chain-returns-in-Some-clause-answer : goal.parse_inner_chain-returns-in-Some-clause-answer

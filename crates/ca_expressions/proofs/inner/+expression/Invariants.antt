@@ -13,6 +13,9 @@ use Rattle.ca_expressions.proofs.inner.+expression.Given as goal
 abbrev pub decreases-parse_args : goal.decreases-parse_args
 decreases-parse_args l = 8 * length l.tokens.now
 
+abbrev pub decreases-parse_by_word : goal.decreases-parse_by_word
+decreases-parse_by_word l = 8 * length l.tokens.now
+
 abbrev pub decreases-parse_inner_chain : goal.decreases-parse_inner_chain
 decreases-parse_inner_chain l = 8 * length l.tokens.now + 2
 

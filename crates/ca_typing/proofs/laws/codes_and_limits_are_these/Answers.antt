@@ -34,4 +34,16 @@ returns-clause-limits c = record {
 }
 
 pub returns-clause-most : goal.returns-clause-most
-returns-clause-most c = record { tokens = refl; in_expression = refl; nested = refl }
+returns-clause-most c = record {
+  tokens = refl;
+  in_expression = refl;
+  nested = refl;
+  classes = refl;
+  fields = refl;
+  operations = refl;
+  functions = refl;
+  parameters = refl;
+  locals = refl;
+  items = refl;
+  loops = refl;
+}
