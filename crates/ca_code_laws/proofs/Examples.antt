@@ -4,8 +4,9 @@ use Rattle.std.proofs.Common.{◌≡◌, ℕ, List, [], ◌∷◌, length, Some,
 use Rattle.std.specs.Prelude.{Bool, ◌+◌, ℤ}
 use Rattle.std.specs.Int.{int_wrap}
 use Rattle.ca_tree.specs.declared.tree.AssignOp.TheVariants.{Add, Sub}
+use Rattle.ca_tree.specs.declared.tree.AssignOp.TheVariants as change
 use Rattle.ca_tree.specs.declared.tree.UnaryOp.TheVariants as sign
-use Rattle.ca_tree.specs.declared.tree.BinaryOp.TheVariants.{Or, And, Plus, Divide, Less}
+use Rattle.ca_tree.specs.declared.tree.BinaryOp.TheVariants.{Or, And, Plus, Divide, Less, BitXor, Max}
 use Rattle.ca_program.specs.declared.program.ValueType.TheVariants.{Long as LongType, Pointer}
 use Rattle.ca_program.specs.declared.program.ClassId.{ClassId}
 use Rattle.ca_program.specs.declared.program.FieldId.{FieldId}
@@ -141,6 +142,12 @@ sum : does (Binary 7 Plus as_long as_long 0 1) 7 ≡ shown world (pos 7) 2 5
 unfolding int_wrap
 sum = refl
 
+bits_of_one : does (Binary 7 BitXor as_long as_long 0 1) 7 ≡ shown world (pos 7) 2 5
+bits_of_one = refl
+
+greater : does (Binary 7 Max as_long as_long 0 1) 7 ≡ shown world (pos 6) 2 5
+greater = refl
+
 less : does (Binary 7 Less as_long as_long 0 1) 7 ≡ shown world (pos 0) 2 5
 less = refl
 
@@ -150,6 +157,9 @@ quotient_by_zero = refl
 update : does (Update 0 Sub as_long 1) 0 ≡ shown world (pos 5) 2 5
 unfolding int_wrap
 update = refl
+
+update_by_bits : does (Update 0 change.BitOr as_long 1) 0 ≡ shown world (pos 7) 2 5
+update_by_bits = refl
 
 -- ---- values of another kind
 

@@ -130,6 +130,11 @@ sides_kind two.Minus side ty t = sym (ap kind_type t.1)
 sides_kind two.Times side ty t = sym (ap kind_type t.1)
 sides_kind two.Divide side ty t = sym (ap kind_type t.1)
 sides_kind two.Remainder side ty t = sym (ap kind_type t.1)
+sides_kind two.BitAnd side ty t = sym (ap kind_type t.1)
+sides_kind two.BitOr side ty t = sym (ap kind_type t.1)
+sides_kind two.BitXor side ty t = sym (ap kind_type t.1)
+sides_kind two.Max side ty t = sym (ap kind_type t.1)
+sides_kind two.Min side ty t = sym (ap kind_type t.1)
 
 pub lazy_side : (op : BinaryOp) (side ty : ValueType) → SidesTyped op side ty → is_lazy op ≡ true → side ≡ BoolType
 lazy_side two.Or side ty t e = t.0
