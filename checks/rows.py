@@ -118,6 +118,11 @@ int main() {
 
 GREATEST = """class M { public: long x; void up(long v) { if (x < v) x = v; } }; int main() { }"""
 
+BOUNDS = (
+    "class M { public: long x; void up(long v) { x = max(x, v); } void lo(long v) { x = min(x, v); } "
+    "void both(long v) { up(v); lo(v); } }; int main() { }"
+)
+
 TWO = (
     "class A { public: long n; void add(long v) { n += v; } void two(long v) { add(v); add(v + 1); } }; "
     "int main() { A *a = new A(); a->two(3); }"
@@ -188,6 +193,18 @@ Bin::add Bin::add commutes
     (GREATEST, """extent M::up
 M::up M::up unproved FieldDiffers x
 """),
+    (BOUNDS, """extent M::up
+M::up M::up commutes
+extent M::lo
+M::lo M::lo commutes
+extent M::both
+M::up M::up commutes
+M::up M::lo unproved FieldDiffers x
+M::up M::both commutes
+M::lo M::lo commutes
+M::lo M::both commutes
+M::both M::both commutes
+"""),
     (FIRST, """extent Acc::add
 Acc::add Acc::add commutes
 extent Acc::tie
@@ -256,6 +273,27 @@ add ( 7 ) ;
 int main ( ) {
 A * a = new A ( ) ;
 /*@parallel*/ a -> go ( 1 ) ;
+}
+"""),
+    # levels of operators on bits, and operators that are written as calls
+    ("""class A { public: long n; bool b; void m(long v) { n = (n & v) | (v ^ 1); n = n & (v | 1) ^ (2 ^ v);
+ n |= (max((n), (v + 1))); b = ((n & 1) == (1 & v)) && ((n | 2) < max(n, 2)); n ^= -(min(1, 2)) * (max(v, 2) - 1);
+ n &= (v); n = (1 + n) & (2 * 3); } };
+ int main() { }""", """class A {
+public :
+long n ;
+bool b ;
+void m ( long v ) {
+n = n & v | v ^ 1 ;
+n = n & ( v | 1 ) ^ ( 2 ^ v ) ;
+n |= max ( n , v + 1 ) ;
+b = ( n & 1 ) == ( 1 & v ) && ( n | 2 ) < max ( n , 2 ) ;
+n ^= - min ( 1 , 2 ) * ( max ( v , 2 ) - 1 ) ;
+n &= v ;
+n = 1 + n & 2 * 3 ;
+}
+} ;
+int main ( ) {
 }
 """),
     # free in one extent of a marked call or loop and not in another
@@ -360,6 +398,50 @@ VERDICTS = [
     ("long f; long a[9]; long g; void m() { g += a[f] - a[f]; } void n() { f = f + 1; }", "DemandsDiffer"),
     ("long f; void m() { f = f % 7; }", None),
     ("long f; " + "void m() { f = f + 1; } void n() { " + "f = f + f; " * 17 + "}", "Large"),
+    # operators whose operands may stand in any order
+    *[(f"long f; void m(long x) {{ {body} }}", None) for body in (
+        "f = max(f, x);", "f = max(x, f);", "f = min(f, x + 1);", "f = min(2 * x, f);", "f &= x;", "f |= x;", "f ^= x;",
+        "f = x & f;", "f = f | x | 6;", "f = f ^ (x ^ 6);", "f = max(3, max(x, f));", "f = max(max(f, x), min(x, 7));",
+        "f &= x; f &= 6;", "f = f | x & 3;", "f = max(f, -x);",
+    )],
+    *[(f"long f; void m(long x) {{ {body} }}", "FieldDiffers f") for body in (
+        "f = max(f, x) + 1;", "f = max(f + 1, x);", "f = max(min(f, x), x);", "f = (f | x) & 7 ^ x;", "f = f & x | x;",
+        "f = 2 * min(f, x);", "f |= x; f &= 6;", "f = max(f, x); f += x;", "f = max(x, x);",
+        "if (x < 3) f |= x;",
+    )],
+    ("long a[2]; void m(long x) { a[0] |= x; }", "FieldDiffers a"),
+    ("long a[2]; void m() { a[0] |= 6; }", None),
+    # one operator and another, or a sum
+    *[(f"long f; void m(long x) {{ {one} }} void n(long x) {{ {other} }}", "FieldDiffers f") for one, other in (
+        ("f = max(f, x);", "f = min(f, x);"), ("f |= x;", "f &= x;"), ("f ^= x;", "f |= x;"), ("f &= x;", "f ^= x;"),
+        ("f = max(f, x);", "f += x;"), ("f |= x;", "f = 6;"),
+    )],
+    # what numbers come to: `&` binds more than `^`, `^` more than `|`, and all less than a comparison
+    *[(f"long f; void m() {{ f = {text}; }} void n() {{ f = {value}; }}", None) for text, value in (
+        ("6 & 3", "2"), ("6 | 3", "7"), ("6 ^ 3", "5"), ("max(-1, 2)", "2"), ("min(-1, 2)", "-1"), ("-4 & 7", "4"),
+        ("-4 | 3", "-1"), ("-4 ^ 3", "-1"), ("1 | 6 & 3", "3"), ("6 ^ 3 & 5", "7"), ("1 | 3 ^ 3", "1"),
+        ("6 & 1 + 1", "2"),
+    )],
+    ("bool f; void m() { f = (6 & 3) == 2; } void n() { f = true; }", None),
+    # no number, an absorbing one, a neutral one; operands that are there twice
+    *[(f"long f; void m(long x) {{ f = {text}; }} void n(long x) {{ f = {value}; }}", None) for text, value in (
+        ("max(x, 9223372036854775807)", "9223372036854775807"), ("x & 0 & f", "0"), ("x | -1", "-1"), ("x ^ x", "0"),
+        ("min(f, -9223372036854775807 - 1)", "-9223372036854775807 - 1"), ("x ^ f ^ (x ^ f ^ 5)", "5"),
+    )],
+    *[(f"long f; void m(long x) {{ {body} }} void n(long x) {{ f = x; }}", None) for body in (
+        "f |= 0;", "f ^= 0;", "f &= -1;", "f = max(f, -9223372036854775807 - 1);", "f = min(9223372036854775807, f);",
+        "f ^= x; f ^= x;", "f = f & f;", "f = max(f, f);", "f = f | f | f;", "f = f ^ f ^ f;",
+    )],
+    ("long f; void m(long x) { f |= 1; } void n(long x) { f = x; }", "FieldDiffers f"),
+    # a power and a product of one, and one with a factor, stay operands
+    ("long f; void m(long x) { f = max(f * f, x) ^ max(f * f, x); } void n() { f = 0; }", None),
+    ("long f; long g; void m(long x) { g += 2 * max(f, x) - max(x, f) - max(f, x); } void n(long x) { f = x; }", None),
+    ("long f; long g; void m(long x) { g += max(2 * max(f, x), x) - max(max(f, x), x); } void n(long x) { f = x; }",
+     "FieldDiffers g"),
+    ("long f; A *q; void t(long x) { } void m(long x) { f = max(f, x); q->t(f); }", "DemandsDiffer"),
+    ("long f; A *q; void t(long x) { } void m(long x) { f = max(f, x); q->t(x & 7); }", None),
+    ("long f; A *q; long g; void t(long x) { } void m(long x) { f ^= x; q->t(g ^ f ^ f); } void n(long x) { f ^= 5; }",
+     None),
 ]
 
 
@@ -375,6 +457,12 @@ LIMITS = [
     ("long f; long g; void m() { " + "f = f % 7; " * 2047 + "g = -f; }", None),
     ("long f; long g; void m() { " + "f = f % 7; " * 2047 + "g = - -f; }", "Large"),
     ("bool f; bool g; void m() { " + "f = !f; " * 2047 + "g = !f; }", None),
+    (f"long g; {DOUBLED.replace('+', '|')} g = -v; }}", "FieldDiffers g"),
+    (f"long g; {DOUBLED.replace('+', '|')} g = - -v; }}", "Large"),
+    ("long f; long g; void m() { " + "f = max(f, 7); " * 2047 + "g = -f; }", None),
+    ("long f; long g; void m() { " + "f = max(f, 7); " * 2047 + "g = - -f; }", "Large"),
+    (f"long h; long g; void m() {{ long s = h; {'s |= 3; ' * 255} g = s * s; }}", None),
+    (f"long h; long g; void m() {{ long s = h; {'s |= 3; ' * 255} g = s * s + 1; }}", "Large"),
 ]
 
 

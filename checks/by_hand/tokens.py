@@ -27,14 +27,15 @@ ROWS = [
     refused("a byte above 127, behind a comment with others", "int main() { /* \xc3\xa9 */ \xff }", "1:23", "E01"),
     refused("a byte 0", "\x00", "1:1", "E01"),
     refused_at("a byte order mark", "@\xef\xbb\xbfint main() { }", "E01"),
-    *[refused(f"the byte {letter}", main_of(letter), "1:14", "E01") for letter in "\"'#@~^?.\\`$"],
+    *[refused(f"the byte {letter}", main_of(letter), "1:14", "E01") for letter in "\"'#@~?.\\`$"],
     refused_at("a quote", main_of("print(@'a');"), "E01"),
     refused_at("a dot behind a name", "class A { public: long n; };\nint main() { A *a; a@.n = 1; }", "E01"),
-    refused("one `&`", main_of("bool b = true & false;"), "1:28", "E01"),
-    refused("three `&`", main_of("bool b = true &&& false;"), "1:30", "E01"),
-    refused("one `|`", main_of("bool b = true | false;"), "1:28", "E01"),
-    refused("three `|`", main_of("bool b = true ||| false;"), "1:30", "E01"),
-    refused("`&|`", main_of("bool b = true &| false;"), "1:28", "E01"),
+    refused("one `&`", main_of("bool b = true & false;"), "1:28", "E25"),
+    refused("three `&`", main_of("bool b = true &&& false;"), "1:30", "E10"),
+    refused("one `|`", main_of("bool b = true | false;"), "1:28", "E25"),
+    refused("three `|`", main_of("bool b = true ||| false;"), "1:30", "E10"),
+    refused("`&|`", main_of("bool b = true &| false;"), "1:29", "E10"),
+    refused("`^` alone", main_of("^"), "1:14", "E10"),
     # numbers
     ok(
         "the least and the greatest number", main_of("print(0); print(9223372036854775807);"),
@@ -68,7 +69,8 @@ ROWS = [
     *[
         refused(f"the key word {word} as a name", main_of(f"long {word};"), "1:19", "E10")
         for word in (
-            "class public long bool int void if else while for return new nullptr this true false print main".split()
+            "class public long bool int void if else while for return new nullptr this true false print main "
+            "max min".split()
         )
     ],
     # the longest token counts
@@ -97,7 +99,7 @@ ROWS = [
     ),
     refused("a number at the limit that a letter follows", "int main() {" + ";" * 262138 + "12ab", "1:262153", "E01"),
     refused("a comment without end past the limit", "int main() {" + ";" * 262139 + "/*", "1:262152", "E01"),
-    refused("one `&` past the limit", "int main() {" + ";" * 262139 + "&", "1:262152", "E01"),
+    refused("one `&` past the limit", "int main() {" + ";" * 262139 + "&", "1:262152", "E03"),
     refused("the limit before an earlier wrong token", "}int main() {" + ";" * 262139 + "}", "1:262152", "E03"),
     refused("a bad byte before the limit", "int main() {" + ";" * 262000 + "$" + ";" * 300, "1:262013", "E01"),
     # the limit on the size

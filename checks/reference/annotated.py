@@ -1,10 +1,11 @@
 """The canonical text of a tree, with the marks of a plan in it or with none, and a text without its marks."""
 
-from reference.reader import STRENGTH
+from reference.reader import OPERATORS, STRENGTH, WORDS
 
 LOCK, UNLOCK, SPAWN, PARALLEL = (f"/*@{word}*/" for word in ("lock", "unlock", "spawn", "parallel"))
 MARKS = (LOCK, UNLOCK, SPAWN, PARALLEL)
-UNARY, TAIL = 6, 7
+UNARY, TAIL = len(OPERATORS), len(OPERATORS) + 1
+LITERALS = ("number", "truth", "null")
 
 
 class Unmarked:
@@ -158,11 +159,12 @@ class Pen:
             self.put(op)
             self.put(*["new", right[1], "(", ")"]) if right[0] == "new" else self.expression(right)
 
-    # Expressions: in round brackets where they bind less than is due.
+    # Expressions: in round brackets where they bind less than is due, or where nothing may follow them.
 
     def expression(self, e, due=0):
-        strength = STRENGTH[e[1]] if e[0] == "binary" else UNARY if e[0] == "unary" else TAIL
-        is_bare = strength >= due and not (due == TAIL and e[0] in ("number", "truth", "null"))
+        strength = STRENGTH.get(e[1], TAIL) if e[0] == "binary" else UNARY if e[0] == "unary" else TAIL
+        is_closed = e[0] in LITERALS or e[0] == "binary" and e[1] in WORDS
+        is_bare = strength >= due and not (due == TAIL and is_closed)
         self.put(*([] if is_bare else ["("]))
         getattr(self, "method_call" if e[0] == "method" else e[0])(*e[1:])
         self.put(*([] if is_bare else [")"]))
@@ -207,6 +209,9 @@ class Pen:
         self.expression(e, UNARY)
 
     def binary(self, op, left, right):
+        if op in WORDS:
+            self.call(op, (left, right))
+            return
         self.expression(left, STRENGTH[op])
         self.put(op)
         self.expression(right, STRENGTH[op] + 1)

@@ -154,8 +154,8 @@ class Order:
             self.value(place, guard)
             op, right = f"{right[1]}=", right[3]
         value = self.value(right, guard)
-        if op == "*=":
-            value = operation("*", Term("select", array.sort, (array, i)), value)
+        if op not in ("=", "+=", "-="):
+            value = operation(op[0], Term("select", array.sort, (array, i)), value)
         if op == "-=":
             value = Term("neg", LONG, (value,))
         return Term("add_at" if op in ("+=", "-=") else "put", array.sort, (array, i, value), is_array=True)

@@ -1,17 +1,26 @@
 """Random programs for the analysis: operations that mostly commute, some of which are broken in one place.
 
 The first letter of a field says what operations do with it: k is read alone, s is added to, t multiplied, l put to one
-literal, a an array whose items are added to, and d is set where an operation does something once.
+literal, a an array whose items are added to, and d is set where an operation does something once. To f an operator is
+applied whose operands may stand in any order, one to each field.
 """
 
-from reference.programs import BOOL, LONG, Class, Method, Program
+from reference.programs import BOOL, FOLDS, LONG, Class, Method, Program, assignments
 from reference.texts import Writer, type_text
 
 HEAVY = 17
+# With which number an operator leaves the other operand as it is.
+MINUS_ONE, GREATEST = ("unary", "-", ("number", 1)), ("number", 2**63 - 1)
+LEAST = ("binary", "-", ("unary", "-", GREATEST), ("number", 1))
+NEUTRAL = {"&": MINUS_ONE, "|": ("number", 0), "^": ("number", 0), "max": LEAST, "min": GREATEST}
 
 
 def own(field):
     return ("read", None, field, None, None)
+
+
+def fold_of(field):
+    return FOLDS[int(field[1:]) % len(FOLDS)]
 
 
 def put(field, op, right, index=None, length=None):
@@ -21,8 +30,8 @@ def put(field, op, right, index=None, length=None):
 class Objects(Program):
     """`careful` tells that expressions may only read what no operation writes, and divide by literals."""
 
-    def __init__(self, rng):
-        self.rng, self.fresh, self.loops, self.careful = rng, 0, 0, True
+    def __init__(self, rng, folds=FOLDS):
+        self.rng, self.folds, self.fresh, self.loops, self.careful = rng, folds, 0, 0, True
         self.classes = [Class(f"C{i}") for i in range(rng.randint(1, 2))]
         for c in self.classes:
             c.fields = self.some_fields()
@@ -44,7 +53,9 @@ class Objects(Program):
     # Classes
 
     def some_fields(self):
-        kinds = self.rng.choices("kstlad", [5, 4, 2, 2, 2, 2], k=self.rng.randint(2, 7))
+        has_folds = bool(self.folds)
+        weights = [5, 4, 2, 2, 2, 2] + [5] * has_folds
+        kinds = self.rng.choices("kstlad" + "f" * has_folds, weights, k=self.rng.randint(2, 7))
         return [self.field(f"{kind}{i}", kind) for i, kind in enumerate(kinds)]
 
     def field(self, name, kind):
@@ -112,7 +123,7 @@ class Objects(Program):
         return [s for s in found if s is not None]
 
     def update(self, names, depth):
-        kind = self.rng.choice("ssstlaavpn" + "i" * (depth > 0))
+        kind = self.rng.choice("ssstlaavpn" + "ff" * bool(self.folds) + "i" * (depth > 0))
         if kind == "n":
             return ("block", self.neutral(names))
         if kind == "v":
@@ -134,6 +145,8 @@ class Objects(Program):
         kind = field[0]
         if kind == "l":
             return put(field, "=", ("truth", True) if ty == BOOL else ("number", len(field)))
+        if kind == "f":
+            return self.put_fold(field, names)
         index = self.expr(LONG, names, 1) if length and self.chance(0.6) else self.index(length, names, 1)
         old, e = ("read", None, field, index, length), self.expr(LONG, names, 2)
         op = "*" if kind == "t" else self.rng.choice("+-")
@@ -141,16 +154,29 @@ class Objects(Program):
         right = ("binary", op, e, old) if is_turned else ("binary", op, old, e)
         return self.rng.choice([put(field, f"{op}=", e, index, length), put(field, "=", right, index, length)])
 
+    def put_fold(self, field, names):
+        op, sides = fold_of(field), [own(field), self.expr(LONG, names, 2)]
+        if len(op) == 1 and self.chance(0.5):
+            return put(field, f"{op}=", sides[1])
+        if self.chance(0.2):
+            sides.append(self.expr(LONG, names, 1))
+        self.rng.shuffle(sides)
+        e = sides[0]
+        for side in sides[1:]:
+            e = ("binary", op, e, side) if self.chance(0.7) else ("binary", op, side, e)
+        return put(field, "=", e)
+
     # What leaves all as it was, or does the same on each path, whatever others have written
 
     def neutral(self, names):
         ways = [self.to_and_fro, self.on_each_path, self.twice_negated, self.same_pointer]
+        ways += [self.folded_twice] * bool(self.folds)
         return self.rng.choice(ways)(names) or []
 
     def condition(self, names):
         """A condition on written fields, which asks for nothing else."""
         fields = [own(f[0]) for f in self.fields_of("stld") if f[1] == BOOL]
-        numbers = [own(f[0]) for f in self.fields_of("st")] + [("number", 3)]
+        numbers = [own(f[0]) for f in self.fields_of("stf")] + [("number", 3)]
         op = self.rng.choice(["<", "<=", "==", "!=", ">", ">="])
         compared = ("binary", op, self.rng.choice(numbers), self.leaf(LONG, names, 0))
         found = self.rng.choice(fields + [compared])
@@ -187,6 +213,19 @@ class Objects(Program):
             pairs = [("&&", it), ("||", it), ("==", yes), ("!=", no), ("&&", yes), ("||", no)]
             same = [("unary", "!", ("unary", "!", it))] + [("binary", op, it, other) for op, other in pairs]
         return [put(name, "=", self.rng.choice(same))]
+
+    def folded_twice(self, names):
+        """A field with itself or with the number that doesn't change it, or the same twice to it."""
+        fields = self.fields_of("stf")
+        if not fields:
+            return []
+        name, e = self.rng.choice(fields)[0], self.expr(LONG, names, 1)
+        if self.chance(0.4):
+            return [put(name, "^=", e), put(name, "^=", e)]
+        op = self.rng.choice(FOLDS)
+        sides = [own(name), own(name) if op != "^" and self.chance(0.5) else NEUTRAL[op]]
+        self.rng.shuffle(sides)
+        return [put(name, "=", ("binary", op, *sides))]
 
     def same_pointer(self, names):
         c = self.rng.choice(self.classes).name
@@ -256,9 +295,9 @@ class Objects(Program):
 
     def mixed(self, names):
         """Another operation than the usual one on a field."""
-        changed = self.fields_of("stlad")
+        changed = self.fields_of("stladf")
         name, ty, length = self.rng.choice(changed if changed and self.chance(0.9) else self.within.fields)
-        op = self.rng.choice(["+=", "*=", "=", "="]) if ty == LONG else "="
+        op = self.rng.choice(["+=", "*=", "=", "="] + assignments(self.folds)) if ty == LONG else "="
         return [put(name, op, self.expr(ty, names, 1), self.index(length, names, 1), length)]
 
     def division(self, names):
@@ -283,7 +322,8 @@ class Objects(Program):
         if f is None:
             return []
         if self.chance(0.5):
-            return [put(f, "=", ("binary", "+", own(f), own(f)))] * self.rng.randint(HEAVY - 3, HEAVY + 1)
+            op = self.rng.choice(["+", *self.folds]) if self.folds else "+"
+            return [put(f, "=", ("binary", op, own(f), own(f)))] * self.rng.randint(HEAVY - 3, HEAVY + 1)
         wide = ("binary", "+", self.expr(LONG, names, 1), ("binary", "+", own(f), ("number", 1)))
         return [put(f, "*=", wide)] * self.rng.randint(2, 12)
 

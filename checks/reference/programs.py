@@ -13,6 +13,15 @@ An expression or a statement is a tuple whose first word says what it is:
 
 LONG, BOOL = "long", "bool"
 NUMBERS = [0, 1, 2, 3, 7, 10, 2**31, 2**62, 2**63 - 1]
+# Operators whose operands may stand in any order.
+FOLDS = ["&", "|", "^", "max", "min"]
+# Operators that give truth values.
+TRUTHS = ["<", ">", "<=", ">=", "==", "!=", "&&", "||", "!"]
+
+
+def assignments(folds):
+    """The assignments of these operators."""
+    return [f"{op}=" for op in folds if len(op) == 1]
 
 
 class Class:
@@ -30,10 +39,13 @@ class Method:
 
 
 class Program:
-    """A random program. A method calls only those that stand before it in some order, so that runs are short."""
+    """A random program. A method calls only those that stand before it in some order, so that runs are short.
 
-    def __init__(self, rng):
-        self.rng, self.fresh, self.loops = rng, 0, 0
+    `folds` has the operators of FOLDS that it uses: all or none.
+    """
+
+    def __init__(self, rng, folds=FOLDS):
+        self.rng, self.folds, self.fresh, self.loops = rng, folds, 0, 0
         self.classes = [Class(f"C{i}") for i in range(rng.randint(1, 3))]
         for c in self.classes:
             c.fields = [(f"f{i}", self.type(), rng.choice([None, None, None, 1, 3])) for i in range(rng.randint(1, 5))]
@@ -77,7 +89,7 @@ class Program:
         return ("null",)
 
     def operate(self, ty, names, depth):
-        ops = {LONG: ["+", "-", "*", "-1"] * 6 + ["/", "%"], BOOL: ["<", ">", "<=", ">=", "==", "!=", "&&", "||", "!"]}
+        ops = {LONG: ["+", "-", "*", "-1"] * 6 + ["/", "%"] + 2 * self.folds, BOOL: TRUTHS}
         op = self.rng.choice(ops.get(ty, [None]))
         if op in ("-1", "!", None):
             return op and ("unary", op[0], self.expr(ty, names, depth))
@@ -161,7 +173,7 @@ class Program:
 
     def assigned(self, ty, names):
         if ty == LONG and self.rng.random() < 0.5:
-            return self.rng.choice(["+=", "-=", "*="]), self.expr(LONG, names, 2)
+            return self.rng.choice(["+=", "-=", "*="] + assignments(self.folds)), self.expr(LONG, names, 2)
         return "=", self.right(ty, names)
 
     def put(self, names, _):

@@ -17,16 +17,21 @@ A type is "long", "bool" or the name of a class.
 import re
 
 KEYS = set(
-    "class public long bool int void if else while for return new nullptr this true false print main".split()
+    "class public long bool int void if else while for return new nullptr this true false print main max min".split()
 )
 TOKEN = re.compile(
     r"(?P<gap>[ \t\r\n]+|//[^\n]*|/\*.*?\*/)|(?P<word>[A-Za-z_]\w*)|(?P<number>\d+)"
-    r"|(?P<sign>->|&&|\|\||[=!<>+*-]=|\+\+|--|[{}()\[\];,:=<>+*/%!-])",
+    r"|(?P<sign>->|&&|\|\||[=!<>+*&|^-]=|\+\+|--|[{}()\[\];,:=<>+*/%!&|^-])",
     re.DOTALL | re.ASCII,
 )
 # Binary operators, from the weakest to the strongest.
-OPERATORS = [("||",), ("&&",), ("==", "!="), ("<", ">", "<=", ">="), ("+", "-"), ("*", "/", "%")]
+OPERATORS = [
+    ("||",), ("&&",), ("|",), ("^",), ("&",), ("==", "!="), ("<", ">", "<=", ">="), ("+", "-"), ("*", "/", "%"),
+]
 STRENGTH = {op: strength for strength, ops in enumerate(OPERATORS) for op in ops}
+# Operators that are written as calls, and those that an assignment may have.
+WORDS = ("max", "min")
+ASSIGNED = ("+=", "-=", "*=", "&=", "|=", "^=")
 LITERALS = {"true": ("truth", True), "false": ("truth", False), "nullptr": ("null",), "this": ("this",)}
 
 
@@ -211,7 +216,7 @@ class Reader:
         op = self.take()
         if op in ("++", "--"):
             return ("assign", line, chain, f"{op[0]}=", ("number", 1))
-        if op not in ("=", "+=", "-=", "*="):
+        if op != "=" and op not in ASSIGNED:
             raise SyntaxError(f"line {line}: {op!r} assigns nothing")
         return ("assign", line, chain, op, self.right() if op == "=" else self.expression())
 
@@ -270,6 +275,8 @@ class Reader:
         if word in LITERALS:
             self.take()
             found = LITERALS[word]
+        elif word in WORDS:
+            return self.of_word(self.take())
         elif word.isdigit():
             found = ("number", int(self.take()))
         elif self.has("("):
@@ -279,6 +286,14 @@ class Reader:
             name = self.name()
             found = ("call", name, self.arguments()) if self.has("(") else ("name", name)
         return self.tails(found)
+
+    def of_word(self, op):
+        self.must("(")
+        left = self.expression()
+        self.must(",")
+        right = self.expression()
+        self.must(")")
+        return ("binary", op, left, right)
 
     def tails(self, found):
         while self.next() in ("->", "["):

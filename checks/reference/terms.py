@@ -2,14 +2,27 @@
 
 The form of a number or truth value is a sum: a frozen set of pairs of a monomial and its factor modulo 2^64, and a
 monomial is a frozen set of pairs of a part and its exponent. Truth is 1, and falsehood the empty sum. A part is a tuple
-of a word, its sort and what it is made of. The form of a pointer is a part, ("null",) or ("choice", sum, form, form).
-That of an array is ("items", sort, number), ("put", array, index, form), ("sums", array, frozen set of pairs of an
+of a word, its sort and what it is made of. A part that `&`, `|`, `^`, `max` or `min` makes has the operator, what its
+numbers come to and the set of its other operands, which are sums. The form of a pointer is a part, ("null",) or
+("choice", sum, form, form). That of an array is ("items", sort, number), ("put", array, index, form), ("sums", array, frozen set of pairs of an
 index and a sum) or ("choice", sum, array, array).
 """
+
+from collections import Counter
+from functools import reduce
 
 LONG, BOOL, POINTER = "long", "bool", "pointer"
 WORD, LEAST = 2**64, -(2**63)
 DEPTH_WEIGHT = 16
+# Operators whose operands may stand in any order: the value of two numbers, the number that changes no other, and the
+# one that no other changes. Two equal operands of `^` are nothing, of the others one.
+FOLDS = {
+    "max": (max, LEAST, -LEAST - 1),
+    "min": (min, -LEAST - 1, LEAST),
+    "&": (lambda a, b: a & b, -1, 0),
+    "|": (lambda a, b: a | b, 0, -1),
+    "^": (lambda a, b: a ^ b, 0, None),
+}
 
 
 class Term:
@@ -52,6 +65,7 @@ SPREADS = {
     "less_equal": sum_of,
     "put": sum_of,
     "add_at": sum_of,
+    "fold": sum_of,
     "mul": lambda a, b: a.spread * b.spread,
     "and": lambda a, b: a.spread * b.spread,
     "or": either_spread,
@@ -150,6 +164,36 @@ def divided(form, divisor, word):
         return alone((word, LONG, form, divisor))
     quotient = abs(n) // abs(divisor) * (1 if (n < 0) == (divisor < 0) else -1)
     return constant(quotient if word == "quotient" else n - quotient * divisor)
+
+
+def only_part(form):
+    """The part that a sum is, or None."""
+    if len(form) != 1:
+        return None
+    [(m, factor)] = form
+    return next((part for part, exponent in m if len(m) == exponent == factor == 1), None)
+
+
+def operands_of(op, form):
+    """The numbers and the other operands that an operand stands for."""
+    n, part = constancy(form), only_part(form)
+    if n is not None:
+        return [n], []
+    return ([part[3]], part[4]) if part and part[:3] == ("fold", LONG, op) else ([], [form])
+
+
+def folded(op, a, b):
+    value, neutral, absorbing = FOLDS[op]
+    numbers, counts = [neutral], Counter()
+    for form in (a, b):
+        found, operands = operands_of(op, form)
+        numbers += found
+        counts.update(operands)
+    n = reduce(value, numbers)
+    kept = frozenset(form for form, count in counts.items() if op != "^" or count % 2)
+    if n == absorbing or not kept:
+        return constant(n)
+    return next(iter(kept)) if len(kept) == 1 and n == neutral else alone(("fold", LONG, op, n, kept))
 
 
 # Pointers
@@ -258,6 +302,7 @@ FORMS = {
     "not": lambda t, a: negation(a.form()),
     "divide": lambda t, a: divided(a.form(), t.more, "quotient"),
     "remainder": lambda t, a: divided(a.form(), t.more, "modulus"),
+    "fold": lambda t, a, b: folded(t.more, a.form(), b.form()),
     "less": lambda t, a, b: less(a.form(), b.form()),
     "less_equal": lambda t, a, b: negation(less(b.form(), a.form())),
     "same": same_form,
@@ -297,6 +342,8 @@ def operation(op, left, right):
         return operation(op.replace(">", "<"), right, left)
     if op == "!=":
         return Term("not", BOOL, (operation("==", left, right),))
+    if op in FOLDS:
+        return Term("fold", LONG, (left, right), more=op)
     word, sort = OPERATIONS[op]
     return Term(word, sort, (left, right))
 

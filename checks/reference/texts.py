@@ -2,8 +2,9 @@
 
 from reference.programs import BOOL, LONG
 
-STRENGTH = {"||": 0, "&&": 1, "==": 2, "!=": 2, "<": 3, ">": 3, "<=": 3, ">=": 3, "+": 4, "-": 4, "*": 5, "/": 5, "%": 5}
-UNARY, TAIL = 6, 7
+LEVELS = ["||", "&&", "|", "^", "&", "== !=", "< > <= >=", "+ -", "* / %"]
+STRENGTH = {op: level for level, ops in enumerate(LEVELS) for op in ops.split()}
+UNARY, TAIL = len(LEVELS), len(LEVELS) + 1
 
 
 def type_text(ty):
@@ -35,7 +36,7 @@ class Writer:
     def expr(self, e, least=0):
         kind = e[0]
         if kind in ("unary", "binary"):
-            strength = UNARY if kind == "unary" else STRENGTH[e[1]]
+            strength = UNARY if kind == "unary" else STRENGTH.get(e[1], UNARY)
             text = self.operation(e, strength)
             return f"({text})" if strength < least or self.rng.random() < 0.1 else text
         if kind == "read":
@@ -50,6 +51,8 @@ class Writer:
     def operation(self, e, strength):
         if e[0] == "unary":
             return f"{e[1]} {self.expr(e[2], strength)}"
+        if e[1] not in STRENGTH:
+            return f"{e[1]}({self.expr(e[2])}, {self.expr(e[3])})"
         return f"{self.expr(e[2], strength)} {e[1]} {self.expr(e[3], strength + 1)}"
 
     def place(self, field, index):

@@ -22,6 +22,14 @@ pairs:extent A::m$A::m A::m commutes$
 emit:class A {$public :$long f ;$long g ;$void m ( long x ) {$f = f + x ;$}$} ;$int main ( ) {$A * a = new A ( ) ;$a -> m ( 1 ) ;$}$
 of class A { public: long f; void put(long x) { this->f = x; } void add(long x) { f += x + x; } void own(long x) { x = f; } }; int main() { }
 pairs:extent A::put$A::put A::put unproved FieldDiffers f$extent A::add$A::add A::add commutes$extent A::own$A::own A::own commutes$
+of class M { public: long x; void up(long v) { x = max(x, v); } void lo(long v) { x = min(x, v); } void both(long v) { up(v); lo(v); } }; int main() { }
+pairs:extent M::up$M::up M::up commutes$extent M::lo$M::lo M::lo commutes$extent M::both$M::up M::up commutes$M::up M::lo unproved FieldDiffers x$M::up M::both commutes$M::lo M::lo commutes$M::lo M::both commutes$M::both M::both commutes$
+plan:op M::up serial$op M::lo serial$op M::both serial$
+of class X { public: long x; void f(long v) { x ^= v; } void g() { f(5); f((x | 3) & 6); } }; int main() { X *a = new X(); a->g(); }
+pairs:extent X::f$X::f X::f commutes$extent X::g$X::f X::f commutes$X::f X::g unproved NotSeparable X::g 1 AccessAfterCall$X::g X::g unproved NotSeparable X::g 1 AccessAfterCall$
+emit:class X {$public :$long x ;$void f ( long v ) {$x ^= v ;$}$void g ( ) {$f ( 5 ) ;$f ( ( x | 3 ) & 6 ) ;$}$} ;$int main ( ) {$X * a = new X ( ) ;$a -> g ( ) ;$}$
+of class X { public: long x; void f(long v) { x ^= v; } void g(long v) { f((v) & 3); f(max(v | 3, 6)); } }; int main() { X *a = new X(); a->g(1); }
+emit:class X {$public :$long x ;$void f ( long v ) {$/*@lock*/ x ^= v ;$/*@unlock*/ }$void g ( long v ) {$/*@spawn*/ f ( v & 3 ) ;$f ( max ( v | 3 , 6 ) ) ;$}$} ;$int main ( ) {$X * a = new X ( ) ;$/*@parallel*/ a -> g ( 1 ) ;$}$
 of $ /* of visits */ class A { public: void m() { ; } }; int main() { }
 plan:op A::m serial$
 of class A { public: void m() { ; } void n() { m(); } void e() { } }; int main() { A *a = new A(); { a->n(); } ; while (a == nullptr) a->n(); }

@@ -1,7 +1,7 @@
 //! Texts that are refused, each with the line that is told of it: `refusal_text` of `ca_app/specs/Refusals.antt`.
 
 /// A line for each text: the text, `=>` and what is told.
-pub const REFUSED: &str = "int main() { print(1 & 2); } => error 1:22 E01
+pub const REFUSED: &str = "int main() { print(1 # 2); } => error 1:22 E01
 int main() /* / => error 1:12 E01
 int main() { long x = 007; } => error 1:23 E01
 int main() { print(0x1F); } => error 1:21 E01
@@ -9,6 +9,10 @@ int main() { print(5L); } => error 1:21 E01
 int main() { long x = 9223372036854775808; } => error 1:23 E02
 int main() { print(99999999999999999999L); } => error 1:20 E02
 int main() { x = ; } => error 1:18 E10
+int main() { long max = 1; } => error 1:19 E10
+int main() { print(true &&& true); } => error 1:27 E10
+int main() { bool b; b ||= true; } => error 1:24 E10
+int main() { print(max(1, 2)[0]); } => error 1:29 E10
 int main() { => error 1:13 E10
 class A { public: }; class A { public: }; int main() { } => error 1:28 E20
 int main() { B *b = nullptr; } => error 1:14 E21
@@ -16,6 +20,10 @@ class A { public: long n; void n() { } }; int main() { } => error 1:32 E22
 int main() { long x; long x; } => error 1:27 E23
 int main() { y = 1; } => error 1:14 E24
 int main() { long x = true; } => error 1:23 E25
+int main() { print(true & 1); } => error 1:25 E25
+int main() { print(1 & 2 == 2); } => error 1:22 E25
+int main() { print(max(1, true)); } => error 1:20 E25
+int main() { long x; x |= true; } => error 1:27 E25
 int main() { long x = 1 < 2; } => error 1:25 E25
 class A { public: void m(long p) { } void k() { m(); } }; int main() { } => error 1:49 E26
 class A { public: long n; }; int main() { A *a = new A(); a->n = 1; } => error 1:60 E27

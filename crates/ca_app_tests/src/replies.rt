@@ -21,7 +21,7 @@ run 1 1@int main() { print(1); long z = 0; print(5 / z); }@3@1$trap 1 ZeroDiviso
 pairs@first@0@extent Acc::add$Acc::add Acc::add commutes$extent Acc::tie$Acc::tie Acc::tie unproved FieldDiffers peer$
 plan@visit@0@op Graph::init serial$op Graph::visit parallel$
 plan@int main() { print(1); }@0@
-run 1 100@int main() { print(1 & 2); }@1@error 1:22 E01$
+run 1 100@int main() { print(1 # 2); }@1@error 1:22 E01$
 pairs@int main() { x = ; }@1@error 1:18 E10$
 plan@int main() { y = 1; }@1@error 1:14 E24$
 run 1 1@class A { public: long a[1000001]; }; int main() { }@8@limit 1:24 E56$

@@ -52,6 +52,25 @@ of int main() { for (long i = 0; i < 3; i++) { long s; s += 1; print(s); } }
 // comments, and what is added and taken away by one
 of int main() { long x = 5; x++; /* , */ x--; x *= 2; print(x); // done$ }
 1 0:10$
+// bits, and the greater and the less of two; `&` binds more than `^`, and `^` more than `|`
+of int main() { print(6 & 3); print(6 | 3); print(6 ^ 3); print(max(-1, 2)); print(min(-1, 2)); print(1 | 6 & 3); }
+1 0:2$7$5$2$-1$3$
+of int main() { print(6 ^ 3 & 5); print(1 | 3 ^ 3); print(6 & 1 + 1); print(-6 & 3); print((1 | 2) == 3 && (6 & 3) < 3); print(-max(1, 2) * 3); long x = 6; x &= 3; x |= 5; x ^= 2; print(x); }
+1 0:7$1$2$2$true$-6$5$
+// the right side of `&` is asked for, that of `&&` isn't
+of int main() { long z = 0; print(false && (0 & 1 / z) == 0); print(0 & 1 / z); }
+1 3:false$trap 1 ZeroDivisor$
+// each side of `max` takes its steps once
+of class F { public: long f(long n) { return n; } }; int main() { F *a = new F(); print(max(a->f(1), a->f(2))); }
+2 0:2$#0 F$
+1 4:spent 1$
+// a parity, of which two cancel
+of class X { public: long x; void f(long v) { x ^= v; } void g() { f(5); f(5); f(3); } }; int main() { X *a = new X(); a->g(); }
+4 0:#0 X x=3$
+3 4:spent 3$
+// what thirty calls gather
+of class B { public: long any; long odd; long top; long low; void add(long v) { any |= v; odd ^= v; top = max(top, v); low = min(-v, low); } }; class R { public: B *b[3]; void make() { for (long i; i < 3; i++) b[i] = new B(); } void go() { for (long i; i < 30; i++) b[i % 3]->add(i); } }; int main() { R *r = new R(); r->make(); r->go(); }
+65 0:#0 R b=[#1,#2,#3]$#1 B any=31 odd=11 top=27 low=-27$#2 B any=31 odd=21 top=28 low=-28$#3 B any=31 odd=31 top=29 low=-29$
 // an inner block declares a name again, both branches return, and a local hides no method
 of class A { public: void m() { print(2); } void n(long m) { m(); } long f(bool b) { if (b) return 3; else { return 4; } } }; int main() { long x; { bool x; print(x); } A *a = new A(); a->n(x); print(a->f(true)); print(a->f(x == 1)); }
 9 0:false$2$3$4$#0 A$";

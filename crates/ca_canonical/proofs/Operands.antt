@@ -12,7 +12,6 @@ use Rattle.ca_tree.specs.declared.tree.UnaryOp.{UnaryOp}
 use Rattle.ca_tree.specs.Operators.{level, writing, unary_level}
 use Rattle.ca_tree.specs.declared.operators.Writing.{Writing}
 use Rattle.ca_tree.specs.declared.operators.Writing.TheVariants.{Between, Before}
-use Rattle.ca_tree.specs.declared.operators.TheConstants.{LEVELS}
 use Rattle.ca_tree.proofs.Table.{IsBelow, level_below}
 use Rattle.ca_tree.specs.Plain.{Expression, Expressions, this, named, call, field, method, index, unary, binary, no_expressions, expression_and}
 use Rattle.ca_expressions.specs.Grammar.{expressions, Level, operands, one_operand, Operands, operands_end, operands_more, Unary, unary_first, unary_last, Primary, a_literal, a_chain, in_brackets, by_word, sides, Chain, this_chain, name_chain, call_chain, Tails, tails_end, tails_more, Tail, field_tail, method_tail, index_tail, Args, args, Listed, listed_none, listed, Further, further_none, further}

@@ -6,7 +6,8 @@
 //! promises that what it answers is the value of the expression where no step is left; by the law in `laws`
 //! that is its value in the meaning of programs, whatever calls mean there, and no step is taken. Nothing is
 //! promised of `None`: the interpreter tries these calls first, and goes on with its stack at `None`.
-//! `arithmetic` and `compared` are what operators give for two numbers, for those who find the numbers otherwise.
+//! `arithmetic` and `compared` are what operators give for two numbers, for those who find the numbers otherwise, and
+//! `gives_number` chooses between them.
 //! `scene` has what a scene holds and any value, `numbers`, `truths` and `pointers` one type each.
 //!
 //! Whoever reads the public clauses must believe `Direct` of `specs/`.
@@ -18,6 +19,6 @@ mod pointers;
 mod scene;
 mod truths;
 
-pub use numbers::arithmetic;
+pub use numbers::{arithmetic, gives_number};
 pub use scene::Scene;
 pub use truths::compared;

@@ -85,14 +85,14 @@ impl<'a> Scene<'a> {
         }
     }
 
-    /// What an operator that can't fail gives for two leaves.
+    /// What an operator of numbers gives for two leaves.
     #[inline(always)]
     fn on_leaves(&self, op: BinaryOp, a: &Expr, b: &Expr) -> Option<i64>
         ensures { IfSome result (λ n. seen self.now (binary op (expression_view a.now) (expression_view b.now)) ≡ gives (Long n) 0) }
     {
         match self.leaf(a) {
             Some(left) => match self.leaf(b) {
-                Some(right) => quick(op, left, right),
+                Some(right) => arithmetic(op, left, right),
                 None => None,
             },
             None => None,
@@ -203,14 +203,21 @@ fn long(value: Value) -> Option<i64>
     }
 }
 
-/// The number that an operator that can't fail gives for two numbers.
+/// Whether an operator gives a number for two numbers. It decides only which way is taken, so every answer is right.
 #[inline(always)]
-fn quick(op: BinaryOp, left: i64, right: i64) -> Option<i64>
-    ensures { IfSome result (λ n. operated_longs op left right ≡ Ok (Long n)) }
-{
+pub fn gives_number(op: BinaryOp) -> bool {
     match op {
-        BinaryOp::Plus | BinaryOp::Minus | BinaryOp::Times => arithmetic(op, left, right),
-        _ => None,
+        BinaryOp::Plus
+        | BinaryOp::Minus
+        | BinaryOp::Times
+        | BinaryOp::Divide
+        | BinaryOp::Remainder
+        | BinaryOp::BitAnd
+        | BinaryOp::BitOr
+        | BinaryOp::BitXor
+        | BinaryOp::Max
+        | BinaryOp::Min => true,
+        _ => false,
     }
 }
 
@@ -237,6 +244,11 @@ pub fn arithmetic(op: BinaryOp, left: i64, right: i64) -> Option<i64>
                 Some(left.wrapping_rem(right))
             }
         }
+        BinaryOp::BitAnd => Some(left & right),
+        BinaryOp::BitOr => Some(left | right),
+        BinaryOp::BitXor => Some(left ^ right),
+        BinaryOp::Max => Some(left.max(right)),
+        BinaryOp::Min => Some(left.min(right)),
         _ => None,
     }
 }

@@ -6,8 +6,9 @@ ghost use Rattle.ca_program.specs.Plain.{read};
 ghost use Rattle.ca_meaning.specs.Expressions.{gives, one_in};
 ghost use Rattle.ca_direct.specs.Direct.{seen, own_in, slot_at, item_in};
 
+use crate::numbers::gives_number;
 use ca_model::{Heap, Slot, Value};
-use ca_program::{BinaryOp, Expr, FieldId, UnaryOp};
+use ca_program::{Expr, FieldId, UnaryOp};
 
 /// What an expression is read in. Own fields are read in the slots that are handed in, and else in those
 /// that the receiver has in the heap. The locals are those of the body that runs.
@@ -150,14 +151,13 @@ impl<'a> Scene<'a> {
                 UnaryOp::Minus => self.number(e),
                 UnaryOp::Not => self.truth(e),
             },
-            Expr::Binary(op, _, _) => match op {
-                BinaryOp::Plus
-                | BinaryOp::Minus
-                | BinaryOp::Times
-                | BinaryOp::Divide
-                | BinaryOp::Remainder => self.number(e),
-                _ => self.truth(e),
-            },
+            Expr::Binary(op, _, _) => {
+                if gives_number(*op) {
+                    self.number(e)
+                } else {
+                    self.truth(e)
+                }
+            }
             _ => self.read(e),
         }
     }

@@ -2,7 +2,7 @@
 
 ghost use Rattle.std.specs.Prelude.{◌≡◌, IfSome, None, Ok};
 ghost use Rattle.ca_program.specs.View.{expression_view};
-ghost use Rattle.ca_program.specs.Plain.{binary, null};
+ghost use Rattle.ca_program.specs.Plain.{binary};
 ghost use Rattle.ca_model.specs.declared.value.Value.TheVariants.{Bool as Truth};
 ghost use Rattle.ca_meaning.specs.Expressions.{gives, decided};
 ghost use Rattle.ca_meaning.specs.Operators.{operated, operated_longs};

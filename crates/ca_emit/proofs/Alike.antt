@@ -9,10 +9,10 @@ use Rattle.std.proofs.lemmas.Slice.Eq.{bytes_eq-Decides}
 use Rattle.ca_tree.specs.declared.tree.BinaryOp.{BinaryOp}
 use Rattle.ca_tree.specs.declared.tree.UnaryOp.{UnaryOp}
 use Rattle.ca_tree.specs.declared.token.Sign.{Sign}
-use Rattle.ca_tree.specs.Codes.{sign_code, same_sign}
-use Rattle.ca_tree.specs.Operators.{binary_sign, binary_of_sign, unary_sign, unary_of_sign}
+use Rattle.ca_tree.specs.Codes.{sign_code, binary_code, same_sign, same_binary}
+use Rattle.ca_tree.specs.Operators.{unary_sign, unary_of_sign}
 use Rattle.ca_tree.specs.Plain.{Expression, Expressions, number, truth, null, this, named, call, field, method, index, unary, binary, no_expressions, expression_and}
-use Rattle.ca_tree.proofs.Table.{is_sign, binary_back, unary_back}
+use Rattle.ca_tree.proofs.Table.{is_sign, is_binary, unary_back}
 use Rattle.std.proofs.lemmas.Bool.{eq-eqb}
 use Rattle.ca_canonical.specs.Bare.{bare_expression, bare_expressions, nowhere}
 use Rattle.ca_symbolic.specs.Same.{same_truth}
@@ -31,9 +31,6 @@ names m n e = (bytes_eq-Decides m n).0 e
 
 unaries : (o s : UnaryOp) → same_sign (unary_sign o) (unary_sign s) ≡ true → o ≡ s
 unaries o s e = let one : Some o ≡ Some s = sym (unary_back o) ∙ (ap unary_of_sign (is_sign (unary_sign o) (unary_sign s) e) ∙ unary_back s) in cc
-
-binaries : (o s : BinaryOp) → same_sign (binary_sign o) (binary_sign s) ≡ true → o ≡ s
-binaries o s e = let one : Some o ≡ Some s = sym (binary_back o) ∙ (ap binary_of_sign (is_sign (binary_sign o) (binary_sign s) e) ∙ binary_back s) in cc
 
 mutual
   alike : (d e : Expression) → same_expression d e ≡ true → bare_expression d ≡ bare_expression e
@@ -58,9 +55,9 @@ mutual
   alike (unary at o d) (unary at2 t e) s =
       let b = and_parts (same_sign (unary_sign o) (unary_sign t)) (same_expression d e) s in ap₂ (unary nowhere) (unaries o t b.0) (alike d e b.1)
   alike (binary at o a b) (binary at2 t d e) s =
-      let x = and_parts (same_sign (binary_sign o) (binary_sign t)) (same_expression a d && same_expression b e) s in
+      let x = and_parts (same_binary o t) (same_expression a d && same_expression b e) s in
       let y = and_parts (same_expression a d) (same_expression b e) x.1 in
-      let p : o ≡ t = binaries o t x.0 in
+      let p : o ≡ t = is_binary o t x.0 in
       let q : bare_expression a ≡ bare_expression d = alike a d y.0 in
       let r : bare_expression b ≡ bare_expression e = alike b e y.1 in
       λ i. binary nowhere (p i) (q i) (r i)
@@ -85,6 +82,9 @@ name_itself n = (bytes_eq-Decides n n).1 refl
 sign_itself : (s : Sign) → same_sign s s ≡ true
 sign_itself s = eq-eqb (sign_code s) (sign_code s) refl
 
+binary_itself : (o : BinaryOp) → same_binary o o ≡ true
+binary_itself o = eq-eqb (binary_code o) (binary_code o) refl
+
 two : (a b : Bool) → a ≡ true → b ≡ true → (a && b) ≡ true
 two true true p q = refl
 two true false p q = absurd cc
@@ -106,7 +106,7 @@ mutual
   bare_is (index at e i) = two (same_expression (bare_expression e) (bare_expression e)) (same_expression (bare_expression i) (bare_expression i)) (bare_is e) (bare_is i)
   bare_is (unary at o e) = two (same_sign (unary_sign o) (unary_sign o)) (same_expression (bare_expression e) (bare_expression e)) (sign_itself (unary_sign o)) (bare_is e)
   bare_is (binary at o a b) =
-      two (same_sign (binary_sign o) (binary_sign o)) (same_expression (bare_expression a) (bare_expression a) && same_expression (bare_expression b) (bare_expression b)) (sign_itself (binary_sign o))
+      two (same_binary o o) (same_expression (bare_expression a) (bare_expression a) && same_expression (bare_expression b) (bare_expression b)) (binary_itself o)
       (two (same_expression (bare_expression a) (bare_expression a)) (same_expression (bare_expression b) (bare_expression b)) (bare_is a) (bare_is b))
 
   all_bare : (es : Expressions) → same_expressions (bare_expressions es) (bare_expressions es) ≡ true
@@ -126,7 +126,7 @@ mutual
   aside (method at d m xs) (method at2 e n ys) = ap₂ (λ a b. bytes_eq m n && (a && b)) (aside d e) (all_aside xs ys)
   aside (index at d i) (index at2 e j) = ap₂ (λ a b. a && b) (aside d e) (aside i j)
   aside (unary at o d) (unary at2 t e) = ap (λ b. same_sign (unary_sign o) (unary_sign t) && b) (aside d e)
-  aside (binary at o a b) (binary at2 t d e) = ap₂ (λ x y. same_sign (binary_sign o) (binary_sign t) && (x && y)) (aside a d) (aside b e)
+  aside (binary at o a b) (binary at2 t d e) = ap₂ (λ x y. same_binary o t && (x && y)) (aside a d) (aside b e)
   aside d e = refl
 
   all_aside : (xs ys : Expressions) → same_expressions (bare_expressions xs) (bare_expressions ys) ≡ same_expressions xs ys

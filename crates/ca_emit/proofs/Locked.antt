@@ -22,8 +22,6 @@ use Rattle.ca_lock_laws.specs.Paths.{Guards, Through}
 use Rattle.ca_lock_laws.specs.Guarded.{Begins, a_call, a_loop, KeepsLock, follows as follows_by, before_calls, before_in, locked_guards, free_guards}
 use Rattle.ca_lock_laws.proofs.Kept.{parallel_keeps, free_parallel_keeps}
 use Rattle.ca_canonical.specs.declared.marks.Mark.TheVariants.{Lock, Unlock}
-use Rattle.ca_canonical.specs.Annotated.{annotated}
-use Rattle.ca_canonical.specs.Texts.{text_of_pieces}
 use Rattle.ca_plan.specs.Checked.{Checked}
 use Rattle.ca_plan.specs.Plans.{Judged, JudgedLoop, PlainPlan, PlanOf, op_at, call_loops_of}
 use Rattle.ca_plan.specs.Texts.{loop_in}

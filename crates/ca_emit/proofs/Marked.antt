@@ -1,8 +1,7 @@
 -- No mark of a call or a loop that runs in parallel is lost.
 use Rattle.std.proofs.Common.{◌≡◌, ℕ, zero, suc, ◌+◌, Bool, true, false, ◌||◌, List, [], ◌∷◌, ◌++◌, map, length, Option, Some, None, Result, Ok, Err, IfOk, refl, sym, ap, ap₂, subst, ◌∙◌, arith}
 use Rattle.std.specs.Prelude.{slice_get, nat_eq, Contains}
-use Rattle.std.specs.List.{list_any}
-use Rattle.std.proofs.lemmas.Bool.{or_left, or_right}
+use Rattle.std.proofs.lemmas.Bool.{or_right}
 use Rattle.std.proofs.lemmas.List.{length-map, length-append}
 use Rattle.ca_tree.specs.declared.name.Place.{Place}
 use Rattle.ca_tree.specs.Plain as tree
@@ -14,13 +13,12 @@ use Rattle.ca_meaning.specs.Functions.{body_of}
 use Rattle.ca_parallel.specs.Extents.{operation_body}
 use Rattle.ca_parallel.specs.Lists.{PlainMarks, op_in}
 use Rattle.ca_lock_laws.specs.Resolves.{AllBodies, ProgramResolves}
-use Rattle.ca_lock_laws.specs.Sites.{lines_of, lines_of_all, SameSites, ProgramSites}
+use Rattle.ca_lock_laws.specs.Sites.{lines_of, lines_of_all, SameSites}
 use Rattle.ca_lock_laws.proofs.Paired.{sites_paired}
-use Rattle.ca_canonical.specs.declared.marks.Mark.{Mark}
 use Rattle.ca_canonical.specs.declared.marks.Mark.TheVariants.{Spawn, Parallel}
 use Rattle.ca_plan.specs.Plans.{PlainPlan, op_at}
 use Rattle.ca_plan.specs.Texts.{loop_in}
-use Rattle.ca_emit.specs.Annotations.{all_sites, annotated_text, before_statement, bodies_from, is_among, locked_bodies, marking_by, marking_of, marks_if, number_in, operations_of, parallel_bodies, parallel_ops, parallel_sites, picked, place_if, place_in, place_number, run_parallel, runs_parallel, sites_from, sites_in, sites_of_all, sites_of_method}
+use Rattle.ca_emit.specs.Annotations.{annotated_text, before_statement, is_among, locked_bodies, marking_by, marking_of, marks_if, number_in, operations_of, parallel_bodies, parallel_ops, parallel_sites, picked, place_in, place_number, run_parallel, runs_parallel, sites_from, sites_in, sites_of_all, sites_of_method}
 use Rattle.ca_emit.specs.Locks.{Marks, MarksEach, MarkedText, SpawnsNothing}
 use Rattle.ca_emit.proofs.Locked.{behind, in_front, body_there, is_false}
 

@@ -2,10 +2,8 @@
 use Rattle.std.specs.Prelude.{Bool, true, false, ◌&&◌, Option, Some, None}
 use Rattle.std.specs.Ordering.{int_eq}
 use Rattle.std.specs.Str.{bytes_eq}
-use Rattle.ca_tree.specs.declared.tree.BinaryOp.{BinaryOp}
-use Rattle.ca_tree.specs.declared.tree.UnaryOp.{UnaryOp}
-use Rattle.ca_tree.specs.Codes.{same_sign}
-use Rattle.ca_tree.specs.Operators.{binary_sign, unary_sign}
+use Rattle.ca_tree.specs.Codes.{same_sign, same_binary}
+use Rattle.ca_tree.specs.Operators.{unary_sign}
 use Rattle.ca_tree.specs.Plain.{Expression, Expressions, Statement, call_statement, number, truth, null, this, named, call, field, method, index, unary, binary, no_expressions, expression_and}
 use Rattle.ca_symbolic.specs.Same.{same_truth}
 
@@ -22,7 +20,7 @@ abbrev mutual
   same_expression (method at d m xs) (method at2 e n ys) = bytes_eq m n && (same_expression d e && same_expressions xs ys)
   same_expression (index at d i) (index at2 e j) = same_expression d e && same_expression i j
   same_expression (unary at o d) (unary at2 s e) = same_sign (unary_sign o) (unary_sign s) && same_expression d e
-  same_expression (binary at o a b) (binary at2 s d e) = same_sign (binary_sign o) (binary_sign s) && (same_expression a d && same_expression b e)
+  same_expression (binary at o a b) (binary at2 s d e) = same_binary o s && (same_expression a d && same_expression b e)
   same_expression _ _ = false
 
   pub same_expressions : Expressions → Expressions → Bool

@@ -2,8 +2,8 @@
 
 ghost use Rattle.std.specs.Prelude.{◌≡◌};
 ghost use Rattle.std.specs.Str.{bytes_eq};
-ghost use Rattle.ca_tree.specs.Codes.{same_sign};
-ghost use Rattle.ca_tree.specs.Operators.{binary_sign, unary_sign};
+ghost use Rattle.ca_tree.specs.Codes.{same_sign, same_binary};
+ghost use Rattle.ca_tree.specs.Operators.{unary_sign};
 ghost use Rattle.ca_tree.specs.View.{expression_view, expressions_view};
 ghost use Rattle.ca_canonical.specs.Marks.{front_view};
 ghost use Rattle.ca_emit.specs.Receivers.{follows, is_this, receiver_of, same_expression, same_expressions, same_receiver};
@@ -24,9 +24,9 @@ fn same_unary(a: UnaryOp, b: UnaryOp) -> bool
 }
 
 fn same_binary(a: BinaryOp, b: BinaryOp) -> bool
-    ensures { result ≡ same_sign (binary_sign a) (binary_sign b) }
+    ensures { result ≡ same_binary a b }
 {
-    a.sign() == b.sign()
+    a == b
 }
 
 /// Whether the two are equal but for their places. Both sides of `&` are looked at, so that there is one way out for each kind.

@@ -1,5 +1,5 @@
 -- What stands in memory beside a list of entries, with one more.
-use Rattle.std.proofs.Common.{◌≡◌, ℕ, ◌+◌, zero, List, [], ◌∷◌, ◌++◌, map, Option, Some, None, refl, sym, ap, ◌∙◌, subst, arith}
+use Rattle.std.proofs.Common.{◌≡◌, ℕ, ◌+◌, List, [], ◌∷◌, ◌++◌, map, Option, Some, refl, sym, ap, ◌∙◌, subst, arith}
 use Rattle.std.proofs.lemmas.List.{map-append}
 use Rattle.ca_order_laws.proofs.Weights.{weight_append}
 use Rattle.ca_parallel.specs.declared.op.Op.{Op}

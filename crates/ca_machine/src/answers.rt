@@ -1,6 +1,5 @@
 //! The values that bodies of value methods give back at once.
 
-ghost use Rattle.std.specs.Prelude.{◌≡◌};
 ghost use Rattle.ca_program.specs.View.{statement_view, statements_view};
 ghost use Rattle.ca_machine.specs.clauses.Answers.{Shows, Tells};
 

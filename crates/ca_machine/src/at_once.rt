@@ -11,9 +11,10 @@ ghost use Rattle.ca_machine.specs.clauses.Begun.{AtOnce, Puts};
 
 use crate::machine::Machine;
 use crate::work::Work;
+use ca_direct::gives_number;
 use ca_frames::Mode;
 use ca_model::Value;
-use ca_program::{AssignOp, BinaryOp, Expr, FieldId, LocalId, Program, Stmt, StmtForm};
+use ca_program::{AssignOp, Expr, FieldId, LocalId, Program, Stmt, StmtForm};
 
 impl<'a> Machine<'a> {
     /// Does the first statements of a list at once, and gives back the others.
@@ -165,18 +166,5 @@ impl<'a> Machine<'a> {
             }
             None => false,
         }
-    }
-}
-
-/// Whether an operator gives a number. It decides only which way is taken, so every answer is right.
-#[inline(always)]
-fn gives_number(op: BinaryOp) -> bool {
-    match op {
-        BinaryOp::Plus
-        | BinaryOp::Minus
-        | BinaryOp::Times
-        | BinaryOp::Divide
-        | BinaryOp::Remainder => true,
-        _ => false,
     }
 }

@@ -1,7 +1,7 @@
 //! The steps of expressions: from the work on one to what is left of the run, `rest_of` of `specs/Machines.antt`.
 
-ghost use Rattle.std.specs.Prelude.{◌≡◌, ◌∷◌, ℕ, IfOk, IfSome, Ok};
-ghost use Rattle.ca_program.specs.View.{program_view, expression_view, expressions_view, statement_view, statements_view};
+ghost use Rattle.std.specs.Prelude.{◌≡◌, ◌∷◌, IfOk, IfSome, Ok};
+ghost use Rattle.ca_program.specs.View.{program_view, expression_view, expressions_view};
 ghost use Rattle.ca_program.specs.Plain.{value_call, binary};
 ghost use Rattle.ca_model.specs.declared.value.Value.TheVariants.{Long};
 ghost use Rattle.ca_meaning.specs.Expressions.{decided};
@@ -298,6 +298,11 @@ fn number_of(op: BinaryOp, left: Value, right: Value) -> Option<i64>
         BinaryOp::Plus => Some(a.wrapping_add(b)),
         BinaryOp::Minus => Some(a.wrapping_sub(b)),
         BinaryOp::Times => Some(a.wrapping_mul(b)),
+        BinaryOp::BitAnd => Some(a & b),
+        BinaryOp::BitOr => Some(a | b),
+        BinaryOp::BitXor => Some(a ^ b),
+        BinaryOp::Max => Some(a.max(b)),
+        BinaryOp::Min => Some(a.min(b)),
         _ => None,
     }
 }

@@ -1,7 +1,7 @@
 //! The steps of loops: from the work on one to what is left of the run, `rest_of` of `specs/Machines.antt`.
 
 ghost use Rattle.std.specs.Prelude.{◌≡◌, ◌∷◌, ℕ, IfOk, true, false};
-ghost use Rattle.ca_program.specs.View.{program_view, expression_view, expressions_view, statement_view, statements_view};
+ghost use Rattle.ca_program.specs.View.{program_view, expression_view, statement_view};
 ghost use Rattle.ca_model.specs.declared.value.Value.TheVariants.{Bool as Truth};
 ghost use Rattle.ca_machine.specs.Machines.{Past, rest_of, after};
 ghost use Rattle.ca_machine.specs.clauses.Steps.{takes, loops};

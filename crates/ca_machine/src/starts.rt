@@ -1,7 +1,7 @@
 //! Statements whose beginning is done at once. A call of an operation is entered there, and its body done at
 //! once as far as it goes; a call inside it goes to the stack. What is left stands in the machine.
 
-ghost use Rattle.std.specs.Prelude.{◌≡◌, ◌≤◌, ◌∷◌, ℕ, List, IfOk};
+ghost use Rattle.std.specs.Prelude.{◌≡◌, ◌≤◌, ◌∷◌, List, IfOk};
 ghost use Rattle.ca_program.specs.View.{program_view};
 ghost use Rattle.ca_machine.specs.declared.work.Target.TheVariants.{Operation};
 ghost use Rattle.ca_machine.specs.Machines.{Past, rest_of, after};

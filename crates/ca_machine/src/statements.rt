@@ -1,7 +1,7 @@
 //! The steps of statements that steer, call, print and give back. Puts and creations are in `puts`.
 
 ghost use Rattle.std.specs.Prelude.{◌≡◌, ◌∷◌, ℕ, IfOk};
-ghost use Rattle.ca_program.specs.View.{program_view, expression_view, expressions_view, statement_view, statements_view};
+ghost use Rattle.ca_program.specs.View.{program_view, expression_view, expressions_view, statement_view};
 ghost use Rattle.ca_program.specs.Plain.{invoke, if_else, return_value, print_value};
 ghost use Rattle.ca_machine.specs.Machines.{Past, rest_of, after};
 ghost use Rattle.ca_machine.specs.clauses.Steps.{takes, does};

@@ -1,7 +1,7 @@
 //! Does one piece of work: `after` of `specs/Machines.antt` is what is left of the run behind it.
 
-ghost use Rattle.std.specs.Prelude.{◌≡◌, ◌∷◌, ℕ, IfOk};
-ghost use Rattle.ca_program.specs.View.{program_view, expression_view, expressions_view, statement_view, statements_view};
+ghost use Rattle.std.specs.Prelude.{◌≡◌, ◌∷◌, IfOk};
+ghost use Rattle.ca_program.specs.View.{program_view};
 ghost use Rattle.ca_machine.specs.Machines.{Past, rest_of, after};
 ghost use Rattle.ca_machine.specs.clauses.Steps.{takes};
 

@@ -17,7 +17,7 @@ use Rattle.ca_forms.specs.Folds.{items_of, part_made, monomial_made, made_in, sc
 use Rattle.ca_forms.proofs.Exact.{scalars_exact}
 use Rattle.ca_model.specs.declared.value.Value.{Value as Datum}
 use Rattle.ca_model.specs.declared.value.Value.TheVariants as datum
-use Rattle.ca_norm.specs.Meanings.{Valuation, folded_values, word_of, polynomial_value, part_value, scalar_value, scalars_worth}
+use Rattle.ca_norm.specs.Meanings.{Valuation, operate, binary_of, word_of, polynomial_value, part_value, scalar_value, scalars_worth}
 use Rattle.ca_norm.proofs.Words.{word_fits}
 use Rattle.ca_norm.proofs.Operations.{IsLong, back}
 use Rattle.ca_norm.proofs.Quotients.{cast_fits}
@@ -40,15 +40,25 @@ longs_fit BitAnd a b f g = cast_fits _
 longs_fit BitOr a b f g = cast_fits _
 longs_fit BitXor a b f g = cast_fits _
 
-pub folded_typed : (o : FoldOp) (d e : Datum) → IsLong d → IsLong e → IsLong (folded_values o d e)
-folded_typed o d e g h = record { number = folded_longs o g.number h.number; fits = longs_fit o g.number h.number g.fits h.fits; is = ap₂ (folded_values o) g.is h.is }
+longs_given : (o : FoldOp) (a b : ℤ) → operate (binary_of o) (datum.Long a) (datum.Long b) ≡ datum.Long (folded_longs o a b)
+longs_given Max a b = refl
+longs_given Min a b = refl
+longs_given BitAnd a b = refl
+longs_given BitOr a b = refl
+longs_given BitXor a b = refl
+
+given_is : (o : FoldOp) (d e : Datum) (g : IsLong d) (h : IsLong e) → operate (binary_of o) d e ≡ datum.Long (folded_longs o g.number h.number)
+given_is o d e g h = ap₂ (operate (binary_of o)) g.is h.is ∙ longs_given o g.number h.number
+
+pub folded_typed : (o : FoldOp) (d e : Datum) → IsLong d → IsLong e → IsLong (operate (binary_of o) d e)
+folded_typed o d e g h = record { number = folded_longs o g.number h.number; fits = longs_fit o g.number h.number g.fits h.fits; is = given_is o d e g h }
 
 -- as words
-pub folded_word : (o : FoldOp) (d e : Datum) (m n : ℕ) → IsLong d → IsLong e → Alike m (word_of d) → Alike n (word_of e) → word_of (folded_values o d e) ≡ folded o m n
+pub folded_word : (o : FoldOp) (d e : Datum) (m n : ℕ) → IsLong d → IsLong e → Alike m (word_of d) → Alike n (word_of e) → word_of (operate (binary_of o) d e) ≡ folded o m n
 folded_word o d e m n g h k l =
     let a : to_z w64 (m % (2 ^ 64)) ≡ g.number = ap (to_z w64) (k.alike ∙ ap (λ z. word_of z % (2 ^ 64)) g.is) ∙ back g.number g.fits in
     let b : to_z w64 (n % (2 ^ 64)) ≡ h.number = ap (to_z w64) (l.alike ∙ ap (λ z. word_of z % (2 ^ 64)) h.is) ∙ back h.number h.fits in
-    ap₂ (λ x y. word_of (folded_values o x y)) g.is h.is ∙ word_fits (folded_longs o g.number h.number) (longs_fit o g.number h.number g.fits h.fits) ∙ ap₂ (λ x y. of_z w64 (folded_longs o x y)) (sym a) (sym b)
+    ap word_of (given_is o d e g h) ∙ word_fits (folded_longs o g.number h.number) (longs_fit o g.number h.number g.fits h.fits) ∙ ap₂ (λ x y. of_z w64 (folded_longs o x y)) (sym a) (sym b)
 
 -- ---- on forms
 

@@ -14,7 +14,7 @@ use Rattle.ca_forms.specs.Plain.{PlainPolynomial, PlainMonomial, PlainPointer, P
 use Rattle.ca_forms.specs.Lists.{products_of}
 use Rattle.ca_forms.specs.Compare.{scalar_cmp, polynomial_cmp, pointer_cmp}
 use Rattle.ca_forms.specs.Products.{times}
-use Rattle.ca_forms.specs.Rules.{alone, constancy, truth_sum, minus, either, chosen, gathered, unless_tied, less_kinds, less_sum, zero_kind, same_numbers, same_truths, differ, unless_false, same_pointers_at, quotient_kind, modulus_kind, is_below}
+use Rattle.ca_forms.specs.Rules.{alone, constancy, truth_sum, minus, chosen, gathered, unless_tied, less_kinds, less_sum, zero_kind, same_numbers, same_truths, differ, unless_false, same_pointers_at, quotient_kind, modulus_kind, is_below}
 use Rattle.ca_forms.specs.Arrays.{PlainRows, PlainArray, own_items, put_item, with_sums, array_choice}
 use Rattle.ca_forms.specs.ArrayRules.{row_if, joined_rows, put_row_at, put_row, rest_of, last_rows, summed, added_at, weighed, put_weighed, agree, chosen_rows, chosen_if, same_index, rows_at, products_in, selected}
 use Rattle.ca_forms.specs.Folds.{scalar_word, scalar_made, word_scalar, fold_scalar, number_in, folded_scalars, fold_form}

@@ -17,7 +17,8 @@ use Rattle.ca_forms.specs.Arrays.{PlainRows, PlainArray, own_items, put_item, wi
 use Rattle.ca_forms.specs.Products.{is_truth}
 use Rattle.ca_forms.specs.Rules.{is_below, divided, left_over}
 use Rattle.ca_folds.specs.declared.operator.FoldOp.{FoldOp}
-use Rattle.ca_folds.specs.Operators.{folded_longs, folded, neutral}
+use Rattle.ca_folds.specs.declared.operator.FoldOp.TheVariants.{Max, Min, BitAnd, BitOr, BitXor}
+use Rattle.ca_folds.specs.Operators.{folded, neutral}
 use Rattle.ca_norm.specs.Terms.{PlainTerm, PlainTerms, number, truth, atom, add, sub, neg, mul, divide, remainder, less, less_equal, same, not, and, or, choose, read, read_at, result, select, put, add_at, fold, no_terms, term_and, item_sort}
 
 -- An array is no single value and stands as null; its items have values of their own.
@@ -60,10 +61,13 @@ value_or_null (Err kind) = datum.Null
 abbrev pub operate : BinaryOp → Datum → Datum → Datum
 operate op a b = value_or_null (operated op a b)
 
--- what an operator gives whose operands may stand in any order
-abbrev pub folded_values : FoldOp → Datum → Datum → Datum
-folded_values o (datum.Long a) (datum.Long b) = datum.Long (folded_longs o a b)
-folded_values o a b = datum.Null
+-- an operator whose operands may stand in any order, as one of the program
+abbrev pub binary_of : FoldOp → BinaryOp
+binary_of Max = op.Max
+binary_of Min = op.Min
+binary_of BitAnd = op.BitAnd
+binary_of BitOr = op.BitOr
+binary_of BitXor = op.BitXor
 
 abbrev pub chosen : Datum → Datum → Datum → Datum
 chosen (datum.Bool true) a b = a
@@ -97,7 +101,7 @@ abbrev mutual
   mean v (read_at sort p c f i) = v.read_at sort (mean v p) c f (mean v i)
   mean v (result sort m p ts) = v.result sort m (mean v p) (means v ts)
   mean v (select a i) = item_mean v a (number_of (mean v i))
-  mean v (fold o a b) = folded_values o (mean v a) (mean v b)
+  mean v (fold o a b) = operate (binary_of o) (mean v a) (mean v b)
   mean v t = datum.Null
 
   -- the item of an array at a number

@@ -24,7 +24,9 @@ int main() { { } ; ; } => int main ( ) {${$} ;$;$}$
 int main() { if (a) if (b) c(); else d(); } => int main ( ) {$if ( a ) if ( b ) c ( ) ;$else d ( ) ;$}$
 int main() { if (a) { if (b) c(); } else while (true) d(1, -2); } => int main ( ) {$if ( a ) {$if ( b ) c ( ) ;$}$else while ( true ) d ( 1 , - 2 ) ;$}$
 int main() { for (long i = 0; i < n; i++) p[i] = new A; } => int main ( ) {$for ( long i = 0 ; i < n ; i += 1 ) p [ i ] = new A ( ) ;$}$
-int main() { print((-(a + b))->f); print((1)[(x)->y]); print(-(-x)); print(!(a == b)); } => int main ( ) {$print ( ( - ( a + b ) ) -> f ) ;$print ( ( 1 ) [ x -> y ] ) ;$print ( - - x ) ;$print ( ! ( a == b ) ) ;$}$";
+int main() { print((-(a + b))->f); print((1)[(x)->y]); print(-(-x)); print(!(a == b)); } => int main ( ) {$print ( ( - ( a + b ) ) -> f ) ;$print ( ( 1 ) [ x -> y ] ) ;$print ( - - x ) ;$print ( ! ( a == b ) ) ;$}$
+int main() { print(max((a), (b + 1)) * -min(1, (2))); print((max(a, b))->f); print((min(a, b))[max(0, 1)]); print(max(a | b, (b && c))); } => int main ( ) {$print ( max ( a , b + 1 ) * - min ( 1 , 2 ) ) ;$print ( ( max ( a , b ) ) -> f ) ;$print ( ( min ( a , b ) ) [ max ( 0 , 1 ) ] ) ;$print ( max ( a | b , b && c ) ) ;$}$
+int main() { x &= (1 | 2); y |= (z); a->b[1] ^= max(x, y); } => int main ( ) {$x &= 1 | 2 ;$y |= z ;$a -> b [ 1 ] ^= max ( x , y ) ;$}$";
 
 #[test]
 fn writes_whole_texts(rt: HostRuntime) {
@@ -38,17 +40,20 @@ fn writes_whole_texts(rt: HostRuntime) {
 /// The binary operators, with how strongly they bind.
 const OPERATORS: &str = "|| 0
 && 1
-== 2
-!= 2
-< 3
-> 3
-<= 3
->= 3
-+ 4
-- 4
-* 5
-/ 5
-% 5";
+| 2
+^ 3
+& 4
+== 5
+!= 5
+< 6
+> 6
+<= 6
+>= 6
++ 7
+- 7
+* 8
+/ 8
+% 8";
 
 /// An operator and how strongly it binds.
 fn operator<'a, R: Abort>(rt: &R, row: &'a str) -> (&'a str, u32) {

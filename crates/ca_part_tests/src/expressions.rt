@@ -32,6 +32,38 @@ fn gives_each_node_its_place(rt: HostRuntime) {
     assert!(rt; is_right);
 }
 
+/// Whether the nodes have the places of the text below: that of `max` is its word.
+fn are_bits_placed(last: &ExprNode) -> bool {
+    let ExprKind::Binary(BinaryOp::BitOr, name, and) = &last.kind else {
+        return false;
+    };
+    let ExprKind::Binary(BinaryOp::BitAnd, greatest, other) = &and.kind else {
+        return false;
+    };
+    let ExprKind::Binary(BinaryOp::Max, first, second) = &greatest.kind else {
+        return false;
+    };
+    last.at.column == 2
+        && name.at.column == 1
+        && and.at.column == 11
+        && greatest.at.column == 3
+        && first.at.column == 7
+        && second.at.column == 9
+        && other.at.column == 12
+}
+
+#[test]
+fn gives_bits_and_the_greatest_their_places(rt: HostRuntime) {
+    let tokens = tokens(&rt, "a|max(b,c)&d;");
+    let parsed = parse_expression(rt.alloc(), tokens);
+    let is_right = match &parsed {
+        Ok((last, left)) => are_bits_placed(last) && left.len() == 1,
+        Err(_) => false,
+    };
+    let_go(parsed);
+    assert!(rt; is_right);
+}
+
 #[test]
 fn reads_a_chain_and_a_name(rt: HostRuntime) {
     let alloc = rt.alloc();

@@ -101,6 +101,17 @@ differ 0p1pT2pB 0p1pB2pT";
     hold(&rt, rows);
 }
 
+/// It weighs as a sum: a term of depth 4,096, and sixteen of two operands multiplied, are the heaviest.
+#[test]
+fn weighs_operands(rt: HostRuntime) {
+    let rows = "heaviest 0f,4095:0p$
+large 0f,4095:0p$,1n$
+heaviest 0p1p$,15:0p1p$*
+formed 0p1p$,15:0p1p$*
+large 0p1p$,15:0p1p$*,1n+";
+    hold_for_each(&rt, OPERATORS, rows);
+}
+
 /// Four thousand times one field, 500 fields and 1,000 fields that are nested from the left and from the right, operators inside
 /// indexes and inside sums: each has a form.
 #[test]

@@ -7,12 +7,16 @@ use ca_program::{BinaryOp, ClassId, Expr, FieldId, FunctionId, Program};
 use ca_values::{Evaluator, Found};
 use std::process::Abort;
 
-/// Value methods: one that calls itself, one with a loop, one that divides, one that reads a field.
+/// Value methods: one that calls itself, one with a loop, one that divides, one that reads a field, one of bits and the greatest, and
+/// two that divide on a right side, which is asked for in the first alone.
 const TEXT: &str = "class A { public: long x;
     long down(long n) { if (n == 0) return 0; return this->down(n - 1) + 1; }
     long sum(long n) { long s = 0; for (long i = 0; i < n; i = i + 1) s = s + i; return s; }
     long part(long n) { return 1 / n; }
-    long get(long n) { return x + n; } };
+    long get(long n) { return x + n; }
+    long bits(long n) { long b = max(n, 3) & 6 | n ^ 1; b ^= min(n, 0); return b; }
+    long eager(long n) { if ((0 & 1 / n) == 0) return 1; return 2; }
+    long lazy(long n) { if (n != 0 && (0 & 1 / n) == 0) return 1; return 2; } };
     int main() { }";
 
 /// A call of a value method with a number, and the own field 0 besides.
@@ -65,7 +69,7 @@ fn found<R: AllocGlobal + Abort>(
     found
 }
 
-/// A value method 100,000 deep, a loop of 100,000 turns, a step too many, a trap, and own slots that the
+/// A value method 100,000 deep, a loop of 100,000 turns, a step too many, traps, and own slots that the
 /// expression alone reads.
 #[test]
 fn finds_values_with_calls(rt: HostRuntime) {
@@ -81,4 +85,12 @@ fn finds_values_with_calls(rt: HostRuntime) {
     };
     assert!(rt; found(&rt, program, 2, 0, 10) == Found::Trapped(divided));
     assert!(rt; found(&rt, program, 3, 1, 10) == Found::Value(Value::Long(6), 9));
+    assert!(rt; found(&rt, program, 4, 9, 10) == Found::Value(Value::Long(13), 9));
+    assert!(rt; found(&rt, program, 4, -7, 10) == Found::Value(Value::Long(8), 9));
+    let eager = Trap {
+        line: 7,
+        kind: TrapKind::ZeroDivisor,
+    };
+    assert!(rt; found(&rt, program, 5, 0, 10) == Found::Trapped(eager));
+    assert!(rt; found(&rt, program, 6, 0, 10) == Found::Value(Value::Long(7), 9));
 }

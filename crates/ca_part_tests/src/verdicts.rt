@@ -65,6 +65,29 @@ of class J { public: long n; void m(long x) { n = ((x + 1) * (x + 2)) * ((x + 3)
 // What is demanded on the right side of && is demanded where the left side holds.
 of class K { public: bool b; K *o; long n; void m(bool q) { b = b || q; if (b && o->n < 3) { } } }; int main() { }
 0 0 0:Demand NotNull 0
+// The greatest and the least, bits, and what cancels or stands twice.
+of class M { public: long x; void up(long v) { x = max(x, v); } void lo(long v) { x = min(v, x); }$ void both(long v) { up(v); lo(v); } };$ int main() { }
+2 0 0:Commutes
+2 0 1:Field 0
+2 1 1:Commutes
+2 0 2:Commutes
+2 2 2:Commutes
+of class W { public: long n; void a(long v) { n &= v; } void o(long v) { n = v | n | 6; } void x(long v) { n ^= v; }$ void t(long v) { n ^= v; n ^= v; } void s(long v) { n = max(n, n) & -1 | 0; } void p(long v) { n = v; }$ void all(long v) { a(v); o(v); x(v); t(v); s(v); p(v); } };$ int main() { }
+6 0 0:Commutes
+6 1 1:Commutes
+6 2 2:Commutes
+6 0 1:Field 0
+6 0 2:Field 0
+6 1 2:Field 0
+6 3 5:Commutes
+6 4 5:Commutes
+6 2 5:Field 0
+// Operands of another operator stay one, a choice is none of its operator, and two that are put at one item differ.
+of class V { public: long n; long a[3]; void m(long v) { n = n & v | v; } void c(long v) { if (v < 3) n |= v; }$ void i(long v) { a[0] |= v; } void u(long v) { n = max(n, min(v, 7)); } void all(long v) { m(v); c(v); i(v); u(v); } };$ int main() { }
+4 0 0:Field 0
+4 1 1:Field 0
+4 2 2:Field 1
+4 3 3:Commutes
 // Steps of a value method are demanded.
 of class L { public: long n; L *o; long f(long x) { return x; } void m(long p) { n = n + p; long t = o->f(n); } }; int main() { }
 0 0 0:Demand Calls 0";

@@ -2,15 +2,25 @@
 use Rattle.std.proofs.Common.{◌≡◌, ℕ, Bool, true, false, List, refl, sym, ap, ◌∙◌, subst}
 use Rattle.std.specs.Prelude.{slice_get, Option, Some, None, Contains}
 use Rattle.std.specs.Option.{option_or}
+use Rattle.ca_folds.specs.declared.operator.FoldOp.{FoldOp}
+use Rattle.ca_folds.specs.declared.operator.FoldOp.TheVariants.{Max, Min, BitAnd, BitOr, BitXor}
 use Rattle.ca_program.specs.declared.program.FieldId.{FieldId}
 use Rattle.ca_program.specs.declared.program.OpId.{OpId}
 use Rattle.ca_program.specs.Plain.{PlainProgram, PlainMethod, Expression, Expressions, no_expressions, expression_and, Statement, Statements}
 use Rattle.ca_meaning.specs.Functions.{body_of}
-use Rattle.ca_parallel.specs.Separable.{MayAccess, IsClean, AreClean, holds_call, IsSeparated, AreSeparated, Separable}
+use Rattle.ca_parallel.specs.Separable.{MayStandRight, MayAccess, IsClean, AreClean, holds_call, IsSeparated, AreSeparated, Separable}
+use Rattle.ca_norm.specs.Meanings.{binary_of}
 use Rattle.ca_symbolic.specs.OtherLoops.{other_loop, other_loop_in}
 use Rattle.ca_symbolic.specs.Runs.{first_other_loop}
-use Rattle.ca_plain_laws.specs.PlainPairs.{IsLiteral, a_number, a_truth, a_null, IsAtom, a_literal, the_receiver, a_parameter, a_constant, IsProduct, an_atom, times, IsSum, a_product, plus, AreShortSums, Kind, IsUpdateOf, adds, takes_off, puts_sum, puts_difference, multiplies, puts_product, adds_to_item, puts_item_sum, takes_off_item, puts_item_difference, puts_literal, AreCalls, no_calls, call_and, AreUpdatesAndCalls, calls, update_and}
+use Rattle.ca_plain_laws.specs.PlainPairs.{IsLiteral, a_number, a_truth, a_null, IsAtom, a_literal, the_receiver, a_parameter, a_constant, IsProduct, an_atom, times, IsSum, a_product, plus, AreShortSums, Kind, IsUpdateOf, adds, takes_off, puts_sum, puts_difference, multiplies, puts_product, joins, puts_joined, adds_to_item, puts_item_sum, takes_off_item, puts_item_difference, puts_literal, AreCalls, no_calls, call_and, AreUpdatesAndCalls, calls, update_and}
 use Rattle.ca_plain_laws.specs.Laws.{PlainPairsAreSeparable, PlainPairsHaveNoLoops}
+
+any_right_side : (o : FoldOp) (e : Expression) → MayStandRight (binary_of o) e
+any_right_side Max e = tt
+any_right_side Min e = tt
+any_right_side BitAnd e = tt
+any_right_side BitOr e = tt
+any_right_side BitXor e = tt
 
 module _ (p : PlainProgram) (written : List FieldId) (m : PlainMethod) where
   may_access : (called : Bool) (f : FieldId) → (¬ Contains written f) → MayAccess written called f
@@ -47,6 +57,8 @@ module _ (p : PlainProgram) (written : List FieldId) (m : PlainMethod) where
   update_separated (puts_difference line e h) = (tt, (tt, tt, sum_clean false h.0))
   update_separated (multiplies line e h) = (tt, atom_clean false h)
   update_separated (puts_product line e h) = (tt, (tt, tt, atom_clean false h))
+  update_separated (joins line o a e i h) = (tt, sum_clean false h.0)
+  update_separated (puts_joined line o e h) = (tt, (any_right_side o e, tt, sum_clean false h.0))
   update_separated (adds_to_item line i e h g) = (tt, sum_clean false h.0, sum_clean false g.0)
   update_separated (puts_item_sum line i e h g) = (tt, sum_clean false h.0, (tt, (tt, sum_clean false h.0), sum_clean false g.0))
   update_separated (takes_off_item line i e h g) = (tt, sum_clean false h.0, sum_clean false g.0)
@@ -60,6 +72,8 @@ module _ (p : PlainProgram) (written : List FieldId) (m : PlainMethod) where
   calls_nothing (puts_difference line e h) = refl
   calls_nothing (multiplies line e h) = refl
   calls_nothing (puts_product line e h) = refl
+  calls_nothing (joins line o a e i h) = refl
+  calls_nothing (puts_joined line o e h) = refl
   calls_nothing (adds_to_item line i e h g) = refl
   calls_nothing (puts_item_sum line i e h g) = refl
   calls_nothing (takes_off_item line i e h g) = refl
@@ -82,6 +96,8 @@ module _ (p : PlainProgram) (written : List FieldId) (m : PlainMethod) where
   no_loop (puts_difference line e h) = refl
   no_loop (multiplies line e h) = refl
   no_loop (puts_product line e h) = refl
+  no_loop (joins line o a e i h) = refl
+  no_loop (puts_joined line o e h) = refl
   no_loop (adds_to_item line i e h g) = refl
   no_loop (puts_item_sum line i e h g) = refl
   no_loop (takes_off_item line i e h g) = refl

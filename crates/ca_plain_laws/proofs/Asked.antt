@@ -5,15 +5,26 @@ use Rattle.ca_tree.specs.declared.tree.BinaryOp.TheVariants.{Plus, Minus}
 use Rattle.ca_program.specs.declared.program.FieldId.{FieldId}
 use Rattle.ca_program.specs.declared.program.OpId.{OpId}
 use Rattle.ca_program.specs.Plain.{PlainProgram, PlainMethod, Expression, Expressions, own_item, binary, Statement, Statements, invoke}
+use Rattle.ca_folds.specs.declared.operator.FoldOp.{FoldOp}
+use Rattle.ca_folds.specs.declared.operator.FoldOp.TheVariants.{Max, Min, BitAnd, BitOr, BitXor}
 use Rattle.ca_norm.specs.Terms.{PlainTerm, add, sub, neg, mul, add_at}
+use Rattle.ca_norm.specs.Meanings.{binary_of}
 use Rattle.ca_symbolic.specs.States.{State, term_at, PlainDemand, demand, not_null, in_range, invokes}
-use Rattle.ca_symbolic.specs.Execution.{term_of, array_term, after}
-use Rattle.ca_symbolic.specs.Demands.{terms_in, demanded, demanded_all}
-use Rattle.ca_symbolic.specs.Made.{steps_made}
-use Rattle.ca_plain_laws.specs.PlainPairs.{Kind, IsAtom, a_literal, AreShortSums, IsUpdateOf, adds, takes_off, puts_sum, puts_difference, multiplies, puts_product, adds_to_item, puts_item_sum, takes_off_item, puts_item_difference, puts_literal, AreCalls, no_calls, call_and, AreUpdatesAndCalls, calls, update_and}
+use Rattle.ca_symbolic.specs.Execution.{divisor, operation, term_of, put_term, array_term, after}
+use Rattle.ca_symbolic.specs.Demands.{right_guard, terms_in, demanded, demanded_all}
+use Rattle.ca_symbolic.specs.Made.{new_guard, steps_made}
+use Rattle.ca_plain_laws.specs.PlainPairs.{Kind, IsAtom, a_literal, AreShortSums, IsUpdateOf, adds, takes_off, puts_sum, puts_difference, multiplies, puts_product, joins, puts_joined, adds_to_item, puts_item_sum, takes_off_item, puts_item_difference, puts_literal, AreCalls, no_calls, call_and, AreUpdatesAndCalls, calls, update_and}
 use Rattle.ca_plain_laws.proofs.Atoms.{Agree, atom_same, sum_same, sums_same, atom_free, sum_free, sums_free, atom_unguarded, sum_unguarded}
-use Rattle.ca_plain_laws.proofs.Updates.{changed, change_of, item_sum, item_difference}
+use Rattle.ca_plain_laws.proofs.Updates.{changed, change_of, joined_term, operator_term, item_sum, item_difference}
 use Rattle.ca_plain_laws.proofs.Kept.{agree_then, agree_back, after_agrees}
+
+-- both sides of such an operator are always evaluated
+no_condition : (o : FoldOp) (g t : PlainTerm) → new_guard (binary_of o) g t ≡ []
+no_condition Max g t = refl
+no_condition Min g t = refl
+no_condition BitAnd g t = refl
+no_condition BitOr g t = refl
+no_condition BitXor g t = refl
 
 module _ (p : PlainProgram) (written : List FieldId) (m : PlainMethod) where
   -- that an index lies in the field
@@ -27,6 +38,8 @@ module _ (p : PlainProgram) (written : List FieldId) (m : PlainMethod) where
   asked s g (puts_difference line e h) = []
   asked s g (multiplies line e h) = []
   asked s g (puts_product line e h) = []
+  asked s g (joins line o a e i h) = []
+  asked s g (puts_joined line o e h) = []
   asked s g {f} (adds_to_item line i e h k) = index_check s g f i ∷ []
   asked s g {f} (puts_item_sum line i e h k) = index_check s g f i ∷ index_check s g f i ∷ []
   asked s g {f} (takes_off_item line i e h k) = index_check s g f i ∷ []
@@ -40,6 +53,8 @@ module _ (p : PlainProgram) (written : List FieldId) (m : PlainMethod) where
   demanded_is s g (puts_difference line e h) = sum_free p written m s g h.0
   demanded_is s g (multiplies line e h) = atom_free p written m s g h
   demanded_is s g (puts_product line e h) = atom_free p written m s g h
+  demanded_is s g (joins line o a e i h) = sum_free p written m s g h.0
+  demanded_is s g {f} (puts_joined line o e h) = sum_free p written m s (right_guard (binary_of o) g (term_at s.fields f.field)) h.0
   demanded_is s g {f} (adds_to_item line i e h k) =
       ap₂ (λ xs ys. xs ++ (index_check s g f i ∷ ys)) (sum_free p written m s g h.0) (sum_free p written m s g k.0)
   demanded_is s g {f} (puts_item_sum line i e h k) =
@@ -66,6 +81,8 @@ module _ (p : PlainProgram) (written : List FieldId) (m : PlainMethod) where
   asked_same s t g h (puts_difference line e k) = refl
   asked_same s t g h (multiplies line e k) = refl
   asked_same s t g h (puts_product line e k) = refl
+  asked_same s t g h (joins line o a e i k) = refl
+  asked_same s t g h (puts_joined line o e k) = refl
   asked_same s t g {f} h (adds_to_item line i e k l) = ap (λ x. demand g (in_range f) (x ∷ []) ∷ []) (sum_same p written m s t h k.0)
   asked_same s t g {f} h (puts_item_sum line i e k l) =
       ap (λ x. demand g (in_range f) (x ∷ []) ∷ demand g (in_range f) (x ∷ []) ∷ []) (sum_same p written m s t h k.0)
@@ -100,6 +117,12 @@ module _ (p : PlainProgram) (written : List FieldId) (m : PlainMethod) where
   step_is s g {f} (puts_difference line e h) = ap (λ xs. xs ++ (sub (term_at s.fields f.field) (term_of p s e) ∷ [])) (sum_unguarded p written m s g h.0)
   step_is s g {f} (multiplies line e h) = ap (λ xs. xs ++ (mul (term_at s.fields f.field) (term_of p s e) ∷ [])) (atom_unguarded p written m s g h)
   step_is s g {f} (puts_product line e h) = ap (λ xs. xs ++ (mul (term_at s.fields f.field) (term_of p s e) ∷ [])) (atom_unguarded p written m s g h)
+  step_is s g {f} (joins line o a e i h) =
+      ap (λ xs. xs ++ (put_term a (term_at s.fields f.field) (term_of p s e) ∷ [])) (sum_unguarded p written m s g h.0) ∙ ap (λ t. t ∷ []) (joined_term o a (term_at s.fields f.field) (term_of p s e) i)
+  step_is s g {f} (puts_joined line o e h) =
+      let t : PlainTerm = term_at s.fields f.field in
+      ap₂ (λ xs ys. (xs ++ ys) ++ (operation (binary_of o) t (term_of p s e) (divisor e) ∷ [])) (no_condition o g t) (sum_unguarded p written m s (right_guard (binary_of o) g t) h.0)
+      ∙ ap (λ u. u ∷ []) (operator_term o t (term_of p s e) (divisor e))
   step_is s g {f} (adds_to_item line i e h k) =
       ap₂ (λ xs ys. xs ++ (ys ++ (add_at (term_at s.fields f.field) (term_of p s i) (term_of p s e) ∷ []))) (sum_unguarded p written m s g h.0) (sum_unguarded p written m s g k.0)
   step_is s g {f} (puts_item_sum line i e h k) =

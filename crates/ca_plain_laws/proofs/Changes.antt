@@ -6,6 +6,7 @@ use Rattle.std.proofs.lemmas.Bool.{eqb-true}
 use Rattle.ca_program.specs.declared.program.FieldId.{FieldId}
 use Rattle.ca_program.specs.Plain.{PlainProgram, PlainMethod, Expression, Statement, Statements}
 use Rattle.ca_program.specs.Plain as plain
+use Rattle.ca_folds.specs.declared.operator.FoldOp.{FoldOp}
 use Rattle.ca_sums.specs.Sums.{Sum, total}
 use Rattle.ca_sums.proofs.Algebra.{alike_eq, alike_trans, total_append}
 use Rattle.ca_sums.proofs.Products.{SameTotals, same_totals_refl, same_totals_sym, product_same}
@@ -20,11 +21,12 @@ use Rattle.ca_forms.proofs.Gathered.{gathered_same, append_same}
 use Rattle.ca_norm.specs.Terms.{PlainTerm, number, truth, null, sort_of, neg}
 use Rattle.ca_norm.specs.Forms.{expand, pointer_of, array_of, form_at, norm}
 use Rattle.ca_norm.proofs.SumsCommute.{arrays_commute}
+use Rattle.ca_norm.proofs.FoldsCommute.{fold_changed, folds_exchange}
 use Rattle.ca_symbolic.specs.States.{State}
 use Rattle.ca_symbolic.specs.Execution.{term_of}
-use Rattle.ca_plain_laws.specs.PlainPairs.{Kind, sums, products, item_sums, literal, IsLiteral, a_number, a_truth, a_null, IsUpdateOf, adds, takes_off, puts_sum, puts_difference, multiplies, puts_product, adds_to_item, puts_item_sum, takes_off_item, puts_item_difference, puts_literal, AreUpdatesAndCalls, calls, update_and}
+use Rattle.ca_plain_laws.specs.PlainPairs.{Kind, sums, products, folds, item_sums, literal, IsLiteral, a_number, a_truth, a_null, IsUpdateOf, adds, takes_off, puts_sum, puts_difference, multiplies, puts_product, joins, puts_joined, adds_to_item, puts_item_sum, takes_off_item, puts_item_difference, puts_literal, AreUpdatesAndCalls, calls, update_and}
 use Rattle.ca_plain_laws.proofs.Atoms.{IsSimple, simple_number, simple_truth, simple_null, simple_atom, IsBegun, atom_simple}
-use Rattle.ca_plain_laws.proofs.Updates.{Change, plus, minus, by, at, to, changed, changed_all, and_if, change_of, changes_at}
+use Rattle.ca_plain_laws.proofs.Updates.{Change, plus, minus, by, with_operator, at, to, changed, changed_all, and_if, change_of, changes_at}
 use Rattle.ca_plain_laws.proofs.Powers.{no_power, one_power, IsFactor, no_factor, one_factor, products_swap}
 
 -- whatever two terms are taken for, their forms are the same
@@ -64,6 +66,7 @@ changed_same : (c : Change) (t u : PlainTerm) → SameForms t u → SameForms (c
 changed_same (plus x) t u h = record { sums = append_same (expand t) (expand u) (expand x) (expand x) h.sums (same_totals_refl (expand x)); pointers = refl; arrays = refl; sorts = refl }
 changed_same (minus x) t u h = record { sums = append_same (expand t) (expand u) (opposite (expand x)) (opposite (expand x)) h.sums (same_totals_refl (opposite (expand x))); pointers = refl; arrays = refl; sorts = refl }
 changed_same (by x) t u h = record { sums = product_same times (expand t) (expand u) (expand x) (expand x) h.sums (same_totals_refl (expand x)); pointers = refl; arrays = refl; sorts = refl }
+changed_same (with_operator o x) t u h = record { sums = fold_changed o t u x h.sums; pointers = refl; arrays = refl; sorts = refl }
 changed_same (at i x) t u h = record { sums = same_totals_refl []; pointers = refl; arrays = ap (λ a. added_at a (gathered (expand i)) (gathered (expand x))) h.arrays; sorts = h.sorts }
 changed_same (to x) t u h = forms_itself x
 
@@ -82,6 +85,7 @@ pub data Suits : Kind → Change → Type 0 where
   suits_plus : (x : PlainTerm) → Suits sums (plus x)
   suits_minus : (x : PlainTerm) → Suits sums (minus x)
   suits_by : (x : PlainTerm) → IsSimple x → Suits products (by x)
+  suits_operator : (o : FoldOp) (x : PlainTerm) → Suits (folds o) (with_operator o x)
   suits_at : (i x : PlainTerm) → Suits item_sums (at i x)
   suits_to : (e : Expression) (x : PlainTerm) → x ≡ literal_term e → Suits (literal e) (to x)
 
@@ -109,6 +113,7 @@ two_commute t (suits_plus x) (suits_minus y) = record { sums = sums_swap (expand
 two_commute t (suits_minus x) (suits_plus y) = record { sums = sums_swap (expand t) (opposite (expand x)) (expand y); pointers = refl; arrays = refl; sorts = refl }
 two_commute t (suits_minus x) (suits_minus y) = record { sums = sums_swap (expand t) (opposite (expand x)) (opposite (expand y)); pointers = refl; arrays = refl; sorts = refl }
 two_commute t (suits_by x h) (suits_by y k) = record { sums = products_swap (expand t) (simple_factor h) (simple_factor k); pointers = refl; arrays = refl; sorts = refl }
+two_commute t (suits_operator o x) (suits_operator _ y) = record { sums = folds_exchange o t x y; pointers = refl; arrays = refl; sorts = refl }
 two_commute t (suits_at i x) (suits_at j y) = record { sums = same_totals_refl []; pointers = refl; arrays = arrays_commute t i x j y; sorts = refl }
 two_commute t (suits_to e x h) (suits_to _ y k) = subst (λ z. SameForms z x) (h ∙ sym k) (forms_itself x)
 
@@ -143,6 +148,8 @@ module _ (p : PlainProgram) (written : List FieldId) (m : PlainMethod) where
   update_suits s h (puts_difference line e g) = suits_minus (term_of p s e)
   update_suits s h (multiplies line e g) = suits_by (term_of p s e) (atom_simple p written m s h g)
   update_suits s h (puts_product line e g) = suits_by (term_of p s e) (atom_simple p written m s h g)
+  update_suits s h (joins line o a e i g) = suits_operator o (term_of p s e)
+  update_suits s h (puts_joined line o e g) = suits_operator o (term_of p s e)
   update_suits s h (adds_to_item line i e g l) = suits_at (term_of p s i) (term_of p s e)
   update_suits s h (puts_item_sum line i e g l) = suits_at (term_of p s i) (term_of p s e)
   update_suits s h (takes_off_item line i e g l) = suits_at (term_of p s i) (neg (term_of p s e))

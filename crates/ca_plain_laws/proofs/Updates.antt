@@ -1,23 +1,28 @@
 -- Updates of a field as changes of its term, and what a plain body leaves in each field.
-use Rattle.std.proofs.Common.{◌≡◌, ℕ, Bool, true, false, ◌&&◌, List, [], ◌∷◌, refl, ap, ap₂}
-use Rattle.std.specs.Prelude.{nat_eq, if◌then◌else◌}
-use Rattle.ca_tree.specs.declared.tree.AssignOp.TheVariants.{Put}
+use Rattle.std.proofs.Common.{◌≡◌, ℕ, Bool, true, false, ◌&&◌, List, [], ◌∷◌, refl, sym, ap, ap₂}
+use Rattle.std.specs.Prelude.{nat_eq, if◌then◌else◌, ℤ, Option, Some}
+use Rattle.ca_tree.specs.declared.tree.AssignOp.{AssignOp}
+use Rattle.ca_tree.specs.declared.tree.AssignOp.TheVariants.{Put, BitAnd, BitOr, BitXor}
 use Rattle.ca_tree.specs.declared.tree.BinaryOp.TheVariants.{Plus, Minus}
 use Rattle.ca_program.specs.declared.program.FieldId.{FieldId}
 use Rattle.ca_program.specs.Plain.{PlainProgram, PlainMethod, Expression, own_item, binary, Statement, Statements}
 use Rattle.ca_program.proofs.Fields.{same_itself}
-use Rattle.ca_norm.specs.Terms.{PlainTerm, add, sub, neg, mul, add_at, put}
+use Rattle.ca_folds.specs.declared.operator.FoldOp.{FoldOp}
+use Rattle.ca_folds.specs.declared.operator.FoldOp.TheVariants as fold_op
+use Rattle.ca_norm.specs.Terms.{PlainTerm, add, sub, neg, mul, add_at, put, fold}
+use Rattle.ca_norm.specs.Meanings.{binary_of}
 use Rattle.ca_symbolic.specs.States.{State, term_at}
-use Rattle.ca_symbolic.specs.Execution.{term_of, is_item, array_term, with_field, after}
+use Rattle.ca_symbolic.specs.Execution.{divisor, operation, term_of, put_term, is_item, array_term, with_field, after}
 use Rattle.ca_symbolic.proofs.Alike.{alike_is_equal}
-use Rattle.ca_plain_laws.specs.PlainPairs.{Kind, IsUpdateOf, adds, takes_off, puts_sum, puts_difference, multiplies, puts_product, adds_to_item, puts_item_sum, takes_off_item, puts_item_difference, puts_literal, AreUpdatesAndCalls, calls, update_and, a_literal}
+use Rattle.ca_plain_laws.specs.PlainPairs.{Kind, assign_of, IsUpdateOf, adds, takes_off, puts_sum, puts_difference, multiplies, puts_product, joins, puts_joined, adds_to_item, puts_item_sum, takes_off_item, puts_item_difference, puts_literal, AreUpdatesAndCalls, calls, update_and, a_literal}
 use Rattle.ca_plain_laws.proofs.Atoms.{Agree, atom_same, sum_same}
 
--- a term more is added or taken off, multiplied in, added at an index, or put
+-- a term more is added or taken off, multiplied in, joined by an operator, added at an index, or put
 pub data Change : Type 0 where
   plus : PlainTerm → Change
   minus : PlainTerm → Change
   by : PlainTerm → Change
+  with_operator : FoldOp → PlainTerm → Change
   at : PlainTerm → PlainTerm → Change
   to : PlainTerm → Change
 
@@ -25,6 +30,7 @@ abbrev pub changed : Change → PlainTerm → PlainTerm
 changed (plus x) t = add t x
 changed (minus x) t = sub t x
 changed (by x) t = mul t x
+changed (with_operator o x) t = fold o t x
 changed (at i x) t = add_at t i x
 changed (to x) t = x
 
@@ -36,6 +42,21 @@ abbrev pub and_if : Bool → Change → List Change → List Change
 and_if true u us = u ∷ us
 and_if false u us = us
 
+-- the terms that the operator makes, written short and in full
+pub joined_term : (o : FoldOp) (a : AssignOp) (t u : PlainTerm) → assign_of o ≡ Some a → put_term a t u ≡ fold o t u
+joined_term fold_op.Max a t u e = cc
+joined_term fold_op.Min a t u e = cc
+joined_term fold_op.BitAnd a t u e = let same : BitAnd ≡ a = cc in ap (λ k. put_term k t u) (sym same)
+joined_term fold_op.BitOr a t u e = let same : BitOr ≡ a = cc in ap (λ k. put_term k t u) (sym same)
+joined_term fold_op.BitXor a t u e = let same : BitXor ≡ a = cc in ap (λ k. put_term k t u) (sym same)
+
+pub operator_term : (o : FoldOp) (t u : PlainTerm) (n : Option ℤ) → operation (binary_of o) t u n ≡ fold o t u
+operator_term fold_op.Max t u n = refl
+operator_term fold_op.Min t u n = refl
+operator_term fold_op.BitAnd t u n = refl
+operator_term fold_op.BitOr t u n = refl
+operator_term fold_op.BitXor t u n = refl
+
 module _ (p : PlainProgram) (written : List FieldId) (m : PlainMethod) where
   -- the change that an update is, in this state
   abbrev pub change_of : State → {f : FieldId} → {k : Kind} → {x : Statement} → IsUpdateOf written m f k x → Change
@@ -45,6 +66,8 @@ module _ (p : PlainProgram) (written : List FieldId) (m : PlainMethod) where
   change_of s (puts_difference line e h) = minus (term_of p s e)
   change_of s (multiplies line e h) = by (term_of p s e)
   change_of s (puts_product line e h) = by (term_of p s e)
+  change_of s (joins line o a e i h) = with_operator o (term_of p s e)
+  change_of s (puts_joined line o e h) = with_operator o (term_of p s e)
   change_of s (adds_to_item line i e h g) = at (term_of p s i) (term_of p s e)
   change_of s (puts_item_sum line i e h g) = at (term_of p s i) (term_of p s e)
   change_of s (takes_off_item line i e h g) = at (term_of p s i) (neg (term_of p s e))
@@ -75,6 +98,8 @@ module _ (p : PlainProgram) (written : List FieldId) (m : PlainMethod) where
   after_is s (puts_difference line e h) = refl
   after_is s (multiplies line e h) = refl
   after_is s (puts_product line e h) = refl
+  after_is s {f} (joins line o a e i h) = ap (with_field s f.field) (joined_term o a (term_at s.fields f.field) (term_of p s e) i)
+  after_is s {f} (puts_joined line o e h) = ap (with_field s f.field) (operator_term o (term_at s.fields f.field) (term_of p s e) (divisor e))
   after_is s (adds_to_item line i e h g) = refl
   after_is s {f} (puts_item_sum line i e h g) = ap (with_field s f.field) (item_sum s f i e)
   after_is s (takes_off_item line i e h g) = refl
@@ -88,6 +113,8 @@ module _ (p : PlainProgram) (written : List FieldId) (m : PlainMethod) where
   change_same s t h (puts_difference line e g) = ap minus (sum_same p written m s t h g.0)
   change_same s t h (multiplies line e g) = ap by (atom_same p written m s t h g)
   change_same s t h (puts_product line e g) = ap by (atom_same p written m s t h g)
+  change_same s t h (joins line o a e i g) = ap (with_operator o) (sum_same p written m s t h g.0)
+  change_same s t h (puts_joined line o e g) = ap (with_operator o) (sum_same p written m s t h g.0)
   change_same s t h (adds_to_item line i e g k) = ap₂ at (sum_same p written m s t h g.0) (sum_same p written m s t h k.0)
   change_same s t h (puts_item_sum line i e g k) = ap₂ at (sum_same p written m s t h g.0) (sum_same p written m s t h k.0)
   change_same s t h (takes_off_item line i e g k) = ap₂ (λ x y. at x (neg y)) (sum_same p written m s t h g.0) (sum_same p written m s t h k.0)

@@ -21,10 +21,10 @@ use Rattle.ca_symbolic.specs.Demands.{terms_in, demanded_all}
 use Rattle.ca_symbolic.specs.Made.{steps_made_all, made_by}
 use Rattle.ca_symbolic.specs.Runs.{begins, executed, is_heavy_by}
 use Rattle.ca_shared_terms.specs.Heavy.{is_heavy}
-use Rattle.ca_plain_laws.specs.PlainPairs.{IsShortSum, AreShortSums, IsConstant, Kind, IsUpdateOf, adds, takes_off, puts_sum, puts_difference, multiplies, puts_product, adds_to_item, puts_item_sum, takes_off_item, puts_item_difference, puts_literal, AreCalls, no_calls, call_and, AreUpdatesAndCalls, calls, update_and, count_of, IsPlain}
+use Rattle.ca_plain_laws.specs.PlainPairs.{IsShortSum, AreShortSums, IsConstant, Kind, IsUpdateOf, adds, takes_off, puts_sum, puts_difference, multiplies, puts_product, joins, puts_joined, adds_to_item, puts_item_sum, takes_off_item, puts_item_difference, puts_literal, AreCalls, no_calls, call_and, AreUpdatesAndCalls, calls, update_and, count_of, IsPlain}
 use Rattle.ca_plain_laws.specs.Laws.{IsLight, PlainPairsAreLight}
 use Rattle.ca_plain_laws.proofs.Atoms.{IsSimple, simple_number, simple_truth, simple_null, simple_atom, one_node, one_product, one_deep, IsBegun, Agree, literal_simple, atom_simple, sum_is_small, atom_unguarded, sums_unguarded}
-use Rattle.ca_plain_laws.proofs.Updates.{Change, plus, minus, by, at, to, changed, change_of, after_is}
+use Rattle.ca_plain_laws.proofs.Updates.{Change, plus, minus, by, with_operator, at, to, changed, change_of, after_is}
 use Rattle.ca_plain_laws.proofs.Kept.{after_agrees, body_agrees, calls_keep}
 use Rattle.ca_plain_laws.proofs.Asked.{asked, demanded_is, call_is, step_is}
 
@@ -46,6 +46,7 @@ abbrev IsFine : Change → Type 0
 IsFine (plus x) = IsLow x
 IsFine (minus x) = IsLow x
 IsFine (by x) = IsSimple x
+IsFine (with_operator o x) = IsLow x
 IsFine (at i x) = IsLow i × IsLow x
 IsFine (to x) = IsSimple x
 
@@ -97,6 +98,11 @@ bounded_changed (by x) k t h g = record {
   nodes_few = omega (arith, one_node h, g.nodes_few);
   spread_few = omega (arith, times_one t x (one_product h), g.spread_few);
   depth_few = omega (arith, one_deep h, g.depth_few);
+}
+bounded_changed (with_operator o x) k t h g = record {
+  nodes_few = omega (arith, h.nodes_few, g.nodes_few);
+  spread_few = omega (arith, h.spread_few, g.spread_few);
+  depth_few = omega (arith, h.depth_few, g.depth_few);
 }
 bounded_changed (at i x) k t h g = record {
   nodes_few = omega (arith, h.0.nodes_few, h.1.nodes_few, g.nodes_few);
@@ -198,6 +204,8 @@ module _ (p : PlainProgram) (written : List FieldId) (m : PlainMethod) where
   fine_change s h (puts_difference line e g) = short_low s h g
   fine_change s h (multiplies line e g) = atom_simple p written m s h g
   fine_change s h (puts_product line e g) = atom_simple p written m s h g
+  fine_change s h (joins line o a e i g) = short_low s h g
+  fine_change s h (puts_joined line o e g) = short_low s h g
   fine_change s h (adds_to_item line i e g k) = (short_low s h g, short_low s h k)
   fine_change s h (puts_item_sum line i e g k) = (short_low s h g, short_low s h k)
   fine_change s h (takes_off_item line i e g k) = (short_low s h g, negation_low s h k)
@@ -219,6 +227,8 @@ module _ (p : PlainProgram) (written : List FieldId) (m : PlainMethod) where
   asked_light s g h (puts_difference line e k) = tt
   asked_light s g h (multiplies line e k) = tt
   asked_light s g h (puts_product line e k) = tt
+  asked_light s g h (joins line o a e i k) = tt
+  asked_light s g h (puts_joined line o e k) = tt
   asked_light s g h (adds_to_item line i e k l) = ((low_light (term_of p s i) (short_low s h k), tt), tt)
   asked_light s g h (puts_item_sum line i e k l) =
       ((low_light (term_of p s i) (short_low s h k), tt), ((low_light (term_of p s i) (short_low s h k), tt), tt))

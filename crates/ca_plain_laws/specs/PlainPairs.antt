@@ -1,13 +1,17 @@
 -- Plain pairs: two operations of one class whose bodies have so plain a form that they surely commute. Each body first
 -- updates fields and then calls operations. No field is updated in two ways, and what is computed is computed from
 -- literals, parameters and constants.
-use Rattle.std.specs.Prelude.{◌≡◌, ◌≤◌, ◌<◌, ◌+◌, ℕ, suc, ℤ, Bool, List, Contains, Some, slice_get}
-use Rattle.ca_tree.specs.declared.tree.AssignOp.TheVariants.{Put, Add, Sub, Mul}
+use Rattle.std.specs.Prelude.{◌≡◌, ◌≤◌, ◌<◌, ◌+◌, ℕ, suc, ℤ, Bool, List, Contains, Option, Some, None, slice_get}
+use Rattle.ca_tree.specs.declared.tree.AssignOp.{AssignOp}
+use Rattle.ca_tree.specs.declared.tree.AssignOp.TheVariants.{Put, Add, Sub, Mul, BitAnd, BitOr, BitXor}
 use Rattle.ca_tree.specs.declared.tree.BinaryOp.TheVariants.{Plus, Minus, Times}
 use Rattle.ca_program.specs.declared.program.FieldId.{FieldId}
 use Rattle.ca_program.specs.declared.program.LocalId.{LocalId}
 use Rattle.ca_program.specs.declared.program.OpId.{OpId}
 use Rattle.ca_program.specs.Plain.{PlainProgram, PlainMethod, Expression, Expressions, number, truth, null, this, local, own, own_item, read, read_item, value_call, unary, binary, no_expressions, expression_and, Statement, Statements, put_field, put_item, invoke, no_statements, statement_and}
+use Rattle.ca_folds.specs.declared.operator.FoldOp.{FoldOp}
+use Rattle.ca_folds.specs.declared.operator.FoldOp.TheVariants as fold_op
+use Rattle.ca_norm.specs.Meanings.{binary_of}
 
 -- Expressions, in a method of an extent that writes these fields
 
@@ -68,13 +72,22 @@ AreShortSums written m (expression_and e es) = IsShortSum written m e × AreShor
 
 -- Updates
 
--- how a field is updated: it gets sums added and taken off, it is multiplied, its items get sums added and taken off, or
--- it is put to one literal
+-- how a field is updated: it gets sums added and taken off, it is multiplied, it is joined with sums by one operator whose
+-- operands may stand in any order, its items get sums added and taken off, or it is put to one literal
 pub data Kind : Type 0 where
   sums : Kind
   products : Kind
+  folds : FoldOp → Kind
   item_sums : Kind
   literal : Expression → Kind
+
+-- the assignment that joins by the operator, if there is one
+abbrev pub assign_of : FoldOp → Option AssignOp
+assign_of fold_op.Max = None
+assign_of fold_op.Min = None
+assign_of fold_op.BitAnd = Some BitAnd
+assign_of fold_op.BitOr = Some BitOr
+assign_of fold_op.BitXor = Some BitXor
 
 -- an update of the field in this way, written short or in full
 pub data IsUpdateOf (written : List FieldId) (m : PlainMethod) (f : FieldId) : Kind → Statement → Type 0 where
@@ -84,6 +97,8 @@ pub data IsUpdateOf (written : List FieldId) (m : PlainMethod) (f : FieldId) : K
   puts_difference : (line : ℕ) (e : Expression) → IsShortSum written m e → IsUpdateOf written m f sums (put_field line f Put (binary Minus (own f) e))
   multiplies : (line : ℕ) (e : Expression) → IsAtom written m e → IsUpdateOf written m f products (put_field line f Mul e)
   puts_product : (line : ℕ) (e : Expression) → IsAtom written m e → IsUpdateOf written m f products (put_field line f Put (binary Times (own f) e))
+  joins : (line : ℕ) (o : FoldOp) (a : AssignOp) (e : Expression) → assign_of o ≡ Some a → IsShortSum written m e → IsUpdateOf written m f (folds o) (put_field line f a e)
+  puts_joined : (line : ℕ) (o : FoldOp) (e : Expression) → IsShortSum written m e → IsUpdateOf written m f (folds o) (put_field line f Put (binary (binary_of o) (own f) e))
   adds_to_item : (line : ℕ) (i e : Expression) → IsShortSum written m i → IsShortSum written m e → IsUpdateOf written m f item_sums (put_item line f i Add e)
   puts_item_sum : (line : ℕ) (i e : Expression) → IsShortSum written m i → IsShortSum written m e → IsUpdateOf written m f item_sums (put_item line f i Put (binary Plus (own_item f i) e))
   takes_off_item : (line : ℕ) (i e : Expression) → IsShortSum written m i → IsShortSum written m e → IsUpdateOf written m f item_sums (put_item line f i Sub e)

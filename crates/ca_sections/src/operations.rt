@@ -4,7 +4,6 @@ ghost use Rattle.std.specs.Prelude.{◌≡◌, ◌≤◌, ℕ, IfOk, OnErr, slic
 ghost use Rattle.ca_program.specs.View.{program_view, statements_view};
 ghost use Rattle.ca_meaning.specs.Functions.{body_of};
 ghost use Rattle.ca_meaning.specs.Sections.{section};
-ghost use Rattle.ca_parallel.specs.Calls.{invocations_of};
 ghost use Rattle.ca_section.specs.Olds.{put_back, AllThere};
 ghost use Rattle.ca_values.specs.Resume.{others_in};
 ghost use Rattle.ca_model.specs.declared.value.Object.{Object};

@@ -2,6 +2,7 @@
 use Rattle.std.proofs.Common.{◌≡◌, ℕ, ℤ, ◌*◌, ◌<◌, ◌≤◌, true, arith}
 use Rattle.std.proofs.Math.Nat.{mul-pos, le-mul_of_pos_right}
 use Rattle.std.proofs.lemmas.Bool.{lt-ltb, ltb-true}
+use Rattle.ca_folds.specs.declared.operator.FoldOp.{FoldOp}
 use Rattle.ca_forms.specs.declared.sort.Sort.{Sort}
 use Rattle.ca_forms.specs.declared.sort.Sort.TheVariants.{Bool as Truth}
 use Rattle.ca_norm.specs.Terms.{PlainTerm, number, truth, null, atom, add, sub, neg, mul, divide, remainder, less, less_equal, same, not, and, or, choose, read, read_at, result, select, put, add_at, fold, sort_of}
@@ -141,6 +142,12 @@ module _ (a b : PlainTerm) where
 
   pub same_heavier_right : is_heavy b ≡ true → is_heavy (same a b) ≡ true
   same_heavier_right = heavier b (same a b) (same_right (sort_of a) (spread a) (spread b)) (omega arith) (omega arith)
+
+pub fold_left : (o : FoldOp) (a b : PlainTerm) → is_heavy a ≡ true → is_heavy (fold o a b) ≡ true
+fold_left o a b = heavier a (fold o a b) (omega arith) (omega arith) (omega arith)
+
+pub fold_right : (o : FoldOp) (a b : PlainTerm) → is_heavy b ≡ true → is_heavy (fold o a b) ≡ true
+fold_right o a b = heavier b (fold o a b) (omega arith) (omega arith) (omega arith)
 
 pub divide_left : (a : PlainTerm) (n : ℤ) → is_heavy a ≡ true → is_heavy (divide a n) ≡ true
 divide_left a n = heavier a (divide a n) (omega arith) (omega arith) (omega arith)

@@ -41,7 +41,7 @@ signs sign.Not sign.Minus e = absurd cc
 abbrev every : List BinaryOp
 every =
     op.Or ∷ op.And ∷ op.Equal ∷ op.NotEqual ∷ op.Less ∷ op.Greater ∷ op.LessEqual ∷ op.GreaterEqual ∷ op.Plus ∷ op.Minus ∷
-    op.Times ∷ op.Divide ∷ op.Remainder ∷ []
+    op.Times ∷ op.Divide ∷ op.Remainder ∷ op.BitAnd ∷ op.BitOr ∷ op.BitXor ∷ op.Max ∷ op.Min ∷ []
 
 at_place : (o : BinaryOp) → slice_get every (place_of o) ≡ Some o
 at_place op.Or = refl
@@ -57,6 +57,11 @@ at_place op.Minus = refl
 at_place op.Times = refl
 at_place op.Divide = refl
 at_place op.Remainder = refl
+at_place op.BitAnd = refl
+at_place op.BitOr = refl
+at_place op.BitXor = refl
+at_place op.Max = refl
+at_place op.Min = refl
 
 operators : (o s : BinaryOp) → nat_eq (place_of o) (place_of s) ≡ true → o ≡ s
 operators o s e =

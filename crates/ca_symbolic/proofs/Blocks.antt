@@ -1,6 +1,5 @@
 -- Statements and calls in memory, and what they are viewed as.
 use Rattle.std.proofs.Common.{◌≡◌, ℕ, ◌<◌, Bool, true, false, ◌&&◌, List, [], ◌∷◌, length, refl, sym, ap, ap₂, ◌∙◌, arith, Global}
-use Rattle.std.specs.Prelude.{nat_eq}
 use Rattle.std.specs.declared.vec.Vec.{Vec}
 use Rattle.std.specs.declared.boxed.Box.{Box}
 use Rattle.ca_program.specs.declared.program.Expr.{Expr, Value}

@@ -1,7 +1,7 @@
 -- Worked examples of symbolic execution over whole bodies.
 use Rattle.std.proofs.Common.{◌≡◌, ℕ, true, false, List, [], ◌∷◌, None, Some, refl, codes, pos}
-use Rattle.ca_tree.specs.declared.tree.AssignOp.TheVariants.{Put, Add}
-use Rattle.ca_tree.specs.declared.tree.BinaryOp.TheVariants.{And, Less, Plus, Minus, Greater, Divide}
+use Rattle.ca_tree.specs.declared.tree.AssignOp.TheVariants.{Put, Add, BitXor}
+use Rattle.ca_tree.specs.declared.tree.BinaryOp.TheVariants.{And, Less, Plus, Minus, Greater, Divide, Max}
 use Rattle.ca_program.specs.declared.program.ClassId.{ClassId}
 use Rattle.ca_program.specs.declared.program.FieldId.{FieldId}
 use Rattle.ca_program.specs.declared.program.FieldInfo.{FieldInfo}
@@ -9,10 +9,11 @@ use Rattle.ca_program.specs.declared.program.FirstPart.TheVariants.{Declares, As
 use Rattle.ca_program.specs.declared.program.FunctionId.{FunctionId}
 use Rattle.ca_program.specs.declared.program.OpId.{OpId}
 use Rattle.ca_program.specs.declared.program.ValueType.TheVariants as type
-use Rattle.ca_program.specs.Plain.{PlainProgram, PlainMethod, Expression, Statement, Statements, null, local, own, own_item, value_call, unary, binary, no_expressions, expression_and, block, put_local, put_field, put_item, invoke, if_else, while_loop, for_loop, return_value, no_statements, statement_and}
+use Rattle.ca_program.specs.Plain.{PlainProgram, PlainMethod, Expression, Statement, local, own, own_item, value_call, binary, no_expressions, expression_and, block, put_local, put_field, put_item, invoke, if_else, while_loop, for_loop, return_value, no_statements, statement_and}
 use Rattle.ca_program.specs.Plain as plain
+use Rattle.ca_folds.specs.declared.operator.FoldOp.TheVariants as fold_op
 use Rattle.ca_forms.specs.declared.sort.Sort.TheVariants.{Long, Bool, Pointer, LongArray}
-use Rattle.ca_norm.specs.Terms.{PlainTerm, truth, atom, add, sub, less, divide, not, and, choose, result, put, add_at, select, neg, no_terms}
+use Rattle.ca_norm.specs.Terms.{PlainTerm, truth, atom, add, sub, less, divide, not, and, choose, result, put, add_at, select, neg, fold, no_terms}
 use Rattle.ca_shared_terms.specs.Starts.{starts}
 use Rattle.ca_symbolic.specs.States.{State, not_null, in_range, calls, invokes, loops, demand, first_locals, receiver}
 use Rattle.ca_symbolic.specs.Execution.{term_of, after}
@@ -129,6 +130,15 @@ nor_is_a_longer_sum :
     (after program start (put_item 1 (field 2) (variable 1) Put (binary Plus (binary Plus (own_item (field 2) (variable 1)) (variable 0)) (variable 0)))).fields ≡
     x0 ∷ b0 ∷ put a0 i0 (add (add (select a0 i0) p0) p0) ∷ next0 ∷ []
 nor_is_a_longer_sum = refl
+
+-- x = max(x, p);
+greatest_of_two : (after program start (put_field 1 (field 0) Put (binary Max x (variable 0)))).fields ≡ fold fold_op.Max x0 p0 ∷ b0 ∷ a0 ∷ next0 ∷ []
+greatest_of_two = refl
+
+-- a[i] ^= p; puts what the operator makes of the item
+joined_with_an_item :
+    (after program start (put_item 1 (field 2) (variable 1) BitXor (variable 0))).fields ≡ x0 ∷ b0 ∷ put a0 i0 (fold fold_op.BitXor (select a0 i0) p0) ∷ next0 ∷ []
+joined_with_an_item = refl
 
 -- the index of the item that is read again is checked again
 index_checked_twice :

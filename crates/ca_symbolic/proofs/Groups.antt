@@ -3,7 +3,6 @@ use Rattle.std.proofs.Common.{◌≡◌, ℕ, ◌≤◌, List, [], ◌∷◌, �
 use Rattle.ca_norm.specs.Terms.{PlainTerm}
 use Rattle.ca_symbolic.specs.declared.demand.Demand.{Demand}
 use Rattle.ca_symbolic.specs.declared.demand.Group.{Group}
-use Rattle.ca_symbolic.specs.States.{PlainDemand}
 use Rattle.ca_symbolic.specs.Demanded.{demand_of, demands_of}
 
 pub one_more : (xs : List Group) (x : Group) → demands_of (xs ++ x ∷ []) ≡ demands_of xs ++ map (demand_of x.guard) x.items.items

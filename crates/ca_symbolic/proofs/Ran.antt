@@ -1,5 +1,5 @@
 -- What is told of a statement whose parts were run one behind the other.
-use Rattle.std.proofs.Common.{◌≡◌, ℕ, Bool, true, false, ◌||◌, List, ◌++◌, Result, Ok, Err, OnOk, sym, ap, ap₂, subst, ◌∙◌, append_assoc}
+use Rattle.std.proofs.Common.{◌≡◌, ℕ, Bool, true, false, ◌||◌, List, ◌++◌, Result, Err, OnOk, sym, ap, ap₂, subst, ◌∙◌, append_assoc}
 use Rattle.std.specs.List.{list_any}
 use Rattle.ca_program.specs.Plain.{PlainProgram, Expression, Statement, if_else}
 use Rattle.ca_norm.specs.Terms.{PlainTerm, not}

@@ -7,20 +7,22 @@ use Rattle.std.proofs.lemmas.List.Folds.{list_any-append}
 use Rattle.ca_tree.specs.declared.tree.AssignOp.{AssignOp}
 use Rattle.ca_tree.specs.declared.tree.AssignOp.TheVariants as assign
 use Rattle.ca_tree.specs.declared.tree.BinaryOp.{BinaryOp}
-use Rattle.ca_tree.specs.declared.tree.BinaryOp.TheVariants.{Or, And, Equal, NotEqual, Less, Greater, LessEqual, GreaterEqual, Plus, Minus, Times, Divide, Remainder}
+use Rattle.ca_tree.specs.declared.tree.BinaryOp.TheVariants.{Or, And, Equal, NotEqual, Less, Greater, LessEqual, GreaterEqual, Plus, Minus, Times, Divide, Remainder, BitAnd, BitOr, BitXor, Max, Min}
 use Rattle.ca_tree.specs.declared.tree.UnaryOp.{UnaryOp}
 use Rattle.ca_tree.specs.declared.tree.UnaryOp.TheVariants as sign
 use Rattle.ca_program.specs.declared.program.FieldId.{FieldId}
 use Rattle.ca_program.specs.Plain.{PlainProgram, Expression, Expressions, number, truth, null, this, local, own, own_item, read, read_item, value_call, unary, binary, no_expressions, expression_and, Statement, Statements, block, put_local, put_field, put_item, new_local, new_field, new_item, invoke, if_else, while_loop, for_loop, return_value, print_value, no_statements, statement_and}
-use Rattle.ca_norm.specs.Terms.{PlainTerm, neg, not, and, same, divide, remainder, add_at, select, put, mul}
+use Rattle.ca_folds.specs.declared.operator.FoldOp.{FoldOp}
+use Rattle.ca_folds.specs.declared.operator.FoldOp.TheVariants as fold_op
+use Rattle.ca_norm.specs.Terms.{PlainTerm, neg, not, and, same, divide, remainder, add_at, select, put, mul, fold}
 use Rattle.ca_symbolic.specs.States.{State, PlainDemand, demand, not_null, in_range, calls, invokes, term_at}
 use Rattle.ca_symbolic.specs.Execution.{term_of, signed_term, operation, divisor, divided, put_term, is_item, put_right, array_term, after}
 use Rattle.ca_symbolic.specs.Demands.{right_guard, then_guard, else_guard, terms_in, demands_in, demands_in_all, loop_parts, demanded, demanded_all}
 use Rattle.ca_symbolic.specs.Made.{new_guard, guards_in, guards_in_all, joined_terms, steps_made, steps_made_all, made_by}
 use Rattle.ca_shared_terms.specs.Heavy.{is_heavy}
-use Rattle.ca_symbolic.specs.clauses.Refusals.{refused_guard, refused, refused_all, refused_item, with_put, refused_value, put_sum, refused_sum, refused_right, refused_array, refused_by, refused_by_all}
+use Rattle.ca_symbolic.specs.clauses.Refusals.{refused_guard, refused, refused_all, refused_item, with_put, refused_fold, refused_value, put_sum, refused_sum, refused_right, refused_array, refused_by, refused_by_all}
 use Rattle.ca_symbolic.proofs.Ors.{v, none, either, same_ors, absorbed}
-use Rattle.ca_shared_terms.proofs.Heavier.{neg_heavier, not_heavier, add_left, add_right, sub_left, sub_right, mul_left, mul_right, and_left, and_right, or_left, or_right, less_left, less_right, less_equal_left, less_equal_right, same_heavier_left, same_heavier_right, divide_left, remainder_left, put_item_heavier, add_at_heavier}
+use Rattle.ca_shared_terms.proofs.Heavier.{neg_heavier, not_heavier, add_left, add_right, sub_left, sub_right, mul_left, mul_right, and_left, and_right, or_left, or_right, less_left, less_right, less_equal_left, less_equal_right, same_heavier_left, same_heavier_right, fold_left, fold_right, divide_left, remainder_left, put_item_heavier, add_at_heavier}
 
 -- one of the terms is too heavy, one of the parts of the demands
 abbrev H : List PlainTerm → Bool
@@ -57,6 +59,11 @@ left_in Divide a b (Some n) = divide_left a n
 left_in Divide a b None = add_left a b
 left_in Remainder a b (Some n) = remainder_left a n
 left_in Remainder a b None = add_left a b
+left_in BitAnd a b n = fold_left fold_op.BitAnd a b
+left_in BitOr a b n = fold_left fold_op.BitOr a b
+left_in BitXor a b n = fold_left fold_op.BitXor a b
+left_in Max a b n = fold_left fold_op.Max a b
+left_in Min a b n = fold_left fold_op.Min a b
 
 -- a literal is not heavy, and any other right side stands in the term
 divided_right : (by : PlainTerm → ℤ → PlainTerm) (p : PlainProgram) (s : State) (a : PlainTerm) (b : Expression) → is_heavy (term_of p s b) ≡ true →
@@ -79,12 +86,20 @@ right_in p s Minus a b = sub_right a (term_of p s b)
 right_in p s Times a b = mul_right a (term_of p s b)
 right_in p s Divide a b = divided_right divide p s a b
 right_in p s Remainder a b = divided_right remainder p s a b
+right_in p s BitAnd a b = fold_right fold_op.BitAnd a (term_of p s b)
+right_in p s BitOr a b = fold_right fold_op.BitOr a (term_of p s b)
+right_in p s BitXor a b = fold_right fold_op.BitXor a (term_of p s b)
+right_in p s Max a b = fold_right fold_op.Max a (term_of p s b)
+right_in p s Min a b = fold_right fold_op.Min a (term_of p s b)
 
 put_in : (op : AssignOp) (old t : PlainTerm) → is_heavy t ≡ true → is_heavy (put_term op old t) ≡ true
 put_in assign.Put old t = λ h. h
 put_in assign.Add old t = add_right old t
 put_in assign.Sub old t = sub_right old t
 put_in assign.Mul old t = mul_right old t
+put_in assign.BitAnd old t = fold_right fold_op.BitAnd old t
+put_in assign.BitOr old t = fold_right fold_op.BitOr old t
+put_in assign.BitXor old t = fold_right fold_op.BitXor old t
 
 guard_is : (op : BinaryOp) (g t : PlainTerm) → refused_guard op g t ≡ H (new_guard op g t)
 guard_is And g t = same_ors (is_heavy (and g t) ∷ []) (v 0) (either (v 0) none) refl refl
@@ -239,6 +254,19 @@ module _ (p : PlainProgram) (s : State) (g : PlainTerm) (f : FieldId) where
   abbrev ValueIs : AssignOp → PlainTerm → Expression → Type 0
   ValueIs op t e = refused_value p s g f op t e ≡ ((H (guards_in p s g e) || P (demands_in p s g e)) || is_heavy (with_put op A t (term_of p s e)))
 
+  fold_is : (o : FoldOp) (t : PlainTerm) (e : Expression) →
+      (refused p s g e || refused_fold o A t (term_of p s e)) ≡ ((H (guards_in p s g e) || P (demands_in p s g e)) || is_heavy (put A t (fold o (select A t) (term_of p s e))))
+  fold_is o t e =
+      let item : PlainTerm = select A t in
+      let r = refused p s g e in
+      let i = is_heavy item in
+      let m = is_heavy (fold o item (term_of p s e)) in
+      let w = is_heavy (put A t (fold o item (term_of p s e))) in
+      let up : m ≡ true → w ≡ true = put_item_heavier A t (fold o item (term_of p s e)) in
+      ap (λ x. r || (i || x)) (sym (absorbed m w up))
+      ∙ (ap (λ x. r || x) (sym (absorbed i w (λ h. up (fold_left o item (term_of p s e) h))))
+      ∙ ends e w (λ h. up (fold_right o item (term_of p s e) h)))
+
   value_is : (op : AssignOp) (t : PlainTerm) (e : Expression) → ValueIs op t e
   value_is assign.Put t e = ends e (is_heavy (put A t (term_of p s e))) (put_item_heavier A t (term_of p s e))
   value_is assign.Add t e = ends e (is_heavy (add_at A t (term_of p s e))) (add_at_heavier A t (term_of p s e))
@@ -257,6 +285,9 @@ module _ (p : PlainProgram) (s : State) (g : PlainTerm) (f : FieldId) where
       ap (λ x. r || (i || x)) (sym (absorbed m w up))
       ∙ (ap (λ x. r || x) (sym (absorbed i w (λ h. up (mul_left item (term_of p s e) h))))
       ∙ ends e w (λ h. up (mul_right item (term_of p s e) h)))
+  value_is assign.BitAnd t e = fold_is fold_op.BitAnd t e
+  value_is assign.BitOr t e = fold_is fold_op.BitOr t e
+  value_is assign.BitXor t e = fold_is fold_op.BitXor t e
 
   -- the two sides of an operator that makes no condition
   sides : (op : BinaryOp) (a b : Expression) → new_guard op g (term_of p s a) ≡ [] → right_guard op g (term_of p s a) ≡ g →
@@ -296,6 +327,9 @@ module _ (p : PlainProgram) (s : State) (g : PlainTerm) (f : FieldId) where
   array_is i assign.Add e = value_is assign.Add (term_of p s i) e
   array_is i assign.Sub e = value_is assign.Sub (term_of p s i) e
   array_is i assign.Mul e = value_is assign.Mul (term_of p s i) e
+  array_is i assign.BitAnd e = value_is assign.BitAnd (term_of p s i) e
+  array_is i assign.BitOr e = value_is assign.BitOr (term_of p s i) e
+  array_is i assign.BitXor e = value_is assign.BitXor (term_of p s i) e
 
 -- In a statement
 

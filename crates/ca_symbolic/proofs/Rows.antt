@@ -1,5 +1,5 @@
 -- What is told of a row of expressions or statements, which are taken one behind the other.
-use Rattle.std.proofs.Common.{◌≡◌, Bool, true, false, ◌||◌, List, [], ◌∷◌, ◌++◌, sym, ap, ap₂, ◌∙◌, append_assoc, append-nil}
+use Rattle.std.proofs.Common.{◌≡◌, true, false, ◌||◌, List, [], ◌∷◌, ◌++◌, sym, ap, ap₂, ◌∙◌, append_assoc, append-nil}
 use Rattle.ca_program.specs.Plain.{PlainProgram, Expression, Expressions, no_expressions, expression_and, Statement, Statements, no_statements, statement_and}
 use Rattle.ca_norm.specs.Terms.{PlainTerm}
 use Rattle.ca_symbolic.specs.States.{State, PlainDemand}

@@ -1,5 +1,5 @@
 -- A put to an item, by its right side: `left op right` adds to the item where the left side is that item.
-use Rattle.std.proofs.Common.{◌≡◌, Bool, true, false, ◌||◌, List, ◌++◌, Result, Ok, Err, OnOk, Global, refl, sym, ap, ap₂, ◌∙◌}
+use Rattle.std.proofs.Common.{◌≡◌, Bool, true, false, ◌||◌, ◌++◌, Result, Ok, Err, OnOk, Global, refl, sym, ap, ap₂, ◌∙◌}
 use Rattle.std.specs.Prelude.{if◌then◌else◌}
 use Rattle.std.specs.declared.boxed.Box.{Box}
 use Rattle.ca_tree.specs.declared.tree.AssignOp.{AssignOp}
@@ -16,7 +16,7 @@ use Rattle.ca_symbolic.specs.Execution.{term_of, is_item, put_right, array_term}
 use Rattle.ca_symbolic.specs.Demands.{demands_in}
 use Rattle.ca_symbolic.specs.Demanded.{Demanded, with_demands}
 use Rattle.ca_symbolic.specs.clauses.Refusals.{refused_item, with_put, refused_value, put_sum, refused_sum, refused_right, refused_array}
-use Rattle.ca_symbolic.proofs.Flags.{neither, first_of, second_of}
+use Rattle.ca_symbolic.proofs.Flags.{first_of}
 use Rattle.ca_symbolic.proofs.Valued.{behind, guard_of}
 
 pub was_ok : {T E : Type 0} (r : Result T E) (x : T) (P : Type 0) → r ≡ Ok x → OnOk r P → P
@@ -109,11 +109,17 @@ module _ (p : PlainProgram) (s : State) (g : PlainTerm) (f : FieldId) (i : Expre
       refused_value p s g f assign.Put t (expression_view e) ≡ refused_right p s g f i (expression_view e)
   value_refused e other = ap (λ (u : PlainTerm). refused_value p s g f assign.Put u (expression_view e)) named ∙ plain_refused e other
 
-  module _ (op o : AssignOp) (is : op ≡ o) (e : Expression) where
-    pub array_made : with_put o (term_at s.fields f.field) (term_of p s i) (term_of p s e) ≡ array_term p s f i o e → with_put op (term_at s.fields f.field) t (term_of p s e) ≡ array_term p s f i op e
-    array_made same =
-        ap₂ (λ (k : AssignOp) (u : PlainTerm). with_put k (term_at s.fields f.field) u (term_of p s e)) is named ∙ (same ∙ sym (ap (λ (k : AssignOp). array_term p s f i k e) is))
+  no_put_made : (op : AssignOp) (e : Expression) → (op ≡ assign.Put → ⊥) → with_put op (term_at s.fields f.field) (term_of p s i) (term_of p s e) ≡ array_term p s f i op e
+  no_put_made assign.Put e n = absurd (n refl)
+  no_put_made op e n = refl
 
-    pub array_refused : refused_value p s g f o (term_of p s i) e ≡ refused_array p s g f i o e → refused_value p s g f op t e ≡ refused_array p s g f i op e
-    array_refused same =
-        ap₂ (λ (k : AssignOp) (u : PlainTerm). refused_value p s g f k u e) is named ∙ (same ∙ sym (ap (λ (k : AssignOp). refused_array p s g f i k e) is))
+  no_put_refused : (op : AssignOp) (e : Expression) → (op ≡ assign.Put → ⊥) → refused_value p s g f op (term_of p s i) e ≡ refused_array p s g f i op e
+  no_put_refused assign.Put e n = absurd (n refl)
+  no_put_refused op e n = refl
+
+  module _ (op : AssignOp) (no_put : op ≡ assign.Put → ⊥) (e : Expression) where
+    pub array_made : with_put op (term_at s.fields f.field) t (term_of p s e) ≡ array_term p s f i op e
+    array_made = ap (λ (u : PlainTerm). with_put op (term_at s.fields f.field) u (term_of p s e)) named ∙ no_put_made op e no_put
+
+    pub array_refused : refused_value p s g f op t e ≡ refused_array p s g f i op e
+    array_refused = ap (λ (u : PlainTerm). refused_value p s g f op u e) named ∙ no_put_refused op e no_put

@@ -5,21 +5,22 @@ use Rattle.std.specs.List.{list_any}
 use Rattle.ca_tree.specs.declared.tree.AssignOp.{AssignOp}
 use Rattle.ca_tree.specs.declared.tree.AssignOp.TheVariants as assign
 use Rattle.ca_tree.specs.declared.tree.BinaryOp.{BinaryOp}
-use Rattle.ca_tree.specs.declared.tree.BinaryOp.TheVariants.{Or, And, Equal, NotEqual, Less, Greater, LessEqual, GreaterEqual, Plus, Minus, Times, Divide, Remainder}
+use Rattle.ca_tree.specs.declared.tree.BinaryOp.TheVariants.{Or, And, Equal, NotEqual, Less, Greater, LessEqual, GreaterEqual, Plus, Minus, Times, Divide, Remainder, BitAnd, BitOr, BitXor, Max, Min}
 use Rattle.ca_tree.specs.declared.tree.UnaryOp.{UnaryOp}
 use Rattle.ca_tree.specs.declared.tree.UnaryOp.TheVariants as sign
 use Rattle.ca_program.specs.declared.program.FieldId.{FieldId}
 use Rattle.ca_program.specs.declared.program.FieldInfo.{FieldInfo}
 use Rattle.ca_program.specs.declared.program.ValueType.{ValueType}
 use Rattle.ca_program.specs.Fields.{same_field}
-use Rattle.ca_program.specs.Plain.{PlainProgram, PlainMethod, Expression, Expressions, this, local, own, own_item, read_item, value_call, unary, binary, no_expressions, expression_and, Statement, Statements, block, put_local, put_field, put_item, new_local, new_field, new_item, invoke, if_else, while_loop, for_loop, return_value, print_value, no_statements, statement_and}
+use Rattle.ca_program.specs.Plain.{PlainProgram, PlainMethod, Expression, Expressions, this, local, own, own_item, read_item, value_call, unary, binary, no_expressions, expression_and, Statement, Statements, block, put_local, put_field, put_item, if_else, no_statements, statement_and}
 use Rattle.ca_program.specs.Plain as plain
 use Rattle.ca_meaning.specs.ProgramTyped.{field_info}
 use Rattle.ca_parallel.specs.Bodies.{targets_of}
 use Rattle.ca_symbolic.specs.Same.{same_expression}
+use Rattle.ca_folds.specs.declared.operator.FoldOp.TheVariants as fold_op
 use Rattle.ca_forms.specs.declared.sort.Sort.{Sort}
 use Rattle.ca_forms.specs.declared.sort.Sort.TheVariants.{Pointer}
-use Rattle.ca_norm.specs.Terms.{PlainTerm, PlainTerms, number, truth, null, add, sub, neg, mul, divide, remainder, less, less_equal, same, not, and, or, choose, read, read_at, result, select, put, add_at, no_terms, term_and}
+use Rattle.ca_norm.specs.Terms.{PlainTerm, PlainTerms, number, truth, null, add, sub, neg, mul, divide, remainder, less, less_equal, same, not, and, or, choose, read, read_at, result, select, put, add_at, fold, no_terms, term_and}
 use Rattle.ca_shared_terms.specs.Starts.{sort_of_type}
 use Rattle.ca_symbolic.specs.States.{State, term_at, receiver}
 
@@ -64,6 +65,11 @@ operation Minus a b n = sub a b
 operation Times a b n = mul a b
 operation Divide a b n = divided divide a b n
 operation Remainder a b n = divided remainder a b n
+operation BitAnd a b n = fold fold_op.BitAnd a b
+operation BitOr a b n = fold fold_op.BitOr a b
+operation BitXor a b n = fold fold_op.BitXor a b
+operation Max a b n = fold fold_op.Max a b
+operation Min a b n = fold fold_op.Min a b
 
 abbrev pub signed_term : UnaryOp → PlainTerm → PlainTerm
 signed_term sign.Minus a = neg a
@@ -95,6 +101,9 @@ put_term assign.Put old t = t
 put_term assign.Add old t = add old t
 put_term assign.Sub old t = sub old t
 put_term assign.Mul old t = mul old t
+put_term assign.BitAnd old t = fold fold_op.BitAnd old t
+put_term assign.BitOr old t = fold fold_op.BitOr old t
+put_term assign.BitXor old t = fold fold_op.BitXor old t
 
 -- the expression is the item of that field at that index, written alike
 abbrev pub is_item : FieldId → Expression → Expression → Bool
@@ -117,6 +126,9 @@ array_term p s f i assign.Put e = put_right p s f i e
 array_term p s f i assign.Add e = add_at (term_at s.fields f.field) (term_of p s i) (term_of p s e)
 array_term p s f i assign.Sub e = add_at (term_at s.fields f.field) (term_of p s i) (neg (term_of p s e))
 array_term p s f i assign.Mul e = put (term_at s.fields f.field) (term_of p s i) (mul (select (term_at s.fields f.field) (term_of p s i)) (term_of p s e))
+array_term p s f i assign.BitAnd e = put (term_at s.fields f.field) (term_of p s i) (fold fold_op.BitAnd (select (term_at s.fields f.field) (term_of p s i)) (term_of p s e))
+array_term p s f i assign.BitOr e = put (term_at s.fields f.field) (term_of p s i) (fold fold_op.BitOr (select (term_at s.fields f.field) (term_of p s i)) (term_of p s e))
+array_term p s f i assign.BitXor e = put (term_at s.fields f.field) (term_of p s i) (fold fold_op.BitXor (select (term_at s.fields f.field) (term_of p s i)) (term_of p s e))
 
 abbrev pub with_field : State → ℕ → PlainTerm → State
 with_field s n t = record { fields = slice_set s.fields n t; locals = s.locals }

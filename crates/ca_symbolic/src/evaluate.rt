@@ -17,6 +17,7 @@ ghost use Rattle.ca_shared_terms.specs.Heavy.{is_heavy};
 use crate::carried::{leaf, together};
 use crate::demand::{DemandKind, Demands};
 use crate::state::{SymState, receiver, shared_behind};
+use ca_folds::FoldOp;
 use ca_forms::parts::{both, longer};
 use ca_norm::Sort;
 use ca_program::{BinaryOp, Expr, FieldId, FunctionId, Program, UnaryOp};
@@ -144,6 +145,11 @@ fn operation(
         BinaryOp::Times => LightTerm::times(alloc, a, b),
         BinaryOp::Divide => divided(alloc, a, b, n),
         BinaryOp::Remainder => left_over(alloc, a, b, n),
+        BinaryOp::BitAnd => LightTerm::folded(alloc, FoldOp::BitAnd, a, b),
+        BinaryOp::BitOr => LightTerm::folded(alloc, FoldOp::BitOr, a, b),
+        BinaryOp::BitXor => LightTerm::folded(alloc, FoldOp::BitXor, a, b),
+        BinaryOp::Max => LightTerm::folded(alloc, FoldOp::Max, a, b),
+        BinaryOp::Min => LightTerm::folded(alloc, FoldOp::Min, a, b),
     }
 }
 

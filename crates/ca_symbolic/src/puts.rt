@@ -4,12 +4,12 @@ ghost use Rattle.std.specs.Prelude.{◌≡◌, ◌||◌, [], ◌∷◌, ◌++◌
 ghost use Rattle.ca_tree.specs.declared.tree.AssignOp.TheVariants as assign;
 ghost use Rattle.ca_program.specs.Plain.{binary};
 ghost use Rattle.ca_program.specs.View.{expression_view, program_view};
-ghost use Rattle.ca_norm.specs.Terms.{PlainTerm};
+ghost use Rattle.ca_norm.specs.Terms.{PlainTerm, select, put, fold};
 ghost use Rattle.ca_symbolic.specs.States.{term_at, demand, in_range};
 ghost use Rattle.ca_symbolic.specs.Execution.{put_term, is_item, put_right, array_term, with_field, with_local, term_of};
 ghost use Rattle.ca_symbolic.specs.Demands.{demands_in};
 ghost use Rattle.ca_symbolic.specs.Demanded.{with_demands};
-ghost use Rattle.ca_symbolic.specs.clauses.Refusals.{refused, refused_item, is_own_item, with_put, refused_put, refused_value, put_sum, refused_sum, refused_right, refused_array};
+ghost use Rattle.ca_symbolic.specs.clauses.Refusals.{refused, refused_item, is_own_item, with_put, refused_fold, refused_put, refused_value, put_sum, refused_sum, refused_right, refused_array};
 ghost use Rattle.ca_shared_terms.specs.Heavy.{is_heavy};
 
 use crate::carried::{leaf, together};
@@ -17,6 +17,7 @@ use crate::demand::Demands;
 use crate::evaluate::{ask_in_range, value_of};
 use crate::same::same_expression;
 use crate::state::SymState;
+use ca_folds::FoldOp;
 use ca_forms::parts::both;
 use ca_program::{AssignOp, BinaryOp, Expr, FieldId, LocalId, Program};
 use ca_shared_terms::{ExecutionError, LightTerm};
@@ -38,6 +39,9 @@ fn put_term(
         AssignOp::Add => LightTerm::plus(alloc, old, value),
         AssignOp::Sub => LightTerm::minus(alloc, old, value),
         AssignOp::Mul => LightTerm::times(alloc, old, value),
+        AssignOp::BitAnd => LightTerm::folded(alloc, FoldOp::BitAnd, old, value),
+        AssignOp::BitOr => LightTerm::folded(alloc, FoldOp::BitOr, old, value),
+        AssignOp::BitXor => LightTerm::folded(alloc, FoldOp::BitXor, old, value),
     }
 }
 
@@ -180,6 +184,25 @@ fn with_product(
     array.with_item(alloc, index, product)
 }
 
+/// The array with what an operator makes of its item and of a value at an index.
+#[tactic(auto, using(crate::proofs::Flags::neither, crate::proofs::Flags::first_of, crate::proofs::Flags::second_of))]
+fn with_fold(
+    alloc: Global,
+    operator: FoldOp,
+    array: LightTerm,
+    index: LightTerm,
+    value: LightTerm,
+) -> Result<LightTerm, ExecutionError>
+    ensures made { IfOk result (λ t. t ≡ put array index (fold operator (select array index) value)) }
+    ensures light { OnOk result (refused_fold operator array index value ≡ false) }
+    ensures large { result ≡ Err ExecutionError.Large → refused_fold operator array index value ≡ true }
+{
+    let (old, place) = both(array.share(), index.share())?;
+    let item = old.item(alloc, place)?;
+    let joined = LightTerm::folded(alloc, operator, item, value)?;
+    array.with_item(alloc, index, joined)
+}
+
 /// The array with a put of a value done to its item at an index.
 fn with_put(
     alloc: Global,
@@ -197,6 +220,9 @@ fn with_put(
         AssignOp::Add => array.with_addend(alloc, index, value),
         AssignOp::Sub => with_negative(alloc, array, index, value),
         AssignOp::Mul => with_product(alloc, array, index, value),
+        AssignOp::BitAnd => with_fold(alloc, FoldOp::BitAnd, array, index, value),
+        AssignOp::BitOr => with_fold(alloc, FoldOp::BitOr, array, index, value),
+        AssignOp::BitXor => with_fold(alloc, FoldOp::BitXor, array, index, value),
     }
 }
 
@@ -353,9 +379,7 @@ fn array_term(
 {
     match op {
         AssignOp::Put => put_right(alloc, program, state, field, i, index, e, out),
-        AssignOp::Add => with_value(alloc, program, state, field, op, index, e, out),
-        AssignOp::Sub => with_value(alloc, program, state, field, op, index, e, out),
-        AssignOp::Mul => with_value(alloc, program, state, field, op, index, e, out),
+        _ => with_value(alloc, program, state, field, op, index, e, out),
     }
 }
 

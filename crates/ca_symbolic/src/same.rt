@@ -34,6 +34,11 @@ fn place_of(op: BinaryOp) -> u8
         BinaryOp::Times => 10,
         BinaryOp::Divide => 11,
         BinaryOp::Remainder => 12,
+        BinaryOp::BitAnd => 13,
+        BinaryOp::BitOr => 14,
+        BinaryOp::BitXor => 15,
+        BinaryOp::Max => 16,
+        BinaryOp::Min => 17,
     }
 }
 

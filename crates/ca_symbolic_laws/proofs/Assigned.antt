@@ -6,12 +6,12 @@ use Rattle.std.proofs.lemmas.Int.{int_wrap-add_right, ints}
 use Rattle.std.proofs.lemmas.Bool.Decides.{nat_tests}
 use Rattle.ca_tree.specs.declared.tree.AssignOp.{AssignOp}
 use Rattle.ca_tree.specs.declared.tree.AssignOp.TheVariants as assign
-use Rattle.ca_tree.specs.declared.tree.BinaryOp.TheVariants.{Plus, Minus, Times}
+use Rattle.ca_tree.specs.declared.tree.BinaryOp.TheVariants.{Plus, Minus, Times, BitAnd, BitOr, BitXor}
 use Rattle.ca_tree.specs.declared.tree.UnaryOp.TheVariants as sign
 use Rattle.ca_program.specs.declared.program.FieldId.{FieldId}
 use Rattle.ca_program.specs.declared.program.ValueType.{ValueType}
 use Rattle.ca_program.specs.declared.program.ValueType.TheVariants as type
-use Rattle.ca_program.specs.Plain.{PlainProgram, Expression, Expressions, this, local, own, own_item, read_item, value_call, unary, binary}
+use Rattle.ca_program.specs.Plain.{PlainProgram, Expression, this, local, own, own_item, read_item, value_call, unary, binary}
 use Rattle.ca_program.specs.Plain as plain
 use Rattle.ca_model.specs.declared.value.Value.{Value as Datum}
 use Rattle.ca_model.specs.declared.value.Value.TheVariants.{Long, Bool as Truth, Null, Ref}
@@ -20,8 +20,10 @@ use Rattle.ca_model.specs.Typed.{HasType}
 use Rattle.ca_meaning.specs.Operators.{assigned, signed, same_int}
 use Rattle.ca_meaning.specs.ProgramTyped.{Scope, AssignTyped, ExpressionTyped}
 use Rattle.ca_parallel.specs.Separable.{IsClean}
-use Rattle.ca_norm.specs.Terms.{PlainTerm, neg, mul, select, put, add_at}
-use Rattle.ca_norm.specs.Meanings.{Valuation, operate, mean}
+use Rattle.ca_folds.specs.declared.operator.FoldOp.{FoldOp}
+use Rattle.ca_folds.specs.declared.operator.FoldOp.TheVariants as fold_op
+use Rattle.ca_norm.specs.Terms.{PlainTerm, neg, mul, select, put, add_at, fold}
+use Rattle.ca_norm.specs.Meanings.{Valuation, operate, binary_of, mean}
 use Rattle.ca_symbolic.specs.States.{State, term_at}
 use Rattle.ca_symbolic.specs.Execution.{term_of, put_term, is_item, put_right, array_term}
 use Rattle.ca_symbolic.proofs.Alike.{alike_is_equal}
@@ -48,11 +50,29 @@ product_means (Long a) (Long b) = refl
 product_means (Truth a) (Truth b) = refl
 product_means v w = refl
 
+and_means : (v w : Datum) → assigned assign.BitAnd v w ≡ operate BitAnd v w
+and_means (Long a) (Long b) = refl
+and_means (Truth a) (Truth b) = refl
+and_means v w = refl
+
+or_means : (v w : Datum) → assigned assign.BitOr v w ≡ operate BitOr v w
+or_means (Long a) (Long b) = refl
+or_means (Truth a) (Truth b) = refl
+or_means v w = refl
+
+exclusive_or_means : (v w : Datum) → assigned assign.BitXor v w ≡ operate BitXor v w
+exclusive_or_means (Long a) (Long b) = refl
+exclusive_or_means (Truth a) (Truth b) = refl
+exclusive_or_means v w = refl
+
 pub assigned_means : (v : Valuation) (op : AssignOp) (old t : PlainTerm) → assigned op (mean v old) (mean v t) ≡ mean v (put_term op old t)
 assigned_means v assign.Put old t = put_means (mean v old) (mean v t)
 assigned_means v assign.Add old t = sum_means (mean v old) (mean v t)
 assigned_means v assign.Sub old t = difference_means (mean v old) (mean v t)
 assigned_means v assign.Mul old t = product_means (mean v old) (mean v t)
+assigned_means v assign.BitAnd old t = and_means (mean v old) (mean v t)
+assigned_means v assign.BitOr old t = or_means (mean v old) (mean v t)
+assigned_means v assign.BitXor old t = exclusive_or_means (mean v old) (mean v t)
 
 -- Items
 
@@ -115,6 +135,11 @@ module _ (v : Valuation) (h : List Object) (p : PlainProgram) (scope : Scope) (s
   stored : (x : PlainTerm) (d : Datum) → mean v x ≡ d → Puts_at (put old (term_of p st i) x) d
   stored x d e z = of_put v old (term_of p st i) x z ∙ cond_same index z _ d (item_meant v old z) (λ q. e)
 
+  -- what an operator makes of the item and of a value
+  joined : (o : FoldOp) (op : AssignOp) → ((d e : Datum) → assigned op d e ≡ operate (binary_of o) d e) → (e : Expression) → Puts_at (put old (term_of p st i) (fold o (select old (term_of p st i)) (term_of p st e))) (assigned op (item_meant v old index) (mean v (term_of p st e)))
+  joined o op same e =
+      stored (fold o (select old (term_of p st i)) (term_of p st e)) _ (ap (λ d. operate (binary_of o) d (mean v (term_of p st e))) (by_number v old (term_of p st i)) ∙ sym (same (item_meant v old index) (mean v (term_of p st e))))
+
   module _ (typed : (e : Expression) (ty : ValueType) → ExpressionTyped p scope e ty → IsClean p written called e → HasType h (mean v (term_of p st e)) ty) where
     sum_at : (a b : Expression) (c : Bool) → is_item f i a ≡ c → Puts_at (if c then add_at old (term_of p st i) (term_of p st b) else put old (term_of p st i) (term_of p st (binary Plus a b))) (mean v (term_of p st (binary Plus a b)))
     sum_at a b true e =
@@ -144,3 +169,6 @@ module _ (v : Valuation) (h : List Object) (p : PlainProgram) (scope : Scope) (s
         ∙ sym (difference_means (item_meant v old index) (mean v (term_of p st e))))
     array_is assign.Mul e ty before a t k =
         stored (mul (select old (term_of p st i)) (term_of p st e)) _ (ap (λ d. operate Times d (mean v (term_of p st e))) (by_number v old (term_of p st i)) ∙ sym (product_means (item_meant v old index) (mean v (term_of p st e))))
+    array_is assign.BitAnd e ty before a t k = joined fold_op.BitAnd assign.BitAnd and_means e
+    array_is assign.BitOr e ty before a t k = joined fold_op.BitOr assign.BitOr or_means e
+    array_is assign.BitXor e ty before a t k = joined fold_op.BitXor assign.BitXor exclusive_or_means e

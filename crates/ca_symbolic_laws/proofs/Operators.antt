@@ -4,12 +4,12 @@ use Rattle.std.specs.Prelude.{FitsSigned}
 use Rattle.std.specs.Int.{int_wrap}
 use Rattle.std.proofs.lemmas.Int.{int_wrap_fits, int_wrap-sub_right, ints}
 use Rattle.ca_tree.specs.declared.tree.BinaryOp.{BinaryOp}
-use Rattle.ca_tree.specs.declared.tree.BinaryOp.TheVariants.{Or, And, Equal, NotEqual, Less, Greater, LessEqual, GreaterEqual, Plus, Minus, Times, Divide, Remainder}
+use Rattle.ca_tree.specs.declared.tree.BinaryOp.TheVariants.{Or, And, Equal, NotEqual, Less, Greater, LessEqual, GreaterEqual, Plus, Minus, Times, Divide, Remainder, BitAnd, BitOr, BitXor, Max, Min}
 use Rattle.ca_tree.specs.declared.tree.UnaryOp.{UnaryOp}
 use Rattle.ca_tree.specs.declared.tree.UnaryOp.TheVariants as sign
 use Rattle.ca_program.specs.declared.program.ValueType.{ValueType}
 use Rattle.ca_program.specs.declared.program.ValueType.TheVariants as type
-use Rattle.ca_program.specs.Plain.{PlainProgram, Expression, Expressions, unary, binary}
+use Rattle.ca_program.specs.Plain.{PlainProgram, Expression, unary}
 use Rattle.ca_program.specs.Plain as plain
 use Rattle.ca_model.specs.declared.value.Value.{Value as Datum}
 use Rattle.ca_model.specs.declared.value.Value.TheVariants.{Long, Bool as Truth, Null, Ref}
@@ -130,6 +130,11 @@ module _ (h : List Object) (p : PlainProgram) (scope : Scope) (v : Valuation) (s
   operation_means Times a e side ty s r x y = refl
   operation_means Divide a e side ty s r x y = quotient_means p scope v st a e r
   operation_means Remainder a e side ty s r x y = remainder_means p scope v st a e r
+  operation_means BitAnd a e side ty s r x y = refl
+  operation_means BitOr a e side ty s r x y = refl
+  operation_means BitXor a e side ty s r x y = refl
+  operation_means Max a e side ty s r x y = refl
+  operation_means Min a e side ty s r x y = refl
 
 pub signed_means : (v : Valuation) (op : UnaryOp) (t : PlainTerm) → mean v (signed_term op t) ≡ signed op (mean v t)
 signed_means v sign.Minus t = refl
@@ -143,6 +148,11 @@ longs_give Minus line k a b u = refl
 longs_give Times line k a b u = refl
 longs_give Divide line k a b u = rw u refl
 longs_give Remainder line k a b u = rw u refl
+longs_give BitAnd line k a b u = refl
+longs_give BitOr line k a b u = refl
+longs_give BitXor line k a b u = refl
+longs_give Max line k a b u = refl
+longs_give Min line k a b u = refl
 longs_give Less line k a b u = refl
 longs_give Greater line k a b u = refl
 longs_give LessEqual line k a b u = refl

@@ -21,7 +21,7 @@ use Rattle.ca_model.specs.Slots.{put_slot}
 use Rattle.ca_model.specs.Typed.{HasType}
 use Rattle.ca_meaning.specs.Operators.{assigned, signed, same_int}
 use Rattle.ca_meaning.specs.Expressions.{gives, ◌>>=◌, one_in, value_at, pointed, Item, Invocation, invocation, due, eval}
-use Rattle.ca_meaning.specs.Flows.{Flow, goes_on, gives_back, stops, runs_out, and_on, with, exec, exec_all, line_of}
+use Rattle.ca_meaning.specs.Flows.{Flow, exec, exec_all, line_of}
 use Rattle.ca_meaning.specs.Flows as flows
 use Rattle.ca_meaning.specs.Functions.{functions_of}
 use Rattle.ca_meaning.specs.ProgramTyped.{IsScalar, IsArray, field_info, ExpressionTyped, ExpressionsTyped, scope_of}

@@ -1,17 +1,18 @@
 -- Worked examples of verdicts.
 use Rattle.std.proofs.Common.{ℕ, List, [], ◌∷◌, None, refl, codes}
-use Rattle.ca_tree.specs.declared.tree.AssignOp.TheVariants.{Put}
-use Rattle.ca_tree.specs.declared.tree.BinaryOp.TheVariants.{Plus, Minus}
+use Rattle.ca_tree.specs.declared.tree.AssignOp.TheVariants.{Put, BitOr, BitXor}
+use Rattle.ca_tree.specs.declared.tree.BinaryOp.TheVariants.{Plus, Minus, Max, Min}
 use Rattle.ca_program.specs.declared.program.ClassId.{ClassId}
 use Rattle.ca_program.specs.declared.program.FieldId.{FieldId}
 use Rattle.ca_program.specs.declared.program.FieldInfo.{FieldInfo}
 use Rattle.ca_program.specs.declared.program.OpId.{OpId}
 use Rattle.ca_program.specs.declared.program.ValueType.TheVariants as type
 use Rattle.ca_program.specs.Plain.{PlainProgram, PlainMethod, Expression, Statement, Statements, local, own, binary, no_expressions, expression_and, put_field, invoke, if_else, while_loop, block, no_statements, statement_and}
+use Rattle.ca_folds.specs.declared.operator.FoldOp.TheVariants as fold_op
 use Rattle.ca_forms.specs.declared.sort.Sort.TheVariants.{Long, Bool, Pointer}
 use Rattle.ca_forms.specs.declared.form.Normal.{Normal}
 use Rattle.ca_forms.specs.declared.form.Normal.TheVariants.{Scalar}
-use Rattle.ca_forms.specs.Plain.{PlainScalar, variable, no_powers, power_and, no_products, product_and, pointer_part, number_form, truth_form, pointer_form, no_scalars, scalar_and}
+use Rattle.ca_forms.specs.Plain.{PlainPolynomial, PlainPart, PlainScalar, PlainScalars, variable, fold_of, no_powers, power_and, no_products, product_and, pointer_part, number_form, truth_form, pointer_form, no_scalars, scalar_and}
 use Rattle.ca_symbolic.specs.declared.demand.DemandKind.TheVariants.{Invokes}
 use Rattle.ca_verdicts.specs.declared.verdicts.Verdict.TheVariants.{Commutes, Unproved}
 use Rattle.ca_verdicts.specs.declared.verdicts.Reason.TheVariants.{LoopForm, FieldDiffers, DemandsDiffer}
@@ -56,6 +57,7 @@ abbrev hands_on : Statement
 hands_on = invoke 1 (own (field 1)) (op 2) (expression_and n (expression_and (local (record { 0 = 1 })) no_expressions))
 
 -- n = n + p; and n = p; and n = n + p; o->m(n, q); and while (b) { } and if (b) n = n + p; else n = n - p;
+-- and n = max(n, p); and n = min(n, p); and n |= p; and n ^= p;
 abbrev program : PlainProgram
 program = record {
   classes = record { name = codes "D"; fields = fields } ∷ [];
@@ -63,7 +65,9 @@ program = record {
       operation (statement_and adds no_statements) ∷ operation (statement_and (put_field 1 (field 0) Put p) no_statements) ∷
       operation (statement_and adds (statement_and hands_on no_statements)) ∷
       operation (statement_and (while_loop 1 (own (field 2)) (block 1 no_statements)) no_statements) ∷
-      operation (statement_and (if_else 1 (own (field 2)) adds (put_field 1 (field 0) Put (binary Minus n p))) no_statements) ∷ [];
+      operation (statement_and (if_else 1 (own (field 2)) adds (put_field 1 (field 0) Put (binary Minus n p))) no_statements) ∷
+      operation (statement_and (put_field 1 (field 0) Put (binary Max n p)) no_statements) ∷ operation (statement_and (put_field 1 (field 0) Put (binary Min n p)) no_statements) ∷
+      operation (statement_and (put_field 1 (field 0) BitOr p) no_statements) ∷ operation (statement_and (put_field 1 (field 0) BitXor p) no_statements) ∷ [];
   functions = [];
   main = record { locals = []; statements = no_statements };
 }
@@ -113,3 +117,35 @@ a_loop_of_no_calls = ((((tt, (tt, tt, tt)), tt), ((tt, tt), tt)), refl)
 branches_commute : VerdictOf program written (op 4) (op 4) Commutes
 branches_commute =
     (record { can = record { separable = (((tt, (tt, (tt, tt, tt)), (tt, (tt, tt, tt))), tt), ((tt, (tt, (tt, tt, tt)), (tt, (tt, tt, tt))), tt)); loops = refl }; light = refl }, refl, λ k. refl)
+
+greatest_commute : VerdictOf program written (op 5) (op 5) Commutes
+greatest_commute = (record { can = record { separable = (((tt, (tt, tt, tt)), tt), ((tt, (tt, tt, tt)), tt)); loops = refl }; light = refl }, refl, λ k. refl)
+
+abbrev only : ℕ → PlainPolynomial
+only group = product_and (power_and (variable Long group 0) 1 no_powers) 1 no_products
+
+abbrev alone : PlainPart → PlainPolynomial
+alone part = product_and (power_and part 1 no_powers) 1 no_products
+
+abbrev two : PlainPolynomial → PlainPolynomial → PlainScalars
+two f g = scalar_and (number_form f) (scalar_and (number_form g) no_scalars)
+
+-- min(max(n, p1), p2) and max(min(n, p2), p1)
+abbrev lesser_last : PlainPart
+lesser_last = fold_of fold_op.Min 9223372036854775807 (two (only 2) (alone (fold_of fold_op.Max 9223372036854775808 (two (only 1) (only 3)))))
+
+abbrev greater_last : PlainPart
+greater_last = fold_of fold_op.Max 9223372036854775808 (two (only 1) (alone (fold_of fold_op.Min 9223372036854775807 (two (only 2) (only 3)))))
+
+greatest_and_least_differ : VerdictOf program written (op 5) (op 6) (Unproved (FieldDiffers (field 0) (Scalar (number_form (alone lesser_last))) (Scalar (number_form (alone greater_last)))))
+greatest_and_least_differ = (
+  record { can = record { separable = (((tt, (tt, tt, tt)), tt), ((tt, (tt, tt, tt)), tt)); loops = refl }; light = refl },
+  refl,
+  record { before = refl; first = refl; second = refl; differ = λ e. cc },
+)
+
+bits_commute : VerdictOf program written (op 7) (op 7) Commutes
+bits_commute = (record { can = record { separable = (((tt, tt), tt), ((tt, tt), tt)); loops = refl }; light = refl }, refl, λ k. refl)
+
+parities_commute : VerdictOf program written (op 8) (op 8) Commutes
+parities_commute = (record { can = record { separable = (((tt, tt), tt), ((tt, tt), tt)); loops = refl }; light = refl }, refl, λ k. refl)

@@ -8,7 +8,7 @@ use Rattle.ca_program.specs.declared.program.ClassId.{ClassId}
 use Rattle.ca_program.specs.declared.program.FieldId.{FieldId}
 use Rattle.ca_program.specs.declared.program.ValueType.{ValueType}
 use Rattle.ca_program.specs.declared.program.ValueType.TheVariants as type
-use Rattle.ca_program.specs.Plain.{PlainProgram, PlainMethod, Expression, Expressions, local, own, own_item, read_item, value_call, unary, binary, no_expressions, expression_and, Statement, Statements, block, put_local, put_field, put_item, new_local, new_field, new_item, invoke, if_else, while_loop, for_loop, return_value, print_value, no_statements, statement_and}
+use Rattle.ca_program.specs.Plain.{PlainProgram, Expression, Expressions, local, own, own_item, read_item, value_call, unary, binary, no_expressions, expression_and, Statement, Statements, block, put_local, put_field, put_item, new_local, new_field, new_item, invoke, if_else, while_loop, for_loop, return_value, print_value, no_statements, statement_and}
 use Rattle.ca_program.specs.Plain as plain
 use Rattle.ca_model.specs.Heaps.{fields_of}
 use Rattle.ca_meaning.specs.ProgramTyped.{Scope, IsArray, field_info, signed_type, ExpressionTyped, ExpressionsTyped, AssignTyped, StatementTyped, StatementsTyped}
@@ -18,7 +18,7 @@ use Rattle.ca_forms.specs.declared.sort.Sort.TheVariants.{Long, Bool as Truth, P
 use Rattle.ca_norm.specs.Terms.{PlainTerm, neg, select, put, add_at, sort_of, terms_of, IsOf, AreSorted}
 use Rattle.ca_shared_terms.specs.Starts.{sort_of_type, sort_of_array}
 use Rattle.ca_symbolic.specs.States.{State, term_at}
-use Rattle.ca_symbolic.specs.Execution.{sort_in, sort_of_result, divisor, operation, signed_term, term_of, put_term, is_item, put_right, array_term, choose_if, choices, field_target, local_target, after, after_all}
+use Rattle.ca_symbolic.specs.Execution.{sort_in, sort_of_result, divisor, term_of, put_term, is_item, put_right, array_term, choose_if, choices, field_target, local_target, after, after_all}
 use Rattle.ca_symbolic.specs.Execution as execution
 use Rattle.ca_symbolic.specs.Demands.{terms_in, right_guard, demands_in, demands_in_all, picked, loop_reads, demanded, demanded_all}
 use Rattle.ca_verdicts.proofs.MetDemands.{DemandsSorted}
@@ -174,13 +174,21 @@ module _ (arrays : ArraysSorted) where
           (item_put ty f j (binary Minus a b) st g o r t k (term_good (binary Minus a b) ty st g u m))
       right_put ty f j e st g o r t k u m = item_put ty f j e st g o r t k (term_good e ty st g u m)
 
+      -- an item with what an assignment makes of it
+      item_joined : (op : AssignOp) (ty : ValueType) (f : FieldId) (j e : Expression) (st : State) → Good st → scope.class ≡ Some f.class → IsArray (field_info p f) ty → ExpressionTyped p scope j type.Long → IsClean p written called j → AssignTyped op ty → ExpressionTyped p scope e ty → IsClean p written called e →
+          IsGood (sort_of_array ty) (put (term_at st.fields f.field) (term_of p st j) (put_term op (select (term_at st.fields f.field) (term_of p st j)) (term_of p st e)))
+      item_joined op ty f j e st g o r t k n u m =
+          let item : IsGood (sort_of_type ty) (select (term_at st.fields f.field) (term_of p st j)) = arrays.selected ty _ _ (own_good f (sort_of_array ty) st g o (array_info (field_info p f) ty r)) (term_good j type.Long st g t k) in
+          arrays.put_at ty _ _ _ (own_good f (sort_of_array ty) st g o (array_info (field_info p f) ty r)) (term_good j type.Long st g t k) (put_good op ty n _ _ item (term_good e ty st g u m))
+
       array_good : (op : AssignOp) (ty : ValueType) (f : FieldId) (j e : Expression) (st : State) → Good st → scope.class ≡ Some f.class → IsArray (field_info p f) ty → ExpressionTyped p scope j type.Long → IsClean p written called j → AssignTyped op ty → ExpressionTyped p scope e ty → IsClean p written called e → IsGood (sort_of_array ty) (array_term p st f j op e)
       array_good assign.Put ty f j e st g o r t k n u m = right_put ty f j e st g o r t k u m
       array_good assign.Add ty f j e st g o r t k n u m = item_added ty f j (term_of p st e) st g o r t k n (long_good ty _ n (term_good e ty st g u m))
       array_good assign.Sub ty f j e st g o r t k n u m = item_added ty f j (neg (term_of p st e)) st g o r t k n (negated_good _ (long_good ty _ n (term_good e ty st g u m)))
-      array_good assign.Mul ty f j e st g o r t k n u m =
-          let item : IsGood (sort_of_type ty) (select (term_at st.fields f.field) (term_of p st j)) = arrays.selected ty _ _ (own_good f (sort_of_array ty) st g o (array_info (field_info p f) ty r)) (term_good j type.Long st g t k) in
-          arrays.put_at ty _ _ _ (own_good f (sort_of_array ty) st g o (array_info (field_info p f) ty r)) (term_good j type.Long st g t k) (put_good assign.Mul ty n _ _ item (term_good e ty st g u m))
+      array_good assign.Mul ty f j e st g o r t k n u m = item_joined assign.Mul ty f j e st g o r t k n u m
+      array_good assign.BitAnd ty f j e st g o r t k n u m = item_joined assign.BitAnd ty f j e st g o r t k n u m
+      array_good assign.BitOr ty f j e st g o r t k n u m = item_joined assign.BitOr ty f j e st g o r t k n u m
+      array_good assign.BitXor ty f j e st g o r t k n u m = item_joined assign.BitXor ty f j e st g o r t k n u m
 
     -- statements
     mutual

@@ -6,16 +6,16 @@ use Rattle.std.proofs.lemmas.Int.{int_wrap_fits, int_wrap-sub_right, ints, SFits
 use Rattle.ca_tree.specs.declared.tree.AssignOp.{AssignOp}
 use Rattle.ca_tree.specs.declared.tree.AssignOp.TheVariants as assign
 use Rattle.ca_tree.specs.declared.tree.BinaryOp.{BinaryOp}
-use Rattle.ca_tree.specs.declared.tree.BinaryOp.TheVariants.{Or, And, Equal, NotEqual, Less, Greater, LessEqual, GreaterEqual, Plus, Minus, Times, Divide, Remainder}
+use Rattle.ca_tree.specs.declared.tree.BinaryOp.TheVariants.{Or, And, Equal, NotEqual, Less, Greater, LessEqual, GreaterEqual, Plus, Minus, Times, Divide, Remainder, BitAnd, BitOr, BitXor, Max, Min}
 use Rattle.ca_tree.specs.declared.tree.UnaryOp.{UnaryOp}
 use Rattle.ca_tree.specs.declared.tree.UnaryOp.TheVariants as sign
 use Rattle.ca_program.specs.declared.program.ClassId.{ClassId}
 use Rattle.ca_program.specs.declared.program.FieldInfo.{FieldInfo}
 use Rattle.ca_program.specs.declared.program.ValueType.{ValueType}
 use Rattle.ca_program.specs.declared.program.ValueType.TheVariants as type
-use Rattle.ca_program.specs.Plain.{PlainProgram, PlainMethod, Expression, Expressions, local, own, own_item, read_item, value_call, unary, binary, no_expressions, expression_and, Statement, Statements, block, put_local, put_field, put_item, new_local, new_field, new_item, invoke, if_else, while_loop, for_loop, return_value, print_value, no_statements, statement_and}
+use Rattle.ca_program.specs.Plain.{PlainProgram, PlainMethod, Expression, unary}
 use Rattle.ca_program.specs.Plain as plain
-use Rattle.ca_meaning.specs.ProgramTyped.{Scope, IsArray, field_info, SidesTyped, signed_type, IsFunction, ExpressionTyped, ExpressionsTyped, AssignTyped, StatementTyped, StatementsTyped}
+use Rattle.ca_meaning.specs.ProgramTyped.{Scope, IsArray, SidesTyped, signed_type, IsFunction, ExpressionTyped, AssignTyped}
 use Rattle.ca_meaning.specs.ProgramTyped as typing
 use Rattle.ca_parallel.specs.Separable.{IsNonzeroLiteral, MayStandRight}
 use Rattle.ca_forms.specs.declared.sort.Sort.{Sort}
@@ -23,7 +23,7 @@ use Rattle.ca_forms.specs.declared.sort.Sort.TheVariants.{Long, Bool as Truth, L
 use Rattle.ca_norm.specs.Terms.{PlainTerm, choose, select, put, add_at, sort_of, IsScalar, IsOf}
 use Rattle.ca_shared_terms.specs.Starts.{sort_of_type, sort_of_array, sort_of_slot, starts}
 use Rattle.ca_symbolic.specs.States.{PlainDemand, term_at, start_term, parameters}
-use Rattle.ca_symbolic.specs.Execution.{sort_in, sort_of_result, divisor, operation, signed_term, term_of, put_term, is_item, put_right, array_term, choose_if, choices, field_target, local_target, after, after_all}
+use Rattle.ca_symbolic.specs.Execution.{sort_in, sort_of_result, divisor, operation, signed_term, put_term}
 use Rattle.ca_symbolic.specs.Execution as execution
 use Rattle.ca_symbolic.specs.Demands.{right_guard}
 use Rattle.ca_verdicts.proofs.MetDemands.{DemandsSorted}
@@ -203,6 +203,11 @@ operation_good Divide side ty s a b g h n d =
     subst (λ z. IsGood (sort_of_type ty) (operation Divide a b z)) (sym d.is) (good ty Long _ (ap sort_of_type s.1) refl (ap sort_of_type s.1, of_type side type.Long a s.0 g, d.fits, d.nonzero))
 operation_good Remainder side ty s a b g h n d =
     subst (λ z. IsGood (sort_of_type ty) (operation Remainder a b z)) (sym d.is) (good ty Long _ (ap sort_of_type s.1) refl (ap sort_of_type s.1, of_type side type.Long a s.0 g, d.fits, d.nonzero))
+operation_good BitAnd side ty s a b g h n d = good ty Long _ (ap sort_of_type s.1) refl (ap sort_of_type s.1, of_type side type.Long a s.0 g, of_type side type.Long b s.0 h)
+operation_good BitOr side ty s a b g h n d = good ty Long _ (ap sort_of_type s.1) refl (ap sort_of_type s.1, of_type side type.Long a s.0 g, of_type side type.Long b s.0 h)
+operation_good BitXor side ty s a b g h n d = good ty Long _ (ap sort_of_type s.1) refl (ap sort_of_type s.1, of_type side type.Long a s.0 g, of_type side type.Long b s.0 h)
+operation_good Max side ty s a b g h n d = good ty Long _ (ap sort_of_type s.1) refl (ap sort_of_type s.1, of_type side type.Long a s.0 g, of_type side type.Long b s.0 h)
+operation_good Min side ty s a b g h n d = good ty Long _ (ap sort_of_type s.1) refl (ap sort_of_type s.1, of_type side type.Long a s.0 g, of_type side type.Long b s.0 h)
 
 pub signed_good : (op : UnaryOp) (ty : ValueType) (a : PlainTerm) → ty ≡ signed_type op → IsGood (sort_of_type (signed_type op)) a → IsGood (sort_of_type ty) (signed_term op a)
 signed_good sign.Minus ty a e g = good ty Long _ (ap sort_of_type e) refl (ap sort_of_type e, g.is)
@@ -218,6 +223,9 @@ put_good assign.Put ty a old t g h = h
 put_good assign.Add ty a old t g h = good ty Long _ (ap sort_of_type a) refl (ap sort_of_type a, of_type ty type.Long old a g, of_type ty type.Long t a h)
 put_good assign.Sub ty a old t g h = good ty Long _ (ap sort_of_type a) refl (ap sort_of_type a, of_type ty type.Long old a g, of_type ty type.Long t a h)
 put_good assign.Mul ty a old t g h = good ty Long _ (ap sort_of_type a) refl (ap sort_of_type a, of_type ty type.Long old a g, of_type ty type.Long t a h)
+put_good assign.BitAnd ty a old t g h = good ty Long _ (ap sort_of_type a) refl (ap sort_of_type a, of_type ty type.Long old a g, of_type ty type.Long t a h)
+put_good assign.BitOr ty a old t g h = good ty Long _ (ap sort_of_type a) refl (ap sort_of_type a, of_type ty type.Long old a g, of_type ty type.Long t a h)
+put_good assign.BitXor ty a old t g h = good ty Long _ (ap sort_of_type a) refl (ap sort_of_type a, of_type ty type.Long old a g, of_type ty type.Long t a h)
 
 pub both_sorted : (ds es : List PlainDemand) → DemandsSorted ds → DemandsSorted es → DemandsSorted (ds ++ es)
 both_sorted [] es s t = t

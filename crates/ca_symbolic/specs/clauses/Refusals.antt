@@ -7,7 +7,9 @@ use Rattle.ca_tree.specs.declared.tree.BinaryOp.{BinaryOp}
 use Rattle.ca_tree.specs.declared.tree.BinaryOp.TheVariants.{Or, And, Plus, Minus}
 use Rattle.ca_program.specs.declared.program.FieldId.{FieldId}
 use Rattle.ca_program.specs.Plain.{PlainProgram, Expression, Expressions, number, truth, null, this, local, own, own_item, read, read_item, value_call, unary, binary, no_expressions, expression_and, Statement, Statements, block, put_local, put_field, put_item, new_local, new_field, new_item, invoke, if_else, while_loop, for_loop, return_value, print_value, no_statements, statement_and}
-use Rattle.ca_norm.specs.Terms.{PlainTerm, neg, add_at, select, put, mul}
+use Rattle.ca_folds.specs.declared.operator.FoldOp.{FoldOp}
+use Rattle.ca_folds.specs.declared.operator.FoldOp.TheVariants as fold_op
+use Rattle.ca_norm.specs.Terms.{PlainTerm, neg, add_at, select, put, mul, fold}
 use Rattle.ca_norm.specs.Terms as term
 use Rattle.ca_symbolic.specs.States.{State, term_at}
 use Rattle.ca_symbolic.specs.Execution.{term_of, signed_term, operation, divisor, put_term, is_item, after}
@@ -60,12 +62,22 @@ with_put assign.Put a t x = put a t x
 with_put assign.Add a t x = add_at a t x
 with_put assign.Sub a t x = add_at a t (neg x)
 with_put assign.Mul a t x = put a t (mul (select a t) x)
+with_put assign.BitAnd a t x = put a t (fold fold_op.BitAnd (select a t) x)
+with_put assign.BitOr a t x = put a t (fold fold_op.BitOr (select a t) x)
+with_put assign.BitXor a t x = put a t (fold fold_op.BitXor (select a t) x)
+
+-- the item, what the operator makes of it, and the array behind its put
+abbrev pub refused_fold : FoldOp → PlainTerm → PlainTerm → PlainTerm → Bool
+refused_fold o a t x = is_heavy (select a t) || (is_heavy (fold o (select a t) x) || is_heavy (put a t (fold o (select a t) x)))
 
 abbrev pub refused_put : AssignOp → PlainTerm → PlainTerm → PlainTerm → Bool
 refused_put assign.Put a t x = is_heavy (put a t x)
 refused_put assign.Add a t x = is_heavy (add_at a t x)
 refused_put assign.Sub a t x = is_heavy (neg x) || is_heavy (add_at a t (neg x))
 refused_put assign.Mul a t x = is_heavy (select a t) || (is_heavy (mul (select a t) x) || is_heavy (put a t (mul (select a t) x)))
+refused_put assign.BitAnd a t x = refused_fold fold_op.BitAnd a t x
+refused_put assign.BitOr a t x = refused_fold fold_op.BitOr a t x
+refused_put assign.BitXor a t x = refused_fold fold_op.BitXor a t x
 
 -- the put of an expression, at an index with this term
 abbrev pub refused_value : PlainProgram → State → PlainTerm → FieldId → AssignOp → PlainTerm → Expression → Bool

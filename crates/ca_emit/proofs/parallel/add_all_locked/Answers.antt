@@ -1,4 +1,4 @@
-use Rattle.std.proofs.Common.{◌≡◌, ◌++◌, ◌∷◌, [], refl, ap, arith}
+use Rattle.std.proofs.Common.{◌++◌, ◌∷◌, [], refl, ap, arith}
 use Rattle.ca_program.specs.View.{program_view}
 use Rattle.ca_parallel.specs.Extents.{operation_body}
 use Rattle.ca_section.specs.TakesLock.{takes_lock}

@@ -1,6 +1,5 @@
 use Rattle.std.proofs.Common.{◌≡◌, ◌+◌, ◌&&◌, true, List, drop, sym, ap, ap₂, ◌∙◌, arith}
 use Rattle.std.proofs.lemmas.List.{drop_all}
-use Rattle.std.specs.Str.{bytes_eq}
 use Rattle.ca_tree.specs.declared.tree.ExprNode.{ExprNode}
 use Rattle.ca_tree.specs.Plain.{call, method, field, index, unary, binary, expression_and}
 use Rattle.ca_tree.specs.View.{kind_view, expression_view, expressions_view}

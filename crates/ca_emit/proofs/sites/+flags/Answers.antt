@@ -1,4 +1,4 @@
-use Rattle.std.proofs.Common.{◌≡◌, ◌++◌, ◌∷◌, [], ◌||◌, refl, ap, ◌∙◌, arith}
+use Rattle.std.proofs.Common.{◌≡◌, ◌∷◌, [], ◌||◌, refl, ap, ◌∙◌, arith}
 use Rattle.ca_program.specs.View.{form_view, statement_view, statements_view}
 use Rattle.ca_program.proofs.Rows.{block_is}
 use Rattle.ca_extent.proofs.Walks.{one_more, none_left, both_found, found_at}

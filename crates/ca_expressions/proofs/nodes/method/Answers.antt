@@ -1,5 +1,4 @@
 use Rattle.std.proofs.Common.{ap, ◌∙◌}
-use Rattle.ca_tree.specs.declared.tree.ExprKind.TheBlock.{hidden-the_row-ExprNode-0}
 use Rattle.ca_tree.specs.Plain.{method}
 use Rattle.ca_tree.specs.View.{expression_view}
 use Rattle.ca_tree.proofs.Rows.{row_is_list}

@@ -1,4 +1,3 @@
-use Rattle.std.proofs.Common.{◌≡◌, Some, ◌∙◌, sym}
 use Rattle.ca_expressions.specs.Terminals.{word_operator}
 use Rattle.ca_expressions.proofs.Fronts.{front_sees, word_is}
 use Rattle.ca_expressions.proofs.tokens.word_at.Goals as goal

@@ -1,6 +1,7 @@
-use Rattle.std.proofs.Common.{◌≡◌, sym, ap}
+use Rattle.std.proofs.Common.{sym, ap}
 use Rattle.ca_tree.specs.declared.tree.BinaryOp.{BinaryOp}
-use Rattle.ca_norm.specs.Terms.{add, sub, mul, divide, remainder, less, less_equal, same, not, and, or}
+use Rattle.ca_folds.specs.declared.operator.FoldOp.TheVariants as fold_op
+use Rattle.ca_norm.specs.Terms.{add, sub, mul, divide, remainder, less, less_equal, same, not, and, or, fold}
 use Rattle.ca_symbolic.specs.Execution.{divided, operation}
 use Rattle.ca_symbolic.proofs.Making.{makes}
 use Rattle.ca_symbolic.proofs.evaluate.operation.Goals as goal
@@ -81,4 +82,34 @@ pub returns-in-Remainder : goal.returns-in-Remainder
 returns-in-Remainder c =
     let a = c.args in
     let w = makes c.left_over.result (divided remainder a.a a.b a.n) (operation a.op a.a a.b a.n) (sym (ap (λ (o : BinaryOp). operation o a.a a.b a.n) c.in-Remainder.is)) c.left_over.ensures.made c.left_over.ensures.light c.left_over.ensures.large in
+    record { made = w.made; light = w.light; large = w.large }
+
+pub returns-in-BitAnd : goal.returns-in-BitAnd
+returns-in-BitAnd c =
+    let a = c.args in
+    let w = makes c.folded.result (fold fold_op.BitAnd a.a a.b) (operation a.op a.a a.b a.n) (sym (ap (λ (o : BinaryOp). operation o a.a a.b a.n) c.in-BitAnd.is)) c.folded.ensures.made c.folded.ensures.light c.folded.ensures.large in
+    record { made = w.made; light = w.light; large = w.large }
+
+pub returns-in-BitOr : goal.returns-in-BitOr
+returns-in-BitOr c =
+    let a = c.args in
+    let w = makes c.folded-in-BitOr.result (fold fold_op.BitOr a.a a.b) (operation a.op a.a a.b a.n) (sym (ap (λ (o : BinaryOp). operation o a.a a.b a.n) c.in-BitOr.is)) c.folded-in-BitOr.ensures.made c.folded-in-BitOr.ensures.light c.folded-in-BitOr.ensures.large in
+    record { made = w.made; light = w.light; large = w.large }
+
+pub returns-in-BitXor : goal.returns-in-BitXor
+returns-in-BitXor c =
+    let a = c.args in
+    let w = makes c.folded-in-BitXor.result (fold fold_op.BitXor a.a a.b) (operation a.op a.a a.b a.n) (sym (ap (λ (o : BinaryOp). operation o a.a a.b a.n) c.in-BitXor.is)) c.folded-in-BitXor.ensures.made c.folded-in-BitXor.ensures.light c.folded-in-BitXor.ensures.large in
+    record { made = w.made; light = w.light; large = w.large }
+
+pub returns-in-Max : goal.returns-in-Max
+returns-in-Max c =
+    let a = c.args in
+    let w = makes c.folded-in-Max.result (fold fold_op.Max a.a a.b) (operation a.op a.a a.b a.n) (sym (ap (λ (o : BinaryOp). operation o a.a a.b a.n) c.in-Max.is)) c.folded-in-Max.ensures.made c.folded-in-Max.ensures.light c.folded-in-Max.ensures.large in
+    record { made = w.made; light = w.light; large = w.large }
+
+pub returns-in-Min : goal.returns-in-Min
+returns-in-Min c =
+    let a = c.args in
+    let w = makes c.folded-in-Min.result (fold fold_op.Min a.a a.b) (operation a.op a.a a.b a.n) (sym (ap (λ (o : BinaryOp). operation o a.a a.b a.n) c.in-Min.is)) c.folded-in-Min.ensures.made c.folded-in-Min.ensures.light c.folded-in-Min.ensures.large in
     record { made = w.made; light = w.light; large = w.large }

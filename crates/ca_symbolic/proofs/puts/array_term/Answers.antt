@@ -1,6 +1,5 @@
-use Rattle.std.proofs.Common.{◌≡◌, refl, sym, ap}
+use Rattle.std.proofs.Common.{sym, ap}
 use Rattle.ca_tree.specs.declared.tree.AssignOp.{AssignOp}
-use Rattle.ca_tree.specs.declared.tree.AssignOp.TheVariants.{Add, Sub, Mul}
 use Rattle.ca_program.specs.View.{expression_view, program_view}
 use Rattle.ca_symbolic.specs.States.{term_at}
 use Rattle.ca_symbolic.specs.Execution.{term_of, put_right, array_term}
@@ -21,26 +20,10 @@ returns-in-Put c =
     (sym (ap (λ (k : AssignOp). refused_array (program_view a.program.now) a.state.now a.out.now.guard a.field (expression_view a.i.now) k (expression_view a.e.now)) c.in-Put.is)) c.put_right.ensures.made c.put_right.ensures.light c.put_right.ensures.large in
     record { made = w.made; demands = c.put_right.ensures.demands; light = w.light; large = w.large }
 
-pub returns-in-Add : goal.returns-in-Add
-returns-in-Add c =
+pub returns-in_default : goal.returns-in_default
+returns-in_default c =
     let a = c.args in
     let w = makes_as c.with_value.result (with_put a.op (term_at a.state.now.fields a.field.field) a.index (term_of (program_view a.program.now) a.state.now (expression_view a.e.now))) (array_term (program_view a.program.now) a.state.now a.field (expression_view a.i.now) a.op (expression_view a.e.now))
     (refused_value (program_view a.program.now) a.state.now a.out.now.guard a.field a.op a.index (expression_view a.e.now)) (refused_array (program_view a.program.now) a.state.now a.out.now.guard a.field (expression_view a.i.now) a.op (expression_view a.e.now))
-    (array_made (program_view a.program.now) a.state.now a.out.now.guard a.field (expression_view a.i.now) a.index c.requires.index a.op Add c.in-Add.is (expression_view a.e.now) refl) (array_refused (program_view a.program.now) a.state.now a.out.now.guard a.field (expression_view a.i.now) a.index c.requires.index a.op Add c.in-Add.is (expression_view a.e.now) refl) c.with_value.ensures.made c.with_value.ensures.light c.with_value.ensures.large in
+    (array_made (program_view a.program.now) a.state.now a.out.now.guard a.field (expression_view a.i.now) a.index c.requires.index a.op c.in_default.not-Put (expression_view a.e.now)) (array_refused (program_view a.program.now) a.state.now a.out.now.guard a.field (expression_view a.i.now) a.index c.requires.index a.op c.in_default.not-Put (expression_view a.e.now)) c.with_value.ensures.made c.with_value.ensures.light c.with_value.ensures.large in
     record { made = w.made; demands = c.with_value.ensures.demands; light = w.light; large = w.large }
-
-pub returns-in-Sub : goal.returns-in-Sub
-returns-in-Sub c =
-    let a = c.args in
-    let w = makes_as c.with_value-in-Sub.result (with_put a.op (term_at a.state.now.fields a.field.field) a.index (term_of (program_view a.program.now) a.state.now (expression_view a.e.now))) (array_term (program_view a.program.now) a.state.now a.field (expression_view a.i.now) a.op (expression_view a.e.now))
-    (refused_value (program_view a.program.now) a.state.now a.out.now.guard a.field a.op a.index (expression_view a.e.now)) (refused_array (program_view a.program.now) a.state.now a.out.now.guard a.field (expression_view a.i.now) a.op (expression_view a.e.now))
-    (array_made (program_view a.program.now) a.state.now a.out.now.guard a.field (expression_view a.i.now) a.index c.requires.index a.op Sub c.in-Sub.is (expression_view a.e.now) refl) (array_refused (program_view a.program.now) a.state.now a.out.now.guard a.field (expression_view a.i.now) a.index c.requires.index a.op Sub c.in-Sub.is (expression_view a.e.now) refl) c.with_value-in-Sub.ensures.made c.with_value-in-Sub.ensures.light c.with_value-in-Sub.ensures.large in
-    record { made = w.made; demands = c.with_value-in-Sub.ensures.demands; light = w.light; large = w.large }
-
-pub returns-in-Mul : goal.returns-in-Mul
-returns-in-Mul c =
-    let a = c.args in
-    let w = makes_as c.with_value-in-Mul.result (with_put a.op (term_at a.state.now.fields a.field.field) a.index (term_of (program_view a.program.now) a.state.now (expression_view a.e.now))) (array_term (program_view a.program.now) a.state.now a.field (expression_view a.i.now) a.op (expression_view a.e.now))
-    (refused_value (program_view a.program.now) a.state.now a.out.now.guard a.field a.op a.index (expression_view a.e.now)) (refused_array (program_view a.program.now) a.state.now a.out.now.guard a.field (expression_view a.i.now) a.op (expression_view a.e.now))
-    (array_made (program_view a.program.now) a.state.now a.out.now.guard a.field (expression_view a.i.now) a.index c.requires.index a.op Mul c.in-Mul.is (expression_view a.e.now) refl) (array_refused (program_view a.program.now) a.state.now a.out.now.guard a.field (expression_view a.i.now) a.index c.requires.index a.op Mul c.in-Mul.is (expression_view a.e.now) refl) c.with_value-in-Mul.ensures.made c.with_value-in-Mul.ensures.light c.with_value-in-Mul.ensures.large in
-    record { made = w.made; demands = c.with_value-in-Mul.ensures.demands; light = w.light; large = w.large }

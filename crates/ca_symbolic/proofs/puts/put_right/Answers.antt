@@ -1,4 +1,3 @@
-use Rattle.std.proofs.Common.{◌≡◌}
 use Rattle.ca_tree.specs.declared.tree.AssignOp.TheVariants.{Put}
 use Rattle.ca_program.specs.View.{expression_view, program_view}
 use Rattle.ca_symbolic.specs.States.{term_at}

@@ -1,4 +1,4 @@
-use Rattle.std.proofs.Common.{◌≡◌, Err, ◌||◌, sym, ap, ◌∙◌}
+use Rattle.std.proofs.Common.{Err, ◌||◌, sym, ap, ◌∙◌}
 use Rattle.std.proofs.lemmas.Result.{err_from_is_err_and}
 use Rattle.ca_tree.specs.declared.tree.AssignOp.TheVariants.{Sub}
 use Rattle.ca_norm.specs.Terms.{PlainTerm, neg, add_at}

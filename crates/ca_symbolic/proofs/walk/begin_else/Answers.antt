@@ -1,4 +1,4 @@
-use Rattle.std.proofs.Common.{◌≡◌, ap}
+use Rattle.std.proofs.Common.{ap}
 use Rattle.ca_symbolic.specs.States.{State}
 use Rattle.ca_symbolic.proofs.walk.begin_else.Goals as goal
 

@@ -1,4 +1,4 @@
-use Rattle.std.proofs.Common.{◌≡◌, ℕ, ◌+◌, List, [], ◌∷◌, ◌++◌, drop, refl, ap, ap₂, ◌∙◌}
+use Rattle.std.proofs.Common.{◌≡◌, ℕ, ◌+◌, List, [], ◌∷◌, ◌++◌, refl, ap, ap₂, ◌∙◌}
 use Rattle.ca_forms.proofs.Told.{put_behind}
 use Rattle.ca_forms.specs.declared.sort.Sort.{Sort}
 use Rattle.ca_norm.specs.Terms.{PlainTerm, atom}
