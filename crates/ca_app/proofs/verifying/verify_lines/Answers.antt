@@ -13,8 +13,8 @@ returns-in-None-clause-ends g c =
     (of_none _ _ _ c.in-Ok-check.ensures c.in-None.is)
     (ends_written c.write_all.result 0 _ _ _ _ c.write_all.ensures.bytes c.finish.ensures)
 
-pub returns-in-Some-clause-ends : goal.returns-in-Some-clause-ends
-returns-in-Some-clause-ends g c =
+pub returns-clause-ends : goal.returns-clause-ends
+returns-clause-ends g c =
     ends_no c.args.budget (program_view c.args.program.now) c.in-Ok.marks c.in-Ok.ensures.planned _ c.from.ensures c.args.lines.items c.in-Some.place
     (of_some _ _ _ _ c.in-Ok-check.ensures c.in-Some.is)
     (ends_written c.write_no.result 9 _ _ _ _ c.write_no.ensures.bytes c.finish-in-Some.ensures)
@@ -24,3 +24,6 @@ write_no-requires g c =
     let bad = of_some _ _ _ _ c.in-Ok-check.ensures c.in-Some.is in
     let within = bad_within (Follows (program_view c.args.program.now) c.in-Ok.marks c.from.result) c.args.lines.items c.in-Some.place bad in
     (search rules, omega (arith, within, c.args.lines.ok.0, c.args.lines.small))
+
+pub check-requires : goal.check-requires
+check-requires g c = (search rules, (c.requires.checked.typed, c.in-Ok.ensures.sound))
