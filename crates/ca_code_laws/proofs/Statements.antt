@@ -310,7 +310,7 @@ module _ {S P : Type 0} (acc : Accesses S) (code : Code) (pr : PlainProgram) (ma
         (ls : List Datum) (p : P) (at k : ℕ) (f : Store) → HasAt code at (statement_code ks a hd line x top) → Fits x → length ls ≡ top → Here ls p → k ≤ n → Holds ks.locals f base ls → Flows acc code w ret (at_place at k f p) (length (statement_code ks a hd line x top)) (LocalsAt ks base top) (exec parts line ls p x k)
 
     for_runs : (l : ℕ) (site : LoopId) (part : FirstPart) (first : Statement) (c : Expression) (next b : Statement) (line : ℕ) (ls : List Datum) (p : P) (at k : ℕ) (f : Store) → HasAt code at (statement_code ks a hd line (for_loop l site part first c next b) top) → Fits (for_loop l site part first c next b) → length ls ≡ top → Here ls p → k ≤ n → Holds ks.locals f base ls → StatementRuns first line → StatementRuns b (line_of b) → StatementRuns next line → Flows acc code w ret (at_place at k f p) (length (statement_code ks a hd line (for_loop l site part first c next b) top)) (LocalsAt ks base top) (exec parts line ls p (for_loop l site part first c next b) k)
-    for_runs l site part first c next b line ls p at k f h fine len good left holds first_runs b_runs next_runs = by (hd line (for_loop l site part first c next b) top) refl h
+    for_runs l site part first c next b line ls p at k f h fits len good left holds first_runs b_runs next_runs = by (hd line (for_loop l site part first c next b) top) refl h
       where
         loop : Statement
         loop = for_loop l site part first c next b
@@ -338,81 +338,81 @@ module _ {S P : Type 0} (acc : Accesses S) (code : Code) (pr : PlainProgram) (ma
 
         plainly : HasAt code at all → Flows acc code w ret (at_place at k f p) (length all) (LocalsAt ks base top) plain
         plainly h =
-            and_flows acc code w ret (at_place at k f p) cf (on line (Jump (length (cb ++ cn))) ∷ loop_code ks line c (cb ++ cn) top) (LocalsAt ks base top) (LocalsAt ks base top) Here turns h (exec parts line ls p first k) (stays_sound first fine.0.0 line ls p k good)
-            (λ h. first_runs ls p at k f h (fine.0.0, fine.1.0) len good left holds)
+            and_flows acc code w ret (at_place at k f p) cf (on line (Jump (length (cb ++ cn))) ∷ loop_code ks line c (cb ++ cn) top) (LocalsAt ks base top) (LocalsAt ks base top) Here turns h (exec parts line ls p first k) (stays_sound first fits.0.0 line ls p k good)
+            (λ h. first_runs ls p at k f h (fits.0.0, fits.1.0) len good left holds)
             (λ ls p j g h good q below le.
             enters line (cb ++ cn) (tail_code ks line c (cb ++ cn) top) z j g p (turns ls p j) h
-            (turn_runs line c (cb ++ cn) (λ ls s k. and_on (exec parts (line_of b) ls s b k) (λ ls s k. exec parts line ls s next k)) loop (z + 1) ls p j g h.1 fine.0.1 q.1 good (omega (arith, le, left)) q.0
+            (turn_runs line c (cb ++ cn) (λ ls s k. and_on (exec parts (line_of b) ls s b k) (λ ls s k. exec parts line ls s next k)) loop (z + 1) ls p j g h.1 fits.0.1 q.1 good (omega (arith, le, left)) q.0
             (λ ls p k f len good left holds.
-            and_flows acc code w ret (at_place (z + 1) k f p) cb cn (LocalsAt ks base top) (LocalsAt ks base top) Here (λ ls s k. exec parts line ls s next k) (has_front code (z + 1) (cb ++ cn) (tail_code ks line c (cb ++ cn) top) h.1) (exec parts (line_of b) ls p b k) (stays_sound b fine.0.3 (line_of b) ls p k good)
-            (λ h. b_runs ls p (z + 1) k f h (fine.0.3, fine.1.2) len good left holds)
-            (λ ls p j g h good q below le. next_runs ls p (z + 1 + length cb) j g h (fine.0.2, fine.1.1) q.1 good (omega (arith, le, left)) q.0))
-            (λ ls p k good. and_sound (exec parts (line_of b) ls p b k) (λ ls s k. exec parts line ls s next k) (stays_sound b fine.0.3 (line_of b) ls p k good) (λ ls p k good. stays_sound next fine.0.2 line ls p k good))
-            (λ ls p k f len good lt holds. run.agains loop line ls p (z + 1) k f tt h.1 fine len good lt holds)))
+            and_flows acc code w ret (at_place (z + 1) k f p) cb cn (LocalsAt ks base top) (LocalsAt ks base top) Here (λ ls s k. exec parts line ls s next k) (has_front code (z + 1) (cb ++ cn) (tail_code ks line c (cb ++ cn) top) h.1) (exec parts (line_of b) ls p b k) (stays_sound b fits.0.3 (line_of b) ls p k good)
+            (λ h. b_runs ls p (z + 1) k f h (fits.0.3, fits.1.2) len good left holds)
+            (λ ls p j g h good q below le. next_runs ls p (z + 1 + length cb) j g h (fits.0.2, fits.1.1) q.1 good (omega (arith, le, left)) q.0))
+            (λ ls p k good. and_sound (exec parts (line_of b) ls p b k) (λ ls s k. exec parts line ls s next k) (stays_sound b fits.0.3 (line_of b) ls p k good) (λ ls p k good. stays_sound next fits.0.2 line ls p k good))
+            (λ ls p k f len good lt holds. run.agains loop line ls p (z + 1) k f tt h.1 fits len good lt holds)))
 
         by : (o : Option (List Placed)) → hd line loop top ≡ o → HasAt code at (unless_handed o all) → Flows acc code w ret (at_place at k f p) (length (unless_handed o all)) (LocalsAt ks base top) (parts.begin line ls p loop k plain)
-        by (Some cx) e h = run.handed line ls p loop at k f plain cx e h fine len good left holds
+        by (Some cx) e h = run.handed line ls p loop at k f plain cx e h fits len good left holds
         by None e h = subst (λ o. Flows acc code w ret (at_place at k f p) (length all) (LocalsAt ks base top) o) (sym (run.begins line ls p loop k plain e)) (plainly h)
 
     mutual
       pub statement_runs : (x : Statement) (line : ℕ) (ls : List Datum) (p : P) (at k : ℕ) (f : Store) → HasAt code at (statement_code ks a hd line x top) → Fits x → length ls ≡ top → Here ls p → k ≤ n → Holds ks.locals f base ls → Flows acc code w ret (at_place at k f p) (length (statement_code ks a hd line x top)) (LocalsAt ks base top) (exec parts line ls p x k)
-      statement_runs (block l ss) line ls p at k f h fine len good left holds = statements_run ss ls p at k f h fine len good left holds
-      statement_runs (put_local z l op e) line ls p at k f h fine len good left holds = puts op line l.0 e ls p at k f h fine.0 len good left holds
-      statement_runs (if_else l c x y) line ls p at k f h fine len good left holds =
+      statement_runs (block l ss) line ls p at k f h fits len good left holds = statements_run ss ls p at k f h fits len good left holds
+      statement_runs (put_local z l op e) line ls p at k f h fits len good left holds = puts op line l.0 e ls p at k f h fits.0 len good left holds
+      statement_runs (if_else l c x y) line ls p at k f h fits len good left holds =
           let cc = operand_code ks line c top in
           let cx = statement_code ks a hd (line_of x) x top in
           let cy = statement_code ks a hd (line_of y) y top in
           with_flows acc code w ret (at_place at k f p) p cc (on line (Unless (stands c top) (length cx + 1)) ∷ (cx ++ (on line (Jump (length cy)) ∷ cy))) (Stood base f (stands c top) top (kind_of ks c)) (LocalsAt ks base top) (λ v k. choose v (exec parts (line_of x) ls p x k) (exec parts (line_of y) ls p y k)) refl h (parts.value line ls p c k)
-          (λ h. run.operands c BoolType fine.0.0 line ls p at k f h len good left holds)
+          (λ h. run.operands c BoolType fits.0.0 line ls p at k f h len good left holds)
           (λ v j g z h q below le.
-          branches line c cx cy (exec parts (line_of x) ls p x j) (exec parts (line_of y) ls p y j) v (at + length cc) j g p h (ap (λ y. read_as y (g (base + stands c top))) (sym (kind_is pr sc c BoolType fine.0.0)) ∙ q.0)
-          (λ h. statement_runs x (line_of x) ls p (at + length cc + 1) j g h (fine.0.1, fine.1.0) len good (omega (arith, le, left)) (λ i lt. ap (read_as (ks.locals i)) (q.1 i (omega (arith, lt, len))) ∙ holds i lt))
-          (λ h. statement_runs y (line_of y) ls p (at + length cc + 1 + (length cx + 1)) j g h (fine.0.2, fine.1.1) len good (omega (arith, le, left)) (λ i lt. ap (read_as (ks.locals i)) (q.1 i (omega (arith, lt, len))) ∙ holds i lt)))
-      statement_runs (while_loop l c b) line ls p at k f h fine len good left holds =
+          branches line c cx cy (exec parts (line_of x) ls p x j) (exec parts (line_of y) ls p y j) v (at + length cc) j g p h (ap (λ y. read_as y (g (base + stands c top))) (sym (kind_is pr sc c BoolType fits.0.0)) ∙ q.0)
+          (λ h. statement_runs x (line_of x) ls p (at + length cc + 1) j g h (fits.0.1, fits.1.0) len good (omega (arith, le, left)) (λ i lt. ap (read_as (ks.locals i)) (q.1 i (omega (arith, lt, len))) ∙ holds i lt))
+          (λ h. statement_runs y (line_of y) ls p (at + length cc + 1 + (length cx + 1)) j g h (fits.0.2, fits.1.1) len good (omega (arith, le, left)) (λ i lt. ap (read_as (ks.locals i)) (q.1 i (omega (arith, lt, len))) ∙ holds i lt)))
+      statement_runs (while_loop l c b) line ls p at k f h fits len good left holds =
           let cb = statement_code ks a hd (line_of b) b top in
           enters line cb (tail_code ks line c cb top) at k f p (exec parts line ls p (while_loop l c b) k) h
-          (turn_runs line c cb (λ ls p k. exec parts (line_of b) ls p b k) (while_loop l c b) (at + 1) ls p k f h.1 fine.0.0 len good left holds
-          (λ ls p k f len good left holds. statement_runs b (line_of b) ls p (at + 1) k f (has_front code (at + 1) cb (tail_code ks line c cb top) h.1) (fine.0.1, fine.1) len good left holds)
-          (λ ls p k good. stays_sound b fine.0.1 (line_of b) ls p k good)
-          (λ ls p k f len good lt holds. run.agains (while_loop l c b) line ls p (at + 1) k f tt h.1 fine len good lt holds))
-      statement_runs (for_loop l site part first c next b) line ls p at k f h fine len good left holds =
-          for_runs l site part first c next b line ls p at k f h fine len good left holds (λ ls p at k f h fine len good left holds. statement_runs first line ls p at k f h fine len good left holds) (λ ls p at k f h fine len good left holds. statement_runs b (line_of b) ls p at k f h fine len good left holds) (λ ls p at k f h fine len good left holds. statement_runs next line ls p at k f h fine len good left holds)
-      statement_runs (return_value l e) line ls p at k f h fine len good left holds =
+          (turn_runs line c cb (λ ls p k. exec parts (line_of b) ls p b k) (while_loop l c b) (at + 1) ls p k f h.1 fits.0.0 len good left holds
+          (λ ls p k f len good left holds. statement_runs b (line_of b) ls p (at + 1) k f (has_front code (at + 1) cb (tail_code ks line c cb top) h.1) (fits.0.1, fits.1) len good left holds)
+          (λ ls p k good. stays_sound b fits.0.1 (line_of b) ls p k good)
+          (λ ls p k f len good lt holds. run.agains (while_loop l c b) line ls p (at + 1) k f tt h.1 fits len good lt holds))
+      statement_runs (for_loop l site part first c next b) line ls p at k f h fits len good left holds =
+          for_runs l site part first c next b line ls p at k f h fits len good left holds (λ ls p at k f h fits len good left holds. statement_runs first line ls p at k f h fits len good left holds) (λ ls p at k f h fits len good left holds. statement_runs b (line_of b) ls p at k f h fits len good left holds) (λ ls p at k f h fits len good left holds. statement_runs next line ls p at k f h fits len good left holds)
+      statement_runs (return_value l e) line ls p at k f h fits len good left holds =
           let ce = operand_code ks line e top in
           with_flows acc code w ret (at_place at k f p) p ce (on line (Return (stands e top)) ∷ []) (Stood base f (stands e top) top (kind_of ks e)) (LocalsAt ks base top) (λ v k. gives_back v p k) refl h (parts.value line ls p e k)
-          (λ h. run.operands e fine.0.0 fine.0.2 line ls p at k f h len good left holds)
-          (λ v j g z h q below le. (g, at + length ce, stands e top, line, stays acc code (at_place (at + length ce) j g p), h.0, ap (λ y. read_as y (g (base + stands e top))) (sym (kind_is pr sc e fine.0.0 fine.0.2 ∙ sym (ap kind_at fine.0.1))) ∙ q.0, (λ j lt. refl), omega arith))
-      statement_runs (invoke l e op es) line ls p at k f h fine len good left holds = run.acts (invoke l e op es) line ls p at k f tt h fine len good left holds
-      statement_runs (put_field l x op e) line ls p at k f h fine len good left holds = run.acts (put_field l x op e) line ls p at k f tt h fine len good left holds
-      statement_runs (put_item l x i op e) line ls p at k f h fine len good left holds = run.acts (put_item l x i op e) line ls p at k f tt h fine len good left holds
-      statement_runs (new_local l x c) line ls p at k f h fine len good left holds = run.acts (new_local l x c) line ls p at k f tt h fine len good left holds
-      statement_runs (new_field l x c) line ls p at k f h fine len good left holds = run.acts (new_field l x c) line ls p at k f tt h fine len good left holds
-      statement_runs (new_item l x i c) line ls p at k f h fine len good left holds = run.acts (new_item l x i c) line ls p at k f tt h fine len good left holds
-      statement_runs (print_value l e) line ls p at k f h fine len good left holds = run.acts (print_value l e) line ls p at k f tt h fine len good left holds
+          (λ h. run.operands e fits.0.0 fits.0.2 line ls p at k f h len good left holds)
+          (λ v j g z h q below le. (g, at + length ce, stands e top, line, stays acc code (at_place (at + length ce) j g p), h.0, ap (λ y. read_as y (g (base + stands e top))) (sym (kind_is pr sc e fits.0.0 fits.0.2 ∙ sym (ap kind_at fits.0.1))) ∙ q.0, (λ j lt. refl), omega arith))
+      statement_runs (invoke l e op es) line ls p at k f h fits len good left holds = run.acts (invoke l e op es) line ls p at k f tt h fits len good left holds
+      statement_runs (put_field l x op e) line ls p at k f h fits len good left holds = run.acts (put_field l x op e) line ls p at k f tt h fits len good left holds
+      statement_runs (put_item l x i op e) line ls p at k f h fits len good left holds = run.acts (put_item l x i op e) line ls p at k f tt h fits len good left holds
+      statement_runs (new_local l x c) line ls p at k f h fits len good left holds = run.acts (new_local l x c) line ls p at k f tt h fits len good left holds
+      statement_runs (new_field l x c) line ls p at k f h fits len good left holds = run.acts (new_field l x c) line ls p at k f tt h fits len good left holds
+      statement_runs (new_item l x i c) line ls p at k f h fits len good left holds = run.acts (new_item l x i c) line ls p at k f tt h fits len good left holds
+      statement_runs (print_value l e) line ls p at k f h fits len good left holds = run.acts (print_value l e) line ls p at k f tt h fits len good left holds
 
       pub statements_run : (xs : Statements) (ls : List Datum) (p : P) (at k : ℕ) (f : Store) → HasAt code at (statements_code ks a hd xs top) → FitAll xs → length ls ≡ top → Here ls p → k ≤ n → Holds ks.locals f base ls → Flows acc code w ret (at_place at k f p) (length (statements_code ks a hd xs top)) (LocalsAt ks base top) (exec_all parts ls p xs k)
-      statements_run no_statements ls p at k f h fine len good left holds = (f, rests acc code (at_place at k f p), (holds, len), (λ j lt. refl), omega arith)
-      statements_run (statement_and x rest) ls p at k f h fine len good left holds =
-          and_flows acc code w ret (at_place at k f p) (statement_code ks a hd (line_of x) x top) (statements_code ks a hd rest top) (LocalsAt ks base top) (LocalsAt ks base top) Here (λ ls s k. exec_all parts ls s rest k) h (exec parts (line_of x) ls p x k) (stays_sound x fine.0.0 (line_of x) ls p k good)
-          (λ h. statement_runs x (line_of x) ls p at k f h (fine.0.0, fine.1.0) len good left holds)
-          (λ ls p j g h good q below le. statements_run rest ls p (at + length (statement_code ks a hd (line_of x) x top)) j g h (fine.0.1, fine.1.1) q.1 good (omega (arith, le, left)) q.0)
+      statements_run no_statements ls p at k f h fits len good left holds = (f, rests acc code (at_place at k f p), (holds, len), (λ j lt. refl), omega arith)
+      statements_run (statement_and x rest) ls p at k f h fits len good left holds =
+          and_flows acc code w ret (at_place at k f p) (statement_code ks a hd (line_of x) x top) (statements_code ks a hd rest top) (LocalsAt ks base top) (LocalsAt ks base top) Here (λ ls s k. exec_all parts ls s rest k) h (exec parts (line_of x) ls p x k) (stays_sound x fits.0.0 (line_of x) ls p k good)
+          (λ h. statement_runs x (line_of x) ls p at k f h (fits.0.0, fits.1.0) len good left holds)
+          (λ ls p j g h good q below le. statements_run rest ls p (at + length (statement_code ks a hd (line_of x) x top)) j g h (fits.0.1, fits.1.1) q.1 good (omega (arith, le, left)) q.0)
 
     -- a loop that comes again
     pub loop_runs : (x : Statement) (line : ℕ) (ls : List Datum) (p : P) (at k : ℕ) (f : Store) → IsLoop x → HasAt code at (body_of_loop ks a hd line x top ++ tail_of_loop ks a hd line x top) → Fits x → length ls ≡ top → Here ls p → k ≤ n → Holds ks.locals f base ls → Flows acc code w ret (at_place (at + length (body_of_loop ks a hd line x top)) k f p) (length (tail_of_loop ks a hd line x top)) (LocalsAt ks base top) (turn parts line ls p x k)
-    loop_runs (while_loop l c b) line ls p at k f is h fine len good left holds =
+    loop_runs (while_loop l c b) line ls p at k f is h fits len good left holds =
         let cb = statement_code ks a hd (line_of b) b top in
-        turn_runs line c cb (λ ls p k. exec parts (line_of b) ls p b k) (while_loop l c b) at ls p k f h fine.0.0 len good left holds
-        (λ ls p k f len good left holds. statement_runs b (line_of b) ls p at k f (has_front code at cb (tail_code ks line c cb top) h) (fine.0.1, fine.1) len good left holds)
-        (λ ls p k good. stays_sound b fine.0.1 (line_of b) ls p k good)
-        (λ ls p k f len good lt holds. run.agains (while_loop l c b) line ls p at k f tt h fine len good lt holds)
-    loop_runs (for_loop l site part first c next b) line ls p at k f is h fine len good left holds =
+        turn_runs line c cb (λ ls p k. exec parts (line_of b) ls p b k) (while_loop l c b) at ls p k f h fits.0.0 len good left holds
+        (λ ls p k f len good left holds. statement_runs b (line_of b) ls p at k f (has_front code at cb (tail_code ks line c cb top) h) (fits.0.1, fits.1) len good left holds)
+        (λ ls p k good. stays_sound b fits.0.1 (line_of b) ls p k good)
+        (λ ls p k f len good lt holds. run.agains (while_loop l c b) line ls p at k f tt h fits len good lt holds)
+    loop_runs (for_loop l site part first c next b) line ls p at k f is h fits len good left holds =
         let cb = statement_code ks a hd (line_of b) b top in
         let cn = statement_code ks a hd line next top in
-        turn_runs line c (cb ++ cn) (λ ls s k. and_on (exec parts (line_of b) ls s b k) (λ ls s k. exec parts line ls s next k)) (for_loop l site part first c next b) at ls p k f h fine.0.1 len good left holds
+        turn_runs line c (cb ++ cn) (λ ls s k. and_on (exec parts (line_of b) ls s b k) (λ ls s k. exec parts line ls s next k)) (for_loop l site part first c next b) at ls p k f h fits.0.1 len good left holds
         (λ ls p k f len good left holds.
-        and_flows acc code w ret (at_place at k f p) cb cn (LocalsAt ks base top) (LocalsAt ks base top) Here (λ ls s k. exec parts line ls s next k) (has_front code at (cb ++ cn) (tail_code ks line c (cb ++ cn) top) h) (exec parts (line_of b) ls p b k) (stays_sound b fine.0.3 (line_of b) ls p k good)
-        (λ h. statement_runs b (line_of b) ls p at k f h (fine.0.3, fine.1.2) len good left holds)
-        (λ ls p j g h good q below le. statement_runs next line ls p (at + length cb) j g h (fine.0.2, fine.1.1) q.1 good (omega (arith, le, left)) q.0))
-        (λ ls p k good. and_sound (exec parts (line_of b) ls p b k) (λ ls s k. exec parts line ls s next k) (stays_sound b fine.0.3 (line_of b) ls p k good) (λ ls p k good. stays_sound next fine.0.2 line ls p k good))
-        (λ ls p k f len good lt holds. run.agains (for_loop l site part first c next b) line ls p at k f tt h fine len good lt holds)
-    loop_runs other line ls p at k f is h fine len good left holds = absurd is
+        and_flows acc code w ret (at_place at k f p) cb cn (LocalsAt ks base top) (LocalsAt ks base top) Here (λ ls s k. exec parts line ls s next k) (has_front code at (cb ++ cn) (tail_code ks line c (cb ++ cn) top) h) (exec parts (line_of b) ls p b k) (stays_sound b fits.0.3 (line_of b) ls p k good)
+        (λ h. statement_runs b (line_of b) ls p at k f h (fits.0.3, fits.1.2) len good left holds)
+        (λ ls p j g h good q below le. statement_runs next line ls p (at + length cb) j g h (fits.0.2, fits.1.1) q.1 good (omega (arith, le, left)) q.0))
+        (λ ls p k good. and_sound (exec parts (line_of b) ls p b k) (λ ls s k. exec parts line ls s next k) (stays_sound b fits.0.3 (line_of b) ls p k good) (λ ls p k good. stays_sound next fits.0.2 line ls p k good))
+        (λ ls p k f len good lt holds. run.agains (for_loop l site part first c next b) line ls p at k f tt h fits len good lt holds)
+    loop_runs other line ls p at k f is h fits len good left holds = absurd is
