@@ -34,7 +34,7 @@ module _ {text : List ℕ} {p : PlainProgram} (a : Accepted text p) where
   without c e other i m f =
       let k = class_of i m f in
       subst (λ n. Without c n) (sym (name_is m k.0 k.1))
-      (without_append c k.0.name (58 ∷ 58 ∷ m.name) (without_name c e k.0.name (spelled.classes m.class.0 k.0 k.1)) (other, other, without_name c e m.name (spelled.ops i m f)))
+      (without_append c k.0.name (58 ∷ 58 ∷ m.name) (without_name c e k.0.name (spelled.classes m.class.0 k.0 k.1)) (other, (other, without_name c e m.name (spelled.ops i m f))))
 
   named_once : (i j : ℕ) (m n : PlainMethod) → slice_get p.ops i ≡ Some m → slice_get p.ops j ≡ Some n → method_name p (Some m) ≡ method_name p (Some n) → i ≡ j
   named_once i j m n e f same =

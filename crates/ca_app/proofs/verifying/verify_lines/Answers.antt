@@ -23,7 +23,7 @@ pub write_no-requires : goal.write_no-requires
 write_no-requires g c =
     let bad = of_some _ _ _ _ c.in-Ok-check.ensures c.in-Some.is in
     let within = bad_within (Follows (program_view c.args.program.now) c.in-Ok.marks c.from.result) c.args.lines.items c.in-Some.place bad in
-    (search rules, omega (arith, within, c.args.lines.ok.0, c.args.lines.small))
+    omega (arith, within, c.args.lines.ok.0, c.args.lines.small)
 
 pub check-requires : goal.check-requires
 check-requires g c = (search rules, (c.requires.checked.typed, c.in-Ok.ensures.sound))
