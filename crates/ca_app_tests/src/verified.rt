@@ -180,13 +180,13 @@ fn gives_way_to_faults(rt: HostRuntime) {
 #[test]
 fn tells_where_it_ends_early(rt: HostRuntime) {
     let full = ORDER.as_bytes();
-    let mut lines = 0;
+    let mut next = 1u32;
     for end in 1..full.len() {
         if full[end] == b'$' {
-            lines += 1;
+            next = next.wrapping_add(1);
             let begun = str::from_utf8(&full[..end + 1]).expect(&rt, "a text");
-            let reply = format!(in rt.alloc(); "no {}$", lines + 1).expect(&rt, "a reply");
-            if lines < 9 {
+            let reply = format!(in rt.alloc(); "no {}$", next).expect(&rt, "a reply");
+            if next < 10 {
                 verifies(&rt, "verify 100", begun, 9, reply.as_str());
             }
         }
