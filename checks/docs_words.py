@@ -11,7 +11,7 @@ NAME = re.compile(r"[A-Za-z_]\w*(?:::\w+)*$")
 LINK = re.compile(r"\]\(([^)#\s]+)(?:#[^)]*)?\)|^\[\w+\]: (\S+)", re.M)
 # Endings of files, folders of the repository, what stands for a name or for a file that is made, and files of the kit and of readers.
 ENDINGS = r"\.(?:rt|antt|edit|md|cc|py|c|h|in|svg|txt|pairs|plan|emit|run)"
-PATH = re.compile(rf"[\w.+*/-]*\w{ENDINGS}$|(?:\.ci|bench|checks|crates|docs|samples|ca_\w+|specs|proofs|src|must-fail)/[\w.+*/-]*$")
+PATH = re.compile(rf"[\w.+*/-]*\w{ENDINGS}$|(?:\.ci|bench|checks|crates|docs|native|samples|ca_\w+|specs|proofs|src|must-fail)/[\w.+*/-]*$")
 PLACEHOLDER = re.compile(r"\b[A-Z][A-Z_]+\b(?!\.md)|(?:^|/)(?:out|names\.json)(?:/|$)|\.\.")
 ELSEWHERE = {"START-HERE.md", "FORMS.md", "FORMS-THREADS.md", "CALLING.md", "REPOSITORY.md", "GUIDELINES.md", "program.cc"}
 
