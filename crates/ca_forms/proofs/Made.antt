@@ -1,17 +1,17 @@
 -- Forms that an operator made of operands.
-use Rattle.std.proofs.Common.{◌≡◌, ℕ, ◌+◌, Bool, true, false, cond, List, [], ◌∷◌, ◌++◌, Option, Some, None, is_some, length, get_or, refl, sym, ap, ◌∙◌, arith}
+use Rattle.std.proofs.Common.{◌≡◌, ℕ, Bool, true, false, cond, List, [], ◌∷◌, ◌++◌, Option, Some, None, is_some, length, get_or, refl, sym, ap, ◌∙◌, arith}
 use Rattle.std.specs.Prelude.{nat_eq}
 use Rattle.std.proofs.lemmas.Bool.Decides.{nat_tests}
 use Rattle.ca_folds.specs.declared.operator.FoldOp.{FoldOp}
 use Rattle.ca_folds.specs.Operators.{neutral}
-use Rattle.ca_folds.specs.Operands.{parts_of}
+use Rattle.ca_folds.specs.Operands.{parts_of, formed}
 use Rattle.ca_forms.specs.declared.polynomial.Node.{Node}
 use Rattle.ca_forms.specs.declared.polynomial.Node.TheVariants as node
 use Rattle.ca_forms.specs.declared.polynomial.Unary.TheVariants as unary
-use Rattle.ca_forms.specs.Plain.{PlainPart, PlainPolynomial, PlainMonomial, PlainScalar, PlainScalars, no_products, product_and}
+use Rattle.ca_forms.specs.Plain.{PlainPart, PlainPolynomial, PlainMonomial, PlainScalar, PlainScalars, fold_of, no_products, product_and, no_scalars, scalar_and}
 use Rattle.ca_forms.specs.Lists.{polynomial_of, products_of, monomial_of, scalars_of}
 use Rattle.ca_forms.specs.Seen.{part_of}
-use Rattle.ca_forms.specs.Folds.{items_of, part_made, monomial_made, made_in}
+use Rattle.ca_forms.specs.Folds.{items_of, alone_form, part_made, monomial_made, made_in, word_scalar, fold_scalar, number_in}
 
 pub told : {T : Type 0} (b : Bool) (x : T) → b ≡ is_some (cond b (Some x) None)
 told true x = refl
@@ -107,3 +107,13 @@ pub none_is : (op : FoldOp) (k : Option ℕ) (j : Option (ℕ × List PlainScala
 none_is op None None r x e h g = g
 none_is op None (Some s) r x e h g = cc
 none_is op (Some n) j r x e h g = cc
+
+scalars_back : (xs : PlainScalars) → scalars_of (items_of xs) ≡ xs
+scalars_back no_scalars = refl
+scalars_back (scalar_and x xs) = ap (scalar_and x) (scalars_back xs)
+
+-- several operands, or one beside a word
+pub formed_more : (op : FoldOp) (n : ℕ) (xs : PlainScalars) → (length (items_of xs) ≡ 0 → ⊥) → (length (items_of xs) ≡ 1 → nat_eq n (neutral op) ≡ false) → alone_form (fold_of op n xs) ≡ number_in (formed op word_scalar (fold_scalar op) n (items_of xs))
+formed_more op n no_scalars h k = absurd (h refl)
+formed_more op n (scalar_and x no_scalars) h k = sym (ap (λ b. number_in (cond b x (fold_scalar op n (x ∷ [])))) (k refl))
+formed_more op n (scalar_and x (scalar_and y xs)) h k = ap (λ z. alone_form (fold_of op n (scalar_and x (scalar_and y z)))) (sym (scalars_back xs))

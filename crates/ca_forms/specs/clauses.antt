@@ -1,3 +1,4 @@
 pub mod Places
 pub mod Heads
 pub mod Next
+pub mod Among

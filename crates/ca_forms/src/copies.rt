@@ -5,8 +5,8 @@ ghost use Rattle.ca_forms.specs.Seen.{over};
 
 use crate::parts::{add, both, one_box, two_boxes};
 use crate::polynomial::{
-    Monomial, Node, Part, Pointer, PointerNode, Polynomial, Power, Product, Scalar, ScalarNode,
-    Scalars, Unary,
+    Monomial, Node, Operands, Part, Pointer, PointerNode, Polynomial, Power, Product, Scalar,
+    ScalarNode, Scalars, Unary,
 };
 use std::alloc::{AllocError, Global};
 
@@ -211,6 +211,16 @@ impl Scalars {
     {
         let items = copy_scalars(alloc, &self.items)?;
         Ok(Scalars { items })
+    }
+}
+
+impl Operands {
+    #[cycle(copy)]
+    fn copy(&self, alloc: Global) -> Result<Operands, AllocError>
+        ensures { IfOk result (λ xs. xs ≡ self.now) }
+    {
+        let items = copy_scalars(alloc, &self.items)?;
+        Ok(Operands { items })
     }
 }
 

@@ -12,6 +12,7 @@ pub mod array_rules;
 mod copies;
 pub mod folds;
 mod form;
+mod operands;
 mod order;
 pub mod parts;
 pub mod pointers;

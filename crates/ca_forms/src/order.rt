@@ -11,8 +11,8 @@ ghost use Rattle.ca_forms.specs.clauses.Heads.{head, head_cmp, unary_head, word_
 ghost use Rattle.ca_forms.specs.Compare.{part_cmp, power_cmp, product_cmp, polynomial_cmp, monomial_cmp, pointer_cmp, scalar_cmp, scalars_cmp, name_cmp, monomial_total};
 
 use crate::polynomial::{
-    Monomial, Node, Part, Pointer, PointerNode, Polynomial, Power, Product, Scalar, ScalarNode,
-    Scalars, Unary,
+    Monomial, Node, Operands, Part, Pointer, PointerNode, Polynomial, Power, Product, Scalar,
+    ScalarNode, Scalars, Unary,
 };
 use crate::sort::Sort;
 use std::cmp::Ordering;
@@ -315,6 +315,16 @@ impl Scalars {
     /// By the order of their codes.
     #[cycle(compare)]
     fn compare(&self, other: &Scalars) -> Ordering
+        ensures { result ≡ scalars_cmp self.now other.now }
+    {
+        compare_scalars(&self.items, &other.items)
+    }
+}
+
+impl Operands {
+    /// By the order of their codes.
+    #[cycle(compare)]
+    fn compare(&self, other: &Operands) -> Ordering
         ensures { result ≡ scalars_cmp self.now other.now }
     {
         compare_scalars(&self.items, &other.items)

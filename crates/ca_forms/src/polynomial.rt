@@ -35,8 +35,8 @@ pub(crate) enum Node {
     /// What a value method gives: its sort, its number, the receiver and the arguments.
     Result(Sort, u32, Pointer, Scalars),
     /// An operator on operands that may stand in any order: the word that those which are words come to, and the
-    /// others in order, each once.
-    Fold(FoldOp, u64, Scalars),
+    /// others.
+    Fold(FoldOp, u64, Operands),
 }
 
 /// What is asked of one number.
@@ -117,6 +117,13 @@ pub(crate) enum ScalarNode {
 #[cycle(polynomial)]
 #[derive(Drop)]
 pub struct Scalars {
+    pub(crate) items: Vec<Scalar>,
+}
+
+/// The operands of an operator in order, each once.
+#[cycle(polynomial)]
+#[derive(Drop)]
+pub(crate) struct Operands {
     pub(crate) items: Vec<Scalar>,
 }
 
@@ -257,6 +264,27 @@ impl Model for Scalars {
     ghost coded = { coded_scalars };
 
     ghost view = { λ a. scalars_of a.items.items };
+
+    ghost size = { scalars_size };
+
+    ghost use Rattle.std.proofs.Common.{arith};
+
+    ghost size_decreases = { λ a h. omega (arith, most_scalars a.items.items) };
+}
+
+impl Model for Operands {
+    ghost use Rattle.ca_folds.proofs.Rising.{Rising};
+    ghost use Rattle.ca_forms.specs.Plain.{PlainScalars, coded_scalars};
+    ghost use Rattle.ca_forms.specs.Lists.{scalars_of, scalars_size, most_scalars};
+    ghost use Rattle.ca_forms.specs.Compare.{scalar_cmp};
+
+    ghost Value = { PlainScalars };
+
+    ghost coded = { coded_scalars };
+
+    ghost view = { λ a. scalars_of a.items.items };
+
+    ghost invariant = { λ a. Rising scalar_cmp a.items.items };
 
     ghost size = { scalars_size };
 

@@ -10,7 +10,7 @@ ghost use Rattle.ca_forms.specs.Plain.{own_item, pointer_part};
 ghost use Rattle.ca_forms.specs.ArrayRules.{same_index, rows_at, products_in, pointer_in, selected, selected_pointer};
 
 use crate::array::{Array, ArrayNode, Row};
-use crate::parts::both;
+use crate::parts::{both, let_go};
 use crate::pointers::chosen_pointer;
 use crate::polynomial::{Monomial, Part, Pointer, Polynomial, Scalar, ScalarNode};
 use crate::rules::{add_chosen, add_part, add_same};
@@ -237,6 +237,50 @@ impl Array {
             ArrayNode::Choice(c, a, b) => {
                 let sides = both(a.pointer_at(alloc, index), b.pointer_at(alloc, index));
                 pointer_of_sides(alloc, c.copy(alloc), sides)
+            }
+        }
+    }
+}
+
+impl Array {
+    /// Adds the item at an index, times the factor. The index goes into the part, where the array is an atom, so that an
+    /// index of an index of many isn't copied at each.
+    #[inline(never)]
+    pub fn add_item_at(
+        &self,
+        alloc: Global,
+        form: &mut BTreeMap<Monomial, u64>,
+        index: Polynomial,
+        factor: u64,
+    ) -> Result<(), AllocError>
+        requires { NoZero form.old.entries }
+        ensures nonzero { NoZero form.new.entries }
+        ensures added { OnOk result (AddsSum form.old.entries form.new.entries factor (selected self.now index)) }
+    {
+        match &self.node {
+            ArrayNode::Items(s, g, n) => {
+                let part = Part::own_item(*s, *g, *n, index);
+                add_part(alloc, form, part, factor)
+            }
+            _ => {
+                let added = self.add_item(alloc, form, &index, factor);
+                let_go(index);
+                added
+            }
+        }
+    }
+
+    /// The item at an index, which goes into the part likewise, of an array of pointers.
+    #[inline(never)]
+    pub fn pointer_item_at(&self, alloc: Global, index: Polynomial) -> Result<Pointer, AllocError>
+        ensures { IfOk result (λ p. p ≡ selected_pointer self.now index) }
+    {
+        match &self.node {
+            ArrayNode::Items(s, g, n) => own_pointer(alloc, *s, *g, *n, Ok(index)),
+            _ => {
+                let pointer = self.pointer_at(alloc, &index);
+                let_go(index);
+                pointer
             }
         }
     }

@@ -112,13 +112,13 @@ large 0p1p$,15:0p1p$*,1n+";
     hold_for_each(&rt, OPERATORS, rows);
 }
 
-/// Four thousand times one field, 500 fields and 1,000 fields that are nested from the left and from the right, operators inside
+/// Four thousand times one field, 500 fields and 4,000 fields that are nested from the left and from the right, operators inside
 /// indexes and inside sums: each has a form.
 #[test]
 fn takes_long_chains(rt: HostRuntime) {
     let rows = "formed 0f,4000:0f$
 alike 0f,499:1if$ 500:0if,499:$
-alike 0f,999:1if$ 1000:0if,999:$
+alike 0f,3999:1if$ 4000:0if,3999:$
 formed 0f,2000:0p$0sxS
 formed 0f,2000:0p$1p+";
     hold_for_each(&rt, OPERATORS, rows);

@@ -27,6 +27,10 @@ pub polynomial::Scalars::compare-returns : goal.polynomial::Scalars::compare-ret
 polynomial::Scalars::compare-returns t c =
     rw (← c.self.view_is, ← c.other.view_is) (c.compare_scalars.ensures ∙ ap₂ (slice_cmp scalar_cmp) c.deref.ensures.value c.deref-2.ensures.value ∙ arguments_cmp c.self.inside.items.items c.other.inside.items.items)
 
+pub polynomial::Operands::compare-returns : goal.polynomial::Operands::compare-returns
+polynomial::Operands::compare-returns t c =
+    rw (← c.self.view_is, ← c.other.view_is) (c.compare_scalars.ensures ∙ ap₂ (slice_cmp scalar_cmp) c.deref.ensures.value c.deref-2.ensures.value ∙ arguments_cmp c.self.inside.items.items c.other.inside.items.items)
+
 pub order::compare_scalars-returns : goal.order::compare_scalars-returns
 order::compare_scalars-returns t c =
     c.cmp.ensures ∙ ends scalar_cmp c.args.a.now c.args.b.now c.loop-i.i (omega (arith, c.loop-i-test.false, c.loop-i.auto.i-end, c.min-count.ensures)) ∙ c.loop-i.invariant

@@ -1,6 +1,8 @@
-use Rattle.std.proofs.Common.{rules, ◌≡◌, ℕ, ◌+◌, List, [], ◌∷◌, ◌++◌, take, sym, ap, ◌∙◌}
+use Rattle.std.proofs.Common.{rules, ◌≡◌, ℕ, ◌+◌, List, [], ◌∷◌, ◌++◌, take, sym, ap, subst, ◌∙◌}
 use Rattle.std.proofs.lemmas.List.{take_more}
+use Rattle.ca_folds.proofs.Rising.{Rising}
 use Rattle.ca_forms.specs.Plain.{PlainPart, PlainMonomial, PlainScalar}
+use Rattle.ca_forms.specs.Compare.{scalar_cmp}
 use Rattle.ca_forms.specs.Seen.{part_of, over}
 use Rattle.ca_forms.proofs.Told.{copied, made}
 use Rattle.ca_forms.proofs.+copy.Goals as goal
@@ -32,3 +34,6 @@ copies::copy_scalars-loop-scalar-preserved t c =
 pub polynomial::Part::copy_operation-returns-in-Over : goal.polynomial::Part::copy_operation-returns-in-Over
 polynomial::Part::copy_operation-returns-in-Over t c =
     made c.over.result c.copy.result (over c.in-Over.f) c.args.self.now (λ v. v ≡ c.in-Over.a) (λ v e. ap (over c.in-Over.f) e ∙ (ap part_of (sym c.in-Over.is) ∙ c.self.view_is)) c.copy.ensures c.over.ensures
+
+pub polynomial::Operands::copy-invariant_of-result : goal.polynomial::Operands::copy-invariant_of-result
+polynomial::Operands::copy-invariant_of-result t c = subst (Rising scalar_cmp) (sym (c.in_ok-items.ensures ∙ c.deref.ensures.value)) c.self.invariant

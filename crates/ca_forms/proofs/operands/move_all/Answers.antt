@@ -1,7 +1,7 @@
 use Rattle.std.proofs.Common.{◌++◌, ◌∷◌, [], reverse, sym, ap, ◌∙◌}
 use Rattle.std.proofs.lemmas.List.{append_assoc, append-nil}
 use Rattle.ca_forms.proofs.Folding.{turned, nothing}
-use Rattle.ca_forms.proofs.folds.move_all.Goals as goal
+use Rattle.ca_forms.proofs.operands.move_all.Goals as goal
 
 pub loop-item-preserved : goal.loop-item-preserved
 loop-item-preserved c d =

@@ -1,6 +1,6 @@
 use Rattle.std.proofs.Common.{rules, arith, ◌≡◌, [], ◌∷◌, ◌++◌, sym, ap, ◌∙◌}
 use Rattle.ca_forms.proofs.Folding.{last_same, rest_is, one_more, on_err}
-use Rattle.ca_forms.proofs.folds.move_last.Goals as goal
+use Rattle.ca_forms.proofs.operands.move_last.Goals as goal
 
 pub returns-in_ok-push : goal.returns-in_ok-push
 returns-in_ok-push c d =

@@ -1,5 +1,5 @@
 use Rattle.std.proofs.Common.{◌≡◌, ◌++◌, reverse, length}
-use Rattle.ca_forms.proofs.folds.move_all.Given as goal
+use Rattle.ca_forms.proofs.operands.move_all.Given as goal
 
 abbrev pub invariant-loop-item : goal.invariant-loop-item
 invariant-loop-item c l = l.all.items ++ reverse l.from.items ≡ l.initial.all.items ++ reverse l.initial.from.items

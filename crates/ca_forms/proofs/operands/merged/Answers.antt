@@ -6,8 +6,8 @@ use Rattle.ca_forms.specs.Plain.{PlainScalar}
 use Rattle.ca_forms.specs.Compare.{scalar_cmp}
 use Rattle.ca_forms.proofs.Told.{chained, finished}
 use Rattle.ca_forms.proofs.Folding.{nothing, merge_over}
-use Rattle.ca_forms.proofs.folds.merged.Goals.{then-loop-ys-test+else-len-gt0, else-loop-ys-test}
-use Rattle.ca_forms.proofs.folds.merged.Goals as goal
+use Rattle.ca_forms.proofs.operands.merged.Goals.{then-loop-ys-test+else-len-gt0, else-loop-ys-test}
+use Rattle.ca_forms.proofs.operands.merged.Goals as goal
 
 pub loop-ys-init : goal.loop-ys-init
 loop-ys-init c =

@@ -1,11 +1,11 @@
-use Rattle.std.proofs.Common.{◌≡◌, ◌-◌, ◌++◌, ◌∷◌, [], List, take, length, arith, reverse, sym, ap, ap₂, ◌∙◌, true, false}
+use Rattle.std.proofs.Common.{◌≡◌, ◌-◌, ◌++◌, ◌∷◌, [], List, take, length, arith, reverse, sym, ap, ap₂, ◌∙◌}
 use Rattle.ca_folds.specs.Operators.{cancels}
 use Rattle.ca_folds.specs.Operands.{merge}
 use Rattle.ca_forms.specs.Plain.{PlainScalar}
 use Rattle.ca_forms.specs.Compare.{scalar_cmp}
 use Rattle.ca_forms.proofs.Told.{on_ok}
 use Rattle.ca_forms.proofs.Folding.{split_last, one_more, less_taken, greater_taken, equal_kept, equal_gone}
-use Rattle.ca_forms.proofs.folds.merge_first.Goals as goal
+use Rattle.ca_forms.proofs.operands.merge_first.Goals as goal
 
 pub returns-in-Less : goal.returns-in-Less
 returns-in-Less c =

@@ -1,7 +1,0 @@
-use Rattle.std.proofs.Common.{sym, ap, ◌∙◌}
-use Rattle.ca_forms.specs.Folds.{items_of}
-use Rattle.ca_forms.proofs.Made.{items_back}
-use Rattle.ca_forms.proofs.polynomial.Scalars.into_items.Goals as goal
-
-pub returns : goal.returns
-returns c = sym (items_back c.self.inside.items.items) ∙ ap items_of c.self.view_is
