@@ -1,5 +1,6 @@
 -- Texts that are added one after another.
-use Rattle.std.proofs.Common.{◌≡◌, ℕ, List, [], ◌++◌, Option, Result, Ok, Err, ap, sym, ◌∙◌, append_assoc, append-nil}
+use Rattle.std.proofs.Common.{◌≡◌, ℕ, List, [], ◌++◌, Option, Result, Ok, Err, ap, sym, subst, ◌∙◌, append_assoc, append-nil}
+use Rattle.std.specs.Prelude.{IfOk}
 use Rattle.ca_base.specs.Devices.{grown, Began, Writes}
 use Rattle.ca_base.proofs.Writing.{grown_twice, grown_nothing, began_after, writes_after}
 use Rattle.ca_model.specs.Lines.{Went, Adds}
@@ -79,6 +80,18 @@ not_flushed old now pending left text e w = record {
     told = w.part.told;
   };
 }
+
+-- the pending bytes went out, and nothing was added
+pub adds_flushed : {T E : Type 0} (old now : Option (List ℕ)) (pending left : List ℕ) (r : Result T E) → Writes old now r pending → IfOk r (λ _. left ≡ []) → Adds old now pending left r []
+adds_flushed old now pending left (Ok x) w e = record { whole = record { out = pending; told = w.whole; all = ap (λ t. pending ++ t) (sym e) }; part = tt }
+adds_flushed old now pending left (Err x) w e = record { whole = tt; part = record { done = w.part.done; rest = w.part.rest; whole = append-nil pending ∙ w.part.whole; told = w.part.told } }
+
+-- a text was added, and then nothing more
+pub went_still : (old mid now : Option (List ℕ)) (pending a left last : List ℕ) → Went old mid (pending ++ a) left → Went mid now (left ++ []) last → Went old now (pending ++ a) last
+went_still old mid now pending a left last v w = subst (λ t. Went old now (pending ++ t) last) (append-nil a) (went_after old mid now pending a left [] last v w)
+
+pub adds_still : {T E : Type 0} (old mid now : Option (List ℕ)) (pending a left last : List ℕ) (r : Result T E) → Went old mid (pending ++ a) left → Adds mid now left last r [] → Adds old now pending last r a
+adds_still old mid now pending a left last r v w = subst (λ t. Adds old now pending last r t) (append-nil a) (adds_after old mid now pending a left [] last r v w)
 
 -- of a text whose beginning is done, the next part is done too
 pub further : (text done here item more : List ℕ) → text ≡ done ++ here → here ≡ item ++ more → text ≡ (done ++ item) ++ more

@@ -49,5 +49,11 @@ class_there p n slots c there = rw (slice_get-map class_view p.classes.items n, 
 pub no_class : (p : Program) (n : ℕ) (slots : List Slot) → None ≡ slice_get p.classes.items n → class_text (slice_get (program_view p).classes n) slots ≡ []
 no_class p n slots absent = rw (slice_get-map class_view p.classes.items n, ← absent)
 
+pub no_objects : (p : PlainProgram) (n : ℕ) (os : List Object) (i : ℕ) → length os ≤ i → objects_text p n (drop i os) ≡ []
+no_objects p n [] zero le = refl
+no_objects p n [] (suc i) le = refl
+no_objects p n (o ∷ os) zero le = absurd (omega arith)
+no_objects p n (o ∷ os) (suc i) le = no_objects p n os i (omega arith)
+
 pub at_object : (p : PlainProgram) (os : List Object) (i : ℕ) (o : Object) → slice_get os i ≡ Some o → objects_text p i (drop i os) ≡ object_text p i o ++ objects_text p (i + 1) (drop (i + 1) os)
 at_object p os i o h = ap (λ l. objects_text p i l) (drop_there os i o h)

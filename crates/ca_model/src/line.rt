@@ -9,7 +9,10 @@ use ca_base::{Failed, Sink, write_all};
 use std::marker::Model;
 
 /// How many bytes are put together before they go out.
-const ROOM: usize = 1024;
+const ROOM: usize = 4096;
+
+/// Whole lines go out together where less room than this is left behind them.
+const SPARE: usize = 1024;
 
 /// Bytes that are to be written, in the order in which they were added.
 #[derive(Drop)]
@@ -89,6 +92,17 @@ impl Line {
         ensures { self.new ≡ (if result then self.old ++ piece.now else self.old) }
     {
         self.pending.try_extend_from_slice(piece).is_ok()
+    }
+
+    /// Writes the pending bytes where little room is left behind them.
+    pub fn settle<K: Sink>(&mut self, sink: &mut K) -> Result<(), Failed>
+        ensures bytes { Adds (K.written sink.old) (K.written sink.new) self.old self.new result [] }
+        ensures cause { HasCause (K.faults sink.old) (K.faults sink.new) result }
+    {
+        if self.pending.remaining_capacity() >= SPARE {
+            return Ok(());
+        }
+        self.flush(sink)
     }
 
     /// Writes the pending bytes.

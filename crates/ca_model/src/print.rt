@@ -1,6 +1,6 @@
 //! Writes values and the heap as text: `value_text` and `heap_text` of `specs/Texts.antt`.
 
-ghost use Rattle.std.specs.Prelude.{◌≡◌, ◌∷◌, ◌++◌, [], codes, option_copied, slice_get};
+ghost use Rattle.std.specs.Prelude.{◌≡◌, ◌++◌, codes, option_copied, slice_get};
 ghost use Rattle.ca_base.specs.Devices.{HasCause, Writes};
 ghost use Rattle.ca_program.specs.View.{program_view};
 ghost use Rattle.ca_model.specs.Lines.{Adds};
@@ -9,7 +9,7 @@ ghost use Rattle.ca_model.specs.Texts.{value_text, values_text, further_values_t
 use crate::heap::Heap;
 use crate::line::Line;
 use crate::value::{Object, Slot, Value};
-use ca_base::{Failed, Sink, write_all};
+use ca_base::{Failed, Sink};
 use ca_program::{Class, ClassId, FieldInfo, Program};
 use itoa::Buffer;
 
@@ -163,38 +163,48 @@ fn add_class<K: Sink>(
     add_fields(class.fields.as_slice(), object.slots.as_slice(), line, sink)
 }
 
-/// Writes what stands behind the object's number, in one write where it fits the buffer.
-fn print_behind<K: Sink>(program: &Program, object: &Object, sink: &mut K) -> Result<(), Failed>
-    ensures bytes { Writes (K.written sink.old) (K.written sink.new) result (class_text (slice_get (program_view program.now).classes object.now.class.0) object.now.slots ++ 10 ∷ []) }
-    ensures cause { HasCause (K.faults sink.old) (K.faults sink.new) result }
-{
-    let mut line = Line::new();
-    if let Err(failed) = add_class(program, object, &mut line, sink) {
-        return Err(failed);
-    }
-    if let Err(failed) = line.add(sink, b"\n") {
-        return Err(failed);
-    }
-    line.flush(sink)
-}
-
-/// Writes the line of an object. Its `#` and its number go out in writes of their own.
-fn print_object<K: Sink>(
+/// Adds the line of an object.
+fn add_object<K: Sink>(
     program: &Program,
     id: u32,
     object: &Object,
+    line: &mut Line,
     sink: &mut K,
 ) -> Result<(), Failed>
-    ensures bytes { Writes (K.written sink.old) (K.written sink.new) result (object_text (program_view program.now) id object.now) }
+    ensures bytes { Adds (K.written sink.old) (K.written sink.new) line.old line.new result (object_text (program_view program.now) id object.now) }
     ensures cause { HasCause (K.faults sink.old) (K.faults sink.new) result }
 {
-    if let Err(failed) = write_all(sink, b"#") {
+    if let Err(failed) = line.add(sink, b"#") {
         return Err(failed);
     }
-    if let Err(failed) = write_all(sink, Buffer::new().format(id).as_bytes()) {
+    if let Err(failed) = line.add(sink, Buffer::new().format(id).as_bytes()) {
         return Err(failed);
     }
-    print_behind(program, object, sink)
+    if let Err(failed) = add_class(program, object, line, sink) {
+        return Err(failed);
+    }
+    line.add(sink, b"\n")
+}
+
+/// Adds the lines of all objects, in their order. As many whole lines go out together as fit the buffer.
+fn add_objects<K: Sink>(
+    program: &Program,
+    heap: &Heap,
+    line: &mut Line,
+    sink: &mut K,
+) -> Result<(), Failed>
+    ensures bytes { Adds (K.written sink.old) (K.written sink.new) line.old line.new result (heap_text (program_view program.now) heap.now) }
+    ensures cause { HasCause (K.faults sink.old) (K.faults sink.new) result }
+{
+    for id in 0..heap.len() {
+        if let Err(failed) = add_object(program, id, heap.get(id), line, sink) {
+            return Err(failed);
+        }
+        if let Err(failed) = line.settle(sink) {
+            return Err(failed);
+        }
+    }
+    Ok(())
 }
 
 /// Writes the heap's text: a line for each object, in their order. It takes no memory.
@@ -204,10 +214,9 @@ pub fn print_heap<K: Sink>(program: &Program, heap: &Heap, sink: &mut K) -> Resu
     ensures bytes { Writes (K.written sink.old) (K.written sink.new) result (heap_text (program_view program.now) heap.now) }
     ensures cause { HasCause (K.faults sink.old) (K.faults sink.new) result }
 {
-    for id in 0..heap.len() {
-        if let Err(failed) = print_object(program, id, heap.get(id), sink) {
-            return Err(failed);
-        }
+    let mut line = Line::new();
+    if let Err(failed) = add_objects(program, heap, &mut line, sink) {
+        return Err(failed);
     }
-    Ok(())
+    line.flush(sink)
 }

@@ -133,14 +133,14 @@ fn run_waiting<'a>(
     ensures answer { IfOk result (λ answer. StepIs (program_view program.now) heap.now (present heap.now beside.old) (invocations_of waiting.old.items) left (invocation_of op.now) (present heap.now beside.new) (invocations_of waiting.new.items) answer) }
     ensures kept { OnErr result (Kept (present heap.now beside.old) (present heap.now beside.new) (invocations_of waiting.old.items) (invocations_of waiting.new.items)) }
 {
-    let hint = hints.place(waiting.as_slice(), op);
+    let hint = hints.place(waiting.as_slice(), op, hash_of(op));
     let Some(place) = find_at(waiting.as_slice(), op, hint) else {
         return Ok(StepAnswer::NotPending);
     };
     let from = waiting.len();
     match beside.run(desk, alloc, program, heap, op, left, waiting)? {
         SectionAnswer::Done { steps } => {
-            take_out(desk, waiting, hints, place, from, hash_of(op));
+            take_out(desk, waiting, hints, place, from);
             Ok(StepAnswer::Done { steps })
         }
         SectionAnswer::Trapped(trap) => Ok(StepAnswer::Trapped(trap)),
@@ -148,35 +148,28 @@ fn run_waiting<'a>(
     }
 }
 
-/// Takes out the call at a place: the last one stands there then. Calls from a place on are new to the hints.
+/// Takes out the call at a place: the last one stands there then. Calls from `from` on are new to the hints.
 fn take_out<'a>(
     desk: &mut Desk<'a>,
     waiting: &mut Vec<Op>,
     hints: &mut Hints,
     place: usize,
     from: usize,
-    hash: u64,
 )
     requires { place < length waiting.old.items }
     ensures { TakenOut waiting.old.items place waiting.new.items }
 {
-    let last = waiting.len() - 1;
-    let moved = hash_of(&waiting[last]);
-    hints.forget(hash, place as u64);
-    hints.forget(moved, last as u64);
-    let gone = waiting.swap_remove(place);
     note_from(waiting.as_slice(), hints, from);
-    if place < from {
-        hints.note(moved, place as u64);
-    }
+    hints.forget(place);
+    let gone = waiting.swap_remove(place);
     desk.give_back(gone);
 }
 
-/// Tells the hints where the calls from a place on stand.
+/// Tells the hints of the calls from a place on.
 fn note_from(ops: &[Op], hints: &mut Hints, from: usize) {
     let mut n = from;
     'places: while n < ops.len() {
-        hints.note(hash_of(&ops[n]), n as u64);
+        hints.note(hash_of(&ops[n]));
         n += 1;
     }
 }
