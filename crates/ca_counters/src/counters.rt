@@ -6,8 +6,8 @@ ghost use Rattle.ca_program.specs.View.{class_view, method_view, program_view, s
 ghost use Rattle.ca_counters.specs.Counters.{add, counter_class, counters, counts, counts_one, method, starts, twice};
 
 use ca_logs::Task;
-use ca_model::{Heap, Values};
-use ca_parallel::Op;
+use ca_model::Heap;
+use ca_parallel::{Arguments, Op};
 use ca_program::{
     Body, Class, ClassId, Expr, FieldId, FieldInfo, Method, OpId, Program, Stmt, StmtForm,
     ValueType,
@@ -132,7 +132,7 @@ pub fn twice(alloc: Global, object: u32) -> Task
         op: Op {
             receiver: object,
             op: OpId(1),
-            args: Values::new(alloc),
+            args: Arguments::new(alloc),
         },
         after: 0,
     }

@@ -10,8 +10,7 @@ use crate::names::Names;
 use crate::numbers::number_in;
 use crate::pieces::{behind, is, split_at};
 use crate::values::add_values;
-use ca_model::Values;
-use ca_parallel::Op;
+use ca_parallel::{Arguments, Op};
 use ca_program::{Method, OpId, Program, ValueType};
 use std::alloc::{AllocError, Global};
 
@@ -124,7 +123,7 @@ pub(crate) fn call_of(
     if !end.is_empty() {
         return Ok(None);
     }
-    let mut args = Values::new(alloc);
+    let mut args = Arguments::new(alloc);
     let found = add_values(values, parameters(program.op(op)), &mut args)?;
     if found {
         Ok(Some(Op {

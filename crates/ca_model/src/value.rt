@@ -16,6 +16,12 @@ pub enum Value {
     Ref(u32),
 }
 
+impl Default for Value {
+    fn default() -> Value {
+        Value::Null
+    }
+}
+
 /// A list of values.
 #[derive(Drop)]
 pub struct Values {

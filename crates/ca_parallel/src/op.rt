@@ -1,6 +1,6 @@
 //! A call of an operation in memory, which `invocation_of` of `specs/Calls.antt` takes to its plain value.
 
-use ca_model::Values;
+use crate::arguments::Arguments;
 use ca_program::OpId;
 
 /// An operation that is called: the number of its receiver, the operation and its arguments.
@@ -8,5 +8,5 @@ use ca_program::OpId;
 pub struct Op {
     pub receiver: u32,
     pub op: OpId,
-    pub args: Values,
+    pub args: Arguments,
 }

@@ -2,7 +2,7 @@
 
 use crate::sources::{let_go, program};
 use ca_model::{Heap, Slot, Slots, Value, Values};
-use ca_parallel::Op;
+use ca_parallel::{Arguments, Op};
 use ca_program::{ClassId, OpId, Program};
 use std::process::Abort;
 
@@ -59,7 +59,9 @@ fn copies_a_heap(rt: HostRuntime) {
 /// A call is copied with its arguments.
 #[test]
 fn copies_a_call(rt: HostRuntime) {
-    let args = Values::filled(rt.alloc(), Value::Bool(true), 2).expect(&rt, "arguments");
+    let mut args = Arguments::new(rt.alloc());
+    args.push(Value::Bool(false)).expect(&rt, "an argument");
+    args.push(Value::Bool(true)).expect(&rt, "another");
     let op = Op {
         receiver: 3,
         op: OpId(1),

@@ -2,8 +2,8 @@
 //! that no destructor is written out at a function's end.
 
 use crate::sources::{let_go, program};
-use ca_model::{Heap, Object, Slot, Slots, Trap, TrapKind, Value, Values};
-use ca_parallel::Op;
+use ca_model::{Heap, Object, Slot, Slots, Trap, TrapKind, Value};
+use ca_parallel::{Arguments, Op};
 use ca_program::{ClassId, LoopId, OpId, Program};
 use ca_sections::{Desk, SectionAnswer, section, section_loop, section_of_loop};
 use std::process::Abort;
@@ -106,11 +106,13 @@ impl<'a> Case<'a> {
 
     /// The call of the operation.
     fn call<R: AllocGlobal + Abort>(&self, rt: &R) -> Op {
-        let number = Value::Long(self.argument);
+        let mut args = Arguments::new(rt.alloc());
+        args.push(Value::Long(self.argument))
+            .expect(rt, "an argument");
         Op {
             receiver: self.receiver,
             op: OpId(self.op),
-            args: Values::filled(rt.alloc(), number, 1).expect(rt, "an argument"),
+            args,
         }
     }
 

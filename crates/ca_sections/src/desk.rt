@@ -8,7 +8,7 @@ ghost use Rattle.ca_sections.specs.Running.{own_slots, Begun};
 use ca_base::Memory;
 use ca_direct::Scene;
 use ca_model::{Heap, Slots, Value};
-use ca_parallel::Op;
+use ca_parallel::{HELD, Op};
 use ca_program::{FieldInfo, ValueType};
 use ca_section::Olds;
 use ca_values::{Evaluator, add_starts};
@@ -73,12 +73,14 @@ impl<'a> Desk<'a> {
         })
     }
 
-    /// Takes an operation that was listed and is used no more, for its memory, if there is room for it.
+    /// Takes an operation that was listed and is used no more, for its memory, if it has any and there is room for it.
     #[inline]
     pub fn give_back(&mut self, op: Op)
         ensures { self.new.state ≡ self.old.state }
     {
-        let _kept = self.spare.push(op);
+        if op.args.len() > HELD {
+            let _kept = self.spare.push(op);
+        }
     }
 
     /// Takes all operations of a list that are used no more, for their memory. None are left in the list.

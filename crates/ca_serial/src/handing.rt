@@ -12,8 +12,8 @@ use crate::extents::{ExtentAnswer, Extents};
 use ca_base::Memory;
 use ca_frames::Mode;
 use ca_machine::{Machine, Target, Work, body_of};
-use ca_model::{Value, Values};
-use ca_parallel::Op;
+use ca_model::Value;
+use ca_parallel::{Arguments, Op};
 use ca_program::Program;
 use std::alloc::Global;
 use std::sync::Wait;
@@ -53,7 +53,7 @@ fn due_ops(alloc: Global, machine: &Machine<'_>) -> Result<Vec<Op>, Memory>
     ensures ops { IfOk result (λ ops. map operation_of ops.items ≡ machine.now.due.op ∷ []) }
 {
     let due = machine.due;
-    let mut args = Values::new(alloc);
+    let mut args = Arguments::new(alloc);
     add_all(&mut args, machine.values.last(due.count))?;
     let mut ops = Vec::new(alloc);
     ops.push(Op {
@@ -88,7 +88,7 @@ fn begin_alone<'a>(program: &'a Program, machine: &mut Machine<'a>) -> Result<bo
 }
 
 /// Adds all of these values.
-fn add_all(args: &mut Values, items: &[Value]) -> Result<(), Memory>
+fn add_all(args: &mut Arguments, items: &[Value]) -> Result<(), Memory>
     ensures { IfOk result (λ _. args.new ≡ args.old ++ items.now) }
 {
     for item in items {
