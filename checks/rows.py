@@ -191,7 +191,7 @@ loop 14
 Bin::add Bin::add commutes
 """),
     (GREATEST, """extent M::up
-M::up M::up unproved FieldDiffers x
+M::up M::up commutes
 """),
     (BOUNDS, """extent M::up
 M::up M::up commutes
@@ -375,6 +375,26 @@ VERDICTS = [
     ("bool b; void m(bool x) { b = x; }", "FieldDiffers b"),
     ("bool b; void m() { b = b && b; } void n() { b = !!b || b; }", None),
     ("bool d; A *q; void t() { } void m() { if (!d) { d = true; q->t(); } } void n() { d = true; }", "DemandsDiffer"),
+    # the greatest and the least, whatever the order
+    ("long f; void m(long x) { if (f < x) f = x; }", None),
+    ("long f; void m(long x) { if (x >= f) { f = x; } } void n(long y) { if (y > f) { { f = y; } } }", None),
+    ("long f; void m(long x) { if (f < 7) f = 7; } void n(long x) { if (f <= x) f = x; }", None),
+    ("long f; void m(long x) { if (x < f) f = x; } void n() { if (f >= 5) f = 5; }", None),
+    ("long f; void m(long x) { if (x < 9 && f < x) f = x; }", None),
+    ("long f; void m(long x) { if (2 < x && x < 9 && f < x) f = x; }", None),
+    ("long f; void m(long x) { if (2 < x && x < 9 && x != 5 && f < x) f = x; }", "FieldDiffers f"),
+    ("long f; void m(long x, long y) { if (f < x) f = x; if (f < y) f = y; }", "Large"),
+    ("long f; void m(long x) { if (x < 3) f |= x; }", None),
+    ("long f; void m(long x, long y) { if (x < 3) f |= y; }", "FieldDiffers f"),
+    ("long f; void m(long x) { long s = f; if (s < x) s = x; else s = f; f = s; }", None),
+    ("long f; void m(long x) { if (f < x) f = x; } void n(long x) { if (x < f) f = x; }", "FieldDiffers f"),
+    ("long f; void m(long x) { if (f < x) f = x; } void n(long x) { f = max(f, x); }", "FieldDiffers f"),
+    ("long f; A *o; void m(long x, A *p) { if (f < x) { f = x; o = p; } }", "FieldDiffers o"),
+    ("long f; void m(long x) { f = f + x; if (9 < f) f = 9; }", "FieldDiffers f"),
+    ("long f; void m(long x) { if (f < x + 1) f = x + 1; }", "FieldDiffers f"),
+    ("long a[2]; void m(long i, long x) { if (a[i] < x) a[i] = x; }", "FieldDiffers a"),
+    ("long f; A *q; void t() { } void m(long x) { if (f < x) { f = x; q->t(); } }", "DemandsDiffer"),
+    ("long f; bool b; void m(long x) { if (f < x) f = x; b = f < 3; }", None),
     # items
     ("long a[2]; long s; void m() { s += a[0]; } void n(long i, long v) { a[i] += v; }", "FieldDiffers s"),
     ("long a[2]; long s; void m() { s += a[0] - a[0]; } void n(long v) { a[1] += v; }", None),
@@ -407,7 +427,6 @@ VERDICTS = [
     *[(f"long f; void m(long x) {{ {body} }}", "FieldDiffers f") for body in (
         "f = max(f, x) + 1;", "f = max(f + 1, x);", "f = max(min(f, x), x);", "f = (f | x) & 7 ^ x;", "f = f & x | x;",
         "f = 2 * min(f, x);", "f |= x; f &= 6;", "f = max(f, x); f += x;", "f = max(x, x);",
-        "if (x < 3) f |= x;",
     )],
     ("long a[2]; void m(long x) { a[0] |= x; }", "FieldDiffers a"),
     ("long a[2]; void m() { a[0] |= 6; }", None),

@@ -11,7 +11,7 @@ public:
     total[key] = total[key] + amount;
     used = true;
   }
-  // A greatest value isn't shown to be the same in both orders.
+  // So is a greatest value: it is the same in both orders.
   void offer(long amount) {
     if (greatest < amount) greatest = amount;
   }

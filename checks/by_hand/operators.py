@@ -208,11 +208,12 @@ ROWS = [
     *[single(f"`{body}`", "long n; long c;", f"void m(long p) {{ {body} }}", "commutes") for body in (
         "n = max(n, p);", "n = min(p, n);", "n &= p;", "n |= p;", "n ^= p;", "n = c & n;", "n = n | p | c;",
         "n = max(3, max(p, n));", "n = p ^ (n ^ p * c);", "n |= p & c;", "n &= p; n &= 7;",
-        "n = max(n, p); if (p > 3) c += p; n = max(n, p + 1);",
+        "n = max(n, p); if (p > 3) c += p; n = max(n, p + 1);", "if (p > 3) n |= p;",
+        "if (p > 3) n |= p + 1; if (p > 5) n |= p;",
     )],
     *[single(f"`{body}`", "long n;", f"void m(long p) {{ {body} }}", "FieldDiffers n") for body in (
         "n = max(n, p) + 1;", "n = max(n + 1, p);", "n = n & p | p;", "n = max(p, p);", "n |= p; n &= 6;",
-        "n = 2 * min(n, p);", "if (p > 3) n |= p;", "n ^= n & p;",
+        "n = 2 * min(n, p);", "n ^= n & p;",
     )],
     single(
         "bits that a value method chooses", "long n;",

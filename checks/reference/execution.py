@@ -1,6 +1,9 @@
 """Symbolic execution of two operations one after the other, and the verdict on a pair by both orders."""
 
-from reference.terms import BOOL, LONG, NOTHING, POINTER, Term, atom, combined, null, number, operation, sort_of, truth
+from functools import reduce
+
+from reference.rankings import order_same
+from reference.terms import BOOL, LONG, POINTER, Term, atom, combined, null, number, operation, sort_of, truth
 
 GREATEST_WEIGHT = 65536
 RECEIVER_GROUP, START_GROUP = 0, 3
@@ -110,13 +113,12 @@ class Order:
         self.demands.setdefault(kind, []).append((guard, [light(t) for t in parts]))
 
     def demanded(self):
-        """The sum of the conditions under each kind and forms of parts."""
-        sums = {}
+        """The conditions under each kind and forms of parts, in the order of the demands."""
+        conditions = {}
         for kind, found in self.demands.items():
             for guard, parts in found:
-                key = (kind, *[t.form() for t in parts])
-                sums[key] = combined((1, sums.get(key, NOTHING)), (1, guard.form()))
-        return {key: form for key, form in sums.items() if form}
+                conditions.setdefault((kind, *[t.form() for t in parts]), []).append(guard)
+        return conditions
 
     def both(self, guard, condition):
         return light(Term("and", BOOL, (guard, condition)))
@@ -251,6 +253,28 @@ def compared(fields, a, b):
     except Heavy:
         return "Large"
     for field in fields:
-        if one.state[field].form() != other.state[field].form():
+        if not same_field(one.state[field], other.state[field]):
             return f"FieldDiffers {field.name}"
-    return None if one.demanded() == other.demanded() else "DemandsDiffer"
+    ones, others = one.demanded(), other.demanded()
+    same = all(same_demand(ones.get(key, []), others.get(key, [])) for key in ones.keys() | others.keys())
+    return None if same else "DemandsDiffer"
+
+
+def same_field(t, u):
+    """Whether the terms of a field are the same by forms, or those of a single value by orders."""
+    return t.form() == u.form() or (not t.is_array and order_same(t, u))
+
+
+def same_demand(ones, others):
+    """Whether demands under these conditions are as many: by the sum of these, or by orders, where it isn't too heavy."""
+    sums = [combined(*[(1, guard.form()) for guard in guards]) for guards in (ones, others)]
+    if sums[0] == sums[1]:
+        return True
+    counts = [count_of(ones), count_of(others)]
+    return all(t.weight() <= GREATEST_WEIGHT for t in counts) and order_same(*counts)
+
+
+def count_of(guards):
+    """How many of the conditions hold, as a term."""
+    counted = [Term("choose", LONG, (guard, number(1), number(0))) for guard in guards]
+    return reduce(lambda t, u: Term("add", LONG, (t, u)), counted) if counted else number(0)

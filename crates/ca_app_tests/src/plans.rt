@@ -65,7 +65,7 @@ const OF_TWO_BINS: &str =
 plan:op Bin::add serial$op Pair::fill serial$loop 14 parallel$
 emit:class Bin {$public :$long n ;$void add ( long v ) {$/*@lock*/ n = n + v ;$/*@unlock*/ }$} ;$class Pair {$public :$Bin * b [ 2 ] ;$void fill ( ) {$b [ 0 ] = new Bin ( ) ;$b [ 1 ] = new Bin ( ) ;$}$} ;$int main ( ) {$Pair * s = new Pair ( ) ;$s -> fill ( ) ;$/*@parallel*/ for ( long i = 0 ; i < 2 ; i += 1 ) s -> b [ i ] -> add ( i + 1 ) ;$}$";
 
-const OF_BOUND: &str = "pairs:extent M::up$M::up M::up unproved FieldDiffers x$
+const OF_BOUND: &str = "pairs:extent M::up$M::up M::up commutes$
 emit:class M {$public :$long x ;$void up ( long v ) {$if ( x < v ) x = v ;$}$} ;$int main ( ) {$}$";
 
 const OF_TWO_SUMS: &str =

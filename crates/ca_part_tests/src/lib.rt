@@ -34,6 +34,8 @@ mod lexer;
 #[cfg(test)]
 mod operators;
 #[cfg(test)]
+mod orders;
+#[cfg(test)]
 mod resolve;
 #[cfg(test)]
 mod runs;

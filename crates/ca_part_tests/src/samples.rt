@@ -234,7 +234,7 @@ public:
     total[key] = total[key] + amount;
     used = true;
   }
-  // A greatest value isn't shown to be the same in both orders.
+  // So is a greatest value: it is the same in both orders.
   void offer(long amount) {
     if (greatest < amount) greatest = amount;
   }
@@ -289,14 +289,14 @@ pairs:
 extent Table::add
 Table::add Table::add commutes
 extent Table::offer
-Table::offer Table::offer unproved FieldDiffers greatest
+Table::offer Table::offer commutes
 extent Row::set
 Row::set Row::set unproved FieldDiffers key
 extent Row::file
 Table::add Table::add commutes
 Row::file Row::file commutes
 extent Row::compare
-Table::offer Table::offer unproved FieldDiffers greatest
+Table::offer Table::offer commutes
 Row::compare Row::compare commutes
 extent Sheet::make
 Sheet::make Sheet::make unproved NotSeparable Sheet::make 44 Creates
@@ -313,7 +313,7 @@ loop 50
 Table::add Table::add commutes
 Row::file Row::file commutes
 loop 59
-Table::offer Table::offer unproved FieldDiffers greatest
+Table::offer Table::offer commutes
 Row::compare Row::compare commutes
 loop 60
 Table::add Table::add commutes
@@ -323,12 +323,12 @@ op Table::add serial
 op Table::offer serial
 op Row::set serial
 op Row::file parallel
-op Row::compare serial
+op Row::compare parallel
 op Sheet::make serial
 op Sheet::fill serial
 op Sheet::file parallel
 loop 47 serial
 loop 50 parallel
-loop 59 serial
+loop 59 parallel
 loop 60 parallel
 ";

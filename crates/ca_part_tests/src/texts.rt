@@ -26,7 +26,7 @@ pairs:extent Cell::late$Cell::late Cell::late unproved NotSeparable Cell::late 3
 of class Stack { public: long buf[8]; long n; void put(long v) { buf[n] = v; n = n + 1; } }; int main() { }
 pairs:extent Stack::put$Stack::put Stack::put unproved FieldDiffers buf$
 of class M { public: long x; void up(long v) { if (x < v) x = v; } }; int main() { }
-pairs:extent M::up$M::up M::up unproved FieldDiffers x$
+pairs:extent M::up$M::up M::up commutes$
 // The loop's own condition reads what its calls write.
 of class B { public: long n; B *q; void add(long v) { n = n + v; }$ void all() { for (long i = 0; i < n; i++) add(i); } };$ int main() { B *b = new B(); for (long i = 0; i < b->n; i++) b->add(i); }
 plan:op B::add serial$op B::all serial$loop 2 serial$loop 3 serial$";

@@ -29,8 +29,25 @@ of class Bins { public: long a[3]; void add(long i, long v) { a[i] = a[i] + v; }
 of class Cell { public: long sum; long base; long last; Cell *next;$ void late(long p) { sum = sum + p; if (next != nullptr) next->late(p);$ last = sum; }$ void early(long p) { sum = sum + p; if (next != nullptr) next->early(base); } };$ int main() { }
 0 0 0:NotSeparable 0 3 AccessAfterCall
 1 1 1:Commutes
-of class M { public: long x; void up(long v) { if (x < v) x = v; } }; int main() { }
-0 0 0:Field 0
+// The greatest of two values is the same in every order of the three numbers, and so is the least; the greatest and then the least isn't.
+of class M { public: long x; void up(long v) { if (x < v) x = v; } void lo(long v) { if (v <= x) { x = v; } }$ void to(long v) { if (7 > x) x = 7; } void ge(long v) { x = max(x, v); } void all(long v) { up(v); lo(v); to(v); ge(v); } };$ int main() { }
+0 0 0:Commutes
+4 1 1:Commutes
+4 0 2:Commutes
+4 2 2:Commutes
+4 0 1:Field 0
+4 1 2:Field 0
+4 0 3:Field 0
+4 3 3:Commutes
+// Five points, and six; an array is not compared by orders; who has the greatest value depends on the order where two are equal.
+of class O { public: long x; O *who; long a[3]; void m(long v) { if (2 < v && v < 9 && x < v) x = v; }$ void n(long v) { if (2 < v && v < 9 && v != 5 && x < v) x = v; } void i(long v) { if (a[0] < v) a[0] = v; }$ void w(long v, O *o) { if (x < v) { x = v; who = o; } } void all(long v, O *o) { m(v); n(v); i(v); w(v, o); } };$ int main() { }
+4 0 0:Commutes
+4 1 1:Field 0
+4 2 2:Field 2
+4 3 3:Field 1
+// How often a record is set depends on the order, and so does what is called then.
+of class R { public: long x; R *o; void m(long v) { if (x < v) { x = v; o->t(); } } void t() { } }; int main() { }
+0 0 0:Demand NotNull 0
 of class D { public: long n; D *o; void m(long p) { n = n + p; o->k(n); } void k(long v) { } }; int main() { }
 0 0 0:Demand Invokes 1
 of class E { public: long n; long a[4]; void m(long p) { n = n + p; long t = a[n]; } }; int main() { }
@@ -82,10 +99,10 @@ of class W { public: long n; void a(long v) { n &= v; } void o(long v) { n = v |
 6 3 5:Commutes
 6 4 5:Commutes
 6 2 5:Field 0
-// Operands of another operator stay one, a choice is none of its operator, and two that are put at one item differ.
+// Operands of another operator stay one, a choice by the order of numbers is decided, and two that are put at one item differ.
 of class V { public: long n; long a[3]; void m(long v) { n = n & v | v; } void c(long v) { if (v < 3) n |= v; }$ void i(long v) { a[0] |= v; } void u(long v) { n = max(n, min(v, 7)); } void all(long v) { m(v); c(v); i(v); u(v); } };$ int main() { }
 4 0 0:Field 0
-4 1 1:Field 0
+4 1 1:Commutes
 4 2 2:Field 1
 4 3 3:Commutes
 // Steps of a value method are demanded.

@@ -1,5 +1,4 @@
 pub mod Heavier
-pub mod Comparisons
 mod Boxed
 mod Gathered
 mod Smaller

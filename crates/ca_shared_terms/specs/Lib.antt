@@ -1,6 +1,5 @@
 pub mod Heavy
 pub mod Starts
-pub mod Comparisons
 pub mod Codes
 pub mod Sizes
 pub mod Nodes

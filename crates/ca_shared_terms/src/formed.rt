@@ -47,7 +47,14 @@ impl LightTerm {
         array_of(alloc, &term)
     }
 
-    /// The term with no part shared: of at most `MOST_WEIGHT` nodes. It recurses as deep as the term is, so kinds that
+    /// The term with no part shared: of at most `MOST_WEIGHT` nodes.
+    pub fn term(&self, alloc: Global) -> Result<Box<Term>, AllocError>
+        ensures { IfOk result (λ b. shape (box_value b) ≡ self.now) }
+    {
+        self.boxed(alloc)
+    }
+
+    /// The term with no part shared. It recurses as deep as the term is, so kinds that
     /// need room have functions of their own.
     #[cycle(unshared)]
     #[inline(never)]

@@ -1,5 +1,5 @@
 -- What a comparison of two orders says of a pair.
-use Rattle.std.proofs.Common.{◌≡◌, ℕ, ◌<◌, ◌^◌, false, List, length, map, Some, refl, sym, ap, ap₂, ◌∙◌, subst}
+use Rattle.std.proofs.Common.{inl, inr, ◌≡◌, ℕ, ◌<◌, ◌^◌, false, List, length, Some, refl, sym, ap, ap₂, ◌∙◌, subst}
 use Rattle.std.specs.Prelude.{Bool, true, Result, Err, slice_get, ◌||◌}
 use Rattle.std.proofs.lemmas.Option.{slice_get-map}
 use Rattle.ca_program.specs.declared.program.ClassId.{ClassId}
@@ -15,10 +15,10 @@ use Rattle.ca_meaning.specs.WellTyped.{IsMethodOf}
 use Rattle.ca_forms.specs.declared.form.Normal.TheVariants.{Scalar}
 use Rattle.ca_forms.specs.Plain.{PlainPolynomial, number_form}
 use Rattle.ca_norm.specs.Terms.{PlainTerm}
-use Rattle.ca_norm.specs.Forms.{norm}
 use Rattle.ca_parallel.specs.Extents.{operation_body}
 use Rattle.ca_shared_terms.specs.Starts.{starts}
 use Rattle.ca_symbolic.specs.States.{PlainDemand}
+use Rattle.ca_symbolic.specs.Demanded.{kind_of}
 use Rattle.ca_symbolic.specs.Runs.{begins, executed}
 use Rattle.ca_symbolic.specs.declared.running.SymbolicError.{SymbolicError}
 use Rattle.ca_symbolic.specs.declared.running.SymbolicError.TheVariants as error
@@ -30,26 +30,34 @@ use Rattle.ca_verdicts.specs.declared.verdicts.Reason.TheVariants as reason
 use Rattle.ca_verdicts.specs.Keys.{Key}
 use Rattle.ca_verdicts.specs.Demands.{demanded_at}
 use Rattle.ca_verdicts.specs.Orders.{in_order, fields_at, start_of, first_order, second_order}
-use Rattle.ca_verdicts.specs.Verdicts.{CanExecute, is_large, VerdictOf}
-use Rattle.ca_verdicts.specs.clauses.Comparisons.{FieldsDiffer, TellsKey, TellsFirst, TellsSecond, TellsApart, DemandsDiffer, IsCompared}
+use Rattle.ca_verdicts.specs.Counts.{LightOrderSame, SameDemand, count_at}
+use Rattle.ca_verdicts.specs.Verdicts.{CanExecute, is_large, SameFields, VerdictOf}
+use Rattle.ca_verdicts.specs.clauses.Comparisons.{FieldsDiffer, TellsKey, TellsFirst, TellsSecond, TellsApart, DemandsDiffer, IsCompared, Not}
 
 -- what is told of a demand, from its parts
-pub told_of : (k : Key) (f g : PlainPolynomial) (ds es : List PlainDemand) (w : Reason) → f ≡ demanded_at k ds → g ≡ demanded_at k es → TellsKey k w → TellsFirst f w → TellsSecond g w → TellsApart w → DemandsDiffer ds es w
-told_of k f g ds es (reason.DemandsDiffer kind parts x y) i j e u v n =
-    (u ∙ ap (λ z. Scalar (number_form z)) (i ∙ ap (λ (z : Key). demanded_at z ds) (sym e)), v ∙ ap (λ z. Scalar (number_form z)) (j ∙ ap (λ (z : Key). demanded_at z es) (sym e)), n)
-told_of k f g ds es (reason.FieldDiffers q x y) i j e u v n = absurd e
-told_of k f g ds es (reason.NotSeparable op line why) i j e u v n = absurd e
-told_of k f g ds es (reason.LoopForm line) i j e u v n = absurd e
-told_of k f g ds es reason.Large i j e u v n = absurd e
+pub told_of : (k : Key) (f g : PlainPolynomial) (ds es : List PlainDemand) (w : Reason) → f ≡ demanded_at k ds → g ≡ demanded_at k es → TellsKey k w → TellsFirst f w → TellsSecond g w → TellsApart w →
+    Not (LightOrderSame (count_at k ds) (count_at k es)) → DemandsDiffer ds es w
+told_of k f g ds es (reason.DemandsDiffer kind parts x y) i j e u v n o =
+    let first : x ≡ Scalar (number_form (demanded_at (record { kind = kind_of kind; parts = parts }) ds)) = u ∙ ap (λ z. Scalar (number_form z)) (i ∙ ap (λ (z : Key). demanded_at z ds) (sym e)) in
+    let second : y ≡ Scalar (number_form (demanded_at (record { kind = kind_of kind; parts = parts }) es)) = v ∙ ap (λ z. Scalar (number_form z)) (j ∙ ap (λ (z : Key). demanded_at z es) (sym e)) in
+    (first, second, λ s. by first second (subst (λ (z : Key). SameDemand z ds es) e s))
+  where
+    by : x ≡ Scalar (number_form (demanded_at (record { kind = kind_of kind; parts = parts }) ds)) → y ≡ Scalar (number_form (demanded_at (record { kind = kind_of kind; parts = parts }) es)) → SameDemand k ds es → ⊥
+    by first second (inl s) = n (first ∙ ap (λ z. Scalar (number_form z)) (ap (λ (z : Key). demanded_at z ds) e ∙ s ∙ ap (λ (z : Key). demanded_at z es) (sym e)) ∙ sym second)
+    by first second (inr s) = o s
+told_of k f g ds es (reason.FieldDiffers q x y) i j e u v n o = absurd e
+told_of k f g ds es (reason.NotSeparable op line why) i j e u v n o = absurd e
+told_of k f g ds es (reason.LoopForm line) i j e u v n o = absurd e
+told_of k f g ds es reason.Large i j e u v n o = absurd e
 
-pub by_field : (c : ClassId) (ts us : List PlainTerm) (ds es : List PlainDemand) (w : Reason) → FieldsDiffer c (map norm ts) (map norm us) w → IsCompared c ts us ds es (Unproved w)
+pub by_field : (c : ClassId) (ts us : List PlainTerm) (ds es : List PlainDemand) (w : Reason) → FieldsDiffer c ts us w → IsCompared c ts us ds es (Unproved w)
 by_field c ts us ds es (reason.FieldDiffers f x y) h = h
 by_field c ts us ds es (reason.DemandsDiffer kind parts x y) h = absurd h
 by_field c ts us ds es (reason.NotSeparable op line why) h = absurd h
 by_field c ts us ds es (reason.LoopForm line) h = absurd h
 by_field c ts us ds es reason.Large h = absurd h
 
-pub by_demand : (c : ClassId) (ts us : List PlainTerm) (ds es : List PlainDemand) (w : Reason) → map norm ts ≡ map norm us → DemandsDiffer ds es w → IsCompared c ts us ds es (Unproved w)
+pub by_demand : (c : ClassId) (ts us : List PlainTerm) (ds es : List PlainDemand) (w : Reason) → SameFields ts us → DemandsDiffer ds es w → IsCompared c ts us ds es (Unproved w)
 by_demand c ts us ds es (reason.DemandsDiffer kind parts x y) e h = (e, h.0, h.1, h.2)
 by_demand c ts us ds es (reason.FieldDiffers f x y) e h = absurd h
 by_demand c ts us ds es (reason.NotSeparable op line why) e h = absurd h

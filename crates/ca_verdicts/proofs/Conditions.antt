@@ -17,7 +17,7 @@ use Rattle.ca_forms.proofs.Gathered.{products_polynomial}
 use Rattle.ca_norm.specs.Forms.{expand}
 use Rattle.ca_symbolic.specs.States.{PlainDemand}
 use Rattle.ca_verdicts.specs.Keys.{Key, key_of, key_code, key_inj, key_cmp, key_total}
-use Rattle.ca_verdicts.specs.Demands.{conditions, demanded_at, SameDemands}
+use Rattle.ca_verdicts.specs.Demands.{conditions, demanded_at, SameSums}
 
 pub keys_exact : Exact key_cmp
 keys_exact = record { order = key_total; same = λ k l e. key_inj k l (tree_exact (key_code k) (key_code l) e) }
@@ -58,7 +58,7 @@ same_collected : (k : Key) (ds es : List PlainDemand) → demanded_at k ds ≡ d
 same_collected k ds es e =
     sym (products_polynomial (collect monomial_cmp (conditions k ds))) ∙ (ap products_of e ∙ products_polynomial (collect monomial_cmp (conditions k es)))
 
-pub same_rows : (ds es : List PlainDemand) → SameDemands ds es → collect (pair_cmp key_cmp monomial_cmp) (summed (rows_of ds)) ≡ collect (pair_cmp key_cmp monomial_cmp) (summed (rows_of es))
+pub same_rows : (ds es : List PlainDemand) → SameSums ds es → collect (pair_cmp key_cmp monomial_cmp) (summed (rows_of ds)) ≡ collect (pair_cmp key_cmp monomial_cmp) (summed (rows_of es))
 unfolding SameCoefficients
 same_rows ds es h =
     collect_same (pair_cmp key_cmp monomial_cmp) (pair_exact key_cmp monomial_cmp keys_exact monomials_exact) (summed (rows_of ds)) (summed (rows_of es))

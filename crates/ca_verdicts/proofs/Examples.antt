@@ -1,7 +1,7 @@
 -- Worked examples of verdicts.
-use Rattle.std.proofs.Common.{ℕ, List, [], ◌∷◌, None, refl, codes}
+use Rattle.std.proofs.Common.{inl, inr, ◌≡◌, ℕ, pos, true, List, [], ◌∷◌, None, refl, codes, arith}
 use Rattle.ca_tree.specs.declared.tree.AssignOp.TheVariants.{Put, BitOr, BitXor}
-use Rattle.ca_tree.specs.declared.tree.BinaryOp.TheVariants.{Plus, Minus, Max, Min}
+use Rattle.ca_tree.specs.declared.tree.BinaryOp.TheVariants.{Plus, Minus, Less, Max, Min}
 use Rattle.ca_program.specs.declared.program.ClassId.{ClassId}
 use Rattle.ca_program.specs.declared.program.FieldId.{FieldId}
 use Rattle.ca_program.specs.declared.program.FieldInfo.{FieldInfo}
@@ -16,7 +16,17 @@ use Rattle.ca_forms.specs.Plain.{PlainPolynomial, PlainPart, PlainScalar, PlainS
 use Rattle.ca_symbolic.specs.declared.demand.DemandKind.TheVariants.{Invokes}
 use Rattle.ca_verdicts.specs.declared.verdicts.Verdict.TheVariants.{Commutes, Unproved}
 use Rattle.ca_verdicts.specs.declared.verdicts.Reason.TheVariants.{LoopForm, FieldDiffers, DemandsDiffer}
-use Rattle.ca_verdicts.specs.Verdicts.{VerdictOf}
+use Rattle.ca_norm.specs.Terms.{PlainTerm, number, truth, atom, fold}
+use Rattle.ca_norm.specs.Forms.{norm}
+use Rattle.ca_order.specs.OrderSame.{OrderSame}
+use Rattle.ca_order.proofs.Refuted.{apart_under}
+use Rattle.ca_symbolic.specs.States.{invokes}
+use Rattle.ca_verdicts.specs.Counts.{counted, SameDemand}
+use Rattle.ca_verdicts.specs.Orders.{first_order, second_order}
+use Rattle.ca_verdicts.specs.Verdicts.{SameField, VerdictOf}
+use Rattle.ca_verdicts.specs.MovingPairs.{a_parameter, put, IsMoving}
+use Rattle.ca_verdicts.specs.MovingPairs as pair
+use Rattle.ca_verdicts.proofs.Moving.{moving_commutes}
 
 -- class D { public: long n; D *o; bool b; void m(long p, bool q) { .. } };
 abbrev class : ClassId
@@ -57,7 +67,7 @@ abbrev hands_on : Statement
 hands_on = invoke 1 (own (field 1)) (op 2) (expression_and n (expression_and (local (record { 0 = 1 })) no_expressions))
 
 -- n = n + p; and n = p; and n = n + p; o->m(n, q); and while (b) { } and if (b) n = n + p; else n = n - p;
--- and n = max(n, p); and n = min(n, p); and n |= p; and n ^= p;
+-- and n = max(n, p); and n = min(n, p); and n |= p; and n ^= p; and if (n < p) n = p;
 abbrev program : PlainProgram
 program = record {
   classes = record { name = codes "D"; fields = fields } ∷ [];
@@ -67,7 +77,8 @@ program = record {
       operation (statement_and (while_loop 1 (own (field 2)) (block 1 no_statements)) no_statements) ∷
       operation (statement_and (if_else 1 (own (field 2)) adds (put_field 1 (field 0) Put (binary Minus n p))) no_statements) ∷
       operation (statement_and (put_field 1 (field 0) Put (binary Max n p)) no_statements) ∷ operation (statement_and (put_field 1 (field 0) Put (binary Min n p)) no_statements) ∷
-      operation (statement_and (put_field 1 (field 0) BitOr p) no_statements) ∷ operation (statement_and (put_field 1 (field 0) BitXor p) no_statements) ∷ [];
+      operation (statement_and (put_field 1 (field 0) BitOr p) no_statements) ∷ operation (statement_and (put_field 1 (field 0) BitXor p) no_statements) ∷
+      operation (statement_and (if_else 1 (binary Less n p) (put_field 1 (field 0) Put p) (block 1 no_statements)) no_statements) ∷ [];
   functions = [];
   main = record { locals = []; statements = no_statements };
 }
@@ -88,16 +99,35 @@ sum = number_form (product_and (power_and (variable Long 1 0) 1 no_powers) 1 (pr
 abbrev flag : PlainScalar
 flag = truth_form (product_and (power_and (variable Bool 1 1) 1 no_powers) 1 no_products)
 
+-- neither by forms nor by orders
+apart : (t u : PlainTerm) → (norm t ≡ norm u → ⊥) → (OrderSame t u → ⊥) → SameField t u → ⊥
+apart t u f g (inl e) = f e
+apart t u f g (inr o) = g o.same
+
 sums_commute : VerdictOf program written (op 0) (op 0) Commutes
-sums_commute = (record { can = record { separable = (((tt, (tt, tt, tt)), tt), ((tt, (tt, tt, tt)), tt)); loops = refl }; light = refl }, refl, λ k. refl)
+sums_commute = (record { can = record { separable = (((tt, (tt, tt, tt)), tt), ((tt, (tt, tt, tt)), tt)); loops = refl }; light = refl }, (inl refl, (inl refl, (inl refl, tt))), λ k. inl refl)
 
 -- the last of two puts stands
 puts_differ : VerdictOf program written (op 1) (op 1) (Unproved (FieldDiffers (field 0) (number_at 2 0) (number_at 1 0)))
 puts_differ = (
   record { can = record { separable = (((tt, tt), tt), ((tt, tt), tt)); loops = refl }; light = refl },
   refl,
-  record { before = refl; first = refl; second = refl; differ = λ e. cc },
+  record {
+    before = tt;
+    one = atom Long 2 0;
+    other = atom Long 1 0;
+    first = refl;
+    second = refl;
+    apart = apart (atom Long 2 0) (atom Long 1 0) (λ e. cc) (apart_under (atom Long 2 0) (atom Long 1 0) 1 (0 ∷ 1 ∷ []) refl (λ e. cc));
+    first_form = refl;
+    second_form = refl;
+  },
 )
+
+-- as often as never, under an order
+once_and_never : SameDemand (record { kind = invokes (op 2); parts = scalar_and peer (scalar_and sum (scalar_and flag no_scalars)) }) (first_order program (op 2) (op 2)).demands (second_order program (op 2) (op 2)).demands → ⊥
+once_and_never (inl e) = absurd cc
+once_and_never (inr o) = apart_under (counted (truth true)) (number (pos 0)) 0 [] refl (λ e. cc) o.same
 
 -- what is handed on depends on the order, though the sum doesn't: one call of m(n + p, q) in the first order, and none in the second
 calls_differ : VerdictOf program written (op 2) (op 2)
@@ -105,10 +135,10 @@ calls_differ : VerdictOf program written (op 2) (op 2)
     (Scalar (number_form (product_and no_powers 1 no_products))) (Scalar (number_form no_products))))
 calls_differ = (
   record { can = record { separable = (((tt, (tt, tt, tt)), ((tt, (tt, (tt, tt))), tt)), ((tt, (tt, tt, tt)), ((tt, (tt, (tt, tt))), tt))); loops = refl }; light = refl },
+  (inl refl, (inl refl, (inl refl, tt))),
   refl,
   refl,
-  refl,
-  λ e. cc,
+  once_and_never,
 )
 
 a_loop_of_no_calls : VerdictOf program written (op 0) (op 3) (Unproved (LoopForm 1))
@@ -116,10 +146,10 @@ a_loop_of_no_calls = ((((tt, (tt, tt, tt)), tt), ((tt, tt), tt)), refl)
 
 branches_commute : VerdictOf program written (op 4) (op 4) Commutes
 branches_commute =
-    (record { can = record { separable = (((tt, (tt, (tt, tt, tt)), (tt, (tt, tt, tt))), tt), ((tt, (tt, (tt, tt, tt)), (tt, (tt, tt, tt))), tt)); loops = refl }; light = refl }, refl, λ k. refl)
+    (record { can = record { separable = (((tt, (tt, (tt, tt, tt)), (tt, (tt, tt, tt))), tt), ((tt, (tt, (tt, tt, tt)), (tt, (tt, tt, tt))), tt)); loops = refl }; light = refl }, (inl refl, (inl refl, (inl refl, tt))), λ k. inl refl)
 
 greatest_commute : VerdictOf program written (op 5) (op 5) Commutes
-greatest_commute = (record { can = record { separable = (((tt, (tt, tt, tt)), tt), ((tt, (tt, tt, tt)), tt)); loops = refl }; light = refl }, refl, λ k. refl)
+greatest_commute = (record { can = record { separable = (((tt, (tt, tt, tt)), tt), ((tt, (tt, tt, tt)), tt)); loops = refl }; light = refl }, (inl refl, (inl refl, (inl refl, tt))), λ k. inl refl)
 
 abbrev only : ℕ → PlainPolynomial
 only group = product_and (power_and (variable Long group 0) 1 no_powers) 1 no_products
@@ -137,15 +167,58 @@ lesser_last = fold_of fold_op.Min 9223372036854775807 (two (only 2) (alone (fold
 abbrev greater_last : PlainPart
 greater_last = fold_of fold_op.Max 9223372036854775808 (two (only 1) (alone (fold_of fold_op.Min 9223372036854775807 (two (only 2) (only 3)))))
 
+abbrev lesser_term : PlainTerm
+lesser_term = fold fold_op.Min (fold fold_op.Max (atom Long 3 0) (atom Long 1 0)) (atom Long 2 0)
+
+abbrev greater_term : PlainTerm
+greater_term = fold fold_op.Max (fold fold_op.Min (atom Long 3 0) (atom Long 2 0)) (atom Long 1 0)
+
 greatest_and_least_differ : VerdictOf program written (op 5) (op 6) (Unproved (FieldDiffers (field 0) (Scalar (number_form (alone lesser_last))) (Scalar (number_form (alone greater_last)))))
 greatest_and_least_differ = (
   record { can = record { separable = (((tt, (tt, tt, tt)), tt), ((tt, (tt, tt, tt)), tt)); loops = refl }; light = refl },
   refl,
-  record { before = refl; first = refl; second = refl; differ = λ e. cc },
+  record {
+    before = tt;
+    one = lesser_term;
+    other = greater_term;
+    first = refl;
+    second = refl;
+    apart = apart lesser_term greater_term (λ e. cc) (apart_under lesser_term greater_term 4 (0 ∷ 1 ∷ 2 ∷ []) refl (λ e. cc));
+    first_form = refl;
+    second_form = refl;
+  },
 )
 
 bits_commute : VerdictOf program written (op 7) (op 7) Commutes
-bits_commute = (record { can = record { separable = (((tt, tt), tt), ((tt, tt), tt)); loops = refl }; light = refl }, refl, λ k. refl)
+bits_commute = (record { can = record { separable = (((tt, tt), tt), ((tt, tt), tt)); loops = refl }; light = refl }, (inl refl, (inl refl, (inl refl, tt))), λ k. inl refl)
 
 parities_commute : VerdictOf program written (op 8) (op 8) Commutes
-parities_commute = (record { can = record { separable = (((tt, tt), tt), ((tt, tt), tt)); loops = refl }; light = refl }, refl, λ k. refl)
+parities_commute = (record { can = record { separable = (((tt, tt), tt), ((tt, tt), tt)); loops = refl }; light = refl }, (inl refl, (inl refl, (inl refl, tt))), λ k. inl refl)
+
+-- if (n < p) n = p;
+raises : IsMoving (operation (statement_and (if_else 1 (binary Less n p) (put_field 1 (field 0) Put p) (block 1 no_statements)) no_statements)) (field 0) true
+raises = record {
+  limit = p;
+  is_limit = a_parameter (record { 0 = 0 }) (omega arith) refl;
+  strict = true;
+  condition = binary Less n p;
+  past = pair.less;
+  line = 1;
+  line_behind = 1;
+  part = put_field 1 (field 0) Put p;
+  puts = put 1;
+  body = refl;
+}
+
+raised_commute : VerdictOf program written (op 9) (op 9) Commutes
+raised_commute = moving_commutes program written (op 9) (op 9) (record {
+  first = _;
+  second = _;
+  first_is = refl;
+  second_is = refl;
+  field = field 0;
+  is_long = (refl, refl);
+  up = true;
+  first_moves = raises;
+  second_moves = raises;
+})

@@ -6,6 +6,12 @@ pub mod Unique
 pub mod Looks
 pub mod Conditions
 pub mod MetDemands
+pub mod Meeting
+pub mod FormsSame
+pub mod OneByOne
+pub mod Counting
+pub mod Moving
+pub mod MovingVerdict
 pub mod Multisets
 pub mod Orders
 pub mod Sorts

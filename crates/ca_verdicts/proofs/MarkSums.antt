@@ -1,5 +1,5 @@
 -- Marks, and the sums of conditions that they name.
-use Rattle.std.proofs.Common.{◌≡◌, ℕ, suc, ◌+◌, ◌*◌, ◌%◌, ◌^◌, Bool, true, false, List, [], ◌∷◌, ◌++◌, map, Option, Some, None, refl, sym, ap, ap₂, ◌∙◌, arith, subst, cond, is_eq, append_assoc, append-nil, Ordering, Less, Equal, Greater}
+use Rattle.std.proofs.Common.{inl, inr, ◌≡◌, ℕ, suc, ◌+◌, ◌*◌, ◌%◌, ◌^◌, Bool, true, false, List, [], ◌∷◌, ◌++◌, map, Option, Some, None, refl, sym, ap, ap₂, ◌∙◌, arith, subst, cond, is_eq, append_assoc, append-nil, Ordering, Less, Equal, Greater}
 use Rattle.std.specs.Prelude.{slice_get, if◌then◌else◌}
 use Rattle.std.specs.List.{AllByRecursion}
 use Rattle.std.specs.List.Sorted.{IsStrictlySortedBy}
@@ -26,8 +26,9 @@ use Rattle.ca_symbolic.specs.States.{PlainDemand}
 use Rattle.ca_symbolic.specs.Demanded.{demand_of, demands_of}
 use Rattle.ca_verdicts.specs.declared.marks.Marks.{Marks}
 use Rattle.ca_verdicts.specs.Keys.{Key, key_of, key_cmp, key_total}
-use Rattle.ca_verdicts.specs.Demands.{conditions, demanded_at, SameDemands}
-use Rattle.ca_verdicts.specs.clauses.Marks.{key_at, mark_if, marks_of, marks_in, same_side, marks_at, found, if_side, products_at, summed_up, condition_of, IsSettled, AreSettled, EachMarked}
+use Rattle.ca_verdicts.specs.Demands.{conditions, demanded_at}
+use Rattle.ca_verdicts.specs.Counts.{SameDemand, SameDemands}
+use Rattle.ca_verdicts.specs.clauses.Marks.{key_at, mark_if, marks_of, marks_in, same_side, marks_at, found, if_side, products_at, summed_up, condition_of, IsSame, AreSame, EachMarked}
 use Rattle.ca_verdicts.proofs.Conditions.{keys_exact}
 
 -- Sums of the same totals
@@ -170,32 +171,40 @@ pub each_last : (ones twos : List Group) (es : List (Key × Marks)) (e : Key × 
 each_last ones twos [] e h = (h.0, h.1)
 each_last ones twos (x ∷ es) e h = each_last ones twos es e h.2
 
-pub settled_more : (fs gs : List PlainPolynomial) (es : List (Key × Marks)) (e : Key × Marks) → AreSettled fs gs es → IsSettled fs gs e.1 → AreSettled fs gs (es ++ e ∷ [])
-settled_more fs gs [] e h s = (s, tt)
-settled_more fs gs (x ∷ es) e h s = (h.0, settled_more fs gs es e h.1 s)
+pub same_more : (ones twos : List Group) (es : List (Key × Marks)) (e : Key × Marks) → AreSame ones twos es → IsSame ones twos e → AreSame ones twos (es ++ e ∷ [])
+same_more ones twos [] e h s = (s, tt)
+same_more ones twos (x ∷ es) e h s = (h.0, same_more ones twos es e h.1 s)
 
-settled_found : (fs gs : List PlainPolynomial) (es : List (Key × Marks)) (k : Key) (m : Marks) → AreSettled fs gs es → found es k ≡ Some m → IsSettled fs gs m
-settled_found fs gs [] k m h e = absurd cc
-settled_found fs gs (x ∷ es) k m h e = at (is_at (key_cmp k) x.0) e (settled_found fs gs es k m h.1)
+-- the entry that is found under a key has the key
+same_found : (ones twos : List Group) (es : List (Key × Marks)) (k : Key) (m : Marks) → AreSame ones twos es → found es k ≡ Some m → IsSame ones twos (k, m)
+same_found ones twos [] k m h e = absurd cc
+same_found ones twos (x ∷ es) k m h e = at (is_at (key_cmp k) x.0) refl e (same_found ones twos es k m h.1)
   where
-    at : (b : Bool) → cond b (Some x.1) (found es k) ≡ Some m → (found es k ≡ Some m → IsSettled fs gs m) → IsSettled fs gs m
-    at true i r = let same : x.1 ≡ m = cc in subst (λ z. IsSettled fs gs z) same h.0
-    at false i r = r i
+    at : (b : Bool) → is_at (key_cmp k) x.0 ≡ b → cond b (Some x.1) (found es k) ≡ Some m → (found es k ≡ Some m → IsSame ones twos (k, m)) → IsSame ones twos (k, m)
+    at true f i r =
+        let own : k ≡ x.0 = keys_exact.same k x.0 (tie_of (key_cmp k x.0) f) in
+        let same : x.1 ≡ m = cc in
+        subst (λ z. IsSame ones twos (k, z)) same (subst (λ (z : Key). IsSame ones twos (z, x.1)) (sym own) h.0)
+    at false f i r = r i
 
--- where all are settled, the same is demanded at each key
-pub all_settled : (ones twos : List Group) (es : List (Key × Marks)) →
+-- where all are the same, the same is demanded at each key
+pub all_same : (ones twos : List Group) (es : List (Key × Marks)) →
     ((k : Key) → SameTotals (marks_at side.First (found es k)) (marks_in k 0 ones)) → ((k : Key) → SameTotals (marks_at side.Second (found es k)) (marks_in k 0 twos)) →
-    AreSettled (map condition_of ones) (map condition_of twos) es → SameDemands (demands_of ones) (demands_of twos)
-all_settled ones twos es h i s = λ k. at k (found es k) refl
+    AreSame ones twos es → SameDemands (demands_of ones) (demands_of twos)
+all_same ones twos es h i s = λ k. at k (found es k) refl
   where
-    settled : (k : Key) (o : Option Marks) → found es k ≡ o → gathered (summed_up (map condition_of ones) (marks_at side.First o)) ≡ gathered (summed_up (map condition_of twos) (marks_at side.Second o))
-    settled k None e = refl
-    settled k (Some m) e = settled_found (map condition_of ones) (map condition_of twos) es k m s e
-
-    at : (k : Key) (o : Option Marks) → found es k ≡ o → demanded_at k (demands_of ones) ≡ demanded_at k (demands_of twos)
-    at k o e =
+    summed : (k : Key) (o : Option Marks) → found es k ≡ o → gathered (summed_up (map condition_of ones) (marks_at side.First o)) ≡ gathered (summed_up (map condition_of twos) (marks_at side.Second o)) → demanded_at k (demands_of ones) ≡ demanded_at k (demands_of twos)
+    summed k o e z =
         sym (demanded_is ones k (marks_at side.First o) (subst (λ z. SameTotals (marks_at side.First z) (marks_in k 0 ones)) e (h k)))
-        ∙ (settled k o e ∙ demanded_is twos k (marks_at side.Second o) (subst (λ z. SameTotals (marks_at side.Second z) (marks_in k 0 twos)) e (i k)))
+        ∙ (z ∙ demanded_is twos k (marks_at side.Second o) (subst (λ z. SameTotals (marks_at side.Second z) (marks_in k 0 twos)) e (i k)))
+
+    one : (k : Key) (m : Marks) → found es k ≡ Some m → IsSame ones twos (k, m) → SameDemand k (demands_of ones) (demands_of twos)
+    one k m e (inl z) = inl (summed k (Some m) e z)
+    one k m e (inr z) = inr z
+
+    at : (k : Key) (o : Option Marks) → found es k ≡ o → SameDemand k (demands_of ones) (demands_of twos)
+    at k None e = inl (summed k None e refl)
+    at k (Some m) e = one k m e (same_found ones twos es k m s e)
 
 -- an entry of a table in order is found under its key
 less_untied : (o : Ordering) → o ≡ Less → is_eq o ≡ false

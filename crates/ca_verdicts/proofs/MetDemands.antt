@@ -21,7 +21,7 @@ use Rattle.ca_norm.proofs.Operations.{IsTruth}
 use Rattle.ca_norm.proofs.Values.{typed, expand_means, means}
 use Rattle.ca_symbolic.specs.States.{PlainDemand}
 use Rattle.ca_verdicts.specs.Keys.{Key, key_cmp}
-use Rattle.ca_verdicts.specs.Demands.{SameDemands}
+use Rattle.ca_verdicts.specs.Demands.{SameSums}
 use Rattle.ca_verdicts.proofs.Looks.{Met, met_if, met}
 use Rattle.ca_verdicts.proofs.Conditions.{keys_exact, row_of, rows_of, same_rows}
 
@@ -115,7 +115,7 @@ module _ (v : Valuation) where
   few_rows : (ds : List PlainDemand) → length ds < 2 ^ 64 → small (rows_of ds)
   few_rows ds l = omega (arith, l, length-map ds row_of)
 
-  pub met_same : (ds es : List PlainDemand) → DemandsSorted ds → DemandsSorted es → length ds < 2 ^ 64 → length es < 2 ^ 64 → SameDemands ds es → SameItems (met v ds) (met v es)
+  pub met_same : (ds es : List PlainDemand) → DemandsSorted ds → DemandsSorted es → length ds < 2 ^ 64 → length es < 2 ^ 64 → SameSums ds es → SameItems (met v ds) (met v es)
   met_same ds es s u k l h = same_items (met v ds) (met v es) (record {
     same = λ test.
         met_counts test ds s

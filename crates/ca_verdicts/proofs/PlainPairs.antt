@@ -19,10 +19,11 @@ use Rattle.ca_verdicts.specs.declared.verdicts.Verdict.{Verdict}
 use Rattle.ca_verdicts.specs.declared.verdicts.Verdict.TheVariants.{Commutes, Unproved}
 use Rattle.ca_verdicts.specs.declared.verdicts.Reason.TheVariants.{NotSeparable, LoopForm, Large, FieldDiffers, DemandsDiffer}
 use Rattle.ca_verdicts.specs.Keys.{Key}
-use Rattle.ca_verdicts.specs.Demands.{conditions, demanded_at, SameDemands}
+use Rattle.ca_verdicts.specs.Demands.{conditions, demanded_at, SameSums}
 use Rattle.ca_verdicts.specs.Orders.{fields_at, start_of, first_order, second_order}
 use Rattle.ca_verdicts.specs.Verdicts.{VerdictOf}
 use Rattle.ca_verdicts.specs.Laws.{SameVerdict}
+use Rattle.ca_verdicts.proofs.FormsSame.{none_lost}
 use Rattle.ca_verdicts.proofs.MarkSums.{conditions_append}
 use Rattle.ca_verdicts.proofs.Unique.{same_verdict}
 
@@ -45,19 +46,20 @@ plain_commutes p written a b h =
     let none = plain_pairs_have_no_loops p written a b h in
     let first : (first_order p a b).heavy ≡ false = ap₂ (λ x y. x || y) light.0.first light.0.second in
     let second : (second_order p a b).heavy ≡ false = ap₂ (λ x y. x || y) light.1.first light.1.second in
-    let demands : SameDemands (first_order p a b).demands (second_order p a b).demands =
+    let demands : SameSums (first_order p a b).demands (second_order p a b).demands =
     λ k. ap (λ es. demanded_at k (demanded_by p a 1 (start_of p a) ++ es)) same.second_demands
     ∙ demands_flip k (demanded_by p a 1 (start_of p a)) (demanded_by p b 2 (start_of p a))
-    ∙ ap (λ es. demanded_at k (demanded_by p b 2 (start_of p a) ++ es)) (sym same.first_demands) in (
-      record {
+    ∙ ap (λ es. demanded_at k (demanded_by p b 2 (start_of p a) ++ es)) (sym same.first_demands) in
+    none_lost p written a b (record {
+      light = record {
         can = record { separable = plain_pairs_are_separable p written a b h; loops = ap₂ option_or none.0 none.1 };
         light = ap₂ (λ x y. x || y) first second;
-      },
-      same.forms,
-      demands,
-    )
+      };
+      fields = same.forms;
+      demands = demands;
+    })
 
-only_commutes : (v : Verdict) → SameVerdict v Commutes → v ≡ Commutes
+pub only_commutes : (v : Verdict) → SameVerdict v Commutes → v ≡ Commutes
 only_commutes Commutes e = e
 only_commutes (Unproved (NotSeparable x y z)) e = e
 only_commutes (Unproved (LoopForm x)) e = e

@@ -19,6 +19,6 @@ conditions k (d ∷ ds) = (if is_eq (key_cmp k (key_of d)) then expand d.guard e
 abbrev pub demanded_at : Key → List PlainDemand → PlainPolynomial
 demanded_at k ds = gathered (conditions k ds)
 
--- the same is demanded at each key
-abbrev pub SameDemands : List PlainDemand → List PlainDemand → Type 0
-SameDemands ds es = (k : Key) → demanded_at k ds ≡ demanded_at k es
+-- the sums at each key have one form
+abbrev pub SameSums : List PlainDemand → List PlainDemand → Type 0
+SameSums ds es = (k : Key) → demanded_at k ds ≡ demanded_at k es

@@ -1,7 +1,9 @@
 pub mod Keys
 pub mod Demands
+pub mod Counts
 pub mod Orders
 pub mod Verdicts
 pub mod Analysed
+pub mod MovingPairs
 pub mod Laws
 pub mod clauses

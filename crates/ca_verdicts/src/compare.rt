@@ -1,90 +1,36 @@
 //! From what both orders leave and demand to a verdict: `IsCompared` of `specs/clauses/Comparisons.antt`, for `VerdictOf`
 //! of `specs/Verdicts.antt`.
 
-ghost use Rattle.std.specs.Prelude.{◌≡◌, ◌≢◌, List, length, map, IsTrue, IfOk, OnOk, IfSome, IfNone};
-ghost use Rattle.ca_norm.specs.Forms.{norm};
+ghost use Rattle.std.specs.Prelude.{◌≡◌, ◌≢◌, ◌⊎◌, List, length, map, IsTrue, IfOk, OnOk, IfSome, IfNone};
+ghost use Rattle.ca_forms.specs.Plain.{number_form};
 ghost use Rattle.ca_symbolic.specs.Demanded.{demands_of};
 ghost use Rattle.ca_forms.specs.Rules.{gathered};
 ghost use Rattle.ca_forms.specs.Plain.{PlainPolynomial};
-ghost use Rattle.ca_verdicts.specs.clauses.Comparisons.{FieldsDiffer, TellsKey, TellsFirst, TellsSecond, TellsApart, DemandsDiffer, IsCompared};
-ghost use Rattle.ca_verdicts.specs.Demands.{SameDemands};
+ghost use Rattle.ca_verdicts.specs.clauses.Comparisons.{TellsKey, TellsFirst, TellsSecond, TellsApart, DemandsDiffer, IsCompared, Not};
+ghost use Rattle.ca_verdicts.specs.Counts.{count_at, LightOrderSame, SameDemands};
 ghost use Rattle.ca_verdicts.specs.Keys.{Key};
 ghost use Rattle.ca_verdicts.specs.clauses.Marks.{found, marks_at, marks_in, summed_up, condition_of, IsSettled, AllSettled, EachMarked};
 ghost use Rattle.ca_sums.proofs.Products.{SameTotals};
 ghost use Rattle.ca_symbolic.specs.declared.running.Side.TheVariants as side;
 
+use crate::compare::counts::counts_same;
+use crate::compare::fields::{fields_differ, unless_same};
 pub use crate::compare::orders::{Order, run_order};
 use crate::key::Key;
 use crate::marks::{Marks, mark_groups};
+use crate::sums::difference;
 use crate::sums::forms::LastForms;
-use crate::sums::{difference, unless};
 use crate::verdicts::{Reason, Verdict};
-use ca_forms::parts::both;
-use ca_forms::polynomial::Scalars;
-use ca_norm::{Normal, same};
-use ca_program::{ClassId, FieldId};
-use ca_shared_terms::{Conditions, LightTerm};
+use ca_forms::polynomial::{Scalar, Scalars};
+use ca_norm::Normal;
+use ca_program::ClassId;
 use ca_symbolic::{Group, Side};
 use std::alloc::{AllocError, Global};
 use std::collections::{BTreeMap, BTreeSet};
 
+mod counts;
+mod fields;
 mod orders;
-
-/// The forms of two terms, where these differ. Of terms that are seen to be one no form is made.
-fn forms_apart(
-    alloc: Global,
-    conditions: &mut Conditions,
-    first: &LightTerm,
-    second: &LightTerm,
-) -> Result<Option<(Normal, Normal)>, AllocError>
-    ensures first { IfOk result (λ r. IfSome r (λ p. p.0 ≡ norm first.now)) }
-    ensures second { IfOk result (λ r. IfSome r (λ p. p.1 ≡ norm second.now)) }
-    ensures differ { IfOk result (λ r. IfSome r (λ p. p.0 ≢ p.1)) }
-    ensures same { IfOk result (λ r. IfNone r (norm first.now ≡ norm second.now)) }
-{
-    if first.is_same(second) {
-        return Ok(None);
-    }
-    let one = first.normal_under(alloc, conditions);
-    let (one, other) = both(one, second.normal_under(alloc, conditions))?;
-    let alike = same(&one, &other);
-    Ok(unless(alike, one, other))
-}
-
-/// The first field whose normal forms after the two orders differ.
-fn fields_differ(
-    alloc: Global,
-    class: ClassId,
-    first: &[LightTerm],
-    second: &[LightTerm],
-) -> Result<Option<Reason>, AllocError>
-    requires equal { length first.now ≡ length second.now }
-    ensures differ { IfOk result (λ r. IfSome r (λ w. FieldsDiffer class (map norm first.now) (map norm second.now) w)) }
-    ensures same { IfOk result (λ r. IfNone r (map norm first.now ≡ map norm second.now)) }
-{
-    let mut conditions = Conditions::new(alloc);
-    for place in 0..first.len() {
-        let Ok(number) = u32::try_from(place) else {
-            return Err(AllocError);
-        };
-        let forms = forms_apart(alloc, &mut conditions, &first[place], &second[place])?;
-        match forms {
-            Some((one, other)) => {
-                let field = FieldId {
-                    class,
-                    field: number,
-                };
-                return Ok(Some(Reason::FieldDiffers {
-                    field,
-                    first: one,
-                    second: other,
-                }));
-            }
-            None => {}
-        }
-    }
-    Ok(None)
-}
 
 /// What the two orders demand, under its keys.
 fn table_of(
@@ -114,34 +60,20 @@ struct Known {
     forms: LastForms,
 }
 
-/// What is demanded under a key, where the sums of its conditions in the two orders differ.
-fn demand_differs(
-    alloc: Global,
-    first: &[Group],
-    second: &[Group],
-    turn: usize,
-    forms: &mut LastForms,
-    key: Key,
-    marks: &Marks,
-) -> Result<Option<Reason>, AllocError>
-    ensures key { IfOk result (λ r. IfSome r (TellsKey key)) }
-    ensures first { IfOk result (λ r. IfSome r (TellsFirst (gathered (summed_up (map condition_of first.now) marks.now.first.items)))) }
-    ensures second { IfOk result (λ r. IfSome r (TellsSecond (gathered (summed_up (map condition_of second.now) marks.now.second.items)))) }
-    ensures differ { IfOk result (λ r. IfSome r TellsApart) }
-    ensures same { IfOk result (λ r. IfNone r (IsSettled (map condition_of first.now) (map condition_of second.now) marks.now)) }
+/// What is told of a key whose sums differ.
+fn demand_apart(key: Key, sums: (Scalar, Scalar)) -> Reason
+    ensures key { TellsKey key result }
+    ensures first { (f : PlainPolynomial) → sums.0 ≡ number_form f → TellsFirst f result }
+    ensures second { (f : PlainPolynomial) → sums.1 ≡ number_form f → TellsSecond f result }
+    ensures differ { sums.0 ≢ sums.1 → TellsApart result }
 {
-    let sums = difference(alloc, first, second, turn, forms, marks)?;
-    match sums {
-        None => Ok(None),
-        Some((one, other)) => {
-            let Key { kind, parts } = key;
-            Ok(Some(Reason::DemandsDiffer {
-                kind,
-                parts: Scalars::of(parts),
-                first: Normal::Scalar(one),
-                second: Normal::Scalar(other),
-            }))
-        }
+    let Key { kind, parts } = key;
+    let (one, other) = sums;
+    Reason::DemandsDiffer {
+        kind,
+        parts: Scalars::of(parts),
+        first: Normal::Scalar(one),
+        second: Normal::Scalar(other),
     }
 }
 
@@ -159,7 +91,8 @@ fn settle(settled: &mut BTreeSet<Marks>, marks: Marks) -> Result<(), AllocError>
     Ok(())
 }
 
-/// As `demand_differs`; what is settled is kept, so that the same marks are not looked at for each demand.
+/// What is demanded under a key, where the sums of its conditions in the two orders differ, and how often it is demanded
+/// differs under an order of the points. What is settled is kept, so that the same marks are not looked at for each demand.
 fn demand_tested(
     alloc: Global,
     first: &[Group],
@@ -173,15 +106,19 @@ fn demand_tested(
     ensures first { IfOk result (λ r. IfSome r (TellsFirst (gathered (summed_up (map condition_of first.now) marks.first.items)))) }
     ensures second { IfOk result (λ r. IfSome r (TellsSecond (gathered (summed_up (map condition_of second.now) marks.second.items)))) }
     ensures differ { IfOk result (λ r. IfSome r TellsApart) }
-    ensures same { IfOk result (λ r. IfNone r (AllSettled (map condition_of first.now) (map condition_of second.now) known.old.settled.keys → IsSettled (map condition_of first.now) (map condition_of second.now) marks)) }
+    ensures orders { IfOk result (λ r. IfSome r (λ _. Not (LightOrderSame (count_at key (demands_of first.now)) (count_at key (demands_of second.now))))) }
+    ensures same { IfOk result (λ r. IfNone r (AllSettled (map condition_of first.now) (map condition_of second.now) known.old.settled.keys → IsSettled (map condition_of first.now) (map condition_of second.now) marks ⊎ LightOrderSame (count_at key (demands_of first.now)) (count_at key (demands_of second.now)))) }
     ensures kept { IfOk result (λ r. IfNone r (AllSettled (map condition_of first.now) (map condition_of second.now) known.old.settled.keys → AllSettled (map condition_of first.now) (map condition_of second.now) known.new.settled.keys)) }
 {
     if is_settled(&known.settled, &marks) {
         return Ok(None);
     }
-    let told = demand_differs(alloc, first, second, turn, &mut known.forms, key, &marks)?;
-    match told {
-        Some(reason) => Ok(Some(reason)),
+    let sums = difference(alloc, first, second, turn, &mut known.forms, &marks)?;
+    match sums {
+        Some(sums) => {
+            let same = counts_same(alloc, &mut known.forms, first, second, &key);
+            unless_same(demand_apart(key, sums), same)
+        }
         None => {
             settle(&mut known.settled, marks)?;
             Ok(None)
@@ -189,7 +126,8 @@ fn demand_tested(
     }
 }
 
-/// What the two orders demand under different conditions, with the two sums of these; `turn` is as `Order` has it of the
+/// What the two orders demand under different conditions, with the two sums of these, where it isn't as often under each
+/// order of the points; `turn` is as `Order` has it of the
 /// second one.
 fn demands_differ(
     alloc: Global,

@@ -99,6 +99,13 @@ impl Key {
         })
     }
 
+    /// Whether they are one.
+    pub fn is(&self, other: &Key) -> bool
+        ensures { result ≡ is_eq (key_cmp self.now other.now) }
+    {
+        self.compare(other).is_eq()
+    }
+
     /// By the kind, and then by the forms.
     fn compare(&self, other: &Key) -> Ordering
         ensures { result ≡ key_cmp self.now other.now }

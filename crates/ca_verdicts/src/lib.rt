@@ -2,17 +2,18 @@
 //!
 //! `specs/Verdicts.antt` says which verdict a pair has: the first reason why it isn't shown to commute, or that it
 //! does. Both operations are executed symbolically in both orders (`specs/Orders.antt`), and what the fields hold in
-//! the end and what the orders demand (`specs/Demands.antt`) is compared by normal forms. `compare` runs the orders
-//! and compares them, `marks` sorts demands by what is demanded, and `sums` sums up the conditions under which.
+//! the end and what the orders demand (`specs/Demands.antt`) is compared by normal forms, and where these differ under each
+//! order of the points (`specs/Counts.antt`, `ca_order`). `compare` runs the orders and compares them, `marks` sorts demands by
+//! what is demanded, and `sums` sums up the conditions under which.
 //!
 //! Of the extent a verdict asks only whether both are separable in it. So who asks for many extents asks `offence` in each,
 //! which executes nothing, and `verdict_where_separable` once.
 //!
 //! `verdict` promises that verdict exactly; that two operations which it calls commuting do commute, for every receiver and all
-//! arguments; and that a plain pair is always called so.
+//! arguments; and that a plain pair, and a pair that raises one field or lowers it, is always called so.
 //!
-//! Whoever reads the public clauses must believe `Analysed`, `Demands`, `Keys`, `Laws`, `Orders` and `Verdicts` of
-//! `specs/`; what stands in `specs/clauses/` serves clauses within the crate alone.
+//! Whoever reads the public clauses must believe `Analysed`, `Counts`, `Demands`, `Keys`, `Laws`, `MovingPairs`, `Orders` and
+//! `Verdicts` of `specs/`; what stands in `specs/clauses/` serves clauses within the crate alone.
 #![tactic(auto)]
 
 mod compare;
@@ -34,6 +35,7 @@ ghost use Rattle.ca_symbolic.specs.declared.running.SymbolicError.TheVariants.{L
 ghost use Rattle.ca_verdicts.specs.Analysed.{Analysed};
 ghost use Rattle.ca_verdicts.specs.declared.verdicts.Verdict.TheVariants.{Commutes};
 ghost use Rattle.ca_verdicts.specs.Orders.{first_order, second_order};
+ghost use Rattle.ca_verdicts.specs.MovingPairs.{IsMovingPair};
 ghost use Rattle.ca_verdicts.specs.Verdicts.{BothSeparable, loop_of_both, CanExecute, is_large, OffenceTold, VerdictOf};
 
 use crate::compare::{compare_orders, run_order};
@@ -132,7 +134,8 @@ pub fn verdict_where_separable(
 }
 
 /// The verdict on two operations in an extent: the first reason why they aren't shown to commute, or Commutes. Two
-/// operations with the verdict Commutes do commute, for every receiver and all arguments, and a plain pair has it always.
+/// operations with the verdict Commutes do commute, for every receiver and all arguments, and a plain pair has it always, as
+/// has one that raises one field or lowers it.
 pub fn verdict(
     alloc: Global,
     program: &Program,
@@ -145,6 +148,7 @@ pub fn verdict(
     ensures exact { IfOk result (λ v. VerdictOf (program_view program.now) extent.now.written a b v) }
     ensures sound { Analysed (program_view program.now) extent.now a b → IfOk result (λ v. v ≡ Commutes → DoCommute (program_view program.now) extent.now.written a b) }
     ensures plain { IsPlainPair (program_view program.now) extent.now.written a b → IfOk result (λ v. v ≡ Commutes) }
+    ensures moving { IsMovingPair (program_view program.now) a b → IfOk result (λ v. v ≡ Commutes) }
 {
     let readers = Readers::of(alloc, program, extent)?;
     match offence(&readers, program, extent, a, b) {

@@ -6,12 +6,13 @@ use Rattle.ca_verdicts.specs.declared.verdicts.Verdict.TheVariants.{Unproved}
 use Rattle.ca_verdicts.specs.Verdicts.{VerdictOf}
 use Rattle.ca_verdicts.proofs.Offending.{told_verdict, not_commutes}
 use Rattle.ca_verdicts.proofs.PlainPairs.{plain_verdict}
+use Rattle.ca_verdicts.proofs.MovingVerdict.{moving_verdict}
 use Rattle.ca_verdicts.proofs.verdict.Goals as goal
 
 pub returns-in_err-readers : goal.returns-in_err-readers
 returns-in_err-readers c =
     let p = err_from_is_err_and c.from_residual.result c.from_residual.ensures.1 in
-    record { exact = rw p.1 tt; sound = λ q. rw p.1 tt; plain = λ q. rw p.1 tt }
+    record { exact = rw p.1 tt; sound = λ q. rw p.1 tt; plain = λ q. rw p.1 tt; moving = λ q. rw p.1 tt }
 
 pub returns-in-Some : goal.returns-in-Some
 returns-in-Some c =
@@ -22,6 +23,7 @@ returns-in-Some c =
       exact = is;
       sound = λ q same. absurd (not_commutes c.in-Some.reason same);
       plain = λ q. plain_verdict {E = Memory} p written c.args.a c.args.b q (Ok (Unproved c.in-Some.reason)) is;
+      moving = λ q. moving_verdict {E = Memory} p written c.args.a c.args.b q (Ok (Unproved c.in-Some.reason)) is;
     }
 
 pub returns : goal.returns
@@ -34,4 +36,5 @@ returns c =
       exact = exact;
       sound = λ q. c.verdict_where_separable.ensures.sound c.args.extent.now q separable;
       plain = λ q. plain_verdict p written c.args.a c.args.b q c.verdict_where_separable.result exact;
+      moving = λ q. moving_verdict p written c.args.a c.args.b q c.verdict_where_separable.result exact;
     }

@@ -1,25 +1,27 @@
 -- What the comparison of two orders tells.
-use Rattle.std.specs.Prelude.{◌≡◌, ◌≢◌, List, map}
+use Rattle.std.specs.Prelude.{◌≡◌, ◌≢◌, List}
 use Rattle.ca_program.specs.declared.program.ClassId.{ClassId}
-use Rattle.ca_forms.specs.declared.form.Normal.{Normal}
 use Rattle.ca_forms.specs.declared.form.Normal.TheVariants.{Scalar}
 use Rattle.ca_forms.specs.Plain.{PlainPolynomial, number_form}
 use Rattle.ca_norm.specs.Terms.{PlainTerm}
-use Rattle.ca_norm.specs.Forms.{norm}
 use Rattle.ca_symbolic.specs.Demanded.{kind_of}
 use Rattle.ca_symbolic.specs.States.{PlainDemand}
-use Rattle.ca_shared_terms.specs.Comparisons.{FirstDifference}
 use Rattle.ca_verdicts.specs.declared.verdicts.Reason.{Reason}
 use Rattle.ca_verdicts.specs.declared.verdicts.Reason.TheVariants as reason
 use Rattle.ca_verdicts.specs.declared.verdicts.Verdict.{Verdict}
 use Rattle.ca_verdicts.specs.declared.verdicts.Verdict.TheVariants.{Commutes, Unproved}
 use Rattle.ca_verdicts.specs.Keys.{Key}
-use Rattle.ca_verdicts.specs.Demands.{demanded_at, SameDemands}
+use Rattle.ca_verdicts.specs.Demands.{demanded_at}
+use Rattle.ca_verdicts.specs.Counts.{SameDemand, SameDemands}
+use Rattle.ca_verdicts.specs.Verdicts.{SameFields, FirstApart}
 
--- the first field of the class at which two lists of forms differ
-abbrev pub FieldsDiffer : ClassId → List Normal → List Normal → Reason → Type 0
-FieldsDiffer c xs ys (reason.FieldDiffers f x y) = (f.class ≡ c) × FirstDifference xs ys f.field x y
-FieldsDiffer c xs ys other = ⊥
+abbrev pub Not : Type 0 → Type 0
+Not P = P → ⊥
+
+-- the first field of the class at which two lists of terms are not the same
+abbrev pub FieldsDiffer : ClassId → List PlainTerm → List PlainTerm → Reason → Type 0
+FieldsDiffer c ts us (reason.FieldDiffers f x y) = (f.class ≡ c) × FirstApart ts us f.field x y
+FieldsDiffer c ts us other = ⊥
 
 -- The parts of what is told of a demand: its key, the two sums, and that they differ.
 abbrev pub TellsKey : Key → Reason → Type 0
@@ -38,19 +40,20 @@ abbrev pub TellsApart : Reason → Type 0
 TellsApart (reason.DemandsDiffer kind parts x y) = x ≢ y
 TellsApart other = ⊥
 
--- a key at which the conditions of two lists of demands have different sums
+-- a key under which two lists of demands don't demand the same, with the sums of both
 abbrev pub DemandsDiffer : List PlainDemand → List PlainDemand → Reason → Type 0
 DemandsDiffer ds es (reason.DemandsDiffer kind parts x y) =
     (x ≡ Scalar (number_form (demanded_at (record { kind = kind_of kind; parts = parts }) ds))) ×
-    (y ≡ Scalar (number_form (demanded_at (record { kind = kind_of kind; parts = parts }) es))) × (x ≢ y)
+    (y ≡ Scalar (number_form (demanded_at (record { kind = kind_of kind; parts = parts }) es))) ×
+    Not (SameDemand (record { kind = kind_of kind; parts = parts }) ds es)
 DemandsDiffer ds es other = ⊥
 
 -- what is said of two orders whose fields end in the terms ts and us, and which demand ds and es
 abbrev pub IsCompared : ClassId → List PlainTerm → List PlainTerm → List PlainDemand → List PlainDemand → Verdict → Type 0
-IsCompared c ts us ds es (Unproved (reason.FieldDiffers f x y)) = (f.class ≡ c) × FirstDifference (map norm ts) (map norm us) f.field x y
+IsCompared c ts us ds es (Unproved (reason.FieldDiffers f x y)) = (f.class ≡ c) × FirstApart ts us f.field x y
 IsCompared c ts us ds es (Unproved (reason.DemandsDiffer kind parts x y)) =
-    (map norm ts ≡ map norm us) ×
-    (x ≡ Scalar (number_form (demanded_at (record { kind = kind_of kind; parts = parts }) ds))) ×
-    (y ≡ Scalar (number_form (demanded_at (record { kind = kind_of kind; parts = parts }) es))) × (x ≢ y)
-IsCompared c ts us ds es Commutes = (map norm ts ≡ map norm us) × SameDemands ds es
+    SameFields ts us × (x ≡ Scalar (number_form (demanded_at (record { kind = kind_of kind; parts = parts }) ds))) ×
+    (y ≡ Scalar (number_form (demanded_at (record { kind = kind_of kind; parts = parts }) es))) ×
+    Not (SameDemand (record { kind = kind_of kind; parts = parts }) ds es)
+IsCompared c ts us ds es Commutes = SameFields ts us × SameDemands ds es
 IsCompared c ts us ds es other = ⊥

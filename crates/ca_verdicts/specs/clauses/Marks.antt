@@ -1,5 +1,5 @@
 -- Demands as marks under their keys: for each demand the number of its condition.
-use Rattle.std.specs.Prelude.{◌≡◌, ℕ, ◌+◌, Bool, true, false, cond, List, [], ◌∷◌, ◌++◌, Option, Some, None, slice_get}
+use Rattle.std.specs.Prelude.{◌≡◌, ◌⊎◌, ℕ, ◌+◌, map, Bool, true, false, cond, List, [], ◌∷◌, ◌++◌, Option, Some, None, slice_get}
 use Rattle.std.specs.Ordering.{is_eq}
 use Rattle.std.specs.Map.{lookup}
 use Rattle.std.specs.BTreeMap.{is_at}
@@ -14,9 +14,10 @@ use Rattle.ca_symbolic.specs.declared.demand.Demand.{Demand}
 use Rattle.ca_symbolic.specs.declared.demand.Group.{Group}
 use Rattle.ca_symbolic.specs.declared.running.Side.{Side}
 use Rattle.ca_symbolic.specs.declared.running.Side.TheVariants as side
-use Rattle.ca_symbolic.specs.Demanded.{kind_of}
+use Rattle.ca_symbolic.specs.Demanded.{kind_of, demands_of}
 use Rattle.ca_verdicts.specs.declared.marks.Marks.{Marks}
 use Rattle.ca_verdicts.specs.Keys.{Key, key_cmp}
+use Rattle.ca_verdicts.specs.Counts.{LightOrderSame, count_at}
 
 -- the key of a demand
 abbrev pub key_at : Demand → Key
@@ -77,9 +78,13 @@ condition_of g = gathered (expand g.guard)
 abbrev pub IsSettled : List PlainPolynomial → List PlainPolynomial → Marks → Type 0
 IsSettled fs gs m = gathered (summed_up fs m.first.items) ≡ gathered (summed_up gs m.second.items)
 
-abbrev pub AreSettled : List PlainPolynomial → List PlainPolynomial → List (Key × Marks) → Type 0
-AreSettled fs gs [] = Unit {0}
-AreSettled fs gs (e ∷ es) = IsSettled fs gs e.1 × AreSettled fs gs es
+-- the same is demanded under an entry's key: by the sums that its marks name, or by how often under each order
+abbrev pub IsSame : List Group → List Group → Key × Marks → Type 0
+IsSame ones twos e = IsSettled (map condition_of ones) (map condition_of twos) e.1 ⊎ LightOrderSame (count_at e.0 (demands_of ones)) (count_at e.0 (demands_of twos))
+
+abbrev pub AreSame : List Group → List Group → List (Key × Marks) → Type 0
+AreSame ones twos [] = Unit {0}
+AreSame ones twos (e ∷ es) = IsSame ones twos e × AreSame ones twos es
 
 abbrev pub AllSettled : List PlainPolynomial → List PlainPolynomial → List Marks → Type 0
 AllSettled fs gs [] = Unit {0}

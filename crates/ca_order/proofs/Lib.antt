@@ -1,0 +1,27 @@
+pub mod Meant
+pub mod Ranks
+pub mod Existing
+pub mod Known
+pub mod Steps
+pub mod Raising
+pub mod Listed
+pub mod Nothing
+pub mod Once
+mod Examples
+pub mod Sorts
+pub mod Lighter
+pub mod Agreeing
+pub mod Alike
+pub mod Asking
+pub mod Ending
+pub mod Scanning
+pub mod Rows
+pub mod Gathering
+pub mod Putting
+pub mod Listing
+pub mod Shifted
+pub mod RanksAt
+pub mod OneClass
+pub mod Seen
+pub mod Found
+pub mod Refuted

@@ -1,0 +1,39 @@
+-- Terms of which anything else is answered are not the same under each order.
+use Rattle.std.proofs.Common.{◌≡◌, ◌≢◌, ℕ, zero, suc, List, [], ◌∷◌, ◌++◌, Some, None, sym, ◌∙◌, arith, subst}
+use Rattle.std.specs.Prelude.{Contains, slice_get, Option}
+use Rattle.ca_norm.specs.Terms.{PlainTerm}
+use Rattle.ca_norm.specs.Forms.{norm}
+use Rattle.ca_order.specs.Under.{under}
+use Rattle.ca_order.specs.Rankings.{ranked, IsRanking, rankings_of}
+use Rattle.ca_order.specs.OrderSame.{all_points, points_of, OrderSame}
+use Rattle.ca_order.proofs.Meant.{here, there}
+use Rattle.ca_order.proofs.Known.{order_rises}
+use Rattle.ca_order.proofs.Listed.{rankings_are_all}
+use Rattle.ca_order.specs.declared.answers.OrderAnswer.{OrderAnswer}
+use Rattle.ca_order.specs.declared.answers.OrderAnswer.TheVariants as answer
+use Rattle.ca_order.specs.Answers.{Answers, IsSame}
+use Rattle.ca_order.proofs.Found.{rises}
+
+stands_in : {A : Type 0} (xs : List A) (n : ℕ) (x : A) → slice_get xs n ≡ Some x → Contains xs x
+stands_in {A} [] n x e = absurd (let f : ◌≡◌ {A = Option A} None (Some x) = e in cc)
+stands_in (y ∷ xs) zero x e = subst (Contains (y ∷ xs)) (let f : y ≡ x = cc in f) (here y xs)
+stands_in (y ∷ xs) (suc n) x e = there y x xs (stands_in xs n x e)
+
+-- an order under which two terms have different forms
+pub apart_under : (t u : PlainTerm) (n : ℕ) (ks : List ℕ) → slice_get (rankings_of (points_of t u)) n ≡ Some ks →
+    norm (under (ranked (points_of t u) ks) t) ≢ norm (under (ranked (points_of t u) ks) u) → OrderSame t u → ⊥
+apart_under t u n ks e d o =
+    let is : IsRanking (points_of t u) ks = (rankings_are_all (points_of t u) (rises (points_of t u) (order_rises (all_points t ++ all_points u))) ks).1 (stands_in (rankings_of (points_of t u)) n ks e) in
+    d (o.same ks is)
+
+pub told_same : (t u : PlainTerm) (a : OrderAnswer) → Answers t u a → IsSame a → OrderSame t u
+told_same t u answer.Same h s = h
+told_same t u (answer.TooMany m) h s = absurd s
+told_same t u (answer.Differs r x y) h s = absurd s
+
+pub not_same : (t u : PlainTerm) (a : OrderAnswer) → Answers t u a → (IsSame a → ⊥) → OrderSame t u → ⊥
+not_same t u answer.Same h n o = n tt
+not_same t u (answer.TooMany m) h n o = absurd (omega (arith, h.0, h.1, o.few))
+not_same t u (answer.Differs r x y) h n o =
+    let d = h.2.1 in
+    apart_under t u h.2.0 r.ranks.items d.stands (λ e. d.differ (d.first ∙ e ∙ sym d.second)) o

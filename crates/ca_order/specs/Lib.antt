@@ -1,0 +1,11 @@
+pub mod Points
+pub mod Codes
+pub mod Under
+pub mod Rankings
+pub mod OrderSame
+pub mod Raised
+pub mod Alike
+pub mod Asked
+pub mod Answers
+pub mod Laws
+pub mod clauses

@@ -1,0 +1,4 @@
+pub mod Added
+pub mod Gathered
+pub mod Classes
+pub mod Seen
