@@ -77,9 +77,3 @@ pub struct CellLog {
     pub object: Object,
     pub entries: Entries,
 }
-
-/// A history for each object, by its number.
-#[derive(Drop)]
-pub struct RoundLog {
-    pub cells: Vec<CellLog>,
-}

@@ -4,17 +4,22 @@ ghost use Rattle.std.specs.Prelude.{◌≡◌, ◌+◌, ◌≤◌, true, false, 
 ghost use Rattle.ca_program.specs.View.{program_view};
 ghost use Rattle.ca_logs.specs.Entries.{entries_of};
 ghost use Rattle.ca_logs.specs.Lasts.{last_of};
-ghost use Rattle.ca_pool.specs.Gathered.{Ended, Gathered, HasClosing, IsRunOf, closes};
+ghost use Rattle.ca_beside.specs.Beside.{present};
+ghost use Rattle.ca_cells.specs.Logs.{began_with, logs_in};
+ghost use Rattle.ca_pool.specs.Gathered.{Ended, Gathered, HasClosing, IsRunOf, IsTold, closes};
 
+use crate::spreading::{all_numbers, spread};
 use crate::work::Work;
 use ca_base::Memory;
-use ca_cells::{Added, add};
+use ca_beside::Beside;
+use ca_cells::{Added, RoundLog, add};
 use ca_deques::taking::pour;
 use ca_logs::{CellLog, Task};
 use ca_model::Heap;
 use ca_program::Program;
 use ca_sections::Desk;
 use std::alloc::Global;
+use std::mem;
 
 /// How many entries there are, but no more than so many.
 fn count_entries(logs: &[CellLog], most: usize) -> usize
@@ -117,24 +122,46 @@ fn run_rest<'a, K: Work>(
     Ok(())
 }
 
-/// Runs tasks of the rest as long as there are any, no history is closed, and there are fewer entries than the quota.
+/// Runs tasks of the rest as long as there are any, no history is closed, and there are fewer entries than the quota. For
+/// that all histories are spread out.
 pub fn finish<K: Work>(
     alloc: Global,
     program: &Program,
     frozen: &Heap,
-    logs: &mut Vec<CellLog>,
+    beside: &Beside,
+    log: &mut RoundLog,
     rest: &mut Vec<Task>,
     quota: u32,
     left: u64,
 ) -> Result<(), Memory>
     requires run { IsRunOf K.cells (program_view program.now) frozen.now }
-    requires gathered { Gathered K.cells left K.first logs.old.items rest.old.items }
-    ensures gathered { IfOk result (λ _. Gathered K.cells left K.first logs.new.items rest.new.items) }
-    ensures ended { IfOk result (λ _. Ended quota logs.new.items rest.new.items) }
+    requires began { began_with log.old ≡ present frozen.now beside.now }
+    requires told { IsTold log.old }
+    requires gathered { Gathered K.cells left K.first (logs_in log.old) rest.old.items }
+    ensures began { IfOk result (λ _. began_with log.new ≡ began_with log.old) }
+    ensures told { IfOk result (λ _. IsTold log.new) }
+    ensures gathered { IfOk result (λ _. Gathered K.cells left K.first (logs_in log.new) rest.new.items) }
+    ensures ended { IfOk result (λ _. Ended quota (logs_in log.new) rest.new.items) }
 {
-    if any_closed(logs.as_slice()) {
+    if rest.len() == 0 {
+        return Ok(());
+    }
+    if any_closed(log.logs.as_slice()) {
+        return Ok(());
+    }
+    let most = quota as usize;
+    if count_entries(log.logs.as_slice(), most) >= most {
         return Ok(());
     }
     let mut desk = Desk::new(alloc)?;
-    run_rest::<K>(&mut desk, alloc, program, frozen, logs, rest, quota, left)
+    let objects = frozen.len();
+    let places = all_numbers(alloc, objects)?;
+    let numbers = mem::replace(&mut log.numbers, places);
+    let logs = mem::replace(&mut log.logs, Vec::new(alloc));
+    let mut all = spread(alloc, frozen, beside, log.keeps, numbers, logs)?;
+    run_rest::<K>(
+        &mut desk, alloc, program, frozen, &mut all, rest, quota, left,
+    )?;
+    log.logs = all;
+    Ok(())
 }

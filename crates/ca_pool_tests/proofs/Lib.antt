@@ -1,2 +1,3 @@
 pub mod FirstTasks
+pub mod FirstHistories
 pub mod SameSeats

@@ -8,10 +8,11 @@ ghost use Rattle.ca_cells.specs.declared.rule.Given.{Given};
 ghost use Rattle.ca_counters.specs.Counters.{IsSet, counters};
 
 use ca_base::OpenGate;
-use ca_cells::Cells;
+use ca_beside::Beside;
+use ca_cells::{Cells, RoundLog};
 use ca_counters::{heap, let_go, program, twice};
 use ca_extent::extent_of;
-use ca_logs::{RoundLog, Task};
+use ca_logs::Task;
 use ca_pool::Pool;
 use ca_program::{OpId, Program};
 use std::alloc::{AllocError, Global};
@@ -45,19 +46,19 @@ fn waiting(alloc: Global, rest: &[Task], objects: usize) -> Result<Vec<u32>, All
 
 /// Whether each object's first task ran or waits, and where it ran the second one too.
 fn are_there(log: &RoundLog, counts: &[u32]) -> bool {
-    let mut at = 0;
-    for cell in &log.cells {
-        if at >= counts.len() {
-            return false;
+    let mut at: usize = 0;
+    for number in 0..counts.len() {
+        let mut ran = 0;
+        if at < log.logs.len() && log.numbers[at] as usize == number {
+            ran = log.logs[at].entries.len();
+            at = at.wrapping_add(1);
         }
-        let ran = cell.entries.len();
         let due = if ran == 0 { 1 } else { 2 };
-        if ran.wrapping_add(counts[at] as usize) != due {
+        if ran.wrapping_add(counts[number] as usize) != due {
             return false;
         }
-        at += 1;
     }
-    true
+    at == log.logs.len()
 }
 
 /// Whether a round collects every task once.
@@ -74,15 +75,16 @@ fn collects<R: Threads + Wait + Sync>(
     let extent = extent_of(alloc, program, &roots)?;
     let heap = heap(alloc, program, 1_000)?;
     let first = first_tasks(alloc, 1_000)?;
-    let (cells, seats) = Cells::make(alloc, program, &extent, &heap, &heap, workers, false)?;
+    let beside = Beside::new(alloc);
+    let (cells, seats) = Cells::make(alloc, program, &extent, &heap, &beside, workers, false)?;
     let mut pool = Pool::make(workers);
     let gate = &OpenGate;
     let round = pool.round(
-        rt, alloc, program, &heap, cells, seats, first, quota, 100, gate,
+        rt, alloc, program, &heap, &beside, cells, seats, first, quota, 100, gate,
     )?;
-    let counts = waiting(alloc, round.rest.as_slice(), round.log.cells.len())?;
+    let counts = waiting(alloc, round.rest.as_slice(), heap.len() as usize)?;
     let mut entries: usize = 0;
-    for cell in &round.log.cells {
+    for cell in &round.log.logs {
         entries = entries.wrapping_add(cell.entries.len());
     }
     let is_full = round.rest.is_empty() || entries >= quota as usize;

@@ -1,13 +1,16 @@
 //! What tasks do to the history of one counting object, and what seats are answered.
 
-ghost use Rattle.std.specs.Prelude.{◌≡◌, [], length};
+ghost use Rattle.std.specs.Prelude.{◌≡◌};
 ghost use Rattle.ca_program.specs.View.{program_view};
 ghost use Rattle.ca_logs.specs.Legal.{LegalCell};
+ghost use Rattle.ca_beside.specs.Beside.{present};
+ghost use Rattle.ca_cells.specs.Rounds.{now_of};
 ghost use Rattle.ca_cells.specs.Seats.{IsOf, IsSameSeat, cells_key};
 ghost use Rattle.ca_counters.specs.Counters.{IsSet, counters, starts};
 
 use ca_base::{Memory, OpenGate};
-use ca_cells::{Added, Applied, Cells, Seat, add};
+use ca_beside::Beside;
+use ca_cells::{Added, Applied, Cells, Seat, add, open};
 use ca_counters::{heap, let_go, program, twice};
 use ca_extent::extent_of;
 use ca_logs::{CellLog, Stop};
@@ -54,14 +57,8 @@ fn are_kept(log: &CellLog, keeps: bool) -> bool {
 fn takes_two<R: Abort>(rt: &R, alloc: Global, program: &Program, keeps: bool) -> Result<bool, Fail>
     requires { program_view program.now ≡ counters }
 {
-    let roots = [OpId(1)];
-    let extent = extent_of(alloc, program, &roots)?;
     let heap = heap(alloc, program, 1)?;
-    let (cells, seats) = Cells::make(alloc, program, &extent, &heap, &heap, 1, keeps)?;
-    let mut log = cells.gather(seats);
-    let Some(mut cell) = log.cells.pop() else {
-        return Ok(false);
-    };
+    let mut cell = open(alloc, heap.get(0), keeps)?;
     let mut desk = Desk::new(alloc).expect(rt, "a desk");
     let ran = add_twice(&mut desk, &mut cell, alloc, program, &heap, 100);
     let spent = add_twice(&mut desk, &mut cell, alloc, program, &heap, 0);
@@ -73,7 +70,6 @@ fn takes_two<R: Abort>(rt: &R, alloc: Global, program: &Program, keeps: bool) ->
     let_go(kept);
     let_go(desk);
     let_go(cell);
-    let_go(log);
     Ok(fits)
 }
 
@@ -127,15 +123,19 @@ fn apply_twice<'a, R: Wait>(
     seat: &mut Seat,
     program: &'a Program,
     frozen: &Heap,
+    beside: &Beside,
     left: u64,
 ) -> (bool, bool)
     requires place { IsOf cells.now seat.old }
     requires set { IsSet (cells_key cells.now) 1 × (program_view program.now ≡ counters) × (frozen.now ≡ starts 1) }
+    requires now { now_of (cells_key cells.now) ≡ present frozen.now beside.now }
     ensures { IsSameSeat seat.old seat.new }
 {
     let task = twice(alloc, 0);
     let gate = &OpenGate;
-    match cells.apply(rt, alloc, desk, seat, program, frozen, task, left, gate) {
+    match cells.apply(
+        rt, alloc, desk, seat, program, frozen, beside, task, left, gate,
+    ) {
         Ok(Applied::Stuck(Stop::Spent)) => (true, false),
         Ok(Applied::Kept(task)) => (false, task.after == 0),
         _ => (false, false),
@@ -149,17 +149,22 @@ fn closes<R: Wait + Abort>(rt: &R, alloc: Global, program: &Program) -> Result<b
     let roots = [OpId(1)];
     let extent = extent_of(alloc, program, &roots)?;
     let heap = heap(alloc, program, 1)?;
-    let (cells, mut seats) = Cells::make(alloc, program, &extent, &heap, &heap, 1, false)?;
+    let beside = Beside::new(alloc);
+    let (cells, mut seats) = Cells::make(alloc, program, &extent, &heap, &beside, 1, false)?;
     let Some(mut seat) = seats.pop() else {
         return Ok(false);
     };
     let mut desk = Desk::new(alloc).expect(rt, "a desk");
-    let first = apply_twice(rt, alloc, &mut desk, &cells, &mut seat, program, &heap, 0);
-    let second = apply_twice(rt, alloc, &mut desk, &cells, &mut seat, program, &heap, 100);
+    let first = apply_twice(
+        rt, alloc, &mut desk, &cells, &mut seat, program, &heap, &beside, 0,
+    );
+    let second = apply_twice(
+        rt, alloc, &mut desk, &cells, &mut seat, program, &heap, &beside, 100,
+    );
     seats.push(seat)?;
     let log = cells.gather(seats);
     let mut entries = 0;
-    for cell in &log.cells {
+    for cell in &log.logs {
         entries = cell.entries.len();
     }
     Ok(first.0 && second.1 && entries == 1)

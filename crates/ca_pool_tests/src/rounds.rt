@@ -3,15 +3,18 @@
 ghost use Rattle.std.specs.Prelude.{◌≡◌, ◌<◌, ◌≤◌};
 ghost use Rattle.std.specs.Thread.{IsSync};
 ghost use Rattle.ca_program.specs.View.{program_view};
+ghost use Rattle.ca_beside.specs.Beside.{present};
+ghost use Rattle.ca_cells.specs.Rounds.{now_of};
 ghost use Rattle.ca_cells.specs.Seats.{AreAll, IsOf, IsSameSeat, cells_key};
 ghost use Rattle.ca_counters.specs.Counters.{IsSet, counters, starts};
 
 use ca_base::OpenGate;
-use ca_cells::{Applied, Cells, Seat};
+use ca_beside::Beside;
+use ca_cells::{Applied, Cells, RoundLog, Seat};
 use ca_counters::{heap, let_go, program, twice};
 use ca_extent::extent_of;
-use ca_logs::RoundLog;
-use ca_model::{Heap, Object, Slot, Value};
+use ca_model::{Object, Slot, Value};
+use ca_pool::work::Reads;
 use ca_program::{OpId, Program};
 use ca_sections::Desk;
 use std::alloc::Global;
@@ -27,20 +30,27 @@ fn count_twice<'a, R: Wait>(
     cells: &Cells,
     seat: &mut Seat,
     program: &'a Program,
-    frozen: &Heap,
+    reads: &Reads<'_>,
     object: u32,
 ) -> bool
     requires place { IsOf cells.now seat.old }
-    requires set { IsSet (cells_key cells.now) 10 × (program_view program.now ≡ counters) × (frozen.now ≡ starts 10) }
+    requires set { IsSet (cells_key cells.now) 10 × (program_view program.now ≡ counters) × (reads.now.frozen.now ≡ starts 10) }
+    requires now { now_of (cells_key cells.now) ≡ present reads.now.frozen.now reads.now.beside.now }
     requires object { object < 10 }
     ensures { IsSameSeat seat.old seat.new }
 {
     let task = twice(alloc, object);
     let gate = &OpenGate;
-    match cells.apply(rt, alloc, desk, seat, program, frozen, task, 100, gate) {
+    let frozen = reads.frozen;
+    let beside = reads.beside;
+    match cells.apply(
+        rt, alloc, desk, seat, program, frozen, beside, task, 100, gate,
+    ) {
         Ok(Applied::Ran { mut tasks, .. }) => match tasks.pop() {
             Some(next) => {
-                let again = cells.apply(rt, alloc, desk, seat, program, frozen, next, 100, gate);
+                let again = cells.apply(
+                    rt, alloc, desk, seat, program, frozen, beside, next, 100, gate,
+                );
                 has_run(again)
             }
             None => false,
@@ -64,11 +74,12 @@ fn work<'a, R: Wait>(
     cells: &Cells,
     seat: &mut Seat,
     program: &'a Program,
-    frozen: &Heap,
+    reads: &Reads<'_>,
     times: u32,
 )
     requires place { IsOf cells.now seat.old }
-    requires set { IsSet (cells_key cells.now) 10 × (program_view program.now ≡ counters) × (frozen.now ≡ starts 10) }
+    requires set { IsSet (cells_key cells.now) 10 × (program_view program.now ≡ counters) × (reads.now.frozen.now ≡ starts 10) }
+    requires now { now_of (cells_key cells.now) ≡ present reads.now.frozen.now reads.now.beside.now }
     ensures { IsSameSeat seat.old seat.new }
 {
     let Ok(mut desk) = Desk::new(alloc) else {
@@ -76,7 +87,7 @@ fn work<'a, R: Wait>(
     };
     let mut n = 0;
     while n < times {
-        if !count_twice(rt, alloc, &mut desk, cells, seat, program, frozen, n % 10) {
+        if !count_twice(rt, alloc, &mut desk, cells, seat, program, reads, n % 10) {
             return;
         }
         n += 1;
@@ -90,17 +101,18 @@ fn work_all<R: Threads + Wait + Sync>(
     cells: &Cells,
     seats: &mut [Seat],
     program: &Program,
-    frozen: &Heap,
+    reads: &Reads<'_>,
     times: u32,
 )
     requires all { AreAll cells.now seats.old }
-    requires set { IsSet (cells_key cells.now) 10 × (program_view program.now ≡ counters) × (frozen.now ≡ starts 10) }
+    requires set { IsSet (cells_key cells.now) 10 × (program_view program.now ≡ counters) × (reads.now.frozen.now ≡ starts 10) }
+    requires now { now_of (cells_key cells.now) ≡ present reads.now.frozen.now reads.now.beside.now }
     ensures { AreAll cells.now seats.new }
 {
     let part = |_: usize, seat: &mut Seat|
-        requires { IsSync R.row × IsOf cells.now seat.now × IsSet (cells_key cells.now) 10 × (program_view program.now ≡ counters) × (frozen.now ≡ starts 10) }
+        requires { IsSync R.row × IsOf cells.now seat.now × IsSet (cells_key cells.now) 10 × (program_view program.now ≡ counters) × (reads.now.frozen.now ≡ starts 10) × (now_of (cells_key cells.now) ≡ present reads.now.frozen.now reads.now.beside.now) }
         ensures { IsSameSeat seat.entry.now seat.exit.now }
-    { work(rt, alloc, cells, seat, program, frozen, times) };
+    { work(rt, alloc, cells, seat, program, reads, times) };
     thread::for_each_mut(rt, seats, 4, &part);
 }
 
@@ -117,14 +129,16 @@ fn round<R: Threads + Wait + Sync>(
     let roots = [OpId(1)];
     let extent = extent_of(alloc, program, &roots)?;
     let heap = heap(alloc, program, 10)?;
-    let (cells, mut seats) = Cells::make(alloc, program, &extent, &heap, &heap, workers, false)?;
+    let beside = Beside::new(alloc);
+    let (cells, mut seats) = Cells::make(alloc, program, &extent, &heap, &beside, workers, false)?;
+    let reads = Reads::of(&heap, &beside);
     work_all(
         rt,
         alloc,
         &cells,
         seats.as_mut_slice(),
         program,
-        &heap,
+        &reads,
         times,
     );
     Ok(cells.gather(seats))
@@ -142,7 +156,7 @@ fn counted(object: &Object) -> i64 {
 fn entries(log: &RoundLog) -> (usize, bool) {
     let mut count: usize = 0;
     let mut fits = true;
-    for cell in &log.cells {
+    for cell in &log.logs {
         let here = cell.entries.len();
         if here != 1_000 || counted(&cell.object) != 1_000 {
             fits = false;
@@ -160,7 +174,7 @@ fn four_threads_share_ten_objects(rt: HostRuntime) -> Result<(), Fail> {
     let_go(program);
     let log = log?;
     let (count, fits) = entries(&log);
-    assert!(&rt; log.cells.len() == 10);
+    assert!(&rt; log.logs.len() == 10);
     assert!(&rt; count == 10_000);
     assert!(&rt; fits);
     Ok(())

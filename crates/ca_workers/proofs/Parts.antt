@@ -17,6 +17,8 @@ use Rattle.ca_logs.specs.declared.log.CellLog.{CellLog}
 use Rattle.ca_logs.specs.Entries.{entries_of, ran_in, tasks_in, listed_by, call_of, task_calls}
 use Rattle.ca_cells.specs.declared.rule.Given.{Given}
 use Rattle.ca_cells.specs.Rounds.{IsGiven, MayRun}
+use Rattle.ca_cells.specs.Logs.{began_with, logs_in}
+use Rattle.ca_pool.specs.Gathered.{IsTold}
 use Rattle.ca_pool.specs.declared.round.Round.{Round}
 use Rattle.ca_pool.specs.Rounded.{Rounded}
 use Rattle.ca_run.specs.Rounds.{RanTo}
@@ -120,6 +122,6 @@ went_on p frozen now others first all is left after rest anew same more behind s
 
 -- what a round answers, in its cells
 pub in_cells : (p : PlainProgram) (x : Extent) (frozen now : List Object) (left quota : ℕ) (first : List Task) (given : Given) → IsGiven p x frozen now given → (r : Result Round Memory) →
-    IfOk r (λ q. Rounded given left quota first q.log.cells.items q.rest.items q.stop) → IfOk r (InCells p x frozen now left quota first)
-in_cells p x frozen now left quota first given is (Ok q) told = record { given = given; is = is; rounded = told }
-in_cells p x frozen now left quota first given is (Err e) told = tt
+    IfOk r (λ q. (began_with q.log ≡ now) × IsTold q.log) → IfOk r (λ q. Rounded given left quota first (logs_in q.log) q.rest.items q.stop) → IfOk r (InCells p x frozen now left quota first)
+in_cells p x frozen now left quota first given is (Ok q) tells rounded = record { given = given; is = is; began = tells.0; told = tells.1; rounded = rounded }
+in_cells p x frozen now left quota first given is (Err e) tells rounded = tt

@@ -1,6 +1,9 @@
 use Rattle.std.proofs.Common.{◌≡◌, zero, List, [], ◌∷◌, ◌++◌, refl, sym, ◌∙◌, subst, arith, All}
 use Rattle.std.specs.Prelude.{Contains}
 use Rattle.ca_program.specs.Plain.{PlainProgram}
+use Rattle.ca_program.specs.View.{program_view}
+use Rattle.ca_beside.specs.declared.beside.Changed.{Changed}
+use Rattle.ca_beside.specs.Beside.{present}
 use Rattle.ca_meaning.specs.ProgramTyped.{ProgramTyped}
 use Rattle.ca_parallel.specs.Extents.{Extent, root}
 use Rattle.ca_cells.specs.Seats.{IsOf}
@@ -20,7 +23,8 @@ pub make-requires-clause-frozen : goal.make-requires-clause-frozen
 make-requires-clause-frozen g c = subst (λ (p : PlainProgram). TypedHeap p c.in_ok-heap.heap) (sym c.requires) (subst (TypedHeap counters) (sym c.in_ok-heap.ensures) (starts_typed 1))
 
 pub make-requires-clause-now : goal.make-requires-clause-now
-make-requires-clause-now g c = subst (λ (p : PlainProgram). StandsFor p c.in_ok-extent.extent c.in_ok-heap.heap c.in_ok-heap.heap) (sym c.requires) (subst (λ (h : List Object). StandsFor counters c.in_ok-extent.extent h h) (sym c.in_ok-heap.ensures) (stands c.in_ok-extent.extent 1))
+make-requires-clause-now g c = subst (λ (cs : List Changed). StandsFor (program_view c.args.program.now) c.in_ok-extent.extent c.in_ok-heap.heap (present c.in_ok-heap.heap cs)) (sym c.new-beside.ensures)
+    (subst (λ (p : PlainProgram). StandsFor p c.in_ok-extent.extent c.in_ok-heap.heap c.in_ok-heap.heap) (sym c.requires) (subst (λ (h : List Object). StandsFor counters c.in_ok-extent.extent h h) (sym c.in_ok-heap.ensures) (stands c.in_ok-extent.extent 1)))
 
 pub apply_twice-first-requires-clause-set : goal.apply_twice-first-requires-clause-set
 apply_twice-first-requires-clause-set g c = let k = c.in_ok-cells.ensures.key in

@@ -1,4 +1,5 @@
 use Rattle.ca_program.specs.View.{program_view}
+use Rattle.ca_beside.specs.Beside.{present}
 use Rattle.ca_workers.proofs.Beginning.{may_run, separable}
 use Rattle.ca_workers.proofs.Parts.{in_cells}
 use Rattle.ca_workers.proofs.rounds.Rounds.run_in_cells.Goals as goal
@@ -16,10 +17,10 @@ pub make-requires-clause-now : goal.make-requires-clause-now
 make-requires-clause-now g c = c.requires.waiting.stands
 
 pub round-requires-clause-given : goal.round-requires-clause-given
-round-requires-clause-given g c = λ κs o. (c.in_ok-cells.ensures.key.0, c.in_ok-cells.ensures.key.2)
+round-requires-clause-given g c = λ κs o. (c.in_ok-cells.ensures.key.0, c.in_ok-cells.ensures.key.2, c.in_ok-cells.ensures.key.3)
 
 pub round-requires-clause-first : goal.round-requires-clause-first
-round-requires-clause-first g c = λ κs o. (may_run _ (program_view c.args.self.now.program.now) c.args.self.now.extent.now c.args.frozen.now c.args.now.now c.in_ok-cells.ensures.key c.args.first.items c.requires.waiting, c.requires.begins)
+round-requires-clause-first g c = λ κs o. (may_run _ (program_view c.args.self.now.program.now) c.args.self.now.extent.now c.args.frozen.now (present c.args.frozen.now c.args.beside.now) c.in_ok-cells.ensures.key c.args.first.items c.requires.waiting, c.requires.begins)
 
 pub returns : goal.returns
-returns g c = in_cells (program_view c.args.self.now.program.now) c.args.self.now.extent.now c.args.frozen.now c.args.now.now c.args.left c.args.quota c.args.first.items _ c.in_ok-cells.ensures.key c.round.result c.round.ensures.rounded
+returns g c = in_cells (program_view c.args.self.now.program.now) c.args.self.now.extent.now c.args.frozen.now (present c.args.frozen.now c.args.beside.now) c.args.left c.args.quota c.args.first.items _ c.in_ok-cells.ensures.key c.round.result c.round.ensures.told c.round.ensures.rounded

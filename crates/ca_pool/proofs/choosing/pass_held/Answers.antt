@@ -1,0 +1,20 @@
+use Rattle.std.proofs.Common.{◌∙◌, arith}
+use Rattle.ca_logs.specs.Entries.{call_of}
+use Rattle.ca_cells.specs.Rounds.{frozen_of, program_of}
+use Rattle.ca_cells.specs.Seats.{cells_key}
+use Rattle.ca_cells.proofs.Applies.{receiver_in}
+use Rattle.ca_pool.proofs.Performs.{may_run}
+use Rattle.ca_pool.proofs.choosing.pass_held.Goals as goal
+
+pub is_held-requires : goal.is_held-requires
+is_held-requires g c =
+    let key = cells_key c.args.cells.now in
+    receiver_in (program_of key) (frozen_of key) (call_of c.tries.next) (may_run g.N.Round.setting key c.tries.next c.requires.setting c.tries.invariant.fits).typed
+
+pub tries-preserved : goal.tries-preserved
+tries-preserved g c = let i = c.tries.invariant in let e = c.put_behind.ensures in record {
+  same = e.same ∙ i.same;
+  share = e.share;
+  fits = e.fits;
+  moved = λ h. omega (arith, i.moved h, e.moved h);
+}

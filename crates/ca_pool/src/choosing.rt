@@ -1,0 +1,65 @@
+//! Which task a worker runs next.
+
+ghost use Rattle.std.specs.Prelude.{◌≡◌, ℕ, ◌+◌, map, option_to_list};
+ghost use Rattle.ca_meaning.specs.Multisets.{weight};
+ghost use Rattle.ca_logs.specs.declared.log.Task.{Task};
+ghost use Rattle.ca_cells.specs.Seats.{cells_key};
+ghost use Rattle.ca_deques.specs.Settings.{Fits, AllFit};
+ghost use Rattle.ca_deques.specs.Thieves.{owner_key, key_of, taken_by_thief};
+ghost use Rattle.ca_pool.specs.Work.{setting_of};
+
+use ca_cells::Cells;
+use ca_deques::taking::{put_behind, take_any};
+use ca_deques::{Owner, Round, Thieves};
+use ca_logs::Task;
+
+/// How many tasks a worker puts back before it waits.
+const TRIES: u32 = 4;
+
+/// A task whose object nobody holds: a task whose object is held goes behind the newest own one, which is taken in its
+/// place, a few times. Then it is the one at hand.
+fn pass_held<N: Round>(
+    cells: &Cells,
+    owner: &mut Owner<N>,
+    share: &mut Vec<Task>,
+    task: Task,
+) -> Task
+    requires setting { N.setting ≡ setting_of (cells_key cells.now) }
+    requires share { AllFit N.setting share.old.items }
+    requires fits { Fits N.setting task }
+    ensures same { owner_key owner.new ≡ owner_key owner.old }
+    ensures share { AllFit N.setting share.new.items }
+    ensures fits { Fits N.setting result }
+    ensures moved { (h : Task → ℕ) → weight h owner.new.hand.taken + weight h owner.old.hand.pushed + weight h share.old.items + h task ≡ weight h owner.old.hand.taken + weight h owner.new.hand.pushed + weight h share.new.items + h result }
+{
+    let mut next = task;
+    'tries: for _ in 0..TRIES {
+        if !cells.is_held(next.op.receiver) {
+            break;
+        }
+        next = put_behind::<N>(owner, share, next);
+    }
+    next
+}
+
+/// The newest task of the own deque whose object nobody holds, as far as a few tries find one; where the deque has
+/// none, one of another's; and where none gave one, the newest of the own share.
+pub fn take_free<N: Round>(
+    cells: &Cells,
+    owner: &mut Owner<N>,
+    thieves: &mut Thieves<N>,
+    share: &mut Vec<Task>,
+) -> Option<Task>
+    requires setting { N.setting ≡ setting_of (cells_key cells.now) }
+    requires share { AllFit N.setting share.old.items }
+    ensures same { owner_key owner.new ≡ owner_key owner.old }
+    ensures keys { map key_of thieves.new ≡ map key_of thieves.old }
+    ensures share { AllFit N.setting share.new.items }
+    ensures fits { AllFit N.setting (option_to_list result) }
+    ensures taken { (h : Task → ℕ) → weight h owner.new.hand.taken + weight (taken_by_thief h) thieves.new + weight h share.old.items + weight h owner.old.hand.pushed ≡ weight h owner.old.hand.taken + weight (taken_by_thief h) thieves.old + weight h share.new.items + weight h (option_to_list result) + weight h owner.new.hand.pushed }
+{
+    match take_any::<N>(owner, thieves, share) {
+        Some(task) => Some(pass_held::<N>(cells, owner, share, task)),
+        None => None,
+    }
+}
