@@ -7,6 +7,7 @@ import shutil
 import subprocess
 import sys
 import tempfile
+from concurrent.futures import ThreadPoolExecutor
 
 BUDGET = "1000000000"
 # Threads take turns fairly, as they would on processors of their own, so that each gets its share of the work.
@@ -29,3 +30,9 @@ def counted(program, workers, text):
         found = [re.search(r"^(?:summary|totals): (\d+)", file.read_text(), flags=re.M) for file in files]
     threads = [int(each[1]) for each in found if each]
     return sum(threads), threads[0]
+
+
+def all_counted(program, runs):
+    """The counts of these workers and texts in order, as many at a time as there are processors: instructions don't mind other work."""
+    with ThreadPoolExecutor(os.cpu_count()) as pool:
+        return list(pool.map(lambda run: counted(program, *run), runs))
