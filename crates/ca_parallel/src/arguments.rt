@@ -36,6 +36,16 @@ impl Arguments {
         }
     }
 
+    /// No arguments, with room for so many.
+    #[inline]
+    pub fn with_room(alloc: Global, count: usize) -> Result<Self, AllocError>
+        ensures { IfOk result (λ arguments. arguments ≡ []) }
+    {
+        Ok(Arguments {
+            items: SmallVec::with_capacity(alloc, count)?,
+        })
+    }
+
     /// Adds an argument at the end. Without memory for it they are as before.
     #[inline]
     pub fn push(&mut self, value: Value) -> Result<(), AllocError>
