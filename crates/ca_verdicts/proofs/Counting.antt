@@ -1,6 +1,6 @@
 -- How often something is demanded, summed from the left, and where that is too heavy.
 use Rattle.std.proofs.Common.{◌≡◌, ℕ, ◌+◌, ◌<◌, ◌≤◌, pos, Bool, true, false, List, [], ◌∷◌, ◌++◌, length, map, drop, Option, Some, None, Result, Ok, Err, refl, sym, ap, ◌∙◌, arith, subst, slice_index_or, is_eq}
-use Rattle.std.specs.Prelude.{IfOk, IfSome, IfNone, IsTrue, if◌then◌else◌}
+use Rattle.std.specs.Prelude.{◌==◌, IfOk, IfSome, IfNone, IsTrue, if◌then◌else◌}
 use Rattle.std.proofs.lemmas.List.{at_drop_more, drop_all}
 use Rattle.ca_norm.specs.Terms.{PlainTerm, number, add}
 use Rattle.ca_shared_terms.specs.Heavy.{is_heavy}
@@ -55,6 +55,10 @@ one_onto t cs i c l e = at_drop_more (λ zs. counted_onto t zs) cs i c l ∙ ap 
 
 pub no_more : (t : PlainTerm) (cs : List PlainTerm) (i : ℕ) → length cs ≤ i → counted_onto t (drop i cs) ≡ t
 no_more t cs i l = ap (counted_onto t) (drop_all i cs l)
+
+pub some_there : (cs : List PlainTerm) → (length cs == 0) ≡ false → 0 < length cs
+some_there [] e = let z : true ≡ false = e in absurd cc
+some_there (c ∷ cs) e = omega arith
 
 -- the first condition, and the others
 pub from_first : (cs : List PlainTerm) (c : PlainTerm) → 0 < length cs → c ≡ slice_index_or cs 0 c → count_of cs ≡ counted_onto (counted c) (drop 1 cs)
