@@ -18,10 +18,10 @@ counted_onto-requires c = search rules
 pub returns-in-Some : goal.returns-in-Some
 returns-in-Some c =
     let some : 0 < length c.args.conditions.now = some_there c.args.conditions.now (sym c.is_empty.ensures ∙ c.if-is_empty.false) in
-    let one : PlainTerm = c.index-conditions.result in
+    let one : PlainTerm = c.index-conditions-0.result in
     let first : c.in-Some.first ≡ counted one = search rules in
     let is : counted_onto c.in-Some.first (drop 1 c.args.conditions.now) ≡ count_of c.args.conditions.now =
-    ap (λ z. counted_onto z (drop 1 c.args.conditions.now)) first ∙ sym (from_first c.args.conditions.now one some c.index-conditions.is) in
+    ap (λ z. counted_onto z (drop 1 c.args.conditions.now)) first ∙ sym (from_first c.args.conditions.now one some c.index-conditions-0.is) in
     record {
       made = subst (λ z. IfOk c.counted_onto.result (λ o. IfSome o (λ t. t ≡ z))) is c.counted_onto.ensures.made;
       light = c.counted_onto.ensures.light;
@@ -31,10 +31,10 @@ returns-in-Some c =
 pub returns-in-None : goal.returns-in-None
 returns-in-None c =
     let some : 0 < length c.args.conditions.now = some_there c.args.conditions.now (sym c.is_empty.ensures ∙ c.if-is_empty.false) in
-    let one : PlainTerm = c.index-conditions.result in
+    let one : PlainTerm = c.index-conditions-0.result in
     let heavy : is_heavy (counted one) ≡ true = search rules in
     record {
       made = tt;
       light = tt;
-      heavy = ap is_heavy (from_first c.args.conditions.now one some c.index-conditions.is) ∙ onto_heavy (counted one) (drop 1 c.args.conditions.now) heavy;
+      heavy = ap is_heavy (from_first c.args.conditions.now one some c.index-conditions-0.is) ∙ onto_heavy (counted one) (drop 1 c.args.conditions.now) heavy;
     }
