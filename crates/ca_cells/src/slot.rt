@@ -1,6 +1,6 @@
 //! What stands in a slot: a history in memory of its own, so that claiming a cell and giving it back moves one word.
 
-ghost use Rattle.std.specs.Prelude.{◌≡◌, ℕ, List, length, IfOk, OnErr};
+ghost use Rattle.std.specs.Prelude.{◌≡◌, ℕ, ◌*◌, List, length, IfOk, OnErr};
 ghost use Rattle.ca_program.specs.View.{program_view};
 ghost use Rattle.ca_model.specs.Typed.{TypedHeap};
 ghost use Rattle.ca_meaning.specs.Agree.{AgreesAt};
@@ -56,13 +56,21 @@ impl SlotLog {
         Box::into_inner(log)
     }
 
-    /// How many entries it has.
+    /// The word of a cell that is free and has this history: twice the number of its entries.
     #[inline]
-    pub(crate) fn len(&self) -> usize
-        ensures { result ≡ length self.now.entries }
+    pub(crate) fn word(&self) -> u64
+        ensures { result ≡ 2 * length self.now.entries }
     {
-        self.log.entries.len()
+        word_with(&self.log)
     }
+}
+
+/// The word of a cell that is free and has this history.
+#[inline]
+fn word_with(log: &CellLog) -> u64
+    ensures { result ≡ 2 * length log.now.entries }
+{
+    2 * log.entries.len() as u64
 }
 
 /// Runs the section of a task on the object of a history in a slot and adds its entry, as `add` of `adding` does.
