@@ -61,16 +61,8 @@ impl SlotLog {
     pub(crate) fn word(&self) -> u64
         ensures { result ≡ 2 * length self.now.entries }
     {
-        word_with(&self.log)
+        self.log.entries.twice()
     }
-}
-
-/// The word of a cell that is free and has this history.
-#[inline]
-fn word_with(log: &CellLog) -> u64
-    ensures { result ≡ 2 * length log.now.entries }
-{
-    2 * log.entries.len() as u64
 }
 
 /// Runs the section of a task on the object of a history in a slot and adds its entry, as `add` of `adding` does.
