@@ -1,6 +1,6 @@
 use Rattle.std.proofs.Common.{refl}
 use Rattle.ca_pool.proofs.Assembles.{fewer}
-use Rattle.ca_pool.proofs.Spreading.{put_one, put_none}
+use Rattle.ca_pool.proofs.Spread.{put_one, put_none}
 use Rattle.ca_pool.proofs.spreading.put_all.Goals as goal
 
 pub loop-number-init : goal.loop-number-init
