@@ -37,6 +37,39 @@ fn prints_what_was_stored(rt: HostRuntime) {
     assert!(rt; sink.bytes() == expected.as_bytes());
 }
 
+/// Makes so many objects of the first class.
+fn make<R: Abort>(rt: &R, program: &Program, heap: &mut Heap, count: usize) {
+    for _ in 0..count {
+        heap.create(program, ClassId(0)).expect(rt, "an object");
+    }
+}
+
+/// Whether the heap's text is written before the sink's call with this number fails.
+fn is_written_before<R: AllocGlobal + Abort>(
+    rt: &R,
+    program: &Program,
+    heap: &Heap,
+    call: u64,
+) -> bool {
+    let alloc = rt.alloc();
+    let failing = vec![in alloc; call; 1].expect(rt, "a number");
+    let mut sink = MemSink::new(alloc, 50_000, failing).expect(rt, "a sink");
+    print_heap(program, heap, &mut sink).is_ok()
+}
+
+/// Whole lines go out together: 1,000 lines of 25,890 bytes take nine writes.
+#[test]
+fn writes_lines_together(rt: HostRuntime) {
+    let text = "class Node { public: long sum; Node *next; }; int main() { }";
+    let program = program(&rt, text);
+    let mut heap = Heap::new(rt.alloc());
+    make(&rt, program, &mut heap, 1_000);
+    let in_nine = is_written_before(&rt, program, &heap, 10);
+    let in_eight = is_written_before(&rt, program, &heap, 9);
+    let_go(heap);
+    assert!(rt; in_nine && !in_eight);
+}
+
 /// A list of values takes one more.
 #[test]
 fn adds_a_value(rt: HostRuntime) {

@@ -1,6 +1,6 @@
 -- How often something is demanded, summed from the left, and where that is too heavy.
 use Rattle.std.proofs.Common.{◌≡◌, ℕ, ◌+◌, ◌<◌, ◌≤◌, pos, Bool, true, false, List, [], ◌∷◌, ◌++◌, length, map, drop, Option, Some, None, Result, Ok, Err, refl, sym, ap, ◌∙◌, arith, subst, slice_index_or, is_eq}
-use Rattle.std.specs.Prelude.{IfOk, IfSome, IfNone, IsTrue, if◌then◌else◌}
+use Rattle.std.specs.Prelude.{◌==◌, IfOk, IfSome, IfNone, IsTrue, if◌then◌else◌}
 use Rattle.std.proofs.lemmas.List.{at_drop_more, drop_all}
 use Rattle.ca_norm.specs.Terms.{PlainTerm, number, add}
 use Rattle.ca_shared_terms.specs.Heavy.{is_heavy}
@@ -56,6 +56,10 @@ one_onto t cs i c l e = at_drop_more (λ zs. counted_onto t zs) cs i c l ∙ ap 
 pub no_more : (t : PlainTerm) (cs : List PlainTerm) (i : ℕ) → length cs ≤ i → counted_onto t (drop i cs) ≡ t
 no_more t cs i l = ap (counted_onto t) (drop_all i cs l)
 
+pub some_there : (cs : List PlainTerm) → (length cs == 0) ≡ false → 0 < length cs
+some_there [] e = let z : true ≡ false = e in absurd cc
+some_there (c ∷ cs) e = omega arith
+
 -- the first condition, and the others
 pub from_first : (cs : List PlainTerm) (c : PlainTerm) → 0 < length cs → c ≡ slice_index_or cs 0 c → count_of cs ≡ counted_onto (counted c) (drop 1 cs)
 from_first [] c l e = absurd (omega (arith, l))
@@ -76,15 +80,6 @@ conditions_of_both k (d ∷ ds) es = by (is_eq (key_cmp k (key_of d))) (conditio
     by true h = ap (λ zs. d.guard ∷ zs) h
     by false h = h
 
--- of one demand in front of others
-pub conditions_if : (k : Key) (d : PlainDemand) (ds : List PlainDemand) (b : Bool) → is_eq (key_cmp k (key_of d)) ≡ b → conditions_of k (d ∷ ds) ≡ (if b then d.guard ∷ conditions_of k ds else conditions_of k ds)
-conditions_if k d ds b e = ap (λ c. if c then d.guard ∷ conditions_of k ds else conditions_of k ds) e
-
--- the rest of a group behind one of its demands
-pub group_step : (k : Key) (g : PlainTerm) (ds : List Demand) (i : ℕ) (d : Demand) → i < length ds → d ≡ slice_index_or ds i d →
-    conditions_of k (map (demand_of g) (drop i ds)) ≡ conditions_of k (demand_of g d ∷ map (demand_of g) (drop (i + 1) ds))
-group_step k g ds i d l e = at_drop_more (λ zs. conditions_of k (map (demand_of g) zs)) ds i d l ∙ ap (λ (z : Demand). conditions_of k (demand_of g z ∷ map (demand_of g) (drop (i + 1) ds))) (sym e)
-
 -- the rest of the groups behind one of them
 pub groups_step : (k : Key) (gs : List Group) (i : ℕ) (g : Group) → i < length gs → g ≡ slice_index_or gs i g →
     conditions_of k (demands_of (drop i gs)) ≡ conditions_of k (map (demand_of g.guard) g.items.items) ++ conditions_of k (demands_of (drop (i + 1) gs))
@@ -92,27 +87,3 @@ groups_step k gs i g l e =
     at_drop_more (λ zs. conditions_of k (demands_of zs)) gs i g l
     ∙ ap (λ (z : Group). conditions_of k (demands_of (z ∷ drop (i + 1) gs))) (sym e)
     ∙ conditions_of_both k (map (demand_of g.guard) g.items.items) (demands_of (drop (i + 1) gs))
-
--- Where one of two counts is too heavy, they aren't the same by orders.
-
-not_both : {b : Bool} → b ≡ true → b ≡ false → ⊥
-not_both e f = absurd cc
-
-pub first_heavy : (t u : PlainTerm) → is_heavy t ≡ true → LightOrderSame t u → ⊥
-first_heavy t u h s = not_both h s.first
-
-pub second_heavy : (t u : PlainTerm) → is_heavy u ≡ true → LightOrderSame t u → ⊥
-second_heavy t u h s = not_both h s.second
-
--- what the test of two counts that aren't too heavy tells
-pub record Counted {E : Type 0} (t u : PlainTerm) (r : Result Bool E) : Type 0 where
-  pub same : IfOk r (λ a. IsTrue a → LightOrderSame t u)
-  pub apart : IfOk r (λ a. a ≡ false → LightOrderSame t u → ⊥)
-
-pub same_of_orders : {E : Type 0} (t u : PlainTerm) (r : Result Bool E) → is_heavy t ≡ false → is_heavy u ≡ false → IfOk r (λ a. IsTrue a → OrderSame t u) → IfOk r (λ a. a ≡ false → OrderSame t u → ⊥) → Counted t u r
-same_of_orders t u (Ok a) l m s n = record { same = λ yes. record { first = l; second = m; same = s yes }; apart = λ no o. n no o.same }
-same_of_orders t u (Err z) l m s n = record { same = tt; apart = tt }
-
-pub same_by_orders : {E : Type 0} (x y t u : PlainTerm) (r : Result Bool E) → x ≡ t → y ≡ u → is_heavy x ≡ false → is_heavy y ≡ false →
-    IfOk r (λ a. IsTrue a → OrderSame x y) → IfOk r (λ a. a ≡ false → OrderSame x y → ⊥) → Counted t u r
-same_by_orders x y t u r e f l m s n = subst (λ z. Counted z u r) e (subst (λ z. Counted x z r) f (same_of_orders x y r l m s n))

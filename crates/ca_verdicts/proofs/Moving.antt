@@ -285,7 +285,7 @@ module _ (p : PlainProgram) (m : PlainMethod) (g : ℕ) (f : FieldId) (up : Bool
 
   branch_made : (t : PlainTerm) → steps_made p s t branch ≡ and t condition ∷ point_term limit ∷ and t (not condition) ∷ behind ∷ []
   branch_made t =
-      let c : term_of p s r.condition ≡ condition = condition_term p m g f r.limit r.is_limit ts r.below in
+      let c : term_of p s r.condition ≡ condition = condition_term p m g f r.limit r.is_limit ts r.past in
       let fields : targets (field_target r.part empty) 0 (after p s branch).fields ≡ behind ∷ [] = ap (targets (field_target r.part empty) 0) branch_fields ∙ one_target (field_target r.part empty) 0 f.field behind ts inside target_is in
       let locals : targets (local_target r.part empty) 0 (after p s branch).locals ≡ [] = no_targets (local_target r.part empty) 0 (after p s branch).locals (λ k l. local_is k) in
       ap₂ (λ x y. x ++ (and t (term_of p s r.condition) ∷ (y ++ (and t (not (term_of p s r.condition)) ∷ joined_terms r.part empty (after p s branch))))) (condition_guards p m g f r.limit r.is_limit s t r.past) (put_made p m g f r.limit r.is_limit s (then_guard t (term_of p s r.condition)) r.puts)
