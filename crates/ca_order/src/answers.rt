@@ -23,6 +23,7 @@ use crate::places::{Place, order_of};
 use crate::point::Point;
 use crate::points::points;
 use crate::rankings::{Ranking, copied, orders};
+use crate::tries::soon_refuted;
 use ca_forms::parts::{add, both, let_go};
 use ca_norm::{Normal, Term, same};
 use std::alloc::{AllocError, Global};
@@ -43,7 +44,7 @@ pub enum OrderAnswer {
 }
 
 /// The forms of two terms under an order, where they differ.
-fn forms_apart(
+pub(crate) fn forms_apart(
     alloc: Global,
     first: &Term,
     second: &Term,
@@ -261,11 +262,17 @@ fn is_same(answer: &OrderAnswer) -> bool
     }
 }
 
-/// Whether two terms have few points, and one form under each order of these.
+/// Whether two terms have few points, and one form under each order of these. What is apart is mostly so where no two
+/// points are equal, so this is tried before orders are listed.
 pub fn are_order_same(alloc: Global, first: &Term, second: &Term) -> Result<bool, AllocError>
     ensures same { IfOk result (λ a. IsTrue a → OrderSame (shape first.now) (shape second.now)) }
     ensures apart { IfOk result (λ a. a ≡ false → OrderSame (shape first.now) (shape second.now) → ⊥) }
 {
+    let points = points(alloc, first, second)?;
+    let refuted = soon_refuted(alloc, first, second, points.as_slice())?;
+    if refuted {
+        return Ok(false);
+    }
     let answer = order_same(alloc, first, second)?;
     let same = is_same(&answer);
     let_go(answer);

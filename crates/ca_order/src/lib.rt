@@ -21,6 +21,7 @@ mod places;
 mod point;
 pub mod points;
 pub mod rankings;
+mod tries;
 pub mod under;
 
 pub use crate::answers::{OrderAnswer, are_order_same, order_same};
