@@ -21,6 +21,7 @@ mod places;
 mod point;
 pub mod points;
 pub mod rankings;
+mod shortcuts;
 mod tries;
 pub mod under;
 
