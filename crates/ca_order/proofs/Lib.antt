@@ -25,3 +25,4 @@ pub mod OneClass
 pub mod Seen
 pub mod Found
 pub mod Refuted
+pub mod Coming

@@ -23,6 +23,8 @@ use crate::places::{Place, order_of};
 use crate::point::Point;
 use crate::points::points;
 use crate::rankings::{Ranking, copied, orders};
+use crate::shortcuts::is_seen_same;
+use crate::tries::soon_refuted;
 use ca_forms::parts::{add, both, let_go};
 use ca_norm::{Normal, Term, same};
 use std::alloc::{AllocError, Global};
@@ -43,7 +45,7 @@ pub enum OrderAnswer {
 }
 
 /// The forms of two terms under an order, where they differ.
-fn forms_apart(
+pub(crate) fn forms_apart(
     alloc: Global,
     first: &Term,
     second: &Term,
@@ -55,7 +57,13 @@ fn forms_apart(
     ensures differ { IfOk result (λ r. IfSome r (λ p. p.0 ≢ p.1)) }
     ensures same { IfOk result (λ r. IfNone r (SameUnder points.now (shape first.now) (shape second.now) ranks.now)) }
 {
-    let (one, other) = both_forms(alloc, first, second, points, ranks)?;
+    let places = order_of(alloc, points, ranks)?;
+    if is_seen_same(places.as_slice(), first, second) {
+        return Ok(None);
+    }
+    let forms = both_forms(alloc, first, second, places.as_slice());
+    let_go(places);
+    let (one, other) = forms?;
     let alike = same(&one, &other);
     Ok(unless(alike, one, other))
 }
@@ -65,17 +73,13 @@ fn both_forms(
     alloc: Global,
     first: &Term,
     second: &Term,
-    points: &[Point],
-    ranks: &[u32],
+    places: &[Place],
 ) -> Result<(Normal, Normal), AllocError>
-    ensures first { IfOk result (λ p. p.0 ≡ norm (under (ranked points.now ranks.now) (shape first.now))) }
-    ensures second { IfOk result (λ p. p.1 ≡ norm (under (ranked points.now ranks.now) (shape second.now))) }
+    ensures first { IfOk result (λ p. p.0 ≡ norm (under places.now (shape first.now))) }
+    ensures second { IfOk result (λ p. p.1 ≡ norm (under places.now (shape second.now))) }
 {
-    let places = order_of(alloc, points, ranks)?;
-    let one = form_of(alloc, places.as_slice(), first);
-    let forms = both(one, form_of(alloc, places.as_slice(), second));
-    let_go(places);
-    forms
+    let one = form_of(alloc, places, first);
+    both(one, form_of(alloc, places, second))
 }
 
 /// Two values, unless they are alike.
@@ -261,11 +265,17 @@ fn is_same(answer: &OrderAnswer) -> bool
     }
 }
 
-/// Whether two terms have few points, and one form under each order of these.
+/// Whether two terms have few points, and one form under each order of these. What is apart is mostly so where no two
+/// points are equal, so this is tried before orders are listed.
 pub fn are_order_same(alloc: Global, first: &Term, second: &Term) -> Result<bool, AllocError>
     ensures same { IfOk result (λ a. IsTrue a → OrderSame (shape first.now) (shape second.now)) }
     ensures apart { IfOk result (λ a. a ≡ false → OrderSame (shape first.now) (shape second.now) → ⊥) }
 {
+    let points = points(alloc, first, second)?;
+    let refuted = soon_refuted(alloc, first, second, points.as_slice())?;
+    if refuted {
+        return Ok(false);
+    }
     let answer = order_same(alloc, first, second)?;
     let same = is_same(&answer);
     let_go(answer);

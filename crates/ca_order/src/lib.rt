@@ -21,6 +21,8 @@ mod places;
 mod point;
 pub mod points;
 pub mod rankings;
+mod shortcuts;
+mod tries;
 pub mod under;
 
 pub use crate::answers::{OrderAnswer, are_order_same, order_same};

@@ -96,6 +96,20 @@ pub(crate) fn leader(places: &[Place], point: Point) -> Point
     }
 }
 
+/// Whether the place is that of a point.
+pub(crate) fn is_at(place: &Place, point: Point) -> bool
+    ensures { result ≡ same_point point place.now.0 }
+{
+    is_point(point, place.point)
+}
+
+/// The form of a place's point.
+pub(crate) fn own_form<'a>(place: &'a Place) -> &'a Polynomial
+    ensures { result.now ≡ form_of place.now.0 }
+{
+    &place.form
+}
+
 /// Whether the form is that of a point.
 pub(crate) fn has_form(place: &Place, form: &Polynomial) -> bool
     ensures { result ≡ is_eq (polynomial_cmp form.now (form_of place.now.0)) }

@@ -83,7 +83,7 @@ fn numbers_rise(points: &[Point], ranks: &[u32]) -> bool
 }
 
 /// Whether ranks are an order of points.
-fn is_ranking(points: &[Point], ranks: &[u32]) -> bool
+pub(crate) fn is_ranking(points: &[Point], ranks: &[u32]) -> bool
     ensures { result ≡ is_ranking points.now ranks.now }
 {
     before_used(ranks) && numbers_rise(points, ranks)

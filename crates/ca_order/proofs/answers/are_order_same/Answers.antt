@@ -1,6 +1,13 @@
+use Rattle.std.proofs.Common.{◌∙◌}
 use Rattle.ca_norm.specs.Terms.{shape}
 use Rattle.ca_order.proofs.Refuted.{told_same, not_same}
 use Rattle.ca_order.proofs.answers.are_order_same.Goals as goal
+
+pub returns-then-refuted : goal.returns-then-refuted
+returns-then-refuted c = record {
+  same = λ yes. cc;
+  apart = λ no. c.in_ok-refuted.ensures c.if-refuted.true (c.as_slice.ensures.value ∙ c.in_ok-points.ensures);
+}
 
 pub returns : goal.returns
 returns c =
