@@ -49,7 +49,7 @@ fn are_there(log: &RoundLog, counts: &[u32]) -> bool {
     let mut at: usize = 0;
     for number in 0..counts.len() {
         let mut ran = 0;
-        if at < log.logs.len() && log.numbers[at] as usize == number {
+        if at < log.logs.len() && at < log.numbers.len() && log.numbers[at] as usize == number {
             ran = log.logs[at].entries.len();
             at = at.wrapping_add(1);
         }

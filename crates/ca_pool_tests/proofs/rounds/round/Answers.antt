@@ -25,4 +25,4 @@ make-requires-clause-now g c = subst (λ (cs : List Changed). StandsFor (program
 
 pub work_all-requires-clause-set : goal.work_all-requires-clause-set
 work_all-requires-clause-set g c = λ κs o. let k = c.in_ok-cells.ensures.key in
-    (record { program = k.0 ∙ c.requires.0; frozen = k.2 ∙ c.in_ok-heap.ensures; inside = subst (λ (x : Extent). Contains x.ops twice) (sym k.1) ((c.in_ok-extent.ensures.holds.ops twice).1 (root (zero, omega arith, refl))) }, c.requires.0, c.in_ok-heap.ensures)
+    (record { program = k.0 ∙ c.requires.0; frozen = k.2 ∙ c.in_ok-heap.ensures; inside = subst (λ (x : Extent). Contains x.ops twice) (sym k.1) ((c.in_ok-extent.ensures.holds.ops twice).1 (root (zero, omega arith, refl))) }, c.requires.0, c.of-reads.ensures.0 ∙ c.in_ok-heap.ensures)
