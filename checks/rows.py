@@ -490,7 +490,7 @@ SAMPLES = pathlib.Path(__file__).parent.parent / "samples"
 
 def samples():
     """The plan of each sample, and what it is said to be."""
-    for path in sorted(SAMPLES.glob("*.pairs")):
+    for path in sorted(SAMPLES.rglob("*.pairs")):
         tree = tree_of(path.with_suffix(".cc").read_text())
         plan = Plan(tree)
         yield plan.pairs_text(), path.read_text()
@@ -504,7 +504,7 @@ def small_text(members):
 
 def texts():
     """All texts of the rows."""
-    shown = [text for text, _ in PAIRS + PLANS + EMITTED] + [path.read_text() for path in SAMPLES.glob("*.cc")]
+    shown = [text for text, _ in PAIRS + PLANS + EMITTED] + [path.read_text() for path in SAMPLES.rglob("*.cc")]
     return shown + [small_text(members) for members, _ in VERDICTS + LIMITS]
 
 

@@ -8,7 +8,7 @@ use Rattle.ca_meaning.specs.Serial.{Ended, done, trapped, spent, serial}
 use Rattle.ca_words.specs.declared.Command.{Command}
 use Rattle.ca_words.specs.declared.Command.TheVariants.{Run, Verify}
 use Rattle.ca_words.specs.Words.{Names, reads}
-use Rattle.ca_app.specs.Verified.{VerifyReplies}
+use Rattle.ca_app.specs.Verified.{VerifyReplies, FollowsPlan}
 use Rattle.ca_app.specs.Verified as v
 use Rattle.ca_words.proofs.OneCommand.{one_command}
 use Rattle.ca_app.specs.Accepted.{Accepted}
@@ -17,7 +17,7 @@ use Rattle.ca_app.specs.Refusals.{is_limit_code, refusal_status, refusal_reply}
 use Rattle.ca_app.specs.Reply.{ProgramReplies, runs, tells, refuses, serves, UnreadReplies, generates, loads, Replies, usage, unread, named, verifies}
 use Rattle.ca_app.specs.Told.{tells_plan, CommandTold}
 use Rattle.ca_app.specs.Ends.{Ends, whole, no_memory, read_fault, write_fault, Unreplied, EndsWith, Complete}
-use Rattle.ca_app.specs.Causes.{IsRefused, CheckRefused, IsCheckRefused, IsChecked, LinesFollow, LinesGoWrong, RunEnds, PlanTold, Generates, Loads, IsDone, IsTrapped, IsSpent}
+use Rattle.ca_app.specs.Causes.{IsRefused, CheckRefused, IsCheckRefused, IsChecked, LinesGoWrong, RunEnds, PlanTold, Generates, Loads, IsDone, IsTrapped, IsSpent}
 use Rattle.ca_app.specs.Causes as causes
 use Rattle.ca_app.proofs.OneReply.{tells_is}
 use Rattle.ca_app.proofs.Endings.{tells_reads}
@@ -134,7 +134,7 @@ unread_at (loads loaded) = refl
 -- The refusal that was told, or what was told of the lines.
 data Told (words : List (List ℕ)) (text : List ℕ) (reply : Reply) : Type 0 where
   a_refusal : {limit : Bool} → IsCheckRefused words limit text → reply.status ≡ refusal_status limit → Told words text reply
-  that_they_follow : IsChecked words text LinesFollow → reply.status ≡ 0 → Told words text reply
+  that_they_follow : IsChecked words text FollowsPlan → reply.status ≡ 0 → Told words text reply
   that_they_go_wrong : IsChecked words text LinesGoWrong → reply.status ≡ 9 → Told words text reply
 
 module _ {words : List (List ℕ)} {text : List ℕ} (budget : ℕ) (names : Names words (Verify budget)) where
@@ -159,7 +159,7 @@ refusal_told false (that_they_follow is e) same = absurd (omega (arith, e, same)
 refusal_told true (that_they_go_wrong is e) same = absurd (omega (arith, e, same))
 refusal_told false (that_they_go_wrong is e) same = absurd (omega (arith, e, same))
 
-follows_told : {words : List (List ℕ)} {text : List ℕ} {reply : Reply} → Told words text reply → 0 ≡ reply.status → IsChecked words text LinesFollow
+follows_told : {words : List (List ℕ)} {text : List ℕ} {reply : Reply} → Told words text reply → 0 ≡ reply.status → IsChecked words text FollowsPlan
 follows_told (a_refusal {limit = true} is e) same = absurd (omega (arith, e, same))
 follows_told (a_refusal {limit = false} is e) same = absurd (omega (arith, e, same))
 follows_told (that_they_follow is e) same = is
@@ -225,7 +225,7 @@ module _ {words : List (List ℕ)} {text : List ℕ} where
 
   -- the end of status 0 is that of a run, of a plan that was told, of gen or of load
   done_status : {old now : Option (List ℕ)} {reply : Reply} → (TellsPlan words → PlanTold words text old now) → Replies words text reply → 0 ≡ reply.status → now ≡ grown old reply.bytes
-      → RunEnds words text IsDone ⊎ (PlanTold words text old now ⊎ (Generates words old now ⊎ (Loads words old now ⊎ IsChecked words text LinesFollow)))
+      → RunEnds words text IsDone ⊎ (PlanTold words text old now ⊎ (Generates words old now ⊎ (Loads words old now ⊎ IsChecked words text FollowsPlan)))
   done_status told (usage fault) e bytes = absurd (omega arith)
   done_status told (verifies {budget = b} names replies) e bytes = inr (inr (inr (inr (follows_told (told_check b names replies) e))))
   done_status told (unread names (generates {seed = x} {size = n})) e bytes = inr (inr (inl (record { seed = x; size = n; named = names; bytes = bytes })))
@@ -239,7 +239,7 @@ module _ {words : List (List ℕ)} {text : List ℕ} where
   done_status {old} {now} told (named {command = command} {reply = reply} names reading (serves {p = p} accepted replies)) e bytes =
       ends (done_at accepted.tree p command reply replies e)
     where
-      ends : IsRun p command 0 ⊎ (tells_plan command ≡ true) → RunEnds words text IsDone ⊎ (PlanTold words text old now ⊎ (Generates words old now ⊎ (Loads words old now ⊎ IsChecked words text LinesFollow)))
+      ends : IsRun p command 0 ⊎ (tells_plan command ≡ true) → RunEnds words text IsDone ⊎ (PlanTold words text old now ⊎ (Generates words old now ⊎ (Loads words old now ⊎ IsChecked words text FollowsPlan)))
       ends (inl run) = inl (run_ends 0 IsDone done_end names accepted run)
       ends (inr is) = inr (inl (told (command, names, is)))
 
@@ -257,7 +257,7 @@ module _ {words : List (List ℕ)} {text : List ℕ} where
       absurd ((no_refusal_at accepted.tree p command reply replies).2 e)
 
 module _ {words : List (List ℕ)} {text : List ℕ} {status : ℕ} {old now : Option (List ℕ)} (headline : EndsWith (Replies words text) status old now) where
-  pub when_0 : (TellsPlan words → status ≡ 0 → PlanTold words text old now) → status ≡ 0 → RunEnds words text IsDone ⊎ (PlanTold words text old now ⊎ (Generates words old now ⊎ (Loads words old now ⊎ IsChecked words text LinesFollow)))
+  pub when_0 : (TellsPlan words → status ≡ 0 → PlanTold words text old now) → status ≡ 0 → RunEnds words text IsDone ⊎ (PlanTold words text old now ⊎ (Generates words old now ⊎ (Loads words old now ⊎ IsChecked words text FollowsPlan)))
   when_0 told is = let s = given headline (λ e. omega arith) (λ e. omega arith) (λ e. omega arith) in
       done_status (λ n. told n is) s.is_one (sym is ∙ s.same) s.bytes
 

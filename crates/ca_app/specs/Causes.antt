@@ -75,10 +75,7 @@ pub record IsChecked (words : List (List ℕ)) (text : List ℕ) (is : PlainProg
   pub read : ReadsAs program schedule lines
   pub so : is program budget lines
 
-abbrev pub LinesFollow : PlainProgram → ℕ → List Line → Type 0
-LinesFollow p budget lines = FollowsPlan p budget lines
-
--- they don't, and there is a first bad one
+-- The lines don't follow the program's plan, and there is a first bad one.
 abbrev pub LinesGoWrong : PlainProgram → ℕ → List Line → Type 0
 LinesGoWrong p budget lines = (n : ℕ) × FirstBad (FollowsPlan p budget) lines n
 

@@ -56,7 +56,7 @@ impl Refusal {
     /// The refusal of a line of the schedule, by its number, counted from the first line of the schedule, which is 1.
     pub fn of_line(line: u32) -> Refusal
         ensures at { result.at ≡ at_line line }
-        ensures code { result.code.0 ≡ 61 }
+        ensures code { result.code.0 ≡ ILL_FORMED.0 }
     {
         Refusal {
             at: Place { line, column: 1 },

@@ -7,11 +7,12 @@ ghost use Rattle.ca_program.specs.View.{program_view};
 ghost use Rattle.ca_meaning.specs.Output.{Reply};
 ghost use Rattle.ca_words.specs.declared.Command.TheVariants.{Verify};
 ghost use Rattle.ca_words.specs.Words.{IsInRange, texts, reads_program, Names};
-ghost use Rattle.ca_app.specs.Causes.{IsUsageFault, ReadsNothing, ReadsSource, IsRefused, IsCheckRefused, IsChecked, LinesFollow, LinesGoWrong, RunEnds, PlanTold, Generates, Loads, IsDone, IsTrapped, IsSpent};
+ghost use Rattle.ca_app.specs.Causes.{IsUsageFault, ReadsNothing, ReadsSource, IsRefused, IsCheckRefused, IsChecked, LinesGoWrong, RunEnds, PlanTold, Generates, Loads, IsDone, IsTrapped, IsSpent};
 ghost use Rattle.ca_app.specs.Ends.{Ends, EndsWith, SinkCause, Complete, IsReadToEnd, status_after};
 ghost use Rattle.ca_app.specs.Refusals.{refusal_reply};
 ghost use Rattle.ca_app.specs.Reply.{ProgramReplies, CommandReplies, Replies};
 ghost use Rattle.ca_app.specs.Told.{ProgramTold, CommandTold, tells_plan};
+ghost use Rattle.ca_app.specs.Verified.{FollowsPlan};
 ghost use Rattle.ca_plan.specs.Checked.{Checked};
 
 use crate::reading::{NoProgram, Reading, read_program};
@@ -82,7 +83,7 @@ pub fn top<R: AllocGlobal + Threads + Wait + Sync, S: Source, K: Sink, G: Gate>(
     ensures headline { (text : List ℕ) → S.left source.old ≡ Some text → EndsWith (Replies (texts words.now) text) result (K.written sink.old) (K.written sink.new) }
 
     // What each of its statuses says of the text and its serial run.
-    ensures done { (text : List ℕ) → S.left source.old ≡ Some text → result ≡ DONE → RunEnds (texts words.now) text IsDone ⊎ (PlanTold (texts words.now) text (K.written sink.old) (K.written sink.new) ⊎ (Generates (texts words.now) (K.written sink.old) (K.written sink.new) ⊎ (Loads (texts words.now) (K.written sink.old) (K.written sink.new) ⊎ IsChecked (texts words.now) text LinesFollow))) }
+    ensures done { (text : List ℕ) → S.left source.old ≡ Some text → result ≡ DONE → RunEnds (texts words.now) text IsDone ⊎ (PlanTold (texts words.now) text (K.written sink.old) (K.written sink.new) ⊎ (Generates (texts words.now) (K.written sink.old) (K.written sink.new) ⊎ (Loads (texts words.now) (K.written sink.old) (K.written sink.new) ⊎ IsChecked (texts words.now) text FollowsPlan))) }
     ensures refused { (text : List ℕ) → S.left source.old ≡ Some text → result ≡ REFUSED → IsRefused (texts words.now) false text ⊎ IsCheckRefused (texts words.now) false text }
     ensures trapped { (text : List ℕ) → S.left source.old ≡ Some text → result ≡ TRAPPED → RunEnds (texts words.now) text IsTrapped }
     ensures spent { (text : List ℕ) → S.left source.old ≡ Some text → result ≡ SPENT → RunEnds (texts words.now) text IsSpent }

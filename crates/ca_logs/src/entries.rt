@@ -1,6 +1,6 @@
 //! Lists of entries, which contracts see, and which stand in memory only where they are kept.
 
-ghost use Rattle.std.specs.Prelude.{◌≡◌, ℕ, ◌+◌, List, [], ◌∷◌, ◌++◌, length, map, Some, None, IfOk, IfSome, OnErr, option_copied};
+ghost use Rattle.std.specs.Prelude.{◌≡◌, ℕ, ◌+◌, ◌*◌, List, [], ◌∷◌, ◌++◌, length, map, Some, None, IfOk, IfSome, OnErr, option_copied};
 ghost use Rattle.ca_logs.specs.Lasts.{last_of};
 ghost use Rattle.ca_logs.specs.Telling.{StepsAre, clock_of, entries_by, entry_with, operation_in, ran_entry, steps_of, stopped_in, stuck_entry, told_entry};
 
@@ -204,6 +204,16 @@ impl Entries {
         match &self.kept {
             Some(entries) => entries.len(),
             None => self.told.len(),
+        }
+    }
+
+    /// Twice how many there are, which is always a number.
+    pub fn twice(&self) -> u64
+        ensures { result ≡ 2 * length self.now }
+    {
+        match &self.kept {
+            Some(entries) => 2 * entries.len() as u64,
+            None => 2 * self.told.len() as u64,
         }
     }
 

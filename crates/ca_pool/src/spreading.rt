@@ -1,6 +1,6 @@
 //! The histories of all objects, each at its number, where those that were touched aren't enough.
 
-ghost use Rattle.std.specs.Prelude.{◌≡◌, length, map, slice_set, IfOk};
+ghost use Rattle.std.specs.Prelude.{◌≡◌, ◌<◌, length, map, slice_set, IfOk};
 ghost use Rattle.ca_beside.specs.Beside.{present};
 ghost use Rattle.ca_logs.specs.Touched.{AreBelow, AreRising, fresh, logs_of, pairs, put_logs};
 ghost use Rattle.ca_pool.specs.Gathered.{AreAllNumbers};
@@ -48,6 +48,7 @@ fn all_fresh(
 
 /// Puts a history in the place of another one.
 fn put(all: &mut Vec<CellLog>, number: u32, log: CellLog)
+    requires { number < length all.old.items }
     ensures { all.new.items ≡ slice_set all.old.items number log }
 {
     let _old = mem::replace(&mut all[number as usize], log);

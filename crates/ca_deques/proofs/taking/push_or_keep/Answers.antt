@@ -8,18 +8,18 @@ use Rattle.ca_deques.specs.Thieves.{OwnerView, owner_key}
 use Rattle.ca_deques.proofs.Grown.{grown_fit, grown_weight, one_fits, same_key}
 use Rattle.ca_deques.proofs.taking.push_or_keep.Goals as goal
 
-pub returns-clause-same : goal.returns-clause-same
-returns-clause-same g c =
+pub returns-in_default-clause-same : goal.returns-in_default-clause-same
+returns-in_default-clause-same g c =
     let t : c.push.new.self.hand ≡ pushing c.args.owner.now.hand (c.args.task ∷ []) = c.in_default.ensures.pushed in
     same_key c.args.owner.now c.push.new.self c.push.ensures.same (ap (λ (v : Hand). v.out) t) (ap (λ (v : Hand). v.dealt) t)
 
-pub returns-clause-taken : goal.returns-clause-taken
-returns-clause-taken g c =
+pub returns-in_default-clause-taken : goal.returns-in_default-clause-taken
+returns-in_default-clause-taken g c =
     let t : c.push.new.self.hand ≡ pushing c.args.owner.now.hand (c.args.task ∷ []) = c.in_default.ensures.pushed in
     ap (λ (v : Hand). v.taken) t
 
-pub returns-clause-pushed : goal.returns-clause-pushed
-returns-clause-pushed g c =
+pub returns-in_default-clause-pushed : goal.returns-in_default-clause-pushed
+returns-in_default-clause-pushed g c =
     let t : c.push.new.self.hand ≡ pushing c.args.owner.now.hand (c.args.task ∷ []) = c.in_default.ensures.pushed in
     λ h. omega (arith, ap (λ (v : Hand). weight h v.pushed) t, weight_append h c.args.owner.now.hand.pushed (c.args.task ∷ []))
 

@@ -12,7 +12,7 @@ is_held-requires g c =
     receiver_in (program_of key) (frozen_of key) (call_of c.tries.next) (may_run g.N.Round.setting key c.tries.next c.requires.setting c.tries.invariant.fits).typed
 
 pub tries-preserved : goal.tries-preserved
-tries-preserved g c = let i = c.tries.invariant in let e = c.put_behind.ensures in record {
+tries-preserved g c = let i = c.tries.invariant in let e = c.put_behind-next.ensures in record {
   same = e.same ∙ i.same;
   share = e.share;
   fits = e.fits;

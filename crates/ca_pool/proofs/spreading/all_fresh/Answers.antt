@@ -1,7 +1,7 @@
 use Rattle.std.proofs.Common.{arith}
 use Rattle.ca_beside.specs.Beside.{present}
 use Rattle.ca_beside.proofs.Present.{present_length}
-use Rattle.ca_pool.proofs.Spreading.{one_fresh, all_are_fresh}
+use Rattle.ca_pool.proofs.Spread.{one_fresh, all_are_fresh}
 use Rattle.ca_pool.proofs.spreading.all_fresh.Goals as goal
 
 pub loop-number-init : goal.loop-number-init

@@ -1,5 +1,5 @@
 use Rattle.std.proofs.Common.{length}
-use Rattle.ca_pool.proofs.Spreading.{Putting}
+use Rattle.ca_pool.proofs.Spread.{Putting}
 use Rattle.ca_pool.proofs.spreading.put_all.Given as goal
 
 abbrev pub invariant-loop-number : goal.invariant-loop-number

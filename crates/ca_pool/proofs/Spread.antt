@@ -1,5 +1,5 @@
 -- Histories that are spread out: one without entries for each object, and then those that were touched, put at their numbers.
-use Rattle.std.proofs.Common.{◌≡◌, ◌+◌, ℕ, zero, suc, List, [], ◌∷◌, ◌++◌, length, map, take, Some, sym, ap, subst, ◌∙◌, arith}
+use Rattle.std.proofs.Common.{◌≡◌, ◌≤◌, ◌<◌, ◌+◌, ℕ, zero, suc, List, [], ◌∷◌, ◌++◌, length, map, take, Some, sym, ap, subst, ◌∙◌, arith}
 use Rattle.std.specs.Prelude.{slice_get, slice_set}
 use Rattle.std.proofs.lemmas.List.{map-append, take_all}
 use Rattle.ca_model.specs.declared.value.Object.{Object}
@@ -49,6 +49,13 @@ put_one ns₀ ns ns' ls₀ ls ls' all₀ all all' n l a b c i =
       below = subst (AreBelow ts) (sym (ap length c ∙ set_length all n l)) m.0;
       same = ap (put_logs ts) c ∙ (put_last ts n l all r.1 ∙ (sym (put_one_more ts t all) ∙ (ap (λ (xs : List Touched). put_logs xs all) (sym p.1) ∙ i.same)));
     }
+
+-- each stands at the number of an object
+pub put_inside : (ns₀ ns ns' : List ℕ) (ls₀ ls ls' all₀ all : List CellLog) (n : ℕ) (l : CellLog) → ns ≡ ns' ++ n ∷ [] → ls ≡ ls' ++ l ∷ [] → Putting ns₀ ls₀ all₀ ns ls all → n < length all
+put_inside ns₀ ns ns' ls₀ ls ls' all₀ all n l a b i =
+    let t : Touched = record { number = n; log = l } in
+    let p = pairs_last ns ns' ls ls' n l i.alike a b in
+    (below_less (pairs ns' ls') t (length all) (subst (λ (xs : List Touched). AreBelow xs (length all)) p.1 i.below)).1
 
 -- none is left
 pub put_none : (ns₀ ns : List ℕ) (ls₀ ls all₀ all : List CellLog) → ns ≡ [] → Putting ns₀ ls₀ all₀ ns ls all → all ≡ put_logs (pairs ns₀ ls₀) all₀
