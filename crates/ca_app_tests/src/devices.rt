@@ -62,7 +62,7 @@ fn gives_way<R: AllocGlobal + Threads + Wait + Sync + Abort>(rt: &R, line: &'sta
         && visit(line, 2, 0).ends(rt, 6, b"")
         && visit(line, 3, 0).ends(rt, 0, GRAPH_HEAP.as_bytes())
         && visit(line, 0, 1).ends(rt, 7, b"")
-        && visit(line, 0, 3).ends(rt, 7, b"#0")
+        && visit(line, 0, 2).ends(rt, 0, GRAPH_HEAP.as_bytes())
 }
 
 /// Reads and writes of a visit failing in turn.
@@ -103,7 +103,7 @@ fn gives_way_to_each_fault(rt: HostRuntime) {
         let fails = status == 7 && len != whole;
         let writes = status == 0 && len == whole;
         assert!(rt;
-            begun && if number < 8 { fails } else { writes },
+            begun && if number < 6 { fails } else { writes },
             "of {number}"
         );
         let (status, len, _) = prints(&rt, number, 0);

@@ -47,7 +47,7 @@ of class O { public: long x; O *who; long a[3]; void m(long v) { if (2 < v && v 
 4 3 3:Field 1
 // How often a record is set depends on the order, and so does what is called then.
 of class R { public: long x; R *o; void m(long v) { if (x < v) { x = v; o->t(); } } void t() { } }; int main() { }
-0 0 0:Demand NotNull 0
+0 0 0:Demand Invokes 1
 of class D { public: long n; D *o; void m(long p) { n = n + p; o->k(n); } void k(long v) { } }; int main() { }
 0 0 0:Demand Invokes 1
 of class E { public: long n; long a[4]; void m(long p) { n = n + p; long t = a[n]; } }; int main() { }
