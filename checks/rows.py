@@ -326,6 +326,13 @@ a -> up ( i ) ;
 """),
 ]
 
+
+
+def swept(start, end, added):
+    """A sweep of an array `a`."""
+    return f"for (long i = {start}; i < {end}; i++) a[i] += {added};"
+
+
 # Verdicts on operations m and n of a class A with these members, where a choice or a soundness trap stands behind them.
 VERDICTS = [
     # the counter of a call loop is declared in it
@@ -418,6 +425,78 @@ VERDICTS = [
     ("long f; long a[9]; long g; void m() { g += a[f] - a[f]; } void n() { f = f + 1; }", "DemandsDiffer"),
     ("long f; void m() { f = f % 7; }", None),
     ("long f; " + "void m() { f = f + 1; } void n() { " + "f = f + f; " * 17 + "}", "Large"),
+    # a sweep in each of its forms, beside another and beside a sum at an item
+    *[(f"long a[9]; void m(long f, long t, long v) {{ for (long i = f; i < t; {step}) {body} }}", None)
+      for step, body in (
+        ("i++", "a[i] += v;"), ("i += 1", "a[i] -= v;"), ("i = i + 1", "a[i] = a[i] + v;"),
+        ("i++", "{ a[i] = a[i] - v; }"), ("i++", "{ this->a[i] += v; }"),
+    )],
+    *[(f"long a[9]; long c; void m(long f, long v) {{ {swept('f', 'c', 'v')} }} void n(long j) {{ {body} }}", due)
+      for body, due in (
+        (swept("j * 2 + c", 7, "j * j + 1"), None), ("a[j] = a[j] + 1;", None),
+        ("for (long i; i < j; i++) a[i] -= 1;", None), ("a[3] = 7;", "FieldDiffers a"), ("c = c;", None),
+        ("a[j] *= 2;", "FieldDiffers a"), ("if (c > j) for (long i; i < j; i++) a[i] += 1; else a[j] -= 1;", None),
+        ("for (long i; i < j; i++) c += 1;", "LoopForm 1"),
+    )],
+    (f"long a[9]; void m(long f, long t) {{ {swept('f', 't', 1)} for (long i = f; i < t; i++) a[i] -= 1; }} "
+     "void n(long v) { a[0] = v; }", None),
+    (f"long a[9]; void m(long f, long v) {{ {swept('f', 'f', 'v')} }} void n(long x) {{ a[0] = x; }}", None),
+    (f"long a[9]; void m(long f, long v) {{ {swept('f', 0, 'v')} }} void n(long x) {{ a[0] = x; }}",
+     "FieldDiffers a"),
+    # what a range leaves of an item
+    ("long a[9]; long s; void m(long v) { for (long i = 2; i < 5; i++) a[i] += v; } void n() { s += a[1] + a[5]; }",
+     None),
+    ("long a[9]; long s; void m(long v) { for (long i = 2; i < 5; i++) a[i] += v; } void n() { s += a[2]; }",
+     "FieldDiffers s"),
+    ("long a[9]; long s; void m(long v) { for (long i = 2; i < 5; i++) a[i] += v; } void n() { s += a[4]; }",
+     "FieldDiffers s"),
+    ("long a[9]; long s; void m(long v) { for (long i = 5; i < 2; i++) a[i] += v; } void n() { s += a[3]; }", None),
+    # what a sweep checks stands under its conditions
+    ("long a[9]; long s; void m(long t) { s += t; if (s > 3) for (long i; i < t; i++) a[i] += 1; }", "FieldDiffers a"),
+    ("long a[9]; long s; void m(long t) { s += t; if (s > 3) for (long i; i < t; i++) a[i] += 0; }", "DemandsDiffer"),
+    ("long a[9]; long s; void m(long t) { s += t; if (t > 3) for (long i; i < t; i++) a[i] += 1; }", None),
+    # bounds and what is added: numbers, parameters, and own fields that the extent doesn't write
+    *[(f"long a[9]; long b[9]; long c; long s; bool k; A *q; void m(long f, long t, long v) {{ s += 1; {body} }}", due)
+      for body, due in (
+        (swept("c", "c * 2 * t + f", "c * v + 3 * v * v"), None),
+        (swept("f", "s", "v"), "LoopForm 1"), (swept("s", "t", "v"), "LoopForm 1"),
+        (swept("f", "t", "s"), "LoopForm 1"), (swept("f", "t", "i"), "LoopForm 1"),
+        (swept("f", "t", "2 * i + v"), "LoopForm 1"),
+        (swept("f", "i + 1", "v"), "LoopForm 1"),
+        ("long x = v; for (long i = f; i < t; i++) a[i] += x;", "LoopForm 1"),
+        ("for (long i = f; i <= t; i++) a[i] += v;", "LoopForm 1"),
+        (swept("f", "t - 1", "v"), "LoopForm 1"),
+        (swept("-1", "t", "v"), "LoopForm 1"),
+        (swept("f", "t", "-1"), "LoopForm 1"), ("for (long i = f; i < t; i++) a[i] -= 1;", None),
+        (swept("f", "t", "(v + f) * t"), "LoopForm 1"),
+        (swept("f", "t", "v * (f * t) + (v + (f + 1))"), None),
+        (swept("f", "t", "b[i]"), "LoopForm 1"),
+        (swept("f", "t", "b[0]"), "LoopForm 1"),
+        (swept("f", "t", "max(v, 1)"), "LoopForm 1"),
+        (swept("f", "t", "q->c"), "LoopForm 1"),
+        (swept("f", "this->c", "v"), None),
+    )],
+    # its statement, its counter, and its step
+    *[(f"long a[9]; long b[9]; long c; void m(long f, long t, long v) {{ {body} }}", "LoopForm 1") for body in (
+        "for (long i = f; i < t; i++) a[i] = v;", "for (long i = f; i < t; i++) a[i] = v + a[i];",
+        "for (long i = f; i < t; i++) a[i] = b[i] + v;", "for (long i = f; i < t; i++) a[i] = a[f] + v;",
+        "for (long i = f; i < t; i++) a[i] = a[i] + v + t;", "for (long i = f; i < t; i++) a[i] *= v;",
+        "for (long i = f; i < t; i++) a[i] |= v;", "for (long i = f; i < t; i++) a[i] = a[i] * v;",
+        "for (long i = f; i < t; i++) a[f] += v;",
+        "for (long i = f; i < t; i++) a[i + 1] += v;", "for (long i = f; i < t; i++) { a[i] += v; a[i] += v; }",
+        "for (long i = f; i < t; i++) { a[i] += v; ; }", "for (long i = f; i < t; i++) { { a[i] += v; } }",
+        "for (long i = f; i < t; i++) if (f < i) a[i] += v;", "for (long i = f; i < t; i++) { long x = v; a[i] += v; }",
+        "for (long i = f; i < t; i++) for (long j = f; j < t; j++) a[j] += v;",
+        "long i; for (i = f; i < t; i++) a[i] += v;",
+        "for (long i = f; i < t; i += 2) a[i] += v;", "for (long i = f; t > i; i++) a[i] += v;",
+        "for (long i = f; i < t; i--) a[i] += v;", "for (long i = f; i < t; i = 1 + i) a[i] += v;",
+        "for (long i = f; i < t; f++) a[i] += v;", "while (f < t) { a[f] += v; f++; }",
+    )],
+    # sweeps beside call loops, and behind calls
+    ("A *q; long a[9]; void t() { } "
+     "void m(long v) { for (long i; i < 3; i++) a[i] += v; for (long i; i < v; i++) q->t(); }", None),
+    ("A *q; long a[9]; void t() { } void m(long v) { q->t();\nfor (long i; i < 3; i++) a[i] += v; }",
+     "NotSeparable A::m 2 AccessAfterCall"),
     # operators whose operands may stand in any order
     *[(f"long f; void m(long x) {{ {body} }}", None) for body in (
         "f = max(f, x);", "f = max(x, f);", "f = min(f, x + 1);", "f = min(2 * x, f);", "f &= x;", "f |= x;", "f ^= x;",

@@ -66,7 +66,7 @@ class Extent:
             if found:
                 return f"NotSeparable {op.title()} {found[0]} {found[1]}"
         for op in (a, b):
-            line = first_other_loop(op)
+            line = first_other_loop(op, self.written)
             if line is not None:
                 return f"LoopForm {line}"
         known = self.program.compared

@@ -23,18 +23,59 @@ def start_of(ty):
     return {LONG: number(0), BOOL: truth(False)}.get(ty) or null()
 
 
-def is_call_loop(s):
-    _, _, first, condition, step, body, counter = s
+def counts_up(s):
+    """Whether a `for` declares its counter, compares it with something, and counts it up by one."""
+    _, _, first, condition, step, _, counter = s
     i = ("local", counter)
     steps = [("+=", ("number", 1)), ("=", ("binary", "+", i, ("number", 1)))]
-    calls = body[2] if body[0] == "block" else [body]
     return (
         counter is not None
         and first[4] is not None
         and condition[:3] == ("binary", "<", i)
         and step[0] == "put" and step[2] == counter and step[3:] in steps
-        and calls != [] and all(call[0] == "invoke" for call in calls)
     )
+
+
+def held_in(body):
+    return body[2] if body[0] == "block" else [body]
+
+
+def is_call_loop(s):
+    calls = held_in(s[5])
+    return counts_up(s) and calls != [] and all(call[0] == "invoke" for call in calls)
+
+
+def sweep_form(s):
+    """The field that a `for` sweeps by its form, its bounds, what it adds, and whether it takes that off; or None."""
+    body = held_in(s[5])
+    if not counts_up(s) or len(body) != 1 or body[0][0] != "put_item" or body[0][3] != ("local", s[6]):
+        return None
+    _, _, field, index, op, right = body[0]
+    if op == "=" and right is not None and right[0] == "binary" and right[2] == ("own_item", field, index):
+        op, right = f"{right[1]}=", right[3]
+    elif op == "=":
+        return None
+    return (field, s[2][4], s[3][3], right, op == "-=") if op in ("+=", "-=") else None
+
+
+def is_sum(e, may_name):
+    """Whether an expression is a sum of products of numbers and of what may be named."""
+    if e[:2] == ("binary", "+"):
+        return is_sum(e[2], may_name) and is_sum(e[3], may_name)
+    return is_product(e, may_name)
+
+
+def is_product(e, may_name):
+    if e[:2] == ("binary", "*"):
+        return is_product(e[2], may_name) and is_product(e[3], may_name)
+    return e[0] == "number" or e[0] in ("local", "own") and may_name(e)
+
+
+def sweep_of(s, may_name=lambda e: True):
+    """What a `for` sweeps, where its bounds and what it adds are such sums, none of which names its counter."""
+    found = sweep_form(s)
+    parts = found[1:4] if found else ()
+    return found if all(is_sum(e, lambda e: e != ("local", s[6]) and may_name(e)) for e in parts) else None
 
 
 # What stands in a statement: other statements, and its own expressions. And what stands in an expression.
@@ -84,14 +125,19 @@ def expressions_of(s):
                 yield from expressions_in(e)
 
 
-def first_other_loop(method):
-    """The line of the first loop that is no call loop, or None."""
+def first_other_loop(method, written):
+    """The line of the first loop that is neither a call loop nor a sweep of parameters and of fields that aren't written."""
+
+    def may_name(e):
+        return e[1] < method.params if e[0] == "local" else e[1] not in written
+
     loops = (s for top in method.body for s in statements_in(top) if s[0] in ("while", "for"))
-    return next((s[1] for s in loops if s[0] == "while" or not is_call_loop(s)), None)
+    others = (s for s in loops if s[0] == "while" or not is_call_loop(s) and sweep_of(s, may_name) is None)
+    return next((s[1] for s in others), None)
 
 
 def targets_in(s):
-    """The fields and the locals that a branch puts; the counter of a call loop is none."""
+    """The fields and the locals that a branch puts; the counter of a loop is none."""
     puts = [each for each in statements_in(s) if each[0].startswith("put")]
     counters = {each[6] for each in statements_in(s) if each[0] == "for"}
     return {p[2] for p in puts} - counters
@@ -173,9 +219,22 @@ class Order:
         return parts
 
     def for_statement(self, guard, s):
-        """A call loop: one demand, with the locals that it reads beside its counter."""
+        """A sweep, or a call loop: one demand, with the locals that it reads beside its counter."""
+        found = sweep_of(s)
+        if found:
+            return self.sweep(guard, *found)
         read = {e[1] for e in expressions_of(s) if e[0] == "local"} - {s[6]}
         self.demand(guard, ("loop", id(s)), *[self.state[local] for local in sorted(read)])
+
+    def sweep(self, guard, field, first, last, added, is_minus):
+        """One demand, with the bounds. Sums demand nothing."""
+        bounds = self.value(first, guard), self.value(last, guard)
+        value = self.value(added, guard)
+        if is_minus:
+            value = Term("neg", LONG, (value,))
+        self.demand(guard, ("sweeps", field), *bounds)
+        array = self.state[field]
+        self.state[field] = light(Term("sweep", array.sort, (array, *bounds, value), is_array=True))
 
     def if_statement(self, guard, s):
         _, _, e, yes, no = s

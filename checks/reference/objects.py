@@ -123,9 +123,11 @@ class Objects(Program):
         return [s for s in found if s is not None]
 
     def update(self, names, depth):
-        kind = self.rng.choice("ssstlaavpn" + "ff" * bool(self.folds) + "i" * (depth > 0))
+        kind = self.rng.choice("ssstlaavpnw" + "ff" * bool(self.folds) + "i" * (depth > 0))
         if kind == "n":
             return ("block", self.neutral(names))
+        if kind == "w":
+            return self.sweep(names)
         if kind == "v":
             return self.local(names, 0)
         if kind == "p":
@@ -165,6 +167,50 @@ class Objects(Program):
         for side in sides[1:]:
             e = ("binary", op, e, side) if self.chance(0.7) else ("binary", op, side, e)
         return put(field, "=", e)
+
+    # Sweeps of arrays, and loops that are nearly such
+
+    def sweep(self, names):
+        fields = self.fields_of("a")
+        if not fields:
+            return None
+        name, _, length = self.rng.choice(fields)
+        i, e = self.new_name("i"), self.sum(names)
+        steps = [("put", i, "+=", ("number", 1)), ("put", i, "=", ("binary", "+", ("local", i), ("number", 1)))]
+        start = None if self.chance(0.2) else self.bound(names, length)
+        condition = ("binary", "<" if self.chance(0.97) else "<=", ("local", i), self.bound(names, length))
+        return ("for", ("local", i, LONG, start), condition, self.rng.choice(steps), self.swept(name, i, length, e))
+
+    def swept(self, name, i, length, e):
+        """The body: one thing is added to the item at the counter, or taken off."""
+        index, op = ("local", i), self.rng.choice("++-")
+        if self.chance(0.06):
+            e = self.rng.choice([index, ("binary", "-", e, ("number", 1)), ("unary", "-", ("number", 2))])
+        added = ("binary", op, ("read", None, name, index, length), e)
+        forms = [put(name, f"{op}=", e, index, length), put(name, "=", added, index, length)]
+        if self.chance(0.05):
+            forms = [put(name, "=", e, index, length), put(name, "*=", e, index, length)]
+        return [self.rng.choice(forms)] * (2 if self.chance(0.03) else 1)
+
+    def bound(self, names, length):
+        return ("number", self.rng.randint(0, length)) if self.chance(0.7) else self.sum(names)
+
+    def sum(self, names):
+        """A sum of products of numbers, parameters and fields that no operation writes, mostly."""
+        if self.chance(0.04):
+            return self.expr(LONG, names, 1)
+        operator = self.rng.choice([None, None, None, "+", "*"])
+        if operator is None:
+            return self.atom(names)
+        side = ("binary", "*", self.atom(names), self.atom(names)) if self.chance(0.2) else self.atom(names)
+        return ("binary", operator, side, self.atom(names))
+
+    def atom(self, names):
+        params = [("local", n) for n, t in names if n[0] in "pq" and t == LONG]
+        constants = [own(f[0]) for f in self.fields_of("k") if f[1] == LONG and f[2] is None]
+        number = ("number", self.rng.choice([0, 1, 1, 2, 3, 7]))
+        written = [own(f[0]) for f in self.fields_of("st")] if self.chance(0.03) else []
+        return self.rng.choice([number] + params * 2 + constants + written)
 
     # What leaves all as it was, or does the same on each path, whatever others have written
 

@@ -157,6 +157,9 @@ class Valued:
         if array.kind == "choose":
             c, a, b = array.parts
             return self.item(a if self.of(c) else b, i)
+        if array.kind == "sweep":
+            a, first, last, v = array.parts
+            return wrap(self.item(a, i) + self.of(v)) if self.of(first) <= i < self.of(last) else self.item(a, i)
         a, j, v = array.parts
         if self.of(j) != i:
             return self.item(a, i)

@@ -5,7 +5,7 @@ monomial is a frozen set of pairs of a part and its exponent. Truth is 1, and fa
 of a word, its sort and what it is made of. A part that `&`, `|`, `^`, `max` or `min` makes has the operator, what its
 numbers come to and the set of its other operands, which are sums. The form of a pointer is a part, ("null",) or
 ("choice", sum, form, form). That of an array is ("items", sort, number), ("put", array, index, form), ("sums", array, frozen set of pairs of an
-index and a sum) or ("choice", sum, array, array).
+index, or a range ("range", sum, sum), and a sum) or ("choice", sum, array, array).
 """
 
 from collections import Counter
@@ -65,6 +65,7 @@ SPREADS = {
     "less_equal": sum_of,
     "put": sum_of,
     "add_at": sum_of,
+    "sweep": sum_of,
     "fold": sum_of,
     "mul": lambda a, b: a.spread * b.spread,
     "and": lambda a, b: a.spread * b.spread,
@@ -76,6 +77,7 @@ SPREADS = {
 SHARES = {
     "put": lambda a, i, v: 2 * a.share + i.spread * v.spread,
     "add_at": lambda a, i, v: a.share + i.spread * v.spread,
+    "sweep": lambda a, f, t, v: a.share + f.spread * t.spread * v.spread,
     "choose": lambda c, a, b: b.share + c.spread * (a.share + b.share),
 }
 
@@ -233,6 +235,18 @@ def added(array, index, form):
     return with_sums(base, rows)
 
 
+def swept(array, first, last, form):
+    """A range of two equal bounds adds nothing."""
+    return array if first == last else added(array, ("range", first, last), form)
+
+
+def lies_in(place, j):
+    """Whether j is an index, or lies in a range."""
+    if isinstance(place, tuple):
+        return product(negation(less(j, place[1])), less(j, place[2]))
+    return same_numbers(place, j)
+
+
 def chosen_array(c, a, b):
     (base, ones), (other, twos) = last_sums(a), last_sums(b)
     if base != other:
@@ -253,7 +267,7 @@ def item(array, j, sort):
     before = item(parts[0], j, sort)
     if kind == "put":
         return choose(same_numbers(parts[1], j), parts[2], before)
-    return combined((1, before), *[(1, product(same_numbers(i, j), form)) for i, form in parts[1]])
+    return combined((1, before), *[(1, product(lies_in(i, j), form)) for i, form in parts[1]])
 
 
 # Terms and their forms
@@ -313,6 +327,7 @@ FORMS = {
     "select": lambda t, a, i: item(a.form(), i.form(), t.sort),
     "put": lambda t, a, i, v: ("put", a.form(), i.form(), v.form()),
     "add_at": lambda t, a, i, v: added(a.form(), i.form(), v.form()),
+    "sweep": lambda t, a, f, u, v: swept(a.form(), f.form(), u.form(), v.form()),
 }
 
 

@@ -9,31 +9,44 @@ use Rattle.ca_forms.specs.Plain.{PlainPolynomial, PlainMonomial, PlainPointer, P
 use Rattle.ca_forms.specs.Lists.{products_of}
 use Rattle.ca_forms.specs.Compare.{polynomial_cmp}
 use Rattle.ca_forms.specs.Products.{times}
-use Rattle.ca_forms.specs.Rules.{alone, gathered, chosen, same_numbers, chosen_pointer}
-use Rattle.ca_forms.specs.Arrays.{PlainRows, PlainArray, own_items, put_item, with_sums, array_choice, array_cmp}
+use Rattle.ca_forms.specs.Rules.{alone, gathered, chosen, negated, less_sum, same_numbers, chosen_pointer}
+use Rattle.ca_forms.specs.Arrays.{PlainSpan, one, range, span_cmp, PlainRows, PlainArray, own_items, put_item, with_sums, array_choice, array_cmp}
 
 -- with a row in front, unless nothing is added there
-abbrev pub row_if : PlainPolynomial → PlainPolynomial → PlainRows → PlainRows
+abbrev pub row_if : PlainSpan → PlainPolynomial → PlainRows → PlainRows
 row_if i no_products rs = rs
 row_if i (product_and m c f) rs = (i, product_and m c f) ∷ rs
 
 -- the row at a place, and an empty one behind the last
-abbrev pub row_at : PlainRows → ℕ → PlainPolynomial × PlainPolynomial
-row_at rs p = get_or rs p (no_products, no_products)
+abbrev pub row_at : PlainRows → ℕ → PlainSpan × PlainPolynomial
+row_at rs p = get_or rs p (one no_products, no_products)
 
 -- what a row adds, and more
-abbrev pub joined_rows : PlainPolynomial × PlainPolynomial → PlainPolynomial → PlainPolynomial
+abbrev pub joined_rows : PlainSpan × PlainPolynomial → PlainPolynomial → PlainPolynomial
 joined_rows r f = gathered (products_of r.1 ++ products_of f)
 
-abbrev pub put_row_at : Ordering → PlainPolynomial → PlainPolynomial → PlainPolynomial × PlainPolynomial → PlainRows → PlainRows → PlainRows
+abbrev pub put_row_at : Ordering → PlainSpan → PlainPolynomial → PlainSpan × PlainPolynomial → PlainRows → PlainRows → PlainRows
 put_row_at Less i f r rs below = row_if i f (r ∷ rs)
 put_row_at Equal i f r rs below = row_if i (joined_rows r f) rs
 put_row_at Greater i f r rs below = r ∷ below
 
 -- one sum more at an index, in the order of the indexes; a sum that is zero vanishes
-abbrev pub put_row : PlainPolynomial → PlainPolynomial → PlainRows → PlainRows
+abbrev pub put_row : PlainSpan → PlainPolynomial → PlainRows → PlainRows
 put_row i f [] = row_if i f []
-put_row i f (r ∷ rs) = put_row_at (polynomial_cmp i r.0) i f r rs (put_row i f rs)
+put_row i f (r ∷ rs) = put_row_at (span_cmp i r.0) i f r rs (put_row i f rs)
+
+-- a range whose bounds are equal
+abbrev pub is_empty : PlainSpan → Bool
+is_empty (one i) = false
+is_empty (range f t) = is_eq (polynomial_cmp f t)
+
+abbrev pub put_unless : Bool → PlainSpan → PlainPolynomial → PlainRows → PlainRows
+put_unless true i f rs = rs
+put_unless false i f rs = put_row i f rs
+
+-- one sum more, unless nothing lies in its range
+abbrev pub put_sum : PlainSpan → PlainPolynomial → PlainRows → PlainRows
+put_sum i f rs = put_unless (is_empty i) i f rs
 
 -- an array but for a last gathered sum, and that sum
 abbrev pub rest_of : PlainArray → PlainArray
@@ -49,9 +62,9 @@ abbrev pub summed : PlainArray → PlainRows → PlainArray
 summed a [] = a
 summed a (r ∷ rs) = with_sums a (r ∷ rs)
 
--- One sum more at an index joins a last gathered sum.
-abbrev pub added_at : PlainArray → PlainPolynomial → PlainPolynomial → PlainArray
-added_at a i f = summed (rest_of a) (put_row i f (last_rows a))
+-- One sum more joins a last gathered sum.
+abbrev pub added_at : PlainArray → PlainSpan → PlainPolynomial → PlainArray
+added_at a i f = summed (rest_of a) (put_sum i f (last_rows a))
 
 -- k times the product of two polynomials
 abbrev pub weighed : ℕ → PlainPolynomial → PlainPolynomial → PlainPolynomial
@@ -60,7 +73,7 @@ weighed k c f = gathered (scale k (product times (products_of c) (products_of f)
 -- each of the first rows, k times c times what it adds, put to the second ones
 abbrev pub put_weighed : ℕ → PlainPolynomial → PlainRows → PlainRows → PlainRows
 put_weighed k c [] rs = rs
-put_weighed k c (x ∷ xs) rs = put_weighed k c xs (put_row x.0 (weighed k c x.1) rs)
+put_weighed k c (x ∷ xs) rs = put_weighed k c xs (put_sum x.0 (weighed k c x.1) rs)
 
 -- whether two arrays agree but for a last gathered sum
 abbrev pub agree : PlainArray → PlainArray → Bool
@@ -82,10 +95,15 @@ chosen_array c a b = chosen_if (agree a b) c a b
 abbrev pub same_index : PlainPolynomial → PlainPolynomial → Sum PlainMonomial
 same_index i j = same_numbers (products_of i) (products_of j)
 
+-- whether an index lies in a span
+abbrev pub lies_in : PlainSpan → PlainPolynomial → Sum PlainMonomial
+lies_in (one i) j = same_index i j
+lies_in (range f t) j = product times (negated (less_sum j f)) (less_sum j t)
+
 -- what rows add to the item at an index
 abbrev pub rows_at : PlainPolynomial → PlainRows → Sum PlainMonomial
 rows_at j [] = []
-rows_at j (r ∷ rs) = product times (same_index r.0 j) (products_of r.1) ++ rows_at j rs
+rows_at j (r ∷ rs) = product times (lies_in r.0 j) (products_of r.1) ++ rows_at j rs
 
 abbrev pub products_in : PlainScalar → Sum PlainMonomial
 products_in (number_form f) = products_of f

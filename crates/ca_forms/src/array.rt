@@ -1,10 +1,11 @@
 //! The forms of arrays: their types, their order and their copies. Each stands on the array before its last step, so
 //! functions on them recurse as deep as an array has steps.
 
-ghost use Rattle.std.specs.Prelude.{◌≡◌, ◌↔◌, IfOk, IsTrue};
+ghost use Rattle.std.specs.Prelude.{◌≡◌, ◌↔◌, IfOk, IsOkAnd, IsTrue};
 ghost use Rattle.std.specs.Cmp.Lexicographic.{slice_cmp};
-ghost use Rattle.ca_forms.specs.Arrays.{own_items, put_item, item_cmp, row_cmp, rows_cmp, array_cmp};
-ghost use Rattle.ca_forms.specs.ArraysSeen.{array_of};
+ghost use Rattle.ca_forms.specs.Arrays.{one, range, span_cmp, own_items, put_item, item_cmp, row_cmp, rows_cmp, array_cmp};
+ghost use Rattle.ca_forms.specs.ArraysSeen.{array_of, span_of};
+ghost use Rattle.ca_forms.specs.ArrayRules.{is_empty};
 
 use crate::order::names;
 use crate::parts::{add, both, one_box};
@@ -14,14 +15,28 @@ use std::alloc::{AllocError, Global};
 use std::cmp::Ordering;
 use std::marker::Model;
 
-/// What is added to the items at an index.
+/// Where a row adds.
+#[derive(Drop)]
+pub struct Span {
+    pub(crate) node: SpanNode,
+}
+
+#[derive(Drop)]
+pub(crate) enum SpanNode {
+    /// At an index.
+    One(Polynomial),
+    /// From a number up to but not including another.
+    Range(Polynomial, Polynomial),
+}
+
+/// What is added to the items of a span.
 #[derive(Drop)]
 pub struct Row {
-    pub(crate) index: Polynomial,
+    pub(crate) span: Span,
     pub(crate) addend: Polynomial,
 }
 
-/// Rows by rising indexes, in which nothing that is added is zero.
+/// Rows by rising spans, in which nothing that is added is zero.
 #[derive(Drop)]
 pub struct Rows {
     pub(crate) items: Vec<Row>,
@@ -47,15 +62,27 @@ pub(crate) enum ArrayNode {
     Choice(Polynomial, Box<Array>, Box<Array>),
 }
 
+impl Model for Span {
+    ghost use Rattle.ca_forms.specs.Arrays.{PlainSpan, coded_span};
+
+    ghost Value = { PlainSpan };
+
+    ghost coded = { coded_span };
+
+    ghost use Rattle.ca_forms.specs.ArraysSeen.{span_of};
+
+    ghost view = { λ a. span_of a.node };
+}
+
 impl Model for Row {
     ghost use Rattle.ca_forms.specs.Plain.{PlainPolynomial};
-    ghost use Rattle.ca_forms.specs.Arrays.{coded_row};
+    ghost use Rattle.ca_forms.specs.Arrays.{PlainSpan, coded_row};
 
-    ghost Value = { PlainPolynomial × PlainPolynomial };
+    ghost Value = { PlainSpan × PlainPolynomial };
 
     ghost coded = { coded_row };
 
-    ghost view = { λ a. (a.index, a.addend) };
+    ghost view = { λ a. (a.span, a.addend) };
 }
 
 impl Model for Rows {
@@ -222,12 +249,95 @@ impl Array {
     }
 }
 
+impl SpanNode {
+    pub(crate) fn span(self) -> Span
+        ensures { result ≡ span_of self }
+    {
+        Span { node: self }
+    }
+}
+
+/// A range of two bounds that were made for it.
+#[inline(never)]
+fn range_of(bounds: Result<(Polynomial, Polynomial), AllocError>) -> Result<Span, AllocError>
+    ensures { IfOk result (λ s. IsOkAnd bounds (λ b. s ≡ range b.0 b.1)) }
+{
+    let (from, to) = bounds?;
+    Ok(SpanNode::Range(from, to).span())
+}
+
+/// An index that was made for it.
+#[inline(never)]
+fn one_of(index: Result<Polynomial, AllocError>) -> Result<Span, AllocError>
+    ensures { IfOk result (λ s. IsOkAnd index (λ i. s ≡ one i)) }
+{
+    let index = index?;
+    Ok(SpanNode::One(index).span())
+}
+
+impl Span {
+    /// The item at an index.
+    pub fn one(index: Polynomial) -> Span
+        ensures { result ≡ one index }
+    {
+        SpanNode::One(index).span()
+    }
+
+    /// The items from a number up to but not including another.
+    pub fn range(from: Polynomial, to: Polynomial) -> Span
+        ensures { result ≡ range from to }
+    {
+        SpanNode::Range(from, to).span()
+    }
+
+    /// Whether it is a range whose bounds are equal.
+    pub(crate) fn is_empty(&self) -> bool
+        ensures { result ≡ is_empty self.now }
+    {
+        match &self.node {
+            SpanNode::One(_) => false,
+            SpanNode::Range(from, to) => from.compare(to) == Ordering::Equal,
+        }
+    }
+
+    /// By the order of their codes.
+    #[inline(never)]
+    pub(crate) fn compare(&self, other: &Span) -> Ordering
+        ensures { result ≡ span_cmp self.now other.now }
+    {
+        match &self.node {
+            SpanNode::One(i) => match &other.node {
+                SpanNode::One(j) => i.compare(j),
+                SpanNode::Range(_, _) => Ordering::Less,
+            },
+            SpanNode::Range(f, t) => match &other.node {
+                SpanNode::One(_) => Ordering::Greater,
+                SpanNode::Range(g, u) => match f.compare(g) {
+                    Ordering::Equal => t.compare(u),
+                    order => order,
+                },
+            },
+        }
+    }
+
+    /// The same span once more.
+    #[inline(never)]
+    pub(crate) fn copy(&self, alloc: Global) -> Result<Span, AllocError>
+        ensures { IfOk result (λ s. s ≡ self.now) }
+    {
+        match &self.node {
+            SpanNode::One(i) => one_of(i.copy(alloc)),
+            SpanNode::Range(f, t) => range_of(both(f.copy(alloc), t.copy(alloc))),
+        }
+    }
+}
+
 impl Row {
     #[inline(never)]
     fn compare(&self, other: &Row) -> Ordering
         ensures { result ≡ row_cmp self.now other.now }
     {
-        match self.index.compare(&other.index) {
+        match self.span.compare(&other.span) {
             Ordering::Equal => self.addend.compare(&other.addend),
             order => order,
         }
@@ -237,8 +347,8 @@ impl Row {
     fn copy(&self, alloc: Global) -> Result<Row, AllocError>
         ensures { IfOk result (λ r. r ≡ self.now) }
     {
-        let (index, addend) = both(self.index.copy(alloc), self.addend.copy(alloc))?;
-        Ok(Row { index, addend })
+        let (span, addend) = both(self.span.copy(alloc), self.addend.copy(alloc))?;
+        Ok(Row { span, addend })
     }
 }
 
@@ -288,7 +398,7 @@ fn compare_rows(a: &[Row], b: &[Row]) -> Ordering
 pub(crate) fn copy_rows(alloc: Global, rows: &[Row]) -> Result<Vec<Row>, AllocError>
     ensures { IfOk result (λ v. v.items ≡ rows.now) }
 {
-    let mut copies = Vec::new(alloc);
+    let mut copies = Vec::with_capacity(alloc, rows.len())?;
     for row in rows {
         add(&mut copies, row.copy(alloc))?;
     }

@@ -2,28 +2,28 @@
 
 ghost use Rattle.std.specs.Prelude.{◌≡◌, ◌≤◌, ◌<◌, ◌++◌, ℕ, suc, true, length, take, drop, IfOk, IsOkAnd};
 ghost use Rattle.ca_forms.specs.Arrays.{array_choice};
-ghost use Rattle.ca_forms.specs.ArrayRules.{row_if, row_at, joined_rows, put_row, put_weighed, rest_of, last_rows, summed, added_at, agree, chosen_rows, chosen_if, chosen_array};
+ghost use Rattle.ca_forms.specs.ArrayRules.{row_if, row_at, joined_rows, put_row, put_sum, put_weighed, rest_of, last_rows, summed, added_at, agree, chosen_rows, chosen_if, chosen_array};
 ghost use Rattle.ca_forms.specs.clauses.Places.{IsPlace, is_nothing};
 
-use crate::array::{Array, ArrayNode, Row, Rows, copy_rows};
+use crate::array::{Array, ArrayNode, Row, Rows, Span, copy_rows};
 use crate::parts::{both, let_go, one_box};
 use crate::polynomial::Polynomial;
 use crate::sums::{together, weighed};
 use std::alloc::{AllocError, Global};
 use std::cmp::Ordering;
 
-/// Where a row of an index stands, or is to stand.
+/// Where a row of a span stands, or is to stand.
 pub(crate) enum Place {
     At(usize),
     Before(usize),
 }
 
-fn place_of(rows: &[Row], index: &Polynomial) -> Place
-    ensures { IsPlace result index.now rows.now }
+fn place_of(rows: &[Row], span: &Span) -> Place
+    ensures { IsPlace result span.now rows.now }
 {
     for i in 0..rows.len() {
         let row = &rows[i];
-        match index.compare(&row.index) {
+        match span.compare(&row.span) {
             Ordering::Less => return Place::Before(i),
             Ordering::Equal => return Place::At(i),
             Ordering::Greater => {}
@@ -46,17 +46,17 @@ impl Polynomial {
 fn put_before(
     rows: Vec<Row>,
     place: usize,
-    index: Polynomial,
+    span: Span,
     addend: Polynomial,
 ) -> Result<Vec<Row>, AllocError>
     requires { place ≤ length rows.items }
-    ensures { IfOk result (λ v. v.items ≡ take place rows.items ++ row_if index addend (drop place rows.items)) }
+    ensures { IfOk result (λ v. v.items ≡ take place rows.items ++ row_if span addend (drop place rows.items)) }
 {
     let mut all = rows;
     if addend.is_nothing() {
         return Ok(all);
     }
-    all.insert(place, Row { index, addend })?;
+    all.insert(place, Row { span, addend })?;
     Ok(all)
 }
 
@@ -66,34 +66,51 @@ fn join_at(
     alloc: Global,
     rows: Vec<Row>,
     place: usize,
-    index: Polynomial,
+    span: Span,
     addend: Polynomial,
 ) -> Result<Vec<Row>, AllocError>
     requires { place < length rows.items }
-    ensures { IfOk result (λ v. v.items ≡ take place rows.items ++ row_if index (joined_rows (row_at rows.items place) addend) (drop (suc place) rows.items)) }
+    ensures { IfOk result (λ v. v.items ≡ take place rows.items ++ row_if span (joined_rows (row_at rows.items place) addend) (drop (suc place) rows.items)) }
 {
     let mut others = rows;
     let Row {
-        index: _,
+        span: _,
         addend: old,
     } = others.remove(place);
     let sum = together(alloc, old, addend)?;
-    put_before(others, place, index, sum)
+    put_before(others, place, span, sum)
 }
 
-/// One sum more at an index.
+/// One sum more in a span.
 #[inline(never)]
 fn put_row(
     alloc: Global,
     rows: Vec<Row>,
-    index: Polynomial,
+    span: Span,
     addend: Polynomial,
 ) -> Result<Vec<Row>, AllocError>
-    ensures { IfOk result (λ v. v.items ≡ put_row index addend rows.items) }
+    ensures { IfOk result (λ v. v.items ≡ put_row span addend rows.items) }
 {
-    match place_of(&rows, &index) {
-        Place::At(place) => join_at(alloc, rows, place, index, addend),
-        Place::Before(place) => put_before(rows, place, index, addend),
+    match place_of(&rows, &span) {
+        Place::At(place) => join_at(alloc, rows, place, span, addend),
+        Place::Before(place) => put_before(rows, place, span, addend),
+    }
+}
+
+/// One sum more, unless nothing lies in its span.
+#[inline(never)]
+fn put_sum(
+    alloc: Global,
+    rows: Vec<Row>,
+    span: Span,
+    addend: Polynomial,
+) -> Result<Vec<Row>, AllocError>
+    ensures { IfOk result (λ v. v.items ≡ put_sum span addend rows.items) }
+{
+    if span.is_empty() {
+        Ok(rows)
+    } else {
+        put_row(alloc, rows, span, addend)
     }
 }
 
@@ -111,8 +128,8 @@ fn put_weighed(
     let mut all = rows;
     for other in others {
         let addend = weighed(alloc, condition, &other.addend, factor);
-        let (index, addend) = both(other.index.copy(alloc), addend)?;
-        all = put_row(alloc, all, index, addend)?;
+        let (span, addend) = both(other.span.copy(alloc), addend)?;
+        all = put_sum(alloc, all, span, addend)?;
     }
     Ok(all)
 }
@@ -173,18 +190,18 @@ impl Array {
         }
     }
 
-    /// With a sum more at an index.
+    /// With a sum more in a span.
     #[inline(never)]
     pub fn added_at(
         self,
         alloc: Global,
-        index: Polynomial,
+        span: Span,
         addend: Polynomial,
     ) -> Result<Array, AllocError>
-        ensures { IfOk result (λ a. a ≡ added_at self index addend) }
+        ensures { IfOk result (λ a. a ≡ added_at self span addend) }
     {
         let (rest, rows) = self.parted(alloc);
-        summed(alloc, rest, put_row(alloc, rows, index, addend))
+        summed(alloc, rest, put_sum(alloc, rows, span, addend))
     }
 
     /// Whether both agree but for a last gathered sum.

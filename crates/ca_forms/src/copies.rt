@@ -125,7 +125,7 @@ impl Monomial {
 fn copy_powers(alloc: Global, powers: &[Power]) -> Result<Vec<Power>, AllocError>
     ensures { IfOk result (λ v. v.items ≡ powers.now) }
 {
-    let mut copies = Vec::new(alloc);
+    let mut copies = Vec::with_capacity(alloc, powers.len())?;
     for power in powers {
         add(&mut copies, power.copy(alloc))?;
     }
@@ -160,7 +160,7 @@ impl Polynomial {
 fn copy_products(alloc: Global, products: &[Product]) -> Result<Vec<Product>, AllocError>
     ensures { IfOk result (λ v. v.items ≡ products.now) }
 {
-    let mut copies = Vec::new(alloc);
+    let mut copies = Vec::with_capacity(alloc, products.len())?;
     for product in products {
         add(&mut copies, product.copy(alloc))?;
     }
@@ -229,7 +229,7 @@ impl Operands {
 fn copy_scalars(alloc: Global, scalars: &[Scalar]) -> Result<Vec<Scalar>, AllocError>
     ensures { IfOk result (λ v. v.items ≡ scalars.now) }
 {
-    let mut copies = Vec::new(alloc);
+    let mut copies = Vec::with_capacity(alloc, scalars.len())?;
     for scalar in scalars {
         add(&mut copies, scalar.copy(alloc))?;
     }

@@ -110,7 +110,7 @@ fn next(
 fn merged(alloc: Global, a: &[Power], b: &[Power]) -> Result<Vec<Power>, AllocError>
     ensures { IfOk result (λ v. v.items ≡ merge a.now b.now) }
 {
-    let mut powers = Vec::new(alloc);
+    let mut powers = Vec::with_capacity(alloc, a.len().saturating_add(b.len()))?;
     let mut i = 0;
     let mut j = 0;
     while i < a.len() && j < b.len() {

@@ -5,15 +5,15 @@ ghost use Rattle.ca_sums.specs.Sums.{NoZero, AddsSum};
 ghost use Rattle.ca_sums.specs.Products.{product};
 ghost use Rattle.ca_forms.specs.Lists.{products_of};
 ghost use Rattle.ca_forms.specs.Products.{times};
-ghost use Rattle.ca_forms.specs.Rules.{alone, gathered, chosen, chosen_pointer};
+ghost use Rattle.ca_forms.specs.Rules.{alone, gathered, negated, less_sum, chosen, chosen_pointer};
 ghost use Rattle.ca_forms.specs.Plain.{own_item, pointer_part};
-ghost use Rattle.ca_forms.specs.ArrayRules.{same_index, rows_at, products_in, pointer_in, selected, selected_pointer};
+ghost use Rattle.ca_forms.specs.ArrayRules.{same_index, lies_in, rows_at, products_in, pointer_in, selected, selected_pointer};
 
-use crate::array::{Array, ArrayNode, Row};
+use crate::array::{Array, ArrayNode, Row, Span, SpanNode};
 use crate::parts::{both, let_go};
 use crate::pointers::chosen_pointer;
 use crate::polynomial::{Monomial, Part, Pointer, Polynomial, Scalar, ScalarNode};
-use crate::rules::{add_chosen, add_part, add_same};
+use crate::rules::{add_chosen, add_less, add_part, add_same, add_truth};
 use crate::sort::Sort;
 use crate::sums::{add_product_of, finish};
 use std::alloc::{AllocError, Global};
@@ -30,6 +30,56 @@ fn same_index(alloc: Global, i: &Polynomial, j: &Polynomial) -> Result<Polynomia
     finish(alloc, form)
 }
 
+/// Whether a number is less than another.
+#[inline(never)]
+fn less(alloc: Global, f: &Polynomial, g: &Polynomial) -> Result<Polynomial, AllocError>
+    ensures { IfOk result (λ h. h ≡ gathered (less_sum f.now g.now)) }
+{
+    let (f, g) = both(f.copy(alloc), g.copy(alloc))?;
+    let mut form = BTreeMap::new(alloc);
+    add_less(alloc, &mut form, f, g, 1)?;
+    finish(alloc, form)
+}
+
+/// Whether a number is not less than another.
+#[inline(never)]
+fn not_less(alloc: Global, f: &Polynomial, g: &Polynomial) -> Result<Polynomial, AllocError>
+    ensures { IfOk result (λ h. h ≡ gathered (negated (less_sum f.now g.now))) }
+{
+    let (f, g) = both(f.copy(alloc), g.copy(alloc))?;
+    let mut form = BTreeMap::new(alloc);
+    add_truth(alloc, &mut form, true, 1)?;
+    add_less(alloc, &mut form, f, g, u64::MAX)?;
+    finish(alloc, form)
+}
+
+/// Whether an index lies in a range.
+#[inline(never)]
+fn in_range(
+    alloc: Global,
+    from: &Polynomial,
+    to: &Polynomial,
+    index: &Polynomial,
+) -> Result<Polynomial, AllocError>
+    ensures { IfOk result (λ h. h ≡ gathered (product times (negated (less_sum index.now from.now)) (less_sum index.now to.now))) }
+{
+    let (low, high) = both(not_less(alloc, index, from), less(alloc, index, to))?;
+    let mut form = BTreeMap::new(alloc);
+    add_product_of(alloc, &mut form, &low, &high, 1)?;
+    finish(alloc, form)
+}
+
+/// Whether an index lies in a span.
+#[inline(never)]
+fn lies_in(alloc: Global, span: &Span, index: &Polynomial) -> Result<Polynomial, AllocError>
+    ensures { IfOk result (λ h. h ≡ gathered (lies_in span.now index.now)) }
+{
+    match &span.node {
+        SpanNode::One(i) => same_index(alloc, i, index),
+        SpanNode::Range(f, t) => in_range(alloc, f, t, index),
+    }
+}
+
 /// Adds what a row adds to the item at an index, times the factor.
 #[inline(never)]
 fn add_row_at(
@@ -41,10 +91,10 @@ fn add_row_at(
 ) -> Result<(), AllocError>
     requires { NoZero form.old.entries }
     ensures nonzero { NoZero form.new.entries }
-    ensures added { OnOk result (AddsSum form.old.entries form.new.entries factor (product times (same_index row.now.0 index.now) (products_of row.now.1))) }
+    ensures added { OnOk result (AddsSum form.old.entries form.new.entries factor (product times (lies_in row.now.0 index.now) (products_of row.now.1))) }
 {
-    let same = same_index(alloc, &row.index, index)?;
-    add_product_of(alloc, form, &same, &row.addend, factor)
+    let lies = lies_in(alloc, &row.span, index)?;
+    add_product_of(alloc, form, &lies, &row.addend, factor)
 }
 
 /// Adds what rows add to the item at an index, times the factor.

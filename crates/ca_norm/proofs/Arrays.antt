@@ -1,30 +1,33 @@
 -- What the rules for arrays come to under a valuation, item by item.
 use Rattle.std.proofs.Common.{◌≡◌, ℕ, ◌+◌, ◌-◌, ◌*◌, ◌%◌, ◌^◌, ◌<◌, ℤ, Bool, true, false, cond, [], ◌∷◌, ◌++◌, Ordering, Less, Equal, Greater, refl, sym, ap, ap₂, ◌∙◌, arith, subst, w64, to_z, mod-lt, pow_pos}
 use Rattle.std.proofs.lemmas.Int.{of_z-to_z}
-use Rattle.std.specs.Prelude.{nat_eq}
+use Rattle.std.specs.Prelude.{nat_eq, int_lt}
+use Rattle.std.specs.Ordering.{is_eq}
 use Rattle.ca_tree.specs.declared.tree.BinaryOp.TheVariants as op
 use Rattle.ca_model.specs.declared.value.Value.{Value as Datum}
 use Rattle.ca_model.specs.declared.value.Value.TheVariants as datum
-use Rattle.ca_meaning.specs.Operators.{same_int}
+use Rattle.ca_meaning.specs.Operators.{same_int, not_of, both}
 use Rattle.ca_forms.specs.declared.sort.Sort.{Sort}
 use Rattle.ca_forms.specs.declared.sort.Sort.TheVariants.{Long, Bool as Truth, Pointer, LongArray, BoolArray, PointerArray}
 use Rattle.ca_forms.specs.Plain.{PlainPolynomial, PlainMonomial, PlainScalar, own_item, no_products, product_and}
 use Rattle.ca_forms.specs.Lists.{products_of}
 use Rattle.ca_forms.specs.Compare.{polynomial_cmp}
 use Rattle.ca_forms.specs.Products.{times}
-use Rattle.ca_forms.specs.Rules.{gathered, minus, chosen as chosen_sum}
-use Rattle.ca_forms.specs.Arrays.{PlainRows, PlainArray, own_items, put_item, with_sums, array_choice}
-use Rattle.ca_forms.specs.ArrayRules.{row_if, joined_rows, put_row_at, put_row, rest_of, last_rows, summed, added_at, weighed, put_weighed, agree, chosen_rows, chosen_if, chosen_array, same_index, rows_at, products_in, pointer_in, selected, selected_pointer}
+use Rattle.ca_forms.specs.Rules.{gathered, minus, negated, less_sum, truth_sum, is_below, chosen as chosen_sum}
+use Rattle.ca_forms.specs.Arrays.{PlainSpan, one, range, span_cmp, PlainRows, PlainArray, own_items, put_item, with_sums, array_choice}
+use Rattle.ca_forms.specs.ArrayRules.{row_if, joined_rows, put_row_at, put_row, is_empty, put_unless, put_sum, lies_in, rest_of, last_rows, summed, added_at, weighed, put_weighed, agree, chosen_rows, chosen_if, chosen_array, same_index, rows_at, products_in, pointer_in, selected, selected_pointer}
 use Rattle.ca_forms.proofs.Exact.{polynomial_same, agree_same}
+use Rattle.ca_forms.proofs.RowOrder.{span_same}
 use Rattle.ca_sums.specs.Sums.{Sum, total, scale, Alike}
 use Rattle.ca_sums.specs.Products.{product}
 use Rattle.ca_sums.proofs.Algebra.{alike_refl, alike_eq, alike_sym, alike_trans, alike_add, alike_mul, alike_mod, total_append, total_scale}
 use Rattle.ca_norm.specs.Terms.{IsWord}
-use Rattle.ca_norm.specs.Meanings.{IsOfSort, Valuation, operate, chosen, bit, word_of, number_in, truth_in, index_in, polynomial_value, monomial_value, pointer_mean, scalar_mean, rows_value, array_item}
+use Rattle.ca_norm.specs.Meanings.{IsOfSort, Valuation, operate, chosen, bit, word_of, number_in, truth_in, index_in, polynomial_value, monomial_value, pointer_mean, scalar_mean}
+use Rattle.ca_norm.specs.Meanings.{between, hits, rows_value, array_item}
 use Rattle.ca_norm.proofs.Words.{word, word_fits}
 use Rattle.ca_norm.proofs.Operations.{IsLong, IsTyped, sort_typed, wrapped, chosen_typed, sum_word, back, same_words, chosen_bit}
 use Rattle.ca_norm.proofs.Quotients.{cast_fits}
-use Rattle.ca_norm.proofs.Rules.{gathered_value, alone_value, zero_value, product_value, minus_value, equal_words}
+use Rattle.ca_norm.proofs.Rules.{less_value, truth_value, gathered_value, alone_value, zero_value, product_value, minus_value, equal_words}
 use Rattle.ca_norm.proofs.Pointers.{chosen_pointer_means}
 
 pub bit_small : (b : Bool) → bit b % (2 ^ 64) ≡ bit b
@@ -130,26 +133,53 @@ module _ (v : Valuation) where
   abbrev at : PlainPolynomial → ℤ → Bool
   at i k = same_int (index_in (polynomial_value v i)) k
 
-  row_if_value : (i f : PlainPolynomial) (rs : PlainRows) (k : ℤ) → rows_value v k (row_if i f rs) ≡ bit (at i k) * polynomial_value v f + rows_value v k rs
-  row_if_value i no_products rs k = nought (bit (at i k)) (rows_value v k rs)
+  row_if_value : (i : PlainSpan) (f : PlainPolynomial) (rs : PlainRows) (k : ℤ) → rows_value v k (row_if i f rs) ≡ bit (hits v i k) * polynomial_value v f + rows_value v k rs
+  row_if_value i no_products rs k = nought (bit (hits v i k)) (rows_value v k rs)
   row_if_value i (product_and m c f) rs k = refl
 
-  joined_value : (r : PlainPolynomial × PlainPolynomial) (f : PlainPolynomial) → Alike (polynomial_value v (joined_rows r f)) (polynomial_value v r.1 + polynomial_value v f)
+  joined_value : (r : PlainSpan × PlainPolynomial) (f : PlainPolynomial) → Alike (polynomial_value v (joined_rows r f)) (polynomial_value v r.1 + polynomial_value v f)
   joined_value r f =
       alike_trans (gathered_value v (products_of r.1 ++ products_of f)) (alike_eq (total_append (monomial_value v) (products_of r.1) (products_of f) ∙ ap₂ (λ x y. x + y) (products_value r.1) (products_value f)))
 
-  put_row_at_value : (o : Ordering) (i f : PlainPolynomial) (r : PlainPolynomial × PlainPolynomial) (rs below : PlainRows) (k : ℤ) → polynomial_cmp i r.0 ≡ o → Alike (rows_value v k below) (bit (at i k) * polynomial_value v f + rows_value v k rs) → Alike (rows_value v k (put_row_at o i f r rs below)) (bit (at i k) * polynomial_value v f + rows_value v k (r ∷ rs))
+  put_row_at_value : (o : Ordering) (i : PlainSpan) (f : PlainPolynomial) (r : PlainSpan × PlainPolynomial) (rs below : PlainRows) (k : ℤ) → span_cmp i r.0 ≡ o → Alike (rows_value v k below) (bit (hits v i k) * polynomial_value v f + rows_value v k rs) → Alike (rows_value v k (put_row_at o i f r rs below)) (bit (hits v i k) * polynomial_value v f + rows_value v k (r ∷ rs))
   put_row_at_value Less i f r rs below k e h = alike_eq (row_if_value i f (r ∷ rs) k)
   put_row_at_value Equal i f r rs below k e h =
-      alike_trans (alike_eq (row_if_value i (joined_rows r f) rs k)) (alike_trans (alike_add (alike_mul (alike_refl (bit (at i k))) (joined_value r f)) (alike_refl (rows_value v k rs)))
-      (alike_eq (joined (bit (at i k)) (polynomial_value v f) (polynomial_value v r.1) (rows_value v k rs) ∙ ap (λ z. bit (at i k) * polynomial_value v f + (bit (at z k) * polynomial_value v r.1 + rows_value v k rs)) (polynomial_same i r.0 e))))
+      alike_trans (alike_eq (row_if_value i (joined_rows r f) rs k)) (alike_trans (alike_add (alike_mul (alike_refl (bit (hits v i k))) (joined_value r f)) (alike_refl (rows_value v k rs)))
+      (alike_eq (joined (bit (hits v i k)) (polynomial_value v f) (polynomial_value v r.1) (rows_value v k rs) ∙ ap (λ z. bit (hits v i k) * polynomial_value v f + (bit (hits v z k) * polynomial_value v r.1 + rows_value v k rs)) (span_same i r.0 e))))
   put_row_at_value Greater i f r rs below k e h =
-      alike_trans (alike_add (alike_refl (bit (at r.0 k) * polynomial_value v r.1)) h) (alike_eq (passed (bit (at r.0 k) * polynomial_value v r.1) (bit (at i k) * polynomial_value v f) (rows_value v k rs)))
+      alike_trans (alike_add (alike_refl (bit (hits v r.0 k) * polynomial_value v r.1)) h) (alike_eq (passed (bit (hits v r.0 k) * polynomial_value v r.1) (bit (hits v i k) * polynomial_value v f) (rows_value v k rs)))
 
   -- a sum more at an index is that much more at the item there
-  put_row_value : (i f : PlainPolynomial) (rs : PlainRows) (k : ℤ) → Alike (rows_value v k (put_row i f rs)) (bit (at i k) * polynomial_value v f + rows_value v k rs)
+  put_row_value : (i : PlainSpan) (f : PlainPolynomial) (rs : PlainRows) (k : ℤ) → Alike (rows_value v k (put_row i f rs)) (bit (hits v i k) * polynomial_value v f + rows_value v k rs)
   put_row_value i f [] k = alike_eq (row_if_value i f [] k)
-  put_row_value i f (r ∷ rs) k = put_row_at_value (polynomial_cmp i r.0) i f r rs (put_row i f rs) k refl (put_row_value i f rs k)
+  put_row_value i f (r ∷ rs) k = put_row_at_value (span_cmp i r.0) i f r rs (put_row i f rs) k refl (put_row_value i f rs k)
+
+  -- nothing lies in a range whose bounds are equal
+  is_tie : (o : Ordering) → is_eq o ≡ true → o ≡ Equal
+  is_tie Less e = cc
+  is_tie Equal e = refl
+  is_tie Greater e = cc
+
+  never : (b : Bool) → both (not_of b) b ≡ false
+  never true = refl
+  never false = refl
+
+  empty_hits : (i : PlainSpan) (k : ℤ) → is_empty i ≡ true → hits v i k ≡ false
+  empty_hits (one i) k e = cc
+  empty_hits (range f t) k e =
+      let same : f ≡ t = polynomial_same f t (is_tie (polynomial_cmp f t) e) in
+      ap (λ z. between (index_in (polynomial_value v f)) (index_in (polynomial_value v z)) k) (sym same) ∙ never (int_lt k (index_in (polynomial_value v f)))
+
+  none_added : (b : Bool) (n t : ℕ) → b ≡ false → t ≡ bit b * n + t
+  none_added false n t e = let z : t ≡ 0 * n + t = omega arith in z
+  none_added true n t e = cc
+
+  unless_value : (b : Bool) (i : PlainSpan) (f : PlainPolynomial) (rs : PlainRows) (k : ℤ) → is_empty i ≡ b → Alike (rows_value v k (put_unless b i f rs)) (bit (hits v i k) * polynomial_value v f + rows_value v k rs)
+  unless_value true i f rs k e = alike_eq (none_added (hits v i k) (polynomial_value v f) (rows_value v k rs) (empty_hits i k e))
+  unless_value false i f rs k e = put_row_value i f rs k
+
+  put_sum_value : (i : PlainSpan) (f : PlainPolynomial) (rs : PlainRows) (k : ℤ) → Alike (rows_value v k (put_sum i f rs)) (bit (hits v i k) * polynomial_value v f + rows_value v k rs)
+  put_sum_value i f rs k = unless_value (is_empty i) i f rs k refl
 
   summed_value : (a : PlainArray) (rs : PlainRows) (k : ℤ) → Alike (word_of (array_item v (summed a rs) k)) (word_of (array_item v a k) + rows_value v k rs)
   summed_value a [] k = alike_eq (no_more (word_of (array_item v a k)))
@@ -171,8 +201,8 @@ module _ (v : Valuation) where
   summed_typed a [] h = h
   summed_typed a (r ∷ rs) h = (refl, h)
 
-  pub added_typed : (a : PlainArray) (i f : PlainPolynomial) → FormTyped Long a → FormTyped Long (added_at a i f)
-  added_typed a i f h = summed_typed (rest_of a) (put_row i f (last_rows a)) (rest_typed Long a h)
+  pub added_typed : (a : PlainArray) (i : PlainSpan) (f : PlainPolynomial) → FormTyped Long a → FormTyped Long (added_at a i f)
+  added_typed a i f h = summed_typed (rest_of a) (put_sum i f (last_rows a)) (rest_typed Long a h)
 
   more_by : (b : Bool) (d e : Datum) (n : ℕ) → IsLong d → IsLong e → Alike (word_of e) (word_of d + bit b * n) → e ≡ cond b (operate op.Plus d (number_in n)) d
   more_by true d e n g h a =
@@ -181,14 +211,14 @@ module _ (v : Valuation) where
   more_by false d e n g h a = same_long e d h g (alike_trans a (alike_eq (none_of (word_of d) n)))
 
   -- the items of an array with a sum more
-  pub added_item : (a : PlainArray) (i f : PlainPolynomial) (k : ℤ) → FormTyped Long a → array_item v (added_at a i f) k ≡ cond (at i k) (operate op.Plus (array_item v a k) (number_in (polynomial_value v f))) (array_item v a k)
+  pub added_item : (a : PlainArray) (i : PlainSpan) (f : PlainPolynomial) (k : ℤ) → FormTyped Long a → array_item v (added_at a i f) k ≡ cond (hits v i k) (operate op.Plus (array_item v a k) (number_in (polynomial_value v f))) (array_item v a k)
   added_item a i f k h =
       let r : ℕ = word_of (array_item v (rest_of a) k) in
       let t : ℕ = rows_value v k (last_rows a) in
-      let x : ℕ = bit (at i k) * polynomial_value v f in
+      let x : ℕ = bit (hits v i k) * polynomial_value v f in
       let words : Alike (word_of (array_item v (added_at a i f) k)) (word_of (array_item v a k) + x) =
-      alike_trans (summed_value (rest_of a) (put_row i f (last_rows a)) k) (alike_trans (alike_add (alike_refl r) (put_row_value i f (last_rows a) k)) (alike_trans (alike_eq (swapped r x t)) (alike_add (alike_sym (parts_value a k)) (alike_refl x)))) in
-      more_by (at i k) (array_item v a k) (array_item v (added_at a i f) k) (polynomial_value v f) (item_typed Long a k h) (item_typed Long (added_at a i f) k (added_typed a i f h)) words
+      alike_trans (summed_value (rest_of a) (put_sum i f (last_rows a)) k) (alike_trans (alike_add (alike_refl r) (put_sum_value i f (last_rows a) k)) (alike_trans (alike_eq (swapped r x t)) (alike_add (alike_sym (parts_value a k)) (alike_refl x)))) in
+      more_by (hits v i k) (array_item v a k) (array_item v (added_at a i f) k) (polynomial_value v f) (item_typed Long a k h) (item_typed Long (added_at a i f) k (added_typed a i f h)) words
 
   weighed_value : (n : ℕ) (c f : PlainPolynomial) → Alike (polynomial_value v (weighed n c f)) (n * (polynomial_value v c * polynomial_value v f))
   weighed_value n c f =
@@ -198,10 +228,10 @@ module _ (v : Valuation) where
   put_weighed_value : (n : ℕ) (c : PlainPolynomial) (xs rs : PlainRows) (k : ℤ) → Alike (rows_value v k (put_weighed n c xs rs)) (rows_value v k rs + n * (polynomial_value v c * rows_value v k xs))
   put_weighed_value n c [] rs k = alike_eq (none_weighed (rows_value v k rs) n (polynomial_value v c))
   put_weighed_value n c (x ∷ xs) rs k =
-      let one : Alike (rows_value v k (put_row x.0 (weighed n c x.1) rs)) (bit (at x.0 k) * (n * (polynomial_value v c * polynomial_value v x.1)) + rows_value v k rs) =
-      alike_trans (put_row_value x.0 (weighed n c x.1) rs k) (alike_add (alike_mul (alike_refl (bit (at x.0 k))) (weighed_value n c x.1)) (alike_refl (rows_value v k rs))) in
-      alike_trans (put_weighed_value n c xs (put_row x.0 (weighed n c x.1) rs) k) (alike_trans (alike_add one (alike_refl (n * (polynomial_value v c * rows_value v k xs))))
-      (alike_eq (one_weighed (bit (at x.0 k)) n (polynomial_value v c) (polynomial_value v x.1) (rows_value v k rs) (rows_value v k xs))))
+      let one : Alike (rows_value v k (put_sum x.0 (weighed n c x.1) rs)) (bit (hits v x.0 k) * (n * (polynomial_value v c * polynomial_value v x.1)) + rows_value v k rs) =
+      alike_trans (put_sum_value x.0 (weighed n c x.1) rs k) (alike_add (alike_mul (alike_refl (bit (hits v x.0 k))) (weighed_value n c x.1)) (alike_refl (rows_value v k rs))) in
+      alike_trans (put_weighed_value n c xs (put_sum x.0 (weighed n c x.1) rs) k) (alike_trans (alike_add one (alike_refl (n * (polynomial_value v c * rows_value v k xs))))
+      (alike_eq (one_weighed (bit (hits v x.0 k)) n (polynomial_value v c) (polynomial_value v x.1) (rows_value v k rs) (rows_value v k xs))))
 
   chosen_rows_value : (c : PlainPolynomial) (rs ss : PlainRows) (k : ℤ) → Alike (rows_value v k (chosen_rows c rs ss)) ((rows_value v k ss + 1 * (polynomial_value v c * rows_value v k rs)) + (2 ^ 64 - 1) * (polynomial_value v c * rows_value v k ss))
   chosen_rows_value c rs ss k =
@@ -294,10 +324,28 @@ module _ (v : Valuation) where
   chosen_sum_value cs ps qs b d e g h i =
       alike_trans (alike_eq (total_append (monomial_value v) qs (product times cs (ps ++ minus qs)))) (alike_trans (alike_add i (alike_trans (product_value v cs (ps ++ minus qs)) (alike_mul g (alike_trans (alike_eq (minus_value v ps qs)) (alike_add h (alike_mul (alike_refl (2 ^ 64 - 1)) i)))))) (alike_sym (chosen_bit b d e)))
 
+  bit_both : (a b : Bool) → bit a * bit b ≡ bit (both a b)
+  bit_both true b = let z : 1 * bit b ≡ bit b = omega arith in z
+  bit_both false b = let z : 0 * bit b ≡ 0 = omega arith in z
+
+  bit_not : (b : Bool) → Alike (1 + (2 ^ 64 - 1) * bit b) (bit (not_of b))
+  bit_not true = record { alike = refl }
+  bit_not false = record { alike = refl }
+
+  -- whether an index lies in a span
+  lies_value : (i : PlainSpan) (j : PlainPolynomial) → Alike (total (monomial_value v) (lies_in i j)) (bit (hits v i (index_in (polynomial_value v j))))
+  lies_value (one i) j = alike_eq (same_index_value i j)
+  lies_value (range f t) j =
+      let below : Bool = is_below (polynomial_value v j) (polynomial_value v f) in
+      let above : Bool = is_below (polynomial_value v j) (polynomial_value v t) in
+      let from : Alike (total (monomial_value v) (negated (less_sum j f))) (bit (not_of below)) =
+      alike_trans (alike_eq (minus_value v (truth_sum true) (less_sum j f) ∙ ap₂ (λ m n. m + (2 ^ 64 - 1) * n) (truth_value v true) (less_value v j f))) (bit_not below) in
+      alike_trans (product_value v (negated (less_sum j f)) (less_sum j t)) (alike_trans (alike_mul from (alike_eq (less_value v j t))) (alike_eq (bit_both (not_of below) above)))
+
   rows_at_value : (j : PlainPolynomial) (rs : PlainRows) → Alike (total (monomial_value v) (rows_at j rs)) (rows_value v (index_in (polynomial_value v j)) rs)
   rows_at_value j [] = alike_refl 0
   rows_at_value j (r ∷ rs) =
-      alike_trans (alike_eq (total_append (monomial_value v) (product times (same_index r.0 j) (products_of r.1)) (rows_at j rs))) (alike_add (alike_trans (product_value v (same_index r.0 j) (products_of r.1)) (alike_mul (alike_eq (same_index_value r.0 j)) (alike_eq (products_value r.1)))) (rows_at_value j rs))
+      alike_trans (alike_eq (total_append (monomial_value v) (product times (lies_in r.0 j) (products_of r.1)) (rows_at j rs))) (alike_add (alike_trans (product_value v (lies_in r.0 j) (products_of r.1)) (alike_mul (lies_value r.0 j) (alike_eq (products_value r.1)))) (rows_at_value j rs))
 
   -- the item that is selected is the array's item at the index
   pub selected_value : (s : Sort) (a : PlainArray) (j : PlainPolynomial) → IsWord s → FormTyped s a → Alike (total (monomial_value v) (selected a j)) (word_of (array_item v a (index_in (polynomial_value v j))))

@@ -6,8 +6,8 @@ use Rattle.ca_forms.specs.declared.sort.Sort.TheVariants.{Long, Bool as Truth, P
 use Rattle.ca_forms.specs.declared.form.Normal.TheVariants as normal
 use Rattle.ca_folds.specs.declared.operator.FoldOp.TheVariants.{Max, Min, BitAnd, BitOr, BitXor}
 use Rattle.ca_forms.specs.Plain.{PlainPolynomial, PlainPart, PlainScalars, variable, fold_of, no_powers, power_and, no_products, product_and, number_form, truth_form, pointer_form, pointer_part, no_scalars, scalar_and}
-use Rattle.ca_forms.specs.Arrays.{own_items, put_item, with_sums, array_choice}
-use Rattle.ca_norm.specs.Terms.{PlainTerm, number, truth, null, atom, add, sub, mul, divide, remainder, less, same, and, choose, select, put, add_at, fold}
+use Rattle.ca_forms.specs.Arrays.{one, own_items, put_item, with_sums, array_choice}
+use Rattle.ca_norm.specs.Terms.{PlainTerm, number, truth, null, atom, add, sub, mul, divide, remainder, less, same, and, choose, select, put, add_at, fold, sweep}
 use Rattle.ca_norm.specs.Weights.{spread, weight_of}
 use Rattle.ca_norm.specs.Forms.{norm}
 use Rattle.ca_norm.specs.Meanings.{Valuation, mean, item_mean}
@@ -31,6 +31,11 @@ four_leaves = refl
 item_put : spread (select (put (atom LongArray 3 0) p s) p) ≡ 4
 unfolding s p
 item_put = refl
+
+-- the same with one thing added to a range: the item, and one product
+item_swept : spread (select (sweep (atom LongArray 3 0) p s s) p) ≡ 3
+unfolding s p
+item_swept = refl
 
 truths_compared : spread (same c c) ≡ 4
 unfolding c
@@ -118,11 +123,40 @@ sums_commute : norm (add_at (add_at a p s) q1 s) ≡ norm (add_at (add_at a q1 s
 unfolding a p s q1
 sums_commute = refl
 
-put_behind_a_sum : norm (put (add_at a p s) q1 s) ≡ normal.Array (put_item (with_sums (own_items Long 3 2) ((only 1 0, only 3 1) ∷ [])) (only 2 1) (number_form (only 3 1)))
+ranges_commute : norm (sweep (sweep a p s q1) q1 p s) ≡ norm (sweep (sweep a q1 p s) p s q1)
+unfolding a p s q1
+ranges_commute = refl
+
+range_and_item : norm (add_at (sweep a p s q1) q1 s) ≡ norm (sweep (add_at a q1 s) p s q1)
+unfolding a p s q1
+range_and_item = refl
+
+range_of_equal_bounds : norm (sweep a (add p q1) (add q1 p) s) ≡ norm a
+unfolding a p s q1
+range_of_equal_bounds = refl
+
+range_gone_again : norm (sweep (sweep a p q1 (number (pos 1))) p q1 (number (negsuc 0))) ≡ norm a
+unfolding a p q1
+range_gone_again = refl
+
+-- the last number of a range, the first one behind it, and a range whose bounds are the other way round
+last_of_a_range : norm (select (sweep a (number (pos 2)) (number (pos 5)) s) (number (pos 4))) ≡ norm (add (select a (number (pos 4))) s)
+unfolding a s
+last_of_a_range = refl
+
+behind_a_range : norm (select (sweep a (number (pos 2)) (number (pos 5)) s) (number (pos 5))) ≡ norm (select a (number (pos 5)))
+unfolding a s
+behind_a_range = refl
+
+range_of_nothing : norm (select (sweep a (number (pos 5)) (number (pos 2)) s) (number (pos 3))) ≡ norm (select a (number (pos 3)))
+unfolding a s
+range_of_nothing = refl
+
+put_behind_a_sum : norm (put (add_at a p s) q1 s) ≡ normal.Array (put_item (with_sums (own_items Long 3 2) ((one (only 1 0), only 3 1) ∷ [])) (only 2 1) (number_form (only 3 1)))
 unfolding a p s q1 only
 put_behind_a_sum = refl
 
-sum_behind_a_put : norm (add_at (put a q1 s) p s) ≡ normal.Array (with_sums (put_item (own_items Long 3 2) (only 2 1) (number_form (only 3 1))) ((only 1 0, only 3 1) ∷ []))
+sum_behind_a_put : norm (add_at (put a q1 s) p s) ≡ normal.Array (with_sums (put_item (own_items Long 3 2) (only 2 1) (number_form (only 3 1))) ((one (only 1 0), only 3 1) ∷ []))
 unfolding a p s q1 only
 sum_behind_a_put = refl
 
@@ -134,7 +168,7 @@ what_was_put : norm (select (put a p s) p) ≡ norm s
 unfolding a p s
 what_was_put = refl
 
-choice_at_an_item : norm (choose c (add_at a p s) a) ≡ normal.Array (with_sums (own_items Long 3 2) ((only 1 0, product_and (power_and (variable Long 3 1) 1 (power_and (variable Truth 2 0) 1 no_powers)) 1 no_products) ∷ []))
+choice_at_an_item : norm (choose c (add_at a p s) a) ≡ normal.Array (with_sums (own_items Long 3 2) ((one (only 1 0), product_and (power_and (variable Long 3 1) 1 (power_and (variable Truth 2 0) 1 no_powers)) 1 no_products) ∷ []))
 unfolding a c p s only
 choice_at_an_item = refl
 
@@ -193,3 +227,12 @@ sum_is_no_pointer = refl
 other_item : item_mean numbered (add_at (put a (number (pos 0)) s) (number (pos 1)) s) (pos 0) ≡ datum.Long (pos 1)
 unfolding a s numbered int_wrap
 other_item = refl
+
+-- a range has its beginning and not its end
+first_of_a_range : item_mean numbered (sweep (put a (number (pos 2)) s) (number (pos 2)) (number (pos 4)) s) (pos 2) ≡ datum.Long (pos 2)
+unfolding a s numbered int_wrap
+first_of_a_range = refl
+
+end_of_a_range : item_mean numbered (sweep (put a (number (pos 4)) s) (number (pos 2)) (number (pos 4)) s) (pos 4) ≡ datum.Long (pos 1)
+unfolding a s numbered int_wrap
+end_of_a_range = refl

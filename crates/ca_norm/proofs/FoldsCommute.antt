@@ -14,14 +14,14 @@ use Rattle.ca_forms.specs.Plain.{PlainPolynomial, PlainMonomial, PlainPointer, P
 use Rattle.ca_forms.specs.Lists.{products_of}
 use Rattle.ca_forms.specs.Compare.{scalar_cmp, polynomial_cmp, pointer_cmp}
 use Rattle.ca_forms.specs.Products.{times}
-use Rattle.ca_forms.specs.Rules.{alone, constancy, truth_sum, minus, chosen, gathered, unless_tied, less_kinds, less_sum, zero_kind, same_numbers, same_truths, differ, unless_false, same_pointers_at, quotient_kind, modulus_kind, is_below}
-use Rattle.ca_forms.specs.Arrays.{PlainRows, PlainArray, own_items, put_item, with_sums, array_choice}
-use Rattle.ca_forms.specs.ArrayRules.{row_if, joined_rows, put_row_at, put_row, rest_of, last_rows, summed, added_at, weighed, put_weighed, agree, chosen_rows, chosen_if, same_index, rows_at, products_in, selected}
+use Rattle.ca_forms.specs.Rules.{alone, constancy, truth_sum, minus, negated, chosen, gathered, unless_tied, less_kinds, less_sum, zero_kind, same_numbers, same_truths, differ, unless_false, same_pointers_at, quotient_kind, modulus_kind, is_below}
+use Rattle.ca_forms.specs.Arrays.{PlainSpan, one, range, span_cmp, PlainRows, PlainArray, own_items, put_item, with_sums, array_choice}
+use Rattle.ca_forms.specs.ArrayRules.{row_if, joined_rows, put_row_at, put_row, is_empty, put_unless, put_sum, rest_of, last_rows, summed, added_at, weighed, put_weighed, agree, chosen_rows, chosen_if, same_index, lies_in, rows_at, products_in, selected}
 use Rattle.ca_forms.specs.Folds.{scalar_word, scalar_made, word_scalar, fold_scalar, number_in, folded_scalars, fold_form}
 use Rattle.ca_forms.proofs.Gathered.{gathered_same, gathered_same_totals}
 use Rattle.ca_forms.proofs.Exact.{scalars_exact}
 use Rattle.ca_forms.proofs.RowOrder.{gathered_itself}
-use Rattle.ca_norm.specs.Terms.{PlainTerm, number, truth, null, atom, add, sub, neg, mul, divide, remainder, less, less_equal, same, not, and, or, choose, read, read_at, result, select, put, add_at, fold, sort_of}
+use Rattle.ca_norm.specs.Terms.{PlainTerm, number, truth, null, atom, add, sub, neg, mul, divide, remainder, less, less_equal, same, not, and, or, choose, read, read_at, result, select, put, add_at, fold, sweep, sort_of}
 use Rattle.ca_norm.specs.Forms.{expand, pointer_of, array_of, same_sum, scalar_at, norm}
 use Rattle.ca_norm.proofs.Neat.{NeatPolynomial, NeatSum, NeatScalar, Kept, word_is, fold_no_word, fold_made, sum_neat, append_neat, scale_neat, product_neat, gathered_neat, truth_neat, minus_neat, parts, parts_kept, folded_neat, number_of_neat, gathered_again}
 
@@ -110,29 +110,36 @@ summed_neat : (a : PlainArray) (rs : PlainRows) → NeatArray a → NeatRows rs 
 summed_neat a [] g h = g
 summed_neat a (r ∷ rs) g h = (g, h)
 
-row_if_neat : (i f : PlainPolynomial) (rs : PlainRows) → NeatPolynomial f → NeatRows rs → NeatRows (row_if i f rs)
+row_if_neat : (i : PlainSpan) (f : PlainPolynomial) (rs : PlainRows) → NeatPolynomial f → NeatRows rs → NeatRows (row_if i f rs)
 row_if_neat i no_products rs g h = h
 row_if_neat i (product_and m c f) rs g h = (g, h)
 
-put_row_neat_at : (o : Ordering) (i f : PlainPolynomial) (r : PlainPolynomial × PlainPolynomial) (rs below : PlainRows) → NeatPolynomial f → NeatRows (r ∷ rs) → NeatRows below → NeatRows (put_row_at o i f r rs below)
+put_row_neat_at : (o : Ordering) (i : PlainSpan) (f : PlainPolynomial) (r : PlainSpan × PlainPolynomial) (rs below : PlainRows) → NeatPolynomial f → NeatRows (r ∷ rs) → NeatRows below → NeatRows (put_row_at o i f r rs below)
 put_row_neat_at Less i f r rs below g h b = row_if_neat i f (r ∷ rs) g h
 put_row_neat_at Equal i f r rs below g h b =
     row_if_neat i (joined_rows r f) rs (gathered_neat (products_of r.1 ++ products_of f) (append_neat (products_of r.1) (products_of f) (sum_neat r.1 h.0) (sum_neat f g))) h.1
 put_row_neat_at Greater i f r rs below g h b = (h.0, b)
 
-put_row_neat : (i f : PlainPolynomial) (rs : PlainRows) → NeatPolynomial f → NeatRows rs → NeatRows (put_row i f rs)
+put_row_neat : (i : PlainSpan) (f : PlainPolynomial) (rs : PlainRows) → NeatPolynomial f → NeatRows rs → NeatRows (put_row i f rs)
 put_row_neat i f [] g h = row_if_neat i f [] g tt
-put_row_neat i f (r ∷ rs) g h = put_row_neat_at (polynomial_cmp i r.0) i f r rs (put_row i f rs) g h (put_row_neat i f rs g h.1)
+put_row_neat i f (r ∷ rs) g h = put_row_neat_at (span_cmp i r.0) i f r rs (put_row i f rs) g h (put_row_neat i f rs g h.1)
+
+put_unless_neat : (b : Bool) (i : PlainSpan) (f : PlainPolynomial) (rs : PlainRows) → NeatPolynomial f → NeatRows rs → NeatRows (put_unless b i f rs)
+put_unless_neat true i f rs g h = h
+put_unless_neat false i f rs g h = put_row_neat i f rs g h
+
+put_sum_neat : (i : PlainSpan) (f : PlainPolynomial) (rs : PlainRows) → NeatPolynomial f → NeatRows rs → NeatRows (put_sum i f rs)
+put_sum_neat i f rs g h = put_unless_neat (is_empty i) i f rs g h
 
 weighed_neat : (k : ℕ) (c f : PlainPolynomial) → NeatPolynomial c → NeatPolynomial f → NeatPolynomial (weighed k c f)
 weighed_neat k c f g h = gathered_neat (scale k (product times (products_of c) (products_of f))) (scale_neat k (product times (products_of c) (products_of f)) (product_neat (products_of c) (products_of f) (sum_neat c g) (sum_neat f h)))
 
 put_weighed_neat : (k : ℕ) (c : PlainPolynomial) (xs rs : PlainRows) → NeatPolynomial c → NeatRows xs → NeatRows rs → NeatRows (put_weighed k c xs rs)
 put_weighed_neat k c [] rs f g h = h
-put_weighed_neat k c (x ∷ xs) rs f g h = put_weighed_neat k c xs (put_row x.0 (weighed k c x.1) rs) f g.1 (put_row_neat x.0 (weighed k c x.1) rs (weighed_neat k c x.1 f g.0) h)
+put_weighed_neat k c (x ∷ xs) rs f g h = put_weighed_neat k c xs (put_sum x.0 (weighed k c x.1) rs) f g.1 (put_sum_neat x.0 (weighed k c x.1) rs (weighed_neat k c x.1 f g.0) h)
 
-added_neat : (a : PlainArray) (i f : PlainPolynomial) → NeatArray a → NeatPolynomial f → NeatArray (added_at a i f)
-added_neat a i f g h = summed_neat (rest_of a) (put_row i f (last_rows a)) (rest_neat a g) (put_row_neat i f (last_rows a) h (last_neat a g))
+added_neat : (a : PlainArray) (i : PlainSpan) (f : PlainPolynomial) → NeatArray a → NeatPolynomial f → NeatArray (added_at a i f)
+added_neat a i f g h = summed_neat (rest_of a) (put_sum i f (last_rows a)) (rest_neat a g) (put_sum_neat i f (last_rows a) h (last_neat a g))
 
 chosen_if_neat : (t : Bool) (c : PlainPolynomial) (a b : PlainArray) → NeatPolynomial c → NeatArray a → NeatArray b → NeatArray (chosen_if t c a b)
 chosen_if_neat true c a b f g h =
@@ -148,10 +155,17 @@ in_neat (pointer_form p) h = tt
 index_neat : (i j : PlainPolynomial) → NeatSum (same_index i j)
 index_neat i j = numbers_neat (products_of i) (products_of j)
 
+negated_neat : (a : Sum PlainMonomial) → NeatSum a → NeatSum (negated a)
+negated_neat a h = append_neat (truth_sum true) (minus a) (truth_neat true) (minus_neat a h)
+
+lies_neat : (i : PlainSpan) (j : PlainPolynomial) → NeatSum (lies_in i j)
+lies_neat (one i) j = index_neat i j
+lies_neat (range f t) j = product_neat (negated (less_sum j f)) (less_sum j t) (negated_neat (less_sum j f) (less_neat j f)) (less_neat j t)
+
 rows_at_neat : (j : PlainPolynomial) (rs : PlainRows) → NeatRows rs → NeatSum (rows_at j rs)
 rows_at_neat j [] h = tt
 rows_at_neat j (r ∷ rs) h =
-    append_neat (product times (same_index r.0 j) (products_of r.1)) (rows_at j rs) (product_neat (same_index r.0 j) (products_of r.1) (index_neat r.0 j) (sum_neat r.1 h.0)) (rows_at_neat j rs h.1)
+    append_neat (product times (lies_in r.0 j) (products_of r.1)) (rows_at j rs) (product_neat (lies_in r.0 j) (products_of r.1) (lies_neat r.0 j) (sum_neat r.1 h.0)) (rows_at_neat j rs h.1)
 
 selected_neat : (a : PlainArray) (j : PlainPolynomial) → NeatArray a → NeatSum (selected a j)
 selected_neat (own_items s g n) j h = ((tt, tt), tt)
@@ -197,6 +211,7 @@ mutual
   term_neat (select a i) = selected_neat (array_of a) (gathered (expand i)) (array_neat a)
   term_neat (put a i x) = tt
   term_neat (add_at a i x) = tt
+  term_neat (sweep a f t x) = tt
   term_neat (fold o a b) =
       sum_neat (fold_form o (gathered (expand a)) (gathered (expand b)))
       (number_of_neat (folded_scalars o (number_form (gathered (expand a))) (number_form (gathered (expand b)))) (folded_neat o (gathered (expand a)) (gathered (expand b)) (gathered_neat (expand a) (term_neat a)) (gathered_itself (expand a)) (gathered_neat (expand b) (term_neat b)) (gathered_itself (expand b)))).1
@@ -204,7 +219,8 @@ mutual
   array_neat : (t : PlainTerm) → NeatArray (array_of t)
   array_neat (choose c a b) = chosen_if_neat (agree (array_of a) (array_of b)) (gathered (expand c)) (array_of a) (array_of b) (gathered_neat (expand c) (term_neat c)) (array_neat a) (array_neat b)
   array_neat (put a i x) = (array_neat a, scalar_neat (sort_of x) (expand x) (pointer_of x) (term_neat x))
-  array_neat (add_at a i x) = added_neat (array_of a) (gathered (expand i)) (gathered (expand x)) (array_neat a) (gathered_neat (expand x) (term_neat x))
+  array_neat (add_at a i x) = added_neat (array_of a) (one (gathered (expand i))) (gathered (expand x)) (array_neat a) (gathered_neat (expand x) (term_neat x))
+  array_neat (sweep a f t x) = added_neat (array_of a) (range (gathered (expand f)) (gathered (expand t))) (gathered (expand x)) (array_neat a) (gathered_neat (expand x) (term_neat x))
   array_neat (atom s g n) = tt
   array_neat t = tt
 

@@ -10,14 +10,15 @@ use Rattle.ca_forms.specs.declared.sort.Sort.TheVariants.{Long, Bool as Truth, P
 use Rattle.ca_forms.specs.Plain.{PlainPolynomial, PlainMonomial, variable, field_of, item_of, result_of}
 use Rattle.ca_forms.specs.Products.{times}
 use Rattle.ca_forms.specs.Rules.{truth_sum, minus, gathered, less_sum}
+use Rattle.ca_forms.specs.Arrays.{one, range}
 use Rattle.ca_forms.specs.ArrayRules.{products_in, pointer_in}
 use Rattle.ca_sums.specs.Sums.{Sum, total, Alike, scale}
 use Rattle.ca_sums.specs.Products.{product}
 use Rattle.ca_sums.proofs.Algebra.{alike_refl, alike_eq, alike_sym, alike_trans, alike_add, alike_mul, total_append, total_scale}
-use Rattle.ca_norm.specs.Terms.{PlainTerm, PlainTerms, number, truth, null, atom, add, sub, neg, mul, divide, remainder, less, less_equal, same, not, and, or, choose, read, read_at, result, select, put, add_at, fold, no_terms, term_and, sort_of, item_sort, IsWord, IsScalar, IsArray, IsOf, AreSorted}
+use Rattle.ca_norm.specs.Terms.{PlainTerm, PlainTerms, number, truth, null, atom, add, sub, neg, mul, divide, remainder, less, less_equal, same, not, and, or, choose, read, read_at, result, select, put, add_at, fold, sweep, no_terms, term_and, sort_of, item_sort, IsWord, IsScalar, IsArray, IsOf, AreSorted}
 use Rattle.ca_norm.specs.Forms.{expand, pointer_of, arguments_of, same_sum, scalar_at, array_of, form_at, norm}
 use Rattle.ca_meaning.specs.Operators.{signed, same_int, same_value}
-use Rattle.ca_norm.specs.Meanings.{Valuation, IsOfSort, operate, chosen, number_of, mean, item_mean, means as means_all, bit, word_of, number_in, truth_in, index_in, polynomial_value, monomial_value, pointer_mean, scalar_mean, scalars_mean, array_item, form_mean, form_item}
+use Rattle.ca_norm.specs.Meanings.{Valuation, IsOfSort, operate, chosen, number_of, between, mean, item_mean, means as means_all, bit, word_of, number_in, truth_in, index_in, polynomial_value, monomial_value, pointer_mean, scalar_mean, scalars_mean, array_item, form_mean, form_item}
 use Rattle.ca_norm.proofs.Words.{word_fits, word_small}
 use Rattle.ca_norm.proofs.Operations.{IsLong, IsTruth, IsTyped, sort_typed, wrapped, chosen_typed, sum_word, difference_word, product_word, minus_word, back, less_word, not_more_word, same_word, not_word, and_word, or_word, same_truth_word, chosen_word}
 use Rattle.ca_norm.proofs.Rules.{gathered_value, alone_value, truth_value, less_value, zero_value, quotient_value, modulus_value, product_value, minus_value, equal_words}
@@ -60,6 +61,7 @@ makes_array (atom sort group n) = true
 makes_array (choose c a b) = true
 makes_array (put a i x) = true
 makes_array (add_at a i x) = true
+makes_array (sweep a f t x) = true
 makes_array t = false
 
 array_term : (r : Sort) (t : PlainTerm) → IsArray r → IsOf r t → makes_array t ≡ true
@@ -67,6 +69,7 @@ array_term r (atom sort group n) w i = refl
 array_term r (choose c a b) w i = refl
 array_term r (put a j x) w i = refl
 array_term r (add_at a j x) w i = refl
+array_term r (sweep a f t x) w i = refl
 array_term r (number n) w i = absurd (no_array r Long i.0 tt w)
 array_term r (truth b) w i = absurd (no_array r Truth i tt w)
 array_term r null w i = absurd (no_array r Pointer i tt w)
@@ -117,6 +120,7 @@ sort_is s (result r m p ts) i = i.0
 sort_is s (select a j) i = sym i.1
 sort_is s (put a j x) i = sort_is s a i.1
 sort_is s (add_at a j x) i = sort_is LongArray a i.1 ∙ sym i.0
+sort_is s (sweep a f t x) i = sort_is LongArray a i.1 ∙ sym i.0
 
 -- whether two pointers are equal
 pointers_equal : (d e : Datum) → IsOfSort Pointer d → IsOfSort Pointer e → operate op.Equal d e ≡ datum.Bool (same_value d e)
@@ -175,6 +179,7 @@ module _ (v : Valuation) where
     typed s (select a j) i = subst (λ z. IsTyped z (item_mean v a (number_of (mean v j)))) (sym i.1) (item_typed (sort_of a) a (number_of (mean v j)) i.0 i.2)
     typed s (put a j x) i = array_null s (put a j x) i.0 refl
     typed s (add_at a j x) i = subst (λ z. IsTyped z datum.Null) (sym i.0) refl
+    typed s (sweep a f t x) i = subst (λ z. IsTyped z datum.Null) (sym i.0) refl
 
     pub item_typed : (r : Sort) (t : PlainTerm) (k : ℤ) → IsArray r → IsOf r t → IsTyped (item_sort r) (item_mean v t k)
     item_typed r (atom s g n) k w i = sort_typed (item_sort r) _ (subst (λ z. IsOfSort (item_sort z) (v.item (item_sort s) g n k)) i (v.item_sorted (item_sort s) g n k))
@@ -184,6 +189,10 @@ module _ (v : Valuation) where
         let g = item_typed LongArray a k tt i.1 in
         let h = typed Long x i.3 in
         subst (λ z. IsTyped (item_sort z) (item_mean v (add_at a j x) k)) (sym i.0) (cond_typed Long _ _ _ (wrapped _ _ (ap₂ (operate op.Plus) g.is h.is)) g)
+    item_typed r (sweep a f t x) k w i =
+        let g = item_typed LongArray a k tt i.1 in
+        let h = typed Long x i.4 in
+        subst (λ z. IsTyped (item_sort z) (item_mean v (sweep a f t x) k)) (sym i.0) (cond_typed Long _ _ _ (wrapped _ _ (ap₂ (operate op.Plus) g.is h.is)) g)
     item_typed r t k w i = absurd (never (array_term r t w i))
 
   -- what a gathered sum is worth
@@ -314,6 +323,7 @@ module _ (v : Valuation) where
         (alike_trans (alike_sym (fold_form_value v o f g)) (alike_eq (sym (products_value v (fold_form o f g)))))
     expand_means s (put a j x) w i = absurd (scalar_no_array s (word_scalar s w) i.0)
     expand_means s (add_at a j x) w i = absurd (subst IsWord i.0 w)
+    expand_means s (sweep a f t x) w i = absurd (subst IsWord i.0 w)
 
     pub pointer_means : (t : PlainTerm) → IsOf Pointer t → pointer_mean v (pointer_of t) ≡ mean v t
     pointer_means null i = refl
@@ -347,6 +357,7 @@ module _ (v : Valuation) where
         selected_pointer_value v (array_of a) (gathered (expand j)) (subst (λ z. FormTyped v z (array_of a)) (sym i.1) is.0) ∙ is.1 _ ∙ ap (item_mean v a) k
     pointer_means (put a j x) i = absurd i.0
     pointer_means (add_at a j x) i = absurd (subst IsScalar i.0 tt)
+    pointer_means (sweep a f t x) i = absurd (subst IsScalar i.0 tt)
 
     arguments_mean : (ts : PlainTerms) → AreSorted ts → scalars_mean v (arguments_of ts) ≡ means_all v ts
     arguments_mean no_terms i = refl
@@ -374,7 +385,18 @@ module _ (v : Valuation) where
         let y = array_means LongArray a tt i.1 in
         let n : index_in (polynomial_value v (gathered (expand j))) ≡ number_of (mean v j) = ap number_of (number_given j i.2 (λ u. expand_means Long j u i.2)) in
         let m : number_in (polynomial_value v (gathered (expand x))) ≡ mean v x = number_given x i.3 (λ u. expand_means Long x u i.3) in
-        (subst (λ z. FormTyped v (item_sort z) (array_of (add_at a j x))) (sym i.0) (added_typed v (array_of a) (gathered (expand j)) (gathered (expand x)) y.0), λ k. added_item v (array_of a) (gathered (expand j)) (gathered (expand x)) k y.0 ∙ ap₂ (λ d e. cond (same_int (index_in (polynomial_value v (gathered (expand j)))) k) (operate op.Plus d e) d) (y.1 k) m ∙ ap (λ z. cond (same_int z k) (operate op.Plus (item_mean v a k) (mean v x)) (item_mean v a k)) n)
+        (subst (λ z. FormTyped v (item_sort z) (array_of (add_at a j x))) (sym i.0) (added_typed v (array_of a) (one (gathered (expand j))) (gathered (expand x)) y.0), λ k. added_item v (array_of a) (one (gathered (expand j))) (gathered (expand x)) k y.0 ∙ ap₂ (λ d e. cond (same_int (index_in (polynomial_value v (gathered (expand j)))) k) (operate op.Plus d e) d) (y.1 k) m ∙ ap (λ z. cond (same_int z k) (operate op.Plus (item_mean v a k) (mean v x)) (item_mean v a k)) n)
+    array_means r (sweep a f t x) w i =
+        let y = array_means LongArray a tt i.1 in
+        let s = range (gathered (expand f)) (gathered (expand t)) in
+        let p : index_in (polynomial_value v (gathered (expand f))) ≡ number_of (mean v f) = ap number_of (number_given f i.2 (λ u. expand_means Long f u i.2)) in
+        let q : index_in (polynomial_value v (gathered (expand t))) ≡ number_of (mean v t) = ap number_of (number_given t i.3 (λ u. expand_means Long t u i.3)) in
+        let m : number_in (polynomial_value v (gathered (expand x))) ≡ mean v x = number_given x i.4 (λ u. expand_means Long x u i.4) in (
+          subst (λ z. FormTyped v (item_sort z) (array_of (sweep a f t x))) (sym i.0) (added_typed v (array_of a) s (gathered (expand x)) y.0),
+          λ k. added_item v (array_of a) s (gathered (expand x)) k y.0
+              ∙ ap₂ (λ d e. cond (between (index_in (polynomial_value v (gathered (expand f)))) (index_in (polynomial_value v (gathered (expand t)))) k) (operate op.Plus d e) d) (y.1 k) m
+              ∙ ap₂ (λ z w. cond (between z w k) (operate op.Plus (item_mean v a k) (mean v x)) (item_mean v a k)) p q,
+        )
     array_means r t w i = absurd (never (array_term r t w i))
 
   means_at : (s : Sort) (t : PlainTerm) → IsOf s t → form_mean v (form_at s t) ≡ mean v t

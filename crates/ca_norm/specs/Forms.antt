@@ -10,7 +10,7 @@ use Rattle.ca_forms.specs.declared.sort.Sort.TheVariants.{Long, Bool as Truth, P
 use Rattle.ca_forms.specs.declared.form.Normal.{Normal}
 use Rattle.ca_forms.specs.declared.form.Normal.TheVariants as normal
 use Rattle.ca_forms.specs.Plain.{PlainPart, PlainMonomial, PlainPointer, PlainScalar, PlainScalars, variable, field_of, item_of, result_of, no_object, pointer_part, number_form, truth_form, pointer_form, no_scalars, scalar_and}
-use Rattle.ca_forms.specs.Arrays.{PlainArray, own_items, put_item}
+use Rattle.ca_forms.specs.Arrays.{PlainArray, one, range, own_items, put_item}
 use Rattle.ca_forms.specs.Lists.{products_of}
 use Rattle.ca_forms.specs.Compare.{monomial_cmp}
 use Rattle.ca_forms.specs.Products.{times}
@@ -19,7 +19,7 @@ use Rattle.ca_forms.specs.Folds.{fold_form}
 use Rattle.ca_forms.specs.ArrayRules.{added_at, chosen_array, selected, selected_pointer}
 use Rattle.ca_sums.specs.Sums.{Sum, total, is_tied, NoZero}
 use Rattle.ca_sums.specs.Products.{product}
-use Rattle.ca_norm.specs.Terms.{PlainTerm, PlainTerms, number, truth, atom, add, sub, neg, mul, divide, remainder, less, less_equal, same, not, and, or, choose, read, read_at, result, select, put, add_at, fold, no_terms, term_and, sort_of, item_sort}
+use Rattle.ca_norm.specs.Terms.{PlainTerm, PlainTerms, number, truth, atom, add, sub, neg, mul, divide, remainder, less, less_equal, same, not, and, or, choose, read, read_at, result, select, put, add_at, fold, sweep, no_terms, term_and, sort_of, item_sort}
 
 -- `same` by the sort of its sides, from what these are as words and as pointers
 abbrev pub same_sum : Sort → Sum PlainMonomial → Sum PlainMonomial → PlainPointer → PlainPointer → Sum PlainMonomial
@@ -75,7 +75,8 @@ abbrev mutual
   array_of (atom sort group n) = own_items (item_sort sort) group n
   array_of (choose c a b) = chosen_array (gathered (expand c)) (array_of a) (array_of b)
   array_of (put a i x) = put_item (array_of a) (gathered (expand i)) (scalar_at (sort_of x) (expand x) (pointer_of x))
-  array_of (add_at a i x) = added_at (array_of a) (gathered (expand i)) (gathered (expand x))
+  array_of (add_at a i x) = added_at (array_of a) (one (gathered (expand i))) (gathered (expand x))
+  array_of (sweep a f t x) = added_at (array_of a) (range (gathered (expand f)) (gathered (expand t))) (gathered (expand x))
   array_of t = own_items Long 0 0
 
   pub arguments_of : PlainTerms → PlainScalars

@@ -1,5 +1,5 @@
 -- What a term and a normal form mean, once it is said what the atoms stand for.
-use Rattle.std.specs.Prelude.{ℕ, ℤ, pos, cond, ◌+◌, ◌*◌, ◌%◌, ◌^◌, Bool, true, false, nat_eq, List, [], ◌∷◌, FitsSigned, Result, Ok, Err}
+use Rattle.std.specs.Prelude.{ℕ, ℤ, pos, int_lt, cond, ◌+◌, ◌*◌, ◌%◌, ◌^◌, Bool, true, false, nat_eq, List, [], ◌∷◌, FitsSigned, Result, Ok, Err}
 use Rattle.std.specs.Int.{int_wrap, cast_signed, cast_unsigned, w64}
 use Rattle.ca_tree.specs.declared.tree.BinaryOp.{BinaryOp}
 use Rattle.ca_tree.specs.declared.tree.BinaryOp.TheVariants as op
@@ -7,19 +7,19 @@ use Rattle.ca_tree.specs.declared.tree.UnaryOp.TheVariants as sign
 use Rattle.ca_model.specs.declared.value.Value.{Value as Datum}
 use Rattle.ca_model.specs.declared.value.Value.TheVariants as datum
 use Rattle.ca_model.specs.declared.value.TrapKind.{TrapKind}
-use Rattle.ca_meaning.specs.Operators.{operated, signed, same_int, same_value}
+use Rattle.ca_meaning.specs.Operators.{operated, signed, same_int, same_value, not_of, both}
 use Rattle.ca_forms.specs.declared.sort.Sort.{Sort}
 use Rattle.ca_forms.specs.declared.sort.Sort.TheVariants.{Long, Bool as Truth, Pointer, LongArray, BoolArray, PointerArray}
 use Rattle.ca_forms.specs.declared.form.Normal.{Normal}
 use Rattle.ca_forms.specs.declared.form.Normal.TheVariants as normal
 use Rattle.ca_forms.specs.Plain.{PlainPart, PlainPolynomial, PlainMonomial, PlainPointer, PlainScalar, PlainScalars, variable, is_less, is_zero, same_pointer, quotient, modulus, field_of, item_of, result_of, own_item, fold_of, no_products, product_and, no_powers, power_and, no_object, pointer_part, pointer_choice, number_form, truth_form, pointer_form, no_scalars, scalar_and}
-use Rattle.ca_forms.specs.Arrays.{PlainRows, PlainArray, own_items, put_item, with_sums, array_choice}
+use Rattle.ca_forms.specs.Arrays.{PlainSpan, one, range, PlainRows, PlainArray, own_items, put_item, with_sums, array_choice}
 use Rattle.ca_forms.specs.Products.{is_truth}
 use Rattle.ca_forms.specs.Rules.{is_below, divided, left_over}
 use Rattle.ca_folds.specs.declared.operator.FoldOp.{FoldOp}
 use Rattle.ca_folds.specs.declared.operator.FoldOp.TheVariants.{Max, Min, BitAnd, BitOr, BitXor}
 use Rattle.ca_folds.specs.Operators.{folded, neutral}
-use Rattle.ca_norm.specs.Terms.{PlainTerm, PlainTerms, number, truth, atom, add, sub, neg, mul, divide, remainder, less, less_equal, same, not, and, or, choose, read, read_at, result, select, put, add_at, fold, no_terms, term_and, item_sort}
+use Rattle.ca_norm.specs.Terms.{PlainTerm, PlainTerms, number, truth, atom, add, sub, neg, mul, divide, remainder, less, less_equal, same, not, and, or, choose, read, read_at, result, select, put, add_at, fold, sweep, no_terms, term_and, item_sort}
 
 -- An array is no single value and stands as null; its items have values of their own.
 abbrev pub IsOfSort : Sort → Datum → Type 0
@@ -78,6 +78,10 @@ abbrev pub number_of : Datum → ℤ
 number_of (datum.Long n) = n
 number_of v = pos 0
 
+-- a number from one up to but not including another
+abbrev pub between : ℤ → ℤ → ℤ → Bool
+between from to k = both (not_of (int_lt k from)) (int_lt k to)
+
 abbrev mutual
   -- Numbers wrap round at 64 bits.
   pub mean : Valuation → PlainTerm → Datum
@@ -110,6 +114,7 @@ abbrev mutual
   item_mean v (choose c a b) k = chosen (mean v c) (item_mean v a k) (item_mean v b k)
   item_mean v (put a i x) k = cond (same_int (number_of (mean v i)) k) (mean v x) (item_mean v a k)
   item_mean v (add_at a i x) k = cond (same_int (number_of (mean v i)) k) (operate op.Plus (item_mean v a k) (mean v x)) (item_mean v a k)
+  item_mean v (sweep a f t x) k = cond (between (number_of (mean v f)) (number_of (mean v t)) k) (operate op.Plus (item_mean v a k) (mean v x)) (item_mean v a k)
   item_mean v t k = datum.Null
 
   pub means : Valuation → PlainTerms → List Datum
@@ -199,10 +204,15 @@ abbrev mutual
   scalars_mean v no_scalars = []
   scalars_mean v (scalar_and x xs) = scalar_mean v x ∷ scalars_mean v xs
 
+-- whether item k lies in a span
+abbrev pub hits : Valuation → PlainSpan → ℤ → Bool
+hits v (one i) k = same_int (index_in (polynomial_value v i)) k
+hits v (range f t) k = between (index_in (polynomial_value v f)) (index_in (polynomial_value v t)) k
+
 -- what rows add to item k
 abbrev pub rows_value : Valuation → ℤ → PlainRows → ℕ
 rows_value v k [] = 0
-rows_value v k (r ∷ rs) = bit (same_int (index_in (polynomial_value v r.0)) k) * polynomial_value v r.1 + rows_value v k rs
+rows_value v k (r ∷ rs) = bit (hits v r.0 k) * polynomial_value v r.1 + rows_value v k rs
 
 -- item k of an array's form
 abbrev pub array_item : Valuation → PlainArray → ℤ → Datum

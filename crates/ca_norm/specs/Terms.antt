@@ -39,6 +39,8 @@ mutual
     add_at : PlainTerm → PlainTerm → PlainTerm → PlainTerm
     -- an operator whose operands may stand in any order
     fold : FoldOp → PlainTerm → PlainTerm → PlainTerm
+    -- with an addend at each item from one number up to but not including another
+    sweep : PlainTerm → PlainTerm → PlainTerm → PlainTerm → PlainTerm
 
   pub data PlainTerms : Type 0 where
     no_terms : PlainTerms
@@ -70,6 +72,7 @@ abbrev mutual
   shape (term.Put' p a q i r v) = put (shape a) (shape i) (shape v)
   shape (term.AddAt' p a q i r v) = add_at (shape a) (shape i) (shape v)
   shape (term.Fold' o p a q b) = fold o (shape a) (shape b)
+  shape (term.Sweep' p a q f r t s v) = sweep (shape a) (shape f) (shape t) (shape v)
 
   pub row_shape : {m : _} → Row_of-Term m → PlainTerms
   row_shape end_of-Term = no_terms
@@ -111,6 +114,7 @@ sort_of (select a i) = item_sort (sort_of a)
 sort_of (put a i v) = sort_of a
 sort_of (add_at a i v) = sort_of a
 sort_of (fold o a b) = Long
+sort_of (sweep a f t v) = sort_of a
 
 -- numbers and truth values
 abbrev pub IsWord : Sort → Type 0
@@ -159,6 +163,7 @@ abbrev mutual
   IsOf sort (put a i x) = IsArray sort × IsOf sort a × IsOf Long i × IsOf (item_sort sort) x
   IsOf sort (add_at a i x) = (sort ≡ LongArray) × IsOf LongArray a × IsOf Long i × IsOf Long x
   IsOf sort (fold o a b) = (sort ≡ Long) × IsOf Long a × IsOf Long b
+  IsOf sort (sweep a f t x) = (sort ≡ LongArray) × IsOf LongArray a × IsOf Long f × IsOf Long t × IsOf Long x
 
   pub AreSorted : PlainTerms → Type 0
   AreSorted no_terms = Unit {0}

@@ -2,7 +2,7 @@
 use Rattle.std.specs.Prelude.{ℕ, ◌+◌, ◌*◌, max}
 use Rattle.ca_forms.specs.declared.sort.Sort.{Sort}
 use Rattle.ca_forms.specs.declared.sort.Sort.TheVariants.{Bool as Truth}
-use Rattle.ca_norm.specs.Terms.{PlainTerm, PlainTerms, number, truth, null, atom, add, sub, neg, mul, divide, remainder, less, less_equal, same, not, and, or, choose, read, read_at, result, select, put, add_at, fold, no_terms, term_and, sort_of}
+use Rattle.ca_norm.specs.Terms.{PlainTerm, PlainTerms, number, truth, null, atom, add, sub, neg, mul, divide, remainder, less, less_equal, same, not, and, or, choose, read, read_at, result, select, put, add_at, fold, sweep, no_terms, term_and, sort_of}
 
 -- what the products of the two sides of `same` come to, by their sort
 abbrev pub same_spread : Sort → ℕ → ℕ → ℕ
@@ -36,6 +36,7 @@ abbrev mutual
   spread (put a i v) = spread a + spread i + spread v
   spread (add_at a i v) = spread a + spread i + spread v
   spread (fold o a b) = spread a + spread b
+  spread (sweep a f t v) = spread a + spread f + spread t + spread v
 
   pub spreads : PlainTerms → ℕ
   spreads no_terms = 0
@@ -45,6 +46,7 @@ abbrev mutual
   pub share : PlainTerm → ℕ
   share (put a i v) = 2 * share a + spread i * spread v
   share (add_at a i v) = share a + spread i * spread v
+  share (sweep a f t v) = share a + spread f * spread t * spread v
   share (choose c a b) = share b + spread c * (share a + share b)
   share t = 1
 
@@ -74,6 +76,7 @@ abbrev mutual
   nodes (put a i v) = 1 + nodes a + nodes i + nodes v
   nodes (add_at a i v) = 1 + nodes a + nodes i + nodes v
   nodes (fold o a b) = 1 + nodes a + nodes b
+  nodes (sweep a f t v) = 1 + nodes a + nodes f + nodes t + nodes v
 
   pub all_nodes : PlainTerms → ℕ
   all_nodes no_terms = 0
@@ -106,6 +109,7 @@ abbrev mutual
   depth (put a i v) = 1 + max (max (depth a) (depth i)) (depth v)
   depth (add_at a i v) = 1 + max (max (depth a) (depth i)) (depth v)
   depth (fold o a b) = 1 + max (depth a) (depth b)
+  depth (sweep a f t v) = 1 + max (max (max (depth a) (depth f)) (depth t)) (depth v)
 
   pub most_depth : PlainTerms → ℕ
   most_depth no_terms = 0

@@ -11,7 +11,7 @@ ghost use Rattle.ca_norm.specs.Forms.{expand, expand_if, is_linear, is_product, 
 use crate::items::{add_item_of, pointer_of_item};
 use crate::term::{Term, item_sort};
 use ca_forms::Sort;
-use ca_forms::array::Array;
+use ca_forms::array::{Array, Span};
 use ca_forms::array_rules::chosen_array;
 use ca_forms::folds::fold_form;
 use ca_forms::parts::{add, both};
@@ -64,7 +64,7 @@ fn add_term(
         ),
         Term::Select(_, _) => add_selected(alloc, form, term, factor),
         Term::Fold(_, _, _) => add_folded(alloc, form, term, factor),
-        Term::Null | Term::Put(_, _, _) | Term::AddAt(_, _, _) => Ok(()),
+        Term::Null | Term::Put(_, _, _) | Term::AddAt(_, _, _) | Term::Sweep(_, _, _, _) => Ok(()),
     }
 }
 
@@ -396,6 +396,7 @@ pub fn array_of(alloc: Global, term: &Term) -> Result<Array, AllocError>
         Term::Choose(_, _, _) => array_choice(alloc, term),
         Term::Put(_, _, _) => array_put(alloc, term),
         Term::AddAt(_, _, _) => array_added(alloc, term),
+        Term::Sweep(_, _, _, _) => array_swept(alloc, term),
         _ => Ok(Array::atom(Sort::Long, 0, 0)),
     }
 }
@@ -439,7 +440,23 @@ fn array_added(alloc: Global, term: &Term) -> Result<Array, AllocError>
         Term::AddAt(a, i, x) => {
             let parts = both(polynomial_of(alloc, i), polynomial_of(alloc, x));
             let (array, (index, addend)) = both(array_of(alloc, a), parts)?;
-            array.added_at(alloc, index, addend)
+            array.added_at(alloc, Span::one(index), addend)
+        }
+        _ => Err(AllocError),
+    }
+}
+
+#[cycle(normal)]
+#[inline(never)]
+fn array_swept(alloc: Global, term: &Term) -> Result<Array, AllocError>
+    ensures { IfOk result (λ a. a ≡ array_of (shape term.now)) }
+{
+    match term {
+        Term::Sweep(a, f, t, x) => {
+            let bounds = both(polynomial_of(alloc, f), polynomial_of(alloc, t));
+            let parts = both(bounds, polynomial_of(alloc, x));
+            let (array, ((from, to), addend)) = both(array_of(alloc, a), parts)?;
+            array.added_at(alloc, Span::range(from, to), addend)
         }
         _ => Err(AllocError),
     }

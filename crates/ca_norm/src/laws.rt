@@ -3,7 +3,7 @@
 ghost use Rattle.std.specs.Prelude.{◌≡◌, ℤ, false};
 ghost use Rattle.ca_folds.specs.declared.operator.FoldOp.{FoldOp};
 ghost use Rattle.ca_folds.specs.Operators.{cancels};
-ghost use Rattle.ca_norm.specs.Terms.{PlainTerm, add_at, fold, IsWord, IsArray, IsOf, sort_of};
+ghost use Rattle.ca_norm.specs.Terms.{PlainTerm, add_at, fold, sweep, IsWord, IsArray, IsOf, sort_of};
 ghost use Rattle.ca_norm.specs.Forms.{norm, SamePolynomial, IsPolynomialOf};
 ghost use Rattle.ca_norm.specs.Meanings.{Valuation, mean, item_mean, form_mean, form_item};
 
@@ -55,4 +55,14 @@ pub fn folds_associate()
 /// An operand that stands twice stands once, where two equal ones don't cancel.
 pub fn repeats_vanish()
     ensures { (o : FoldOp) (t a : PlainTerm) → cancels o ≡ false → norm (fold o (fold o t a) a) ≡ norm (fold o t a) }
+{}
+
+/// Two sweeps have one normal form in either order, whatever their bounds are.
+pub fn sweeps_commute()
+    ensures { (a f t x g u y : PlainTerm) → norm (sweep (sweep a f t x) g u y) ≡ norm (sweep (sweep a g u y) f t x) }
+{}
+
+/// So have a sweep and a sum at an item.
+pub fn sweep_and_item()
+    ensures { (a f t x j y : PlainTerm) → norm (add_at (sweep a f t x) j y) ≡ norm (sweep (add_at a j y) f t x) }
 {}

@@ -49,6 +49,8 @@ pub enum Term {
     AddAt(Box<Term>, Box<Term>, Box<Term>),
     /// An operator on two numbers, of those whose operands may stand in any order.
     Fold(FoldOp, Box<Term>, Box<Term>),
+    /// An array of numbers with an addend at each item from a number up to but not including another.
+    Sweep(Box<Term>, Box<Term>, Box<Term>, Box<Term>),
 }
 
 impl Term {
@@ -86,6 +88,7 @@ impl Term {
             Term::Choose(_, a, _) => a.sort(),
             Term::Put(a, _, _) => a.sort(),
             Term::AddAt(a, _, _) => a.sort(),
+            Term::Sweep(a, _, _, _) => a.sort(),
             Term::Select(a, _) => item_sort(a.sort()),
         }
     }

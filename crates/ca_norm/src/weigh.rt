@@ -2,7 +2,7 @@
 
 ghost use Rattle.std.specs.Prelude.{◌≡◌, ℕ, ◌+◌, ◌-◌, ◌*◌, ◌^◌, List, [], ◌∷◌, ◌++◌, map, max, min};
 ghost use Rattle.ca_forms.specs.declared.sort.Sort.{Sort};
-ghost use Rattle.ca_norm.specs.Terms.{PlainTerm, PlainTerms, null, no_terms, add, neg, mul, not, or, same, choose, read_at, result as call_result, select, put, add_at, shape, sort_of, terms_of};
+ghost use Rattle.ca_norm.specs.Terms.{PlainTerm, PlainTerms, null, no_terms, add, neg, mul, not, or, same, choose, read_at, result as call_result, select, put, add_at, sweep, shape, sort_of, terms_of};
 ghost use Rattle.ca_norm.specs.Weights.{same_spread, weight_of};
 ghost use Rattle.ca_norm.specs.Measures.{Counts, Measures, MeasuresAll};
 
@@ -205,6 +205,15 @@ impl Measure {
         parts.over(parts.spread, self.share.saturating_add(share))
     }
 
+    /// Of an array with an addend at each item from a number up to but not including another.
+    pub fn swept(self, from: Measure, to: Measure, addend: Measure) -> Measure
+        ensures { (x f t v : PlainTerm) → Measures self x → Measures from f → Measures to t → Measures addend v → Measures result (sweep x f t v) }
+    {
+        let share = times(times(from.spread, to.spread), addend.spread);
+        let parts = self.beside(from).beside(to).beside(addend);
+        parts.over(parts.spread, self.share.saturating_add(share))
+    }
+
     /// Of an array with another item at an index.
     pub fn replaced(self, index: Measure, item: Measure) -> Measure
         ensures { (x i v : PlainTerm) → Measures self x → Measures index i → Measures item v → Measures result (put x i v) }
@@ -240,6 +249,9 @@ fn measure_of(term: &Term) -> Measure
         Term::Select(a, i) => measure_of(a).selection(measure_of(i)),
         Term::Put(a, i, v) => measure_of(a).replaced(measure_of(i), measure_of(v)),
         Term::AddAt(a, i, v) => measure_of(a).increased(measure_of(i), measure_of(v)),
+        Term::Sweep(a, f, t, v) => {
+            measure_of(a).swept(measure_of(f), measure_of(t), measure_of(v))
+        }
     }
 }
 

@@ -3,7 +3,7 @@ use Rattle.std.proofs.Common.{inl, inr, ◌≡◌, ℕ, Bool, true, false, cond,
 use Rattle.std.specs.Prelude.{Contains, ◌⊎◌}
 use Rattle.ca_forms.specs.declared.sort.Sort.{Sort}
 use Rattle.ca_forms.specs.declared.sort.Sort.TheVariants.{Long, Bool as Truth, Pointer, LongArray}
-use Rattle.ca_norm.specs.Terms.{PlainTerm, PlainTerms, number, truth, null, atom, add, sub, neg, mul, divide, remainder, less, less_equal, same, not, and, or, choose, read, read_at, result, select, put, add_at, fold, no_terms, term_and, sort_of, item_sort, IsOf, AreSorted}
+use Rattle.ca_norm.specs.Terms.{PlainTerm, PlainTerms, number, truth, null, atom, add, sub, neg, mul, divide, remainder, less, less_equal, same, not, and, or, choose, read, read_at, result, select, put, add_at, fold, sweep, no_terms, term_and, sort_of, item_sort, IsOf, AreSorted}
 use Rattle.ca_norm.specs.Meanings.{Valuation, mean}
 use Rattle.ca_norm.proofs.Values.{same_forms}
 use Rattle.ca_order.specs.declared.point.Point.{Point}
@@ -59,6 +59,7 @@ mutual
   fit s (put a j x) i = both_fit _ _ (fit s a i.1) (both_fit _ _ (fit Long j i.2) (fit (item_sort s) x i.3))
   fit s (add_at a j x) i = both_fit _ _ (fit LongArray a i.1) (both_fit _ _ (fit Long j i.2) (fit Long x i.3))
   fit s (fold o a b) i = both_fit _ _ (fit Long a i.1) (fit Long b i.2)
+  fit s (sweep a f t x) i = both_fit _ _ (fit LongArray a i.1) (both_fit _ _ (fit Long f i.2) (both_fit _ _ (fit Long t i.3) (fit Long x i.4)))
 
   all_fit : (ts : PlainTerms) → AreSorted ts → AllFit (points_of_all ts)
   all_fit no_terms i = tt

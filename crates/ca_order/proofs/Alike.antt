@@ -8,7 +8,7 @@ use Rattle.ca_forms.specs.declared.sort.Sort.TheVariants.{Long}
 use Rattle.ca_forms.specs.Plain.{PlainPolynomial}
 use Rattle.ca_forms.specs.Compare.{polynomial_cmp}
 use Rattle.ca_forms.specs.Rules.{gathered}
-use Rattle.ca_norm.specs.Terms.{PlainTerm, PlainTerms, number, truth, null, atom, add, sub, neg, mul, divide, remainder, less, less_equal, same, not, and, or, choose, read, read_at, result, select, put, add_at, fold, no_terms, term_and, sort_of}
+use Rattle.ca_norm.specs.Terms.{PlainTerm, PlainTerms, number, truth, null, atom, add, sub, neg, mul, divide, remainder, less, less_equal, same, not, and, or, choose, read, read_at, result, select, put, add_at, fold, sweep, no_terms, term_and, sort_of}
 use Rattle.ca_norm.specs.Forms.{expand}
 use Rattle.ca_order.specs.declared.point.Point.{Point}
 use Rattle.ca_order.specs.declared.point.Point.TheVariants as point
@@ -87,6 +87,8 @@ module _ (r s : Ranked) (lead : (p : Point) → leader r p ≡ leader s p) where
     makes_same (put a i x) h = ap (λ z. put z (under r i) (under r x)) (makes_same a h.0) ∙ ap₂ (put (under s a)) (makes_same i h.1) (makes_same x h.2)
     makes_same (add_at a i x) h = ap (λ z. add_at z (under r i) (under r x)) (makes_same a h.0) ∙ ap₂ (add_at (under s a)) (makes_same i h.1) (makes_same x h.2)
     makes_same (fold o a b) h = ap₂ (fold o) (makes_same a h.0) (makes_same b h.1)
+    makes_same (sweep a f t x) h =
+        ap₂ (λ y z. sweep y z (under r t) (under r x)) (makes_same a h.0) (makes_same f h.1) ∙ ap₂ (sweep (under s a) (under s f)) (makes_same t h.2) (makes_same x h.3)
     makes_same (number n) h = refl
     makes_same (truth b) h = refl
     makes_same null h = refl
@@ -127,6 +129,7 @@ module _ (P Q : PlainPolynomial → PlainPolynomial → Type 0) (more : (f g : P
     each_more (put a i x) h = (each_more a h.0, each_more i h.1, each_more x h.2)
     each_more (add_at a i x) h = (each_more a h.0, each_more i h.1, each_more x h.2)
     each_more (fold o a b) h = (each_more a h.0, each_more b h.1)
+    each_more (sweep a f t x) h = (each_more a h.0, each_more f h.1, each_more t h.2, each_more x h.3)
     each_more (atom k g n) h = tt
     each_more (number n) h = tt
     each_more (truth b) h = tt

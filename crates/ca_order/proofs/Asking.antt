@@ -8,7 +8,7 @@ use Rattle.ca_forms.specs.declared.sort.Sort.{Sort}
 use Rattle.ca_forms.specs.declared.sort.Sort.TheVariants.{Long}
 use Rattle.ca_forms.specs.Plain.{PlainPolynomial}
 use Rattle.ca_forms.specs.Compare.{polynomial_cmp}
-use Rattle.ca_norm.specs.Terms.{PlainTerm, PlainTerms, number, truth, null, atom, add, sub, neg, mul, divide, remainder, less, less_equal, same, not, and, or, choose, read, read_at, result, select, put, add_at, fold, no_terms, term_and, sort_of}
+use Rattle.ca_norm.specs.Terms.{PlainTerm, PlainTerms, number, truth, null, atom, add, sub, neg, mul, divide, remainder, less, less_equal, same, not, and, or, choose, read, read_at, result, select, put, add_at, fold, sweep, no_terms, term_and, sort_of}
 use Rattle.ca_norm.specs.Forms.{norm}
 use Rattle.ca_order.specs.declared.point.Point.{Point}
 use Rattle.ca_order.specs.Points.{Ranked, form_of}
@@ -97,6 +97,7 @@ module _ (r : Ranked) where
     grows (put a i v) q = λ x h. grows v (asked r i (asked r a q)) x (grows i (asked r a q) x (grows a q x h))
     grows (add_at a i v) q = λ x h. grows v (asked r i (asked r a q)) x (grows i (asked r a q) x (grows a q x h))
     grows (fold o a b) q = λ x h. grows b (asked r a q) x (grows a q x h)
+    grows (sweep a f t v) q = λ x h. grows v (asked r t (asked r f (asked r a q))) x (grows t (asked r f (asked r a q)) x (grows f (asked r a q) x (grows a q x h)))
     grows (number n) q = λ x h. h
     grows (truth b) q = λ x h. h
     grows null q = λ x h. h
@@ -115,6 +116,15 @@ module _ (r : Ranked) where
       let s = asked r b (asked r a q) in
       let w = two a b q h k in
       (more s (asked r c s) (grows c s) a w.0, more s (asked r c s) (grows c s) b w.1, l)
+
+  four : (a b c d : PlainTerm) (q : List (ℕ × ℕ)) → Each (In (asked r a q)) r a → Each (In (asked r b (asked r a q))) r b → Each (In (asked r c (asked r b (asked r a q)))) r c →
+      Each (In (asked r d (asked r c (asked r b (asked r a q))))) r d →
+      Each (In (asked r d (asked r c (asked r b (asked r a q))))) r a × Each (In (asked r d (asked r c (asked r b (asked r a q))))) r b ×
+      Each (In (asked r d (asked r c (asked r b (asked r a q))))) r c × Each (In (asked r d (asked r c (asked r b (asked r a q))))) r d
+  four a b c d q h k l m =
+      let s = asked r c (asked r b (asked r a q)) in
+      let w = three a b c q h k l in
+      (more s (asked r d s) (grows d s) a w.0, more s (asked r d s) (grows d s) b w.1, more s (asked r d s) (grows d s) c w.2, m)
 
   mutual
     each_in : (t : PlainTerm) (q : List (ℕ × ℕ)) → Each (In (asked r t q)) r t
@@ -150,6 +160,7 @@ module _ (r : Ranked) where
     each_in (put a i v) q = three a i v q (each_in a q) (each_in i (asked r a q)) (each_in v (asked r i (asked r a q)))
     each_in (add_at a i v) q = three a i v q (each_in a q) (each_in i (asked r a q)) (each_in v (asked r i (asked r a q)))
     each_in (fold o a b) q = two a b q (each_in a q) (each_in b (asked r a q))
+    each_in (sweep a f t v) q = four a f t v q (each_in a q) (each_in f (asked r a q)) (each_in t (asked r f (asked r a q))) (each_in v (asked r t (asked r f (asked r a q))))
     each_in (number n) q = tt
     each_in (truth b) q = tt
     each_in null q = tt

@@ -5,7 +5,7 @@ use Rattle.std.proofs.Math.Nat.{one-le-mul}
 use Rattle.std.proofs.lemmas.Nat.{mul-le}
 use Rattle.ca_forms.specs.declared.sort.Sort.{Sort}
 use Rattle.ca_forms.specs.declared.sort.Sort.TheVariants.{Long, Bool as Truth, Pointer, LongArray, BoolArray, PointerArray}
-use Rattle.ca_norm.specs.Terms.{PlainTerm, PlainTerms, number, truth, null, atom, add, sub, neg, mul, divide, remainder, less, less_equal, same, not, and, or, choose, read, read_at, result, select, put, add_at, fold, no_terms, term_and, sort_of}
+use Rattle.ca_norm.specs.Terms.{PlainTerm, PlainTerms, number, truth, null, atom, add, sub, neg, mul, divide, remainder, less, less_equal, same, not, and, or, choose, read, read_at, result, select, put, add_at, fold, sweep, no_terms, term_and, sort_of}
 use Rattle.ca_norm.specs.Weights.{spread, spreads, share, nodes, all_nodes, depth, most_depth, same_spread, weight_of}
 use Rattle.ca_order.specs.declared.point.Point.{Point}
 use Rattle.ca_order.specs.declared.point.Point.TheVariants as point
@@ -47,6 +47,7 @@ some (select a i) = omega arith
 some (put a i x) = omega (arith, some a)
 some (add_at a i x) = omega (arith, some a)
 some (fold o a b) = omega (arith, some a)
+some (sweep a f t x) = omega (arith, some a)
 
 -- one is no heavier than another in any respect
 record Within (t u : PlainTerm) : Type 0 where
@@ -162,6 +163,18 @@ mutual
         depth_in = omega (arith, f.depth_in, g.depth_in, h.depth_in);
       }
   within r (fold o a b) = let f = within r a in let g = within r b in record { spread_in = omega (arith, f.spread_in, g.spread_in); share_in = omega arith; nodes_in = omega (arith, f.nodes_in, g.nodes_in); depth_in = omega (arith, f.depth_in, g.depth_in) }
+  within r (sweep a f t x) =
+      let d = within r a in
+      let e = within r f in
+      let g = within r t in
+      let h = within r x in
+      let bounds = mul-le (spread (under r f)) (spread (under r t)) (spread f) (spread t) e.spread_in g.spread_in in
+      record {
+        spread_in = omega (arith, d.spread_in, e.spread_in, g.spread_in, h.spread_in);
+        share_in = omega (arith, d.share_in, mul-le (spread (under r f) * spread (under r t)) (spread (under r x)) (spread f * spread t) (spread x) bounds h.spread_in);
+        nodes_in = omega (arith, d.nodes_in, e.nodes_in, g.nodes_in, h.nodes_in);
+        depth_in = omega (arith, d.depth_in, e.depth_in, g.depth_in, h.depth_in);
+      }
 
   all_within : (r : Ranked) (ts : PlainTerms) → AllWithin (all_under r ts) ts
   all_within r no_terms = record { spread_in = omega arith; nodes_in = omega arith; depth_in = omega arith }

@@ -15,9 +15,9 @@ use Rattle.ca_forms.specs.Plain.{PlainPolynomial, number_form}
 use Rattle.ca_forms.specs.Compare.{polynomial_cmp}
 use Rattle.ca_forms.specs.Rules.{gathered}
 use Rattle.ca_forms.proofs.Exact.{polynomial_same}
-use Rattle.ca_norm.specs.Terms.{PlainTerm, PlainTerms, number, truth, null, atom, add, sub, neg, mul, divide, remainder, less, less_equal, same, not, and, or, choose, read, read_at, result, select, put, add_at, fold, no_terms, term_and, sort_of, item_sort, IsScalar, IsArray, IsOf, AreSorted}
+use Rattle.ca_norm.specs.Terms.{PlainTerm, PlainTerms, number, truth, null, atom, add, sub, neg, mul, divide, remainder, less, less_equal, same, not, and, or, choose, read, read_at, result, select, put, add_at, fold, sweep, no_terms, term_and, sort_of, item_sort, IsScalar, IsArray, IsOf, AreSorted}
 use Rattle.ca_norm.specs.Forms.{expand, norm, form_at}
-use Rattle.ca_norm.specs.Meanings.{Valuation, IsOfSort, operate, binary_of, chosen, number_of, mean, item_mean, means}
+use Rattle.ca_norm.specs.Meanings.{Valuation, IsOfSort, operate, binary_of, chosen, number_of, between, mean, item_mean, means}
 use Rattle.ca_norm.proofs.Values.{same_forms}
 use Rattle.ca_order.specs.declared.point.Point.{Point}
 use Rattle.ca_order.specs.declared.point.Point.TheVariants as point
@@ -43,6 +43,7 @@ sort_is s (result r m p ts) i = i.0
 sort_is s (select a j) i = sym i.1
 sort_is s (put a j x) i = sort_is s a i.1
 sort_is s (add_at a j x) i = sort_is LongArray a i.1 ∙ sym i.0
+sort_is s (sweep a f t x) i = sort_is LongArray a i.1 ∙ sym i.0
 sort_is s t i = sym i.0
 
 pub of_own_sort : (s : Sort) (t : PlainTerm) → IsOf s t → IsOf (sort_of t) t
@@ -196,6 +197,7 @@ module _ (r : Ranked) (fit : AreFit r) where
     sorted s (put a j x) i = (i.0, sorted s a i.1, sorted Long j i.2, sorted (item_sort s) x i.3)
     sorted s (add_at a j x) i = (i.0, sorted LongArray a i.1, sorted Long j i.2, sorted Long x i.3)
     sorted s (fold o a b) i = (i.0, sorted Long a i.1, sorted Long b i.2)
+    sorted s (sweep a f t x) i = (i.0, sorted LongArray a i.1, sorted Long f i.2, sorted Long t i.3, sorted Long x i.4)
 
     all_sorted : (ts : PlainTerms) → AreSorted ts → AreSorted (all_under r ts)
     all_sorted no_terms i = tt
@@ -285,6 +287,7 @@ module _ (r : Ranked) (fit : AreFit r) where
       under_means s (select a j) i = ap (λ z. item_mean v (under r a) (number_of z)) (under_means Long j i.3) ∙ items_mean (sort_of a) a (number_of (mean v j)) i.0 i.2
       under_means s (put a j x) i = refl
       under_means s (add_at a j x) i = refl
+      under_means s (sweep a f t x) i = refl
       under_means s (fold o a b) i = ap₂ (operate (binary_of o)) (under_means Long a i.1) (under_means Long b i.2)
 
       all_mean : (ts : PlainTerms) → AreSorted ts → means v (all_under r ts) ≡ means v ts
@@ -303,4 +306,7 @@ module _ (r : Ranked) (fit : AreFit r) where
       items_mean s (add_at a j x) k w i =
           ap (λ z. cond (same_int (number_of z) k) (operate op.Plus (item_mean v (under r a) k) (mean v (under r x))) (item_mean v (under r a) k)) (under_means Long j i.2)
           ∙ ap₂ (λ y z. cond (same_int (number_of (mean v j)) k) (operate op.Plus y z) y) (items_mean LongArray a k tt i.1) (under_means Long x i.3)
+      items_mean s (sweep a f t x) k w i =
+          ap₂ (λ y z. cond (between (number_of y) (number_of z) k) (operate op.Plus (item_mean v (under r a) k) (mean v (under r x))) (item_mean v (under r a) k)) (under_means Long f i.2) (under_means Long t i.3)
+          ∙ ap₂ (λ y z. cond (between (number_of (mean v f)) (number_of (mean v t)) k) (operate op.Plus y z) y) (items_mean LongArray a k tt i.1) (under_means Long x i.4)
       items_mean s t k w i = refl

@@ -2,7 +2,7 @@
 use Rattle.std.proofs.Common.{◌≡◌, ℕ, [], refl, ap, ap₂, ◌∙◌}
 use Rattle.ca_forms.specs.declared.sort.Sort.{Sort}
 use Rattle.ca_forms.specs.declared.sort.Sort.TheVariants.{Long}
-use Rattle.ca_norm.specs.Terms.{PlainTerm, PlainTerms, number, truth, null, atom, add, sub, neg, mul, divide, remainder, less, less_equal, same, not, and, or, choose, read, read_at, result, select, put, add_at, fold, no_terms, term_and, sort_of}
+use Rattle.ca_norm.specs.Terms.{PlainTerm, PlainTerms, number, truth, null, atom, add, sub, neg, mul, divide, remainder, less, less_equal, same, not, and, or, choose, read, read_at, result, select, put, add_at, fold, sweep, no_terms, term_and, sort_of}
 use Rattle.ca_order.specs.Under.{atom_under, same_under, under, all_under}
 
 atom_stays : (s : Sort) (g n : ℕ) → atom_under [] s g n ≡ atom s g n
@@ -36,6 +36,7 @@ mutual
   stays (put a i x) = ap (λ z. put z (under [] i) (under [] x)) (stays a) ∙ ap₂ (put a) (stays i) (stays x)
   stays (add_at a i x) = ap (λ z. add_at z (under [] i) (under [] x)) (stays a) ∙ ap₂ (add_at a) (stays i) (stays x)
   stays (fold o a b) = ap₂ (fold o) (stays a) (stays b)
+  stays (sweep a f t x) = ap₂ (λ y z. sweep y z (under [] t) (under [] x)) (stays a) (stays f) ∙ ap₂ (sweep a f) (stays t) (stays x)
   stays (number n) = refl
   stays (truth b) = refl
   stays null = refl

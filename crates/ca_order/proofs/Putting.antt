@@ -3,7 +3,7 @@ use Rattle.std.proofs.Common.{◌≡◌, ◌+◌, ◌<◌, arith, length, map, d
 use Rattle.std.specs.Prelude.{nat_lt, int_lt, ◌||◌, ◌&&◌}
 use Rattle.ca_forms.specs.declared.sort.Sort.{Sort}
 use Rattle.ca_forms.specs.declared.sort.Sort.TheVariants.{Long}
-use Rattle.ca_norm.specs.Terms.{PlainTerm, PlainTerms, number, truth, null, atom, add, sub, neg, mul, divide, remainder, less, less_equal, same, not, and, or, choose, read, read_at, result, select, put, add_at, fold, no_terms, term_and, shape, terms_of}
+use Rattle.ca_norm.specs.Terms.{PlainTerm, PlainTerms, number, truth, null, atom, add, sub, neg, mul, divide, remainder, less, less_equal, same, not, and, or, choose, read, read_at, result, select, put, add_at, fold, sweep, no_terms, term_and, shape, terms_of}
 use Rattle.ca_order.specs.declared.point.Point.{Point}
 use Rattle.ca_order.specs.OrderSame.{side, atom_point, all_points, points_of_all, with_point, in_order, points_of}
 use Rattle.std.specs.Ordering.{match_ordering, ordering_then}
@@ -66,6 +66,9 @@ mutual
   put_onto (put a i x) q = two (added a) (λ z. added i (added x z)) (all_points a) (all_points i ++ all_points x) (λ z. put_onto a z) (two (added i) (added x) (all_points i) (all_points x) (λ z. put_onto i z) (λ z. put_onto x z)) q
   put_onto (add_at a i x) q = two (added a) (λ z. added i (added x z)) (all_points a) (all_points i ++ all_points x) (λ z. put_onto a z) (two (added i) (added x) (all_points i) (all_points x) (λ z. put_onto i z) (λ z. put_onto x z)) q
   put_onto (fold o a b) q = two (added a) (added b) (all_points a) (all_points b) (λ z. put_onto a z) (λ z. put_onto b z) q
+  put_onto (sweep a f t x) q =
+      two (added a) (λ z. added f (added t (added x z))) (all_points a) (all_points f ++ (all_points t ++ all_points x)) (λ z. put_onto a z)
+      (two (added f) (λ z. added t (added x z)) (all_points f) (all_points t ++ all_points x) (λ z. put_onto f z) (two (added t) (added x) (all_points t) (all_points x) (λ z. put_onto t z) (λ z. put_onto x z))) q
   put_onto (number n) q = refl
   put_onto (truth b) q = refl
   put_onto null q = refl

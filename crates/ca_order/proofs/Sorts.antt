@@ -3,7 +3,7 @@ use Rattle.std.proofs.Common.{◌≡◌, ℕ, Bool, Option, Some, None, refl, ap
 use Rattle.std.specs.Prelude.{nat_lt, nat_eq}
 use Rattle.ca_forms.specs.declared.sort.Sort.{Sort}
 use Rattle.ca_forms.specs.declared.sort.Sort.TheVariants.{Long, Bool as Truth}
-use Rattle.ca_norm.specs.Terms.{PlainTerm, atom, less, less_equal, same, choose, select, put, add_at, sort_of, item_sort}
+use Rattle.ca_norm.specs.Terms.{PlainTerm, atom, less, less_equal, same, choose, select, put, add_at, sweep, sort_of, item_sort}
 use Rattle.ca_order.specs.declared.point.Point.{Point}
 use Rattle.ca_order.specs.declared.point.Point.TheVariants as point
 use Rattle.ca_order.specs.Points.{point_term, Ranked}
@@ -35,4 +35,5 @@ sort_kept r (choose c a b) = sort_kept r a
 sort_kept r (select a i) = ap item_sort (sort_kept r a)
 sort_kept r (put a i x) = sort_kept r a
 sort_kept r (add_at a i x) = sort_kept r a
+sort_kept r (sweep a f t x) = sort_kept r a
 sort_kept r t = refl

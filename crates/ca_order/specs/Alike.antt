@@ -6,7 +6,7 @@ use Rattle.ca_forms.specs.declared.sort.Sort.TheVariants.{Long}
 use Rattle.ca_forms.specs.Plain.{PlainPolynomial}
 use Rattle.ca_forms.specs.Compare.{polynomial_cmp}
 use Rattle.ca_forms.specs.Rules.{gathered}
-use Rattle.ca_norm.specs.Terms.{PlainTerm, PlainTerms, number, truth, null, atom, add, sub, neg, mul, divide, remainder, less, less_equal, same, not, and, or, choose, read, read_at, result, select, put, add_at, fold, no_terms, term_and, sort_of}
+use Rattle.ca_norm.specs.Terms.{PlainTerm, PlainTerms, number, truth, null, atom, add, sub, neg, mul, divide, remainder, less, less_equal, same, not, and, or, choose, read, read_at, result, select, put, add_at, fold, sweep, no_terms, term_and, sort_of}
 use Rattle.ca_norm.specs.Forms.{expand}
 use Rattle.ca_order.specs.declared.point.Point.{Point}
 use Rattle.ca_order.specs.Points.{Ranked, form_of}
@@ -56,6 +56,7 @@ abbrev mutual
   Each P r (put a i x) = Each P r a × Each P r i × Each P r x
   Each P r (add_at a i x) = Each P r a × Each P r i × Each P r x
   Each P r (fold o a b) = Each P r a × Each P r b
+  Each P r (sweep a f t x) = Each P r a × Each P r f × Each P r t × Each P r x
 
   pub EachOf : (PlainPolynomial → PlainPolynomial → Type 0) → Ranked → PlainTerms → Type 0
   EachOf P r no_terms = Unit {0}

@@ -5,7 +5,7 @@ use Rattle.ca_forms.specs.declared.sort.Sort.{Sort}
 use Rattle.ca_forms.specs.declared.sort.Sort.TheVariants.{Long}
 use Rattle.ca_forms.specs.Plain.{PlainPolynomial}
 use Rattle.ca_forms.specs.Compare.{polynomial_cmp}
-use Rattle.ca_norm.specs.Terms.{PlainTerm, PlainTerms, number, truth, null, atom, add, sub, neg, mul, divide, remainder, less, less_equal, same, not, and, or, choose, read, read_at, result, select, put, add_at, fold, no_terms, term_and, sort_of}
+use Rattle.ca_norm.specs.Terms.{PlainTerm, PlainTerms, number, truth, null, atom, add, sub, neg, mul, divide, remainder, less, less_equal, same, not, and, or, choose, read, read_at, result, select, put, add_at, fold, sweep, no_terms, term_and, sort_of}
 use Rattle.ca_order.specs.Points.{Ranked, form_of}
 use Rattle.ca_order.specs.Alike.{form_under, next}
 
@@ -57,6 +57,7 @@ abbrev mutual
   asked r (put a i x) q = asked r x (asked r i (asked r a q))
   asked r (add_at a i x) q = asked r x (asked r i (asked r a q))
   asked r (fold o a b) q = asked r b (asked r a q)
+  asked r (sweep a f t x) q = asked r x (asked r t (asked r f (asked r a q)))
 
   pub all_asked : Ranked → PlainTerms → List (ℕ × ℕ) → List (ℕ × ℕ)
   all_asked r no_terms q = q

@@ -2,7 +2,7 @@
 use Rattle.std.specs.Prelude.{◌≡◌, ℕ, ◌≤◌, Bool, true, false, cond, ◌&&◌, ◌||◌, nat_lt, nat_eq, int_lt, List, [], ◌∷◌, ◌++◌, length, Contains}
 use Rattle.ca_forms.specs.declared.sort.Sort.{Sort}
 use Rattle.ca_forms.specs.declared.sort.Sort.TheVariants.{Long}
-use Rattle.ca_norm.specs.Terms.{PlainTerm, PlainTerms, number, truth, null, atom, add, sub, neg, mul, divide, remainder, less, less_equal, same, not, and, or, choose, read, read_at, result, select, put, add_at, fold, no_terms, term_and}
+use Rattle.ca_norm.specs.Terms.{PlainTerm, PlainTerms, number, truth, null, atom, add, sub, neg, mul, divide, remainder, less, less_equal, same, not, and, or, choose, read, read_at, result, select, put, add_at, fold, sweep, no_terms, term_and}
 use Rattle.ca_norm.specs.Forms.{norm}
 use Rattle.ca_order.specs.declared.point.Point.{Point}
 use Rattle.ca_order.specs.declared.point.Point.TheVariants as point
@@ -46,6 +46,7 @@ abbrev mutual
   all_points (put a i x) = all_points a ++ (all_points i ++ all_points x)
   all_points (add_at a i x) = all_points a ++ (all_points i ++ all_points x)
   all_points (fold o a b) = all_points a ++ all_points b
+  all_points (sweep a f t x) = all_points a ++ (all_points f ++ (all_points t ++ all_points x))
 
   pub points_of_all : PlainTerms → List Point
   points_of_all no_terms = []

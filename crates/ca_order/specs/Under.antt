@@ -8,7 +8,7 @@ use Rattle.ca_forms.specs.declared.sort.Sort.TheVariants.{Long}
 use Rattle.ca_forms.specs.Plain.{PlainPolynomial}
 use Rattle.ca_forms.specs.Compare.{polynomial_cmp}
 use Rattle.ca_forms.specs.Rules.{gathered}
-use Rattle.ca_norm.specs.Terms.{PlainTerm, PlainTerms, number, truth, null, atom, add, sub, neg, mul, divide, remainder, less, less_equal, same, not, and, or, choose, read, read_at, result, select, put, add_at, fold, no_terms, term_and, sort_of}
+use Rattle.ca_norm.specs.Terms.{PlainTerm, PlainTerms, number, truth, null, atom, add, sub, neg, mul, divide, remainder, less, less_equal, same, not, and, or, choose, read, read_at, result, select, put, add_at, fold, sweep, no_terms, term_and, sort_of}
 use Rattle.ca_norm.specs.Forms.{expand}
 use Rattle.ca_norm.specs.Meanings.{Valuation}
 use Rattle.ca_order.specs.declared.point.Point.{Point}
@@ -83,6 +83,7 @@ abbrev mutual
   under r (put a i x) = put (under r a) (under r i) (under r x)
   under r (add_at a i x) = add_at (under r a) (under r i) (under r x)
   under r (fold o a b) = fold o (under r a) (under r b)
+  under r (sweep a f t x) = sweep (under r a) (under r f) (under r t) (under r x)
 
   pub all_under : Ranked → PlainTerms → PlainTerms
   all_under r no_terms = no_terms

@@ -157,6 +157,12 @@ pub(crate) fn add_asked(
             add_asked(alloc, pairs, places, b)?;
             add_asked(alloc, pairs, places, c)
         }
+        Term::Sweep(a, b, c, d) => {
+            add_asked(alloc, pairs, places, a)?;
+            add_asked(alloc, pairs, places, b)?;
+            add_asked(alloc, pairs, places, c)?;
+            add_asked(alloc, pairs, places, d)
+        }
         Term::Result(_, _, p, args) => {
             add_asked(alloc, pairs, places, p)?;
             add_all(alloc, pairs, places, args.as_slice())

@@ -38,6 +38,10 @@ pub(crate) fn is_deep(term: &Term, most: u32) -> bool {
         Term::Choose(a, b, c) => is_deep(a, most) || is_deep(b, most) || is_deep(c, most),
         Term::Put(a, b, c) => is_deep(a, most) || is_deep(b, most) || is_deep(c, most),
         Term::AddAt(a, b, c) => is_deep(a, most) || is_deep(b, most) || is_deep(c, most),
+        Term::Sweep(a, b, c, d) => is_deep(a, most)
+            || is_deep(b, most)
+            || is_deep(c, most)
+            || is_deep(d, most),
         Term::Result(_, _, p, args) => is_deep(p, most) || is_any_deep(args.as_slice(), most),
     }
 }

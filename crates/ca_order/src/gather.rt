@@ -14,7 +14,7 @@ use crate::comparisons::{
 };
 use crate::items::{add_item_of, pointer_of_item};
 use crate::places::Place;
-use ca_forms::array::Array;
+use ca_forms::array::{Array, Span};
 use ca_forms::array_rules::chosen_array;
 use ca_forms::folds::fold_form;
 use ca_forms::parts::{add, both};
@@ -67,7 +67,7 @@ fn add_term(
         ),
         Term::Select(_, _) => add_selected(alloc, form, places, term, factor),
         Term::Fold(_, _, _) => add_folded(alloc, form, places, term, factor),
-        Term::Null | Term::Put(_, _, _) | Term::AddAt(_, _, _) => Ok(()),
+        Term::Null | Term::Put(_, _, _) | Term::AddAt(_, _, _) | Term::Sweep(_, _, _, _) => Ok(()),
     }
 }
 
@@ -449,6 +449,7 @@ pub fn array_of(alloc: Global, places: &[Place], term: &Term) -> Result<Array, A
         Term::Choose(_, _, _) => array_choice(alloc, places, term),
         Term::Put(_, _, _) => array_put(alloc, places, term),
         Term::AddAt(_, _, _) => array_added(alloc, places, term),
+        Term::Sweep(_, _, _, _) => array_swept(alloc, places, term),
         _ => Ok(Array::atom(Sort::Long, 0, 0)),
     }
 }
@@ -495,7 +496,26 @@ fn array_added(alloc: Global, places: &[Place], term: &Term) -> Result<Array, Al
                 polynomial_of(alloc, places, x),
             );
             let (array, (index, addend)) = both(array_of(alloc, places, a), parts)?;
-            array.added_at(alloc, index, addend)
+            array.added_at(alloc, Span::one(index), addend)
+        }
+        _ => Err(AllocError),
+    }
+}
+
+#[cycle(under)]
+#[inline(never)]
+fn array_swept(alloc: Global, places: &[Place], term: &Term) -> Result<Array, AllocError>
+    ensures { IfOk result (λ a. a ≡ array_of (under places.now (shape term.now))) }
+{
+    match term {
+        Term::Sweep(a, f, t, x) => {
+            let bounds = both(
+                polynomial_of(alloc, places, f),
+                polynomial_of(alloc, places, t),
+            );
+            let parts = both(bounds, polynomial_of(alloc, places, x));
+            let (array, ((from, to), addend)) = both(array_of(alloc, places, a), parts)?;
+            array.added_at(alloc, Span::range(from, to), addend)
         }
         _ => Err(AllocError),
     }

@@ -131,6 +131,12 @@ fn add_points(set: &mut BTreeSet<Point>, term: &Term) -> Result<(), AllocError>
             add_points(set, b)?;
             add_points(set, a)
         }
+        Term::Sweep(a, b, c, d) => {
+            add_points(set, d)?;
+            add_points(set, c)?;
+            add_points(set, b)?;
+            add_points(set, a)
+        }
         Term::Result(_, _, p, args) => {
             add_all(set, args.as_slice())?;
             add_points(set, p)

@@ -163,6 +163,12 @@ fn term_under(alloc: Global, places: &[Place], term: &Term) -> Result<Term, Allo
             let sides = both(boxed(alloc, places, b), boxed(alloc, places, c));
             Term::ternary(Ternary::AddAt, both(boxed(alloc, places, a), sides))
         }
+        Term::Sweep(a, b, c, d) => {
+            let bounds = both(boxed(alloc, places, b), boxed(alloc, places, c));
+            let sides = both(boxed(alloc, places, a), boxed(alloc, places, d));
+            let ((from, to), (array, addend)) = both(bounds, sides)?;
+            Ok(Term::Sweep(array, from, to, addend))
+        }
         Term::Read(sort, p, class, field) => {
             let object = boxed(alloc, places, p)?;
             Ok(Term::Read(*sort, object, *class, *field))

@@ -11,8 +11,9 @@ use Rattle.ca_meaning.specs.Functions.{body_of}
 use Rattle.ca_parallel.specs.Separable.{MayStandRight, MayAccess, IsClean, AreClean, holds_call, IsSeparated, AreSeparated, Separable}
 use Rattle.ca_norm.specs.Meanings.{binary_of}
 use Rattle.ca_symbolic.specs.OtherLoops.{other_loop, other_loop_in}
-use Rattle.ca_symbolic.specs.Runs.{first_other_loop}
-use Rattle.ca_plain_laws.specs.PlainPairs.{IsLiteral, a_number, a_truth, a_null, IsAtom, a_literal, the_receiver, a_parameter, a_constant, IsProduct, an_atom, times, IsSum, a_product, plus, AreShortSums, Kind, IsUpdateOf, adds, takes_off, puts_sum, puts_difference, multiplies, puts_product, joins, puts_joined, adds_to_item, puts_item_sum, takes_off_item, puts_item_difference, puts_literal, AreCalls, no_calls, call_and, AreUpdatesAndCalls, calls, update_and}
+use Rattle.ca_symbolic.specs.Runs.{params_of, first_other_loop}
+use Rattle.ca_plain_laws.specs.PlainPairs.{IsLiteral, a_number, a_truth, a_null, IsAtom, a_literal, the_receiver, a_parameter, a_constant, IsProduct, an_atom, times, IsSum, a_product, plus, AreShortSums, Kind, IsUpdateOf, adds, takes_off, puts_sum, puts_difference, multiplies, puts_product, joins, puts_joined, adds_to_item, puts_item_sum, takes_off_item, puts_item_difference, adds_to_range, puts_literal, AreCalls, no_calls, call_and, AreUpdatesAndCalls, calls, update_and}
+use Rattle.ca_plain_laws.proofs.Swept.{sweep_calls, sweep_separated, sweep_no_other}
 use Rattle.ca_plain_laws.specs.Laws.{PlainPairsAreSeparable, PlainPairsHaveNoLoops}
 
 any_right_side : (o : FoldOp) (e : Expression) → MayStandRight (binary_of o) e
@@ -63,6 +64,7 @@ module _ (p : PlainProgram) (written : List FieldId) (m : PlainMethod) where
   update_separated (puts_item_sum line i e h g) = (tt, sum_clean false h.0, (tt, (tt, sum_clean false h.0), sum_clean false g.0))
   update_separated (takes_off_item line i e h g) = (tt, sum_clean false h.0, sum_clean false g.0)
   update_separated (puts_item_difference line i e h g) = (tt, sum_clean false h.0, (tt, (tt, sum_clean false h.0), sum_clean false g.0))
+  update_separated {x = x} (adds_to_range w i e f t d) = sweep_separated p written w x i (atom_clean false f.0) (atom_clean false t.0) (atom_clean false d.0)
   update_separated (puts_literal line e h) = (tt, literal_clean false h)
 
   calls_nothing : {f : FieldId} {k : Kind} {x : Statement} → IsUpdateOf written m f k x → holds_call x ≡ false
@@ -78,6 +80,7 @@ module _ (p : PlainProgram) (written : List FieldId) (m : PlainMethod) where
   calls_nothing (puts_item_sum line i e h g) = refl
   calls_nothing (takes_off_item line i e h g) = refl
   calls_nothing (puts_item_difference line i e h g) = refl
+  calls_nothing {x = x} (adds_to_range w i e f t d) = sweep_calls w x i
   calls_nothing (puts_literal line e h) = refl
 
   calls_separated : (called : Bool) {xs : Statements} → AreCalls written m xs → AreSeparated p written called xs
@@ -89,7 +92,7 @@ module _ (p : PlainProgram) (written : List FieldId) (m : PlainMethod) where
   body_separated kinds (update_and {x} {xs} f w u d) =
       (update_separated u, subst (λ b. AreSeparated p written b xs) (sym (calls_nothing u)) (body_separated kinds d))
 
-  no_loop : {f : FieldId} {k : Kind} {x : Statement} → IsUpdateOf written m f k x → other_loop x ≡ None
+  no_loop : {f : FieldId} {k : Kind} {x : Statement} → IsUpdateOf written m f k x → other_loop m.params written x ≡ None
   no_loop (adds line e h) = refl
   no_loop (takes_off line e h) = refl
   no_loop (puts_sum line e h) = refl
@@ -102,22 +105,23 @@ module _ (p : PlainProgram) (written : List FieldId) (m : PlainMethod) where
   no_loop (puts_item_sum line i e h g) = refl
   no_loop (takes_off_item line i e h g) = refl
   no_loop (puts_item_difference line i e h g) = refl
+  no_loop {x = x} (adds_to_range w i e f t d) = sweep_no_other p written m w x i f t d
   no_loop (puts_literal line e h) = refl
 
-  no_loop_in_calls : {xs : Statements} → AreCalls written m xs → other_loop_in xs ≡ None
+  no_loop_in_calls : {xs : Statements} → AreCalls written m xs → other_loop_in m.params written xs ≡ None
   no_loop_in_calls no_calls = refl
   no_loop_in_calls (call_and line e op arguments a h c) = no_loop_in_calls c
 
-  pub no_loop_in : (kinds : ℕ → Kind) {xs : Statements} → AreUpdatesAndCalls written m kinds xs → other_loop_in xs ≡ None
+  pub no_loop_in : (kinds : ℕ → Kind) {xs : Statements} → AreUpdatesAndCalls written m kinds xs → other_loop_in m.params written xs ≡ None
   no_loop_in kinds (calls c) = no_loop_in_calls c
-  no_loop_in kinds (update_and {x} {xs} f w u d) = ap (λ o. option_or o (other_loop_in xs)) (no_loop u) ∙ no_loop_in kinds d
+  no_loop_in kinds (update_and {x} {xs} f w u d) = ap (λ o. option_or o (other_loop_in m.params written xs)) (no_loop u) ∙ no_loop_in kinds d
 
   -- of the operation
   pub separable : (kinds : ℕ → Kind) (op : OpId) → slice_get p.ops op.0 ≡ Some m → AreUpdatesAndCalls written m kinds m.body.statements → Separable p written op
   separable kinds op e d = subst (λ (o : Option PlainMethod). AreSeparated p written false (body_of o)) (sym e) (body_separated kinds d)
 
-  pub loops : (kinds : ℕ → Kind) (op : OpId) → slice_get p.ops op.0 ≡ Some m → AreUpdatesAndCalls written m kinds m.body.statements → first_other_loop p op ≡ None
-  loops kinds op e d = ap (λ o. other_loop_in (body_of o)) e ∙ no_loop_in kinds d
+  pub loops : (kinds : ℕ → Kind) (op : OpId) → slice_get p.ops op.0 ≡ Some m → AreUpdatesAndCalls written m kinds m.body.statements → first_other_loop p written op ≡ None
+  loops kinds op e d = ap (λ o. other_loop_in (params_of o) written (body_of o)) e ∙ no_loop_in kinds d
 
 pub plain_pairs_are_separable : PlainPairsAreSeparable
 plain_pairs_are_separable p written a b h =

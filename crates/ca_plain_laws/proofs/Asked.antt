@@ -7,15 +7,16 @@ use Rattle.ca_program.specs.declared.program.OpId.{OpId}
 use Rattle.ca_program.specs.Plain.{PlainProgram, PlainMethod, Expression, Expressions, own_item, binary, Statement, Statements, invoke}
 use Rattle.ca_folds.specs.declared.operator.FoldOp.{FoldOp}
 use Rattle.ca_folds.specs.declared.operator.FoldOp.TheVariants.{Max, Min, BitAnd, BitOr, BitXor}
-use Rattle.ca_norm.specs.Terms.{PlainTerm, add, sub, neg, mul, add_at}
+use Rattle.ca_norm.specs.Terms.{PlainTerm, add, sub, neg, mul, add_at, sweep}
 use Rattle.ca_norm.specs.Meanings.{binary_of}
-use Rattle.ca_symbolic.specs.States.{State, term_at, PlainDemand, demand, not_null, in_range, invokes}
-use Rattle.ca_symbolic.specs.Execution.{divisor, operation, term_of, put_term, array_term, after}
+use Rattle.ca_symbolic.specs.States.{State, term_at, PlainDemand, demand, not_null, in_range, invokes, sweeps}
+use Rattle.ca_symbolic.specs.Execution.{divisor, operation, term_of, put_term, array_term, addend_term, after}
 use Rattle.ca_symbolic.specs.Demands.{right_guard, terms_in, demanded, demanded_all}
 use Rattle.ca_symbolic.specs.Made.{new_guard, steps_made}
-use Rattle.ca_plain_laws.specs.PlainPairs.{Kind, IsAtom, a_literal, AreShortSums, IsUpdateOf, adds, takes_off, puts_sum, puts_difference, multiplies, puts_product, joins, puts_joined, adds_to_item, puts_item_sum, takes_off_item, puts_item_difference, puts_literal, AreCalls, no_calls, call_and, AreUpdatesAndCalls, calls, update_and}
+use Rattle.ca_plain_laws.specs.PlainPairs.{Kind, IsAtom, a_literal, AreShortSums, IsUpdateOf, adds, takes_off, puts_sum, puts_difference, multiplies, puts_product, joins, puts_joined, adds_to_item, puts_item_sum, takes_off_item, puts_item_difference, adds_to_range, puts_literal, AreCalls, no_calls, call_and, AreUpdatesAndCalls, calls, update_and}
 use Rattle.ca_plain_laws.proofs.Atoms.{Agree, atom_same, sum_same, sums_same, atom_free, sum_free, sums_free, atom_unguarded, sum_unguarded}
 use Rattle.ca_plain_laws.proofs.Updates.{changed, change_of, joined_term, operator_term, item_sum, item_difference}
+use Rattle.ca_plain_laws.proofs.Swept.{found_at, sweep_demands, sweep_steps}
 use Rattle.ca_plain_laws.proofs.Kept.{agree_then, agree_back, after_agrees}
 
 -- both sides of such an operator are always evaluated
@@ -44,6 +45,7 @@ module _ (p : PlainProgram) (written : List FieldId) (m : PlainMethod) where
   asked s g {f} (puts_item_sum line i e h k) = index_check s g f i ∷ index_check s g f i ∷ []
   asked s g {f} (takes_off_item line i e h k) = index_check s g f i ∷ []
   asked s g {f} (puts_item_difference line i e h k) = index_check s g f i ∷ index_check s g f i ∷ []
+  asked s g (adds_to_range w i e f t x) = demand g (sweeps w.field) (term_of p s w.from ∷ term_of p s w.to ∷ []) ∷ []
   asked s g (puts_literal line e h) = []
 
   pub demanded_is : (s : State) (g : PlainTerm) {f : FieldId} {k : Kind} {x : Statement} (u : IsUpdateOf written m f k x) → demanded p s g x ≡ asked s g u
@@ -63,6 +65,7 @@ module _ (p : PlainProgram) (written : List FieldId) (m : PlainMethod) where
       ap₂ (λ xs ys. xs ++ (index_check s g f i ∷ ys)) (sum_free p written m s g h.0) (sum_free p written m s g k.0)
   demanded_is s g {f} (puts_item_difference line i e h k) =
       ap₂ (λ xs ys. xs ++ (index_check s g f i ∷ ((xs ++ (index_check s g f i ∷ [])) ++ ys))) (sum_free p written m s g h.0) (sum_free p written m s g k.0)
+  demanded_is s g {x = x} (adds_to_range w i e f t d) = sweep_demands p written m w s g x i (found_at p written m w x i f t d)
   demanded_is s g (puts_literal line e h) = atom_free p written m s g (a_literal h)
 
   abbrev pub asked_by_call : State → PlainTerm → Expression → OpId → Expressions → List PlainDemand
@@ -89,6 +92,7 @@ module _ (p : PlainProgram) (written : List FieldId) (m : PlainMethod) where
   asked_same s t g {f} h (takes_off_item line i e k l) = ap (λ x. demand g (in_range f) (x ∷ []) ∷ []) (sum_same p written m s t h k.0)
   asked_same s t g {f} h (puts_item_difference line i e k l) =
       ap (λ x. demand g (in_range f) (x ∷ []) ∷ demand g (in_range f) (x ∷ []) ∷ []) (sum_same p written m s t h k.0)
+  asked_same s t g h (adds_to_range w i e a b d) = ap₂ (λ x y. demand g (sweeps w.field) (x ∷ y ∷ []) ∷ []) (atom_same p written m s t h a.0) (atom_same p written m s t h b.0)
   asked_same s t g h (puts_literal line e k) = refl
 
   call_same : (s t : State) (g : PlainTerm) (e : Expression) (op : OpId) (arguments : Expressions) → Agree written m s t → IsAtom written m e → AreShortSums written m arguments → asked_by_call s g e op arguments ≡ asked_by_call t g e op arguments
@@ -133,4 +137,7 @@ module _ (p : PlainProgram) (written : List FieldId) (m : PlainMethod) where
   step_is s g {f} (puts_item_difference line i e h k) =
       ap₂ (λ xs ys. xs ++ ((xs ++ ys) ++ (array_term p s f i Put (binary Minus (own_item f i) e) ∷ []))) (sum_unguarded p written m s g h.0) (sum_unguarded p written m s g k.0)
       ∙ ap (λ t. t ∷ []) (item_difference p written m s f i e)
+  step_is s g {f} {x = x} (adds_to_range w i e a b d) =
+      sweep_steps p written m w s g x i (found_at p written m w x i a b d)
+      ∙ ap (λ h. sweep (term_at s.fields h.field) (term_of p s w.from) (term_of p s w.to) (addend_term w.minus (term_of p s w.addend)) ∷ []) e
   step_is s g {f} (puts_literal line e h) = ap (λ xs. xs ++ (term_of p s e ∷ [])) (atom_unguarded p written m s g (a_literal h))

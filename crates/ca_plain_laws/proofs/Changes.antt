@@ -16,17 +16,18 @@ use Rattle.ca_forms.specs.declared.form.Normal.TheVariants as normal
 use Rattle.ca_forms.specs.Plain.{PlainMonomial, variable, number_form, truth_form, pointer_form}
 use Rattle.ca_forms.specs.Products.{times}
 use Rattle.ca_forms.specs.Rules.{minus as opposite, gathered}
+use Rattle.ca_forms.specs.Arrays.{one, range}
 use Rattle.ca_forms.specs.ArrayRules.{added_at}
 use Rattle.ca_forms.proofs.Gathered.{gathered_same, append_same}
 use Rattle.ca_norm.specs.Terms.{PlainTerm, number, truth, null, sort_of, neg}
 use Rattle.ca_norm.specs.Forms.{expand, pointer_of, array_of, form_at, norm}
-use Rattle.ca_norm.proofs.SumsCommute.{arrays_commute}
+use Rattle.ca_norm.proofs.SumsCommute.{arrays_commute, sweep_arrays, mixed_arrays}
 use Rattle.ca_norm.proofs.FoldsCommute.{fold_changed, folds_exchange}
 use Rattle.ca_symbolic.specs.States.{State}
-use Rattle.ca_symbolic.specs.Execution.{term_of}
-use Rattle.ca_plain_laws.specs.PlainPairs.{Kind, sums, products, folds, item_sums, literal, IsLiteral, a_number, a_truth, a_null, IsUpdateOf, adds, takes_off, puts_sum, puts_difference, multiplies, puts_product, joins, puts_joined, adds_to_item, puts_item_sum, takes_off_item, puts_item_difference, puts_literal, AreUpdatesAndCalls, calls, update_and}
+use Rattle.ca_symbolic.specs.Execution.{term_of, addend_term}
+use Rattle.ca_plain_laws.specs.PlainPairs.{Kind, sums, products, folds, item_sums, literal, IsLiteral, a_number, a_truth, a_null, IsUpdateOf, adds, takes_off, puts_sum, puts_difference, multiplies, puts_product, joins, puts_joined, adds_to_item, puts_item_sum, takes_off_item, puts_item_difference, adds_to_range, puts_literal, AreUpdatesAndCalls, calls, update_and}
 use Rattle.ca_plain_laws.proofs.Atoms.{IsSimple, simple_number, simple_truth, simple_null, simple_atom, IsBegun, atom_simple}
-use Rattle.ca_plain_laws.proofs.Updates.{Change, plus, minus, by, with_operator, at, to, changed, changed_all, and_if, change_of, changes_at}
+use Rattle.ca_plain_laws.proofs.Updates.{Change, plus, minus, by, with_operator, at, over, to, changed, changed_all, and_if, change_of, changes_at}
 use Rattle.ca_plain_laws.proofs.Powers.{no_power, one_power, IsFactor, no_factor, one_factor, products_swap}
 
 -- whatever two terms are taken for, their forms are the same
@@ -67,7 +68,8 @@ changed_same (plus x) t u h = record { sums = append_same (expand t) (expand u) 
 changed_same (minus x) t u h = record { sums = append_same (expand t) (expand u) (opposite (expand x)) (opposite (expand x)) h.sums (same_totals_refl (opposite (expand x))); pointers = refl; arrays = refl; sorts = refl }
 changed_same (by x) t u h = record { sums = product_same times (expand t) (expand u) (expand x) (expand x) h.sums (same_totals_refl (expand x)); pointers = refl; arrays = refl; sorts = refl }
 changed_same (with_operator o x) t u h = record { sums = fold_changed o t u x h.sums; pointers = refl; arrays = refl; sorts = refl }
-changed_same (at i x) t u h = record { sums = same_totals_refl []; pointers = refl; arrays = ap (λ a. added_at a (gathered (expand i)) (gathered (expand x))) h.arrays; sorts = h.sorts }
+changed_same (at i x) t u h = record { sums = same_totals_refl []; pointers = refl; arrays = ap (λ a. added_at a (one (gathered (expand i))) (gathered (expand x))) h.arrays; sorts = h.sorts }
+changed_same (over f g x) t u h = record { sums = same_totals_refl []; pointers = refl; arrays = ap (λ a. added_at a (range (gathered (expand f)) (gathered (expand g))) (gathered (expand x))) h.arrays; sorts = h.sorts }
 changed_same (to x) t u h = forms_itself x
 
 all_changed_same : (cs : List Change) (t u : PlainTerm) → SameForms t u → SameForms (changed_all cs t) (changed_all cs u)
@@ -87,6 +89,7 @@ pub data Suits : Kind → Change → Type 0 where
   suits_by : (x : PlainTerm) → IsSimple x → Suits products (by x)
   suits_operator : (o : FoldOp) (x : PlainTerm) → Suits (folds o) (with_operator o x)
   suits_at : (i x : PlainTerm) → Suits item_sums (at i x)
+  suits_over : (f t x : PlainTerm) → Suits item_sums (over f t x)
   suits_to : (e : Expression) (x : PlainTerm) → x ≡ literal_term e → Suits (literal e) (to x)
 
 last_two : (a b c : ℕ) → a + b + c ≡ a + c + b
@@ -115,6 +118,9 @@ two_commute t (suits_minus x) (suits_minus y) = record { sums = sums_swap (expan
 two_commute t (suits_by x h) (suits_by y k) = record { sums = products_swap (expand t) (simple_factor h) (simple_factor k); pointers = refl; arrays = refl; sorts = refl }
 two_commute t (suits_operator o x) (suits_operator _ y) = record { sums = folds_exchange o t x y; pointers = refl; arrays = refl; sorts = refl }
 two_commute t (suits_at i x) (suits_at j y) = record { sums = same_totals_refl []; pointers = refl; arrays = arrays_commute t i x j y; sorts = refl }
+two_commute t (suits_at i x) (suits_over f g y) = record { sums = same_totals_refl []; pointers = refl; arrays = sym (mixed_arrays t f g y i x); sorts = refl }
+two_commute t (suits_over f g x) (suits_at j y) = record { sums = same_totals_refl []; pointers = refl; arrays = mixed_arrays t f g x j y; sorts = refl }
+two_commute t (suits_over f g x) (suits_over k l y) = record { sums = same_totals_refl []; pointers = refl; arrays = sweep_arrays t f g x k l y; sorts = refl }
 two_commute t (suits_to e x h) (suits_to _ y k) = subst (λ z. SameForms z x) (h ∙ sym k) (forms_itself x)
 
 abbrev pub AllSuit : Kind → List Change → Type 0
@@ -154,6 +160,7 @@ module _ (p : PlainProgram) (written : List FieldId) (m : PlainMethod) where
   update_suits s h (puts_item_sum line i e g l) = suits_at (term_of p s i) (term_of p s e)
   update_suits s h (takes_off_item line i e g l) = suits_at (term_of p s i) (neg (term_of p s e))
   update_suits s h (puts_item_difference line i e g l) = suits_at (term_of p s i) (neg (term_of p s e))
+  update_suits s h (adds_to_range w i e f t d) = suits_over (term_of p s w.from) (term_of p s w.to) (addend_term w.minus (term_of p s w.addend))
   update_suits s h (puts_literal line e g) = suits_to e (term_of p s e) (literal_is s g)
 
   one_suits : (kinds : ℕ → Kind) (b : Bool) (i n : ℕ) (c : Change) (cs : List Change) → nat_eq i n ≡ b → Suits (kinds i) c → AllSuit (kinds n) cs → AllSuit (kinds n) (and_if b c cs)

@@ -15,7 +15,8 @@ use Rattle.ca_program.specs.declared.program.OpId.{OpId}
 use Rattle.ca_program.specs.declared.program.ValueType.TheVariants as type
 use Rattle.ca_program.specs.Plain.{PlainProgram, PlainMethod, Expression, number, this, local, own, own_item, binary, no_expressions, expression_and, Statement, Statements, put_field, put_item, invoke, no_statements, statement_and}
 use Rattle.ca_norm.specs.Meanings.{binary_of}
-use Rattle.ca_plain_laws.specs.PlainPairs.{IsWritten, IsLiteral, a_number, a_truth, a_null, IsAtom, a_literal, the_receiver, a_parameter, a_constant, an_atom, times, IsSum, a_product, plus, nodes_of, IsShortSum, Kind, sums, products, folds, item_sums, literal, assign_of, IsUpdateOf, adds, takes_off, puts_sum, puts_difference, multiplies, puts_product, joins, puts_joined, adds_to_item, puts_item_sum, takes_off_item, puts_item_difference, puts_literal, AreCalls, no_calls, call_and, AreUpdatesAndCalls, calls, update_and, count_of, IsPlain, IsPlainPair}
+use Rattle.ca_sweep.specs.Sweeps.{PlainSweep, IsSweep, a_sweep}
+use Rattle.ca_plain_laws.specs.PlainPairs.{IsWritten, IsLiteral, a_number, a_truth, a_null, IsAtom, a_literal, the_receiver, a_parameter, a_constant, an_atom, times, IsSum, a_product, plus, nodes_of, IsShortSum, Kind, sums, products, folds, item_sums, literal, assign_of, IsUpdateOf, adds, takes_off, puts_sum, puts_difference, multiplies, puts_product, joins, puts_joined, adds_to_item, puts_item_sum, takes_off_item, puts_item_difference, adds_to_range, puts_literal, AreCalls, no_calls, call_and, AreUpdatesAndCalls, calls, update_and, count_of, IsPlain, IsPlainPair}
 
 -- class C { public: long s; long q; long a[8]; long k; long mask; long top; long c; C *peer; void m(long v, long w) { .. } void n(long v, long w) { .. } };
 abbrev class : ClassId
@@ -199,6 +200,7 @@ module _ (body : Statements) where
   no_product_by_sum : {k : Kind} {line : ℕ} {f g : FieldId} {a b : Expression} → IsUpdateOf written m f k (put_field line g Mul (binary Plus a b)) → ⊥
   no_product_by_sum (multiplies line e h) = no_atom h
   no_product_by_sum (joins line o _ _ i h) = assigned_by o _ i refl
+  no_product_by_sum (adds_to_range s i _ _ _ _) = elim i [ ]
 
   -- nor is it plain that one update puts the greater and another one the lesser of two numbers
   abbrev operator_of : Statement → Option BinaryOp
@@ -229,6 +231,9 @@ module _ (body : Statements) where
   literal_suits line f k (a_truth b) = tt
   literal_suits line f k a_null = tt
 
+  sweep_suits : (s : PlainSweep) (x : Statement) (k : Kind) → IsSweep s x → Suits (operator_of x) k
+  sweep_suits s _ k (a_sweep line site at next body c a) = tt
+
   suits : {k : Kind} {f : FieldId} {x : Statement} → IsUpdateOf written m f k x → Suits (operator_of x) k
   suits (adds line e h) = tt
   suits (takes_off line e h) = tt
@@ -242,6 +247,7 @@ module _ (body : Statements) where
   suits (puts_item_sum line i e h g) = tt
   suits (takes_off_item line i e h g) = tt
   suits (puts_item_difference line i e h g) = tt
+  suits {k} {f} {x} (adds_to_range s i _ _ _ _) = sweep_suits s x k i
   suits {k} {f} (puts_literal line e h) = literal_suits line f k h
 
   no_greater_beside_lesser : {k : Kind} {f g : FieldId} {x y : Statement} → IsUpdateOf written m f k x → IsUpdateOf written m g k y → operator_of x ≡ Some operator.Max → operator_of y ≡ Some operator.Min → ⊥

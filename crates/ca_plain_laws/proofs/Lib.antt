@@ -1,5 +1,7 @@
 mod Examples
+mod SweepExamples
 pub mod Atoms
+pub mod Swept
 pub mod Updates
 pub mod Kept
 pub mod Allowed

@@ -1,5 +1,5 @@
 -- Updates of a field as changes of its term, and what a plain body leaves in each field.
-use Rattle.std.proofs.Common.{◌≡◌, ℕ, Bool, true, false, ◌&&◌, List, [], ◌∷◌, refl, sym, ap, ap₂}
+use Rattle.std.proofs.Common.{◌≡◌, ℕ, Bool, true, false, ◌&&◌, List, [], ◌∷◌, refl, sym, ap, ap₂, ◌∙◌}
 use Rattle.std.specs.Prelude.{nat_eq, if◌then◌else◌, ℤ, Option, Some}
 use Rattle.ca_tree.specs.declared.tree.AssignOp.{AssignOp}
 use Rattle.ca_tree.specs.declared.tree.AssignOp.TheVariants.{Put, BitAnd, BitOr, BitXor}
@@ -9,21 +9,23 @@ use Rattle.ca_program.specs.Plain.{PlainProgram, PlainMethod, Expression, own_it
 use Rattle.ca_program.proofs.Fields.{same_itself}
 use Rattle.ca_folds.specs.declared.operator.FoldOp.{FoldOp}
 use Rattle.ca_folds.specs.declared.operator.FoldOp.TheVariants as fold_op
-use Rattle.ca_norm.specs.Terms.{PlainTerm, add, sub, neg, mul, add_at, put, fold}
+use Rattle.ca_norm.specs.Terms.{PlainTerm, add, sub, neg, mul, add_at, put, fold, sweep}
 use Rattle.ca_norm.specs.Meanings.{binary_of}
 use Rattle.ca_symbolic.specs.States.{State, term_at}
-use Rattle.ca_symbolic.specs.Execution.{divisor, operation, term_of, put_term, is_item, array_term, with_field, after}
+use Rattle.ca_symbolic.specs.Execution.{divisor, operation, term_of, put_term, is_item, array_term, with_field, addend_term, after}
 use Rattle.ca_symbolic.proofs.Alike.{alike_is_equal}
-use Rattle.ca_plain_laws.specs.PlainPairs.{Kind, assign_of, IsUpdateOf, adds, takes_off, puts_sum, puts_difference, multiplies, puts_product, joins, puts_joined, adds_to_item, puts_item_sum, takes_off_item, puts_item_difference, puts_literal, AreUpdatesAndCalls, calls, update_and, a_literal}
+use Rattle.ca_plain_laws.specs.PlainPairs.{Kind, assign_of, IsUpdateOf, adds, takes_off, puts_sum, puts_difference, multiplies, puts_product, joins, puts_joined, adds_to_item, puts_item_sum, takes_off_item, puts_item_difference, adds_to_range, puts_literal, AreUpdatesAndCalls, calls, update_and, a_literal}
 use Rattle.ca_plain_laws.proofs.Atoms.{Agree, atom_same, sum_same}
+use Rattle.ca_plain_laws.proofs.Swept.{found_at, after_sweep}
 
--- a term more is added or taken off, multiplied in, joined by an operator, added at an index, or put
+-- a term more is added or taken off, multiplied in, joined by an operator, added at an index or over a range, or put
 pub data Change : Type 0 where
   plus : PlainTerm → Change
   minus : PlainTerm → Change
   by : PlainTerm → Change
   with_operator : FoldOp → PlainTerm → Change
   at : PlainTerm → PlainTerm → Change
+  over : PlainTerm → PlainTerm → PlainTerm → Change
   to : PlainTerm → Change
 
 abbrev pub changed : Change → PlainTerm → PlainTerm
@@ -32,11 +34,15 @@ changed (minus x) t = sub t x
 changed (by x) t = mul t x
 changed (with_operator o x) t = fold o t x
 changed (at i x) t = add_at t i x
+changed (over f t x) a = sweep a f t x
 changed (to x) t = x
 
 abbrev pub changed_all : List Change → PlainTerm → PlainTerm
 changed_all [] t = t
 changed_all (u ∷ us) t = changed_all us (changed u t)
+
+over_same : {f g t u x y : PlainTerm} → f ≡ g → t ≡ u → x ≡ y → over f t x ≡ over g u y
+over_same {f} {g} {t} {u} {x} {y} e h k = ap₂ (λ a b. over a b x) e h ∙ ap (λ c. over g u c) k
 
 abbrev pub and_if : Bool → Change → List Change → List Change
 and_if true u us = u ∷ us
@@ -72,6 +78,7 @@ module _ (p : PlainProgram) (written : List FieldId) (m : PlainMethod) where
   change_of s (puts_item_sum line i e h g) = at (term_of p s i) (term_of p s e)
   change_of s (takes_off_item line i e h g) = at (term_of p s i) (neg (term_of p s e))
   change_of s (puts_item_difference line i e h g) = at (term_of p s i) (neg (term_of p s e))
+  change_of s (adds_to_range w i e f t x) = over (term_of p s w.from) (term_of p s w.to) (addend_term w.minus (term_of p s w.addend))
   change_of s (puts_literal line e h) = to (term_of p s e)
 
   -- those of the field with this number
@@ -104,6 +111,9 @@ module _ (p : PlainProgram) (written : List FieldId) (m : PlainMethod) where
   after_is s {f} (puts_item_sum line i e h g) = ap (with_field s f.field) (item_sum s f i e)
   after_is s (takes_off_item line i e h g) = refl
   after_is s {f} (puts_item_difference line i e h g) = ap (with_field s f.field) (item_difference s f i e)
+  after_is s {x = x} (adds_to_range w i e f t d) =
+      after_sweep p written m w s x i (found_at p written m w x i f t d)
+      ∙ ap (λ g. with_field s g.field (changed (over (term_of p s w.from) (term_of p s w.to) (addend_term w.minus (term_of p s w.addend))) (term_at s.fields g.field))) e
   after_is s (puts_literal line e h) = refl
 
   pub change_same : (s t : State) {f : FieldId} {k : Kind} {x : Statement} → Agree written m s t → (u : IsUpdateOf written m f k x) → change_of s u ≡ change_of t u
@@ -119,4 +129,6 @@ module _ (p : PlainProgram) (written : List FieldId) (m : PlainMethod) where
   change_same s t h (puts_item_sum line i e g k) = ap₂ at (sum_same p written m s t h g.0) (sum_same p written m s t h k.0)
   change_same s t h (takes_off_item line i e g k) = ap₂ (λ x y. at x (neg y)) (sum_same p written m s t h g.0) (sum_same p written m s t h k.0)
   change_same s t h (puts_item_difference line i e g k) = ap₂ (λ x y. at x (neg y)) (sum_same p written m s t h g.0) (sum_same p written m s t h k.0)
+  change_same s t h (adds_to_range w i e a b d) =
+      over_same (atom_same p written m s t h a.0) (atom_same p written m s t h b.0) (ap (addend_term w.minus) (atom_same p written m s t h d.0))
   change_same s t h (puts_literal line e g) = ap to (atom_same p written m s t h (a_literal g))

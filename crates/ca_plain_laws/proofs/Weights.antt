@@ -1,6 +1,6 @@
 -- No term of a plain pair is too heavy. An update adds at most 803 nodes to a field, no more products than nodes, and one
 -- level; the two bodies have 64 statements at most, so a field comes to 51,393 nodes at most, and to 466 levels.
-use Rattle.std.proofs.Common.{◌≡◌, ◌≤◌, ℕ, zero, suc, ◌+◌, ◌*◌, true, false, List, [], ◌∷◌, ◌++◌, map, take, drop, pos, refl, sym, ap, ap₂, ◌∙◌, arith, subst, slice_set}
+use Rattle.std.proofs.Common.{◌≡◌, ◌≤◌, ℕ, zero, suc, ◌+◌, ◌*◌, Bool, true, false, List, [], ◌∷◌, ◌++◌, map, take, drop, pos, refl, sym, ap, ap₂, ◌∙◌, arith, subst, slice_set}
 use Rattle.std.specs.Prelude.{slice_get, nat_lt, ◌||◌, flat_map, Option, Some}
 use Rattle.std.specs.List.{list_any}
 use Rattle.std.proofs.lemmas.Bool.Decides.{nat_tests}
@@ -16,15 +16,15 @@ use Rattle.ca_norm.specs.Terms.{PlainTerm, mul, truth, neg}
 use Rattle.ca_norm.specs.Weights.{spread, nodes, depth, weight_of}
 use Rattle.ca_shared_terms.specs.Starts.{sort_of_type, sort_of_slot, starts}
 use Rattle.ca_symbolic.specs.States.{State, term_at, PlainDemand, start_term, parameters, first_locals}
-use Rattle.ca_symbolic.specs.Execution.{term_of, after, after_all}
+use Rattle.ca_symbolic.specs.Execution.{term_of, addend_term, after, after_all}
 use Rattle.ca_symbolic.specs.Demands.{terms_in, demanded_all}
 use Rattle.ca_symbolic.specs.Made.{steps_made_all, made_by}
 use Rattle.ca_symbolic.specs.Runs.{begins, executed, is_heavy_by}
 use Rattle.ca_shared_terms.specs.Heavy.{is_heavy}
-use Rattle.ca_plain_laws.specs.PlainPairs.{IsShortSum, AreShortSums, IsConstant, Kind, IsUpdateOf, adds, takes_off, puts_sum, puts_difference, multiplies, puts_product, joins, puts_joined, adds_to_item, puts_item_sum, takes_off_item, puts_item_difference, puts_literal, AreCalls, no_calls, call_and, AreUpdatesAndCalls, calls, update_and, count_of, IsPlain}
+use Rattle.ca_plain_laws.specs.PlainPairs.{IsShortSum, AreShortSums, IsConstant, Kind, IsUpdateOf, adds, takes_off, puts_sum, puts_difference, multiplies, puts_product, joins, puts_joined, adds_to_item, puts_item_sum, takes_off_item, puts_item_difference, adds_to_range, puts_literal, AreCalls, no_calls, call_and, AreUpdatesAndCalls, calls, update_and, count_of, IsPlain}
 use Rattle.ca_plain_laws.specs.Laws.{IsLight, PlainPairsAreLight}
 use Rattle.ca_plain_laws.proofs.Atoms.{IsSimple, simple_number, simple_truth, simple_null, simple_atom, one_node, one_product, one_deep, IsBegun, Agree, literal_simple, atom_simple, sum_is_small, atom_unguarded, sums_unguarded}
-use Rattle.ca_plain_laws.proofs.Updates.{Change, plus, minus, by, with_operator, at, to, changed, change_of, after_is}
+use Rattle.ca_plain_laws.proofs.Updates.{Change, plus, minus, by, with_operator, at, over, to, changed, change_of, after_is}
 use Rattle.ca_plain_laws.proofs.Kept.{after_agrees, body_agrees, calls_keep}
 use Rattle.ca_plain_laws.proofs.Asked.{asked, demanded_is, call_is, step_is}
 
@@ -48,6 +48,7 @@ IsFine (minus x) = IsLow x
 IsFine (by x) = IsSimple x
 IsFine (with_operator o x) = IsLow x
 IsFine (at i x) = IsLow i × IsLow x
+IsFine (over f t x) = IsSimple f × IsSimple t × IsLow x
 IsFine (to x) = IsSimple x
 
 not_above : (n : ℕ) → n ≤ 65536 → nat_lt 65536 n ≡ false
@@ -108,6 +109,11 @@ bounded_changed (at i x) k t h g = record {
   nodes_few = omega (arith, h.0.nodes_few, h.1.nodes_few, g.nodes_few);
   spread_few = omega (arith, h.0.spread_few, h.1.spread_few, g.spread_few);
   depth_few = omega (arith, h.0.depth_few, h.1.depth_few, g.depth_few);
+}
+bounded_changed (over f u x) k t h g = record {
+  nodes_few = omega (arith, one_node h.0, one_node h.1, h.2.nodes_few, g.nodes_few);
+  spread_few = omega (arith, one_node h.0, one_node h.1, one_product h.0, one_product h.1, h.2.spread_few, g.spread_few);
+  depth_few = omega (arith, one_deep h.0, one_deep h.1, h.2.depth_few, g.depth_few);
 }
 bounded_changed (to x) k t h g = simple_bounded (suc k) x h
 
@@ -197,6 +203,14 @@ module _ (p : PlainProgram) (written : List FieldId) (m : PlainMethod) where
         depth_few = omega (arith, small.depth_few, g.1);
       }
 
+  addend_low : (minus : Bool) (t : PlainTerm) → IsSimple t → IsLow (addend_term minus t)
+  addend_low false t h = simple_low t h
+  addend_low true t h = record {
+    nodes_few = omega (arith, one_node h);
+    spread_few = omega (arith, one_node h, one_product h);
+    depth_few = omega (arith, one_deep h);
+  }
+
   fine_change : (s : State) {f : FieldId} {k : Kind} {x : Statement} → IsBegun written m s → (u : IsUpdateOf written m f k x) → IsFine (change_of p written m s u)
   fine_change s h (adds line e g) = short_low s h g
   fine_change s h (takes_off line e g) = short_low s h g
@@ -210,6 +224,8 @@ module _ (p : PlainProgram) (written : List FieldId) (m : PlainMethod) where
   fine_change s h (puts_item_sum line i e g k) = (short_low s h g, short_low s h k)
   fine_change s h (takes_off_item line i e g k) = (short_low s h g, negation_low s h k)
   fine_change s h (puts_item_difference line i e g k) = (short_low s h g, negation_low s h k)
+  fine_change s h (adds_to_range w i e f t d) =
+      (atom_simple p written m s h f.0, atom_simple p written m s h t.0, addend_low w.minus (term_of p s w.addend) (atom_simple p written m s h d.0))
   fine_change s h (puts_literal line e g) = literal_simple p written m s g
 
   one_step : (k : ℕ) (s : State) {f : FieldId} {q : Kind} {x : Statement} → IsBegun written m s → AreBounded k s → (u : IsUpdateOf written m f q x) → IsBounded (suc k) (changed (change_of p written m s u) (term_at s.fields f.field))
@@ -235,6 +251,8 @@ module _ (p : PlainProgram) (written : List FieldId) (m : PlainMethod) where
   asked_light s g h (takes_off_item line i e k l) = ((low_light (term_of p s i) (short_low s h k), tt), tt)
   asked_light s g h (puts_item_difference line i e k l) =
       ((low_light (term_of p s i) (short_low s h k), tt), ((low_light (term_of p s i) (short_low s h k), tt), tt))
+  asked_light s g h (adds_to_range w i e f t d) =
+      ((low_light (term_of p s w.from) (simple_low (term_of p s w.from) (atom_simple p written m s h f.0)), (low_light (term_of p s w.to) (simple_low (term_of p s w.to) (atom_simple p written m s h t.0)), tt)), tt)
   asked_light s g h (puts_literal line e k) = tt
 
   arguments_light : (s : State) (es : Expressions) → IsBegun written m s → AreShortSums written m es → AllLight (terms_in p s es)

@@ -29,7 +29,7 @@ abbrev pub PlainPairsAreSeparable : Type 0
 PlainPairsAreSeparable = (p : PlainProgram) (written : List FieldId) (a b : OpId) → IsPlainPair p written a b → Separable p written a × Separable p written b
 
 abbrev pub PlainPairsHaveNoLoops : Type 0
-PlainPairsHaveNoLoops = (p : PlainProgram) (written : List FieldId) (a b : OpId) → IsPlainPair p written a b → (first_other_loop p a ≡ None) × (first_other_loop p b ≡ None)
+PlainPairsHaveNoLoops = (p : PlainProgram) (written : List FieldId) (a b : OpId) → IsPlainPair p written a b → (first_other_loop p written a ≡ None) × (first_other_loop p written b ≡ None)
 
 -- No term of a plain pair is too heavy, in either order.
 abbrev pub PlainPairsAreLight : Type 0

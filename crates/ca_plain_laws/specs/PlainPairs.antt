@@ -1,7 +1,7 @@
 -- Plain pairs: two operations of one class whose bodies have so plain a form that they surely commute. Each body first
 -- updates fields and then calls operations. No field is updated in two ways, and what is computed is computed from
 -- literals, parameters and constants.
-use Rattle.std.specs.Prelude.{◌≡◌, ◌≤◌, ◌<◌, ◌+◌, ℕ, suc, ℤ, Bool, List, Contains, Option, Some, None, slice_get}
+use Rattle.std.specs.Prelude.{◌≡◌, ◌≤◌, ◌<◌, ◌+◌, ℕ, suc, ℤ, Bool, true, List, Contains, Option, Some, None, slice_get}
 use Rattle.ca_tree.specs.declared.tree.AssignOp.{AssignOp}
 use Rattle.ca_tree.specs.declared.tree.AssignOp.TheVariants.{Put, Add, Sub, Mul, BitAnd, BitOr, BitXor}
 use Rattle.ca_tree.specs.declared.tree.BinaryOp.TheVariants.{Plus, Minus, Times}
@@ -12,6 +12,8 @@ use Rattle.ca_program.specs.Plain.{PlainProgram, PlainMethod, Expression, Expres
 use Rattle.ca_folds.specs.declared.operator.FoldOp.{FoldOp}
 use Rattle.ca_folds.specs.declared.operator.FoldOp.TheVariants as fold_op
 use Rattle.ca_norm.specs.Meanings.{binary_of}
+use Rattle.ca_sweep.specs.Sweeps.{PlainSweep, is_atom, IsSweep}
+use Rattle.ca_sweep.specs.Found.{known}
 
 -- Expressions, in a method of an extent that writes these fields
 
@@ -89,6 +91,10 @@ assign_of fold_op.BitAnd = Some BitAnd
 assign_of fold_op.BitOr = Some BitOr
 assign_of fold_op.BitXor = Some BitXor
 
+-- an atom that a sweep may name: a number, a parameter or a constant
+abbrev pub IsNumber : List FieldId → PlainMethod → PlainSweep → Expression → Type 0
+IsNumber written m s e = IsAtom written m e × (is_atom (known s.counter.0 (Some m.params) written) e ≡ true)
+
 -- an update of the field in this way, written short or in full
 pub data IsUpdateOf (written : List FieldId) (m : PlainMethod) (f : FieldId) : Kind → Statement → Type 0 where
   adds : (line : ℕ) (e : Expression) → IsShortSum written m e → IsUpdateOf written m f sums (put_field line f Add e)
@@ -103,6 +109,7 @@ pub data IsUpdateOf (written : List FieldId) (m : PlainMethod) (f : FieldId) : K
   puts_item_sum : (line : ℕ) (i e : Expression) → IsShortSum written m i → IsShortSum written m e → IsUpdateOf written m f item_sums (put_item line f i Put (binary Plus (own_item f i) e))
   takes_off_item : (line : ℕ) (i e : Expression) → IsShortSum written m i → IsShortSum written m e → IsUpdateOf written m f item_sums (put_item line f i Sub e)
   puts_item_difference : (line : ℕ) (i e : Expression) → IsShortSum written m i → IsShortSum written m e → IsUpdateOf written m f item_sums (put_item line f i Put (binary Minus (own_item f i) e))
+  adds_to_range : {x : Statement} (s : PlainSweep) → IsSweep s x → s.field ≡ f → IsNumber written m s s.from → IsNumber written m s s.to → IsNumber written m s s.addend → IsUpdateOf written m f item_sums x
   puts_literal : (line : ℕ) (e : Expression) → IsLiteral e → IsUpdateOf written m f (literal e) (put_field line f Put e)
 
 -- Bodies

@@ -1,4 +1,4 @@
-//! Verdicts on pairs that were judged where both operations are separable, each once.
+//! Verdicts on pairs that were judged where both operations can be executed, each once.
 
 ghost use Rattle.std.specs.Prelude.{◌≡◌, ◌<◌, length, Some, slice_set, Contains, IfOk, OnOk, IfSome, IsTrue};
 ghost use Rattle.ca_program.specs.Plain.{PlainProgram};
@@ -8,7 +8,7 @@ ghost use Rattle.ca_plan.specs.clauses.Keeping.{AllFit, Fits, IsOn};
 use crate::plans::PairVerdict;
 use ca_base::Memory;
 use ca_program::{OpId, Program};
-use ca_verdicts::verdict_where_separable;
+use ca_verdicts::verdict_where_executable;
 use std::alloc::{AllocError, Global};
 
 /// Of the pairs of so many operations verdicts are kept: the language allows no more.
@@ -65,14 +65,14 @@ fn is_on(pair: &PairVerdict, a: OpId, b: OpId) -> bool
     pair.second().0 == b.0
 }
 
-/// The verdict on two operations in each extent in which both are separable.
+/// The verdict on two operations in each extent in which both can be executed.
 fn judged(alloc: Global, program: &Program, a: OpId, b: OpId) -> Result<PairVerdict, Memory>
     requires first { a.0 < length program.now.ops.items }
     requires second { b.0 < length program.now.ops.items }
     ensures pair { IfOk result (IsOn a b) }
     ensures fits { IfOk result (Fits (program_view program.now)) }
 {
-    let verdict = verdict_where_separable(alloc, program, a, b)?;
+    let verdict = verdict_where_executable(alloc, program, a, b)?;
     let pair = PairVerdict::of(alloc, a, b, verdict)?;
     Ok(pair)
 }
@@ -119,7 +119,7 @@ impl Known {
         put_at(&mut self.slots, place, pair);
     }
 
-    /// The verdict on two operations in each extent in which both are separable. Each pair is judged once.
+    /// The verdict on two operations in each extent in which both can be executed. Each pair is judged once.
     pub fn verdict(
         &mut self,
         alloc: Global,

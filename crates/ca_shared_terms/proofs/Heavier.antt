@@ -5,7 +5,7 @@ use Rattle.std.proofs.lemmas.Bool.{lt-ltb, ltb-true}
 use Rattle.ca_folds.specs.declared.operator.FoldOp.{FoldOp}
 use Rattle.ca_forms.specs.declared.sort.Sort.{Sort}
 use Rattle.ca_forms.specs.declared.sort.Sort.TheVariants.{Bool as Truth}
-use Rattle.ca_norm.specs.Terms.{PlainTerm, number, truth, null, atom, add, sub, neg, mul, divide, remainder, less, less_equal, same, not, and, or, choose, read, read_at, result, select, put, add_at, fold, sort_of}
+use Rattle.ca_norm.specs.Terms.{PlainTerm, number, truth, null, atom, add, sub, neg, mul, divide, remainder, less, less_equal, same, not, and, or, choose, read, read_at, result, select, put, add_at, fold, sweep, sort_of}
 use Rattle.ca_norm.specs.Weights.{same_spread, spread, share, nodes, depth, weight_of}
 use Rattle.ca_shared_terms.specs.Heavy.{is_heavy}
 
@@ -40,10 +40,12 @@ mutual
   some_spread (put a i x) = omega (arith, some_spread a)
   some_spread (add_at a i x) = omega (arith, some_spread a)
   some_spread (fold o a b) = omega (arith, some_spread a)
+  some_spread (sweep a f t x) = omega (arith, some_spread a)
 
 pub some_share : (t : PlainTerm) → 0 < share t
 some_share (put a i x) = omega (arith, some_share a)
 some_share (add_at a i x) = omega (arith, some_share a)
+some_share (sweep a f t x) = omega (arith, some_share a)
 some_share (choose c a b) = omega (arith, some_share b)
 some_share (number n) = omega arith
 some_share (truth b) = omega arith
@@ -161,3 +163,13 @@ module _ (a i x : PlainTerm) where
 
   pub add_at_heavier : is_heavy x ≡ true → is_heavy (add_at a i x) ≡ true
   add_at_heavier = heavier x (add_at a i x) (omega arith) (omega arith) (omega arith)
+
+module _ (a f t x : PlainTerm) where
+  pub sweep_from_heavier : is_heavy f ≡ true → is_heavy (sweep a f t x) ≡ true
+  sweep_from_heavier = heavier f (sweep a f t x) (omega arith) (omega arith) (omega arith)
+
+  pub sweep_to_heavier : is_heavy t ≡ true → is_heavy (sweep a f t x) ≡ true
+  sweep_to_heavier = heavier t (sweep a f t x) (omega arith) (omega arith) (omega arith)
+
+  pub sweep_heavier : is_heavy x ≡ true → is_heavy (sweep a f t x) ≡ true
+  sweep_heavier = heavier x (sweep a f t x) (omega arith) (omega arith) (omega arith)

@@ -7,7 +7,7 @@ use base.Stored.{Gv, gnil, gnum, gcons}
 use Rattle.ca_forms.specs.declared.sort.Sort.{Sort}
 use Rattle.ca_forms.specs.declared.sort.Sort.TheVariants.{Long, Bool as Truth, Pointer, LongArray, BoolArray, PointerArray}
 use Rattle.ca_folds.specs.Operators.{fold_number, fold_inj}
-use Rattle.ca_norm.specs.Terms.{PlainTerm, PlainTerms, number, truth, null, atom, add, sub, neg, mul, divide, remainder, less, less_equal, same, not, and, or, choose, read, read_at, result, select, put, add_at, fold, no_terms, term_and}
+use Rattle.ca_norm.specs.Terms.{PlainTerm, PlainTerms, number, truth, null, atom, add, sub, neg, mul, divide, remainder, less, less_equal, same, not, and, or, choose, read, read_at, result, select, put, add_at, fold, sweep, no_terms, term_and}
 
 abbrev pub sort_code : Sort → Gv
 sort_code Long = gnum 0
@@ -27,7 +27,7 @@ kind n v = gcons (gnum n) v
 -- by which terms of two forms are told apart; that of null is none of theirs
 abbrev kind_of : Gv → ℕ
 kind_of (gcons (gnum n) v) = n
-kind_of v = 23
+kind_of v = 24
 
 abbrev pub pair : Gv → Gv → Gv
 pair v w = gcons v w
@@ -58,6 +58,7 @@ abbrev mutual
   term_code (put a i v) = kind 20 (pair (term_code a) (pair (term_code i) (term_code v)))
   term_code (add_at a i v) = kind 21 (pair (term_code a) (pair (term_code i) (term_code v)))
   term_code (fold o a b) = kind 22 (pair (gnum (fold_number o)) (pair (term_code a) (term_code b)))
+  term_code (sweep a f t v) = kind 23 (pair (term_code a) (pair (term_code f) (pair (term_code t) (term_code v))))
 
   pub terms_code : PlainTerms → Gv
   terms_code no_terms = gnil
@@ -123,6 +124,11 @@ mutual
       let i : o ≡ p = fold_inj o p cc in
       let j : a ≡ c = term_inj a c cc in
       let h : b ≡ d = term_inj b d cc in cc
+  term_inj (sweep k a b x) (sweep l c d y) e =
+      let i : k ≡ l = term_inj k l cc in
+      let j : a ≡ c = term_inj a c cc in
+      let h : b ≡ d = term_inj b d cc in
+      let g : x ≡ y = term_inj x y cc in cc
   term_inj t u e = let kinds : kind_of (term_code t) ≡ kind_of (term_code u) = ap kind_of e in absurd (omega (arith, kinds))
 
   pub terms_inj : (ts us : PlainTerms) → terms_code ts ≡ terms_code us → ts ≡ us

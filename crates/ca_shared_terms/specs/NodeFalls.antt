@@ -32,3 +32,4 @@ node_falls (node.Select a i) = omega arith
 node_falls (node.Put a i v) = omega arith
 node_falls (node.AddAt a i v) = omega arith
 node_falls (node.Fold o a b) = omega arith
+node_falls (node.Sweep a f t v) = omega arith

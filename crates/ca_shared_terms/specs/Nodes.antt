@@ -1,7 +1,7 @@
 -- The term that a node in memory stands for, over the terms below it.
 use Rattle.ca_shared_terms.specs.declared.light.Node.{Node}
 use Rattle.ca_shared_terms.specs.declared.light.Node.TheVariants as node
-use Rattle.ca_norm.specs.Terms.{PlainTerm, number, truth, null, atom, add, sub, neg, mul, divide, remainder, less, less_equal, same, not, and, or, choose, read, read_at, result, select, put, add_at, fold}
+use Rattle.ca_norm.specs.Terms.{PlainTerm, number, truth, null, atom, add, sub, neg, mul, divide, remainder, less, less_equal, same, not, and, or, choose, read, read_at, result, select, put, add_at, fold, sweep}
 
 abbrev pub node_of : Node → PlainTerm
 node_of (node.Number n) = number n
@@ -28,3 +28,4 @@ node_of (node.Select a i) = select a i
 node_of (node.Put a i v) = put a i v
 node_of (node.AddAt a i v) = add_at a i v
 node_of (node.Fold o a b) = fold o a b
+node_of (node.Sweep a f t v) = sweep a f t v

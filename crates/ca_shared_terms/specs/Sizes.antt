@@ -2,7 +2,7 @@
 use Rattle.std.specs.Prelude.{ℕ, ◌+◌, ◌≤◌, List, [], ◌∷◌}
 use Rattle.std.proofs.Common.{arith}
 use denote.Param.Weighed.{most}
-use Rattle.ca_norm.specs.Terms.{PlainTerm, PlainTerms, number, truth, null, atom, add, sub, neg, mul, divide, remainder, less, less_equal, same, not, and, or, choose, read, read_at, result, select, put, add_at, fold, no_terms, term_and, terms_of}
+use Rattle.ca_norm.specs.Terms.{PlainTerm, PlainTerms, number, truth, null, atom, add, sub, neg, mul, divide, remainder, less, less_equal, same, not, and, or, choose, read, read_at, result, select, put, add_at, fold, sweep, no_terms, term_and, terms_of}
 
 abbrev mutual
   pub term_size : PlainTerm → ℕ
@@ -30,6 +30,7 @@ abbrev mutual
   term_size (put a i v) = term_size a + term_size i + term_size v + 1
   term_size (add_at a i v) = term_size a + term_size i + term_size v + 1
   term_size (fold o a b) = term_size a + term_size b + 1
+  term_size (sweep a f t v) = term_size a + term_size f + term_size t + term_size v + 1
 
   pub terms_size : PlainTerms → ℕ
   terms_size no_terms = 1

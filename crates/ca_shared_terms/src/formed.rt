@@ -72,7 +72,7 @@ impl LightTerm {
         }
     }
 
-    /// A literal, an atom, a read or the result of a call.
+    /// A literal, an atom, a read, the result of a call or a sweep.
     #[cycle(unshared)]
     #[inline(never)]
     fn unshared_other(&self, alloc: Global) -> Result<Term, AllocError>
@@ -94,6 +94,12 @@ impl LightTerm {
             Node::Result(sort, method, p, args) => {
                 let (receiver, args) = both(p.boxed(alloc), args.unshared(alloc))?;
                 Ok(Term::Result(*sort, *method, receiver, args))
+            }
+            Node::Sweep(a, f, t, x) => {
+                let bounds = both(f.boxed(alloc), t.boxed(alloc));
+                let sides = both(a.boxed(alloc), x.boxed(alloc));
+                let ((from, to), (array, addend)) = both(bounds, sides)?;
+                Ok(Term::Sweep(array, from, to, addend))
             }
             _ => Err(AllocError),
         }

@@ -6,7 +6,7 @@ ghost use Rattle.ca_forms.specs.Rules.{gathered};
 ghost use Rattle.ca_norm.specs.Forms.{expand, norm, pointer_of, array_of};
 
 use crate::light::{LightTerm, Node};
-use ca_forms::array::Array;
+use ca_forms::array::{Array, Span};
 use ca_forms::array_rules::chosen_array;
 use ca_forms::parts::{add, both};
 use ca_forms::pointers::chosen_pointer;
@@ -229,7 +229,13 @@ impl LightTerm {
             Node::AddAt(a, i, x) => {
                 let sides = both(i.polynomial(alloc), x.polynomial(alloc));
                 let (array, (index, addend)) = both(a.array_under(alloc, conditions), sides)?;
-                array.added_at(alloc, index, addend)
+                array.added_at(alloc, Span::one(index), addend)
+            }
+            Node::Sweep(a, f, t, x) => {
+                let bounds = both(f.polynomial(alloc), t.polynomial(alloc));
+                let sides = both(bounds, x.polynomial(alloc));
+                let (array, ((from, to), addend)) = both(a.array_under(alloc, conditions), sides)?;
+                array.added_at(alloc, Span::range(from, to), addend)
             }
             _ => self.array(alloc),
         }

@@ -2,7 +2,7 @@
 
 ghost use Rattle.std.specs.Prelude.{◌≡◌, false, true, IfOk};
 ghost use Rattle.ca_forms.specs.declared.sort.Sort.{Sort};
-ghost use Rattle.ca_norm.specs.Terms.{number, truth, null, atom, add, sub, neg, mul, divide, remainder, less, less_equal, same, not, and, or, choose, read, read_at, result as call_result, select, put, add_at, fold, sort_of, item_sort, terms_of};
+ghost use Rattle.ca_norm.specs.Terms.{number, truth, null, atom, add, sub, neg, mul, divide, remainder, less, less_equal, same, not, and, or, choose, read, read_at, result as call_result, select, put, add_at, fold, sweep, sort_of, item_sort, terms_of};
 ghost use Rattle.ca_norm.specs.Measures.{Measures, MeasuresAll};
 ghost use Rattle.ca_shared_terms.specs.Nodes.{node_of};
 ghost use Rattle.ca_shared_terms.specs.Heavy.{is_heavy};
@@ -59,6 +59,7 @@ pub(crate) enum Node {
     Put(LightTerm, LightTerm, LightTerm),
     AddAt(LightTerm, LightTerm, LightTerm),
     Fold(FoldOp, LightTerm, LightTerm),
+    Sweep(LightTerm, LightTerm, LightTerm, LightTerm),
 }
 
 impl Model for LightTerm {
@@ -438,6 +439,22 @@ impl LightTerm {
         LightTerm::made(alloc, Node::Fold(operator, a, b), measure)
     }
 
+    /// This array with an addend at each index from a number up to but not including another.
+    pub fn swept(
+        self,
+        alloc: Global,
+        from: LightTerm,
+        to: LightTerm,
+        addend: LightTerm,
+    ) -> Result<LightTerm, ExecutionError>
+        ensures made { IfOk result (λ t. t ≡ sweep self from to addend) }
+        ensures light { IfOk result (λ _. is_heavy (sweep self from to addend) ≡ false) }
+        ensures large { result ≡ Err ExecutionError.Large → is_heavy (sweep self from to addend) ≡ true }
+    {
+        let measure = self.measure.swept(from.measure, to.measure, addend.measure);
+        LightTerm::made(alloc, Node::Sweep(self, from, to, addend), measure)
+    }
+
     /// The same term once more, which takes no memory; it fails where it is shared too often to be counted.
     pub fn share(&self) -> Result<LightTerm, AllocError>
         ensures same { IfOk result (λ t. t ≡ self.now) }
@@ -468,6 +485,7 @@ impl LightTerm {
             Node::Choose(_, a, _) => a.sort(),
             Node::Put(a, _, _) => a.sort(),
             Node::AddAt(a, _, _) => a.sort(),
+            Node::Sweep(a, _, _, _) => a.sort(),
             Node::Select(a, _) => item_sort(a.sort()),
         }
     }

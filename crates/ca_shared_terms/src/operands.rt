@@ -11,7 +11,7 @@ pub(crate) enum Operands<'a> {
     One(Unary, &'a LightTerm),
     Two(Binary, &'a LightTerm, &'a LightTerm),
     Three(Ternary, &'a LightTerm, &'a LightTerm, &'a LightTerm),
-    /// The term is a literal, an atom, a read or the result of a call.
+    /// The term is a literal, an atom, a read, the result of a call or a sweep.
     Other,
 }
 

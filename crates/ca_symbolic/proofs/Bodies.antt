@@ -1,7 +1,8 @@
 -- What the run of an operation in memory leaves, demands and makes.
-use Rattle.std.proofs.Common.{◌≡◌, ℕ, true, Some, refl, sym, ap, ap₂, ◌∙◌}
+use Rattle.std.proofs.Common.{◌≡◌, ℕ, true, List, Some, refl, sym, ap, ap₂, ◌∙◌}
 use Rattle.std.specs.Prelude.{slice_get}
 use Rattle.std.proofs.lemmas.Option.{slice_get-map}
+use Rattle.ca_program.specs.declared.program.FieldId.{FieldId}
 use Rattle.ca_program.specs.declared.program.Method.{Method}
 use Rattle.ca_program.specs.declared.program.OpId.{OpId}
 use Rattle.ca_program.specs.declared.program.Program.{Program}
@@ -14,7 +15,7 @@ use Rattle.ca_symbolic.specs.Execution.{after_all}
 use Rattle.ca_symbolic.specs.Demands.{demanded_all}
 use Rattle.ca_symbolic.specs.OtherLoops.{other_loop_in}
 use Rattle.ca_symbolic.specs.clauses.Refusals.{refused_by_all}
-use Rattle.ca_symbolic.specs.Runs.{begins, with_locals, executed, demanded_by, is_heavy_by, first_other_loop}
+use Rattle.ca_symbolic.specs.Runs.{begins, with_locals, executed, demanded_by, is_heavy_by, params_of, first_other_loop}
 use Rattle.ca_symbolic.proofs.Refusing.{refused_exactly}
 
 module _ (p : Program) (op : OpId) (m : Method) (is : slice_get p.ops.items op.0 ≡ Some m) where
@@ -24,8 +25,8 @@ module _ (p : Program) (op : OpId) (m : Method) (is : slice_get p.ops.items op.0
   body_is : operation_body (program_view p) op ≡ statements_view m.body.stmts.items
   body_is = ap body_of operation_is
 
-  pub loop_is : first_other_loop (program_view p) op ≡ other_loop_in (statements_view m.body.stmts.items)
-  loop_is = ap other_loop_in body_is
+  pub loop_is : (written : List FieldId) → first_other_loop (program_view p) written op ≡ other_loop_in m.params written (statements_view m.body.stmts.items)
+  loop_is written = ap₂ (λ n xs. other_loop_in n written xs) (ap params_of operation_is) body_is
 
   module _ (g : ℕ) (s : State) where
     begins_is : begins (program_view p) op g s.fields ≡ with_locals s (first_locals g (Some (method_view m)))

@@ -11,7 +11,8 @@ use Rattle.ca_program.specs.declared.program.FirstPart.{FirstPart}
 use Rattle.ca_program.specs.declared.program.FirstPart.TheVariants.{Declares}
 use Rattle.ca_program.specs.Plain.{Expression, number, local, binary, Statement, Statements, block, put_local, invoke, for_loop, no_statements, statement_and}
 use Rattle.ca_parallel.specs.Loops.{Begins, Compares, CountsUp, IsCall, AreCalls, CallsAlone, IsCallLoopOf, IsCallLoop}
-use Rattle.ca_symbolic.specs.OtherLoops.{counter_of, compares, counts_up, is_call, are_calls, calls_alone, counts, is_call_loop}
+use Rattle.ca_sweep.specs.Found.{counts_up}
+use Rattle.ca_symbolic.specs.OtherLoops.{counter_of, compares, is_call, are_calls, calls_alone, counts, is_call_loop}
 
 same : (l m : LocalId) → nat_eq l.0 m.0 ≡ true → l ≡ m
 same l m e = let c : l.0 ≡ m.0 = eqb-true l.0 m.0 e in λ i. record { 0 = c i }

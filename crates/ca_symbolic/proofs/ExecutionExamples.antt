@@ -1,6 +1,6 @@
 -- Worked examples of symbolic execution over whole bodies.
 use Rattle.std.proofs.Common.{◌≡◌, ℕ, true, false, List, [], ◌∷◌, None, Some, refl, codes, pos}
-use Rattle.ca_tree.specs.declared.tree.AssignOp.TheVariants.{Put, Add, BitXor}
+use Rattle.ca_tree.specs.declared.tree.AssignOp.TheVariants.{Put, Add, Sub, BitXor}
 use Rattle.ca_tree.specs.declared.tree.BinaryOp.TheVariants.{And, Less, Plus, Minus, Greater, Divide, Max}
 use Rattle.ca_program.specs.declared.program.ClassId.{ClassId}
 use Rattle.ca_program.specs.declared.program.FieldId.{FieldId}
@@ -13,9 +13,9 @@ use Rattle.ca_program.specs.Plain.{PlainProgram, PlainMethod, Expression, Statem
 use Rattle.ca_program.specs.Plain as plain
 use Rattle.ca_folds.specs.declared.operator.FoldOp.TheVariants as fold_op
 use Rattle.ca_forms.specs.declared.sort.Sort.TheVariants.{Long, Bool, Pointer, LongArray}
-use Rattle.ca_norm.specs.Terms.{PlainTerm, truth, atom, add, sub, less, divide, not, and, choose, result, put, add_at, select, neg, fold, no_terms}
+use Rattle.ca_norm.specs.Terms.{PlainTerm, truth, atom, add, sub, less, divide, not, and, choose, result, put, add_at, select, neg, fold, sweep, no_terms}
 use Rattle.ca_shared_terms.specs.Starts.{starts}
-use Rattle.ca_symbolic.specs.States.{State, not_null, in_range, calls, invokes, loops, demand, first_locals, receiver}
+use Rattle.ca_symbolic.specs.States.{State, not_null, in_range, calls, invokes, loops, sweeps, demand, first_locals, receiver}
 use Rattle.ca_symbolic.specs.Execution.{term_of, after}
 use Rattle.ca_symbolic.specs.Demands.{demanded, demanded_all}
 use Rattle.ca_symbolic.specs.Made.{made_by}
@@ -193,5 +193,33 @@ no_call_loop :
 no_call_loop = refl
 
 the_first_other_loop :
-    other_loop_in (statement_and loop (statement_and (while_loop 3 b (block 3 no_statements)) (statement_and (while_loop 4 b (block 4 no_statements)) no_statements))) ≡ Some 3
+    other_loop_in 2 [] (statement_and loop (statement_and (while_loop 3 b (block 3 no_statements)) (statement_and (while_loop 4 b (block 4 no_statements)) no_statements))) ≡ Some 3
 the_first_other_loop = refl
+
+-- for (long i = p; i < q; i++) a[i] -= x; whose counter is local 2
+abbrev sweep_loop : Statement
+sweep_loop =
+    for_loop 3 (record { 0 = 1 }) Declares (put_local 3 (record { 0 = 2 }) Put (variable 0)) (binary Less (variable 2) (variable 1))
+    (put_local 3 (record { 0 = 2 }) Add (plain.number (pos 1))) (put_item 3 (field 2) (variable 2) Sub x)
+
+-- it puts its field, and its counter is no target
+behind_a_sweep : (after program start sweep_loop).fields ≡ x0 ∷ b0 ∷ sweep a0 p0 i0 (neg x0) ∷ next0 ∷ []
+behind_a_sweep = refl
+
+locals_behind_a_sweep : (after program start sweep_loop).locals ≡ start.locals
+locals_behind_a_sweep = refl
+
+-- one demand, of its bounds
+demand_of_a_sweep : demanded program start (truth true) sweep_loop ≡ demand (truth true) (sweeps (field 2)) (p0 ∷ i0 ∷ []) ∷ []
+demand_of_a_sweep = refl
+
+-- it is no other loop where its addend isn't written, and else it is one
+constant_addend : other_loop_in 2 (field 2 ∷ []) (statement_and sweep_loop no_statements) ≡ None
+constant_addend = refl
+
+written_addend : other_loop_in 2 (field 0 ∷ field 2 ∷ []) (statement_and sweep_loop no_statements) ≡ Some 3
+written_addend = refl
+
+-- a bound that is a local of the body's own is no parameter
+bound_by_a_local : other_loop_in 1 (field 2 ∷ []) (statement_and sweep_loop no_statements) ≡ Some 3
+bound_by_a_local = refl

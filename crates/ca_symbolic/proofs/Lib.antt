@@ -1,7 +1,9 @@
 mod ExecutionExamples
 pub mod Alike
 pub mod CallLoops
+pub mod Fewer
 pub mod Ors
+pub mod Sweeping
 pub mod Refusing
 pub mod Blocks
 pub mod Flags

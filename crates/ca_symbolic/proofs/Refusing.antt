@@ -1,5 +1,5 @@
 -- An execution is refused exactly where a term that it makes is too heavy.
-use Rattle.std.proofs.Common.{◌≡◌, Bool, true, false, ◌||◌, List, [], ◌∷◌, ◌++◌, Option, Some, None, refl, sym, ap, ap₂, ◌∙◌}
+use Rattle.std.proofs.Common.{◌≡◌, Bool, true, false, ◌&&◌, ◌||◌, List, [], ◌∷◌, ◌++◌, Option, Some, None, refl, sym, ap, ap₂, ◌∙◌}
 use Rattle.std.specs.Prelude.{if◌then◌else◌, flat_map, ℤ}
 use Rattle.std.specs.List.{list_any}
 use Rattle.std.proofs.lemmas.Grind.{flat_map-append}
@@ -11,18 +11,25 @@ use Rattle.ca_tree.specs.declared.tree.BinaryOp.TheVariants.{Or, And, Equal, Not
 use Rattle.ca_tree.specs.declared.tree.UnaryOp.{UnaryOp}
 use Rattle.ca_tree.specs.declared.tree.UnaryOp.TheVariants as sign
 use Rattle.ca_program.specs.declared.program.FieldId.{FieldId}
+use Rattle.ca_program.specs.declared.program.LoopId.{LoopId}
 use Rattle.ca_program.specs.Plain.{PlainProgram, Expression, Expressions, number, truth, null, this, local, own, own_item, read, read_item, value_call, unary, binary, no_expressions, expression_and, Statement, Statements, block, put_local, put_field, put_item, new_local, new_field, new_item, invoke, if_else, while_loop, for_loop, return_value, print_value, no_statements, statement_and}
 use Rattle.ca_folds.specs.declared.operator.FoldOp.{FoldOp}
 use Rattle.ca_folds.specs.declared.operator.FoldOp.TheVariants as fold_op
+use Rattle.ca_sweep.specs.Sweeps.{PlainSweep, Known}
+use Rattle.ca_sweep.specs.Found.{sweep_at}
+use Rattle.ca_sweep.specs.Means.{all_but}
+use Rattle.ca_sweep.proofs.Sums.{Summed, sum_summed}
+use Rattle.ca_sweep.proofs.Finding.{forms_are_sweeps}
 use Rattle.ca_norm.specs.Terms.{PlainTerm, neg, not, and, same, divide, remainder, add_at, select, put, mul, fold}
-use Rattle.ca_symbolic.specs.States.{State, PlainDemand, demand, not_null, in_range, calls, invokes, term_at}
-use Rattle.ca_symbolic.specs.Execution.{term_of, signed_term, operation, divisor, divided, put_term, is_item, put_right, array_term, after}
-use Rattle.ca_symbolic.specs.Demands.{right_guard, then_guard, else_guard, terms_in, demands_in, demands_in_all, loop_parts, demanded, demanded_all}
-use Rattle.ca_symbolic.specs.Made.{new_guard, guards_in, guards_in_all, joined_terms, steps_made, steps_made_all, made_by}
+use Rattle.ca_symbolic.specs.States.{State, PlainDemand, demand, not_null, in_range, calls, invokes, sweeps, term_at}
+use Rattle.ca_symbolic.specs.Execution.{term_of, signed_term, operation, divisor, divided, put_term, is_item, put_right, array_term, addend_term, sweep_term, after}
+use Rattle.ca_symbolic.specs.Demands.{right_guard, then_guard, else_guard, terms_in, demands_in, demands_in_all, loop_parts, demanded_loop, demanded, demanded_all}
+use Rattle.ca_symbolic.specs.Made.{new_guard, guards_in, guards_in_all, joined_terms, steps_of_loop, steps_made, steps_made_all, made_by}
 use Rattle.ca_shared_terms.specs.Heavy.{is_heavy}
-use Rattle.ca_symbolic.specs.clauses.Refusals.{refused_guard, refused, refused_all, refused_item, with_put, refused_fold, refused_value, put_sum, refused_sum, refused_right, refused_array, refused_by, refused_by_all}
+use Rattle.ca_symbolic.specs.clauses.Refusals.{refused_guard, refused, refused_all, refused_item, with_put, refused_fold, refused_value, put_sum, refused_sum, refused_right, refused_array, refused_addend, refused_sweep, refused_loop, refused_by, refused_by_all}
 use Rattle.ca_symbolic.proofs.Ors.{v, none, either, same_ors, absorbed}
-use Rattle.ca_shared_terms.proofs.Heavier.{neg_heavier, not_heavier, add_left, add_right, sub_left, sub_right, mul_left, mul_right, and_left, and_right, or_left, or_right, less_left, less_right, less_equal_left, less_equal_right, same_heavier_left, same_heavier_right, fold_left, fold_right, divide_left, remainder_left, put_item_heavier, add_at_heavier}
+use Rattle.ca_symbolic.proofs.Sweeping.{no_demands, no_guards, addend_heavy}
+use Rattle.ca_shared_terms.proofs.Heavier.{neg_heavier, not_heavier, add_left, add_right, sub_left, sub_right, mul_left, mul_right, and_left, and_right, or_left, or_right, less_left, less_right, less_equal_left, less_equal_right, same_heavier_left, same_heavier_right, fold_left, fold_right, divide_left, remainder_left, put_item_heavier, add_at_heavier, sweep_heavier}
 
 -- one of the terms is too heavy, one of the parts of the demands
 abbrev H : List PlainTerm → Bool
@@ -345,6 +352,35 @@ put_ends p s g e u more =
     ∙ (ap (λ x. (G || (x || false)) || D) (sym (absorbed t w more))
     ∙ ap (λ x. x || D) (sym (both (guards_in p s g e) (u ∷ [])))))
 
+-- a sum is refused for its own term alone
+sum_is_refused : (k : Known) (p : PlainProgram) (s : State) (g : PlainTerm) (e : Expression) → Summed k e → refused p s g e ≡ is_heavy (term_of p s e)
+sum_is_refused k p s g e sum = refused_is p s g e ∙ ap₂ (λ (ts : List PlainTerm) (ds : List PlainDemand). (H ts || P ds) || is_heavy (term_of p s e)) (no_guards k p s g e sum) (no_demands k p s g e sum)
+
+-- a sweep is refused for a bound, or for the array behind it, in which what it adds stands
+sweep_is : (k : Known) (p : PlainProgram) (s : State) (g : PlainTerm) (w : PlainSweep) → Summed k w.from → Summed k w.to → Summed k w.addend →
+    refused_sweep p s g w ≡ (H (sweep_term p s w ∷ []) || P (demand g (sweeps w.field) (term_of p s w.from ∷ term_of p s w.to ∷ []) ∷ []))
+sweep_is k p s g w from to addend =
+    let a : PlainTerm = term_of p s w.addend in
+    let f = is_heavy (term_of p s w.from) in
+    let t = is_heavy (term_of p s w.to) in
+    let x = is_heavy a || (w.minus && is_heavy (neg a)) in
+    let all = is_heavy (sweep_term p s w) in
+    let up : x ≡ true → all ≡ true =
+    λ h. sweep_heavier (term_at s.fields w.field.field) (term_of p s w.from) (term_of p s w.to) (addend_term w.minus a) (addend_heavy w.minus a h) in
+    ap₂ (λ y z. y || (z || (refused_addend p s g w.minus w.addend || all))) (sum_is_refused k p s g w.from from) (sum_is_refused k p s g w.to to)
+    ∙ (ap (λ y. f || (t || ((y || (w.minus && is_heavy (neg a))) || all))) (sum_is_refused k p s g w.addend addend)
+    ∙ (ap (λ y. f || (t || y)) (sym (absorbed x all up))
+    ∙ same_ors (f ∷ t ∷ all ∷ []) (either (v 0) (either (v 1) (v 2))) (either (either (v 2) none) (either (v 0) (either (v 1) none))) refl refl))
+
+loop_is : (p : PlainProgram) (s : State) (g : PlainTerm) (site : LoopId) (x : Statement) (o : Option PlainSweep) → sweep_at x ≡ o → refused_loop p s g x o ≡ (H (steps_of_loop p s o) || P (demanded_loop p s g site x o))
+loop_is p s g site x None e =
+    let ts : List PlainTerm = loop_parts s x in
+    same_ors (H ts ∷ []) (v 0) (either none (either (v 0) none)) refl refl ∙ sym (both ts [])
+loop_is p s g site x (Some w) e =
+    let sums = (forms_are_sweeps x w e).1 in
+    let k : Known = all_but w.counter.0 in
+    sweep_is k p s g w (sum_summed k w.from sums.0) (sum_summed k w.to sums.1) (sum_summed k w.addend sums.2)
+
 mutual
   pub refused_by_is : (p : PlainProgram) (s : State) (g : PlainTerm) (x : Statement) → refused_by p s g x ≡ (H (steps_made p s g x) || P (demanded p s g x))
   refused_by_is p s g (block line ss) = refused_by_all_is p s g ss
@@ -406,9 +442,7 @@ mutual
       (either (either (v 0) (either (either (v 2) (v 3)) (either (v 4) (either (either (v 6) (v 7)) (either (v 8) (v 10)))))) (either (v 1) (either (v 5) (v 9)))) refl refl
       ∙ (ap₂ (λ x y. (G || (x || (sa || (y || (sb || j))))) || (D || (da || db))) (sym (absorbed w x1 (and_right g t))) (sym (absorbed n x2 (and_right g (not t))))
       ∙ ap₂ (λ x y. x || y) (sym steps) (sym parts))))
-  refused_by_is p s g (for_loop line site part first c next b) =
-      let ts : List PlainTerm = loop_parts s (for_loop line site part first c next b) in
-      same_ors (H ts ∷ []) (v 0) (either none (either (v 0) none)) refl refl ∙ sym (both ts [])
+  refused_by_is p s g (for_loop line site part first c next b) = loop_is p s g site (for_loop line site part first c next b) (sweep_at (for_loop line site part first c next b)) refl
   refused_by_is p s g (while_loop line c b) = refl
   refused_by_is p s g (new_local line l c) = refl
   refused_by_is p s g (new_field line f c) = refl

@@ -1,17 +1,21 @@
 -- What code finds by numbers of fields and locals is what the definition has.
-use Rattle.std.proofs.Common.{◌≡◌, ℕ, ◌<◌, Bool, true, false, ◌||◌, List, [], ◌∷◌, ◌++◌, length, replicate, sym, ap, ◌∙◌}
+use Rattle.std.proofs.Common.{◌≡◌, ℕ, ◌<◌, Bool, true, false, ◌||◌, List, ◌++◌, length, replicate, sym, ap, ◌∙◌}
+use Rattle.std.specs.Prelude.{None, if◌then◌else◌}
 use Rattle.std.specs.List.{list_any}
 use Rattle.std.proofs.lemmas.List.Folds.{list_any-append}
+use Rattle.ca_program.specs.declared.program.FieldId.{FieldId}
 use Rattle.ca_program.specs.declared.program.FirstPart.{FirstPart}
 use Rattle.ca_program.specs.declared.program.LoopId.{LoopId}
 use Rattle.ca_program.specs.Plain.{PlainProgram, Expression, Statement, if_else, for_loop}
+use Rattle.ca_sweep.specs.Found.{sweep_in, sweep_at}
 use Rattle.ca_norm.specs.Terms.{PlainTerm, not}
-use Rattle.ca_symbolic.specs.States.{State, demand, loops}
-use Rattle.ca_symbolic.specs.Execution.{term_of, after, choices, field_target, local_target, joined_state}
-use Rattle.ca_symbolic.specs.Demands.{picked, loop_reads, demanded, then_guard, else_guard}
+use Rattle.ca_symbolic.specs.States.{State}
+use Rattle.ca_symbolic.specs.Execution.{term_of, after_loop, after, choices, field_target, local_target, joined_state}
+use Rattle.ca_symbolic.specs.Demands.{loop_reads, demanded_loop, demanded, then_guard, else_guard}
 use Rattle.ca_symbolic.specs.Made.{targets, joined_terms}
 use Rattle.ca_symbolic.specs.clauses.Places.{is_among, is_marked, marked, fields_put, locals_put, is_read}
-use Rattle.ca_symbolic.specs.clauses.Refusals.{refused, refused_by}
+use Rattle.ca_symbolic.specs.clauses.Refusals.{refused, refused_loop, refused_by}
+use Rattle.ca_symbolic.specs.OtherLoops.{is_call_loop, if_no_sweep, other_loop}
 use Rattle.ca_shared_terms.specs.Heavy.{is_heavy}
 use Rattle.ca_symbolic.proofs.Among.{reads_told, field_targets_told, local_targets_told}
 use Rattle.ca_symbolic.proofs.Marks.{marked_append, among, so_long}
@@ -50,17 +54,26 @@ pub heavy_local : (a b : Statement) (c : PlainTerm) (s t : State) → list_any i
 heavy_local a b c s t h =
     list_any-append is_heavy (targets (field_target a b) 0 (choices (field_target a b) 0 c s.fields t.fields)) (targets (local_target a b) 0 (choices (local_target a b) 0 c s.locals t.locals)) ∙ second_of _ _ h
 
--- a loop demands one thing, and is refused for what the locals hold that it reads
+-- a loop, by what is found of it
 module _ (p : PlainProgram) (s : State) (g : PlainTerm) (x : Statement) (line : ℕ) (site : LoopId) (part : FirstPart) (first : Statement) (c : Expression) (next b : Statement)
     (is : x ≡ for_loop line site part first c next b) where
-  reads : loop_reads (for_loop line site part first c next b) ≡ is_read x first
-  reads = reads_told line site part first c next b ∙ ap (λ y. is_read y first) (sym is)
+  pub loop_after : after p s x ≡ after_loop p s (sweep_at x)
+  loop_after = ap (after p s) is ∙ sym (ap (λ y. after_loop p s (sweep_at y)) is)
 
-  pub loop_told : demanded p s g x ≡ demand g (loops site) (picked (is_read x first) 0 s.locals) ∷ []
-  loop_told = ap (demanded p s g) is ∙ ap (λ f. demand g (loops site) (picked f 0 s.locals) ∷ []) reads
+  pub loop_told : demanded p s g x ≡ demanded_loop p s g site x (sweep_at x)
+  loop_told = ap (demanded p s g) is ∙ sym (ap (λ y. demanded_loop p s g site y (sweep_at y)) is)
 
-  pub loop_refused : refused_by p s g x ≡ list_any is_heavy (picked (is_read x first) 0 s.locals)
-  loop_refused = ap (refused_by p s g) is ∙ ap (λ f. list_any is_heavy (picked f 0 s.locals)) reads
+  pub loop_refused : refused_by p s g x ≡ refused_loop p s g x (sweep_at x)
+  loop_refused = ap (refused_by p s g) is ∙ sym (ap (λ y. refused_loop p s g y (sweep_at y)) is)
+
+-- the locals that a loop reads
+pub loop_read : (x : Statement) (line : ℕ) (site : LoopId) (part : FirstPart) (first : Statement) (c : Expression) (next b : Statement) → x ≡ for_loop line site part first c next b → loop_reads x ≡ is_read x first
+loop_read x line site part first c next b is = ap loop_reads is ∙ (reads_told line site part first c next b ∙ ap (λ y. is_read y first) (sym is))
+
+-- the line of a loop that is neither a call loop nor a sweep
+pub other_for : (n : ℕ) (written : List FieldId) (x : Statement) (line : ℕ) (site : LoopId) (part : FirstPart) (first : Statement) (c : Expression) (next b : Statement) → x ≡ for_loop line site part first c next b →
+    (if is_call_loop x then None else if_no_sweep (sweep_in n written x) line) ≡ other_loop n written x
+other_for n written x line site part first c next b is = ap (λ y. if is_call_loop y then None else if_no_sweep (sweep_in n written y) line) is ∙ sym (ap (other_loop n written) is)
 
 either_of : (n e r : Bool) → (n || e) ≡ true → (n || (e || r)) ≡ true
 either_of true e r h = h

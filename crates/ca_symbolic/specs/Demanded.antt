@@ -5,7 +5,7 @@ use Rattle.ca_symbolic.specs.declared.demand.DemandKind.{DemandKind as Kind}
 use Rattle.ca_symbolic.specs.declared.demand.DemandKind.TheVariants as kind
 use Rattle.ca_symbolic.specs.declared.demand.Demand.{Demand}
 use Rattle.ca_symbolic.specs.declared.demand.Group.{Group}
-use Rattle.ca_symbolic.specs.States.{DemandKind, not_null, in_range, calls, invokes, loops, PlainDemand, demand}
+use Rattle.ca_symbolic.specs.States.{DemandKind, not_null, in_range, calls, invokes, loops, sweeps, PlainDemand, demand}
 
 pub record Demanded : Type 0 where
   pub guard : PlainTerm
@@ -17,6 +17,7 @@ kind_of (kind.InRange f) = in_range f
 kind_of (kind.Calls m) = calls m
 kind_of (kind.Invokes op) = invokes op
 kind_of (kind.Loops site) = loops site
+kind_of (kind.Sweeps f) = sweeps f
 
 abbrev pub demand_of : PlainTerm → Demand → PlainDemand
 demand_of g d = demand g (kind_of d.kind) d.parts.items

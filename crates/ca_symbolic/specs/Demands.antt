@@ -1,5 +1,5 @@
 -- What a body demands, each under the condition of the path to it, in the order of evaluation.
-use Rattle.std.specs.Prelude.{ℕ, suc, Bool, false, ◌&&◌, nat_eq, if◌then◌else◌, List, [], ◌∷◌, ◌++◌}
+use Rattle.std.specs.Prelude.{ℕ, suc, Option, Some, None, Bool, false, ◌&&◌, nat_eq, if◌then◌else◌, List, [], ◌∷◌, ◌++◌}
 use Rattle.std.specs.List.{list_any}
 use Rattle.ca_tree.specs.declared.tree.BinaryOp.{BinaryOp}
 use Rattle.ca_tree.specs.declared.tree.BinaryOp.TheVariants.{Or, And}
@@ -7,9 +7,12 @@ use Rattle.ca_program.specs.Plain.{PlainProgram, Expression, Expressions, number
 use Rattle.ca_meaning.specs.Operators.{not_of}
 use Rattle.ca_parallel.specs.Bodies.{expressions_of}
 use Rattle.ca_parallel.specs.Scoped.{names}
+use Rattle.ca_program.specs.declared.program.LoopId.{LoopId}
+use Rattle.ca_sweep.specs.Sweeps.{PlainSweep}
+use Rattle.ca_sweep.specs.Found.{sweep_at}
 use Rattle.ca_norm.specs.Terms.{PlainTerm}
 use Rattle.ca_norm.specs.Terms as term
-use Rattle.ca_symbolic.specs.States.{State, not_null, in_range, calls, invokes, loops, PlainDemand, demand}
+use Rattle.ca_symbolic.specs.States.{State, not_null, in_range, calls, invokes, loops, sweeps, PlainDemand, demand}
 use Rattle.ca_symbolic.specs.Execution.{term_of, after}
 
 -- the term of each expression
@@ -75,6 +78,11 @@ picked is_read n (t ∷ ts) = if is_read n then t ∷ picked is_read (suc n) ts 
 abbrev pub loop_parts : State → Statement → List PlainTerm
 loop_parts s loop = picked (loop_reads loop) 0 s.locals
 
+-- a loop that sweeps is one demand, with its bounds
+abbrev pub demanded_loop : PlainProgram → State → PlainTerm → LoopId → Statement → Option PlainSweep → List PlainDemand
+demanded_loop p s g site loop None = demand g (loops site) (loop_parts s loop) ∷ []
+demanded_loop p s g site loop (Some w) = demand g (sweeps w.field) (term_of p s w.from ∷ term_of p s w.to ∷ []) ∷ []
+
 -- In a statement
 
 abbrev mutual
@@ -90,7 +98,7 @@ abbrev mutual
   demanded p s g (if_else line c a b) =
       demands_in p s g c ++ (demanded p s (then_guard g (term_of p s c)) a ++ demanded p s (else_guard g (term_of p s c)) b)
   demanded p s g (for_loop line site part first c next b) =
-      demand g (loops site) (loop_parts s (for_loop line site part first c next b)) ∷ []
+      demanded_loop p s g site (for_loop line site part first c next b) (sweep_at (for_loop line site part first c next b))
   demanded p s g (while_loop line c b) = []
   demanded p s g (new_local line l c) = []
   demanded p s g (new_field line f c) = []

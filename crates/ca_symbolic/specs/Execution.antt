@@ -12,15 +12,17 @@ use Rattle.ca_program.specs.declared.program.FieldId.{FieldId}
 use Rattle.ca_program.specs.declared.program.FieldInfo.{FieldInfo}
 use Rattle.ca_program.specs.declared.program.ValueType.{ValueType}
 use Rattle.ca_program.specs.Fields.{same_field}
-use Rattle.ca_program.specs.Plain.{PlainProgram, PlainMethod, Expression, Expressions, this, local, own, own_item, read_item, value_call, unary, binary, no_expressions, expression_and, Statement, Statements, block, put_local, put_field, put_item, if_else, no_statements, statement_and}
+use Rattle.ca_program.specs.Plain.{PlainProgram, PlainMethod, Expression, Expressions, this, local, own, own_item, read_item, value_call, unary, binary, no_expressions, expression_and, Statement, Statements, block, put_local, put_field, put_item, if_else, for_loop, no_statements, statement_and}
 use Rattle.ca_program.specs.Plain as plain
 use Rattle.ca_meaning.specs.ProgramTyped.{field_info}
 use Rattle.ca_parallel.specs.Bodies.{targets_of}
 use Rattle.ca_symbolic.specs.Same.{same_expression}
 use Rattle.ca_folds.specs.declared.operator.FoldOp.TheVariants as fold_op
+use Rattle.ca_sweep.specs.Sweeps.{PlainSweep}
+use Rattle.ca_sweep.specs.Found.{sweep_at}
 use Rattle.ca_forms.specs.declared.sort.Sort.{Sort}
 use Rattle.ca_forms.specs.declared.sort.Sort.TheVariants.{Pointer}
-use Rattle.ca_norm.specs.Terms.{PlainTerm, PlainTerms, number, truth, null, add, sub, neg, mul, divide, remainder, less, less_equal, same, not, and, or, choose, read, read_at, result, select, put, add_at, fold, no_terms, term_and}
+use Rattle.ca_norm.specs.Terms.{PlainTerm, PlainTerms, number, truth, null, add, sub, neg, mul, divide, remainder, less, less_equal, same, not, and, or, choose, read, read_at, result, select, put, add_at, fold, sweep, no_terms, term_and}
 use Rattle.ca_shared_terms.specs.Starts.{sort_of_type}
 use Rattle.ca_symbolic.specs.States.{State, term_at, receiver}
 
@@ -174,6 +176,21 @@ joined_state c a b s t = record {
   locals = choices (local_target a b) 0 c s.locals t.locals;
 }
 
+-- Sweeps
+
+abbrev pub addend_term : Bool → PlainTerm → PlainTerm
+addend_term true t = neg t
+addend_term false t = t
+
+-- the array behind a sweep
+abbrev pub sweep_term : PlainProgram → State → PlainSweep → PlainTerm
+sweep_term p s w = sweep (term_at s.fields w.field.field) (term_of p s w.from) (term_of p s w.to) (addend_term w.minus (term_of p s w.addend))
+
+-- a loop that sweeps puts its field, and any other passes by
+abbrev pub after_loop : PlainProgram → State → Option PlainSweep → State
+after_loop p s None = s
+after_loop p s (Some w) = with_field s w.field.field (sweep_term p s w)
+
 -- Statements
 
 -- The state behind a statement. A call changes nothing of its caller's, nor does a loop of calls. What no separable
@@ -185,6 +202,7 @@ abbrev mutual
   after p s (put_field line f op e) = with_field s f.field (put_term op (term_at s.fields f.field) (term_of p s e))
   after p s (put_item line f i op e) = with_field s f.field (array_term p s f i op e)
   after p s (if_else line c a b) = joined_state (term_of p s c) a b (after p s a) (after p s b)
+  after p s (for_loop line site part first c next b) = after_loop p s (sweep_at (for_loop line site part first c next b))
   after p s other = s
 
   pub after_all : PlainProgram → State → Statements → State

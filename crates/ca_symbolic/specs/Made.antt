@@ -1,12 +1,14 @@
 -- The terms that are made on the way: each that is put into the state, each condition of a path, and each part of a
 -- demand. What stands inside one of them weighs no more.
-use Rattle.std.specs.Prelude.{ℕ, suc, Bool, true, false, List, [], ◌∷◌, ◌++◌, flat_map}
+use Rattle.std.specs.Prelude.{ℕ, suc, Bool, true, false, Option, Some, None, List, [], ◌∷◌, ◌++◌, flat_map}
 use Rattle.ca_tree.specs.declared.tree.BinaryOp.{BinaryOp}
 use Rattle.ca_tree.specs.declared.tree.BinaryOp.TheVariants.{Or, And}
 use Rattle.ca_program.specs.Plain.{PlainProgram, Expression, Expressions, number, truth, null, this, local, own, own_item, read, read_item, value_call, unary, binary, no_expressions, expression_and, Statement, Statements, block, put_local, put_field, put_item, new_local, new_field, new_item, invoke, if_else, while_loop, for_loop, return_value, print_value, no_statements, statement_and}
+use Rattle.ca_sweep.specs.Sweeps.{PlainSweep}
+use Rattle.ca_sweep.specs.Found.{sweep_at}
 use Rattle.ca_norm.specs.Terms.{PlainTerm}
 use Rattle.ca_symbolic.specs.States.{State, term_at}
-use Rattle.ca_symbolic.specs.Execution.{term_of, put_term, array_term, field_target, local_target, after}
+use Rattle.ca_symbolic.specs.Execution.{term_of, put_term, array_term, field_target, local_target, sweep_term, after}
 use Rattle.ca_symbolic.specs.Demands.{right_guard, then_guard, else_guard, demanded_all}
 
 -- the condition of a right side that isn't always evaluated
@@ -48,6 +50,11 @@ targets is_target n (t ∷ ts) = if_target (is_target n) t (targets is_target (s
 abbrev pub joined_terms : Statement → Statement → State → List PlainTerm
 joined_terms a b s = targets (field_target a b) 0 s.fields ++ targets (local_target a b) 0 s.locals
 
+-- the array behind a sweep
+abbrev pub steps_of_loop : PlainProgram → State → Option PlainSweep → List PlainTerm
+steps_of_loop p s None = []
+steps_of_loop p s (Some w) = sweep_term p s w ∷ []
+
 -- the conditions of paths in a statement, and what is put into the state
 abbrev mutual
   pub steps_made : PlainProgram → State → PlainTerm → Statement → List PlainTerm
@@ -60,7 +67,7 @@ abbrev mutual
       guards_in p s g c ++ (then_guard g (term_of p s c) ∷ (steps_made p s (then_guard g (term_of p s c)) a ++
       (else_guard g (term_of p s c) ∷ (steps_made p s (else_guard g (term_of p s c)) b ++ joined_terms a b (after p s (if_else line c a b))))))
   steps_made p s g (while_loop line c b) = []
-  steps_made p s g (for_loop line site part first c next b) = []
+  steps_made p s g (for_loop line site part first c next b) = steps_of_loop p s (sweep_at (for_loop line site part first c next b))
   steps_made p s g (new_local line l c) = []
   steps_made p s g (new_field line f c) = []
   steps_made p s g (new_item line f i c) = []

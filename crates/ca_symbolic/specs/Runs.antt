@@ -1,8 +1,9 @@
 -- What the run of an operation leaves, demands and makes, from terms that its fields hold before.
-use Rattle.std.specs.Prelude.{ℕ, Bool, true, List, [], Option, slice_get}
+use Rattle.std.specs.Prelude.{ℕ, Bool, true, List, [], Option, Some, None, slice_get}
 use Rattle.std.specs.List.{list_any}
 use Rattle.ca_program.specs.declared.program.OpId.{OpId}
-use Rattle.ca_program.specs.Plain.{PlainProgram}
+use Rattle.ca_program.specs.declared.program.FieldId.{FieldId}
+use Rattle.ca_program.specs.Plain.{PlainProgram, PlainMethod}
 use Rattle.ca_parallel.specs.Extents.{operation_body}
 use Rattle.ca_norm.specs.Terms.{PlainTerm, truth}
 use Rattle.ca_symbolic.specs.declared.running.Side.{Side}
@@ -39,5 +40,10 @@ demanded_by p op g fields = demanded_all p (begins p op g fields) (truth true) (
 abbrev pub is_heavy_by : PlainProgram → OpId → ℕ → List PlainTerm → Bool
 is_heavy_by p op g fields = list_any is_heavy (made_by p (begins p op g fields) (truth true) (operation_body p op))
 
-abbrev pub first_other_loop : PlainProgram → OpId → Option ℕ
-first_other_loop p op = other_loop_in (operation_body p op)
+abbrev pub params_of : Option PlainMethod → ℕ
+params_of None = 0
+params_of (Some m) = m.params
+
+-- the line of the first loop of an operation, of an extent that writes these fields, that is neither a call loop nor a sweep
+abbrev pub first_other_loop : PlainProgram → List FieldId → OpId → Option ℕ
+first_other_loop p written op = other_loop_in (params_of (slice_get p.ops op.0)) written (operation_body p op)

@@ -3,7 +3,7 @@ use Rattle.std.specs.Prelude.{ℕ, zero, suc, List, ◌≡◌, refl}
 use Rattle.std.specs.Coded.{Coded, code_by, coded_list, coded×, coded_ℕ}
 use Rattle.ca_norm.specs.Terms.{PlainTerm}
 use Rattle.ca_shared_terms.specs.Codes.{coded_term}
-use Rattle.ca_symbolic.specs.States.{State, DemandKind, not_null, in_range, calls, invokes, loops, PlainDemand}
+use Rattle.ca_symbolic.specs.States.{State, DemandKind, not_null, in_range, calls, invokes, loops, sweeps, PlainDemand}
 use Rattle.ca_symbolic.specs.Demanded.{Demanded}
 
 abbrev pub coded_state : Coded State
@@ -17,13 +17,15 @@ kind_numbers (in_range f) = (1, (f.class.0, f.field))
 kind_numbers (calls m) = (2, (m.0, 0))
 kind_numbers (invokes op) = (3, (op.0, 0))
 kind_numbers (loops site) = (4, (site.0, 0))
+kind_numbers (sweeps f) = (5, (f.class.0, f.field))
 
 abbrev pub kind_by : ℕ → ℕ → ℕ → DemandKind
 kind_by zero m n = not_null
 kind_by (suc zero) m n = in_range (record { class = record { 0 = m }; field = n })
 kind_by (suc (suc zero)) m n = calls (record { 0 = m })
 kind_by (suc (suc (suc zero))) m n = invokes (record { 0 = m })
-kind_by (suc (suc (suc (suc k)))) m n = loops (record { 0 = m })
+kind_by (suc (suc (suc (suc zero)))) m n = loops (record { 0 = m })
+kind_by (suc (suc (suc (suc (suc k))))) m n = sweeps (record { class = record { 0 = m }; field = n })
 
 abbrev pub kind_from : ℕ × (ℕ × ℕ) → DemandKind
 kind_from p = kind_by p.0 p.1.0 p.1.1
@@ -34,6 +36,7 @@ kind_back (in_range f) = refl
 kind_back (calls m) = refl
 kind_back (invokes op) = refl
 kind_back (loops site) = refl
+kind_back (sweeps f) = refl
 
 abbrev pub coded_kind : Coded DemandKind
 coded_kind = code_by (ℕ × (ℕ × ℕ)) (coded× coded_ℕ (coded× coded_ℕ coded_ℕ)) kind_numbers kind_from kind_back

@@ -16,16 +16,17 @@ pub record State : Type 0 where
   pub locals : List PlainTerm
 
 -- What an execution may ask for: that a pointer is not null, that an index lies in a field that is an array, a call of a
--- value method, a call of an operation, and a call loop.
+-- value method, a call of an operation, a call loop, and that a range lies in a field that is an array.
 pub data DemandKind : Type 0 where
   not_null : DemandKind
   in_range : FieldId → DemandKind
   calls : FunctionId → DemandKind
   invokes : OpId → DemandKind
   loops : LoopId → DemandKind
+  sweeps : FieldId → DemandKind
 
 -- A demand, under the condition of the path to it. Its parts are the pointer; the index; the receiver and then the
--- arguments; or the values of the locals that a loop reads.
+-- arguments; the values of the locals that a loop reads; or the bounds of a range.
 pub record PlainDemand : Type 0 where
   pub guard : PlainTerm
   pub kind : DemandKind

@@ -12,7 +12,7 @@ use std::marker::Model;
 use std::mem;
 
 /// What is demanded: that a pointer is not null, that an index lies in an array, a call of a value method, a call of an
-/// operation, or a loop of calls.
+/// operation, a loop of calls, or that a range lies in an array.
 #[derive(Clone, Copy)]
 pub enum DemandKind {
     NotNull,
@@ -20,10 +20,11 @@ pub enum DemandKind {
     Calls(FunctionId),
     Invokes(OpId),
     Loops(LoopId),
+    Sweeps(FieldId),
 }
 
-/// A demand. Its parts are the pointer; the index; the receiver and then the arguments; or what the locals hold that a
-/// loop reads.
+/// A demand. Its parts are the pointer; the index; the receiver and then the arguments; what the locals hold that a
+/// loop reads; or the bounds of the range.
 #[derive(Drop)]
 pub struct Demand {
     pub kind: DemandKind,

@@ -1,15 +1,16 @@
-//! The first loop of a body that is no loop of calls.
+//! The first loop of a body that is neither a loop of calls nor a sweep.
 
-ghost use Rattle.std.specs.Prelude.{◌≡◌, ℕ, ◌&&◌};
-ghost use Rattle.ca_tree.specs.declared.tree.AssignOp.TheVariants.{Put, Add};
-ghost use Rattle.ca_tree.specs.declared.tree.BinaryOp.TheVariants.{Less, Plus};
+ghost use Rattle.std.specs.Prelude.{◌≡◌, ℕ, ◌&&◌, if◌then◌else◌, None};
+ghost use Rattle.ca_tree.specs.declared.tree.BinaryOp.TheVariants.{Less};
 ghost use Rattle.ca_program.specs.declared.program.LocalId.{LocalId};
 ghost use Rattle.ca_program.specs.declared.program.FirstPart.TheVariants.{Declares};
-ghost use Rattle.ca_program.specs.Plain.{Expression, binary, put_local, block};
+ghost use Rattle.ca_program.specs.Plain.{Expression, binary, block};
 ghost use Rattle.ca_program.specs.View.{expression_view, statement_view, statements_view};
-ghost use Rattle.ca_symbolic.specs.OtherLoops.{counter_of, compares, counts_up, is_call, are_calls, calls_alone, counts, is_call_loop, other_loop, other_loop_in};
+ghost use Rattle.ca_sweep.specs.Found.{sweep_in};
+ghost use Rattle.ca_symbolic.specs.OtherLoops.{counter_of, compares, is_call, are_calls, calls_alone, counts, is_call_loop, if_no_sweep, other_loop, other_loop_in};
 
-use ca_program::{AssignOp, BinaryOp, Expr, FirstPart, LocalId, Stmt, StmtForm};
+use ca_program::{AssignOp, BinaryOp, Expr, FieldId, FirstPart, LocalId, Stmt, StmtForm};
+use ca_sweep::{counts_up, sweep_of};
 
 /// The local that a statement puts, without an operator.
 fn put_by(s: &Stmt) -> Option<LocalId>
@@ -47,67 +48,6 @@ fn compares(c: &Expr, i: LocalId) -> bool
 {
     match c {
         Expr::Binary(BinaryOp::Less, a, _) => is_left(a, i),
-        _ => false,
-    }
-}
-
-/// Whether `l += e` adds one to the counter.
-fn adds_one(l: LocalId, e: &Expr, i: LocalId) -> bool
-    ensures { (line : ℕ) → result ≡ counts_up (put_local line l Add (expression_view e.now)) i }
-{
-    match e {
-        Expr::Number(n) => l.0 == i.0 && *n == 1,
-        _ => false,
-    }
-}
-
-/// Whether `l = a + b` does.
-fn puts_sum(l: LocalId, a: &Expr, b: &Expr, i: LocalId) -> bool
-    ensures { (line : ℕ) → result ≡ counts_up (put_local line l Put (binary Plus (expression_view a.now) (expression_view b.now))) i }
-{
-    match (a, b) {
-        (Expr::Local(m), Expr::Number(n)) => l.0 == i.0 && (m.0 == i.0 && *n == 1),
-        _ => false,
-    }
-}
-
-/// Whether `l = a op b` does.
-fn puts_operation(l: LocalId, op: BinaryOp, a: &Expr, b: &Expr, i: LocalId) -> bool
-    ensures { (line : ℕ) → result ≡ counts_up (put_local line l Put (binary op (expression_view a.now) (expression_view b.now))) i }
-{
-    match op {
-        BinaryOp::Plus => puts_sum(l, a, b, i),
-        _ => false,
-    }
-}
-
-/// Whether `l = e` does.
-fn puts_one_more(l: LocalId, e: &Expr, i: LocalId) -> bool
-    ensures { (line : ℕ) → result ≡ counts_up (put_local line l Put (expression_view e.now)) i }
-{
-    match e {
-        Expr::Binary(op, a, b) => puts_operation(l, *op, a, b, i),
-        _ => false,
-    }
-}
-
-/// Whether a put does.
-fn counts_by(l: LocalId, op: AssignOp, e: &Expr, i: LocalId) -> bool
-    ensures { (line : ℕ) → result ≡ counts_up (put_local line l op (expression_view e.now)) i }
-{
-    match op {
-        AssignOp::Add => adds_one(l, e, i),
-        AssignOp::Put => puts_one_more(l, e, i),
-        _ => false,
-    }
-}
-
-/// Whether the last part of a `for` counts up by one.
-fn counts_up(s: &Stmt, i: LocalId) -> bool
-    ensures { result ≡ counts_up (statement_view s.now) i }
-{
-    match &s.kind {
-        StmtForm::PutLocal(l, op, e) => counts_by(*l, *op, e, i),
         _ => false,
     }
 }
@@ -183,36 +123,44 @@ pub fn is_call_loop(s: &Stmt) -> bool
     }
 }
 
-/// The line of the first loop in a statement that is no loop of calls.
+/// The line of a `for` that is neither a loop of calls nor a sweep.
+fn line_of_loop(params: u32, written: &[FieldId], s: &Stmt) -> Option<u32>
+    ensures { result ≡ (if is_call_loop (statement_view s.now) then None else if_no_sweep (sweep_in params written.now (statement_view s.now)) s.now.line) }
+{
+    if is_call_loop(s) {
+        return None;
+    }
+    match sweep_of(params, written, s) {
+        Some(_) => None,
+        None => Some(s.line),
+    }
+}
+
+/// The line of the first loop in a statement that is neither a loop of calls nor a sweep, in a method with so many
+/// parameters, of an extent that writes these fields.
 #[cycle(other)]
-fn other_loop(s: &Stmt) -> Option<u32>
-    ensures { result ≡ other_loop (statement_view s.now) }
+fn other_loop(params: u32, written: &[FieldId], s: &Stmt) -> Option<u32>
+    ensures { result ≡ other_loop params written.now (statement_view s.now) }
 {
     match &s.kind {
-        StmtForm::Block(stmts) => other_loop_in(stmts),
-        StmtForm::If(_, yes, no) => match other_loop(yes) {
+        StmtForm::Block(stmts) => other_loop_in(params, written, stmts),
+        StmtForm::If(_, yes, no) => match other_loop(params, written, yes) {
             Some(line) => Some(line),
-            None => other_loop(no),
+            None => other_loop(params, written, no),
         },
         StmtForm::While(..) => Some(s.line),
-        StmtForm::For(_, part, first, c, next, body) => {
-            if are_of_call_loop(*part, first, c, next, body) {
-                None
-            } else {
-                Some(s.line)
-            }
-        }
+        StmtForm::For(..) => line_of_loop(params, written, s),
         _ => None,
     }
 }
 
 /// That of the first of these statements that has one.
 #[cycle(other)]
-pub fn other_loop_in(stmts: &[Stmt]) -> Option<u32>
-    ensures { result ≡ other_loop_in (statements_view stmts.now) }
+pub fn other_loop_in(params: u32, written: &[FieldId], stmts: &[Stmt]) -> Option<u32>
+    ensures { result ≡ other_loop_in params written.now (statements_view stmts.now) }
 {
     'statements: for s in stmts {
-        if let Some(line) = other_loop(s) {
+        if let Some(line) = other_loop(params, written, s) {
             return Some(line);
         }
     }

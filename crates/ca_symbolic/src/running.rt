@@ -11,7 +11,7 @@ use crate::demand::Demands;
 use crate::loops::other_loop_in;
 use crate::state::SymState;
 use crate::walk::run_all;
-use ca_program::{OpId, Program};
+use ca_program::{FieldId, OpId, Program};
 use ca_shared_terms::ExecutionError;
 use std::alloc::{AllocError, Global};
 
@@ -37,7 +37,7 @@ impl Side {
 /// Why a symbolic execution stopped.
 #[derive(Clone, Copy)]
 pub enum SymbolicError {
-    /// A loop is no loop of calls; it stands on this line.
+    /// A loop is neither a loop of calls nor a sweep; it stands on this line.
     LoopForm(u32),
     /// A term weighs more than `MOST_WEIGHT`.
     Large,
@@ -54,20 +54,23 @@ impl From<AllocError> for SymbolicError {
     }
 }
 
-/// The line of the first loop of an operation that is no loop of calls. It takes no memory.
-pub fn other_loop(program: &Program, op: OpId) -> Option<u32>
+/// The line of the first loop of an operation, of an extent that writes these fields, that is neither a loop of calls nor a
+/// sweep. It takes no memory.
+pub fn other_loop(program: &Program, written: &[FieldId], op: OpId) -> Option<u32>
     requires { op.0 < length program.now.ops.items }
-    ensures { result ≡ first_other_loop (program_view program.now) op }
+    ensures { result ≡ first_other_loop (program_view program.now) written.now op }
 {
-    other_loop_in(&program.op(op).body.stmts)
+    let method = program.op(op);
+    other_loop_in(method.params, written, &method.body.stmts)
 }
 
-/// Runs an operation on a state: it finds the fields as they are, its locals begin anew, and its parameters are the
-/// atoms of its side. What it demands comes behind what was demanded before. After an error nothing is said of the state
-/// and of what was demanded.
+/// Runs an operation, of an extent that writes these fields, on a state: it finds the fields as they are, its locals begin
+/// anew, and its parameters are the atoms of its side. What it demands comes behind what was demanded before. After an error
+/// nothing is said of the state and of what was demanded.
 pub fn symbolic(
     alloc: Global,
     program: &Program,
+    written: &[FieldId],
     op: OpId,
     side: Side,
     state: &mut SymState,
@@ -78,11 +81,11 @@ pub fn symbolic(
     ensures state { OnOk result (state.new ≡ executed (program_view program.now) op (group_of side) state.old.fields) }
     ensures demands { OnOk result (demands.new ≡ with_demands demands.old (demanded_by (program_view program.now) op (group_of side) state.old.fields)) }
     ensures light { OnOk result (is_heavy_by (program_view program.now) op (group_of side) state.old.fields ≡ false) }
-    ensures call_loops { OnOk result (first_other_loop (program_view program.now) op ≡ None) }
-    ensures loop_form { (n : ℕ) → result ≡ Err (LoopForm n) → first_other_loop (program_view program.now) op ≡ Some n }
-    ensures large { result ≡ Err Large → (first_other_loop (program_view program.now) op ≡ None) × (is_heavy_by (program_view program.now) op (group_of side) state.old.fields ≡ true) }
+    ensures call_loops { OnOk result (first_other_loop (program_view program.now) written.now op ≡ None) }
+    ensures loop_form { (n : ℕ) → result ≡ Err (LoopForm n) → first_other_loop (program_view program.now) written.now op ≡ Some n }
+    ensures large { result ≡ Err Large → (first_other_loop (program_view program.now) written.now op ≡ None) × (is_heavy_by (program_view program.now) op (group_of side) state.old.fields ≡ true) }
 {
-    if let Some(line) = other_loop(program, op) {
+    if let Some(line) = other_loop(program, written, op) {
         return Err(SymbolicError::LoopForm(line));
     }
     let method = program.op(op);

@@ -7,12 +7,13 @@ ghost use Rattle.ca_program.specs.View.{expression_view, expressions_view, state
 ghost use Rattle.ca_norm.specs.Terms.{not};
 ghost use Rattle.ca_meaning.specs.Operators.{not_of};
 ghost use Rattle.ca_symbolic.specs.States.{demand, not_null, invokes, loops};
-ghost use Rattle.ca_symbolic.specs.Execution.{choose_if, choices, field_target, local_target, joined_state, term_of, after, after_all};
-ghost use Rattle.ca_symbolic.specs.Demands.{then_guard, else_guard, is_counter, picked, terms_in, demands_in, demands_in_all, demanded, demanded_all};
+ghost use Rattle.ca_sweep.specs.Found.{sweep_at};
+ghost use Rattle.ca_symbolic.specs.Execution.{choose_if, choices, field_target, local_target, joined_state, term_of, after_loop, after, after_all};
+ghost use Rattle.ca_symbolic.specs.Demands.{then_guard, else_guard, is_counter, picked, loop_reads, terms_in, demands_in, demands_in_all, demanded_loop, demanded, demanded_all};
 ghost use Rattle.ca_symbolic.specs.Made.{targets, joined_terms};
 ghost use Rattle.ca_symbolic.specs.Demanded.{with_demands, under};
 ghost use Rattle.ca_symbolic.specs.clauses.Places.{is_marked, is_read, one_if};
-ghost use Rattle.ca_symbolic.specs.clauses.Refusals.{refused, refused_all, refused_by, refused_by_all};
+ghost use Rattle.ca_symbolic.specs.clauses.Refusals.{refused, refused_all, refused_loop, refused_by, refused_by_all};
 ghost use Rattle.ca_shared_terms.specs.Heavy.{is_heavy};
 
 use crate::carried::{leaf, together};
@@ -21,9 +22,11 @@ use crate::evaluate::{ask_call, enter, enter_opposite, value_of, values_of};
 use crate::places::{mark_fields, mark_locals, mark_named, unmarked};
 use crate::puts::{put_field, put_item, put_local};
 use crate::state::SymState;
+use crate::sweeps::sweep;
 use ca_forms::parts::{add, both};
 use ca_program::{Expr, LoopId, OpId, Program, Stmt, StmtForm};
 use ca_shared_terms::{ExecutionError, LightTerm};
+use ca_sweep::sweep_at;
 use std::alloc::{AllocError, Global};
 use std::mem;
 
@@ -305,6 +308,28 @@ fn ask_loop(
     leaf(out.push(DemandKind::Loops(site), parts))
 }
 
+/// Runs a loop: a sweep, or else a loop of calls, which is demanded alone.
+fn run_loop(
+    alloc: Global,
+    program: &Program,
+    site: LoopId,
+    s: &Stmt,
+    first: &Stmt,
+    state: &mut SymState,
+    out: &mut Demands,
+) -> Result<(), ExecutionError>
+    requires reads { loop_reads (statement_view s.now) ≡ is_read (statement_view s.now) (statement_view first.now) }
+    ensures after { OnOk result (state.new ≡ after_loop (program_view program.now) state.old (sweep_at (statement_view s.now))) }
+    ensures demands { OnOk result (out.new ≡ with_demands out.old (demanded_loop (program_view program.now) state.old out.old.guard site (statement_view s.now) (sweep_at (statement_view s.now)))) }
+    ensures light { OnOk result (refused_loop (program_view program.now) state.old out.old.guard (statement_view s.now) (sweep_at (statement_view s.now)) ≡ false) }
+    ensures large { result ≡ Err ExecutionError.Large → refused_loop (program_view program.now) state.old out.old.guard (statement_view s.now) (sweep_at (statement_view s.now)) ≡ true }
+{
+    match sweep_at(s) {
+        Some(w) => sweep(alloc, program, w, state, out),
+        None => ask_loop(alloc, site, s, first, state, out),
+    }
+}
+
 /// Runs a statement on the state. What it demands comes behind what was demanded before.
 #[cycle(run)]
 #[tactic(auto, using(crate::proofs::Flags::neither, crate::proofs::Flags::first_of, crate::proofs::Flags::second_of))]
@@ -334,7 +359,9 @@ fn run(
             let second = together(fork, run(alloc, program, no, state, out))?;
             end_if(alloc, second.0, yes, no, state, out)
         }
-        StmtForm::For(site, _, first, _, _, _) => ask_loop(alloc, *site, s, first, state, out),
+        StmtForm::For(site, _, first, _, _, _) => run_loop(
+            alloc, program, *site, s, first, state, out,
+        ),
         _ => Ok(()),
     }
 }

@@ -1,5 +1,5 @@
 -- What statements leave alone, and what a choice of two lists of terms is.
-use Rattle.std.proofs.Common.{◌≡◌, ℕ, zero, suc, ◌+◌, Bool, true, false, List, [], ◌∷◌, ◌++◌, length, Some, refl, sym, ap, ◌∙◌, arith, slice_set, add-zero, zero-add}
+use Rattle.std.proofs.Common.{◌≡◌, ℕ, zero, suc, ◌+◌, Bool, true, false, List, [], ◌∷◌, ◌++◌, length, Option, Some, None, refl, sym, ap, ◌∙◌, arith, slice_set, add-zero, zero-add}
 use Rattle.std.specs.Prelude.{slice_get, ◌||◌, nat_eq}
 use Rattle.std.specs.List.{list_any}
 use Rattle.std.proofs.lemmas.Bool.Decides.{nat_tests}
@@ -9,7 +9,11 @@ use Rattle.ca_program.specs.Plain.{PlainProgram, Statement, Statements, block, p
 use Rattle.ca_parallel.specs.Bodies.{targets_of, targets_of_all}
 use Rattle.ca_norm.specs.Terms.{PlainTerm}
 use Rattle.ca_symbolic.specs.States.{State}
-use Rattle.ca_symbolic.specs.Execution.{term_of, puts_local, any_puts_local, puts_field, choose_if, choices, after, after_all}
+use Rattle.ca_symbolic.specs.Execution.{term_of, puts_local, any_puts_local, puts_field, choose_if, choices, after_loop, after, after_all}
+use Rattle.ca_sweep.specs.Sweeps.{PlainSweep}
+use Rattle.ca_sweep.specs.Found.{sweep_at}
+use Rattle.ca_sweep.proofs.Finding.{forms_are_sweeps}
+use Rattle.ca_symbolic_laws.proofs.SweepForms.{sweep_targets}
 
 pub or_false : (a b : Bool) → a || b ≡ false → (a ≡ false) × (b ≡ false)
 or_false true b e = cc
@@ -80,6 +84,15 @@ one_target f n e = at (nat_eq f.field n) e
 parted : (xs ys : List FieldId) (n : ℕ) → list_any (λ g. nat_eq g.field n) (xs ++ ys) ≡ false → list_any (λ g. nat_eq g.field n) xs || list_any (λ g. nat_eq g.field n) ys ≡ false
 parted xs ys n e = sym (list_any-append (λ g. nat_eq g.field n) xs ys) ∙ e
 
+loop_fields_kept : (p : PlainProgram) (x : Statement) (st : State) (o : Option PlainSweep) → sweep_at x ≡ o → Kept (puts_field x) st.fields (after_loop p st o).fields
+loop_fields_kept p x st None e = kept_all _ st.fields
+loop_fields_kept p x st (Some w) e =
+    kept_less _ _ _ _ (λ n h. one_target w.field n (sym (ap (list_any (λ g. nat_eq g.field n)) (sweep_targets w x (forms_are_sweeps x w e).0)) ∙ h)) (kept_set st.fields w.field.field _)
+
+loop_locals_kept : (p : PlainProgram) (is_put : ℕ → Bool) (st : State) (o : Option PlainSweep) → Kept is_put st.locals (after_loop p st o).locals
+loop_locals_kept p is_put st None = kept_all _ st.locals
+loop_locals_kept p is_put st (Some w) = kept_all _ st.locals
+
 module _ (p : PlainProgram) where
   mutual
     pub fields_kept : (x : Statement) (st : State) → Kept (puts_field x) st.fields (after p st x).fields
@@ -93,7 +106,7 @@ module _ (p : PlainProgram) where
     fields_kept (new_item line f i c) st = kept_all _ st.fields
     fields_kept (invoke line e op es) st = kept_all _ st.fields
     fields_kept (while_loop line c b) st = kept_all _ st.fields
-    fields_kept (for_loop line site part first c next b) st = kept_all _ st.fields
+    fields_kept (for_loop line site part first c next b) st = loop_fields_kept p (for_loop line site part first c next b) st (sweep_at (for_loop line site part first c next b)) refl
     fields_kept (return_value line e) st = kept_all _ st.fields
     fields_kept (print_value line e) st = kept_all _ st.fields
 
@@ -113,7 +126,7 @@ module _ (p : PlainProgram) where
     locals_kept (new_item line f i c) st = kept_all _ st.locals
     locals_kept (invoke line e op es) st = kept_all _ st.locals
     locals_kept (while_loop line c b) st = kept_all _ st.locals
-    locals_kept (for_loop line site part first c next b) st = kept_all _ st.locals
+    locals_kept (for_loop line site part first c next b) st = loop_locals_kept p (puts_local (for_loop line site part first c next b)) st (sweep_at (for_loop line site part first c next b))
     locals_kept (return_value line e) st = kept_all _ st.locals
     locals_kept (print_value line e) st = kept_all _ st.locals
 

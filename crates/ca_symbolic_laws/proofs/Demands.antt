@@ -1,5 +1,5 @@
 -- What lists of demands take and list.
-use Rattle.std.proofs.Common.{◌≡◌, true, false, List, [], ◌∷◌, ◌++◌, map, Some, refl, sym, ap, ap₂, ◌∙◌, append_assoc}
+use Rattle.std.proofs.Common.{◌≡◌, true, false, List, [], ◌∷◌, ◌++◌, map, Option, Some, None, refl, sym, ap, ap₂, ◌∙◌, append_assoc}
 use Rattle.ca_program.specs.Plain.{PlainProgram, Expression, Expressions, this, local, own, own_item, read_item, value_call, unary, binary, no_expressions, expression_and, Statement, Statements, block, put_local, put_field, put_item, new_local, new_field, new_item, invoke, if_else, while_loop, for_loop, return_value, print_value, no_statements, statement_and}
 use Rattle.ca_program.specs.Plain as plain
 use Rattle.ca_model.specs.declared.value.Value.{Value as Datum}
@@ -9,7 +9,10 @@ use Rattle.ca_norm.specs.Meanings.{Valuation, mean}
 use Rattle.ca_norm.specs.Environments.{Environment}
 use Rattle.ca_symbolic.specs.States.{State, DemandKind, not_null, in_range, calls, PlainDemand, demand}
 use Rattle.ca_symbolic.specs.Execution.{term_of, after}
-use Rattle.ca_symbolic.specs.Demands.{terms_in, then_guard, demands_in, demands_in_all, demanded, demanded_all}
+use Rattle.ca_symbolic.specs.Demands.{terms_in, then_guard, demands_in, demands_in_all, demanded_loop, demanded, demanded_all}
+use Rattle.ca_program.specs.declared.program.LoopId.{LoopId}
+use Rattle.ca_sweep.specs.Sweeps.{PlainSweep}
+use Rattle.ca_sweep.specs.Found.{sweep_at}
 use Rattle.ca_symbolic_laws.specs.Costs.{plus}
 use Rattle.ca_symbolic_laws.specs.Demanded.{kind_cost, kind_lists, if_true, demand_cost, demand_lists, cost, lists}
 use Rattle.ca_symbolic_laws.proofs.Budgets.{plus_none, none_plus, plus_assoc}
@@ -121,6 +124,10 @@ module _ (s : Environment) (v : Valuation) where
       quiet_all no_expressions g = refl
       quiet_all (expression_and e es) g = lists_append (demands_in p st g e) _ ∙ nothing _ _ (quiet e g) (quiet_all es g)
 
+  off_loop : (p : PlainProgram) (st : State) (g : PlainTerm) (site : LoopId) (x : Statement) (o : Option PlainSweep) → is_true (mean v g) ≡ false → Off (demanded_loop p st g site x o)
+  off_loop p st g site x None h = off_more g _ _ [] h off_none
+  off_loop p st g site x (Some w) h = off_more g _ _ [] h off_none
+
   module _ (p : PlainProgram) where
     mutual
       -- nor does a statement under such a guard
@@ -134,7 +141,7 @@ module _ (s : Environment) (v : Valuation) where
       off_statement st (if_else line c a b) g h =
           off_append (demands_in p st g c) _ (off_expression p st c g h)
           (off_append (demanded p st (then_guard g (term_of p st c)) a) _ (off_statement st a _ (guard_off (mean v g) (mean v (term_of p st c)) h)) (off_statement st b _ (guard_off (mean v g) (mean v (not (term_of p st c))) h)))
-      off_statement st (for_loop line site part first c next b) g h = off_more g _ _ [] h off_none
+      off_statement st (for_loop line site part first c next b) g h = off_loop p st g site (for_loop line site part first c next b) (sweep_at (for_loop line site part first c next b)) h
       off_statement st (while_loop line c b) g h = off_none
       off_statement st (new_local line l c) g h = off_none
       off_statement st (new_field line f c) g h = off_none

@@ -25,12 +25,13 @@ use Rattle.ca_parallel.specs.Separable.{IsClean, AreClean}
 use Rattle.ca_norm.specs.Terms.{PlainTerm}
 use Rattle.ca_norm.specs.Meanings.{Valuation, operate, mean, means}
 use Rattle.ca_norm.specs.Environments.{Environment}
+use Rattle.ca_sweep.specs.Means.{length_in}
 use Rattle.ca_symbolic.specs.States.{State, not_null, in_range, calls, term_at}
 use Rattle.ca_symbolic.specs.Execution.{sort_in, sort_of_result, term_of, terms_of}
 use Rattle.ca_symbolic.specs.Demands.{terms_in, right_guard, demands_in, demands_in_all}
 use Rattle.ca_symbolic_laws.specs.Costs.{plus, left, with_left, value_of, hidden}
 use Rattle.ca_symbolic_laws.specs.Meant.{item_meant, items_meant, slot_meant, slots_meant, FieldsTyped}
-use Rattle.ca_symbolic_laws.specs.Demanded.{names_object, length_in, is_index, call_cost, cost}
+use Rattle.ca_symbolic_laws.specs.Demanded.{names_object, is_index, call_cost, cost}
 use Rattle.ca_symbolic_laws.specs.Laws.{fields_in, Typed, StateTyped, LocalsAre}
 use Rattle.ca_symbolic_laws.proofs.Budgets.{free, plus_none, none_plus, then_value}
 use Rattle.ca_symbolic_laws.proofs.Indexes.{number_of, place_of, found_if, no_less, more_less, both_less, ItemsAre, indexed_is}

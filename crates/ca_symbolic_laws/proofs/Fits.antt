@@ -34,7 +34,7 @@ module _ (s : Environment) (m : PlainMethod) (written : List FieldId) (is_counte
   pub record Fits (called : Bool) (x : Statement) : Type 0 where
     pub typed : StatementTyped s.program (scope_of m) x
     pub separated : IsSeparated s.program written called x
-    pub known : other_loop x ≡ None
+    pub known : other_loop m.params written x ≡ None
     pub puts : (f : FieldId) → Contains (targets_of x) f → Contains written f
     pub inside : (y : Statement) → Contains (fors_in x) y → Contains all y
     pub counted : (n : ℕ) → counts x n ≡ true → is_counter n ≡ true
@@ -43,7 +43,7 @@ module _ (s : Environment) (m : PlainMethod) (written : List FieldId) (is_counte
   pub record FitAll (called : Bool) (xs : Statements) : Type 0 where
     pub typed : StatementsTyped s.program (scope_of m) xs
     pub separated : AreSeparated s.program written called xs
-    pub known : other_loop_in xs ≡ None
+    pub known : other_loop_in m.params written xs ≡ None
     pub puts : (f : FieldId) → Contains (targets_of_all xs) f → Contains written f
     pub inside : (y : Statement) → Contains (fors_in_all xs) y → Contains all y
     pub counted : (n : ℕ) → any_counts xs n ≡ true → is_counter n ≡ true
@@ -56,7 +56,7 @@ module _ (s : Environment) (m : PlainMethod) (written : List FieldId) (is_counte
   at_head called x xs f = record {
     typed = f.typed.0;
     separated = f.separated.0;
-    known = first_none (other_loop x) (other_loop_in xs) f.known;
+    known = first_none (other_loop m.params written x) (other_loop_in m.params written xs) f.known;
     puts = λ g c. f.puts g (Contains-append_left (targets_of x) (targets_of_all xs) g c);
     inside = λ y c. f.inside y (Contains-append_left (fors_in x) (fors_in_all xs) y c);
     counted = λ n e. f.counted n (or_first (counts x n) (any_counts xs n) e);
@@ -67,7 +67,7 @@ module _ (s : Environment) (m : PlainMethod) (written : List FieldId) (is_counte
   in_tail called x xs f = record {
     typed = f.typed.1;
     separated = f.separated.1;
-    known = second_none (other_loop x) (other_loop_in xs) f.known;
+    known = second_none (other_loop m.params written x) (other_loop_in m.params written xs) f.known;
     puts = λ g c. f.puts g (Contains-append_right (targets_of x) (targets_of_all xs) g c);
     inside = λ y c. f.inside y (Contains-append_right (fors_in x) (fors_in_all xs) y c);
     counted = λ n e. f.counted n (or_second (counts x n) (any_counts xs n) e);
@@ -81,7 +81,7 @@ module _ (s : Environment) (m : PlainMethod) (written : List FieldId) (is_counte
   in_then called line c a b f = record {
     typed = f.typed.1;
     separated = f.separated.1;
-    known = first_none (other_loop a) (other_loop b) f.known;
+    known = first_none (other_loop m.params written a) (other_loop m.params written b) f.known;
     puts = λ g k. f.puts g (Contains-append_left (targets_of a) (targets_of b) g k);
     inside = λ y k. f.inside y (Contains-append_left (fors_in a) (fors_in b) y k);
     counted = λ n e. f.counted n (or_first (counts a n) (counts b n) e);
@@ -92,7 +92,7 @@ module _ (s : Environment) (m : PlainMethod) (written : List FieldId) (is_counte
   in_else called line c a b f = record {
     typed = f.typed.2;
     separated = f.separated.2;
-    known = second_none (other_loop a) (other_loop b) f.known;
+    known = second_none (other_loop m.params written a) (other_loop m.params written b) f.known;
     puts = λ g k. f.puts g (Contains-append_right (targets_of a) (targets_of b) g k);
     inside = λ y k. f.inside y (Contains-append_right (fors_in a) (fors_in b) y k);
     counted = λ n e. f.counted n (or_second (counts a n) (counts b n) e);

@@ -7,8 +7,12 @@ pub mod Selects
 pub mod Terms
 pub mod Demands
 pub mod Expressions
+pub mod SweepForms
 pub mod Choices
 pub mod Assigned
+pub mod SweepPlaces
+pub mod SweepTerms
+pub mod SweepMeans
 pub mod Typings
 pub mod Slots
 pub mod Flows

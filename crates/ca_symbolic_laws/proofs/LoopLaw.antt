@@ -1,5 +1,5 @@
 -- Each call loop of a body does what its demand means.
-use Rattle.std.proofs.Common.{◌≡◌, ℕ, ◌≤◌, Bool, true, false, List, [], ◌∷◌, ◌++◌, length, map, Some, None, refl, sym, ap, ap₂, ◌∙◌, arith, subst, append-nil, zero-add, inl, inr, ⊎_elim}
+use Rattle.std.proofs.Common.{◌≡◌, ℕ, ◌≤◌, Bool, true, false, List, [], ◌∷◌, ◌++◌, length, map, Option, Some, None, refl, sym, ap, ap₂, ◌∙◌, arith, subst, append-nil, zero-add, inl, inr, ⊎_elim}
 use Rattle.std.specs.Prelude.{◌||◌, nat_eq, cond, if◌then◌else◌, ◌⊎◌, Contains}
 use Rattle.ca_tree.specs.declared.tree.AssignOp.TheVariants.{Put}
 use Rattle.ca_program.specs.declared.program.FieldId.{FieldId}
@@ -33,12 +33,20 @@ use Rattle.ca_parallel.specs.Separable.{is_some_of, holds_call}
 use Rattle.ca_norm.specs.Terms.{PlainTerm}
 use Rattle.ca_norm.specs.Meanings.{Valuation, mean}
 use Rattle.ca_norm.specs.Environments.{Environment}
-use Rattle.ca_symbolic.specs.States.{State, loops}
-use Rattle.ca_symbolic.specs.Demands.{loop_reads, loop_parts}
-use Rattle.ca_symbolic.specs.OtherLoops.{is_call_loop}
+use Rattle.ca_symbolic.specs.States.{State, loops, sweeps}
+use Rattle.ca_symbolic.specs.Execution.{term_of, with_field, sweep_term, after_loop}
+use Rattle.ca_sweep.specs.Sweeps.{PlainSweep}
+use Rattle.ca_sweep.specs.Found.{sweep_in, sweep_at}
+use Rattle.ca_sweep.proofs.Finding.{sweeps_are_wide, forms_are_sweeps}
+use Rattle.ca_symbolic_laws.proofs.SweepForms.{calls_sweep_nothing}
+use Rattle.ca_sweep.proofs.Shown.{shown_of}
+use Rattle.ca_symbolic_laws.proofs.SweepMeans.{means_of}
+use Rattle.ca_symbolic_laws.proofs.SweepTerms.{sweep_means}
+use Rattle.ca_symbolic.specs.Demands.{loop_reads, loop_parts, demanded_loop}
+use Rattle.ca_symbolic.specs.OtherLoops.{is_call_loop, if_no_sweep}
 use Rattle.ca_symbolic.proofs.CallLoops.{call_loops_are_told}
 use Rattle.ca_symbolic_laws.specs.Meant.{slots_meant}
-use Rattle.ca_symbolic_laws.specs.Demanded.{loop_at, spread_out, section_at, loop_within}
+use Rattle.ca_symbolic_laws.specs.Demanded.{loop_at, spread_out, section_at, loop_within, cost, lists}
 use Rattle.ca_symbolic_laws.specs.Laws.{fields_in, Typed, StateTyped, LocalsAre}
 use Rattle.ca_symbolic_laws.proofs.Runs.{Runs}
 use Rattle.ca_symbolic_laws.proofs.Choices.{or_false}
@@ -48,10 +56,6 @@ use Rattle.ca_symbolic_laws.proofs.Fits.{Fits}
 use Rattle.ca_symbolic_laws.proofs.Statements.{IsMeant, LoopsAreMeant}
 use Rattle.ca_symbolic_laws.proofs.LoopReads.{Begun, begun, begun_of, next_names, spread_at, spread_long, hidden_long, mapped_long, typed_long, reads_first, reads_condition, reads_body}
 use Rattle.ca_symbolic_laws.proofs.LoopsMeant.{loop_takes, lifted, lifted_left, alike_lifted, for_alike}
-
-told_loop : (line : ℕ) (b : Bool) → (if b then None else Some line) ≡ None → b ≡ true
-told_loop line true e = refl
-told_loop line false e = cc
 
 itself : (n : ℕ) → nat_eq n n ≡ true
 itself n = grind (arith, nat_tests)
@@ -95,6 +99,14 @@ module _ (s : Environment) (v : Valuation) (runs : Runs s v) (m : PlainMethod) (
   -- where a loop may stand: the constants are those of the heap
   abbrev pub Stands : State → Type 0
   Stands st = SameConstants m written (slots_meant v st.fields fs) (own_of s.heap me)
+
+  -- what a loop does, if it sweeps so
+  abbrev Meant : State → PlainTerm → List Datum → List Invocation → Statement → Option PlainSweep → ℕ → Type 0
+  Meant st g ls l (for_loop own site part first c next x) o k =
+      state_of t (exec (section_parts p s.heap me) own ls (record { own = slots_meant v st.fields fs; listed = l }) (for_loop own site part first c next x) k)
+      ≡ with_left (hidden t 0 (map (mean v) (after_loop p st o).locals), record { own = slots_meant v (after_loop p st o).fields fs; listed = l ++ lists s v (demanded_loop p st g site (for_loop own site part first c next x) o) })
+      (left (cost s v (demanded_loop p st g site (for_loop own site part first c next x) o)) k)
+  Meant st g ls l x o k = ⊥
 
   module _ (own : ℕ) (site : LoopId) (at : ℕ) (i : LocalId) (e c : Expression) (next x : Statement) (called : Bool) (f : Fits s m written t all called (for_loop own site Declares (put_local at i Put e) c next x))
       (ups : CountsUp next i) (calls : CallsAlone x) (st : State) (is : StateTyped s v m st) (stands : Stands st) (ls : List Datum) (same : LocalsAre v t ls st.locals) where
@@ -163,8 +175,8 @@ module _ (s : Environment) (v : Valuation) (runs : Runs s v) (m : PlainMethod) (
         (λ n q. or_left (names c n) _ q) (λ n q. or_right (names c n) _ (or_left (names_outside next n) _ q)) (λ n q. or_right (names c n) _ (or_right (names_outside next n) (names_outside x n) q))
         ls ms k same_long first_same rest_same same
 
-    pub for_is : Contains all loop → (g : PlainTerm) → mean v g ≡ Truth true → (l : List Invocation) (k : ℕ) → k ≤ s.steps → IsMeant s v runs m typed written t all st g ls l loop k
-    for_is inside g y l k b =
+    for_at : Contains all loop → (g : PlainTerm) → mean v g ≡ Truth true → (l : List Invocation) (k : ℕ) → k ≤ s.steps → Meant st g ls l loop None k
+    for_at inside g y l k b =
         let a : List Slot = slots_meant v st.fields fs in
         let seen : List Datum = hidden t 0 (map (mean v) st.locals) in
         let answer : LoopSectioned = loop_section p s.heap me ms own loop s.steps in
@@ -177,13 +189,40 @@ module _ (s : Environment) (v : Valuation) (runs : Runs s v) (m : PlainMethod) (
         (sym (ap (λ z. z ++ []) (told s v g (loops site) (loop_parts st loop) y) ∙ append-nil _ ∙ ap loop_lists here))
         (sym (one_asked s v g (loops site) (loop_parts st loop) y ∙ ap loop_steps here))
 
+    pub for_is : Contains all loop → (g : PlainTerm) → mean v g ≡ Truth true → (l : List Invocation) (k : ℕ) → k ≤ s.steps → IsMeant s v runs m typed written t all st g ls l loop k
+    for_is inside g y l k b = subst (λ o. Meant st g ls l loop o k) (sym (calls_sweep_nothing own site Declares (put_local at i Put e) c next x calls)) (for_at inside g y l k b)
+
   by_counter : (own : ℕ) (site : LoopId) (part : FirstPart) (first : Statement) (c : Expression) (next x : Statement) (i : LocalId) → Begun i part first → CountsUp next i → CallsAlone x → Contains all (for_loop own site part first c next x) → (called : Bool) → Fits s m written t all called (for_loop own site part first c next x) →
       (st : State) → StateTyped s v m st → Stands st → (g : PlainTerm) → mean v g ≡ Truth true → (ls : List Datum) → LocalsAre v t ls st.locals → (l : List Invocation) (k : ℕ) → k ≤ s.steps → IsMeant s v runs m typed written t all st g ls l (for_loop own site part first c next x) k
   by_counter own site _ _ c next x i (begun at j e q) ups calls inside called f st is stands g y ls same l k b =
       for_is own site at j e c next x called f (subst (CountsUp next) (sym q) ups) calls st is stands ls same inside g y l k b
 
-  -- each call loop of the body does what its demand means
+  sweep_meant : (own : ℕ) (site : LoopId) (part : FirstPart) (first : Statement) (c : Expression) (next x : Statement) (called : Bool) → Fits s m written t all called (for_loop own site part first c next x) →
+      (st : State) → StateTyped s v m st → (g : PlainTerm) → mean v g ≡ Truth true → (ls : List Datum) → LocalsAre v t ls st.locals → (l : List Invocation) (k : ℕ) → (w : PlainSweep) → sweep_at (for_loop own site part first c next x) ≡ Some w → Meant st g ls l (for_loop own site part first c next x) (Some w) k
+  sweep_meant own site part first c next x called f st is g y ls same l k w e =
+      let z = forms_are_sweeps (for_loop own site part first c next x) w e in
+      let asks : List PlainTerm = term_of p st w.from ∷ term_of p st w.to ∷ [] in
+      means_of s v runs m typed written called w (for_loop own site part first c next x) (shown_of w _ z.0) (record { is = z.0; sums = z.1; typed = f.typed; separated = f.separated }) st is t f.counted f.apart (sweep_term p st w) (sweep_means s v st w) ls same l own k
+      ∙ ap₂ (λ a b. with_left (hidden t 0 (map (mean v) st.locals), record { own = slots_meant v (with_field st w.field.field (sweep_term p st w)).fields fs; listed = a }) (left b k))
+      (sym (ap (λ a. l ++ (a ++ [])) (told s v g (sweeps w.field) asks y) ∙ append-nil l)) (sym (one_asked s v g (sweeps w.field) asks y))
+
+  -- where nothing is swept, the loop is a call loop
+  call_known : (b : Bool) (o : Option PlainSweep) (line : ℕ) → (if b then None else if_no_sweep o line) ≡ None → o ≡ None → b ≡ true
+  call_known true o line e h = refl
+  call_known false None line e h = cc
+  call_known false (Some w) line e h = cc
+
+  not_in : (params : ℕ) (x : Statement) → sweep_at x ≡ None → (o : Option PlainSweep) → sweep_in params written x ≡ o → o ≡ None
+  not_in params x e None h = refl
+  not_in params x e (Some w) h = let no : None ≡ Some w = sym e ∙ sweeps_are_wide params written x w h in cc
+
+  -- each loop of the body does what its demand means
   pub loops_are_meant : LoopsAreMeant s v runs m typed written t all Stands
-  loops_are_meant own site part first c next x inside called f st is stands g y ls same l k b =
-      let call : IsCallLoopOf part first c next x = (call_loops_are_told (for_loop own site part first c next x)).0 (told_loop own (is_call_loop (for_loop own site part first c next x)) f.known) in
-      by_counter own site part first c next x call.counter (begun_of part first call.counter call.begins) call.counts call.calls inside called f st is stands g y ls same l k b
+  loops_are_meant own site part first c next x inside called f st is stands g y ls same l k b = by (sweep_at (for_loop own site part first c next x)) refl
+    where
+      by : (o : Option PlainSweep) → sweep_at (for_loop own site part first c next x) ≡ o → IsMeant s v runs m typed written t all st g ls l (for_loop own site part first c next x) k
+      by (Some w) e = subst (λ o. Meant st g ls l (for_loop own site part first c next x) o k) (sym e) (sweep_meant own site part first c next x called f st is g y ls same l k w e)
+      by None e =
+          let known : is_call_loop (for_loop own site part first c next x) ≡ true = call_known (is_call_loop (for_loop own site part first c next x)) (sweep_in m.params written (for_loop own site part first c next x)) own f.known (not_in m.params (for_loop own site part first c next x) e (sweep_in m.params written (for_loop own site part first c next x)) refl) in
+          let call : IsCallLoopOf part first c next x = (call_loops_are_told (for_loop own site part first c next x)).0 known in
+          by_counter own site part first c next x call.counter (begun_of part first call.counter call.begins) call.counts call.calls inside called f st is stands g y ls same l k b

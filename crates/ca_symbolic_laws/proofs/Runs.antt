@@ -30,10 +30,11 @@ use Rattle.ca_norm.specs.Meanings.{Valuation, mean}
 use Rattle.ca_norm.specs.Environments.{Environment, read_in, read_at_in, result_in}
 use Rattle.ca_norm.specs.Valuations.{as_sort, valuation_in}
 use Rattle.ca_shared_terms.specs.Starts.{sort_of_type}
+use Rattle.ca_sweep.specs.Means.{length_in}
 use Rattle.ca_symbolic.specs.States.{receiver}
 use Rattle.ca_symbolic.specs.Execution.{sort_in, sort_of_given, sort_of_result}
 use Rattle.ca_symbolic_laws.specs.Costs.{left, value_of, with_left}
-use Rattle.ca_symbolic_laws.specs.Demanded.{length_in, is_index, call_cost}
+use Rattle.ca_symbolic_laws.specs.Demanded.{is_index, call_cost}
 use Rattle.ca_symbolic_laws.proofs.Budgets.{free, plus_none, then_value}
 use Rattle.ca_symbolic_laws.proofs.Bounded.{bounded}
 use Rattle.ca_symbolic_laws.proofs.Indexes.{found_if, no_less, more_less, both_less, indexed_is}

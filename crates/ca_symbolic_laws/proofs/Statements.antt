@@ -33,12 +33,13 @@ use Rattle.ca_parallel.specs.Separable.{holds_call, IsClean, AreClean}
 use Rattle.ca_norm.specs.Terms.{PlainTerm}
 use Rattle.ca_norm.specs.Meanings.{Valuation, operate, mean, means}
 use Rattle.ca_norm.specs.Environments.{Environment}
+use Rattle.ca_sweep.specs.Means.{length_in}
 use Rattle.ca_symbolic.specs.States.{State, not_null, in_range, invokes, PlainDemand, demand, term_at}
 use Rattle.ca_symbolic.specs.Execution.{term_of, terms_of, put_term, array_term, puts_local, puts_field, field_target, local_target, after, after_all}
 use Rattle.ca_symbolic.specs.Demands.{terms_in, then_guard, else_guard, demands_in, demands_in_all, demanded, demanded_all}
 use Rattle.ca_symbolic_laws.specs.Costs.{plus, left, with_left, value_of, hidden, state_of}
 use Rattle.ca_symbolic_laws.specs.Meant.{item_meant, slots_meant, FieldsTyped}
-use Rattle.ca_symbolic_laws.specs.Demanded.{names_object, length_in, is_index, object_in, cost, lists}
+use Rattle.ca_symbolic_laws.specs.Demanded.{names_object, is_index, object_in, cost, lists}
 use Rattle.ca_symbolic_laws.specs.Laws.{fields_in, Typed, StateTyped, LocalsAre}
 use Rattle.ca_symbolic_laws.proofs.Budgets.{free, plus_none, none_plus, then_value}
 use Rattle.ca_symbolic_laws.proofs.Indexes.{number_of, place_of}

@@ -1,5 +1,5 @@
 -- The state behind a typed statement is typed.
-use Rattle.std.proofs.Common.{◌≡◌, ℕ, zero, suc, Bool, true, false, List, [], ◌∷◌, Option, Some, None, ℤ, sym, subst, slice_set}
+use Rattle.std.proofs.Common.{◌≡◌, ℕ, zero, suc, Bool, true, false, List, [], ◌∷◌, Option, Some, None, ℤ, refl, sym, subst, slice_set}
 use Rattle.std.specs.Prelude.{slice_get, cond, ◌||◌, IsSome}
 use Rattle.ca_tree.specs.declared.tree.AssignOp.{AssignOp}
 use Rattle.ca_program.specs.declared.program.FieldId.{FieldId}
@@ -18,7 +18,13 @@ use Rattle.ca_norm.specs.Terms.{PlainTerm}
 use Rattle.ca_norm.specs.Meanings.{Valuation, chosen, mean}
 use Rattle.ca_norm.specs.Environments.{Environment}
 use Rattle.ca_symbolic.specs.States.{State, term_at}
-use Rattle.ca_symbolic.specs.Execution.{term_of, put_term, array_term, choose_if, choices, field_target, local_target, after, after_all}
+use Rattle.ca_symbolic.specs.Execution.{term_of, put_term, array_term, choose_if, choices, field_target, local_target, sweep_term, after_loop, after, after_all}
+use Rattle.ca_sweep.specs.Sweeps.{PlainSweep}
+use Rattle.ca_sweep.specs.Found.{sweep_at}
+use Rattle.ca_sweep.proofs.Finding.{forms_are_sweeps}
+use Rattle.ca_sweep.proofs.Shown.{shown_of}
+use Rattle.ca_symbolic_laws.proofs.SweepMeans.{typed_of}
+use Rattle.ca_symbolic_laws.proofs.SweepTerms.{sweep_means}
 use Rattle.ca_symbolic_laws.specs.Meant.{item_meant, TermTyped, FieldsTyped, LocalsTyped}
 use Rattle.ca_symbolic_laws.specs.Laws.{fields_in, Typed, StateTyped}
 use Rattle.ca_symbolic_laws.proofs.Assigned.{assigned_means, array_is}
@@ -118,6 +124,13 @@ module _ (s : Environment) (v : Valuation) (runs : Runs s v) (m : PlainMethod) (
   array_behind st is called f i op e ty k a b t c =
       array_is v s.heap p (scope_of m) st f i written called (λ x y u k. term_typed st is called x y u k) op e ty (items_before st is called f ty k a) b t c
 
+  -- a loop that sweeps leaves a typed array, and any other loop what it found
+  loop_typed : (x : Statement) (called : Bool) (st : State) → StateTyped s v m st → StatementTyped p (scope_of m) x → IsSeparated p written called x → (o : Option PlainSweep) → sweep_at x ≡ o → StateTyped s v m (after_loop p st o)
+  loop_typed x called st is t k None e = is
+  loop_typed x called st is t k (Some w) e =
+      let z = forms_are_sweeps x w e in
+      typed_of s v runs m typed written called w x (shown_of w x z.0) (record { is = z.0; sums = z.1; typed = t; separated = k }) st is (sweep_term p st w) (sweep_means s v st w)
+
   mutual
     pub typed_behind : (x : Statement) (called : Bool) (st : State) → StateTyped s v m st → StatementTyped p (scope_of m) x → IsSeparated p written called x → StateTyped s v m (after p st x)
     typed_behind (block line ss) called st is t c = typed_behind_all ss called st is t c
@@ -148,7 +161,7 @@ module _ (s : Environment) (v : Valuation) (runs : Runs s v) (m : PlainMethod) (
       locals = locals_choice s.heap v (local_target a b) 0 (term_of p st c) _ _ m.body.locals (typed_behind a called st is t.1 k.1).locals (typed_behind b called st is t.2 k.2).locals;
     }
     typed_behind (invoke line e op es) called st is t c = is
-    typed_behind (for_loop line site part first c next b) called st is t k = is
+    typed_behind (for_loop line site part first c next b) called st is t k = loop_typed (for_loop line site part first c next b) called st is t k (sweep_at (for_loop line site part first c next b)) refl
     typed_behind (while_loop line c b) called st is t k = is
     typed_behind (new_local line l c) called st is t k = is
     typed_behind (new_field line f c) called st is t k = is

@@ -16,7 +16,8 @@ use Rattle.ca_parallel.specs.Bodies.{fors_in_all}
 use Rattle.ca_parallel.specs.Lists.{has_site}
 use Rattle.ca_norm.specs.Meanings.{Valuation, mean}
 use Rattle.ca_norm.specs.Environments.{Environment}
-use Rattle.ca_symbolic.specs.States.{DemandKind, not_null, in_range, calls, invokes, loops, PlainDemand}
+use Rattle.ca_sweep.specs.Means.{length_in, swept_cost}
+use Rattle.ca_symbolic.specs.States.{DemandKind, not_null, in_range, calls, invokes, loops, sweeps, PlainDemand}
 use Rattle.ca_symbolic.specs.Demands.{loop_reads}
 use Rattle.ca_symbolic_laws.specs.Costs.{plus}
 
@@ -33,10 +34,6 @@ names_object d = None
 abbrev pub has_item : Option ℕ → ℕ → Bool
 has_item None i = false
 has_item (Some n) i = nat_lt i n
-
-abbrev pub length_in : Option FieldInfo → Option ℕ
-length_in None = None
-length_in (Some f) = f.length
 
 abbrev pub is_index : Option ℕ → Datum → Option ℕ
 is_index n (Long (pos i)) = is_free (has_item n i)
@@ -105,6 +102,8 @@ kind_cost s (in_range f) (d ∷ xs) = is_index (length_in (field_info s.program 
 kind_cost s (calls m) (d ∷ xs) = plus (Some 1) (call_cost s m d xs)
 kind_cost s (invokes op) (d ∷ xs) = Some 0
 kind_cost s (loops site) xs = loop_steps (loop_within s site xs)
+kind_cost s (sweeps f) (d ∷ []) = None
+kind_cost s (sweeps f) (d ∷ e ∷ xs) = swept_cost (length_in (field_info s.program f)) d e
 kind_cost s kind [] = None
 
 -- the object that a pointer names; a call through null is never made

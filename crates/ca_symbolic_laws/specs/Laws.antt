@@ -90,7 +90,7 @@ ValuesAreMeant =
 pub record Body (s : Environment) (m : PlainMethod) (written : List FieldId) (body : Statements) : Type 0 where
   pub typed : StatementsTyped s.program (scope_of m) body
   pub puts : (f : FieldId) → Contains (targets_of_all body) f → Contains written f
-  pub loops : other_loop_in body ≡ None
+  pub loops : other_loop_in m.params written body ≡ None
   pub found : (x : Statement) (site : LoopId) → Contains (fors_in_all body) x → HasSite x site → loop_at s.program.ops site ≡ Some (record { loop = x; locals = length m.body.locals })
 
 -- the object that the terms of its fields mean

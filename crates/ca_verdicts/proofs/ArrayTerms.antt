@@ -29,6 +29,7 @@ arrays_sorted = record {
       record { sort = e; is = (array_sort ty (sort_of a) g.sort, sym e, own_sort g, h.is) };
   put_at = λ ty a i v g h k. record { sort = g.sort; is = (array_type ty, g.is, h.is, subst (λ z. IsOf z v) (sym (items_of ty)) k.is) };
   added_at = λ a i v g h k. record { sort = g.sort; is = (refl, g.is, h.is, k.is) };
+  swept = λ a f t v g h i k. record { sort = g.sort; is = (refl, g.is, h.is, i.is, k.is) };
   chosen = λ s c a b i g h. record { sort = g.sort; is = (i, g.is, h.is) };
 }
 

@@ -17,6 +17,7 @@ pub mod Orders
 pub mod Sorts
 pub mod SortedBodies
 pub mod Sound
+pub mod Fewer
 pub mod SameSlots
 pub mod FoundLoops
 pub mod RisingLoops

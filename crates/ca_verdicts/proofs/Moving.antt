@@ -25,7 +25,7 @@ use Rattle.ca_symbolic.specs.Execution.{term_of, puts_local, puts_field, choose_
 use Rattle.ca_symbolic.specs.Demands.{demands_in, demanded, demanded_all, then_guard}
 use Rattle.ca_symbolic.specs.Made.{guards_in, targets, joined_terms, steps_made, made_by}
 use Rattle.ca_symbolic.specs.OtherLoops.{other_loop, other_loop_in}
-use Rattle.ca_symbolic.specs.Runs.{executed, demanded_by, is_heavy_by, first_other_loop}
+use Rattle.ca_symbolic.specs.Runs.{executed, demanded_by, is_heavy_by, params_of, first_other_loop}
 use Rattle.ca_verdicts.specs.declared.verdicts.Verdict.TheVariants.{Commutes}
 use Rattle.ca_verdicts.specs.Demands.{demanded_at}
 use Rattle.ca_verdicts.specs.Orders.{fields_at, start_of, first_order, second_order}
@@ -130,9 +130,9 @@ module _ (p : PlainProgram) (m : PlainMethod) (g : ℕ) where
     put_separated written (put line) = (tt, limit_clean written i)
     put_separated written (in_block line h) = (put_separated written h, tt)
 
-    put_loop : {x : Statement} → IsPut f e x → other_loop x ≡ None
-    put_loop (put line) = refl
-    put_loop (in_block line h) = ap (λ o. option_or o None) (put_loop h)
+    put_loop : {x : Statement} (written : List FieldId) → IsPut f e x → other_loop m.params written x ≡ None
+    put_loop written (put line) = refl
+    put_loop written (in_block line h) = ap (λ o. option_or o None) (put_loop written h)
 
     -- the condition
     condition_term : {up s : Bool} {c : Expression} (ts : List PlainTerm) → IsPast f e up s c → term_of p (state ts) c ≡ past up s (term_at ts f.field) (point_term (limit_point g i))
@@ -320,8 +320,9 @@ module _ (p : PlainProgram) (m : PlainMethod) (g : ℕ) (f : FieldId) (up : Bool
         subst (λ (z : Option PlainMethod). AreSeparated p written false (body_of z)) (sym at)
         (subst (AreSeparated p written false) (sym r.body) ((condition_clean p m g f r.limit r.is_limit written r.past, put_separated p m g f r.limit r.is_limit written r.puts, tt), tt))
 
-    pub no_loop : first_other_loop p op ≡ None
-    no_loop = ap (λ z. other_loop_in (body_of z)) at ∙ ap other_loop_in r.body ∙ ap (λ o. option_or (option_or o None) None) (put_loop p m g f r.limit r.is_limit r.puts)
+    pub no_loop : (written : List FieldId) → first_other_loop p written op ≡ None
+    no_loop written =
+        ap (λ z. other_loop_in (params_of z) written (body_of z)) at ∙ ap (other_loop_in m.params written) r.body ∙ ap (λ o. option_or (option_or o None) None) (put_loop p m g f r.limit r.is_limit written r.puts)
 
 -- The pair
 
@@ -419,7 +420,7 @@ moving_commutes p written a b q =
       record {
         can = record {
           separable = (separable p q.first 1 q.field q.up q.first_moves (start_of p a) inside a q.first_is written, separable p q.second 2 q.field q.up q.second_moves (start_of p a) inside b q.second_is written);
-          loops = ap₂ option_or (no_loop p q.first 1 q.field q.up q.first_moves (start_of p a) inside a q.first_is) (no_loop p q.second 2 q.field q.up q.second_moves (start_of p a) inside b q.second_is);
+          loops = ap₂ option_or (no_loop p q.first 1 q.field q.up q.first_moves (start_of p a) inside a q.first_is written) (no_loop p q.second 2 q.field q.up q.second_moves (start_of p a) inside b q.second_is written);
         };
         light = ap₂ (λ x y. x || y) first_light second_light;
       },

@@ -10,7 +10,7 @@ use Rattle.ca_verdicts.specs.Verdicts.{OffenceTold, VerdictOf}
 
 pub told_verdict : (p : PlainProgram) (written : List FieldId) (a b : OpId) (r : Reason) → OffenceTold p written a b r → VerdictOf p written a b (Unproved r)
 told_verdict p written a b (NotSeparable op line why) t = t
-told_verdict p written a b (LoopForm line) t = absurd t
+told_verdict p written a b (LoopForm line) t = t
 told_verdict p written a b Large t = absurd t
 told_verdict p written a b (FieldDiffers f x y) t = absurd t
 told_verdict p written a b (DemandsDiffer kind parts x y) t = absurd t

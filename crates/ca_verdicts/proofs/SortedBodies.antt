@@ -1,26 +1,32 @@
 -- What a typed operation makes and demands is well sorted.
-use Rattle.std.proofs.Common.{◌≡◌, ℕ, suc, Bool, true, false, List, [], ◌∷◌, map, Some, refl, sym, ap, ◌∙◌, subst}
-use Rattle.std.specs.Prelude.{slice_get, if◌then◌else◌}
+use Rattle.std.proofs.Common.{◌≡◌, ℕ, suc, Bool, true, false, List, [], ◌∷◌, map, Option, Some, None, refl, sym, ap, ◌∙◌, subst}
+use Rattle.std.specs.Prelude.{slice_get, ◌||◌, if◌then◌else◌}
 use Rattle.ca_tree.specs.declared.tree.AssignOp.{AssignOp}
 use Rattle.ca_tree.specs.declared.tree.AssignOp.TheVariants as assign
 use Rattle.ca_tree.specs.declared.tree.BinaryOp.TheVariants.{Plus, Minus}
 use Rattle.ca_program.specs.declared.program.ClassId.{ClassId}
 use Rattle.ca_program.specs.declared.program.FieldId.{FieldId}
+use Rattle.ca_program.specs.declared.program.LoopId.{LoopId}
 use Rattle.ca_program.specs.declared.program.ValueType.{ValueType}
 use Rattle.ca_program.specs.declared.program.ValueType.TheVariants as type
 use Rattle.ca_program.specs.Plain.{PlainProgram, Expression, Expressions, local, own, own_item, read_item, value_call, unary, binary, no_expressions, expression_and, Statement, Statements, block, put_local, put_field, put_item, new_local, new_field, new_item, invoke, if_else, while_loop, for_loop, return_value, print_value, no_statements, statement_and}
 use Rattle.ca_program.specs.Plain as plain
 use Rattle.ca_model.specs.Heaps.{fields_of}
 use Rattle.ca_meaning.specs.ProgramTyped.{Scope, IsArray, field_info, signed_type, ExpressionTyped, ExpressionsTyped, AssignTyped, StatementTyped, StatementsTyped}
-use Rattle.ca_parallel.specs.Separable.{IsClean, AreClean, IsSeparated, AreSeparated}
+use Rattle.ca_parallel.specs.Separable.{holds_call, IsClean, AreClean, IsSeparated, AreSeparated}
+use Rattle.ca_sweep.specs.Sweeps.{PlainSweep}
+use Rattle.ca_sweep.specs.Found.{sweep_at}
+use Rattle.ca_sweep.proofs.Finding.{forms_are_sweeps}
+use Rattle.ca_sweep.proofs.Shown.{shown_of}
+use Rattle.ca_sweep.proofs.Typed.{sweep_typed, sweep_clean}
 use Rattle.ca_forms.specs.declared.sort.Sort.{Sort}
 use Rattle.ca_forms.specs.declared.sort.Sort.TheVariants.{Long, Bool as Truth, Pointer}
 use Rattle.ca_norm.specs.Terms.{PlainTerm, neg, select, put, add_at, sort_of, terms_of, IsOf, AreSorted}
 use Rattle.ca_shared_terms.specs.Starts.{sort_of_type, sort_of_array}
 use Rattle.ca_symbolic.specs.States.{State, term_at}
-use Rattle.ca_symbolic.specs.Execution.{sort_in, sort_of_result, divisor, term_of, put_term, is_item, put_right, array_term, choose_if, choices, field_target, local_target, after, after_all}
+use Rattle.ca_symbolic.specs.Execution.{sort_in, sort_of_result, divisor, term_of, put_term, is_item, put_right, array_term, choose_if, choices, field_target, local_target, addend_term, after_loop, after, after_all}
 use Rattle.ca_symbolic.specs.Execution as execution
-use Rattle.ca_symbolic.specs.Demands.{terms_in, right_guard, demands_in, demands_in_all, picked, loop_reads, demanded, demanded_all}
+use Rattle.ca_symbolic.specs.Demands.{terms_in, right_guard, demands_in, demands_in_all, picked, loop_reads, demanded_loop, demanded, demanded_all}
 use Rattle.ca_verdicts.proofs.MetDemands.{DemandsSorted}
 use Rattle.ca_verdicts.proofs.Sorts.{IsGood, own_sort, ArraysSorted, AllGood, at_place, set_good, mapped, slot_sort, scalar_at, InfoAt, scalar_info, array_info, read_sort, item_read_sort, result_sort, same_class, divisor_fits, good, operation_good, signed_good, guard_good, put_good, both_sorted}
 
@@ -190,6 +196,37 @@ module _ (arrays : ArraysSorted) where
       array_good assign.BitOr ty f j e st g o r t k n u m = item_joined assign.BitOr ty f j e st g o r t k n u m
       array_good assign.BitXor ty f j e st g o r t k n u m = item_joined assign.BitXor ty f j e st g o r t k n u m
 
+    -- loops
+    addend_good : (minus : Bool) (t : PlainTerm) → IsGood Long t → IsGood Long (addend_term minus t)
+    addend_good true t q = negated_good false t q
+    addend_good false t q = q
+
+    loop_after_good : (called : Bool) (x : Statement) (st : State) → Good st → StatementTyped p scope x → IsSeparated p written called x → (o : Option PlainSweep) → sweep_at x ≡ o → Good (after_loop p st o)
+    loop_after_good called x st g t k None e = g
+    loop_after_good called x st g t k (Some w) e =
+        let z = forms_are_sweeps x w e in
+        let typed = sweep_typed p scope w x (shown_of w x z.0) t in
+        let clean = sweep_clean p written called w x (shown_of w x z.0) k in
+        let looped : Bool = called || holds_call x in
+        let info = array_info (field_info p w.field) type.Long typed.part.array in
+        record {
+          fields_good = set_good FieldSorts st.fields w.field.field (sort_of_array type.Long) _ g.fields_good (field_sort w.field (sort_of_array type.Long) typed.part.target.1 info)
+              (arrays.swept _ _ _ _ (own_good w.field (sort_of_array type.Long) st g typed.part.target.1 info) (term_good looped w.from type.Long st g typed.from clean.from)
+              (term_good looped w.to type.Long st g typed.to clean.to) (addend_good w.minus _ (term_good looped w.addend type.Long st g typed.part.addend clean.addend)));
+          locals_good = g.locals_good;
+        }
+
+    loop_demanded_good : (called : Bool) (site : LoopId) (x : Statement) (st : State) (guard : PlainTerm) → Good st → StatementTyped p scope x → IsSeparated p written called x → IsOf Truth guard → (o : Option PlainSweep) → sweep_at x ≡ o → DemandsSorted (demanded_loop p st guard site x o)
+    loop_demanded_good called site x st guard g t k i None e = (record { guard = i; parts = picked_good (loop_reads x) 0 scope.locals st.locals g.locals_good }, tt)
+    loop_demanded_good called site x st guard g t k i (Some w) e =
+        let z = forms_are_sweeps x w e in
+        let typed = sweep_typed p scope w x (shown_of w x z.0) t in
+        let clean = sweep_clean p written called w x (shown_of w x z.0) k in
+        let looped : Bool = called || holds_call x in
+        let from : IsGood Long (term_of p st w.from) = term_good looped w.from type.Long st g typed.from clean.from in
+        let to : IsGood Long (term_of p st w.to) = term_good looped w.to type.Long st g typed.to clean.to in
+        (record { guard = i; parts = (scalar_at _ type.Long from.sort, own_sort from, (scalar_at _ type.Long to.sort, own_sort to, tt)) }, tt)
+
     -- statements
     mutual
       after_good : (called : Bool) (x : Statement) (st : State) → Good st → StatementTyped p scope x → IsSeparated p written called x → Good (after p st x)
@@ -218,7 +255,8 @@ module _ (arrays : ArraysSorted) where
           }
       after_good called (invoke line e op arguments) st g t k = g
       after_good called (while_loop line c b) st g t k = g
-      after_good called (for_loop line site part first c next b) st g t k = g
+      after_good called (for_loop line site part first c next b) st g t k =
+          loop_after_good called (for_loop line site part first c next b) st g t k (sweep_at (for_loop line site part first c next b)) refl
       after_good called (new_local line l c) st g t k = g
       after_good called (new_field line f c) st g t k = g
       after_good called (new_item line f i c) st g t k = g
@@ -247,7 +285,7 @@ module _ (arrays : ArraysSorted) where
           both_sorted (demands_in p st w c) _ (demands_good called c type.Bool st w g t.0 k.0 i)
           (both_sorted (demanded p st _ a) _ (demanded_good called a st _ g t.1 k.1 (refl, i, q)) (demanded_good called b st _ g t.2 k.2 (refl, i, (refl, q))))
       demanded_good called (for_loop line site part first c next b) st w g t k i =
-          (record { guard = i; parts = picked_good (loop_reads (for_loop line site part first c next b)) 0 scope.locals st.locals g.locals_good }, tt)
+          loop_demanded_good called site (for_loop line site part first c next b) st w g t k i (sweep_at (for_loop line site part first c next b)) refl
       demanded_good called (while_loop line c b) st w g t k i = tt
       demanded_good called (new_local line l c) st w g t k i = tt
       demanded_good called (new_field line f c) st w g t k i = tt

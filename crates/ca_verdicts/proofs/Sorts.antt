@@ -20,7 +20,7 @@ use Rattle.ca_meaning.specs.ProgramTyped as typing
 use Rattle.ca_parallel.specs.Separable.{IsNonzeroLiteral, MayStandRight}
 use Rattle.ca_forms.specs.declared.sort.Sort.{Sort}
 use Rattle.ca_forms.specs.declared.sort.Sort.TheVariants.{Long, Bool as Truth, LongArray}
-use Rattle.ca_norm.specs.Terms.{PlainTerm, choose, select, put, add_at, sort_of, IsScalar, IsOf}
+use Rattle.ca_norm.specs.Terms.{PlainTerm, choose, select, put, add_at, sweep, sort_of, IsScalar, IsOf}
 use Rattle.ca_shared_terms.specs.Starts.{sort_of_type, sort_of_array, sort_of_slot, starts}
 use Rattle.ca_symbolic.specs.States.{PlainDemand, term_at, start_term, parameters}
 use Rattle.ca_symbolic.specs.Execution.{sort_in, sort_of_result, divisor, operation, signed_term, put_term}
@@ -41,6 +41,7 @@ pub record ArraysSorted : Type 0 where
   pub selected : (ty : ValueType) (a i : PlainTerm) → IsGood (sort_of_array ty) a → IsGood Long i → IsGood (sort_of_type ty) (select a i)
   pub put_at : (ty : ValueType) (a i v : PlainTerm) → IsGood (sort_of_array ty) a → IsGood Long i → IsGood (sort_of_type ty) v → IsGood (sort_of_array ty) (put a i v)
   pub added_at : (a i v : PlainTerm) → IsGood LongArray a → IsGood Long i → IsGood Long v → IsGood LongArray (add_at a i v)
+  pub swept : (a f t v : PlainTerm) → IsGood LongArray a → IsGood Long f → IsGood Long t → IsGood Long v → IsGood LongArray (sweep a f t v)
   pub chosen : (s : Sort) (c a b : PlainTerm) → IsOf Truth c → IsGood s a → IsGood s b → IsGood s (choose c a b)
 
 -- Lists of terms

@@ -37,7 +37,7 @@ use Rattle.ca_symbolic_laws.specs.Demanded.{loop_at, cost, lists}
 use Rattle.ca_symbolic_laws.specs.Meant.{FieldsTyped}
 use Rattle.ca_symbolic_laws.specs.Laws.{fields_in, arguments_in, Body, object_meant, Called}
 use Rattle.ca_symbolic_laws.proofs.Parts.{sections_are_meant, fields_stay_typed, constants_are_kept, starts_mean_the_object}
-use Rattle.ca_symbolic.specs.Runs.{executed, first_other_loop}
+use Rattle.ca_symbolic.specs.Runs.{executed, params_of, first_other_loop}
 use Rattle.ca_verdicts.specs.Orders.{start_of}
 use Rattle.ca_verdicts.proofs.Looks.{met}
 use Rattle.ca_verdicts.proofs.Orders.{IsMeant, price_of, left_by, behind_both, asked_by_both, Seen, environment, commutes_on}
@@ -96,7 +96,7 @@ module _ (p : PlainProgram) (x : Extent) (typed : ProgramTyped p) (found : Loops
   pub record Fit (op : OpId) : Type 0 where
     pub puts : (f : FieldId) → Contains (targets_of_all (operation_body p op)) f → Contains x.written f
     pub separable : Separable p x.written op
-    pub no_loops : first_other_loop p op ≡ None
+    pub no_loops : first_other_loop p x.written op ≡ None
     pub scoped : Scoped (operation_body p op)
 
   module _ (h : List Object) (heap : TypedHeap p h) (r : ℕ) (o : Object) (xs ys : List Datum) (c : ClassId) (k : ℕ) where
@@ -113,7 +113,7 @@ module _ (p : PlainProgram) (x : Extent) (typed : ProgramTyped p) (found : Loops
       body_fits = record {
         typed = (typed.ops op.0 q.m q.at).method.body;
         puts = subst (λ z. (f : FieldId) → Contains (targets_of_all (body_of z)) f → Contains x.written f) q.at fit.puts;
-        loops = subst (λ z. other_loop_in (body_of z) ≡ None) q.at fit.no_loops;
+        loops = subst (λ z. other_loop_in (params_of z) x.written (body_of z) ≡ None) q.at fit.no_loops;
         found = found op q.m q.at;
       }
 

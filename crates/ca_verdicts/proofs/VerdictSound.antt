@@ -33,7 +33,7 @@ verdict_commutes p x a b q v la lb =
     let found : LoopsFound p = loops_found p (apart p q.numbered) in
     let sa : Separable p x.written a = v.0.can.separable.0 in
     let sb : Separable p x.written b = v.0.can.separable.1 in
-    let none : (first_other_loop p a ≡ None) × (first_other_loop p b ≡ None) = no_loop _ _ v.0.can.loops in
+    let none : (first_other_loop p x.written a ≡ None) × (first_other_loop p x.written b ≡ None) = no_loop _ _ v.0.can.loops in
     let fa : Fit p x q.typed found a = record { puts = puts_written p q.roots x q.extent a q.first; separable = sa; no_loops = none.0; scoped = q.first_scoped } in
     let fb : Fit p x q.typed found b = record { puts = puts_written p q.roots x q.extent b q.second; separable = sb; no_loops = none.1; scoped = q.second_scoped } in
     commute p x q.typed found a b fa fb

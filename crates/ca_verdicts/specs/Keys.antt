@@ -10,7 +10,7 @@ use Rattle.ca_forms.specs.Plain.{PlainScalars, scalars_code, scalars_inj}
 use Rattle.ca_forms.specs.Trees.{tree_cmp, tree_cmp_total}
 use Rattle.ca_norm.specs.Terms.{terms_of}
 use Rattle.ca_norm.specs.Forms.{arguments_of}
-use Rattle.ca_symbolic.specs.States.{DemandKind, not_null, in_range, calls, invokes, loops, PlainDemand}
+use Rattle.ca_symbolic.specs.States.{DemandKind, not_null, in_range, calls, invokes, loops, sweeps, PlainDemand}
 
 pub record Key : Type 0 where
   pub kind : DemandKind
@@ -30,10 +30,11 @@ kind_code (in_range f) = numbers 1 f.class.0 f.field
 kind_code (calls m) = numbers 2 m.0 0
 kind_code (invokes op) = numbers 3 op.0 0
 kind_code (loops l) = numbers 4 l.0 0
+kind_code (sweeps f) = numbers 5 f.class.0 f.field
 
 abbrev first_number : Gv → ℕ
 first_number (gcons (gnum n) v) = n
-first_number v = 5
+first_number v = 6
 
 abbrev second_number : Gv → ℕ
 second_number (gcons u (gcons (gnum n) v)) = n
@@ -50,6 +51,8 @@ kind_inj (in_range f) (in_range g) e =
 kind_inj (calls m) (calls n) e = ap (λ k. calls (record { 0 = k })) (ap second_number e)
 kind_inj (invokes a) (invokes b) e = ap (λ k. invokes (record { 0 = k })) (ap second_number e)
 kind_inj (loops l) (loops m) e = ap (λ k. loops (record { 0 = k })) (ap second_number e)
+kind_inj (sweeps f) (sweeps g) e =
+    ap₂ (λ m n. sweeps (record { class = record { 0 = m }; field = n })) (ap second_number e) (ap third_number e)
 kind_inj k l e = let kinds : first_number (kind_code k) ≡ first_number (kind_code l) = ap first_number e in absurd (omega (arith, kinds))
 
 abbrev pub key_code : Key → Gv

@@ -31,22 +31,23 @@ abbrev pub Offends : PlainProgram → List FieldId → OpId → OpId → OpId �
 Offends p written a b op first =
     ((op ≡ a) × FirstOffence p written a first) ⊎ ((op ≡ b) × Separable p written a × FirstOffence p written b first)
 
--- the reason names that offence
-abbrev pub OffenceTold : PlainProgram → List FieldId → OpId → OpId → Reason → Type 0
-OffenceTold p written a b (NotSeparable op line why) = Offends p written a b op (record { line = line; why = why })
-OffenceTold p written a b other = ⊥
-
 abbrev pub BothSeparable : PlainProgram → List FieldId → OpId → OpId → Type 0
 BothSeparable p written a b = Separable p written a × Separable p written b
 
--- the line of the first loop of a that is no call loop, or of b where a has none
-abbrev pub loop_of_both : PlainProgram → OpId → OpId → Option ℕ
-loop_of_both p a b = option_or (first_other_loop p a) (first_other_loop p b)
+-- the line of the first loop of a that is neither a call loop nor a sweep, or of b where a has none
+abbrev pub loop_of_both : PlainProgram → List FieldId → OpId → OpId → Option ℕ
+loop_of_both p written a b = option_or (first_other_loop p written a) (first_other_loop p written b)
+
+-- the reason names that offence, or that loop where there is no offence
+abbrev pub OffenceTold : PlainProgram → List FieldId → OpId → OpId → Reason → Type 0
+OffenceTold p written a b (NotSeparable op line why) = Offends p written a b op (record { line = line; why = why })
+OffenceTold p written a b (LoopForm line) = BothSeparable p written a b × (loop_of_both p written a b ≡ Some line)
+OffenceTold p written a b other = ⊥
 
 -- what symbolic execution is for
 pub record CanExecute (p : PlainProgram) (written : List FieldId) (a b : OpId) : Type 0 where
   pub separable : BothSeparable p written a b
-  pub loops : loop_of_both p a b ≡ None
+  pub loops : loop_of_both p written a b ≡ None
 
 -- a term that is made in one of the orders weighs too much
 abbrev pub is_large : PlainProgram → OpId → OpId → Bool
@@ -83,7 +84,7 @@ pub record FirstApart (ts us : List PlainTerm) (n : ℕ) (x y : Normal) : Type 0
 
 abbrev pub VerdictOf : PlainProgram → List FieldId → OpId → OpId → Verdict → Type 0
 VerdictOf p written a b (Unproved (NotSeparable op line why)) = Offends p written a b op (record { line = line; why = why })
-VerdictOf p written a b (Unproved (LoopForm line)) = BothSeparable p written a b × (loop_of_both p a b ≡ Some line)
+VerdictOf p written a b (Unproved (LoopForm line)) = BothSeparable p written a b × (loop_of_both p written a b ≡ Some line)
 VerdictOf p written a b (Unproved Large) = CanExecute p written a b × (is_large p a b ≡ true)
 VerdictOf p written a b (Unproved (FieldDiffers f x y)) =
     Light p written a b × IsMethodOf (slice_get p.ops a.0) f.class × FirstApart (first_order p a b).fields (second_order p a b).fields f.field x y

@@ -53,6 +53,7 @@ fn numbers_of(kind: DemandKind) -> (u32, u32, u32)
         DemandKind::Calls(method) => (2, method.0, 0),
         DemandKind::Invokes(op) => (3, op.0, 0),
         DemandKind::Loops(site) => (4, site.0, 0),
+        DemandKind::Sweeps(field) => (5, field.class.0, field.field),
     }
 }
 

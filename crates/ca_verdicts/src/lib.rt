@@ -6,8 +6,8 @@
 //! order of the points (`specs/Counts.antt`, `ca_order`). `compare` runs the orders and compares them, `marks` sorts demands by
 //! what is demanded, and `sums` sums up the conditions under which.
 //!
-//! Of the extent a verdict asks only whether both are separable in it. So who asks for many extents asks `offence` in each,
-//! which executes nothing, and `verdict_where_separable` once.
+//! Of the extent a verdict asks only whether both are separable in it, and which of their loops are sweeps there. So who asks
+//! for many extents asks `offence` in each, which executes nothing, and `verdict_where_executable` once.
 //!
 //! `verdict` promises that verdict exactly; that two operations which it calls commuting do commute, for every receiver and all
 //! arguments; and that a plain pair, and a pair that raises one field or lowers it, is always called so.
@@ -23,7 +23,7 @@ mod marks;
 mod sums;
 mod verdicts;
 
-ghost use Rattle.std.specs.Prelude.{◌≡◌, ◌<◌, ◌^◌, ℕ, List, true, length, None, Err, IfOk, IfSome, IfNone};
+ghost use Rattle.std.specs.Prelude.{◌≡◌, ◌<◌, ◌^◌, ℕ, List, [], true, length, None, Err, IfOk, IfSome, IfNone};
 ghost use Rattle.ca_program.specs.declared.program.FieldId.{FieldId};
 ghost use Rattle.ca_program.specs.View.{program_view};
 ghost use Rattle.ca_meaning.specs.Commuting.{Commutes as DoCommute};
@@ -42,15 +42,14 @@ use crate::compare::{compare_orders, run_order};
 pub use crate::verdicts::{Reason, Verdict};
 use ca_base::Memory;
 use ca_extent::Extent;
-use ca_program::{OpId, Program};
+use ca_program::{FieldId, OpId, Program};
 use ca_section::{Readers, Separability};
 use ca_shared_terms::fields_of;
 use ca_symbolic::{Side, SymbolicError, other_loop};
 use std::alloc::Global;
 
-/// The first of the two that isn't separable in the extent whose readers these are, with its first offence. It takes no
-/// memory.
-pub fn offence(
+/// The first of the two that isn't separable in the extent whose readers these are, with its first offence.
+fn inseparable(
     readers: &Readers,
     program: &Program,
     extent: &Extent,
@@ -70,23 +69,59 @@ pub fn offence(
     None
 }
 
-/// The line of the first loop that is no call loop, of the first of the two that has one.
-fn loop_of_both(program: &Program, a: OpId, b: OpId) -> Option<u32>
+/// The line of the first loop that is neither a call loop nor a sweep where these fields are written, of the first of the two
+/// that has one.
+fn loop_of_both(program: &Program, written: &[FieldId], a: OpId, b: OpId) -> Option<u32>
     requires first { a.0 < length program.now.ops.items }
     requires second { b.0 < length program.now.ops.items }
-    ensures { result ≡ loop_of_both (program_view program.now) a b }
+    ensures { result ≡ loop_of_both (program_view program.now) written.now a b }
 {
-    match other_loop(program, a) {
+    match other_loop(program, written, a) {
         Some(line) => Some(line),
-        None => other_loop(program, b),
+        None => other_loop(program, written, b),
     }
 }
 
-/// The verdict on two operations that are separable and have no loops but call loops.
+/// What is told of that loop.
+fn other_form(program: &Program, written: &[FieldId], a: OpId, b: OpId) -> Option<Reason>
+    requires first { a.0 < length program.now.ops.items }
+    requires second { b.0 < length program.now.ops.items }
+    ensures told { BothSeparable (program_view program.now) written.now a b → IfSome result (OffenceTold (program_view program.now) written.now a b) }
+    ensures none { IfNone result (loop_of_both (program_view program.now) written.now a b ≡ None) }
+{
+    match loop_of_both(program, written, a, b) {
+        Some(line) => Some(Reason::LoopForm(line)),
+        None => None,
+    }
+}
+
+/// The first of the two that isn't separable in the extent whose readers these are, with its first offence, or else the first
+/// loop that is neither a call loop nor a sweep. It takes no memory.
+pub fn offence(
+    readers: &Readers,
+    program: &Program,
+    extent: &Extent,
+    a: OpId,
+    b: OpId,
+) -> Option<Reason>
+    requires readers { Knows (program_view program.now) extent.now.written (marked readers.now) }
+    requires first { a.0 < length program.now.ops.items }
+    requires second { b.0 < length program.now.ops.items }
+    ensures told { IfSome result (OffenceTold (program_view program.now) extent.now.written a b) }
+    ensures can { IfNone result (CanExecute (program_view program.now) extent.now.written a b) }
+{
+    match inseparable(readers, program, extent, a, b) {
+        Some(reason) => Some(reason),
+        None => other_form(program, extent.written(), a, b),
+    }
+}
+
+/// The verdict on two operations that are separable and have no loops but call loops and those that are sweeps where nothing is
+/// written.
 fn compared(alloc: Global, program: &Program, a: OpId, b: OpId) -> Result<Verdict, SymbolicError>
     requires first { a.0 < length program.now.ops.items }
     requires second { b.0 < length program.now.ops.items }
-    requires loops { loop_of_both (program_view program.now) a b ≡ None }
+    requires loops { loop_of_both (program_view program.now) [] a b ≡ None }
     ensures verdict { (written : List FieldId) → CanExecute (program_view program.now) written a b → IfOk result (λ v. VerdictOf (program_view program.now) written a b v) }
     ensures few { IfOk result (λ _. (length (first_order (program_view program.now) a b).demands < 2 ^ 64) × (length (second_order (program_view program.now) a b).demands < 2 ^ 64)) }
     ensures large { result ≡ Err Large → is_large (program_view program.now) a b ≡ true }
@@ -99,14 +134,15 @@ fn compared(alloc: Global, program: &Program, a: OpId, b: OpId) -> Result<Verdic
     Ok(compare_orders(alloc, class, &first, &second)?)
 }
 
-/// The verdict on two separable operations, and that little is demanded where it is Commutes.
+/// The verdict on two operations that can be executed, and that little is demanded where it is Commutes.
 fn decided(alloc: Global, program: &Program, a: OpId, b: OpId) -> Result<Verdict, Memory>
     requires first { a.0 < length program.now.ops.items }
     requires second { b.0 < length program.now.ops.items }
-    ensures exact { (written : List FieldId) → BothSeparable (program_view program.now) written a b → IfOk result (λ v. VerdictOf (program_view program.now) written a b v) }
+    ensures exact { (written : List FieldId) → CanExecute (program_view program.now) written a b → IfOk result (λ v. VerdictOf (program_view program.now) written a b v) }
     ensures few { IfOk result (λ v. v ≡ Commutes → (length (first_order (program_view program.now) a b).demands < 2 ^ 64) × (length (second_order (program_view program.now) a b).demands < 2 ^ 64)) }
 {
-    if let Some(line) = loop_of_both(program, a, b) {
+    // In no extent are there fewer such loops, so none that can be executed is told of one.
+    if let Some(line) = loop_of_both(program, &[], a, b) {
         return Ok(Verdict::Unproved(Reason::LoopForm(line)));
     }
     match compared(alloc, program, a, b) {
@@ -117,9 +153,9 @@ fn decided(alloc: Global, program: &Program, a: OpId, b: OpId) -> Result<Verdict
     }
 }
 
-/// The verdict on two operations in each extent in which both are separable: it is one in all of them. Two operations with
+/// The verdict on two operations in each extent in which both can be executed: it is one in all of them. Two operations with
 /// the verdict Commutes do commute there, for every receiver and all arguments.
-pub fn verdict_where_separable(
+pub fn verdict_where_executable(
     alloc: Global,
     program: &Program,
     a: OpId,
@@ -127,8 +163,8 @@ pub fn verdict_where_separable(
 ) -> Result<Verdict, Memory>
     requires first { a.0 < length program.now.ops.items }
     requires second { b.0 < length program.now.ops.items }
-    ensures exact { (written : List FieldId) → BothSeparable (program_view program.now) written a b → IfOk result (λ v. VerdictOf (program_view program.now) written a b v) }
-    ensures sound { (x : PlainExtent) → Analysed (program_view program.now) x a b → BothSeparable (program_view program.now) x.written a b → IfOk result (λ v. v ≡ Commutes → DoCommute (program_view program.now) x.written a b) }
+    ensures exact { (written : List FieldId) → CanExecute (program_view program.now) written a b → IfOk result (λ v. VerdictOf (program_view program.now) written a b v) }
+    ensures sound { (x : PlainExtent) → Analysed (program_view program.now) x a b → CanExecute (program_view program.now) x.written a b → IfOk result (λ v. v ≡ Commutes → DoCommute (program_view program.now) x.written a b) }
 {
     decided(alloc, program, a, b)
 }
@@ -153,6 +189,6 @@ pub fn verdict(
     let readers = Readers::of(alloc, program, extent)?;
     match offence(&readers, program, extent, a, b) {
         Some(reason) => Ok(Verdict::Unproved(reason)),
-        None => verdict_where_separable(alloc, program, a, b),
+        None => verdict_where_executable(alloc, program, a, b),
     }
 }

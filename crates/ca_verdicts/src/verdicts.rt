@@ -24,7 +24,7 @@ pub enum Reason {
         line: u32,
         why: Why,
     },
-    /// The line of the first loop that is no call loop, of the first operation that has one.
+    /// The line of the first loop that is neither a call loop nor a sweep, of the first operation that has one.
     LoopForm(u32),
     /// A term made in one of the two orders is too heavy.
     Large,

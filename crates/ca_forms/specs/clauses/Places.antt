@@ -1,12 +1,12 @@
--- Where a row of an index stands among rows, or is to stand.
+-- Where a row of a span stands among rows, or is to stand.
 use Rattle.std.specs.Prelude.{◌≡◌, ◌≤◌, ◌<◌, ◌++◌, suc, length, take, drop, Bool, true, false}
 use Rattle.ca_forms.specs.Plain.{PlainPolynomial, no_products, product_and}
-use Rattle.ca_forms.specs.Arrays.{PlainRows}
+use Rattle.ca_forms.specs.Arrays.{PlainSpan, PlainRows}
 use Rattle.ca_forms.specs.ArrayRules.{row_if, row_at, joined_rows, put_row}
 use Rattle.ca_forms.specs.declared.array_rules.Place.{Place}
 use Rattle.ca_forms.specs.declared.array_rules.Place.TheVariants.{At, Before}
 
-abbrev pub IsPlace : Place → PlainPolynomial → PlainRows → Type 0
+abbrev pub IsPlace : Place → PlainSpan → PlainRows → Type 0
 IsPlace (At p) i rs = (p < length rs) × ((f : PlainPolynomial) → put_row i f rs ≡ take p rs ++ row_if i (joined_rows (row_at rs p) f) (drop (suc p) rs))
 IsPlace (Before p) i rs = (p ≤ length rs) × ((f : PlainPolynomial) → put_row i f rs ≡ take p rs ++ row_if i f (drop p rs))
 

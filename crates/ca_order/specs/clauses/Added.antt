@@ -2,7 +2,7 @@
 use Rattle.std.specs.Prelude.{ℕ, List}
 use Rattle.ca_forms.specs.declared.sort.Sort.{Sort}
 use Rattle.ca_forms.specs.declared.sort.Sort.TheVariants.{Long}
-use Rattle.ca_norm.specs.Terms.{PlainTerm, PlainTerms, number, truth, null, atom, add, sub, neg, mul, divide, remainder, less, less_equal, same, not, and, or, choose, read, read_at, result, select, put, add_at, fold, no_terms, term_and}
+use Rattle.ca_norm.specs.Terms.{PlainTerm, PlainTerms, number, truth, null, atom, add, sub, neg, mul, divide, remainder, less, less_equal, same, not, and, or, choose, read, read_at, result, select, put, add_at, fold, sweep, no_terms, term_and}
 use Rattle.ca_order.specs.declared.point.Point.{Point}
 use Rattle.ca_order.specs.declared.point.Point.TheVariants as point
 use Rattle.ca_order.specs.OrderSame.{with_point}
@@ -41,6 +41,7 @@ abbrev mutual
   added (put a i x) q = added a (added i (added x q))
   added (add_at a i x) q = added a (added i (added x q))
   added (fold o a b) q = added a (added b q)
+  added (sweep a f t x) q = added a (added f (added t (added x q)))
 
   pub added_all : PlainTerms → List Point → List Point
   added_all no_terms q = q

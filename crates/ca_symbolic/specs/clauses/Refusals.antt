@@ -1,5 +1,5 @@
 -- Whether an execution is refused for a term that is too heavy, in the order in which it makes its terms.
-use Rattle.std.specs.Prelude.{Bool, true, false, ◌||◌, if◌then◌else◌}
+use Rattle.std.specs.Prelude.{Bool, true, false, ◌&&◌, ◌||◌, if◌then◌else◌, Option, Some, None}
 use Rattle.std.specs.List.{list_any}
 use Rattle.ca_tree.specs.declared.tree.AssignOp.{AssignOp}
 use Rattle.ca_tree.specs.declared.tree.AssignOp.TheVariants as assign
@@ -7,12 +7,14 @@ use Rattle.ca_tree.specs.declared.tree.BinaryOp.{BinaryOp}
 use Rattle.ca_tree.specs.declared.tree.BinaryOp.TheVariants.{Or, And, Plus, Minus}
 use Rattle.ca_program.specs.declared.program.FieldId.{FieldId}
 use Rattle.ca_program.specs.Plain.{PlainProgram, Expression, Expressions, number, truth, null, this, local, own, own_item, read, read_item, value_call, unary, binary, no_expressions, expression_and, Statement, Statements, block, put_local, put_field, put_item, new_local, new_field, new_item, invoke, if_else, while_loop, for_loop, return_value, print_value, no_statements, statement_and}
+use Rattle.ca_sweep.specs.Sweeps.{PlainSweep}
+use Rattle.ca_sweep.specs.Found.{sweep_at}
 use Rattle.ca_folds.specs.declared.operator.FoldOp.{FoldOp}
 use Rattle.ca_folds.specs.declared.operator.FoldOp.TheVariants as fold_op
 use Rattle.ca_norm.specs.Terms.{PlainTerm, neg, add_at, select, put, mul, fold}
 use Rattle.ca_norm.specs.Terms as term
 use Rattle.ca_symbolic.specs.States.{State, term_at}
-use Rattle.ca_symbolic.specs.Execution.{term_of, signed_term, operation, divisor, put_term, is_item, after}
+use Rattle.ca_symbolic.specs.Execution.{term_of, signed_term, operation, divisor, put_term, is_item, sweep_term, after}
 use Rattle.ca_symbolic.specs.Demands.{right_guard, then_guard, else_guard, loop_parts}
 use Rattle.ca_symbolic.specs.Made.{joined_terms}
 use Rattle.ca_shared_terms.specs.Heavy.{is_heavy}
@@ -103,6 +105,18 @@ refused_array p s g f i op e = refused_value p s g f op (term_of p s i) e
 
 -- In a statement
 
+-- what a sweep adds
+abbrev pub refused_addend : PlainProgram → State → PlainTerm → Bool → Expression → Bool
+refused_addend p s g minus e = refused p s g e || (minus && is_heavy (neg (term_of p s e)))
+
+-- its bounds, what it adds, and the array behind it
+abbrev pub refused_sweep : PlainProgram → State → PlainTerm → PlainSweep → Bool
+refused_sweep p s g w = refused p s g w.from || (refused p s g w.to || (refused_addend p s g w.minus w.addend || is_heavy (sweep_term p s w)))
+
+abbrev pub refused_loop : PlainProgram → State → PlainTerm → Statement → Option PlainSweep → Bool
+refused_loop p s g loop None = list_any is_heavy (loop_parts s loop)
+refused_loop p s g loop (Some w) = refused_sweep p s g w
+
 abbrev mutual
   pub refused_by : PlainProgram → State → PlainTerm → Statement → Bool
   refused_by p s g (block line ss) = refused_by_all p s g ss
@@ -114,7 +128,8 @@ abbrev mutual
       refused p s g c || (is_heavy (then_guard g (term_of p s c)) || (refused_by p s (then_guard g (term_of p s c)) a ||
       (is_heavy (term.not (term_of p s c)) || (is_heavy (else_guard g (term_of p s c)) || (refused_by p s (else_guard g (term_of p s c)) b ||
       list_any is_heavy (joined_terms a b (after p s (if_else line c a b))))))))
-  refused_by p s g (for_loop line site part first c next b) = list_any is_heavy (loop_parts s (for_loop line site part first c next b))
+  refused_by p s g (for_loop line site part first c next b) =
+      refused_loop p s g (for_loop line site part first c next b) (sweep_at (for_loop line site part first c next b))
   refused_by p s g (while_loop line c b) = false
   refused_by p s g (new_local line l c) = false
   refused_by p s g (new_field line f c) = false

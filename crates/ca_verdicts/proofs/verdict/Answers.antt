@@ -9,6 +9,9 @@ use Rattle.ca_verdicts.proofs.PlainPairs.{plain_verdict}
 use Rattle.ca_verdicts.proofs.MovingVerdict.{moving_verdict}
 use Rattle.ca_verdicts.proofs.verdict.Goals as goal
 
+pub offence-requires : goal.offence-requires
+offence-requires c = record { readers = c.in_ok-readers.ensures; first = c.requires.first; second = c.requires.second }
+
 pub returns-in_err-readers : goal.returns-in_err-readers
 returns-in_err-readers c =
     let p = err_from_is_err_and c.from_residual.result c.from_residual.ensures.1 in
@@ -30,11 +33,11 @@ pub returns : goal.returns
 returns c =
     let p = program_view c.args.program.now in
     let written = c.args.extent.now.written in
-    let separable = c.in-None.ensures.separable in
-    let exact = c.verdict_where_separable.ensures.exact written separable in
+    let can = c.in-None.ensures.can in
+    let exact = c.verdict_where_executable.ensures.exact written can in
     record {
       exact = exact;
-      sound = λ q. c.verdict_where_separable.ensures.sound c.args.extent.now q separable;
-      plain = λ q. plain_verdict p written c.args.a c.args.b q c.verdict_where_separable.result exact;
-      moving = λ q. moving_verdict p written c.args.a c.args.b q c.verdict_where_separable.result exact;
+      sound = λ q. c.verdict_where_executable.ensures.sound c.args.extent.now q can;
+      plain = λ q. plain_verdict p written c.args.a c.args.b q c.verdict_where_executable.result exact;
+      moving = λ q. moving_verdict p written c.args.a c.args.b q c.verdict_where_executable.result exact;
     }

@@ -1,6 +1,6 @@
 //! An order of two operations, run on terms.
 
-ghost use Rattle.std.specs.Prelude.{◌≡◌, ◌<◌, ◌^◌, ◌++◌, ℕ, false, true, length, None, Err, IsTrue, IfOk, OnOk};
+ghost use Rattle.std.specs.Prelude.{◌≡◌, ◌<◌, ◌^◌, ◌++◌, [], ℕ, false, true, length, None, Err, IsTrue, IfOk, OnOk};
 ghost use Rattle.ca_program.specs.View.{program_view};
 ghost use Rattle.ca_symbolic.specs.Demanded.{demands_of};
 ghost use Rattle.ca_symbolic.specs.Runs.{group_of, executed, demanded_by, is_heavy_by, first_other_loop};
@@ -21,7 +21,7 @@ pub struct Order {
     pub turn: usize,
 }
 
-/// Runs one operation and then another, each with its side.
+/// Runs one operation and then another, each with its side. No extent is known: which loops are sweeps is asked of it before.
 pub fn run_order(
     alloc: Global,
     program: &Program,
@@ -33,8 +33,8 @@ pub fn run_order(
 ) -> Result<Order, SymbolicError>
     requires first { a.0 < length program.now.ops.items }
     requires second { b.0 < length program.now.ops.items }
-    requires first_loops { first_other_loop (program_view program.now) a ≡ None }
-    requires second_loops { first_other_loop (program_view program.now) b ≡ None }
+    requires first_loops { first_other_loop (program_view program.now) [] a ≡ None }
+    requires second_loops { first_other_loop (program_view program.now) [] b ≡ None }
     ensures fields { IfOk result (λ o. o.state.fields ≡ (in_order (program_view program.now) a (group_of one) b (group_of other) (starts 0 fields.now)).fields) }
     ensures demands { IfOk result (λ o. demands_of o.groups.items ≡ (in_order (program_view program.now) a (group_of one) b (group_of other) (starts 0 fields.now)).demands) }
     ensures few { IfOk result (λ o. length (demands_of o.groups.items) < 2 ^ 64) }
@@ -63,7 +63,7 @@ fn run_one(
     state: &mut SymState,
 ) -> Result<Vec<Group>, SymbolicError>
     requires known { op.0 < length program.now.ops.items }
-    requires loops { first_other_loop (program_view program.now) op ≡ None }
+    requires loops { first_other_loop (program_view program.now) [] op ≡ None }
     ensures state { OnOk result (state.new ≡ executed (program_view program.now) op (group_of side) state.old.fields) }
     ensures demands { IfOk result (λ v. demands_of v.items ≡ demanded_by (program_view program.now) op (group_of side) state.old.fields) }
     ensures light { OnOk result (is_heavy_by (program_view program.now) op (group_of side) state.old.fields ≡ false) }
@@ -71,7 +71,7 @@ fn run_one(
     ensures call_loops { (n : ℕ) → result ≡ Err (LoopForm n) → ⊥ }
 {
     let mut demands = Demands::new(alloc)?;
-    symbolic(alloc, program, op, side, state, &mut demands)?;
+    symbolic(alloc, program, &[], op, side, state, &mut demands)?;
     let groups = demands.into_groups()?;
     Ok(groups)
 }

@@ -4,4 +4,4 @@ use Rattle.ca_forms.specs.ArrayRules.{put_row}
 use Rattle.ca_forms.proofs.array_rules.place_of.Given as goal
 
 abbrev pub invariant-loop-i : goal.invariant-loop-i
-invariant-loop-i l = (l.i ≤ length l.rows) × ((f : PlainPolynomial) → put_row l.index f l.rows ≡ take l.i l.rows ++ put_row l.index f (drop l.i l.rows))
+invariant-loop-i l = (l.i ≤ length l.rows) × ((f : PlainPolynomial) → put_row l.span f l.rows ≡ take l.i l.rows ++ put_row l.span f (drop l.i l.rows))

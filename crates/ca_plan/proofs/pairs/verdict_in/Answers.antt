@@ -5,6 +5,9 @@ use Rattle.ca_plan.specs.Told.{PairTold}
 use Rattle.ca_plan.proofs.Knowing.{told_offence, told_there}
 use Rattle.ca_plan.proofs.pairs.verdict_in.Goals as goal
 
+pub first-requires : goal.first-requires
+first-requires c = record { offences = c.requires.offences; first = c.requires.first; second = c.requires.second }
+
 pub returns-in_ok-pair-in-Some : goal.returns-in_ok-pair-in-Some
 returns-in_ok-pair-in-Some c =
     let p = program_view c.args.program.now in
@@ -17,6 +20,6 @@ returns-in_ok-pair-in-Some c =
 pub returns-in-None : goal.returns-in-None
 returns-in-None c = record {
   pair = c.verdict.ensures.pair;
-  told = told_there (program_view c.args.program.now) c.args.extent.now c.args.a c.args.b c.verdict.result c.in-None.ensures.separable c.verdict.ensures.pair c.verdict.ensures.fits;
+  told = told_there (program_view c.args.program.now) c.args.extent.now c.args.a c.args.b c.verdict.result c.in-None.ensures.can c.verdict.ensures.pair c.verdict.ensures.fits;
   known = c.verdict.ensures.known;
 }

@@ -1,6 +1,6 @@
 use Rattle.std.proofs.Common.{rules, ◌≡◌, map, sym, ap, ap₂, ◌∙◌, arith}
 use Rattle.std.specs.Prelude.{box_value}
-use Rattle.ca_norm.specs.Terms.{read, read_at, result, shape, terms_of}
+use Rattle.ca_norm.specs.Terms.{read, read_at, result, sweep, shape, terms_of}
 use Rattle.ca_norm.specs.Operators.{over_one, over_two, over_three}
 use Rattle.ca_norm.proofs.Known.{over_known, over_both, pair_known, over_three_known}
 use Rattle.ca_norm.proofs.Shapes.{call_is}
@@ -122,3 +122,23 @@ LightTerm::unshared_other-returns-in_ok-receiver-in-Result t c =
     call_is c.in-Result.sort c.in-Result.method r.receiver r.args
     ∙ (ap₂ (λ x xs. result c.in-Result.sort c.in-Result.method x xs) object list
     ∙ (ap node_of (sym c.in-Result.is ∙ c.deref.ensures) ∙ c.self.view_is))
+
+pub LightTerm::unshared_other-boxed-requires-in-Sweep : goal.LightTerm::unshared_other-boxed-requires-in-Sweep
+LightTerm::unshared_other-boxed-requires-in-Sweep t c =
+    let is : sweep c.in-Sweep.a c.in-Sweep.f c.in-Sweep.t c.in-Sweep.x ≡ c.args.self.now = ap node_of (sym c.in-Sweep.is ∙ c.deref.ensures) ∙ c.self.view_is in
+    (omega (arith, ap term_size is), tt)
+
+pub LightTerm::unshared_other-boxed-requires-in-Sweep-2 : goal.LightTerm::unshared_other-boxed-requires-in-Sweep-2
+LightTerm::unshared_other-boxed-requires-in-Sweep-2 t c =
+    let is : sweep c.in-Sweep.a c.in-Sweep.f c.in-Sweep.t c.in-Sweep.x ≡ c.args.self.now = ap node_of (sym c.in-Sweep.is ∙ c.deref.ensures) ∙ c.self.view_is in
+    (omega (arith, ap term_size is), tt)
+
+pub LightTerm::unshared_other-boxed-requires-in-Sweep-3 : goal.LightTerm::unshared_other-boxed-requires-in-Sweep-3
+LightTerm::unshared_other-boxed-requires-in-Sweep-3 t c =
+    let is : sweep c.in-Sweep.a c.in-Sweep.f c.in-Sweep.t c.in-Sweep.x ≡ c.args.self.now = ap node_of (sym c.in-Sweep.is ∙ c.deref.ensures) ∙ c.self.view_is in
+    (omega (arith, ap term_size is), tt)
+
+pub LightTerm::unshared_other-boxed-requires-in-Sweep-4 : goal.LightTerm::unshared_other-boxed-requires-in-Sweep-4
+LightTerm::unshared_other-boxed-requires-in-Sweep-4 t c =
+    let is : sweep c.in-Sweep.a c.in-Sweep.f c.in-Sweep.t c.in-Sweep.x ≡ c.args.self.now = ap node_of (sym c.in-Sweep.is ∙ c.deref.ensures) ∙ c.self.view_is in
+    (omega (arith, ap term_size is), tt)

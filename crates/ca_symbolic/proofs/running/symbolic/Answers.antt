@@ -26,7 +26,7 @@ returns-in-Err-Large-clause-large c =
     let s : State = c.args.state.now in
     let begun : c.begin.new.self ≡ with_locals s (first_locals (group_of c.args.side) (Some (method_view m))) =
     c.in_ok-begin.ensures ∙ ap (λ g. with_locals s (first_locals g (Some (method_view m)))) c.group.ensures in
-    let none : first_other_loop (program_view c.args.program.now) c.args.op ≡ None = search rules in
+    let none : first_other_loop (program_view c.args.program.now) c.args.written.now c.args.op ≡ None = search rules in
     λ e. (
       none,
       heavy_is c.args.program.now c.args.op m c.op-method.ensures (group_of c.args.side) s

@@ -13,7 +13,7 @@ use Rattle.ca_symbolic.proofs.Flags.{always, again, made_is_light}
 use Rattle.ca_symbolic.proofs.Joining.{item_and_rest}
 use Rattle.ca_symbolic.proofs.Ran.{ran_as, cut_short, if_condition, if_then, if_first, if_else_heavy, if_second, if_told}
 use Rattle.ca_symbolic.proofs.Rows.{runs_heavy, runs_step, runs_after, runs_demand, runs_light}
-use Rattle.ca_symbolic.proofs.Told.{loop_told, loop_refused}
+use Rattle.ca_symbolic.proofs.Told.{loop_after, loop_told, loop_refused, loop_read}
 use Rattle.ca_symbolic.proofs.Views.{if_is}
 use Rattle.ca_symbolic.proofs.walk.+run.Goals as goal
 
@@ -66,16 +66,21 @@ run-returns-in-Invoke t c =
     (always c.invoke.result (a.state.now ≡ a.state.now) refl) (rw c.deref-in-Invoke.ensures.value at c.invoke.ensures.demands) (rw c.deref-in-Invoke.ensures.value at c.invoke.ensures.light) (rw c.deref-in-Invoke.ensures.value at c.invoke.ensures.large) in
     record { after = w.state; demands = w.demands; light = w.light; large = w.large }
 
+pub run-run_loop-requires : goal.run-run_loop-requires
+run-run_loop-requires t c =
+    record { reads = rw c.deref-in-For.ensures (loop_read (statement_view c.args.s.now) _ _ _ _ _ _ _ (ap (λ k. form_view k c.args.s.now.line) c.in-For.is)) }
+
 pub run-returns-in-For : goal.run-returns-in-For
 run-returns-in-For t c =
     let a = c.args in
     let x = statement_view a.s.now in
+    let r = c.run_loop in
     let is = ap (λ k. form_view k a.s.now.line) c.in-For.is in
     record {
-      after = always c.ask_loop.result (a.state.now ≡ after (program_view a.program.now) a.state.now x) (sym (ap (after (program_view a.program.now) a.state.now) is));
-      demands = subst (λ ds. OnOk c.ask_loop.result (c.ask_loop.new.out ≡ with_demands a.out.now ds)) (sym (loop_told (program_view a.program.now) a.state.now a.out.now.guard x _ _ _ _ _ _ _ is)) (rw c.deref-in-For.ensures at c.ask_loop.ensures.demands);
-      light = subst (λ b. OnOk c.ask_loop.result (b ≡ false)) (sym (loop_refused (program_view a.program.now) a.state.now a.out.now.guard x _ _ _ _ _ _ _ is)) (rw c.deref-in-For.ensures at c.ask_loop.ensures.light);
-      large = λ told. absurd (c.ask_loop.ensures.small told);
+      after = subst (λ z. OnOk r.result (r.new.state ≡ z)) (sym (loop_after (program_view a.program.now) a.state.now a.out.now.guard x _ _ _ _ _ _ _ is)) r.ensures.after;
+      demands = subst (λ ds. OnOk r.result (r.new.out ≡ with_demands a.out.now ds)) (sym (loop_told (program_view a.program.now) a.state.now a.out.now.guard x _ _ _ _ _ _ _ is)) r.ensures.demands;
+      light = subst (λ b. OnOk r.result (b ≡ false)) (sym (loop_refused (program_view a.program.now) a.state.now a.out.now.guard x _ _ _ _ _ _ _ is)) r.ensures.light;
+      large = λ told. subst (λ b. b ≡ true) (sym (loop_refused (program_view a.program.now) a.state.now a.out.now.guard x _ _ _ _ _ _ _ is)) (r.ensures.large told);
     }
 
 pub run-returns-in_err-condition-in-If : goal.run-returns-in_err-condition-in-If

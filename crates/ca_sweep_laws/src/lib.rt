@@ -1,0 +1,4 @@
+//! The law of the sections of sweeps.
+#![tactic(auto)]
+
+pub mod laws;
