@@ -2,7 +2,7 @@ use Rattle.ca_program.specs.View.{program_view, expression_view}
 use Rattle.ca_meaning.specs.Functions.{functions_of}
 use Rattle.ca_sections.specs.Running.{own_slots}
 use Rattle.ca_sections.proofs.Valued.{object_found}
-use Rattle.ca_sections.proofs.desk.State.object_now.Goals as goal
+use Rattle.ca_sections.proofs.desk.State.object_seen.Goals as goal
 
 pub returns : goal.returns
 returns c =
