@@ -97,8 +97,28 @@ fn tell(task: &Task, clock: u64, steps: u64, listed: &Vec<Task>, stop: Option<St
     }
 }
 
+/// Adds an entry at the end, in memory. Without memory for it they are as before.
+#[inline(never)]
+fn keep(
+    entries: &mut Vec<Entry>,
+    alloc: Global,
+    task: &Task,
+    clock: u64,
+    steps: u64,
+    listed: &Vec<Task>,
+    stop: Option<Stop>,
+) -> Result<(), AllocError>
+    ensures added { IfOk result (λ _. entries.new.items ≡ entries.old.items ++ entry_with task.now clock steps (map operation_in listed.now.items) stop ∷ []) }
+    ensures as_before { OnErr result (entries.new.items ≡ entries.old.items) }
+{
+    let entry = entry_of(alloc, task, clock, steps, listed, stop)?;
+    entries.push(entry)?;
+    Ok(())
+}
+
 /// Adds an entry at the end, to those that are kept, or else to those that are told. Without memory for it they are as
 /// before.
+#[inline(always)]
 fn enter(
     kept: &mut Option<Vec<Entry>>,
     told: &mut Vec<Told>,
@@ -113,11 +133,7 @@ fn enter(
     ensures as_before { OnErr result (entries_by kept.new told.new.items ≡ entries_by kept.old told.old.items) }
 {
     match kept {
-        Some(entries) => {
-            let entry = entry_of(alloc, task, clock, steps, listed, stop)?;
-            entries.push(entry)?;
-            Ok(())
-        }
+        Some(entries) => keep(entries, alloc, task, clock, steps, listed, stop),
         None => {
             told.push(tell(task, clock, steps, listed, stop))?;
             Ok(())
@@ -165,7 +181,9 @@ impl Entries {
         )?;
         self.clock = clock;
         self.steps = more_steps(self.steps, steps);
-        self.stuck = None;
+        if self.stuck.is_some() {
+            self.stuck = None;
+        }
         Ok(())
     }
 
