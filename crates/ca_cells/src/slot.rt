@@ -1,6 +1,7 @@
-//! What stands in a slot: a history in memory of its own, so that claiming a cell and giving it back moves one word.
+//! What stands in a slot: a shelf, which has the histories of a class of objects that have begun, each in memory of its own.
 
-ghost use Rattle.std.specs.Prelude.{◌≡◌, ℕ, ◌*◌, List, length, IfOk, OnErr};
+ghost use Rattle.std.specs.Prelude.{◌≡◌, ℕ, ◌<◌, List, [], ◌∷◌, ◌++◌, length, slice_get, Some, None, IfOk, IfErr, MatchOption, OnErr};
+ghost use Rattle.std.specs.Vec.{vec_capacity};
 ghost use Rattle.ca_program.specs.View.{program_view};
 ghost use Rattle.ca_model.specs.Typed.{TypedHeap};
 ghost use Rattle.ca_meaning.specs.Agree.{AgreesAt};
@@ -10,19 +11,27 @@ ghost use Rattle.ca_parallel.specs.Extents.{Extent};
 ghost use Rattle.ca_order_laws.specs.Order.{AllInside};
 ghost use Rattle.ca_logs.specs.declared.log.Task.{Task};
 ghost use Rattle.ca_logs.specs.Entries.{call_of, task_calls};
+ghost use Rattle.ca_logs.specs.declared.log.CellLog.{CellLog};
 ghost use Rattle.ca_logs.specs.Legal.{LegalCell};
-ghost use Rattle.ca_cells.specs.Rounds.{SeparableIn};
+ghost use Rattle.ca_beside.specs.Beside.{present};
+ghost use Rattle.ca_cells.specs.Rounds.{SeparableIn, now_of};
 ghost use Rattle.ca_cells.specs.Adds.{Adds, IsRan};
+ghost use Rattle.ca_cells.specs.clauses.Shelves.{found, AreOnce, Without};
+ghost use Rattle.ca_cells.specs.clauses.Rule.{Stands};
+ghost use Rattle.ca_cells.specs.declared.rule.Given.{Given};
+ghost use Rattle.ca_cells.specs.declared.slot.Held.{Held};
 
 use crate::adding;
 use crate::adding::Added;
 use ca_base::Memory;
-use ca_logs::{CellLog, Task};
-use ca_model::Heap;
+use ca_beside::Beside;
+use ca_logs::{CellLog, Entries, Task};
+use ca_model::{Heap, Object};
 use ca_program::Program;
 use ca_sections::Desk;
 use std::alloc::{AllocError, Global};
 use std::marker::Model;
+use std::snapshot::Snapshot;
 
 /// A history in memory of its own. Contracts see it as the history.
 #[derive(Drop)]
@@ -55,13 +64,166 @@ impl SlotLog {
         let SlotLog { log } = self;
         Box::into_inner(log)
     }
+}
 
-    /// The word of a cell that is free and has this history: twice the number of its entries.
-    #[inline]
-    pub(crate) fn word(&self) -> u64
-        ensures { result ≡ 2 * length self.now.entries }
+/// The history of an object, and the object's number.
+#[derive(Drop)]
+pub struct Held {
+    pub number: u32,
+    pub log: SlotLog,
+}
+
+/// The histories of a class of objects that have begun. Contracts see it as their list.
+#[derive(Drop)]
+pub struct Shelf {
+    items: Vec<Held>,
+}
+
+impl Model for Shelf {
+    ghost use Rattle.std.specs.Prelude.{List};
+    ghost use Rattle.ca_cells.specs.declared.slot.Held.{Held};
+
+    ghost Value = { List Held };
+
+    ghost view = { λ s. s.items.items };
+}
+
+/// A shelf without the history of one object, which has room for it.
+#[derive(Drop)]
+pub struct Out {
+    pub class: usize,
+    pub others: Vec<Held>,
+    ghost room: { length others.items < vec_capacity others },
+}
+
+impl Shelf {
+    /// No history. It takes no memory.
+    pub(crate) fn none(alloc: Global) -> Shelf
+        ensures { result ≡ [] }
     {
-        self.log.entries.twice()
+        Shelf {
+            items: Vec::new(alloc),
+        }
+    }
+
+    /// Its histories.
+    pub(crate) fn into_items(self) -> Vec<Held>
+        ensures { result.items ≡ self }
+    {
+        let Shelf { items } = self;
+        items
+    }
+}
+
+/// The shelf with the history back.
+pub(crate) fn put_back(out: Out, number: u32, log: SlotLog) -> Shelf
+    ensures { result ≡ out.others.items ++ record { number = number; log = log } ∷ [] }
+{
+    let Out {
+        class: _,
+        mut others,
+    } = out;
+    others.push_reserved(Held { number, log });
+    Shelf { items: others }
+}
+
+/// Where the history of an object stands. Those that came last are looked at first.
+fn place(items: &Vec<Held>, number: u32) -> Option<usize>
+    ensures { MatchOption result (found items.now.items number ≡ None) (λ at. (held : Held) × (slice_get items.now.items at ≡ Some held) × (held.number ≡ number)) }
+{
+    let mut at = items.len();
+    'places: while 0 < at {
+        at -= 1;
+        if items[at].number == number {
+            return Some(at);
+        }
+    }
+    None
+}
+
+/// A history without entries of the object, which keeps those that come in memory, or tells them to contracts alone.
+pub fn open(alloc: Global, object: &Object, keeps: bool) -> Result<CellLog, Memory>
+    ensures { IfOk result (λ log. (log.entries ≡ []) × (log.object ≡ object.now) × (log.opened.value ≡ object.now)) }
+{
+    Ok(CellLog {
+        opened: Snapshot::of(object),
+        object: object.copy()?,
+        entries: Entries::none(alloc, keeps),
+    })
+}
+
+/// The same, in memory of its own.
+fn opened(alloc: Global, object: &Object, keeps: bool) -> Result<SlotLog, Memory>
+    ensures { IfOk result (λ log. (log.entries ≡ []) × (log.object ≡ object.now) × (log.opened.value ≡ object.now)) }
+{
+    let log = open(alloc, object, keeps)?;
+    Ok(SlotLog::of(alloc, log)?)
+}
+
+/// The history of an object that has not begun begins, and these have room for it. Without memory they come back.
+fn begin(
+    alloc: Global,
+    heap: &Heap,
+    beside: &Beside,
+    class: usize,
+    number: u32,
+    keeps: bool,
+    mut items: Vec<Held>,
+) -> Result<(SlotLog, Out), Shelf>
+    requires inside { number < length heap.now }
+    requires none { found items.items number ≡ None }
+    requires once { AreOnce items.items }
+    ensures class { IfOk result (λ taken. taken.1.class ≡ class) }
+    ensures out { IfOk result (λ taken. Without items.items number taken.1.others.items) }
+    ensures log { IfOk result (λ taken. (given : Given) (history : CellLog) → now_of given ≡ present heap.now beside.now → Stands given number None history → taken.0 ≡ history) }
+    ensures back { IfErr result (λ back. back ≡ items.items) }
+{
+    if items.reserve(1).is_err() {
+        return Err(Shelf { items });
+    }
+    match opened(alloc, beside.get(heap, number), keeps) {
+        Ok(log) => Ok((
+            log,
+            Out {
+                class,
+                others: items,
+            },
+        )),
+        Err(_) => Err(Shelf { items }),
+    }
+}
+
+/// Takes the history of an object out of its shelf. One that has not begun begins. Without memory for that the shelf
+/// comes back.
+pub(crate) fn take_out(
+    alloc: Global,
+    heap: &Heap,
+    beside: &Beside,
+    class: usize,
+    number: u32,
+    keeps: bool,
+    shelf: Shelf,
+) -> Result<(SlotLog, Out), Shelf>
+    requires inside { number < length heap.now }
+    requires once { AreOnce shelf }
+    ensures class { IfOk result (λ taken. taken.1.class ≡ class) }
+    ensures out { IfOk result (λ taken. Without shelf number taken.1.others.items) }
+    ensures log { IfOk result (λ taken. (given : Given) (history : CellLog) → now_of given ≡ present heap.now beside.now → Stands given number (found shelf number) history → taken.0 ≡ history) }
+    ensures back { IfErr result (λ back. back ≡ shelf) }
+{
+    let mut items = shelf.into_items();
+    match place(&items, number) {
+        Some(at) => {
+            let Held { number: _, log } = items.remove(at);
+            Ok((
+                log,
+                Out {
+                    class,
+                    others: items,
+                },
+            ))
+        }
+        None => begin(alloc, heap, beside, class, number, keeps, items),
     }
 }
 

@@ -9,7 +9,7 @@ ghost use Rattle.ca_deques.specs.Thieves.{owner_key, key_of, taken_by_thief};
 ghost use Rattle.ca_pool.specs.Work.{setting_of};
 
 use ca_cells::Cells;
-use ca_deques::taking::{put_behind, take_any};
+use ca_deques::taking::{open_some, put_behind, take_any};
 use ca_deques::{Owner, Round, Thieves};
 use ca_logs::Task;
 
@@ -42,8 +42,8 @@ fn pass_held<N: Round>(
     next
 }
 
-/// The newest task of the own deque whose object nobody holds, as far as a few tries find one; where the deque has
-/// none, one of another's; and where none gave one, the newest of the own share.
+/// The newest task of the own share whose object nobody holds, as far as a few tries find one; where the share has none,
+/// of the own deque; and where that has none, one of another's. Before that it opens tasks of the share to others.
 pub fn take_free<N: Round>(
     cells: &Cells,
     owner: &mut Owner<N>,
@@ -58,6 +58,7 @@ pub fn take_free<N: Round>(
     ensures fits { AllFit N.setting (option_to_list result) }
     ensures taken { (h : Task → ℕ) → weight h owner.new.hand.taken + weight (taken_by_thief h) thieves.new + weight h share.old.items + weight h owner.old.hand.pushed ≡ weight h owner.old.hand.taken + weight (taken_by_thief h) thieves.old + weight h share.new.items + weight h (option_to_list result) + weight h owner.new.hand.pushed }
 {
+    open_some::<N>(owner, share);
     match take_any::<N>(owner, thieves, share) {
         Some(task) => Some(pass_held::<N>(cells, owner, share, task)),
         None => None,

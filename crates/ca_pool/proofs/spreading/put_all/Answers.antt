@@ -1,5 +1,5 @@
 use Rattle.std.proofs.Common.{refl}
-use Rattle.ca_pool.proofs.Assembles.{fewer}
+use Rattle.ca_deques.proofs.Parting.{fewer}
 use Rattle.ca_pool.proofs.Spread.{put_inside, put_one, put_none}
 use Rattle.ca_pool.proofs.spreading.put_all.Goals as goal
 

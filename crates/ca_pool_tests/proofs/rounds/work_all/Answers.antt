@@ -1,4 +1,4 @@
-use Rattle.std.proofs.Common.{rules, ◌≡◌, [], ℕ, length, get_or, subst}
+use Rattle.std.proofs.Common.{rules, ◌≡◌, [], length, get_or, subst}
 use denote.Param.Send.{IsSync, AllSync, sendable, param_sync, shr_sync}
 use denote.Param.{param}
 use denote.Struct.Tuple.{TupleAt, type_at}
@@ -9,7 +9,7 @@ use Rattle.ca_pool.proofs.work.Reads.TheSendSync as reads
 use Rattle.ca_cells.specs.Seats.{IsSameSeat}
 use Rattle.ca_cells.specs.declared.cells.Seat.{Seat}
 use Rattle.ca_pool.proofs.Sends.{seat_send, cells_sync}
-use Rattle.ca_pool.proofs.SharedProgram.{program_sync}
+use Rattle.ca_deques.proofs.SharedProgram.{program_sync}
 use Rattle.ca_pool_tests.proofs.SameSeats.{one_for_one, all_still}
 use Rattle.ca_pool_tests.proofs.rounds.work_all.Goals as goal
 
