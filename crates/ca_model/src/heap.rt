@@ -3,7 +3,7 @@
 ghost use Rattle.std.specs.Prelude.{◌≡◌, ◌<◌, ◌≤◌, ◌↔◌, [], length, slice_get, slice_set, IsTrue, IfOk, OnErr};
 ghost use Rattle.ca_program.specs.View.{program_view};
 ghost use Rattle.ca_model.specs.declared.value.Object.{Object};
-ghost use Rattle.ca_model.specs.Heaps.{HasSlot, created, is_full, most_objects, starts_of, stored};
+ghost use Rattle.ca_model.specs.Heaps.{HasSlot, created, is_full, most_objects, starts_of, stored, values_in};
 ghost use Rattle.ca_model.specs.Counted.{IsLike};
 ghost use Rattle.ca_model.specs.Slots.{start_slots};
 
@@ -101,6 +101,13 @@ impl Heap {
         ensures few { length self.now ≤ most_objects }
     {
         self.objects.len() as u32
+    }
+
+    /// How many values all objects hold together.
+    pub fn values(&self) -> u32
+        ensures { result ≡ values_in self.now }
+    {
+        self.values
     }
 
     /// The object of this number.

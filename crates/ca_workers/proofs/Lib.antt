@@ -6,4 +6,5 @@ pub mod Going
 pub mod Stored
 pub mod Beginning
 pub mod Parts
+pub mod Adding
 mod Examples

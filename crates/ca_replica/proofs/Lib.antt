@@ -1,0 +1,10 @@
+pub mod Steps
+pub mod Clear
+pub mod Copying
+pub mod Once
+pub mod Sums
+pub mod Beginning
+pub mod Applying
+pub mod Together
+pub mod Putting
+mod Examples

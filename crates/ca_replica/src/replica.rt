@@ -1,0 +1,140 @@
+//! What one worker added to each object that it touched.
+
+ghost use Rattle.std.specs.Prelude.{◌≡◌, ◌<◌, [], length, IfOk, OnErr, Contains};
+ghost use Rattle.ca_program.specs.View.{program_view};
+ghost use Rattle.ca_meaning.specs.WellTyped.{WellTyped};
+ghost use Rattle.ca_parallel.specs.Calls.{invocation_of};
+ghost use Rattle.ca_order_laws.specs.Order.{StandsFor};
+ghost use Rattle.ca_beside.specs.Beside.{present, AreDistinct, IsPlace, Sectioned};
+ghost use Rattle.ca_replica.specs.Adding.{added};
+ghost use Rattle.ca_replica.specs.Applied.{Applied, IsRound, sums};
+ghost use Rattle.ca_replica.specs.Zeroed.{zeroed_heap};
+
+use crate::adding::{add_copies, add_copies_beside};
+use crate::zeroing::zero;
+use ca_base::Memory;
+use ca_beside::Beside;
+use ca_extent::Extent;
+use ca_model::Heap;
+use ca_parallel::Op;
+use ca_program::Program;
+use ca_sections::{Desk, SectionAnswer};
+use std::alloc::{AllocError, Global};
+
+/// Copies of the objects that a worker touched. Numbers that the extent writes began at 0 in them, so they are sums.
+#[derive(Drop)]
+pub struct Replica {
+    pub copies: Beside,
+}
+
+/// The place of an object's copy. One that has none is copied, with 0 in each number that the extent writes.
+fn place_of(
+    copies: &mut Beside,
+    extent: &Extent,
+    frozen: &Heap,
+    number: u32,
+) -> Result<usize, AllocError>
+    requires { number < length frozen.now }
+    ensures place { IfOk result (λ place. IsPlace copies.new place number) }
+    ensures same { present (zeroed_heap extent.now.written frozen.now) copies.new ≡ present (zeroed_heap extent.now.written frozen.now) copies.old }
+{
+    match copies.find(number) {
+        Some(place) => Ok(place),
+        None => {
+            let mut object = frozen.get(number).copy()?;
+            zero(&mut object, extent.written());
+            copies.add(number, object)
+        }
+    }
+}
+
+/// Runs the section of an operation within a budget, on the copy of its receiver.
+fn run_on_copy<'a>(
+    copies: &mut Beside,
+    desk: &mut Desk<'a>,
+    alloc: Global,
+    program: &'a Program,
+    extent: &Extent,
+    frozen: &Heap,
+    op: &Op,
+    left: u64,
+    out: &mut Vec<Op>,
+) -> Result<SectionAnswer, Memory>
+    requires { op.now.receiver < length frozen.now }
+    ensures answer { IfOk result (λ answer. Sectioned (program_view program.now) frozen.now (present (zeroed_heap extent.now.written frozen.now) copies.old) op.now left out.old.items (present (zeroed_heap extent.now.written frozen.now) copies.new) out.new.items answer) }
+    ensures once { IfOk result (λ _. AreDistinct copies.new) }
+    ensures kept { OnErr result ((present (zeroed_heap extent.now.written frozen.now) copies.new ≡ present (zeroed_heap extent.now.written frozen.now) copies.old) × (out.new.items ≡ out.old.items)) }
+{
+    let place = place_of(copies, extent, frozen, op.receiver)?;
+    copies.run_at(desk, alloc, program, frozen, place, op, left, out)
+}
+
+impl Replica {
+    /// No sums. It takes no memory.
+    pub fn new(alloc: Global) -> Replica
+        ensures { result.copies ≡ [] }
+    {
+        Replica {
+            copies: Beside::new(alloc),
+        }
+    }
+
+    /// Runs the section of an operation within a budget, on the worker's copy of its receiver. All else is read in the
+    /// frozen heap, and what the section lists goes behind what stands in `out`.
+    ///
+    /// What a section adds that is done is added to the sums, and it is what that section adds to every typed object that
+    /// agrees with the frozen one on constants. On every answer other than `Done`, and where memory is wanting, all sums
+    /// and `out` are as before. No object has two copies.
+    pub fn apply<'a>(
+        &mut self,
+        desk: &mut Desk<'a>,
+        alloc: Global,
+        program: &'a Program,
+        extent: &Extent,
+        frozen: &Heap,
+        op: &Op,
+        left: u64,
+        out: &mut Vec<Op>,
+    ) -> Result<SectionAnswer, Memory>
+        requires round { IsRound (program_view program.now) extent.now frozen.now }
+        // It is a replica of this round: at first, and then again, by `answer` and `kept`.
+        requires sums { StandsFor (program_view program.now) extent.now frozen.now (sums extent.now.written frozen.now self.old.copies) }
+        requires inside { Contains extent.now.ops op.now.op }
+        requires typed { WellTyped (program_view program.now) frozen.now (invocation_of op.now) }
+        ensures ran { IfOk result (Sectioned (program_view program.now) frozen.now (sums extent.now.written frozen.now self.old.copies) op.now left out.old.items (sums extent.now.written frozen.now self.new.copies) out.new.items) }
+        ensures answer { IfOk result (Applied (program_view program.now) extent.now frozen.now (sums extent.now.written frozen.now self.old.copies) op.now left out.old.items (sums extent.now.written frozen.now self.new.copies) out.new.items) }
+        ensures once { IfOk result (λ _. AreDistinct self.new.copies) }
+        ensures kept { OnErr result ((sums extent.now.written frozen.now self.new.copies ≡ sums extent.now.written frozen.now self.old.copies) × (out.new.items ≡ out.old.items)) }
+    {
+        run_on_copy(
+            &mut self.copies,
+            desk,
+            alloc,
+            program,
+            extent,
+            frozen,
+            op,
+            left,
+            out,
+        )
+    }
+
+    /// Adds each sum to the heap, and changes nothing else. It takes no memory.
+    pub fn add_to(&self, extent: &Extent, heap: &mut Heap)
+        ensures { heap.new ≡ added extent.now.written self.now.copies heap.old }
+    {
+        add_copies(heap, self.copies.items(), extent.written())
+    }
+
+    /// Adds each sum to the objects as they are now, beside the heap.
+    pub fn add_beside(
+        &self,
+        extent: &Extent,
+        heap: &Heap,
+        beside: &mut Beside,
+    ) -> Result<(), AllocError>
+        ensures { IfOk result (λ _. present heap.now beside.new ≡ added extent.now.written self.now.copies (present heap.now beside.old)) }
+    {
+        add_copies_beside(heap, beside, self.copies.items(), extent.written())
+    }
+}

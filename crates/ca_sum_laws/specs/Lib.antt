@@ -1,0 +1,4 @@
+pub mod Summed
+pub mod Moves
+pub mod Replicas
+pub mod Facts

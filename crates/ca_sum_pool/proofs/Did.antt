@@ -1,0 +1,187 @@
+-- What a task does to a worker's part.
+use Rattle.std.proofs.Common.{◌≡◌, ◌≢◌, ℕ, suc, ◌+◌, ◌≤◌, Bool, false, true, true≢false, option_to_list, List, [], ◌∷◌, ◌++◌, All, Option, Some, None, map, sym, refl, ap, subst, arith}
+use Rattle.std.proofs.lemmas.List.{length_push}
+use Rattle.std.proofs.lemmas.List.Elements.{All-cons, All-nil}
+use Rattle.ca_meaning.specs.Multisets.{weight}
+use Rattle.ca_parallel.specs.Extents.{Extent}
+use Rattle.ca_parallel.specs.declared.op.Op.{Op}
+use Rattle.ca_order_laws.specs.Order.{StandsFor}
+use Rattle.ca_order_laws.proofs.Weights.{weight_append}
+use Rattle.ca_logs.specs.declared.log.Task.{Task}
+use Rattle.ca_logs.specs.declared.log.Entry.{Entry}
+use Rattle.ca_logs.specs.Entries.{task_after, listed_by}
+use Rattle.ca_logs.specs.Laws.{steps_of}
+use Rattle.ca_deques.specs.Settings.{Setting, Fits, AllFit}
+use Rattle.ca_deques.specs.Thieves.{OwnerView, OwnerKey, owner_key, ThiefView, taken_by_thief}
+use Rattle.ca_deques.specs.declared.rule.Hand.{Hand}
+use Rattle.ca_deques.specs.Hands.{IsUnused}
+use Rattle.ca_deques.proofs.Grown.{grown_fit, grown_weight, one_fits}
+use Rattle.ca_beside.specs.declared.beside.Changed.{Changed}
+use Rattle.ca_beside.specs.Beside.{AreDistinct}
+use Rattle.ca_sum_laws.specs.Replicas.{Replicates, nothing}
+use Rattle.ca_replica.specs.Zeroed.{zeroed_heap}
+use Rattle.ca_replica.specs.Applied.{sums}
+use Rattle.ca_replica.proofs.Beginning.{no_sums_stand}
+use Rattle.ca_sum_pool.specs.declared.performing.Stuck.{Stuck}
+use Rattle.ca_sum_pool.specs.declared.performing.Turn.{Turn}
+use Rattle.ca_sum_pool.specs.declared.performing.Turn.TheVariants as turns
+use Rattle.ca_sum_pool.specs.Rounded.{IsSum}
+use Rattle.ca_sum_pool.specs.Parts.{sum_within, ran_entry, tasks_of, StopsSo, ran_weight, made_weight, RanOne, StoppedOne, Keeps, RanAndPushed, Performed, Did, Sound}
+use Rattle.ca_sum_pool.proofs.Totals.{sum_more, sum_is}
+
+-- ---- what is answered of a task
+
+module _ (s : Setting) (x : Extent) (left : ℕ) (task : Task) where
+  -- a task that was kept
+  pub kept_performed : (o : OwnerView) (cs : List Changed) (share rest : List Task) (turn : Turn) → Keeps share task rest turn → Fits s task → AllFit s share → Performed s x left task o o cs cs share rest turn
+  kept_performed o cs share rest (turns.Ran n) k f a = absurd k
+  kept_performed o cs share rest turns.Kept k f a = record { owner = refl; taken = refl; fits = grown_fit s rest share task k a (one_fits s task f); turned = (refl, refl, k) }
+  kept_performed o cs share rest (turns.Stopped z) k f a = absurd k
+  kept_performed o cs share rest turns.Short k f a = record { owner = refl; taken = refl; fits = subst (AllFit s) (sym k) a; turned = tt }
+
+  -- one whose section is done
+  pub ran_performed : (old new : OwnerView) (before after : List Changed) (share rest : List Task) (ops : List Op) (clock steps : ℕ) → clock ≡ suc task.after → RanOne s.program x s.frozen task before after ops steps → owner_key new ≡ owner_key old → new.hand.taken ≡ old.hand.taken → AllFit s rest →
+      ((h : Task → ℕ) → weight h new.hand.pushed + weight h rest ≡ weight h old.hand.pushed + weight h share + weight h (map (task_after clock) ops)) → Performed s x left task old new before after share rest (turns.Ran steps)
+  ran_performed old new before after share rest ops clock steps is ran key taken all pushed = record {
+    owner = key;
+    taken = taken;
+    fits = all;
+    turned = record {
+      ops = ops;
+      ran = ran;
+      pushed = subst (λ k. (h : Task → ℕ) → weight h new.hand.pushed + weight h rest ≡ weight h old.hand.pushed + weight h share + weight h (map (task_after k) ops)) is pushed;
+    };
+  }
+
+  pub short_performed : (old new : OwnerView) (before after : List Changed) (share rest : List Task) → owner_key new ≡ owner_key old → new.hand.taken ≡ old.hand.taken → AllFit s rest → Performed s x left task old new before after share rest turns.Short
+  short_performed old new before after share rest key taken all = record { owner = key; taken = taken; fits = all; turned = tt }
+
+  -- one whose section stopped
+  pub stuck_performed : (o : OwnerView) (before after : List Changed) (share : List Task) (one : Stuck) → StoppedOne s.program x s.frozen left task before after one → AllFit s share → Performed s x left task o o before after share share (turns.Stopped one)
+  stuck_performed o before after share one z a = record { owner = refl; taken = refl; fits = a; turned = (z, refl, refl) }
+
+-- ---- a worker's part
+
+pub nothing_found : {A : Type 0} (got : Option A) → ((x : A) → got ≡ Some x → ⊥) → got ≡ None
+nothing_found None absent = refl
+nothing_found (Some x) absent = absurd (absent x refl)
+
+-- what is_some denies
+pub none_there : {A : Type 0} (got : Option A) → ((x : A) → got ≡ Some x → ⊥) → option_to_list got ≡ []
+none_there None absent = refl
+none_there (Some x) absent = absurd (absent x refl)
+
+pub none_apart : AreDistinct []
+none_apart i j c d e f same = cc
+
+module _ (s : Setting) (x : Extent) (left : ℕ) where
+  pub sound_short : (hand : Hand) (thieves : List ThiefView) (copies : List Changed) (share : List Task) (stuck : Option Stuck) (count : ℕ) (steps : Option ℕ) (short : Bool) → Sound s x left hand thieves copies share stuck count steps short → Sound s x left hand thieves copies share stuck count steps true
+  sound_short hand thieves copies share stuck count steps short i = record { fits = i.fits; did = λ e. absurd (true≢false e) }
+
+  -- a worker that has run nothing
+  pub sound_new : (hand : Hand) (thieves : List ThiefView) (copies : List Changed) (share : List Task) → IsUnused hand → ((h : Task → ℕ) → weight (taken_by_thief h) thieves ≡ 0) → copies ≡ [] → share ≡ [] → Sound s x left hand thieves copies share None 0 (Some 0) false
+  sound_new hand thieves copies share unused stolen none empty = record {
+    fits = subst (AllFit s) (sym empty) (λ k d lt. absurd (omega (arith, lt)));
+    did = λ e. record {
+      entries = [];
+      once = subst AreDistinct (sym none) none_apart;
+      leads = subst (λ (cs : List Changed). Replicates s.program x s.frozen (zeroed_heap x.written s.frozen) [] (sums x.written s.frozen cs)) (sym none) nothing;
+      stands = λ typed. subst (λ (cs : List Changed). StandsFor s.program x s.frozen (sums x.written s.frozen cs)) (sym none) (no_sums_stand s.program x s.frozen typed);
+      stops = All-nil (StopsSo s.program x s.frozen left);
+      counted = omega arith;
+      steps_are = (refl, omega arith);
+      balance = λ h. omega (arith, stolen h, ap (weight h) unused.dealt, ap (weight h) unused.taken, ap (weight h) empty);
+    };
+  }
+
+  module _ (o m : OwnerView) (thieves more : List ThiefView) (copies : List Changed) (share mid : List Task) (stuck : Option Stuck) (count : ℕ) (steps : Option ℕ) (short : Bool) (got : Option Task)
+      (i : Sound s x left o.hand thieves copies share stuck count steps short) (same : owner_key m ≡ owner_key o) (pushed : m.hand.pushed ≡ o.hand.pushed)
+      (taken : (h : Task → ℕ) → weight h m.hand.taken + weight (taken_by_thief h) more + weight h share ≡ weight h o.hand.taken + weight (taken_by_thief h) thieves + weight h mid + weight h (option_to_list got)) where
+    -- a worker found no task
+    pub sound_still : AllFit s mid → got ≡ None → Sound s x left m.hand more copies mid stuck count steps short
+    sound_still fits is = record {
+      fits = fits;
+      did = λ e. let d : Did s x left o.hand thieves copies share stuck count steps = i.did e in record {
+        entries = d.entries;
+        once = d.once;
+        leads = d.leads;
+        stands = d.stands;
+        stops = d.stops;
+        counted = d.counted;
+        steps_are = d.steps_are;
+        balance = λ h. omega (arith, d.balance h, taken h, ap (λ (t : Option Task). weight h (option_to_list t)) is, ap (λ (k : OwnerKey). weight h k.2) same, ap (weight h) pushed);
+      };
+    }
+
+    module _ (task : Task) (is : got ≡ Some task) (n : OwnerView) (after : List Changed) (rest : List Task) where
+      -- a worker ran a task
+      pub sound_ran : (took more_count : ℕ) (total : Option ℕ) → Performed s x left task m n copies after mid rest (turns.Ran took) → more_count ≤ count + 1 → total ≡ sum_within left steps took → Sound s x left n.hand more after rest stuck more_count total short
+      sound_ran took more_count total q few total_is = record {
+        fits = q.fits;
+        did = λ e.
+            let d : Did s x left o.hand thieves copies share stuck count steps = i.did e in
+            let f : RanAndPushed s x task m n copies after mid rest took = q.turned in
+            let entry : Entry = ran_entry task f.ops took in
+            let one : (h : Task → ℕ) → ran_weight h (entry ∷ []) + weight h n.hand.pushed + weight h rest ≡ weight h m.hand.pushed + weight h mid + h task + made_weight h (entry ∷ []) = λ h. omega (arith, f.pushed h) in
+            let steps_more : steps_of d.entries + took ≡ steps_of (d.entries ++ entry ∷ []) = let w = weight_append (λ (e : Entry). e.steps) d.entries (entry ∷ []) in omega (arith, w) in record {
+              entries = d.entries ++ entry ∷ [];
+              once = f.ran.once;
+              leads = f.ran.further d.entries d.leads;
+              stands = λ typed. f.ran.stands;
+              stops = d.stops;
+              counted = omega (arith, d.counted, few, length_push d.entries entry);
+              steps_are = sum_is left _ _ total steps_more (subst (IsSum left (steps_of d.entries + took)) (sym total_is) (sum_more left (steps_of d.entries) took steps d.steps_are));
+              balance = λ h. omega (
+                arith,
+                d.balance h,
+                taken h,
+                ap (λ (t : Option Task). weight h (option_to_list t)) is,
+                one h,
+                ap (weight h) q.taken,
+                ap (λ (k : OwnerKey). weight h k.2) q.owner,
+                ap (λ (k : OwnerKey). weight h k.2) same,
+                ap (weight h) pushed,
+                weight_append (λ (e : Entry). h e.task) d.entries (entry ∷ []),
+                weight_append (λ (e : Entry). weight h (listed_by e)) d.entries (entry ∷ []),
+              );
+            };
+      }
+
+      -- a task was kept
+      pub sound_kept : Performed s x left task m n copies after mid rest turns.Kept → Sound s x left n.hand more after rest stuck count steps short
+      sound_kept q = record {
+        fits = q.fits;
+        did = λ e.
+            let d : Did s x left o.hand thieves copies share stuck count steps = i.did e in
+            let cs = q.turned.0 in let own = q.turned.1 in let put = q.turned.2 in record {
+              entries = d.entries;
+              once = subst AreDistinct (sym cs) d.once;
+              leads = subst (λ (z : List Changed). Replicates s.program x s.frozen (zeroed_heap x.written s.frozen) d.entries (sums x.written s.frozen z)) (sym cs) d.leads;
+              stands = λ typed. subst (λ (z : List Changed). StandsFor s.program x s.frozen (sums x.written s.frozen z)) (sym cs) (d.stands typed);
+              stops = d.stops;
+              counted = d.counted;
+              steps_are = d.steps_are;
+              balance = λ h. omega (arith, d.balance h, taken h, ap (λ (t : Option Task). weight h (option_to_list t)) is, ap (λ (v : OwnerView). weight h v.hand.taken) own, ap (λ (v : OwnerView). weight h v.hand.pushed) own, ap (λ (v : OwnerView). weight h v.hand.dealt) own, grown_weight rest mid task put h, ap (λ (k : OwnerKey). weight h k.2) same, ap (weight h) pushed);
+            };
+      }
+
+      -- a section stopped
+      pub sound_stuck : (one : Stuck) → option_to_list stuck ≡ [] → Performed s x left task m n copies after mid rest (turns.Stopped one) → Sound s x left n.hand more after rest (Some one) count steps short
+      sound_stuck one free q = record {
+        fits = q.fits;
+        did = λ e.
+            let d : Did s x left o.hand thieves copies share stuck count steps = i.did e in
+            let z : StoppedOne s.program x s.frozen left task copies after one = q.turned.0 in let own = q.turned.1 in let put = q.turned.2 in record {
+              entries = d.entries;
+              once = z.once;
+              leads = subst (Replicates s.program x s.frozen (zeroed_heap x.written s.frozen) d.entries) (sym z.same) d.leads;
+              stands = λ typed. subst (StandsFor s.program x s.frozen) (sym z.same) (d.stands typed);
+              stops = All-cons (StopsSo s.program x s.frozen left) one [] z.stops (All-nil (StopsSo s.program x s.frozen left));
+              counted = d.counted;
+              steps_are = d.steps_are;
+              balance = λ h. omega (arith, d.balance h, taken h, ap (λ (t : Option Task). weight h (option_to_list t)) is, ap (λ (l : List Stuck). weight h (tasks_of l)) free, ap (λ (t : Task). h t) z.task_is, ap (λ (v : OwnerView). weight h v.hand.taken) own, ap (λ (v : OwnerView). weight h v.hand.pushed) own, ap (λ (v : OwnerView). weight h v.hand.dealt) own, ap (weight h) put, ap (λ (k : OwnerKey). weight h k.2) same, ap (weight h) pushed);
+            };
+      }
+
+      pub sound_lost : (turn : Turn) → Performed s x left task m n copies after mid rest turn → Sound s x left n.hand more after rest stuck count steps true
+      sound_lost turn q = record { fits = q.fits; did = λ e. absurd (true≢false e) }

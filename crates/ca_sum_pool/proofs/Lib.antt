@@ -1,0 +1,10 @@
+pub mod Totals
+pub mod Tasks
+pub mod Did
+pub mod Steps
+pub mod Joins
+pub mod Sends
+pub mod Waiting
+pub mod Alone
+pub mod Whole
+mod Examples

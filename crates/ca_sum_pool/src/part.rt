@@ -1,0 +1,228 @@
+//! What one worker has, and its loop.
+
+ghost use Rattle.std.specs.Prelude.{◌≡◌, ℕ, map};
+ghost use Rattle.ca_program.specs.View.{program_view};
+ghost use Rattle.ca_meaning.specs.Multisets.{weight};
+ghost use Rattle.ca_logs.specs.declared.log.Task.{Task};
+ghost use Rattle.ca_deques.specs.Hands.{IsUnused};
+ghost use Rattle.ca_deques.specs.Thieves.{owner_key, key_of, taken_by_thief};
+ghost use Rattle.ca_replica.specs.Applied.{IsRound};
+ghost use Rattle.ca_sum_pool.specs.Parts.{Sound, setting_of};
+
+use crate::counting::{add_steps, one_more};
+use crate::performing::{Stuck, Sums, Turn, perform};
+use ca_base::Gate;
+use ca_deques::taking::take_any;
+use ca_deques::{Owner, Round, Thieves};
+use ca_extent::Extent;
+use ca_logs::Task;
+use ca_model::Heap;
+use ca_program::Program;
+use ca_replica::Replica;
+use ca_sections::Desk;
+use std::alloc::Global;
+use std::marker::{Model, PhantomData};
+
+/// What one worker has: its deque, its passes on the others', its replica, its share of what is left, and the task
+/// whose section stopped. Contracts see it as what stays the same while it runs.
+#[derive(Drop)]
+pub struct Part<N: Round, K: Sums> {
+    owner: Owner<N>,
+    thieves: Thieves<N>,
+    replica: Replica,
+    share: Vec<Task>,
+    stuck: Option<Stuck>,
+    /// So many tasks ran, or more.
+    count: u32,
+    /// Their steps, unless they are more than are left.
+    steps: Option<u64>,
+    /// Memory was wanting.
+    short: bool,
+    worker: u32,
+    /// How many tasks it may run, and within how many steps each.
+    quota: u32,
+    left: u64,
+    alloc: Global,
+    of: PhantomData<K>,
+}
+
+impl<N: Round, K: Sums> Model for Part<N, K> {
+    ghost use Rattle.std.specs.Prelude.{◌≡◌, map};
+    ghost use Rattle.ca_deques.specs.Thieves.{owner_key, key_of};
+    ghost use Rattle.ca_sum_pool.specs.Parts.{PartKey, Sound};
+
+    ghost Value = { PartKey };
+
+    ghost view = { λ p. record { owner = owner_key p.owner; thieves = map key_of p.thieves } };
+
+    ghost invariant = { λ p. (p.left ≡ K.left) × Sound N.setting K.extent K.left p.owner.hand p.thieves p.replica.copies p.share.items p.stuck p.count p.steps p.short };
+}
+
+/// What a part is made of.
+pub struct Pieces<N: Round> {
+    pub owner: Owner<N>,
+    pub thieves: Thieves<N>,
+    pub replica: Replica,
+    pub share: Vec<Task>,
+    pub stuck: Option<Stuck>,
+    pub count: u32,
+    pub steps: Option<u64>,
+    pub short: bool,
+}
+
+impl<N: Round, K: Sums> Part<N, K> {
+    /// The part of a worker that has run nothing. It takes no memory.
+    pub fn of(
+        alloc: Global,
+        owner: Owner<N>,
+        thieves: Thieves<N>,
+        worker: u32,
+        quota: u32,
+        left: u64,
+    ) -> Part<N, K>
+        requires unused { IsUnused owner.hand × ((h : Task → ℕ) → weight (taken_by_thief h) thieves ≡ 0) }
+        requires left { left ≡ K.left }
+        ensures { result ≡ record { owner = owner_key owner; thieves = map key_of thieves } }
+    {
+        Part {
+            owner,
+            thieves,
+            replica: Replica::new(alloc),
+            share: Vec::new(alloc),
+            stuck: None,
+            count: 0,
+            steps: Some(0),
+            short: false,
+            worker,
+            quota,
+            left,
+            alloc,
+            of: PhantomData,
+        }
+    }
+
+    /// Takes it apart. What is known of it is known of its pieces.
+    pub fn apart(self) -> Pieces<N>
+        ensures same { self ≡ record { owner = owner_key result.owner; thieves = map key_of result.thieves } }
+        ensures sound { Sound N.setting K.extent K.left result.owner.hand result.thieves result.replica.copies result.share.items result.stuck result.count result.steps result.short }
+    {
+        let Part {
+            owner,
+            thieves,
+            replica,
+            share,
+            stuck,
+            count,
+            steps,
+            short,
+            worker: _,
+            quota: _,
+            left: _,
+            alloc: _,
+            of: _,
+        } = self;
+        Pieces {
+            owner,
+            thieves,
+            replica,
+            share,
+            stuck,
+            count,
+            steps,
+            short,
+        }
+    }
+
+    /// Takes a task and runs it. `false` where it found none, or where it is the last one of this round.
+    fn step<'a, G: Gate>(
+        &mut self,
+        desk: &mut Desk<'a>,
+        program: &'a Program,
+        extent: &Extent,
+        frozen: &Heap,
+        gate: &G,
+    ) -> bool
+        requires picked { K.extent ≡ extent.now }
+        requires round { IsRound (program_view program.now) extent.now frozen.now }
+        requires setting { N.setting ≡ setting_of (program_view program.now) extent.now frozen.now }
+        ensures { self.new ≡ self.old }
+    {
+        if self.short {
+            return false;
+        }
+        if self.stuck.is_some() {
+            return false;
+        }
+        let Some(task) = take_any(&mut self.owner, &mut self.thieves, &mut self.share) else {
+            return false;
+        };
+        let alloc = self.alloc;
+        let left = self.left;
+        let worker = self.worker;
+        let turn = perform::<N, G>(
+            alloc,
+            desk,
+            program,
+            extent,
+            frozen,
+            gate,
+            worker,
+            &mut self.owner,
+            &mut self.replica,
+            &mut self.share,
+            left,
+            task,
+        );
+        match turn {
+            Turn::Ran { steps } => {
+                self.count = one_more(self.count, self.quota);
+                self.steps = add_steps(self.steps, steps, left);
+                true
+            }
+            Turn::Kept => false,
+            Turn::Stopped(stuck) => {
+                self.stuck = Some(stuck);
+                false
+            }
+            Turn::Short => {
+                self.short = true;
+                false
+            }
+        }
+    }
+
+    /// Runs at most so many tasks as the quota says.
+    fn run_quota<'a, G: Gate>(
+        &mut self,
+        desk: &mut Desk<'a>,
+        program: &'a Program,
+        extent: &Extent,
+        frozen: &Heap,
+        gate: &G,
+    )
+        requires picked { K.extent ≡ extent.now }
+        requires round { IsRound (program_view program.now) extent.now frozen.now }
+        requires setting { N.setting ≡ setting_of (program_view program.now) extent.now frozen.now }
+        ensures { self.new ≡ self.old }
+    {
+        for _ in 0..self.quota {
+            if !self.step(desk, program, extent, frozen, gate) {
+                return;
+            }
+        }
+    }
+
+    /// Runs at most so many tasks as the quota says, at a desk of its own.
+    pub fn run<G: Gate>(&mut self, program: &Program, extent: &Extent, frozen: &Heap, gate: &G)
+        requires picked { K.extent ≡ extent.now }
+        requires round { IsRound (program_view program.now) extent.now frozen.now }
+        requires setting { N.setting ≡ setting_of (program_view program.now) extent.now frozen.now }
+        ensures { self.new ≡ self.old }
+    {
+        let Ok(mut desk) = Desk::new(self.alloc) else {
+            self.short = true;
+            return;
+        };
+        self.run_quota(&mut desk, program, extent, frozen, gate)
+    }
+}

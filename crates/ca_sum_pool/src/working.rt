@@ -1,0 +1,77 @@
+//! The workers' part of a round, from the first tasks to what is left.
+
+ghost use Rattle.std.specs.Prelude.{◌≡◌, ◌<◌, IfOk};
+ghost use Rattle.ca_program.specs.View.{program_view};
+ghost use Rattle.ca_deques.specs.Settings.{AllFit};
+ghost use Rattle.ca_replica.specs.Applied.{IsRound};
+ghost use Rattle.ca_sum_pool.specs.Parts.{Worked, setting_of};
+
+use crate::assembling::{Apart, assemble, take_apart};
+use crate::performing::{Stuck, Sums};
+use crate::running::run_all;
+use ca_base::Gate;
+use ca_deques::{Round, deal, open_owners, open_thieves, settle};
+use ca_extent::Extent;
+use ca_logs::Task;
+use ca_model::Heap;
+use ca_program::Program;
+use ca_replica::Replica;
+use std::alloc::{AllocError, Global};
+use std::sync::Wait;
+use std::thread::Threads;
+
+/// What workers leave: their replicas, the tasks that are left, those whose sections stopped, and how many ran, or
+/// more, in how many steps.
+#[derive(Drop)]
+pub struct Left {
+    pub replicas: Vec<Replica>,
+    pub rest: Vec<Task>,
+    pub stuck: Vec<Stuck>,
+    pub count: u32,
+    pub steps: Option<u64>,
+}
+
+/// Deals the first tasks to the workers, lets them run, takes back their passes and what their deques and shares hold.
+pub fn work<N: Round + Send + Sync, K: Sums + Send + Sync, R: Threads + Wait + Sync, G: Gate>(
+    rt: &R,
+    alloc: Global,
+    program: &Program,
+    extent: &Extent,
+    frozen: &Heap,
+    gate: &G,
+    workers: usize,
+    first: Vec<Task>,
+    quota: u32,
+    left: u64,
+) -> Result<Left, AllocError>
+    requires picked { (K.extent ≡ extent.now) × (left ≡ K.left) }
+    requires round { IsRound (program_view program.now) extent.now frozen.now }
+    requires setting { N.setting ≡ setting_of (program_view program.now) extent.now frozen.now }
+    requires some { 0 < workers }
+    requires first { AllFit N.setting first.items }
+    ensures { IfOk result (Worked N.setting K.extent K.left first.items) }
+{
+    let mut rest = Vec::new(alloc);
+    let mut owners = open_owners::<N>(alloc, workers)?;
+    let thieves = open_thieves(alloc, &mut owners)?;
+    deal(&mut owners, first, &mut rest)?;
+    let mut parts = assemble::<N, K>(alloc, owners, thieves, quota, left)?;
+    run_all(rt, program, extent, frozen, gate, parts.as_mut_slice());
+    let Apart {
+        owners,
+        thieves,
+        replicas,
+        stuck,
+        count,
+        steps,
+        mut rest,
+    } = take_apart(alloc, parts, rest, left)?;
+    settle(rt, owners, thieves, &mut rest)?;
+    Ok(Left {
+        replicas,
+        rest,
+        stuck,
+        count,
+        steps,
+    })
+}

@@ -1,0 +1,171 @@
+//! A turn: a round of what waits, in cells or on replicas, and what it changed put beside the heap.
+
+ghost use Rattle.std.specs.Prelude.{◌≡◌, ◌<◌, true, All, Contains, length, IfOk};
+ghost use Rattle.ca_program.specs.View.{program_view};
+ghost use Rattle.ca_program.specs.declared.program.OpId.{OpId};
+ghost use Rattle.ca_beside.specs.Beside.{present};
+ghost use Rattle.ca_logs.specs.declared.log.Task.{Task};
+ghost use Rattle.ca_logs.specs.Entries.{task_calls};
+ghost use Rattle.ca_sum_laws.specs.Summed.{HasOnlySums};
+ghost use Rattle.ca_replica.specs.Adding.{Once};
+ghost use Rattle.ca_workers.specs.clauses.Runs.{BeginsAnew, IsSetting, MayWait, TurnedTo};
+
+use crate::rounds::{Left, Rounds, at_work};
+use crate::storing::{store, store_sums};
+use crate::tasks::{begin_anew, newest, together};
+use ca_base::{Gate, Memory};
+use ca_beside::Beside;
+use ca_cells::RoundLog;
+use ca_logs::Task;
+use ca_model::Heap;
+use ca_replica::summed;
+use ca_sum_pool::{SummedRound, round_summed};
+use std::sync::Wait;
+use std::thread::Threads;
+
+/// The most values that the replicas of all workers hold: four times those of the largest heap.
+const MOST_COPIED: u64 = 16_000_000;
+
+/// What waits behind a round, and the steps that it took.
+#[derive(Drop)]
+pub struct Turn {
+    pub rest: Vec<Task>,
+    pub steps: u64,
+}
+
+/// Whether a copy of so many values for each worker isn't too much.
+pub fn may_copy(workers: u32, values: u32) -> bool
+    requires { 0 < workers }
+{
+    u64::from(values) <= MOST_COPIED / u64::from(workers)
+}
+
+impl<'s, R: Threads + Wait + Sync, G: Gate> Rounds<'s, R, G> {
+    /// Whether each worker keeps sums of its own: where the extent only sums, and copies for each aren't too much.
+    pub fn keeps_sums(&self, frozen: &Heap) -> bool
+        ensures { result ≡ true → (op : OpId) → Contains self.now.extent.now.ops op → HasOnlySums (program_view self.now.program.now) self.now.extent.now.written op }
+    {
+        if !may_copy(self.workers, frozen.values()) {
+            return false;
+        }
+        summed(self.program, self.extent)
+    }
+
+    /// Runs a round in cells, and takes the objects that it touched beside the heap.
+    fn turn_in_cells(
+        &self,
+        frozen: &Heap,
+        beside: &mut Beside,
+        waiting: Vec<Task>,
+        quota: u32,
+        left: u64,
+    ) -> Result<Option<Turn>, Memory>
+        requires setting { IsSetting (program_view self.now.program.now) self.now.extent.now frozen.now }
+        requires waiting { MayWait (program_view self.now.program.now) self.now.extent.now frozen.now (present frozen.now beside.old) (task_calls waiting.items) }
+        requires begins { All (λ (t : Task). t.after ≡ 0) waiting.items }
+        requires some { 0 < length waiting.items }
+        requires quota { 0 < quota }
+        ensures turned { IfOk result (TurnedTo (program_view self.now.program.now) frozen.now (present frozen.now beside.old) (task_calls waiting.items) left (present frozen.now beside.new)) }
+        ensures begins { IfOk result BeginsAnew }
+    {
+        let went = self.run_round(frozen, beside, waiting, quota, left)?;
+        let round = match went {
+            Some(round) => round,
+            None => return Ok(None),
+        };
+        let Left { log, rest, steps } = round;
+        let RoundLog {
+            numbers,
+            logs,
+            heap: _,
+            beside: _,
+            keeps: _,
+        } = log;
+        store(numbers, logs, beside)?;
+        Ok(Some(Turn { rest, steps }))
+    }
+
+    /// Runs a round on replicas, and adds their sums to the objects beside the heap.
+    ///
+    /// The round is given as many of the tasks as its workers may run, the newest; the others stay where they are, before
+    /// what the round leaves.
+    fn turn_summed(
+        &self,
+        frozen: &Heap,
+        beside: &mut Beside,
+        waiting: Vec<Task>,
+        quota: u32,
+        left: u64,
+    ) -> Result<Option<Turn>, Memory>
+        requires setting { IsSetting (program_view self.now.program.now) self.now.extent.now frozen.now }
+        requires sums { (op : OpId) → Contains self.now.extent.now.ops op → HasOnlySums (program_view self.now.program.now) self.now.extent.now.written op }
+        requires once { Once self.now.extent.now.written }
+        requires waiting { MayWait (program_view self.now.program.now) self.now.extent.now frozen.now (present frozen.now beside.old) (task_calls waiting.items) }
+        requires begins { All (λ (t : Task). t.after ≡ 0) waiting.items }
+        requires some { 0 < length waiting.items }
+        requires quota { 0 < quota }
+        ensures turned { IfOk result (TurnedTo (program_view self.now.program.now) frozen.now (present frozen.now beside.old) (task_calls waiting.items) left (present frozen.now beside.new)) }
+        ensures begins { IfOk result BeginsAnew }
+    {
+        let mut others = waiting;
+        let most = (self.workers as usize).saturating_mul(quota as usize);
+        let first = newest(self.alloc, &mut others, most)?;
+        let count = at_work(self.workers, first.len());
+        let SummedRound {
+            replicas,
+            mut rest,
+            steps: sum,
+            stop,
+        } = round_summed(
+            self.rt,
+            self.alloc,
+            self.program,
+            self.extent,
+            frozen,
+            self.gate,
+            count as usize,
+            first,
+            quota,
+            left,
+        )?;
+        if stop.is_some() {
+            return Ok(None);
+        }
+        match sum {
+            Some(steps) => {
+                store_sums(replicas.as_slice(), self.extent, frozen, beside)?;
+                begin_anew(&mut rest);
+                let waits = together(others, rest)?;
+                Ok(Some(Turn { rest: waits, steps }))
+            }
+            None => Ok(None),
+        }
+    }
+
+    /// Runs a round, on replicas where the workers keep sums, and else in cells. What changed is beside the heap then.
+    /// `None`: what waits has no complete run within the budget.
+    pub fn turn(
+        &self,
+        frozen: &Heap,
+        beside: &mut Beside,
+        waiting: Vec<Task>,
+        quota: u32,
+        left: u64,
+        sums: bool,
+    ) -> Result<Option<Turn>, Memory>
+        requires setting { IsSetting (program_view self.now.program.now) self.now.extent.now frozen.now }
+        requires sums { sums ≡ true → (op : OpId) → Contains self.now.extent.now.ops op → HasOnlySums (program_view self.now.program.now) self.now.extent.now.written op }
+        requires once { Once self.now.extent.now.written }
+        requires waiting { MayWait (program_view self.now.program.now) self.now.extent.now frozen.now (present frozen.now beside.old) (task_calls waiting.items) }
+        requires begins { All (λ (t : Task). t.after ≡ 0) waiting.items }
+        requires some { 0 < length waiting.items }
+        requires quota { 0 < quota }
+        ensures turned { IfOk result (TurnedTo (program_view self.now.program.now) frozen.now (present frozen.now beside.old) (task_calls waiting.items) left (present frozen.now beside.new)) }
+        ensures begins { IfOk result BeginsAnew }
+    {
+        if sums {
+            return self.turn_summed(frozen, beside, waiting, quota, left);
+        }
+        self.turn_in_cells(frozen, beside, waiting, quota, left)
+    }
+}
