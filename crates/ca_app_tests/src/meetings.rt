@@ -1,7 +1,10 @@
 //! Sections of different workers that are inside at one time.
 
 use crate::calls::Call;
-use crate::sources::{THREE_BINS, THREE_BINS_HEAP, TWO_BINS, TWO_BINS_HEAP};
+use crate::sources::{
+    ONE_BIN, ONE_BIN_BESIDE_MANY, ONE_BIN_BESIDE_MORE, ONE_BIN_HEAP, THREE_BINS, THREE_BINS_HEAP,
+    THREE_PRODUCTS, THREE_PRODUCTS_HEAP, TWO_BINS, TWO_BINS_HEAP, TWO_PRODUCTS, TWO_PRODUCTS_HEAP,
+};
 use ca_base::Gate;
 use std::sync::atomic::{AtomicU64, Ordering};
 
@@ -66,6 +69,53 @@ impl Gate for MeetingGate {
     }
 }
 
+/// Holds the first section on an object until another one on it is inside, which another worker runs, for so many turns of
+/// looking.
+#[derive(Drop)]
+struct SharingGate {
+    object: u32,
+    turns: u32,
+    inside: AtomicU64,
+    in_vain: AtomicU64,
+}
+
+impl SharingGate {
+    fn new(object: u32, turns: u32) -> SharingGate {
+        SharingGate {
+            object,
+            turns,
+            inside: AtomicU64::new(0),
+            in_vain: AtomicU64::new(0),
+        }
+    }
+
+    /// Waits until two sections were inside.
+    fn wait(&self) {
+        for _ in 0..self.turns {
+            if self.inside.load(Ordering::SeqCst) > 1 {
+                return;
+            }
+        }
+        self.in_vain.fetch_add(1, Ordering::SeqCst);
+    }
+
+    /// How many sections were inside, and how many waited in vain.
+    fn counts(&self) -> (u64, u64) {
+        (
+            self.inside.load(Ordering::SeqCst),
+            self.in_vain.load(Ordering::SeqCst),
+        )
+    }
+}
+
+impl Gate for SharingGate {
+    fn inside(&self, _worker: u32, object: u32) {
+        if object == self.object && self.inside.fetch_add(1, Ordering::SeqCst) == 0 {
+            self.wait();
+        }
+    }
+}
+
 /// Two calls of a marked loop run at one time.
 #[test]
 fn two_sections_meet(rt: HostRuntime) {
@@ -80,6 +130,46 @@ fn thief_meets_owner(rt: HostRuntime) {
     let gate = MeetingGate::new(1, 3);
     assert!(rt; Call::new("run 2 7", THREE_BINS).ends_past(&rt, &gate, THREE_BINS_HEAP));
     assert!(rt; gate.counts() == (1, 1, 1, 0));
+}
+
+/// The same of calls that multiply, for which each object has a lock.
+#[test]
+fn two_products_meet(rt: HostRuntime) {
+    let gate = MeetingGate::new(1, 2);
+    assert!(rt; Call::new("run 2 7", TWO_PRODUCTS).ends_past(&rt, &gate, TWO_PRODUCTS_HEAP));
+    assert!(rt; gate.counts() == (1, 1, 0, 0));
+}
+
+/// And of three, of which one is taken by the other worker.
+#[test]
+fn thief_meets_owner_of_products(rt: HostRuntime) {
+    let gate = MeetingGate::new(1, 3);
+    assert!(rt; Call::new("run 2 10", THREE_PRODUCTS).ends_past(&rt, &gate, THREE_PRODUCTS_HEAP));
+    assert!(rt; gate.counts() == (1, 1, 1, 0));
+}
+
+/// Two calls that add to one object run at one time, for each worker adds to a copy of its own.
+#[test]
+fn two_meet_on_one(rt: HostRuntime) {
+    let gate = SharingGate::new(1, MOST_TURNS);
+    assert!(rt; Call::new("run 2 5", ONE_BIN).ends_past(&rt, &gate, ONE_BIN_HEAP));
+    assert!(rt; gate.counts() == (2, 0));
+    assert!(rt; Call::new("run 2 4", ONE_BIN).tells(&rt, 4, "spent 4$"));
+}
+
+/// They do beside as many values as all workers may copy, and not beside one more, where the object has a lock.
+#[test]
+fn two_meet_beside_so_many_values(rt: HostRuntime) {
+    let gate = SharingGate::new(1, MOST_TURNS);
+    let mut call = Call::new("run 64 5", ONE_BIN_BESIDE_MANY);
+    call.room = 1_000_000;
+    let (status, _) = call.run_past(&rt, &gate);
+    assert!(rt; status == 0 && gate.counts() == (2, 0));
+    let gate = SharingGate::new(1, 100_000);
+    let mut call = Call::new("run 64 5", ONE_BIN_BESIDE_MORE);
+    call.room = 1_000_000;
+    let (status, _) = call.run_past(&rt, &gate);
+    assert!(rt; status == 0 && gate.counts() == (2, 1));
 }
 
 /// Two workers run the marked call of a generated text past the gate.

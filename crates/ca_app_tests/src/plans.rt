@@ -30,6 +30,15 @@ pairs:extent X::f$X::f X::f commutes$extent X::g$X::f X::f commutes$X::f X::g un
 emit:class X {$public :$long x ;$void f ( long v ) {$x ^= v ;$}$void g ( ) {$f ( 5 ) ;$f ( ( x | 3 ) & 6 ) ;$}$} ;$int main ( ) {$X * a = new X ( ) ;$a -> g ( ) ;$}$
 of class X { public: long x; void f(long v) { x ^= v; } void g(long v) { f((v) & 3); f(max(v | 3, 6)); } }; int main() { X *a = new X(); a->g(1); }
 emit:class X {$public :$long x ;$void f ( long v ) {$/*@lock*/ x ^= v ;$/*@unlock*/ }$void g ( long v ) {$/*@spawn*/ f ( v & 3 ) ;$f ( max ( v | 3 , 6 ) ) ;$}$} ;$int main ( ) {$X * a = new X ( ) ;$/*@parallel*/ a -> g ( 1 ) ;$}$
+of class V { public: long a[10]; void add(long f, long t, long v) { for (long i = f; i < t; i++) a[i] += v; } void one(long j) { a[j] = a[j] + 1; } void two() { add(0, 10, 3); one(4); add(2, 5, 1); } }; int main() { V *x = new V(); x->two(); }
+pairs:extent V::add$V::add V::add commutes$extent V::one$V::one V::one commutes$extent V::two$V::add V::add commutes$V::add V::one commutes$V::add V::two commutes$V::one V::one commutes$V::one V::two commutes$V::two V::two commutes$
+plan:op V::add serial$op V::one serial$op V::two parallel$
+emit:class V {$public :$long a [ 10 ] ;$void add ( long f , long t , long v ) {$/*@lock*/ for ( long i = f ; i < t ; i += 1 ) a [ i ] += v ;$/*@unlock*/ }$void one ( long j ) {$/*@lock*/ a [ j ] = a [ j ] + 1 ;$/*@unlock*/ }$void two ( ) {$/*@spawn*/ add ( 0 , 10 , 3 ) ;$one ( 4 ) ;$add ( 2 , 5 , 1 ) ;$}$} ;$int main ( ) {$V * x = new V ( ) ;$/*@parallel*/ x -> two ( ) ;$}$
+of class V { public: long a[10]; void add(long f, long t, long v) { for (long i = f; i < t; i++) a[i] = v; } }; int main() { }
+pairs:extent V::add$V::add V::add unproved LoopForm 1$
+of class A { public: long a[9]; long c; void k(long v) {$for (long i; i < c; i++) a[i] += v; } void s() { c += 1; } void w() { k(1); s(); } }; int main() { }
+pairs:extent A::k$A::k A::k commutes$extent A::s$A::s A::s commutes$extent A::w$A::k A::k unproved LoopForm 2$A::k A::s unproved LoopForm 2$A::k A::w unproved LoopForm 2$A::s A::s commutes$A::s A::w commutes$A::w A::w commutes$
+plan:op A::k serial$op A::s serial$op A::w serial$
 of $ /* of visits */ class A { public: void m() { ; } }; int main() { }
 plan:op A::m serial$
 of class A { public: void m() { ; } void n() { m(); } void e() { } }; int main() { A *a = new A(); { a->n(); } ; while (a == nullptr) a->n(); }

@@ -3,8 +3,8 @@
 use crate::calls::{Call, add, add_lines};
 use crate::sources::{
     ACCUMULATOR, BINS, DEEP_THEN_HIT, FIRST, GRAPH_VISIT, HIT_THEN_DEEP, LONG_LIST, PRINTS,
-    STEPS_IN_A_LIST, STEPS_IN_A_LOOP, THREE_BINS, TRAP_IN_A_LIST, TRAP_IN_A_LOOP, TWO_BINS,
-    TWO_PRODUCTS, WRAPPING_SUM,
+    PRODUCTS_ON_ONE, STEPS_IN_A_LIST, STEPS_IN_A_LOOP, THREE_BINS, TRAP_IN_A_LIST, TRAP_IN_A_LOOP,
+    TWO_BINS, WRAPPING_SUM,
 };
 use std::alloc::Global;
 use std::process::Abort;
@@ -68,6 +68,14 @@ of class F { public: long f(long n) { return n; } }; int main() { F *a = new F()
 of class X { public: long x; void f(long v) { x ^= v; } void g() { f(5); f(5); f(3); } }; int main() { X *a = new X(); a->g(); }
 4 0:#0 X x=3$
 3 4:spent 3$
+// ranges of an array and an item, a range that goes past the array, and one of nothing
+of class V { public: long a[10]; void add(long f, long t, long v) { for (long i = f; i < t; i++) a[i] += v; } void one(long j) { a[j] = a[j] + 1; } void two() { add(0, 10, 3); one(4); add(2, 5, 1); } }; int main() { V *x = new V(); x->two(); }
+17 0:#0 V a=[3,3,4,4,5,3,3,3,3,3]$
+16 4:spent 16$
+of class V { public: long a[3]; void add(long f, long t) {$for (long i = f; i < t; i++) a[i] += t; } void go(long f, long t) { add(0, 3); add(1, 2); add(f, t); } }; int main() { V *x = new V(); x->go(2, 4); }
+1000 3:trap 2 OutOfRange$
+of class V { public: long a[3]; void add(long f, long t) { for (long i = f; i < t; i++) a[i] += t; } void go(long f, long t) { add(0, 3); add(1, 2); add(f, t); } }; int main() { V *x = new V(); x->go(9, -5); }
+8 0:#0 V a=[3,5,3]$
 // what thirty calls gather
 of class B { public: long any; long odd; long top; long low; void add(long v) { any |= v; odd ^= v; top = max(top, v); low = min(-v, low); } }; class R { public: B *b[3]; void make() { for (long i; i < 3; i++) b[i] = new B(); } void go() { for (long i; i < 30; i++) b[i % 3]->add(i); } }; int main() { R *r = new R(); r->make(); r->go(); }
 65 0:#0 R b=[#1,#2,#3]$#1 B any=31 odd=11 top=27 low=-27$#2 B any=31 odd=21 top=28 low=-28$#3 B any=31 odd=31 top=29 low=-29$
@@ -159,7 +167,7 @@ fn runs_to_the_end(rt: HostRuntime) {
 #[test]
 fn longer_texts_run_to_the_end(rt: HostRuntime) {
     // two products on one object, in either order
-    all_run(&rt, TWO_PRODUCTS, "4 0:#0 A n=24$\n3 4:spent 3$");
+    all_run(&rt, PRODUCTS_ON_ONE, "4 0:#0 A n=24$\n3 4:spent 3$");
     all_run(&rt, BINS, "5002 4:spent 5002$");
     all_run(&rt, LONG_LIST, "299999 4:spent 299999$");
     all_run(&rt, PRINTS, "9 0:0$1$2$true$#0 Bin n=3$");

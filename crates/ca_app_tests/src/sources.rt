@@ -43,6 +43,32 @@ pub const THREE_BINS: &str =
 
 pub const THREE_BINS_HEAP: &str = "#0 Pair b=[#1,#2,#3]\n#1 Bin n=1\n#2 Bin n=2\n#3 Bin n=3\n";
 
+/// Two objects that an array points at, begun at 1 by calls that aren't marked, and multiplied by marked ones.
+pub const TWO_PRODUCTS: &str =
+    "class Bin {\npublic:\n  long n;\n  void begin() { n = 1; }\n  void add(long v) { n *= v; }\n};\nclass Pair {\npublic:\n  Bin *b[2];\n  void fill() { b[0] = new Bin(); b[1] = new Bin(); b[0]->begin(); b[1]->begin(); }\n};\nint main() {\n  Pair *s = new Pair();\n  s->fill();\n  for (long i = 0; i < 2; i++) s->b[i]->add(i + 2);\n}\n";
+
+pub const TWO_PRODUCTS_HEAP: &str = "#0 Pair b=[#1,#2]\n#1 Bin n=2\n#2 Bin n=3\n";
+
+/// Three of them.
+pub const THREE_PRODUCTS: &str =
+    "class Bin {\npublic:\n  long n;\n  void begin() { n = 1; }\n  void add(long v) { n *= v; }\n};\nclass Pair {\npublic:\n  Bin *b[3];\n  void fill() { b[0] = new Bin(); b[1] = new Bin(); b[2] = new Bin(); b[0]->begin(); b[1]->begin(); b[2]->begin(); }\n};\nint main() {\n  Pair *s = new Pair();\n  s->fill();\n  for (long i = 0; i < 3; i++) s->b[i]->add(i + 2);\n}\n";
+
+pub const THREE_PRODUCTS_HEAP: &str = "#0 Pair b=[#1,#2,#3]\n#1 Bin n=2\n#2 Bin n=3\n#3 Bin n=4\n";
+
+/// Two calls that add to one object.
+pub const ONE_BIN: &str =
+    "class Bin {\npublic:\n  long n;\n  void add(long v) { n = n + v; }\n};\nclass Own {\npublic:\n  Bin *b;\n  void fill() { b = new Bin(); }\n};\nint main() {\n  Own *s = new Own();\n  s->fill();\n  for (long i = 0; i < 2; i++) s->b->add(i + 1);\n}\n";
+
+pub const ONE_BIN_HEAP: &str = "#0 Own b=#1\n#1 Bin n=3\n";
+
+/// The same in a heap of 250,000 values, of which 64 workers may have a copy each.
+pub const ONE_BIN_BESIDE_MANY: &str =
+    "class Bin { public: long n; void add(long v) { n = n + v; } }; class Own { public: Bin *b; long a[249998]; void fill() { b = new Bin(); } }; int main() { Own *s = new Own(); s->fill(); for (long i = 0; i < 2; i++) s->b->add(i + 1); }\n";
+
+/// The same with a value more.
+pub const ONE_BIN_BESIDE_MORE: &str =
+    "class Bin { public: long n; void add(long v) { n = n + v; } }; class Own { public: Bin *b; long a[249999]; void fill() { b = new Bin(); } }; int main() { Own *s = new Own(); s->fill(); for (long i = 0; i < 2; i++) s->b->add(i + 1); }\n";
+
 /// A list of 100,000 objects, and calls nested as deeply.
 pub const LONG_LIST: &str =
     "class Link {\npublic:\n  Link *next;\n  long n;\n  void set(Link *x) { next = x; }\n  void walk(long d) { n = n + d; if (next != nullptr) next->walk(d + 1); }\n};\nint main() {\n  Link *head = nullptr;\n  for (long i = 0; i < 100000; i++) {\n    Link *k = new Link();\n    k->set(head);\n    head = k;\n  }\n  head->walk(1);\n  print(head->n);\n}\n";
@@ -84,5 +110,5 @@ pub const TWO_SUMS: &str =
     "class A { public: long n; void add(long v) { n += v; } void two(long v) { add(v); add(v + 1); } }; int main() { A *a = new A(); a->two(3); }";
 
 /// Two products on one object, which wait together.
-pub const TWO_PRODUCTS: &str =
+pub const PRODUCTS_ON_ONE: &str =
     "class A { public: long n; void set(long v) { n = v; } void mul(long v) { n *= v; } void two(long v) { mul(v); mul(v + 1); } }; int main() { A *a = new A(); a->set(2); a->two(3); }";

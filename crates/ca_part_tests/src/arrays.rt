@@ -16,6 +16,38 @@ fn adds_in_either_order(rt: HostRuntime) {
     hold(&rt, rows);
 }
 
+/// Two ranges, a range and an item, have one form in either order. What is taken off again, what is added to nothing, and a range
+/// between equal bounds leave nothing; a put stays where it was.
+#[test]
+fn adds_to_ranges_in_either_order(rt: HostRuntime) {
+    let rows = "alike 0s0p1p2pW3p4p5pW 0s3p4p5pW0p1p2pW\nalike 0s0p1p2pW3p4pA 0s3p4pA0p1p2pW
+alike 0s0p1p2pW0p1p2pNW 0s\nalike 0s0p1p2pW0p1p3pW 0s0p1p2p3p+W\nalike 0s0p1p0nW 0s\nalike 0s0p0p2pW 0s\ndiffer 0s5n3n2pW 0s
+differ 0s0p1p2pW3p4pU 0s3p4pU0p1p2pW\ndiffer 0s0p1p2pW 0s0p3p2pW\ndiffer 0s0p1p2pW1p3p2pW 0s0p3p2pW";
+    hold(&rt, rows);
+}
+
+/// The item at a constant between constant bounds has what is added, one before or behind them hasn't, and so it is with bounds that
+/// are the other way round.
+#[test]
+fn selects_in_ranges(rt: HostRuntime) {
+    let rows =
+        "alike 0s2n5n0pW2nS 0s2nS0p+\nalike 0s2n5n0pW4nS 0s4nS0p+\nalike 0s2n5n0pW1nS 0s1nS\nalike 0s2n5n0pW5nS 0s5nS
+alike 0s5n2n0pW3nS 0s3nS\nalike 0s1m5n0pW0nS 0s0nS0p+\ndiffer 0s1p2p0pW3pS 0s3pS\nformed 0s1p2p0pW3pS
+alike 0s1p2p0pW3pS 0s3pS3p1p<!3p2p<&0p0n?+";
+    hold(&rt, rows);
+}
+
+/// An item behind so many ranges has a product for itself and one for each range, in its weight.
+#[test]
+fn weighs_ranges(rt: HostRuntime) {
+    hold_for_each(
+        &rt,
+        "heaviest\nformed",
+        "$ 0s,254:0p1p2pW,0pS,0s,254:0p1p2pW,0pS*",
+    );
+    hold(&rt, "large 0s,255:0p1p2pW,0pS,0s,254:0p1p2pW,0pS*");
+}
+
 /// The item at a constant index over a put at another constant is the item before it, and at an equal index it is what
 /// was put.
 #[test]
@@ -46,6 +78,7 @@ fn refuses_an_item_over_many_puts(rt: HostRuntime) {
 /// An array inside one more, of each kind, so often.
 const KINDS: &str = "6000:0p1pU
 6000:0p1pA
+6000:0p1p2pW
 3000:2pS0sx0pxU
 6000:2bx1s?
 6000:2bx1sx?";

@@ -50,6 +50,8 @@ mod separable;
 #[cfg(test)]
 mod sources;
 #[cfg(test)]
+mod sums;
+#[cfg(test)]
 mod terms;
 #[cfg(test)]
 mod texts;

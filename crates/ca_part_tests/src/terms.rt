@@ -89,6 +89,13 @@ fn three(letter: u8, a: Box<Term>, b: Box<Term>, c: Box<Term>) -> Term {
     }
 }
 
+/// The array under the three terms on top, with the last of them added to the range between the other two.
+fn swept<R: AllocGlobal + Abort>(rt: &R, stack: &mut Vec<Term>, addend: Box<Term>) -> Term {
+    let to = top_box(rt, stack);
+    let from = top_box(rt, stack);
+    Term::Sweep(top_box(rt, stack), from, to, addend)
+}
+
 /// The term on top, which is taken.
 fn top<R: Abort>(rt: &R, stack: &mut Vec<Term>) -> Term {
     stack.pop().expect(rt, "a term")
@@ -116,6 +123,7 @@ fn made<R: AllocGlobal + Abort>(rt: &R, stack: &mut Vec<Term>, letter: u8) -> Te
             let b = top_box(rt, stack);
             three(letter, top_box(rt, stack), b, boxed(rt, above))
         }
+        b'W' => swept(rt, stack, boxed(rt, above)),
         _ => beside(letter, top_box(rt, stack), boxed(rt, above)),
     }
 }

@@ -54,6 +54,28 @@ of class E { public: long n; long a[4]; void m(long p) { n = n + p; long t = a[n
 0 0 0:Demand InRange 1
 of class F { public: long a[4]; void m() { while (a[0] < 1) a[0] += 1; } }; int main() { }
 0 0 0:LoopForm 1
+// Ranges of an array and items of it change places; what is put doesn't.
+of class V { public: long a[10]; void add(long f, long t, long v) { for (long i = f; i < t; i++) a[i] += v; } void one(long j) { a[j] = a[j] + 1; }$ void two() { add(0, 10, 3); one(4); add(2, 5, 1); } void set(long j) { a[j] = 2; } void all() { two(); set(1); } };$ int main() { }
+2 0 0:Commutes
+2 0 1:Commutes
+2 0 2:Commutes
+2 1 1:Commutes
+2 1 2:Commutes
+2 2 2:Commutes
+4 0 3:Field 0
+of class V { public: long a[10]; void add(long f, long t, long v) { for (long i = f; i < t; i++) a[i] = v; } }; int main() { }
+0 0 0:LoopForm 1
+// A bound may be a field in an extent that doesn't write it.
+of class A { public: long a[9]; long c; void k(long v) {$ for (long i; i < c; i++) a[i] += v; } void s() { c += 1; } void w() { k(1); s(); } };$ int main() { }
+0 0 0:Commutes
+2 0 0:LoopForm 2
+2 0 1:LoopForm 2
+2 1 2:Commutes
+// What is read stands in the range, or doesn't; and a range is checked where its condition holds.
+of class R { public: long a[9]; long s; void m(long v) { for (long i = 2; i < 5; i++) a[i] -= v; } void n() { s += a[1] + a[5]; }$ void o() { s += a[4]; } void p(long t) { s += t; if (s > 3) for (long i; i < t; i++) a[i] += 0; } void all() { m(1); n(); o(); p(1); } };$ int main() { }
+4 0 1:Commutes
+4 0 2:Field 1
+4 3 3:Demand Sweeps 0
 of class C { public: long x; bool b; void t(long p) { if (b) x = x + p; else x = x - p; } void s(bool q) { b = b || q; }$ void both(long p, bool q) { t(p); s(q); } };$ int main() { }
 2 0 0:Commutes
 2 1 1:Commutes
@@ -139,6 +161,7 @@ fn demanded(kind: &DemandKind) -> (&'static str, u32) {
         DemandKind::Calls(function) => ("Calls", function.0),
         DemandKind::Invokes(op) => ("Invokes", op.0),
         DemandKind::Loops(at) => ("Loops", at.0),
+        DemandKind::Sweeps(field) => ("Sweeps", field.field),
     }
 }
 
