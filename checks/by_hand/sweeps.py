@@ -158,7 +158,6 @@ V * x = new V ( ) ;
         ),
         k_and_m("commutes", loops=[2]),
     ),
-    # weights: each sweep is a level, and an item has a product for itself and one for each range and addend
-    repeated("2,047 sweeps", "long a[9];", "for (long i; i < p; i++) a[i] += p; ", 2047, "commutes"),
-    repeated("2,048 sweeps", "long a[9];", "for (long i; i < p; i++) a[i] += p; ", 2048, "Large"),
+    # as many sweeps as an operation of one parameter has locals for their counters
+    repeated("255 sweeps", "long a[9];", "for (long i; i < p; i++) a[i] += p; ", 255, "commutes"),
 ]
