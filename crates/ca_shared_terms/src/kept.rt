@@ -3,6 +3,8 @@
 ghost use Rattle.std.specs.Prelude.{◌≡◌, IfOk, IfSome, OnOk};
 ghost use Rattle.ca_sums.specs.Sums.{NoZero, AddsSum};
 ghost use Rattle.ca_forms.specs.Rules.{gathered};
+ghost use Rattle.ca_forms.specs.Arrays.{one, range};
+ghost use Rattle.ca_forms.specs.ArrayRules.{added_at};
 ghost use Rattle.ca_norm.specs.Forms.{expand, norm, pointer_of, array_of};
 
 use crate::light::{LightTerm, Node};
@@ -47,6 +49,37 @@ fn known<'a>(kept: &'a [Kept], condition: &LightTerm) -> Option<&'a Polynomial>
         }
     }
     None
+}
+
+/// An array's form with a sum more at an item. It has a function of its own, as `with_sweep` has, so that the frames of the
+/// recursion are small.
+#[inline(never)]
+fn with_sum(
+    alloc: Global,
+    array: Array,
+    index: &LightTerm,
+    addend: &LightTerm,
+) -> Result<Array, AllocError>
+    ensures { IfOk result (λ a. a ≡ added_at array (one (gathered (expand index.now))) (gathered (expand addend.now))) }
+{
+    let (index, addend) = both(index.polynomial(alloc), addend.polynomial(alloc))?;
+    array.added_at(alloc, Span::one(index), addend)
+}
+
+/// An array's form with a sum more at each item of a range.
+#[inline(never)]
+fn with_sweep(
+    alloc: Global,
+    array: Array,
+    from: &LightTerm,
+    to: &LightTerm,
+    addend: &LightTerm,
+) -> Result<Array, AllocError>
+    ensures { IfOk result (λ a. a ≡ added_at array (range (gathered (expand from.now)) (gathered (expand to.now))) (gathered (expand addend.now))) }
+{
+    let bounds = both(from.polynomial(alloc), to.polynomial(alloc));
+    let ((from, to), addend) = both(bounds, addend.polynomial(alloc))?;
+    array.added_at(alloc, Span::range(from, to), addend)
 }
 
 impl Conditions {
@@ -227,15 +260,12 @@ impl LightTerm {
                 chosen_array(alloc, condition, first, second)
             }
             Node::AddAt(a, i, x) => {
-                let sides = both(i.polynomial(alloc), x.polynomial(alloc));
-                let (array, (index, addend)) = both(a.array_under(alloc, conditions), sides)?;
-                array.added_at(alloc, Span::one(index), addend)
+                let array = a.array_under(alloc, conditions)?;
+                with_sum(alloc, array, i, x)
             }
             Node::Sweep(a, f, t, x) => {
-                let bounds = both(f.polynomial(alloc), t.polynomial(alloc));
-                let sides = both(bounds, x.polynomial(alloc));
-                let (array, ((from, to), addend)) = both(a.array_under(alloc, conditions), sides)?;
-                array.added_at(alloc, Span::range(from, to), addend)
+                let array = a.array_under(alloc, conditions)?;
+                with_sweep(alloc, array, f, t, x)
             }
             _ => self.array(alloc),
         }
