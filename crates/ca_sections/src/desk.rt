@@ -1,10 +1,11 @@
 //! What a section works with.
 
-ghost use Rattle.std.specs.Prelude.{◌≡◌, ◌++◌, [], map, IfOk};
+ghost use Rattle.std.specs.Prelude.{◌≡◌, ◌++◌, [], map, IfOk, OnErr};
 ghost use Rattle.ca_model.specs.Slots.{start_of};
 ghost use Rattle.ca_direct.specs.Direct.{own_in};
 ghost use Rattle.ca_sections.specs.Running.{own_slots, Begun};
 
+use crate::all_olds::AllOlds;
 use ca_base::Memory;
 use ca_direct::Scene;
 use ca_model::{Heap, Slots, Value};
@@ -71,6 +72,15 @@ impl<'a> Desk<'a> {
             },
             spare: Vec::new(alloc),
         })
+    }
+
+    /// Moves the old values of the desk's last section, which was done, to those of sections before it on the same object.
+    /// Without memory for it both are as before.
+    pub fn keep_olds(&mut self, all: &mut AllOlds) -> Result<(), AllocError>
+        ensures added { IfOk result (λ _. all.new ≡ self.old.state.olds ++ all.old) }
+        ensures kept { OnErr result ((all.new ≡ all.old) × (self.new.state.olds ≡ self.old.state.olds)) }
+    {
+        all.add(self.state.alloc, &mut self.state.olds)
     }
 
     /// Takes an operation that was listed and is used no more, for its memory, if it has any and there is room for it.

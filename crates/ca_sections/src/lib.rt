@@ -3,7 +3,9 @@
 //! The section of an operation is what its body does to the receiver alone: own accesses are made in an object
 //! that is handed in, every other read in a heap that stays as it is, and each call is listed instead of made
 //! (`ca_meaning/specs/Sections.antt`). `section` works on the object in place and puts it back on every answer
-//! but `Done`, by the old values of `ca_section`; so no object is copied. Behind Done `Desk::undo` puts it back too.
+//! but `Done`, by the old values of `ca_section`; so no object is copied. Behind Done `Desk::undo` puts it back too, and
+//! `AllOlds` undoes several sections. One that puts nothing needs no object: `section_frozen` reads the heap alone, and
+//! `lock_row` tells for which operations it serves.
 //! `section_of_loop` does the same for a call loop of serial code and hands its locals back; `section_loop` finds
 //! the loop by its number. `specs/Answers.antt` has what the answers say, `specs/Running.antt` how a section in
 //! memory stands.
@@ -15,6 +17,7 @@
 //! Whoever reads the public clauses must believe each file of `specs/`.
 #![tactic(auto)]
 
+mod all_olds;
 mod calls;
 mod desk;
 mod find;
@@ -22,10 +25,13 @@ pub mod laws;
 mod loops;
 mod operations;
 mod puts;
+mod rows;
 mod statements;
 mod stop;
 mod values;
 
+pub use all_olds::AllOlds;
 pub use desk::Desk;
 pub use loops::{section_loop, section_of_loop};
-pub use operations::{SectionAnswer, section};
+pub use operations::{SectionAnswer, section, section_frozen};
+pub use rows::lock_row;

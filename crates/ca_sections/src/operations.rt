@@ -1,14 +1,15 @@
 //! From an operation and its receiver to what its section leaves and lists: `section` of `ca_meaning/specs/Sections.antt`.
 
-ghost use Rattle.std.specs.Prelude.{◌≡◌, ◌≤◌, ℕ, IfOk, OnErr, slice_get};
+ghost use Rattle.std.specs.Prelude.{◌≡◌, ◌≤◌, ℕ, [], IfOk, OnErr, Some, slice_get};
 ghost use Rattle.ca_program.specs.View.{program_view, statements_view};
 ghost use Rattle.ca_meaning.specs.Functions.{body_of};
 ghost use Rattle.ca_meaning.specs.Sections.{section};
+ghost use Rattle.ca_parallel.specs.Bodies.{targets_of_all};
 ghost use Rattle.ca_section.specs.Olds.{put_back, AllThere};
 ghost use Rattle.ca_values.specs.Resume.{others_in};
 ghost use Rattle.ca_model.specs.declared.value.Object.{Object};
 ghost use Rattle.ca_sections.specs.declared.operations.SectionAnswer.TheVariants.{Done};
-ghost use Rattle.ca_sections.specs.Answers.{SectionIs, CanUndo};
+ghost use Rattle.ca_sections.specs.Answers.{SectionIs, FrozenIs, CanUndo};
 ghost use Rattle.ca_sections.specs.Running.{Settled};
 
 use crate::desk::{Desk, Own, Receiver, State};
@@ -126,4 +127,36 @@ pub fn section<'a>(
     let answer = desk.state.settle(ran, out, left);
     mem::swap(&mut desk.state.slots, &mut object.slots);
     answer
+}
+
+/// The section of an operation that puts nothing, on its receiver's object in the frozen heap, within a budget of steps.
+/// No object is copied.
+///
+/// Done puts what it lists behind what stands in `out`. On each other answer, and where memory runs out, `out` is as
+/// before.
+pub fn section_frozen<'a>(
+    desk: &mut Desk<'a>,
+    alloc: Global,
+    program: &'a Program,
+    frozen: &Heap,
+    op: &Op,
+    left: u64,
+    out: &mut Vec<Op>,
+) -> Result<SectionAnswer, Memory>
+    ensures answer { targets_of_all (body_of (slice_get (program_view program.now).ops op.now.op.0)) ≡ [] → (o : Object) → slice_get frozen.now op.now.receiver ≡ Some o → IfOk result (λ answer. FrozenIs answer (section (program_view program.now) frozen.now op.now.receiver o op.now.op op.now.args left) out.old.items out.new.items) }
+    ensures kept { OnErr result (out.new.items ≡ out.old.items) }
+{
+    if left == 0 {
+        return Ok(SectionAnswer::Spent);
+    }
+    let receiver = Receiver {
+        alloc,
+        this: Value::Ref(op.receiver),
+        own: Own::Frozen,
+    };
+    let called = body_of(program, op.op);
+    desk.state
+        .begin(receiver, op.args.as_slice(), called.others, left - 1)?;
+    let ran = desk.exec_all(program, frozen, called.stmts);
+    desk.state.settle(ran, out, left)
 }

@@ -1,0 +1,59 @@
+//! The old values of several sections on one object: what undoes them all.
+
+ghost use Rattle.std.specs.Prelude.{◌≡◌, ◌++◌, [], IfOk, OnErr};
+ghost use Rattle.ca_section.specs.Olds.{put_back, AllThere};
+
+use ca_model::Slots;
+use ca_section::Olds;
+use std::alloc::{AllocError, Global};
+use std::marker::Model;
+use std::mem;
+
+/// The old values of several sections on one object, each with its own. Contracts see those of the last section first.
+#[derive(Drop)]
+pub struct AllOlds {
+    sections: Vec<Olds>,
+}
+
+impl Model for AllOlds {
+    ghost use Rattle.std.specs.Prelude.{List};
+    ghost use Rattle.ca_section.specs.declared.olds.Old.{Old};
+    ghost use Rattle.ca_sections.specs.Joined.{joined_olds};
+
+    ghost Value = { List Old };
+
+    ghost view = { λ s. joined_olds s.sections.items };
+}
+
+impl AllOlds {
+    /// None. It takes no memory.
+    pub fn new(alloc: Global) -> Self
+        ensures { result ≡ [] }
+    {
+        AllOlds {
+            sections: Vec::new(alloc),
+        }
+    }
+
+    /// Moves those of a later section in, which has none then. Without memory for it both are as before.
+    pub(crate) fn add(&mut self, alloc: Global, later: &mut Olds) -> Result<(), AllocError>
+        ensures added { IfOk result (λ _. self.new ≡ later.old ++ self.old) }
+        ensures kept { OnErr result ((self.new ≡ self.old) × (later.new ≡ later.old)) }
+    {
+        self.sections.reserve(1)?;
+        let olds = mem::replace(later, Olds::new(alloc));
+        self.sections.push_reserved(olds);
+        Ok(())
+    }
+
+    /// Puts all back, those of the last section first, and forgets them. It takes no memory.
+    pub fn put_back(&mut self, slots: &mut Slots)
+        requires { AllThere self.old slots.old }
+        ensures slots { slots.new ≡ put_back self.old slots.old }
+        ensures none { self.new ≡ [] }
+    {
+        'lists: while let Some(mut olds) = self.sections.pop() {
+            olds.put_back(slots);
+        }
+    }
+}
