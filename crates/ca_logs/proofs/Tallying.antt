@@ -1,14 +1,15 @@
 -- What stands in memory beside a list of entries, with one more.
-use Rattle.std.proofs.Common.{◌≡◌, ℕ, ◌+◌, List, [], ◌∷◌, ◌++◌, map, Option, Some, refl, sym, ap, ◌∙◌, subst, arith}
-use Rattle.std.proofs.lemmas.List.{map-append}
+use Rattle.std.proofs.Common.{◌≡◌, ℕ, ◌+◌, List, [], ◌∷◌, ◌++◌, map, take, Option, Some, None, refl, sym, ap, ◌∙◌, subst, arith}
+use Rattle.std.proofs.lemmas.List.{map-append, take-map}
 use Rattle.ca_order_laws.proofs.Weights.{weight_append}
 use Rattle.ca_parallel.specs.declared.op.Op.{Op}
 use Rattle.ca_logs.specs.Lasts.{last_of}
-use Rattle.ca_logs.specs.Telling.{entry_with, operation_in, told_entry, clock_of, stopped_in, steps_of, StepsAre, Tallies}
+use Rattle.ca_logs.specs.Telling.{entry_with, operation_in, told_entry, clock_of, stopped_in, steps_of, StepsAre, Tallies, IsMark}
 use Rattle.ca_logs.specs.declared.log.Task.{Task}
 use Rattle.ca_logs.specs.declared.log.Stop.{Stop}
 use Rattle.ca_logs.specs.declared.log.Entry.{Entry}
 use Rattle.ca_logs.specs.declared.entries.Told.{Told}
+use Rattle.ca_logs.specs.declared.entries.Mark.{Mark}
 
 pub last_behind : {A : Type 0} (xs : List A) (x : A) → last_of (xs ++ x ∷ []) ≡ Some x
 last_behind [] x = refl
@@ -39,6 +40,14 @@ tallies_more es e now clock steps stuck is clocks sums stops =
       all_steps = subst (λ (n : ℕ). StepsAre steps n) (steps_more es e) sums;
       stopped = stops ∙ sym (ap stopped_in last);
     })
+
+-- the first ones of what is told
+pub told_less : (ts now : List Told) (n : ℕ) → now ≡ take n ts → map told_entry now ≡ take n (map told_entry ts)
+told_less ts now n is = ap (map told_entry) is ∙ sym (take-map told_entry n ts)
+
+-- back at a mark
+pub tallies_back : (es now : List Entry) (mark : Mark) → IsMark (take mark.count es) mark → now ≡ take mark.count es → Tallies now mark.clock mark.steps None
+tallies_back es now mark m is = subst (λ (x : List Entry). Tallies x mark.clock mark.steps None) (sym is) (record { last = m.last; all_steps = m.all_steps; stopped = sym m.no_stop })
 
 -- the operations of the tasks that operations were made into
 pub operations_back : (f : Op → Task) (ops : List Op) → ((o : Op) → operation_in (f o) ≡ o) → map operation_in (map f ops) ≡ ops

@@ -1,5 +1,5 @@
 -- Entries as they are told to contracts, and what stands in memory beside a list of them.
-use Rattle.std.specs.Prelude.{◌≡◌, ◌<◌, ℕ, cond, List, [], map, Option, Some, None, is_some, Vec}
+use Rattle.std.specs.Prelude.{◌≡◌, ◌<◌, ℕ, cond, List, [], map, Option, Some, None, is_some, length, Vec}
 use Rattle.std.specs.Global.{Global}
 use Rattle.ca_meaning.specs.Multisets.{weight}
 use Rattle.ca_parallel.specs.declared.op.Op.{Op}
@@ -8,6 +8,7 @@ use Rattle.ca_logs.specs.declared.log.Task.{Task}
 use Rattle.ca_logs.specs.declared.log.Stop.{Stop}
 use Rattle.ca_logs.specs.declared.log.Entry.{Entry}
 use Rattle.ca_logs.specs.declared.entries.Told.{Told}
+use Rattle.ca_logs.specs.declared.entries.Mark.{Mark}
 
 abbrev pub entry_with : Task → ℕ → ℕ → List Op → Option Stop → Entry
 entry_with task clock steps invoked stop = record { task = task; clock = clock; steps = steps; invoked = invoked; stop = stop }
@@ -54,3 +55,10 @@ pub record Tallies (es : List Entry) (clock : ℕ) (steps : Option ℕ) (stuck :
   pub last : clock ≡ clock_of (last_of es)
   pub all_steps : StepsAre steps (steps_of es)
   pub stopped : stuck ≡ stopped_in (last_of es)
+
+-- so many entries, of which the last one has no stop
+pub record IsMark (es : List Entry) (mark : Mark) : Type 0 where
+  pub count : mark.count ≡ length es
+  pub last : mark.clock ≡ clock_of (last_of es)
+  pub all_steps : StepsAre mark.steps (steps_of es)
+  pub no_stop : stopped_in (last_of es) ≡ None

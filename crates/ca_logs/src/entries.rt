@@ -1,8 +1,8 @@
 //! Lists of entries, which contracts see, and which stand in memory only where they are kept.
 
-ghost use Rattle.std.specs.Prelude.{◌≡◌, ℕ, ◌+◌, ◌*◌, List, [], ◌∷◌, ◌++◌, length, map, Some, None, IfOk, IfSome, OnErr, option_copied};
+ghost use Rattle.std.specs.Prelude.{◌≡◌, ℕ, ◌+◌, ◌*◌, List, [], ◌∷◌, ◌++◌, length, map, take, Some, None, IfOk, IfSome, OnErr, option_copied};
 ghost use Rattle.ca_logs.specs.Lasts.{last_of};
-ghost use Rattle.ca_logs.specs.Telling.{StepsAre, clock_of, entries_by, entry_with, operation_in, ran_entry, steps_of, stopped_in, stuck_entry, told_entry};
+ghost use Rattle.ca_logs.specs.Telling.{IsMark, StepsAre, clock_of, entries_by, entry_with, operation_in, ran_entry, steps_of, stopped_in, stuck_entry, told_entry};
 
 use crate::log::{Entry, Ops, Stop, Task};
 use ca_parallel::Op;
@@ -41,6 +41,14 @@ impl Model for Entries {
     ghost view = { λ s. entries_by s.kept s.told.items };
 
     ghost invariant = { λ s. Tallies (entries_by s.kept s.told.items) s.clock s.steps s.stuck };
+}
+
+/// Where a list of entries stood: how many there were, the clock of the last one, and the steps of all.
+#[derive(Clone, Copy)]
+pub struct Mark {
+    pub count: usize,
+    pub clock: u64,
+    pub steps: Option<u64>,
 }
 
 /// The steps and those of one entry more.
@@ -141,6 +149,16 @@ fn enter(
     }
 }
 
+/// Keeps the first entries, of those that are kept, or else of those that are told.
+fn cut(kept: &mut Option<Vec<Entry>>, told: &mut Vec<Told>, count: usize)
+    ensures { entries_by kept.new told.new.items ≡ take count (entries_by kept.old told.old.items) }
+{
+    match kept {
+        Some(entries) => entries.truncate(count),
+        None => told.truncate(count),
+    }
+}
+
 impl Entries {
     /// No entries. Those that come are kept in memory, or told to contracts alone. It takes no memory.
     pub fn none(alloc: Global, keeps: bool) -> Entries
@@ -213,6 +231,29 @@ impl Entries {
         self.clock = clock;
         self.stuck = Some(entry);
         Ok(())
+    }
+
+    /// Where they stand, for `back_to`: it serves where the last one has no stop.
+    #[inline]
+    pub fn mark(&self) -> Mark
+        ensures { stopped_in (last_of self.now) ≡ None → IsMark self.now result }
+    {
+        Mark {
+            count: self.len(),
+            clock: self.clock,
+            steps: self.steps,
+        }
+    }
+
+    /// Takes back the entries that came behind a mark. It takes no memory.
+    pub fn back_to(&mut self, mark: Mark)
+        requires { IsMark (take mark.count self.old) mark }
+        ensures { self.new ≡ take mark.count self.old }
+    {
+        cut(&mut self.kept, &mut self.told, mark.count);
+        self.clock = mark.clock;
+        self.steps = mark.steps;
+        self.stuck = None;
     }
 
     /// How many there are.
