@@ -1,6 +1,6 @@
 //! What stands in a slot: a shelf, which has the histories of a class of objects that have begun, each in memory of its own.
 
-ghost use Rattle.std.specs.Prelude.{◌≡◌, ℕ, ◌<◌, List, [], ◌∷◌, ◌++◌, length, slice_get, Some, None, IfOk, IfErr, MatchOption, OnErr};
+ghost use Rattle.std.specs.Prelude.{◌≡◌, ℕ, ◌<◌, true, false, List, [], ◌∷◌, ◌++◌, length, slice_get, Some, None, IfOk, IfErr, MatchOption, OnErr};
 ghost use Rattle.std.specs.Vec.{vec_capacity};
 ghost use Rattle.ca_program.specs.View.{program_view};
 ghost use Rattle.ca_model.specs.Typed.{TypedHeap};
@@ -36,7 +36,7 @@ use std::snapshot::Snapshot;
 /// A history in memory of its own. Contracts see it as the history.
 #[derive(Drop)]
 pub struct SlotLog {
-    log: Box<CellLog>,
+    pub(crate) log: Box<CellLog>,
 }
 
 impl Model for SlotLog {
@@ -63,6 +63,14 @@ impl SlotLog {
     {
         let SlotLog { log } = self;
         Box::into_inner(log)
+    }
+
+    /// Whether it has an entry.
+    fn has_entries(&self) -> bool
+        ensures has { result ≡ true → 0 < length self.now.entries }
+        ensures none { result ≡ false → length self.now.entries ≡ 0 }
+    {
+        0 < self.log.entries.len()
     }
 }
 
@@ -124,6 +132,19 @@ pub(crate) fn put_back(out: Out, number: u32, log: SlotLog) -> Shelf
         mut others,
     } = out;
     others.push_reserved(Held { number, log });
+    Shelf { items: others }
+}
+
+/// The shelf with a history back that is as it was. One without entries is left out, so that an object that had none has
+/// none.
+pub(crate) fn put_back_same(out: Out, number: u32, log: SlotLog) -> Shelf
+    ensures back { 0 < length log.entries → result ≡ out.others.items ++ record { number = number; log = log } ∷ [] }
+    ensures out { length log.entries ≡ 0 → result ≡ out.others.items }
+{
+    if log.has_entries() {
+        return put_back(out, number, log);
+    }
+    let Out { class: _, others } = out;
     Shelf { items: others }
 }
 

@@ -6,7 +6,7 @@ use native.Mathlib.Decide.{dec_le}
 use Rattle.ca_model.specs.declared.value.Object.{Object}
 use Rattle.ca_logs.specs.declared.log.CellLog.{CellLog}
 use Rattle.ca_logs.specs.declared.log.Entry.{Entry}
-use Rattle.ca_logs.specs.Entries.{entries_of}
+use Rattle.ca_logs.specs.Entries.{entries_of, loose_entries}
 use Rattle.ca_logs.specs.Touched.{Touched, pairs, fresh, put_logs, logs_of, AreRising}
 use Rattle.ca_logs.specs.declared.log.Task.{Task}
 use Rattle.ca_logs.specs.declared.log.Stop.{Stop}
@@ -157,16 +157,16 @@ all_full now ns ls a b h = let c : length (map fresh now) ≡ length ls = fresh_
   fresh_many [] = refl
   fresh_many (o ∷ os) = ap suc (fresh_many os)
 
-pub closing_told : (log : RoundLog) → IsTold log → HasClosing log.logs.items → HasClosing (logs_in log)
-closing_told log is h = subst (λ (es : List Entry). (e : Entry) × Contains es e × (is_closing e ≡ true)) (sym (entries_told log is)) h
+pub closing_told : (log : RoundLog) (loose : List (List Entry)) → IsTold log → HasClosing log.logs.items loose → HasClosing (logs_in log) loose
+closing_told log loose is h = subst (λ (es : List Entry). (e : Entry) × Contains (es ++ loose_entries loose) e × (is_closing e ≡ true)) (sym (entries_told log is)) h
 
 pub none_waits : (xs : List Task) → length xs ≡ 0 → xs ≡ []
 none_waits [] e = refl
 none_waits (x ∷ xs) e = absurd (omega arith)
 
-pub as_many_logs : (cells : Option Cells) (left : ℕ) (first : List Task) (a b : List CellLog) (r s : List Task) → Gathered cells left first a r → Gathered cells left first b s → length a ≡ length b
-as_many_logs None left first a b r s g h = absurd g
-as_many_logs (Some cells) left first a b r s g h = g.count ∙ sym h.count
+pub as_many_logs : (cells : Option Cells) (left : ℕ) (first : List Task) (a b : List CellLog) (k l : List (List Entry)) (r s : List Task) → Gathered cells left first a k r → Gathered cells left first b l s → length a ≡ length b
+as_many_logs None left first a b k l r s g h = absurd g
+as_many_logs (Some cells) left first a b k l r s g h = g.count ∙ sym h.count
 
 pairs_number : (ns : List ℕ) (ls : List CellLog) (i : ℕ) (a : Touched) → slice_get (pairs ns ls) i ≡ Some a → slice_get ns i ≡ Some a.number
 pairs_number [] ls i a e = cc

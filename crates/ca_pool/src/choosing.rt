@@ -8,6 +8,7 @@ ghost use Rattle.ca_deques.specs.Settings.{Fits, AllFit};
 ghost use Rattle.ca_deques.specs.Thieves.{owner_key, key_of, taken_by_thief};
 ghost use Rattle.ca_pool.specs.Work.{setting_of};
 
+use crate::performing::is_free;
 use ca_cells::Cells;
 use ca_deques::taking::{open_some, put_behind, take_any};
 use ca_deques::{Owner, Round, Thieves};
@@ -16,10 +17,11 @@ use ca_logs::Task;
 /// How many tasks a worker puts back before it waits.
 const TRIES: u32 = 4;
 
-/// A task whose object nobody holds: a task whose object is held goes behind the newest own one, which is taken in its
-/// place, a few times. Then it is the one at hand.
+/// A task that waits for nobody: one whose object is held goes behind the newest own one, which is taken in its place, a
+/// few times. Then it is the one at hand. One whose operation takes no lock, by the row, never waits.
 fn pass_held<N: Round>(
     cells: &Cells,
+    locks: &[bool],
     owner: &mut Owner<N>,
     share: &mut Vec<Task>,
     task: Task,
@@ -34,7 +36,7 @@ fn pass_held<N: Round>(
 {
     let mut next = task;
     'tries: for _ in 0..TRIES {
-        if !cells.is_held(next.op.receiver) {
+        if is_free(locks, next.op.op) || !cells.is_held(next.op.receiver) {
             break;
         }
         next = put_behind::<N>(owner, share, next);
@@ -42,10 +44,11 @@ fn pass_held<N: Round>(
     next
 }
 
-/// The newest task of the own share whose object nobody holds, as far as a few tries find one; where the share has none,
-/// of the own deque; and where that has none, one of another's. Before that it opens tasks of the share to others.
+/// The newest task of the own share that waits for nobody, as far as a few tries find one; where the share has none, of
+/// the own deque; and where that has none, one of another's. Before that it opens tasks of the share to others.
 pub fn take_free<N: Round>(
     cells: &Cells,
+    locks: &[bool],
     owner: &mut Owner<N>,
     thieves: &mut Thieves<N>,
     share: &mut Vec<Task>,
@@ -58,9 +61,9 @@ pub fn take_free<N: Round>(
     ensures fits { AllFit N.setting (option_to_list result) }
     ensures taken { (h : Task → ℕ) → weight h owner.new.hand.taken + weight (taken_by_thief h) thieves.new + weight h share.old.items + weight h owner.old.hand.pushed ≡ weight h owner.old.hand.taken + weight (taken_by_thief h) thieves.old + weight h share.new.items + weight h (option_to_list result) + weight h owner.new.hand.pushed }
 {
-    open_some::<N>(owner, share);
+    open_some::<N>(owner, share, locks);
     match take_any::<N>(owner, thieves, share) {
-        Some(task) => Some(pass_held::<N>(cells, owner, share, task)),
+        Some(task) => Some(pass_held::<N>(cells, locks, owner, share, task)),
         None => None,
     }
 }

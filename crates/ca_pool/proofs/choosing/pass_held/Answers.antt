@@ -3,7 +3,7 @@ use Rattle.ca_logs.specs.Entries.{call_of}
 use Rattle.ca_cells.specs.Rounds.{frozen_of, program_of}
 use Rattle.ca_cells.specs.Seats.{cells_key}
 use Rattle.ca_cells.proofs.Applies.{receiver_in}
-use Rattle.ca_pool.proofs.Performs.{may_run}
+use Rattle.ca_pool.proofs.Does.{may_run}
 use Rattle.ca_pool.proofs.choosing.pass_held.Goals as goal
 
 pub is_held-requires : goal.is_held-requires
