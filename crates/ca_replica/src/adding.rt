@@ -6,7 +6,7 @@ ghost use Rattle.ca_beside.specs.Beside.{present};
 ghost use Rattle.ca_replica.specs.Adding.{added_number, added_field, added_object, added, sum_at, summed_field, sums_in};
 
 use crate::zeroing::number_in;
-use ca_beside::{Beside, Changed};
+use ca_beside::{Beside, Change, Changed};
 use ca_model::{Heap, Object, Slots, Value};
 use ca_program::FieldId;
 use std::alloc::AllocError;
@@ -92,6 +92,21 @@ fn add_slots(slots: &mut Slots, copy: &Object, written: &[FieldId])
     }
 }
 
+/// The sums of a copy, which its object gets.
+#[derive(Clone, Copy)]
+struct Sums<'a> {
+    copy: &'a Object,
+    written: &'a [FieldId],
+}
+
+impl<'a> Change for Sums<'a> {
+    ghost makes = { λ s o. record { class = o.class; slots = sums_in s.written.now s.copy.now.class s.copy.now.slots o.slots } };
+
+    fn apply(&self, object: &mut Object) {
+        add_slots(&mut object.slots, self.copy, self.written);
+    }
+}
+
 /// Adds all sums of a copy to its object as that is now, beside the heap.
 fn add_one_beside(
     heap: &Heap,
@@ -105,9 +120,11 @@ fn add_one_beside(
     if number >= heap.len() {
         return Ok(());
     }
-    let mut object = beside.get(heap, number).copy()?;
-    add_slots(&mut object.slots, &copy.object, written);
-    beside.put(number, object)
+    let sums = Sums {
+        copy: &copy.object,
+        written,
+    };
+    beside.alter(heap, number, &sums)
 }
 
 /// Adds all sums of all copies to the objects as they are now, beside the heap.

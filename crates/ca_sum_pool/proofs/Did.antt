@@ -1,5 +1,5 @@
 -- What a task does to a worker's part.
-use Rattle.std.proofs.Common.{◌≡◌, ◌≢◌, ℕ, suc, ◌+◌, ◌≤◌, Bool, false, true, true≢false, option_to_list, List, [], ◌∷◌, ◌++◌, All, Option, Some, None, map, sym, refl, ap, subst, arith}
+use Rattle.std.proofs.Common.{◌≡◌, ◌≢◌, ℕ, suc, ◌+◌, ◌≤◌, Bool, false, true, true≢false, option_to_list, List, [], ◌∷◌, ◌++◌, All, Option, Some, None, map, sym, refl, ap, ◌∙◌, subst, arith}
 use Rattle.std.proofs.lemmas.List.{length_push}
 use Rattle.std.proofs.lemmas.List.Elements.{All-cons, All-nil}
 use Rattle.ca_meaning.specs.Multisets.{weight}
@@ -9,6 +9,7 @@ use Rattle.ca_order_laws.specs.Order.{StandsFor}
 use Rattle.ca_order_laws.proofs.Weights.{weight_append}
 use Rattle.ca_logs.specs.declared.log.Task.{Task}
 use Rattle.ca_logs.specs.declared.log.Entry.{Entry}
+use Rattle.ca_logs.specs.declared.log.Stop.{Stop}
 use Rattle.ca_logs.specs.Entries.{task_after, listed_by}
 use Rattle.ca_logs.specs.Laws.{steps_of}
 use Rattle.ca_deques.specs.Settings.{Setting, Fits, AllFit}
@@ -26,10 +27,17 @@ use Rattle.ca_sum_pool.specs.declared.performing.Stuck.{Stuck}
 use Rattle.ca_sum_pool.specs.declared.performing.Turn.{Turn}
 use Rattle.ca_sum_pool.specs.declared.performing.Turn.TheVariants as turns
 use Rattle.ca_sum_pool.specs.Rounded.{IsSum}
-use Rattle.ca_sum_pool.specs.Parts.{sum_within, ran_entry, tasks_of, StopsSo, ran_weight, made_weight, RanOne, StoppedOne, Keeps, RanAndPushed, Performed, Did, Sound}
+use Rattle.ca_sum_pool.specs.Parts.{begun, sum_within, ran_entry, tasks_of, StopsSo, ran_weight, made_weight, RanOne, StoppedOne, Keeps, Tells, RanAndPushed, Performed, Did, Sound}
 use Rattle.ca_sum_pool.proofs.Totals.{sum_more, sum_is}
 
 -- ---- what is answered of a task
+
+-- the call and the clock of a task are the task
+pub same_task : (t : Task) (after : ℕ) (op : Op) → after ≡ t.after → op ≡ t.op → task_after after op ≡ t
+same_task t after op e d = ap (λ k. task_after k op) e ∙ ap (λ o. task_after t.after o) d
+
+abbrev pub stuck_of : Task → Stop → Stuck
+stuck_of t why = record { task = t; why = why }
 
 module _ (s : Setting) (x : Extent) (left : ℕ) (task : Task) where
   -- a task that was kept
@@ -60,6 +68,13 @@ module _ (s : Setting) (x : Extent) (left : ℕ) (task : Task) where
   pub stuck_performed : (o : OwnerView) (before after : List Changed) (share : List Task) (one : Stuck) → StoppedOne s.program x s.frozen left task before after one → AllFit s share → Performed s x left task o o before after share share (turns.Stopped one)
   stuck_performed o before after share one z a = record { owner = refl; taken = refl; fits = a; turned = (z, refl, refl) }
 
+  -- the same of how it is told, if there is memory for it
+  pub told_performed : (o : OwnerView) (before after : List Changed) (share : List Task) (why : Stop) (turn : Turn) → Tells task why turn → StoppedOne s.program x s.frozen left task before after (record { task = task; why = why }) → AllFit s share → Performed s x left task o o before after share share turn
+  told_performed o before after share why (turns.Ran n) t z a = absurd t
+  told_performed o before after share why turns.Kept t z a = absurd t
+  told_performed o before after share why (turns.Stopped one) t z a = stuck_performed o before after share one (subst (λ (q : Stuck). StoppedOne s.program x s.frozen left task before after q) (sym t) z) a
+  told_performed o before after share why turns.Short t z a = record { owner = refl; taken = refl; fits = a; turned = tt }
+
 -- ---- a worker's part
 
 pub nothing_found : {A : Type 0} (got : Option A) → ((x : A) → got ≡ Some x → ⊥) → got ≡ None
@@ -75,12 +90,12 @@ pub none_apart : AreDistinct []
 none_apart i j c d e f same = cc
 
 module _ (s : Setting) (x : Extent) (left : ℕ) where
-  pub sound_short : (hand : Hand) (thieves : List ThiefView) (copies : List Changed) (share : List Task) (stuck : Option Stuck) (count : ℕ) (steps : Option ℕ) (short : Bool) → Sound s x left hand thieves copies share stuck count steps short → Sound s x left hand thieves copies share stuck count steps true
-  sound_short hand thieves copies share stuck count steps short i = record { fits = i.fits; did = λ e. absurd (true≢false e) }
+  pub sound_short : (hand : Hand) (thieves : List ThiefView) (copies : List Changed) (share mine waits : List Task) (stuck : Option Stuck) (count : ℕ) (steps : Option ℕ) (short : Bool) → Sound s x left hand thieves copies share mine waits stuck count steps short → Sound s x left hand thieves copies share mine waits stuck count steps true
+  sound_short hand thieves copies share mine waits stuck count steps short i = record { fits = i.fits; did = λ e. absurd (true≢false e) }
 
   -- a worker that has run nothing
-  pub sound_new : (hand : Hand) (thieves : List ThiefView) (copies : List Changed) (share : List Task) → IsUnused hand → ((h : Task → ℕ) → weight (taken_by_thief h) thieves ≡ 0) → copies ≡ [] → share ≡ [] → Sound s x left hand thieves copies share None 0 (Some 0) false
-  sound_new hand thieves copies share unused stolen none empty = record {
+  pub sound_new : (hand : Hand) (thieves : List ThiefView) (copies : List Changed) (share mine : List Task) → IsUnused hand → ((h : Task → ℕ) → weight (taken_by_thief h) thieves ≡ 0) → copies ≡ [] → share ≡ [] → Sound s x left hand thieves copies share mine mine None 0 (Some 0) false
+  sound_new hand thieves copies share mine unused stolen none empty = record {
     fits = subst (AllFit s) (sym empty) (λ k d lt. absurd (omega (arith, lt)));
     did = λ e. record {
       entries = [];
@@ -94,14 +109,14 @@ module _ (s : Setting) (x : Extent) (left : ℕ) where
     };
   }
 
-  module _ (o m : OwnerView) (thieves more : List ThiefView) (copies : List Changed) (share mid : List Task) (stuck : Option Stuck) (count : ℕ) (steps : Option ℕ) (short : Bool) (got : Option Task)
-      (i : Sound s x left o.hand thieves copies share stuck count steps short) (same : owner_key m ≡ owner_key o) (pushed : m.hand.pushed ≡ o.hand.pushed)
-      (taken : (h : Task → ℕ) → weight h m.hand.taken + weight (taken_by_thief h) more + weight h share ≡ weight h o.hand.taken + weight (taken_by_thief h) thieves + weight h mid + weight h (option_to_list got)) where
+  module _ (o m : OwnerView) (thieves more : List ThiefView) (copies : List Changed) (share mid mine : List Task) (k l : List Op) (kl : k ≡ l) (at end now last : ℕ) (stuck : Option Stuck) (count : ℕ) (steps : Option ℕ) (short : Bool) (got : Option Task)
+      (i : Sound s x left o.hand thieves copies share mine (begun k at end) stuck count steps short) (same : owner_key m ≡ owner_key o)
+      (taken : (h : Task → ℕ) → weight h m.hand.taken + weight (taken_by_thief h) more + weight h o.hand.pushed + weight h share + weight h (begun l at end) ≡ weight h o.hand.taken + weight (taken_by_thief h) thieves + weight h m.hand.pushed + weight h mid + weight h (begun l now last) + weight h (option_to_list got)) where
     -- a worker found no task
-    pub sound_still : AllFit s mid → got ≡ None → Sound s x left m.hand more copies mid stuck count steps short
+    pub sound_still : AllFit s mid → got ≡ None → Sound s x left m.hand more copies mid mine (begun k now last) stuck count steps short
     sound_still fits is = record {
       fits = fits;
-      did = λ e. let d : Did s x left o.hand thieves copies share stuck count steps = i.did e in record {
+      did = λ e. let d : Did s x left o.hand thieves copies share mine (begun k at end) stuck count steps = i.did e in record {
         entries = d.entries;
         once = d.once;
         leads = d.leads;
@@ -109,17 +124,17 @@ module _ (s : Setting) (x : Extent) (left : ℕ) where
         stops = d.stops;
         counted = d.counted;
         steps_are = d.steps_are;
-        balance = λ h. omega (arith, d.balance h, taken h, ap (λ (t : Option Task). weight h (option_to_list t)) is, ap (λ (k : OwnerKey). weight h k.2) same, ap (weight h) pushed);
+        balance = λ h. omega (arith, d.balance h, taken h, ap (λ z. weight h (begun z at end)) kl, ap (λ z. weight h (begun z now last)) kl, ap (λ (t : Option Task). weight h (option_to_list t)) is, ap (λ (k : OwnerKey). weight h k.2) same);
       };
     }
 
     module _ (task : Task) (is : got ≡ Some task) (n : OwnerView) (after : List Changed) (rest : List Task) where
       -- a worker ran a task
-      pub sound_ran : (took more_count : ℕ) (total : Option ℕ) → Performed s x left task m n copies after mid rest (turns.Ran took) → more_count ≤ count + 1 → total ≡ sum_within left steps took → Sound s x left n.hand more after rest stuck more_count total short
+      pub sound_ran : (took more_count : ℕ) (total : Option ℕ) → Performed s x left task m n copies after mid rest (turns.Ran took) → more_count ≤ count + 1 → total ≡ sum_within left steps took → Sound s x left n.hand more after rest mine (begun k now last) stuck more_count total short
       sound_ran took more_count total q few total_is = record {
         fits = q.fits;
         did = λ e.
-            let d : Did s x left o.hand thieves copies share stuck count steps = i.did e in
+            let d : Did s x left o.hand thieves copies share mine (begun k at end) stuck count steps = i.did e in
             let f : RanAndPushed s x task m n copies after mid rest took = q.turned in
             let entry : Entry = ran_entry task f.ops took in
             let one : (h : Task → ℕ) → ran_weight h (entry ∷ []) + weight h n.hand.pushed + weight h rest ≡ weight h m.hand.pushed + weight h mid + h task + made_weight h (entry ∷ []) = λ h. omega (arith, f.pushed h) in
@@ -135,12 +150,13 @@ module _ (s : Setting) (x : Extent) (left : ℕ) where
                 arith,
                 d.balance h,
                 taken h,
+                ap (λ z. weight h (begun z at end)) kl,
+                ap (λ z. weight h (begun z now last)) kl,
                 ap (λ (t : Option Task). weight h (option_to_list t)) is,
                 one h,
                 ap (weight h) q.taken,
                 ap (λ (k : OwnerKey). weight h k.2) q.owner,
                 ap (λ (k : OwnerKey). weight h k.2) same,
-                ap (weight h) pushed,
                 weight_append (λ (e : Entry). h e.task) d.entries (entry ∷ []),
                 weight_append (λ (e : Entry). weight h (listed_by e)) d.entries (entry ∷ []),
               );
@@ -148,11 +164,11 @@ module _ (s : Setting) (x : Extent) (left : ℕ) where
       }
 
       -- a task was kept
-      pub sound_kept : Performed s x left task m n copies after mid rest turns.Kept → Sound s x left n.hand more after rest stuck count steps short
+      pub sound_kept : Performed s x left task m n copies after mid rest turns.Kept → Sound s x left n.hand more after rest mine (begun k now last) stuck count steps short
       sound_kept q = record {
         fits = q.fits;
         did = λ e.
-            let d : Did s x left o.hand thieves copies share stuck count steps = i.did e in
+            let d : Did s x left o.hand thieves copies share mine (begun k at end) stuck count steps = i.did e in
             let cs = q.turned.0 in let own = q.turned.1 in let put = q.turned.2 in record {
               entries = d.entries;
               once = subst AreDistinct (sym cs) d.once;
@@ -161,16 +177,16 @@ module _ (s : Setting) (x : Extent) (left : ℕ) where
               stops = d.stops;
               counted = d.counted;
               steps_are = d.steps_are;
-              balance = λ h. omega (arith, d.balance h, taken h, ap (λ (t : Option Task). weight h (option_to_list t)) is, ap (λ (v : OwnerView). weight h v.hand.taken) own, ap (λ (v : OwnerView). weight h v.hand.pushed) own, ap (λ (v : OwnerView). weight h v.hand.dealt) own, grown_weight rest mid task put h, ap (λ (k : OwnerKey). weight h k.2) same, ap (weight h) pushed);
+              balance = λ h. omega (arith, d.balance h, taken h, ap (λ z. weight h (begun z at end)) kl, ap (λ z. weight h (begun z now last)) kl, ap (λ (t : Option Task). weight h (option_to_list t)) is, ap (λ (v : OwnerView). weight h v.hand.taken) own, ap (λ (v : OwnerView). weight h v.hand.pushed) own, ap (λ (v : OwnerView). weight h v.hand.dealt) own, grown_weight rest mid task put h, ap (λ (k : OwnerKey). weight h k.2) same);
             };
       }
 
       -- a section stopped
-      pub sound_stuck : (one : Stuck) → option_to_list stuck ≡ [] → Performed s x left task m n copies after mid rest (turns.Stopped one) → Sound s x left n.hand more after rest (Some one) count steps short
+      pub sound_stuck : (one : Stuck) → option_to_list stuck ≡ [] → Performed s x left task m n copies after mid rest (turns.Stopped one) → Sound s x left n.hand more after rest mine (begun k now last) (Some one) count steps short
       sound_stuck one free q = record {
         fits = q.fits;
         did = λ e.
-            let d : Did s x left o.hand thieves copies share stuck count steps = i.did e in
+            let d : Did s x left o.hand thieves copies share mine (begun k at end) stuck count steps = i.did e in
             let z : StoppedOne s.program x s.frozen left task copies after one = q.turned.0 in let own = q.turned.1 in let put = q.turned.2 in record {
               entries = d.entries;
               once = z.once;
@@ -179,9 +195,9 @@ module _ (s : Setting) (x : Extent) (left : ℕ) where
               stops = All-cons (StopsSo s.program x s.frozen left) one [] z.stops (All-nil (StopsSo s.program x s.frozen left));
               counted = d.counted;
               steps_are = d.steps_are;
-              balance = λ h. omega (arith, d.balance h, taken h, ap (λ (t : Option Task). weight h (option_to_list t)) is, ap (λ (l : List Stuck). weight h (tasks_of l)) free, ap (λ (t : Task). h t) z.task_is, ap (λ (v : OwnerView). weight h v.hand.taken) own, ap (λ (v : OwnerView). weight h v.hand.pushed) own, ap (λ (v : OwnerView). weight h v.hand.dealt) own, ap (weight h) put, ap (λ (k : OwnerKey). weight h k.2) same, ap (weight h) pushed);
+              balance = λ h. omega (arith, d.balance h, taken h, ap (λ z. weight h (begun z at end)) kl, ap (λ z. weight h (begun z now last)) kl, ap (λ (t : Option Task). weight h (option_to_list t)) is, ap (λ (l : List Stuck). weight h (tasks_of l)) free, ap (λ (t : Task). h t) z.task_is, ap (λ (v : OwnerView). weight h v.hand.taken) own, ap (λ (v : OwnerView). weight h v.hand.pushed) own, ap (λ (v : OwnerView). weight h v.hand.dealt) own, ap (weight h) put, ap (λ (k : OwnerKey). weight h k.2) same);
             };
       }
 
-      pub sound_lost : (turn : Turn) → Performed s x left task m n copies after mid rest turn → Sound s x left n.hand more after rest stuck count steps true
+      pub sound_lost : (turn : Turn) → Performed s x left task m n copies after mid rest turn → Sound s x left n.hand more after rest mine (begun k now last) stuck count steps true
       sound_lost turn q = record { fits = q.fits; did = λ e. absurd (true≢false e) }

@@ -8,7 +8,7 @@ use Rattle.ca_logs.specs.Entries.{ran_in, stuck_in, tasks_in}
 use Rattle.ca_model.specs.declared.value.Value.TheVariants.{Long}
 use Rattle.ca_meaning.specs.Multisets.{SameItems}
 use Rattle.ca_sum_pool.specs.Rounded.{IsSum, first_stop}
-use Rattle.ca_sum_pool.specs.Parts.{ran_entry, stuck_entry, sum_within}
+use Rattle.ca_sum_pool.specs.Parts.{begun, ran_entry, stuck_entry, sum_within}
 
 -- b->add(3), and b->add(4), each a first task
 abbrev adds : Op
@@ -54,3 +54,10 @@ added = refl
 
 past : sum_within 2 (Some 1) 2 ≡ None
 past = refl
+
+-- of a list of both the second one, and none behind it
+second : begun (adds ∷ more ∷ []) 1 2 ≡ two ∷ []
+second = refl
+
+none_behind : begun (adds ∷ more ∷ []) 2 2 ≡ []
+none_behind = refl

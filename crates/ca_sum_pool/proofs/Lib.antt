@@ -1,4 +1,5 @@
 pub mod Totals
+pub mod Begun
 pub mod Tasks
 pub mod Did
 pub mod Steps

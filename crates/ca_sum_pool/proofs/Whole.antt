@@ -2,17 +2,18 @@
 use Rattle.std.proofs.Common.{◌≡◌, ◌≢◌, ℕ, suc, ◌+◌, ◌<◌, ◌≤◌, cond, List, [], ◌∷◌, ◌++◌, All, Option, Some, None, length, map, flat_map, inl, inr, ◌⊎◌, ⊎_elim, sym, refl, ap, ◌∙◌, subst, arith, append-nil}
 use Rattle.std.specs.Prelude.{Contains, filter, is_none, is_some, slice_index_or}
 use Rattle.std.proofs.lemmas.List.{length-append}
-use Rattle.std.proofs.lemmas.List.Elements.{All-append, All-cons, All-nil, All-head, All-tail, Contains-append_left, Contains-append_right, Contains-append_cases, Contains-push, filter-append}
+use Rattle.std.proofs.lemmas.List.Elements.{All-append, All-map, All-cons, All-nil, All-head, All-tail, Contains-append_left, Contains-append_right, Contains-append_cases, Contains-push, filter-append}
 use Rattle.ca_program.specs.Plain.{PlainProgram}
 use Rattle.ca_model.specs.declared.value.Object.{Object}
 use Rattle.ca_meaning.specs.Multisets.{weight, SameItems}
 use Rattle.ca_parallel.specs.Extents.{Extent}
+use Rattle.ca_parallel.specs.declared.op.Op.{Op}
 use Rattle.ca_order_laws.specs.Pending.{PendingRun}
 use Rattle.ca_order_laws.proofs.Grown.{none_of, single_is}
 use Rattle.ca_order_laws.proofs.Weights.{weight_append}
 use Rattle.ca_logs.specs.declared.log.Task.{Task}
 use Rattle.ca_logs.specs.declared.log.Entry.{Entry}
-use Rattle.ca_logs.specs.Entries.{ran_in, stuck_in, tasks_in, listed_by, task_calls}
+use Rattle.ca_logs.specs.Entries.{ran_in, stuck_in, tasks_in, listed_by, task_after, task_calls}
 use Rattle.ca_logs.specs.LogOrder.{ordered}
 use Rattle.ca_logs.specs.Laws.{steps_of}
 use Rattle.ca_logs.proofs.Orders.{weight_ordered}
@@ -158,6 +159,10 @@ fits_of p x frozen ts h k d l = let m : MayRun p x frozen _ = h k d l in record 
 
 pub first_fit : (s : Setting) (p : PlainProgram) (x : Extent) (frozen : List Object) (ts : List Task) → s ≡ setting_of p x frozen → All (MayRun p x frozen) ts → AllFit s ts
 first_fit s p x frozen ts e h = subst (λ (z : Setting). AllFit z ts) (sym e) (fits_of p x frozen ts h)
+
+-- calls of a list begin the round, and so do tasks behind them
+pub all_begin : (calls : List Op) (first : List Task) → All (λ (t : Task). t.after ≡ 0) first → All (λ (t : Task). t.after ≡ 0) (map (task_after 0) calls ++ first)
+all_begin calls first h = All-append (λ (t : Task). t.after ≡ 0) (map (task_after 0) calls) first (All-map (λ (t : Task). t.after ≡ 0) (task_after 0) calls (λ k d l. refl)) h
 
 module _ (p : PlainProgram) (x : Extent) (frozen : List Object) (round : IsRound p x frozen) (once : Once x.written) (left quota : ℕ) (some_quota : 0 < quota) (first : List Task) (begins : All (λ (t : Task). t.after ≡ 0) first)
     (l : Left) (w : Worked (setting_of p x frozen) x left first l) (more : List Task) (all : List Stuck) (own : List Changed) (total : Option ℕ) (fin : Finished p x frozen left quota l.count l.rest.items more l.stuck.items all l.steps own total) where

@@ -1,5 +1,5 @@
 -- What is known of a worker's part of a round with replicas, and the equation that it keeps.
-use Rattle.std.specs.Prelude.{ℕ, suc, ◌≡◌, ◌≢◌, ◌<◌, ◌≤◌, ◌+◌, ◌-◌, ◌⊎◌, nat_lt, cond, Bool, true, false, List, [], ◌∷◌, ◌++◌, length, map, reverse, option_to_list, All, Contains, Option, Some, None, slice_get}
+use Rattle.std.specs.Prelude.{ℕ, zero, suc, ◌≡◌, ◌≢◌, ◌<◌, ◌≤◌, ◌+◌, ◌-◌, ◌⊎◌, nat_lt, cond, Bool, true, false, List, [], ◌∷◌, ◌++◌, length, map, reverse, option_to_list, All, Contains, Option, Some, None, slice_get}
 use Rattle.ca_program.specs.Plain.{PlainProgram}
 use Rattle.ca_model.specs.declared.value.Object.{Object}
 use Rattle.ca_model.specs.Typed.{TypedHeap}
@@ -23,6 +23,8 @@ use Rattle.ca_sum_laws.specs.Replicas.{MayRun, Replicates, AreBalanced}
 use Rattle.ca_replica.specs.Zeroed.{zeroed_heap}
 use Rattle.ca_replica.specs.Applied.{sums}
 use Rattle.ca_replica.specs.Together.{Worker, all_entries, copies_of}
+use Rattle.ca_sum_pool.specs.declared.next.Next.{Next}
+use Rattle.ca_sum_pool.specs.declared.next.Next.TheVariants as nexts
 use Rattle.ca_sum_pool.specs.declared.performing.Stuck.{Stuck}
 use Rattle.ca_sum_pool.specs.declared.performing.Went.{Went}
 use Rattle.ca_sum_pool.specs.declared.performing.Went.TheVariants as went
@@ -37,6 +39,29 @@ no_extent = record { ops = []; functions = []; written = [] }
 
 abbrev pub setting_of : PlainProgram → Extent → List Object → Setting
 setting_of p x frozen = record { program = p; frozen = frozen; ops = x.ops }
+
+-- ---- calls of a list
+
+-- a task for each call of the list from one place on, up to another: it begins the round
+abbrev pub begun : List Op → ℕ → ℕ → List Task
+begun [] at end = []
+begun (o ∷ os) at zero = []
+begun (o ∷ os) zero (suc end) = task_after 0 o ∷ begun os zero end
+begun (o ∷ os) (suc at) (suc end) = begun os at end
+
+-- the call at a place before the end was taken, and the place moved on; or none was
+abbrev pub Took : List Op → ℕ → ℕ → ℕ → Option Op → Type 0
+Took calls old new end None = new ≡ old
+Took calls old new end (Some o) = (old < end) × (slice_get calls old ≡ Some o) × (new ≡ old + 1)
+
+-- what a worker runs next, as a task
+abbrev pub next_task : Next → Task
+next_task (nexts.Own t) = t
+next_task (nexts.Call o) = task_after 0 o.now
+
+abbrev pub taken_of : Option Next → Option Task
+taken_of None = None
+taken_of (Some n) = Some (next_task n)
 
 -- ---- sums of steps
 
@@ -104,7 +129,7 @@ module _ (p : PlainProgram) (x : Extent) (frozen : List Object) where
   -- how a task went
   abbrev pub WentSo : ℕ → Task → List Changed → List Changed → Went → Type 0
   WentSo left task before after (went.Ran ops clock steps) = (clock ≡ suc task.after) × RanOne task before after ops.items steps
-  WentSo left task before after (went.Stopped s) = StoppedOne left task before after s
+  WentSo left task before after (went.Stopped why) = StoppedOne left task before after (record { task = task; why = why })
 
 -- a task was kept in the share, unless memory was wanting
 abbrev pub Keeps : List Task → Task → List Task → Turn → Type 0
@@ -112,6 +137,13 @@ Keeps share task rest (turns.Ran steps) = ⊥
 Keeps share task rest turns.Kept = rest ≡ share ++ task ∷ []
 Keeps share task rest (turns.Stopped s) = ⊥
 Keeps share task rest turns.Short = rest ≡ share
+
+-- a task whose section stopped is told, unless memory was wanting
+abbrev pub Tells : Task → Stop → Turn → Type 0
+Tells task why (turns.Ran steps) = ⊥
+Tells task why turns.Kept = ⊥
+Tells task why (turns.Stopped s) = s ≡ record { task = task; why = why }
+Tells task why turns.Short = Unit {0}
 
 -- a section ran, and what it lists was pushed, or is in the share
 pub record RanAndPushed (s : Setting) (x : Extent) (task : Task) (old new : OwnerView) (before after : List Changed) (share rest : List Task) (steps : ℕ) : Type 0 where
@@ -135,14 +167,15 @@ pub record Performed (s : Setting) (x : Extent) (left : ℕ) (task : Task) (old 
 
 -- ---- a worker's part
 
--- what never changes while a worker runs
+-- what never changes while a worker runs: its deque, its passes, and its calls of the list
 pub record PartKey : Type 0 where
   pub owner : OwnerKey
   pub thieves : List ThiefKey
+  pub mine : List Task
 
--- There are entries that lead to the worker's copies. What it took, what they listed and what was dealt to it is what
--- they ran, what it pushed, its share, and the task whose section stopped.
-pub record Did (s : Setting) (x : Extent) (left : ℕ) (hand : Hand) (thieves : List ThiefView) (copies : List Changed) (share : List Task) (stuck : Option Stuck) (count : ℕ) (steps : Option ℕ) : Type 0 where
+-- There are entries that lead to the worker's copies. What it took, what they listed, what was dealt to it and its calls of
+-- the list are what they ran, what it pushed, its share, those of its calls that wait, and the task whose section stopped.
+pub record Did (s : Setting) (x : Extent) (left : ℕ) (hand : Hand) (thieves : List ThiefView) (copies : List Changed) (share mine waits : List Task) (stuck : Option Stuck) (count : ℕ) (steps : Option ℕ) : Type 0 where
   pub entries : List Entry
   pub once : AreDistinct copies
   pub leads : Leads s.program x s.frozen entries copies
@@ -150,23 +183,32 @@ pub record Did (s : Setting) (x : Extent) (left : ℕ) (hand : Hand) (thieves : 
   pub stops : All (StopsSo s.program x s.frozen left) (option_to_list stuck)
   pub counted : count ≤ length entries
   pub steps_are : IsSum left (steps_of entries) steps
-  pub balance : (h : Task → ℕ) → weight h hand.taken + weight (taken_by_thief h) thieves + made_weight h entries + weight h hand.dealt ≡ ran_weight h entries + weight h hand.pushed + weight h share + weight h (tasks_of (option_to_list stuck))
+  pub balance : (h : Task → ℕ) → weight h hand.taken + weight (taken_by_thief h) thieves + made_weight h entries + weight h hand.dealt + weight h mine ≡ ran_weight h entries + weight h hand.pushed + weight h share + weight h waits + weight h (tasks_of (option_to_list stuck))
 
-pub record Sound (s : Setting) (x : Extent) (left : ℕ) (hand : Hand) (thieves : List ThiefView) (copies : List Changed) (share : List Task) (stuck : Option Stuck) (count : ℕ) (steps : Option ℕ) (short : Bool) : Type 0 where
+pub record Sound (s : Setting) (x : Extent) (left : ℕ) (hand : Hand) (thieves : List ThiefView) (copies : List Changed) (share mine waits : List Task) (stuck : Option Stuck) (count : ℕ) (steps : Option ℕ) (short : Bool) : Type 0 where
   pub fits : AllFit s share
-  pub did : short ≡ false → Did s x left hand thieves copies share stuck count steps
+  pub did : short ≡ false → Did s x left hand thieves copies share mine waits stuck count steps
 
 -- The parts are those of these owners and passes, from the last worker to the first.
 pub record Assembled (owners : List OwnerView) (thieves : List (List ThiefView)) (parts : List PartKey) : Type 0 where
   pub owner_keys : map owner_key owners ≡ reverse (map (λ (p : PartKey). p.owner) parts)
   pub thief_keys : map (λ (ts : List ThiefView). map key_of ts) thieves ≡ reverse (map (λ (p : PartKey). p.thieves) parts)
 
--- The pieces of a part stand behind those of others, and its share came into the rest.
+abbrev pub mine_weight : (Task → ℕ) → List PartKey → ℕ
+mine_weight h ps = weight (λ (p : PartKey). weight h p.mine) ps
+
+-- the parts have the calls of the list, each of them one
+pub record Given (listed : List Op) (parts : List PartKey) : Type 0 where
+  pub all : (h : Task → ℕ) → mine_weight h parts ≡ weight h (map (task_after 0) listed)
+
+-- The pieces of a part stand behind those of others. Its share and those of its calls that wait came into the rest.
 pub record TornOff (s : Setting) (x : Extent) (left : ℕ) (part : PartKey) (owners more_owners : List OwnerView) (thieves more_thieves : List (List ThiefView)) (replicas more_replicas : List (List Changed)) (stucks more_stucks : List Stuck) (count more_count : ℕ) (steps more_steps : Option ℕ) (rest more : List Task) : Type 0 where
   pub owner : OwnerView
   pub passes : List ThiefView
   pub copies : List Changed
   pub share : List Task
+  pub mine : List Task
+  pub waits : List Task
   pub stuck : Option Stuck
   pub own_count : ℕ
   pub own_steps : Option ℕ
@@ -176,13 +218,13 @@ pub record TornOff (s : Setting) (x : Extent) (left : ℕ) (part : PartKey) (own
   pub stucks_are : more_stucks ≡ stucks ++ option_to_list stuck
   pub count_is : more_count ≤ count + own_count
   pub steps_are : more_steps ≡ sums_within left steps own_steps
-  pub part_is : part ≡ record { owner = owner_key owner; thieves = map key_of passes }
-  pub sound : Sound s x left owner.hand passes copies share stuck own_count own_steps false
+  pub part_is : part ≡ record { owner = owner_key owner; thieves = map key_of passes; mine = mine }
+  pub sound : Sound s x left owner.hand passes copies share mine waits stuck own_count own_steps false
   pub fits : AllFit s rest → AllFit s more
-  pub poured : (h : Task → ℕ) → weight h more ≡ weight h rest + weight h share
+  pub poured : (h : Task → ℕ) → weight h more ≡ weight h rest + weight h share + weight h waits
 
--- What the parts were made of, from the first worker to the last, and the equation of all workers. The shares came
--- into the rest.
+-- What the parts were made of, from the first worker to the last, and the equation of all workers. The shares and the calls
+-- that wait came into the rest.
 pub record Torn (s : Setting) (x : Extent) (left : ℕ) (parts : List PartKey) (owners : List OwnerView) (thieves : List (List ThiefView)) (replicas : List (List Changed)) (stucks : List Stuck) (count : ℕ) (steps : Option ℕ) (rest more : List Task) : Type 0 where
   pub assembled : Assembled owners thieves parts
   pub workers : List (Worker s.program x s.frozen)
@@ -191,7 +233,7 @@ pub record Torn (s : Setting) (x : Extent) (left : ℕ) (parts : List PartKey) (
   pub counted : count ≤ length (all_entries workers)
   pub steps_are : IsSum left (steps_of (all_entries workers)) steps
   pub fits : AllFit s more
-  pub balance : (h : Task → ℕ) → weight (taken_by h) owners + weight (taken_by_thief h) (all_thieves thieves) + made_weight h (all_entries workers) + weight (dealt_by h) owners + weight h rest ≡ ran_weight h (all_entries workers) + weight (pushed_by h) owners + weight h more + weight h (tasks_of stucks)
+  pub balance : (h : Task → ℕ) → weight (taken_by h) owners + weight (taken_by_thief h) (all_thieves thieves) + made_weight h (all_entries workers) + weight (dealt_by h) owners + weight h rest + mine_weight h parts ≡ ran_weight h (all_entries workers) + weight (pushed_by h) owners + weight h more + weight h (tasks_of stucks)
 
 -- What the workers did: replicas of entries which, with the rest and the tasks whose sections stopped, are balanced.
 pub record Worked (s : Setting) (x : Extent) (left : ℕ) (first : List Task) (l : Left) : Type 0 where

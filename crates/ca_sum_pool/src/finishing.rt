@@ -43,7 +43,9 @@ fn run_alone<'a>(
         rest.push(task)?;
         return Ok(false);
     }
-    match run_task(desk, alloc, program, extent, frozen, replica, left, task) {
+    match run_task(
+        desk, alloc, program, extent, frozen, replica, left, &task.op, task.after,
+    ) {
         Ok(
             Went::Ran {
                 ops,
@@ -55,8 +57,8 @@ fn run_alone<'a>(
             *steps = add_steps(*steps, more, left);
             Ok(true)
         }
-        Ok(Went::Stopped(one)) => {
-            stuck.push(one)?;
+        Ok(Went::Stopped(why)) => {
+            stuck.push(Stuck { task, why })?;
             Ok(false)
         }
         Err(cause) => Err(cause),

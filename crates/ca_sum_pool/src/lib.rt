@@ -1,11 +1,12 @@
 //! Rounds of replicas: workers that need no cells, where an extent only sums.
 //!
 //! A round deals its first tasks to the workers, each with a deque and a replica of its own, and each worker runs at most
-//! a quota of tasks, its own or stolen ones, on its replica: no worker waits for another. What is left comes back as the
-//! rest. `performing` has the run of one task, `counting` counts and sums of steps, `part` one worker's loop and the
-//! invariant of its part (`specs/Parts.antt`), and `running` the loop over all workers by halves. `assembling` makes the
-//! parts and takes them apart, and `working` has the workers' share of a round from end to end. When all have ended,
-//! `finishing` has the tasks that the caller runs itself, on a replica of its own, and `round` the whole.
+//! a quota of tasks, its own or stolen ones, on its replica: no worker waits for another. A list of calls with which a round
+//! begins is lent: each worker has some of them, and runs them as they stand there. What is left comes back as the rest.
+//! `next` has what a worker runs next, `performing` the run of one task, `counting` counts and sums of steps, `part` one
+//! worker's loop and the invariant of its part (`specs/Parts.antt`), and `running` the loop over all workers by halves.
+//! `assembling` makes the parts and takes them apart, and `working` has the workers' share of a round from end to end. When
+//! all have ended, `finishing` has the tasks that the caller runs itself, on a replica of its own, and `round` the whole.
 //!
 //! What a round says of its entries (`specs/Rounded.antt`) it says of entries that nobody stores.
 //!
@@ -15,6 +16,7 @@
 mod assembling;
 mod counting;
 mod finishing;
+pub mod next;
 mod part;
 pub mod performing;
 mod round;

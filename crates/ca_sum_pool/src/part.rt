@@ -4,33 +4,42 @@ ghost use Rattle.std.specs.Prelude.{◌≡◌, ℕ, map};
 ghost use Rattle.ca_program.specs.View.{program_view};
 ghost use Rattle.ca_meaning.specs.Multisets.{weight};
 ghost use Rattle.ca_logs.specs.declared.log.Task.{Task};
+ghost use Rattle.ca_logs.specs.Entries.{task_after};
 ghost use Rattle.ca_deques.specs.Hands.{IsUnused};
+ghost use Rattle.ca_deques.specs.Settings.{AllFit};
 ghost use Rattle.ca_deques.specs.Thieves.{owner_key, key_of, taken_by_thief};
 ghost use Rattle.ca_replica.specs.Applied.{IsRound};
-ghost use Rattle.ca_sum_pool.specs.Parts.{Sound, setting_of};
+ghost use Rattle.ca_sum_pool.specs.Parts.{Sound, begun, setting_of};
 
 use crate::counting::{add_steps, one_more};
+use crate::next::take_next;
 use crate::performing::{Stuck, Sums, Turn, perform};
 use ca_base::Gate;
-use ca_deques::taking::take_any;
 use ca_deques::{Owner, Round, Thieves};
 use ca_extent::Extent;
 use ca_logs::Task;
 use ca_model::Heap;
+use ca_parallel::Op;
 use ca_program::Program;
 use ca_replica::Replica;
 use ca_sections::Desk;
 use std::alloc::Global;
 use std::marker::{Model, PhantomData};
 
-/// What one worker has: its deque, its passes on the others', its replica, its share of what is left, and the task
-/// whose section stopped. Contracts see it as what stays the same while it runs.
+/// What one worker has: its deque, its passes on the others', its replica, its share of what is left, its calls of the list
+/// that the round began with, and the task whose section stopped. Contracts see it as what stays the same while it runs.
 #[derive(Drop)]
 pub struct Part<N: Round, K: Sums> {
     owner: Owner<N>,
     thieves: Thieves<N>,
     replica: Replica,
     share: Vec<Task>,
+    /// Its calls of the list, from one place on, up to another,
+    from: usize,
+    to: usize,
+    /// and those of them that neither ran nor are opened to others.
+    at: usize,
+    end: usize,
     stuck: Option<Stuck>,
     /// So many tasks ran, or more.
     count: u32,
@@ -49,13 +58,13 @@ pub struct Part<N: Round, K: Sums> {
 impl<N: Round, K: Sums> Model for Part<N, K> {
     ghost use Rattle.std.specs.Prelude.{◌≡◌, map};
     ghost use Rattle.ca_deques.specs.Thieves.{owner_key, key_of};
-    ghost use Rattle.ca_sum_pool.specs.Parts.{PartKey, Sound};
+    ghost use Rattle.ca_sum_pool.specs.Parts.{PartKey, Sound, begun};
 
     ghost Value = { PartKey };
 
-    ghost view = { λ p. record { owner = owner_key p.owner; thieves = map key_of p.thieves } };
+    ghost view = { λ p. record { owner = owner_key p.owner; thieves = map key_of p.thieves; mine = begun K.listed p.from p.to } };
 
-    ghost invariant = { λ p. (p.left ≡ K.left) × Sound N.setting K.extent K.left p.owner.hand p.thieves p.replica.copies p.share.items p.stuck p.count p.steps p.short };
+    ghost invariant = { λ p. (p.left ≡ K.left) × Sound N.setting K.extent K.left p.owner.hand p.thieves p.replica.copies p.share.items (begun K.listed p.from p.to) (begun K.listed p.at p.end) p.stuck p.count p.steps p.short };
 }
 
 /// What a part is made of.
@@ -64,6 +73,10 @@ pub struct Pieces<N: Round> {
     pub thieves: Thieves<N>,
     pub replica: Replica,
     pub share: Vec<Task>,
+    pub from: usize,
+    pub to: usize,
+    pub at: usize,
+    pub end: usize,
     pub stuck: Option<Stuck>,
     pub count: u32,
     pub steps: Option<u64>,
@@ -71,24 +84,31 @@ pub struct Pieces<N: Round> {
 }
 
 impl<N: Round, K: Sums> Part<N, K> {
-    /// The part of a worker that has run nothing. It takes no memory.
+    /// The part of a worker that has run nothing, with the calls of the list from one place on, up to another. It takes no
+    /// memory.
     pub fn of(
         alloc: Global,
         owner: Owner<N>,
         thieves: Thieves<N>,
+        from: usize,
+        to: usize,
         worker: u32,
         quota: u32,
         left: u64,
     ) -> Part<N, K>
         requires unused { IsUnused owner.hand × ((h : Task → ℕ) → weight (taken_by_thief h) thieves ≡ 0) }
         requires left { left ≡ K.left }
-        ensures { result ≡ record { owner = owner_key owner; thieves = map key_of thieves } }
+        ensures { result ≡ record { owner = owner_key owner; thieves = map key_of thieves; mine = begun K.listed from to } }
     {
         Part {
             owner,
             thieves,
             replica: Replica::new(alloc),
             share: Vec::new(alloc),
+            from,
+            to,
+            at: from,
+            end: to,
             stuck: None,
             count: 0,
             steps: Some(0),
@@ -103,14 +123,18 @@ impl<N: Round, K: Sums> Part<N, K> {
 
     /// Takes it apart. What is known of it is known of its pieces.
     pub fn apart(self) -> Pieces<N>
-        ensures same { self ≡ record { owner = owner_key result.owner; thieves = map key_of result.thieves } }
-        ensures sound { Sound N.setting K.extent K.left result.owner.hand result.thieves result.replica.copies result.share.items result.stuck result.count result.steps result.short }
+        ensures same { self ≡ record { owner = owner_key result.owner; thieves = map key_of result.thieves; mine = begun K.listed result.from result.to } }
+        ensures sound { Sound N.setting K.extent K.left result.owner.hand result.thieves result.replica.copies result.share.items (begun K.listed result.from result.to) (begun K.listed result.at result.end) result.stuck result.count result.steps result.short }
     {
         let Part {
             owner,
             thieves,
             replica,
             share,
+            from,
+            to,
+            at,
+            end,
             stuck,
             count,
             steps,
@@ -126,6 +150,10 @@ impl<N: Round, K: Sums> Part<N, K> {
             thieves,
             replica,
             share,
+            from,
+            to,
+            at,
+            end,
             stuck,
             count,
             steps,
@@ -133,7 +161,8 @@ impl<N: Round, K: Sums> Part<N, K> {
         }
     }
 
-    /// Takes a task and runs it. `false` where it found none, or where it is the last one of this round.
+    /// Takes a task, or a call of the list, and runs it. `false` where it found none, or where it is the last one of this
+    /// round.
     fn step<'a, G: Gate>(
         &mut self,
         desk: &mut Desk<'a>,
@@ -141,8 +170,11 @@ impl<N: Round, K: Sums> Part<N, K> {
         extent: &Extent,
         frozen: &Heap,
         gate: &G,
+        listed: &[Op],
     ) -> bool
         requires picked { K.extent ≡ extent.now }
+        requires listed { K.listed ≡ listed.now }
+        requires calls { AllFit N.setting (map (task_after 0) listed.now) }
         requires round { IsRound (program_view program.now) extent.now frozen.now }
         requires setting { N.setting ≡ setting_of (program_view program.now) extent.now frozen.now }
         ensures { self.new ≡ self.old }
@@ -153,7 +185,14 @@ impl<N: Round, K: Sums> Part<N, K> {
         if self.stuck.is_some() {
             return false;
         }
-        let Some(task) = take_any(&mut self.owner, &mut self.thieves, &mut self.share) else {
+        let Some(next) = take_next(
+            &mut self.owner,
+            &mut self.thieves,
+            &mut self.share,
+            listed,
+            &mut self.at,
+            &mut self.end,
+        ) else {
             return false;
         };
         let alloc = self.alloc;
@@ -171,7 +210,7 @@ impl<N: Round, K: Sums> Part<N, K> {
             &mut self.replica,
             &mut self.share,
             left,
-            task,
+            next,
         );
         match turn {
             Turn::Ran { steps } => {
@@ -199,22 +238,34 @@ impl<N: Round, K: Sums> Part<N, K> {
         extent: &Extent,
         frozen: &Heap,
         gate: &G,
+        listed: &[Op],
     )
         requires picked { K.extent ≡ extent.now }
+        requires listed { K.listed ≡ listed.now }
+        requires calls { AllFit N.setting (map (task_after 0) listed.now) }
         requires round { IsRound (program_view program.now) extent.now frozen.now }
         requires setting { N.setting ≡ setting_of (program_view program.now) extent.now frozen.now }
         ensures { self.new ≡ self.old }
     {
         for _ in 0..self.quota {
-            if !self.step(desk, program, extent, frozen, gate) {
+            if !self.step(desk, program, extent, frozen, gate, listed) {
                 return;
             }
         }
     }
 
     /// Runs at most so many tasks as the quota says, at a desk of its own.
-    pub fn run<G: Gate>(&mut self, program: &Program, extent: &Extent, frozen: &Heap, gate: &G)
+    pub fn run<G: Gate>(
+        &mut self,
+        program: &Program,
+        extent: &Extent,
+        frozen: &Heap,
+        gate: &G,
+        listed: &[Op],
+    )
         requires picked { K.extent ≡ extent.now }
+        requires listed { K.listed ≡ listed.now }
+        requires calls { AllFit N.setting (map (task_after 0) listed.now) }
         requires round { IsRound (program_view program.now) extent.now frozen.now }
         requires setting { N.setting ≡ setting_of (program_view program.now) extent.now frozen.now }
         ensures { self.new ≡ self.old }
@@ -223,6 +274,6 @@ impl<N: Round, K: Sums> Part<N, K> {
             self.short = true;
             return;
         };
-        self.run_quota(&mut desk, program, extent, frozen, gate)
+        self.run_quota(&mut desk, program, extent, frozen, gate, listed)
     }
 }

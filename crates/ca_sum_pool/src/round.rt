@@ -1,8 +1,9 @@
 //! Rounds of replicas: from first tasks to replicas and what is left, `Rounded` of `specs/Rounded.antt`.
 
-ghost use Rattle.std.specs.Prelude.{◌≡◌, ◌<◌, All, IfOk};
+ghost use Rattle.std.specs.Prelude.{◌≡◌, ◌<◌, ◌++◌, All, map, IfOk};
 ghost use Rattle.ca_program.specs.View.{program_view};
 ghost use Rattle.ca_logs.specs.declared.log.Task.{Task};
+ghost use Rattle.ca_logs.specs.Entries.{task_after};
 ghost use Rattle.ca_sum_laws.specs.Replicas.{MayRun};
 ghost use Rattle.ca_replica.specs.Applied.{IsRound};
 ghost use Rattle.ca_replica.specs.Adding.{Once};
@@ -17,6 +18,7 @@ use ca_deques::Round as Setting;
 use ca_extent::Extent;
 use ca_logs::{Stop, Task};
 use ca_model::Heap;
+use ca_parallel::Op;
 use ca_program::Program;
 use ca_replica::Replica;
 use std::alloc::Global;
@@ -43,18 +45,21 @@ fn run_round<N: Setting + Send + Sync, K: Sums + Send + Sync, R: Threads + Wait 
     frozen: &Heap,
     gate: &G,
     workers: usize,
+    listed: &[Op],
     first: Vec<Task>,
     quota: u32,
     left: u64,
 ) -> Result<SummedRound, Memory>
     requires picked { (K.extent ≡ extent.now) × (left ≡ K.left) }
+    requires lent { K.listed ≡ listed.now }
     requires round { IsRound (program_view program.now) extent.now frozen.now }
     requires once { Once extent.now.written }
     requires setting { N.setting ≡ setting_of (program_view program.now) extent.now frozen.now }
     requires some { 0 < workers }
+    requires listed { All (MayRun (program_view program.now) extent.now frozen.now) (map (task_after 0) listed.now) }
     requires first { All (MayRun (program_view program.now) extent.now frozen.now) first.items × All (λ (t : Task). t.after ≡ 0) first.items }
     requires quota { 0 < quota }
-    ensures { IfOk result (Rounded (program_view program.now) extent.now frozen.now left quota first.items) }
+    ensures { IfOk result (Rounded (program_view program.now) extent.now frozen.now left quota (map (task_after 0) listed.now ++ first.items)) }
 {
     let Left {
         mut replicas,
@@ -63,7 +68,7 @@ fn run_round<N: Setting + Send + Sync, K: Sums + Send + Sync, R: Threads + Wait 
         count,
         mut steps,
     } = work::<N, K, R, G>(
-        rt, alloc, program, extent, frozen, gate, workers, first, quota, left,
+        rt, alloc, program, extent, frozen, gate, workers, listed, first, quota, left,
     )?;
     let replica = finish(
         alloc, program, extent, frozen, &mut rest, &mut stuck, &mut steps, quota, left, count,
@@ -79,9 +84,10 @@ fn run_round<N: Setting + Send + Sync, K: Sums + Send + Sync, R: Threads + Wait 
     })
 }
 
-/// Runs a round of an extent that only sums: deals the first tasks to the workers, lets each run as many tasks as the
-/// quota on a replica of its own, and, where fewer entries than the quota are there, no section stopped and there are
-/// clocks, goes on by itself. The gate is passed by each worker before each section, and not by the caller.
+/// Runs a round of an extent that only sums: lends each worker some of the calls of a list, deals the first tasks to them, lets
+/// each run as many tasks as the quota on a replica of its own, and, where fewer entries than the quota are there, no section
+/// stopped and there are clocks, goes on by itself. The gate is passed by each worker before each section, and not by the
+/// caller. First tasks are those of the list and the others.
 ///
 /// Over all interleavings: each task runs once and is collected once. The stop is that of the first entry with one. Where
 /// there is a first task there is an entry; where there is no stop, the rest isn't empty and no entry has the last clock,
@@ -96,6 +102,7 @@ pub fn round_summed<R: Threads + Wait + Sync, G: Gate>(
     frozen: &Heap,
     gate: &G,
     workers: usize,
+    listed: &[Op],
     first: Vec<Task>,
     quota: u32,
     left: u64,
@@ -103,11 +110,12 @@ pub fn round_summed<R: Threads + Wait + Sync, G: Gate>(
     requires round { IsRound (program_view program.now) extent.now frozen.now }
     requires once { Once extent.now.written }
     requires some { 0 < workers }
+    requires listed { All (MayRun (program_view program.now) extent.now frozen.now) (map (task_after 0) listed.now) }
     requires first { All (MayRun (program_view program.now) extent.now frozen.now) first.items × All (λ (t : Task). t.after ≡ 0) first.items }
     requires quota { 0 < quota }
-    ensures { IfOk result (Rounded (program_view program.now) extent.now frozen.now left quota first.items) }
+    ensures { IfOk result (Rounded (program_view program.now) extent.now frozen.now left quota (map (task_after 0) listed.now ++ first.items)) }
 {
     run_round::<Brand, Brand, R, G>(
-        rt, alloc, program, extent, frozen, gate, workers, first, quota, left,
+        rt, alloc, program, extent, frozen, gate, workers, listed, first, quota, left,
     )
 }

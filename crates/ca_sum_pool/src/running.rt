@@ -1,8 +1,10 @@
 //! Runs all workers side by side, each its part of the round (`specs/Parts.antt`).
 
-ghost use Rattle.std.specs.Prelude.{◌≡◌};
+ghost use Rattle.std.specs.Prelude.{◌≡◌, map};
 ghost use Rattle.std.specs.Thread.{IsSync};
 ghost use Rattle.ca_program.specs.View.{program_view};
+ghost use Rattle.ca_logs.specs.Entries.{task_after};
+ghost use Rattle.ca_deques.specs.Settings.{AllFit};
 ghost use Rattle.ca_replica.specs.Applied.{IsRound};
 ghost use Rattle.ca_sum_pool.specs.Parts.{setting_of};
 
@@ -12,6 +14,7 @@ use ca_base::Gate;
 use ca_deques::Round;
 use ca_extent::Extent;
 use ca_model::Heap;
+use ca_parallel::Op;
 use ca_program::Program;
 use std::thread::{self, Threads};
 
@@ -22,9 +25,12 @@ pub fn run_all<N: Round + Send + Sync, K: Sums + Send + Sync, R: Threads + Sync,
     extent: &Extent,
     frozen: &Heap,
     gate: &G,
+    listed: &[Op],
     parts: &mut [Part<N, K>],
 )
     requires picked { K.extent ≡ extent.now }
+    requires listed { K.listed ≡ listed.now }
+    requires calls { AllFit N.setting (map (task_after 0) listed.now) }
     requires round { IsRound (program_view program.now) extent.now frozen.now }
     requires setting { N.setting ≡ setting_of (program_view program.now) extent.now frozen.now }
     ensures { parts.new ≡ parts.old }
@@ -36,9 +42,11 @@ pub fn run_all<N: Round + Send + Sync, K: Sums + Send + Sync, R: Threads + Sync,
     let run = |_: usize, part: &mut Part<N, K>|
         requires sync { IsSync G.row }
         requires picked { K.extent ≡ extent.now }
+        requires listed { K.listed ≡ listed.now }
+        requires calls { AllFit N.setting (map (task_after 0) listed.now) }
         requires round { IsRound (program_view program.now) extent.now frozen.now }
         requires setting { N.setting ≡ setting_of (program_view program.now) extent.now frozen.now }
         ensures { part.exit.now ≡ part.entry.now }
-    { part.run(program, extent, frozen, gate) };
+    { part.run(program, extent, frozen, gate, listed) };
     thread::for_each_mut(rt, parts, workers, &run);
 }

@@ -1,7 +1,8 @@
 //! The workers' part of a round, from the first tasks to what is left.
 
-ghost use Rattle.std.specs.Prelude.{◌≡◌, ◌<◌, IfOk};
+ghost use Rattle.std.specs.Prelude.{◌≡◌, ◌<◌, ◌++◌, map, IfOk};
 ghost use Rattle.ca_program.specs.View.{program_view};
+ghost use Rattle.ca_logs.specs.Entries.{task_after};
 ghost use Rattle.ca_deques.specs.Settings.{AllFit};
 ghost use Rattle.ca_replica.specs.Applied.{IsRound};
 ghost use Rattle.ca_sum_pool.specs.Parts.{Worked, setting_of};
@@ -14,6 +15,7 @@ use ca_deques::{Round, deal, open_owners, open_thieves, settle};
 use ca_extent::Extent;
 use ca_logs::Task;
 use ca_model::Heap;
+use ca_parallel::Op;
 use ca_program::Program;
 use ca_replica::Replica;
 use std::alloc::{AllocError, Global};
@@ -31,7 +33,8 @@ pub struct Left {
     pub steps: Option<u64>,
 }
 
-/// Deals the first tasks to the workers, lets them run, takes back their passes and what their deques and shares hold.
+/// Deals the first tasks to the workers, lends each its calls of the list, lets them run, and takes back their passes and what
+/// their deques and shares hold.
 pub fn work<N: Round + Send + Sync, K: Sums + Send + Sync, R: Threads + Wait + Sync, G: Gate>(
     rt: &R,
     alloc: Global,
@@ -40,6 +43,7 @@ pub fn work<N: Round + Send + Sync, K: Sums + Send + Sync, R: Threads + Wait + S
     frozen: &Heap,
     gate: &G,
     workers: usize,
+    listed: &[Op],
     first: Vec<Task>,
     quota: u32,
     left: u64,
@@ -48,15 +52,25 @@ pub fn work<N: Round + Send + Sync, K: Sums + Send + Sync, R: Threads + Wait + S
     requires round { IsRound (program_view program.now) extent.now frozen.now }
     requires setting { N.setting ≡ setting_of (program_view program.now) extent.now frozen.now }
     requires some { 0 < workers }
+    requires listed { K.listed ≡ listed.now }
+    requires calls { AllFit N.setting (map (task_after 0) listed.now) }
     requires first { AllFit N.setting first.items }
-    ensures { IfOk result (Worked N.setting K.extent K.left first.items) }
+    ensures { IfOk result (Worked N.setting K.extent K.left (map (task_after 0) listed.now ++ first.items)) }
 {
     let mut rest = Vec::new(alloc);
     let mut owners = open_owners::<N>(alloc, workers)?;
     let thieves = open_thieves(alloc, &mut owners)?;
-    deal(&mut owners, first, &mut rest)?;
-    let mut parts = assemble::<N, K>(alloc, owners, thieves, quota, left)?;
-    run_all(rt, program, extent, frozen, gate, parts.as_mut_slice());
+    deal(&mut owners, first, &mut rest, &[])?;
+    let mut parts = assemble::<N, K>(alloc, owners, thieves, listed.len(), quota, left)?;
+    run_all(
+        rt,
+        program,
+        extent,
+        frozen,
+        gate,
+        listed,
+        parts.as_mut_slice(),
+    );
     let Apart {
         owners,
         thieves,
@@ -65,7 +79,7 @@ pub fn work<N: Round + Send + Sync, K: Sums + Send + Sync, R: Threads + Wait + S
         count,
         steps,
         mut rest,
-    } = take_apart(alloc, parts, rest, left)?;
+    } = take_apart(alloc, parts, rest, listed, left)?;
     settle(rt, owners, thieves, &mut rest)?;
     Ok(Left {
         replicas,

@@ -1,6 +1,6 @@
 use Rattle.std.proofs.Common.{rules, ◌≡◌, [], length, sym, ◌∙◌}
 use denote.Param.{param}
-use denote.Param.Send.{IsSync, AllSync, sendable, param_sync, shr_sync}
+use denote.Param.Send.{IsSync, AllSync, sendable, param_sync, shr_sync, shr_slice_sync}
 use denote.Param.SendFields.{declared_sync}
 use denote.Struct.Tuple.{TupleAt, type_at}
 use mir.Syntax.{named}
@@ -9,6 +9,8 @@ use Rattle.ca_model.specs.contracts.heap.Heap as heap
 use Rattle.ca_model.proofs.heap.Heap.TheSendSync as heap_sent
 use Rattle.ca_extent.specs.contracts.extent.Extent as extent
 use Rattle.ca_extent.proofs.extent.Extent.TheSendSync as extent_sent
+use Rattle.ca_parallel.specs.contracts.op.Op as op
+use Rattle.ca_parallel.proofs.op.Op.TheSendSync as op_sent
 use Rattle.ca_deques.proofs.SharedProgram.{program_sync}
 use Rattle.ca_deques.proofs.Parting.{same_lists}
 use Rattle.ca_sum_pool.proofs.Sends.{part_send}
@@ -23,10 +25,10 @@ for_each_mut-requires-sync-F g c κs within =
     let shared : IsSync g.row.G = record { shared = c.type_bounds.sync-G.shared } in
     let rows =
     lts.of-0 g.row.N g.row.K g.row.R g.row.G g.N.laws g.K.laws g.R.laws g.G.laws g.N.Round g.N.Round-dict g.K.Sums g.K.Sums-dict g.R.Threads g.R.Threads-dict g.G.Gate g.G.Gate-dict (record { mir = named 6; lft = κs.1.1.1.1.1.1.0 }) (record { mir = named 7; lft = κs.1.1.1.1.1.1.1.0 }) (record { mir = named 8; lft = κs.1.1.1.1.1.1.1.1.0 })
-    (record { mir = named 9; lft = κs.1.1.1.1.1.1.1.1.1.0 }) in
+    (record { mir = named 9; lft = κs.1.1.1.1.1.1.1.1.1.0 }) (record { mir = named 10; lft = κs.1.1.1.1.1.1.1.1.1.1.0 }) in
     let each : AllSync rows = (
       shr_sync (named 6) κs.1.1.1.1.1.1.0 program.the_row program_sync,
-      (shr_sync (named 7) κs.1.1.1.1.1.1.1.0 extent.the_row extent_sent.the_sync, (shr_sync (named 8) κs.1.1.1.1.1.1.1.1.0 heap.the_row heap_sent.the_sync, (shr_sync (named 9) κs.1.1.1.1.1.1.1.1.1.0 (param 3 g.row.G) (param_sync 3 g.row.G shared), tt))),
+      (shr_sync (named 7) κs.1.1.1.1.1.1.1.0 extent.the_row extent_sent.the_sync, (shr_sync (named 8) κs.1.1.1.1.1.1.1.1.0 heap.the_row heap_sent.the_sync, (shr_sync (named 9) κs.1.1.1.1.1.1.1.1.1.0 (param 3 g.row.G) (param_sync 3 g.row.G shared), (shr_slice_sync (named 10) κs.1.1.1.1.1.1.1.1.1.1.0 op.the_row op_sent.the_sync, tt)))),
     ) in
     let all : IsSync (TupleAt [] rows) = declared_sync (type_at [] rows) each in
     record { shared = all.shared }
