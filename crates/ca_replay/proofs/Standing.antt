@@ -26,7 +26,8 @@ use Rattle.ca_trace.specs.Laws.{RunsNow}
 use Rattle.ca_trace.proofs.Existing.{all_inside, itself}
 use Rattle.ca_replay.specs.declared.machine.StepAnswer.{StepAnswer}
 use Rattle.ca_replay.specs.declared.machine.StepAnswer.TheVariants.{Done, NotPending, Trapped, Spent}
-use Rattle.ca_replay.specs.Steps.{Stands, RanThis, Kept, EndsSo, DoesntWait, StepIs}
+use Rattle.ca_run.specs.Rounds.{RanThis}
+use Rattle.ca_replay.specs.Steps.{Stands, Kept, EndsSo, DoesntWait, StepIs}
 
 -- the operation alone, as a run
 pub one_run : (p : PlainProgram) (frozen h : List Object) (waiting : List Invocation) (left : ℕ) (i : Invocation) (after : List Object) (rest : List Invocation) (steps : ℕ) → RanThis p frozen h waiting left i after rest steps → PendingRun p frozen after rest (i ∷ []) h waiting steps

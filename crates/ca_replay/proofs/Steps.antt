@@ -22,7 +22,8 @@ use Rattle.ca_beside.specs.Beside.{present}
 use Rattle.ca_beside.specs.Beside as beside
 use Rattle.ca_beside.proofs.Present.{past_none, present_length, same_some}
 use Rattle.ca_model.specs.declared.value.Trap.{Trap}
-use Rattle.ca_replay.specs.Steps.{EndsSo, Kept, DoesntWait, TakenOut, RanThis}
+use Rattle.ca_run.specs.Rounds.{RanThis}
+use Rattle.ca_replay.specs.Steps.{EndsSo, Kept, DoesntWait, TakenOut}
 use Rattle.ca_trace.proofs.Existing.{op_for}
 
 -- ---- what waits

@@ -1,17 +1,18 @@
 -- What a step of the pending machine answers.
-use Rattle.std.specs.Prelude.{ℕ, ◌≡◌, List, ◌∷◌, ◌++◌, map, Some, slice_get, slice_set}
+use Rattle.std.specs.Prelude.{ℕ, ◌≡◌, List, ◌∷◌, map, Some, slice_get}
 use Rattle.ca_program.specs.Plain.{PlainProgram}
 use Rattle.ca_model.specs.declared.value.Object.{Object}
 use Rattle.ca_model.specs.Typed.{TypedHeap}
 use Rattle.ca_meaning.specs.Expressions.{Invocation}
 use Rattle.ca_meaning.specs.Multisets.{SameItems}
-use Rattle.ca_meaning.specs.Sections.{Outcome, Sectioned, done, stopped, over, section}
+use Rattle.ca_meaning.specs.Sections.{Sectioned, stopped, over, section}
 use Rattle.ca_meaning.specs.WellTyped.{AllWellTyped}
 use Rattle.ca_parallel.specs.declared.op.Op.{Op}
 use Rattle.ca_parallel.specs.Calls.{invocation_of, invocations_of}
 use Rattle.ca_parallel.specs.Notes.{op_of}
 use Rattle.ca_parallel.specs.Parallel.{ParallelFrom}
 use Rattle.ca_order_laws.specs.Pending.{PendingRun}
+use Rattle.ca_run.specs.Rounds.{RanThis}
 use Rattle.ca_replay.specs.declared.machine.StepAnswer.{StepAnswer}
 use Rattle.ca_replay.specs.declared.machine.StepAnswer.TheVariants.{Done, NotPending, Trapped, Spent}
 
@@ -24,18 +25,6 @@ pub record Stands (p : PlainProgram) (frozen now : List Object) (waiting : List 
   pub typed : AllWellTyped p frozen first
   pub parallel : ParallelFrom p (map op_of first)
   pub run : PendingRun p frozen now waiting order frozen first steps
-
--- The operation waited, and ran its section, which is done within the budget in so many steps.
-pub record RanThis (p : PlainProgram) (frozen h : List Object) (waiting : List Invocation) (left : ℕ) (i : Invocation) (after : List Object) (rest : List Invocation) (steps : ℕ) : Type 0 where
-  pub others : List Invocation
-  pub object : Object
-  pub outcome : Outcome
-  pub waited : SameItems waiting (i ∷ others)
-  pub found : slice_get h i.receiver ≡ Some object
-  pub section : section p frozen i.receiver object i.op i.arguments left ≡ done outcome
-  pub heap : after ≡ slice_set h i.receiver outcome.object
-  pub waits : SameItems rest (outcome.listed ++ others)
-  pub steps_are : steps ≡ outcome.steps
 
 -- nothing changed
 pub record Kept (h after : List Object) (waiting rest : List Invocation) : Type 0 where

@@ -11,7 +11,9 @@
 //! behind all that the one before it listed.
 //! `run_round` runs waiting operations; its clause is a run of the pending machine, from where it began to where it ended,
 //! of as many operations as its limit says, or of fewer where none waits any more.
-//! `specs/Rounds.antt` says what a round leaves.
+//! `OneWorker::traced` runs the same and adds the lines of a schedule (`ca_trace`), one for each operation in the order in
+//! which they ran.
+//! `specs/Rounds.antt` says what a round leaves, `specs/Traced.antt` which lines are added.
 //!
 //! Whoever reads the public clauses must believe each file of `specs/`.
 #![tactic(auto)]
@@ -19,7 +21,9 @@
 mod one_worker;
 mod passing;
 mod rounds;
+mod tracing;
 
 pub use one_worker::{OneWorker, copies};
 pub use passing::Passes;
 pub use rounds::{Round, run_round};
+pub use tracing::line_of;

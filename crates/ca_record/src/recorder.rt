@@ -1,0 +1,68 @@
+//! The engine that records.
+
+ghost use Rattle.std.specs.Prelude.{◌≡◌, ◌≤◌, map, true, [], ℕ, List, IfOk, OnOk, OnErr};
+ghost use Rattle.ca_trace.specs.declared.line.Line.{Line};
+ghost use Rattle.ca_trace.specs.Engines.{Recorded};
+
+use crate::traced::Traced;
+use ca_base::Memory;
+use ca_model::Heap;
+use ca_parallel::Op;
+use ca_program::Program;
+use ca_serial::{ExtentAnswer, Extents};
+use ca_trace::Line;
+use std::alloc::Global;
+use std::sync::Wait;
+use std::thread::Threads;
+
+/// An engine that keeps the lines of all that another one ran.
+#[derive(Drop)]
+pub struct Recorder<E: Traced> {
+    engine: E,
+    lines: Vec<Line>,
+}
+
+impl<E: Traced> Recorder<E> {
+    /// No lines yet. It takes no memory.
+    pub fn new(alloc: Global, engine: E) -> Recorder<E>
+        ensures { result.lines.items ≡ [] }
+    {
+        Recorder {
+            engine,
+            lines: Vec::new(alloc),
+        }
+    }
+
+    /// The lines. It takes no memory.
+    pub fn lines(self) -> Vec<Line>
+    where
+        E: Drop,
+        ensures { result.items ≡ self.lines.items }
+    {
+        self.lines
+    }
+}
+
+impl<E: Traced> Extents for Recorder<E> {
+    ghost Account = { List Line };
+
+    ghost account = { λ r. r.lines.items };
+
+    ghost serves = { true };
+
+    ghost ready = { E.ready };
+
+    ghost Accounts = { Recorded };
+
+    fn run<R: Threads + Wait + Sync>(
+        &mut self,
+        rt: &R,
+        program: &Program,
+        heap: &mut Heap,
+        operations: &[Op],
+        budget: u64,
+    ) -> Result<ExtentAnswer, Memory> {
+        self.engine
+            .traced(rt, program, heap, operations, budget, &mut self.lines)
+    }
+}
