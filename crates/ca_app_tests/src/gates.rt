@@ -1,9 +1,57 @@
 //! Who passes the gate of a run.
 
-use crate::calls::Call;
+use crate::calls::{Call, add_lines};
 use crate::sources::{GRAPH_HEAP, GRAPH_VISIT, TWO_BINS, TWO_BINS_HEAP};
 use ca_base::Gate;
+use std::process::Abort;
+use std::sync::Wait;
 use std::sync::atomic::{AtomicU64, Ordering};
+use std::thread::Threads;
+
+/// Runs of small texts past a gate: the words, how often worker 0 passes it with the objects 0, 1 and 2 and how often it is passed
+/// otherwise, and what is written, with `$` for the end of a line. A line with a text stands before its runs.
+const ALONE: &str = "// two neighbours, and the operation that lists them, which takes no lock
+of class A { public: long n; void set(long v) { n = v; } void mul(long v) { n *= v; } void two(long v) { mul(v); mul(v + 1); } }; int main() { A *a = new A(); a->set(2); a->two(3); }
+run 2 4 | 1 0 0 0 | #0 A n=24$
+run 64 4 | 1 0 0 0 | #0 A n=24$
+run 1 4 | 3 0 0 0 | #0 A n=24$
+// 33 neighbours
+of class A { public: long n; void set(long v) { n = v; } void mul(long v) { n *= v; } void many(long v) { for (long i = 0; i < 33; i++) mul(v); } }; int main() { A *a = new A(); a->set(1); a->many(2); }
+run 2 68 | 3 0 0 0 | #0 A n=8589934592$
+run 1 68 | 34 0 0 0 | #0 A n=8589934592$
+// 30 of them
+of class A { public: long n; void set(long v) { n = v; } void mul(long v) { n *= v; } void many(long v) { for (long i = 0; i < 30; i++) mul(v); } }; int main() { A *a = new A(); a->set(1); a->many(2); }
+run 2 62 | 2 0 0 0 | #0 A n=1073741824$
+run 4 62 | 2 0 0 0 | #0 A n=1073741824$
+// receivers that take turns, and then two and two
+of class A { public: long n; A *one; A *two; void set(A *o, A *t) { n = 1; one = o; two = t; } void mul(long v) { n *= v; } void turns(long v) { one->mul(v); two->mul(v); one->mul(v); two->mul(v); } }; int main() { A *a = new A(); A *b = new A(); A *c = new A(); a->set(b, c); b->set(b, c); c->set(b, c); a->turns(2); }
+run 2 8 | 0 2 2 0 | #0 A n=1 one=#1 two=#2$#1 A n=4 one=#1 two=#2$#2 A n=4 one=#1 two=#2$
+run 1 8 | 1 2 2 0 | #0 A n=1 one=#1 two=#2$#1 A n=4 one=#1 two=#2$#2 A n=4 one=#1 two=#2$
+of class A { public: long n; A *one; A *two; void set(A *o, A *t) { n = 1; one = o; two = t; } void mul(long v) { n *= v; } void pairs(long v) { one->mul(v); one->mul(v); two->mul(v); two->mul(v); } }; int main() { A *a = new A(); A *b = new A(); A *c = new A(); a->set(b, c); b->set(b, c); c->set(b, c); a->pairs(2); }
+run 2 8 | 0 1 1 0 | #0 A n=1 one=#1 two=#2$#1 A n=4 one=#1 two=#2$#2 A n=4 one=#1 two=#2$
+run 1 8 | 1 2 2 0 | #0 A n=1 one=#1 two=#2$#1 A n=4 one=#1 two=#2$#2 A n=4 one=#1 two=#2$
+// one that takes the lock, and its neighbour
+of class A { public: long n; void set(long v) { n = v; } void mul(long v) { n *= v; } void twice(long v) { n *= v; mul(v + 1); } }; int main() { A *a = new A(); a->set(2); a->twice(3); }
+run 2 3 | 1 0 0 0 | #0 A n=24$
+run 1 3 | 2 0 0 0 | #0 A n=24$
+// what reads fields that nobody writes takes no lock, and what reads one that another writes does
+of class A { public: long n; long k; A *to; void set(long v, A *t) { k = v; to = t; } void add(long v) { n += v; } void pass(long v) { to->add(k + v); } void both(long v) { n += v; to->pass(v); } }; int main() { A *a = new A(); A *b = new A(); A *c = new A(); a->set(1, b); b->set(2, c); a->both(5); }
+run 2 5 | 1 0 1 0 | #0 A n=5 k=1 to=#1$#1 A n=0 k=2 to=#2$#2 A n=7 k=0 to=null$
+run 1 5 | 1 1 1 0 | #0 A n=5 k=1 to=#1$#1 A n=0 k=2 to=#2$#2 A n=7 k=0 to=null$
+of class A { public: long n; A *to; void set(A *t) { to = t; } void add(long v) { n += v; } void look(long v) { long t = n; to->add(v); } }; int main() { A *a = new A(); A *b = new A(); a->set(b); a->look(5); }
+run 2 3 | 1 1 0 0 | #0 A n=0 to=#1$#1 A n=5 to=null$";
+
+/// Runs that begin with a round, in which workers pass the gate: the words, how often all of them do, and what is written.
+const TOGETHER: &str = "// two lists of 30 neighbours on one object
+of class A { public: long n; void set(long v) { n = v; } void mul(long v) { n *= v; } void many(long v) { for (long i = 0; i < 30; i++) mul(v); } }; int main() { A *a = new A(); a->set(1); for (long i = 0; i < 2; i++) a->many(2); }
+run 2 200 | 4 | #0 A n=1152921504606846976$
+run 4 200 | 4 | #0 A n=1152921504606846976$
+run 64 200 | 4 | #0 A n=1152921504606846976$
+run 1 200 | 62 | #0 A n=1152921504606846976$
+// two lists of 33
+of class A { public: long n; void set(long v) { n = v; } void mul(long v) { n *= v; } void many(long v) { for (long i = 0; i < 33; i++) mul(v); } }; int main() { A *a = new A(); a->set(1); for (long i = 0; i < 2; i++) a->many(-1); }
+run 2 200 | 6 | #0 A n=1$
+run 64 200 | 6 | #0 A n=1$";
 
 /// Counts how often worker 0 passes it with the objects 0, 1 and 2, and who passes it otherwise.
 #[derive(Drop)]
@@ -69,4 +117,57 @@ fn one_worker_loads(rt: HostRuntime) {
     let written = "load objects=2 steps=7 total=4\n";
     assert!(rt; Call::new("load 0 1 1", "").ends_past(&rt, &gate, written));
     assert!(rt; gate.counts() == (0, 3, 0, 0));
+}
+
+/// Whether a run past the gate is as a row tells, with how often it was passed with each object, or in all.
+fn passes<R: AllocGlobal + Threads + Wait + Sync + Abort>(
+    rt: &R,
+    text: &[u8],
+    row: &str,
+    each: bool,
+) -> bool {
+    let alloc = rt.alloc();
+    let (line, behind) = row.split_once(" | ").expect(rt, "a row");
+    let (passed, heap) = behind.split_once(" | ").expect(rt, "a heap");
+    let mut due = Vec::new(alloc);
+    add_lines(rt, &mut due, heap);
+    let gate = CountingGate::new();
+    let (status, written) = Call::of_bytes(line, text).run_past(rt, &gate);
+    let (zero, one, two, others) = gate.counts();
+    let all = zero
+        .wrapping_add(one)
+        .wrapping_add(two)
+        .wrapping_add(others);
+    let counts = if each {
+        format!(in alloc; "{zero} {one} {two} {others}").expect(rt, "counts")
+    } else {
+        format!(in alloc; "{all}").expect(rt, "a count")
+    };
+    status == 0 && written == due && counts.as_str() == passed
+}
+
+/// Ends the test where a row isn't how a run past the gate goes.
+fn all_pass<R: AllocGlobal + Threads + Wait + Sync + Abort>(rt: &R, rows: &str, each: bool) {
+    let mut text = Vec::new(rt.alloc());
+    for row in rows.lines() {
+        if let Some(of) = row.strip_prefix("of ") {
+            text = Vec::new(rt.alloc());
+            add_lines(rt, &mut text, of);
+        } else if !row.starts_with("//") {
+            assert!(rt; passes(rt, &text, row, each), "{row}");
+        }
+    }
+}
+
+/// The calling thread runs a marked call alone: neighbours of one receiver pass the gate once, 16 at most, and operations that take
+/// no lock don't. By one worker each operation does.
+#[test]
+fn neighbours_alone_pass_once(rt: HostRuntime) {
+    all_pass(&rt, ALONE, true);
+}
+
+/// So they do where workers run them in rounds.
+#[test]
+fn neighbours_in_rounds_pass_once(rt: HostRuntime) {
+    all_pass(&rt, TOGETHER, false);
 }

@@ -124,7 +124,7 @@ fn two_sections_meet(rt: HostRuntime) {
     assert!(rt; gate.counts() == (1, 1, 0, 0));
 }
 
-/// Of three calls the first and the last are dealt to one worker, and still run at one time: the other worker takes one.
+/// Of three calls the first and the last run at one time.
 #[test]
 fn thief_meets_owner(rt: HostRuntime) {
     let gate = MeetingGate::new(1, 3);
@@ -140,7 +140,7 @@ fn two_products_meet(rt: HostRuntime) {
     assert!(rt; gate.counts() == (1, 1, 0, 0));
 }
 
-/// And of three, of which one is taken by the other worker.
+/// And of three, of which the first and the last are dealt to one worker: the other takes one.
 #[test]
 fn thief_meets_owner_of_products(rt: HostRuntime) {
     let gate = MeetingGate::new(1, 3);
@@ -157,7 +157,8 @@ fn two_meet_on_one(rt: HostRuntime) {
     assert!(rt; Call::new("run 2 4", ONE_BIN).tells(&rt, 4, "spent 4$"));
 }
 
-/// They do beside as many values as all workers may copy, and not beside one more, where the object has a lock.
+/// They do beside as many values as all workers may copy, and not beside one more: there the object has a lock, and both run
+/// behind each other, past one gate.
 #[test]
 fn two_meet_beside_so_many_values(rt: HostRuntime) {
     let gate = SharingGate::new(1, MOST_TURNS);
@@ -169,7 +170,7 @@ fn two_meet_beside_so_many_values(rt: HostRuntime) {
     let mut call = Call::new("run 64 5", ONE_BIN_BESIDE_MORE);
     call.room = 1_000_000;
     let (status, _) = call.run_past(&rt, &gate);
-    assert!(rt; status == 0 && gate.counts() == (2, 1));
+    assert!(rt; status == 0 && gate.counts() == (1, 1));
 }
 
 /// Two workers run the marked call of a generated text past the gate.

@@ -6,7 +6,7 @@ use Rattle.std.proofs.lemmas.Int.{ints}
 use Rattle.ca_program.specs.declared.program.OpId.{OpId}
 use Rattle.ca_program.specs.declared.program.FieldId.{FieldId}
 use Rattle.ca_program.specs.declared.program.ValueType.TheVariants.{Long}
-use Rattle.ca_program.specs.Plain.{PlainMethod, this, no_expressions, invoke, no_statements, statement_and}
+use Rattle.ca_program.specs.Plain.{PlainMethod, no_statements}
 use Rattle.ca_model.specs.declared.value.Object.{Object}
 use Rattle.ca_model.specs.Typed.{IsOfClass, EachTyped, TypedHeap}
 use Rattle.ca_model.specs.Heaps.{created}
@@ -19,7 +19,7 @@ use Rattle.ca_parallel.specs.Extents.{Extent, IsExtentOf}
 use Rattle.ca_parallel.specs.Separable.{AreSeparated}
 use Rattle.ca_order_laws.specs.Order.{StandsFor}
 use Rattle.ca_cells.specs.Rounds.{SeparableIn}
-use Rattle.ca_counters.specs.Counters.{counter, add, twice, method, counts, counters, start, starts}
+use Rattle.ca_counters.specs.Counters.{counter, add, twice, operation, method, counts, calls_add, counters, start, starts}
 
 fits_one : FitsSigned w64 (pos 1)
 fits_one = omega (arith, ints)
@@ -38,16 +38,21 @@ counters_typed = record { ops = ops; functions = λ n m e. absurd cc; main = tt 
       method = record { class = (_, refl); parameters = omega arith; body = ((Long, (refl, refl), (refl, refl), (refl, (refl, fits_one))), tt) };
       result = refl;
     })
-    ops (suc zero) m e = of m (method (counts (statement_and (invoke 1 this add no_expressions) no_statements))) e (record {
+    ops (suc zero) m e = of m (method (counts (calls_add no_statements))) e (record {
       method = record { class = (_, refl); parameters = omega arith; body = ((Long, (refl, refl), (refl, refl), (refl, (refl, fits_one))), ((counter, [], refl, (refl, refl), (counter, refl, refl), refl), tt)) };
       result = refl;
     })
-    ops (suc (suc n)) m e = absurd cc
+    ops (suc (suc zero)) m e = of m (method (calls_add (calls_add no_statements))) e (record {
+      method = record { class = (_, refl); parameters = omega arith; body = ((counter, [], refl, (refl, refl), (counter, refl, refl), refl), ((counter, [], refl, (refl, refl), (counter, refl, refl), refl), tt)) };
+      result = refl;
+    })
+    ops (suc (suc (suc n))) m e = absurd cc
 
 separable_at : (written : List FieldId) (n : ℕ) → AreSeparated counters written false (body_of (slice_get counters.ops n))
 separable_at written zero = ((tt, tt), tt)
 separable_at written (suc zero) = ((tt, tt), ((tt, tt), tt))
-separable_at written (suc (suc n)) = tt
+separable_at written (suc (suc zero)) = ((tt, tt), ((tt, tt), tt))
+separable_at written (suc (suc (suc n))) = tt
 
 pub all_separable : (roots : List OpId) (x : Extent) → IsExtentOf counters roots x → (op : OpId) → Contains x.ops op → SeparableIn counters x op
 all_separable roots x e op inside = record { roots = roots; extent = e; inside = inside; separable = separable_at x.written op.0 }
@@ -63,6 +68,13 @@ class_at : (n r : ℕ) → r < n → IsOfClass (slice_get (starts n) r) counter
 class_at zero r l = absurd (omega arith)
 class_at (suc n) zero l = refl
 class_at (suc n) (suc r) l = class_at n r (omega arith)
+
+-- each of the three operations
+pub call_typed : (n r k : ℕ) → r < n → k < 3 → WellTyped counters (starts n) (invocation r (operation k) [])
+call_typed n r zero l b = (class_at n r l, tt)
+call_typed n r (suc zero) l b = (class_at n r l, tt)
+call_typed n r (suc (suc zero)) l b = (class_at n r l, tt)
+call_typed n r (suc (suc (suc k))) l b = absurd (omega (arith, b))
 
 pub twice_typed : (n r : ℕ) → r < n → WellTyped counters (starts n) (invocation r twice [])
 twice_typed n r l = (class_at n r l, tt)

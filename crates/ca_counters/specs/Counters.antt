@@ -5,6 +5,7 @@
 --   long n;
 --   void add() { n += 1; }
 --   void twice() { n += 1; this->add(); }
+--   void two() { this->add(); this->add(); }
 -- };
 use Rattle.std.specs.Prelude.{◌≡◌, ℕ, List, [], ◌∷◌, None, pos, replicate, Contains}
 use Rattle.ca_tree.specs.declared.tree.AssignOp.TheVariants.{Add}
@@ -31,6 +32,10 @@ add = record { 0 = 0 }
 abbrev pub twice : OpId
 twice = record { 0 = 1 }
 
+-- each of the three by its number
+abbrev pub operation : ℕ → OpId
+operation n = record { 0 = n }
+
 abbrev pub method : Statements → PlainMethod
 method ss = record { class = counter; name = []; params = 0; body = record { locals = []; statements = ss }; result = None }
 
@@ -41,13 +46,17 @@ counts_one = put_field 1 number_field Add (number (pos 1))
 abbrev pub counts : Statements → Statements
 counts rest = statement_and counts_one rest
 
+-- this->add(); and then the rest
+abbrev pub calls_add : Statements → Statements
+calls_add rest = statement_and (invoke 1 this add no_expressions) rest
+
 abbrev pub counter_class : PlainClass
 counter_class = record { name = []; fields = record { name = []; ty = Long; length = None } ∷ [] }
 
 abbrev pub counters : PlainProgram
 counters = record {
   classes = counter_class ∷ [];
-  ops = method (counts no_statements) ∷ method (counts (statement_and (invoke 1 this add no_expressions) no_statements)) ∷ [];
+  ops = method (counts no_statements) ∷ method (counts (calls_add no_statements)) ∷ method (calls_add (calls_add no_statements)) ∷ [];
   functions = [];
   main = record { locals = []; statements = no_statements };
 }
@@ -64,3 +73,9 @@ pub record IsSet (key : Given) (n : ℕ) : Type 0 where
   pub program : program_of key ≡ counters
   pub frozen : frozen_of key ≡ starts n
   pub inside : Contains (extent_of key).ops twice
+
+-- the same with an extent that has this operation
+pub record IsSetFor (op : OpId) (key : Given) (n : ℕ) : Type 0 where
+  pub program : program_of key ≡ counters
+  pub frozen : frozen_of key ≡ starts n
+  pub inside : Contains (extent_of key).ops op

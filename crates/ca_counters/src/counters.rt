@@ -1,9 +1,10 @@
-//! A program whose objects count: `add` counts one, and `twice` counts one and calls `add` on its own object.
+//! A program whose objects count: `add` counts one, `twice` counts one and calls `add` on its own object, and `two` only calls `add`,
+//! two times, so it takes no lock.
 
 ghost use Rattle.std.specs.Prelude.{◌≡◌, [], IfOk};
 ghost use Rattle.ca_program.specs.Plain.{this, no_expressions, invoke, no_statements, statement_and};
 ghost use Rattle.ca_program.specs.View.{class_view, method_view, program_view, statement_view, statements_view};
-ghost use Rattle.ca_counters.specs.Counters.{add, counter_class, counters, counts, counts_one, method, starts, twice};
+ghost use Rattle.ca_counters.specs.Counters.{add, calls_add, counter_class, counters, counts, counts_one, method, operation, starts, twice};
 
 use ca_logs::Task;
 use ca_model::Heap;
@@ -34,7 +35,7 @@ fn count() -> Stmt
 }
 
 /// An operation without parameters.
-fn operation(alloc: Global, name: Name, stmts: Vec<Stmt>) -> Method
+fn operation_of(alloc: Global, name: Name, stmts: Vec<Stmt>) -> Method
     requires { name ≡ [] }
     ensures { method_view result ≡ method (statements_view stmts.items) }
 {
@@ -57,21 +58,39 @@ fn adding(alloc: Global) -> Result<Method, AllocError>
     let name = Name::new(alloc, &[])?;
     let mut stmts = Vec::new(alloc);
     stmts.push(count())?;
-    Ok(operation(alloc, name, stmts))
+    Ok(operation_of(alloc, name, stmts))
+}
+
+/// The statement that calls `add` on the object itself.
+fn call_add(alloc: Global) -> Stmt
+    ensures { statement_view result ≡ invoke 1 this add no_expressions }
+{
+    Stmt {
+        line: 1,
+        kind: StmtForm::Invoke(Expr::This, OpId(0), Vec::new(alloc)),
+    }
 }
 
 /// `void twice() { n += 1; this->add(); }`
 fn counting_twice(alloc: Global) -> Result<Method, AllocError>
-    ensures { IfOk result (λ m. method_view m ≡ method (counts (statement_and (invoke 1 this add no_expressions) no_statements))) }
+    ensures { IfOk result (λ m. method_view m ≡ method (counts (calls_add no_statements))) }
 {
     let name = Name::new(alloc, &[])?;
     let mut stmts = Vec::new(alloc);
     stmts.push(count())?;
-    stmts.push(Stmt {
-        line: 1,
-        kind: StmtForm::Invoke(Expr::This, OpId(0), Vec::new(alloc)),
-    })?;
-    Ok(operation(alloc, name, stmts))
+    stmts.push(call_add(alloc))?;
+    Ok(operation_of(alloc, name, stmts))
+}
+
+/// `void two() { this->add(); this->add(); }`
+fn calling_twice(alloc: Global) -> Result<Method, AllocError>
+    ensures { IfOk result (λ m. method_view m ≡ method (calls_add (calls_add no_statements))) }
+{
+    let name = Name::new(alloc, &[])?;
+    let mut stmts = Vec::new(alloc);
+    stmts.push(call_add(alloc))?;
+    stmts.push(call_add(alloc))?;
+    Ok(operation_of(alloc, name, stmts))
 }
 
 /// The class of the objects.
@@ -97,6 +116,7 @@ pub fn program(alloc: Global) -> Result<Program, AllocError>
     let mut ops = Vec::new(alloc);
     ops.push(adding(alloc)?)?;
     ops.push(counting_twice(alloc)?)?;
+    ops.push(calling_twice(alloc)?)?;
     Ok(Program {
         classes,
         ops,
@@ -122,6 +142,23 @@ pub fn heap(alloc: Global, program: &Program, count: u32) -> Result<Heap, Fail>
         }
     }
     Ok(heap)
+}
+
+/// How many operations there are.
+pub const OPERATIONS: u32 = 3;
+
+/// The task that calls the operation of this number on an object.
+pub fn task_of(alloc: Global, op: u32, object: u32) -> Task
+    ensures { result ≡ record { op = record { receiver = object; op = operation op; args = [] }; after = 0 } }
+{
+    Task {
+        op: Op {
+            receiver: object,
+            op: OpId(op),
+            args: Arguments::new(alloc),
+        },
+        after: 0,
+    }
 }
 
 /// The task that counts twice on an object.

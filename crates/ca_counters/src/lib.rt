@@ -5,4 +5,4 @@
 
 mod counters;
 
-pub use counters::{heap, let_go, program, twice};
+pub use counters::{OPERATIONS, heap, let_go, program, task_of, twice};

@@ -10,12 +10,18 @@ use Rattle.ca_parallel.specs.Extents.{Extent, IsExtentOf, root}
 use Rattle.ca_logs.specs.declared.log.Task.{Task}
 use Rattle.ca_cells.specs.Rounds.{IsGiven, MayRun, program_of, extent_of, frozen_of}
 use Rattle.ca_cells.specs.declared.rule.Given.{Given}
-use Rattle.ca_counters.specs.Counters.{IsSet, counters, starts, twice}
-use Rattle.ca_counters.proofs.Counting.{twice_typed}
+use Rattle.ca_counters.specs.Counters.{IsSet, IsSetFor, counters, operation, starts, twice}
+use Rattle.ca_counters.proofs.Counting.{call_typed, twice_typed}
 
 pub may_count : (key : Given) (n r : ℕ) (t : Task) → IsSet key n → r < n → t ≡ record { op = record { receiver = r; op = twice; args = [] }; after = 0 } → MayRun key t
 may_count key n r t s l e = subst (MayRun key) (sym e) (record {
   typed = subst (λ (p : PlainProgram). WellTyped p (frozen_of key) (invocation r twice [])) (sym s.program) (subst (λ (h : List Object). WellTyped counters h (invocation r twice [])) (sym s.frozen) (twice_typed n r l));
+  inside = s.inside;
+})
+
+pub may_call : (k : ℕ) (key : Given) (n r : ℕ) (t : Task) → IsSetFor (operation k) key n → r < n → k < 3 → t ≡ record { op = record { receiver = r; op = operation k; args = [] }; after = 0 } → MayRun key t
+may_call k key n r t s l b e = subst (MayRun key) (sym e) (record {
+  typed = subst (λ (p : PlainProgram). WellTyped p (frozen_of key) (invocation r (operation k) [])) (sym s.program) (subst (λ (h : List Object). WellTyped counters h (invocation r (operation k) [])) (sym s.frozen) (call_typed n r k l b));
   inside = s.inside;
 })
 

@@ -80,7 +80,7 @@ fn collects<R: Threads + Wait + Sync>(
     let mut pool = Pool::make(workers);
     let gate = &OpenGate;
     let round = pool.round(
-        rt, alloc, program, &heap, &beside, cells, seats, first, quota, 100, gate,
+        rt, alloc, program, &extent, &heap, &beside, cells, seats, first, quota, 100, gate,
     )?;
     let counts = waiting(alloc, round.rest.as_slice(), heap.len() as usize)?;
     let mut entries: usize = 0;

@@ -162,7 +162,8 @@ fn closes<R: Wait + Abort>(rt: &R, alloc: Global, program: &Program) -> Result<b
         rt, alloc, &mut desk, &cells, &mut seat, program, &heap, &beside, 100,
     );
     seats.push(seat)?;
-    let log = cells.gather(seats);
+    let loose = Vec::with_capacity(alloc, seats.len())?;
+    let log = cells.gather(seats, loose);
     let mut entries = 0;
     for cell in &log.logs {
         entries = cell.entries.len();

@@ -131,7 +131,7 @@ fn round<R: Threads + Wait + Sync>(
     let heap = heap(alloc, program, 10)?;
     let beside = Beside::new(alloc);
     let (cells, mut seats) = Cells::make(alloc, program, &extent, &heap, &beside, workers, false)?;
-    let reads = Reads::of(&heap, &beside);
+    let reads = Reads::of(&heap, &beside, &[]);
     work_all(
         rt,
         alloc,
@@ -141,7 +141,8 @@ fn round<R: Threads + Wait + Sync>(
         &reads,
         times,
     );
-    Ok(cells.gather(seats))
+    let loose = Vec::with_capacity(alloc, seats.len())?;
+    Ok(cells.gather(seats, loose))
 }
 
 /// What an object has counted.

@@ -6,5 +6,7 @@ pub mod Going
 pub mod Stored
 pub mod Beginning
 pub mod Parts
+pub mod Roots
 pub mod Adding
+pub mod Lent
 mod Examples

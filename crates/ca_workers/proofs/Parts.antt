@@ -1,6 +1,6 @@
 -- A round of some of what waits, beside which the others stay where they are.
 use Rattle.std.proofs.Common.{◌≡◌, ◌<◌, ℕ, List, [], ◌∷◌, ◌++◌, All, length, length-append, take, drop, Option, Result, Ok, Err, IfOk, refl, sym, ap, ◌∙◌, subst, arith}
-use Rattle.std.specs.Prelude.{Contains, flat_map}
+use Rattle.std.specs.Prelude.{flat_map}
 use Rattle.std.proofs.lemmas.List.{map-append}
 use Rattle.std.proofs.lemmas.List.Elements.{All-append, All-take, All-drop, Contains-append_left, Contains-append_right}
 use Rattle.ca_base.specs.declared.faults.Memory.{Memory}
@@ -13,14 +13,17 @@ use Rattle.ca_parallel.specs.Extents.{Extent}
 use Rattle.ca_order_laws.proofs.Weights.{weight_append}
 use Rattle.ca_logs.specs.declared.log.Task.{Task}
 use Rattle.ca_logs.specs.declared.log.Stop.{Stop}
+use Rattle.ca_logs.specs.declared.log.Entry.{Entry}
 use Rattle.ca_logs.specs.declared.log.CellLog.{CellLog}
-use Rattle.ca_logs.specs.Entries.{entries_of, ran_in, tasks_in, listed_by, call_of, task_calls}
+use Rattle.ca_logs.specs.Entries.{loose_entries, all_entries, ran_in, tasks_in, listed_by, call_of, task_calls}
 use Rattle.ca_cells.specs.declared.rule.Given.{Given}
 use Rattle.ca_cells.specs.Rounds.{IsGiven, MayRun}
-use Rattle.ca_cells.specs.Logs.{began_with, logs_in}
+use Rattle.ca_cells.specs.declared.cells.RoundLog.{RoundLog}
+use Rattle.ca_cells.specs.Logs.{began_with, logs_in, loose_in}
 use Rattle.ca_pool.specs.Gathered.{IsTold}
 use Rattle.ca_pool.specs.declared.round.Round.{Round}
 use Rattle.ca_pool.specs.Rounded.{Rounded}
+use Rattle.ca_pool.proofs.Reading.{entries_told}
 use Rattle.ca_run.specs.Rounds.{RanTo}
 use Rattle.ca_workers.specs.clauses.Runs.{MayWait, InCells}
 use Rattle.ca_workers.proofs.Beginning.{may_run}
@@ -52,15 +55,16 @@ module _ (p : PlainProgram) (x : Extent) (frozen h : List Object) (others first 
   }
 
 -- A round of some tasks is one of all, which leaves the others too, but for the number of entries that it makes at least.
-pub round_of_all : (given : Given) (left quota : ℕ) (others first : List Task) (logs : List CellLog) (rest : List Task) (stop : Option Stop) →
-    All (MayRun given) others → 0 < length first → Rounded given left quota first logs rest stop → Rounded given left 0 (others ++ first) logs (others ++ rest) stop
-round_of_all given left quota others first logs rest stop run some r =
-    let ran : List Task = tasks_in (ran_in (entries_of logs)) in
-    let listed : List Task = flat_map listed_by (entries_of logs) in
+pub round_of_all : (given : Given) (left quota : ℕ) (others first : List Task) (logs : List CellLog) (loose : List (List Entry)) (rest : List Task) (stop : Option Stop) →
+    All (MayRun given) others → 0 < length first → Rounded given left quota first logs loose rest stop → Rounded given left 0 (others ++ first) logs loose (others ++ rest) stop
+round_of_all given left quota others first logs loose rest stop run some r =
+    let ran : List Task = tasks_in (ran_in (all_entries logs loose)) in
+    let listed : List Task = flat_map listed_by (all_entries logs loose) in
     let same : SameItems (ran ++ rest) (first ++ listed) = r.balanced.tasks in
     record {
       count = r.count;
       legal = r.legal;
+      legal_loose = r.legal_loose;
       balanced = record {
         tasks = record {
           weighed = λ f.
@@ -78,21 +82,22 @@ round_of_all given left quota others first logs rest stop run some r =
       may_run = All-append (MayRun given) others rest run r.may_run;
       first_one = r.first_one;
       stuck = r.stuck;
+      stuck_loose = r.stuck_loose;
       some = λ _. r.some some;
       full = λ _ _ _. omega arith;
     }
 
-module _ (given : Given) (p : PlainProgram) (x : Extent) (frozen now : List Object) (is : IsGiven p x frozen now given) (left quota : ℕ) (others first : List Task) (logs : List CellLog) (rest : List Task) (stop : Option Stop) (w : MayWait p x frozen now (task_calls (others ++ first))) (some : 0 < length first) (r : Rounded given left quota first logs rest stop) where
-  pub rounded_all : Rounded given left 0 (others ++ first) logs (others ++ rest) stop
-  rounded_all = round_of_all given left quota others first logs rest stop (may_run given p x frozen now is others (others_wait p x frozen now others first w)) some r
+module _ (given : Given) (p : PlainProgram) (x : Extent) (frozen now : List Object) (is : IsGiven p x frozen now given) (left quota : ℕ) (others first : List Task) (logs : List CellLog) (loose : List (List Entry)) (rest : List Task) (stop : Option Stop) (w : MayWait p x frozen now (task_calls (others ++ first))) (some : 0 < length first) (r : Rounded given left quota first logs loose rest stop) where
+  pub rounded_all : Rounded given left 0 (others ++ first) logs loose (others ++ rest) stop
+  rounded_all = round_of_all given left quota others first logs loose rest stop (may_run given p x frozen now is others (others_wait p x frozen now others first w)) some r
 
 -- ---- lists of tasks in two parts
 
-take_front : (xs ys : List Task) → take (length xs) (xs ++ ys) ≡ xs
+pub take_front : (xs ys : List Task) → take (length xs) (xs ++ ys) ≡ xs
 take_front [] ys = refl
 take_front (x ∷ xs) ys = ap (λ (zs : List Task). x ∷ zs) (take_front xs ys)
 
-drop_front : (xs ys : List Task) → drop (length xs) (xs ++ ys) ≡ ys
+pub drop_front : (xs ys : List Task) → drop (length xs) (xs ++ ys) ≡ ys
 drop_front [] ys = refl
 drop_front (x ∷ xs) ys = drop_front xs ys
 
@@ -122,6 +127,12 @@ went_on p frozen now others first all is left after rest anew same more behind s
 
 -- what a round answers, in its cells
 pub in_cells : (p : PlainProgram) (x : Extent) (frozen now : List Object) (left quota : ℕ) (first : List Task) (given : Given) → IsGiven p x frozen now given → (r : Result Round Memory) →
-    IfOk r (λ q. (began_with q.log ≡ now) × IsTold q.log) → IfOk r (λ q. Rounded given left quota first (logs_in q.log) q.rest.items q.stop) → IfOk r (InCells p x frozen now left quota first)
+    IfOk r (λ q. (began_with q.log ≡ now) × IsTold q.log) → IfOk r (λ q. Rounded given left quota first (logs_in q.log) (loose_in q.log) q.rest.items q.stop) → IfOk r (InCells p x frozen now left quota first)
 in_cells p x frozen now left quota first given is (Ok q) tells rounded = record { given = given; is = is; began = tells.0; told = tells.1; rounded = rounded }
 in_cells p x frozen now left quota first given is (Err e) tells rounded = tt
+
+-- what is read off the touched histories and the loose lists is read off all
+pub told_entries : (log : RoundLog) → IsTold log → (logs : List CellLog) (loose : List (List Entry)) → logs ≡ log.logs.items → loose ≡ loose_in log → all_entries logs loose ≡ all_entries (logs_in log) (loose_in log)
+told_entries log told logs loose a b =
+    ap (λ (ls : List CellLog). all_entries ls loose) a
+    ∙ (ap (λ (es : List Entry). es ++ loose_entries loose) (sym (entries_told log told)) ∙ ap (λ (ls : List (List Entry)). all_entries (logs_in log) ls) b)

@@ -1,6 +1,6 @@
 //! A turn: a round of what waits, in cells or on replicas, and what it changed put beside the heap.
 
-ghost use Rattle.std.specs.Prelude.{◌≡◌, ◌<◌, true, All, Contains, length, IfOk};
+ghost use Rattle.std.specs.Prelude.{◌≡◌, ◌<◌, ◌+◌, true, All, Contains, length, IfOk};
 ghost use Rattle.ca_program.specs.View.{program_view};
 ghost use Rattle.ca_program.specs.declared.program.OpId.{OpId};
 ghost use Rattle.ca_beside.specs.Beside.{present};
@@ -8,16 +8,17 @@ ghost use Rattle.ca_logs.specs.declared.log.Task.{Task};
 ghost use Rattle.ca_logs.specs.Entries.{task_calls};
 ghost use Rattle.ca_sum_laws.specs.Summed.{HasOnlySums};
 ghost use Rattle.ca_replica.specs.Adding.{Once};
-ghost use Rattle.ca_workers.specs.clauses.Runs.{BeginsAnew, IsSetting, MayWait, TurnedTo};
+ghost use Rattle.ca_workers.specs.clauses.Runs.{BeginsAnew, IsSetting, MayWait, TurnedTo, with_lent};
 
 use crate::rounds::{Left, Rounds, at_work};
 use crate::storing::{store, store_sums};
-use crate::tasks::{begin_anew, newest, together};
+use crate::tasks::{all_tasks, as_many, begin_anew, lent_from, most_of, newest_of, together};
 use ca_base::{Gate, Memory};
 use ca_beside::Beside;
 use ca_cells::RoundLog;
 use ca_logs::Task;
 use ca_model::Heap;
+use ca_parallel::Op;
 use ca_replica::summed;
 use ca_sum_pool::{SummedRound, round_summed};
 use std::sync::Wait;
@@ -26,9 +27,11 @@ use std::thread::Threads;
 /// The most values that the replicas of all workers hold: four times those of the largest heap.
 const MOST_COPIED: u64 = 16_000_000;
 
-/// What waits behind a round, and the steps that it took.
+/// What waits behind a round: the first ones of the calls that are lent, so many, and tasks behind them; and the steps that it
+/// took.
 #[derive(Drop)]
 pub struct Turn {
+    pub lent: usize,
     pub rest: Vec<Task>,
     pub steps: u64,
 }
@@ -56,19 +59,21 @@ impl<'s, R: Threads + Wait + Sync, G: Gate> Rounds<'s, R, G> {
         &self,
         frozen: &Heap,
         beside: &mut Beside,
+        listed: &[Op],
         waiting: Vec<Task>,
         quota: u32,
         left: u64,
     ) -> Result<Option<Turn>, Memory>
         requires setting { IsSetting (program_view self.now.program.now) self.now.extent.now frozen.now }
-        requires waiting { MayWait (program_view self.now.program.now) self.now.extent.now frozen.now (present frozen.now beside.old) (task_calls waiting.items) }
+        requires waiting { MayWait (program_view self.now.program.now) self.now.extent.now frozen.now (present frozen.now beside.old) (task_calls (with_lent listed.now waiting.items)) }
         requires begins { All (λ (t : Task). t.after ≡ 0) waiting.items }
-        requires some { 0 < length waiting.items }
+        requires some { 0 < length listed.now + length waiting.items }
         requires quota { 0 < quota }
-        ensures turned { IfOk result (TurnedTo (program_view self.now.program.now) frozen.now (present frozen.now beside.old) (task_calls waiting.items) left (present frozen.now beside.new)) }
+        ensures turned { IfOk result (TurnedTo (program_view self.now.program.now) frozen.now (present frozen.now beside.old) listed.now waiting.items left (present frozen.now beside.new)) }
         ensures begins { IfOk result BeginsAnew }
     {
-        let went = self.run_round(frozen, beside, waiting, quota, left)?;
+        let tasks = all_tasks(self.alloc, listed, waiting)?;
+        let went = self.run_round(frozen, beside, tasks, quota, left)?;
         let round = match went {
             Some(round) => round,
             None => return Ok(None),
@@ -77,22 +82,28 @@ impl<'s, R: Threads + Wait + Sync, G: Gate> Rounds<'s, R, G> {
         let RoundLog {
             numbers,
             logs,
+            loose: _,
             heap: _,
             beside: _,
             keeps: _,
         } = log;
         store(numbers, logs, beside)?;
-        Ok(Some(Turn { rest, steps }))
+        Ok(Some(Turn {
+            lent: 0,
+            rest,
+            steps,
+        }))
     }
 
     /// Runs a round on replicas, and adds their sums to the objects beside the heap.
     ///
-    /// The round is given as many of the tasks as its workers may run, the newest; the others stay where they are, before
-    /// what the round leaves.
+    /// The round is given as many of the calls and tasks as its workers may run, the newest; the others stay where they are,
+    /// before what the round leaves.
     fn turn_summed(
         &self,
         frozen: &Heap,
         beside: &mut Beside,
+        listed: &[Op],
         waiting: Vec<Task>,
         quota: u32,
         left: u64,
@@ -100,17 +111,19 @@ impl<'s, R: Threads + Wait + Sync, G: Gate> Rounds<'s, R, G> {
         requires setting { IsSetting (program_view self.now.program.now) self.now.extent.now frozen.now }
         requires sums { (op : OpId) → Contains self.now.extent.now.ops op → HasOnlySums (program_view self.now.program.now) self.now.extent.now.written op }
         requires once { Once self.now.extent.now.written }
-        requires waiting { MayWait (program_view self.now.program.now) self.now.extent.now frozen.now (present frozen.now beside.old) (task_calls waiting.items) }
+        requires waiting { MayWait (program_view self.now.program.now) self.now.extent.now frozen.now (present frozen.now beside.old) (task_calls (with_lent listed.now waiting.items)) }
         requires begins { All (λ (t : Task). t.after ≡ 0) waiting.items }
-        requires some { 0 < length waiting.items }
+        requires some { 0 < length listed.now + length waiting.items }
         requires quota { 0 < quota }
-        ensures turned { IfOk result (TurnedTo (program_view self.now.program.now) frozen.now (present frozen.now beside.old) (task_calls waiting.items) left (present frozen.now beside.new)) }
+        ensures turned { IfOk result (TurnedTo (program_view self.now.program.now) frozen.now (present frozen.now beside.old) listed.now waiting.items left (present frozen.now beside.new)) }
         ensures begins { IfOk result BeginsAnew }
     {
         let mut others = waiting;
-        let most = (self.workers as usize).saturating_mul(quota as usize);
-        let first = newest(self.alloc, &mut others, most)?;
-        let count = at_work(self.workers, first.len());
+        let most = most_of(self.workers, quota);
+        let first = newest_of(self.alloc, &mut others, most)?;
+        let from = lent_from(listed, &others, &first, most);
+        let calls = &listed[from..];
+        let count = at_work(self.workers, as_many(calls, &first));
         let SummedRound {
             replicas,
             mut rest,
@@ -124,6 +137,7 @@ impl<'s, R: Threads + Wait + Sync, G: Gate> Rounds<'s, R, G> {
             frozen,
             self.gate,
             count as usize,
+            calls,
             first,
             quota,
             left,
@@ -136,7 +150,11 @@ impl<'s, R: Threads + Wait + Sync, G: Gate> Rounds<'s, R, G> {
                 store_sums(replicas.as_slice(), self.extent, frozen, beside)?;
                 begin_anew(&mut rest);
                 let waits = together(others, rest)?;
-                Ok(Some(Turn { rest: waits, steps }))
+                Ok(Some(Turn {
+                    lent: from,
+                    rest: waits,
+                    steps,
+                }))
             }
             None => Ok(None),
         }
@@ -148,6 +166,7 @@ impl<'s, R: Threads + Wait + Sync, G: Gate> Rounds<'s, R, G> {
         &self,
         frozen: &Heap,
         beside: &mut Beside,
+        listed: &[Op],
         waiting: Vec<Task>,
         quota: u32,
         left: u64,
@@ -156,16 +175,16 @@ impl<'s, R: Threads + Wait + Sync, G: Gate> Rounds<'s, R, G> {
         requires setting { IsSetting (program_view self.now.program.now) self.now.extent.now frozen.now }
         requires sums { sums ≡ true → (op : OpId) → Contains self.now.extent.now.ops op → HasOnlySums (program_view self.now.program.now) self.now.extent.now.written op }
         requires once { Once self.now.extent.now.written }
-        requires waiting { MayWait (program_view self.now.program.now) self.now.extent.now frozen.now (present frozen.now beside.old) (task_calls waiting.items) }
+        requires waiting { MayWait (program_view self.now.program.now) self.now.extent.now frozen.now (present frozen.now beside.old) (task_calls (with_lent listed.now waiting.items)) }
         requires begins { All (λ (t : Task). t.after ≡ 0) waiting.items }
-        requires some { 0 < length waiting.items }
+        requires some { 0 < length listed.now + length waiting.items }
         requires quota { 0 < quota }
-        ensures turned { IfOk result (TurnedTo (program_view self.now.program.now) frozen.now (present frozen.now beside.old) (task_calls waiting.items) left (present frozen.now beside.new)) }
+        ensures turned { IfOk result (TurnedTo (program_view self.now.program.now) frozen.now (present frozen.now beside.old) listed.now waiting.items left (present frozen.now beside.new)) }
         ensures begins { IfOk result BeginsAnew }
     {
         if sums {
-            return self.turn_summed(frozen, beside, waiting, quota, left);
+            return self.turn_summed(frozen, beside, listed, waiting, quota, left);
         }
-        self.turn_in_cells(frozen, beside, waiting, quota, left)
+        self.turn_in_cells(frozen, beside, listed, waiting, quota, left)
     }
 }

@@ -1,5 +1,5 @@
-//! What operations weigh: about how many statements run in a step of theirs. It only tells when a round is worth its start, so
-//! no clause speaks of it.
+//! What is known of operations: what they weigh, about how many statements run in a step of theirs, and whether they take a lock.
+//! It only tells when a round is worth its start, and before which operations a gate is passed, so no clause speaks of it.
 
 use ca_parallel::Op;
 use ca_program::{Program, Stmt, StmtForm};
@@ -10,6 +10,14 @@ const STEP: u32 = 2;
 
 /// What an operation weighs that none was told of.
 const UNKNOWN: u32 = 8;
+
+/// What is known of an operation.
+#[derive(Clone, Copy)]
+pub struct Known {
+    pub weight: u32,
+    /// Whether it takes a lock, where it was asked.
+    pub locks: Option<bool>,
+}
 
 /// How many statements there are in one, with itself.
 #[cycle(counts)]
@@ -35,38 +43,41 @@ fn count_all(stmts: &[Stmt]) -> u32 {
     sum
 }
 
-/// What the operations of a program weigh, by their numbers.
-pub fn weights_of(alloc: Global, program: &Program) -> Result<Vec<u32>, AllocError> {
-    let mut weights = Vec::with_capacity(alloc, program.ops.len())?;
+/// What is known of the operations of a program at first, by their numbers.
+pub fn weights_of(alloc: Global, program: &Program) -> Result<Vec<Known>, AllocError> {
+    let mut known = Vec::with_capacity(alloc, program.ops.len())?;
     for op in &program.ops {
-        weights.push(count_all(op.body.stmts.as_slice()).saturating_add(STEP))?;
+        known.push(Known {
+            weight: count_all(op.body.stmts.as_slice()).saturating_add(STEP),
+            locks: None,
+        })?;
     }
-    Ok(weights)
+    Ok(known)
 }
 
 /// What a step of this call weighs.
-fn weight_of(weights: &[u32], op: &Op) -> u64 {
+fn weight_of(known: &Vec<Known>, op: &Op) -> u64 {
     let number = op.op.0 as usize;
-    if number < weights.len() {
-        u64::from(weights[number])
+    if number < known.len() {
+        u64::from(known[number].weight)
     } else {
         u64::from(UNKNOWN)
     }
 }
 
 /// What a step of the last one of these calls weighs.
-pub fn last_weight(weights: &[u32], ops: &Vec<Op>) -> u64 {
+pub fn last_weight(known: &Vec<Known>, ops: &Vec<Op>) -> u64 {
     match ops.last() {
-        Some(op) => weight_of(weights, op),
+        Some(op) => weight_of(known, op),
         None => 0,
     }
 }
 
 /// The most that a step of one of these calls weighs.
-pub fn greatest_weight(weights: &[u32], ops: &[Op]) -> u64 {
+pub fn greatest_weight(known: &Vec<Known>, ops: &[Op]) -> u64 {
     let mut greatest = 0;
     for op in ops {
-        greatest = weight_of(weights, op).max(greatest);
+        greatest = weight_of(known, op).max(greatest);
     }
     greatest
 }

@@ -7,4 +7,4 @@ use Rattle.ca_counters.proofs.counters.adding.Goals as goal
 
 pub returns : goal.returns
 returns c = let items : c.push.new.self.items ≡ c.count.result ∷ [] = c.in_ok-push.ensures.items ∙ ap (λ (ss : List Stmt). ss ++ c.count.result ∷ []) c.new-stmts.ensures.items in
-    c.operation.ensures ∙ (ap (λ (ss : List Stmt). method (statements_view ss)) items ∙ ap (λ (s : Statement). method (statement_and s no_statements)) c.count.ensures)
+    c.operation_of.ensures ∙ (ap (λ (ss : List Stmt). method (statements_view ss)) items ∙ ap (λ (s : Statement). method (statement_and s no_statements)) c.count.ensures)

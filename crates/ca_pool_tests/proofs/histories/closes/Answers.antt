@@ -44,4 +44,7 @@ gather-log-requires g c = let rest = c.pop.new.self.items in let seat = c.in-Som
     let same : Same (rest ++ seat ∷ []) (rest ++ last ∷ []) = last_noted rest seat last (same_again seat c.apply_twice-first.new.seat last c.apply_twice-first.ensures c.apply_twice-second.ensures) in
     let from : Same c.in_ok-cells.seats.items (rest ++ last ∷ []) = subst (λ (ss : List Seat). Same ss (rest ++ last ∷ [])) (sym c.in-Some.ensures.items) same in
     let all : Same c.in_ok-cells.seats.items c.push.new.self.items = subst (λ (ss : List Seat). Same c.in_ok-cells.seats.items ss) (sym c.in_ok-push.ensures.items) from in
-    record { all = all_still c.in_ok-cells.cells c.in_ok-cells.seats.items c.push.new.self.items all c.in_ok-cells.ensures.all }
+    record {
+      all = all_still c.in_ok-cells.cells c.in_ok-cells.seats.items c.push.new.self.items all c.in_ok-cells.ensures.all;
+      room = (c.in_ok-loose.ensures.items, (let wide = c.in_ok-loose.ensures.exact in let long = c.len.ensures in omega (arith, wide, long)));
+    }

@@ -17,7 +17,10 @@ pub make-requires-clause-now : goal.make-requires-clause-now
 make-requires-clause-now g c = c.requires.waiting.stands
 
 pub round-requires-clause-given : goal.round-requires-clause-given
-round-requires-clause-given g c = λ κs o. (c.in_ok-cells.ensures.key.0, c.in_ok-cells.ensures.key.2, c.in_ok-cells.ensures.key.3)
+round-requires-clause-given g c = λ κs o. (c.in_ok-cells.ensures.key.0, c.in_ok-cells.ensures.key.2, c.in_ok-cells.ensures.key.3, c.in_ok-cells.ensures.key.1)
+
+pub round-requires-clause-round : goal.round-requires-clause-round
+round-requires-clause-round g c = λ κs o. c.in_ok-cells.ensures.round
 
 pub round-requires-clause-first : goal.round-requires-clause-first
 round-requires-clause-first g c = λ κs o. (may_run _ (program_view c.args.self.now.program.now) c.args.self.now.extent.now c.args.frozen.now (present c.args.frozen.now c.args.beside.now) c.in_ok-cells.ensures.key c.args.first.items c.requires.waiting, c.requires.begins)

@@ -1,15 +1,27 @@
-use Rattle.std.proofs.Common.{◌≡◌, Option, List, sym, ap, subst, ◌∙◌}
+use Rattle.std.proofs.Common.{◌≡◌, ◌<◌, All, Option, List, length, sym, ap, subst, ◌∙◌}
 use Rattle.ca_program.specs.View.{program_view}
 use Rattle.ca_model.specs.declared.value.Object.{Object}
 use Rattle.ca_beside.specs.Beside.{present}
+use Rattle.ca_logs.specs.declared.log.Task.{Task}
 use Rattle.ca_logs.specs.Entries.{task_calls}
 use Rattle.ca_logs.specs.Laws.{objects_of}
 use Rattle.ca_logs.specs.Touched.{logs_of}
 use Rattle.ca_cells.specs.Logs.{logs_in, touched_in}
 use Rattle.ca_run.specs.Rounds.{RanTo}
 use Rattle.ca_workers.specs.declared.rounds.Left.{Left}
-use Rattle.ca_workers.specs.clauses.Runs.{Turned, Tells, Begin}
+use Rattle.ca_workers.specs.clauses.Runs.{MayWait, NoneWithin, Turned, Tells, Begin, with_lent}
+use Rattle.ca_workers.proofs.Lent.{lent_begin, some_in_round}
 use Rattle.ca_workers.proofs.rounds.Rounds.turn_in_cells.Goals as goal
+
+pub run_round-requires-clause-waiting : goal.run_round-requires-clause-waiting
+run_round-requires-clause-waiting g c κs within =
+    subst (λ (ts : List Task). MayWait (program_view c.args.self.now.program.now) c.args.self.now.extent.now c.args.frozen.now (present c.args.frozen.now c.args.beside.now) (task_calls ts)) (sym c.in_ok-tasks.ensures) c.requires.waiting
+
+pub run_round-requires-clause-begins : goal.run_round-requires-clause-begins
+run_round-requires-clause-begins g c κs within = subst (λ (ts : List Task). All (λ (t : Task). t.after ≡ 0) ts) (sym c.in_ok-tasks.ensures) (lent_begin c.args.listed.now c.args.waiting.items c.requires.begins)
+
+pub run_round-requires-clause-some : goal.run_round-requires-clause-some
+run_round-requires-clause-some g c κs within = subst (λ (ts : List Task). 0 < length ts) (sym c.in_ok-tasks.ensures) (some_in_round c.args.listed.now c.args.waiting.items c.requires.some)
 
 pub store-requires-clause-alike : goal.store-requires-clause-alike
 store-requires-clause-alike g c = (subst (Tells (present c.args.frozen.now c.args.beside.now)) c.in-Some.is c.in_ok-went.ensures.tells).1.alike
@@ -19,7 +31,11 @@ store-requires-clause-rising g c = (subst (Tells (present c.args.frozen.now c.ar
 
 pub returns-in-None-clause-turned : goal.returns-in-None-clause-turned
 returns-in-None-clause-turned g c =
-    subst (λ (o : Option Left). Turned (program_view c.args.self.now.program.now) c.args.frozen.now (present c.args.frozen.now c.args.beside.now) (task_calls c.args.waiting.items) c.args.left o) c.in-None.is c.in_ok-went.ensures.turned
+    let p = program_view c.args.self.now.program.now in
+    let frozen = c.args.frozen.now in
+    let now : List Object = present frozen c.args.beside.now in
+    subst (λ (ts : List Task). NoneWithin p frozen now (task_calls ts) c.args.left) c.in_ok-tasks.ensures
+    (subst (λ (o : Option Left). Turned p frozen now (task_calls c.in_ok-tasks.tasks.items) c.args.left o) c.in-None.is c.in_ok-went.ensures.turned)
 
 pub returns-clause-turned : goal.returns-clause-turned
 returns-clause-turned g c =
@@ -27,11 +43,12 @@ returns-clause-turned g c =
     let frozen = c.args.frozen.now in
     let now : List Object = present frozen c.args.beside.now in
     let round = c.in-Some.round in
-    let ws = task_calls c.args.waiting.items in
-    let ran = subst (λ (o : Option Left). Turned p frozen now ws c.args.left o) c.in-Some.is c.in_ok-went.ensures.turned in
+    let ws = task_calls (with_lent c.args.listed.now c.args.waiting.items) in
+    let told = subst (λ (o : Option Left). Turned p frozen now (task_calls c.in_ok-tasks.tasks.items) c.args.left o) c.in-Some.is c.in_ok-went.ensures.turned in
+    let ran = subst (λ (ts : List Task). RanTo p frozen now (task_calls ts) c.args.left (objects_of (logs_in round.log)) (task_calls round.rest.items) round.steps) c.in_ok-tasks.ensures told.0 in
     let tells = subst (Tells now) c.in-Some.is c.in_ok-went.ensures.tells in
     let heap : present frozen c.store.new.beside ≡ objects_of (logs_in round.log) = c.in_ok-store.ensures frozen ∙ ap (λ (os : List Object). objects_of (logs_of os (touched_in round.log))) (sym tells.0) in
-    (subst (λ (h : List Object). RanTo p frozen now ws c.args.left h (task_calls round.rest.items) round.steps) (sym heap) ran.0, ran.1)
+    (subst (λ (h : List Object). RanTo p frozen now ws c.args.left h (task_calls round.rest.items) round.steps) (sym heap) ran, told.1)
 
 pub returns-clause-begins : goal.returns-clause-begins
 returns-clause-begins g c = subst Begin c.in-Some.is c.in_ok-went.ensures.begins
