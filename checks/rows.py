@@ -2,7 +2,7 @@
 """Texts with what `pairs`, `plan` and `emit` write of them, told by hand: the reference has to say the same.
 
 So it has to of the samples, whose texts `samples/NAME.pairs` and `samples/NAME.plan` were read by people; it made
-`samples/NAME.emit`.
+`samples/NAME.emit`. It runs those that have a `.run`, and follows the schedules that stand beside them.
 """
 
 import pathlib
@@ -11,6 +11,8 @@ import sys
 from reference.analysis import Plan
 from reference.annotated import BadMark, annotated, canonical, erase
 from reference.reader import tree_of
+from reference.schedules import ENOUGH, HEADER, Schedules
+from reference.written import Written
 
 GRAPH = """class Graph {
 public:
@@ -568,13 +570,25 @@ SAMPLES = pathlib.Path(__file__).parent.parent / "samples"
 
 
 def samples():
-    """The plan of each sample, and what it is said to be."""
+    """The plan of each sample, its run and its schedules, and what they are said to be."""
     for path in sorted(SAMPLES.rglob("*.pairs")):
         tree = tree_of(path.with_suffix(".cc").read_text())
         plan = Plan(tree)
         yield plan.pairs_text(), path.read_text()
         yield plan.plan_text(), path.with_suffix(".plan").read_text()
         yield annotated(tree, plan), path.with_suffix(".emit").read_text()
+        if path.parent == SAMPLES:
+            yield from runs(plan, path)
+
+
+def runs(plan, path):
+    """What `run` writes of a sample, and `verify` of each schedule of it."""
+    run = Written(plan)
+    yield run.text(), path.with_suffix(".run").read_text()
+    if path.with_suffix(".schedule").exists():
+        schedules = Schedules(plan, ENOUGH, 0, "", run.steps())
+        for ending, due in (".schedule", "yes\n"), (".strays", path.with_suffix(".verify").read_text()):
+            yield schedules.reply(path.with_suffix(ending).read_text().removeprefix("\n" + HEADER))[1], due
 
 
 def small_text(members):
