@@ -27,6 +27,8 @@ def owner_of(line):
     rest = re.sub(r"^<[^>]*(?:<[^>]*>[^>]*)*>", "", rest).strip()
     names = [re.match(r"[&'\w ]*?(\w+)\s*(?:<|\{|:|where|$)", part.strip()) for part in rest.split(" for ")]
     names = [name.group(1) for name in names if name]
+    if not names:  # its bounds stand on lines of their own
+        return "", None
     if kind == "trait" or len(names) < 2:
         return names[0], None
     return names[1], names[0]

@@ -11,7 +11,7 @@ from docs_words import QUOTED
 SECONDS = 60
 # A budget that no sample spends.
 BUDGET = "1000000"
-VERDICT = re.compile(r"(\w+::\w+) (\w+::\w+) (commutes|unproved .*)$")
+TOLD = re.compile(r"\w+::\w+ \w+::\w+ (commutes|unproved .*)$|(op \w+::\w+|loop \d+) (parallel|serial)$|(error|limit) \d+:\d+ E\d\d$")
 METHOD = re.compile(r"^  (?:void|long|bool|\w+ \*)\s*(\w+)\((?:.*\}|.*\{\n(?:    .*\n)*  \})$", re.M)
 
 
@@ -102,16 +102,36 @@ def small_runs(page, program):
         yield f"{page.name} {row[0]} {row[1]}", run(program, *row[1].split(), source=source) == (written(row[2]), int(row[3]))
 
 
+# What is refused or unproved, and mended
+
+def refused(page, program):
+    """The rows of a table of texts with their refusals; where a whole text mends one, that is accepted."""
+    for row in re.findall(r"(?m)^\| `([^`]*)` \| `((?:error|limit) [^`]*)` \| (.*) \|$", page.read_text()):
+        status = 1 if row[1].startswith("error") else 8
+        yield f"{page.name} {row[0]}", run(program, "plan", source=row[0]) == (row[1] + "\n", status)
+        if row[2].startswith("`"):
+            yield f"{page.name} {row[2]}", run(program, "plan", source=row[2].strip("`"))[1] == 0
+
+
+def reasons(page, program):
+    """The rows of a table of reasons, with members of a class whose operation `m` gets it with itself, and others with which it commutes."""
+    for row in re.findall(r"(?m)^\| `([A-Z][^`]*)` \| `([^`]* m\([^`]*)` \| `([^`]*)` \|$", page.read_text()):
+        for members, due in (row[1], "unproved " + row[0]), (row[2], "commutes"):
+            text, _ = run(program, "pairs", source="class A { public: " + members + " }; int main() { }")
+            yield f"{page.name} {members}", "A::m A::m " + due in text.splitlines()
+
+
 # Classes
 
-def verdicts(program, source):
-    """The lines of `pairs` that are no headings, or nothing where the text is refused."""
-    text, status = run(program, "pairs", source=source + "int main() { }\n")
-    return None if status else {line for line in text.splitlines() if not line.startswith("extent ")}
+@cache
+def answers(program, source):
+    """The lines of `pairs` and `plan` that are no headings, or the refusal."""
+    texts = [run(program, command, source=source + "int main() { }\n")[0] for command in ("pairs", "plan")]
+    return {line for text in texts for line in text.splitlines() if not line.startswith("extent ")}
 
 
 def told(text):
-    return {line for each in QUOTED.findall(text) if VERDICT.match(line := re.sub(r"\s+", " ", each))}
+    return {line for each in QUOTED.findall(text) if TOLD.match(line := re.sub(r"\s+", " ", each))}
 
 
 def methods(text):
@@ -129,30 +149,31 @@ def mended(source, fragment):
     return source
 
 
-def unproved(program, source, names=None):
-    """The lines that tell a pair as unproved, of operations of these names if any are given; all is unproved in a refused text."""
-    lines = verdicts(program, source)
-    if lines is None:
-        return {"refused"}
-    return {line for line in lines if " unproved " in line and (names is None or line.split()[0].split("::")[1] in names)}
+def unproved(program, source, names):
+    """The lines that tell a pair as unproved, of operations of these names if any are given, or the refusal."""
+    lines = {line for line in answers(program, source) if " unproved " in line or re.match("(error|limit) ", line)}
+    return {line for line in lines if names is None or "::" not in line or line.split()[0].split("::")[1] in names}
 
 
 def classes(page, program):
-    """Of each block of classes `pairs` tells the lines that the text below it has, and where it has none, all pairs commute; so
-    do those of the methods of a block that mends it."""
-    source, line_of, lines = None, 0, set()
+    """Of each block of classes `pairs` and `plan` tell the lines that the text below it has; where that has no unproved pair and
+    no refusal, all pairs commute. So it is with a block of methods that mends it, of the pairs of these methods."""
+    source, where, names, lines = None, "", None, set()
     for kind, line, text in [*parts(page.read_text()), ("heading", 0, "")]:
         is_class = kind == "block" and text.startswith("class ")
-        if source and (kind == "heading" or is_class):
-            holds = lines <= (verdicts(program, source) or set()) if lines else not unproved(program, source)
-            yield f"{page.name}:{line_of} classes", holds
-            source, lines = None, set()
+        mends = kind == "block" and not is_class and source and methods(text).keys() & methods(source).keys()
+        if source and (kind == "heading" or is_class or mends):
+            is_wrong = any(" unproved " in each or "error " in each or "limit " in each for each in lines)
+            yield where, lines <= answers(program, source) and (is_wrong or not unproved(program, source, names))
+            lines = set()
         if kind == "text":
             lines |= told(text)
+        elif mends:
+            source, where, names = mended(source, text), f"{page.name}:{line} methods", methods(text).keys()
         elif is_class and "int main" not in text:
-            source, line_of = text, line
-        elif kind == "block" and source and methods(text).keys() & methods(source).keys():
-            yield f"{page.name}:{line} methods", not unproved(program, mended(source, text), methods(text))
+            source, where, names = text, f"{page.name}:{line} classes", None
+        elif is_class or kind == "heading":
+            source, lines = None, set()
 
 
 # Samples
@@ -166,10 +187,14 @@ def samples(program):
             if command[0] != "run" or path.parent == top or stored.exists():
                 found = run(program, *command, source=path.read_text())
                 yield f"{stored.relative_to(ROOT)} by {' '.join(command)}", stored.exists() and found == (stored.read_text(), 0)
+    for path in sorted(top.glob("*.schedule")):
+        for ending, due in (".schedule", ("yes\n", 0)), (".strays", (path.with_suffix(".verify").read_text(), 9)):
+            text = path.with_suffix(".cc").read_text() + path.with_suffix(ending).read_text()
+            yield f"samples/{path.stem}{ending} by verify", run(program, "verify", BUDGET, source=text) == due
     for path in sorted([*top.glob("*.*"), *top.glob("applications/*.*")]):
         yield f"{path.relative_to(ROOT)} has a source", path.with_suffix(".cc").exists()
 
 
 def shown(page, program):
-    for look in commands, programs, told_before, small_runs, classes:
+    for look in commands, programs, told_before, small_runs, refused, reasons, classes:
         yield from look(page, program)

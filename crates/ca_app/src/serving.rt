@@ -70,7 +70,7 @@ pub const GOES_WRONG: u8 = 9;
 ///
 /// A command that reads its source reads the whole of it before anything is written.
 /// `NO_MEMORY` is out of memory, `READ_FAULT` a failed read, `WRITE_FAULT` a failed write; every
-/// other status is that of the reply. A run passes the gate before each section that its engine runs.
+/// other status is that of the reply. A run passes the gate as its engine does.
 pub fn top<R: AllocGlobal + Threads + Wait + Sync, S: Source, K: Sink, G: Gate>(
     rt: &R,
     words: &[String],
