@@ -279,6 +279,14 @@ mark_of_found olds log found mark b m = subst (λ es. IsMark es mark) (sym (ap (
 pub same_undo : (desk new : Desk) (now before : Object) → new.state.olds ≡ desk.state.olds → CanUndo desk now before → CanUndo new now before
 same_undo desk new now before e c = record { there = subst (λ os. AllThere os now.slots) (sym e) c.there; back = ap (λ os. put_back os now.slots) e ∙ c.back; class = c.class }
 
+-- the desk gives room for old values, and none are there yet
+pub with_room : (desk new : Desk) (olds : List Old) (log found : CellLog) → new.state.olds ≡ desk.state.olds → olds ≡ [] → Undoable desk [] log found → Undoable new olds log found
+with_room desk new olds log found e none u = record {
+  before = u.before;
+  can = same_undo desk new log.object u.before e u.can;
+  back = subst (λ (os : List Old). Backable os (record { opened = log.opened; object = u.before; entries = log.entries }) found) (sym none) u.back;
+}
+
 -- the last section is undone and its entry cut off
 pub undone_next : (old mid : CellLog) (object : Object) (mark : Mark) (entry : Entry) → mid.opened ≡ old.opened → mid.entries ≡ old.entries ++ entry ∷ [] → object ≡ old.object → IsMark old.entries mark → record { opened = mid.opened; object = object; entries = take mark.count mid.entries } ≡ old
 undone_next old mid object mark entry a b c m =

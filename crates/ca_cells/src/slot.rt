@@ -182,6 +182,7 @@ fn opened(alloc: Global, object: &Object, keeps: bool) -> Result<SlotLog, Memory
 }
 
 /// The history of an object that has not begun begins, and these have room for it. Without memory they come back.
+#[inline(never)]
 fn begin(
     alloc: Global,
     heap: &Heap,
@@ -216,6 +217,7 @@ fn begin(
 
 /// Takes the history of an object out of its shelf. One that has not begun begins. Without memory for that the shelf
 /// comes back.
+#[inline(always)]
 pub(crate) fn take_out(
     alloc: Global,
     heap: &Heap,

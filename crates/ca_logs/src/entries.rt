@@ -176,6 +176,7 @@ impl Entries {
 
     /// Adds that of a section that ran and listed these tasks. Without memory for it the entries are as before; where
     /// they aren't kept it takes none.
+    #[inline(always)]
     pub fn ran(
         &mut self,
         alloc: Global,

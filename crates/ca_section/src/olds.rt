@@ -1,6 +1,6 @@
 //! The values that an object had before puts.
 
-ghost use Rattle.std.specs.Prelude.{◌≡◌, ◌∷◌, [], List, IfOk, OnErr, MatchOption, slice_get};
+ghost use Rattle.std.specs.Prelude.{◌≡◌, ◌∷◌, ◌++◌, [], List, IfOk, OnErr, MatchOption, slice_get};
 ghost use Rattle.ca_model.specs.Slots.{put_slot, HasItem};
 ghost use Rattle.ca_section.specs.Olds.{put_back, AllThere, item_in, is_of, olds_after};
 
@@ -99,6 +99,17 @@ impl Olds {
         self.keep(slots, field, item)?;
         slots.put(field, item, value);
         Ok(())
+    }
+
+    /// Moves those of a later section to these, as the first ones to be put back, and keeps the memory of both. Without
+    /// memory for it both are as before.
+    #[tactic(auto, using(crate::proofs::Moved::moved, crate::proofs::Moved::stays))]
+    pub fn add_later(&mut self, later: &mut Olds) -> Result<(), AllocError>
+        ensures added { IfOk result (λ _. self.new ≡ later.old ++ self.old) }
+        ensures none { IfOk result (λ _. later.new ≡ []) }
+        ensures kept { OnErr result ((self.new ≡ self.old) × (later.new ≡ later.old)) }
+    {
+        self.items.append(&mut later.items)
     }
 
     /// Forgets all, and keeps the memory.

@@ -7,43 +7,45 @@ use ca_model::Slots;
 use ca_section::Olds;
 use std::alloc::{AllocError, Global};
 use std::marker::Model;
-use std::mem;
 
-/// The old values of several sections on one object, each with its own. Contracts see those of the last section first.
+/// The old values of several sections on one object. Contracts see those of the last section first.
 #[derive(Drop)]
 pub struct AllOlds {
-    sections: Vec<Olds>,
+    olds: Olds,
 }
 
 impl Model for AllOlds {
     ghost use Rattle.std.specs.Prelude.{List};
     ghost use Rattle.ca_section.specs.declared.olds.Old.{Old};
-    ghost use Rattle.ca_sections.specs.Joined.{joined_olds};
 
     ghost Value = { List Old };
 
-    ghost view = { λ s. joined_olds s.sections.items };
+    ghost view = { λ s. s.olds };
 }
 
 impl AllOlds {
     /// None. It takes no memory.
-    pub fn new(alloc: Global) -> Self
+    pub(crate) fn new(alloc: Global) -> Self
         ensures { result ≡ [] }
     {
         AllOlds {
-            sections: Vec::new(alloc),
+            olds: Olds::new(alloc),
         }
     }
 
     /// Moves those of a later section in, which has none then. Without memory for it both are as before.
-    pub(crate) fn add(&mut self, alloc: Global, later: &mut Olds) -> Result<(), AllocError>
+    pub(crate) fn add(&mut self, later: &mut Olds) -> Result<(), AllocError>
         ensures added { IfOk result (λ _. self.new ≡ later.old ++ self.old) }
         ensures kept { OnErr result ((self.new ≡ self.old) × (later.new ≡ later.old)) }
     {
-        self.sections.reserve(1)?;
-        let olds = mem::replace(later, Olds::new(alloc));
-        self.sections.push_reserved(olds);
-        Ok(())
+        self.olds.add_later(later)
+    }
+
+    /// Forgets all, and keeps the memory.
+    pub(crate) fn forget(&mut self)
+        ensures { self.new ≡ [] }
+    {
+        self.olds.forget();
     }
 
     /// Puts all back, those of the last section first, and forgets them. It takes no memory.
@@ -52,8 +54,6 @@ impl AllOlds {
         ensures slots { slots.new ≡ put_back self.old slots.old }
         ensures none { self.new ≡ [] }
     {
-        'lists: while let Some(mut olds) = self.sections.pop() {
-            olds.put_back(slots);
-        }
+        self.olds.put_back(slots);
     }
 }

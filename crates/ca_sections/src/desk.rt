@@ -52,6 +52,8 @@ pub struct Desk<'a> {
     pub(crate) state: State,
     /// Operations whose lists of arguments serve others. What they hold is no matter.
     pub(crate) spare: Vec<Op>,
+    /// Whose memory serves the old values of several sections. What it holds is no matter.
+    pub(crate) room: AllOlds,
 }
 
 impl<'a> Desk<'a> {
@@ -71,7 +73,25 @@ impl<'a> Desk<'a> {
                 left: 0,
             },
             spare: Vec::new(alloc),
+            room: AllOlds::new(alloc),
         })
+    }
+
+    /// No old values of several sections yet, in memory that served before.
+    pub fn take_room(&mut self, alloc: Global) -> AllOlds
+        ensures none { result ≡ [] }
+        ensures state { self.new.state ≡ self.old.state }
+    {
+        let mut all = mem::replace(&mut self.room, AllOlds::new(alloc));
+        all.forget();
+        all
+    }
+
+    /// Takes old values that are used no more, for their memory.
+    pub fn give_back_room(&mut self, all: AllOlds)
+        ensures { self.new.state ≡ self.old.state }
+    {
+        self.room = all;
     }
 
     /// Moves the old values of the desk's last section, which was done, to those of sections before it on the same object.
@@ -80,7 +100,7 @@ impl<'a> Desk<'a> {
         ensures added { IfOk result (λ _. all.new ≡ self.old.state.olds ++ all.old) }
         ensures kept { OnErr result ((all.new ≡ all.old) × (self.new.state.olds ≡ self.old.state.olds)) }
     {
-        all.add(self.state.alloc, &mut self.state.olds)
+        all.add(&mut self.state.olds)
     }
 
     /// Takes an operation that was listed and is used no more, for its memory, if it has any and there is room for it.

@@ -150,7 +150,7 @@ impl Cells {
         ensures ran { IfOk result (λ course. RunsTo (cells_key self.now) left number found.now.value tasks.now made.new.items course log.new) }
         ensures kept { OnErr result (log.new ≡ found.now.value) }
     {
-        let mut olds = AllOlds::new(alloc);
+        let mut olds = desk.take_room(alloc);
         let mut done = 1;
         while done < tasks.len() {
             let next = self.run_behind(
@@ -176,6 +176,7 @@ impl Cells {
             match step {
                 Next::Ran => done += 1,
                 Next::Stuck(stop) => {
+                    desk.give_back_room(olds);
                     return Ok(Course {
                         stop: Some(stop),
                         count: done + 1,
@@ -183,6 +184,7 @@ impl Cells {
                     });
                 }
                 Next::Closed(closed) => {
+                    desk.give_back_room(olds);
                     return Ok(Course {
                         stop: None,
                         count: done,
@@ -191,6 +193,7 @@ impl Cells {
                 }
             }
         }
+        desk.give_back_room(olds);
         Ok(Course {
             stop: None,
             count: done,

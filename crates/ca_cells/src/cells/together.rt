@@ -126,6 +126,7 @@ impl Cells {
     /// exactly where the section of a task in its turn stops; the tasks behind it are kept. Else tasks are kept from the first
     /// one on of which the cell takes no entry: its last entry has a stop, or its clock or the task's is the last one.
     /// Without memory all tasks come back, and the cell is as it was.
+    #[inline(never)]
     pub fn apply_all<'a, R: Wait, G: Gate>(
         &self,
         rt: &R,

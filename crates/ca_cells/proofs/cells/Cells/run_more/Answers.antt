@@ -1,7 +1,14 @@
-use Rattle.std.proofs.Common.{arith}
+use Rattle.std.proofs.Common.{ap, arith}
 use Rattle.ca_cells.specs.Seats.{cells_key}
-use Rattle.ca_cells.proofs.Courses.{loop_on, loop_sticks, loop_closes}
+use Rattle.ca_cells.proofs.Courses.{loop_on, loop_sticks, loop_closes, with_room}
 use Rattle.ca_cells.proofs.cells.Cells.run_more.Goals as goal
+
+pub loop-done-init : goal.loop-done-init
+loop-done-init c = record {
+  count = let some = c.requires.tasks.2 in omega (arith, some);
+  behind = c.requires.behind;
+  undo = with_room c.args.desk.now c.take_room-olds.new.self c.take_room-olds.result c.args.log.now c.args.found.now.value (ap (λ s. s.olds) c.take_room-olds.ensures.state) c.take_room-olds.ensures.none c.requires.undo;
+}
 
 pub loop-done-preserved : goal.loop-done-preserved
 loop-done-preserved c = let i = c.loop-done.invariant in let less = c.loop-done-test.true in record {
