@@ -1,24 +1,36 @@
 //! Which tasks stay together: neighbours of one receiver, which one claim serves.
 //!
-//! A row tells for each operation, by its number, whether it takes a lock. Those that stand past its end stay with none.
+//! A row tells for each operation, by its number, whether it takes a lock. Those that stand past its end stay with none. An
+//! empty row says that nothing takes a lock, and then none is looked at.
 
 ghost use Rattle.std.specs.Prelude.{◌≡◌, ◌<◌, ◌≤◌, true, length};
 
 use ca_logs::Task;
 use ca_program::OpId;
 
-/// How many tasks an item has at most, and how many one claim serves.
+/// How many tasks an item has at most where operations take locks, and how many one claim serves.
 const MANY: usize = 16;
 
+/// How many tasks an item has at most where nothing takes a lock.
+const MANY_FREE: usize = 64;
+
+/// How many tasks an item has at most, by the row.
+fn most_in(locks: &[bool]) -> usize
+    ensures { 0 < result }
+{
+    if locks.len() == 0 { MANY_FREE } else { MANY }
+}
+
 /// How many of so many tasks go into one item.
-pub(crate) fn together(tasks: usize) -> usize
+pub(crate) fn together(tasks: usize, locks: &[bool]) -> usize
     ensures { 0 < result }
 {
     let part = tasks / 4;
     if part < 1 {
         return 1;
     }
-    if part < MANY { part } else { MANY }
+    let most = most_in(locks);
+    if part < most { part } else { most }
 }
 
 /// So many, but no more than one claim serves.
@@ -75,6 +87,9 @@ fn whole(tasks: &[Task], count: usize, locks: &[bool]) -> usize
     ensures { 0 < result }
 {
     let all = tasks.len();
+    if locks.len() == 0 {
+        return if count < all { count } else { all };
+    }
     let least = all.saturating_sub(MANY + 1);
     let mut at = all.saturating_sub(count);
     'run: while least < at {
@@ -92,7 +107,8 @@ pub(crate) fn in_item(tasks: &[Task], count: usize, locks: &[bool]) -> usize
     ensures { 0 < result }
 {
     let many = whole(tasks, count, locks);
-    if many < MANY { many } else { MANY }
+    let most = most_in(locks);
+    if many < most { many } else { most }
 }
 
 /// How many of the newest tasks of a share are opened to others as one item: none where they are all that there are, or
@@ -100,8 +116,8 @@ pub(crate) fn in_item(tasks: &[Task], count: usize, locks: &[bool]) -> usize
 pub(crate) fn to_open(share: &[Task], locks: &[bool]) -> usize
     requires { 0 < length share.now }
 {
-    let many = whole(share, together(share.len()), locks);
-    if MANY < many || share.len() <= many {
+    let many = whole(share, together(share.len(), locks), locks);
+    if most_in(locks) < many || share.len() <= many {
         0
     } else {
         many

@@ -20,6 +20,9 @@ const FEW: usize = 4;
 /// So many calls go from the list into the share at once, whence some are opened to others.
 const MANY: usize = 64;
 
+/// A worker looks whether others have enough each time it has run so many tasks of a long share.
+const OFTEN: usize = 32;
+
 /// A task, or a call of the list.
 #[derive(Drop)]
 pub enum Next<'f> {
@@ -199,9 +202,38 @@ fn open_calls<N: Round>(
     open_more(owner, share);
 }
 
-/// What a worker runs next: the newest task of its share; where there is none, its next call of the list; and then a task of
-/// its deque, or of another's.
-pub fn take_next<'f, N: Round>(
+/// Opens tasks of a long share to others now and then, where the deque has few items.
+#[inline]
+fn open_now_and_then<N: Round>(owner: &mut Owner<N>, share: &mut Vec<Task>)
+    requires { AllFit N.setting share.old.items }
+    ensures same { owner_key owner.new ≡ owner_key owner.old }
+    ensures taken { owner.new.hand.taken ≡ owner.old.hand.taken }
+    ensures share { AllFit N.setting share.new.items }
+    ensures pushed { (h : Task → ℕ) → weight h owner.new.hand.pushed + weight h share.new.items ≡ weight h owner.old.hand.pushed + weight h share.old.items }
+{
+    let count = share.len();
+    if count >= OFTEN && count % OFTEN == 0 {
+        open_more(owner, share);
+    }
+}
+
+/// The newest task of a share.
+#[inline]
+fn take_own<'f, N: Round>(share: &mut Vec<Task>) -> Option<Next<'f>>
+    requires { AllFit N.setting share.old.items }
+    ensures share { AllFit N.setting share.new.items }
+    ensures fits { AllFit N.setting (option_to_list (taken_of result)) }
+    ensures taken { (h : Task → ℕ) → weight h share.old.items ≡ weight h share.new.items + weight h (option_to_list (taken_of result)) }
+{
+    match share.pop() {
+        Some(task) => Some(Next::Own(task)),
+        None => None,
+    }
+}
+
+/// A worker's next call of the list, where its share has no task; and where there is none, a task of its deque, or of another's.
+#[inline]
+fn take_elsewhere<'f, N: Round>(
     owner: &mut Owner<N>,
     thieves: &mut Thieves<N>,
     share: &mut Vec<Task>,
@@ -221,5 +253,31 @@ pub fn take_next<'f, N: Round>(
     match take_call(share, listed, at, *end) {
         Some(call) => Some(Next::Call(call)),
         None => own_task(take_any(owner, thieves, share)),
+    }
+}
+
+/// What a worker runs next: the newest task of its share; where there is none, its next call of the list; and then a task of
+/// its deque, or of another's.
+#[inline]
+pub fn take_next<'f, N: Round>(
+    owner: &mut Owner<N>,
+    thieves: &mut Thieves<N>,
+    share: &mut Vec<Task>,
+    listed: &'f [Op],
+    at: &mut usize,
+    end: &mut usize,
+) -> Option<Next<'f>>
+    requires share { AllFit N.setting share.old.items }
+    requires listed { AllFit N.setting (map (task_after 0) listed.now) }
+    ensures same { owner_key owner.new ≡ owner_key owner.old }
+    ensures keys { map key_of thieves.new ≡ map key_of thieves.old }
+    ensures share { AllFit N.setting share.new.items }
+    ensures fits { AllFit N.setting (option_to_list (taken_of result)) }
+    ensures taken { (h : Task → ℕ) → weight h owner.new.hand.taken + weight (taken_by_thief h) thieves.new + weight h owner.old.hand.pushed + weight h share.old.items + weight h (begun listed.now at.old end.old) ≡ weight h owner.old.hand.taken + weight (taken_by_thief h) thieves.old + weight h owner.new.hand.pushed + weight h share.new.items + weight h (begun listed.now at.new end.new) + weight h (option_to_list (taken_of result)) }
+{
+    open_now_and_then(owner, share);
+    match take_own::<N>(share) {
+        Some(own) => Some(own),
+        None => take_elsewhere(owner, thieves, share, listed, at, end),
     }
 }

@@ -63,6 +63,7 @@ pub enum Went {
 }
 
 /// Runs a call that waited behind a clock, on the replica.
+#[inline(always)]
 pub fn run_task<'a>(
     desk: &mut Desk<'a>,
     alloc: Global,

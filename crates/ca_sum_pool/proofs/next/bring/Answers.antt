@@ -1,4 +1,4 @@
-use Rattle.std.proofs.Common.{◌<◌, length, sym, ap, subst, arith}
+use Rattle.std.proofs.Common.{sym, ap, subst, arith}
 use Rattle.ca_model.proofs.Stores.{found}
 use Rattle.ca_meaning.specs.Multisets.{weight}
 use Rattle.ca_deques.specs.Settings.{Fits, AllFit}
