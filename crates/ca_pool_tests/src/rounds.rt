@@ -14,8 +14,10 @@ use ca_cells::{Applied, Cells, RoundLog, Seat};
 use ca_counters::{heap, let_go, program, twice};
 use ca_extent::extent_of;
 use ca_model::{Object, Slot, Value};
+use ca_parallel::Op;
 use ca_pool::work::Reads;
 use ca_program::{OpId, Program};
+use ca_round_order::in_order;
 use ca_sections::Desk;
 use std::alloc::Global;
 use std::sync::Wait;
@@ -116,13 +118,14 @@ fn work_all<R: Threads + Wait + Sync>(
     thread::for_each_mut(rt, seats, 4, &part);
 }
 
-/// A round of so many workers, each of which counts twice so many times.
+/// A round of so many workers, each of which counts twice so many times, that keeps its entries in memory or not.
 fn round<R: Threads + Wait + Sync>(
     rt: &R,
     alloc: Global,
     program: &Program,
     workers: u32,
     times: u32,
+    keeps: bool,
 ) -> Result<RoundLog, Fail>
     requires { (program_view program.now ≡ counters) × (0 < workers) × (workers ≤ 64) }
 {
@@ -130,7 +133,7 @@ fn round<R: Threads + Wait + Sync>(
     let extent = extent_of(alloc, program, &roots)?;
     let heap = heap(alloc, program, 10)?;
     let beside = Beside::new(alloc);
-    let (cells, mut seats) = Cells::make(alloc, program, &extent, &heap, &beside, workers, false)?;
+    let (cells, mut seats) = Cells::make(alloc, program, &extent, &heap, &beside, workers, keeps)?;
     let reads = Reads::of(&heap, &beside, &[]);
     work_all(
         rt,
@@ -171,7 +174,7 @@ fn entries(log: &RoundLog) -> (usize, bool) {
 fn four_threads_share_ten_objects(rt: HostRuntime) -> Result<(), Fail> {
     let alloc = rt.alloc();
     let program = program(alloc)?;
-    let log = round(&rt, alloc, &program, 4, 1_250);
+    let log = round(&rt, alloc, &program, 4, 1_250, false);
     let_go(program);
     let log = log?;
     let (count, fits) = entries(&log);
@@ -179,4 +182,37 @@ fn four_threads_share_ten_objects(rt: HostRuntime) -> Result<(), Fail> {
     assert!(&rt; count == 10_000);
     assert!(&rt; fits);
     Ok(())
+}
+
+#[test]
+fn entries_that_are_kept_have_an_order(rt: HostRuntime) -> Result<(), Fail> {
+    let alloc = rt.alloc();
+    let program = program(alloc)?;
+    let log = round(&rt, alloc, &program, 4, 250, true);
+    let_go(program);
+    let log = log?;
+    let ops = in_order(alloc, log.logs.as_slice(), log.loose.as_slice())?;
+    assert!(&rt; ops.len() == 2_000);
+    assert!(&rt; begins_with(ops.as_slice(), OpId(1)));
+    Ok(())
+}
+
+#[test]
+fn entries_that_are_only_told_have_none(rt: HostRuntime) -> Result<(), Fail> {
+    let alloc = rt.alloc();
+    let program = program(alloc)?;
+    let log = round(&rt, alloc, &program, 4, 250, false);
+    let_go(program);
+    let log = log?;
+    let ops = in_order(alloc, log.logs.as_slice(), log.loose.as_slice());
+    assert!(&rt; ops.is_err());
+    Ok(())
+}
+
+/// Whether the first one is of this operation.
+fn begins_with(ops: &[Op], op: OpId) -> bool {
+    match ops.first() {
+        Some(first) => first.op.0 == op.0,
+        None => false,
+    }
 }

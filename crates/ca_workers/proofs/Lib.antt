@@ -3,6 +3,7 @@ pub mod Steps
 pub mod Behind
 pub mod Logs
 pub mod Going
+pub mod ToldOn
 pub mod Stored
 pub mod Beginning
 pub mod Parts

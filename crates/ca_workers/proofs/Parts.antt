@@ -24,8 +24,7 @@ use Rattle.ca_pool.specs.Gathered.{IsTold}
 use Rattle.ca_pool.specs.declared.round.Round.{Round}
 use Rattle.ca_pool.specs.Rounded.{Rounded}
 use Rattle.ca_pool.proofs.Reading.{entries_told}
-use Rattle.ca_run.specs.Rounds.{RanTo}
-use Rattle.ca_workers.specs.clauses.Runs.{MayWait, InCells}
+use Rattle.ca_workers.specs.clauses.Runs.{MayWait, InCells, RanBy}
 use Rattle.ca_workers.proofs.Beginning.{may_run}
 
 typed_before : (p : PlainProgram) (h : List Object) (xs ys : List Invocation) → AllWellTyped p h (xs ++ ys) → AllWellTyped p h xs
@@ -117,13 +116,11 @@ some_of others first lt = let n = length-append others first in omega (arith, lt
 
 -- a run of the others and the first ones, which leaves the others and what begins anew
 pub went_on : (p : PlainProgram) (frozen now : List Object) (others first all : List Task) → all ≡ others ++ first → (left : ℕ) (after : List Object) (rest anew : List Task) → task_calls anew ≡ task_calls rest →
-    (more : List Task) → more ≡ others ++ anew → (steps : ℕ) → RanTo p frozen now (task_calls (others ++ first)) left after (task_calls (others ++ rest)) steps × (0 < steps) → RanTo p frozen now (task_calls all) left after (task_calls more) steps × (0 < steps)
-went_on p frozen now others first all is left after rest anew same more behind steps r =
-    let calls : task_calls more ≡ task_calls (others ++ rest) = ap task_calls behind ∙ (map-append call_of others anew ∙ (ap (λ (js : List Invocation). task_calls others ++ js) same ∙ sym (map-append call_of others rest))) in (
-      subst (λ (ts : List Task). RanTo p frozen now (task_calls ts) left after (task_calls more) steps) (sym is)
-          (subst (λ (js : List Invocation). RanTo p frozen now (task_calls (others ++ first)) left after js steps) (sym calls) r.0),
-      r.1,
-    )
+    (more : List Task) → more ≡ others ++ anew → (order : List Invocation) (steps : ℕ) → RanBy p frozen now (task_calls (others ++ first)) left after (task_calls (others ++ rest)) order steps → RanBy p frozen now (task_calls all) left after (task_calls more) order steps
+went_on p frozen now others first all is left after rest anew same more behind order steps r =
+    let calls : task_calls more ≡ task_calls (others ++ rest) = ap task_calls behind ∙ (map-append call_of others anew ∙ (ap (λ (js : List Invocation). task_calls others ++ js) same ∙ sym (map-append call_of others rest))) in
+    subst (λ (ts : List Task). RanBy p frozen now (task_calls ts) left after (task_calls more) order steps) (sym is)
+    (subst (λ (js : List Invocation). RanBy p frozen now (task_calls (others ++ first)) left after js order steps) (sym calls) r)
 
 -- what a round answers, in its cells
 pub in_cells : (p : PlainProgram) (x : Extent) (frozen now : List Object) (left quota : ℕ) (first : List Task) (given : Given) → IsGiven p x frozen now given → (r : Result Round Memory) →

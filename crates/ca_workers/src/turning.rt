@@ -73,7 +73,7 @@ impl<'s, R: Threads + Wait + Sync, G: Gate> Rounds<'s, R, G> {
         ensures begins { IfOk result BeginsAnew }
     {
         let tasks = all_tasks(self.alloc, listed, waiting)?;
-        let went = self.run_round(frozen, beside, tasks, quota, left)?;
+        let went = self.run_round(frozen, beside, tasks, quota, left, false)?;
         let round = match went {
             Some(round) => round,
             None => return Ok(None),

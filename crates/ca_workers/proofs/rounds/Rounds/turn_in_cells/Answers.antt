@@ -7,9 +7,9 @@ use Rattle.ca_logs.specs.Entries.{task_calls}
 use Rattle.ca_logs.specs.Laws.{objects_of}
 use Rattle.ca_logs.specs.Touched.{logs_of}
 use Rattle.ca_cells.specs.Logs.{logs_in, touched_in}
-use Rattle.ca_run.specs.Rounds.{RanTo}
 use Rattle.ca_workers.specs.declared.rounds.Left.{Left}
-use Rattle.ca_workers.specs.clauses.Runs.{MayWait, NoneWithin, Turned, Tells, Begin, with_lent}
+use Rattle.ca_workers.specs.clauses.Runs.{MayWait, NoneWithin, RanBy, Turned, Tells, Begin, order_in, with_lent}
+use Rattle.ca_workers.proofs.Going.{ran_to}
 use Rattle.ca_workers.proofs.Lent.{lent_begin, some_in_round}
 use Rattle.ca_workers.proofs.rounds.Rounds.turn_in_cells.Goals as goal
 
@@ -45,10 +45,11 @@ returns-clause-turned g c =
     let round = c.in-Some.round in
     let ws = task_calls (with_lent c.args.listed.now c.args.waiting.items) in
     let told = subst (λ (o : Option Left). Turned p frozen now (task_calls c.in_ok-tasks.tasks.items) c.args.left o) c.in-Some.is c.in_ok-went.ensures.turned in
-    let ran = subst (λ (ts : List Task). RanTo p frozen now (task_calls ts) c.args.left (objects_of (logs_in round.log)) (task_calls round.rest.items) round.steps) c.in_ok-tasks.ensures told.0 in
+    let ran = subst (λ (ts : List Task). RanBy p frozen now (task_calls ts) c.args.left (objects_of (logs_in round.log)) (task_calls round.rest.items) (order_in round.log) round.steps) c.in_ok-tasks.ensures told in
     let tells = subst (Tells now) c.in-Some.is c.in_ok-went.ensures.tells in
     let heap : present frozen c.store.new.beside ≡ objects_of (logs_in round.log) = c.in_ok-store.ensures frozen ∙ ap (λ (os : List Object). objects_of (logs_of os (touched_in round.log))) (sym tells.0) in
-    (subst (λ (h : List Object). RanTo p frozen now ws c.args.left h (task_calls round.rest.items) round.steps) (sym heap) ran, told.1)
+    ran_to p frozen now ws c.args.left (present frozen c.store.new.beside) (task_calls round.rest.items) (order_in round.log) round.steps
+    (subst (λ (h : List Object). RanBy p frozen now ws c.args.left h (task_calls round.rest.items) (order_in round.log) round.steps) (sym heap) ran)
 
 pub returns-clause-begins : goal.returns-clause-begins
 returns-clause-begins g c = subst Begin c.in-Some.is c.in_ok-went.ensures.begins
