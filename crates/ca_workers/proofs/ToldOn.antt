@@ -32,7 +32,7 @@ use Rattle.ca_trace.proofs.OfProgram.{lines_are_of_the_program}
 use Rattle.ca_run.specs.Traced.{LinesBehind, Told, Traces}
 use Rattle.ca_run.specs.Rounds.{RanTo}
 use Rattle.ca_run.proofs.Going.{Going}
-use Rattle.ca_workers.specs.clauses.Runs.{NoneWithin, RanBy, order_in}
+use Rattle.ca_workers.specs.clauses.Runs.{RanBy, order_in}
 use Rattle.ca_workers.specs.clauses.Told.{Adds, RanTold}
 use Rattle.ca_workers.proofs.Parts.{told_entries}
 

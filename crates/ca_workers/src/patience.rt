@@ -13,9 +13,13 @@ use std::alloc::Global;
 /// as many as a round's start is worth,
 const ALONE: u64 = 6_000;
 
-/// and so many for each object, since light work on many objects gains nothing by rounds in cells. Where the operations only
-/// sum, a round costs what it touches, and one for each object will do.
+/// and so many for each object, since light work on many objects gains nothing by rounds in cells. Where the operations only sum,
+/// a round costs what it touches, and one for each object will do.
 const ALONE_AN_OBJECT: u64 = 24;
+
+/// It ends earlier where half as many wait as it would run; on a heap of so many objects where twice as many do, and so on: who takes
+/// an object there looks for it among many.
+const MANY_OBJECTS: u32 = 32_768;
 
 /// When the calling thread has run enough. Whether the operations only sum is asked once, when that makes a difference.
 #[derive(Drop)]
@@ -27,6 +31,7 @@ pub struct Patience<'s> {
     objects: u32,
     values: u32,
     enough: u64,
+    much: u64,
     asks: bool,
     ghost some: { 0 < workers },
 }
@@ -51,24 +56,27 @@ impl<'s> Patience<'s> {
             objects,
             values,
             enough: ALONE + u64::from(objects),
+            much: 0,
             asks: true,
         }
     }
 
-    /// Whether so many statements are enough.
-    pub fn is_over(&mut self, ran: u64) -> bool {
-        if ran < self.enough {
-            return false;
+    /// Whether so many statements are enough, where so many wait.
+    pub fn is_over(&mut self, ran: u64, wait: u64) -> bool {
+        if self.asks {
+            if ran < self.enough {
+                return false;
+            }
+            self.asks = false;
+            if self.only_sums() {
+                self.enough = 0;
+            } else {
+                self.enough = ALONE + ALONE_AN_OBJECT * u64::from(self.objects);
+            }
+            let large = self.objects / MANY_OBJECTS;
+            self.much = self.enough.saturating_mul(u64::from(large) + 1);
         }
-        if !self.asks {
-            return true;
-        }
-        self.asks = false;
-        if self.only_sums() {
-            return true;
-        }
-        self.enough = ALONE + ALONE_AN_OBJECT * u64::from(self.objects);
-        ran >= self.enough
+        ran >= self.enough || wait.saturating_mul(2).saturating_add(ran) >= self.much
     }
 
     /// Whether the rounds will be rounds of sums.

@@ -1,4 +1,4 @@
-use Rattle.std.proofs.Common.{◌≡◌, ◌++◌, ◌∷◌, [], List, All, Option, refl, sym, ap, subst}
+use Rattle.std.proofs.Common.{◌≡◌, ◌++◌, ◌∷◌, [], List, All, refl, sym, ap, subst}
 use Rattle.ca_program.specs.View.{program_view}
 use Rattle.ca_program.specs.Plain.{PlainProgram}
 use Rattle.ca_program.specs.declared.program.Program.{Program}

@@ -1,4 +1,4 @@
-use Rattle.std.proofs.Common.{◌≡◌, List, All, Option, Some, None, length, sym, ap, subst, ◌∙◌, arith}
+use Rattle.std.proofs.Common.{List, Option, Some, None, length, sym, ap, subst, ◌∙◌, arith}
 use Rattle.ca_program.specs.View.{program_view}
 use Rattle.ca_model.specs.declared.value.Object.{Object}
 use Rattle.ca_beside.specs.Beside.{present}
