@@ -188,7 +188,7 @@ def samples(program):
                 found = run(program, *command, source=path.read_text())
                 yield f"{stored.relative_to(ROOT)} by {' '.join(command)}", stored.exists() and found == (stored.read_text(), 0)
     for path in sorted(top.glob("*.schedule")):
-        for ending, due in (".schedule", ("yes\n", 0)), (".strays", (path.with_suffix(".verify").read_text(), 9)):
+        for ending, due in (".schedule", ("yes\n", 0)), (".trace", ("yes\n", 0)), (".strays", (path.with_suffix(".verify").read_text(), 9)):
             text = path.with_suffix(".cc").read_text() + path.with_suffix(ending).read_text()
             yield f"samples/{path.stem}{ending} by verify", run(program, "verify", BUDGET, source=text) == due
     for path in sorted([*top.glob("*.*"), *top.glob("applications/*.*")]):

@@ -587,7 +587,7 @@ def runs(plan, path):
     yield run.text(), path.with_suffix(".run").read_text()
     if path.with_suffix(".schedule").exists():
         schedules = Schedules(plan, ENOUGH, 0, "", run.steps())
-        for ending, due in (".schedule", "yes\n"), (".strays", path.with_suffix(".verify").read_text()):
+        for ending, due in (".schedule", "yes\n"), (".trace", "yes\n"), (".strays", path.with_suffix(".verify").read_text()):
             yield schedules.reply(path.with_suffix(ending).read_text().removeprefix("\n" + HEADER))[1], due
 
 

@@ -1,5 +1,5 @@
-// Runners hand batons on. `relay.schedule` tells an order of the calls that a run can have had, and `relay.strays` one that
-// none can: put behind this text, `verify` says so.
+// Runners hand batons on. `relay.schedule` tells an order of the calls that a run can have had, `relay.trace` one that `trace`
+// recorded, and `relay.strays` one that none can: put behind this text, `verify` says so.
 class Runner {
 public:
   long legs;

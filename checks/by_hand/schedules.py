@@ -1,6 +1,6 @@
 """Sources with schedules behind them."""
 
-from by_hand.forms import row
+from by_hand.forms import EMPTY, row
 
 VISIT = """class Graph {
 public:
@@ -43,6 +43,8 @@ int main() {
 }
 """
 ORDER = ["block", "#0 Graph::visit(1)", "#1 Graph::visit(3)", "#0 Graph::visit(5)", "#1 Graph::visit(3)", "end", "done 6", "*/"]
+# An operation that calls another one.
+ONE = "class A { public: long n; A *o; void add(long v, bool b, A *p) { n += v; } void one(long v) { add(v, v < 0, o); } };\nint main() { A *a = new A(); a->one(-3); }\n"
 PAIR = ["block", "#1 A::add(7)", "#2 A::add(8)", "end", "declined", "trap 1 OutOfRange", "*/"]
 
 
@@ -55,6 +57,16 @@ def verified(label, source, lines, status, reply, budget=100):
 def ill_formed(line, at=3):
     front = ORDER[: at - 2]
     return verified(f"`{line}`", VISIT, [*front, line], 1, f"error {at}:1 E61")
+
+
+def traced(label, source, lines, status=0, budget=100):
+    """A run that can have one order only, which is recorded by so many workers."""
+    text = "\n/*schedule\n" + "".join(line + "\n" for line in lines)
+    return [row(f"trace by {workers}: {label}", f"trace {workers} {budget}", source, status, text) for workers in (1, 2, 64)]
+
+
+def untraced(label, source, status, line):
+    return row(f"trace: {label}", "trace 2 100", source, status, line + "\n")
 
 
 def with_line(at, line):
@@ -115,4 +127,14 @@ ROWS = [
     row("verify: a source at the limit", "verify 1", "int main() { }" + " " * 1048562 + "\n/*schedule\ndone 0\n*/\n", 0, "yes\n"),
     row("verify: a source past it", "verify 1", "int main() { }" + " " * 1048563 + "\n/*schedule\ndone 0\n*/\n", 8, "limit 0:0 E04\n"),
     row("verify: past it without a schedule", "verify 1", "#" * 1048577, 1, "error 0:0 E60\n"),
+    *traced("no list", EMPTY, ["done 0", "*/"]),
+    *traced("what is printed isn't written", "int main() { print(1); }", ["done 0", "*/"]),
+    *traced("a block", ONE, ["block", "#0 A::one(-3)", "#0 A::add(-3,true,null)", "end", "done 2", "*/"]),
+    *traced("a list that isn't done", VISIT, ["declined", "spent 5", "*/"], 4, 5),
+    *traced("a budget that is spent before a list", VISIT, ["spent 1", "*/"], 4, 1),
+    *traced("a trap without a list", "int main() {\nlong z; print(1); print(5 / z); }", ["trap 2 ZeroDivisor", "*/"], 3),
+    untraced("a wrong source", "int main() { x }", 1, "error 1:16 E10"),
+    untraced("an empty source", "", 1, "error 1:1 E10"),
+    untraced("a source past its limit", "class A { public: long a[1000001]; }; int main() { }", 8, "limit 1:24 E56"),
+    untraced("a source that is too long", "#" * 1048577, 8, "limit 0:0 E04"),
 ]

@@ -2,7 +2,7 @@
 
 from by_hand.forms import EMPTY, ok, row, spent
 
-USAGE = "usage: commute run WORKERS BUDGET | pairs | plan | emit | gen SEED SIZE | load SEED SIZE WORKERS | verify BUDGET\n"
+USAGE = "usage: commute run WORKERS BUDGET | pairs | plan | emit | gen SEED SIZE | load SEED SIZE WORKERS | trace WORKERS BUDGET | verify BUDGET\n"
 USAGE_FAULT = 2
 # Standard input of commands that don't read it.
 UNREAD = "$ not read"
@@ -13,7 +13,7 @@ WRONG = [
     "run 1 5a", "Run 1 5", "--help", "pairs x", "plan 1", "emit 1", "gen", "gen 1", "gen 1 0", "gen 1 20001",
     "gen 01 1", "gen 00 1", "gen -1 1", "gen 18446744073709551616 1", "gen 1 1 1", "load 1 1", "load 1 1 0",
     "load 1 1 65", "load 1 1 1 1", "load 1 20001 1", "load 1 1 00", "load 99999999999999999999999999 1 1",
-    "trace 1 1", "verify", "verify 0", "verify 01", "verify 1000000001", "verify 1 1", "verify +1", "Verify 1",
+    "trace", "trace 1", "trace 0 1", "trace 65 1", "trace 1 0", "trace 1 1000000001", "trace 01 1", "trace 1 1 1", "Trace 1 1", "verify", "verify 0", "verify 01", "verify 1000000001", "verify 1 1", "verify +1", "Verify 1",
 ]
 # Words with bytes that are no digits, and none at all.
 WRONG_BYTES = [

@@ -12,7 +12,7 @@ use Rattle.ca_meaning.specs.Output.{Reply, output, reply_of, prints_text, trap_t
 use Rattle.ca_parallel.specs.Marks.{SoundMarks}
 use Rattle.ca_serial.specs.Runs.{prints_of}
 use Rattle.ca_words.specs.declared.Command.{Command}
-use Rattle.ca_words.specs.declared.Command.TheVariants.{Run, Pairs, Plan, Emit, Gen, Load, Verify}
+use Rattle.ca_words.specs.declared.Command.TheVariants.{Run, Pairs, Plan, Emit, Gen, Load, Trace, Verify}
 use Rattle.ca_words.specs.Words.{Names, reads, reads_program}
 use Rattle.ca_words.proofs.OneCommand.{one_command}
 use Rattle.ca_plan.specs.Plans.{PlainPlan, PlanOf, CommuteAsTold}
@@ -135,6 +135,7 @@ module _ {status : ℕ} {old now : Option (List ℕ)} where
       some_telling (Run w b) e = absurd cc
       some_telling (Gen x n) e = absurd cc
       some_telling (Load x n w) e = absurd cc
+      some_telling (Trace w b) e = absurd cc
       some_telling (Verify b) e = absurd cc
 
   -- and where the status is 0 it was written whole
@@ -155,6 +156,7 @@ module _ {status : ℕ} {old now : Option (List ℕ)} where
       at (Run w b) e f = absurd cc
       at (Gen x n) e f = absurd cc
       at (Load x n w) e f = absurd cc
+      at (Trace w b) e f = absurd cc
       at (Verify b) e f = absurd cc
 
 module _ {words : List (List ℕ)} {text : List ℕ} {status : ℕ} {old now : Option (List ℕ)} where
@@ -227,6 +229,7 @@ tells_reads Emit e = refl
 tells_reads (Run w b) e = absurd cc
 tells_reads (Gen x n) e = absurd cc
 tells_reads (Load x n w) e = absurd cc
+tells_reads (Trace w b) e = absurd cc
 tells_reads (Verify b) e = absurd cc
 
 -- what each of these commands tells
@@ -256,4 +259,5 @@ reads_none Plan e other = absurd cc
 reads_none Emit e other = absurd cc
 reads_none (Gen x n) e other = refl
 reads_none (Load x n w) e other = refl
+reads_none (Trace w b) e other = absurd cc
 reads_none (Verify b) e other = absurd (other b refl)

@@ -13,3 +13,5 @@ mod PlannedMarks
 pub mod StatusLemmas
 pub mod Totals
 pub mod Scheduled
+pub mod Traces
+pub mod TracesVerified

@@ -7,7 +7,7 @@ use Rattle.ca_model.specs.declared.value.Value.{Value as Datum}
 use Rattle.ca_meaning.specs.Output.{Reply}
 use Rattle.ca_meaning.specs.Serial.{Ended, done, serial}
 use Rattle.ca_words.specs.declared.Command.{Command}
-use Rattle.ca_words.specs.declared.Command.TheVariants.{Run, Pairs, Plan, Emit, Gen, Load, Verify}
+use Rattle.ca_words.specs.declared.Command.TheVariants.{Run, Pairs, Plan, Emit, Gen, Load, Trace, Verify}
 use Rattle.ca_words.specs.Words.{Names, reads, reads_program}
 use Rattle.ca_words.proofs.OneCommand.{one_command}
 use Rattle.ca_plan.specs.Plans.{PlainPlan, PlanOf}
@@ -76,6 +76,7 @@ program_reads Plan e = refl
 program_reads Emit e = refl
 program_reads (Gen x n) e = absurd cc
 program_reads (Load x n w) e = absurd cc
+program_reads (Trace w b) e = refl
 program_reads (Verify b) e = absurd cc
 
 pub no_verify : {words : List (List ℕ)} (command : Command) (budget : ℕ) → Names words command → Names words (Verify budget) → reads_program command ≡ true → ⊥

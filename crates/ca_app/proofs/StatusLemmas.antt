@@ -48,14 +48,14 @@ words_told {words} command names told n =
     record { command = command; named = names; told = told (subst P (one_command words n.0 command n.1 names) n.2) }
 
 -- A reply that was given whole.
-record Given (replies : Reply → Type 0) (status : ℕ) (old now : Option (List ℕ)) : Type 0 where
+pub record Given (replies : Reply → Type 0) (status : ℕ) (old now : Option (List ℕ)) : Type 0 where
   pub reply : Reply
   pub is_one : replies reply
   pub same : status ≡ reply.status
   pub bytes : now ≡ grown old reply.bytes
 
 -- but for the statuses of memory and devices, the reply was given whole
-given : {replies : Reply → Type 0} {status : ℕ} {old now : Option (List ℕ)} → EndsWith replies status old now
+pub given : {replies : Reply → Type 0} {status : ℕ} {old now : Option (List ℕ)} → EndsWith replies status old now
     → (status ≡ 5 → ⊥) → (status ≡ 6 → ⊥) → (status ≡ 7 → ⊥) → Given replies status old now
 given {replies = replies} {status = status} {old = old} {now = now} ends a b c =
     from ends.some
@@ -75,29 +75,29 @@ given {replies = replies} {status = status} {old = old} {now = now} ends a b c =
     from (inr s) = at s.1 (ends.each s.0 s.1)
 
 -- the status of a refusal says whether its code is that of a limit
-kind_of : (limit b : Bool) → refusal_status limit ≡ refusal_status b → b ≡ limit
+pub kind_of : (limit b : Bool) → refusal_status limit ≡ refusal_status b → b ≡ limit
 kind_of true true e = refl
 kind_of true false e = absurd (omega arith)
 kind_of false true e = absurd (omega arith)
 kind_of false false e = refl
 
 -- how a run ends, by its status
-done_end : (p : PlainProgram) (b : ℕ) (end : Ended) → 0 ≡ (reply_of p b end).status → IsDone end
+pub done_end : (p : PlainProgram) (b : ℕ) (end : Ended) → 0 ≡ (reply_of p b end).status → IsDone end
 done_end p b (done prints heap steps) e = (prints, heap, steps, refl)
 done_end p b (trapped prints t) e = absurd (omega arith)
 done_end p b (spent prints) e = absurd (omega arith)
 
-trapped_end : (p : PlainProgram) (b : ℕ) (end : Ended) → 3 ≡ (reply_of p b end).status → IsTrapped end
+pub trapped_end : (p : PlainProgram) (b : ℕ) (end : Ended) → 3 ≡ (reply_of p b end).status → IsTrapped end
 trapped_end p b (done prints heap steps) e = absurd (omega arith)
 trapped_end p b (trapped prints t) e = (prints, t, refl)
 trapped_end p b (spent prints) e = absurd (omega arith)
 
-spent_end : (p : PlainProgram) (b : ℕ) (end : Ended) → 4 ≡ (reply_of p b end).status → IsSpent end
+pub spent_end : (p : PlainProgram) (b : ℕ) (end : Ended) → 4 ≡ (reply_of p b end).status → IsSpent end
 spent_end p b (done prints heap steps) e = absurd (omega arith)
 spent_end p b (trapped prints t) e = absurd (omega arith)
 spent_end p b (spent prints) e = (prints, refl)
 
-refusals_end : (p : PlainProgram) (b : ℕ) (end : Ended) → ((reply_of p b end).status ≡ 1 → ⊥) × ((reply_of p b end).status ≡ 8 → ⊥) × ((reply_of p b end).status ≡ 9 → ⊥)
+pub refusals_end : (p : PlainProgram) (b : ℕ) (end : Ended) → ((reply_of p b end).status ≡ 1 → ⊥) × ((reply_of p b end).status ≡ 8 → ⊥) × ((reply_of p b end).status ≡ 9 → ⊥)
 refusals_end p b (done prints heap steps) = (λ e. omega arith, λ e. omega arith, λ e. omega arith)
 refusals_end p b (trapped prints t) = (λ e. omega arith, λ e. omega arith, λ e. omega arith)
 refusals_end p b (spent prints) = (λ e. omega arith, λ e. omega arith, λ e. omega arith)
@@ -185,7 +185,7 @@ module _ {words : List (List ℕ)} {text : List ℕ} where
     workers = run.workers;
     budget = run.budget;
     program = p;
-    named = let P : Command → Type 0 = λ c. Names words c in subst P run.is names;
+    named = let P : Command → Type 0 = λ c. Names words c in inl (subst P run.is names);
     accepted = accepted;
     ends = ends p run.budget (serial p run.budget) run.same;
   }

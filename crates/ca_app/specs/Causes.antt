@@ -1,5 +1,5 @@
 -- What each status says of the words and the text.
-use Rattle.std.specs.Prelude.{ℕ, ◌≡◌, ◌<◌, ◌≤◌, Bool, true, false, List, length, Option}
+use Rattle.std.specs.Prelude.{ℕ, ◌≡◌, ◌<◌, ◌≤◌, ◌⊎◌, Bool, true, false, List, length, Option}
 use Rattle.ca_tree.specs.declared.name.Place.{Place}
 use Rattle.ca_base.specs.Devices.{grown}
 use Rattle.ca_program.specs.Plain.{PlainProgram}
@@ -8,7 +8,7 @@ use Rattle.ca_model.specs.declared.value.Trap.{Trap}
 use Rattle.ca_model.specs.declared.value.Value.{Value as Datum}
 use Rattle.ca_meaning.specs.Serial.{Ended, done, trapped, spent, serial}
 use Rattle.ca_words.specs.declared.Command.{Command}
-use Rattle.ca_words.specs.declared.Command.TheVariants.{Run, Gen, Load, Verify}
+use Rattle.ca_words.specs.declared.Command.TheVariants.{Run, Gen, Load, Trace, Verify}
 use Rattle.ca_words.specs.Words.{Names, reads, reads_program}
 use Rattle.ca_gen.specs.Generated.{generated}
 use Rattle.ca_app.specs.Accepted.{Accepted}
@@ -33,6 +33,10 @@ ReadsNothing words = (c : Command) → Names words c → reads c ≡ false
 -- the words name a command that reads its source
 abbrev pub ReadsSource : List (List ℕ) → Type 0
 ReadsSource words = (c : Command) × Names words c × (reads c ≡ true)
+
+-- the words don't name `trace`, the command that has several replies
+abbrev pub NamesNoTrace : List (List ℕ) → Type 0
+NamesNoTrace words = (workers budget : ℕ) → Names words (Trace workers budget) → ⊥
 
 -- The words name a command that reads a source and nothing behind it, and the text is refused, by a limit or not.
 pub record IsRefused (words : List (List ℕ)) (limit : Bool) (text : List ℕ) : Type 0 where
@@ -79,12 +83,16 @@ pub record IsChecked (words : List (List ℕ)) (text : List ℕ) (is : PlainProg
 abbrev pub LinesGoWrong : PlainProgram → ℕ → List Line → Type 0
 LinesGoWrong p budget lines = (n : ℕ) × FirstBad (FollowsPlan p budget) lines n
 
+-- the words name a run of the source, recorded or not
+abbrev pub NamesRun : List (List ℕ) → ℕ → ℕ → Type 0
+NamesRun words workers budget = Names words (Run workers budget) ⊎ Names words (Trace workers budget)
+
 -- The words name a run, and the serial run of the text's program ends so.
 pub record RunEnds (words : List (List ℕ)) (text : List ℕ) (end : Ended → Type 0) : Type 0 where
   pub workers : ℕ
   pub budget : ℕ
   pub program : PlainProgram
-  pub named : Names words (Run workers budget)
+  pub named : NamesRun words workers budget
   pub accepted : Accepted text program
   pub ends : end (serial program budget)
 

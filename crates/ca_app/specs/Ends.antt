@@ -21,6 +21,11 @@ pub record EndsWith (replies : Reply → Type 0) (status : ℕ) (old now : Optio
   pub some : Unreplied status old now ⊎ ((reply : Reply) × replies reply)
   pub each : (reply : Reply) → replies reply → Ends reply status old now
 
+-- One of several replies of this kind was given, or nothing was written before there was one.
+pub data EndsWithOne (replies : Reply → Type 0) (status : ℕ) (old now : Option (List ℕ)) : Type 0 where
+  unreplied : Unreplied status old now → EndsWithOne replies status old now
+  replied : {reply : Reply} → replies reply → Ends reply status old now → EndsWithOne replies status old now
+
 -- a failed write is told only where the count of the sink's faults rose, and the count never falls
 pub record SinkCause (status faults faults' : ℕ) : Type 0 where
   pub later : faults ≤ faults'
@@ -29,6 +34,10 @@ pub record SinkCause (status faults faults' : ℕ) : Type 0 where
 -- the reply was given whole, or memory ran out
 abbrev pub Complete : Reply → ℕ → Option (List ℕ) → Option (List ℕ) → Type 0
 Complete reply status old now = (status ≡ NO_MEMORY) ⊎ ((status ≡ reply.status) × (now ≡ grown old reply.bytes))
+
+-- one of several replies of this kind was given whole, or memory ran out
+abbrev pub CompleteWithOne : (Reply → Type 0) → ℕ → Option (List ℕ) → Option (List ℕ) → Type 0
+CompleteWithOne replies status old now = (status ≡ NO_MEMORY) ⊎ ((reply : Reply) × replies reply × (status ≡ reply.status) × (now ≡ grown old reply.bytes))
 
 -- the status of a reply that was to be written
 abbrev pub status_after : {T E : Type 0} → Result T E → ℕ → ℕ

@@ -3,6 +3,7 @@ pub mod Refusals
 pub mod Told
 pub mod Summary
 pub mod Verified
+pub mod Traced
 pub mod Reply
 pub mod Ends
 pub mod Causes

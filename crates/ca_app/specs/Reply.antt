@@ -53,8 +53,8 @@ pub data CommandReplies (command : Command) (text : List ℕ) : Reply → Type 0
   refuses : {at : Place} {code : ℕ} → RefusedAt text at code → CommandReplies command text (refusal_reply at code)
   serves : {p : PlainProgram} {reply : Reply} → (accepted : Accepted text p) → ProgramReplies accepted.tree p command reply → CommandReplies command text reply
 
--- what words on a text reply: they name no command, or one that reads nothing, or one that reads a source, or the one that
--- reads a source and a schedule
+-- What words on a text reply: they name no command, or one that reads nothing, or one that reads a source, or the one that
+-- reads a source and a schedule. Of `trace` there are the refusals alone: `TraceReplies` has all that it replies.
 pub data Replies (words : List (List ℕ)) (text : List ℕ) : Reply → Type 0 where
   usage : ((command : Command) → Names words command → ⊥) → Replies words text usage_reply
   unread : {command : Command} {reply : Reply} → Names words command → UnreadReplies command reply → Replies words text reply

@@ -5,7 +5,7 @@ use Rattle.ca_base.specs.Devices.{grown}
 use Rattle.ca_program.specs.Plain.{PlainProgram}
 use Rattle.ca_parallel.specs.Marks.{SoundMarks}
 use Rattle.ca_words.specs.declared.Command.{Command}
-use Rattle.ca_words.specs.declared.Command.TheVariants.{Run, Pairs, Plan, Emit, Gen, Load, Verify}
+use Rattle.ca_words.specs.declared.Command.TheVariants.{Run, Pairs, Plan, Emit, Gen, Load, Trace, Verify}
 use Rattle.ca_plan.specs.Plans.{PlainPlan, PlanOf, CommuteAsTold}
 use Rattle.ca_plan.specs.Texts.{pairs_text, plan_text}
 use Rattle.ca_emit.specs.Annotations.{annotated_text}
@@ -25,6 +25,7 @@ tells_plan Emit = true
 tells_plan (Run workers budget) = false
 tells_plan (Gen seed size) = false
 tells_plan (Load seed size workers) = false
+tells_plan (Trace workers budget) = false
 tells_plan (Verify budget) = false
 
 -- What was written is what the command tells of the plan of the program. What is marked may run in any order, and

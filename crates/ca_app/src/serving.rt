@@ -5,13 +5,14 @@ ghost use Rattle.ca_base.specs.Devices.{Rose, at_end};
 ghost use Rattle.ca_tree.specs.View.{tree_view};
 ghost use Rattle.ca_program.specs.View.{program_view};
 ghost use Rattle.ca_meaning.specs.Output.{Reply};
-ghost use Rattle.ca_words.specs.declared.Command.TheVariants.{Verify};
+ghost use Rattle.ca_words.specs.declared.Command.TheVariants.{Trace, Verify};
 ghost use Rattle.ca_words.specs.Words.{IsInRange, texts, reads_program, Names};
-ghost use Rattle.ca_app.specs.Causes.{IsUsageFault, ReadsNothing, ReadsSource, IsRefused, IsCheckRefused, IsChecked, LinesGoWrong, RunEnds, PlanTold, Generates, Loads, IsDone, IsTrapped, IsSpent};
-ghost use Rattle.ca_app.specs.Ends.{Ends, EndsWith, SinkCause, Complete, IsReadToEnd, status_after};
+ghost use Rattle.ca_app.specs.Causes.{IsUsageFault, ReadsNothing, ReadsSource, NamesNoTrace, IsRefused, IsCheckRefused, IsChecked, LinesGoWrong, RunEnds, PlanTold, Generates, Loads, IsDone, IsTrapped, IsSpent};
+ghost use Rattle.ca_app.specs.Ends.{Ends, EndsWith, EndsWithOne, SinkCause, Complete, CompleteWithOne, IsReadToEnd, status_after};
 ghost use Rattle.ca_app.specs.Refusals.{refusal_reply};
 ghost use Rattle.ca_app.specs.Reply.{ProgramReplies, CommandReplies, Replies};
 ghost use Rattle.ca_app.specs.Told.{ProgramTold, CommandTold, tells_plan};
+ghost use Rattle.ca_app.specs.Traced.{TraceReplies};
 ghost use Rattle.ca_app.specs.Verified.{FollowsPlan};
 ghost use Rattle.ca_plan.specs.Checked.{Checked};
 
@@ -19,6 +20,7 @@ use crate::reading::{NoProgram, Reading, read_program};
 use crate::refusals::Refusal;
 use crate::running::run_program;
 use crate::telling::tell_plan;
+use crate::tracing::trace;
 use crate::unread::serve_unread;
 use crate::verifying::verify;
 use ca_base::{Failed, Gate, ReadError, Sink, Source, read_all, write_all};
@@ -80,7 +82,10 @@ pub fn top<R: AllocGlobal + Threads + Wait + Sync, S: Source, K: Sink, G: Gate>(
 ) -> u8
     // Where the source tells its bytes: what was written is the reply of the words and the text,
     // or a beginning of it before memory ran out or a device failed.
-    ensures headline { (text : List ℕ) → S.left source.old ≡ Some text → EndsWith (Replies (texts words.now) text) result (K.written sink.old) (K.written sink.new) }
+    ensures headline { (text : List ℕ) → S.left source.old ≡ Some text → NamesNoTrace (texts words.now) → EndsWith (Replies (texts words.now) text) result (K.written sink.old) (K.written sink.new) }
+
+    // `trace` has several replies: a schedule that follows, in whatever order the operations of its extents ran.
+    ensures traced { (text : List ℕ) → S.left source.old ≡ Some text → (workers budget : ℕ) → Names (texts words.now) (Trace workers budget) → EndsWithOne (TraceReplies budget text) result (K.written sink.old) (K.written sink.new) }
 
     // What each of its statuses says of the text and its serial run.
     ensures done { (text : List ℕ) → S.left source.old ≡ Some text → result ≡ DONE → RunEnds (texts words.now) text IsDone ⊎ (PlanTold (texts words.now) text (K.written sink.old) (K.written sink.new) ⊎ (Generates (texts words.now) (K.written sink.old) (K.written sink.new) ⊎ (Loads (texts words.now) (K.written sink.old) (K.written sink.new) ⊎ IsChecked (texts words.now) text FollowsPlan))) }
@@ -93,6 +98,8 @@ pub fn top<R: AllocGlobal + Threads + Wait + Sync, S: Source, K: Sink, G: Gate>(
     // Where neither device failed, the reply was given whole, or memory ran out.
     ensures complete { (text : List ℕ) → S.left source.old ≡ Some text → (Rose (S.faults source.old) (S.faults source.new) → ⊥) → (Rose (K.faults sink.old) (K.faults sink.new) → ⊥)
         → (reply : Reply) → Replies (texts words.now) text reply → Complete reply result (K.written sink.old) (K.written sink.new) }
+    ensures traced_complete { (text : List ℕ) → S.left source.old ≡ Some text → (Rose (S.faults source.old) (S.faults source.new) → ⊥) → (Rose (K.faults sink.old) (K.faults sink.new) → ⊥)
+        → (workers budget : ℕ) → Names (texts words.now) (Trace workers budget) → CompleteWithOne (TraceReplies budget text) result (K.written sink.old) (K.written sink.new) }
 
     // Words that name no command, or one that doesn't read its source, leave the source as it was, and
     // the reply is told whether or not the source tells its bytes.
@@ -118,6 +125,9 @@ pub fn top<R: AllocGlobal + Threads + Wait + Sync, S: Source, K: Sink, G: Gate>(
     if let Command::Verify { budget } = command {
         return verify(rt, rt.alloc(), budget, source, sink);
     }
+    if let Command::Trace { workers, budget } = command {
+        return trace(rt, rt.alloc(), workers, budget, source, sink, gate);
+    }
     if command.reads_program() {
         return serve(rt, rt.alloc(), command, source, sink, gate);
     }
@@ -134,6 +144,7 @@ fn serve<R: Threads + Wait + Sync, S: Source, K: Sink, G: Gate>(
     gate: &G,
 ) -> u8
     requires reading { reads_program command ≡ true }
+    requires one_reply { (workers budget : ℕ) → ¬ (command ≡ Trace workers budget) }
     requires in_range { IsInRange command }
     ensures headline { (text : List ℕ) → S.left source.old ≡ Some text → EndsWith (CommandReplies command text) result (K.written sink.old) (K.written sink.new) }
     ensures told { (text : List ℕ) → S.left source.old ≡ Some text → tells_plan command ≡ true → result ≡ DONE → CommandTold command text (K.written sink.old) (K.written sink.new) }
@@ -163,6 +174,7 @@ fn serve_text<R: Threads + Wait + Sync, K: Sink, G: Gate>(
 ) -> u8
     requires short { length text.now ≤ MOST_BYTES }
     requires reading { reads_program command ≡ true }
+    requires one_reply { (workers budget : ℕ) → ¬ (command ≡ Trace workers budget) }
     requires in_range { IsInRange command }
     ensures ends { EndsWith (CommandReplies command text.now) result (K.written sink.old) (K.written sink.new) }
     ensures told { tells_plan command ≡ true → result ≡ DONE → CommandTold command text.now (K.written sink.old) (K.written sink.new) }
@@ -188,6 +200,7 @@ fn serve_program<R: Threads + Wait + Sync, K: Sink, G: Gate>(
 ) -> u8
     requires checked { Checked (program_view reading.now.program) }
     requires reading { reads_program command ≡ true }
+    requires one_reply { (workers budget : ℕ) → ¬ (command ≡ Trace workers budget) }
     requires in_range { IsInRange command }
     ensures ends { EndsWith (ProgramReplies (tree_view reading.now.tree) (program_view reading.now.program) command) result (K.written sink.old) (K.written sink.new) }
     ensures told { tells_plan command ≡ true → result ≡ DONE → ProgramTold (tree_view reading.now.tree) (program_view reading.now.program) command (K.written sink.old) (K.written sink.new) }
@@ -200,7 +213,10 @@ fn serve_program<R: Threads + Wait + Sync, K: Sink, G: Gate>(
             run_program(rt, alloc, &reading.program, workers, budget, sink, gate)
         }
         Command::Pairs | Command::Plan | Command::Emit => tell_plan(alloc, command, reading, sink),
-        Command::Gen { .. } | Command::Load { .. } | Command::Verify { .. } => unreachable!(),
+        Command::Gen { .. }
+        | Command::Load { .. }
+        | Command::Trace { .. }
+        | Command::Verify { .. } => unreachable!(),
     }
 }
 

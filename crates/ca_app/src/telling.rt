@@ -58,7 +58,10 @@ fn tell<K: Sink>(
             Ok(text) => finish(write_all(sink, &text), DONE),
             Err(_) => NO_MEMORY,
         },
-        Command::Run { .. } | Command::Gen { .. } | Command::Load { .. } | Command::Verify { .. } =>
-            unreachable!(),
+        Command::Run { .. }
+        | Command::Gen { .. }
+        | Command::Load { .. }
+        | Command::Trace { .. }
+        | Command::Verify { .. } => unreachable!(),
     }
 }

@@ -45,6 +45,7 @@ pub fn serve_unread<R: Threads + Wait + Sync, K: Sink, G: Gate>(
         | Command::Pairs
         | Command::Plan
         | Command::Emit
+        | Command::Trace { .. }
         | Command::Verify { .. } => unreachable!(),
     }
 }

@@ -8,7 +8,7 @@ use std::sync::Wait;
 use std::thread::Threads;
 
 const USAGE: &str =
-    "usage: commute run WORKERS BUDGET | pairs | plan | emit | gen SEED SIZE | load SEED SIZE WORKERS | verify BUDGET\n";
+    "usage: commute run WORKERS BUDGET | pairs | plan | emit | gen SEED SIZE | load SEED SIZE WORKERS | trace WORKERS BUDGET | verify BUDGET\n";
 
 /// Faulty command lines. The first is empty.
 const FAULTY: &str = "
@@ -31,7 +31,13 @@ verify
 verify 0
 verify 1000000001
 verify 1 100
-trace 4 100
+trace
+trace 4
+trace 0 100
+trace 65 100
+trace 4 0
+trace 4 1000000001
+trace 4 100 1
 --help";
 
 /// Faulty command lines, one of them with a failing write.

@@ -32,4 +32,6 @@ mod runs;
 #[cfg(test)]
 mod sources;
 #[cfg(test)]
+mod traced;
+#[cfg(test)]
 mod verified;

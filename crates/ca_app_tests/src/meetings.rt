@@ -5,6 +5,7 @@ use crate::sources::{
     ONE_BIN, ONE_BIN_BESIDE_MANY, ONE_BIN_BESIDE_MORE, ONE_BIN_HEAP, THREE_BINS, THREE_BINS_HEAP,
     THREE_PRODUCTS, THREE_PRODUCTS_HEAP, TWO_BINS, TWO_BINS_HEAP, TWO_PRODUCTS, TWO_PRODUCTS_HEAP,
 };
+use crate::traced::is_verified;
 use ca_base::Gate;
 use std::sync::atomic::{AtomicU64, Ordering};
 
@@ -122,6 +123,15 @@ fn two_sections_meet(rt: HostRuntime) {
     let gate = MeetingGate::new(1, 2);
     assert!(rt; Call::new("run 2 5", TWO_BINS).ends_past(&rt, &gate, TWO_BINS_HEAP));
     assert!(rt; gate.counts() == (1, 1, 0, 0));
+}
+
+/// They do where the run is recorded, and what is recorded follows.
+#[test]
+fn trace_meets(rt: HostRuntime) {
+    let gate = MeetingGate::new(1, 2);
+    let (status, schedule) = Call::new("trace 2 5", TWO_BINS).run_past(&rt, &gate);
+    assert!(rt; status == 0 && gate.counts() == (1, 1, 0, 0));
+    assert!(rt; is_verified(&rt, TWO_BINS, &schedule, 5));
 }
 
 /// Of three calls the first and the last run at one time.

@@ -24,8 +24,29 @@ pub struct Row<'a> {
 /// What a call of `top` left: its status, how many bytes it wrote, and whether these are a beginning of the right ones.
 pub type Ended = (u8, usize, bool);
 
-/// What the call of a row leaves over devices that give and take at most `piece` bytes a call, of which the read and
-/// the write of these numbers fail, where they are not 0.
+/// The status of a line on a text over devices that give and take at most `piece` bytes a call, of which the read and the
+/// write of these numbers fail, where they are not 0, and what was written.
+pub fn left<R: AllocGlobal + Threads + Wait + Sync + Abort>(
+    rt: &R,
+    line: &str,
+    text: &str,
+    piece: usize,
+    failing: (u64, u64),
+) -> (u8, Vec<u8>)
+    requires { 0 < piece }
+{
+    let alloc = rt.alloc();
+    let text = Vec::from_slice(alloc, text.as_bytes()).expect(rt, "a text");
+    let failing_reads = vec![in alloc; failing.0; 1].expect(rt, "a number");
+    let failing_writes = vec![in alloc; failing.1; 1].expect(rt, "a number");
+    let mut source = PieceSource::new(text, piece, failing_reads);
+    let mut sink = PieceSink::new(alloc, piece, ROOM, failing_writes).expect(rt, "a sink");
+    let status = serve(rt, line, &mut source, &mut sink, &OpenGate);
+    let written = Vec::from_slice(alloc, sink.bytes()).expect(rt, "what was written");
+    (status, written)
+}
+
+/// What the call of a row leaves over such devices.
 pub fn call<R: AllocGlobal + Threads + Wait + Sync + Abort>(
     rt: &R,
     row: &Row,
@@ -34,13 +55,7 @@ pub fn call<R: AllocGlobal + Threads + Wait + Sync + Abort>(
 ) -> Ended
     requires { 0 < piece }
 {
-    let alloc = rt.alloc();
-    let text = Vec::from_slice(alloc, row.text.as_bytes()).expect(rt, "a text");
-    let failing_reads = vec![in alloc; failing.0; 1].expect(rt, "a number");
-    let failing_writes = vec![in alloc; failing.1; 1].expect(rt, "a number");
-    let mut source = PieceSource::new(text, piece, failing_reads);
-    let mut sink = PieceSink::new(alloc, piece, ROOM, failing_writes).expect(rt, "a sink");
-    let status = serve(rt, row.line, &mut source, &mut sink, &OpenGate);
-    let begun = row.written.as_bytes().starts_with(sink.bytes());
-    (status, sink.bytes().len(), begun)
+    let (status, written) = left(rt, row.line, row.text.as_str(), piece, failing);
+    let begun = row.written.as_bytes().starts_with(&written);
+    (status, written.len(), begun)
 }

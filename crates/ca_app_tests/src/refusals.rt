@@ -18,14 +18,15 @@ fn is_told(status: u8, written: &[u8], line: &str) -> bool {
     is_due && written.strip_suffix(b"\n") == Some(line.as_bytes())
 }
 
-/// Whether a text is refused by this line.
+/// Whether a text is refused by this line, by `run` and by `trace`.
 fn is_refused<R: AllocGlobal + Threads + Wait + Sync + Abort>(
     rt: &R,
     text: &str,
     line: &str,
 ) -> bool {
     let (status, written) = Call::new("run 1 1", text).run(rt);
-    is_told(status, &written, line)
+    let (traced, recorded) = Call::new("trace 2 1", text).run(rt);
+    is_told(status, &written, line) && is_told(traced, &recorded, line)
 }
 
 /// Each code at its place, and which of several is told.
@@ -147,6 +148,10 @@ fn tells_row<R: AllocGlobal + Threads + Wait + Sync + Abort>(rt: &R, row: &str) 
     let told = fields.next().expect(rt, "what is told");
     let text = repeated(rt, rt.alloc(), front, middle, times, back);
     let (answer, written) = Call::of_bytes("run 1 1", &text).run(rt);
+    let (traced, recorded) = Call::of_bytes("trace 1 1", &text).run(rt);
+    if status != 0 && (traced != status || recorded != written) {
+        return false;
+    }
     answer == status && written.strip_suffix(b"\n") == Some(told.as_bytes())
 }
 

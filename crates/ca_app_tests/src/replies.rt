@@ -9,7 +9,8 @@ use std::process::Abort;
 use std::sync::Wait;
 use std::thread::Threads;
 
-/// Runs that are done, spent or trap, what is told of plans, a refusal of each kind, schedules, and what reads nothing: the command line, the
+/// Runs that are done, spent or trap, what is told of plans, a refusal of each kind, schedules that are recorded and read, and what
+/// reads nothing: the command line, the
 /// text, the status and what is written, with `$` for the end of a line. A text with a name stands for itself by its name.
 const ROWS: &str = "run 1 100@visit@0@heap
 run 2 100@visit@0@heap
@@ -27,12 +28,18 @@ plan@int main() { y = 1; }@1@error 1:14 E24$
 run 1 1@class A { public: long a[1000001]; }; int main() { }@8@limit 1:24 E56$
 pairs@@1@error 1:1 E10$
 gen 7 3@first@0@seed 7
+trace 1 1@int main() { print(1); }@0@$/*schedule$done 0$*/$
+trace 2 2@class A { public: long n; void add(long v) { n += v; } void one(long v) { add(v); } }; int main() { A *a = new A(); a->one(-3); }@0@$/*schedule$block$#0 A::one(-3)$#0 A::add(-3)$end$done 2$*/$
+trace 64 5@visit@4@$/*schedule$declined$spent 5$*/$
+trace 1 1@int main() { print(1); long z = 0; print(5 / z); }@3@$/*schedule$trap 1 ZeroDivisor$*/$
+trace 2 1@int main() { print(1 # 2); }@1@error 1:22 E01$
+trace 1 1@class A { public: long a[1000001]; }; int main() { }@8@limit 1:24 E56$
 verify 1@int main() { print(1); }$/*schedule$done 0$*/$@0@yes$
 verify 1@int main() { print(1); }$/*schedule$done 1$*/$@9@no 2$
 verify 1@int main() { print(1); }$/*schedule$done 0$*/@1@error 3:1 E61$
 verify 1@int main() { print(1); }@1@error 0:0 E60$
 verify 1@int main() { print( }$/*schedule$@1@error 1:21 E10$
-run 1 0@first@2@usage: commute run WORKERS BUDGET | pairs | plan | emit | gen SEED SIZE | load SEED SIZE WORKERS | verify BUDGET$";
+run 1 0@first@2@usage: commute run WORKERS BUDGET | pairs | plan | emit | gen SEED SIZE | load SEED SIZE WORKERS | trace WORKERS BUDGET | verify BUDGET$";
 
 /// The text of a name.
 fn named<'a>(name: &'a str) -> &'a str {

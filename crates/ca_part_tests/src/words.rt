@@ -12,6 +12,8 @@ run 64 5
 gen 7 3
 gen 18446744073709551615 20000
 load 7 3 4
+trace 1 1
+trace 64 1000000000
 verify 1
 verify 1000000000";
 
@@ -34,7 +36,14 @@ verify 0
 verify 1000000001
 verify 01
 verify 4 100
-trace 4 100
+trace
+trace 4
+trace 0 100
+trace 65 100
+trace 04 100
+trace 4 0
+trace 4 1000000001
+trace 4 100 1
 --help";
 
 /// The command that the words of a line name.
@@ -55,6 +64,7 @@ fn words_of<R: AllocGlobal + Abort>(rt: &R, command: Option<Command>) -> String 
         Some(Command::Plan) => String::from_str(alloc, "plan"),
         Some(Command::Emit) => String::from_str(alloc, "emit"),
         Some(Command::Run { workers, budget }) => format!(in alloc; "run {workers} {budget}"),
+        Some(Command::Trace { workers, budget }) => format!(in alloc; "trace {workers} {budget}"),
         Some(Command::Verify { budget }) => format!(in alloc; "verify {budget}"),
         Some(Command::Gen { seed, size }) => format!(in alloc; "gen {seed} {size}"),
         Some(

@@ -1,8 +1,8 @@
 -- Worked examples of the words of a command and of the usage line.
 use Rattle.std.proofs.Common.{◌≡◌, [], ◌∷◌, take, drop, codes, refl, arith, true, false}
 use Rattle.std.specs.Fmt.{digits}
-use Rattle.ca_words.specs.declared.Command.TheVariants.{Run, Plan, Gen, Load, Verify}
-use Rattle.ca_words.specs.Words.{words_of, Names, reads, usage_text}
+use Rattle.ca_words.specs.declared.Command.TheVariants.{Run, Plan, Gen, Load, Trace, Verify}
+use Rattle.ca_words.specs.Words.{words_of, Names, reads, reads_program, usage_text}
 
 run_with_budget_100 : words_of (Run 1 100) ≡ codes "run" ∷ codes "1" ∷ codes "100" ∷ []
 unfolding digits
@@ -27,7 +27,7 @@ load_names = record { spelled = refl; in_range = (omega arith, (omega arith, ome
 usage_begins : take 14 usage_text ≡ codes "usage: commute"
 usage_begins = refl
 
-usage_ends : drop 97 usage_text ≡ codes "| verify BUDGET\n"
+usage_ends : drop 97 usage_text ≡ codes "| trace WORKERS BUDGET | verify BUDGET\n"
 usage_ends = refl
 
 plan_names : Names (codes "plan" ∷ []) Plan
@@ -36,6 +36,13 @@ plan_names = record { spelled = refl; in_range = tt }
 verify_names : Names (codes "verify" ∷ codes "100" ∷ []) (Verify 100)
 unfolding digits
 verify_names = record { spelled = refl; in_range = (omega arith, omega arith) }
+
+trace_names : Names (codes "trace" ∷ codes "4" ∷ codes "100" ∷ []) (Trace 4 100)
+unfolding digits
+trace_names = record { spelled = refl; in_range = ((omega arith, omega arith), (omega arith, omega arith)) }
+
+reads_a_program_alone : reads_program (Trace 4 100) ≡ true
+reads_a_program_alone = refl
 
 reads_its_source : reads (Run 1 100) ≡ true
 reads_its_source = refl

@@ -2,7 +2,7 @@
 use Rattle.std.proofs.Common.{◌≡◌, ◌+◌, ◌*◌, ℕ, List, [], get_or, decimal, refl, ap, sym, ◌∙◌, arith}
 use Rattle.std.proofs.lemmas.Fmt.{decimal_injective}
 use Rattle.ca_words.specs.declared.Command.{Command}
-use Rattle.ca_words.specs.declared.Command.TheVariants.{Run, Pairs, Plan, Emit, Gen, Load, Verify}
+use Rattle.ca_words.specs.declared.Command.TheVariants.{Run, Pairs, Plan, Emit, Gen, Load, Trace, Verify}
 use Rattle.ca_words.specs.Words.{words_of, Names}
 
 -- the first and the third letter of the words, by which commands differ
@@ -16,6 +16,7 @@ letters_of Plan = 28769
 letters_of Emit = 25961
 letters_of (Gen x n) = 26478
 letters_of (Load x n w) = 27745
+letters_of (Trace w b) = 29793
 letters_of (Verify b) = 30322
 
 pub are_letters : (c : Command) → letters (words_of c) ≡ letters_of c
@@ -94,5 +95,25 @@ one_command words (Verify k) (Load x n w) s t = absurd (omega (arith, same_lette
 one_command words (Load x n w) (Verify k) s t = absurd (omega (arith, same_letters (Load x n w) (Verify k) s t))
 one_command words (Verify b) (Verify a) s t =
     let same_budget : decimal b ≡ decimal a = cc in
+    let budget : b ≡ a = decimal_injective b a (omega arith) (omega arith) same_budget in
+    cc
+one_command words (Trace v k) (Run w b) s t = absurd (omega (arith, same_letters (Trace v k) (Run w b) s t))
+one_command words (Run w b) (Trace v k) s t = absurd (omega (arith, same_letters (Run w b) (Trace v k) s t))
+one_command words (Trace v k) Pairs s t = absurd (omega (arith, same_letters (Trace v k) Pairs s t))
+one_command words Pairs (Trace v k) s t = absurd (omega (arith, same_letters Pairs (Trace v k) s t))
+one_command words (Trace v k) Plan s t = absurd (omega (arith, same_letters (Trace v k) Plan s t))
+one_command words Plan (Trace v k) s t = absurd (omega (arith, same_letters Plan (Trace v k) s t))
+one_command words (Trace v k) Emit s t = absurd (omega (arith, same_letters (Trace v k) Emit s t))
+one_command words Emit (Trace v k) s t = absurd (omega (arith, same_letters Emit (Trace v k) s t))
+one_command words (Trace v k) (Gen x n) s t = absurd (omega (arith, same_letters (Trace v k) (Gen x n) s t))
+one_command words (Gen x n) (Trace v k) s t = absurd (omega (arith, same_letters (Gen x n) (Trace v k) s t))
+one_command words (Trace v k) (Load x n w) s t = absurd (omega (arith, same_letters (Trace v k) (Load x n w) s t))
+one_command words (Load x n w) (Trace v k) s t = absurd (omega (arith, same_letters (Load x n w) (Trace v k) s t))
+one_command words (Trace v k) (Verify a) s t = absurd (omega (arith, same_letters (Trace v k) (Verify a) s t))
+one_command words (Verify a) (Trace v k) s t = absurd (omega (arith, same_letters (Verify a) (Trace v k) s t))
+one_command words (Trace w b) (Trace v a) s t =
+    let same_workers : decimal w ≡ decimal v = cc in
+    let same_budget : decimal b ≡ decimal a = cc in
+    let workers : w ≡ v = decimal_injective w v (omega arith) (omega arith) same_workers in
     let budget : b ≡ a = decimal_injective b a (omega arith) (omega arith) same_budget in
     cc

@@ -2,7 +2,7 @@
 use Rattle.std.specs.Prelude.{◌≡◌, Bool, true, false, ℕ, ◌≤◌, List, [], ◌∷◌, map, codes, decimal, String, string_bytes}
 use Rattle.std.specs.declared.alloc.Global.{Global}
 use Rattle.ca_words.specs.declared.Command.{Command}
-use Rattle.ca_words.specs.declared.Command.TheVariants.{Run, Pairs, Plan, Emit, Gen, Load, Verify}
+use Rattle.ca_words.specs.declared.Command.TheVariants.{Run, Pairs, Plan, Emit, Gen, Load, Trace, Verify}
 
 -- each word as its bytes
 abbrev pub texts : List (String Global) → List (List ℕ)
@@ -16,6 +16,7 @@ words_of Plan = codes "plan" ∷ []
 words_of Emit = codes "emit" ∷ []
 words_of (Gen seed size) = codes "gen" ∷ decimal seed ∷ decimal size ∷ []
 words_of (Load seed size workers) = codes "load" ∷ decimal seed ∷ decimal size ∷ decimal workers ∷ []
+words_of (Trace workers budget) = codes "trace" ∷ decimal workers ∷ decimal budget ∷ []
 words_of (Verify budget) = codes "verify" ∷ decimal budget ∷ []
 
 abbrev pub IsWorkers : ℕ → Type 0
@@ -38,6 +39,7 @@ IsInRange Plan = Unit {0}
 IsInRange Emit = Unit {0}
 IsInRange (Gen seed size) = IsSeed seed × IsSize size
 IsInRange (Load seed size workers) = IsSeed seed × IsSize size × IsWorkers workers
+IsInRange (Trace workers budget) = IsWorkers workers × IsBudget budget
 IsInRange (Verify budget) = IsBudget budget
 
 -- the words are those of the command, and its numbers are in their ranges
@@ -59,4 +61,4 @@ reads_program (Load seed size workers) = false
 reads_program other = true
 
 abbrev pub usage_text : List ℕ
-usage_text = codes "usage: commute run WORKERS BUDGET | pairs | plan | emit | gen SEED SIZE | load SEED SIZE WORKERS | verify BUDGET\n"
+usage_text = codes "usage: commute run WORKERS BUDGET | pairs | plan | emit | gen SEED SIZE | load SEED SIZE WORKERS | trace WORKERS BUDGET | verify BUDGET\n"

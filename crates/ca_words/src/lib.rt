@@ -28,6 +28,9 @@ pub enum Command {
     Gen { seed: u64, size: u32 },
     /// `load SEED SIZE WORKERS`: runs that text with 1 to 64 workers, and tells the sum of what it leaves.
     Load { seed: u64, size: u32, workers: u32 },
+    /// `trace WORKERS BUDGET`: runs the source as `run` does, and writes the order in which the operations of its parallel
+    /// extents ran.
+    Trace { workers: u32, budget: u32 },
     /// `verify BUDGET`: tells whether a run of the source, for a budget of 1 to 1,000,000,000 steps, can have the order of the
     /// schedule behind it.
     Verify { budget: u32 },
@@ -46,7 +49,7 @@ impl Command {
     {
         match self {
             Command::Run { .. } | Command::Pairs | Command::Plan | Command::Emit => true,
-            Command::Verify { .. } => true,
+            Command::Trace { .. } | Command::Verify { .. } => true,
             Command::Gen { .. } | Command::Load { .. } => false,
         }
     }
@@ -57,6 +60,7 @@ impl Command {
     {
         match self {
             Command::Run { .. } | Command::Pairs | Command::Plan | Command::Emit => true,
+            Command::Trace { .. } => true,
             Command::Gen { .. } | Command::Load { .. } | Command::Verify { .. } => false,
         }
     }
@@ -120,6 +124,9 @@ fn with_two(name: &str, first: &str, second: &str) -> Option<Command>
     if name == "gen" {
         return gen_of(first, second);
     }
+    if name == "trace" {
+        return trace_of(first, second);
+    }
     None
 }
 
@@ -169,6 +176,16 @@ fn load_of(seed: &str, size: &str, workers: &str) -> Option<Command>
     })
 }
 
+// The recorded run that the words behind its name name.
+fn trace_of(workers: &str, budget: &str) -> Option<Command>
+    ensures named { IfSome result (Names (codes "trace" ∷ workers.now ∷ budget.now ∷ [])) }
+    ensures only { IfNone result ((c : Command) → Names (codes "trace" ∷ workers.now ∷ budget.now ∷ []) c → ⊥) }
+{
+    let workers = count_of(workers, Command::MOST_WORKERS)?;
+    let budget = count_of(budget, Command::MOST_BUDGET)?;
+    Some(Command::Trace { workers, budget })
+}
+
 // The check of a schedule that the word behind its name names.
 fn verify_of(budget: &str) -> Option<Command>
     ensures named { IfSome result (Names (codes "verify" ∷ budget.now ∷ [])) }
@@ -187,7 +204,7 @@ pub fn names_one_command()
 pub fn usage_line() -> &'static [u8]
     ensures { result.now ≡ usage_text }
 {
-    b"usage: commute run WORKERS BUDGET | pairs | plan | emit | gen SEED SIZE | load SEED SIZE WORKERS | verify BUDGET\n"
+    b"usage: commute run WORKERS BUDGET | pairs | plan | emit | gen SEED SIZE | load SEED SIZE WORKERS | trace WORKERS BUDGET | verify BUDGET\n"
 }
 
 /// The number from `least` to `most` that the word is. A number is its decimal digits, with no sign and

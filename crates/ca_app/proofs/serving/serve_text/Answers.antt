@@ -13,4 +13,4 @@ pub returns-in-Ok-clause-told : goal.returns-in-Ok-clause-told
 returns-in-Ok-clause-told g c = λ tells is. told_of_text _ _ c.in-Ok.ensures.program c.in-Ok.ensures.tree (c.serve_program.ensures.told tells is)
 
 pub serve_program-requires : goal.serve_program-requires
-serve_program-requires g c = (search rules, (search rules, (accepted_is_checked c.in-Ok.ensures.program.accepted, (c.requires.reading, c.requires.in_range))))
+serve_program-requires g c = (search rules, (search rules, (accepted_is_checked c.in-Ok.ensures.program.accepted, (c.requires.reading, (c.requires.one_reply, c.requires.in_range)))))
