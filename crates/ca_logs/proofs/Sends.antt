@@ -1,4 +1,4 @@
--- Histories may go to another thread.
+-- Entries and histories may go to another thread.
 use Rattle.std.proofs.Crossing.{crosses}
 use denote.Builtin.{u64}
 use denote.Hole.{as_row}
@@ -53,7 +53,7 @@ stuck_send = as_row_send (option.the_field entry.the_row) (search (sendable, ent
 stuck_sync : IsSync (as_row (option.the_field entry.the_row))
 stuck_sync = as_row_sync (option.the_field entry.the_row) (search (sendable, entry_sent.the_sync) depth 20)
 
-entries_send : IsSend entries.the_row
+pub entries_send : IsSend entries.the_row
 entries_send = view_send _ _ _ _ _ (declared_send entries_inside.the_type (kept_send, (tolds_send, (search sendable, (steps_send, (stuck_send, tt))))))
 
 entries_sync : IsSync entries.the_row

@@ -180,6 +180,7 @@ pub fn finish<K: Work>(
     requires gathered { Gathered K.cells left K.first (logs_in log.old) (loose_in log.old) rest.old.items }
     ensures began { IfOk result (λ _. began_with log.new ≡ began_with log.old) }
     ensures told { IfOk result (λ _. IsTold log.new) }
+    ensures keeps { IfOk result (λ _. log.new.keeps ≡ log.old.keeps) }
     ensures gathered { IfOk result (λ _. Gathered K.cells left K.first (logs_in log.new) (loose_in log.new) rest.new.items) }
     ensures ended { IfOk result (λ _. Ended quota (logs_in log.new) (loose_in log.new) rest.new.items) }
 {

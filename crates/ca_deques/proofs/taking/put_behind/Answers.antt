@@ -1,12 +1,20 @@
-use Rattle.std.proofs.Common.{arith}
-use Rattle.ca_deques.proofs.Grown.{shrunk_fit, last_fits, grown_fit, grown_weight, one_fits}
+use Rattle.std.proofs.Common.{List, ap, sym, subst, arith}
+use Rattle.ca_meaning.specs.Multisets.{weight}
+use Rattle.ca_logs.specs.declared.log.Task.{Task}
+use Rattle.ca_deques.specs.Settings.{AllFit}
+use Rattle.ca_deques.proofs.Grown.{fits_at, fits_set, none_left}
+use Rattle.ca_deques.proofs.Places.{weight_set_at}
 use Rattle.ca_deques.proofs.taking.put_behind.Goals as goal
 
-pub returns-in-Some-clause-share : goal.returns-in-Some-clause-share
-returns-in-Some-clause-share g c = grown_fit _ _ _ _ c.push_reserved.ensures.items (shrunk_fit _ _ _ _ c.in-Some.ensures.items c.requires.share) (one_fits _ _ c.requires.fits)
+pub put_behind_open-requires-clause-empty : goal.put_behind_open-requires-clause-empty
+put_behind_open-requires-clause-empty g c = none_left c.args.share.now.items (omega (arith, c.len-count.ensures, c.if-count-eq0.true))
 
-pub returns-in-Some-clause-fits : goal.returns-in-Some-clause-fits
-returns-in-Some-clause-fits g c = last_fits _ _ _ _ c.in-Some.ensures.items c.requires.share
+pub returns-clause-share : goal.returns-clause-share
+returns-clause-share g c = let ts = c.args.share.now.items in
+    subst (λ (xs : List Task). AllFit g.N.Round.setting xs) (sym c.exchange.ensures.put) (fits_set g.N.Round.setting ts _ c.args.task c.requires.share c.requires.fits)
 
-pub returns-in-Some-clause-moved : goal.returns-in-Some-clause-moved
-returns-in-Some-clause-moved g c = λ h. omega (arith, grown_weight _ _ _ c.in-Some.ensures.items h, grown_weight _ _ _ c.push_reserved.ensures.items h)
+pub returns-clause-fits : goal.returns-clause-fits
+returns-clause-fits g c = fits_at g.N.Round.setting c.args.share.now.items _ c.exchange.result c.requires.share c.exchange.ensures.took
+
+pub returns-clause-moved : goal.returns-clause-moved
+returns-clause-moved g c = λ h. omega (arith, weight_set_at h c.args.share.now.items _ c.exchange.result c.args.task c.exchange.ensures.took, ap (weight h) c.exchange.ensures.put)

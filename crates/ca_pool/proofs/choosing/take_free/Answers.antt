@@ -11,6 +11,9 @@ pass_held-requires-clause-fits g c = subst (λ (o : Option Task). AllFit g.N.Rou
 pub returns-in-Some-clause-same : goal.returns-in-Some-clause-same
 returns-in-Some-clause-same g c = c.pass_held.ensures.same ∙ (c.take_any.ensures.same ∙ c.open_some.ensures.same)
 
+pub returns-in-Some-clause-keys : goal.returns-in-Some-clause-keys
+returns-in-Some-clause-keys g c = c.pass_held.ensures.keys ∙ c.take_any.ensures.keys
+
 pub returns-in-Some-clause-fits : goal.returns-in-Some-clause-fits
 returns-in-Some-clause-fits g c = one_fits _ _ c.pass_held.ensures.fits
 
