@@ -3,6 +3,7 @@ pub mod Clear
 pub mod Copying
 pub mod Once
 pub mod Sums
+pub mod Taking
 pub mod Beginning
 pub mod Applying
 pub mod Together

@@ -53,11 +53,11 @@ look (f ∷ fs) o c g = from (decide_nat f.class.0 c.0) (decide_nat f.field g) (
 
 -- ---- sums in the slots of one object
 
-abbrev sum_one : Option Slot → Option Slot → Option Slot
+abbrev pub sum_one : Option Slot → Option Slot → Option Slot
 sum_one (Some (One (Long n))) (Some (One (Long b))) = Some (One (Long (int_wrap w64 (n +ℤ b))))
 sum_one s c = s
 
-abbrev zero_one : Option Slot → Option Slot
+abbrev pub zero_one : Option Slot → Option Slot
 zero_one (Some (One (Long n))) = Some (One (Long (pos 0)))
 zero_one s = s
 
@@ -141,11 +141,11 @@ chosen_else f c g ss ts n h = from (decide_nat f.class.0 c.0)
 chosen_here : (f : FieldId) (c : ClassId) (ss ts : List Slot) → f.class.0 ≡ c.0 → cond (nat_eq f.class.0 c.0) ts ss ≡ ts
 chosen_here f c ss ts e = ap (λ b. cond b ts ss) (eq-eqb f.class.0 c.0 e)
 
-sums_absent : (fs : List FieldId) (c : ClassId) (g : ℕ) (cs ss : List Slot) → Absent fs c g → slice_get (sums_in fs c cs ss) g ≡ slice_get ss g
+pub sums_absent : (fs : List FieldId) (c : ClassId) (g : ℕ) (cs ss : List Slot) → Absent fs c g → slice_get (sums_in fs c cs ss) g ≡ slice_get ss g
 sums_absent [] c g cs ss a = refl
 sums_absent (f ∷ fs) c g cs ss a = sums_absent fs c g cs _ a.1 ∙ chosen_else f c g ss (sum_at f.field cs ss) a.0 (λ ne. sum_else f.field g cs ss ne)
 
-sums_hit : (c : ClassId) (g : ℕ) (cs : List Slot) (fs : List FieldId) (ss : List Slot) → Hit c g fs → slice_get (sums_in fs c cs ss) g ≡ sum_one (slice_get ss g) (slice_get cs g)
+pub sums_hit : (c : ClassId) (g : ℕ) (cs : List Slot) (fs : List FieldId) (ss : List Slot) → Hit c g fs → slice_get (sums_in fs c cs ss) g ≡ sum_one (slice_get ss g) (slice_get cs g)
 sums_hit c g cs all ss (here f fs e d a) =
     sums_absent fs c g cs _ a ∙ ap (λ z. slice_get z g) (chosen_here f c ss (sum_at f.field cs ss) e)
     ∙ subst (λ k. slice_get (sum_at f.field cs ss) k ≡ sum_one (slice_get ss k) (slice_get cs k)) d (sum_here f.field cs ss)
@@ -162,7 +162,7 @@ pub zero_absent : (fs : List FieldId) (o : Object) (g : ℕ) → Absent fs o.cla
 zero_absent [] o g a = refl
 zero_absent (f ∷ fs) o g a = zero_absent fs (zeroed_field f o) g a.1 ∙ chosen_else f o.class g o.slots (zeroed_slot f.field o.slots) a.0 (λ ne. zero_else f.field g o.slots ne)
 
-zero_hit : (c : ClassId) (g : ℕ) (fs : List FieldId) (o : Object) → o.class ≡ c → Hit c g fs → slice_get (let z : Object = zeroed fs o in z.slots) g ≡ zero_one (slice_get o.slots g)
+pub zero_hit : (c : ClassId) (g : ℕ) (fs : List FieldId) (o : Object) → o.class ≡ c → Hit c g fs → slice_get (let z : Object = zeroed fs o in z.slots) g ≡ zero_one (slice_get o.slots g)
 zero_hit c g all o k (here f fs e d a) =
     zero_absent fs (zeroed_field f o) g (subst (λ z. Absent fs z g) (sym k) a) ∙ ap (λ z. slice_get z g) (chosen_here f o.class o.slots (zeroed_slot f.field o.slots) (e ∙ sym (ap (λ z. z.0) k)))
     ∙ subst (λ k. slice_get (zeroed_slot f.field o.slots) k ≡ zero_one (slice_get o.slots k)) d (zero_here f.field o.slots)

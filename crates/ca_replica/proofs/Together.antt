@@ -28,12 +28,13 @@ use Rattle.ca_sum_laws.proofs.Entering.{total, GoodHeap, good_heap, frozen_stand
 use Rattle.ca_sum_laws.proofs.Running.{plus_none}
 use Rattle.ca_replica.specs.Zeroed.{number_at, zeroed, zeroed_heap}
 use Rattle.ca_sum_laws.proofs.FromHeap.{ToldFrom, told_from, fits_good, from_any_run}
-use Rattle.ca_replica.specs.Adding.{added, Absent, Once, IsCopy}
+use Rattle.ca_replica.specs.Adding.{added, Absent, Once, IsCopy, IsWhole, AreWhole}
 use Rattle.ca_replica.specs.Applied.{IsRound, sums}
 use Rattle.ca_replica.specs.Together.{Worker, all_entries, all_added, SumsAreARun}
 use Rattle.ca_replica.proofs.Beginning.{no_sums_stand}
 use Rattle.ca_replica.proofs.Copying.{zeroed_at}
 use Rattle.ca_replica.proofs.Sums.{numbered, adding_merges}
+use Rattle.ca_replica.proofs.Taking.{moved_whole, each_whole}
 
 absent_free : (fs : List FieldId) (c : ClassId) (g : ℕ) → Absent fs c g → ¬ Contains fs (record { class = c; field = g })
 absent_free [] c g a k = none_of _ k
@@ -89,6 +90,23 @@ module _ (p : PlainProgram) (x : Extent) (frozen : List Object) (round : IsRound
             let m = s.number n (numbered (slice_get (let z : Object = c.object in z.slots) k) n is) in
             (m.0, ap number_at m.1);
       }
+
+  -- the copies that a worker left are whole
+  one_whole : (w : Worker p x frozen) (i : ℕ) (c : Changed) → slice_get w.copies i ≡ Some c → (first : Object) → slice_get frozen c.number ≡ Some first → IsWhole x.written first c.object
+  one_whole w i c e first there =
+      let t : ToldFrom p round.program round.roots x round.is round.parallel round.summed frozen round.heap first_sums w.entries (sums x.written frozen w.copies) =
+      told_from p round.program round.roots x round.is round.parallel round.summed frozen round.heap first_sums good_base w.entries (sums x.written frozen w.copies) w.replicates in
+      let d : ℕ → ℕ → ℤ = total p frozen w.entries in
+      let began : Object = zeroed x.written first in
+      let moved : Object = moved_object (d c.number) began in
+      let base : slice_get first_sums c.number ≡ Some began = zeroed_at x.written frozen c.number first there in
+      let left : slice_get (sums x.written frozen w.copies) c.number ≡ Some c.object = present_at first_sums w.copies w.apart i c e began base in
+      let there_too : slice_get (moved_heap d first_sums) c.number ≡ Some moved = moved_at d first_sums c.number ∙ ap (moved_option (d c.number)) base in
+      let left_too : slice_get (moved_heap d first_sums) c.number ≡ Some c.object = ap (λ (h : List Object). slice_get h c.number) (sym t.moved) ∙ left in
+      moved_whole x.written once first c.object (d c.number) (copies w.copies w.apart t.good i c e first there) (one_some (slice_get (moved_heap d first_sums) c.number) moved c.object there_too left_too)
+
+  pub whole_here : (w : Worker p x frozen) → AreWhole x.written frozen w.copies
+  whole_here w = each_whole x.written frozen w.copies (one_whole w)
 
   abbrev as_replica : Worker p x frozen → Replica
   as_replica w = record { entries = w.entries; heap = sums x.written frozen w.copies }

@@ -1,5 +1,5 @@
 -- The sums of a replica, added to a heap.
-use Rattle.std.specs.Prelude.{ℕ, ℤ, ◌≡◌, ◌+ℤ◌, List, [], ◌∷◌, cond, nat_eq, Option, Some, slice_get, length}
+use Rattle.std.specs.Prelude.{ℕ, ℤ, ◌≡◌, ◌⊎◌, ◌+ℤ◌, List, [], ◌∷◌, cond, nat_eq, Option, Some, slice_get, length}
 use Rattle.std.specs.Int.{int_wrap, w64}
 use Rattle.ca_program.specs.declared.program.ClassId.{ClassId}
 use Rattle.ca_program.specs.declared.program.FieldId.{FieldId}
@@ -72,6 +72,30 @@ pub record IsCopy (written : List FieldId) (first copy : Object) : Type 0 where
   pub class : copy.class ≡ first.class
   pub constants : (g : ℕ) → Absent written first.class g → slice_get copy.slots g ≡ slice_get first.slots g
   pub numbers : (g : ℕ) (n : _) → number_at (slice_get copy.slots g) ≡ Some n → (m : _) × (number_at (slice_get first.slots g) ≡ Some m)
+
+-- both are one slot, or both hold numbers
+abbrev pub AreAlike : Option Slot → Option Slot → Type 0
+AreAlike s t = (s ≡ t) ⊎ ((n : ℤ) × (m : ℤ) × (number_at s ≡ Some n) × (number_at t ≡ Some m))
+
+-- A whole copy of an object: of its class, with its constants, and alike in each slot. So the object's numbers can be added
+-- to the copy as well as the copy's to the object.
+pub record IsWhole (written : List FieldId) (first copy : Object) : Type 0 where
+  pub class : copy.class ≡ first.class
+  pub constants : (g : ℕ) → Absent written first.class g → slice_get copy.slots g ≡ slice_get first.slots g
+  pub alike : (g : ℕ) → AreAlike (slice_get copy.slots g) (slice_get first.slots g)
+
+-- the same of the frozen object with the copy's number, if there is one
+abbrev pub IsWholeOf : List FieldId → List Object → Changed → Type 0
+IsWholeOf written frozen c = (first : Object) → slice_get frozen c.number ≡ Some first → IsWhole written first c.object
+
+abbrev pub AreWhole : List FieldId → List Object → List Changed → Type 0
+AreWhole written frozen [] = Unit {0}
+AreWhole written frozen (c ∷ cs) = IsWholeOf written frozen c × AreWhole written frozen cs
+
+-- the same of the copies of each worker
+abbrev pub AllWhole : List FieldId → List Object → List (List Changed) → Type 0
+AllWhole written frozen [] = Unit {0}
+AllWhole written frozen (cs ∷ rest) = AreWhole written frozen cs × AllWhole written frozen rest
 
 -- Adding the sums, which looks at no frozen heap, is merging what changed since the copies began at 0.
 abbrev pub AddingIsMerging : Type 0

@@ -1,9 +1,9 @@
 //! Sums, added to a heap, or to objects that stand beside it.
 
-ghost use Rattle.std.specs.Prelude.{◌≡◌, ◌+ℤ◌, IfOk};
+ghost use Rattle.std.specs.Prelude.{◌≡◌, ◌<◌, ◌+ℤ◌, length, IfOk};
 ghost use Rattle.std.specs.Int.{int_wrap, w64};
-ghost use Rattle.ca_beside.specs.Beside.{present};
-ghost use Rattle.ca_replica.specs.Adding.{added_number, added_field, added_object, added, sum_at, summed_field, sums_in};
+ghost use Rattle.ca_beside.specs.Beside.{present, IsAbsent};
+ghost use Rattle.ca_replica.specs.Adding.{added_number, added_field, added_object, added, sum_at, summed_field, sums_in, Once, IsWholeOf, AreWhole};
 
 use crate::zeroing::number_in;
 use ca_beside::{Beside, Change, Changed};
@@ -138,6 +138,80 @@ pub(crate) fn add_copies_beside(
 {
     'copies: for copy in copies {
         add_one_beside(heap, beside, copy, written)?;
+    }
+    Ok(())
+}
+
+/// Takes a copy for its object, which has not changed before: with the object's numbers added, it is the object with the
+/// copy's sums. So nothing is copied.
+fn take_over(
+    heap: &Heap,
+    beside: &mut Beside,
+    copy: Changed,
+    written: &[FieldId],
+) -> Result<(), AllocError>
+    requires inside { copy.number < length heap.now }
+    requires absent { IsAbsent beside.old copy.number }
+    requires once { Once written.now }
+    requires whole { IsWholeOf written.now heap.now copy }
+    ensures { IfOk result (λ _. present heap.now beside.new ≡ added_object written.now copy.number copy.object (present heap.now beside.old)) }
+{
+    let Changed { number, mut object } = copy;
+    add_slots(&mut object.slots, heap.get(number), written);
+    beside.add(number, object)?;
+    Ok(())
+}
+
+/// Adds all sums of a copy to its object, and keeps the copy's memory.
+fn add_and_keep(
+    heap: &Heap,
+    beside: &mut Beside,
+    copy: Changed,
+    written: &[FieldId],
+) -> Result<(), AllocError>
+    ensures { IfOk result (λ _. present heap.now beside.new ≡ added_object written.now copy.number copy.object (present heap.now beside.old)) }
+{
+    add_one_beside(heap, beside, &copy, written)?;
+    beside.keep_memory(copy.object);
+    Ok(())
+}
+
+/// Adds all sums of a copy that is handed over to its object as that is now, beside the heap.
+fn take_copy(
+    heap: &Heap,
+    beside: &mut Beside,
+    copy: Changed,
+    written: &[FieldId],
+) -> Result<(), AllocError>
+    requires once { Once written.now }
+    requires whole { IsWholeOf written.now heap.now copy }
+    ensures { IfOk result (λ _. present heap.now beside.new ≡ added_object written.now copy.number copy.object (present heap.now beside.old)) }
+{
+    let number = copy.number;
+    if number >= heap.len() {
+        return Ok(());
+    }
+    match beside.find(number) {
+        Some(_) => add_and_keep(heap, beside, copy, written),
+        None => take_over(heap, beside, copy, written),
+    }
+}
+
+/// Adds all sums of copies that are handed over to the objects as they are now, beside the heap.
+pub(crate) fn take_copies(
+    heap: &Heap,
+    beside: &mut Beside,
+    copies: Vec<Changed>,
+    written: &[FieldId],
+) -> Result<(), AllocError>
+    requires once { Once written.now }
+    requires whole { AreWhole written.now heap.now copies.items }
+    ensures { IfOk result (λ _. present heap.now beside.new ≡ added written.now copies.items (present heap.now beside.old)) }
+{
+    let mut left = copies;
+    left.reverse();
+    'copies: while let Some(copy) = left.pop() {
+        take_copy(heap, beside, copy, written)?;
     }
     Ok(())
 }

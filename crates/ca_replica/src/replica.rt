@@ -6,11 +6,11 @@ ghost use Rattle.ca_meaning.specs.WellTyped.{WellTyped};
 ghost use Rattle.ca_parallel.specs.Calls.{invocation_of};
 ghost use Rattle.ca_order_laws.specs.Order.{StandsFor};
 ghost use Rattle.ca_beside.specs.Beside.{present, AreDistinct, IsPlace, Sectioned};
-ghost use Rattle.ca_replica.specs.Adding.{added};
+ghost use Rattle.ca_replica.specs.Adding.{added, Once, AreWhole};
 ghost use Rattle.ca_replica.specs.Applied.{Applied, IsRound, sums};
 ghost use Rattle.ca_replica.specs.Zeroed.{zeroed_heap};
 
-use crate::adding::{add_copies, add_copies_beside};
+use crate::adding::{add_copies, add_copies_beside, take_copies};
 use crate::zeroing::zero;
 use ca_base::Memory;
 use ca_beside::Beside;
@@ -41,7 +41,7 @@ fn place_of(
     match copies.find(number) {
         Some(place) => Ok(place),
         None => {
-            let mut object = frozen.get(number).copy()?;
+            let mut object = copies.copied(frozen.get(number))?;
             zero(&mut object, extent.written());
             copies.add(number, object)
         }
@@ -76,6 +76,17 @@ impl Replica {
     {
         Replica {
             copies: Beside::new(alloc),
+        }
+    }
+
+    /// No sums, with memory for copies from beside the heap: an even part, where so many others get one too, but no more than
+    /// so many copies take.
+    pub fn lent(alloc: Global, memory: &mut Beside, others: usize, most: usize) -> Replica
+        ensures none { result.copies ≡ [] }
+        ensures same { memory.new ≡ memory.old }
+    {
+        Replica {
+            copies: memory.lend(alloc, others, most),
         }
     }
 
@@ -136,5 +147,22 @@ impl Replica {
         ensures { IfOk result (λ _. present heap.now beside.new ≡ added extent.now.written self.now.copies (present heap.now beside.old)) }
     {
         add_copies_beside(heap, beside, self.copies.items(), extent.written())
+    }
+
+    /// The same, and the sums are handed over: a copy takes the place of its object where that has not changed before, and
+    /// the memory of the others is kept beside the heap.
+    pub fn move_beside(
+        self,
+        extent: &Extent,
+        heap: &Heap,
+        beside: &mut Beside,
+    ) -> Result<(), AllocError>
+        requires once { Once extent.now.written }
+        requires whole { AreWhole extent.now.written heap.now self.copies }
+        ensures { IfOk result (λ _. present heap.now beside.new ≡ added extent.now.written self.copies (present heap.now beside.old)) }
+    {
+        let Replica { copies } = self;
+        let items = copies.into_items(beside);
+        take_copies(heap, beside, items, extent.written())
     }
 }

@@ -24,11 +24,11 @@ use Rattle.ca_sum_laws.specs.Replicas.{MayRun, Replicates, nothing, one_more, Ar
 use Rattle.ca_sum_laws.specs.Facts.{OnFrozen}
 use Rattle.ca_sum_laws.proofs.Facts.{ran_on_frozen}
 use Rattle.ca_replica.specs.Zeroed.{zeroed_heap}
-use Rattle.ca_replica.specs.Adding.{Once}
+use Rattle.ca_replica.specs.Adding.{Once, AllWhole}
 use Rattle.ca_replica.specs.Applied.{IsRound, sums}
 use Rattle.ca_replica.specs.Together.{Worker, all_entries, copies_of, added_one_by_one, all_added}
 use Rattle.ca_replica.proofs.Beginning.{no_sums_stand}
-use Rattle.ca_replica.proofs.Together.{sums_run}
+use Rattle.ca_replica.proofs.Together.{sums_run, whole_here}
 use Rattle.ca_sum_pool.specs.declared.performing.Stuck.{Stuck}
 use Rattle.ca_sum_pool.specs.declared.working.Left.{Left}
 use Rattle.ca_sum_pool.specs.declared.round.SummedRound.{SummedRound}
@@ -130,6 +130,10 @@ module _ (p : PlainProgram) (x : Extent) (frozen : List Object) where
   workers_on_frozen round (w ∷ ws) e c = ⊎_elim
       (λ b. ran_on_frozen p round.program round.roots x round.is round.parallel round.summed frozen (zeroed_heap x.written frozen) round.heap (no_sums_stand p x frozen round.heap) w.entries (sums x.written frozen w.copies) w.replicates e b)
       (λ b. workers_on_frozen round ws e b) (Contains-append_cases w.entries (all_entries ws) e c)
+
+  workers_whole : IsRound p x frozen → Once x.written → (ws : List (Worker p x frozen)) → AllWhole x.written frozen (copies_of ws)
+  workers_whole round once [] = tt
+  workers_whole round once (w ∷ ws) = (whole_here p x frozen round once w, workers_whole round once ws)
 
 -- ---- the round
 
@@ -253,6 +257,7 @@ module _ (p : PlainProgram) (x : Extent) (frozen : List Object) (round : IsRound
         (subst (λ k. PendingRun p frozen (added_one_by_one x.written k now) (task_calls r.rest.items) (task_calls (tasks_in (ordered es))) now (task_calls first) (steps_of (ordered es))) (copies ∙ sym replicas)
         (subst (λ k. PendingRun p frozen (all_added now ws) (task_calls k) (task_calls (tasks_in (ordered es))) now (task_calls first) (steps_of (ordered es))) (sym rest)
         (sums_run p x frozen round once now standing ws first (more ++ tasks_of all) balanced)));
+    whole = subst (AllWhole x.written frozen) (copies ∙ sym replicas) (workers_whole p x frozen round once ws);
     counted = subst (λ k. IsSum left (steps_of (ordered k)) r.steps) (sym told_ran) (subst (IsSum left (steps_of (ordered es))) (sym steps) (sum_is left _ _ total (sym (entries_more (λ (e : Entry). e.steps) w.workers caller) ∙ sym (weight_ordered (λ (e : Entry). e.steps) es)) (fin.goes.steps_are (steps_of (all_entries w.workers)) w.steps_are)));
     may_run = subst (All (MayRun p x frozen)) (sym rest) (All-append (MayRun p x frozen) more (tasks_of all) (may_run_of p x frozen more fin.goes.fits) (all_may_run p x frozen left all stops));
   }

@@ -18,6 +18,7 @@ use Rattle.ca_beside.specs.declared.beside.Changed.{Changed}
 use Rattle.ca_sum_laws.specs.Replicas.{MayRun}
 use Rattle.ca_sum_laws.specs.Facts.{OnFrozen}
 use Rattle.ca_replica.specs.declared.replica.Replica.{Replica}
+use Rattle.ca_replica.specs.Adding.{AllWhole}
 use Rattle.ca_replica.specs.Together.{added_one_by_one}
 use Rattle.ca_sum_pool.specs.declared.round.SummedRound.{SummedRound}
 
@@ -76,6 +77,8 @@ pub record Rounded (p : PlainProgram) (x : Extent) (frozen : List Object) (left 
   -- with all replicas added, any heap that stands for the frozen one becomes what a run leaves: that of all entries
   -- without a stop, by clock and object
   pub run : (now : List Object) → StandsFor p x frozen now → PendingRun p frozen (added_one_by_one x.written (copies_in r.replicas.items) now) (task_calls r.rest.items) (task_calls (tasks_in (ordered (ran_in entries)))) now (task_calls first) (steps_of (ordered (ran_in entries)))
+  -- the replicas' copies are whole, so that each may take its object's place
+  pub whole : AllWhole x.written frozen (copies_in r.replicas.items)
   -- the steps of that run are told
   pub counted : IsSum left (steps_of (ordered (ran_in entries))) r.steps
   -- what is left may run in a round like this one

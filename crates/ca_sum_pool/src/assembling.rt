@@ -14,6 +14,7 @@ use crate::counting::{both_counts, both_steps};
 use crate::next::add_calls;
 use crate::part::{Part, Pieces};
 use crate::performing::{Stuck, Sums};
+use ca_beside::Beside;
 use ca_deques::taking::pour;
 use ca_deques::{Owner, Round, Thieves};
 use ca_logs::Task;
@@ -52,7 +53,8 @@ fn begin_of(end: usize, before: usize) -> usize
     }
 }
 
-/// A part for each worker, that of the last one first, with about as many calls of the list each.
+/// A part for each worker, that of the last one first, with about as many calls of the list each, and as much memory for
+/// copies from beside the heap.
 pub fn assemble<N: Round, K: Sums>(
     alloc: Global,
     mut owners: Vec<Owner<N>>,
@@ -60,6 +62,7 @@ pub fn assemble<N: Round, K: Sums>(
     calls: usize,
     quota: u32,
     left: u64,
+    memory: &mut Beside,
 ) -> Result<Vec<Part<N, K>>, AllocError>
     requires count { length thieves.items ≡ length owners.items }
     requires some { 0 < length owners.items }
@@ -68,6 +71,7 @@ pub fn assemble<N: Round, K: Sums>(
     requires left { left ≡ K.left }
     ensures assembled { IfOk result (λ parts. Assembled owners.items thieves.items parts.items) }
     ensures given { IfOk result (λ parts. Given K.listed parts.items) }
+    ensures memory { IfOk result (λ _. memory.new ≡ memory.old) }
 {
     let mut parts = Vec::new(alloc);
     let mut end = calls;
@@ -75,7 +79,8 @@ pub fn assemble<N: Round, K: Sums>(
         let before = owners.len();
         let worker = if before < 64 { before as u32 } else { 64 };
         let from = begin_of(end, before);
-        let part = Part::<N, K>::of(alloc, owner, mine, from, end, worker, quota, left);
+        let replica = Replica::lent(alloc, memory, before, quota as usize);
+        let part = Part::<N, K>::of(alloc, owner, mine, replica, from, end, worker, quota, left);
         parts.push(part)?;
         end = from;
     }

@@ -1,6 +1,6 @@
 //! What one worker has, and its loop.
 
-ghost use Rattle.std.specs.Prelude.{◌≡◌, ℕ, map};
+ghost use Rattle.std.specs.Prelude.{◌≡◌, ℕ, [], map};
 ghost use Rattle.ca_program.specs.View.{program_view};
 ghost use Rattle.ca_meaning.specs.Multisets.{weight};
 ghost use Rattle.ca_logs.specs.declared.log.Task.{Task};
@@ -84,12 +84,13 @@ pub struct Pieces<N: Round> {
 }
 
 impl<N: Round, K: Sums> Part<N, K> {
-    /// The part of a worker that has run nothing, with the calls of the list from one place on, up to another. It takes no
-    /// memory.
+    /// The part of a worker that has run nothing, with a replica without sums, and the calls of the list from one place on, up
+    /// to another. It takes no memory.
     pub fn of(
         alloc: Global,
         owner: Owner<N>,
         thieves: Thieves<N>,
+        replica: Replica,
         from: usize,
         to: usize,
         worker: u32,
@@ -97,13 +98,14 @@ impl<N: Round, K: Sums> Part<N, K> {
         left: u64,
     ) -> Part<N, K>
         requires unused { IsUnused owner.hand × ((h : Task → ℕ) → weight (taken_by_thief h) thieves ≡ 0) }
+        requires none { replica.copies ≡ [] }
         requires left { left ≡ K.left }
         ensures { result ≡ record { owner = owner_key owner; thieves = map key_of thieves; mine = begun K.listed from to } }
     {
         Part {
             owner,
             thieves,
-            replica: Replica::new(alloc),
+            replica,
             share: Vec::new(alloc),
             from,
             to,

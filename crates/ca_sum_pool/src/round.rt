@@ -14,6 +14,7 @@ use crate::finishing::{add_tasks_of, finish, first_why_of};
 use crate::performing::Sums;
 use crate::working::{Left, work};
 use ca_base::{Gate, Memory};
+use ca_beside::Beside;
 use ca_deques::Round as Setting;
 use ca_extent::Extent;
 use ca_logs::{Stop, Task};
@@ -49,6 +50,7 @@ fn run_round<N: Setting + Send + Sync, K: Sums + Send + Sync, R: Threads + Wait 
     first: Vec<Task>,
     quota: u32,
     left: u64,
+    memory: &mut Beside,
 ) -> Result<SummedRound, Memory>
     requires picked { (K.extent ≡ extent.now) × (left ≡ K.left) }
     requires lent { K.listed ≡ listed.now }
@@ -59,7 +61,8 @@ fn run_round<N: Setting + Send + Sync, K: Sums + Send + Sync, R: Threads + Wait 
     requires listed { All (MayRun (program_view program.now) extent.now frozen.now) (map (task_after 0) listed.now) }
     requires first { All (MayRun (program_view program.now) extent.now frozen.now) first.items × All (λ (t : Task). t.after ≡ 0) first.items }
     requires quota { 0 < quota }
-    ensures { IfOk result (Rounded (program_view program.now) extent.now frozen.now left quota (map (task_after 0) listed.now ++ first.items)) }
+    ensures rounded { IfOk result (Rounded (program_view program.now) extent.now frozen.now left quota (map (task_after 0) listed.now ++ first.items)) }
+    ensures memory { IfOk result (λ _. memory.new ≡ memory.old) }
 {
     let Left {
         mut replicas,
@@ -68,7 +71,7 @@ fn run_round<N: Setting + Send + Sync, K: Sums + Send + Sync, R: Threads + Wait 
         count,
         mut steps,
     } = work::<N, K, R, G>(
-        rt, alloc, program, extent, frozen, gate, workers, listed, first, quota, left,
+        rt, alloc, program, extent, frozen, gate, workers, listed, first, quota, left, memory,
     )?;
     let replica = finish(
         alloc, program, extent, frozen, &mut rest, &mut stuck, &mut steps, quota, left, count,
@@ -87,7 +90,8 @@ fn run_round<N: Setting + Send + Sync, K: Sums + Send + Sync, R: Threads + Wait 
 /// Runs a round of an extent that only sums: lends each worker some of the calls of a list, deals the first tasks to them, lets
 /// each run as many tasks as the quota on a replica of its own, and, where fewer entries than the quota are there, no section
 /// stopped and there are clocks, goes on by itself. The gate is passed by each worker before each section, and not by the
-/// caller. First tasks are those of the list and the others.
+/// caller. First tasks are those of the list and the others. Copies are made in the memory of spare objects that stand beside
+/// the heap, as far as there are some; what changed there stays.
 ///
 /// Over all interleavings: each task runs once and is collected once. The stop is that of the first entry with one. Where
 /// there is a first task there is an entry; where there is no stop, the rest isn't empty and no entry has the last clock,
@@ -106,6 +110,7 @@ pub fn round_summed<R: Threads + Wait + Sync, G: Gate>(
     first: Vec<Task>,
     quota: u32,
     left: u64,
+    memory: &mut Beside,
 ) -> Result<SummedRound, Memory>
     requires round { IsRound (program_view program.now) extent.now frozen.now }
     requires once { Once extent.now.written }
@@ -113,9 +118,10 @@ pub fn round_summed<R: Threads + Wait + Sync, G: Gate>(
     requires listed { All (MayRun (program_view program.now) extent.now frozen.now) (map (task_after 0) listed.now) }
     requires first { All (MayRun (program_view program.now) extent.now frozen.now) first.items × All (λ (t : Task). t.after ≡ 0) first.items }
     requires quota { 0 < quota }
-    ensures { IfOk result (Rounded (program_view program.now) extent.now frozen.now left quota (map (task_after 0) listed.now ++ first.items)) }
+    ensures rounded { IfOk result (Rounded (program_view program.now) extent.now frozen.now left quota (map (task_after 0) listed.now ++ first.items)) }
+    ensures memory { IfOk result (λ _. memory.new ≡ memory.old) }
 {
     run_round::<Brand, Brand, R, G>(
-        rt, alloc, program, extent, frozen, gate, workers, listed, first, quota, left,
+        rt, alloc, program, extent, frozen, gate, workers, listed, first, quota, left, memory,
     )
 }

@@ -11,6 +11,7 @@ use crate::assembling::{Apart, assemble, take_apart};
 use crate::performing::{Stuck, Sums};
 use crate::running::run_all;
 use ca_base::Gate;
+use ca_beside::Beside;
 use ca_deques::{Round, deal, open_owners, open_thieves, settle};
 use ca_extent::Extent;
 use ca_logs::Task;
@@ -33,8 +34,8 @@ pub struct Left {
     pub steps: Option<u64>,
 }
 
-/// Deals the first tasks to the workers, lends each its calls of the list, lets them run, and takes back their passes and what
-/// their deques and shares hold.
+/// Deals the first tasks to the workers, lends each its calls of the list and memory for copies, lets them run, and takes back
+/// their passes and what their deques and shares hold.
 pub fn work<N: Round + Send + Sync, K: Sums + Send + Sync, R: Threads + Wait + Sync, G: Gate>(
     rt: &R,
     alloc: Global,
@@ -47,6 +48,7 @@ pub fn work<N: Round + Send + Sync, K: Sums + Send + Sync, R: Threads + Wait + S
     first: Vec<Task>,
     quota: u32,
     left: u64,
+    memory: &mut Beside,
 ) -> Result<Left, AllocError>
     requires picked { (K.extent ≡ extent.now) × (left ≡ K.left) }
     requires round { IsRound (program_view program.now) extent.now frozen.now }
@@ -55,13 +57,14 @@ pub fn work<N: Round + Send + Sync, K: Sums + Send + Sync, R: Threads + Wait + S
     requires listed { K.listed ≡ listed.now }
     requires calls { AllFit N.setting (map (task_after 0) listed.now) }
     requires first { AllFit N.setting first.items }
-    ensures { IfOk result (Worked N.setting K.extent K.left (map (task_after 0) listed.now ++ first.items)) }
+    ensures worked { IfOk result (Worked N.setting K.extent K.left (map (task_after 0) listed.now ++ first.items)) }
+    ensures memory { IfOk result (λ _. memory.new ≡ memory.old) }
 {
     let mut rest = Vec::new(alloc);
     let mut owners = open_owners::<N>(alloc, workers)?;
     let thieves = open_thieves(alloc, &mut owners)?;
     deal(&mut owners, first, &mut rest, &[])?;
-    let mut parts = assemble::<N, K>(alloc, owners, thieves, listed.len(), quota, left)?;
+    let mut parts = assemble::<N, K>(alloc, owners, thieves, listed.len(), quota, left, memory)?;
     run_all(
         rt,
         program,

@@ -31,7 +31,10 @@ assemble-requires-clause-unused g c = let s = c.in_ok-thieves.ensures.sums in (c
 pub settle-requires : goal.settle-requires
 settle-requires g c = torn_settling g.N.Round.setting g.K.Sums.extent g.K.Sums.left c.in_ok-parts.parts.items _ _ _ _ _ _ _ _ _ _ c.in_ok-parts.ensures.assembled _ c.in_ok-owners-2.ensures (c.in_ok-deal.ensures.deals.settling _ c.in_ok-thieves.ensures.settling) (given_back c.in_ok-parts.parts.items c.run_all.new.parts c.in_ok-parts.parts.len c.in_ok-parts.parts.ok.0 (search rules))
 
-pub returns : goal.returns
-returns g c = worked g.N.Round.setting g.K.Sums.extent g.K.Sums.left c.in_ok-parts.parts.items _ _ _ _ _ _ _ c.args.listed.now _ _ _ _ _
+pub returns-clause-memory : goal.returns-clause-memory
+returns-clause-memory g c = c.in_ok-parts.ensures.memory
+
+pub returns-clause-worked : goal.returns-clause-worked
+returns-clause-worked g c = worked g.N.Round.setting g.K.Sums.extent g.K.Sums.left c.in_ok-parts.parts.items _ _ _ _ _ _ _ c.args.listed.now _ _ _ _ _
     c.in_ok-owners.ensures.fresh c.in_ok-thieves.ensures.sums c.in_ok-deal.ensures.dealt c.in_ok-parts.ensures.assembled (subst (λ (os : List Op). Given os c.in_ok-parts.parts.items) c.requires.listed c.in_ok-parts.ensures.given) c.in_ok-owners-2.ensures c.in_ok-settle.ensures.balance
     (c.in_ok-settle.ensures.fits c.in_ok-owners-2.ensures.fits) c.new-rest.ensures.items (given_back c.in_ok-parts.parts.items c.run_all.new.parts c.in_ok-parts.parts.len c.in_ok-parts.parts.ok.0 (search rules))
