@@ -11,7 +11,7 @@ ghost use Rattle.ca_parallel.specs.Parallel.{ParallelFrom};
 ghost use Rattle.ca_trace.specs.Lines.{Follows};
 ghost use Rattle.ca_trace.specs.Texts.{IsLineOf};
 ghost use Rattle.ca_run.specs.Traced.{Traces};
-ghost use Rattle.ca_record.specs.clauses.Handed.{MayBeHanded, ServesTraced};
+ghost use Rattle.ca_record.specs.Handed.{MayBeHanded, ServesTraced};
 
 use crate::recording::record;
 use crate::traced::Traced;

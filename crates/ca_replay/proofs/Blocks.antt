@@ -1,24 +1,19 @@
 -- Lines of a block that are followed one by one.
-use Rattle.std.proofs.Common.{◌≡◌, ℕ, zero, suc, ◌+◌, ◌-◌, ◌<◌, ◌≤◌, Bool, true, false, List, [], ◌∷◌, ◌++◌, length, take, drop, map, Option, Some, None, refl, ap, sym, subst, ◌∙◌, arith, append_assoc, length-append, get_or, add-one}
-use Rattle.std.specs.Prelude.{slice_get, slice_set}
+use Rattle.std.proofs.Common.{◌≡◌, ℕ, suc, ◌+◌, ◌-◌, ◌<◌, ◌≤◌, true, List, [], ◌∷◌, ◌++◌, length, drop, refl, ap, sym, subst, ◌∙◌, arith, append_assoc, length-append, get_or}
 use Rattle.std.proofs.lemmas.List.{map-append, length-map, drop_more, drop_all}
 use Rattle.ca_program.specs.Plain.{PlainProgram}
 use Rattle.ca_model.specs.declared.value.Object.{Object}
 use Rattle.ca_meaning.specs.Expressions.{Invocation}
-use Rattle.ca_meaning.specs.Multisets.{SameItems}
-use Rattle.ca_meaning.specs.Sections.{done, section}
 use Rattle.ca_parallel.specs.declared.op.Op.{Op}
 use Rattle.ca_parallel.specs.Calls.{invocation_of, invocations_of}
-use Rattle.ca_order_laws.specs.Pending.{PendingRun, rests, runs}
-use Rattle.ca_order_laws.specs.Complete.{DoneBy}
-use Rattle.ca_order_laws.proofs.Complete.{sections_end}
+use Rattle.ca_order_laws.specs.Pending.{PendingRun, rests}
 use Rattle.ca_order_laws.proofs.PendingRuns.{rounds}
 use Rattle.ca_trace.specs.declared.line.Line.{Line}
 use Rattle.ca_trace.specs.declared.line.Line.TheVariants.{Block, End, Step, Declined, Done, Trapped, Spent, Close}
-use Rattle.ca_trace.specs.Lines.{step_of, steps_of, block_of}
+use Rattle.ca_trace.specs.Lines.{step_of, steps_of}
 use Rattle.ca_trace.specs.Laws.{RunsNow}
 use Rattle.ca_run.specs.Rounds.{RanThis}
-use Rattle.ca_replay.proofs.Standing.{one_run}
+use Rattle.ca_run.proofs.Going.{ran_within, one_run}
 use Rattle.ca_replay.specs.Following.{starts_block, Halts, Passed, HaltsAt, BlockThere}
 
 -- the lines before place `at` are the beginning of a block whose operations ran, and those behind it are ahead
@@ -53,18 +48,11 @@ module _ (p : PlainProgram) (frozen h : List Object) (is : List Invocation) (lef
     next : (l : Line) → at < length lines → l ≡ get_or lines at l → b.passed.behind ≡ l ∷ drop (at + 1) lines
     next l lt is2 = sym b.ahead ∙ (drop_more lines at l lt ∙ ap (λ (x : Line). x ∷ drop (at + 1) lines) (sym is2))
 
-    pub ran_within : (o : Op) (after : List Object) (more : List Invocation) (steps : ℕ) → RanThis p frozen mid rest still (invocation_of o) after more steps → steps ≤ still
-    ran_within o after more steps r =
-        let d : DoneBy (λ n k. section p frozen o.receiver r.object o.op o.args k ≡ done n) r.outcome r.outcome.steps = sections_end p frozen (invocation_of o) r.object r.outcome (still, r.section) in
-        let le : r.outcome.steps ≤ still = (d.only still r.outcome r.section).1 in
-        let e = r.steps_are in
-        omega (arith, le, e)
-
     pub one_on : (o : Op) (after : List Object) (more : List Invocation) (steps : ℕ) (l : Line) → l ≡ Step o → at < length lines → l ≡ get_or lines at l → RanThis p frozen mid rest still (invocation_of o) after more steps → Behind p frozen h is left lines after more (still - steps) (at + 1)
     one_on o after more steps l is2 lt here r =
         let one : PendingRun p frozen after more (invocation_of o ∷ []) mid rest steps = one_run p frozen mid rest still (invocation_of o) after more steps r in
         let order : invocations_of b.passed.ops ++ invocation_of o ∷ [] ≡ invocations_of (b.passed.ops ++ o ∷ []) = sym (map-append invocation_of b.passed.ops (o ∷ [])) in
-        let le : steps ≤ still = ran_within o after more steps r in
+        let le : steps ≤ still = ran_within p frozen mid rest still (invocation_of o) after more steps r in
         let sum = b.passed.sum in let count = b.passed.count in
         let long = length-append b.passed.ops (o ∷ []) in
         record {

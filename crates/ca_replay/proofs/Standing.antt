@@ -1,6 +1,6 @@
 -- A machine that made some of its steps: what waits is well typed, and a step more leaves it so.
-use Rattle.std.proofs.Common.{◌≡◌, ℕ, zero, suc, ◌+◌, ◌<◌, List, [], ◌∷◌, ◌++◌, length, Option, Some, None, Result, Ok, Err, IfOk, refl, ap, sym, subst, ◌∙◌, arith}
-use Rattle.std.specs.Prelude.{slice_get, slice_set, OnErr}
+use Rattle.std.proofs.Common.{◌≡◌, ℕ, zero, suc, ◌+◌, ◌<◌, List, [], ◌∷◌, ◌++◌, length, Option, Some, None, Result, Ok, Err, IfOk, refl, ap, sym, subst, ◌∙◌}
+use Rattle.std.specs.Prelude.{slice_get, OnErr}
 use Rattle.std.proofs.lemmas.Option.{slice_get_within}
 use Rattle.ca_program.specs.declared.program.ClassId.{ClassId}
 use Rattle.ca_program.specs.Plain.{PlainProgram, PlainMethod}
@@ -9,16 +9,13 @@ use Rattle.ca_model.specs.declared.value.Trap.{Trap}
 use Rattle.ca_model.specs.declared.value.Value.{Value as Datum}
 use Rattle.ca_model.specs.Typed.{IsOfClass}
 use Rattle.ca_meaning.specs.Expressions.{Invocation}
-use Rattle.ca_meaning.specs.Multisets.{SameItems}
 use Rattle.ca_meaning.specs.ProgramTyped.{ProgramTyped}
 use Rattle.ca_meaning.specs.Sections.{done, stopped, over, section}
-use Rattle.ca_meaning.specs.Serial.{Note}
 use Rattle.ca_meaning.specs.WellTyped.{CallTyped, AllWellTyped}
 use Rattle.ca_parallel.specs.declared.op.Op.{Op}
-use Rattle.ca_parallel.specs.Calls.{invocation_of, invocations_of}
+use Rattle.ca_parallel.specs.Calls.{invocations_of}
 use Rattle.ca_parallel.specs.Lists.{note}
 use Rattle.ca_parallel.specs.Notes.{NoteGood}
-use Rattle.ca_order_laws.specs.Pending.{PendingRun, rests, runs}
 use Rattle.ca_order_laws.proofs.PendingRuns.{rounds}
 use Rattle.ca_order_laws.proofs.Standing.{runs_stay}
 use Rattle.ca_beside.proofs.Present.{same_some}
@@ -27,14 +24,8 @@ use Rattle.ca_trace.proofs.Existing.{all_inside, itself}
 use Rattle.ca_replay.specs.declared.machine.StepAnswer.{StepAnswer}
 use Rattle.ca_replay.specs.declared.machine.StepAnswer.TheVariants.{Done, NotPending, Trapped, Spent}
 use Rattle.ca_run.specs.Rounds.{RanThis}
+use Rattle.ca_run.proofs.Going.{one_run}
 use Rattle.ca_replay.specs.Steps.{Stands, Kept, EndsSo, DoesntWait, StepIs}
-
--- the operation alone, as a run
-pub one_run : (p : PlainProgram) (frozen h : List Object) (waiting : List Invocation) (left : ℕ) (i : Invocation) (after : List Object) (rest : List Invocation) (steps : ℕ) → RanThis p frozen h waiting left i after rest steps → PendingRun p frozen after rest (i ∷ []) h waiting steps
-one_run p frozen h waiting left i after rest steps r =
-    subst (λ n. PendingRun p frozen after rest (i ∷ []) h waiting n) (let e = r.steps_are in let z : r.outcome.steps + 0 ≡ steps = omega (arith, e) in z)
-    (runs i [] h waiting r.others r.object r.outcome 0 r.waited r.found (left, r.section)
-    (subst (λ g. PendingRun p frozen after rest [] g (r.outcome.listed ++ r.others) 0) r.heap (rests (r.outcome.listed ++ r.others) (record { weighed = λ f. sym (r.waits.weighed f) }))))
 
 in_heap : (h : List Object) (r : ℕ) (c : ClassId) → IsOfClass (slice_get h r) c → r < length h
 in_heap h r c t = from (slice_get h r) refl t

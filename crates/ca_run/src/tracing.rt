@@ -8,10 +8,10 @@ ghost use Rattle.ca_program.specs.View.{program_view};
 ghost use Rattle.ca_model.specs.Typed.{TypedHeap};
 ghost use Rattle.ca_meaning.specs.ProgramTyped.{ProgramTyped};
 ghost use Rattle.ca_meaning.specs.WellTyped.{AllWellTyped};
-ghost use Rattle.ca_parallel.specs.Calls.{invocation_of, invocations_of, operation_of};
+ghost use Rattle.ca_parallel.specs.Calls.{invocations_of, operation_of};
 ghost use Rattle.ca_parallel.specs.Parallel.{ParallelFrom};
 ghost use Rattle.ca_beside.specs.Beside.{present};
-ghost use Rattle.ca_run.specs.Rounds.{RanThis, Sticking, StuckBehind};
+ghost use Rattle.ca_run.specs.Rounds.{StuckBehind};
 ghost use Rattle.ca_run.specs.Traced.{Told, Traces, LinesBehind};
 ghost use Rattle.ca_serial.specs.Runs.{run_with, prints_of};
 ghost use Rattle.ca_trace.specs.Lines.{outcome_line};
@@ -20,12 +20,13 @@ ghost use Rattle.ca_trace.specs.declared.line.Line.TheVariants.{Block};
 
 use crate::one_worker::{OneWorker, copies};
 use crate::passing::Passes;
+use crate::rounds::run_given;
 use ca_base::Memory;
 use ca_beside::Beside;
 use ca_model::Heap;
 use ca_parallel::Op;
 use ca_program::Program;
-use ca_sections::{Desk, SectionAnswer};
+use ca_sections::Desk;
 use ca_serial::{ExtentAnswer, Outcome};
 use ca_trace::Line;
 use std::alloc::Global;
@@ -39,31 +40,6 @@ pub fn line_of(outcome: Outcome, budget: u64) -> Line
         Outcome::Done { steps, .. } => Line::Done(steps),
         Outcome::Trapped(trap) => Line::Trapped(trap),
         Outcome::Spent => Line::Spent(budget),
-    }
-}
-
-/// Runs an operation that was taken from what waits, within a budget: in so many steps, or it is stuck.
-fn run_this<'a, G: Passes>(
-    gate: &G,
-    desk: &mut Desk<'a>,
-    alloc: Global,
-    program: &'a Program,
-    heap: &Heap,
-    beside: &mut Beside,
-    op: &Op,
-    waiting: &mut Vec<Op>,
-    left: u64,
-) -> Result<Option<u64>, Memory>
-    ensures { IfOk result (λ ran. MatchOption ran (Sticking (program_view program.now) heap.now (present heap.now beside.old) (invocation_of op.now ∷ invocations_of waiting.old.items) left) (λ steps. RanThis (program_view program.now) heap.now (present heap.now beside.old) (invocation_of op.now ∷ invocations_of waiting.old.items) left (invocation_of op.now) (present heap.now beside.new) (invocations_of waiting.new.items) steps)) }
-{
-    if op.receiver >= heap.len() {
-        return Ok(None);
-    }
-    gate.pass(op.receiver);
-    match beside.run(desk, alloc, program, heap, op, left, waiting)? {
-        SectionAnswer::Done { steps } => Ok(Some(steps)),
-        SectionAnswer::Trapped(_) => Ok(None),
-        SectionAnswer::Spent => Ok(None),
     }
 }
 
@@ -84,7 +60,7 @@ fn run_lines<'a, G: Passes>(
 {
     let mut still = left;
     'turns: while let Some(op) = waiting.pop() {
-        match run_this(
+        match run_given(
             gate, desk, alloc, program, heap, beside, &op, waiting, still,
         )? {
             Some(steps) => {

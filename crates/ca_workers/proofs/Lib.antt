@@ -5,6 +5,7 @@ pub mod Logs
 pub mod Going
 pub mod ToldOn
 pub mod Stored
+pub mod Moving
 pub mod Beginning
 pub mod Parts
 pub mod Roots

@@ -1,5 +1,5 @@
 -- A round of some of what waits, beside which the others stay where they are.
-use Rattle.std.proofs.Common.{◌≡◌, ◌<◌, ℕ, List, [], ◌∷◌, ◌++◌, All, length, length-append, take, drop, Option, Result, Ok, Err, IfOk, refl, sym, ap, ◌∙◌, subst, arith}
+use Rattle.std.proofs.Common.{◌≡◌, ◌<◌, ℕ, Bool, List, [], ◌∷◌, ◌++◌, All, length, length-append, take, drop, Option, Result, Ok, Err, IfOk, refl, sym, ap, ◌∙◌, subst, arith}
 use Rattle.std.specs.Prelude.{flat_map}
 use Rattle.std.proofs.lemmas.List.{map-append}
 use Rattle.std.proofs.lemmas.List.Elements.{All-append, All-take, All-drop, Contains-append_left, Contains-append_right}
@@ -123,10 +123,10 @@ went_on p frozen now others first all is left after rest anew same more behind o
     (subst (λ (js : List Invocation). RanBy p frozen now (task_calls (others ++ first)) left after js order steps) (sym calls) r)
 
 -- what a round answers, in its cells
-pub in_cells : (p : PlainProgram) (x : Extent) (frozen now : List Object) (left quota : ℕ) (first : List Task) (given : Given) → IsGiven p x frozen now given → (r : Result Round Memory) →
-    IfOk r (λ q. (began_with q.log ≡ now) × IsTold q.log) → IfOk r (λ q. Rounded given left quota first (logs_in q.log) (loose_in q.log) q.rest.items q.stop) → IfOk r (InCells p x frozen now left quota first)
-in_cells p x frozen now left quota first given is (Ok q) tells rounded = record { given = given; is = is; began = tells.0; told = tells.1; rounded = rounded }
-in_cells p x frozen now left quota first given is (Err e) tells rounded = tt
+pub in_cells : (p : PlainProgram) (x : Extent) (frozen now : List Object) (left quota : ℕ) (first : List Task) (given : Given) → IsGiven p x frozen now given → (k keeps : Bool) → k ≡ keeps → (r : Result Round Memory) →
+    IfOk r (λ q. (began_with q.log ≡ now) × IsTold q.log) → IfOk r (λ q. q.log.keeps ≡ k) → IfOk r (λ q. Rounded given left quota first (logs_in q.log) (loose_in q.log) q.rest.items q.stop) → IfOk r (InCells p x frozen now left quota first keeps)
+in_cells p x frozen now left quota first given is k keeps same (Ok q) tells kept rounded = record { given = given; is = is; began = tells.0; told = tells.1; kept = kept ∙ same; rounded = rounded }
+in_cells p x frozen now left quota first given is k keeps same (Err e) tells kept rounded = tt
 
 -- what is read off the touched histories and the loose lists is read off all
 pub told_entries : (log : RoundLog) → IsTold log → (logs : List CellLog) (loose : List (List Entry)) → logs ≡ log.logs.items → loose ≡ loose_in log → all_entries logs loose ≡ all_entries (logs_in log) (loose_in log)

@@ -1,7 +1,7 @@
 //! Which lists of operations begin with a round, by how the lists before them ended. No clause speaks of it.
 
 /// The most lists that run alone first behind one that wasn't worth a round.
-const MOST_ALONE: u32 = 1_024;
+const MOST_ALONE: u32 = 65_536;
 
 /// How many of the next lists run alone first, and how many will behind the next list that isn't worth a round.
 #[derive(Clone, Copy)]

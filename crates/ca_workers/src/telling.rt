@@ -1,8 +1,9 @@
 //! Rounds that tell their operations, line by line.
 
-ghost use Rattle.std.specs.Prelude.{◌≡◌, ◌<◌, ◌++◌, map, All, length, IfOk, OnErr};
+ghost use Rattle.std.specs.Prelude.{◌≡◌, ◌<◌, true, map, All, length, IfOk, OnErr};
 ghost use Rattle.ca_program.specs.View.{program_view};
 ghost use Rattle.ca_beside.specs.Beside.{present};
+ghost use Rattle.ca_cells.specs.Logs.{loose_in};
 ghost use Rattle.ca_logs.specs.declared.log.Task.{Task};
 ghost use Rattle.ca_logs.specs.Entries.{task_calls};
 ghost use Rattle.ca_trace.specs.Lines.{step_of};
@@ -10,13 +11,12 @@ ghost use Rattle.ca_run.specs.Traced.{LinesBehind};
 ghost use Rattle.ca_workers.specs.clauses.Runs.{BeginsAnew, IsSetting, MayWait};
 ghost use Rattle.ca_workers.specs.clauses.Told.{Adds, RoundTold, ToldTo};
 
-use crate::rounds::{FIRST_QUOTA, Left, Rounds, next_quota};
-use crate::storing::store;
-use crate::turning::Turn;
+use crate::rounds::{FIRST_QUOTA, Rounds, next_quota};
+use crate::turning::{Turn, turn_behind};
 use ca_base::{Gate, Memory};
 use ca_beside::Beside;
 use ca_cells::RoundLog;
-use ca_logs::{CellLog, Entries, Task};
+use ca_logs::Task;
 use ca_model::Heap;
 use ca_parallel::Op;
 use ca_round_order::in_order;
@@ -33,17 +33,13 @@ fn lines_of(alloc: Global, ops: Vec<Op>) -> Result<Vec<Line>, AllocError>
     ops.into_iter().map(|op| Line::Step(op)).collect(alloc)
 }
 
-/// Adds the lines of a round, in its order. After an error none is added.
-fn add_lines(
-    alloc: Global,
-    logs: &[CellLog],
-    loose: &[Entries],
-    lines: &mut Vec<Line>,
-) -> Result<(), Memory>
-    ensures added { IfOk result (λ _. Adds lines.old.items logs.now loose.now lines.new.items) }
+/// Adds the lines of a round that keeps its entries, in its order. After an error none is added.
+fn add_lines(alloc: Global, log: &RoundLog, lines: &mut Vec<Line>) -> Result<(), Memory>
+    requires { log.now.keeps ≡ true }
+    ensures added { IfOk result (λ _. Adds lines.old.items log.now.logs.items (loose_in log.now) lines.new.items) }
     ensures kept { OnErr result (lines.new.items ≡ lines.old.items) }
 {
-    let ops = in_order(alloc, logs, loose)?;
+    let ops = in_order(alloc, log.logs.as_slice(), log.loose.as_slice())?;
     let mut more = lines_of(alloc, ops)?;
     lines.append(&mut more)?;
     Ok(())
@@ -75,22 +71,9 @@ impl<'s, R: Threads + Wait + Sync, G: Gate> Rounds<'s, R, G> {
             Some(round) => round,
             None => return Ok(None),
         };
-        let Left { log, rest, steps } = round;
-        let RoundLog {
-            numbers,
-            logs,
-            loose,
-            heap: _,
-            beside: _,
-            keeps: _,
-        } = log;
-        add_lines(self.alloc, logs.as_slice(), loose.as_slice(), lines)?;
-        store(numbers, logs, beside)?;
-        Ok(Some(Turn {
-            lent: 0,
-            rest,
-            steps,
-        }))
+        add_lines(self.alloc, &round.log, lines)?;
+        let turn = turn_behind(round, beside)?;
+        Ok(Some(turn))
     }
 
     /// Runs rounds until nothing waits, each from where the one before it ended, adds a line for each operation that ran, in an

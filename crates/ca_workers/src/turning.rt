@@ -1,11 +1,16 @@
 //! A turn: a round of what waits, in cells or on replicas, and what it changed put beside the heap.
 
-ghost use Rattle.std.specs.Prelude.{◌≡◌, ◌<◌, ◌+◌, true, All, Contains, length, IfOk};
+ghost use Rattle.std.specs.Prelude.{◌≡◌, ◌<◌, ◌+◌, true, All, Contains, List, length, IfOk};
 ghost use Rattle.ca_program.specs.View.{program_view};
 ghost use Rattle.ca_program.specs.declared.program.OpId.{OpId};
+ghost use Rattle.ca_model.specs.declared.value.Object.{Object};
 ghost use Rattle.ca_beside.specs.Beside.{present};
+ghost use Rattle.ca_cells.specs.Logs.{touched_in};
 ghost use Rattle.ca_logs.specs.declared.log.Task.{Task};
 ghost use Rattle.ca_logs.specs.Entries.{task_calls};
+ghost use Rattle.ca_logs.specs.Laws.{objects_of};
+ghost use Rattle.ca_logs.specs.Touched.{logs_of};
+ghost use Rattle.ca_pool.specs.Gathered.{IsTold};
 ghost use Rattle.ca_sum_laws.specs.Summed.{HasOnlySums};
 ghost use Rattle.ca_replica.specs.Adding.{Once};
 ghost use Rattle.ca_workers.specs.clauses.Runs.{BeginsAnew, IsSetting, MayWait, TurnedTo, with_lent};
@@ -21,6 +26,7 @@ use ca_model::Heap;
 use ca_parallel::Op;
 use ca_replica::summed;
 use ca_sum_pool::{SummedRound, round_summed};
+use std::alloc::AllocError;
 use std::sync::Wait;
 use std::thread::Threads;
 
@@ -41,6 +47,29 @@ pub fn may_copy(workers: u32, values: u32) -> bool
     requires { 0 < workers }
 {
     u64::from(values) <= MOST_COPIED / u64::from(workers)
+}
+
+/// What waits behind a round in cells, whose objects, those that it touched, go beside the heap.
+pub(crate) fn turn_behind(left: Left, beside: &mut Beside) -> Result<Turn, AllocError>
+    requires { IsTold left.log }
+    ensures turn { IfOk result (λ turn. turn ≡ record { lent = 0; rest = left.rest; steps = left.steps }) }
+    ensures heap { IfOk result (λ _. (h : List Object) → present h beside.new ≡ objects_of (logs_of (present h beside.old) (touched_in left.log))) }
+{
+    let Left { log, rest, steps } = left;
+    let RoundLog {
+        numbers,
+        logs,
+        loose: _,
+        heap: _,
+        beside: _,
+        keeps: _,
+    } = log;
+    store(numbers, logs, beside)?;
+    Ok(Turn {
+        lent: 0,
+        rest,
+        steps,
+    })
 }
 
 impl<'s, R: Threads + Wait + Sync, G: Gate> Rounds<'s, R, G> {
@@ -78,21 +107,8 @@ impl<'s, R: Threads + Wait + Sync, G: Gate> Rounds<'s, R, G> {
             Some(round) => round,
             None => return Ok(None),
         };
-        let Left { log, rest, steps } = round;
-        let RoundLog {
-            numbers,
-            logs,
-            loose: _,
-            heap: _,
-            beside: _,
-            keeps: _,
-        } = log;
-        store(numbers, logs, beside)?;
-        Ok(Some(Turn {
-            lent: 0,
-            rest,
-            steps,
-        }))
+        let turn = turn_behind(round, beside)?;
+        Ok(Some(turn))
     }
 
     /// Runs a round on replicas, and adds their sums to the objects beside the heap.
@@ -141,13 +157,14 @@ impl<'s, R: Threads + Wait + Sync, G: Gate> Rounds<'s, R, G> {
             first,
             quota,
             left,
+            beside,
         )?;
         if stop.is_some() {
             return Ok(None);
         }
         match sum {
             Some(steps) => {
-                store_sums(replicas.as_slice(), self.extent, frozen, beside)?;
+                store_sums(replicas, self.extent, frozen, beside)?;
                 begin_anew(&mut rest);
                 let waits = together(others, rest)?;
                 Ok(Some(Turn {

@@ -26,4 +26,4 @@ pub round-requires-clause-first : goal.round-requires-clause-first
 round-requires-clause-first g c = λ κs o. (may_run _ (program_view c.args.self.now.program.now) c.args.self.now.extent.now c.args.frozen.now (present c.args.frozen.now c.args.beside.now) c.in_ok-cells.ensures.key c.args.first.items c.requires.waiting, c.requires.begins)
 
 pub returns : goal.returns
-returns g c = in_cells (program_view c.args.self.now.program.now) c.args.self.now.extent.now c.args.frozen.now (present c.args.frozen.now c.args.beside.now) c.args.left c.args.quota c.args.first.items _ c.in_ok-cells.ensures.key c.round.result c.round.ensures.told c.round.ensures.rounded
+returns g c = in_cells (program_view c.args.self.now.program.now) c.args.self.now.extent.now c.args.frozen.now (present c.args.frozen.now c.args.beside.now) c.args.left c.args.quota c.args.first.items _ c.in_ok-cells.ensures.key _ c.args.keeps c.in_ok-cells.ensures.keeps c.round.result c.round.ensures.told c.round.ensures.keeps c.round.ensures.rounded

@@ -1,4 +1,4 @@
-use Rattle.std.proofs.Common.{◌≡◌, ◌<◌, All, Option, List, length, sym, ap, subst, ◌∙◌}
+use Rattle.std.proofs.Common.{◌≡◌, ◌<◌, All, false, Option, Some, List, length, sym, ap, subst, ◌∙◌}
 use Rattle.ca_program.specs.View.{program_view}
 use Rattle.ca_model.specs.declared.value.Object.{Object}
 use Rattle.ca_beside.specs.Beside.{present}
@@ -8,7 +8,8 @@ use Rattle.ca_logs.specs.Laws.{objects_of}
 use Rattle.ca_logs.specs.Touched.{logs_of}
 use Rattle.ca_cells.specs.Logs.{logs_in, touched_in}
 use Rattle.ca_workers.specs.declared.rounds.Left.{Left}
-use Rattle.ca_workers.specs.clauses.Runs.{MayWait, NoneWithin, RanBy, Turned, Tells, Begin, order_in, with_lent}
+use Rattle.ca_workers.specs.declared.turning.Turn.{Turn}
+use Rattle.ca_workers.specs.clauses.Runs.{MayWait, NoneWithin, RanBy, Turned, TurnedTo, Tells, Begin, BeginsAnew, order_in, with_lent}
 use Rattle.ca_workers.proofs.Going.{ran_to}
 use Rattle.ca_workers.proofs.Lent.{lent_begin, some_in_round}
 use Rattle.ca_workers.proofs.rounds.Rounds.turn_in_cells.Goals as goal
@@ -23,11 +24,8 @@ run_round-requires-clause-begins g c κs within = subst (λ (ts : List Task). Al
 pub run_round-requires-clause-some : goal.run_round-requires-clause-some
 run_round-requires-clause-some g c κs within = subst (λ (ts : List Task). 0 < length ts) (sym c.in_ok-tasks.ensures) (some_in_round c.args.listed.now c.args.waiting.items c.requires.some)
 
-pub store-requires-clause-alike : goal.store-requires-clause-alike
-store-requires-clause-alike g c = (subst (Tells (present c.args.frozen.now c.args.beside.now)) c.in-Some.is c.in_ok-went.ensures.tells).1.alike
-
-pub store-requires-clause-rising : goal.store-requires-clause-rising
-store-requires-clause-rising g c = (subst (Tells (present c.args.frozen.now c.args.beside.now)) c.in-Some.is c.in_ok-went.ensures.tells).1.rising
+pub turn_behind-requires : goal.turn_behind-requires
+turn_behind-requires g c = (subst (Tells (present c.args.frozen.now c.args.beside.now) false) c.in-Some.is c.in_ok-went.ensures.tells).1
 
 pub returns-in-None-clause-turned : goal.returns-in-None-clause-turned
 returns-in-None-clause-turned g c =
@@ -46,10 +44,12 @@ returns-clause-turned g c =
     let ws = task_calls (with_lent c.args.listed.now c.args.waiting.items) in
     let told = subst (λ (o : Option Left). Turned p frozen now (task_calls c.in_ok-tasks.tasks.items) c.args.left o) c.in-Some.is c.in_ok-went.ensures.turned in
     let ran = subst (λ (ts : List Task). RanBy p frozen now (task_calls ts) c.args.left (objects_of (logs_in round.log)) (task_calls round.rest.items) (order_in round.log) round.steps) c.in_ok-tasks.ensures told in
-    let tells = subst (Tells now) c.in-Some.is c.in_ok-went.ensures.tells in
-    let heap : present frozen c.store.new.beside ≡ objects_of (logs_in round.log) = c.in_ok-store.ensures frozen ∙ ap (λ (os : List Object). objects_of (logs_of os (touched_in round.log))) (sym tells.0) in
-    ran_to p frozen now ws c.args.left (present frozen c.store.new.beside) (task_calls round.rest.items) (order_in round.log) round.steps
-    (subst (λ (h : List Object). RanBy p frozen now ws c.args.left h (task_calls round.rest.items) (order_in round.log) round.steps) (sym heap) ran)
+    let tells = subst (Tells now false) c.in-Some.is c.in_ok-went.ensures.tells in
+    let after : List Object = present frozen c.turn_behind.new.beside in
+    let heap : after ≡ objects_of (logs_in round.log) = c.in_ok-turn.ensures.heap frozen ∙ ap (λ (os : List Object). objects_of (logs_of os (touched_in round.log))) (sym tells.0) in
+    subst (λ (t : Turn). TurnedTo p frozen now c.args.listed.now c.args.waiting.items c.args.left after (Some t)) (sym c.in_ok-turn.ensures.turn)
+    (ran_to p frozen now ws c.args.left after (task_calls round.rest.items) (order_in round.log) round.steps
+    (subst (λ (h : List Object). RanBy p frozen now ws c.args.left h (task_calls round.rest.items) (order_in round.log) round.steps) (sym heap) ran))
 
 pub returns-clause-begins : goal.returns-clause-begins
-returns-clause-begins g c = subst Begin c.in-Some.is c.in_ok-went.ensures.begins
+returns-clause-begins g c = subst (λ (t : Turn). BeginsAnew (Some t)) (sym c.in_ok-turn.ensures.turn) (subst Begin c.in-Some.is c.in_ok-went.ensures.begins)

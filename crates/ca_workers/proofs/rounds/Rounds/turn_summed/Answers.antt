@@ -1,12 +1,12 @@
 use Rattle.std.proofs.Common.{◌≡◌, ◌∙◌, ◌<◌, ◌+◌, List, All, length, map, take, drop, subst, sym, ap}
 use Rattle.ca_program.specs.View.{program_view}
 use Rattle.ca_model.specs.declared.value.Object.{Object}
+use Rattle.ca_beside.specs.declared.beside.Changed.{Changed}
 use Rattle.ca_beside.specs.Beside.{present}
 use Rattle.ca_parallel.specs.declared.op.Op.{Op}
 use Rattle.ca_logs.specs.declared.log.Task.{Task}
 use Rattle.ca_logs.specs.Entries.{task_after, task_calls}
 use Rattle.ca_sum_laws.specs.Replicas.{MayRun}
-use Rattle.ca_replica.specs.declared.replica.Replica.{Replica}
 use Rattle.ca_replica.specs.Together.{added_one_by_one}
 use Rattle.ca_run.specs.Rounds.{RanTo}
 use Rattle.ca_sum_pool.specs.Rounded.{Rounded, copies_in}
@@ -66,9 +66,15 @@ returns-then-is_some-clause-turned g c =
     let first = with_lent (drop from c.args.listed.now) c.in_ok-first.first.items in
     let all = parted_lent c.args.listed.now from c.newest_of.new.waiting.items c.in_ok-first.first.items c.args.waiting.items c.in_ok-first.ensures.all c.lent_from-from.ensures.none in
     let w = subst (λ (ts : List Task). MayWait p x frozen now (task_calls ts)) all c.requires.waiting in
-    let told = subst (λ (os : List Op). Rounded p x frozen c.args.left c.args.quota (with_lent os c.in_ok-first.first.items) c.in_ok-replicas.field-0) (all_behind c.args.listed.now from) c.in_ok-replicas.ensures in
+    let told = subst (λ (os : List Op). Rounded p x frozen c.args.left c.args.quota (with_lent os c.in_ok-first.first.items) c.in_ok-replicas.field-0) (all_behind c.args.listed.now from) c.in_ok-replicas.ensures.rounded in
     subst (λ (ts : List Task). NoneWithin p frozen now (task_calls ts) c.args.left) (sym all)
     (sums_stopped p x frozen c.requires.setting c.requires.sums now kept first w c.args.left c.args.quota c.in_ok-replicas.field-0 told (sym c.is_some.ensures ∙ c.if-is_some.true))
+
+pub store_sums-requires-clause-once : goal.store_sums-requires-clause-once
+store_sums-requires-clause-once g c = c.requires.once
+
+pub store_sums-requires-clause-whole : goal.store_sums-requires-clause-whole
+store_sums-requires-clause-whole g c = c.in_ok-replicas.ensures.rounded.whole
 
 pub returns-in_ok-waits-in-Some-clause-turned : goal.returns-in_ok-waits-in-Some-clause-turned
 returns-in_ok-waits-in-Some-clause-turned g c =
@@ -84,9 +90,10 @@ returns-in_ok-waits-in-Some-clause-turned g c =
     let w = subst (λ (ts : List Task). MayWait p x frozen now (task_calls ts)) all c.requires.waiting in
     let some = some_lent c.args.listed.now from c.most_of-most.result c.newest_of.new.waiting.items c.in_ok-first.first.items c.args.waiting.items c.in_ok-first.ensures.all c.in_ok-first.ensures.some c.lent_from-from.ensures.within c.lent_from-from.ensures.some c.most_of-most.ensures c.requires.some in
     let r = c.in_ok-replicas.field-0 in
-    let told = subst (λ (os : List Op). Rounded p x frozen c.args.left c.args.quota (with_lent os c.in_ok-first.first.items) c.in_ok-replicas.field-0) (all_behind c.args.listed.now from) c.in_ok-replicas.ensures in
+    let told = subst (λ (os : List Op). Rounded p x frozen c.args.left c.args.quota (with_lent os c.in_ok-first.first.items) c.in_ok-replicas.field-0) (all_behind c.args.listed.now from) c.in_ok-replicas.ensures.rounded in
     let after : List Object = added_one_by_one x.written (copies_in r.replicas.items) now in
-    let heap : present frozen c.store_sums.new.beside ≡ after = c.in_ok-store_sums-in-Some.ensures ∙ ap (λ (rs : List Replica). added_one_by_one x.written (copies_in rs) now) c.as_slice.ensures.value in
+    let same = ap (λ (cs : List Changed). added_one_by_one x.written (copies_in r.replicas.items) (present frozen cs)) c.in_ok-replicas.ensures.memory in
+    let heap : present frozen c.store_sums.new.beside ≡ after = c.in_ok-store_sums-in-Some.ensures ∙ same in
     let more = task_calls (with_lent own c.in_ok-waits-in-Some.waits.items) in
     let ran =
     lent_went p frozen now own c.newest_of.new.waiting.items first (with_lent c.args.listed.now c.args.waiting.items) all c.args.left after r.rest.items c.begin_anew.new.tasks.items c.begin_anew.ensures.calls c.in_ok-waits-in-Some.waits.items c.in_ok-waits-in-Some.ensures c.in-Some.steps
@@ -109,6 +116,6 @@ returns-in-None-clause-turned g c =
     let first = with_lent (drop from c.args.listed.now) c.in_ok-first.first.items in
     let all = parted_lent c.args.listed.now from c.newest_of.new.waiting.items c.in_ok-first.first.items c.args.waiting.items c.in_ok-first.ensures.all c.lent_from-from.ensures.none in
     let w = subst (λ (ts : List Task). MayWait p x frozen now (task_calls ts)) all c.requires.waiting in
-    let told = subst (λ (os : List Op). Rounded p x frozen c.args.left c.args.quota (with_lent os c.in_ok-first.first.items) c.in_ok-replicas.field-0) (all_behind c.args.listed.now from) c.in_ok-replicas.ensures in
+    let told = subst (λ (os : List Op). Rounded p x frozen c.args.left c.args.quota (with_lent os c.in_ok-first.first.items) c.in_ok-replicas.field-0) (all_behind c.args.listed.now from) c.in_ok-replicas.ensures.rounded in
     subst (λ (ts : List Task). NoneWithin p frozen now (task_calls ts) c.args.left) (sym all)
     (sums_passed p x frozen c.requires.setting c.requires.sums now kept first w c.args.left c.args.quota c.in_ok-replicas.field-0 told c.in-None.is)
