@@ -12,18 +12,24 @@ use Rattle.ca_meaning.specs.Output.{Reply, output, reply_of, prints_text, trap_t
 use Rattle.ca_parallel.specs.Marks.{SoundMarks}
 use Rattle.ca_serial.specs.Runs.{prints_of}
 use Rattle.ca_words.specs.declared.Command.{Command}
-use Rattle.ca_words.specs.declared.Command.TheVariants.{Run, Pairs, Plan, Emit, Gen, Load, Trace, Verify}
-use Rattle.ca_words.specs.Words.{Names, reads, reads_program}
+use Rattle.ca_words.specs.declared.Command.TheVariants.{OnText, Alone, Trace, Verify}
+use Rattle.ca_words.specs.declared.TextCommand.{TextCommand}
+use Rattle.ca_words.specs.declared.TextCommand.TheVariants.{Run, Tell}
+use Rattle.ca_words.specs.declared.PlanCommand.{PlanCommand}
+use Rattle.ca_words.specs.declared.PlanCommand.TheVariants.{Pairs, Plan, Emit}
+use Rattle.ca_words.specs.declared.LoneCommand.{LoneCommand}
+use Rattle.ca_words.specs.declared.LoneCommand.TheVariants.{Gen, Load}
+use Rattle.ca_words.specs.Words.{Names, reads}
 use Rattle.ca_words.proofs.OneCommand.{one_command}
 use Rattle.ca_plan.specs.Plans.{PlainPlan, PlanOf, CommuteAsTold}
 use Rattle.ca_plan.specs.Texts.{pairs_text, plan_text}
 use Rattle.ca_emit.specs.Annotations.{annotated_text}
 use Rattle.ca_app.specs.Refusals.{refusal_reply}
 use Rattle.ca_app.specs.clauses.Reading.{HasOneTree, IsProgramOf, IsRefusalOf}
-use Rattle.ca_app.specs.Reply.{ProgramReplies, runs, tells, CommandReplies, refuses, serves, IsLoaded, UnreadReplies, generates, loads, Replies, usage, unread, named, verifies, usage_reply, generated_reply, loaded_reply}
+use Rattle.ca_app.specs.Reply.{ProgramReplies, runs, tells, CommandReplies, refuses, serves, IsLoaded, UnreadReplies, generates, loads, Replies, usage, unread, named, untraced, verifies, usage_reply, generated_reply, loaded_reply}
 use Rattle.ca_app.specs.Ends.{Ends, whole, no_memory, read_fault, write_fault, Unreplied, EndsWith, status_after}
-use Rattle.ca_app.specs.Told.{Tells, verdicts, marks, annotated, tells_plan, ProgramTold, CommandTold}
-use Rattle.ca_app.proofs.OneReply.{program_reply, command_reply, unread_reply, unread_reads, other_reads, program_reads, no_verify, same_budget, one_reply}
+use Rattle.ca_app.specs.Told.{Tells, verdicts, marks, annotated, ProgramTold, CommandTold}
+use Rattle.ca_app.proofs.OneReply.{program_reply, command_reply, unread_reply, other_kind, same_text, same_alone, same_budget, one_reply}
 use Rattle.ca_app.specs.Verified.{VerifyReplies}
 use Rattle.ca_app.specs.Causes.{IsUsageFault, ReadsNothing, ReadsSource}
 
@@ -49,7 +55,7 @@ module _ {status : ℕ} {old now : Option (List ℕ)} where
     each = λ reply this. let P : Reply → Type 0 = λ r. Ends r status old now in subst P (sym (only reply this)) ends;
   }
 
-module _ {command : Command} {text : List ℕ} {status : ℕ} {old now : Option (List ℕ)} where
+module _ {command : TextCommand} {text : List ℕ} {status : ℕ} {old now : Option (List ℕ)} where
   pub ends_refused : {at : Place} {code : ℕ} → IsRefusalOf text at code → Ends (refusal_reply at code) status old now → EndsWith (CommandReplies command text) status old now
   ends_refused is = only_reply (CommandReplies command text) _ (refuses is.refused) (λ reply this. command_reply this (refuses is.refused))
 
@@ -73,7 +79,7 @@ module _ {command : Command} {text : List ℕ} {status : ℕ} {old now : Option 
           ends.each reply (subst P (is.only q accepted') (subst Q (one.only accepted'.tree accepted'.has_tree) replies))
 
 -- what was told of the program was told of the text
-pub told_of_text : {command : Command} {text : List ℕ} {old now : Option (List ℕ)} (p : PlainProgram) (tree : TextTree) → IsProgramOf text p → HasOneTree text tree
+pub told_of_text : {command : PlanCommand} {text : List ℕ} {old now : Option (List ℕ)} (p : PlainProgram) (tree : TextTree) → IsProgramOf text p → HasOneTree text tree
     → ProgramTold tree p command old now → CommandTold command text old now
 told_of_text {command} {old = old} {now = now} p tree is one told =
     let P : TextTree → Type 0 = λ t. ProgramTold t p command old now in
@@ -122,26 +128,21 @@ module _ {status : ℕ} {old now : Option (List ℕ)} where
   ends_loaded seed size workers steps heap loaded = only_reply _ _ (loads loaded) (λ reply this. unread_reply this (loads loaded))
 
   -- what a command tells of some plan of the program is its reply
-  pub ends_told : (tree : TextTree) (p : PlainProgram) (plan : PlainPlan) (command : Command) → PlanOf p plan → tells_plan command ≡ true
-      → ((bytes : List ℕ) → Tells tree p plan command bytes → Ends (record { status = 0; bytes = bytes }) status old now) → EndsWith (ProgramReplies tree p command) status old now
-  ends_told tree p plan command is telling ends =
-      let t = some_telling command telling in
+  pub ends_told : (tree : TextTree) (p : PlainProgram) (plan : PlainPlan) (command : PlanCommand) → PlanOf p plan
+      → ((bytes : List ℕ) → Tells tree p plan command bytes → Ends (record { status = 0; bytes = bytes }) status old now) → EndsWith (ProgramReplies tree p (Tell command)) status old now
+  ends_told tree p plan command is ends =
+      let t = some_telling command in
       only_reply _ _ (tells is t.1) (λ reply this. program_reply this (tells is t.1)) (ends t.0 t.1)
     where
-      some_telling : (c : Command) → tells_plan c ≡ true → (bytes : List ℕ) × Tells tree p plan c bytes
-      some_telling Pairs e = (_, verdicts)
-      some_telling Plan e = (_, marks)
-      some_telling Emit e = (_, annotated)
-      some_telling (Run w b) e = absurd cc
-      some_telling (Gen x n) e = absurd cc
-      some_telling (Load x n w) e = absurd cc
-      some_telling (Trace w b) e = absurd cc
-      some_telling (Verify b) e = absurd cc
+      some_telling : (c : PlanCommand) → (bytes : List ℕ) × Tells tree p plan c bytes
+      some_telling Pairs = (_, verdicts)
+      some_telling Plan = (_, marks)
+      some_telling Emit = (_, annotated)
 
   -- and where the status is 0 it was written whole
-  pub was_told : (tree : TextTree) (p : PlainProgram) (plan : PlainPlan) (command : Command) → PlanOf p plan → SoundMarks p plan.marks → CommuteAsTold p plan → tells_plan command ≡ true
+  pub was_told : (tree : TextTree) (p : PlainProgram) (plan : PlainPlan) (command : PlanCommand) → PlanOf p plan → SoundMarks p plan.marks → CommuteAsTold p plan
       → ((bytes : List ℕ) → Tells tree p plan command bytes → Ends (record { status = 0; bytes = bytes }) status old now) → status ≡ 0 → ProgramTold tree p command old now
-  was_told tree p plan command is sound commute telling ends zero = at command telling ends
+  was_told tree p plan command is sound commute ends zero = at command ends
     where
       written : {bytes : List ℕ} → Ends (record { status = 0; bytes = bytes }) status old now → now ≡ grown old bytes
       written (whole e w) = w
@@ -149,23 +150,25 @@ module _ {status : ℕ} {old now : Option (List ℕ)} where
       written (read_fault e w) = absurd (omega (arith, zero, e))
       written (write_fault e w) = absurd (omega (arith, zero, e))
 
-      at : (c : Command) → tells_plan c ≡ true → ((bytes : List ℕ) → Tells tree p plan c bytes → Ends (record { status = 0; bytes = bytes }) status old now) → ProgramTold tree p c old now
-      at Pairs e f = record { plan = plan; is = is; bytes = pairs_text p plan; tells = verdicts; written = written (f _ verdicts); sound = sound; commute = commute }
-      at Plan e f = record { plan = plan; is = is; bytes = plan_text p plan; tells = marks; written = written (f _ marks); sound = sound; commute = commute }
-      at Emit e f = record { plan = plan; is = is; bytes = annotated_text p plan tree; tells = annotated; written = written (f _ annotated); sound = sound; commute = commute }
-      at (Run w b) e f = absurd cc
-      at (Gen x n) e f = absurd cc
-      at (Load x n w) e f = absurd cc
-      at (Trace w b) e f = absurd cc
-      at (Verify b) e f = absurd cc
+      at : (c : PlanCommand) → ((bytes : List ℕ) → Tells tree p plan c bytes → Ends (record { status = 0; bytes = bytes }) status old now) → ProgramTold tree p c old now
+      at Pairs f = record { plan = plan; is = is; bytes = pairs_text p plan; tells = verdicts; written = written (f _ verdicts); sound = sound; commute = commute }
+      at Plan f = record { plan = plan; is = is; bytes = plan_text p plan; tells = marks; written = written (f _ marks); sound = sound; commute = commute }
+      at Emit f = record { plan = plan; is = is; bytes = annotated_text p plan tree; tells = annotated; written = written (f _ annotated); sound = sound; commute = commute }
+
+-- a run tells no plan
+pub no_telling : {A : Type 0} (workers budget : ℕ) (told : PlanCommand) → ◌≡◌ {A = TextCommand} (Run workers budget) (Tell told) → A
+no_telling workers budget told e = absurd cc
+
+pub same_telling : (c d : PlanCommand) → ◌≡◌ {A = TextCommand} (Tell c) (Tell d) → c ≡ d
+same_telling c d e = cc
 
 module _ {words : List (List ℕ)} {text : List ℕ} {status : ℕ} {old now : Option (List ℕ)} where
   pub ends_usage : IsUsageFault words → Ends usage_reply status old now → EndsWith (Replies words text) status old now
   ends_usage fault = only_reply (Replies words text) usage_reply (usage fault) (λ reply this. one_reply this (usage fault))
 
   -- a command that reads nothing replies so whatever the text
-  pub ends_unread : (command : Command) → Names words command → reads command ≡ false → EndsWith (UnreadReplies command) status old now → EndsWith (Replies words text) status old now
-  ends_unread command names nothing ends = record { some = some ends.some; each = each }
+  pub ends_unread : (command : LoneCommand) → Names words (Alone command) → EndsWith (UnreadReplies command) status old now → EndsWith (Replies words text) status old now
+  ends_unread command names ends = record { some = some ends.some; each = each }
     where
       some : Unreplied status old now ⊎ ((reply : Reply) × UnreadReplies command reply) → Unreplied status old now ⊎ ((reply : Reply) × Replies words text reply)
       some (inl u) = inl u
@@ -174,25 +177,27 @@ module _ {words : List (List ℕ)} {text : List ℕ} {status : ℕ} {old now : O
       each : (reply : Reply) → Replies words text reply → Ends reply status old now
       each reply (usage fault) = absurd (fault _ names)
       each reply (unread {command = other} names' replies) =
-          let P : Command → Type 0 = λ c. UnreadReplies c reply in
-          ends.each reply (subst P (one_command _ other command names' names) replies)
-      each reply (named {command = other} names' reading replies) = absurd (other_reads other command names' names nothing (program_reads other reading))
-      each reply (verifies {budget = b} names' replies) = absurd (other_reads (Verify b) command names' names nothing refl)
+          let P : LoneCommand → Type 0 = λ c. UnreadReplies c reply in
+          ends.each reply (subst P (same_alone other command (one_command _ (Alone other) (Alone command) names' names)) replies)
+      each reply (named {command = other} names' replies) = other_kind (OnText other) (Alone command) names' names (λ e. omega arith)
+      each reply (untraced {workers = w} {budget = b} names' refused) = other_kind (Trace w b) (Alone command) names' names (λ e. omega arith)
+      each reply (verifies {budget = b} names' replies) = other_kind (Verify b) (Alone command) names' names (λ e. omega arith)
 
-  pub ends_named : (command : Command) → Names words command → reads_program command ≡ true → EndsWith (CommandReplies command text) status old now → EndsWith (Replies words text) status old now
-  ends_named command names reading ends = record { some = some ends.some; each = each }
+  pub ends_named : (command : TextCommand) → Names words (OnText command) → EndsWith (CommandReplies command text) status old now → EndsWith (Replies words text) status old now
+  ends_named command names ends = record { some = some ends.some; each = each }
     where
       some : Unreplied status old now ⊎ ((reply : Reply) × CommandReplies command text reply) → Unreplied status old now ⊎ ((reply : Reply) × Replies words text reply)
       some (inl u) = inl u
-      some (inr s) = inr (s.0, named names reading s.1)
+      some (inr s) = inr (s.0, named names s.1)
 
       each : (reply : Reply) → Replies words text reply → Ends reply status old now
       each reply (usage fault) = absurd (fault _ names)
-      each reply (unread {command = other} names' replies) = absurd (other_reads command other names names' (unread_reads replies) (program_reads command reading))
-      each reply (verifies {budget = b} names' replies) = absurd (no_verify command b names names' reading)
-      each reply (named {command = other} names' reading' replies) =
-          let P : Command → Type 0 = λ c. CommandReplies c text reply in
-          ends.each reply (subst P (one_command _ other command names' names) replies)
+      each reply (unread {command = other} names' replies) = other_kind (Alone other) (OnText command) names' names (λ e. omega arith)
+      each reply (untraced {workers = w} {budget = b} names' refused) = other_kind (Trace w b) (OnText command) names' names (λ e. omega arith)
+      each reply (verifies {budget = b} names' replies) = other_kind (Verify b) (OnText command) names' names (λ e. omega arith)
+      each reply (named {command = other} names' replies) =
+          let P : TextCommand → Type 0 = λ c. CommandReplies c text reply in
+          ends.each reply (subst P (same_text other command (one_command _ (OnText other) (OnText command) names' names)) replies)
 
   pub ends_verified : (budget : ℕ) → Names words (Verify budget) → EndsWith (VerifyReplies budget text) status old now → EndsWith (Replies words text) status old now
   ends_verified budget names ends = record { some = some ends.some; each = each }
@@ -203,8 +208,9 @@ module _ {words : List (List ℕ)} {text : List ℕ} {status : ℕ} {old now : O
 
       each : (reply : Reply) → Replies words text reply → Ends reply status old now
       each reply (usage fault) = absurd (fault _ names)
-      each reply (unread {command = other} names' replies) = absurd (other_reads (Verify budget) other names names' (unread_reads replies) refl)
-      each reply (named {command = other} names' reading replies) = absurd (no_verify other budget names' names reading)
+      each reply (unread {command = other} names' replies) = other_kind (Alone other) (Verify budget) names' names (λ e. omega arith)
+      each reply (named {command = other} names' replies) = other_kind (OnText other) (Verify budget) names' names (λ e. omega arith)
+      each reply (untraced {workers = w} {budget = b} names' refused) = other_kind (Trace w b) (Verify budget) names' names (λ e. omega arith)
       each reply (verifies {budget = b} names' replies) =
           let P : ℕ → Type 0 = λ k. VerifyReplies k text reply in
           ends.each reply (subst P (same_budget b budget names' names) replies)
@@ -221,43 +227,21 @@ none_read {words} command names nothing source =
     let reading : reads source.0 ≡ true = source.2 in
     cc
 
--- a command that tells a plan reads its source
-pub tells_reads : (command : Command) → tells_plan command ≡ true → reads command ≡ true
-tells_reads Pairs e = refl
-tells_reads Plan e = refl
-tells_reads Emit e = refl
-tells_reads (Run w b) e = absurd cc
-tells_reads (Gen x n) e = absurd cc
-tells_reads (Load x n w) e = absurd cc
-tells_reads (Trace w b) e = absurd cc
-tells_reads (Verify b) e = absurd cc
-
 -- what each of these commands tells
-pub told_verdicts : {tree : TextTree} {p : PlainProgram} {plan : PlainPlan} {command : Command} {bytes : List ℕ} {status : ℕ} {old now : Option (List ℕ)} → command ≡ Pairs → Tells tree p plan command bytes
+pub told_verdicts : {tree : TextTree} {p : PlainProgram} {plan : PlainPlan} {command : PlanCommand} {bytes : List ℕ} {status : ℕ} {old now : Option (List ℕ)} → command ≡ Pairs → Tells tree p plan command bytes
     → Ends (record { status = 0; bytes = pairs_text p plan }) status old now → Ends (record { status = 0; bytes = bytes }) status old now
 told_verdicts e verdicts ends = ends
 told_verdicts e marks ends = absurd cc
 told_verdicts e annotated ends = absurd cc
 
-pub told_marks : {tree : TextTree} {p : PlainProgram} {plan : PlainPlan} {command : Command} {bytes : List ℕ} {status : ℕ} {old now : Option (List ℕ)} → command ≡ Plan → Tells tree p plan command bytes
+pub told_marks : {tree : TextTree} {p : PlainProgram} {plan : PlainPlan} {command : PlanCommand} {bytes : List ℕ} {status : ℕ} {old now : Option (List ℕ)} → command ≡ Plan → Tells tree p plan command bytes
     → Ends (record { status = 0; bytes = plan_text p plan }) status old now → Ends (record { status = 0; bytes = bytes }) status old now
 told_marks e verdicts ends = absurd cc
 told_marks e marks ends = ends
 told_marks e annotated ends = absurd cc
 
-pub told_annotated : {tree : TextTree} {p : PlainProgram} {plan : PlainPlan} {command : Command} {bytes : List ℕ} {status : ℕ} {old now : Option (List ℕ)} → command ≡ Emit → Tells tree p plan command bytes
+pub told_annotated : {tree : TextTree} {p : PlainProgram} {plan : PlainPlan} {command : PlanCommand} {bytes : List ℕ} {status : ℕ} {old now : Option (List ℕ)} → command ≡ Emit → Tells tree p plan command bytes
     → Ends (record { status = 0; bytes = annotated_text p plan tree }) status old now → Ends (record { status = 0; bytes = bytes }) status old now
 told_annotated e verdicts ends = absurd cc
 told_annotated e marks ends = absurd cc
 told_annotated e annotated ends = ends
-
--- a command that reads no program and isn't `verify` reads nothing
-pub reads_none : (command : Command) → reads_program command ≡ false → ((b : ℕ) → ¬ (command ≡ Verify b)) → reads command ≡ false
-reads_none (Run w b) e other = absurd cc
-reads_none Pairs e other = absurd cc
-reads_none Plan e other = absurd cc
-reads_none Emit e other = absurd cc
-reads_none (Gen x n) e other = refl
-reads_none (Load x n w) e other = refl
-reads_none (Trace w b) e other = absurd cc
-reads_none (Verify b) e other = absurd (other b refl)

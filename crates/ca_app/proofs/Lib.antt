@@ -1,5 +1,7 @@
 pub mod AcceptedTyped
 pub mod AcceptedNames
+pub mod Annotated
+pub mod Ended
 pub mod Endings
 mod Examples
 pub mod GeneratedRuns

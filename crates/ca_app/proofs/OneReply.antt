@@ -1,5 +1,5 @@
 -- Words and a text have one reply at most.
-use Rattle.std.proofs.Common.{◌≡◌, ℕ, true, false, List, refl, sym, ap, ◌∙◌, subst}
+use Rattle.std.proofs.Common.{◌≡◌, ℕ, List, refl, sym, ap, ◌∙◌, subst, arith}
 use Rattle.ca_tree.specs.Plain.{TextTree}
 use Rattle.ca_program.specs.Plain.{PlainProgram}
 use Rattle.ca_model.specs.declared.value.Object.{Object}
@@ -7,48 +7,45 @@ use Rattle.ca_model.specs.declared.value.Value.{Value as Datum}
 use Rattle.ca_meaning.specs.Output.{Reply}
 use Rattle.ca_meaning.specs.Serial.{Ended, done, serial}
 use Rattle.ca_words.specs.declared.Command.{Command}
-use Rattle.ca_words.specs.declared.Command.TheVariants.{Run, Pairs, Plan, Emit, Gen, Load, Trace, Verify}
-use Rattle.ca_words.specs.Words.{Names, reads, reads_program}
+use Rattle.ca_words.specs.declared.Command.TheVariants.{OnText, Alone, Trace, Verify}
+use Rattle.ca_words.specs.declared.TextCommand.{TextCommand}
+use Rattle.ca_words.specs.declared.PlanCommand.{PlanCommand}
+use Rattle.ca_words.specs.declared.LoneCommand.{LoneCommand}
+use Rattle.ca_words.specs.Words.{Names}
 use Rattle.ca_words.proofs.OneCommand.{one_command}
 use Rattle.ca_plan.specs.Plans.{PlainPlan, PlanOf}
 use Rattle.ca_plan.proofs.OnePlan.{one_pairs_text, one_plan_text}
 use Rattle.ca_emit.proofs.OneText.{one_annotated_text}
-use Rattle.ca_app.specs.Refusals.{refusal_reply}
+use Rattle.ca_tree.specs.declared.name.Place.{Place}
+use Rattle.ca_app.specs.Refusals.{RefusedAt, refusal_reply}
 use Rattle.ca_app.specs.Verified.{VerifyReplies}
-use Rattle.ca_app.specs.Reply.{ProgramReplies, runs, tells, CommandReplies, refuses, serves, IsLoaded, UnreadReplies, generates, loads, Replies, usage, unread, named, verifies, loaded_reply}
-use Rattle.ca_app.specs.Told.{Tells, verdicts, marks, annotated, tells_plan}
+use Rattle.ca_app.specs.Reply.{ProgramReplies, runs, tells, CommandReplies, refuses, serves, IsLoaded, UnreadReplies, generates, loads, Replies, usage, unread, named, untraced, verifies, loaded_reply}
+use Rattle.ca_app.specs.Told.{Tells, verdicts, marks, annotated}
 use Rattle.ca_app.proofs.OneReading.{has_one, is_refusal, is_program}
 use Rattle.ca_app.proofs.OneVerify.{verify_one}
 
 -- what a command tells of a program is one, whichever plan it is told of
-one_telling : {tree : TextTree} {p : PlainProgram} {command : Command} {bytes others : List ℕ} (x y : PlainPlan) → PlanOf p x → PlanOf p y
+one_telling : {tree : TextTree} {p : PlainProgram} {command : PlanCommand} {bytes others : List ℕ} (x y : PlainPlan) → PlanOf p x → PlanOf p y
     → Tells tree p x command bytes → Tells tree p y command others → bytes ≡ others
 one_telling {p = p} x y is other verdicts verdicts = one_pairs_text p x y is other
 one_telling {p = p} x y is other marks marks = one_plan_text p x y is other
 one_telling {tree = tree} {p = p} x y is other annotated annotated = one_annotated_text p tree x y is other
 
--- what tells a plan is a command that tells plans, and no run
-pub tells_is : {tree : TextTree} {p : PlainProgram} {plan : PlainPlan} {command : Command} {bytes : List ℕ} → Tells tree p plan command bytes → tells_plan command ≡ true
-tells_is verdicts = refl
-tells_is marks = refl
-tells_is annotated = refl
-
-no_run : {tree : TextTree} {p : PlainProgram} {plan : PlainPlan} {workers budget : ℕ} {bytes : List ℕ} → Tells tree p plan (Run workers budget) bytes → ⊥
-no_run {workers = workers} {budget = budget} t = let telling : tells_plan (Run workers budget) ≡ true = tells_is t in cc
-
 -- a command has one reply to a program
-pub program_reply : {tree : TextTree} {p : PlainProgram} {command : Command} {r s : Reply} → ProgramReplies tree p command r → ProgramReplies tree p command s → r ≡ s
+pub program_reply : {tree : TextTree} {p : PlainProgram} {command : TextCommand} {r s : Reply} → ProgramReplies tree p command r → ProgramReplies tree p command s → r ≡ s
 program_reply runs runs = refl
-program_reply runs (tells is t) = absurd (no_run t)
-program_reply (tells is t) runs = absurd (no_run t)
 program_reply (tells {plan = x} is t) (tells {plan = y} other u) =
     let P : List ℕ → Reply = λ z. record { status = 0; bytes = z } in ap P (one_telling x y is other t u)
 
--- and one to a text
-pub command_reply : {command : Command} {text : List ℕ} {r s : Reply} → CommandReplies command text r → CommandReplies command text s → r ≡ s
-command_reply (refuses {at = p} {code = c} one) (refuses {at = q} {code = d} other) =
+-- a refused text has one refusal
+pub one_refusal : {text : List ℕ} {p q : Place} {c d : ℕ} → RefusedAt text p c → RefusedAt text q d → refusal_reply p c ≡ refusal_reply q d
+one_refusal {p = p} {q = q} {c = c} one other =
     let is = is_refusal other in
     ap (λ x. refusal_reply x c) (is.place p c one) ∙ ap (λ x. refusal_reply q x) (is.number p c one)
+
+-- and one to a text
+pub command_reply : {command : TextCommand} {text : List ℕ} {r s : Reply} → CommandReplies command text r → CommandReplies command text s → r ≡ s
+command_reply (refuses one) (refuses other) = one_refusal one other
 command_reply (refuses refused) (serves accepted replies) = absurd ((is_refusal refused).unaccepted _ accepted)
 command_reply (serves accepted replies) (refuses {at = q} {code = d} refused) = absurd ((is_program accepted).unrefused q d refused)
 command_reply {command} {r = r} (serves {p = p} accepted replies) (serves {p = q} accepted' replies') =
@@ -56,34 +53,22 @@ command_reply {command} {r = r} (serves {p = p} accepted replies) (serves {p = q
     let Q : TextTree → Type 0 = λ x. ProgramReplies x p command r in
     program_reply (subst P ((is_program accepted').only p accepted) (subst Q ((has_one accepted'.has_tree).only accepted.tree accepted.has_tree) replies)) replies'
 
--- a command that has such a reply reads nothing
-pub unread_reads : {command : Command} {r : Reply} → UnreadReplies command r → reads command ≡ false
-unread_reads generates = refl
-unread_reads (loads loaded) = refl
+-- the kind of a command, by which four kinds differ
+abbrev pub kind : Command → ℕ
+kind (OnText c) = 0
+kind (Alone c) = 1
+kind (Trace w b) = 2
+kind (Verify b) = 3
 
--- words that name a command which reads nothing name none that reads its source
-pub other_reads : {words : List (List ℕ)} (command other : Command) → Names words command → Names words other → reads other ≡ false → reads command ≡ true → ⊥
-other_reads {words} command other names names' nothing reading =
-    let P : Command → Type 0 = λ c. reads c ≡ true in
-    let bad : reads other ≡ true = subst P (one_command words command other names names') reading in
-    cc
+-- words don't name commands of two kinds
+pub other_kind : {words : List (List ℕ)} {A : Type 0} (c d : Command) → Names words c → Names words d → ¬ (kind c ≡ kind d) → A
+other_kind {words} c d names names' other = absurd (other (ap kind (one_command words c d names names')))
 
--- a command that reads a source and nothing behind it reads its source, and isn't `verify`
-pub program_reads : (command : Command) → reads_program command ≡ true → reads command ≡ true
-program_reads (Run w b) e = refl
-program_reads Pairs e = refl
-program_reads Plan e = refl
-program_reads Emit e = refl
-program_reads (Gen x n) e = absurd cc
-program_reads (Load x n w) e = absurd cc
-program_reads (Trace w b) e = refl
-program_reads (Verify b) e = absurd cc
+pub same_text : (c d : TextCommand) → ◌≡◌ {A = Command} (OnText c) (OnText d) → c ≡ d
+same_text c d e = cc
 
-pub no_verify : {words : List (List ℕ)} (command : Command) (budget : ℕ) → Names words command → Names words (Verify budget) → reads_program command ≡ true → ⊥
-no_verify {words} command budget names names' reading =
-    let P : Command → Type 0 = λ c. reads_program c ≡ true in
-    let bad : reads_program (Verify budget) ≡ true = subst P (one_command words command (Verify budget) names names') reading in
-    cc
+pub same_alone : (c d : LoneCommand) → ◌≡◌ {A = Command} (Alone c) (Alone d) → c ≡ d
+same_alone c d e = cc
 
 -- the budget that words name
 pub same_budget : {words : List (List ℕ)} (a b : ℕ) → Names words (Verify a) → Names words (Verify b) → a ≡ b
@@ -107,30 +92,39 @@ one_loaded {steps = steps} {h = h} {k = k} a b =
     ap (λ x. loaded_reply x steps) (one_heap same) ∙ ap (λ n. loaded_reply k n) (one_count same)
 
 -- a command that reads nothing has one reply
-pub unread_reply : {command : Command} {r s : Reply} → UnreadReplies command r → UnreadReplies command s → r ≡ s
+pub unread_reply : {command : LoneCommand} {r s : Reply} → UnreadReplies command r → UnreadReplies command s → r ≡ s
 unread_reply generates generates = refl
 unread_reply (loads loaded) (loads loaded') = one_loaded loaded loaded'
 
 pub one_reply : {words : List (List ℕ)} {text : List ℕ} {r s : Reply} → Replies words text r → Replies words text s → r ≡ s
 one_reply (usage fault) (usage fault') = refl
 one_reply (usage fault) (unread names replies) = absurd (fault _ names)
-one_reply (usage fault) (named names reading replies) = absurd (fault _ names)
+one_reply (usage fault) (named names replies) = absurd (fault _ names)
+one_reply (usage fault) (untraced names refused) = absurd (fault _ names)
 one_reply (usage fault) (verifies names replies) = absurd (fault _ names)
 one_reply (unread names replies) (usage fault) = absurd (fault _ names)
 one_reply {words} {r = r} (unread {command = c} names replies) (unread {command = d} names' replies') =
-    let P : Command → Type 0 = λ x. UnreadReplies x r in
-    unread_reply (subst P (one_command words c d names names') replies) replies'
-one_reply (unread {command = c} names replies) (named {command = d} names' reading replies') = absurd (other_reads d c names' names (unread_reads replies) (program_reads d reading))
-one_reply (unread {command = c} names replies) (verifies {budget = b} names' replies') = absurd (other_reads (Verify b) c names' names (unread_reads replies) refl)
-one_reply (named names reading replies) (usage fault) = absurd (fault _ names)
-one_reply (named {command = c} names reading replies) (unread {command = d} names' replies') = absurd (other_reads c d names names' (unread_reads replies') (program_reads c reading))
-one_reply {words} {text} {r = r} (named {command = c} names reading replies) (named {command = d} names' reading' replies') =
-    let P : Command → Type 0 = λ x. CommandReplies x text r in
-    command_reply (subst P (one_command words c d names names') replies) replies'
-one_reply (named {command = c} names reading replies) (verifies {budget = b} names' replies') = absurd (no_verify c b names names' reading)
+    let P : LoneCommand → Type 0 = λ x. UnreadReplies x r in
+    unread_reply (subst P (same_alone c d (one_command words (Alone c) (Alone d) names names')) replies) replies'
+one_reply (unread {command = c} names replies) (named {command = d} names' replies') = other_kind (Alone c) (OnText d) names names' (λ e. omega arith)
+one_reply (unread {command = c} names replies) (untraced {workers = w} {budget = b} names' refused) = other_kind (Alone c) (Trace w b) names names' (λ e. omega arith)
+one_reply (unread {command = c} names replies) (verifies {budget = b} names' replies') = other_kind (Alone c) (Verify b) names names' (λ e. omega arith)
+one_reply (named names replies) (usage fault) = absurd (fault _ names)
+one_reply (named {command = c} names replies) (unread {command = d} names' replies') = other_kind (OnText c) (Alone d) names names' (λ e. omega arith)
+one_reply {words} {text} {r = r} (named {command = c} names replies) (named {command = d} names' replies') =
+    let P : TextCommand → Type 0 = λ x. CommandReplies x text r in
+    command_reply (subst P (same_text c d (one_command words (OnText c) (OnText d) names names')) replies) replies'
+one_reply (named {command = c} names replies) (untraced {workers = w} {budget = b} names' refused) = other_kind (OnText c) (Trace w b) names names' (λ e. omega arith)
+one_reply (named {command = c} names replies) (verifies {budget = b} names' replies') = other_kind (OnText c) (Verify b) names names' (λ e. omega arith)
+one_reply (untraced names refused) (usage fault) = absurd (fault _ names)
+one_reply (untraced {workers = w} {budget = b} names refused) (unread {command = d} names' replies') = other_kind (Trace w b) (Alone d) names names' (λ e. omega arith)
+one_reply (untraced {workers = w} {budget = b} names refused) (named {command = d} names' replies') = other_kind (Trace w b) (OnText d) names names' (λ e. omega arith)
+one_reply (untraced names refused) (untraced names' refused') = one_refusal refused refused'
+one_reply (untraced {workers = w} {budget = b} names refused) (verifies {budget = k} names' replies') = other_kind (Trace w b) (Verify k) names names' (λ e. omega arith)
 one_reply (verifies names replies) (usage fault) = absurd (fault _ names)
-one_reply (verifies {budget = b} names replies) (unread {command = d} names' replies') = absurd (other_reads (Verify b) d names names' (unread_reads replies') refl)
-one_reply (verifies {budget = b} names replies) (named {command = d} names' reading' replies') = absurd (no_verify d b names' names reading')
+one_reply (verifies {budget = b} names replies) (unread {command = d} names' replies') = other_kind (Verify b) (Alone d) names names' (λ e. omega arith)
+one_reply (verifies {budget = b} names replies) (named {command = d} names' replies') = other_kind (Verify b) (OnText d) names names' (λ e. omega arith)
+one_reply (verifies {budget = k} names replies) (untraced {workers = w} {budget = b} names' refused) = other_kind (Verify k) (Trace w b) names names' (λ e. omega arith)
 one_reply {text = text} {r = r} {s = s} (verifies {budget = a} names replies) (verifies {budget = b} names' replies') =
     let P : ℕ → Type 0 = λ k. VerifyReplies k text r in
     verify_one b text r s (subst P (same_budget a b names names') replies) replies'

@@ -5,47 +5,42 @@ use Rattle.ca_tree.specs.Plain.{TextTree}
 use Rattle.ca_program.specs.Plain.{PlainProgram}
 use Rattle.ca_meaning.specs.Output.{Reply, reply_of}
 use Rattle.ca_meaning.specs.Serial.{Ended, done, trapped, spent, serial}
-use Rattle.ca_words.specs.declared.Command.{Command}
-use Rattle.ca_words.specs.declared.Command.TheVariants.{Run, Verify}
-use Rattle.ca_words.specs.Words.{Names, reads}
+use Rattle.ca_words.specs.declared.Command.TheVariants.{OnText, Alone, Trace, Verify}
+use Rattle.ca_words.specs.declared.TextCommand.{TextCommand}
+use Rattle.ca_words.specs.declared.TextCommand.TheVariants.{Run, Tell}
+use Rattle.ca_words.specs.declared.PlanCommand.{PlanCommand}
+use Rattle.ca_words.specs.declared.LoneCommand.{LoneCommand}
+use Rattle.ca_words.specs.Words.{Names}
 use Rattle.ca_app.specs.Verified.{VerifyReplies, FollowsPlan}
 use Rattle.ca_app.specs.Verified as v
 use Rattle.ca_words.proofs.OneCommand.{one_command}
 use Rattle.ca_app.specs.Accepted.{Accepted}
 use Rattle.ca_tree.specs.declared.name.Place.{Place}
 use Rattle.ca_app.specs.Refusals.{is_limit_code, refusal_status, refusal_reply}
-use Rattle.ca_app.specs.Reply.{ProgramReplies, runs, tells, refuses, serves, UnreadReplies, generates, loads, Replies, usage, unread, named, verifies}
-use Rattle.ca_app.specs.Told.{tells_plan, CommandTold}
+use Rattle.ca_app.specs.Reply.{ProgramReplies, runs, tells, refuses, serves, UnreadReplies, generates, loads, Replies, usage, unread, named, untraced, verifies}
+use Rattle.ca_app.specs.Told.{CommandTold}
 use Rattle.ca_app.specs.Ends.{Ends, whole, no_memory, read_fault, write_fault, Unreplied, EndsWith, Complete}
 use Rattle.ca_app.specs.Causes.{IsRefused, CheckRefused, IsCheckRefused, IsChecked, LinesGoWrong, RunEnds, PlanTold, Generates, Loads, IsDone, IsTrapped, IsSpent}
 use Rattle.ca_app.specs.Causes as causes
-use Rattle.ca_app.proofs.OneReply.{tells_is}
-use Rattle.ca_app.proofs.Endings.{tells_reads}
+use Rattle.ca_app.proofs.OneReply.{other_kind, same_text}
 
 -- the words name a command that tells a plan
 abbrev pub TellsPlan : List (List ℕ) → Type 0
-TellsPlan words = (c : Command) × Names words c × (tells_plan c ≡ true)
+TellsPlan words = (c : PlanCommand) × Names words (OnText (Tell c))
 
--- words that name a command which tells no plan
-pub tells_none : {words : List (List ℕ)} {A : Type 0} (command : Command) → Names words command → reads command ≡ false → TellsPlan words → A
-tells_none {words} command names nothing n =
-    let same = one_command words n.0 command n.1 names in
-    let P : Command → Type 0 = λ c. reads c ≡ true in
-    let reading : reads command ≡ true = subst P same (tells_reads n.0 n.2) in
-    absurd cc
+-- words that name a command of another kind
+pub tells_none : {words : List (List ℕ)} {A : Type 0} (command : LoneCommand) → Names words (Alone command) → TellsPlan words → A
+tells_none command names n = other_kind (Alone command) (OnText (Tell n.0)) names n.1 (λ e. omega arith)
 
 -- so it is with `verify`
 pub tells_no_check : {words : List (List ℕ)} {A : Type 0} (budget : ℕ) → Names words (Verify budget) → TellsPlan words → A
-tells_no_check {words} budget names n =
-    let P : Command → Type 0 = λ c. tells_plan c ≡ true in
-    let telling : tells_plan (Verify budget) ≡ true = subst P (one_command words n.0 (Verify budget) n.1 names) n.2 in
-    absurd cc
+tells_no_check budget names n = other_kind (Verify budget) (OnText (Tell n.0)) names n.1 (λ e. omega arith)
 
 -- what was told is told of the words
-pub words_told : {words : List (List ℕ)} {text : List ℕ} {old now : Option (List ℕ)} (command : Command) → Names words command → (tells_plan command ≡ true → CommandTold command text old now) → TellsPlan words → PlanTold words text old now
+pub words_told : {words : List (List ℕ)} {text : List ℕ} {old now : Option (List ℕ)} (command : TextCommand) → Names words (OnText command)
+    → ((told : PlanCommand) → command ≡ Tell told → CommandTold told text old now) → TellsPlan words → PlanTold words text old now
 words_told {words} command names told n =
-    let P : Command → Type 0 = λ c. tells_plan c ≡ true in
-    record { command = command; named = names; told = told (subst P (one_command words n.0 command n.1 names) n.2) }
+    record { command = n.0; named = n.1; told = told n.0 (same_text command (Tell n.0) (one_command words (OnText command) (OnText (Tell n.0)) names n.1)) }
 
 -- A reply that was given whole.
 pub record Given (replies : Reply → Type 0) (status : ℕ) (old now : Option (List ℕ)) : Type 0 where
@@ -81,6 +76,11 @@ kind_of true false e = absurd (omega arith)
 kind_of false true e = absurd (omega arith)
 kind_of false false e = refl
 
+-- a refusal has one of two statuses
+pub not_refused : (limit : Bool) (status : ℕ) → (status ≡ 8 → ⊥) → (status ≡ 1 → ⊥) → status ≡ refusal_status limit → ⊥
+not_refused true status eight one e = eight e
+not_refused false status eight one e = one e
+
 -- how a run ends, by its status
 pub done_end : (p : PlainProgram) (b : ℕ) (end : Ended) → 0 ≡ (reply_of p b end).status → IsDone end
 done_end p b (done prints heap steps) e = (prints, heap, steps, refl)
@@ -103,29 +103,29 @@ refusals_end p b (trapped prints t) = (λ e. omega arith, λ e. omega arith, λ 
 refusals_end p b (spent prints) = (λ e. omega arith, λ e. omega arith, λ e. omega arith)
 
 -- The command is a run, which replies with this status.
-record IsRun (p : PlainProgram) (command : Command) (status : ℕ) : Type 0 where
+record IsRun (p : PlainProgram) (command : TextCommand) (status : ℕ) : Type 0 where
   pub workers : ℕ
   pub budget : ℕ
   pub is : command ≡ Run workers budget
   pub same : status ≡ (reply_of p budget (serial p budget)).status
 
 -- what a command replied to a program, by its status
-no_refusal_at : (tree : TextTree) (p : PlainProgram) (command : Command) (reply : Reply) → ProgramReplies tree p command reply → (1 ≡ reply.status → ⊥) × (8 ≡ reply.status → ⊥) × (9 ≡ reply.status → ⊥)
+no_refusal_at : (tree : TextTree) (p : PlainProgram) (command : TextCommand) (reply : Reply) → ProgramReplies tree p command reply → (1 ≡ reply.status → ⊥) × (8 ≡ reply.status → ⊥) × (9 ≡ reply.status → ⊥)
 no_refusal_at tree p command reply (runs {budget = b}) = (λ e. (refusals_end p b (serial p b)).0 (sym e), λ e. (refusals_end p b (serial p b)).1 (sym e), λ e. (refusals_end p b (serial p b)).2 (sym e))
 no_refusal_at tree p command reply (tells is t) = (λ e. omega arith, λ e. omega arith, λ e. omega arith)
 
-run_at : (tree : TextTree) (p : PlainProgram) (command : Command) (reply : Reply) (status : ℕ) → (status ≡ 0 → ⊥)
+run_at : (tree : TextTree) (p : PlainProgram) (command : TextCommand) (reply : Reply) (status : ℕ) → (status ≡ 0 → ⊥)
     → ProgramReplies tree p command reply → status ≡ reply.status → IsRun p command status
 run_at tree p command reply status zero (runs {workers = w} {budget = b}) e = record { workers = w; budget = b; is = refl; same = e }
 run_at tree p command reply status zero (tells is t) e = absurd (zero e)
 
-done_at : (tree : TextTree) (p : PlainProgram) (command : Command) (reply : Reply)
-    → ProgramReplies tree p command reply → 0 ≡ reply.status → IsRun p command 0 ⊎ (tells_plan command ≡ true)
+done_at : (tree : TextTree) (p : PlainProgram) (command : TextCommand) (reply : Reply)
+    → ProgramReplies tree p command reply → 0 ≡ reply.status → IsRun p command 0 ⊎ ((told : PlanCommand) × (command ≡ Tell told))
 done_at tree p command reply (runs {workers = w} {budget = b}) e = inl (record { workers = w; budget = b; is = refl; same = e })
-done_at tree p command reply (tells is t) e = inr (tells_is t)
+done_at tree p command reply (tells {command = told} is t) e = inr (told, refl)
 
 -- what a command that reads nothing replies has status 0
-unread_at : {command : Command} {reply : Reply} → UnreadReplies command reply → reply.status ≡ 0
+pub unread_at : {command : LoneCommand} {reply : Reply} → UnreadReplies command reply → reply.status ≡ 0
 unread_at generates = refl
 unread_at (loads loaded) = refl
 
@@ -178,14 +178,14 @@ no_other_status status zero one eight nine (that_they_follow is e) same = zero (
 no_other_status status zero one eight nine (that_they_go_wrong is e) same = nine (same ∙ e)
 
 module _ {words : List (List ℕ)} {text : List ℕ} where
-  run_ends : (status : ℕ) (End : Ended → Type 0) {p : PlainProgram} {command : Command}
+  run_ends : (status : ℕ) (End : Ended → Type 0) {p : PlainProgram} {command : TextCommand}
       → ((p : PlainProgram) (b : ℕ) (end : Ended) → status ≡ (reply_of p b end).status → End end)
-      → Names words command → Accepted text p → IsRun p command status → RunEnds words text End
+      → Names words (OnText command) → Accepted text p → IsRun p command status → RunEnds words text End
   run_ends status End {p} ends names accepted run = record {
     workers = run.workers;
     budget = run.budget;
     program = p;
-    named = let P : Command → Type 0 = λ c. Names words c in inl (subst P run.is names);
+    named = let P : TextCommand → Type 0 = λ c. Names words (OnText c) in inl (subst P run.is names);
     accepted = accepted;
     ends = ends p run.budget (serial p run.budget) run.same;
   }
@@ -194,18 +194,22 @@ module _ {words : List (List ℕ)} {text : List ℕ} where
   error_status (verifies {budget = b} names replies) e = inr (refusal_told false (told_check b names replies) e)
   error_status (usage fault) e = absurd (omega arith)
   error_status (unread names replies) e = absurd (omega (arith, unread_at replies))
-  error_status (named {command = command} names reading (refuses {at = at} {code = code} refused)) e =
-      inl (record { command = command; named = names; reading = reading; at = at; code = code; refused = refused; kind = kind_of false (is_limit_code code) e })
-  error_status (named {command = command} {reply = reply} names reading (serves {p = p} accepted replies)) e =
+  error_status (named {command = command} names (refuses {at = at} {code = code} refused)) e =
+      inl (record { command = OnText command; named = names; reading = refl; at = at; code = code; refused = refused; kind = kind_of false (is_limit_code code) e })
+  error_status (untraced {workers = w} {budget = b} {code = code} {at = at} names refused) e =
+      inl (record { command = Trace w b; named = names; reading = refl; at = at; code = code; refused = refused; kind = kind_of false (is_limit_code code) e })
+  error_status (named {command = command} {reply = reply} names (serves {p = p} accepted replies)) e =
       absurd ((no_refusal_at accepted.tree p command reply replies).0 e)
 
   limit_status : {reply : Reply} → Replies words text reply → 8 ≡ reply.status → IsRefused words true text ⊎ IsCheckRefused words true text
   limit_status (verifies {budget = b} names replies) e = inr (refusal_told true (told_check b names replies) e)
   limit_status (usage fault) e = absurd (omega arith)
   limit_status (unread names replies) e = absurd (omega (arith, unread_at replies))
-  limit_status (named {command = command} names reading (refuses {at = at} {code = code} refused)) e =
-      inl (record { command = command; named = names; reading = reading; at = at; code = code; refused = refused; kind = kind_of true (is_limit_code code) e })
-  limit_status (named {command = command} {reply = reply} names reading (serves {p = p} accepted replies)) e =
+  limit_status (named {command = command} names (refuses {at = at} {code = code} refused)) e =
+      inl (record { command = OnText command; named = names; reading = refl; at = at; code = code; refused = refused; kind = kind_of true (is_limit_code code) e })
+  limit_status (untraced {workers = w} {budget = b} {code = code} {at = at} names refused) e =
+      inl (record { command = Trace w b; named = names; reading = refl; at = at; code = code; refused = refused; kind = kind_of true (is_limit_code code) e })
+  limit_status (named {command = command} {reply = reply} names (serves {p = p} accepted replies)) e =
       absurd ((no_refusal_at accepted.tree p command reply replies).1 e)
 
   -- the end of the run is the one with this status
@@ -215,12 +219,9 @@ module _ {words : List (List ℕ)} {text : List ℕ} where
   run_status status End zero one two eight nine ends (usage fault) e = absurd (two e)
   run_status status End zero one two eight nine ends (verifies {budget = b} names replies) e = absurd (no_other_status status zero one eight nine (told_check b names replies) e)
   run_status status End zero one two eight nine ends (unread names replies) e = absurd (zero (e ∙ unread_at replies))
-  run_status status End zero one two eight nine ends (named names reading (refuses {code = code} refused)) e = absurd (at (is_limit_code code) e)
-    where
-      at : (b : Bool) → status ≡ refusal_status b → ⊥
-      at true e = eight e
-      at false e = one e
-  run_status status End zero one two eight nine ends (named {command = command} {reply = reply} names reading (serves {p = p} accepted replies)) e =
+  run_status status End zero one two eight nine ends (named names (refuses {code = code} refused)) e = absurd (not_refused (is_limit_code code) status eight one e)
+  run_status status End zero one two eight nine ends (untraced {code = code} names refused) e = absurd (not_refused (is_limit_code code) status eight one e)
+  run_status status End zero one two eight nine ends (named {command = command} {reply = reply} names (serves {p = p} accepted replies)) e =
       run_ends status End ends names accepted (run_at accepted.tree p command reply status zero replies e)
 
   -- the end of status 0 is that of a run, of a plan that was told, of gen or of load
@@ -231,29 +232,23 @@ module _ {words : List (List ℕ)} {text : List ℕ} where
   done_status told (unread names (generates {seed = x} {size = n})) e bytes = inr (inr (inl (record { seed = x; size = n; named = names; bytes = bytes })))
   done_status told (unread names (loads {seed = x} {size = n} {workers = w} {steps = s} {heap = h} loaded)) e bytes =
       inr (inr (inr (inl (record { seed = x; size = n; workers = w; named = names; heap = h; steps = s; loaded = loaded; bytes = bytes }))))
-  done_status told (named names reading (refuses {code = code} refused)) e bytes = absurd (at (is_limit_code code) e)
-    where
-      at : (b : Bool) → 0 ≡ refusal_status b → ⊥
-      at true e = omega arith
-      at false e = omega arith
-  done_status {old} {now} told (named {command = command} {reply = reply} names reading (serves {p = p} accepted replies)) e bytes =
+  done_status told (named names (refuses {code = code} refused)) e bytes = absurd (not_refused (is_limit_code code) 0 (λ n. omega arith) (λ n. omega arith) e)
+  done_status told (untraced {code = code} names refused) e bytes = absurd (not_refused (is_limit_code code) 0 (λ n. omega arith) (λ n. omega arith) e)
+  done_status {old} {now} told (named {command = command} {reply = reply} names (serves {p = p} accepted replies)) e bytes =
       ends (done_at accepted.tree p command reply replies e)
     where
-      ends : IsRun p command 0 ⊎ (tells_plan command ≡ true) → RunEnds words text IsDone ⊎ (PlanTold words text old now ⊎ (Generates words old now ⊎ (Loads words old now ⊎ IsChecked words text FollowsPlan)))
+      ends : IsRun p command 0 ⊎ ((what : PlanCommand) × (command ≡ Tell what)) → RunEnds words text IsDone ⊎ (PlanTold words text old now ⊎ (Generates words old now ⊎ (Loads words old now ⊎ IsChecked words text FollowsPlan)))
       ends (inl run) = inl (run_ends 0 IsDone done_end names accepted run)
-      ends (inr is) = inr (inl (told (command, names, is)))
+      ends (inr is) = let P : TextCommand → Type 0 = λ c. Names words (OnText c) in inr (inl (told (is.0, subst P is.1 names)))
 
   -- status 9 is that of a schedule that goes wrong
   wrong_status : {reply : Reply} → Replies words text reply → 9 ≡ reply.status → IsChecked words text LinesGoWrong
   wrong_status (verifies {budget = b} names replies) e = wrong_told (told_check b names replies) e
   wrong_status (usage fault) e = absurd (omega arith)
   wrong_status (unread names replies) e = absurd (omega (arith, unread_at replies))
-  wrong_status (named names reading (refuses {code = code} refused)) e = absurd (at (is_limit_code code) e)
-    where
-      at : (b : Bool) → 9 ≡ refusal_status b → ⊥
-      at true e = omega arith
-      at false e = omega arith
-  wrong_status (named {command = command} {reply = reply} names reading (serves {p = p} accepted replies)) e =
+  wrong_status (named names (refuses {code = code} refused)) e = absurd (not_refused (is_limit_code code) 9 (λ n. omega arith) (λ n. omega arith) e)
+  wrong_status (untraced {code = code} names refused) e = absurd (not_refused (is_limit_code code) 9 (λ n. omega arith) (λ n. omega arith) e)
+  wrong_status (named {command = command} {reply = reply} names (serves {p = p} accepted replies)) e =
       absurd ((no_refusal_at accepted.tree p command reply replies).2 e)
 
 module _ {words : List (List ℕ)} {text : List ℕ} {status : ℕ} {old now : Option (List ℕ)} (headline : EndsWith (Replies words text) status old now) where

@@ -8,7 +8,7 @@ use Rattle.ca_meaning.specs.Serial.{Ended, serial}
 use Rattle.ca_meaning.specs.Output.{Reply, output, reply_of}
 use Rattle.ca_parallel.specs.Lists.{PlainMarks}
 use Rattle.ca_words.specs.declared.Command.{Command}
-use Rattle.ca_words.specs.declared.Command.TheVariants.{Run, Trace, Verify}
+use Rattle.ca_words.specs.declared.Command.TheVariants.{OnText, Alone, Trace, Verify}
 use Rattle.ca_words.specs.Words.{Names}
 use Rattle.ca_words.proofs.OneCommand.{one_command}
 use Rattle.ca_plan.specs.Plans.{PlainPlan, PlanOf}
@@ -18,8 +18,7 @@ use Rattle.ca_trace.specs.Texts.{IsLineOf, schedule_text}
 use Rattle.ca_app.specs.Accepted.{Accepted}
 use Rattle.ca_app.specs.Refusals.{RefusedAt, is_limit_code, refusal_status, refusal_reply}
 use Rattle.ca_app.specs.clauses.Reading.{IsRefusalOf}
-use Rattle.ca_app.specs.Reply.{ProgramReplies, runs, tells, refuses, serves, Replies, usage, unread, named, verifies}
-use Rattle.ca_app.specs.Told.{tells_plan}
+use Rattle.ca_app.specs.Reply.{Replies, usage, unread, named, untraced, verifies}
 use Rattle.ca_app.specs.Ends.{Ends, whole, no_memory, read_fault, write_fault, status_after, EndsWithOne, unreplied, replied, Complete, CompleteWithOne}
 use Rattle.ca_app.specs.Causes.{NamesNoTrace, IsRefused, RunEnds, IsDone, IsTrapped, IsSpent}
 use Rattle.ca_app.specs.Traced.{TracedReplies, traces, TraceReplies, records}
@@ -27,9 +26,9 @@ use Rattle.ca_app.specs.Traced as t
 use Rattle.ca_app.specs.Verified.{FollowsPlan}
 use Rattle.ca_app.proofs.Endings.{ends_written}
 use Rattle.ca_app.proofs.OneReading.{is_refusal}
-use Rattle.ca_app.proofs.OneReply.{command_reply, unread_reads, other_reads, tells_is, no_verify}
+use Rattle.ca_app.proofs.OneReply.{one_refusal, kind, other_kind}
 use Rattle.ca_app.proofs.OneVerify.{marks_follow}
-use Rattle.ca_app.proofs.StatusLemmas.{Given, kind_of, done_end, trapped_end, spent_end, refusals_end}
+use Rattle.ca_app.proofs.StatusLemmas.{Given, kind_of, not_refused, done_end, trapped_end, spent_end, refusals_end}
 
 -- ---- the lines of a run
 
@@ -52,47 +51,26 @@ module _ {status : ℕ} {old now : Option (List ℕ)} (budget : ℕ) where
 -- ---- words that name `trace`, and words that don't
 
 -- words that name a command which isn't `trace` don't name it
-pub other_no_trace : {words : List (List ℕ)} (command : Command) → Names words command → ((w b : ℕ) → ¬ (command ≡ Trace w b)) → NamesNoTrace words
-other_no_trace {words} command names other = λ w b trace. other w b (one_command words command (Trace w b) names trace)
+pub other_no_trace : {words : List (List ℕ)} (command : Command) → Names words command → ¬ (kind command ≡ 2) → NamesNoTrace words
+other_no_trace command names other = λ w b trace. other_kind command (Trace w b) names trace other
 
 pub verify_no_trace : {words : List (List ℕ)} (budget : ℕ) → Names words (Verify budget) → NamesNoTrace words
-verify_no_trace {words} budget names = λ w b trace. no_verify (Trace w b) budget trace names refl
-
--- `trace` tells no plan, and is no run that isn't recorded
-no_telling : {words : List (List ℕ)} (workers budget : ℕ) → Names words (Trace workers budget) → (command : Command) → Names words command → tells_plan command ≡ true → ⊥
-no_telling {words} workers budget names command names' telling =
-    let P : Command → Type 0 = λ c. tells_plan c ≡ true in
-    let bad : tells_plan (Trace workers budget) ≡ true = subst P (one_command words command (Trace workers budget) names' names) telling in
-    cc
-
-no_plain_run : {words : List (List ℕ)} (workers budget : ℕ) → Names words (Trace workers budget) → (w b : ℕ) → Names words (Run w b) → ⊥
-no_plain_run {words} workers budget names w b names' = at (one_command words (Run w b) (Trace workers budget) names' names)
-  where
-    at : ◌≡◌ {A = Command} (Run w b) (Trace workers budget) → ⊥
-    at e = cc
+verify_no_trace budget names = other_no_trace (Verify budget) names (λ e. omega arith)
 
 module _ {words : List (List ℕ)} {text : List ℕ} (workers budget : ℕ) (names : Names words (Trace workers budget)) where
   -- the replies that words and text have but for those of `trace` are refusals
-  of_no_program : {command : Command} {reply : Reply} (p : PlainProgram) (accepted : Accepted text p) → Names words command → ProgramReplies accepted.tree p command reply → ⊥
-  of_no_program p accepted names' (runs {workers = w} {budget = b}) = no_plain_run workers budget names w b names'
-  of_no_program {command} p accepted names' (tells is t) = no_telling workers budget names command names' (tells_is t)
-
   pub is_refused_reply : (reply : Reply) → Replies words text reply → (at : Place) × (code : ℕ) × RefusedAt text at code × (reply ≡ refusal_reply at code)
   is_refused_reply reply (usage fault) = absurd (fault _ names)
-  is_refused_reply reply (unread {command = c} names' replies) = absurd (other_reads (Trace workers budget) c names names' (unread_reads replies) refl)
-  is_refused_reply reply (verifies {budget = b} names' replies) = absurd (no_verify (Trace workers budget) b names names' refl)
-  is_refused_reply reply (named names' reading (refuses {at = at} {code = code} refused)) = (at, code, refused, refl)
-  is_refused_reply reply (named {command = c} names' reading (serves {p = p} accepted replies)) = absurd (of_no_program p accepted names' replies)
+  is_refused_reply reply (unread {command = c} names' replies) = other_kind (Trace workers budget) (Alone c) names names' (λ e. omega arith)
+  is_refused_reply reply (verifies {budget = b} names' replies) = other_kind (Trace workers budget) (Verify b) names names' (λ e. omega arith)
+  is_refused_reply reply (named {command = c} names' replies) = other_kind (Trace workers budget) (OnText c) names names' (λ e. omega arith)
+  is_refused_reply reply (untraced {code = code} {at = at} names' refused) = (at, code, refused, refl)
 
   -- ---- by its status
 
   pub run_traced : {reply : Reply} (status : ℕ) (End : Ended → Type 0) → (status ≡ 1 → ⊥) → (status ≡ 8 → ⊥) → ((p : PlainProgram) (b : ℕ) (end : Ended) → status ≡ (reply_of p b end).status → End end)
       → TraceReplies budget text reply → status ≡ reply.status → RunEnds words text End
-  run_traced status End one eight ends (t.refuses {code = code} refused) e = absurd (at (is_limit_code code) e)
-    where
-      at : (b : Bool) → status ≡ refusal_status b → ⊥
-      at true same = eight same
-      at false same = one same
+  run_traced status End one eight ends (t.refuses {code = code} refused) e = absurd (not_refused (is_limit_code code) status eight one e)
   run_traced status End one eight ends (records {p = p} accepted (traces read follows)) e =
       record { workers = workers; budget = budget; program = p; named = inr names; accepted = accepted; ends = ends p budget (serial p budget) e }
 
@@ -103,11 +81,7 @@ module _ {words : List (List ℕ)} {text : List ℕ} (workers budget : ℕ) (nam
   refused_trace false (records {p = p} accepted (traces read follows)) e = absurd ((refusals_end p budget (serial p budget)).0 (sym e))
 
   pub no_wrong_trace : {reply : Reply} → TraceReplies budget text reply → 9 ≡ reply.status → ⊥
-  no_wrong_trace (t.refuses {code = code} refused) e = at (is_limit_code code) e
-    where
-      at : (b : Bool) → 9 ≡ refusal_status b → ⊥
-      at true same = omega arith
-      at false same = omega arith
+  no_wrong_trace (t.refuses {code = code} refused) e = not_refused (is_limit_code code) 9 (λ n. omega arith) (λ n. omega arith) e
   no_wrong_trace (records {p = p} accepted (traces read follows)) e = (refusals_end p budget (serial p budget)).2 (sym e)
 
   module _ {status : ℕ} {old now : Option (List ℕ)} (ends : EndsWithOne (TraceReplies budget text) status old now) where
@@ -164,7 +138,7 @@ module _ {words : List (List ℕ)} {text : List ℕ} (workers budget : ℕ) (nam
       one_of_both : (reply other : Reply) → Replies words text reply → TraceReplies budget text other → reply ≡ other
       one_of_both reply other replies (t.refuses refused) =
           let is = is_refused_reply reply replies in
-          is.3 ∙ command_reply {command = Trace workers budget} {text = text} (refuses is.2) (refuses refused)
+          is.3 ∙ one_refusal is.2 refused
       one_of_both reply other replies (records {p = p} accepted told) =
           let is = is_refused_reply reply replies in absurd ((is_refusal is.2).unaccepted p accepted)
 

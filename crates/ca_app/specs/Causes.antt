@@ -8,7 +8,10 @@ use Rattle.ca_model.specs.declared.value.Trap.{Trap}
 use Rattle.ca_model.specs.declared.value.Value.{Value as Datum}
 use Rattle.ca_meaning.specs.Serial.{Ended, done, trapped, spent, serial}
 use Rattle.ca_words.specs.declared.Command.{Command}
-use Rattle.ca_words.specs.declared.Command.TheVariants.{Run, Gen, Load, Trace, Verify}
+use Rattle.ca_words.specs.declared.Command.TheVariants.{OnText, Alone, Trace, Verify}
+use Rattle.ca_words.specs.declared.TextCommand.TheVariants.{Run, Tell}
+use Rattle.ca_words.specs.declared.PlanCommand.{PlanCommand}
+use Rattle.ca_words.specs.declared.LoneCommand.TheVariants.{Gen, Load}
 use Rattle.ca_words.specs.Words.{Names, reads, reads_program}
 use Rattle.ca_gen.specs.Generated.{generated}
 use Rattle.ca_app.specs.Accepted.{Accepted}
@@ -85,7 +88,7 @@ LinesGoWrong p budget lines = (n : ℕ) × FirstBad (FollowsPlan p budget) lines
 
 -- the words name a run of the source, recorded or not
 abbrev pub NamesRun : List (List ℕ) → ℕ → ℕ → Type 0
-NamesRun words workers budget = Names words (Run workers budget) ⊎ Names words (Trace workers budget)
+NamesRun words workers budget = Names words (OnText (Run workers budget)) ⊎ Names words (Trace workers budget)
 
 -- The words name a run, and the serial run of the text's program ends so.
 pub record RunEnds (words : List (List ℕ)) (text : List ℕ) (end : Ended → Type 0) : Type 0 where
@@ -98,15 +101,15 @@ pub record RunEnds (words : List (List ℕ)) (text : List ℕ) (end : Ended → 
 
 -- The words name `pairs`, `plan` or `emit`, and what was written is what it tells of the plan of the text's program.
 pub record PlanTold (words : List (List ℕ)) (text : List ℕ) (old now : Option (List ℕ)) : Type 0 where
-  pub command : Command
-  pub named : Names words command
+  pub command : PlanCommand
+  pub named : Names words (OnText (Tell command))
   pub told : CommandTold command text old now
 
 -- The words name `gen`, and what was written is the text of its seed and its size.
 pub record Generates (words : List (List ℕ)) (old now : Option (List ℕ)) : Type 0 where
   pub seed : ℕ
   pub size : ℕ
-  pub named : Names words (Gen seed size)
+  pub named : Names words (Alone (Gen seed size))
   pub bytes : now ≡ grown old (generated seed size)
 
 -- The words name `load`, and what was written is the summary of the serial run of the text of its seed and its size.
@@ -114,7 +117,7 @@ pub record Loads (words : List (List ℕ)) (old now : Option (List ℕ)) : Type 
   pub seed : ℕ
   pub size : ℕ
   pub workers : ℕ
-  pub named : Names words (Load seed size workers)
+  pub named : Names words (Alone (Load seed size workers))
   pub heap : List Object
   pub steps : ℕ
   pub loaded : IsLoaded seed size heap steps

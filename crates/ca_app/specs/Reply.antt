@@ -1,5 +1,5 @@
 -- What words and a text reply: a status and the bytes that are written.
-use Rattle.std.specs.Prelude.{ℕ, ◌≡◌, true, List}
+use Rattle.std.specs.Prelude.{ℕ, ◌≡◌, List}
 use Rattle.ca_tree.specs.declared.name.Place.{Place}
 use Rattle.ca_tree.specs.Plain.{TextTree}
 use Rattle.ca_program.specs.Plain.{PlainProgram}
@@ -8,8 +8,13 @@ use Rattle.ca_model.specs.declared.value.Value.{Value as Datum}
 use Rattle.ca_meaning.specs.Output.{Reply, output}
 use Rattle.ca_meaning.specs.Serial.{done, serial}
 use Rattle.ca_words.specs.declared.Command.{Command}
-use Rattle.ca_words.specs.declared.Command.TheVariants.{Run, Gen, Load, Verify}
-use Rattle.ca_words.specs.Words.{Names, reads_program, usage_text}
+use Rattle.ca_words.specs.declared.Command.TheVariants.{OnText, Alone, Trace, Verify}
+use Rattle.ca_words.specs.declared.TextCommand.{TextCommand}
+use Rattle.ca_words.specs.declared.TextCommand.TheVariants.{Run, Tell}
+use Rattle.ca_words.specs.declared.PlanCommand.{PlanCommand}
+use Rattle.ca_words.specs.declared.LoneCommand.{LoneCommand}
+use Rattle.ca_words.specs.declared.LoneCommand.TheVariants.{Gen, Load}
+use Rattle.ca_words.specs.Words.{Names, usage_text}
 use Rattle.ca_gen.specs.Generated.{generated}
 use Rattle.ca_plan.specs.Plans.{PlainPlan, PlanOf}
 use Rattle.ca_app.specs.declared.serving.TheConstants.{DONE, USAGE}
@@ -39,17 +44,17 @@ abbrev pub loaded_reply : List Object → ℕ → Reply
 loaded_reply heap steps = record { status = DONE; bytes = summary_text heap steps }
 
 -- what a command that reads nothing replies
-pub data UnreadReplies : Command → Reply → Type 0 where
+pub data UnreadReplies : LoneCommand → Reply → Type 0 where
   generates : {seed size : ℕ} → UnreadReplies (Gen seed size) (generated_reply seed size)
   loads : {seed size workers steps : ℕ} {heap : List Object} → IsLoaded seed size heap steps → UnreadReplies (Load seed size workers) (loaded_reply heap steps)
 
 -- what a command replies to a program, whose text has this tree
-pub data ProgramReplies (tree : TextTree) (p : PlainProgram) : Command → Reply → Type 0 where
+pub data ProgramReplies (tree : TextTree) (p : PlainProgram) : TextCommand → Reply → Type 0 where
   runs : {workers budget : ℕ} → ProgramReplies tree p (Run workers budget) (output p budget)
-  tells : {plan : PlainPlan} {command : Command} {bytes : List ℕ} → PlanOf p plan → Tells tree p plan command bytes → ProgramReplies tree p command (record { status = DONE; bytes = bytes })
+  tells : {plan : PlainPlan} {command : PlanCommand} {bytes : List ℕ} → PlanOf p plan → Tells tree p plan command bytes → ProgramReplies tree p (Tell command) (record { status = DONE; bytes = bytes })
 
 -- what a command replies to a text: a refusal, or what it replies to the text's program
-pub data CommandReplies (command : Command) (text : List ℕ) : Reply → Type 0 where
+pub data CommandReplies (command : TextCommand) (text : List ℕ) : Reply → Type 0 where
   refuses : {at : Place} {code : ℕ} → RefusedAt text at code → CommandReplies command text (refusal_reply at code)
   serves : {p : PlainProgram} {reply : Reply} → (accepted : Accepted text p) → ProgramReplies accepted.tree p command reply → CommandReplies command text reply
 
@@ -57,6 +62,7 @@ pub data CommandReplies (command : Command) (text : List ℕ) : Reply → Type 0
 -- reads a source and a schedule. Of `trace` there are the refusals alone: `TraceReplies` has all that it replies.
 pub data Replies (words : List (List ℕ)) (text : List ℕ) : Reply → Type 0 where
   usage : ((command : Command) → Names words command → ⊥) → Replies words text usage_reply
-  unread : {command : Command} {reply : Reply} → Names words command → UnreadReplies command reply → Replies words text reply
-  named : {command : Command} {reply : Reply} → Names words command → reads_program command ≡ true → CommandReplies command text reply → Replies words text reply
+  unread : {command : LoneCommand} {reply : Reply} → Names words (Alone command) → UnreadReplies command reply → Replies words text reply
+  named : {command : TextCommand} {reply : Reply} → Names words (OnText command) → CommandReplies command text reply → Replies words text reply
+  untraced : {workers budget code : ℕ} {at : Place} → Names words (Trace workers budget) → RefusedAt text at code → Replies words text (refusal_reply at code)
   verifies : {budget : ℕ} {reply : Reply} → Names words (Verify budget) → VerifyReplies budget text reply → Replies words text reply

@@ -1,36 +1,25 @@
 -- What `pairs`, `plan` and `emit` tell of the plan of a text's program.
-use Rattle.std.specs.Prelude.{ℕ, ◌≡◌, Bool, true, false, List, Option}
+use Rattle.std.specs.Prelude.{ℕ, ◌≡◌, List, Option}
 use Rattle.ca_tree.specs.Plain.{TextTree}
 use Rattle.ca_base.specs.Devices.{grown}
 use Rattle.ca_program.specs.Plain.{PlainProgram}
 use Rattle.ca_parallel.specs.Marks.{SoundMarks}
-use Rattle.ca_words.specs.declared.Command.{Command}
-use Rattle.ca_words.specs.declared.Command.TheVariants.{Run, Pairs, Plan, Emit, Gen, Load, Trace, Verify}
+use Rattle.ca_words.specs.declared.PlanCommand.{PlanCommand}
+use Rattle.ca_words.specs.declared.PlanCommand.TheVariants.{Pairs, Plan, Emit}
 use Rattle.ca_plan.specs.Plans.{PlainPlan, PlanOf, CommuteAsTold}
 use Rattle.ca_plan.specs.Texts.{pairs_text, plan_text}
 use Rattle.ca_emit.specs.Annotations.{annotated_text}
 use Rattle.ca_app.specs.Accepted.{Accepted}
 
 -- what a command tells of a plan: the verdicts, what is marked, or the annotated text
-pub data Tells (tree : TextTree) (p : PlainProgram) (plan : PlainPlan) : Command → List ℕ → Type 0 where
+pub data Tells (tree : TextTree) (p : PlainProgram) (plan : PlainPlan) : PlanCommand → List ℕ → Type 0 where
   verdicts : Tells tree p plan Pairs (pairs_text p plan)
   marks : Tells tree p plan Plan (plan_text p plan)
   annotated : Tells tree p plan Emit (annotated_text p plan tree)
 
--- whether the command tells a plan
-abbrev pub tells_plan : Command → Bool
-tells_plan Pairs = true
-tells_plan Plan = true
-tells_plan Emit = true
-tells_plan (Run workers budget) = false
-tells_plan (Gen seed size) = false
-tells_plan (Load seed size workers) = false
-tells_plan (Trace workers budget) = false
-tells_plan (Verify budget) = false
-
 -- What was written is what the command tells of the plan of the program. What is marked may run in any order, and
 -- operations of which the plan says that they commute do so.
-pub record ProgramTold (tree : TextTree) (p : PlainProgram) (command : Command) (old now : Option (List ℕ)) : Type 0 where
+pub record ProgramTold (tree : TextTree) (p : PlainProgram) (command : PlanCommand) (old now : Option (List ℕ)) : Type 0 where
   pub plan : PlainPlan
   pub is : PlanOf p plan
   pub bytes : List ℕ
@@ -40,7 +29,7 @@ pub record ProgramTold (tree : TextTree) (p : PlainProgram) (command : Command) 
   pub commute : CommuteAsTold p plan
 
 -- the program of the text was told
-pub record CommandTold (command : Command) (text : List ℕ) (old now : Option (List ℕ)) : Type 0 where
+pub record CommandTold (command : PlanCommand) (text : List ℕ) (old now : Option (List ℕ)) : Type 0 where
   pub program : PlainProgram
   pub accepted : Accepted text program
   pub told : ProgramTold accepted.tree program command old now

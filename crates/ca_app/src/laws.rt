@@ -1,12 +1,15 @@
 //! Laws of texts that are accepted, and of replies, and the numbers of codes and statuses.
 
-ghost use Rattle.std.specs.Prelude.{◌≡◌, ◌≤◌, ◌++◌, ℕ, List, length};
+ghost use Rattle.std.specs.Prelude.{◌≡◌, ◌≤◌, ◌++◌, ℕ, List, Option, length};
 ghost use Rattle.ca_program.specs.Plain.{PlainProgram};
 ghost use Rattle.ca_meaning.specs.Output.{Reply};
 ghost use Rattle.ca_meaning.specs.ProgramTyped.{ProgramTyped};
+ghost use Rattle.ca_words.specs.declared.PlanCommand.TheVariants.{Emit};
+ghost use Rattle.ca_emit.specs.Locks.{KeptText, MarkedText};
 ghost use Rattle.ca_app.specs.Accepted.{Accepted};
 ghost use Rattle.ca_app.specs.Numbers.{AreCodesOfTexts, AreStatuses, IsMostOfText};
 ghost use Rattle.ca_app.specs.Reply.{Replies};
+ghost use Rattle.ca_app.specs.Told.{CommandTold};
 ghost use Rattle.ca_app.specs.Traced.{TraceReplies};
 ghost use Rattle.ca_app.specs.Verified.{VerifyReplies, most_with_schedule, yes_reply};
 
@@ -24,6 +27,13 @@ pub fn one_reply()
 /// long.
 pub fn traces_are_verified()
     ensures { (text : List ℕ) (p : PlainProgram) (budget : ℕ) (reply : Reply) → Accepted text p → TraceReplies budget text reply → length (text ++ reply.bytes) ≤ most_with_schedule → VerifyReplies budget (text ++ reply.bytes) yes_reply }
+{}
+
+/// Where `emit` tells the plan of a text, what was written keeps the lock discipline (`locks`), and has a mark for each call and
+/// each loop that runs in parallel, in `main` and in each operation that spawns nothing (`sites`).
+pub fn annotated_texts_keep_the_lock()
+    ensures locks { (text : List ℕ) (old now : Option (List ℕ)) (it : CommandTold Emit text old now) → KeptText it.program it.told.plan it.accepted.tree it.told.bytes }
+    ensures sites { (text : List ℕ) (old now : Option (List ℕ)) (it : CommandTold Emit text old now) → MarkedText it.program it.told.plan it.accepted.tree it.told.bytes }
 {}
 
 /// The codes that the checker doesn't tell, the statuses, and the limit on a text are these numbers: whoever changes one

@@ -17,6 +17,7 @@
 //! `Traced` and `Verified` of `specs/`; what stands in `specs/clauses/` serves clauses within the crate alone.
 #![tactic(auto)]
 
+mod ending;
 mod generating;
 mod laws;
 mod lines;
@@ -32,5 +33,7 @@ mod unread;
 mod verifying;
 
 pub use generating::generate;
-pub use laws::{accepted_programs_are_typed, one_reply, traces_are_verified};
+pub use laws::{
+    accepted_programs_are_typed, annotated_texts_keep_the_lock, one_reply, traces_are_verified,
+};
 pub use serving::top;

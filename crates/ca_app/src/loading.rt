@@ -4,17 +4,18 @@ ghost use Rattle.std.specs.Prelude.{◌≡◌, List, IfOk};
 ghost use Rattle.ca_program.specs.View.{program_view};
 ghost use Rattle.ca_model.specs.declared.value.Value.{Value as Datum};
 ghost use Rattle.ca_meaning.specs.Serial.{done, serial};
-ghost use Rattle.ca_words.specs.declared.Command.TheVariants.{Load};
+ghost use Rattle.ca_words.specs.declared.LoneCommand.TheVariants.{Load};
 ghost use Rattle.ca_words.specs.Words.{IsSize, IsWorkers};
 ghost use Rattle.ca_plan.specs.Checked.{Checked};
 ghost use Rattle.ca_app.specs.Causes.{IsDone};
 ghost use Rattle.ca_app.specs.Ends.{EndsWith, SinkCause};
 ghost use Rattle.ca_app.specs.Reply.{IsLoaded, UnreadReplies};
+ghost use Rattle.ca_app.specs.clauses.Ended.{ended};
 
+use crate::ending::{Status, Unwritten, finish};
 use crate::generating::generate;
 use crate::reading::{NoProgram, read_program};
 use crate::running::run_by_plan;
-use crate::serving::{DONE, NO_MEMORY, PAST_LIMIT, READ_FAULT, USAGE, finish};
 use crate::summary::write_summary;
 use ca_base::{Gate, Memory, Sink, SureSink};
 use ca_model::Heap;
@@ -44,18 +45,18 @@ pub fn load<R: Threads + Wait + Sync, K: Sink, G: Gate>(
     workers: u32,
     sink: &mut K,
     gate: &G,
-) -> u8
+) -> Result<Status, Unwritten>
     requires size { IsSize size }
     requires workers { IsWorkers workers }
-    ensures ends { EndsWith (UnreadReplies (Load seed size workers)) result (K.written sink.old) (K.written sink.new) }
-    ensures write_fault { SinkCause result (K.faults sink.old) (K.faults sink.new) }
-    ensures no_read_fault { result ≡ READ_FAULT → ⊥ }
-    ensures no_usage { result ≡ USAGE → ⊥ }
-    ensures no_limit { result ≡ PAST_LIMIT → ⊥ }
+    ensures ends { EndsWith (UnreadReplies (Load seed size workers)) (ended result) (K.written sink.old) (K.written sink.new) }
+    ensures write_fault { SinkCause (ended result) (K.faults sink.old) (K.faults sink.new) }
 {
     match run_generated(rt, alloc, seed, size, workers, gate) {
-        Ok(loaded) => finish(write_summary(&loaded.heap, loaded.steps, sink), DONE),
-        Err(_) => NO_MEMORY,
+        Ok(loaded) => finish(
+            write_summary(&loaded.heap, loaded.steps, sink),
+            Status::Done,
+        ),
+        Err(_) => Err(Unwritten::Memory),
     }
 }
 

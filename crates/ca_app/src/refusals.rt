@@ -3,9 +3,10 @@
 ghost use Rattle.std.specs.Prelude.{◌≡◌};
 ghost use Rattle.ca_base.specs.Devices.{HasCause, Writes};
 ghost use Rattle.ca_app.specs.Verified.{at_line};
+ghost use Rattle.ca_app.specs.clauses.Ended.{number_of};
 ghost use Rattle.ca_app.specs.Refusals.{is_limit_code, leading_zero, refusal_word, refusal_status, refusal_text};
 
-use crate::serving::{PAST_LIMIT, REFUSED};
+use crate::ending::Status;
 use ca_base::{Failed, Sink};
 use ca_model::line::write_line;
 use ca_resolve::Code;
@@ -65,10 +66,14 @@ impl Refusal {
     }
 
     /// The status with which a call ends that tells this refusal.
-    pub fn status(self) -> u8
-        ensures { result ≡ refusal_status (is_limit_code self.code.0) }
+    pub fn status(self) -> Status
+        ensures { number_of result ≡ refusal_status (is_limit_code self.code.0) }
     {
-        if self.is_limit() { PAST_LIMIT } else { REFUSED }
+        if self.is_limit() {
+            Status::PastLimit
+        } else {
+            Status::Refused
+        }
     }
 
     /// Whether the code is that of a limit.

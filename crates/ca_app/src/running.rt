@@ -11,9 +11,10 @@ ghost use Rattle.ca_serial.specs.Runs.{run_with, prints_of, OnWrite};
 ghost use Rattle.ca_plan.specs.Checked.{Checked};
 ghost use Rattle.ca_plan.specs.Plans.{PlainPlan, PlanOf};
 ghost use Rattle.ca_app.specs.Ends.{Ends, SinkCause};
+ghost use Rattle.ca_app.specs.clauses.Ended.{ended};
 
+use crate::ending::{Status, Unwritten, finish};
 use crate::lines::{write_spent, write_trap};
-use crate::serving::{DONE, NO_MEMORY, READ_FAULT, SPENT, TRAPPED, USAGE, WRITE_FAULT, finish};
 use ca_base::{Gate, Memory, Sink};
 use ca_model::print_heap;
 use ca_parallel::Marks;
@@ -36,20 +37,18 @@ pub fn run_program<R: Threads + Wait + Sync, K: Sink, G: Gate>(
     budget: u32,
     sink: &mut K,
     gate: &G,
-) -> u8
+) -> Result<Status, Unwritten>
     requires checked { Checked (program_view program.now) }
     requires workers { IsWorkers workers }
-    ensures ends { Ends (output (program_view program.now) budget) result (K.written sink.old) (K.written sink.new) }
-    ensures write_fault { SinkCause result (K.faults sink.old) (K.faults sink.new) }
-    ensures no_read_fault { result ≡ READ_FAULT → ⊥ }
-    ensures no_usage { result ≡ USAGE → ⊥ }
+    ensures ends { Ends (output (program_view program.now) budget) (ended result) (K.written sink.old) (K.written sink.new) }
+    ensures write_fault { SinkCause (ended result) (K.faults sink.old) (K.faults sink.new) }
 {
     match run_by_plan(rt, alloc, program, workers, u64::from(budget), sink, gate) {
-        Ok(Outcome::Done { heap, .. }) => finish(print_heap(program, &heap, sink), DONE),
-        Ok(Outcome::Trapped(trap)) => finish(write_trap(trap, sink), TRAPPED),
-        Ok(Outcome::Spent) => finish(write_spent(budget, sink), SPENT),
-        Err(RunError::Write) => WRITE_FAULT,
-        Err(RunError::Memory) => NO_MEMORY,
+        Ok(Outcome::Done { heap, .. }) => finish(print_heap(program, &heap, sink), Status::Done),
+        Ok(Outcome::Trapped(trap)) => finish(write_trap(trap, sink), Status::Trapped),
+        Ok(Outcome::Spent) => finish(write_spent(budget, sink), Status::Spent),
+        Err(RunError::Write) => Err(Unwritten::Write),
+        Err(RunError::Memory) => Err(Unwritten::Memory),
     }
 }
 

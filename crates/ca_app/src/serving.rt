@@ -5,17 +5,21 @@ ghost use Rattle.ca_base.specs.Devices.{Rose, at_end};
 ghost use Rattle.ca_tree.specs.View.{tree_view};
 ghost use Rattle.ca_program.specs.View.{program_view};
 ghost use Rattle.ca_meaning.specs.Output.{Reply};
-ghost use Rattle.ca_words.specs.declared.Command.TheVariants.{Trace, Verify};
-ghost use Rattle.ca_words.specs.Words.{IsInRange, texts, reads_program, Names};
+ghost use Rattle.ca_words.specs.declared.Command.TheVariants.{OnText, Trace, Verify};
+ghost use Rattle.ca_words.specs.declared.TextCommand.TheVariants.{Tell};
+ghost use Rattle.ca_words.specs.declared.PlanCommand.{PlanCommand};
+ghost use Rattle.ca_words.specs.Words.{IsInRange, texts, Names};
 ghost use Rattle.ca_app.specs.Causes.{IsUsageFault, ReadsNothing, ReadsSource, NamesNoTrace, IsRefused, IsCheckRefused, IsChecked, LinesGoWrong, RunEnds, PlanTold, Generates, Loads, IsDone, IsTrapped, IsSpent};
 ghost use Rattle.ca_app.specs.Ends.{Ends, EndsWith, EndsWithOne, SinkCause, Complete, CompleteWithOne, IsReadToEnd, status_after};
 ghost use Rattle.ca_app.specs.Refusals.{refusal_reply};
 ghost use Rattle.ca_app.specs.Reply.{ProgramReplies, CommandReplies, Replies};
-ghost use Rattle.ca_app.specs.Told.{ProgramTold, CommandTold, tells_plan};
+ghost use Rattle.ca_app.specs.Told.{ProgramTold, CommandTold};
 ghost use Rattle.ca_app.specs.Traced.{TraceReplies};
 ghost use Rattle.ca_app.specs.Verified.{FollowsPlan};
+ghost use Rattle.ca_app.specs.clauses.Ended.{ended};
 ghost use Rattle.ca_plan.specs.Checked.{Checked};
 
+use crate::ending::{Status, Unwritten, exit_status, finish};
 use crate::reading::{NoProgram, Reading, read_program};
 use crate::refusals::Refusal;
 use crate::running::run_program;
@@ -24,7 +28,7 @@ use crate::tracing::trace;
 use crate::unread::serve_unread;
 use crate::verifying::verify;
 use ca_base::{Failed, Gate, ReadError, Sink, Source, read_all, write_all};
-use ca_words::{Command, command_of, usage_line};
+use ca_words::{Command, TextCommand, command_of, usage_line};
 use std::alloc::Global;
 use std::sync::Wait;
 use std::thread::Threads;
@@ -120,34 +124,30 @@ pub fn top<R: AllocGlobal + Threads + Wait + Sync, S: Source, K: Sink, G: Gate>(
     ensures schedule_read_to_end { (text : List ℕ) → S.left source.old ≡ Some text → (budget : ℕ) → Names (texts words.now) (Verify budget) → length text ≤ MOST_WITH_SCHEDULE → result ≡ PAST_LIMIT → S.left source.new ≡ at_end (S.left source.old) }
 {
     let Some(command) = command_of(words) else {
-        return finish(write_all(sink, usage_line()), USAGE);
+        return told_usage(write_all(sink, usage_line()));
     };
-    if let Command::Verify { budget } = command {
-        return verify(rt, rt.alloc(), budget, source, sink);
+    match command {
+        Command::OnText(asked) => serve(rt, rt.alloc(), asked, source, sink, gate),
+        Command::Alone(asked) => serve_unread(rt, rt.alloc(), asked, sink, gate),
+        Command::Trace { workers, budget } => {
+            trace(rt, rt.alloc(), workers, budget, source, sink, gate)
+        }
+        Command::Verify { budget } => verify(rt, rt.alloc(), budget, source, sink),
     }
-    if let Command::Trace { workers, budget } = command {
-        return trace(rt, rt.alloc(), workers, budget, source, sink, gate);
-    }
-    if command.reads_program() {
-        return serve(rt, rt.alloc(), command, source, sink, gate);
-    }
-    serve_unread(rt, rt.alloc(), command, sink, gate)
 }
 
 /// Serves a command that reads a source and nothing behind it, on the text that the source has.
 fn serve<R: Threads + Wait + Sync, S: Source, K: Sink, G: Gate>(
     rt: &R,
     alloc: Global,
-    command: Command,
+    command: TextCommand,
     source: &mut S,
     sink: &mut K,
     gate: &G,
 ) -> u8
-    requires reading { reads_program command ≡ true }
-    requires one_reply { (workers budget : ℕ) → ¬ (command ≡ Trace workers budget) }
-    requires in_range { IsInRange command }
+    requires in_range { IsInRange (OnText command) }
     ensures headline { (text : List ℕ) → S.left source.old ≡ Some text → EndsWith (CommandReplies command text) result (K.written sink.old) (K.written sink.new) }
-    ensures told { (text : List ℕ) → S.left source.old ≡ Some text → tells_plan command ≡ true → result ≡ DONE → CommandTold command text (K.written sink.old) (K.written sink.new) }
+    ensures told { (text : List ℕ) → S.left source.old ≡ Some text → (told : PlanCommand) → command ≡ Tell told → result ≡ DONE → CommandTold told text (K.written sink.old) (K.written sink.new) }
     ensures read_fault { result ≡ READ_FAULT → Rose (S.faults source.old) (S.faults source.new) }
     ensures write_fault { SinkCause result (K.faults sink.old) (K.faults sink.new) }
     ensures source_later { S.faults source.old ≤ S.faults source.new }
@@ -156,8 +156,8 @@ fn serve<R: Threads + Wait + Sync, S: Source, K: Sink, G: Gate>(
     ensures no_usage { result ≡ USAGE → ⊥ }
 {
     match read_all(alloc, source, MOST_BYTES) {
-        Ok(text) => serve_text(rt, alloc, command, &text, sink, gate),
-        Err(ReadError::Limit) => refuse(Refusal::OVERLONG, sink),
+        Ok(text) => exit_status(serve_text(rt, alloc, command, &text, sink, gate)),
+        Err(ReadError::Limit) => exit_status(refuse(Refusal::OVERLONG, sink)),
         Err(ReadError::Fault) => READ_FAULT,
         Err(ReadError::Memory) => NO_MEMORY,
     }
@@ -167,25 +167,21 @@ fn serve<R: Threads + Wait + Sync, S: Source, K: Sink, G: Gate>(
 fn serve_text<R: Threads + Wait + Sync, K: Sink, G: Gate>(
     rt: &R,
     alloc: Global,
-    command: Command,
+    command: TextCommand,
     text: &[u8],
     sink: &mut K,
     gate: &G,
-) -> u8
+) -> Result<Status, Unwritten>
     requires short { length text.now ≤ MOST_BYTES }
-    requires reading { reads_program command ≡ true }
-    requires one_reply { (workers budget : ℕ) → ¬ (command ≡ Trace workers budget) }
-    requires in_range { IsInRange command }
-    ensures ends { EndsWith (CommandReplies command text.now) result (K.written sink.old) (K.written sink.new) }
-    ensures told { tells_plan command ≡ true → result ≡ DONE → CommandTold command text.now (K.written sink.old) (K.written sink.new) }
-    ensures write_fault { SinkCause result (K.faults sink.old) (K.faults sink.new) }
-    ensures no_read_fault { result ≡ READ_FAULT → ⊥ }
-    ensures no_usage { result ≡ USAGE → ⊥ }
+    requires in_range { IsInRange (OnText command) }
+    ensures ends { EndsWith (CommandReplies command text.now) (ended result) (K.written sink.old) (K.written sink.new) }
+    ensures told { (told : PlanCommand) → command ≡ Tell told → ended result ≡ DONE → CommandTold told text.now (K.written sink.old) (K.written sink.new) }
+    ensures write_fault { SinkCause (ended result) (K.faults sink.old) (K.faults sink.new) }
 {
     match read_program(alloc, text) {
         Ok(reading) => serve_program(rt, alloc, command, &reading, sink, gate),
         Err(NoProgram::Refused(refusal)) => refuse(refusal, sink),
-        Err(NoProgram::Memory) => NO_MEMORY,
+        Err(NoProgram::Memory) => Err(Unwritten::Memory),
     }
 }
 
@@ -193,49 +189,39 @@ fn serve_text<R: Threads + Wait + Sync, K: Sink, G: Gate>(
 fn serve_program<R: Threads + Wait + Sync, K: Sink, G: Gate>(
     rt: &R,
     alloc: Global,
-    command: Command,
+    command: TextCommand,
     reading: &Reading,
     sink: &mut K,
     gate: &G,
-) -> u8
+) -> Result<Status, Unwritten>
     requires checked { Checked (program_view reading.now.program) }
-    requires reading { reads_program command ≡ true }
-    requires one_reply { (workers budget : ℕ) → ¬ (command ≡ Trace workers budget) }
-    requires in_range { IsInRange command }
-    ensures ends { EndsWith (ProgramReplies (tree_view reading.now.tree) (program_view reading.now.program) command) result (K.written sink.old) (K.written sink.new) }
-    ensures told { tells_plan command ≡ true → result ≡ DONE → ProgramTold (tree_view reading.now.tree) (program_view reading.now.program) command (K.written sink.old) (K.written sink.new) }
-    ensures write_fault { SinkCause result (K.faults sink.old) (K.faults sink.new) }
-    ensures no_read_fault { result ≡ READ_FAULT → ⊥ }
-    ensures no_usage { result ≡ USAGE → ⊥ }
+    requires in_range { IsInRange (OnText command) }
+    ensures ends { EndsWith (ProgramReplies (tree_view reading.now.tree) (program_view reading.now.program) command) (ended result) (K.written sink.old) (K.written sink.new) }
+    ensures told { (told : PlanCommand) → command ≡ Tell told → ended result ≡ DONE → ProgramTold (tree_view reading.now.tree) (program_view reading.now.program) told (K.written sink.old) (K.written sink.new) }
+    ensures write_fault { SinkCause (ended result) (K.faults sink.old) (K.faults sink.new) }
 {
     match command {
-        Command::Run { workers, budget } => {
+        TextCommand::Run { workers, budget } => {
             run_program(rt, alloc, &reading.program, workers, budget, sink, gate)
         }
-        Command::Pairs | Command::Plan | Command::Emit => tell_plan(alloc, command, reading, sink),
-        Command::Gen { .. }
-        | Command::Load { .. }
-        | Command::Trace { .. }
-        | Command::Verify { .. } => unreachable!(),
+        TextCommand::Tell(told) => tell_plan(alloc, told, reading, sink),
     }
 }
 
 /// Tells a refusal.
-pub fn refuse<K: Sink>(refusal: Refusal, sink: &mut K) -> u8
-    ensures ends { Ends (refusal_reply refusal.at refusal.code.0) result (K.written sink.old) (K.written sink.new) }
-    ensures write_fault { SinkCause result (K.faults sink.old) (K.faults sink.new) }
-    ensures no_read_fault { result ≡ READ_FAULT → ⊥ }
-    ensures no_usage { result ≡ USAGE → ⊥ }
+pub fn refuse<K: Sink>(refusal: Refusal, sink: &mut K) -> Result<Status, Unwritten>
+    ensures ends { Ends (refusal_reply refusal.at refusal.code.0) (ended result) (K.written sink.old) (K.written sink.new) }
+    ensures write_fault { SinkCause (ended result) (K.faults sink.old) (K.faults sink.new) }
 {
     finish(refusal.write(sink), refusal.status())
 }
 
-/// The status where the reply was written, and that of a failed write where one failed.
-pub fn finish(written: Result<(), Failed>, status: u8) -> u8
-    ensures { result ≡ status_after written status }
+/// The status of words that name no command, where the usage line was written, and that of a failed write where one failed.
+fn told_usage(written: Result<(), Failed>) -> u8
+    ensures { result ≡ status_after written USAGE }
 {
     match written {
-        Ok(()) => status,
+        Ok(()) => USAGE,
         Err(_) => WRITE_FAULT,
     }
 }

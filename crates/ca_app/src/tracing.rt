@@ -15,13 +15,13 @@ ghost use Rattle.ca_plan.specs.Checked.{Checked};
 ghost use Rattle.ca_app.specs.Ends.{EndsWithOne, SinkCause, IsReadToEnd};
 ghost use Rattle.ca_app.specs.Traced.{TracedReplies, TraceReplies};
 ghost use Rattle.ca_app.specs.Verified.{FollowsPlan};
+ghost use Rattle.ca_app.specs.clauses.Ended.{ended, number_of};
 
+use crate::ending::{Status, Unwritten, exit_status, finish};
 use crate::reading::{NoProgram, read_program};
 use crate::refusals::Refusal;
 use crate::running::marks_of;
-use crate::serving::{
-    DONE, MOST_BYTES, NO_MEMORY, PAST_LIMIT, READ_FAULT, SPENT, TRAPPED, USAGE, finish, refuse,
-};
+use crate::serving::{MOST_BYTES, NO_MEMORY, PAST_LIMIT, READ_FAULT, USAGE, refuse};
 use ca_base::{Failed, Gate, Memory, ReadError, Sink, Source, read_all, write_all};
 use ca_lines::write_lines;
 use ca_program::Program;
@@ -53,8 +53,8 @@ pub fn trace<R: Threads + Wait + Sync, S: Source, K: Sink, G: Gate>(
     ensures no_usage { result ≡ USAGE → ⊥ }
 {
     match read_all(alloc, source, MOST_BYTES) {
-        Ok(text) => trace_text(rt, alloc, workers, budget, &text, sink, gate),
-        Err(ReadError::Limit) => refuse(Refusal::OVERLONG, sink),
+        Ok(text) => exit_status(trace_text(rt, alloc, workers, budget, &text, sink, gate)),
+        Err(ReadError::Limit) => exit_status(refuse(Refusal::OVERLONG, sink)),
         Err(ReadError::Fault) => READ_FAULT,
         Err(ReadError::Memory) => NO_MEMORY,
     }
@@ -69,18 +69,16 @@ fn trace_text<R: Threads + Wait + Sync, K: Sink, G: Gate>(
     text: &[u8],
     sink: &mut K,
     gate: &G,
-) -> u8
+) -> Result<Status, Unwritten>
     requires workers { IsWorkers workers }
     requires short { length text.now ≤ MOST_BYTES }
-    ensures traced { EndsWithOne (TraceReplies budget text.now) result (K.written sink.old) (K.written sink.new) }
-    ensures write_fault { SinkCause result (K.faults sink.old) (K.faults sink.new) }
-    ensures no_read_fault { result ≡ READ_FAULT → ⊥ }
-    ensures no_usage { result ≡ USAGE → ⊥ }
+    ensures traced { EndsWithOne (TraceReplies budget text.now) (ended result) (K.written sink.old) (K.written sink.new) }
+    ensures write_fault { SinkCause (ended result) (K.faults sink.old) (K.faults sink.new) }
 {
     match read_program(alloc, text) {
         Ok(reading) => trace_program(rt, alloc, &reading.program, workers, budget, sink, gate),
         Err(NoProgram::Refused(refusal)) => refuse(refusal, sink),
-        Err(NoProgram::Memory) => NO_MEMORY,
+        Err(NoProgram::Memory) => Err(Unwritten::Memory),
     }
 }
 
@@ -93,19 +91,17 @@ fn trace_program<R: Threads + Wait + Sync, K: Sink, G: Gate>(
     budget: u32,
     sink: &mut K,
     gate: &G,
-) -> u8
+) -> Result<Status, Unwritten>
     requires checked { Checked (program_view program.now) }
     requires workers { IsWorkers workers }
-    ensures traced { EndsWithOne (TracedReplies (program_view program.now) budget) result (K.written sink.old) (K.written sink.new) }
-    ensures write_fault { SinkCause result (K.faults sink.old) (K.faults sink.new) }
-    ensures no_read_fault { result ≡ READ_FAULT → ⊥ }
-    ensures no_usage { result ≡ USAGE → ⊥ }
+    ensures traced { EndsWithOne (TracedReplies (program_view program.now) budget) (ended result) (K.written sink.old) (K.written sink.new) }
+    ensures write_fault { SinkCause (ended result) (K.faults sink.old) (K.faults sink.new) }
 {
     let Ok(lines) = record_by_plan(rt, alloc, program, workers, u64::from(budget), gate) else {
-        return NO_MEMORY;
+        return Err(Unwritten::Memory);
     };
     let Ok(schedule) = write_lines(alloc, program, &lines) else {
-        return NO_MEMORY;
+        return Err(Unwritten::Memory);
     };
     finish(write_schedule(&schedule, sink), status_of(&lines))
 }
@@ -134,14 +130,14 @@ fn record_by_plan<R: Threads + Wait + Sync, G: Gate>(
 }
 
 /// The status of the run that has these lines: the last line but one tells how it ended.
-fn status_of(lines: &[Line]) -> u8
+fn status_of(lines: &[Line]) -> Status
     requires { 2 ≤ length lines.now }
-    ensures { (p : PlainProgram) (budget : ℕ) → FollowsPlan p budget lines.now → result ≡ (output p budget).status }
+    ensures { (p : PlainProgram) (budget : ℕ) → FollowsPlan p budget lines.now → number_of result ≡ (output p budget).status }
 {
     match &lines[lines.len() - 2] {
-        Line::Trapped(_) => TRAPPED,
-        Line::Spent(_) => SPENT,
-        _ => DONE,
+        Line::Trapped(_) => Status::Trapped,
+        Line::Spent(_) => Status::Spent,
+        _ => Status::Done,
     }
 }
 

@@ -12,14 +12,15 @@ ghost use Rattle.ca_lines.specs.Named.{NamesGood};
 ghost use Rattle.ca_plan.specs.Checked.{Checked};
 ghost use Rattle.ca_app.specs.Ends.{EndsWith, SinkCause, IsReadToEnd};
 ghost use Rattle.ca_app.specs.Verified.{LinesReplies, ScheduleReplies, PairReplies, VerifyReplies};
+ghost use Rattle.ca_app.specs.clauses.Ended.{ended};
 ghost use Rattle.ca_app.specs.clauses.Reading.{IsProgramOf, IsCauseFor};
 
+use crate::ending::{Status, Unwritten, exit_status, finish};
 use crate::reading::{NoProgram, Reading, read_program};
 use crate::refusals::Refusal;
 use crate::running::marks_of;
 use crate::serving::{
-    DONE, GOES_WRONG, MOST_BYTES, MOST_WITH_SCHEDULE, NO_MEMORY, PAST_LIMIT, READ_FAULT, USAGE,
-    finish, refuse,
+    MOST_BYTES, MOST_WITH_SCHEDULE, NO_MEMORY, PAST_LIMIT, READ_FAULT, USAGE, refuse,
 };
 use ca_base::{Failed, ReadError, Sink, Source, read_all, write_all};
 use ca_lines::{TraceError, read_lines, split};
@@ -49,8 +50,8 @@ pub fn verify<R: Threads + Wait + Sync, S: Source, K: Sink>(
     ensures no_usage { result ≡ USAGE → ⊥ }
 {
     match read_all(alloc, source, MOST_WITH_SCHEDULE) {
-        Ok(text) => verify_text(rt, alloc, budget, &text, sink),
-        Err(ReadError::Limit) => refuse(Refusal::OVERLONG, sink),
+        Ok(text) => exit_status(verify_text(rt, alloc, budget, &text, sink)),
+        Err(ReadError::Limit) => exit_status(refuse(Refusal::OVERLONG, sink)),
         Err(ReadError::Fault) => READ_FAULT,
         Err(ReadError::Memory) => NO_MEMORY,
     }
@@ -63,12 +64,10 @@ fn verify_text<R: Threads + Wait + Sync, K: Sink>(
     budget: u32,
     text: &[u8],
     sink: &mut K,
-) -> u8
+) -> Result<Status, Unwritten>
     requires short { length text.now ≤ MOST_WITH_SCHEDULE }
-    ensures ends { EndsWith (VerifyReplies budget text.now) result (K.written sink.old) (K.written sink.new) }
-    ensures write_fault { SinkCause result (K.faults sink.old) (K.faults sink.new) }
-    ensures no_read_fault { result ≡ READ_FAULT → ⊥ }
-    ensures no_usage { result ≡ USAGE → ⊥ }
+    ensures ends { EndsWith (VerifyReplies budget text.now) (ended result) (K.written sink.old) (K.written sink.new) }
+    ensures write_fault { SinkCause (ended result) (K.faults sink.old) (K.faults sink.new) }
 {
     match split(text) {
         Some((source, schedule)) => verify_pair(rt, alloc, budget, source, schedule, sink),
@@ -84,18 +83,16 @@ fn verify_pair<R: Threads + Wait + Sync, K: Sink>(
     source: &[u8],
     schedule: &[u8],
     sink: &mut K,
-) -> u8
+) -> Result<Status, Unwritten>
     requires header { HasHeader schedule.now }
     requires short { length schedule.now ≤ MOST_WITH_SCHEDULE }
-    ensures ends { EndsWith (PairReplies budget source.now schedule.now) result (K.written sink.old) (K.written sink.new) }
-    ensures write_fault { SinkCause result (K.faults sink.old) (K.faults sink.new) }
-    ensures no_read_fault { result ≡ READ_FAULT → ⊥ }
-    ensures no_usage { result ≡ USAGE → ⊥ }
+    ensures ends { EndsWith (PairReplies budget source.now schedule.now) (ended result) (K.written sink.old) (K.written sink.new) }
+    ensures write_fault { SinkCause (ended result) (K.faults sink.old) (K.faults sink.new) }
 {
     match read_source(alloc, source) {
         Ok(reading) => verify_schedule(rt, alloc, &reading.program, budget, schedule, sink),
         Err(NoProgram::Refused(refusal)) => refuse(refusal, sink),
-        Err(NoProgram::Memory) => NO_MEMORY,
+        Err(NoProgram::Memory) => Err(Unwritten::Memory),
     }
 }
 
@@ -118,20 +115,18 @@ fn verify_schedule<R: Threads + Wait + Sync, K: Sink>(
     budget: u32,
     schedule: &[u8],
     sink: &mut K,
-) -> u8
+) -> Result<Status, Unwritten>
     requires checked { Checked (program_view program.now) }
     requires names { NamesGood (program_view program.now) }
     requires header { HasHeader schedule.now }
     requires short { length schedule.now ≤ MOST_WITH_SCHEDULE }
-    ensures ends { EndsWith (ScheduleReplies (program_view program.now) budget schedule.now) result (K.written sink.old) (K.written sink.new) }
-    ensures write_fault { SinkCause result (K.faults sink.old) (K.faults sink.new) }
-    ensures no_read_fault { result ≡ READ_FAULT → ⊥ }
-    ensures no_usage { result ≡ USAGE → ⊥ }
+    ensures ends { EndsWith (ScheduleReplies (program_view program.now) budget schedule.now) (ended result) (K.written sink.old) (K.written sink.new) }
+    ensures write_fault { SinkCause (ended result) (K.faults sink.old) (K.faults sink.new) }
 {
     match read_lines(alloc, program, schedule) {
         Ok(lines) => verify_lines(rt, alloc, program, budget, lines, sink),
         Err(TraceError::BadLine(line)) => refuse(Refusal::of_line(line), sink),
-        Err(TraceError::Memory) => NO_MEMORY,
+        Err(TraceError::Memory) => Err(Unwritten::Memory),
     }
 }
 
@@ -143,22 +138,20 @@ fn verify_lines<R: Threads + Wait + Sync, K: Sink>(
     budget: u32,
     lines: Vec<Line>,
     sink: &mut K,
-) -> u8
+) -> Result<Status, Unwritten>
     requires checked { Checked (program_view program.now) }
-    ensures ends { EndsWith (LinesReplies (program_view program.now) budget lines.items) result (K.written sink.old) (K.written sink.new) }
-    ensures write_fault { SinkCause result (K.faults sink.old) (K.faults sink.new) }
-    ensures no_read_fault { result ≡ READ_FAULT → ⊥ }
-    ensures no_usage { result ≡ USAGE → ⊥ }
+    ensures ends { EndsWith (LinesReplies (program_view program.now) budget lines.items) (ended result) (K.written sink.old) (K.written sink.new) }
+    ensures write_fault { SinkCause (ended result) (K.faults sink.old) (K.faults sink.new) }
 {
     let Ok(marks) = marks_of(alloc, program) else {
-        return NO_MEMORY;
+        return Err(Unwritten::Memory);
     };
     let Ok(bad) = check(rt, alloc, program, &marks, u64::from(budget), lines) else {
-        return NO_MEMORY;
+        return Err(Unwritten::Memory);
     };
     match bad {
-        None => finish(write_all(sink, b"yes\n"), DONE),
-        Some(place) => finish(write_no(place, sink), GOES_WRONG),
+        None => finish(write_all(sink, b"yes\n"), Status::Done),
+        Some(place) => finish(write_no(place, sink), Status::GoesWrong),
     }
 }
 

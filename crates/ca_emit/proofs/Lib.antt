@@ -5,5 +5,5 @@ mod Emitted
 pub mod OneText
 mod Equal
 mod Alike
-mod Locked
-mod Marked
+pub mod Locked
+pub mod Marked

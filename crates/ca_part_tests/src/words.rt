@@ -1,6 +1,7 @@
 //! Words that name a command, and words that name none.
 
-use ca_words::{Command, command_of, usage_line};
+use ca_words::{Command, LoneCommand, PlanCommand, TextCommand, command_of, usage_line};
+use std::alloc::{AllocError, Global};
 use std::process::Abort;
 
 /// Words that name a command.
@@ -56,24 +57,36 @@ fn named<R: AllocGlobal + Abort>(rt: &R, line: &str) -> Option<Command> {
     command_of(&words)
 }
 
+/// The words of a command on a source.
+fn words_on_text(alloc: Global, command: TextCommand) -> Result<String, AllocError> {
+    match command {
+        TextCommand::Run { workers, budget } => format!(in alloc; "run {workers} {budget}"),
+        TextCommand::Tell(PlanCommand::Pairs) => String::from_str(alloc, "pairs"),
+        TextCommand::Tell(PlanCommand::Plan) => String::from_str(alloc, "plan"),
+        TextCommand::Tell(PlanCommand::Emit) => String::from_str(alloc, "emit"),
+    }
+}
+
+/// The words of a command without a source.
+fn words_alone(alloc: Global, command: LoneCommand) -> Result<String, AllocError> {
+    match command {
+        LoneCommand::Gen { seed, size } => format!(in alloc; "gen {seed} {size}"),
+        LoneCommand::Load {
+            seed,
+            size,
+            workers,
+        } => format!(in alloc; "load {seed} {size} {workers}"),
+    }
+}
+
 /// The words of a command, or none.
 fn words_of<R: AllocGlobal + Abort>(rt: &R, command: Option<Command>) -> String {
     let alloc = rt.alloc();
     let words = match command {
-        Some(Command::Pairs) => String::from_str(alloc, "pairs"),
-        Some(Command::Plan) => String::from_str(alloc, "plan"),
-        Some(Command::Emit) => String::from_str(alloc, "emit"),
-        Some(Command::Run { workers, budget }) => format!(in alloc; "run {workers} {budget}"),
+        Some(Command::OnText(command)) => words_on_text(alloc, command),
+        Some(Command::Alone(command)) => words_alone(alloc, command),
         Some(Command::Trace { workers, budget }) => format!(in alloc; "trace {workers} {budget}"),
         Some(Command::Verify { budget }) => format!(in alloc; "verify {budget}"),
-        Some(Command::Gen { seed, size }) => format!(in alloc; "gen {seed} {size}"),
-        Some(
-            Command::Load {
-                seed,
-                size,
-                workers,
-            },
-        ) => format!(in alloc; "load {seed} {size} {workers}"),
         None => String::from_str(alloc, ""),
     };
     words.expect(rt, "words")

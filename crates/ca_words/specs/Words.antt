@@ -2,7 +2,10 @@
 use Rattle.std.specs.Prelude.{◌≡◌, Bool, true, false, ℕ, ◌≤◌, List, [], ◌∷◌, map, codes, decimal, String, string_bytes}
 use Rattle.std.specs.declared.alloc.Global.{Global}
 use Rattle.ca_words.specs.declared.Command.{Command}
-use Rattle.ca_words.specs.declared.Command.TheVariants.{Run, Pairs, Plan, Emit, Gen, Load, Trace, Verify}
+use Rattle.ca_words.specs.declared.Command.TheVariants.{OnText, Alone, Trace, Verify}
+use Rattle.ca_words.specs.declared.TextCommand.TheVariants.{Run, Tell}
+use Rattle.ca_words.specs.declared.PlanCommand.TheVariants.{Pairs, Plan, Emit}
+use Rattle.ca_words.specs.declared.LoneCommand.TheVariants.{Gen, Load}
 
 -- each word as its bytes
 abbrev pub texts : List (String Global) → List (List ℕ)
@@ -10,12 +13,12 @@ texts words = map string_bytes words
 
 -- The words of a command. A number is its decimal digits, with no sign and no leading zero.
 abbrev pub words_of : Command → List (List ℕ)
-words_of (Run workers budget) = codes "run" ∷ decimal workers ∷ decimal budget ∷ []
-words_of Pairs = codes "pairs" ∷ []
-words_of Plan = codes "plan" ∷ []
-words_of Emit = codes "emit" ∷ []
-words_of (Gen seed size) = codes "gen" ∷ decimal seed ∷ decimal size ∷ []
-words_of (Load seed size workers) = codes "load" ∷ decimal seed ∷ decimal size ∷ decimal workers ∷ []
+words_of (OnText (Run workers budget)) = codes "run" ∷ decimal workers ∷ decimal budget ∷ []
+words_of (OnText (Tell Pairs)) = codes "pairs" ∷ []
+words_of (OnText (Tell Plan)) = codes "plan" ∷ []
+words_of (OnText (Tell Emit)) = codes "emit" ∷ []
+words_of (Alone (Gen seed size)) = codes "gen" ∷ decimal seed ∷ decimal size ∷ []
+words_of (Alone (Load seed size workers)) = codes "load" ∷ decimal seed ∷ decimal size ∷ decimal workers ∷ []
 words_of (Trace workers budget) = codes "trace" ∷ decimal workers ∷ decimal budget ∷ []
 words_of (Verify budget) = codes "verify" ∷ decimal budget ∷ []
 
@@ -33,12 +36,10 @@ IsSize n = (1 ≤ n) × (n ≤ 20000)
 
 -- each number of the command is in its range
 abbrev pub IsInRange : Command → Type 0
-IsInRange (Run workers budget) = IsWorkers workers × IsBudget budget
-IsInRange Pairs = Unit {0}
-IsInRange Plan = Unit {0}
-IsInRange Emit = Unit {0}
-IsInRange (Gen seed size) = IsSeed seed × IsSize size
-IsInRange (Load seed size workers) = IsSeed seed × IsSize size × IsWorkers workers
+IsInRange (OnText (Run workers budget)) = IsWorkers workers × IsBudget budget
+IsInRange (OnText (Tell what)) = Unit {0}
+IsInRange (Alone (Gen seed size)) = IsSeed seed × IsSize size
+IsInRange (Alone (Load seed size workers)) = IsSeed seed × IsSize size × IsWorkers workers
 IsInRange (Trace workers budget) = IsWorkers workers × IsBudget budget
 IsInRange (Verify budget) = IsBudget budget
 
@@ -49,15 +50,13 @@ pub record Names (words : List (List ℕ)) (command : Command) : Type 0 where
 
 -- whether the command reads its source
 abbrev pub reads : Command → Bool
-reads (Gen seed size) = false
-reads (Load seed size workers) = false
+reads (Alone command) = false
 reads other = true
 
 -- whether it reads a source and nothing behind it
 abbrev pub reads_program : Command → Bool
 reads_program (Verify budget) = false
-reads_program (Gen seed size) = false
-reads_program (Load seed size workers) = false
+reads_program (Alone command) = false
 reads_program other = true
 
 abbrev pub usage_text : List ℕ

@@ -11,29 +11,50 @@
 
 ghost use Rattle.std.specs.Prelude.{◌≡◌, ◌∷◌, [], ℕ, ◌<◌, ◌≤◌, List, IfSome, IfNone, codes, decimal};
 ghost use Rattle.ca_words.specs.declared.Command.{Command};
-ghost use Rattle.ca_words.specs.Words.{texts, Names, reads, reads_program, usage_text};
+ghost use Rattle.ca_words.specs.Words.{texts, Names, reads, usage_text};
 
 /// What the words name.
 #[derive(Clone, Copy, PartialEq, Eq)]
 pub enum Command {
-    /// `run WORKERS BUDGET`: runs the source with 1 to 64 workers, for a budget of 1 to 1,000,000,000 steps.
-    Run { workers: u32, budget: u32 },
-    /// `pairs`: the verdicts on the pairs of each extent.
-    Pairs,
-    /// `plan`: which operations and loops run in parallel.
-    Plan,
-    /// `emit`: the annotated source.
-    Emit,
-    /// `gen SEED SIZE`: writes the text that any seed gives, with 1 to 20,000 nodes.
-    Gen { seed: u64, size: u32 },
-    /// `load SEED SIZE WORKERS`: runs that text with 1 to 64 workers, and tells the sum of what it leaves.
-    Load { seed: u64, size: u32, workers: u32 },
+    /// A command that reads a source and nothing behind it, and has one reply.
+    OnText(TextCommand),
+    /// A command that reads nothing.
+    Alone(LoneCommand),
     /// `trace WORKERS BUDGET`: runs the source as `run` does, and writes the order in which the operations of its parallel
     /// extents ran.
     Trace { workers: u32, budget: u32 },
     /// `verify BUDGET`: tells whether a run of the source, for a budget of 1 to 1,000,000,000 steps, can have the order of the
     /// schedule behind it.
     Verify { budget: u32 },
+}
+
+/// What is asked of a source.
+#[derive(Clone, Copy, PartialEq, Eq)]
+pub enum TextCommand {
+    /// `run WORKERS BUDGET`: runs the source with 1 to 64 workers, for a budget of 1 to 1,000,000,000 steps.
+    Run { workers: u32, budget: u32 },
+    /// What is told of its plan.
+    Tell(PlanCommand),
+}
+
+/// What is told of the plan of a source.
+#[derive(Clone, Copy, PartialEq, Eq)]
+pub enum PlanCommand {
+    /// `pairs`: the verdicts on the pairs of each extent.
+    Pairs,
+    /// `plan`: which operations and loops run in parallel.
+    Plan,
+    /// `emit`: the annotated source.
+    Emit,
+}
+
+/// What is asked without a source.
+#[derive(Clone, Copy, PartialEq, Eq)]
+pub enum LoneCommand {
+    /// `gen SEED SIZE`: writes the text that any seed gives, with 1 to 20,000 nodes.
+    Gen { seed: u64, size: u32 },
+    /// `load SEED SIZE WORKERS`: runs that text with 1 to 64 workers, and tells the sum of what it leaves.
+    Load { seed: u64, size: u32, workers: u32 },
 }
 
 impl Command {
@@ -48,20 +69,8 @@ impl Command {
         ensures { result ≡ reads self }
     {
         match self {
-            Command::Run { .. } | Command::Pairs | Command::Plan | Command::Emit => true,
-            Command::Trace { .. } | Command::Verify { .. } => true,
-            Command::Gen { .. } | Command::Load { .. } => false,
-        }
-    }
-
-    /// Whether it reads a source and nothing behind it.
-    pub fn reads_program(self) -> bool
-        ensures { result ≡ reads_program self }
-    {
-        match self {
-            Command::Run { .. } | Command::Pairs | Command::Plan | Command::Emit => true,
-            Command::Trace { .. } => true,
-            Command::Gen { .. } | Command::Load { .. } | Command::Verify { .. } => false,
+            Command::OnText(_) | Command::Trace { .. } | Command::Verify { .. } => true,
+            Command::Alone(_) => false,
         }
     }
 }
@@ -91,13 +100,13 @@ fn alone(name: &str) -> Option<Command>
     ensures only { IfNone result ((c : Command) → Names (name.now ∷ []) c → ⊥) }
 {
     if name == "pairs" {
-        return Some(Command::Pairs);
+        return Some(Command::OnText(TextCommand::Tell(PlanCommand::Pairs)));
     }
     if name == "plan" {
-        return Some(Command::Plan);
+        return Some(Command::OnText(TextCommand::Tell(PlanCommand::Plan)));
     }
     if name == "emit" {
-        return Some(Command::Emit);
+        return Some(Command::OnText(TextCommand::Tell(PlanCommand::Emit)));
     }
     None
 }
@@ -148,7 +157,7 @@ fn run_of(workers: &str, budget: &str) -> Option<Command>
 {
     let workers = count_of(workers, Command::MOST_WORKERS)?;
     let budget = count_of(budget, Command::MOST_BUDGET)?;
-    Some(Command::Run { workers, budget })
+    Some(Command::OnText(TextCommand::Run { workers, budget }))
 }
 
 // The text that the words behind its name name.
@@ -158,7 +167,7 @@ fn gen_of(seed: &str, size: &str) -> Option<Command>
 {
     let seed = number_of(seed, 0, u64::MAX)?;
     let size = count_of(size, Command::MOST_SIZE)?;
-    Some(Command::Gen { seed, size })
+    Some(Command::Alone(LoneCommand::Gen { seed, size }))
 }
 
 // The run of a text that the words behind its name name.
@@ -169,11 +178,11 @@ fn load_of(seed: &str, size: &str, workers: &str) -> Option<Command>
     let seed = number_of(seed, 0, u64::MAX)?;
     let size = count_of(size, Command::MOST_SIZE)?;
     let workers = count_of(workers, Command::MOST_WORKERS)?;
-    Some(Command::Load {
+    Some(Command::Alone(LoneCommand::Load {
         seed,
         size,
         workers,
-    })
+    }))
 }
 
 // The recorded run that the words behind its name name.

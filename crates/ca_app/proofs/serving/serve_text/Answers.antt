@@ -1,5 +1,6 @@
 use Rattle.std.proofs.Common.{rules}
 use Rattle.ca_app.proofs.AcceptedTyped.{accepted_is_checked}
+use Rattle.ca_app.proofs.Ended.{refused_not_done}
 use Rattle.ca_app.proofs.Endings.{ends_refused, ends_program, told_of_text}
 use Rattle.ca_app.proofs.serving.serve_text.Goals as goal
 
@@ -10,7 +11,10 @@ pub returns-in-Ok-clause-ends : goal.returns-in-Ok-clause-ends
 returns-in-Ok-clause-ends g c = ends_program _ _ c.in-Ok.ensures.program c.in-Ok.ensures.tree c.serve_program.ensures.ends
 
 pub returns-in-Ok-clause-told : goal.returns-in-Ok-clause-told
-returns-in-Ok-clause-told g c = λ tells is. told_of_text _ _ c.in-Ok.ensures.program c.in-Ok.ensures.tree (c.serve_program.ensures.told tells is)
+returns-in-Ok-clause-told g c = λ told is zero. told_of_text _ _ c.in-Ok.ensures.program c.in-Ok.ensures.tree (c.serve_program.ensures.told told is zero)
 
 pub serve_program-requires : goal.serve_program-requires
-serve_program-requires g c = (search rules, (search rules, (accepted_is_checked c.in-Ok.ensures.program.accepted, (c.requires.reading, (c.requires.one_reply, c.requires.in_range)))))
+serve_program-requires g c = (search rules, (search rules, (accepted_is_checked c.in-Ok.ensures.program.accepted, c.requires.in_range)))
+
+pub returns-in-Err-Refused-clause-told : goal.returns-in-Err-Refused-clause-told
+returns-in-Err-Refused-clause-told g c = λ told is zero. absurd (refused_not_done c.in-Err-Refused.refusal.at c.in-Err-Refused.refusal.code.0 (rw c.in-Err-Refused.field-0-is at c.refuse.ensures.ends) zero)

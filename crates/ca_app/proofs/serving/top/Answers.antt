@@ -1,8 +1,9 @@
-use Rattle.std.proofs.Common.{arith, rules, sym, refl, subst, inl, ◌∙◌}
-use Rattle.ca_words.specs.declared.Command.TheVariants.{Trace, Verify}
+use Rattle.std.proofs.Common.{arith, rules, refl, subst, inl}
+use Rattle.ca_words.specs.declared.Command.TheVariants.{OnText, Alone, Trace, Verify}
+use Rattle.ca_words.specs.declared.TextCommand.TheVariants.{Tell}
 use Rattle.ca_words.specs.Words.{Names, texts}
-use Rattle.ca_app.proofs.Endings.{ends_usage, ends_named, ends_written, after_six, after_seven, some_read, none_read, ends_unread, ends_verified, reads_none}
-use Rattle.ca_app.proofs.OneReply.{program_reads, no_verify}
+use Rattle.ca_app.proofs.Endings.{ends_usage, ends_named, ends_written, after_six, after_seven, some_read, none_read, ends_unread, ends_verified}
+use Rattle.ca_app.proofs.OneReply.{other_kind}
 use Rattle.ca_app.proofs.StatusLemmas.{tells_none, words_told, when_0, when_1, when_3, when_4, when_8, when_9, tells_no_check, completely}
 use Rattle.ca_app.proofs.Traces.{other_no_trace, verify_no_trace, same_trace, traced_so, traced_when_0, traced_when_1, traced_when_3, traced_when_4, traced_when_8, traced_when_9, traced_completely, refused_completely}
 use Rattle.ca_app.proofs.serving.top.Goals as goal
@@ -10,20 +11,20 @@ use Rattle.ca_app.proofs.serving.top.Goals as goal
 pub returns-in_default-clause-unread_headline : goal.returns-in_default-clause-unread_headline
 returns-in_default-clause-unread_headline g c = λ nothing text.
     let written = rw c.usage_line.ensures at c.write_all.ensures.bytes in
-    ends_usage c.in_default.ensures.only (ends_written _ _ _ _ _ _ written c.finish.ensures)
+    ends_usage c.in_default.ensures.only (ends_written _ _ _ _ _ _ written c.told_usage.ensures)
 
 pub returns-in_default-clause-headline : goal.returns-in_default-clause-headline
 returns-in_default-clause-headline g c = λ text told other.
     returns-in_default-clause-unread_headline g c (λ command names. absurd (c.in_default.ensures.only command names)) text
 
 pub returns-in_default-clause-unread_fault : goal.returns-in_default-clause-unread_fault
-returns-in_default-clause-unread_fault g c = λ nothing. after_six c.write_all.result 2 _ c.finish.ensures (λ e. omega arith)
+returns-in_default-clause-unread_fault g c = λ nothing. after_six c.write_all.result 2 _ c.told_usage.ensures (λ e. omega arith)
 
 pub returns-in_default-clause-read_to_end : goal.returns-in_default-clause-read_to_end
 returns-in_default-clause-read_to_end g c = λ reads is. absurd (c.in_default.ensures.only reads.0 reads.1)
 
 pub returns-in_default-clause-done : goal.returns-in_default-clause-done
-returns-in_default-clause-done g c = λ text told. when_0 (returns-in_default-clause-headline g c text told (λ w b n. c.in_default.ensures.only _ n)) (λ n is. absurd (c.in_default.ensures.only n.0 n.1))
+returns-in_default-clause-done g c = λ text told. when_0 (returns-in_default-clause-headline g c text told (λ w b n. c.in_default.ensures.only _ n)) (λ n is. absurd (c.in_default.ensures.only (OnText (Tell n.0)) n.1))
 
 pub returns-in_default-clause-refused : goal.returns-in_default-clause-refused
 returns-in_default-clause-refused g c = λ text told. when_1 (returns-in_default-clause-headline g c text told (λ w b n. c.in_default.ensures.only _ n))
@@ -43,8 +44,8 @@ returns-in_default-clause-goes_wrong g c = λ text told. when_9 (returns-in_defa
 pub returns-in_default-clause-complete : goal.returns-in_default-clause-complete
 returns-in_default-clause-complete g c = λ text told unread unwritten.
     completely (returns-in_default-clause-headline g c text told (λ w b n. c.in_default.ensures.only _ n))
-    (after_six c.write_all.result 2 _ c.finish.ensures (λ e. omega arith))
-    (λ seven. unwritten (after_seven _ _ c.write_all.result 2 _ c.write_all.ensures.cause c.finish.ensures (λ e. omega arith) seven))
+    (after_six c.write_all.result 2 _ c.told_usage.ensures (λ e. omega arith))
+    (λ seven. unwritten (after_seven _ _ c.write_all.result 2 _ c.write_all.ensures.cause c.told_usage.ensures (λ e. omega arith) seven))
 
 pub returns-in_default-clause-schedule_read_to_end : goal.returns-in_default-clause-schedule_read_to_end
 returns-in_default-clause-schedule_read_to_end g c = λ text told budget names. absurd (c.in_default.ensures.only _ names)
@@ -160,95 +161,95 @@ pub trace-requires : goal.trace-requires
 trace-requires g c = (search rules, (search rules, (subst (λ x. Names (texts c.args.words.now) x) c.in-Trace.is c.in-Some.ensures.named).in_range.0))
 
 pub serve-requires : goal.serve-requires
-serve-requires g c = (search rules, (search rules, (sym c.reads_program.ensures ∙ c.if-reads_program.true, (c.in_default-command-2.not-Trace, c.in-Some.ensures.named.in_range))))
+serve-requires g c = (search rules, (search rules, (subst (λ x. Names (texts c.args.words.now) x) c.in-OnText.is c.in-Some.ensures.named).in_range))
 
-pub returns-then-reads_program-clause-read_to_end : goal.returns-then-reads_program-clause-read_to_end
-returns-then-reads_program-clause-read_to_end g c = λ reads is. c.serve.ensures.read_to_end is
+pub returns-in-OnText-clause-read_to_end : goal.returns-in-OnText-clause-read_to_end
+returns-in-OnText-clause-read_to_end g c = λ reads is. c.serve.ensures.read_to_end is
 
-pub returns-then-reads_program-clause-unread : goal.returns-then-reads_program-clause-unread
-returns-then-reads_program-clause-unread g c = λ nothing. absurd (some_read _ c.in-Some.ensures.named (program_reads _ (sym c.reads_program.ensures ∙ c.if-reads_program.true)) nothing)
+pub returns-in-OnText-clause-unread : goal.returns-in-OnText-clause-unread
+returns-in-OnText-clause-unread g c = λ nothing. absurd (some_read (OnText c.in-OnText.asked) (subst (λ x. Names (texts c.args.words.now) x) c.in-OnText.is c.in-Some.ensures.named) refl nothing)
 
-pub returns-then-reads_program-clause-unread_headline : goal.returns-then-reads_program-clause-unread_headline
-returns-then-reads_program-clause-unread_headline g c = λ nothing. absurd (some_read _ c.in-Some.ensures.named (program_reads _ (sym c.reads_program.ensures ∙ c.if-reads_program.true)) nothing)
+pub returns-in-OnText-clause-unread_headline : goal.returns-in-OnText-clause-unread_headline
+returns-in-OnText-clause-unread_headline g c = λ nothing. absurd (some_read (OnText c.in-OnText.asked) (subst (λ x. Names (texts c.args.words.now) x) c.in-OnText.is c.in-Some.ensures.named) refl nothing)
 
-pub returns-then-reads_program-clause-unread_fault : goal.returns-then-reads_program-clause-unread_fault
-returns-then-reads_program-clause-unread_fault g c = λ nothing. absurd (some_read _ c.in-Some.ensures.named (program_reads _ (sym c.reads_program.ensures ∙ c.if-reads_program.true)) nothing)
+pub returns-in-OnText-clause-unread_fault : goal.returns-in-OnText-clause-unread_fault
+returns-in-OnText-clause-unread_fault g c = λ nothing. absurd (some_read (OnText c.in-OnText.asked) (subst (λ x. Names (texts c.args.words.now) x) c.in-OnText.is c.in-Some.ensures.named) refl nothing)
 
-pub returns-then-reads_program-clause-headline : goal.returns-then-reads_program-clause-headline
-returns-then-reads_program-clause-headline g c = λ text told other. ends_named _ c.in-Some.ensures.named (sym c.reads_program.ensures ∙ c.if-reads_program.true) (c.serve.ensures.headline text told)
+pub returns-in-OnText-clause-headline : goal.returns-in-OnText-clause-headline
+returns-in-OnText-clause-headline g c = λ text told other. ends_named c.in-OnText.asked (subst (λ x. Names (texts c.args.words.now) x) c.in-OnText.is c.in-Some.ensures.named) (c.serve.ensures.headline text told)
 
-pub returns-then-reads_program-clause-done : goal.returns-then-reads_program-clause-done
-returns-then-reads_program-clause-done g c = λ text told. when_0 (returns-then-reads_program-clause-headline g c text told (other_no_trace _ c.in-Some.ensures.named c.in_default-command-2.not-Trace))
-    (λ n is. words_told _ c.in-Some.ensures.named (λ tells. c.serve.ensures.told text told tells is) n)
+pub returns-in-OnText-clause-done : goal.returns-in-OnText-clause-done
+returns-in-OnText-clause-done g c = λ text told. when_0 (returns-in-OnText-clause-headline g c text told (other_no_trace (OnText c.in-OnText.asked) (subst (λ x. Names (texts c.args.words.now) x) c.in-OnText.is c.in-Some.ensures.named) (λ e. omega arith)))
+    (λ n is. words_told c.in-OnText.asked (subst (λ x. Names (texts c.args.words.now) x) c.in-OnText.is c.in-Some.ensures.named) (λ what same. c.serve.ensures.told text told what same is) n)
 
-pub returns-then-reads_program-clause-refused : goal.returns-then-reads_program-clause-refused
-returns-then-reads_program-clause-refused g c = λ text told. when_1 (returns-then-reads_program-clause-headline g c text told (other_no_trace _ c.in-Some.ensures.named c.in_default-command-2.not-Trace))
+pub returns-in-OnText-clause-refused : goal.returns-in-OnText-clause-refused
+returns-in-OnText-clause-refused g c = λ text told. when_1 (returns-in-OnText-clause-headline g c text told (other_no_trace (OnText c.in-OnText.asked) (subst (λ x. Names (texts c.args.words.now) x) c.in-OnText.is c.in-Some.ensures.named) (λ e. omega arith)))
 
-pub returns-then-reads_program-clause-trapped : goal.returns-then-reads_program-clause-trapped
-returns-then-reads_program-clause-trapped g c = λ text told. when_3 (returns-then-reads_program-clause-headline g c text told (other_no_trace _ c.in-Some.ensures.named c.in_default-command-2.not-Trace))
+pub returns-in-OnText-clause-trapped : goal.returns-in-OnText-clause-trapped
+returns-in-OnText-clause-trapped g c = λ text told. when_3 (returns-in-OnText-clause-headline g c text told (other_no_trace (OnText c.in-OnText.asked) (subst (λ x. Names (texts c.args.words.now) x) c.in-OnText.is c.in-Some.ensures.named) (λ e. omega arith)))
 
-pub returns-then-reads_program-clause-spent : goal.returns-then-reads_program-clause-spent
-returns-then-reads_program-clause-spent g c = λ text told. when_4 (returns-then-reads_program-clause-headline g c text told (other_no_trace _ c.in-Some.ensures.named c.in_default-command-2.not-Trace))
+pub returns-in-OnText-clause-spent : goal.returns-in-OnText-clause-spent
+returns-in-OnText-clause-spent g c = λ text told. when_4 (returns-in-OnText-clause-headline g c text told (other_no_trace (OnText c.in-OnText.asked) (subst (λ x. Names (texts c.args.words.now) x) c.in-OnText.is c.in-Some.ensures.named) (λ e. omega arith)))
 
-pub returns-then-reads_program-clause-limit : goal.returns-then-reads_program-clause-limit
-returns-then-reads_program-clause-limit g c = λ text told. when_8 (returns-then-reads_program-clause-headline g c text told (other_no_trace _ c.in-Some.ensures.named c.in_default-command-2.not-Trace))
+pub returns-in-OnText-clause-limit : goal.returns-in-OnText-clause-limit
+returns-in-OnText-clause-limit g c = λ text told. when_8 (returns-in-OnText-clause-headline g c text told (other_no_trace (OnText c.in-OnText.asked) (subst (λ x. Names (texts c.args.words.now) x) c.in-OnText.is c.in-Some.ensures.named) (λ e. omega arith)))
 
-pub returns-then-reads_program-clause-goes_wrong : goal.returns-then-reads_program-clause-goes_wrong
-returns-then-reads_program-clause-goes_wrong g c = λ text told. when_9 (returns-then-reads_program-clause-headline g c text told (other_no_trace _ c.in-Some.ensures.named c.in_default-command-2.not-Trace))
+pub returns-in-OnText-clause-goes_wrong : goal.returns-in-OnText-clause-goes_wrong
+returns-in-OnText-clause-goes_wrong g c = λ text told. when_9 (returns-in-OnText-clause-headline g c text told (other_no_trace (OnText c.in-OnText.asked) (subst (λ x. Names (texts c.args.words.now) x) c.in-OnText.is c.in-Some.ensures.named) (λ e. omega arith)))
 
-pub returns-then-reads_program-clause-complete : goal.returns-then-reads_program-clause-complete
-returns-then-reads_program-clause-complete g c = λ text told unread unwritten.
-    completely (returns-then-reads_program-clause-headline g c text told (other_no_trace _ c.in-Some.ensures.named c.in_default-command-2.not-Trace)) (λ six. unread (c.serve.ensures.read_fault six)) (λ seven. unwritten (c.serve.ensures.write_fault.rose seven))
+pub returns-in-OnText-clause-complete : goal.returns-in-OnText-clause-complete
+returns-in-OnText-clause-complete g c = λ text told unread unwritten.
+    completely (returns-in-OnText-clause-headline g c text told (other_no_trace (OnText c.in-OnText.asked) (subst (λ x. Names (texts c.args.words.now) x) c.in-OnText.is c.in-Some.ensures.named) (λ e. omega arith))) (λ six. unread (c.serve.ensures.read_fault six)) (λ seven. unwritten (c.serve.ensures.write_fault.rose seven))
 
-pub returns-then-reads_program-clause-traced : goal.returns-then-reads_program-clause-traced
-returns-then-reads_program-clause-traced g c = λ text told workers budget names. absurd (other_no_trace _ c.in-Some.ensures.named c.in_default-command-2.not-Trace workers budget names)
+pub returns-in-OnText-clause-traced : goal.returns-in-OnText-clause-traced
+returns-in-OnText-clause-traced g c = λ text told workers budget names. absurd (other_no_trace (OnText c.in-OnText.asked) (subst (λ x. Names (texts c.args.words.now) x) c.in-OnText.is c.in-Some.ensures.named) (λ e. omega arith) workers budget names)
 
-pub returns-then-reads_program-clause-traced_complete : goal.returns-then-reads_program-clause-traced_complete
-returns-then-reads_program-clause-traced_complete g c = λ text told unread unwritten workers budget names. absurd (other_no_trace _ c.in-Some.ensures.named c.in_default-command-2.not-Trace workers budget names)
+pub returns-in-OnText-clause-traced_complete : goal.returns-in-OnText-clause-traced_complete
+returns-in-OnText-clause-traced_complete g c = λ text told unread unwritten workers budget names. absurd (other_no_trace (OnText c.in-OnText.asked) (subst (λ x. Names (texts c.args.words.now) x) c.in-OnText.is c.in-Some.ensures.named) (λ e. omega arith) workers budget names)
 
 pub serve_unread-requires : goal.serve_unread-requires
-serve_unread-requires g c = (search rules, (search rules, (reads_none _ (sym c.reads_program.ensures ∙ c.if-reads_program.false) c.in_default-command.not-Verify, c.in-Some.ensures.named.in_range)))
+serve_unread-requires g c = (search rules, (search rules, (subst (λ x. Names (texts c.args.words.now) x) c.in-Alone.is c.in-Some.ensures.named).in_range))
 
-pub returns-clause-unread_headline : goal.returns-clause-unread_headline
-returns-clause-unread_headline g c = λ nothing text. ends_unread _ c.in-Some.ensures.named (reads_none _ (sym c.reads_program.ensures ∙ c.if-reads_program.false) c.in_default-command.not-Verify) c.serve_unread.ensures.ends
+pub returns-in-Alone-clause-unread_headline : goal.returns-in-Alone-clause-unread_headline
+returns-in-Alone-clause-unread_headline g c = λ nothing text. ends_unread c.in-Alone.asked (subst (λ x. Names (texts c.args.words.now) x) c.in-Alone.is c.in-Some.ensures.named) c.serve_unread.ensures.ends
 
-pub returns-clause-read_to_end : goal.returns-clause-read_to_end
-returns-clause-read_to_end g c = λ reads is. absurd (none_read _ c.in-Some.ensures.named (reads_none _ (sym c.reads_program.ensures ∙ c.if-reads_program.false) c.in_default-command.not-Verify) reads)
+pub returns-in-Alone-clause-read_to_end : goal.returns-in-Alone-clause-read_to_end
+returns-in-Alone-clause-read_to_end g c = λ reads is. absurd (none_read (Alone c.in-Alone.asked) (subst (λ x. Names (texts c.args.words.now) x) c.in-Alone.is c.in-Some.ensures.named) refl reads)
 
-pub returns-clause-headline : goal.returns-clause-headline
-returns-clause-headline g c = λ text told other. ends_unread _ c.in-Some.ensures.named (reads_none _ (sym c.reads_program.ensures ∙ c.if-reads_program.false) c.in_default-command.not-Verify) c.serve_unread.ensures.ends
+pub returns-in-Alone-clause-headline : goal.returns-in-Alone-clause-headline
+returns-in-Alone-clause-headline g c = λ text told other. ends_unread c.in-Alone.asked (subst (λ x. Names (texts c.args.words.now) x) c.in-Alone.is c.in-Some.ensures.named) c.serve_unread.ensures.ends
 
-pub returns-clause-done : goal.returns-clause-done
-returns-clause-done g c = λ text told. when_0 (returns-clause-headline g c text told (other_no_trace _ c.in-Some.ensures.named c.in_default-command-2.not-Trace))
-    (λ n is. tells_none _ c.in-Some.ensures.named (reads_none _ (sym c.reads_program.ensures ∙ c.if-reads_program.false) c.in_default-command.not-Verify) n)
+pub returns-in-Alone-clause-done : goal.returns-in-Alone-clause-done
+returns-in-Alone-clause-done g c = λ text told. when_0 (returns-in-Alone-clause-headline g c text told (other_no_trace (Alone c.in-Alone.asked) (subst (λ x. Names (texts c.args.words.now) x) c.in-Alone.is c.in-Some.ensures.named) (λ e. omega arith)))
+    (λ n is. tells_none c.in-Alone.asked (subst (λ x. Names (texts c.args.words.now) x) c.in-Alone.is c.in-Some.ensures.named) n)
 
-pub returns-clause-refused : goal.returns-clause-refused
-returns-clause-refused g c = λ text told. when_1 (returns-clause-headline g c text told (other_no_trace _ c.in-Some.ensures.named c.in_default-command-2.not-Trace))
+pub returns-in-Alone-clause-refused : goal.returns-in-Alone-clause-refused
+returns-in-Alone-clause-refused g c = λ text told. when_1 (returns-in-Alone-clause-headline g c text told (other_no_trace (Alone c.in-Alone.asked) (subst (λ x. Names (texts c.args.words.now) x) c.in-Alone.is c.in-Some.ensures.named) (λ e. omega arith)))
 
-pub returns-clause-trapped : goal.returns-clause-trapped
-returns-clause-trapped g c = λ text told. when_3 (returns-clause-headline g c text told (other_no_trace _ c.in-Some.ensures.named c.in_default-command-2.not-Trace))
+pub returns-in-Alone-clause-trapped : goal.returns-in-Alone-clause-trapped
+returns-in-Alone-clause-trapped g c = λ text told. when_3 (returns-in-Alone-clause-headline g c text told (other_no_trace (Alone c.in-Alone.asked) (subst (λ x. Names (texts c.args.words.now) x) c.in-Alone.is c.in-Some.ensures.named) (λ e. omega arith)))
 
-pub returns-clause-spent : goal.returns-clause-spent
-returns-clause-spent g c = λ text told. when_4 (returns-clause-headline g c text told (other_no_trace _ c.in-Some.ensures.named c.in_default-command-2.not-Trace))
+pub returns-in-Alone-clause-spent : goal.returns-in-Alone-clause-spent
+returns-in-Alone-clause-spent g c = λ text told. when_4 (returns-in-Alone-clause-headline g c text told (other_no_trace (Alone c.in-Alone.asked) (subst (λ x. Names (texts c.args.words.now) x) c.in-Alone.is c.in-Some.ensures.named) (λ e. omega arith)))
 
-pub returns-clause-limit : goal.returns-clause-limit
-returns-clause-limit g c = λ text told. when_8 (returns-clause-headline g c text told (other_no_trace _ c.in-Some.ensures.named c.in_default-command-2.not-Trace))
+pub returns-in-Alone-clause-limit : goal.returns-in-Alone-clause-limit
+returns-in-Alone-clause-limit g c = λ text told. when_8 (returns-in-Alone-clause-headline g c text told (other_no_trace (Alone c.in-Alone.asked) (subst (λ x. Names (texts c.args.words.now) x) c.in-Alone.is c.in-Some.ensures.named) (λ e. omega arith)))
 
-pub returns-clause-goes_wrong : goal.returns-clause-goes_wrong
-returns-clause-goes_wrong g c = λ text told. when_9 (returns-clause-headline g c text told (other_no_trace _ c.in-Some.ensures.named c.in_default-command-2.not-Trace))
+pub returns-in-Alone-clause-goes_wrong : goal.returns-in-Alone-clause-goes_wrong
+returns-in-Alone-clause-goes_wrong g c = λ text told. when_9 (returns-in-Alone-clause-headline g c text told (other_no_trace (Alone c.in-Alone.asked) (subst (λ x. Names (texts c.args.words.now) x) c.in-Alone.is c.in-Some.ensures.named) (λ e. omega arith)))
 
-pub returns-clause-complete : goal.returns-clause-complete
-returns-clause-complete g c = λ text told unread unwritten.
-    completely (returns-clause-headline g c text told (other_no_trace _ c.in-Some.ensures.named c.in_default-command-2.not-Trace)) c.serve_unread.ensures.no_read_fault (λ seven. unwritten (c.serve_unread.ensures.write_fault.rose seven))
+pub returns-in-Alone-clause-complete : goal.returns-in-Alone-clause-complete
+returns-in-Alone-clause-complete g c = λ text told unread unwritten.
+    completely (returns-in-Alone-clause-headline g c text told (other_no_trace (Alone c.in-Alone.asked) (subst (λ x. Names (texts c.args.words.now) x) c.in-Alone.is c.in-Some.ensures.named) (λ e. omega arith))) c.serve_unread.ensures.no_read_fault (λ seven. unwritten (c.serve_unread.ensures.write_fault.rose seven))
 
-pub returns-then-reads_program-clause-schedule_read_to_end : goal.returns-then-reads_program-clause-schedule_read_to_end
-returns-then-reads_program-clause-schedule_read_to_end g c = λ text told budget names. absurd (no_verify _ budget c.in-Some.ensures.named names (sym c.reads_program.ensures ∙ c.if-reads_program.true))
+pub returns-in-OnText-clause-schedule_read_to_end : goal.returns-in-OnText-clause-schedule_read_to_end
+returns-in-OnText-clause-schedule_read_to_end g c = λ text told budget names. other_kind (OnText c.in-OnText.asked) (Verify budget) (subst (λ x. Names (texts c.args.words.now) x) c.in-OnText.is c.in-Some.ensures.named) names (λ e. omega arith)
 
-pub returns-clause-schedule_read_to_end : goal.returns-clause-schedule_read_to_end
-returns-clause-schedule_read_to_end g c = λ text told budget names. absurd (none_read _ c.in-Some.ensures.named (reads_none _ (sym c.reads_program.ensures ∙ c.if-reads_program.false) c.in_default-command.not-Verify) (Verify budget, names, refl))
+pub returns-in-Alone-clause-schedule_read_to_end : goal.returns-in-Alone-clause-schedule_read_to_end
+returns-in-Alone-clause-schedule_read_to_end g c = λ text told budget names. absurd (none_read (Alone c.in-Alone.asked) (subst (λ x. Names (texts c.args.words.now) x) c.in-Alone.is c.in-Some.ensures.named) refl (Verify budget, names, refl))
 
-pub returns-clause-traced : goal.returns-clause-traced
-returns-clause-traced g c = λ text told workers budget names. absurd (other_no_trace _ c.in-Some.ensures.named c.in_default-command-2.not-Trace workers budget names)
+pub returns-in-Alone-clause-traced : goal.returns-in-Alone-clause-traced
+returns-in-Alone-clause-traced g c = λ text told workers budget names. absurd (other_no_trace (Alone c.in-Alone.asked) (subst (λ x. Names (texts c.args.words.now) x) c.in-Alone.is c.in-Some.ensures.named) (λ e. omega arith) workers budget names)
 
-pub returns-clause-traced_complete : goal.returns-clause-traced_complete
-returns-clause-traced_complete g c = λ text told unread unwritten workers budget names. absurd (other_no_trace _ c.in-Some.ensures.named c.in_default-command-2.not-Trace workers budget names)
+pub returns-in-Alone-clause-traced_complete : goal.returns-in-Alone-clause-traced_complete
+returns-in-Alone-clause-traced_complete g c = λ text told unread unwritten workers budget names. absurd (other_no_trace (Alone c.in-Alone.asked) (subst (λ x. Names (texts c.args.words.now) x) c.in-Alone.is c.in-Some.ensures.named) (λ e. omega arith) workers budget names)
