@@ -3,7 +3,7 @@
 // above to below, knows the time that was measured. A step has these phases, each a loop over objects that may be taken in
 // any order: project (the time of each ray through the grid as it is thought), residuals (measured less projected), forget,
 // correct (each ray gives its residual to the squares on its way), update, smooth (with the four neighbours), settle, errors.
-// The measured times come from a true slowness that each square has too.
+// The measured times come from a true slowness that each square has too; they are taken before the first step (measure).
 class Band {
 public:
   long squares, rays;
@@ -89,8 +89,8 @@ public:
     to = t;
     grid = g;
     band = b;
-    seen = g->measured(d, f, t);
   }
+  void measure() { seen = grid->measured(down, from, to); }
   void project() { time = grid->thought(down, from, to); }
   void compare() { rest = seen - time; }
   void correct() { for (long k = 0; k < 64; k++) grid->at[grid->place(down, from, to, k)]->add(rest / 32); }
@@ -115,6 +115,7 @@ public:
     }
   }
   long height(long i, long of) { return (2 * i + 1) * 1024 / of; }
+  void measure() { for (long i = 0; i < count; i++) at[i]->measure(); }
   void project() { for (long i = 0; i < count; i++) at[i]->project(); }
   void residuals() { for (long i = 0; i < count; i++) at[i]->compare(); }
   void correct() { for (long i = 0; i < count; i++) at[i]->correct(); }
@@ -144,6 +145,7 @@ public:
 int main() {
   Survey *s = new Survey();
   s->begin(24, 24);
+  s->measure();
   for (long i = 0; i < 4; i++) {
     s->step();
     print(s->error());
