@@ -127,21 +127,6 @@ fn add_one_beside(
     beside.alter(heap, number, &sums)
 }
 
-/// Adds all sums of all copies to the objects as they are now, beside the heap.
-pub(crate) fn add_copies_beside(
-    heap: &Heap,
-    beside: &mut Beside,
-    copies: &[Changed],
-    written: &[FieldId],
-) -> Result<(), AllocError>
-    ensures { IfOk result (λ _. present heap.now beside.new ≡ added written.now copies.now (present heap.now beside.old)) }
-{
-    'copies: for copy in copies {
-        add_one_beside(heap, beside, copy, written)?;
-    }
-    Ok(())
-}
-
 /// Takes a copy for its object, which has not changed before: with the object's numbers added, it is the object with the
 /// copy's sums. So nothing is copied.
 fn take_over(

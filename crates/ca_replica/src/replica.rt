@@ -10,7 +10,7 @@ ghost use Rattle.ca_replica.specs.Adding.{added, Once, AreWhole};
 ghost use Rattle.ca_replica.specs.Applied.{Applied, IsRound, sums};
 ghost use Rattle.ca_replica.specs.Zeroed.{zeroed_heap};
 
-use crate::adding::{add_copies, add_copies_beside, take_copies};
+use crate::adding::{add_copies, take_copies};
 use crate::zeroing::zero;
 use ca_base::Memory;
 use ca_beside::Beside;
@@ -137,20 +137,8 @@ impl Replica {
         add_copies(heap, self.copies.items(), extent.written())
     }
 
-    /// Adds each sum to the objects as they are now, beside the heap.
-    pub fn add_beside(
-        &self,
-        extent: &Extent,
-        heap: &Heap,
-        beside: &mut Beside,
-    ) -> Result<(), AllocError>
-        ensures { IfOk result (λ _. present heap.now beside.new ≡ added extent.now.written self.now.copies (present heap.now beside.old)) }
-    {
-        add_copies_beside(heap, beside, self.copies.items(), extent.written())
-    }
-
-    /// The same, and the sums are handed over: a copy takes the place of its object where that has not changed before, and
-    /// the memory of the others is kept beside the heap.
+    /// Adds each sum to the objects as they are now, beside the heap. The sums are handed over: a copy takes the place of its
+    /// object where that has not changed before, and the memory of the others is kept beside the heap.
     pub fn move_beside(
         self,
         extent: &Extent,

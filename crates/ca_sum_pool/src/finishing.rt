@@ -43,8 +43,9 @@ fn run_alone<'a>(
         rest.push(task)?;
         return Ok(false);
     }
+    let room = Vec::new(alloc);
     match run_task(
-        desk, alloc, program, extent, frozen, replica, left, &task.op, task.after,
+        desk, alloc, program, extent, frozen, replica, left, &task.op, task.after, room,
     ) {
         Ok(
             Went::Ran {

@@ -163,8 +163,8 @@ impl<N: Round, K: Sums> Part<N, K> {
         }
     }
 
-    /// Takes a task, or a call of the list, and runs it. `false` where it found none, or where it is the last one of this
-    /// round.
+    /// Takes a task, or a call of the list, and runs it; there is room for what its section lists. `false` where it found none,
+    /// or where it is the last one of this round.
     fn step<'a, G: Gate>(
         &mut self,
         desk: &mut Desk<'a>,
@@ -173,6 +173,7 @@ impl<N: Round, K: Sums> Part<N, K> {
         frozen: &Heap,
         gate: &G,
         listed: &[Op],
+        room: &mut Vec<Op>,
     ) -> bool
         requires picked { K.extent ≡ extent.now }
         requires listed { K.listed ≡ listed.now }
@@ -212,6 +213,7 @@ impl<N: Round, K: Sums> Part<N, K> {
             &mut self.replica,
             &mut self.share,
             left,
+            room,
             next,
         );
         match turn {
@@ -249,8 +251,9 @@ impl<N: Round, K: Sums> Part<N, K> {
         requires setting { N.setting ≡ setting_of (program_view program.now) extent.now frozen.now }
         ensures { self.new ≡ self.old }
     {
+        let mut room = Vec::new(self.alloc);
         for _ in 0..self.quota {
-            if !self.step(desk, program, extent, frozen, gate, listed) {
+            if !self.step(desk, program, extent, frozen, gate, listed, &mut room) {
                 return;
             }
         }

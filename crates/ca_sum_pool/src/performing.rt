@@ -1,19 +1,22 @@
 //! One task, run on a replica.
 
-ghost use Rattle.std.specs.Prelude.{◌≡◌, ◌≢◌, [], ℕ, List, IfOk};
+ghost use Rattle.std.specs.Prelude.{◌≡◌, ◌≢◌, ◌+◌, [], true, map, ℕ, List, IfOk};
 ghost use Rattle.ca_program.specs.View.{program_view};
 ghost use Rattle.ca_parallel.specs.Extents.{Extent};
 ghost use Rattle.ca_parallel.specs.declared.op.Op.{Op};
+ghost use Rattle.ca_meaning.specs.Multisets.{weight};
 ghost use Rattle.ca_order_laws.specs.Order.{StandsFor};
+ghost use Rattle.ca_logs.specs.declared.log.Task.{Task};
 ghost use Rattle.ca_logs.specs.Entries.{task_after};
 ghost use Rattle.ca_deques.specs.Settings.{Fits, AllFit};
+ghost use Rattle.ca_deques.specs.Thieves.{owner_key};
 ghost use Rattle.ca_replica.specs.Applied.{IsRound, sums};
 ghost use Rattle.ca_sum_pool.specs.Parts.{Keeps, Performed, Tells, WentSo, next_task, no_extent, setting_of};
 ghost use Rattle.ca_sum_pool.specs.Rounded.{last_clock};
 
 use crate::next::Next;
 use ca_base::{Gate, Memory};
-use ca_deques::taking::{keep, push_ops};
+use ca_deques::taking::{keep, open_some};
 use ca_deques::{Owner, Round};
 use ca_extent::Extent;
 use ca_logs::{Stop, Task};
@@ -24,6 +27,7 @@ use ca_replica::Replica;
 use ca_sections::{Desk, SectionAnswer};
 use std::alloc::Global;
 use std::marker::Brand;
+use std::mem;
 
 /// The extent of a round, the list of calls that it begins with, and the steps that are left. Whoever begins one picks them.
 pub trait Sums {
@@ -62,7 +66,7 @@ pub enum Went {
     Stopped(Stop),
 }
 
-/// Runs a call that waited behind a clock, on the replica.
+/// Runs a call that waited behind a clock, on the replica. What its section lists goes into a list whose memory is given.
 #[inline(always)]
 pub fn run_task<'a>(
     desk: &mut Desk<'a>,
@@ -74,15 +78,17 @@ pub fn run_task<'a>(
     left: u64,
     op: &Op,
     after: u64,
+    room: Vec<Op>,
 ) -> Result<Went, Memory>
     requires round { IsRound (program_view program.now) extent.now frozen.now }
     requires stands { StandsFor (program_view program.now) extent.now frozen.now (sums extent.now.written frozen.now replica.old.copies) }
     requires fits { Fits (setting_of (program_view program.now) extent.now frozen.now) (task_after after op.now) }
     requires clock { after ≢ last_clock }
+    requires room { room.items ≡ [] }
     ensures { IfOk result (WentSo (program_view program.now) extent.now frozen.now left (task_after after op.now) replica.old.copies replica.new.copies) }
 {
     let clock = after + 1;
-    let mut ops = Vec::new(alloc);
+    let mut ops = room;
     match replica.apply(desk, alloc, program, extent, frozen, op, left, &mut ops) {
         Ok(SectionAnswer::Done { steps }) => Ok(Went::Ran { ops, clock, steps }),
         Ok(SectionAnswer::Trapped(trap)) => Ok(Went::Stopped(Stop::Trapped(trap))),
@@ -105,7 +111,7 @@ pub enum Turn {
 }
 
 /// Runs a task, or a call of the list, on a worker's replica. Tasks that its section lists are pushed; one that is kept goes
-/// into the share.
+/// into the share. The memory of a list of operations serves the next one.
 pub fn perform<'a, 'f, N: Round, G: Gate>(
     alloc: Global,
     desk: &mut Desk<'a>,
@@ -118,6 +124,7 @@ pub fn perform<'a, 'f, N: Round, G: Gate>(
     replica: &mut Replica,
     share: &mut Vec<Task>,
     left: u64,
+    room: &mut Vec<Op>,
     next: Next<'f>,
 ) -> Turn
     requires round { IsRound (program_view program.now) extent.now frozen.now }
@@ -133,11 +140,13 @@ pub fn perform<'a, 'f, N: Round, G: Gate>(
     }
     let op = next.call();
     gate.inside(worker, op.receiver);
+    let mut list = mem::replace(room, Vec::new(alloc));
+    list.clear();
     match run_task(
-        desk, alloc, program, extent, frozen, replica, left, op, after,
+        desk, alloc, program, extent, frozen, replica, left, op, after, list,
     ) {
         Ok(Went::Ran { ops, clock, steps }) => {
-            if push_ops(owner, share, ops, clock) {
+            if push_ops(owner, share, ops, clock, room) {
                 Turn::Ran { steps }
             } else {
                 Turn::Short
@@ -146,6 +155,57 @@ pub fn perform<'a, 'f, N: Round, G: Gate>(
         Ok(Went::Stopped(why)) => stopped(next, why),
         Err(_) => Turn::Short,
     }
+}
+
+/// Adds a task for each operation, which runs behind a clock, to the share, and opens some of it; the memory of their list is
+/// room for others. `false` is out of memory.
+#[inline(always)]
+fn push_ops<N: Round>(
+    owner: &mut Owner<N>,
+    share: &mut Vec<Task>,
+    ops: Vec<Op>,
+    clock: u64,
+    room: &mut Vec<Op>,
+) -> bool
+    requires share { AllFit N.setting share.old.items }
+    requires fits { AllFit N.setting (map (task_after clock) ops.items) }
+    ensures same { owner_key owner.new ≡ owner_key owner.old }
+    ensures taken { owner.new.hand.taken ≡ owner.old.hand.taken }
+    ensures share { AllFit N.setting share.new.items }
+    ensures pushed { result ≡ true → (h : Task → ℕ) → weight h owner.new.hand.pushed + weight h share.new.items ≡ weight h owner.old.hand.pushed + weight h share.old.items + weight h (map (task_after clock) ops.items) }
+{
+    if ops.len() == 0 {
+        *room = ops;
+        return true;
+    }
+    if !keep_ops::<N>(share, ops, clock, room) {
+        return false;
+    }
+    open_some(owner, share, &[]);
+    true
+}
+
+/// Adds a task for each operation, which runs behind a clock, to the share; the memory of their list is room for others. `false`
+/// is out of memory.
+fn keep_ops<N: Round>(
+    share: &mut Vec<Task>,
+    mut ops: Vec<Op>,
+    clock: u64,
+    room: &mut Vec<Op>,
+) -> bool
+    requires share { AllFit N.setting share.old.items }
+    requires fits { AllFit N.setting (map (task_after clock) ops.items) }
+    ensures share { AllFit N.setting share.new.items }
+    ensures added { result ≡ true → (h : Task → ℕ) → weight h share.new.items ≡ weight h share.old.items + weight h (map (task_after clock) ops.items) }
+{
+    while let Some(op) = ops.pop() {
+        if keep(share, Task { op, after: clock }) {
+            continue;
+        }
+        return false;
+    }
+    *room = ops;
+    true
 }
 
 /// Keeps a task in the share.

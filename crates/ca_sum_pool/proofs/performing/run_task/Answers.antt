@@ -13,7 +13,7 @@ apply-requires-clause-typed c = c.requires.fits.typed
 pub returns-in-Ok-Done : goal.returns-in-Ok-Done
 returns-in-Ok-Done c = let e = c.in-Ok-Done.ensures in (
   omega arith,
-  ran_one (program_view c.args.program.now) c.args.extent.now c.args.frozen.now c.requires.round (task_after c.args.after c.args.op.now) c.args.left c.args.replica.now.copies c.apply.new.self.copies _ c.apply.new.out.items c.in-Ok-Done.field-0 c.requires.stands c.requires.fits e.once e.answer c.in-Ok-Done.steps c.in-Ok-Done.field-0-is c.new-ops.ensures.items e.ran,
+  ran_one (program_view c.args.program.now) c.args.extent.now c.args.frozen.now c.requires.round (task_after c.args.after c.args.op.now) c.args.left c.args.replica.now.copies c.apply.new.self.copies _ c.apply.new.out.items c.in-Ok-Done.field-0 c.requires.stands c.requires.fits e.once e.answer c.in-Ok-Done.steps c.in-Ok-Done.field-0-is c.requires.room e.ran,
 )
 
 pub returns-in-Ok-Trapped : goal.returns-in-Ok-Trapped
