@@ -13,7 +13,7 @@ use Rattle.ca_program.specs.declared.program.FieldId.{FieldId}
 use Rattle.ca_program.specs.declared.program.FirstPart.TheVariants.{Declares}
 use Rattle.ca_program.specs.declared.program.FunctionId.{FunctionId}
 use Rattle.ca_program.specs.declared.program.OpId.{OpId}
-use Rattle.ca_program.specs.Plain.{PlainProgram, PlainClass, number, truth, Statement, put_local, for_loop, no_statements}
+use Rattle.ca_program.specs.Plain.{PlainProgram, PlainClass, number, truth, Statement, put_local, for_loop, no_statements, statement_and, block, while_loop}
 use Rattle.ca_model.specs.declared.value.Value.{Value as Datum}
 use Rattle.ca_model.specs.declared.value.Value.TheVariants.{Long, Bool as Truth, Null, Ref}
 use Rattle.ca_model.specs.declared.value.Slot.TheVariants.{One, Many}
@@ -309,12 +309,24 @@ heeding_is_due = refl
 heeded_on_null : does_last (Heed op 3) 0 ≡ Trapped (trap_at 9 NullPointer) world
 heeded_on_null = refl
 
--- a call that is handed on is noted, with its arguments and the steps before its own, and its body heeds no marks
+-- a call that is handed on is noted, with its arguments and the steps before its own, and where its run is done it is passed over
 abbrev noted_here : ℕ → World
 noted_here k = noted world (note world.heap (invocation 0 op (Null ∷ []) ∷ []) k)
 
-handed : does (Hand op 2) 0 ≡ shown (noted_here 5) (pos 0) 200 4
+handed : does (Hand op 2) 0 ≡ shown (noted_here 5) (pos 6) 2 4
 handed = refl
+
+-- one that isn't done within the steps enters its body, which heeds no marks
+abbrev endless : PlainProgram
+endless = record {
+  classes = a_class ∷ [];
+  ops = record { class = class_a; name = codes "f"; params = 1; body = record { locals = Pointer class_a ∷ []; statements = statement_and (while_loop 9 (truth true) (block 9 no_statements)) no_statements }; result = None } ∷ [];
+  functions = [];
+  main = record { locals = []; statements = no_statements };
+}
+
+entered_plainly : act (run_access endless) (code true) 9 (Some (Hand op 2)) (shows 0) (here 5 []) ≡ shown (noted_here 5) (pos 0) 200 4
+entered_plainly = refl
 
 handed_step_is_due : does_last (Hand op 2) 0 ≡ Spent (noted_here 0)
 handed_step_is_due = refl

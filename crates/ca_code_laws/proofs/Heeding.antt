@@ -1,4 +1,4 @@
--- A run that heeds marks: a marked call is noted and runs unheeding, and a marked loop is handed on.
+-- A run that heeds marks: a marked call and a marked loop are handed on, and where that isn't done they run unheeding.
 use Rattle.std.proofs.Common.{◌≡◌, ℕ, zero, suc, ◌+◌, ◌-◌, ◌<◌, ◌≤◌, List, [], ◌∷◌, ◌++◌, length, map, Option, Some, None, refl, sym, ap, ◌∙◌, subst, arith, length-append}
 use Rattle.std.specs.Prelude.{Bool, true, false, slice_get, cond, ◌&&◌}
 use Rattle.ca_program.specs.Plain.{PlainProgram, Statement, put_field, put_item, new_local, new_field, new_item, invoke, print_value, PlainMethod}
@@ -7,12 +7,12 @@ use Rattle.ca_model.specs.declared.value.Value.TheVariants.{Long, Bool as Truth,
 use Rattle.ca_model.specs.declared.value.TrapKind.TheVariants.{NullPointer}
 use Rattle.ca_model.specs.Slots.{start_of}
 use Rattle.ca_meaning.specs.Expressions.{gives, traps, ◌>>=◌, trap_at, pointed, Invocation, invocation}
-use Rattle.ca_meaning.specs.Flows.{Flow, goes_on, gives_back, stops, runs_out, with, exec, exec_all}
+use Rattle.ca_meaning.specs.Flows.{Flow, goes_on, gives_back, stops, runs_out, and_on, with, exec, exec_all}
 use Rattle.ca_meaning.specs.Functions.{body_of, locals_of, functions_of}
 use Rattle.ca_meaning.specs.Serial.{World, Operations, fresh, came_back, run_call, operations_of, serial_parts, serial_ops}
 use Rattle.ca_meaning.specs.Sections.{LoopOutcome, LoopSectioned, loop_done, loop_stopped, loop_over, loop_section}
 use Rattle.ca_meaning.proofs.Near.{NearFlow, left_of_flow}
-use Rattle.ca_parallel.specs.Lists.{PlainMarks, op_in, loop_in, note, noted, either, noted_call}
+use Rattle.ca_parallel.specs.Lists.{PlainMarks, op_in, loop_in, either, noted_call}
 use Rattle.ca_note_laws.specs.Listing.{puts_nothing, behind_list, with_list, by_section, listing_loop, listing_parts, listing_of, listing_run}
 use Rattle.ca_note_laws.proofs.Listing.{list_self, listing_invoke_runs, listing_loop_runs}
 use Rattle.ca_program.specs.declared.program.ValueType.TheVariants.{Pointer}
@@ -31,8 +31,8 @@ use Rattle.ca_program.specs.Kinds.{Kind, as_pointer, kind_type, kind_at, param_k
 use Rattle.ca_program.specs.Instructions.{Return, Leave, Heed, Hand, Code, Placed, on, IsAt, HasAt, StandsAt}
 use Rattle.ca_program.specs.Layout.{no_hands, all_acts, statements_code, starts_code, others_of, width_of, FunctionsLaidOut, OperationsLaidOut, kinds_of, main_kinds}
 use Rattle.ca_code_laws.specs.Heeding.{heeding_call, heed_acts, handed_code, heed_hands, heeding_code, HeedingLaidOut, MainHeeds, begin_at, plain_loop}
-use Rattle.ca_code_laws.specs.Machine.{Store, Back, enters, plainly, State, Finished, Trapped, Spent, Next, moved, after, row, loaded, invoking, entering, beginning_by, act, Comes, Ends, Wanting, kinds_there, handing, behind}
-use Rattle.ca_code_laws.specs.Runs.{run_access, begun_by, begun_with, behind_or, beginning, outcome_of}
+use Rattle.ca_code_laws.specs.Machine.{Store, Back, enters, plainly, State, Outcome, Finished, Trapped, Spent, Next, moved, after, row, loaded, invoking, handed_call, entering, beginning_by, act, Comes, Ends, Wanting, kinds_there, handing, behind}
+use Rattle.ca_code_laws.specs.Runs.{run_access, begun_by, begun_with, behind_or, with_call, handed_by, beginning, outcome_of}
 use Rattle.ca_code_laws.specs.Told.{Holds, Came}
 use Rattle.ca_code_laws.proofs.Steps.{stored_here, stored_there, has_front, has_back, joins, joins_end, steps, steps_end, step_flows, Flows, length_mapped}
 use Rattle.ca_code_laws.proofs.Values.{expression_runs, operand_runs}
@@ -61,6 +61,17 @@ loaded_is κs (κ ∷ kinds) (v ∷ vs) f first have fits (suc i) lt =
     let e : first + suc i ≡ first + 1 + i = omega arith in
     let others = (both_true (has_kind κ v) (all_have kinds vs) have).1 in
     ap (read_as (κs (suc i))) (stored_there (loaded f (first + 1) vs) first (first + suc i) (word v) (λ e. absurd (omega (arith, e))) ∙ ap (loaded f (first + 1) vs) e) ∙ loaded_is (λ i. κs (suc i)) kinds vs f (first + 1) others (λ i κ e. fits (suc i) κ e) i (omega (arith, lt))
+
+-- what a call means whose run alone is done
+one_call : (p : PlainProgram) (i : Invocation) (w v : World) (ms ls : List Datum) (k j : ℕ) → serial_ops p (i ∷ []) w k ≡ goes_on ms v j → run_call (operations_of p) ls i w k ≡ goes_on ls v j
+one_call p i w v ms ls zero j e = cc
+one_call p i w v ms ls (suc k) j e = from ((operations_of p).invoke i w k) e
+  where
+    from : (o : Flow World) → and_on (came_back [] o) (λ ls w k. goes_on [] w k) ≡ goes_on ms v j → came_back ls o ≡ goes_on ls v j
+    from (goes_on xs y n) e = let a : y ≡ v = cc in let b : n ≡ j = cc in cc
+    from (gives_back x y n) e = cc
+    from (stops t y) e = cc
+    from (runs_out y) e = cc
 
 module _ (p : PlainProgram) (code : Code) (typed : ProgramTyped p) (laid : FunctionsLaidOut p code) (ops_laid : OperationsLaidOut p code) (marks : PlainMarks) (heeding_laid : HeedingLaidOut marks p code) where
   abbrev HeedsRun : ℕ → Type 0
@@ -117,7 +128,7 @@ module _ (p : PlainProgram) (code : Code) (typed : ProgramTyped p) (laid : Funct
       called r = invocation r op vs
 
       remember : Invocation → World
-      remember i = noted x (note x.heap (i ∷ []) k)
+      remember i = with_call x i k
 
       hand : Placed
       hand = on line (Hand op top)
@@ -125,24 +136,44 @@ module _ (p : PlainProgram) (code : Code) (typed : ProgramTyped p) (laid : Funct
       heed : Placed
       heed = on line (Heed op top)
 
-      does_hand : (v : Datum) → read_as as_pointer (f (base + top)) ≡ v → (next : Next World) → act (run_access p) code line (Some hand.instruction) next here ≡ after (pointed line v k) x (λ r j. invoking (slice_get code.ops op.0) here next r top j (enters (noted x (note x.heap (called r ∷ []) j))))
-      does_hand v is next = ap (λ y. after (pointed line y k) x (λ r j. invoking (slice_get code.ops op.0) here next r top j (enters (noted x (note x.heap (invocation r op (row f (base + (top + 1)) (kinds_there (slice_get code.params op.0))) ∷ []) j))))) is ∙ ap (λ y. after (pointed line v k) x (λ r j. invoking (slice_get code.ops op.0) here next r top j (enters (noted x (note x.heap (invocation r op y ∷ []) j))))) values
+      -- what is given where its run is this
+      by_its_run : ℕ → Flow World → Next World → Outcome World
+      by_its_run r o next = handed_call (slice_get code.ops op.0) here next r top k (behind_or [] (remember (called r)) o)
+
+      does_hand : (v : Datum) → read_as as_pointer (f (base + top)) ≡ v → (next : Next World) → act (run_access p) code line (Some hand.instruction) next here ≡ after (pointed line v k) x (λ r j. handed_call (slice_get code.ops op.0) here next r top j (handed_by p x (called r) j))
+      does_hand v is next = ap (λ y. after (pointed line y k) x (λ r j. handed_call (slice_get code.ops op.0) here next r top j (handed_by p x (invocation r op (row f (base + (top + 1)) (kinds_there (slice_get code.params op.0)))) j))) is ∙ ap (λ y. after (pointed line v k) x (λ r j. handed_call (slice_get code.ops op.0) here next r top j (handed_by p x (invocation r op y) j))) values
+
+      -- its run decides
+      decides : (r : ℕ) (o : Flow World) → read_as as_pointer (f (base + top)) ≡ Ref r → serial_ops p (called r ∷ []) (remember (called r)) k ≡ o → (next : Next World) → act (run_access p) code line (Some hand.instruction) next here ≡ by_its_run r o next
+      decides r o is e next = does_hand (Ref r) is next ∙ ap (λ o. by_its_run r o next) e
 
       does_heed : (v : Datum) → read_as as_pointer (f (base + top)) ≡ v → (next : Next World) → act (run_access p) code line (Some heed.instruction) next here ≡ after (pointed line v k) x (λ r j. invoking (slice_get code.heeding op.0) here next r top j (enters x))
       does_heed v is next = ap (λ y. after (pointed line y k) x (λ r j. invoking (slice_get code.heeding op.0) here next r top j (enters x))) is
 
-      by_mark : (b : Bool) (r : ℕ) → WellTyped p x.heap (called r) → IsAt code at (on line (either b (Hand op top) (Heed op top))) → read_as as_pointer (f (base + top)) ≡ Ref r → Flows (run_access p) code (λ (x : World). x) (kind_at sc.result) here 1 (LocalsAt (kinds_in p sc.locals) base top) (either b (run_call (operations_of p) ls (called r) (remember (called r)) k) (run_call (listing_of p marks) ls (called r) x k))
-      by_mark true r well h is =
+      -- where that isn't done the body is entered
+      entered : (r : ℕ) → WellTyped p x.heap (called r) → IsAt code at hand → ((next : Next World) → act (run_access p) code line (Some hand.instruction) next here ≡ invoking (slice_get code.ops op.0) here next r top k (enters (remember (called r)))) → Flows (run_access p) code (λ (x : World). x) (kind_at sc.result) here 1 (LocalsAt (kinds_in p sc.locals) base top) (run_call (operations_of p) ls (called r) (remember (called r)) k)
+      entered r well h a =
           let place = starts p code typed laid ops_laid x.heap op.0 r vs (slice_get p.ops op.0) refl well in
-          enters_runs sc me bs base top line (operations_of p) (called r) hand (slice_get code.ops op.0) place.0 ls x (remember (called r)) at k f place.1 h (does_hand (Ref r) is) len locals
+          enters_runs sc me bs base top line (operations_of p) (called r) hand (slice_get code.ops op.0) place.0 ls x (remember (called r)) at k f place.1 h a len locals
           (λ j e. operations_run p code typed laid ops_laid k (called r) (remember (called r)) place.0 (base + (top + 1)) j (record { at = at + 1; base = base; this = me; wants = false; to = 0 }) bs f refl (omega (arith, e)) place.1 good.0.heap well holds)
+
+      by_run : (r : ℕ) → WellTyped p x.heap (called r) → IsAt code at hand → read_as as_pointer (f (base + top)) ≡ Ref r → (o : Flow World) → serial_ops p (called r ∷ []) (remember (called r)) k ≡ o → NearFlow k o o → Flows (run_access p) code (λ (x : World). x) (kind_at sc.result) here 1 (LocalsAt (kinds_in p sc.locals) base top) (run_call (operations_of p) ls (called r) (remember (called r)) k)
+      by_run r well h is (goes_on ms z j) e near =
+          subst (λ o. Flows (run_access p) code (λ (x : World). x) (kind_at sc.result) here 1 (LocalsAt (kinds_in p sc.locals) base top) o) (sym (one_call p (called r) (remember (called r)) z ms ls k j e))
+          (f, steps (run_access p) code here (moved here (at + 1) j f z) hand h (decides r (goes_on ms z j) is e), (locals, len), (λ j lt. refl), left_of_flow near refl)
+      by_run r well h is (gives_back v z j) e near = entered r well h (decides r (gives_back v z j) is e)
+      by_run r well h is (stops t z) e near = entered r well h (decides r (stops t z) is e)
+      by_run r well h is (runs_out z) e near = entered r well h (decides r (runs_out z) is e)
+
+      by_mark : (b : Bool) (r : ℕ) → WellTyped p x.heap (called r) → IsAt code at (on line (either b (Hand op top) (Heed op top))) → read_as as_pointer (f (base + top)) ≡ Ref r → Flows (run_access p) code (λ (x : World). x) (kind_at sc.result) here 1 (LocalsAt (kinds_in p sc.locals) base top) (either b (run_call (operations_of p) ls (called r) (remember (called r)) k) (run_call (listing_of p marks) ls (called r) x k))
+      by_mark true r well h is = by_run r well h is (serial_ops p (called r ∷ []) (remember (called r)) k) refl (list_self p (called r ∷ []) (remember (called r)) k)
       by_mark false r well h is =
           let place = heeds_from x.heap op.0 r vs (slice_get p.ops op.0) refl well in
           enters_runs sc me bs base top line (listing_of p marks) (called r) heed (slice_get code.heeding op.0) place.0 ls x x at k f place.1 h (does_heed (Ref r) is) len locals
           (λ j e. heeds (called r) x place.0 (base + (top + 1)) j (record { at = at + 1; base = base; this = me; wants = false; to = 0 }) bs f refl (omega (arith, e, left)) place.1 good.0.heap well holds)
 
       by_trap : (b : Bool) (v : Datum) → IsAt code at (on line (either b (Hand op top) (Heed op top))) → read_as as_pointer (f (base + top)) ≡ v → pointed line v k ≡ traps (trap_at line NullPointer) → Ends (run_access p) code here (Trapped (trap_at line NullPointer) x)
-      by_trap true v h is e = steps_end (run_access p) code here (Trapped (trap_at line NullPointer) x) hand h (λ next. does_hand v is next ∙ ap (λ y. after y x (λ r j. invoking (slice_get code.ops op.0) here next r top j (enters (noted x (note x.heap (called r ∷ []) j))))) e)
+      by_trap true v h is e = steps_end (run_access p) code here (Trapped (trap_at line NullPointer) x) hand h (λ next. does_hand v is next ∙ ap (λ y. after y x (λ r j. handed_call (slice_get code.ops op.0) here next r top j (handed_by p x (called r) j))) e)
       by_trap false v h is e = steps_end (run_access p) code here (Trapped (trap_at line NullPointer) x) heed h (λ next. does_heed v is next ∙ ap (λ y. after y x (λ r j. invoking (slice_get code.heeding op.0) here next r top j (enters x))) e)
 
       by : (v : Datum) → HasType x.heap v (Pointer class) → IsAt code at (on line (heeding_call marks op top)) → read_as as_pointer (f (base + top)) ≡ v → Flows (run_access p) code (λ (x : World). x) (kind_at sc.result) here 1 (LocalsAt (kinds_in p sc.locals) base top) (with (pointed line v k >>= λ r k. gives (invocation r op vs) k) x (λ i k. noted_call marks (operations_of p) (listing_of p marks) ls i x k))

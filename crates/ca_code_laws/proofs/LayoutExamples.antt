@@ -250,6 +250,12 @@ two_notes : runs (run_access whole) (code add_marked whole) 100 (beginning (at_h
 unfolding int_wrap
 two_notes = refl
 
+-- a call whose run isn't done is noted too, and its body runs: with two steps, the first turn's and the first call's, its value
+-- method is due
+one_note_spent : runs (run_access whole) (code add_marked whole) 100 (beginning (at_heeding whole + length (heeding_code add_marked whole adds)) 2)
+    ≡ Spent (record { heap = with_n 0; prints = []; notes = note (with_n 0) (invocation 0 add (Long (pos 0) ∷ []) ∷ []) 1 ∷ [] })
+one_note_spent = refl
+
 -- the loop is noted once, with both calls and the steps behind its own two, and then passed over
 one_note : runs (run_access whole) (code loop_marked whole) 100 (beginning (at_heeding whole + length (heeding_code loop_marked whole adds)) 6)
     ≡ Finished (record { heap = with_n 2; prints = Long (pos 2) ∷ []; notes = note (with_n 0) (invocation 0 add (Long (pos 0) ∷ []) ∷ invocation 0 add (Long (pos 1) ∷ []) ∷ []) 4 ∷ [] }) 0

@@ -12,5 +12,6 @@ pub mod Sections
 pub mod Listed
 pub mod Heeding
 pub mod OneEnd
+pub mod Grown
 pub mod Examples
 pub mod LayoutExamples

@@ -1,13 +1,13 @@
 //! The laws of laid-out programs.
 
-ghost use Rattle.std.specs.Prelude.{◌≡◌, ℕ, Contains, List, [], ◌∷◌, length, suc, Some, slice_get, false, true};
+ghost use Rattle.std.specs.Prelude.{◌≡◌, ℕ, ◌-◌, Contains, List, [], ◌∷◌, length, suc, Some, slice_get, false, true};
 ghost use Rattle.ca_program.specs.declared.program.ClassId.{ClassId};
 ghost use Rattle.ca_program.specs.declared.program.FieldId.{FieldId};
 ghost use Rattle.ca_program.specs.declared.program.FunctionId.{FunctionId};
 ghost use Rattle.ca_program.specs.declared.program.OpId.{OpId};
 ghost use Rattle.ca_program.specs.Plain.{PlainProgram, Statement, Statements};
-ghost use Rattle.ca_program.specs.Kinds.{kinds_in, param_kind, result_kind};
-ghost use Rattle.ca_program.specs.Instructions.{Code, HasAt};
+ghost use Rattle.ca_program.specs.Kinds.{as_pointer, kinds_in, param_kind, result_kind};
+ghost use Rattle.ca_program.specs.Instructions.{Begin, Code, Hand, Handed, HasAt};
 ghost use Rattle.ca_program.specs.Layout.{FunctionsLaidOut, MainLaidOut, all_acts, no_hands, statement_code};
 ghost use Rattle.ca_model.specs.declared.value.Value.{Value as Datum};
 ghost use Rattle.ca_model.specs.declared.value.Value.TheVariants.{Ref};
@@ -16,20 +16,20 @@ ghost use Rattle.ca_model.specs.Typed.{TypedHeap};
 ghost use Rattle.ca_meaning.specs.Expressions.{Invocation, invocation};
 ghost use Rattle.ca_meaning.specs.Functions.{own_of, functions_of};
 ghost use Rattle.ca_meaning.specs.Serial.{World, operations_of, main_run, serial};
-ghost use Rattle.ca_meaning.specs.Sections.{Section, section, section_start, section_run, loop_run};
+ghost use Rattle.ca_meaning.specs.Sections.{LoopOutcome, Section, loop_done, loop_section, section, section_start, section_run, loop_run};
 ghost use Rattle.ca_meaning.specs.WellTyped.{ValuesTyped, CallTyped, WellTyped, IsMethodOf, IsTypedObject};
 ghost use Rattle.ca_meaning.specs.ProgramTyped.{Scope, StatementTyped, StatementsTyped, ProgramTyped};
 ghost use Rattle.ca_meaning_laws.specs.Typed.{IsReceiver};
 ghost use Rattle.ca_parallel.specs.Bodies.{fors_in_all};
-ghost use Rattle.ca_parallel.specs.Lists.{PlainMarks};
+ghost use Rattle.ca_parallel.specs.Lists.{PlainMarks, note, noted, noted_run, world_after};
 ghost use Rattle.ca_parallel.specs.Loops.{IsCallLoop};
 ghost use Rattle.ca_parallel.specs.Marks.{SoundMarks};
 ghost use Rattle.ca_parallel.specs.Separable.{Separable};
-ghost use Rattle.ca_note_laws.specs.Listing.{CallLoopsPutNothing, listing_run};
+ghost use Rattle.ca_note_laws.specs.Listing.{CallLoopsPutNothing, listing_run, puts_nothing};
 ghost use Rattle.ca_code_laws.specs.Heeding.{HeedingLaidOut, MainHeeds};
-ghost use Rattle.ca_code_laws.specs.Machine.{Store, Back, Accesses, State, Outcome, Comes, Ends};
+ghost use Rattle.ca_code_laws.specs.Machine.{Store, Back, Accesses, State, Outcome, Comes, Ends, call_of, row, slot};
 ghost use Rattle.ca_code_laws.specs.Runs.{run_access, section_access, section_outcome, sectioned_as, beginning, outcome_of, ended_as};
-ghost use Rattle.ca_code_laws.specs.Told.{IsLaidOut, Holds, Returned, Came, Passed};
+ghost use Rattle.ca_code_laws.specs.Told.{IsLaidOut, Holds, Returned, Came, Passed, Front};
 
 /// A typed call of a value method comes back with its value, whatever world it runs in and however that is accessed, as long as
 /// the heap is typed and the method reads its receiver there.
@@ -60,6 +60,26 @@ pub fn marked_code_lists_first()
 /// Whoever hands marked calls and loops on knows how the serial run ends, where the marks are sound.
 pub fn whoever_hands_on_ends_serially()
     ensures { (p : PlainProgram) → ProgramTyped p → (marks : PlainMarks) → SoundMarks p marks → CallLoopsPutNothing → (code : Code) → IsLaidOut p code → HeedingLaidOut marks p code → (at budget : ℕ) → MainHeeds marks p code at → (s : State World) (o : Outcome World) → Comes (run_access p) code (beginning at budget) s → Ends (run_access p) code s o → serial p budget ≡ ended_as budget o }
+{}
+
+/// Whoever hands marked calls and loops on ends as the run with marks, with its notes.
+pub fn whoever_hands_on_ends_noted()
+    ensures { (p : PlainProgram) → ProgramTyped p → (marks : PlainMarks) → SoundMarks p marks → CallLoopsPutNothing → (code : Code) → IsLaidOut p code → HeedingLaidOut marks p code → (at budget : ℕ) → MainHeeds marks p code at → (s : State World) (o : Outcome World) → Comes (run_access p) code (beginning at budget) s → Ends (run_access p) code s o → o ≡ outcome_of (noted_run p marks budget) }
+{}
+
+/// What was printed and noted up to a state stands at the front of what the whole run prints and notes.
+pub fn prints_and_notes_only_grow()
+    ensures { (p : PlainProgram) → ProgramTyped p → (marks : PlainMarks) → SoundMarks p marks → CallLoopsPutNothing → (code : Code) → IsLaidOut p code → HeedingLaidOut marks p code → (at budget : ℕ) → MainHeeds marks p code at → (s : State World) → Comes (run_access p) code (beginning at budget) s → Front s.world (world_after (noted_run p marks budget)) }
+{}
+
+/// The note of a call that is about to be handed on stands in the whole run's, behind those that were taken.
+pub fn calls_handed_on_are_noted()
+    ensures { (p : PlainProgram) → ProgramTyped p → (marks : PlainMarks) → SoundMarks p marks → CallLoopsPutNothing → (code : Code) → IsLaidOut p code → HeedingLaidOut marks p code → (at budget : ℕ) → MainHeeds marks p code at → (s : State World) → Comes (run_access p) code (beginning at budget) s → (op : OpId) (first r : ℕ) → slice_get code.items s.at ≡ Some (Hand op first) → slot s as_pointer first ≡ Ref r → Front (noted s.world (note s.world.heap (call_of code s op first r ∷ []) s.left)) (world_after (noted_run p marks budget)) }
+{}
+
+/// So does that of the calls which a loop lists that is about to be handed on.
+pub fn loops_handed_on_are_noted()
+    ensures { (p : PlainProgram) → ProgramTyped p → (marks : PlainMarks) → SoundMarks p marks → CallLoopsPutNothing → (code : Code) → IsLaidOut p code → HeedingLaidOut marks p code → (at budget : ℕ) → MainHeeds marks p code at → (s : State World) → Comes (run_access p) code (beginning at budget) s → (n line : ℕ) (h : Handed) (m : LoopOutcome) → slice_get code.items s.at ≡ Some (Begin n) → slice_get code.lines s.at ≡ Some line → slice_get code.loops s.at ≡ Some (Some h) → puts_nothing h.loop ≡ true → loop_section p s.world.heap s.this (row s.slots s.base h.locals) line h.loop s.left ≡ loop_done m → Front (noted s.world (note s.world.heap m.listed (s.left - m.steps))) (world_after (noted_run p marks budget)) }
 {}
 
 /// The same instructions, with own accesses in hand and calls listed, run the section of a separable operation, behind the step

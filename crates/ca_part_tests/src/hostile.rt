@@ -5,19 +5,25 @@ use crate::verdicts::is_said;
 use std::process::Abort;
 
 /// Adds a part.
-fn add<R: Abort>(rt: &R, text: &mut String, part: &str) {
+pub fn add<R: Abort>(rt: &R, text: &mut String, part: &str) {
     text.push_str(part).expect(rt, "a part");
 }
 
 /// Adds a part so often.
-fn repeat<R: Abort>(rt: &R, text: &mut String, part: &str, times: u32) {
+pub fn repeat<R: Abort>(rt: &R, text: &mut String, part: &str, times: u32) {
     for _ in 0..times {
         add(rt, text, part);
     }
 }
 
 /// Adds a part so often, with a number of four digits behind its front.
-fn count<R: AllocGlobal + Abort>(rt: &R, text: &mut String, front: &str, times: u32, back: &str) {
+pub fn count<R: AllocGlobal + Abort>(
+    rt: &R,
+    text: &mut String,
+    front: &str,
+    times: u32,
+    back: &str,
+) {
     for n in 0..times {
         let part = format!(in rt.alloc(); "{front}{n:04}{back}").expect(rt, "a part");
         add(rt, text, &part);

@@ -30,7 +30,13 @@ mod heaps;
 #[cfg(test)]
 mod hostile;
 #[cfg(test)]
+mod instructions;
+#[cfg(test)]
 mod lexer;
+#[cfg(test)]
+mod limits;
+#[cfg(test)]
+mod marked;
 #[cfg(test)]
 mod operators;
 #[cfg(test)]

@@ -1,8 +1,13 @@
-pub mod DueCalls
+pub mod Asked
 pub mod Endings
+pub mod Ends
+pub mod Flagged
+pub mod Going
 pub mod Handings
-pub mod LoopCalls
-pub mod Prints
+pub mod Hands
+pub mod Laid
+pub mod Listed
 pub mod Quiet
 pub mod Quietness
-pub mod Unmarked
+pub mod Sites
+pub mod Told

@@ -1,3 +1,5 @@
+pub mod Codes
 pub mod Extents
+pub mod Marked
 pub mod Runs
 pub mod clauses

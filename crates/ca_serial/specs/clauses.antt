@@ -1,2 +1,3 @@
+pub mod Flags
 pub mod Handing
 pub mod Loops

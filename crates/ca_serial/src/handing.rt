@@ -1,90 +1,107 @@
 //! Calls that are handed to an engine.
 
-ghost use Rattle.std.specs.Prelude.{◌≡◌, ◌⊎◌, ◌∷◌, ◌++◌, [], IfOk, OnOk, OnErr, map};
+ghost use Rattle.std.specs.Prelude.{◌≡◌, ◌⊎◌, ◌∷◌, ◌++◌, [], true, IfOk, OnOk, OnErr, map, slice_get};
 ghost use Rattle.ca_program.specs.View.{program_view};
 ghost use Rattle.ca_meaning.specs.ProgramTyped.{ProgramTyped};
+ghost use Rattle.ca_meaning.specs.Serial.{World, in_heap};
 ghost use Rattle.ca_parallel.specs.Calls.{invocations_of, operation_of};
+ghost use Rattle.ca_parallel.specs.Lists.{note};
 ghost use Rattle.ca_parallel.specs.Notes.{NoteGood};
-ghost use Rattle.ca_machine.specs.Machines.{Past, call_of, note_of, runs_due, after};
-ghost use Rattle.ca_serial.specs.clauses.Handing.{next_of};
+ghost use Rattle.ca_code.specs.Codes.{code_seen};
+ghost use Rattle.ca_code.specs.Seen.{kind_seen};
+ghost use Rattle.ca_code_laws.specs.Machine.{kinds_there};
+ghost use Rattle.ca_code_laws.specs.Runs.{run_access};
+ghost use Rattle.ca_steps.specs.Stands.{state_of};
+ghost use Rattle.ca_serial.specs.clauses.Handing.{HandsAt, Leads, due_at, with_note};
 
-use crate::extents::{ExtentAnswer, Extents};
+use crate::asking::ask;
+use crate::extents::Extents;
 use ca_base::Memory;
-use ca_frames::Mode;
-use ca_machine::{Machine, Target, Work, body_of};
+use ca_code::{Code, Kind};
 use ca_model::Value;
 use ca_parallel::{Arguments, Op};
-use ca_program::Program;
+use ca_program::OpId;
+use ca_steps::{Frames, InRun, Went};
 use std::alloc::Global;
 use std::sync::Wait;
 use std::thread::Threads;
 
-/// Hands the call that is due to an engine, or begins it here where the engine declines. It answers whether
-/// the run goes on; where it doesn't, a step too many is due.
-pub fn hand_on<'a, R: Threads + Wait + Sync, E: Extents>(
+/// Hands the call that is due to an engine, or enters its body here where the engine declines. It answers whether the run goes
+/// on; where it doesn't, a step too many is due.
+pub(crate) fn hand_on<R: Threads + Wait + Sync, E: Extents>(
     rt: &R,
     alloc: Global,
-    program: &'a Program,
-    machine: &mut Machine<'a>,
+    code: &Code<'_>,
+    run: &mut InRun<'_>,
+    frames: &mut Frames,
+    values: &mut Vec<Value>,
+    op: OpId,
+    first: u32,
+    receiver: u32,
     engine: &mut E,
 ) -> Result<bool, Memory>
     requires ready { E.ready }
-    requires program { ProgramTyped (program_view program.now) }
-    requires good { NoteGood (program_view program.now) (note_of machine.old) }
-    ensures means { IfOk result (λ goes. (ps : Past) → runs_due (program_view program.now) machine.old ps ≡ after (program_view program.now) machine.new ps (next_of goes)) }
-    ensures account { OnOk result (E.Accounts (E.account engine.old) (program_view program.now) machine.old.heap (call_of machine.old ∷ []) machine.old.left (E.account engine.new)) }
-    ensures account_kept { OnErr result ((E.account engine.new ≡ E.account engine.old) ⊎ E.Accounts (E.account engine.old) (program_view program.now) machine.old.heap (call_of machine.old ∷ []) machine.old.left (E.account engine.new)) }
+    requires program { ProgramTyped (program_view run.old.program.now) }
+    requires due { HandsAt (code_seen code.now) frames.old op first receiver }
+    requires good { NoteGood (program_view run.old.program.now) (note run.old.heap (due_at (code_seen code.now) frames.old op first receiver ∷ []) frames.old.left) }
+    requires serves { E.serves ≡ true }
+    ensures means { IfOk result (λ goes. (w : World) → Leads (run_access (program_view run.old.program.now)) (code_seen code.now) (state_of frames.old (in_heap w run.old.heap)) goes frames.new (in_heap (with_note (in_heap w run.old.heap) (due_at (code_seen code.now) frames.old op first receiver ∷ []) frames.old.left) run.new.heap)) }
+    ensures account { OnOk result (E.Accounts (E.account engine.old) (program_view run.old.program.now) run.old.heap (due_at (code_seen code.now) frames.old op first receiver ∷ []) frames.old.left (E.account engine.new)) }
+    ensures account_kept { OnErr result ((E.account engine.new ≡ E.account engine.old) ⊎ E.Accounts (E.account engine.old) (program_view run.old.program.now) run.old.heap (due_at (code_seen code.now) frames.old op first receiver ∷ []) frames.old.left (E.account engine.new)) }
+    ensures program { run.new.program ≡ run.old.program }
 {
-    let ops = due_ops(alloc, machine)?;
-    let left = machine.left;
-    match engine.run(rt, program, &mut machine.heap, ops.as_slice(), left)? {
-        ExtentAnswer::Done { steps } => {
-            machine.values.cut(machine.due.count);
-            machine.left = left.saturating_sub(steps);
+    let ops = due_ops(alloc, code, frames, values, op, first, receiver)?;
+    let left = frames.left();
+    let answer = ask(rt, run.program, &mut run.heap, ops.as_slice(), left, engine)?;
+    match answer {
+        Some(rest) => {
+            frames.pass(rest)?;
             Ok(true)
         }
-        ExtentAnswer::Declined => begin_alone(program, machine),
+        None => match frames.enter_operation(code.ops.as_slice(), op, receiver, first) {
+            Went::On => Ok(true),
+            Went::Spends => Ok(false),
+            _ => Err(Memory),
+        },
     }
 }
 
 /// The call that is due, as an engine takes it.
-fn due_ops(alloc: Global, machine: &Machine<'_>) -> Result<Vec<Op>, Memory>
-    ensures calls { IfOk result (λ ops. invocations_of ops.items ≡ call_of machine.now ∷ []) }
-    ensures ops { IfOk result (λ ops. map operation_of ops.items ≡ machine.now.due.op ∷ []) }
+fn due_ops(
+    alloc: Global,
+    code: &Code<'_>,
+    frames: &Frames,
+    values: &mut Vec<Value>,
+    op: OpId,
+    first: u32,
+    receiver: u32,
+) -> Result<Vec<Op>, Memory>
+    ensures calls { IfOk result (λ ops. invocations_of ops.items ≡ due_at (code_seen code.now) frames.now op first receiver ∷ []) }
+    ensures ops { IfOk result (λ ops. map operation_of ops.items ≡ op ∷ []) }
 {
-    let due = machine.due;
+    if first == u32::MAX {
+        return Err(Memory);
+    }
+    values.clear();
+    frames.values(first + 1, params_of(code, op), values)?;
     let mut args = Arguments::new(alloc);
-    add_all(&mut args, machine.values.last(due.count))?;
+    add_all(&mut args, values.as_slice())?;
     let mut ops = Vec::new(alloc);
-    ops.push(Op {
-        receiver: due.receiver,
-        op: due.op,
-        args,
-    })?;
+    ops.push(Op { receiver, op, args })?;
     Ok(ops)
 }
 
-/// Begins the call that is due here. Within it nothing is handed off.
-fn begin_alone<'a>(program: &'a Program, machine: &mut Machine<'a>) -> Result<bool, Memory>
-    ensures { IfOk result (λ goes. (ps : Past) → runs_due (program_view program.now) machine.old ps ≡ after (program_view program.now) machine.new ps (next_of goes)) }
+/// What the parameters of an operation are read as; nothing where the code has no such operation.
+fn params_of<'c>(code: &'c Code<'_>, op: OpId) -> &'c [Kind]
+    ensures { map kind_seen result.now ≡ kinds_there (slice_get (code_seen code.now).params op.0) }
 {
-    if machine.left == 0 {
-        return Ok(false);
+    let params = code.params.as_slice();
+    let place = op.0 as usize;
+    if place < params.len() {
+        params[place].as_slice()
+    } else {
+        &[]
     }
-    let due = machine.due;
-    let called = body_of(program, Target::Operation(due.op));
-    machine.bodies.enter(
-        due.receiver,
-        Mode::InOperation,
-        machine.values.last(due.count),
-        called.others,
-    )?;
-    machine.bodies.be_alone();
-    machine.values.cut(due.count);
-    machine.left -= 1;
-    machine.todo.push(Work::Leave)?;
-    machine.todo.push(Work::Seq(called.stmts))?;
-    Ok(true)
 }
 
 /// Adds all of these values.

@@ -11,19 +11,23 @@
 //! with the steps that are left behind those of the loop itself. Where the engine is done the call or the loop counts as
 //! run; where it declines, or the loop can't be listed to its end, that runs here, and hands nothing off within.
 //!
-//! A machine (`ca_machine`) does the pieces of work. What is said here of it is the loop over them, and what is handed off.
+//! The program is laid out as instructions, with the bodies that heed marks beside the plain ones (`heeding`). Frames, calls, creations and all
+//! instructions but the marks are in `ca_steps`. What is said here is the loop over them, and what is handed off.
 //!
-//! Whoever reads the public clauses must believe `Extents` and `Runs` of `specs/`; what stands in `specs/clauses/`
+//! Whoever reads the public clauses must believe `Codes`, `Extents` and `Runs` of `specs/`; what stands in `specs/clauses/`
 //! serves clauses within the crate alone.
 #![tactic(auto)]
 
-mod beginning;
+mod asking;
 mod extents;
 mod handing;
+mod heeding;
 mod listing;
+mod marked;
 mod print;
 mod running;
 mod targets;
 
 pub use extents::{ExtentAnswer, Extents, NoExtents};
+pub use heeding::{HeedingBodies, lay_out_marked};
 pub use running::{Outcome, RunError, drive};

@@ -5,25 +5,29 @@ ghost use Rattle.std.specs.Prelude.{◌≡◌, ◌≤◌, true, false, IfOk, OnO
 ghost use Rattle.ca_base.specs.Devices.{Rose, Writes};
 ghost use Rattle.ca_program.specs.View.{program_view};
 ghost use Rattle.ca_meaning.specs.ProgramTyped.{ProgramTyped};
-ghost use Rattle.ca_meaning.specs.Serial.{Note, ended, serial};
+ghost use Rattle.ca_meaning.specs.Serial.{Note, fresh, serial};
 ghost use Rattle.ca_meaning.specs.Output.{prints_text};
 ghost use Rattle.ca_parallel.specs.Accounts.{Reached, ReachedPart, HandedOn};
-ghost use Rattle.ca_parallel.specs.Lists.{no_marks, world_after, lists};
+ghost use Rattle.ca_parallel.specs.Lists.{no_marks, lists};
 ghost use Rattle.ca_parallel.specs.Marks.{SoundMarks};
 ghost use Rattle.ca_parallel.specs.Notes.{NoteGood};
-ghost use Rattle.ca_machine.specs.Machines.{no_past, rest_of};
+ghost use Rattle.ca_code.specs.Codes.{code_seen};
+ghost use Rattle.ca_code_laws.specs.Runs.{beginning};
+ghost use Rattle.ca_steps.specs.Ops.{Runs};
+ghost use Rattle.ca_steps.specs.Stands.{state_of};
 ghost use Rattle.ca_serial.specs.Runs.{run_with, prints_of, OnWrite};
+ghost use Rattle.ca_serial.specs.Codes.{IsMarked};
 
-use crate::beginning::before_main;
 use crate::extents::Extents;
 use crate::handing::hand_on;
-use crate::listing::{Lists, hand_on_loop};
+use crate::heeding::lay_out_marked;
+use crate::listing::{Lists, list_on};
 use crate::print::print_line;
 use ca_base::Sink;
-use ca_machine::{Machine, Next};
 use ca_model::{Heap, Trap};
 use ca_parallel::Marks;
 use ca_program::Program;
+use ca_steps::{Event, Frames, InRun, Laid, run_on};
 use std::alloc::Global;
 use std::mem;
 use std::sync::Wait;
@@ -75,83 +79,100 @@ pub fn drive<R: Threads + Wait + Sync, E: Extents, K: Sink>(
     // The engine was handed what the run with marks hands off, each once and in order, or a beginning of it.
     ensures account { HandedOn E.Accounts (program_view program.now) (E.account engine.old) (E.account engine.new) result (lists (program_view program.now) marks.now budget) }
 {
-    let Ok(mut machine) = before_main(alloc, program, marks, budget) else {
+    let Ok(code) = lay_out_marked(alloc, program, marks) else {
         return Err(RunError::Memory);
     };
-    let Ok(mut listing) = Lists::new(alloc) else {
+    let Ok(laid) = Laid::of(alloc, code) else {
         return Err(RunError::Memory);
     };
-    run_on(
+    let Ok(mut frames) = Frames::before(alloc, laid.code.room, laid.code.main, budget) else {
+        return Err(RunError::Memory);
+    };
+    let Ok(mut lists) = Lists::new(alloc) else {
+        return Err(RunError::Memory);
+    };
+    let mut run = InRun {
+        program,
+        heap: Heap::new(alloc),
+    };
+    run_all(
         rt,
         alloc,
-        program,
         marks,
         budget,
-        &mut machine,
-        &mut listing,
+        &laid,
+        &mut run,
+        &mut frames,
+        &mut lists,
         engine,
         sink,
     )
 }
 
-/// Runs a machine to its end, and takes its heap.
-fn run_on<'a, R: Threads + Wait + Sync, E: Extents, K: Sink>(
+/// Runs `main` to its end, and takes its heap.
+fn run_all<'a, R: Threads + Wait + Sync, E: Extents, K: Sink>(
     rt: &R,
     alloc: Global,
-    program: &'a Program,
     marks: &Marks,
     budget: u64,
-    machine: &mut Machine<'a>,
+    laid: &Laid<'a>,
+    run: &mut InRun<'a>,
+    frames: &mut Frames,
     listing: &mut Lists<'a>,
     engine: &mut E,
     sink: &mut K,
 ) -> Result<Outcome, RunError>
     requires ready { E.ready }
-    requires program { ProgramTyped (program_view program.now) }
-    requires good { (n : Note) → Contains (lists (program_view program.now) marks.now budget) n → NoteGood (program_view program.now) n × (E.serves ≡ true) }
+    requires program { ProgramTyped (program_view run.old.program.now) }
+    requires sound { SoundMarks (program_view run.old.program.now) marks.now }
+    requires good { (n : Note) → Contains (lists (program_view run.old.program.now) marks.now budget) n → NoteGood (program_view run.old.program.now) n × (E.serves ≡ true) }
+    requires laid { IsMarked marks.now (program_view run.old.program.now) (code_seen laid.now.code) laid.now.code.main }
+    requires ops { Runs (code_seen laid.now.code) laid.now.code.rows.items laid.now.ops.items }
     // The machine stands before `main`.
-    requires outcome { ended budget (rest_of (program_view program.now) machine.old.todo machine.old no_past) ≡ serial (program_view program.now) budget }
-    requires notes { (world_after (rest_of (program_view program.now) machine.old.todo machine.old no_past)).notes ≡ lists (program_view program.now) marks.now budget }
-    ensures outcome { IfOk result (λ outcome. serial (program_view program.now) budget ≡ run_with (prints_of (serial (program_view program.now) budget)) outcome) }
-    ensures prints { Writes (K.written sink.old) (K.written sink.new) result (prints_text (prints_of (serial (program_view program.now) budget))) }
+    requires begins { state_of frames.old (fresh run.old.heap) ≡ beginning laid.now.code.main budget }
+    ensures outcome { IfOk result (λ outcome. serial (program_view run.old.program.now) budget ≡ run_with (prints_of (serial (program_view run.old.program.now) budget)) outcome) }
+    ensures prints { Writes (K.written sink.old) (K.written sink.new) result (prints_text (prints_of (serial (program_view run.old.program.now) budget))) }
     ensures write { OnWrite result (Rose (K.faults sink.old) (K.faults sink.new)) }
     ensures later { K.faults sink.old ≤ K.faults sink.new }
-    ensures account { OnOk result (Reached E.Accounts (program_view program.now) (E.account engine.old) (lists (program_view program.now) marks.now budget) (E.account engine.new)) }
-    ensures account_part { OnErr result (ReachedPart E.Accounts (program_view program.now) (E.account engine.old) (lists (program_view program.now) marks.now budget) (E.account engine.new)) }
+    ensures account { OnOk result (Reached E.Accounts (program_view run.old.program.now) (E.account engine.old) (lists (program_view run.old.program.now) marks.now budget) (E.account engine.new)) }
+    ensures account_part { OnErr result (ReachedPart E.Accounts (program_view run.old.program.now) (E.account engine.old) (lists (program_view run.old.program.now) marks.now budget) (E.account engine.new)) }
 {
     for _ in rt.forever() {
-        let Some(work) = machine.todo.pop() else {
-            break;
-        };
-        let Ok(next) = machine.step(program, work) else {
-            return Err(RunError::Memory);
-        };
-        match next {
-            Next::GoesOn => {}
-            Next::Printed => {
-                if let Err(_) = print_line(machine.shown, sink) {
+        match run_on(rt, run, laid, frames) {
+            Event::Prints(value) => {
+                if let Err(_) = print_line(value, sink) {
                     return Err(RunError::Write);
                 }
             }
-            Next::Trapped => return Ok(Outcome::Trapped(machine.trap)),
-            Next::Spent => return Ok(Outcome::Spent),
-            Next::Due => {
-                let Ok(goes) = hand_on(rt, alloc, program, machine, engine) else {
+            Event::Hands(op, first, receiver) => {
+                let code = &laid.code;
+                let values = &mut listing.values;
+                let Ok(goes) = hand_on(
+                    rt, alloc, code, run, frames, values, op, first, receiver, engine,
+                ) else {
                     return Err(RunError::Memory);
                 };
                 if !goes {
                     return Ok(Outcome::Spent);
                 }
             }
-            Next::LoopDue => {
-                if let Err(_) = hand_on_loop(rt, alloc, program, machine, listing, engine) {
+            Event::Begins(count, line, s, types) => {
+                if let Err(_) = list_on(
+                    rt, alloc, run, frames, listing, count, line, s, types, engine,
+                ) {
                     return Err(RunError::Memory);
                 }
             }
+            Event::Traps(trap) => return Ok(Outcome::Trapped(trap)),
+            Event::Spends => return Ok(Outcome::Spent),
+            Event::Ends => {
+                return Ok(Outcome::Done {
+                    steps: budget.saturating_sub(frames.left()),
+                    heap: mem::replace(&mut run.heap, Heap::new(alloc)),
+                });
+            }
+            Event::Fails => return Err(RunError::Memory),
         }
     }
-    Ok(Outcome::Done {
-        steps: budget.saturating_sub(machine.left),
-        heap: mem::replace(&mut machine.heap, Heap::new(alloc)),
-    })
+    unreachable!()
 }

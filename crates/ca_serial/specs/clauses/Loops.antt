@@ -1,27 +1,30 @@
--- A loop that is next: whether its calls are listed first, and what is handed off.
-use Rattle.std.specs.Prelude.{ℕ, ◌-◌, Bool, ◌&&◌, List, [], ◌∷◌}
+-- A loop that begins where the machine stands: its locals, its section, and what is handed on.
+use Rattle.std.specs.Prelude.{◌≡◌, ℕ, ◌-◌, List, [], ◌∷◌, map, Some, slice_get}
+use Rattle.ca_program.specs.declared.program.ValueType.{ValueType}
 use Rattle.ca_program.specs.Plain.{PlainProgram, Statement}
-use Rattle.ca_program.specs.View.{statement_view}
+use Rattle.ca_program.specs.Kinds.{kind_type}
+use Rattle.ca_program.specs.Instructions.{Begin, Code}
+use Rattle.ca_model.specs.declared.value.Value.{Value as Datum}
 use Rattle.ca_model.specs.declared.value.Object.{Object}
-use Rattle.ca_meaning.specs.Flows.{Flow, exec}
 use Rattle.ca_meaning.specs.Sections.{LoopSectioned, loop_done, loop_stopped, loop_over, loop_section}
-use Rattle.ca_meaning.specs.Serial.{Note, World, serial_parts}
+use Rattle.ca_meaning.specs.Serial.{Note}
 use Rattle.ca_parallel.specs.Lists.{note, either}
 use Rattle.ca_note_laws.specs.Listing.{puts_nothing}
-use Rattle.ca_machine.specs.declared.work.Work.{Work}
-use Rattle.ca_machine.specs.declared.work.Work.TheVariants.{Exec}
-use Rattle.ca_machine.specs.declared.machine.Machine.{Machine}
-use Rattle.ca_frames.specs.Bodies.{Body, marks_of, in_operation}
-use Rattle.ca_frames.specs.Marked.{is_marked}
-use Rattle.ca_machine.specs.Machines.{Past, world_of, going_on}
+use Rattle.ca_code_laws.specs.Machine.{row}
+use Rattle.ca_steps.specs.declared.frames.Frames.{Frames}
+use Rattle.ca_steps.specs.Stands.{state_of}
 
--- a loop in the body of an operation, or of `main`, that heeds its mark
-abbrev pub heeds_loop : Body → Statement → Bool
-heeds_loop f s = is_marked (marks_of f).loops s && in_operation f.mode
+-- the loop begins there, on this line, with so many instructions and locals of these types
+pub record BeginsAt (c : Code) (m : Frames) (n line : ℕ) (loop : Statement) (tys : List ValueType) : Type 0 where
+  pub stands : slice_get c.items m.at ≡ Some (Begin n)
+  pub on_line : slice_get c.lines m.at ≡ Some line
+  pub is : slice_get c.loops m.at ≡ Some (Some (record { loop = loop; locals = map kind_type tys }))
 
--- the section of a loop that is next
-abbrev pub section_next : PlainProgram → Machine → ℕ → Statement → LoopSectioned
-section_next p m line s = loop_section p m.heap m.bodies.current.this m.bodies.current.locals line s m.left
+abbrev pub locals_at : Frames → List ValueType → List Datum
+locals_at m tys = row (state_of m (tt {0})).slots m.base (map kind_type tys)
+
+abbrev pub section_at : PlainProgram → List Object → Frames → List ValueType → ℕ → Statement → LoopSectioned
+section_at p h m tys line loop = loop_section p h m.this (locals_at m tys) line loop m.left
 
 -- what a section in a heap lists within so many steps, if it is done
 abbrev pub notes_of : List Object → ℕ → LoopSectioned → List Note
@@ -29,16 +32,6 @@ notes_of h k (loop_done o) = note h o.listed (k - o.steps) ∷ []
 notes_of h k (loop_stopped t) = []
 notes_of h k loop_over = []
 
--- what a statement that is next hands off, if it is a loop whose mark is heeded and which puts nothing into fields
-abbrev pub loop_notes : PlainProgram → Machine → ℕ → Statement → List Note
-loop_notes p m line s = either (heeds_loop m.bodies.current s && puts_nothing s) (notes_of m.heap m.left (section_next p m line s)) []
-
--- what the next piece of work hands off, if that is such a loop
-abbrev pub notes_next : PlainProgram → List Work → Machine → List Note
-notes_next p [] m = []
-notes_next p (Exec line s ∷ todo) m = loop_notes p m line (statement_view s.now)
-notes_next p (_ ∷ todo) m = []
-
--- what is left of the run of a machine that begins by this statement, run as the serial run does it
-abbrev pub runs_alone : PlainProgram → ℕ → Statement → Machine → Past → Flow World
-runs_alone p line s m ps = going_on p m.todo m (exec (serial_parts p m.bodies.current.this) line m.bodies.current.locals (world_of m ps) s m.left)
+-- what the loop hands on, if it puts nothing into fields
+abbrev pub begun_notes : PlainProgram → List Object → Frames → List ValueType → ℕ → Statement → List Note
+begun_notes p h m tys line loop = either (puts_nothing loop) (notes_of h m.left (section_at p h m tys line loop)) []

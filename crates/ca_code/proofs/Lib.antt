@@ -1,0 +1,7 @@
+pub mod Laying
+pub mod Operands
+pub mod Flowing
+pub mod Places
+pub mod LaidOut
+pub mod Params
+mod Examples

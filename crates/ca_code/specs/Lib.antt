@@ -1,0 +1,4 @@
+pub mod Seen
+pub mod Texts
+pub mod Codes
+pub mod clauses

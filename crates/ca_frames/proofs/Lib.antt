@@ -1,5 +1,0 @@
-pub mod Flagged
-pub mod Locals
-pub mod Nests
-pub mod Sites
-pub mod Stacks

@@ -1,2 +1,0 @@
-pub mod Instant
-pub mod clauses

@@ -1,0 +1,123 @@
+use Rattle.std.proofs.Common.{◌≡◌, ◌∙◌, refl, ap, sym, subst, [], List}
+use Rattle.std.specs.Prelude.{true, false, Contains, IfOk}
+use Rattle.std.proofs.lemmas.Result.{err_from_is_err_and}
+use Rattle.ca_program.specs.View.{program_view, statement_view}
+use Rattle.ca_program.specs.Instructions.{Code}
+use Rattle.ca_meaning.specs.Serial.{Note, World, in_heap}
+use Rattle.ca_parallel.specs.Lists.{either}
+use Rattle.ca_note_laws.specs.Listing.{puts_nothing}
+use Rattle.ca_sections.specs.declared.operations.SectionAnswer.{SectionAnswer}
+use Rattle.ca_sections.specs.Answers.{LoopIs}
+use Rattle.ca_code_laws.specs.Machine.{Comes}
+use Rattle.ca_code_laws.specs.Runs.{run_access}
+use Rattle.ca_steps.specs.Stands.{state_of}
+use Rattle.ca_serial.specs.clauses.Handing.{with_notes}
+use Rattle.ca_serial.specs.clauses.Loops.{BeginsAt, section_at, notes_of, begun_notes}
+use Rattle.ca_serial.proofs.Listed.{Stopped, trapped, spent, none_noted, unaccounted, none_yet, handed_all, handed_same, part_told, so_told, putting_enters, stopped_enters}
+use Rattle.ca_serial.proofs.Told.{none_told}
+use Rattle.ca_serial.proofs.listing.list_on.Goals as goal
+
+-- into a loop that puts something
+pub returns-then-not-puts_nothing : goal.returns-then-not-puts_nothing
+returns-then-not-puts_nothing g c =
+    let p = program_view c.args.run.now.program.now in
+    let m = c.args.frames.now in
+    let h = c.args.run.now.heap in
+    let loop = statement_view c.args.s.now in
+    let tys = c.args.types.now in
+    let put : puts_nothing loop ≡ false = sym c.puts_nothing.ensures ∙ c.if-not-puts_nothing.true in
+    let ns = begun_notes p h m tys c.args.line loop in
+    let none : ns ≡ [] = ap (λ b. either b (notes_of h m.left (section_at p h m tys c.args.line loop)) []) put in
+    record {
+      means = so_told c.go_in.result _ _ c.go_in.ensures (λ is c2 w b. putting_enters p c2 m c.args.count c.args.line loop tys b h w c.go_in.new.frames is put);
+      account = handed_all p _ _ c.go_in.result ns (unaccounted p _ ns none);
+      program = refl;
+    }
+
+pub returns-in_err-answer : goal.returns-in_err-answer
+returns-in_err-answer g c =
+    let p = program_view c.args.run.now.program.now in
+    let e = err_from_is_err_and c.from_residual.result c.from_residual.ensures.1 in
+    let ns = begun_notes p c.args.run.now.heap c.args.frames.now c.args.types.now c.args.line (statement_view c.args.s.now) in
+    record { means = none_told _ c.from_residual.result e.0 e.1; account = part_told p _ _ c.from_residual.result e.0 ns e.1 (none_yet p _ ns); program = refl }
+
+pub fill-requires : goal.fill-requires
+fill-requires g c = record { nothing = sym c.puts_nothing.ensures ∙ c.if-not-puts_nothing.false }
+
+pub run_listed-requires-clause-ready : goal.run_listed-requires-clause-ready
+run_listed-requires-clause-ready g c = λ κs o. c.requires.ready
+
+pub run_listed-requires-clause-program : goal.run_listed-requires-clause-program
+run_listed-requires-clause-program g c = λ κs o. c.requires.program
+
+pub run_listed-requires-clause-nothing : goal.run_listed-requires-clause-nothing
+run_listed-requires-clause-nothing g c = λ κs o. sym c.puts_nothing.ensures ∙ c.if-not-puts_nothing.false
+
+pub run_listed-requires-clause-handed : goal.run_listed-requires-clause-handed
+run_listed-requires-clause-handed g c = λ κs o n at.
+    let p = program_view c.args.run.now.program.now in
+    let m = c.args.frames.now in
+    let h = c.args.run.now.heap in
+    let loop = statement_view c.args.s.now in
+    let put : puts_nothing loop ≡ true = sym c.puts_nothing.ensures ∙ c.if-not-puts_nothing.false in
+    let same : begun_notes p h m c.args.types.now c.args.line loop ≡ notes_of h m.left (section_at p h m c.args.types.now c.args.line loop) =
+    ap (λ b. either b (notes_of h m.left (section_at p h m c.args.types.now c.args.line loop)) []) put in
+    c.requires.handed n (subst (λ l. Contains l n) (sym same) at)
+
+pub run_listed-requires-clause-listed : goal.run_listed-requires-clause-listed
+run_listed-requires-clause-listed g c = λ κs o.
+    subst (λ (a : SectionAnswer). LoopIs a (section_at (program_view c.args.run.now.program.now) c.args.run.now.heap c.args.frames.now c.args.types.now c.args.line (statement_view c.args.s.now)) [] c.fill.new.self.listed.items) c.in-Done.is c.in_ok-answer.ensures.listed
+
+pub run_listed-requires-clause-locals : goal.run_listed-requires-clause-locals
+run_listed-requires-clause-locals g c = λ κs o. c.in_ok-answer.ensures.locals
+
+pub returns-in-Done : goal.returns-in-Done
+returns-in-Done g c =
+    let p = program_view c.args.run.now.program.now in
+    let m = c.args.frames.now in
+    let h = c.args.run.now.heap in
+    let loop = statement_view c.args.s.now in
+    let tys = c.args.types.now in
+    let put : puts_nothing loop ≡ true = sym c.puts_nothing.ensures ∙ c.if-not-puts_nothing.false in
+    let same : begun_notes p h m tys c.args.line loop ≡ notes_of h m.left (section_at p h m tys c.args.line loop) = ap (λ b. either b (notes_of h m.left (section_at p h m tys c.args.line loop)) []) put in
+    record {
+      means = subst (λ (ns : List Note). IfOk c.run_listed.result (λ _. (c2 : Code) (w : World) → BeginsAt c2 m c.args.count c.args.line loop tys → Comes (run_access p) c2 (state_of m (in_heap w h)) (state_of c.run_listed.new.frames (in_heap (with_notes w ns) c.run_listed.new.run.heap)))) (sym same) c.run_listed.ensures.means;
+      account = handed_same p _ _ c.run_listed.result _ _ same c.run_listed.ensures.account;
+      program = c.run_listed.ensures.program;
+    }
+
+pub returns-in-Trapped : goal.returns-in-Trapped
+returns-in-Trapped g c =
+    let p = program_view c.args.run.now.program.now in
+    let m = c.args.frames.now in
+    let h = c.args.run.now.heap in
+    let loop = statement_view c.args.s.now in
+    let tys = c.args.types.now in
+    let put : puts_nothing loop ≡ true = sym c.puts_nothing.ensures ∙ c.if-not-puts_nothing.false in
+    let o = section_at p h m tys c.args.line loop in
+    let stop : Stopped o = trapped o c.in-Trapped.field-0 c.in_ok-answer.answer c.fill.new.self.listed.items c.in-Trapped.is c.in_ok-answer.ensures.listed in
+    let ns = begun_notes p h m tys c.args.line loop in
+    let none : ns ≡ [] = ap (λ b. either b (notes_of h m.left o) []) put ∙ none_noted h m.left o stop in
+    record {
+      means = so_told c.go_in-in-Trapped.result _ _ c.go_in-in-Trapped.ensures (λ is c2 w b. stopped_enters p c2 m c.args.count c.args.line loop tys b h w c.go_in-in-Trapped.new.frames is put stop);
+      account = handed_all p _ _ c.go_in-in-Trapped.result ns (unaccounted p _ ns none);
+      program = refl;
+    }
+
+pub returns-in-Spent : goal.returns-in-Spent
+returns-in-Spent g c =
+    let p = program_view c.args.run.now.program.now in
+    let m = c.args.frames.now in
+    let h = c.args.run.now.heap in
+    let loop = statement_view c.args.s.now in
+    let tys = c.args.types.now in
+    let put : puts_nothing loop ≡ true = sym c.puts_nothing.ensures ∙ c.if-not-puts_nothing.false in
+    let o = section_at p h m tys c.args.line loop in
+    let stop : Stopped o = spent o c.in_ok-answer.answer c.fill.new.self.listed.items c.in-Spent.is c.in_ok-answer.ensures.listed in
+    let ns = begun_notes p h m tys c.args.line loop in
+    let none : ns ≡ [] = ap (λ b. either b (notes_of h m.left o) []) put ∙ none_noted h m.left o stop in
+    record {
+      means = so_told c.go_in-in-Spent.result _ _ c.go_in-in-Spent.ensures (λ is c2 w b. stopped_enters p c2 m c.args.count c.args.line loop tys b h w c.go_in-in-Spent.new.frames is put stop);
+      account = handed_all p _ _ c.go_in-in-Spent.result ns (unaccounted p _ ns none);
+      program = refl;
+    }

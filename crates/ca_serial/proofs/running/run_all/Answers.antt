@@ -1,0 +1,253 @@
+use Rattle.std.proofs.Common.{◌≡◌, ◌∙◌, ◌-◌, ◌∷◌, [], refl, ap, sym, subst, arith, ⊎_elim, true, false}
+use Rattle.std.proofs.lemmas.List.Elements.{Contains-push}
+use Rattle.ca_program.specs.View.{program_view, statement_view}
+use Rattle.ca_meaning.specs.Serial.{in_heap}
+use Rattle.ca_parallel.specs.Accounts.{ReachedPart, at_first, by_one}
+use Rattle.ca_parallel.specs.Lists.{lists, note}
+use Rattle.ca_code.specs.Codes.{code_seen}
+use Rattle.ca_code_laws.specs.Machine.{Finished, Trapped, Spent}
+use Rattle.ca_code_laws.specs.Runs.{ended_as}
+use Rattle.ca_serial.specs.declared.running.Outcome.TheVariants.{Done, Trapped as Stopped, Spent as Exhausted}
+use Rattle.ca_serial.specs.Runs.{run_with}
+use Rattle.ca_serial.proofs.Endings.{rose_later}
+use Rattle.ca_serial.proofs.Handings.{stands_in}
+use Rattle.ca_serial.specs.clauses.Handing.{with_note, due_at}
+use Rattle.ca_serial.specs.clauses.Loops.{begun_notes}
+use Rattle.ca_steps.specs.Stands.{state_of}
+use Rattle.ca_serial.proofs.Hands.{leads_so}
+use Rattle.ca_serial.proofs.Going.{begins, on, prints_on, hands_on, lists_on, part_written, part_handed, print_begun, notes_handed, call_next, loop_next, ends}
+use Rattle.ca_serial.proofs.running.run_all.Goals as goal
+
+pub loop-init : goal.loop-init
+loop-init g c =
+    (begins g.E.Extents.Accounts (program_view c.args.run.now.program.now) (code_seen c.args.laid.now.code) c.args.laid.now.code.main c.args.budget _ _ c.args.frames.now c.args.run.now.heap c.requires.begins, omega arith, refl)
+
+pub returns-in-Fails : goal.returns-in-Fails
+returns-in-Fails g c =
+    let i = c.loop.invariant in
+    let p = program_view c.args.run.now.program.now in
+    record {
+      outcome = tt;
+      prints = record { whole = tt; part = part_written g.E.Extents.Accounts p (code_seen c.args.laid.now.code) c.args.laid.now.code.main c.args.budget _ _ c.requires.program c.args.marks.now c.requires.sound c.requires.laid i.0 };
+      write = tt;
+      later = i.1;
+      account = tt;
+      account_part = part_handed g.E.Extents.Accounts p (code_seen c.args.laid.now.code) c.args.laid.now.code.main c.args.budget _ _ c.requires.program c.args.marks.now c.requires.sound c.requires.laid i.0;
+    }
+
+pub returns-in-Traps : goal.returns-in-Traps
+returns-in-Traps g c =
+    let i = c.loop.invariant in
+    let p = program_view c.args.run.now.program.now in
+    let x = in_heap i.0.world c.run_on.new.run.heap in
+    let e = rw (i.2, c.in-Traps.is) at (c.run_on.ensures.event i.0.world) in
+    let end = ends g.E.Extents.Accounts p (code_seen c.args.laid.now.code) c.args.laid.now.code.main c.args.budget _ _ c.requires.program c.args.marks.now c.requires.sound c.requires.laid i.0 (Trapped c.in-Traps.trap x) x (Stopped c.in-Traps.trap) _ e refl refl i.0.reached refl in
+    record { outcome = end.outcome; prints = record { whole = end.whole; part = tt }; write = tt; later = i.1; account = end.account; account_part = tt }
+
+pub returns-in-Spends : goal.returns-in-Spends
+returns-in-Spends g c =
+    let i = c.loop.invariant in
+    let p = program_view c.args.run.now.program.now in
+    let x = in_heap i.0.world c.run_on.new.run.heap in
+    let e = rw (i.2, c.in-Spends.is) at (c.run_on.ensures.event i.0.world) in
+    let end = ends g.E.Extents.Accounts p (code_seen c.args.laid.now.code) c.args.laid.now.code.main c.args.budget _ _ c.requires.program c.args.marks.now c.requires.sound c.requires.laid i.0 (Spent x) x Exhausted _ e refl refl i.0.reached refl in
+    record { outcome = end.outcome; prints = record { whole = end.whole; part = tt }; write = tt; later = i.1; account = end.account; account_part = tt }
+
+pub returns-in-Ends : goal.returns-in-Ends
+returns-in-Ends g c =
+    let i = c.loop.invariant in
+    let p = program_view c.args.run.now.program.now in
+    let m = c.run_on.new.frames in
+    let h = c.run_on.new.run.heap in
+    let x = in_heap i.0.world h in
+    let e = rw (i.2, c.in-Ends.is) at (c.run_on.ensures.event i.0.world) in
+    let steps : c.args.budget - m.left ≡ c.saturating_sub.result = sym (c.saturating_sub.ensures ∙ ap (λ k. c.args.budget - k) c.left.ensures) in
+    let shows : ended_as c.args.budget (Finished x m.left) ≡ run_with i.0.world.prints (Done c.replace.result c.saturating_sub.result) =
+    ap (λ k. run_with i.0.world.prints (Done h k)) steps ∙ ap (λ (o : _). run_with i.0.world.prints (Done o c.saturating_sub.result)) (sym c.replace.ensures.value) in
+    let end = ends g.E.Extents.Accounts p (code_seen c.args.laid.now.code) c.args.laid.now.code.main c.args.budget _ _ c.requires.program c.args.marks.now c.requires.sound c.requires.laid i.0 (Finished x m.left) x (Done c.replace.result c.saturating_sub.result) _ e refl refl i.0.reached shows in
+    record { outcome = end.outcome; prints = record { whole = end.whole; part = tt }; write = tt; later = i.1; account = end.account; account_part = tt }
+
+-- ---- prints
+
+pub returns-in-Err : goal.returns-in-Err
+returns-in-Err g c =
+    let i = c.loop.invariant in
+    let p = program_view c.args.run.now.program.now in
+    let e = rw (i.2, c.in-Prints.is) at (c.run_on.ensures.event i.0.world) in
+    record {
+      outcome = tt;
+      prints = record { whole = tt; part = print_begun g.E.Extents.Accounts p (code_seen c.args.laid.now.code) c.args.laid.now.code.main c.args.budget _ _ c.requires.program c.args.marks.now c.requires.sound c.requires.laid i.0 c.run_on.new.frames c.run_on.new.run.heap c.in-Prints.value _ e c.in-Err.ensures.bytes.part };
+      write = rose_later _ _ _ i.1 c.in-Err.ensures.cause.failed;
+      later = omega (arith, i.1, c.in-Err.ensures.cause.later);
+      account = tt;
+      account_part = part_handed g.E.Extents.Accounts p (code_seen c.args.laid.now.code) c.args.laid.now.code.main c.args.budget _ _ c.requires.program c.args.marks.now c.requires.sound c.requires.laid i.0;
+    }
+
+pub loop-preserved-in_default : goal.loop-preserved-in_default
+loop-preserved-in_default g c =
+    let i = c.loop.invariant in
+    let p = program_view c.args.run.now.program.now in
+    let e = rw (i.2, c.in-Prints.is) at (c.run_on.ensures.event i.0.world) in (
+      prints_on g.E.Extents.Accounts p (code_seen c.args.laid.now.code) c.args.laid.now.code.main c.args.budget _ _ i.0 c.run_on.new.frames c.run_on.new.run.heap c.in-Prints.value _ e c.in_default.ensures.bytes.whole,
+      omega (arith, i.1, c.in_default.ensures.cause.later),
+      c.run_on.ensures.program ∙ i.2,
+    )
+
+-- ---- calls
+
+pub hand_on-requires-clause-ready : goal.hand_on-requires-clause-ready
+hand_on-requires-clause-ready g c = λ κs o. c.requires.ready
+
+pub hand_on-requires-clause-program : goal.hand_on-requires-clause-program
+hand_on-requires-clause-program g c = λ κs o. rw (c.run_on.ensures.program ∙ c.loop.invariant.2) c.requires.program
+
+pub hand_on-requires-clause-due : goal.hand_on-requires-clause-due
+hand_on-requires-clause-due g c = λ κs o.
+    let i = c.loop.invariant in
+    let e = rw (i.2, c.in-Hands.is) at (c.run_on.ensures.event i.0.world) in
+    record { stands = e.1; names = e.2 }
+
+pub hand_on-requires-clause-good : goal.hand_on-requires-clause-good
+hand_on-requires-clause-good g c = λ κs o.
+    let i = c.loop.invariant in
+    let p = program_view c.args.run.now.program.now in
+    let code = code_seen c.args.laid.now.code in
+    let m = c.run_on.new.frames in
+    let h = c.run_on.new.run.heap in
+    let e = rw (i.2, c.in-Hands.is) at (c.run_on.ensures.event i.0.world) in
+    let next = on g.E.Extents.Accounts p code c.args.laid.now.code.main c.args.budget _ _ i.0 m h e.0 in
+    let n = note h (due_at code m c.in-Hands.op c.in-Hands.first c.in-Hands.receiver ∷ []) m.left in
+    let split = call_next g.E.Extents.Accounts p code c.args.laid.now.code.main c.args.budget _ _ c.requires.program c.args.marks.now c.requires.sound c.requires.laid next c.in-Hands.op c.in-Hands.first c.in-Hands.receiver (record { stands = e.1; names = e.2 }) in
+    rw (c.run_on.ensures.program ∙ i.2) (c.requires.good n (stands_in (lists p c.args.marks.now c.args.budget) next.world.notes (n ∷ []) split n (Contains-push [] n))).0
+
+pub hand_on-requires-clause-serves : goal.hand_on-requires-clause-serves
+hand_on-requires-clause-serves g c = λ κs o.
+    let i = c.loop.invariant in
+    let p = program_view c.args.run.now.program.now in
+    let code = code_seen c.args.laid.now.code in
+    let m = c.run_on.new.frames in
+    let h = c.run_on.new.run.heap in
+    let e = rw (i.2, c.in-Hands.is) at (c.run_on.ensures.event i.0.world) in
+    let next = on g.E.Extents.Accounts p code c.args.laid.now.code.main c.args.budget _ _ i.0 m h e.0 in
+    let n = note h (due_at code m c.in-Hands.op c.in-Hands.first c.in-Hands.receiver ∷ []) m.left in
+    let split = call_next g.E.Extents.Accounts p code c.args.laid.now.code.main c.args.budget _ _ c.requires.program c.args.marks.now c.requires.sound c.requires.laid next c.in-Hands.op c.in-Hands.first c.in-Hands.receiver (record { stands = e.1; names = e.2 }) in
+    (c.requires.good n (stands_in (lists p c.args.marks.now c.args.budget) next.world.notes (n ∷ []) split n (Contains-push [] n))).1
+
+pub returns-in_default-hand_on : goal.returns-in_default-hand_on
+returns-in_default-hand_on g c =
+    let i = c.loop.invariant in
+    let p = program_view c.args.run.now.program.now in
+    let code = code_seen c.args.laid.now.code in
+    let m = c.run_on.new.frames in
+    let h = c.run_on.new.run.heap in
+    let e = rw (i.2, c.in-Hands.is) at (c.run_on.ensures.event i.0.world) in
+    let next = on g.E.Extents.Accounts p code c.args.laid.now.code.main c.args.budget _ _ i.0 m h e.0 in
+    let n = note h (due_at code m c.in-Hands.op c.in-Hands.first c.in-Hands.receiver ∷ []) m.left in
+    let split = call_next g.E.Extents.Accounts p code c.args.laid.now.code.main c.args.budget _ _ c.requires.program c.args.marks.now c.requires.sound c.requires.laid next c.in-Hands.op c.in-Hands.first c.in-Hands.receiver (record { stands = e.1; names = e.2 }) in
+    let all = lists p c.args.marks.now c.args.budget in
+    let kept = rw (c.run_on.ensures.program ∙ i.2) at c.in_default-hand_on.ensures.account_kept in
+    record {
+      outcome = tt;
+      prints = record { whole = tt; part = part_written g.E.Extents.Accounts p code c.args.laid.now.code.main c.args.budget _ _ c.requires.program c.args.marks.now c.requires.sound c.requires.laid i.0 };
+      write = tt;
+      later = i.1;
+      account = tt;
+      account_part =
+          ⊎_elim (λ same. subst (λ b. ReachedPart g.E.Extents.Accounts p (g.E.Extents.account c.args.engine.now) all b) (sym same) (part_handed g.E.Extents.Accounts p code c.args.laid.now.code.main c.args.budget _ _ c.requires.program c.args.marks.now c.requires.sound c.requires.laid next))
+          (λ st. notes_handed g.E.Extents.Accounts p code c.args.laid.now.code.main c.args.budget _ _ c.requires.program c.args.marks.now c.requires.sound c.requires.laid next (n ∷ []) _ split (record { done = n ∷ []; rest = []; whole = refl; reached = by_one n at_first st })) kept;
+    }
+
+pub returns-then-not-goes : goal.returns-then-not-goes
+returns-then-not-goes g c =
+    let i = c.loop.invariant in
+    let p = program_view c.args.run.now.program.now in
+    let code = code_seen c.args.laid.now.code in
+    let m = c.run_on.new.frames in
+    let h = c.run_on.new.run.heap in
+    let e = rw (i.2, c.in-Hands.is) at (c.run_on.ensures.event i.0.world) in
+    let next = on g.E.Extents.Accounts p code c.args.laid.now.code.main c.args.budget _ _ i.0 m h e.0 in
+    let is = due_at code m c.in-Hands.op c.in-Hands.first c.in-Hands.receiver ∷ [] in
+    let x = in_heap (with_note (in_heap next.world h) is m.left) c.hand_on.new.run.heap in
+    let same : program_view c.run_on.new.run.program.now ≡ p = rw (c.run_on.ensures.program ∙ i.2) refl in
+    let spends = leads_so p _ code (state_of m (in_heap next.world h)) _ false c.hand_on.new.frames x same c.if-not-goes.true (c.in-Ok.ensures.means next.world) in
+    let step = rw (c.run_on.ensures.program ∙ i.2) at c.in-Ok.ensures.account in
+    let end = ends g.E.Extents.Accounts p code c.args.laid.now.code.main c.args.budget _ _ c.requires.program c.args.marks.now c.requires.sound c.requires.laid next (Spent x) x Exhausted _ spends refl refl (by_one (note h is m.left) next.reached step) refl in
+    record { outcome = end.outcome; prints = record { whole = end.whole; part = tt }; write = tt; later = i.1; account = end.account; account_part = tt }
+
+pub loop-preserved-else-not-goes : goal.loop-preserved-else-not-goes
+loop-preserved-else-not-goes g c =
+    let i = c.loop.invariant in
+    let p = program_view c.args.run.now.program.now in
+    let code = code_seen c.args.laid.now.code in
+    let m = c.run_on.new.frames in
+    let h = c.run_on.new.run.heap in
+    let e = rw (i.2, c.in-Hands.is) at (c.run_on.ensures.event i.0.world) in
+    let next = on g.E.Extents.Accounts p code c.args.laid.now.code.main c.args.budget _ _ i.0 m h e.0 in
+    let is = due_at code m c.in-Hands.op c.in-Hands.first c.in-Hands.receiver ∷ [] in
+    let same : program_view c.run_on.new.run.program.now ≡ p = rw (c.run_on.ensures.program ∙ i.2) refl in
+    let x = in_heap (with_note (in_heap next.world h) is m.left) c.hand_on.new.run.heap in
+    let goes = leads_so p _ code (state_of m (in_heap next.world h)) _ true c.hand_on.new.frames x same c.if-not-goes.false (c.in-Ok.ensures.means next.world) in
+    let step = rw (c.run_on.ensures.program ∙ i.2) at c.in-Ok.ensures.account in
+    (hands_on g.E.Extents.Accounts p code c.args.laid.now.code.main c.args.budget _ _ next c.hand_on.new.frames c.hand_on.new.run.heap is m.left _ goes step, i.1, c.in-Ok.ensures.program ∙ (c.run_on.ensures.program ∙ i.2))
+
+-- ---- loops
+
+pub list_on-requires-clause-ready : goal.list_on-requires-clause-ready
+list_on-requires-clause-ready g c = λ κs o. c.requires.ready
+
+pub list_on-requires-clause-program : goal.list_on-requires-clause-program
+list_on-requires-clause-program g c = λ κs o. rw (c.run_on.ensures.program ∙ c.loop.invariant.2) c.requires.program
+
+pub list_on-requires-clause-handed : goal.list_on-requires-clause-handed
+list_on-requires-clause-handed g c =
+    let i = c.loop.invariant in
+    let p = program_view c.args.run.now.program.now in
+    let code = code_seen c.args.laid.now.code in
+    let m = c.run_on.new.frames in
+    let h = c.run_on.new.run.heap in
+    let loop = statement_view c.in-Begins.s.now in
+    let tys = c.in-Begins.types.now in
+    let e = rw (i.2, c.in-Begins.is) at (c.run_on.ensures.event i.0.world) in
+    let next = on g.E.Extents.Accounts p code c.args.laid.now.code.main c.args.budget _ _ i.0 m h e.0 in
+    let ns = begun_notes p h m tys c.in-Begins.line loop in
+    let split = loop_next g.E.Extents.Accounts p code c.args.laid.now.code.main c.args.budget _ _ c.requires.program c.args.marks.now c.requires.sound c.requires.laid next c.in-Begins.count c.in-Begins.line loop tys (record { stands = e.1; on_line = e.2; is = e.3 }) in
+    rw (c.run_on.ensures.program ∙ i.2) (λ κs o n at. c.requires.good n (stands_in (lists p c.args.marks.now c.args.budget) next.world.notes ns split n at))
+
+pub returns-in-Err-list_on : goal.returns-in-Err-list_on
+returns-in-Err-list_on g c =
+    let i = c.loop.invariant in
+    let p = program_view c.args.run.now.program.now in
+    let code = code_seen c.args.laid.now.code in
+    let m = c.run_on.new.frames in
+    let h = c.run_on.new.run.heap in
+    let loop = statement_view c.in-Begins.s.now in
+    let tys = c.in-Begins.types.now in
+    let e = rw (i.2, c.in-Begins.is) at (c.run_on.ensures.event i.0.world) in
+    let next = on g.E.Extents.Accounts p code c.args.laid.now.code.main c.args.budget _ _ i.0 m h e.0 in
+    let ns = begun_notes p h m tys c.in-Begins.line loop in
+    let split = loop_next g.E.Extents.Accounts p code c.args.laid.now.code.main c.args.budget _ _ c.requires.program c.args.marks.now c.requires.sound c.requires.laid next c.in-Begins.count c.in-Begins.line loop tys (record { stands = e.1; on_line = e.2; is = e.3 }) in
+    let account = rw (c.run_on.ensures.program ∙ i.2) at c.in-Err-list_on.ensures.account in
+    record {
+      outcome = tt;
+      prints = record { whole = tt; part = part_written g.E.Extents.Accounts p code c.args.laid.now.code.main c.args.budget _ _ c.requires.program c.args.marks.now c.requires.sound c.requires.laid i.0 };
+      write = tt;
+      later = i.1;
+      account = tt;
+      account_part = notes_handed g.E.Extents.Accounts p code c.args.laid.now.code.main c.args.budget _ _ c.requires.program c.args.marks.now c.requires.sound c.requires.laid next ns _ split account.part;
+    }
+
+pub loop-preserved : goal.loop-preserved
+loop-preserved g c =
+    let i = c.loop.invariant in
+    let p = program_view c.args.run.now.program.now in
+    let code = code_seen c.args.laid.now.code in
+    let m = c.run_on.new.frames in
+    let h = c.run_on.new.run.heap in
+    let loop = statement_view c.in-Begins.s.now in
+    let tys = c.in-Begins.types.now in
+    let e = rw (i.2, c.in-Begins.is) at (c.run_on.ensures.event i.0.world) in
+    let next = on g.E.Extents.Accounts p code c.args.laid.now.code.main c.args.budget _ _ i.0 m h e.0 in
+    let ns = begun_notes p h m tys c.in-Begins.line loop in
+    let goes = rw (c.run_on.ensures.program ∙ i.2) at (c.in_default-list_on.ensures.means code next.world (record { stands = e.1; on_line = e.2; is = e.3 })) in
+    let account = rw (c.run_on.ensures.program ∙ i.2) at c.in_default-list_on.ensures.account in
+    (lists_on g.E.Extents.Accounts p code c.args.laid.now.code.main c.args.budget _ _ next c.list_on.new.frames c.list_on.new.run.heap ns _ goes account.all, i.1, c.in_default-list_on.ensures.program ∙ (c.run_on.ensures.program ∙ i.2))

@@ -1,0 +1,20 @@
+pub mod Framed
+pub mod Stores
+pub mod Loading
+pub mod Operating
+pub mod Ties
+pub mod Going
+pub mod Bodies
+pub mod Anywhere
+pub mod Told
+pub mod Staying
+pub mod Calling
+pub mod Entering
+pub mod Halting
+pub mod Creating
+pub mod Opping
+pub mod Opped
+pub mod Reaching
+pub mod Turning
+pub mod Handing
+mod Examples

@@ -1,0 +1,5 @@
+pub mod Doing
+pub mod Ops
+pub mod Stands
+pub mod Ties
+pub mod clauses

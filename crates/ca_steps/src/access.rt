@@ -1,0 +1,54 @@
+//! How a world is accessed.
+
+ghost use Rattle.std.specs.Prelude.{◌≡◌, IfSome, ℕ, slice_get, true};
+ghost use Rattle.ca_meaning.specs.Expressions.{one_in};
+ghost use Rattle.ca_code_laws.specs.Machine.{Accesses, Back};
+ghost use Rattle.ca_steps.specs.clauses.Telling.{Looks};
+
+use ca_model::{Heap, Value};
+use ca_program::FieldId;
+
+/// What an index finds: an item, at its place; nothing; or it isn't told.
+#[derive(Clone, Copy)]
+pub enum Look {
+    Holds(u32, Value),
+    Outside,
+    Unknown,
+}
+
+/// A world, as far as instructions access it within a frame.
+pub trait Access {
+    ghost use Rattle.std.specs.Prelude.{List};
+    ghost use Rattle.ca_model.specs.declared.value.Value.{Value as Datum};
+    ghost use Rattle.ca_code_laws.specs.Machine.{Accesses, Back};
+
+    ghost World: { Type 0 };
+
+    /// What a world has besides that isn't kept in memory, as what was printed.
+    ghost Past: { Type 0 };
+
+    ghost world: { Self → Past → World };
+
+    ghost accesses: { Self → Accesses World };
+
+    /// Which bodies may stand below.
+    ghost Fits: { Self → List Back → Type 0 };
+
+    /// The single value of an own field.
+    fn own(&self, this: Value, f: FieldId) -> Option<Value>
+        ensures { IfSome result (λ v. (past : Past) (bs : List Back) → Fits self.now bs → one_in (slice_get ((accesses self.now).own bs (world self.now past) this) f.field) ≡ v) };
+
+    /// An item of an own field.
+    fn own_item(&self, this: Value, f: FieldId, index: i64) -> Look
+        ensures { (past : Past) (bs : List Back) (line k : ℕ) → Fits self.now bs → Looks line (slice_get ((accesses self.now).own bs (world self.now past) this) f.field) index k result };
+
+    /// The heap in which other objects are read.
+    fn heap(&self) -> &Heap
+        ensures { (past : Past) → result.now ≡ (accesses self.now).heap (world self.now past) };
+
+    /// Puts a value into an item of an own field, if there is one.
+    fn put(&mut self, this: Value, f: FieldId, item: u32, value: Value) -> bool
+        ensures put { result ≡ true → (past : Past) → world self.new past ≡ (accesses self.old).put (world self.old past) this f item value }
+        ensures accesses { accesses self.new ≡ accesses self.old }
+        ensures fits { (bs : List Back) → Fits self.old bs → Fits self.new bs };
+}

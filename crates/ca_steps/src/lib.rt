@@ -1,0 +1,42 @@
+//! Instructions, one after the other: in the frame of a body, and from frame to frame.
+#![tactic(auto)]
+
+mod access;
+mod body;
+mod calls;
+mod choosing;
+mod creations;
+mod fast;
+mod frames;
+mod fused;
+mod handed;
+mod here;
+mod loads;
+mod numbers;
+mod objects;
+mod ops;
+mod pairing;
+mod pieces;
+mod ran;
+mod row;
+mod run;
+mod running;
+mod stack;
+mod step;
+mod words;
+
+pub use access::{Access, Look};
+pub use body::run_body;
+pub use calls::Went;
+pub use choosing::ops_of;
+pub use creations::Made;
+pub use fast::do_op;
+pub use frames::{Frames, Waiting};
+pub use loads::{Read, Target};
+pub use numbers::Out;
+pub use ops::{Narrow, Op};
+pub use ran::{Exit, Ran, Stop};
+pub use run::InRun;
+pub use running::{Event, Laid, run_on};
+pub use step::{Step, do_one};
+pub use words::{has_kind, read_as, word};

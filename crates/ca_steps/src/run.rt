@@ -1,0 +1,78 @@
+//! The world of a run: everything is read and put in the heap.
+
+ghost use Rattle.std.specs.Prelude.{◌≡◌, true};
+ghost use Rattle.ca_meaning.specs.Serial.{put_own};
+
+use crate::access::{Access, Look};
+use crate::loads::{field_of, look_at};
+use ca_model::{Heap, Value};
+use ca_program::{FieldId, Program};
+
+/// Puts a value into an item of a field of the object that a value names, if there is one.
+#[inline(always)]
+pub(crate) fn store(heap: &mut Heap, this: Value, f: FieldId, item: u32, value: Value) -> bool
+    ensures { result ≡ true → heap.new ≡ put_own heap.old this f item value }
+{
+    let Value::Ref(n) = this else {
+        return false;
+    };
+    if heap.has_slot(n, f.field, item) {
+        heap.store(n, f.field, item, value);
+        true
+    } else {
+        false
+    }
+}
+
+/// A run of a program, with its heap. What it has printed and noted is past.
+#[derive(Drop)]
+pub struct InRun<'a> {
+    pub program: &'a Program,
+    pub heap: Heap,
+}
+
+impl<'a> Access for InRun<'a> {
+    ghost use Rattle.ca_program.specs.View.{program_view};
+    ghost use Rattle.ca_meaning.specs.Serial.{World as RunWorld, in_heap};
+    ghost use Rattle.ca_code_laws.specs.Runs.{run_access};
+
+    ghost World = { RunWorld };
+
+    ghost Past = { RunWorld };
+
+    ghost world = { λ s past. in_heap past s.heap };
+
+    ghost accesses = { λ s. run_access (program_view s.program.now) };
+
+    ghost Fits = { λ s bs. Unit {0} };
+
+    #[inline(always)]
+    fn own(&self, this: Value, f: FieldId) -> Option<Value> {
+        match this {
+            Value::Ref(n) => Some(field_of(&self.heap, n, f)),
+            Value::Null => Some(Value::Null),
+            Value::Long(_) => Some(Value::Null),
+            Value::Bool(_) => Some(Value::Null),
+        }
+    }
+
+    #[inline(always)]
+    fn own_item(&self, this: Value, f: FieldId, index: i64) -> Look {
+        match this {
+            Value::Ref(n) => look_at(&self.heap, n, f, index),
+            Value::Null => Look::Outside,
+            Value::Long(_) => Look::Outside,
+            Value::Bool(_) => Look::Outside,
+        }
+    }
+
+    #[inline(always)]
+    fn heap(&self) -> &Heap {
+        &self.heap
+    }
+
+    #[inline(always)]
+    fn put(&mut self, this: Value, f: FieldId, item: u32, value: Value) -> bool {
+        store(&mut self.heap, this, f, item, value)
+    }
+}
