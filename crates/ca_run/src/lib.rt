@@ -9,8 +9,8 @@
 //! is copied beside it when it is first changed (`ca_beside`), and only a run that is done puts these into the heap. So a
 //! run costs what it touches, and one that isn't done has nothing to put back. What is handed in is run by reference, each
 //! behind all that the one before it listed.
-//! `run_round` runs waiting operations; its clause is a run of the pending machine, from where it began to where it ended,
-//! of as many operations as its limit says, or of fewer where none waits any more.
+//! `run_round` runs operations that were handed in, and what they list; its clause is a run of the pending machine, from where it
+//! began to where it ended, of as many operations as its limit says, or of fewer where none waits any more.
 //! `OneWorker::traced` runs the same and adds the lines of a schedule (`ca_trace`), one for each operation in the order in
 //! which they ran.
 //! `specs/Rounds.antt` says what a round leaves, `specs/Traced.antt` which lines are added.

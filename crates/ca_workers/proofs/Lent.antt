@@ -13,7 +13,7 @@ use Rattle.ca_parallel.specs.Extents.{Extent}
 use Rattle.ca_run.specs.Rounds.{RanTo}
 use Rattle.ca_sum_laws.specs.Replicas.{MayRun}
 use Rattle.ca_workers.specs.clauses.Runs.{with_lent}
-use Rattle.ca_workers.proofs.Beginning.{calls_of_tasks, tasks_begin}
+use Rattle.ca_workers.proofs.Beginning.{calls_of_tasks, task_calls_are, tasks_begin}
 use Rattle.ca_workers.proofs.Parts.{take_front, drop_front}
 
 abbrev begun : List Op → List Task
@@ -95,6 +95,11 @@ none_begin ts none = subst (All (λ (t : Task). t.after ≡ 0)) (sym none) (All-
 -- calls that are lent, behind which no task waits
 pub lent_calls : (calls : List Op) (ts : List Task) → ts ≡ [] → task_calls (with_lent calls ts) ≡ invocations_of calls
 lent_calls calls ts none = ap (λ us. task_calls (begun calls ++ us)) none ∙ (ap task_calls (append-nil (begun calls)) ∙ calls_of_tasks calls)
+
+-- calls that are lent, and tasks of others behind them
+pub both_calls : (calls ws : List Op) (ts : List Task) → ts ≡ map (task_after 0) ws → task_calls (with_lent calls ts) ≡ invocations_of calls ++ invocations_of ws
+both_calls calls ws ts is = map-append call_of (begun calls) ts
+    ∙ (ap (λ (js : List Invocation). js ++ task_calls ts) (calls_of_tasks calls) ∙ ap (λ (js : List Invocation). invocations_of calls ++ js) (task_calls_are ws ts is))
 
 -- neither calls nor tasks
 pub none_wait : (calls : List Op) (ts : List Task) → length calls + length ts ≡ 0 → task_calls (with_lent calls ts) ≡ []

@@ -1,5 +1,8 @@
 //! Which lists of operations begin with a round, by how the lists before them ended. No clause speaks of it.
 
+/// Lists of more operations run alone first in any case.
+const MOST_AT_ONCE: usize = 256;
+
 /// The most lists that run alone first behind one that wasn't worth a round.
 const MOST_ALONE: u32 = 65_536;
 
@@ -16,8 +19,11 @@ impl Habit {
         Habit { alone: 0, next: 1 }
     }
 
-    /// Whether the list that comes now runs alone first.
-    pub fn goes_alone(&mut self) -> bool {
+    /// Whether the list that comes now, of so many operations, runs alone first.
+    pub fn goes_alone(&mut self, count: usize) -> bool {
+        if count > MOST_AT_ONCE {
+            return true;
+        }
         if self.alone == 0 {
             return false;
         }
@@ -25,8 +31,8 @@ impl Habit {
         true
     }
 
-    /// A list ended within rounds that were worth less than their start: as many lists run alone first as were to, and twice as
-    /// many behind the next such list.
+    /// A list ended within rounds, and alone it would not have outlasted what runs first: as many lists run alone first as were to,
+    /// and twice as many behind the next such list.
     pub fn was_small(&mut self) {
         self.alone = self.next;
         self.next = self.next.saturating_mul(2).min(MOST_ALONE);

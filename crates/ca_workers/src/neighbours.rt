@@ -83,17 +83,14 @@ impl Neighbours {
         true
     }
 
-    /// Whether the last one of these operations, which runs now, passes the gate.
+    /// Whether an operation, which runs now, passes the gate.
     pub fn pass_with(
         &mut self,
         alloc: Global,
         program: &Program,
         known: &mut Vec<Known>,
-        waiting: &Vec<Op>,
+        op: &Op,
     ) -> bool {
-        match waiting.last() {
-            Some(op) => takes_lock(alloc, program, known, op.op) && self.begins(op.receiver),
-            None => false,
-        }
+        takes_lock(alloc, program, known, op.op) && self.begins(op.receiver)
     }
 }

@@ -9,17 +9,23 @@ use ca_program::Program;
 use ca_replica::summed;
 use std::alloc::Global;
 
-/// The calling thread goes on alone as long as a single operation waits, and until it ran so many statements, about ten times
-/// as many as a round's start is worth,
-const ALONE: u64 = 6_000;
+/// The calling thread goes on alone as long as a single operation waits, and until what it ran weighs so much, about ten times what
+/// a round's start is worth,
+pub const ALONE: u64 = 18_000;
 
-/// and so many for each object, since light work on many objects gains nothing by rounds in cells. Where the operations only sum,
-/// a round costs what it touches, and one for each object will do.
-const ALONE_AN_OBJECT: u64 = 24;
+/// and so much for each object, since light work on many objects gains nothing by rounds in cells.
+const ALONE_AN_OBJECT: u64 = 72;
 
-/// It ends earlier where half as many wait as it would run; on a heap of so many objects where twice as many do, and so on: who takes
-/// an object there looks for it among many.
+/// Where the operations only sum, a round costs what it touches, and so much for each object will do.
+const ALONE_AN_OBJECT_OF_SUMS: u64 = 3;
+
+/// In cells, on a heap of so many objects twice as much has to run or wait, on one of twice as many three times as much, and so
+/// on: who takes an object there looks for it among many.
 const MANY_OBJECTS: u32 = 32_768;
+
+/// Operations that weigh less gain nothing by rounds in cells, on the mean of what ran and what that listed: a task with its claim and
+/// its history costs more.
+const LIGHT: u64 = 40;
 
 /// When the calling thread has run enough. Whether the operations only sum is asked once, when that makes a difference.
 #[derive(Drop)]
@@ -31,7 +37,7 @@ pub struct Patience<'s> {
     objects: u32,
     values: u32,
     enough: u64,
-    much: u64,
+    light: u64,
     asks: bool,
     ghost some: { 0 < workers },
 }
@@ -55,28 +61,40 @@ impl<'s> Patience<'s> {
             workers,
             objects,
             values,
-            enough: ALONE + u64::from(objects),
-            much: 0,
+            enough: ALONE + ALONE_AN_OBJECT_OF_SUMS * u64::from(objects),
+            light: LIGHT,
             asks: true,
         }
     }
 
-    /// Whether so many statements are enough, where so many wait.
-    pub fn is_over(&mut self, ran: u64, wait: u64) -> bool {
+    /// Whether it is enough that so many operations ran, of this weight together, where the next one weighs so much, and so many wait
+    /// that they listed, and so many in all.
+    pub fn is_over(&mut self, ran: u64, count: u64, weight: u64, listed: u64, waits: u64) -> bool {
         if self.asks {
             if ran < self.enough {
                 return false;
             }
             self.asks = false;
-            if self.only_sums() {
-                self.enough = 0;
-            } else {
-                self.enough = ALONE + ALONE_AN_OBJECT * u64::from(self.objects);
-            }
-            let large = self.objects / MANY_OBJECTS;
-            self.much = self.enough.saturating_mul(u64::from(large) + 1);
+            self.decide();
         }
-        ran >= self.enough || wait.saturating_mul(2).saturating_add(ran) >= self.much
+        let wait = weight.saturating_mul(waits);
+        if ran.saturating_add(wait).saturating_add(wait) < self.enough {
+            return false;
+        }
+        let all = ran.saturating_add(weight.saturating_mul(listed));
+        all >= count.saturating_add(listed).saturating_mul(self.light)
+    }
+
+    /// How much is enough, by what the operations do.
+    fn decide(&mut self) {
+        if self.only_sums() {
+            self.enough = 0;
+            self.light = 0;
+        } else {
+            let large = u64::from(self.objects / MANY_OBJECTS) + 1;
+            let alone = ALONE + ALONE_AN_OBJECT * u64::from(self.objects);
+            self.enough = alone.saturating_mul(large);
+        }
     }
 
     /// Whether the rounds will be rounds of sums.
