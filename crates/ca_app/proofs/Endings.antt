@@ -1,7 +1,7 @@
 -- What was given is the one reply that there is.
-use Rattle.std.proofs.Common.{◌≡◌, ℕ, true, false, List, ◌++◌, Option, Result, Ok, Err, ◌⊎◌, inl, inr, refl, ap, sym, ◌∙◌, subst, arith}
+use Rattle.std.proofs.Common.{◌≡◌, ℕ, List, [], ◌++◌, Option, Result, Ok, Err, ◌⊎◌, inl, inr, refl, ap, sym, ◌∙◌, subst, arith}
 use Rattle.ca_base.specs.Devices.{Rose, HasCause, Writes, Began, grown}
-use Rattle.ca_base.proofs.Writing.{began_more, writes_after}
+use Rattle.ca_base.proofs.Writing.{began_more, grown_nothing, writes_after}
 use Rattle.ca_tree.specs.declared.name.Place.{Place}
 use Rattle.ca_tree.specs.Plain.{TextTree}
 use Rattle.ca_program.specs.Plain.{PlainProgram}
@@ -12,26 +12,21 @@ use Rattle.ca_meaning.specs.Output.{Reply, output, reply_of, prints_text, trap_t
 use Rattle.ca_parallel.specs.Marks.{SoundMarks}
 use Rattle.ca_serial.specs.Runs.{prints_of}
 use Rattle.ca_words.specs.declared.Command.{Command}
-use Rattle.ca_words.specs.declared.Command.TheVariants.{OnText, Alone, Trace, Verify}
 use Rattle.ca_words.specs.declared.TextCommand.{TextCommand}
 use Rattle.ca_words.specs.declared.TextCommand.TheVariants.{Run, Tell}
 use Rattle.ca_words.specs.declared.PlanCommand.{PlanCommand}
 use Rattle.ca_words.specs.declared.PlanCommand.TheVariants.{Pairs, Plan, Emit}
-use Rattle.ca_words.specs.declared.LoneCommand.{LoneCommand}
 use Rattle.ca_words.specs.declared.LoneCommand.TheVariants.{Gen, Load}
-use Rattle.ca_words.specs.Words.{Names, reads}
-use Rattle.ca_words.proofs.OneCommand.{one_command}
 use Rattle.ca_plan.specs.Plans.{PlainPlan, PlanOf, CommuteAsTold}
 use Rattle.ca_plan.specs.Texts.{pairs_text, plan_text}
 use Rattle.ca_emit.specs.Annotations.{annotated_text}
 use Rattle.ca_app.specs.Refusals.{refusal_reply}
 use Rattle.ca_app.specs.clauses.Reading.{HasOneTree, IsProgramOf, IsRefusalOf}
-use Rattle.ca_app.specs.Reply.{ProgramReplies, runs, tells, CommandReplies, refuses, serves, IsLoaded, UnreadReplies, generates, loads, Replies, usage, unread, named, untraced, verifies, usage_reply, generated_reply, loaded_reply}
+use Rattle.ca_app.specs.Reply.{ProgramReplies, runs, tells, CommandReplies, refuses, serves, IsLoaded, UnreadReplies, generates, loads, Replies, generated_reply, loaded_reply}
 use Rattle.ca_app.specs.Ends.{Ends, whole, no_memory, read_fault, write_fault, Unreplied, EndsWith, status_after}
 use Rattle.ca_app.specs.Told.{Tells, verdicts, marks, annotated, ProgramTold, CommandTold}
-use Rattle.ca_app.proofs.OneReply.{program_reply, command_reply, unread_reply, other_kind, same_text, same_alone, same_budget, one_reply}
-use Rattle.ca_app.specs.Verified.{VerifyReplies}
-use Rattle.ca_app.specs.Causes.{IsUsageFault, ReadsNothing, ReadsSource}
+use Rattle.ca_app.proofs.Asked.{Asks, RepliesTo, replies_of, replies_to}
+use Rattle.ca_app.proofs.OneReply.{program_reply, command_reply, unread_reply}
 
 -- what came of writing a reply
 pub ends_written : {T E : Type 0} (r : Result T E) (status ended : ℕ) (bytes : List ℕ) (old now : Option (List ℕ)) → Writes old now r bytes → ended ≡ status_after r status → Ends (record { status = status; bytes = bytes }) ended old now
@@ -47,6 +42,22 @@ after_six (Err x) status ended e other six = absurd (omega arith)
 pub after_seven : {T E : Type 0} (before now : ℕ) (r : Result T E) (status ended : ℕ) → HasCause before now r → ended ≡ status_after r status → (status ≡ 7 → ⊥) → ended ≡ 7 → Rose before now
 after_seven before now (Ok x) status ended cause e other seven = absurd (other (sym e ∙ seven))
 after_seven before now (Err x) status ended cause e other seven = cause.failed
+
+-- words that name no command are told so, or the write failed
+pub usage_cause : {T E : Type 0} (r : Result T E) (ended : ℕ) → ended ≡ status_after r 2 → (ended ≡ 2) ⊎ (ended ≡ 7)
+usage_cause (Ok x) ended e = inl e
+usage_cause (Err x) ended e = inr e
+
+-- a call that ended before there was a reply ended with each
+ends_unreplied : {status : ℕ} {old now : Option (List ℕ)} → Unreplied status old now → (reply : Reply) → Ends reply status old now
+ends_unreplied {status} {old} {now} u reply = from u.cause
+  where
+    from : (status ≡ 5) ⊎ (status ≡ 6) → Ends reply status old now
+    from (inl e) = no_memory e (record { done = []; rest = reply.bytes; whole = refl; told = u.same ∙ sym (grown_nothing old) })
+    from (inr e) = read_fault e u.same
+
+pub unreplied_ends : {replies : Reply → Type 0} {status : ℕ} {old now : Option (List ℕ)} → Unreplied status old now → EndsWith replies status old now
+unreplied_ends u = record { some = inl u; each = λ reply is. ends_unreplied u reply }
 
 module _ {status : ℕ} {old now : Option (List ℕ)} where
   pub only_reply : (replies : Reply → Type 0) (is : Reply) → replies is → ((reply : Reply) → replies reply → reply ≡ is) → Ends is status old now → EndsWith replies status old now
@@ -162,70 +173,14 @@ no_telling workers budget told e = absurd cc
 pub same_telling : (c d : PlanCommand) → ◌≡◌ {A = TextCommand} (Tell c) (Tell d) → c ≡ d
 same_telling c d e = cc
 
-module _ {words : List (List ℕ)} {text : List ℕ} {status : ℕ} {old now : Option (List ℕ)} where
-  pub ends_usage : IsUsageFault words → Ends usage_reply status old now → EndsWith (Replies words text) status old now
-  ends_usage fault = only_reply (Replies words text) usage_reply (usage fault) (λ reply this. one_reply this (usage fault))
-
-  -- a command that reads nothing replies so whatever the text
-  pub ends_unread : (command : LoneCommand) → Names words (Alone command) → EndsWith (UnreadReplies command) status old now → EndsWith (Replies words text) status old now
-  ends_unread command names ends = record { some = some ends.some; each = each }
-    where
-      some : Unreplied status old now ⊎ ((reply : Reply) × UnreadReplies command reply) → Unreplied status old now ⊎ ((reply : Reply) × Replies words text reply)
-      some (inl u) = inl u
-      some (inr s) = inr (s.0, unread names s.1)
-
-      each : (reply : Reply) → Replies words text reply → Ends reply status old now
-      each reply (usage fault) = absurd (fault _ names)
-      each reply (unread {command = other} names' replies) =
-          let P : LoneCommand → Type 0 = λ c. UnreadReplies c reply in
-          ends.each reply (subst P (same_alone other command (one_command _ (Alone other) (Alone command) names' names)) replies)
-      each reply (named {command = other} names' replies) = other_kind (OnText other) (Alone command) names' names (λ e. omega arith)
-      each reply (untraced {workers = w} {budget = b} names' refused) = other_kind (Trace w b) (Alone command) names' names (λ e. omega arith)
-      each reply (verifies {budget = b} names' replies) = other_kind (Verify b) (Alone command) names' names (λ e. omega arith)
-
-  pub ends_named : (command : TextCommand) → Names words (OnText command) → EndsWith (CommandReplies command text) status old now → EndsWith (Replies words text) status old now
-  ends_named command names ends = record { some = some ends.some; each = each }
-    where
-      some : Unreplied status old now ⊎ ((reply : Reply) × CommandReplies command text reply) → Unreplied status old now ⊎ ((reply : Reply) × Replies words text reply)
-      some (inl u) = inl u
-      some (inr s) = inr (s.0, named names s.1)
-
-      each : (reply : Reply) → Replies words text reply → Ends reply status old now
-      each reply (usage fault) = absurd (fault _ names)
-      each reply (unread {command = other} names' replies) = other_kind (Alone other) (OnText command) names' names (λ e. omega arith)
-      each reply (untraced {workers = w} {budget = b} names' refused) = other_kind (Trace w b) (OnText command) names' names (λ e. omega arith)
-      each reply (verifies {budget = b} names' replies) = other_kind (Verify b) (OnText command) names' names (λ e. omega arith)
-      each reply (named {command = other} names' replies) =
-          let P : TextCommand → Type 0 = λ c. CommandReplies c text reply in
-          ends.each reply (subst P (same_text other command (one_command _ (OnText other) (OnText command) names' names)) replies)
-
-  pub ends_verified : (budget : ℕ) → Names words (Verify budget) → EndsWith (VerifyReplies budget text) status old now → EndsWith (Replies words text) status old now
-  ends_verified budget names ends = record { some = some ends.some; each = each }
-    where
-      some : Unreplied status old now ⊎ ((reply : Reply) × VerifyReplies budget text reply) → Unreplied status old now ⊎ ((reply : Reply) × Replies words text reply)
-      some (inl u) = inl u
-      some (inr s) = inr (s.0, verifies names s.1)
-
-      each : (reply : Reply) → Replies words text reply → Ends reply status old now
-      each reply (usage fault) = absurd (fault _ names)
-      each reply (unread {command = other} names' replies) = other_kind (Alone other) (Verify budget) names' names (λ e. omega arith)
-      each reply (named {command = other} names' replies) = other_kind (OnText other) (Verify budget) names' names (λ e. omega arith)
-      each reply (untraced {workers = w} {budget = b} names' refused) = other_kind (Trace w b) (Verify budget) names' names (λ e. omega arith)
-      each reply (verifies {budget = b} names' replies) =
-          let P : ℕ → Type 0 = λ k. VerifyReplies k text reply in
-          ends.each reply (subst P (same_budget b budget names' names) replies)
-
--- words that name a command that reads its source don't name one that reads nothing
-pub some_read : {words : List (List ℕ)} (command : Command) → Names words command → reads command ≡ true → ReadsNothing words → ⊥
-some_read command names reading nothing = let not : reads command ≡ false = nothing command names in cc
-
--- and the other way round
-pub none_read : {words : List (List ℕ)} (command : Command) → Names words command → reads command ≡ false → ReadsSource words → ⊥
-none_read {words} command names nothing source =
-    let P : Command → Type 0 = λ c. reads c ≡ false in
-    let not : reads source.0 ≡ false = subst P (one_command words command source.0 names source.1) nothing in
-    let reading : reads source.0 ≡ true = source.2 in
-    cc
+-- what is replied to what was asked is replied to the words and the text
+pub ends_asked : {status : ℕ} {old now : Option (List ℕ)} (words : List (List ℕ)) (text : List ℕ) (asked : Option Command) → Asks words asked
+    → EndsWith (RepliesTo asked text) status old now → EndsWith (Replies words text) status old now
+ends_asked {status} {old} {now} words text asked is ends = record { some = some ends.some; each = λ reply replies. ends.each reply (replies_to words text reply asked is replies) }
+  where
+    some : Unreplied status old now ⊎ ((reply : Reply) × RepliesTo asked text reply) → Unreplied status old now ⊎ ((reply : Reply) × Replies words text reply)
+    some (inl u) = inl u
+    some (inr s) = inr (s.0, replies_of words text s.0 asked is s.1)
 
 -- what each of these commands tells
 pub told_verdicts : {tree : TextTree} {p : PlainProgram} {plan : PlainPlan} {command : PlanCommand} {bytes : List ℕ} {status : ℕ} {old now : Option (List ℕ)} → command ≡ Pairs → Tells tree p plan command bytes

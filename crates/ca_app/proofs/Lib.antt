@@ -1,6 +1,8 @@
 pub mod AcceptedTyped
 pub mod AcceptedNames
 pub mod Annotated
+pub mod Answering
+pub mod Asked
 pub mod Ended
 pub mod Endings
 mod Examples
@@ -17,3 +19,4 @@ pub mod Totals
 pub mod Scheduled
 pub mod Traces
 pub mod TracesVerified
+pub mod Uses

@@ -1,5 +1,5 @@
 -- Words and a text have one reply at most.
-use Rattle.std.proofs.Common.{◌≡◌, ℕ, List, refl, sym, ap, ◌∙◌, subst, arith}
+use Rattle.std.proofs.Common.{◌≡◌, ℕ, List, Option, Some, None, refl, sym, ap, ◌∙◌, subst}
 use Rattle.ca_tree.specs.Plain.{TextTree}
 use Rattle.ca_program.specs.Plain.{PlainProgram}
 use Rattle.ca_model.specs.declared.value.Object.{Object}
@@ -11,16 +11,14 @@ use Rattle.ca_words.specs.declared.Command.TheVariants.{OnText, Alone, Trace, Ve
 use Rattle.ca_words.specs.declared.TextCommand.{TextCommand}
 use Rattle.ca_words.specs.declared.PlanCommand.{PlanCommand}
 use Rattle.ca_words.specs.declared.LoneCommand.{LoneCommand}
-use Rattle.ca_words.specs.Words.{Names}
-use Rattle.ca_words.proofs.OneCommand.{one_command}
 use Rattle.ca_plan.specs.Plans.{PlainPlan, PlanOf}
 use Rattle.ca_plan.proofs.OnePlan.{one_pairs_text, one_plan_text}
 use Rattle.ca_emit.proofs.OneText.{one_annotated_text}
 use Rattle.ca_tree.specs.declared.name.Place.{Place}
 use Rattle.ca_app.specs.Refusals.{RefusedAt, refusal_reply}
-use Rattle.ca_app.specs.Verified.{VerifyReplies}
-use Rattle.ca_app.specs.Reply.{ProgramReplies, runs, tells, CommandReplies, refuses, serves, IsLoaded, UnreadReplies, generates, loads, Replies, usage, unread, named, untraced, verifies, loaded_reply}
+use Rattle.ca_app.specs.Reply.{ProgramReplies, runs, tells, CommandReplies, refuses, serves, IsLoaded, UnreadReplies, generates, loads, Replies, loaded_reply}
 use Rattle.ca_app.specs.Told.{Tells, verdicts, marks, annotated}
+use Rattle.ca_app.proofs.Asked.{RepliesTo, asked_by, replies_to}
 use Rattle.ca_app.proofs.OneReading.{has_one, is_refusal, is_program}
 use Rattle.ca_app.proofs.OneVerify.{verify_one}
 
@@ -53,30 +51,6 @@ command_reply {command} {r = r} (serves {p = p} accepted replies) (serves {p = q
     let Q : TextTree → Type 0 = λ x. ProgramReplies x p command r in
     program_reply (subst P ((is_program accepted').only p accepted) (subst Q ((has_one accepted'.has_tree).only accepted.tree accepted.has_tree) replies)) replies'
 
--- the kind of a command, by which four kinds differ
-abbrev pub kind : Command → ℕ
-kind (OnText c) = 0
-kind (Alone c) = 1
-kind (Trace w b) = 2
-kind (Verify b) = 3
-
--- words don't name commands of two kinds
-pub other_kind : {words : List (List ℕ)} {A : Type 0} (c d : Command) → Names words c → Names words d → ¬ (kind c ≡ kind d) → A
-other_kind {words} c d names names' other = absurd (other (ap kind (one_command words c d names names')))
-
-pub same_text : (c d : TextCommand) → ◌≡◌ {A = Command} (OnText c) (OnText d) → c ≡ d
-same_text c d e = cc
-
-pub same_alone : (c d : LoneCommand) → ◌≡◌ {A = Command} (Alone c) (Alone d) → c ≡ d
-same_alone c d e = cc
-
--- the budget that words name
-pub same_budget : {words : List (List ℕ)} (a b : ℕ) → Names words (Verify a) → Names words (Verify b) → a ≡ b
-same_budget {words} a b names names' = from (one_command words (Verify a) (Verify b) names names')
-  where
-    from : ◌≡◌ {A = Command} (Verify a) (Verify b) → a ≡ b
-    from e = cc
-
 -- a run has one end
 one_heap : {prints others : List Datum} {h k : List Object} {steps more : ℕ} → ◌≡◌ {A = Ended} (done prints h steps) (done others k more) → h ≡ k
 one_heap e = cc
@@ -96,35 +70,15 @@ pub unread_reply : {command : LoneCommand} {r s : Reply} → UnreadReplies comma
 unread_reply generates generates = refl
 unread_reply (loads loaded) (loads loaded') = one_loaded loaded loaded'
 
+-- what was asked has one reply
+one_to : (asked : Option Command) (text : List ℕ) (r s : Reply) → RepliesTo asked text r → RepliesTo asked text s → r ≡ s
+one_to None text r s is this = is ∙ sym this
+one_to (Some (OnText c)) text r s replies replies' = command_reply replies replies'
+one_to (Some (Alone c)) text r s replies replies' = unread_reply replies replies'
+one_to (Some (Trace w b)) text r s refused refused' = refused.3 ∙ one_refusal refused.2 refused'.2 ∙ sym refused'.3
+one_to (Some (Verify b)) text r s replies replies' = verify_one b text r s replies replies'
+
 pub one_reply : {words : List (List ℕ)} {text : List ℕ} {r s : Reply} → Replies words text r → Replies words text s → r ≡ s
-one_reply (usage fault) (usage fault') = refl
-one_reply (usage fault) (unread names replies) = absurd (fault _ names)
-one_reply (usage fault) (named names replies) = absurd (fault _ names)
-one_reply (usage fault) (untraced names refused) = absurd (fault _ names)
-one_reply (usage fault) (verifies names replies) = absurd (fault _ names)
-one_reply (unread names replies) (usage fault) = absurd (fault _ names)
-one_reply {words} {r = r} (unread {command = c} names replies) (unread {command = d} names' replies') =
-    let P : LoneCommand → Type 0 = λ x. UnreadReplies x r in
-    unread_reply (subst P (same_alone c d (one_command words (Alone c) (Alone d) names names')) replies) replies'
-one_reply (unread {command = c} names replies) (named {command = d} names' replies') = other_kind (Alone c) (OnText d) names names' (λ e. omega arith)
-one_reply (unread {command = c} names replies) (untraced {workers = w} {budget = b} names' refused) = other_kind (Alone c) (Trace w b) names names' (λ e. omega arith)
-one_reply (unread {command = c} names replies) (verifies {budget = b} names' replies') = other_kind (Alone c) (Verify b) names names' (λ e. omega arith)
-one_reply (named names replies) (usage fault) = absurd (fault _ names)
-one_reply (named {command = c} names replies) (unread {command = d} names' replies') = other_kind (OnText c) (Alone d) names names' (λ e. omega arith)
-one_reply {words} {text} {r = r} (named {command = c} names replies) (named {command = d} names' replies') =
-    let P : TextCommand → Type 0 = λ x. CommandReplies x text r in
-    command_reply (subst P (same_text c d (one_command words (OnText c) (OnText d) names names')) replies) replies'
-one_reply (named {command = c} names replies) (untraced {workers = w} {budget = b} names' refused) = other_kind (OnText c) (Trace w b) names names' (λ e. omega arith)
-one_reply (named {command = c} names replies) (verifies {budget = b} names' replies') = other_kind (OnText c) (Verify b) names names' (λ e. omega arith)
-one_reply (untraced names refused) (usage fault) = absurd (fault _ names)
-one_reply (untraced {workers = w} {budget = b} names refused) (unread {command = d} names' replies') = other_kind (Trace w b) (Alone d) names names' (λ e. omega arith)
-one_reply (untraced {workers = w} {budget = b} names refused) (named {command = d} names' replies') = other_kind (Trace w b) (OnText d) names names' (λ e. omega arith)
-one_reply (untraced names refused) (untraced names' refused') = one_refusal refused refused'
-one_reply (untraced {workers = w} {budget = b} names refused) (verifies {budget = k} names' replies') = other_kind (Trace w b) (Verify k) names names' (λ e. omega arith)
-one_reply (verifies names replies) (usage fault) = absurd (fault _ names)
-one_reply (verifies {budget = b} names replies) (unread {command = d} names' replies') = other_kind (Verify b) (Alone d) names names' (λ e. omega arith)
-one_reply (verifies {budget = b} names replies) (named {command = d} names' replies') = other_kind (Verify b) (OnText d) names names' (λ e. omega arith)
-one_reply (verifies {budget = k} names replies) (untraced {workers = w} {budget = b} names' refused) = other_kind (Verify k) (Trace w b) names names' (λ e. omega arith)
-one_reply {text = text} {r = r} {s = s} (verifies {budget = a} names replies) (verifies {budget = b} names' replies') =
-    let P : ℕ → Type 0 = λ k. VerifyReplies k text r in
-    verify_one b text r s (subst P (same_budget a b names names') replies) replies'
+one_reply {words} {text} {r = r} {s = s} replies replies' =
+    let it = asked_by words text r replies in
+    one_to it.0 text r s it.2 (replies_to words text s it.0 it.1 replies')

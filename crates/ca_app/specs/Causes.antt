@@ -131,3 +131,11 @@ IsTrapped e = (prints : List Datum) × (t : Trap) × (e ≡ trapped prints t)
 
 abbrev pub IsSpent : Ended → Type 0
 IsSpent e = (prints : List Datum) × (e ≡ spent prints)
+
+-- What status 0 says, by the command that the words name.
+pub data IsDoneBy (words : List (List ℕ)) (text : List ℕ) (old now : Option (List ℕ)) : Type 0 where
+  by_run : RunEnds words text IsDone → IsDoneBy words text old now
+  by_plan : PlanTold words text old now → IsDoneBy words text old now
+  by_gen : Generates words old now → IsDoneBy words text old now
+  by_load : Loads words old now → IsDoneBy words text old now
+  by_verify : IsChecked words text FollowsPlan → IsDoneBy words text old now

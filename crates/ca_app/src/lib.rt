@@ -13,7 +13,7 @@
 //! `specs/Accepted.antt` and `specs/Refusals.antt` say which texts are accepted and where the others
 //! are refused, `specs/Reply.antt` has the replies, and `specs/Ends.antt` how a call ends.
 //!
-//! Whoever reads the public clauses must believe `Accepted`, `Causes`, `Ends`, `Refusals`, `Reply`, `Summary`, `Told`,
+//! Whoever reads the public clauses must believe `Accepted`, `Causes`, `Ends`, `Numbers`, `Refusals`, `Reply`, `Summary`, `Told`,
 //! `Traced` and `Verified` of `specs/`; what stands in `specs/clauses/` serves clauses within the crate alone.
 #![tactic(auto)]
 
@@ -34,6 +34,7 @@ mod verifying;
 
 pub use generating::generate;
 pub use laws::{
-    accepted_programs_are_typed, annotated_texts_keep_the_lock, one_reply, traces_are_verified,
+    accepted_programs_are_typed, annotated_texts_keep_the_lock, codes_and_statuses_are_these,
+    one_reply, traces_are_verified,
 };
 pub use serving::top;

@@ -1,6 +1,7 @@
 //! From words and a text to the reply and the status: `Replies` of `specs/Reply.antt`, and `Ends` of `specs/Ends.antt`.
 
-ghost use Rattle.std.specs.Prelude.{◌≡◌, ℕ, ◌≤◌, ◌⊎◌, true, false, List, length, Some};
+ghost use Rattle.std.specs.Prelude.{◌≡◌, ℕ, ◌≤◌, ◌⊎◌, true, false, List, length, Some, IfSome};
+ghost use Rattle.ca_base.specs.declared.read_to_end.ReadError.TheVariants.{Fault};
 ghost use Rattle.ca_base.specs.Devices.{Rose, at_end};
 ghost use Rattle.ca_tree.specs.View.{tree_view};
 ghost use Rattle.ca_program.specs.View.{program_view};
@@ -9,13 +10,13 @@ ghost use Rattle.ca_words.specs.declared.Command.TheVariants.{OnText, Trace, Ver
 ghost use Rattle.ca_words.specs.declared.TextCommand.TheVariants.{Tell};
 ghost use Rattle.ca_words.specs.declared.PlanCommand.{PlanCommand};
 ghost use Rattle.ca_words.specs.Words.{IsInRange, texts, Names};
-ghost use Rattle.ca_app.specs.Causes.{IsUsageFault, ReadsNothing, ReadsSource, NamesNoTrace, IsRefused, IsCheckRefused, IsChecked, LinesGoWrong, RunEnds, PlanTold, Generates, Loads, IsDone, IsTrapped, IsSpent};
+ghost use Rattle.ca_app.specs.Causes.{IsUsageFault, ReadsNothing, ReadsSource, NamesNoTrace, IsRefused, IsCheckRefused, IsChecked, LinesGoWrong, RunEnds, IsDoneBy, IsTrapped, IsSpent};
 ghost use Rattle.ca_app.specs.Ends.{Ends, EndsWith, EndsWithOne, SinkCause, Complete, CompleteWithOne, IsReadToEnd, status_after};
 ghost use Rattle.ca_app.specs.Refusals.{refusal_reply};
-ghost use Rattle.ca_app.specs.Reply.{ProgramReplies, CommandReplies, Replies};
-ghost use Rattle.ca_app.specs.Told.{ProgramTold, CommandTold};
+ghost use Rattle.ca_app.specs.Reply.{ProgramReplies, Replies};
+ghost use Rattle.ca_app.specs.Told.{ProgramTold};
 ghost use Rattle.ca_app.specs.Traced.{TraceReplies};
-ghost use Rattle.ca_app.specs.Verified.{FollowsPlan};
+ghost use Rattle.ca_app.specs.clauses.Asked.{Answers, Served, Untold, Uses, reads_source};
 ghost use Rattle.ca_app.specs.clauses.Ended.{ended};
 ghost use Rattle.ca_plan.specs.Checked.{Checked};
 
@@ -92,7 +93,7 @@ pub fn top<R: AllocGlobal + Threads + Wait + Sync, S: Source, K: Sink, G: Gate>(
     ensures traced { (text : List ℕ) → S.left source.old ≡ Some text → (workers budget : ℕ) → Names (texts words.now) (Trace workers budget) → EndsWithOne (TraceReplies budget text) result (K.written sink.old) (K.written sink.new) }
 
     // What each of its statuses says of the text and its serial run.
-    ensures done { (text : List ℕ) → S.left source.old ≡ Some text → result ≡ DONE → RunEnds (texts words.now) text IsDone ⊎ (PlanTold (texts words.now) text (K.written sink.old) (K.written sink.new) ⊎ (Generates (texts words.now) (K.written sink.old) (K.written sink.new) ⊎ (Loads (texts words.now) (K.written sink.old) (K.written sink.new) ⊎ IsChecked (texts words.now) text FollowsPlan))) }
+    ensures done { (text : List ℕ) → S.left source.old ≡ Some text → result ≡ DONE → IsDoneBy (texts words.now) text (K.written sink.old) (K.written sink.new) }
     ensures refused { (text : List ℕ) → S.left source.old ≡ Some text → result ≡ REFUSED → IsRefused (texts words.now) false text ⊎ IsCheckRefused (texts words.now) false text }
     ensures trapped { (text : List ℕ) → S.left source.old ≡ Some text → result ≡ TRAPPED → RunEnds (texts words.now) text IsTrapped }
     ensures spent { (text : List ℕ) → S.left source.old ≡ Some text → result ≡ SPENT → RunEnds (texts words.now) text IsSpent }
@@ -123,16 +124,34 @@ pub fn top<R: AllocGlobal + Threads + Wait + Sync, S: Source, K: Sink, G: Gate>(
     ensures limit_read_to_end { (text : List ℕ) → S.left source.old ≡ Some text → length text ≤ MOST_BYTES → result ≡ PAST_LIMIT → S.left source.new ≡ at_end (S.left source.old) }
     ensures schedule_read_to_end { (text : List ℕ) → S.left source.old ≡ Some text → (budget : ℕ) → Names (texts words.now) (Verify budget) → length text ≤ MOST_WITH_SCHEDULE → result ≡ PAST_LIMIT → S.left source.new ≡ at_end (S.left source.old) }
 {
-    let Some(command) = command_of(words) else {
-        return told_usage(write_all(sink, usage_line()));
-    };
-    match command {
-        Command::OnText(asked) => serve(rt, rt.alloc(), asked, source, sink, gate),
-        Command::Alone(asked) => serve_unread(rt, rt.alloc(), asked, sink, gate),
-        Command::Trace { workers, budget } => {
-            trace(rt, rt.alloc(), workers, budget, source, sink, gate)
-        }
-        Command::Verify { budget } => verify(rt, rt.alloc(), budget, source, sink),
+    answer(rt, command_of(words), source, sink, gate)
+}
+
+/// Answers a command, or words that name none.
+fn answer<R: AllocGlobal + Threads + Wait + Sync, S: Source, K: Sink, G: Gate>(
+    rt: &R,
+    asked: Option<Command>,
+    source: &mut S,
+    sink: &mut K,
+    gate: &G,
+) -> u8
+    requires in_range { IfSome asked IsInRange }
+    ensures answers { Answers (S.left source.old) result (K.written sink.old) (K.written sink.new) asked }
+    ensures unread { reads_source asked ≡ false → source.new ≡ source.old }
+    ensures uses { Uses asked result (S.left source.old) (S.left source.new) (S.faults source.old) (S.faults source.new) (K.faults sink.old) (K.faults sink.new) }
+{
+    match asked {
+        None => told_usage(write_all(sink, usage_line())),
+        Some(command) => match command {
+            Command::OnText(command) => serve(rt, rt.alloc(), command, source, sink, gate),
+            Command::Alone(command) => {
+                exit_status(serve_unread(rt, rt.alloc(), command, sink, gate))
+            }
+            Command::Trace { workers, budget } => {
+                trace(rt, rt.alloc(), workers, budget, source, sink, gate)
+            }
+            Command::Verify { budget } => verify(rt, rt.alloc(), budget, source, sink),
+        },
     }
 }
 
@@ -146,20 +165,26 @@ fn serve<R: Threads + Wait + Sync, S: Source, K: Sink, G: Gate>(
     gate: &G,
 ) -> u8
     requires in_range { IsInRange (OnText command) }
-    ensures headline { (text : List ℕ) → S.left source.old ≡ Some text → EndsWith (CommandReplies command text) result (K.written sink.old) (K.written sink.new) }
-    ensures told { (text : List ℕ) → S.left source.old ≡ Some text → (told : PlanCommand) → command ≡ Tell told → result ≡ DONE → CommandTold told text (K.written sink.old) (K.written sink.new) }
-    ensures read_fault { result ≡ READ_FAULT → Rose (S.faults source.old) (S.faults source.new) }
-    ensures write_fault { SinkCause result (K.faults sink.old) (K.faults sink.new) }
-    ensures source_later { S.faults source.old ≤ S.faults source.new }
-    ensures read_to_end { IsReadToEnd result → S.left source.new ≡ at_end (S.left source.old) }
-    ensures limit_read_to_end { (text : List ℕ) → S.left source.old ≡ Some text → length text ≤ MOST_BYTES → result ≡ PAST_LIMIT → S.left source.new ≡ at_end (S.left source.old) }
-    ensures no_usage { result ≡ USAGE → ⊥ }
+    ensures served { (text : List ℕ) → S.left source.old ≡ Some text → Served command text result (K.written sink.old) (K.written sink.new) }
+    ensures uses { Uses (Some (OnText command)) result (S.left source.old) (S.left source.new) (S.faults source.old) (S.faults source.new) (K.faults sink.old) (K.faults sink.new) }
 {
     match read_all(alloc, source, MOST_BYTES) {
         Ok(text) => exit_status(serve_text(rt, alloc, command, &text, sink, gate)),
-        Err(ReadError::Limit) => exit_status(refuse(Refusal::OVERLONG, sink)),
-        Err(ReadError::Fault) => READ_FAULT,
-        Err(ReadError::Memory) => NO_MEMORY,
+        Err(error) => tell_unread(error, sink),
+    }
+}
+
+/// Tells that a source wasn't read to its end, if it is too long, and answers the exit status.
+pub fn tell_unread<K: Sink>(error: ReadError, sink: &mut K) -> u8
+    ensures untold { Untold result (K.written sink.old) (K.written sink.new) error }
+    ensures read_fault { result ≡ READ_FAULT → error ≡ Fault }
+    ensures write_fault { SinkCause result (K.faults sink.old) (K.faults sink.new) }
+    ensures no_usage { result ≡ USAGE → ⊥ }
+{
+    match error {
+        ReadError::Limit => exit_status(refuse(Refusal::OVERLONG, sink)),
+        ReadError::Fault => READ_FAULT,
+        ReadError::Memory => NO_MEMORY,
     }
 }
 
@@ -174,8 +199,7 @@ fn serve_text<R: Threads + Wait + Sync, K: Sink, G: Gate>(
 ) -> Result<Status, Unwritten>
     requires short { length text.now ≤ MOST_BYTES }
     requires in_range { IsInRange (OnText command) }
-    ensures ends { EndsWith (CommandReplies command text.now) (ended result) (K.written sink.old) (K.written sink.new) }
-    ensures told { (told : PlanCommand) → command ≡ Tell told → ended result ≡ DONE → CommandTold told text.now (K.written sink.old) (K.written sink.new) }
+    ensures served { Served command text.now (ended result) (K.written sink.old) (K.written sink.new) }
     ensures write_fault { SinkCause (ended result) (K.faults sink.old) (K.faults sink.new) }
 {
     match read_program(alloc, text) {

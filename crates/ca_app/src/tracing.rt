@@ -5,24 +5,25 @@
 //! when the run has ended.
 
 ghost use Rattle.std.specs.Prelude.{All, ◌≡◌, ◌≤◌, ◌++◌, ℕ, List, length, codes, Some, IfOk};
-ghost use Rattle.ca_base.specs.Devices.{Rose, HasCause, Writes, at_end};
+ghost use Rattle.ca_base.specs.Devices.{HasCause, Writes};
 ghost use Rattle.ca_program.specs.Plain.{PlainProgram};
 ghost use Rattle.ca_program.specs.View.{program_view};
 ghost use Rattle.ca_meaning.specs.Output.{output};
 ghost use Rattle.ca_trace.specs.Texts.{IsLineOf};
+ghost use Rattle.ca_words.specs.declared.Command.TheVariants.{Trace};
 ghost use Rattle.ca_words.specs.Words.{IsWorkers};
 ghost use Rattle.ca_plan.specs.Checked.{Checked};
-ghost use Rattle.ca_app.specs.Ends.{EndsWithOne, SinkCause, IsReadToEnd};
+ghost use Rattle.ca_app.specs.Ends.{EndsWithOne, SinkCause};
 ghost use Rattle.ca_app.specs.Traced.{TracedReplies, TraceReplies};
 ghost use Rattle.ca_app.specs.Verified.{FollowsPlan};
+ghost use Rattle.ca_app.specs.clauses.Asked.{Uses};
 ghost use Rattle.ca_app.specs.clauses.Ended.{ended, number_of};
 
 use crate::ending::{Status, Unwritten, exit_status, finish};
 use crate::reading::{NoProgram, read_program};
-use crate::refusals::Refusal;
 use crate::running::marks_of;
-use crate::serving::{MOST_BYTES, NO_MEMORY, PAST_LIMIT, READ_FAULT, USAGE, refuse};
-use ca_base::{Failed, Gate, Memory, ReadError, Sink, Source, read_all, write_all};
+use crate::serving::{MOST_BYTES, refuse, tell_unread};
+use ca_base::{Failed, Gate, Memory, Sink, Source, read_all, write_all};
 use ca_lines::write_lines;
 use ca_program::Program;
 use ca_record::record_by_one;
@@ -45,18 +46,11 @@ pub fn trace<R: Threads + Wait + Sync, S: Source, K: Sink, G: Gate>(
 ) -> u8
     requires workers { IsWorkers workers }
     ensures traced { (text : List ℕ) → S.left source.old ≡ Some text → EndsWithOne (TraceReplies budget text) result (K.written sink.old) (K.written sink.new) }
-    ensures read_fault { result ≡ READ_FAULT → Rose (S.faults source.old) (S.faults source.new) }
-    ensures write_fault { SinkCause result (K.faults sink.old) (K.faults sink.new) }
-    ensures source_later { S.faults source.old ≤ S.faults source.new }
-    ensures read_to_end { IsReadToEnd result → S.left source.new ≡ at_end (S.left source.old) }
-    ensures limit_read_to_end { (text : List ℕ) → S.left source.old ≡ Some text → length text ≤ MOST_BYTES → result ≡ PAST_LIMIT → S.left source.new ≡ at_end (S.left source.old) }
-    ensures no_usage { result ≡ USAGE → ⊥ }
+    ensures uses { Uses (Some (Trace workers budget)) result (S.left source.old) (S.left source.new) (S.faults source.old) (S.faults source.new) (K.faults sink.old) (K.faults sink.new) }
 {
     match read_all(alloc, source, MOST_BYTES) {
         Ok(text) => exit_status(trace_text(rt, alloc, workers, budget, &text, sink, gate)),
-        Err(ReadError::Limit) => exit_status(refuse(Refusal::OVERLONG, sink)),
-        Err(ReadError::Fault) => READ_FAULT,
-        Err(ReadError::Memory) => NO_MEMORY,
+        Err(error) => tell_unread(error, sink),
     }
 }
 

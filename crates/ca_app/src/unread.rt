@@ -1,15 +1,14 @@
 //! The commands that read nothing: `gen` and `load`.
 
-ghost use Rattle.std.specs.Prelude.{◌≡◌};
 ghost use Rattle.ca_words.specs.declared.Command.TheVariants.{Alone};
 ghost use Rattle.ca_words.specs.Words.{IsInRange};
 ghost use Rattle.ca_app.specs.Ends.{EndsWith, SinkCause};
 ghost use Rattle.ca_app.specs.Reply.{UnreadReplies};
+ghost use Rattle.ca_app.specs.clauses.Ended.{ended};
 
-use crate::ending::{Status, exit_status, finish};
+use crate::ending::{Status, Unwritten, finish};
 use crate::generating::generate;
 use crate::loading::load;
-use crate::serving::{NO_MEMORY, PAST_LIMIT, READ_FAULT, USAGE};
 use ca_base::{Gate, Sink, write_all};
 use ca_words::LoneCommand;
 use std::alloc::Global;
@@ -24,23 +23,20 @@ pub fn serve_unread<R: Threads + Wait + Sync, K: Sink, G: Gate>(
     command: LoneCommand,
     sink: &mut K,
     gate: &G,
-) -> u8
+) -> Result<Status, Unwritten>
     requires { IsInRange (Alone command) }
-    ensures ends { EndsWith (UnreadReplies command) result (K.written sink.old) (K.written sink.new) }
-    ensures write_fault { SinkCause result (K.faults sink.old) (K.faults sink.new) }
-    ensures no_read_fault { result ≡ READ_FAULT → ⊥ }
-    ensures no_usage { result ≡ USAGE → ⊥ }
-    ensures no_limit { result ≡ PAST_LIMIT → ⊥ }
+    ensures ends { EndsWith (UnreadReplies command) (ended result) (K.written sink.old) (K.written sink.new) }
+    ensures write_fault { SinkCause (ended result) (K.faults sink.old) (K.faults sink.new) }
 {
     match command {
         LoneCommand::Gen { seed, size } => match generate(alloc, seed, size) {
-            Ok(text) => exit_status(finish(write_all(sink, &text), Status::Done)),
-            Err(_) => NO_MEMORY,
+            Ok(text) => finish(write_all(sink, &text), Status::Done),
+            Err(_) => Err(Unwritten::Memory),
         },
         LoneCommand::Load {
             seed,
             size,
             workers,
-        } => exit_status(load(rt, alloc, seed, size, workers, sink, gate)),
+        } => load(rt, alloc, seed, size, workers, sink, gate),
     }
 }

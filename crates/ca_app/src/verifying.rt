@@ -5,13 +5,15 @@
 
 ghost use Rattle.std.specs.Prelude.{◌≡◌, ◌≤◌, ◌<◌, ◌++◌, ◌+◌, ℕ, List, length, codes, decimal, Some, IfOk};
 ghost use Rattle.std.specs.Result.{IfErr};
-ghost use Rattle.ca_base.specs.Devices.{Rose, HasCause, Writes, at_end};
+ghost use Rattle.ca_base.specs.Devices.{HasCause, Writes};
 ghost use Rattle.ca_program.specs.View.{program_view};
+ghost use Rattle.ca_words.specs.declared.Command.TheVariants.{Verify};
 ghost use Rattle.ca_trace.specs.Texts.{HasHeader};
 ghost use Rattle.ca_lines.specs.Named.{NamesGood};
 ghost use Rattle.ca_plan.specs.Checked.{Checked};
-ghost use Rattle.ca_app.specs.Ends.{EndsWith, SinkCause, IsReadToEnd};
+ghost use Rattle.ca_app.specs.Ends.{EndsWith, SinkCause};
 ghost use Rattle.ca_app.specs.Verified.{LinesReplies, ScheduleReplies, PairReplies, VerifyReplies};
+ghost use Rattle.ca_app.specs.clauses.Asked.{Uses};
 ghost use Rattle.ca_app.specs.clauses.Ended.{ended};
 ghost use Rattle.ca_app.specs.clauses.Reading.{IsProgramOf, IsCauseFor};
 
@@ -19,10 +21,8 @@ use crate::ending::{Status, Unwritten, exit_status, finish};
 use crate::reading::{NoProgram, Reading, read_program};
 use crate::refusals::Refusal;
 use crate::running::marks_of;
-use crate::serving::{
-    MOST_BYTES, MOST_WITH_SCHEDULE, NO_MEMORY, PAST_LIMIT, READ_FAULT, USAGE, refuse,
-};
-use ca_base::{Failed, ReadError, Sink, Source, read_all, write_all};
+use crate::serving::{MOST_BYTES, MOST_WITH_SCHEDULE, refuse, tell_unread};
+use ca_base::{Failed, Sink, Source, read_all, write_all};
 use ca_lines::{TraceError, read_lines, split};
 use ca_model::line::write_line;
 use ca_program::Program;
@@ -42,18 +42,11 @@ pub fn verify<R: Threads + Wait + Sync, S: Source, K: Sink>(
     sink: &mut K,
 ) -> u8
     ensures headline { (text : List ℕ) → S.left source.old ≡ Some text → EndsWith (VerifyReplies budget text) result (K.written sink.old) (K.written sink.new) }
-    ensures read_fault { result ≡ READ_FAULT → Rose (S.faults source.old) (S.faults source.new) }
-    ensures write_fault { SinkCause result (K.faults sink.old) (K.faults sink.new) }
-    ensures source_later { S.faults source.old ≤ S.faults source.new }
-    ensures read_to_end { IsReadToEnd result → S.left source.new ≡ at_end (S.left source.old) }
-    ensures limit_read_to_end { (text : List ℕ) → S.left source.old ≡ Some text → length text ≤ MOST_WITH_SCHEDULE → result ≡ PAST_LIMIT → S.left source.new ≡ at_end (S.left source.old) }
-    ensures no_usage { result ≡ USAGE → ⊥ }
+    ensures uses { Uses (Some (Verify budget)) result (S.left source.old) (S.left source.new) (S.faults source.old) (S.faults source.new) (K.faults sink.old) (K.faults sink.new) }
 {
     match read_all(alloc, source, MOST_WITH_SCHEDULE) {
         Ok(text) => exit_status(verify_text(rt, alloc, budget, &text, sink)),
-        Err(ReadError::Limit) => exit_status(refuse(Refusal::OVERLONG, sink)),
-        Err(ReadError::Fault) => READ_FAULT,
-        Err(ReadError::Memory) => NO_MEMORY,
+        Err(error) => tell_unread(error, sink),
     }
 }
 

@@ -1,42 +1,26 @@
-use Rattle.std.proofs.Common.{ℕ, arith, sym, subst, ◌∙◌}
-use Rattle.ca_app.specs.Ends.{IsReadToEnd}
-use Rattle.ca_app.proofs.Ended.{no_six, no_two, long_not_to_end}
+use Rattle.std.proofs.Common.{Some, refl}
+use Rattle.ca_words.specs.declared.Command.TheVariants.{Trace}
+use Rattle.ca_app.specs.Ends.{unreplied}
 use Rattle.ca_app.proofs.OneRefusal.{refused_as_long}
 use Rattle.ca_app.proofs.Traces.{ends_untraced}
+use Rattle.ca_app.proofs.Uses.{by_error, uses_read, uses_unread}
 use Rattle.ca_app.proofs.tracing.trace.Goals as goal
-
-pub returns-in-Err-Limit-clause-traced : goal.returns-in-Err-Limit-clause-traced
-returns-in-Err-Limit-clause-traced g c = λ text told.
-    let more = rw (c.in-Err-Limit.field-0-is, told) at c.in-Err-Limit.ensures.limit in
-    rw c.exit_status-in-Err-Limit.ensures (ends_untraced c.args.budget (refused_as_long more) c.refuse.ensures.ends)
-
-pub returns-in-Err-Limit-clause-limit_read_to_end : goal.returns-in-Err-Limit-clause-limit_read_to_end
-returns-in-Err-Limit-clause-limit_read_to_end g c = λ text told short eight.
-    let more = rw (c.in-Err-Limit.field-0-is, told) at c.in-Err-Limit.ensures.limit in
-    absurd (omega (arith, more, short))
 
 pub returns-in-Ok-clause-traced : goal.returns-in-Ok-clause-traced
 returns-in-Ok-clause-traced g c = λ text told.
     let same = rw told at c.in-Ok.ensures.bytes in
     rw c.exit_status.ensures (rw same at (rw c.deref.ensures.value at c.trace_text.ensures.traced))
 
-pub returns-in-Ok-clause-read_fault : goal.returns-in-Ok-clause-read_fault
-returns-in-Ok-clause-read_fault g c = λ six. absurd (no_six c.trace_text.result (sym c.exit_status.ensures ∙ six))
+pub returns-in-Ok-clause-uses : goal.returns-in-Ok-clause-uses
+returns-in-Ok-clause-uses g c =
+    rw c.exit_status.ensures
+    (uses_read (Some (Trace c.args.workers c.args.budget)) refl c.trace_text.result c.in-Ok.ensures.end c.in-Ok.ensures.later c.trace_text.ensures.write_fault)
 
-pub returns-in-Ok-clause-write_fault : goal.returns-in-Ok-clause-write_fault
-returns-in-Ok-clause-write_fault g c = rw c.exit_status.ensures c.trace_text.ensures.write_fault
+pub returns-in-Err-clause-traced : goal.returns-in-Err-clause-traced
+returns-in-Err-clause-traced g c = λ text told.
+    by_error 1048576 text told c.in-Err.error c.in-Err.ensures.limit c.tell_unread.ensures.untold unreplied (λ more. ends_untraced c.args.budget (refused_as_long more))
 
-pub returns-in-Ok-clause-no_usage : goal.returns-in-Ok-clause-no_usage
-returns-in-Ok-clause-no_usage g c = λ two. no_two c.trace_text.result (sym c.exit_status.ensures ∙ two)
-
-pub returns-in-Err-Limit-clause-read_fault : goal.returns-in-Err-Limit-clause-read_fault
-returns-in-Err-Limit-clause-read_fault g c = λ six. absurd (no_six c.refuse.result (sym c.exit_status-in-Err-Limit.ensures ∙ six))
-
-pub returns-in-Err-Limit-clause-write_fault : goal.returns-in-Err-Limit-clause-write_fault
-returns-in-Err-Limit-clause-write_fault g c = rw c.exit_status-in-Err-Limit.ensures c.refuse.ensures.write_fault
-
-pub returns-in-Err-Limit-clause-read_to_end : goal.returns-in-Err-Limit-clause-read_to_end
-returns-in-Err-Limit-clause-read_to_end g c = λ is. absurd (long_not_to_end c.refuse.ensures.ends (subst (λ (s : ℕ). IsReadToEnd s) c.exit_status-in-Err-Limit.ensures is))
-
-pub returns-in-Err-Limit-clause-no_usage : goal.returns-in-Err-Limit-clause-no_usage
-returns-in-Err-Limit-clause-no_usage g c = λ two. no_two c.refuse.result (sym c.exit_status-in-Err-Limit.ensures ∙ two)
+pub returns-in-Err-clause-uses : goal.returns-in-Err-clause-uses
+returns-in-Err-clause-uses g c =
+    let told = c.tell_unread.ensures in
+    uses_unread (Some (Trace c.args.workers c.args.budget)) refl c.in-Err.error told.untold told.read_fault told.write_fault told.no_usage c.in-Err.ensures.later c.in-Err.ensures.limit c.in-Err.ensures.fault
