@@ -1,4 +1,4 @@
-use Rattle.std.proofs.Common.{sym, subst}
+use Rattle.std.proofs.Common.{subst}
 use Rattle.ca_deques.specs.Settings.{AllFit}
 use Rattle.ca_deques.proofs.taking.open_item.Goals as goal
 
