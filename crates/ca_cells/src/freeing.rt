@@ -15,8 +15,7 @@ use ca_base::Memory;
 use ca_logs::{Entries, Stop, Task};
 use ca_model::Heap;
 use ca_parallel::Op;
-use ca_program::Program;
-use ca_sections::{Desk, SectionAnswer, section_frozen};
+use ca_sections::{Coded, Desk, SectionAnswer, section_frozen};
 use std::alloc::Global;
 
 /// The clock of an entry of a task that may run after this clock, unless none is taken.
@@ -70,11 +69,11 @@ fn grow_free(
 /// It is `Kept`, and nothing changes, exactly where the last entry has a stop, or the task's clock is the last one. Else it
 /// is `Stuck` exactly where the section traps or takes more than `left` steps, and else `Ran`. It copies no object. Without
 /// memory the entries are as before.
-pub fn add_free<'a>(
-    desk: &mut Desk<'a>,
+pub fn add_free(
+    desk: &mut Desk,
     loose: &mut Entries,
     alloc: Global,
-    program: &'a Program,
+    program: &Coded<'_>,
     frozen: &Heap,
     task: &Task,
     left: u64,

@@ -27,8 +27,7 @@ use ca_base::Memory;
 use ca_beside::Beside;
 use ca_logs::{CellLog, Entries, Task};
 use ca_model::{Heap, Object};
-use ca_program::Program;
-use ca_sections::Desk;
+use ca_sections::{Coded, Desk};
 use std::alloc::{AllocError, Global};
 use std::marker::Model;
 use std::snapshot::Snapshot;
@@ -252,11 +251,11 @@ pub(crate) fn take_out(
 
 /// Runs the section of a task on the object of a history in a slot and adds its entry, as `add` of `adding` does.
 #[inline]
-pub(crate) fn add<'a>(
-    desk: &mut Desk<'a>,
+pub(crate) fn add(
+    desk: &mut Desk,
     log: &mut SlotLog,
     alloc: Global,
-    program: &'a Program,
+    program: &Coded<'_>,
     frozen: &Heap,
     task: &Task,
     left: u64,

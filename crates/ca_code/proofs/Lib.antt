@@ -4,4 +4,5 @@ pub mod Flowing
 pub mod Places
 pub mod LaidOut
 pub mod Params
+pub mod Copying
 mod Examples

@@ -1,11 +1,14 @@
 //! Kinds of bodies: what calls of operations, puts to fields, creations and prints are laid out to, and which loops are handed on.
 
-ghost use Rattle.std.specs.Prelude.{map};
+ghost use Rattle.std.specs.Prelude.{◌≡◌, true, map};
 ghost use Rattle.ca_program.specs.Kinds.{kind_type, kinds_in};
 ghost use Rattle.ca_program.specs.Layout.{all_acts, no_acts, no_hands};
 ghost use Rattle.ca_program.specs.View.{program_view, statement_view};
+ghost use Rattle.ca_code.specs.Seen.{placed};
+ghost use Rattle.ca_code.specs.Texts.{IsCopied};
 ghost use Rattle.ca_code.specs.clauses.Laying.{Adds, HandsOn};
 
+use crate::ins::Row;
 use crate::rows::Rows;
 use crate::scope::Scope;
 use ca_program::Stmt;
@@ -14,6 +17,7 @@ use ca_program::Stmt;
 pub trait Bodies {
     ghost use Rattle.std.specs.Prelude.{List};
     ghost use Rattle.ca_program.specs.Kinds.{Kind, Kinds};
+    ghost use Rattle.ca_program.specs.Instructions.{Placed};
     ghost use Rattle.ca_program.specs.Layout.{Acts, Hands};
 
     /// What acts are laid out to.
@@ -21,6 +25,9 @@ pub trait Bodies {
 
     /// What loops are laid out to that are handed on, with the kinds of all locals of the body.
     ghost hands: { Self → Kinds → List Kind → Hands };
+
+    /// What a row of a body that heeds no marks is changed to.
+    ghost changed: { Self → Placed → Placed };
 
     /// Adds what an act is laid out to.
     fn act<'a>(&self, scope: &Scope<'a>, rows: &mut Rows<'a>, line: u32, s: &'a Stmt, top: u32)
@@ -36,6 +43,14 @@ pub trait Bodies {
         top: u32,
     ) -> bool
         ensures { HandsOn rows.old rows.new (hands self.now (kinds_in (program_view scope.now.program.now) scope.now.locals.now) (map kind_type scope.now.locals.now) line (statement_view s.now) top) result };
+
+    /// Whether they are the bodies that heed no marks, with each row changed. Then they needn't be walked once more.
+    fn is_copied(&self) -> bool
+        ensures { result ≡ true → IsCopied (acts self.now) (hands self.now) (changed self.now) };
+
+    /// The row, changed.
+    fn change<'a>(&self, row: Row<'a>) -> Row<'a>
+        ensures { placed result ≡ changed self.now (placed row.entry) };
 }
 
 /// Those of value methods, which do nothing of this.
@@ -45,6 +60,8 @@ impl Bodies for ValueBodies {
     ghost acts = { λ s ks. no_acts };
 
     ghost hands = { λ s ks κs. no_hands };
+
+    ghost changed = { λ s r. r };
 
     fn act<'a>(
         &self,
@@ -65,6 +82,14 @@ impl Bodies for ValueBodies {
     ) -> bool {
         false
     }
+
+    fn is_copied(&self) -> bool {
+        false
+    }
+
+    fn change<'a>(&self, row: Row<'a>) -> Row<'a> {
+        row
+    }
 }
 
 /// Those of operations and of `main`, which heed no marks.
@@ -74,6 +99,8 @@ impl Bodies for PlainBodies {
     ghost acts = { λ s ks. all_acts ks };
 
     ghost hands = { λ s ks κs. no_hands };
+
+    ghost changed = { λ s r. r };
 
     fn act<'a>(&self, scope: &Scope<'a>, rows: &mut Rows<'a>, line: u32, s: &'a Stmt, top: u32) {
         scope.act(rows, line, s, top);
@@ -88,5 +115,13 @@ impl Bodies for PlainBodies {
         _top: u32,
     ) -> bool {
         false
+    }
+
+    fn is_copied(&self) -> bool {
+        false
+    }
+
+    fn change<'a>(&self, row: Row<'a>) -> Row<'a> {
+        row
     }
 }

@@ -64,12 +64,14 @@ pub enum Ins<'a> {
 }
 
 /// One more than the greatest of these slots.
+#[inline(always)]
 fn past(a: u32, b: u32) -> u32 {
     a.max(b).saturating_add(1)
 }
 
 /// One more than the greatest slot that an instruction names. No clause reads it: where a frame has too few slots the machine
 /// wants memory.
+#[inline(always)]
 pub(crate) fn reach(ins: Ins<'_>) -> u32 {
     match ins {
         Ins::Constant(d, _) => past(d, d),

@@ -1,13 +1,14 @@
 //! Lays out a whole program.
 
-ghost use Rattle.std.specs.Prelude.{◌≡◌, ◌++◌, IfOk, drop, map};
+ghost use Rattle.std.specs.Prelude.{◌≡◌, ◌≤◌, ◌+◌, ◌-◌, ◌++◌, IfOk, drop, length, map};
 ghost use Rattle.ca_program.specs.Kinds.{kind_type, kinds_in, param_kinds};
-ghost use Rattle.ca_program.specs.Layout.{starts_code};
+ghost use Rattle.ca_program.specs.Layout.{operation_code, starts_code};
 ghost use Rattle.ca_program.specs.View.{method_view, program_view, statements_view};
 ghost use Rattle.ca_code.specs.Texts.{body_code, method_code};
 ghost use Rattle.ca_code.specs.Codes.{IsLaidOutWith, kinds_seen};
 ghost use Rattle.ca_code.specs.Seen.{row_of};
-ghost use Rattle.ca_code.specs.clauses.Laying.{Adds};
+ghost use Rattle.ca_code.specs.declared.ins.Ins.TheVariants.{Leave};
+ghost use Rattle.ca_code.specs.clauses.Laying.{Adds, Laying, laid};
 ghost use Rattle.ca_code.specs.clauses.Places.{Lays};
 
 use crate::bodies::{Bodies, PlainBodies, ValueBodies};
@@ -105,6 +106,58 @@ fn add_methods<'a, B: Bodies>(
     Ok(places)
 }
 
+/// Adds rows once more, which stand from a place on, each changed.
+fn add_copies<'a, B: Bodies>(rows: &mut Rows<'a>, bodies: &B, from: usize)
+    ensures { Adds rows.old rows.new (map (B.changed bodies.now) (drop from (laid rows.old))) }
+{
+    let end = rows.here();
+    'rows: for at in from..end {
+        let Some(row) = rows.at(at) else {
+            rows.fail();
+            return;
+        };
+        let changed = bodies.change(row);
+        rows.push(changed.line, changed.ins);
+    }
+}
+
+/// Places that are counted from another one on.
+fn moved(alloc: Global, places: &[u32], from: usize, to: usize) -> Result<Vec<u32>, AllocError>
+    requires { to ≤ 2000000000 }
+    ensures { IfOk result (λ others. others.items ≡ map (λ n. n - from + to) places.now) }
+{
+    let mut others = Vec::new(alloc);
+    'places: for place in places {
+        let at = (*place as usize).saturating_sub(from) + to;
+        if at > u32::MAX as usize {
+            return Err(AllocError);
+        }
+        others.push(at as u32)?;
+    }
+    Ok(others)
+}
+
+/// Adds the operations once more, as another kind of bodies, and tells where each begins. Where each row is only changed, they are
+/// copied from where they begin.
+fn add_others<'a, B: Bodies>(
+    alloc: Global,
+    rows: &mut Rows<'a>,
+    program: &'a Program,
+    bodies: &B,
+    methods: &'a [Method],
+    from: usize,
+    places: &[u32],
+) -> Result<Vec<u32>, AllocError>
+    ensures { IfOk result (λ others. (old : Laying) → from ≡ length (laid old) → Lays old rows.old places.now (map method_view methods.now) (λ m. operation_code (program_view program.now) m) → Lays rows.old rows.new others.items (map method_view methods.now) (method_code (B.acts bodies.now) (B.hands bodies.now) (row_of 0 Leave) (program_view program.now))) }
+{
+    if !bodies.is_copied() {
+        return add_methods(alloc, rows, program, bodies, Ins::Leave, methods);
+    }
+    let others = moved(alloc, places, from, rows.here())?;
+    add_copies(rows, bodies, from);
+    Ok(others)
+}
+
 /// What the parameters of a method are read as.
 fn params_of(alloc: Global, m: &Method) -> Result<Vec<Kind>, AllocError>
     ensures { IfOk result (λ ks. kinds_seen ks ≡ param_kinds (method_view m.now)) }
@@ -139,8 +192,10 @@ pub fn lay_out_with<'a, B: Bodies>(
     let values = program.functions.as_slice();
     let functions = add_methods(alloc, &mut rows, program, &ValueBodies, Ins::Lack, values)?;
     let methods = program.ops.as_slice();
+    let from = rows.here();
     let ops = add_methods(alloc, &mut rows, program, &PlainBodies, Ins::Leave, methods)?;
-    let heeding = add_methods(alloc, &mut rows, program, bodies, Ins::Leave, methods)?;
+    let starts = ops.as_slice();
+    let heeding = add_others(alloc, &mut rows, program, bodies, methods, from, starts)?;
     let params = all_params(alloc, methods)?;
     let main = rows.here() as u32;
     let body = &program.main;

@@ -1,6 +1,6 @@
 //! The rows of a code as far as it is laid out.
 
-ghost use Rattle.std.specs.Prelude.{◌≡◌, ◌≤◌, [], ◌∷◌, ◌++◌, false, true, length, map, IfOk, OnOk};
+ghost use Rattle.std.specs.Prelude.{◌≡◌, ◌≤◌, [], ◌∷◌, ◌++◌, false, true, length, map, IfOk, OnOk, slice_get};
 ghost use Rattle.ca_code.specs.Seen.{placed, row_of};
 ghost use Rattle.ca_code.specs.clauses.Laying.{Adds, Puts, behind, laid};
 
@@ -49,7 +49,30 @@ impl<'a> Rows<'a> {
         }
     }
 
+    /// Goes on behind rows that are there, which name so many slots; or there are too many of them.
+    pub fn behind_these(rows: Vec<Row<'a>>, room: u32) -> Result<Rows<'a>, AllocError>
+        ensures { IfOk result (λ r. r ≡ record { rows = rows.entry.items; failed = false }) }
+    {
+        if rows.len() > MOST_ROWS {
+            return Err(AllocError);
+        }
+        Ok(Rows {
+            rows,
+            failed: false,
+            room,
+        })
+    }
+
+    /// The row at a place, if there is one.
+    #[inline(always)]
+    pub fn at(&self, place: usize) -> Option<Row<'a>>
+        ensures { result ≡ slice_get self.now.rows place }
+    {
+        self.rows.get(place).copied()
+    }
+
     /// Adds a row, if there is memory.
+    #[inline(always)]
     fn add(&mut self, line: u32, ins: Ins<'a>) -> Result<(), AllocError>
         ensures added { IfOk result (λ _. laid self.new ≡ laid self.old ++ row_of line ins.entry ∷ []) }
         ensures failed { self.new.failed ≡ self.old.failed }
@@ -63,6 +86,7 @@ impl<'a> Rows<'a> {
     }
 
     /// Adds a row, or keeps in mind that there was no memory.
+    #[inline(always)]
     pub fn push(&mut self, line: u32, ins: Ins<'a>)
         ensures { Adds self.old self.new (row_of line ins.entry ∷ []) }
     {

@@ -32,7 +32,7 @@ use Rattle.ca_code_laws.proofs.Values.{Valued, Stood, AllStood, apart, within_in
 use Rattle.ca_code_laws.proofs.Statements.{LocalsAt, local_put}
 
 -- an index that is found is found with any steps
-indexed_again : (line : ℕ) (items : List Datum) (v : Datum) (k i j : ℕ) (x : Found) → indexed line items v k ≡ gives x j → indexed line items v i ≡ gives x i
+pub indexed_again : (line : ℕ) (items : List Datum) (v : Datum) (k i j : ℕ) (x : Found) → indexed line items v k ≡ gives x j → indexed line items v i ≡ gives x i
 indexed_again line items (Long (pos a)) k i j x e = by (slice_get items a) e
   where
     by : (o : Option Datum) → found line a o k ≡ gives x j → found line a o i ≡ gives x i
@@ -43,7 +43,7 @@ indexed_again line items (Ref a) k i j x e = cc
 indexed_again line items (Truth a) k i j x e = cc
 indexed_again line items Null k i j x e = cc
 
-with_then : {A B S : Type 0} (o : Out A) (f : A → ℕ → Out B) (s : S) (g : B → ℕ → Flow S) → with (o >>= f) s g ≡ with o s (λ v k. with (f v k) s g)
+pub with_then : {A B S : Type 0} (o : Out A) (f : A → ℕ → Out B) (s : S) (g : B → ℕ → Flow S) → with (o >>= f) s g ≡ with o s (λ v k. with (f v k) s g)
 with_then (gives v k) f s g = refl
 with_then (traps t) f s g = refl
 with_then over f s g = refl

@@ -122,7 +122,7 @@ Grown w (Finished x k) = Front w x
 Grown w (Trapped t x) = Front w x
 Grown w (Spent x) = Front w x
 Grown w Wanting = Unit {0}
-Grown w Unfinished = Unit {0}
+Grown w (Unfinished s) = Unit {0}
 Grown w Stuck = Unit {0}
 
 from : (w x : World) → Front w x → (o : Outcome World) → Grown x o → Grown w o
@@ -130,7 +130,7 @@ from w x a (Finished y k) g = then_front a g
 from w x a (Trapped t y) g = then_front a g
 from w x a (Spent y) g = then_front a g
 from w x a Wanting g = tt
-from w x a Unfinished g = tt
+from w x a (Unfinished s) g = tt
 from w x a Stuck g = tt
 
 after_grows : {A : Type 0} (w : World) (o : Out A) (f : A → ℕ → Outcome World) → ((v : A) (k : ℕ) → Grown w (f v k)) → Grown w (after o w f)

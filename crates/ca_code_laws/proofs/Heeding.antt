@@ -50,7 +50,8 @@ both_true : (a b : Bool) → (a && b) ≡ true → (a ≡ true) × (b ≡ true)
 both_true true b e = (refl, e)
 both_true false b e = cc
 
-loaded_is : (κs : ℕ → Kind) (kinds : List Kind) (vs : List Datum) (f : Store) (first : ℕ) → all_have kinds vs ≡ true → ((i : ℕ) (κ : Kind) → slice_get kinds i ≡ Some κ → κs i ≡ κ) → Holds κs (loaded f first vs) first vs
+-- values that were put are held
+pub loaded_is : (κs : ℕ → Kind) (kinds : List Kind) (vs : List Datum) (f : Store) (first : ℕ) → all_have kinds vs ≡ true → ((i : ℕ) (κ : Kind) → slice_get kinds i ≡ Some κ → κs i ≡ κ) → Holds κs (loaded f first vs) first vs
 loaded_is κs [] [] f first have fits i lt = absurd (omega (arith, lt))
 loaded_is κs [] (v ∷ vs) f first have fits i lt = cc
 loaded_is κs (κ ∷ kinds) [] f first have fits i lt = absurd (omega (arith, lt))

@@ -15,3 +15,9 @@ pub mod OneEnd
 pub mod Grown
 pub mod Examples
 pub mod LayoutExamples
+pub mod FitSteps
+pub mod FitValues
+pub mod FitStatements
+pub mod FitMethods
+pub mod FitSections
+pub mod FitEnd

@@ -88,6 +88,20 @@ module _ {S : Type 0} (acc : Accesses S) (code : Code) where
       let e : s.at + 1 + length (starts_code (first + 1) others) ≡ s.at + length (starts_code first (ty ∷ others)) = omega arith in
       (rest.0, joins acc code (steps acc code s s1 (on 0 (Constant first (pos 0))) h.0 (λ next. refl)) (subst (λ q. Comes acc code s1 (moved s q s.left rest.0 s.world)) e rest.1), subst (λ ls. Holds κs rest.0 s.base ls) (append_assoc vs (v ∷ []) (map start_of others)) rest.2, λ j lt. rest.3 j lt ∙ stored_there s.slots (s.base + first) j (pos 0) (λ e. absurd (omega (arith, lt, e))))
 
+module _ {S : Type 0} (acc : Accesses S) (code : Code) where
+  -- what comes to a return returns
+  pub returned_here : (κ : Kind) (s t : State S) (b : Back) (bs : List Back) (o : Out Datum) → Comes acc code s t → s.base ≡ t.base → s.world ≡ t.world → Below s.base s.slots t.slots → t.left ≤ s.left → Returned acc code κ t b bs o → Returned acc code κ s b bs o
+  returned_here κ s t b bs (gives v k) c same world below le r =
+      (r.0, r.1, subst (λ x. Comes acc code s (record { at = b.at; base = b.base; left = k; this = b.this; below = bs; slots = store r.0 (b.base + b.to) r.1; world = x })) (sym world) (joins acc code c r.2), (λ j lt. r.3 j (subst (λ x. j < x) same lt) ∙ below j lt), omega (arith, le, r.4), r.5)
+  returned_here κ s t b bs (traps x) c same world below le r = subst (λ y. Ends acc code s (Trapped x y)) (sym world) (joins_end acc code c r)
+  returned_here κ s t b bs over c same world below le r = subst (λ y. Ends acc code s (Spent y)) (sym world) (joins_end acc code c r)
+
+  -- a value is given back to the body below
+  pub returns_here : (κ : Kind) (s : State S) (b : Back) (bs : List Back) (a line : ℕ) (v : Datum) → b.wants ≡ true → s.below ≡ b ∷ bs → IsAt code s.at (on line (Return a)) → read_as κ (s.slots (s.base + a)) ≡ v → Returned acc code κ s b bs (gives v s.left)
+  returns_here κ s b bs a line v wants below h is =
+      let x = s.slots (s.base + a) in
+      (s.slots, x, steps acc code s (record { at = b.at; base = b.base; left = s.left; this = b.this; below = bs; slots = store s.slots (b.base + b.to) x; world = s.world }) (on line (Return a)) h (λ next. ap (λ y. returning y s next x) below ∙ ap (λ y. cond y (next (record { at = b.at; base = b.base; left = s.left; this = b.this; below = bs; slots = store s.slots (b.base + b.to) x; world = s.world })) (Spent s.world)) wants), (λ j lt. refl), omega arith, is)
+
 module _ {S : Type 0} (acc : Accesses S) (code : Code) (p : PlainProgram) (typed : ProgramTyped p) (laid : FunctionsLaidOut p code) (inner : (b : Back) (bs : List Back) (w : S) (me : Datum) → acc.own (b ∷ bs) w me ≡ own_of (acc.heap w) me) (w : S) (typed_heap : TypedHeap p (acc.heap w)) where
   -- loops of value methods that come again with fewer than n steps left run as they mean
   abbrev AgainsRun : ℕ → Type 0
@@ -133,19 +147,6 @@ module _ {S : Type 0} (acc : Accesses S) (code : Code) (p : PlainProgram) (typed
       subst (λ o. Flows acc code (λ (u : Unit {0}). w) (kind_at s.result) (record { at = at + length (body_of_loop (kinds_in p s.locals) no_acts no_hands line x top); base = base; left = k; this = me; below = b ∷ bs; slots = f; world = w }) (length (tail_of_loop (kinds_in p s.locals) no_acts no_hands line x top)) (LocalsAt (kinds_in p s.locals) base top) o) (sym (again_runs p.functions (acc.heap w) me line ls x k))
       (loop_runs acc code p true (λ (u : Unit {0}). w) no_acts no_hands (function_parts (functions_of p.functions (acc.heap w)) (acc.heap w) me) s (frozen_heap (acc.heap w)) nothing me (b ∷ bs) base n top (parts_run n calls agains s me b bs base top wide receiver) x line ls tt at k f is h (t, each_may x) len (tt, v) (omega (arith, lt)) holds)
 
-  -- what comes to a return returns
-  returned_from : (κ : Kind) (s t : State S) (b : Back) (bs : List Back) (o : Out Datum) → Comes acc code s t → s.base ≡ t.base → s.world ≡ t.world → Below s.base s.slots t.slots → t.left ≤ s.left → Returned acc code κ t b bs o → Returned acc code κ s b bs o
-  returned_from κ s t b bs (gives v k) c same world below le r =
-      (r.0, r.1, subst (λ x. Comes acc code s (record { at = b.at; base = b.base; left = k; this = b.this; below = bs; slots = store r.0 (b.base + b.to) r.1; world = x })) (sym world) (joins acc code c r.2), (λ j lt. r.3 j (subst (λ x. j < x) same lt) ∙ below j lt), omega (arith, le, r.4), r.5)
-  returned_from κ s t b bs (traps x) c same world below le r = subst (λ y. Ends acc code s (Trapped x y)) (sym world) (joins_end acc code c r)
-  returned_from κ s t b bs over c same world below le r = subst (λ y. Ends acc code s (Spent y)) (sym world) (joins_end acc code c r)
-
-  -- a value is given back to the body below
-  returns : (κ : Kind) (s : State S) (b : Back) (bs : List Back) (a line : ℕ) (v : Datum) → b.wants ≡ true → s.below ≡ b ∷ bs → IsAt code s.at (on line (Return a)) → read_as κ (s.slots (s.base + a)) ≡ v → Returned acc code κ s b bs (gives v s.left)
-  returns κ s b bs a line v wants below h is =
-      let x = s.slots (s.base + a) in
-      (s.slots, x, steps acc code s (record { at = b.at; base = b.base; left = s.left; this = b.this; below = bs; slots = store s.slots (b.base + b.to) x; world = s.world }) (on line (Return a)) h (λ next. ap (λ y. returning y s next x) below ∙ ap (λ y. cond y (next (record { at = b.at; base = b.base; left = s.left; this = b.this; below = bs; slots = store s.slots (b.base + b.to) x; world = s.world })) (Spent s.world)) wants), (λ j lt. refl), omega arith, is)
-
   -- a body, from its beginning to what it gives: it never comes to its end
   body_runs : (n : ℕ) → CallsRun acc code p laid w (functions_of p.functions (acc.heap w)).call n → AgainsRun n → (m : PlainMethod) (i : ℕ) → slice_get p.functions i ≡ Some m → (r : ℕ) (vs : List Datum) (at base k : ℕ) (b : Back) (bs : List Back) (f : Store) → b.wants ≡ true → k ≤ n → HasAt code at (function_code p m) → IsOfClass (slice_get (acc.heap w) r) m.class → ValuesTyped (acc.heap w) vs (parameters_of m) → Holds (kinds_of p m).locals f base vs → Returned acc code (kind_at m.result) (record { at = at; base = base; left = k; this = Ref r; below = b ∷ bs; slots = f; world = w }) b bs (value_of_body (exec_all (function_parts (functions_of p.functions (acc.heap w)) (acc.heap w) (Ref r)) (vs ++ map start_of (others_of m)) tt m.body.statements k))
   body_runs n calls agains m i found r vs at base k b bs f wants left h of_class arguments holds =
@@ -161,7 +162,7 @@ module _ {S : Type 0} (acc : Accesses S) (code : Code) (p : PlainProgram) (typed
       let hb = has_back code at first (body ++ rest) h in
       let frame : ValuesTyped (acc.heap w) ls m.body.locals = frame_typed (acc.heap w) vs m.params m.body.locals arguments in
       let flows = statements_run acc code p true (λ (u : Unit {0}). w) no_acts no_hands parts (scope_of m) (frozen_heap (acc.heap w)) nothing (Ref r) (b ∷ bs) base n (width_of m) (parts_run n calls agains (scope_of m) (Ref r) b bs base (width_of m) (sym (width_is m mt.method.parameters)) of_class) m.body.statements ls tt (at + length first) k g.0 (has_front code (at + length first) body rest hb) (mt.method.body, all_may m.body.statements) len (tt, frame) left g.2 in
-      returned_from (kind_at m.result) (there at k f) (there (at + length first) k g.0) b bs (value_of_body (exec_all parts ls tt m.body.statements k)) g.1 refl refl g.3 (omega arith)
+      returned_here acc code (kind_at m.result) (there at k f) (there (at + length first) k g.0) b bs (value_of_body (exec_all parts ls tt m.body.statements k)) g.1 refl refl g.3 (omega arith)
       (ends (at + length first) k g.0 (length body) (exec_all parts ls tt m.body.statements k) (all_returned parts m.body.statements mt.returns ls tt k) flows)
     where
       there : ℕ → ℕ → Store → State S
@@ -170,7 +171,7 @@ module _ {S : Type 0} (acc : Accesses S) (code : Code) (p : PlainProgram) (typed
       ends : (at k : ℕ) (f : Store) (l : ℕ) (o : Flow (Unit {0})) → GivesBack o → Flows acc code (λ (u : Unit {0}). w) (kind_at m.result) (there at k f) l (LocalsAt (kinds_of p m) base (width_of m)) o → Returned acc code (kind_at m.result) (there at k f) b bs (value_of_body o)
       ends at k f l (goes_on ls u j) gives_one t = absurd gives_one
       ends at k f l (gives_back v u j) gives_one t =
-          returned_from (kind_at m.result) (there at k f) (there t.1 j t.0) b bs (gives v j) t.4 refl refl t.7 t.8 (returns (kind_at m.result) (there t.1 j t.0) b bs t.2 t.3 v wants refl t.5 t.6)
+          returned_here acc code (kind_at m.result) (there at k f) (there t.1 j t.0) b bs (gives v j) t.4 refl refl t.7 t.8 (returns_here acc code (kind_at m.result) (there t.1 j t.0) b bs t.2 t.3 v wants refl t.5 t.6)
       ends at k f l (stops x u) gives_one t = t
       ends at k f l (runs_out u) gives_one t = t
 

@@ -55,7 +55,7 @@ whoever_heeds p typed marks sound puts code is heeding at budget main s o comes 
     let same = one_end (run_access p) code (beginning at budget) (outcome_of (listing_run p marks budget)) o (main_heeds p code typed is.functions is.ops marks heeding at budget main) (joins_end (run_access p) code comes ends) in
     sym (notes_change_nothing p marks budget) ∙ ap (ended budget) (sym (lists_first p typed marks sound puts budget)) ∙ sym (ended_is budget (listing_run p marks budget)) ∙ ap (ended_as budget) same
 
-sectioned_is : (c : ClassId) (budget : ℕ) (o : Flow Section) → sectioned_as c budget (section_outcome o) ≡ sectioned c budget o
+pub sectioned_is : (c : ClassId) (budget : ℕ) (o : Flow Section) → sectioned_as c budget (section_outcome o) ≡ sectioned c budget o
 sectioned_is c budget (goes_on ls s k) = refl
 sectioned_is c budget (gives_back v s k) = refl
 sectioned_is c budget (stops t s) = refl

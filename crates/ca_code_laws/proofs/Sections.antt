@@ -53,7 +53,7 @@ row_is κs (κ ∷ kinds) (v ∷ vs) f first len fits holds =
     let rest : row f (first + 1) kinds ≡ vs = row_is (λ i. κs (suc i)) kinds vs f (first + 1) (omega (arith, len)) (λ i κ e. fits (suc i) κ e) (λ i lt. let e : first + 1 + i ≡ first + suc i = omega arith in ap (λ y. read_as (κs (suc i)) (f y)) e ∙ holds (suc i) (omega (arith, lt))) in
     ap (λ y. y ∷ row f (first + 1) kinds) here ∙ ap (λ ys. v ∷ ys) rest
 
-kind_mapped : (tys : List ValueType) (n i : ℕ) (κ : Kind) → slice_get (map kind_type (take n tys)) i ≡ Some κ → kind_at (slice_get tys i) ≡ κ
+pub kind_mapped : (tys : List ValueType) (n i : ℕ) (κ : Kind) → slice_get (map kind_type (take n tys)) i ≡ Some κ → kind_at (slice_get tys i) ≡ κ
 kind_mapped [] zero i κ e = cc
 kind_mapped [] (suc n) i κ e = cc
 kind_mapped (ty ∷ tys) zero i κ e = cc

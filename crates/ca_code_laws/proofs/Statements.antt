@@ -49,7 +49,7 @@ set_other (x ∷ ls) zero (suc j) v ne = refl
 set_other (x ∷ ls) (suc i) zero v ne = refl
 set_other (x ∷ ls) (suc i) (suc j) v ne = set_other ls i j v (λ e. ne (ap suc e))
 
-put_is : (old v : Datum) → assigned change.Put old v ≡ v
+pub put_is : (old v : Datum) → assigned change.Put old v ≡ v
 put_is (Long a) (Long b) = refl
 put_is (Long a) (Truth b) = refl
 put_is (Long a) Null = refl

@@ -48,7 +48,7 @@ AllStood base old top n κs vs f = (length vs ≡ n) × Holds κs f (base + top)
 pub apart : (base i j : ℕ) → i ≢ j → base + i ≢ base + j
 apart base i j ne e = ne (omega (arith, e))
 
-all_there : (κs : ℕ → Kind) (base top : ℕ) (v : Datum) (vs : List Datum) (f : Store) → read_as (κs 0) (f (base + top)) ≡ v → Holds (λ i. κs (suc i)) f (base + (top + 1)) vs → Holds κs f (base + top) (v ∷ vs)
+pub all_there : (κs : ℕ → Kind) (base top : ℕ) (v : Datum) (vs : List Datum) (f : Store) → read_as (κs 0) (f (base + top)) ≡ v → Holds (λ i. κs (suc i)) f (base + (top + 1)) vs → Holds κs f (base + top) (v ∷ vs)
 all_there κs base top v vs f e h zero lt = let z : base + top + 0 ≡ base + top = omega arith in ap (λ x. read_as (κs 0) (f x)) z ∙ e
 all_there κs base top v vs f e h (suc i) lt = let z : base + top + suc i ≡ base + (top + 1) + i = omega arith in ap (λ x. read_as (κs (suc i)) (f x)) z ∙ h i (omega (arith, lt))
 
@@ -59,12 +59,12 @@ within_less (gives v i) j k h le = omega (arith, h, le)
 within_less (traps t) j k h le = tt
 within_less over j k h le = tt
 
-within_then : {A B : Type 0} (o : Out A) (k : ℕ) (g : A → ℕ → Out B) → Within k o → ((v : A) (j : ℕ) → Within j (g v j)) → Within k (o >>= g)
+pub within_then : {A B : Type 0} (o : Out A) (k : ℕ) (g : A → ℕ → Out B) → Within k o → ((v : A) (j : ℕ) → Within j (g v j)) → Within k (o >>= g)
 within_then (gives v j) k g h r = within_less (g v j) j k (r v j) h
 within_then (traps t) k g h r = tt
 within_then over k g h r = tt
 
-within_pointed : (line : ℕ) (v : Datum) (k : ℕ) → Within k (pointed line v k)
+pub within_pointed : (line : ℕ) (v : Datum) (k : ℕ) → Within k (pointed line v k)
 within_pointed line (Ref n) k = omega arith
 within_pointed line (Long n) k = tt
 within_pointed line (Truth n) k = tt
@@ -81,26 +81,26 @@ within_indexed line items (Ref n) k = tt
 within_indexed line items (Truth n) k = tt
 within_indexed line items Null k = tt
 
-within_item : (line : ℕ) (items : List Datum) (v : Datum) (k : ℕ) → Within k (indexed line items v k >>= λ item k. gives item.value k)
+pub within_item : (line : ℕ) (items : List Datum) (v : Datum) (k : ℕ) → Within k (indexed line items v k >>= λ item k. gives item.value k)
 within_item line items v k = within_then (indexed line items v k) k (λ item k. gives item.value k) (within_indexed line items v k) (λ item j. omega arith)
 
-within_answer : (line : ℕ) (a : Result Datum TrapKind) (k : ℕ) → Within k (answer line a k)
+pub within_answer : (line : ℕ) (a : Result Datum TrapKind) (k : ℕ) → Within k (answer line a k)
 within_answer line (Ok v) k = omega arith
 within_answer line (Err t) k = tt
 
 -- only `&&` and `||` are decided by their left sides
-eager : (op : BinaryOp) (v : Datum) → is_lazy op ≡ false → decided op v ≡ None
+pub eager : (op : BinaryOp) (v : Datum) → is_lazy op ≡ false → decided op v ≡ None
 eager two.And v e = absurd (subst (λ b. cond b (Unit {0}) ⊥) e tt)
 eager two.Or v e = absurd (subst (λ b. cond b (Unit {0}) ⊥) e tt)
 eager other v e = refl
 
 -- and they give truth values
-lazy_gives : (op : BinaryOp) → is_lazy op ≡ true → binary_kind op ≡ as_truth
+pub lazy_gives : (op : BinaryOp) → is_lazy op ≡ true → binary_kind op ≡ as_truth
 lazy_gives two.Or e = refl
 lazy_gives two.And e = refl
 lazy_gives other e = cc
 
-truth_read : (b : Bool) → read_as as_truth (truth_number b) ≡ Truth b
+pub truth_read : (b : Bool) → read_as as_truth (truth_number b) ≡ Truth b
 truth_read true = refl
 truth_read false = refl
 

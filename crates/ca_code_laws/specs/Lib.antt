@@ -3,3 +3,5 @@ pub mod Words
 pub mod Machine
 pub mod Runs
 pub mod Told
+pub mod Fitting
+pub mod Known

@@ -5,7 +5,8 @@ ghost use Rattle.ca_program.specs.declared.program.ClassId.{ClassId};
 ghost use Rattle.ca_program.specs.declared.program.FieldId.{FieldId};
 ghost use Rattle.ca_program.specs.declared.program.FunctionId.{FunctionId};
 ghost use Rattle.ca_program.specs.declared.program.OpId.{OpId};
-ghost use Rattle.ca_program.specs.Plain.{PlainProgram, Statement, Statements};
+ghost use Rattle.ca_program.specs.declared.program.ValueType.{ValueType};
+ghost use Rattle.ca_program.specs.Plain.{PlainMethod, PlainProgram, Statement, Statements};
 ghost use Rattle.ca_program.specs.Kinds.{as_pointer, kinds_in, param_kind, result_kind};
 ghost use Rattle.ca_program.specs.Instructions.{Begin, Code, Hand, Handed, HasAt};
 ghost use Rattle.ca_program.specs.Layout.{FunctionsLaidOut, MainLaidOut, all_acts, no_hands, statement_code};
@@ -26,7 +27,9 @@ ghost use Rattle.ca_parallel.specs.Loops.{IsCallLoop};
 ghost use Rattle.ca_parallel.specs.Marks.{SoundMarks};
 ghost use Rattle.ca_parallel.specs.Separable.{Separable};
 ghost use Rattle.ca_note_laws.specs.Listing.{CallLoopsPutNothing, listing_run, puts_nothing};
+ghost use Rattle.ca_code_laws.specs.Fitting.{FitsMethod, FitsStatement, FunctionsFit};
 ghost use Rattle.ca_code_laws.specs.Heeding.{HeedingLaidOut, MainHeeds};
+ghost use Rattle.ca_code_laws.specs.Known.{IsKnown, KnowsLoop, loop_alone};
 ghost use Rattle.ca_code_laws.specs.Machine.{Store, Back, Accesses, State, Outcome, Comes, Ends, call_of, row, slot};
 ghost use Rattle.ca_code_laws.specs.Runs.{run_access, section_access, section_outcome, sectioned_as, beginning, outcome_of, ended_as};
 ghost use Rattle.ca_code_laws.specs.Told.{IsLaidOut, Holds, Returned, Came, Passed, Front};
@@ -101,4 +104,15 @@ pub fn sections_of_loops_run_the_same_code()
 /// A loop of a typed body is typed.
 pub fn loops_are_typed()
     ensures { (p : PlainProgram) (s : Scope) (xs : Statements) → StatementsTyped p s xs → (loop : Statement) → Contains (fors_in_all xs) loop → StatementTyped p s loop }
+{}
+
+/// A body that fits its layout wants memory, or runs the section of its operation: in any heap, on any slots, with as many arguments
+/// as parameters, of their kinds. Whoever runs it to another end knows the section.
+pub fn fitting_bodies_know_their_sections()
+    ensures { (p : PlainProgram) → FunctionsFit p → (code : Code) → IsLaidOut p code → (frozen : List Object) (op : OpId) (m : PlainMethod) → slice_get p.ops op.0 ≡ Some m → FitsMethod p true m → (r : ℕ) (vs : List Datum) → m.params ≡ length vs → (object : Object) (start base k : ℕ) (f : Store) → slice_get code.ops op.0 ≡ Some start → Holds (λ i. param_kind (Some m) i) f base vs → (o : Outcome Section) → IsKnown o → Ends (section_access frozen) code (record { at = start; base = base; left = k; this = Ref r; below = []; slots = f; world = section_start object.slots }) o → section p frozen r object op vs (suc k) ≡ sectioned_as object.class (suc k) o }
+{}
+
+/// So does a loop whose code stands on its own, with an end: who comes to its end has the loop's locals in the first slots.
+pub fn fitting_loops_know_their_sections()
+    ensures { (p : PlainProgram) → FunctionsFit p → (code : Code) → IsLaidOut p code → (frozen : List Object) (tys : List ValueType) (loop : Statement) → FitsStatement p tys true as_pointer loop → (me : Datum) (line : ℕ) (ls : List Datum) → length ls ≡ length tys → (at base k : ℕ) (f : Store) → HasAt code at (loop_alone p tys line loop) → Holds (kinds_in p tys).locals f base ls → KnowsLoop p frozen code tys me line loop ls at base k f }
 {}

@@ -94,26 +94,46 @@ fn annotated_texts_are_erased(rt: HostRuntime) {
     assert!(rt; right_rows(&rt, true) == 9);
 }
 
-/// Ends the test unless a text without its marks is this.
-fn erases_to<R: AllocGlobal + Abort>(rt: &R, text: &str, wanted: &str) {
-    let found = erased(rt, rt.alloc(), text);
-    assert!(rt; found.as_slice() == wanted.as_bytes(), "of {text}");
+/// Texts with marks, and behind `=>` texts without them, with `$` for the end of a line.
+const ERASED: &str = " => 
+a /*@lock*/ b => a b
+a/*@unlock*/b => ab
+/*@spawn*/  a =>  a
+a /*@lock*/ /*@unlock*/ /*@spawn*/ b => a b
+a // /*@lock*/ b$ => a // /*@lock*/ b$
+a /* /*@lock*/ b => a /* /*@lock*/ b
+a / b /*@parallel*/ => a / b ";
+
+/// Whether a row tells a text without its marks.
+fn is_erased<R: AllocGlobal + Abort>(rt: &R, row: &str) -> bool {
+    let (text, wanted) = row.split_once(" => ").expect(rt, "a row");
+    let text = with_lines(rt, text);
+    let wanted = with_lines(rt, wanted);
+    let found = erased(rt, rt.alloc(), &text);
+    found.as_slice() == wanted.as_bytes()
 }
 
 #[test]
 fn marks_are_left_out(rt: HostRuntime) {
-    erases_to(&rt, "", "");
-    erases_to(&rt, "a /*@lock*/ b", "a b");
-    erases_to(&rt, "a/*@unlock*/b", "ab");
-    erases_to(&rt, "/*@spawn*/  a", " a");
-    erases_to(&rt, "a /*@lock*/ /*@unlock*/ /*@spawn*/ b", "a b");
-    erases_to(&rt, "a // /*@lock*/ b\n", "a // /*@lock*/ b\n");
-    erases_to(&rt, "a /* /*@lock*/ b", "a /* /*@lock*/ b");
-    erases_to(&rt, "a / b /*@parallel*/", "a / b ");
+    for row in ERASED.lines() {
+        assert!(rt; is_erased(&rt, row), "{row}");
+    }
 }
 
-/// Ends the test unless the first bad mark of a text stands at this line and column.
-fn has_bad_mark<R: AllocGlobal + Abort>(rt: &R, text: &str, line: u32, column: u32) {
+/// The line and the column of the first bad mark of a text, with `$` for the end of a line.
+const BAD: &str = "1 14 int main() { /*@hold*/ }
+1 1 /*@lock
+2 4 a /*@lock*/$ b /*@locks*/
+1 1 /*@ lock*/
+2 14 // /*@hold*/$/* /*@hold*/ /*@Lock*/";
+
+/// Whether a row tells the first bad mark.
+fn has_bad_mark<R: AllocGlobal + Abort>(rt: &R, row: &str) -> bool {
+    let (line, row) = row.split_once(' ').expect(rt, "a line");
+    let (column, text) = row.split_once(' ').expect(rt, "a column");
+    let line: u32 = line.parse().expect(rt, "a number");
+    let column: u32 = column.parse().expect(rt, "a number");
+    let text = with_lines(rt, text);
     assert!(rt; text.len() <= LONGEST_TEXT);
     let found = erase(rt.alloc(), text.as_bytes());
     let is_bad = match &found {
@@ -121,14 +141,12 @@ fn has_bad_mark<R: AllocGlobal + Abort>(rt: &R, text: &str, line: u32, column: u
         _ => false,
     };
     let_go(found);
-    assert!(rt; is_bad, "of {text}");
+    is_bad
 }
 
 #[test]
 fn bad_marks_are_told(rt: HostRuntime) {
-    has_bad_mark(&rt, "int main() { /*@hold*/ }", 1, 14);
-    has_bad_mark(&rt, "/*@lock", 1, 1);
-    has_bad_mark(&rt, "a /*@lock*/\n b /*@locks*/", 2, 4);
-    has_bad_mark(&rt, "/*@ lock*/", 1, 1);
-    has_bad_mark(&rt, "// /*@hold*/\n/* /*@hold*/ /*@Lock*/", 2, 14);
+    for row in BAD.lines() {
+        assert!(rt; has_bad_mark(&rt, row), "{row}");
+    }
 }

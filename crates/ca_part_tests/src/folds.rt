@@ -15,44 +15,29 @@ T
 ^";
 
 /// The operands may change places and be nested in any way, and other operands make another form.
-#[test]
-fn takes_operands_in_any_order(rt: HostRuntime) {
-    let rows = "alike 0p1p$ 1p0p$
+const ALL: &str = "alike 0p1p$ 1p0p$
 alike 0p1p$2p$ 2p1p0p$$
 alike 0p1p$2p3p$$ 3p1p$0p$2p$
 alike 0p1p$2n*0p* 1p0p$0p*2n*
 differ 0p1p$ 0p2p$
 differ 0p1p$0p1p$* 0p1p$
 differ 0p1p$2n*2p$ 0p1p$2p$";
-    hold_for_each(&rt, OPERATORS, rows);
-}
 
 /// An operand that stands twice stands once.
-#[test]
-fn drops_repeats(rt: HostRuntime) {
-    let rows = "alike 0p0p$ 0p
+const REPEATED: &str = "alike 0p0p$ 0p
 alike 0p1p$0p$ 0p1p$
 alike 0p1p$1p0p$$ 0p1p$
 alike 0p1p+1p0p+$ 0p1p+";
-    hold_for_each(&rt, "G\nK\nB\nT", rows);
-}
 
-/// Of exclusive or it goes with its like.
-#[test]
-fn cancels_pairs(rt: HostRuntime) {
-    let rows = "alike 0p0p^ 0n
+const ROWS: &str = "// of exclusive or it goes with its like
+alike 0p0p^ 0n
 alike 0p1p^1p^ 0p
 alike 0p1p^1p0p^^ 0n
 alike 0p1p^0p^1p2p^^ 2p
 differ 0p1p^1p^ 0p1p^
-differ 0p0p^ 0p";
-    hold(&rt, rows);
-}
-
-/// Numbers become one number.
-#[test]
-fn joins_numbers(rt: HostRuntime) {
-    let rows = "alike 6n3nB 2n
+differ 0p0p^ 0p
+// numbers become one number
+alike 6n3nB 2n
 alike 6n3nT 7n
 alike 6n3n^ 5n
 alike 1m2nG 2n
@@ -61,14 +46,9 @@ alike 0p6nB3nB 2n0pB
 alike 0p6nT1p3nTT 7n1pT0pT
 alike 6n0p^1p3n^^ 0p1p^5n^
 differ 0p6nB 0p3nB
-differ 0p5nG 0p";
-    hold(&rt, rows);
-}
-
-/// The number that changes no other is dropped.
-#[test]
-fn drops_neutral_numbers(rt: HostRuntime) {
-    let rows = "alike 0p9223372036854775808mG 0p
+differ 0p5nG 0p
+// the number that changes no other is dropped
+alike 0p9223372036854775808mG 0p
 alike 0p9223372036854775807nK 0p
 alike 0p1mB 0p
 alike 0p0nT 0p
@@ -76,62 +56,52 @@ alike 0p0n^ 0p
 alike 0p6n^6n^ 0p
 differ 0p0nB 0p
 differ 0p1mT 0p
-differ 0p0nG 0p";
-    hold(&rt, rows);
-}
-
-/// A number that absorbs all others stands alone.
-#[test]
-fn absorbs_operands(rt: HostRuntime) {
-    let rows = "alike 0p9223372036854775807nG1pG 9223372036854775807n
+differ 0p0nG 0p
+// a number that absorbs all others stands alone
+alike 0p9223372036854775807nG1pG 9223372036854775807n
 alike 0p9223372036854775808mK1pK 9223372036854775808m
 alike 0p6nB1p1nBB 0n
 alike 0p1mT1pT 1m
-differ 0p1m^ 1m";
-    hold(&rt, rows);
-}
-
-/// An operand that another operator made is taken for one.
-#[test]
-fn opens_its_own_operands_alone(rt: HostRuntime) {
-    let rows = "alike 0p1pK2pG 2p1p0pKG
+differ 0p1m^ 1m
+// an operand that another operator made is taken for one
+alike 0p1pK2pG 2p1p0pKG
 differ 0p1pK2pG 0p1pG2pG
 differ 0p1pK2pG 0p1p2pGK
 differ 0p1pT2pB 0p1pB2pT";
-    hold(&rt, rows);
+
+#[test]
+fn operators_have_forms(rt: HostRuntime) {
+    hold_for_each(&rt, OPERATORS, ALL);
+    hold_for_each(&rt, "G\nK\nB\nT", REPEATED);
+    hold(&rt, ROWS);
 }
 
 /// It weighs as a sum: a term of depth 4,096, and sixteen of two operands multiplied, are the heaviest.
-#[test]
-fn weighs_operands(rt: HostRuntime) {
-    let rows = "heaviest 0f,4095:0p$
+const WEIGHTS: &str = "heaviest 0f,4095:0p$
 large 0f,4095:0p$,1n$
 heaviest 0p1p$,15:0p1p$*
 formed 0p1p$,15:0p1p$*
 large 0p1p$,15:0p1p$*,1n+";
-    hold_for_each(&rt, OPERATORS, rows);
-}
 
 /// Four thousand times one field, 500 fields and 4,000 fields that are nested from the left and from the right, operators inside
 /// indexes and inside sums: each has a form.
-#[test]
-fn takes_long_chains(rt: HostRuntime) {
-    let rows = "formed 0f,4000:0f$
+const CHAINS: &str = "formed 0f,4000:0f$
 alike 0f,499:1if$ 500:0if,499:$
 alike 0f,3999:1if$ 4000:0if,3999:$
 formed 0f,2000:0p$0sxS
 formed 0f,2000:0p$1p+";
-    hold_for_each(&rt, OPERATORS, rows);
-}
 
 /// Terms of 6,000 levels of two operators that alternate are past the limit, and have forms all the same.
-#[test]
-fn takes_deep_operators(rt: HostRuntime) {
-    let rows = "past 0f,3000:0pG1pK
+const DEEP: &str = "past 0f,3000:0pG1pK
 scalar 0f,3000:0pG1pK
 past 0f,3000:0p^1pB
 scalar 0f,3000:0p^1pB";
-    hold(&rt, rows);
+
+#[test]
+fn heavy_operators_have_forms(rt: HostRuntime) {
+    hold_for_each(&rt, OPERATORS, WEIGHTS);
+    hold_for_each(&rt, OPERATORS, CHAINS);
+    hold(&rt, DEEP);
 }
 
 /// The field 0 as a shared term.

@@ -1,27 +1,25 @@
 //! Programs laid out as instructions, and run. Where memory runs out the test ends.
+//!
+//! A row is a run of a text: the budget, how it ends, and behind `:` the numbers that it prints. It is `done` with so many steps left,
+//! `spent` where a step is too many, or at a trap on a line: `null`, `outside` or `divided`.
 
 use crate::sources::{let_go, program};
 use ca_code::{PlainBodies, lay_out_with};
 use ca_model::{Heap, TrapKind, Value};
-use ca_steps::{Event, Frames, InRun, Laid, run_on};
+use ca_steps::{Event, Frames, InRun, Laid, Op, run_on};
 use std::process::Abort;
 use std::sync::Wait;
 
 /// How a run ends: with so many steps left; at a trap, with its line; or where a step is too many.
 #[derive(Clone, Copy, PartialEq, Eq)]
-pub enum End {
+enum End {
     Done(u64),
     Trapped(TrapKind, u32),
     Spent,
 }
 
 /// Runs a text within a budget, checks the numbers that it prints, and tells how it ends.
-pub fn ends<R: AllocGlobal + Abort + Wait>(
-    rt: &R,
-    text: &str,
-    budget: u64,
-    numbers: &[i64],
-) -> End {
+fn ends<R: AllocGlobal + Abort + Wait>(rt: &R, text: &str, budget: u64, numbers: &[i64]) -> End {
     let alloc = rt.alloc();
     let program = program(rt, text);
     let code = lay_out_with(alloc, program, &PlainBodies).expect(rt, "a code");
@@ -62,21 +60,53 @@ pub fn ends<R: AllocGlobal + Abort + Wait>(
     end
 }
 
+/// The end that a row tells.
+fn end_of<R: Abort>(rt: &R, end: &str) -> End {
+    let (end, number) = end.split_once(' ').unwrap_or((end, "0"));
+    let number: u32 = number.parse().expect(rt, "a number");
+    match end {
+        "spent" => End::Spent,
+        "null" => End::Trapped(TrapKind::NullPointer, number),
+        "outside" => End::Trapped(TrapKind::OutOfRange, number),
+        "divided" => End::Trapped(TrapKind::ZeroDivisor, number),
+        _ => End::Done(u64::from(number)),
+    }
+}
+
+/// The numbers of a text.
+fn numbers<R: AllocGlobal + Abort>(rt: &R, text: &str) -> Vec<i64> {
+    let mut numbers = Vec::new(rt.alloc());
+    for word in text.split_whitespace() {
+        let number: i64 = word.parse().expect(rt, "a number");
+        numbers.push(number).expect(rt, "numbers");
+    }
+    numbers
+}
+
+/// Whether a text runs as a row tells.
+fn is_run<R: AllocGlobal + Abort + Wait>(rt: &R, text: &str, row: &str) -> bool {
+    let (front, printed) = row.split_once(':').expect(rt, "a row");
+    let (budget, end) = front.split_once(' ').expect(rt, "an end");
+    let budget: u64 = budget.parse().expect(rt, "a budget");
+    let numbers = numbers(rt, printed);
+    let ended = ends(rt, text, budget, numbers.as_slice());
+    let_go(numbers);
+    ended == end_of(rt, end)
+}
+
+/// Ends the test unless a text runs as each row tells.
+pub fn run<R: AllocGlobal + Abort + Wait>(rt: &R, text: &str, rows: &str) {
+    for row in rows.lines() {
+        assert!(rt; is_run(rt, text, row), "{row}");
+    }
+}
+
 /// Value methods that call themselves, with choices and right sides that are passed over: `fib(10)` is 177 calls, `even(7)` eight.
 const FIB: &str = "class M { public: long x;
   long fib(long n) { if (n < 2) return n; return this->fib(n - 1) + this->fib(n - 2); }
   bool odd(long n) { if (n == 0) return false; return this->even(n - 1); }
   bool even(long n) { if (n == 0 || n == 2) return true; return n > 0 && this->odd(n - 1); } };
 int main() { M *m = new M(); print(m->fib(10)); if (m->even(7)) print(1); else print(0); }";
-
-#[test]
-fn calls_value_methods(rt: HostRuntime) {
-    assert!(rt; ends(&rt, FIB, 1_000, &[55, 0]) == End::Done(815));
-    assert!(rt; ends(&rt, FIB, 185, &[55, 0]) == End::Done(0));
-    assert!(rt; ends(&rt, FIB, 184, &[55]) == End::Spent);
-    assert!(rt; ends(&rt, FIB, 177, &[55]) == End::Spent);
-    assert!(rt; ends(&rt, FIB, 176, &[]) == End::Spent);
-}
 
 /// Loops, arrays, fields of other objects and operations. Four calls of `fill` take 20 steps, four of `grow` four, and the sum of
 /// 3, 9 and 3, 6 and 2, 3 and 1 as many.
@@ -85,13 +115,6 @@ const LINKS: &str = "class N { public: long v; N *next; long a[4];
   void grow(long n) { if (n > 0) { next = new N(); next->fill(n); next->grow(n - 1); } }
   long sum() { long s = v; N *p = next; while (p != nullptr) { s += p->v + p->a[1]; p = p->next; } return s; } };
 int main() { N *n = new N(); n->fill(1); n->grow(3); print(n->sum()); print(n->next->a[2]); }";
-
-#[test]
-fn runs_operations(rt: HostRuntime) {
-    assert!(rt; ends(&rt, LINKS, 10_000, &[27, 6]) == End::Done(9_972));
-    assert!(rt; ends(&rt, LINKS, 28, &[27, 6]) == End::Done(0));
-    assert!(rt; ends(&rt, LINKS, 27, &[]) == End::Spent);
-}
 
 /// Truth values, assignments of other kinds than sums, and pointers to one object: of seven conditions one digit each.
 const TRUTHS: &str = "class T { public: bool on; bool all[3]; long n; long v[2]; T *next;
@@ -103,11 +126,6 @@ const TRUTHS: &str = "class T { public: bool on; bool all[3]; long n; long v[2];
     if (next->on) c += 10000; if (next->all[1] && !on) c += 100000; if (next == this) c += 1000000; return c; } };
 int main() { T *t = new T(); T *u = new T(); t->tie(u); u->tie(u); t->set(true); u->set(false);
   print(t->count()); print(u->count()); t->change(3); print(t->n); print(t->v[0]); print(t->v[1]); }";
-
-#[test]
-fn decides_and_changes(rt: HostRuntime) {
-    assert!(rt; ends(&rt, TRUTHS, 7, &[111, 1_100_100, -11, -1, 1]) == End::Done(0));
-}
 
 /// Traps, each on the line of its statement.
 const NULL: &str = "class A { public: long x; A *p; };
@@ -147,25 +165,8 @@ int main() {
   a->go();
 }";
 
-#[test]
-fn traps_on_its_line(rt: HostRuntime) {
-    assert!(rt; ends(&rt, NULL, 10, &[3]) == End::Trapped(TrapKind::NullPointer, 5));
-    assert!(rt; ends(&rt, OUTSIDE, 10, &[]) == End::Trapped(TrapKind::OutOfRange, 3));
-    assert!(rt; ends(&rt, BELOW, 10, &[0]) == End::Trapped(TrapKind::OutOfRange, 3));
-    assert!(rt; ends(&rt, BY_ZERO, 10, &[]) == End::Trapped(TrapKind::ZeroDivisor, 3));
-    assert!(rt; ends(&rt, BY_NOTHING, 10, &[1]) == End::Trapped(TrapKind::ZeroDivisor, 3));
-    assert!(rt; ends(&rt, NOBODY, 0, &[]) == End::Trapped(TrapKind::NullPointer, 4));
-}
-
 /// A loop takes a step a turn.
 const TURNS: &str = "int main() { long i = 0; while (i < 5) i++; print(i); }";
-
-#[test]
-fn counts_steps(rt: HostRuntime) {
-    assert!(rt; ends(&rt, TURNS, 7, &[5]) == End::Done(2));
-    assert!(rt; ends(&rt, TURNS, 5, &[5]) == End::Done(0));
-    assert!(rt; ends(&rt, TURNS, 4, &[]) == End::Spent);
-}
 
 /// A deep recursion of value methods, 1,001 calls, and as many of operations.
 const DEEP: &str = "class D { public: long n;
@@ -173,7 +174,56 @@ const DEEP: &str = "class D { public: long n;
   void sink(long k) { if (k > 0) { n++; this->sink(k - 1); } } };
 int main() { D *d = new D(); print(d->down(1000)); d->sink(1000); print(d->n); }";
 
+/// Bits, the greatest and the least, and right sides, of which that of `&` is asked for, and so divides by zero.
+const BITS: &str = "class A { public: long x;
+  long bits(long n) { long b = max(n, 3) & 6 | n ^ 1; b ^= min(n, 0); return b; }
+  long lazy(long n) { if (n != 0 && (0 & 1 / n) == 0) return 1; return 2; }
+  long eager(long n) { if ((0 & 1 / n) == 0) return 1; return 2; } };
+int main() { A *a = new A(); print(a->bits(9)); print(a->bits(-7)); print(a->lazy(0)); print(a->eager(1)); print(a->eager(0)); }";
+
 #[test]
-fn recurs_deeply(rt: HostRuntime) {
-    assert!(rt; ends(&rt, DEEP, 5_000, &[1_000, 1_000]) == End::Done(2_998));
+fn texts_run(rt: HostRuntime) {
+    let fib = "1000 done 815:55 0\n185 done 0:55 0\n184 spent:55\n177 spent:55\n176 spent:";
+    run(&rt, FIB, fib);
+    run(
+        &rt,
+        LINKS,
+        "10000 done 9972:27 6\n28 done 0:27 6\n27 spent:",
+    );
+    run(&rt, TRUTHS, "7 done 0:111 1100100 -11 -1 1");
+    run(&rt, TURNS, "7 done 2:5\n5 done 0:5\n4 spent:");
+    run(&rt, DEEP, "5000 done 2998:1000 1000");
+    run(&rt, BITS, "9 divided 4:8 3 2 1\n4 spent:8 3 2 1");
+}
+
+#[test]
+fn traps_on_its_line(rt: HostRuntime) {
+    run(&rt, NULL, "10 null 5:3");
+    run(&rt, OUTSIDE, "10 outside 3:");
+    run(&rt, BELOW, "10 outside 3:0");
+    run(&rt, BY_ZERO, "10 divided 3:");
+    run(&rt, BY_NOTHING, "10 divided 3:1");
+    run(&rt, NOBODY, "0 null 4:");
+}
+
+/// Three rows of this are looked at as it runs: that of the creation, that of the print, and the one before that, whence more than
+/// one instruction could pass the end.
+const CHOSEN: &str = "class A { public: bool off; long n; A *p;
+  void f(long k) { while (k > 0 && !off) { n -= k; k--; } if (p != nullptr || n == -6) off = true; } };
+int main() { A *a = new A(); a->f(3); print(a->n); }";
+
+#[test]
+fn chooses_what_is_run(rt: HostRuntime) {
+    let alloc = rt.alloc();
+    let code = lay_out_with(alloc, program(&rt, CHOSEN), &PlainBodies).expect(&rt, "a code");
+    let laid = Laid::of(alloc, code).expect(&rt, "what is run");
+    let mut rows: usize = 0;
+    for op in laid.ops.as_slice() {
+        if let Op::Row = *op {
+            rows = rows.wrapping_add(1);
+        }
+    }
+    let_go(laid);
+    assert!(rt; rows == 3);
+    run(&rt, CHOSEN, "4 done 0:-6");
 }

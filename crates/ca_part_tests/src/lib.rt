@@ -48,8 +48,6 @@ mod runs;
 #[cfg(test)]
 mod samples;
 #[cfg(test)]
-mod scenes;
-#[cfg(test)]
 mod sections;
 #[cfg(test)]
 mod separable;

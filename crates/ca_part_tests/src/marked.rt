@@ -9,22 +9,26 @@ use ca_steps::{Event, Frames, InRun, Laid, Went, run_on};
 use std::process::Abort;
 use std::sync::Wait;
 
-/// How many calls and how many loops a run hands on, where each of them runs here, and the number that it prints.
-fn handed<R: AllocGlobal + Abort + Wait>(
-    rt: &R,
-    text: &str,
-    ops: &[u32],
-    loops: &[u32],
-) -> (u32, u32, i64) {
+/// Adds the marks of a row: operations, and behind `|` loops.
+fn mark<R: Abort>(rt: &R, marks: &mut Marks, row: &str) {
+    let (ops, loops) = row.split_once('|').expect(rt, "two lists");
+    for word in ops.split_whitespace() {
+        let number: u32 = word.parse().expect(rt, "a number");
+        marks.ops.push(OpId(number)).expect(rt, "a mark");
+    }
+    for word in loops.split_whitespace() {
+        let number: u32 = word.parse().expect(rt, "a number");
+        marks.loops.push(LoopId(number)).expect(rt, "a mark");
+    }
+}
+
+/// How many calls and how many loops a run with the marks of a row hands on, where each of them runs here, and the number that it
+/// prints, as a text.
+fn handed<R: AllocGlobal + Abort + Wait>(rt: &R, text: &str, row: &str) -> String {
     let alloc = rt.alloc();
     let program = program(rt, text);
     let mut marks = Marks::none(alloc);
-    for op in ops {
-        marks.ops.push(OpId(*op)).expect(rt, "a mark");
-    }
-    for site in loops {
-        marks.loops.push(LoopId(*site)).expect(rt, "a mark");
-    }
+    mark(rt, &mut marks, row);
     let code = lay_out_marked(alloc, program, &marks).expect(rt, "a code");
     let laid = Laid::of(alloc, code).expect(rt, "what is run");
     let mut frames = Frames::before(alloc, laid.code.room, laid.code.main, 1_000).expect(
@@ -62,7 +66,15 @@ fn handed<R: AllocGlobal + Abort + Wait>(
     let_go(frames);
     let_go(run);
     let_go(marks);
-    (calls, begun, last)
+    format!(in alloc; "{calls} {begun} {last}").expect(rt, "a text")
+}
+
+/// Ends the test unless each row has the marks, and behind `:` what is handed on.
+fn hands<R: AllocGlobal + Abort + Wait>(rt: &R, text: &str, rows: &str) {
+    for row in rows.lines() {
+        let (marks, wanted) = row.split_once(':').expect(rt, "a row");
+        assert!(rt; handed(rt, text, marks).as_str() == wanted, "{row}");
+    }
 }
 
 /// A call of `add`, and in a loop three of `twice`, which calls it twice.
@@ -72,16 +84,10 @@ const ADDS: &str = "class A { public: long n;
 int main() { A *a = new A(); a->add(1); for (long i = 0; i < 3; i++) a->twice(i); print(a->n); }";
 
 #[test]
-fn hands_marked_calls_on(rt: HostRuntime) {
-    assert!(rt; handed(&rt, ADDS, &[], &[]) == (0, 0, 7));
-    assert!(rt; handed(&rt, ADDS, &[0], &[]) == (7, 0, 7));
-    assert!(rt; handed(&rt, ADDS, &[1], &[]) == (3, 0, 7));
-    assert!(rt; handed(&rt, ADDS, &[0, 1], &[]) == (4, 0, 7));
-}
-
-#[test]
-fn hands_marked_loops_on(rt: HostRuntime) {
-    assert!(rt; handed(&rt, ADDS, &[], &[0]) == (0, 1, 7));
-    assert!(rt; handed(&rt, ADDS, &[0, 1], &[0]) == (1, 1, 7));
-    assert!(rt; handed(&rt, ADDS, &[1], &[1]) == (3, 0, 7));
+fn hands_marked_calls_and_loops_on(rt: HostRuntime) {
+    hands(
+        &rt,
+        ADDS,
+        "|:0 0 7\n0|:7 0 7\n1|:3 0 7\n0 1|:4 0 7\n|0:0 1 7\n0 1|0:1 1 7\n1|1:3 0 7",
+    );
 }

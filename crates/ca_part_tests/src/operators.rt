@@ -11,13 +11,14 @@ fn gives_values(rt: HostRuntime) {
     let one = Value::Long(1);
     let seven = Value::Long(-7);
     let two = Value::Long(2);
-    assert!(rt; operate(BinaryOp::Minus, least, one) == Ok(Value::Long(i64::MAX)));
-    assert!(rt; operate(BinaryOp::Divide, seven, two) == Ok(Value::Long(-3)));
-    assert!(rt; operate(BinaryOp::Remainder, seven, two) == Ok(Value::Long(-1)));
-    assert!(rt; operate(BinaryOp::Less, seven, two) == Ok(Value::Bool(true)));
-    assert!(rt; operate(BinaryOp::Divide, two, Value::Long(0)) == Err(TrapKind::ZeroDivisor));
-    assert!(rt; operate_unary(UnaryOp::Minus, least) == least);
-    assert!(rt; assign(AssignOp::Sub, two, seven) == Value::Long(9));
+    let given = operate(BinaryOp::Minus, least, one) == Ok(Value::Long(i64::MAX))
+        && operate(BinaryOp::Divide, seven, two) == Ok(Value::Long(-3))
+        && operate(BinaryOp::Remainder, seven, two) == Ok(Value::Long(-1))
+        && operate(BinaryOp::Less, seven, two) == Ok(Value::Bool(true))
+        && operate(BinaryOp::Divide, two, Value::Long(0)) == Err(TrapKind::ZeroDivisor)
+        && operate_unary(UnaryOp::Minus, least) == least
+        && assign(AssignOp::Sub, two, seven) == Value::Long(9);
+    assert!(rt; given);
 }
 
 /// Operators whose operands may stand in any order, each with two numbers and what it gives for them.

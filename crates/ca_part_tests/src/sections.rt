@@ -1,36 +1,77 @@
-//! Sections of operations and of loops. Where memory runs out the test ends, and programs and objects are let go by one call, so
-//! that no destructor is written out at a function's end.
+//! Sections of operations and of loops. Where memory runs out the test ends, and what is made of programs and objects is let go by
+//! one call, so that no destructor is written out at a function's end.
+//!
+//! A row is a section of an operation with a number, on a new object of class 0, which stands for the last of one or two new objects
+//! of the heap: `receiver op number left | puts | end | values | calls`. The object begins with the puts and has the values behind the
+//! section, which lists the calls. A put or a value is `field.item=value`, where the value is a number, `t`, `f`, `null`, or `r` and a
+//! receiver, and a call is `receiver.op.number`. `-` stands for none. A section that is `undone` is done first, and one that is `frozen`
+//! puts nothing and reads the heap alone.
 
-use crate::sources::{let_go, program};
+use crate::sources::{coded, lent, let_go, program};
 use ca_model::{Heap, Object, Slot, Slots, Trap, TrapKind, Value};
-use ca_parallel::{Arguments, Op};
+use ca_parallel::{Arguments, Marks, Op};
 use ca_program::{ClassId, LoopId, OpId, Program};
-use ca_sections::{Desk, SectionAnswer, section, section_loop, section_of_loop};
+use ca_sections::{
+    Coded, Desk, SectionAnswer, section, section_frozen, section_loop, section_of_loop, with_loops,
+};
+use ca_serial::lay_out_marked;
+use ca_steps::Laid;
 use std::process::Abort;
 
-/// What is put into an object, or found in it: the field, the item and the value.
-type Put = (u32, u32, Value);
+/// The number of a word.
+fn number<R: Abort>(rt: &R, word: &str) -> u32 {
+    word.parse().expect(rt, "a number")
+}
 
-/// A call of an operation with a number: the receiver, the operation and the number.
-type Call = (u32, u32, i64);
+/// The number of a word, which may be below zero.
+fn long<R: Abort>(rt: &R, word: &str) -> i64 {
+    word.parse().expect(rt, "a number")
+}
 
-/// A heap of new objects of these classes.
-fn heap<R: AllocGlobal + Abort>(rt: &R, program: &Program, classes: &[u32]) -> Heap {
+/// The two parts of a text about a mark.
+fn parts<'a, R: Abort>(rt: &R, text: &'a str, mark: &str) -> (&'a str, &'a str) {
+    text.split_once(mark).expect(rt, "two parts")
+}
+
+/// The value of a word.
+fn value<R: Abort>(rt: &R, word: &str) -> Value {
+    match word {
+        "t" => Value::Bool(true),
+        "f" => Value::Bool(false),
+        "null" => Value::Null,
+        _ => match word.split_once("r") {
+            Some((_, id)) => Value::Ref(number(rt, id)),
+            None => Value::Long(long(rt, word)),
+        },
+    }
+}
+
+/// The field, the item and the value of a word.
+fn put<R: Abort>(rt: &R, word: &str) -> (u32, u32, Value) {
+    let (place, word) = parts(rt, word, "=");
+    let (field, item) = parts(rt, place, ".");
+    (number(rt, field), number(rt, item), value(rt, word))
+}
+
+/// A heap of so many new objects of class 0.
+fn heap<R: AllocGlobal + Abort>(rt: &R, program: &Program, count: u32) -> Heap {
     let mut heap = Heap::new(rt.alloc());
-    for class in classes {
-        heap.create(program, ClassId(*class))
-            .expect(rt, "an object");
+    for _ in 0..count {
+        heap.create(program, ClassId(0)).expect(rt, "an object");
     }
     heap
 }
 
-/// An object of class 0, with these values.
-fn object<R: AllocGlobal + Abort>(rt: &R, program: &Program, puts: &[Put]) -> Object {
+/// A new object of class 0 with these values.
+fn object<R: AllocGlobal + Abort>(rt: &R, program: &Program, puts: &str) -> Object {
     let fields = program.classes.get(0).expect(rt, "a class");
     let mut slots = Slots::start(rt.alloc(), &fields.fields).expect(rt, "slots");
-    for (field, item, value) in puts {
-        assert!(rt; slots.has(*field, *item));
-        slots.put(*field, *item, *value);
+    for word in puts.split(' ') {
+        if word != "-" {
+            let (field, item, value) = put(rt, word);
+            assert!(rt; slots.has(field, item));
+            slots.put(field, item, value);
+        }
     }
     Object {
         class: ClassId(0),
@@ -48,263 +89,179 @@ fn found(object: &Object, field: u32, item: u32) -> Option<Value> {
 }
 
 /// Whether the object has these values.
-fn holds(object: &Object, puts: &[Put]) -> bool {
-    for (field, item, value) in puts {
-        if found(object, *field, *item) != Some(*value) {
-            return false;
+fn holds<R: Abort>(rt: &R, object: &Object, values: &str) -> bool {
+    for word in values.split(' ') {
+        if word != "-" {
+            let (field, item, value) = put(rt, word);
+            if found(object, field, item) != Some(value) {
+                return false;
+            }
         }
     }
     true
 }
 
 /// Whether it is this call.
-fn is_call(op: &Op, call: Call) -> bool {
-    let (receiver, number, argument) = call;
-    op.receiver == receiver
-        && op.op == OpId(number)
+fn is_call<R: Abort>(rt: &R, op: &Op, word: &str) -> bool {
+    let (receiver, call) = parts(rt, word, ".");
+    let (called, argument) = parts(rt, call, ".");
+    op.receiver == number(rt, receiver)
+        && op.op == OpId(number(rt, called))
         && op.args.len() == 1
-        && op.args.get(0) == Some(Value::Long(argument))
+        && op.args.get(0) == Some(Value::Long(long(rt, argument)))
+}
+
+/// Whether the call of this number is it.
+fn is_listed<R: Abort>(rt: &R, out: &[Op], at: usize, word: &str) -> bool {
+    match out.get(at) {
+        Some(op) => is_call(rt, op, word),
+        None => false,
+    }
 }
 
 /// Whether these calls were listed, and no others.
-fn lists(out: &[Op], calls: &[Call]) -> bool {
-    if out.len() != calls.len() {
-        return false;
-    }
-    for (op, call) in out.iter().zip(calls) {
-        if !is_call(op, *call) {
-            return false;
-        }
-    }
-    true
-}
-
-/// A section of an operation with a number, on a new object of class 0 with these values. It is the last of two
-/// or the only one of its heap.
-#[derive(Clone, Copy)]
-struct Case<'a> {
-    receiver: u32,
-    puts: &'a [Put],
-    op: u32,
-    argument: i64,
-    left: u64,
-    undone: bool,
-}
-
-impl<'a> Case<'a> {
-    /// A section with a number on the only object.
-    fn new(op: u32, argument: i64, left: u64) -> Case<'a> {
-        Case {
-            receiver: 0,
-            puts: &[],
-            op,
-            argument,
-            left,
-            undone: false,
-        }
-    }
-
-    /// The call of the operation.
-    fn call<R: AllocGlobal + Abort>(&self, rt: &R) -> Op {
-        let mut args = Arguments::new(rt.alloc());
-        args.push(Value::Long(self.argument))
-            .expect(rt, "an argument");
-        Op {
-            receiver: self.receiver,
-            op: OpId(self.op),
-            args,
-        }
-    }
-
-    /// Runs the section on a new desk, which lists the calls of operations, and undoes it where that is asked for.
-    fn run<R: AllocGlobal + Abort>(
-        &self,
-        rt: &R,
-        program: &Program,
-        object: &mut Object,
-        out: &mut Vec<Op>,
-    ) -> SectionAnswer {
-        let classes: &[u32] = if self.receiver == 0 { &[0] } else { &[0, 0] };
-        let heap = heap(rt, program, classes);
-        let op = self.call(rt);
-        let mut desk = Desk::new(rt.alloc()).expect(rt, "a desk");
-        let ran = section(
-            &mut desk,
-            rt.alloc(),
-            program,
-            &heap,
-            object,
-            &op,
-            self.left,
-            out,
-        );
-        let answer = ran.expect(rt, "a section");
-        if self.undone {
-            if let SectionAnswer::Done { .. } = answer {
-                desk.undo(object);
+fn lists<R: Abort>(rt: &R, out: &[Op], calls: &str) -> bool {
+    let mut at: usize = 0;
+    for word in calls.split(' ') {
+        if word != "-" {
+            if !is_listed(rt, out, at, word) {
+                return false;
             }
+            at = at.wrapping_add(1);
         }
-        let_go(op);
-        let_go(heap);
-        let_go(desk);
-        answer
     }
+    at == out.len()
+}
 
-    /// Whether the section ends so and leaves an object with these values, and, where calls are given, lists them.
-    fn ends<R: AllocGlobal + Abort>(
-        &self,
-        rt: &R,
-        program: &Program,
-        answer: SectionAnswer,
-        left: &[Put],
-        calls: Option<&[Call]>,
-    ) -> bool {
-        let mut object = object(rt, program, self.puts);
-        let mut out = Vec::new(rt.alloc());
-        let ended = self.run(rt, program, &mut object, &mut out) == answer;
-        let is_left = holds(&object, left);
-        let is_listed = match calls {
-            Some(calls) => lists(&out, calls),
-            None => true,
-        };
-        let_go(object);
-        let_go(out);
-        ended && is_left && is_listed
+/// The answer of a section that ends so: with its steps, or at a trap on a line, or where a step is too many.
+fn wanted<R: Abort>(rt: &R, end: &str) -> SectionAnswer {
+    let (end, word) = end.split_once(' ').unwrap_or((end, "0"));
+    let line = number(rt, word);
+    match end {
+        "spent" => SectionAnswer::Spent,
+        "outside" => SectionAnswer::Trapped(Trap {
+            line,
+            kind: TrapKind::OutOfRange,
+        }),
+        "divided" => SectionAnswer::Trapped(Trap {
+            line,
+            kind: TrapKind::ZeroDivisor,
+        }),
+        _ => SectionAnswer::Done {
+            steps: u64::from(line),
+        },
     }
 }
 
-/// Two nodes, of which the second points to the first.
+/// The call of an operation with a number.
+fn call<R: AllocGlobal + Abort>(rt: &R, receiver: u32, op: &str, argument: &str) -> Op {
+    let mut args = Arguments::new(rt.alloc());
+    args.push(Value::Long(long(rt, argument)))
+        .expect(rt, "an argument");
+    Op {
+        receiver,
+        op: OpId(number(rt, op)),
+        args,
+    }
+}
+
+/// Runs the section of a call on an object, and undoes it where that is asked for and it is done.
+fn on_object<R: AllocGlobal + Abort>(
+    rt: &R,
+    desk: &mut Desk,
+    coded: &Coded<'_>,
+    heap: &Heap,
+    object: &mut Object,
+    op: &Op,
+    left: u64,
+    out: &mut Vec<Op>,
+    undone: bool,
+) -> SectionAnswer {
+    let ran = section(desk, rt.alloc(), coded, heap, object, op, left, out);
+    let answer = ran.expect(rt, "a section");
+    if undone {
+        if let SectionAnswer::Done { .. } = answer {
+            desk.undo(object);
+        }
+    }
+    answer
+}
+
+/// Runs the section of a row's call on a new desk, as its end asks for it.
+fn run<R: AllocGlobal + Abort>(
+    rt: &R,
+    coded: &Coded<'_>,
+    row: &str,
+    end: &str,
+    object: &mut Object,
+    out: &mut Vec<Op>,
+) -> SectionAnswer {
+    let alloc = rt.alloc();
+    let (receiver, row) = parts(rt, row, " ");
+    let receiver = number(rt, receiver);
+    let (op, row) = parts(rt, row, " ");
+    let (argument, left) = parts(rt, row, " ");
+    let left = u64::from(number(rt, left));
+    let op = call(rt, receiver, op, argument);
+    let heap = heap(rt, coded.program(), receiver.saturating_add(1));
+    let mut desk = Desk::new(alloc).expect(rt, "a desk");
+    let answer = if end.starts_with("frozen") {
+        let ran = section_frozen(&mut desk, alloc, coded, &heap, &op, left, out);
+        ran.expect(rt, "a section")
+    } else {
+        let undone = end.starts_with("undone");
+        on_object(rt, &mut desk, coded, &heap, object, &op, left, out, undone)
+    };
+    let_go(op);
+    let_go(heap);
+    let_go(desk);
+    answer
+}
+
+/// Whether a row holds.
+fn is_told<R: AllocGlobal + Abort>(rt: &R, coded: &Coded<'_>, row: &str) -> bool {
+    let (call, row) = parts(rt, row, " | ");
+    let (puts, row) = parts(rt, row, " | ");
+    let (end, row) = parts(rt, row, " | ");
+    let (values, calls) = parts(rt, row, " | ");
+    let mut object = object(rt, coded.program(), puts);
+    let mut out = Vec::new(rt.alloc());
+    let ends = run(rt, coded, call, end, &mut object, &mut out) == wanted(rt, end);
+    let told = ends && holds(rt, &object, values) && lists(rt, out.as_slice(), calls);
+    let_go(object);
+    let_go(out);
+    told
+}
+
+/// Ends the test unless all rows of the text hold.
+pub fn tell<R: AllocGlobal + Abort>(rt: &R, text: &str, rows: &str) {
+    let coded = coded(rt, text);
+    for row in rows.lines() {
+        assert!(rt; is_told(rt, coded, row), "{row}");
+    }
+}
+
+/// A node that is visited for the first time visits its neighbours.
 const GRAPH: &str =
     "class Graph { public: bool mark; long value; long sum; Graph *left; Graph *right;
     void init(long v, Graph *l, Graph *r) { value = v; left = l; right = r; }
     void visit(long p) { sum = sum + p; if (!mark) { mark = true;
-      if (left != nullptr) left->visit(value); if (right != nullptr) right->visit(value); } } };
+      if (left != nullptr) left->visit(value); if (right != nullptr) right->visit(value); } }
+    void pass(long p) { if (p > 0) this->visit(p + value); } };
     int main() { }";
 
-/// The values of the second node.
-const SECOND: [Put; 2] = [(1, 0, Value::Long(5)), (3, 0, Value::Ref(0))];
-
-/// The values of the second node behind a visit with 3.
-const VISITED: [Put; 5] = [
-    (0, 0, Value::Bool(true)),
-    (1, 0, Value::Long(5)),
-    (2, 0, Value::Long(3)),
-    (3, 0, Value::Ref(0)),
-    (4, 0, Value::Null),
-];
-
-/// Two values of a node that wasn't visited.
-const UNVISITED: [Put; 2] = [(0, 0, Value::Bool(false)), (2, 0, Value::Long(0))];
+/// Two nodes, of which the second points to the first; no step is left for a visit; one that is undone; and calls that are listed
+/// by an operation that puts nothing.
+const VISITS: &str = "1 1 3 1 | 1.0=5 3.0=r0 | done 1 | 0.0=t 1.0=5 2.0=3 3.0=r0 4.0=null | 0.1.5
+1 1 3 0 | 1.0=5 3.0=r0 | spent | 0.0=f 1.0=5 2.0=0 3.0=r0 | -
+1 1 3 9 | 1.0=5 2.0=4 3.0=r0 | undone 1 | 0.0=f 1.0=5 2.0=4 3.0=r0 | 0.1.5
+1 2 3 9 | 1.0=5 | done 1 | 0.0=f 1.0=5 | 1.1.8
+1 2 3 9 | 1.0=5 | frozen 1 | 1.0=5 | 1.1.3
+1 2 0 1 | - | frozen 1 | - | -";
 
 #[test]
-fn a_visit_lists_the_visit_of_its_left_node(rt: HostRuntime) {
-    let program = program(&rt, GRAPH);
-    let visit = Case {
-        receiver: 1,
-        puts: SECOND.as_slice(),
-        ..Case::new(1, 3, 1)
-    };
-    let one = SectionAnswer::Done { steps: 1 };
-    let left = Some([(0, 1, 5)].as_slice());
-    assert!(rt; visit.ends(&rt, program, one, VISITED.as_slice(), left));
-    let visit = Case { left: 0, ..visit };
-    let none = Some([].as_slice());
-    assert!(rt;
-        visit.ends(
-            &rt,
-            program,
-            SectionAnswer::Spent,
-            UNVISITED.as_slice(),
-            none
-        )
-    );
-}
-
-#[test]
-fn undoes_a_visit(rt: HostRuntime) {
-    let program = program(&rt, GRAPH);
-    let visit = Case {
-        undone: true,
-        ..Case::new(1, 3, 9)
-    };
-    let one = SectionAnswer::Done { steps: 1 };
-    assert!(rt; visit.ends(&rt, program, one, UNVISITED.as_slice(), None));
-}
-
-/// A pair of bins, and a loop that calls each.
-const PAIR: &str = "class Bin { public: long n; void add(long v) { n = n + v; } };
-    class Pair { public: Bin *b[2]; void fill() { b[0] = new Bin(); b[1] = new Bin(); } };
-    int main() { Pair *s = new Pair(); s->fill(); for (long i = 0; i < 2; i++) s->b[i]->add(i + 1); }";
-
-/// A pair and its two bins.
-fn pair<R: AllocGlobal + Abort>(rt: &R, program: &Program) -> Heap {
-    let mut heap = heap(rt, program, [1, 0, 0].as_slice());
-    assert!(rt; heap.has_slot(0, 0, 0));
-    heap.store(0, 0, 0, Value::Ref(1));
-    assert!(rt; heap.has_slot(0, 0, 1));
-    heap.store(0, 0, 1, Value::Ref(2));
-    heap
-}
-
-/// Whether the section of the loop ends so, with this counter behind it, and so does that of the loop by its number, which
-/// lists its calls first; and whether these calls were listed by both.
-fn bins_end<R: AllocGlobal + Abort>(
-    rt: &R,
-    program: &Program,
-    left: u64,
-    wanted: SectionAnswer,
-    counter: i64,
-    calls: &[Call],
-) -> bool {
-    let alloc = rt.alloc();
-    let heap = pair(rt, program);
-    let mut locals = Vec::new(alloc);
-    locals.push(Value::Ref(0)).expect(rt, "a local");
-    locals.push(Value::Long(7)).expect(rt, "a local");
-    let mut out = Vec::new(alloc);
-    let mut desk = Desk::new(alloc).expect(rt, "a desk");
-    let s = program.main.stmts.last().expect(rt, "a loop");
-    let found = section_loop(
-        &mut desk,
-        alloc,
-        program,
-        &heap,
-        None,
-        locals.as_slice(),
-        LoopId(0),
-        left,
-        &mut out,
-    );
-    let found = found.expect(rt, "a section");
-    let answer = section_of_loop(
-        &mut desk,
-        alloc,
-        program,
-        &heap,
-        Value::Null,
-        &mut locals,
-        s.line,
-        s,
-        left,
-        &mut out,
-    );
-    let answer = answer.expect(rt, "a section");
-    let behind = [Value::Ref(0), Value::Long(counter)];
-    let is_left = locals.as_slice() == behind.as_slice();
-    let is_listed = lists(&out, calls);
-    let_go(out);
-    let_go(heap);
-    let_go(desk);
-    found == wanted && answer == wanted && is_left && is_listed
-}
-
-#[test]
-fn a_loop_lists_its_calls(rt: HostRuntime) {
-    let program = program(&rt, PAIR);
-    let calls = [(1, 0, 1), (2, 0, 2), (1, 0, 1), (2, 0, 2)];
-    let done = SectionAnswer::Done { steps: 2 };
-    assert!(rt; bins_end(&rt, program, 2, done, 2, calls.as_slice()));
-    assert!(rt; bins_end(&rt, program, 1, SectionAnswer::Spent, 7, [].as_slice()));
+fn visits_list_visits(rt: HostRuntime) {
+    tell(&rt, GRAPH, VISITS);
 }
 
 /// Operations without arguments of note: many turns that put into one field, a deep value method, many puts
@@ -319,53 +276,122 @@ const LONG: &str = "class A { public: long n; long k; long a[100000];
       A *o = this; k = 10 * k + o->n; } };
     int main() { }";
 
-/// The operation, its number, the steps that are left, the answer, and what is found in the object.
-type Long = (u32, i64, u64, SectionAnswer, &'static [Put]);
-
-const LONG_SECTIONS: [Long; 4] = [
-    (
-        0,
-        1_000_000,
-        1_000_001,
-        SectionAnswer::Done { steps: 1_000_001 },
-        &[(0, 0, Value::Long(499_999_500_000))],
-    ),
-    (
-        1,
-        100_000,
-        1_000_000,
-        SectionAnswer::Done { steps: 100_002 },
-        &[(0, 0, Value::Long(100_000))],
-    ),
-    (
-        2,
-        100_000,
-        1_000_000,
-        SectionAnswer::Trapped(Trap {
-            line: 6,
-            kind: TrapKind::OutOfRange,
-        }),
-        &[
-            (0, 0, Value::Long(0)),
-            (2, 0, Value::Long(0)),
-            (2, 99_999, Value::Long(0)),
-        ],
-    ),
-    (
-        3,
-        7,
-        1,
-        SectionAnswer::Done { steps: 1 },
-        &[(1, 0, Value::Long(770))],
-    ),
-];
+const LONG_SECTIONS: &str = "0 0 1000000 1000001 | - | done 1000001 | 0.0=499999500000 | -
+0 1 100000 1000000 | - | done 100002 | 0.0=100000 | -
+0 2 100000 1000000 | - | outside 6 | 0.0=0 2.0=0 2.99999=0 | -
+0 3 7 1 | - | done 1 | 1.0=770 | -";
 
 #[test]
 fn long_sections_end(rt: HostRuntime) {
-    let program = program(&rt, LONG);
-    for row in LONG_SECTIONS.as_slice() {
-        let (op, argument, steps, answer, left) = *row;
-        let case = Case::new(op, argument, steps);
-        assert!(rt; case.ends(&rt, program, answer, left, None), "of {op}");
-    }
+    tell(&rt, LONG, LONG_SECTIONS);
+}
+
+/// A pair of bins, and a loop that calls each.
+const PAIR: &str = "class Bin { public: Bin *b[2]; long n; void add(long v) { n = n + v; } };
+    int main() { Bin *s = new Bin(); for (long i = 0; i < 2; i++) s->b[i]->add(i + 1); }";
+
+/// A bin that has two others.
+fn pair<R: AllocGlobal + Abort>(rt: &R, program: &Program) -> Heap {
+    let mut heap = heap(rt, program, 3);
+    assert!(rt; heap.has_slot(0, 0, 0));
+    heap.store(0, 0, 0, Value::Ref(1));
+    assert!(rt; heap.has_slot(0, 0, 1));
+    heap.store(0, 0, 1, Value::Ref(2));
+    heap
+}
+
+/// The section of the first loop that is handed on, where it stands on its own.
+fn on_its_own<R: AllocGlobal + Abort>(
+    rt: &R,
+    desk: &mut Desk,
+    program: &Program,
+    heap: &Heap,
+    locals: &mut Vec<Value>,
+    left: u64,
+    out: &mut Vec<Op>,
+) -> SectionAnswer {
+    let alloc = rt.alloc();
+    let mut marks = Marks::none(alloc);
+    marks.loops.push(LoopId(0)).expect(rt, "a mark");
+    let Ok(code) = lay_out_marked(alloc, program, &marks) else {
+        panic!(rt; "no code");
+    };
+    let_go(marks);
+    let Ok((code, places)) = with_loops(alloc, program, code) else {
+        panic!(rt; "no loops");
+    };
+    let Ok(laid) = Laid::of(alloc, code) else {
+        panic!(rt; "nothing to run");
+    };
+    let laid = lent(rt, laid);
+    let Ok(coded) = Coded::of(alloc, program, laid) else {
+        panic!(rt; "no bodies that fit");
+    };
+    let coded = lent(rt, coded);
+    let [found, ..] = places.as_slice() else {
+        panic!(rt; "no loop");
+    };
+    let answer = section_of_loop(
+        desk,
+        alloc,
+        coded,
+        laid,
+        found.place,
+        heap,
+        Value::Null,
+        locals,
+        found.types,
+        found.line,
+        found.s,
+        left,
+        out,
+    );
+    answer.expect(rt, "a section")
+}
+
+/// Whether the section of the loop ends so, with this counter behind it, and so does that of the loop by its number, which
+/// lists its calls first; and whether these calls were listed by both.
+fn bins_end<R: AllocGlobal + Abort>(
+    rt: &R,
+    program: &Program,
+    left: u64,
+    due: SectionAnswer,
+    counter: i64,
+    calls: &str,
+) -> bool {
+    let alloc = rt.alloc();
+    let heap = pair(rt, program);
+    let mut locals = Vec::new(alloc);
+    locals.push(Value::Ref(0)).expect(rt, "a local");
+    locals.push(Value::Long(7)).expect(rt, "a local");
+    let mut out = Vec::new(alloc);
+    let mut desk = Desk::new(alloc).expect(rt, "a desk");
+    let found = section_loop(
+        &mut desk,
+        alloc,
+        program,
+        &heap,
+        None,
+        locals.as_slice(),
+        LoopId(0),
+        left,
+        &mut out,
+    );
+    let found = found.expect(rt, "a section");
+    let answer = on_its_own(rt, &mut desk, program, &heap, &mut locals, left, &mut out);
+    let behind = [Value::Ref(0), Value::Long(counter)];
+    let is_left = locals.as_slice() == behind.as_slice();
+    let is_due = lists(rt, out.as_slice(), calls);
+    let_go(out);
+    let_go(heap);
+    let_go(desk);
+    found == due && answer == due && is_left && is_due
+}
+
+#[test]
+fn a_loop_lists_its_calls(rt: HostRuntime) {
+    let program = program(&rt, PAIR);
+    let done = SectionAnswer::Done { steps: 2 };
+    assert!(rt; bins_end(&rt, program, 2, done, 2, "1.0.1 2.0.2 1.0.1 2.0.2"));
+    assert!(rt; bins_end(&rt, program, 1, SectionAnswer::Spent, 7, "-"));
 }

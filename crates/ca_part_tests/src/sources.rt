@@ -1,9 +1,14 @@
 //! Tokens, trees and programs of sources, each lent for good. Where a source has none, or memory runs out, the test ends, so that
 //! nothing lives where a function may end early.
 
+ghost use Rattle.std.specs.Prelude.{◌≡◌};
+
+use ca_code::{PlainBodies, lay_out_with};
 use ca_lex::{LONGEST_TEXT, lex};
 use ca_parse::parse;
 use ca_program::Program;
+use ca_sections::Coded;
+use ca_steps::Laid;
 use ca_tree::{Token, Tree};
 use ca_types::check;
 use std::process::Abort;
@@ -13,7 +18,9 @@ use std::process::Abort;
 pub fn let_go<T: Drop>(_value: T) {}
 
 /// Lends a value for good. What is lent has no owner in a test, so nobody drops it.
-fn lent<'a, R: AllocGlobal + Abort, T: Drop + 'a>(rt: &R, value: T) -> &'a T {
+pub fn lent<'a, R: AllocGlobal + Abort, T: Drop + 'a>(rt: &R, value: T) -> &'a T
+    ensures { result.now ≡ value }
+{
     let lent = Box::leak(Box::new(rt.alloc(), value).expect(rt, "a box"));
     &*lent
 }
@@ -39,7 +46,50 @@ pub fn program<'a, R: AllocGlobal + Abort>(rt: &R, text: &str) -> &'a Program {
     checked(rt, tree(rt, text))
 }
 
+/// The program of a text with its code, by which sections run.
+pub fn coded<'a, R: AllocGlobal + Abort>(rt: &R, text: &str) -> &'a Coded<'a> {
+    let alloc = rt.alloc();
+    let program = program(rt, text);
+    let Ok(code) = lay_out_with(alloc, program, &PlainBodies) else {
+        panic!(rt; "no code");
+    };
+    let Ok(laid) = Laid::of(alloc, code) else {
+        panic!(rt; "nothing to run");
+    };
+    let laid = lent(rt, laid);
+    let Ok(coded) = Coded::of(alloc, program, laid) else {
+        panic!(rt; "no bodies that fit");
+    };
+    lent(rt, coded)
+}
+
 /// A text in which `$` stands for the end of a line.
 pub fn with_lines<R: AllocGlobal + Abort>(rt: &R, text: &str) -> String {
     text.replace(rt.alloc(), "$", "\n").expect(rt, "a text")
+}
+
+/// Adds a part, with a number in four digits for `#`.
+fn add_part<R: AllocGlobal + Abort>(rt: &R, text: &mut String, part: &str, number: u32) {
+    let number = format!(in rt.alloc(); "{number:04}").expect(rt, "a number");
+    let part = part.replace(rt.alloc(), "#", &number).expect(rt, "a part");
+    text.push_str(&part).expect(rt, "a part");
+}
+
+/// A text of rows: how often each stands, and behind `|` what stands so often, each time with its number in four digits for `#`.
+pub fn spread<R: AllocGlobal + Abort>(rt: &R, rows: &str) -> String {
+    let mut text = String::new(rt.alloc());
+    for row in rows.lines() {
+        let (times, part) = row.split_once('|').expect(rt, "a row");
+        let times: u32 = times.parse().expect(rt, "a number");
+        for number in 0..times {
+            add_part(rt, &mut text, part, number);
+        }
+    }
+    text
+}
+
+/// Rows in which a word stands for a number.
+pub fn with_number<R: AllocGlobal + Abort>(rt: &R, rows: &str, word: &str, number: u32) -> String {
+    let number = format!(in rt.alloc(); "{number}").expect(rt, "a number");
+    rows.replace(rt.alloc(), word, &number).expect(rt, "rows")
 }

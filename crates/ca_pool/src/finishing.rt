@@ -18,8 +18,7 @@ use ca_cells::{Added, RoundLog, add};
 use ca_deques::taking::pour;
 use ca_logs::{CellLog, Entries, Task};
 use ca_model::Heap;
-use ca_program::Program;
-use ca_sections::Desk;
+use ca_sections::{Coded, Desk};
 use std::alloc::Global;
 use std::mem;
 
@@ -96,10 +95,10 @@ fn any_ended(loose: &[Entries]) -> bool
 
 /// Runs a task on the history of its object. What its section lists goes into the rest, and so does the task where it
 /// is kept. `false` where an entry closes its history, or is a loose one of that kind.
-fn run_one<'a, K: Work>(
-    desk: &mut Desk<'a>,
+fn run_one<K: Work>(
+    desk: &mut Desk,
     alloc: Global,
-    program: &'a Program,
+    program: &Coded<'_>,
     frozen: &Heap,
     logs: &mut Vec<CellLog>,
     _loose: &[Entries],
@@ -132,10 +131,10 @@ fn run_one<'a, K: Work>(
 
 /// Runs tasks of the rest as long as there are any, no history is closed by one, and there are fewer entries than the
 /// quota, loose ones with them.
-fn run_rest<'a, K: Work>(
-    desk: &mut Desk<'a>,
+fn run_rest<K: Work>(
+    desk: &mut Desk,
     alloc: Global,
-    program: &'a Program,
+    program: &Coded<'_>,
     frozen: &Heap,
     logs: &mut Vec<CellLog>,
     loose: &[Entries],
@@ -166,7 +165,7 @@ fn run_rest<'a, K: Work>(
 /// the quota. For that all histories are spread out.
 pub fn finish<K: Work>(
     alloc: Global,
-    program: &Program,
+    program: &Coded<'_>,
     frozen: &Heap,
     beside: &Beside,
     log: &mut RoundLog,

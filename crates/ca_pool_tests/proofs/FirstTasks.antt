@@ -1,29 +1,24 @@
 -- First tasks of a round over counting objects.
-use Rattle.std.proofs.Common.{◌≡◌, ℕ, zero, suc, ◌<◌, List, [], ◌∷◌, ◌++◌, All, sym, ◌∙◌, subst, arith}
+use Rattle.std.proofs.Common.{◌≡◌, ℕ, zero, suc, ◌<◌, List, [], ◌∷◌, ◌++◌, All, sym, subst, arith}
 use Rattle.std.proofs.lemmas.List.Elements.{All-append}
-use Rattle.std.specs.Prelude.{Contains}
 use Rattle.ca_program.specs.Plain.{PlainProgram}
 use Rattle.ca_model.specs.declared.value.Object.{Object}
 use Rattle.ca_meaning.specs.Expressions.{invocation}
 use Rattle.ca_meaning.specs.WellTyped.{WellTyped}
-use Rattle.ca_parallel.specs.Extents.{Extent, IsExtentOf, root}
 use Rattle.ca_logs.specs.declared.log.Task.{Task}
-use Rattle.ca_cells.specs.Rounds.{IsGiven, MayRun, program_of, extent_of, frozen_of}
+use Rattle.ca_cells.specs.Rounds.{MayRun, frozen_of}
 use Rattle.ca_cells.specs.declared.rule.Given.{Given}
-use Rattle.ca_counters.specs.Counters.{IsSet, IsSetFor, counters, operation, starts, twice}
-use Rattle.ca_counters.proofs.Counting.{call_typed, twice_typed}
-
-pub may_count : (key : Given) (n r : ℕ) (t : Task) → IsSet key n → r < n → t ≡ record { op = record { receiver = r; op = twice; args = [] }; after = 0 } → MayRun key t
-may_count key n r t s l e = subst (MayRun key) (sym e) (record {
-  typed = subst (λ (p : PlainProgram). WellTyped p (frozen_of key) (invocation r twice [])) (sym s.program) (subst (λ (h : List Object). WellTyped counters h (invocation r twice [])) (sym s.frozen) (twice_typed n r l));
-  inside = s.inside;
-})
+use Rattle.ca_counters.specs.Counters.{IsSetFor, counters, operation, twice}
+use Rattle.ca_counters.proofs.Counting.{call_typed}
 
 pub may_call : (k : ℕ) (key : Given) (n r : ℕ) (t : Task) → IsSetFor (operation k) key n → r < n → k < 3 → t ≡ record { op = record { receiver = r; op = operation k; args = [] }; after = 0 } → MayRun key t
 may_call k key n r t s l b e = subst (MayRun key) (sym e) (record {
   typed = subst (λ (p : PlainProgram). WellTyped p (frozen_of key) (invocation r (operation k) [])) (sym s.program) (subst (λ (h : List Object). WellTyped counters h (invocation r (operation k) [])) (sym s.frozen) (call_typed n r k l b));
   inside = s.inside;
 })
+
+pub may_count : (key : Given) (n r : ℕ) (t : Task) → IsSetFor twice key n → r < n → t ≡ record { op = record { receiver = r; op = twice; args = [] }; after = 0 } → MayRun key t
+may_count key n r t s l e = may_call 1 key n r t s l (omega arith) e
 
 all_one : {A : Type 0} (P : A → Type 0) (x : A) → P x → All P (x ∷ [])
 all_one P x h zero d l = h

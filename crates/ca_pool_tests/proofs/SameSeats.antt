@@ -2,7 +2,7 @@
 use Rattle.std.proofs.Common.{◌≡◌, ℕ, zero, suc, ◌<◌, List, [], ◌∷◌, ◌++◌, length, get_or, refl, sym, ap, ◌∙◌, subst, arith, All, Some}
 use Rattle.std.specs.Prelude.{slice_get}
 use Rattle.ca_meaning.specs.Multisets.{weight}
-use Rattle.ca_cells.specs.Seats.{IsOf, IsSameSeat, AreAll, view_of, seat_table, cells_table, cells_key}
+use Rattle.ca_cells.specs.Seats.{IsOf, IsSameSeat, AreAll, view_of}
 use Rattle.ca_cells.specs.declared.cells.Cells.{Cells}
 use Rattle.ca_cells.specs.declared.cells.Seat.{Seat}
 

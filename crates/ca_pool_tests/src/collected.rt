@@ -5,24 +5,23 @@ ghost use Rattle.ca_program.specs.View.{program_view};
 ghost use Rattle.ca_logs.specs.declared.log.Task.{Task};
 ghost use Rattle.ca_cells.specs.Rounds.{MayRun};
 ghost use Rattle.ca_cells.specs.declared.rule.Given.{Given};
-ghost use Rattle.ca_counters.specs.Counters.{IsSet, counters};
+ghost use Rattle.ca_counters.specs.Counters.{IsSetFor, counters, twice};
 
+use crate::setting::{coded, set};
 use ca_base::OpenGate;
-use ca_beside::Beside;
-use ca_cells::{Cells, RoundLog};
-use ca_counters::{heap, let_go, program, twice};
-use ca_extent::extent_of;
+use ca_cells::RoundLog;
+use ca_counters::{let_go, twice};
 use ca_logs::Task;
 use ca_pool::Pool;
-use ca_program::{OpId, Program};
+use ca_sections::Coded;
 use std::alloc::{AllocError, Global};
+use std::process::Abort;
 use std::sync::Wait;
-use std::test::Fail;
 use std::thread::Threads;
 
 /// The task that counts twice on each object.
 fn first_tasks(alloc: Global, count: u32) -> Result<Vec<Task>, AllocError>
-    ensures may_run { IfOk result (λ tasks. (key : Given) → IsSet key count → All (MayRun key) tasks.items) }
+    ensures may_run { IfOk result (λ tasks. (key : Given) → IsSetFor twice key count → All (MayRun key) tasks.items) }
     ensures begins { IfOk result (λ tasks. All (λ (t : Task). t.after ≡ 0) tasks.items) }
 {
     let mut tasks = Vec::new(alloc);
@@ -61,87 +60,64 @@ fn are_there(log: &RoundLog, counts: &[u32]) -> bool {
     at == log.logs.len()
 }
 
-/// Whether a round collects every task once.
-fn collects<R: Threads + Wait + Sync>(
-    rt: &R,
-    alloc: Global,
-    program: &Program,
-    workers: u32,
-    quota: u32,
-) -> Result<bool, Fail>
-    requires { (program_view program.now ≡ counters) × (0 < workers) × (workers ≤ 64) × (0 < quota) }
-{
-    let roots = [OpId(1)];
-    let extent = extent_of(alloc, program, &roots)?;
-    let heap = heap(alloc, program, 1_000)?;
-    let first = first_tasks(alloc, 1_000)?;
-    let beside = Beside::new(alloc);
-    let (cells, seats) = Cells::make(alloc, program, &extent, &heap, &beside, workers, false)?;
-    let mut pool = Pool::make(workers);
-    let gate = &OpenGate;
-    let round = pool.round(
-        rt, alloc, program, &extent, &heap, &beside, cells, seats, first, quota, 100, gate,
-    )?;
-    let counts = waiting(alloc, round.rest.as_slice(), heap.len() as usize)?;
+/// How many entries a round has.
+fn entries(log: &RoundLog) -> usize {
     let mut entries: usize = 0;
-    for cell in &round.log.logs {
+    for cell in &log.logs {
         entries = entries.wrapping_add(cell.entries.len());
     }
-    let is_full = round.rest.is_empty() || entries >= quota as usize;
-    Ok(is_full && round.stop.is_none() && are_there(&round.log, counts.as_slice()))
+    entries
 }
 
-/// Whether rounds with these quotas collect every task once.
-fn collects_all<R: Threads + Wait + Sync>(
+/// Ends the test unless a round collects every task once.
+fn collects<R: Threads + Wait + Sync + AllocGlobal + Abort>(
     rt: &R,
-    alloc: Global,
-    program: &Program,
+    program: &Coded<'_>,
     workers: u32,
-) -> Result<bool, Fail>
+    quota: u32,
+)
+    requires { (program_view program.now ≡ counters) × (0 < workers) × (workers ≤ 64) × (0 < quota) }
+{
+    let alloc = rt.alloc();
+    let (extent, heap, beside, cells, seats) = set(rt, program, 1, 1_000, workers, false);
+    let Ok(first) = first_tasks(alloc, 1_000) else {
+        panic!(rt; "no tasks");
+    };
+    let mut pool = Pool::make(workers);
+    let gate = &OpenGate;
+    let ran = pool.round(
+        rt, alloc, program, &extent, &heap, &beside, cells, seats, first, quota, 100, gate,
+    );
+    let_go(extent);
+    let_go(heap);
+    let_go(beside);
+    let round = ran.expect(rt, "a round");
+    let counts = waiting(alloc, round.rest.as_slice(), 1_000).expect(rt, "counts");
+    let is_full = round.rest.is_empty() || entries(&round.log) >= quota as usize;
+    let fits = is_full && round.stop.is_none() && are_there(&round.log, counts.as_slice());
+    let_go(round);
+    let_go(counts);
+    assert!(rt; fits, "{workers} workers, {quota} tasks");
+}
+
+/// Ends the test unless rounds with these quotas collect every task once.
+fn collects_all<R: Threads + Wait + Sync + AllocGlobal + Abort>(
+    rt: &R,
+    program: &Coded<'_>,
+    workers: u32,
+)
     requires { (program_view program.now ≡ counters) × (0 < workers) × (workers ≤ 64) }
 {
-    let one = collects(rt, alloc, program, workers, 1)?;
-    let seven = collects(rt, alloc, program, workers, 7)?;
-    let many = collects(rt, alloc, program, workers, 16_384)?;
-    Ok(one && seven && many)
+    collects(rt, program, workers, 1);
+    collects(rt, program, workers, 7);
+    collects(rt, program, workers, 16_384);
 }
 
 #[test]
-fn one_worker_collects_every_task_once(rt: HostRuntime) -> Result<(), Fail> {
-    let alloc = rt.alloc();
-    let program = program(alloc)?;
-    let fits = collects_all(&rt, alloc, &program, 1);
-    let_go(program);
-    assert!(&rt; fits?);
-    Ok(())
-}
-
-#[test]
-fn two_workers_collect_every_task_once(rt: HostRuntime) -> Result<(), Fail> {
-    let alloc = rt.alloc();
-    let program = program(alloc)?;
-    let fits = collects_all(&rt, alloc, &program, 2);
-    let_go(program);
-    assert!(&rt; fits?);
-    Ok(())
-}
-
-#[test]
-fn four_workers_collect_every_task_once(rt: HostRuntime) -> Result<(), Fail> {
-    let alloc = rt.alloc();
-    let program = program(alloc)?;
-    let fits = collects_all(&rt, alloc, &program, 4);
-    let_go(program);
-    assert!(&rt; fits?);
-    Ok(())
-}
-
-#[test]
-fn sixty_four_workers_collect_every_task_once(rt: HostRuntime) -> Result<(), Fail> {
-    let alloc = rt.alloc();
-    let program = program(alloc)?;
-    let fits = collects_all(&rt, alloc, &program, 64);
-    let_go(program);
-    assert!(&rt; fits?);
-    Ok(())
+fn workers_collect_every_task_once(rt: HostRuntime) {
+    let program = coded(&rt);
+    collects_all(&rt, program, 1);
+    collects_all(&rt, program, 2);
+    collects_all(&rt, program, 4);
+    collects_all(&rt, program, 64);
 }

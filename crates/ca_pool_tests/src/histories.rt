@@ -6,28 +6,26 @@ ghost use Rattle.ca_logs.specs.Legal.{LegalCell};
 ghost use Rattle.ca_beside.specs.Beside.{present};
 ghost use Rattle.ca_cells.specs.Rounds.{now_of};
 ghost use Rattle.ca_cells.specs.Seats.{IsOf, IsSameSeat, cells_key};
-ghost use Rattle.ca_counters.specs.Counters.{IsSet, counters, starts};
+ghost use Rattle.ca_counters.specs.Counters.{IsSetFor, counters, starts, twice};
 
+use crate::setting::{coded, objects, set};
 use ca_base::{Memory, OpenGate};
 use ca_beside::Beside;
 use ca_cells::{Added, Applied, Cells, Seat, add, open};
-use ca_counters::{heap, let_go, program, twice};
-use ca_extent::extent_of;
+use ca_counters::{let_go, twice};
 use ca_logs::{CellLog, Stop};
 use ca_model::Heap;
-use ca_program::{OpId, Program};
-use ca_sections::Desk;
+use ca_sections::{Coded, Desk};
 use std::alloc::Global;
 use std::process::Abort;
 use std::sync::Wait;
-use std::test::Fail;
 
 /// Adds a task that counts twice.
 fn add_twice<'a>(
-    desk: &mut Desk<'a>,
+    desk: &mut Desk,
     log: &mut CellLog,
     alloc: Global,
-    program: &'a Program,
+    program: &'a Coded<'_>,
     frozen: &Heap,
     left: u64,
 ) -> Result<Added, Memory>
@@ -53,24 +51,28 @@ fn are_kept(log: &CellLog, keeps: bool) -> bool {
     }
 }
 
-/// Whether a fresh history takes a task, then one that is spent, and then none, and keeps these entries or none.
-fn takes_two<R: Abort>(rt: &R, alloc: Global, program: &Program, keeps: bool) -> Result<bool, Fail>
+/// Ends the test unless a fresh history takes a task, then one that is spent, and then none, and keeps these entries or none.
+fn takes_two<R: AllocGlobal + Abort>(rt: &R, program: &Coded<'_>, keeps: bool)
     requires { program_view program.now ≡ counters }
 {
-    let heap = heap(alloc, program, 1)?;
-    let mut cell = open(alloc, heap.get(0), keeps)?;
+    let alloc = rt.alloc();
+    let heap = objects(rt, program, 1);
+    let Ok(mut cell) = open(alloc, heap.get(0), keeps) else {
+        panic!(rt; "no history");
+    };
     let mut desk = Desk::new(alloc).expect(rt, "a desk");
     let ran = add_twice(&mut desk, &mut cell, alloc, program, &heap, 100);
     let spent = add_twice(&mut desk, &mut cell, alloc, program, &heap, 0);
     let kept = add_twice(&mut desk, &mut cell, alloc, program, &heap, 100);
     let added = is_ran(&ran) && is_spent(&spent) && is_kept(&kept);
     let fits = added && cell.entries.len() == 2 && are_kept(&cell, keeps);
+    let_go(heap);
     let_go(ran);
     let_go(spent);
     let_go(kept);
     let_go(desk);
     let_go(cell);
-    Ok(fits)
+    assert!(rt; fits);
 }
 
 fn is_ran(answer: &Result<Added, Memory>) -> bool {
@@ -94,40 +96,28 @@ fn is_kept(answer: &Result<Added, Memory>) -> bool {
     }
 }
 
+/// A history takes no task behind a stop, and entries that are kept stand in memory.
 #[test]
-fn a_history_takes_no_task_behind_a_stop(rt: HostRuntime) -> Result<(), Fail> {
-    let alloc = rt.alloc();
-    let program = program(alloc)?;
-    let fits = takes_two(&rt, alloc, &program, false);
-    let_go(program);
-    assert!(&rt; fits?);
-    Ok(())
-}
-
-#[test]
-fn entries_that_are_kept_stand_in_memory(rt: HostRuntime) -> Result<(), Fail> {
-    let alloc = rt.alloc();
-    let program = program(alloc)?;
-    let fits = takes_two(&rt, alloc, &program, true);
-    let_go(program);
-    assert!(&rt; fits?);
-    Ok(())
+fn a_history_takes_no_task_behind_a_stop(rt: HostRuntime) {
+    let program = coded(&rt);
+    takes_two(&rt, program, false);
+    takes_two(&rt, program, true);
 }
 
 /// Applies a task that counts twice, within so many steps, and tells whether it is spent, and whether it is kept.
 fn apply_twice<'a, R: Wait>(
     rt: &R,
     alloc: Global,
-    desk: &mut Desk<'a>,
+    desk: &mut Desk,
     cells: &Cells,
     seat: &mut Seat,
-    program: &'a Program,
+    program: &'a Coded<'_>,
     frozen: &Heap,
     beside: &Beside,
     left: u64,
 ) -> (bool, bool)
     requires place { IsOf cells.now seat.old }
-    requires set { IsSet (cells_key cells.now) 1 × (program_view program.now ≡ counters) × (frozen.now ≡ starts 1) }
+    requires set { IsSetFor twice (cells_key cells.now) 1 × (program_view program.now ≡ counters) × (frozen.now ≡ starts 1) }
     requires now { now_of (cells_key cells.now) ≡ present frozen.now beside.now }
     ensures { IsSameSeat seat.old seat.new }
 {
@@ -142,17 +132,15 @@ fn apply_twice<'a, R: Wait>(
     }
 }
 
-/// Whether a task that is spent closes its cell to the next one.
-fn closes<R: Wait + Abort>(rt: &R, alloc: Global, program: &Program) -> Result<bool, Fail>
+/// Ends the test unless a task that is spent closes its cell to the next one.
+fn closes<R: Wait + AllocGlobal + Abort>(rt: &R, program: &Coded<'_>)
     requires { program_view program.now ≡ counters }
 {
-    let roots = [OpId(1)];
-    let extent = extent_of(alloc, program, &roots)?;
-    let heap = heap(alloc, program, 1)?;
-    let beside = Beside::new(alloc);
-    let (cells, mut seats) = Cells::make(alloc, program, &extent, &heap, &beside, 1, false)?;
+    let alloc = rt.alloc();
+    let (extent, heap, beside, cells, mut seats) = set(rt, program, 1, 1, 1, false);
+    let_go(extent);
     let Some(mut seat) = seats.pop() else {
-        return Ok(false);
+        panic!(rt; "no seat");
     };
     let mut desk = Desk::new(alloc).expect(rt, "a desk");
     let first = apply_twice(
@@ -161,22 +149,25 @@ fn closes<R: Wait + Abort>(rt: &R, alloc: Global, program: &Program) -> Result<b
     let second = apply_twice(
         rt, alloc, &mut desk, &cells, &mut seat, program, &heap, &beside, 100,
     );
-    seats.push(seat)?;
-    let loose = Vec::with_capacity(alloc, seats.len())?;
+    let_go(heap);
+    let_go(beside);
+    let_go(desk);
+    let Ok(()) = seats.push(seat) else {
+        panic!(rt; "no room");
+    };
+    let Ok(loose) = Vec::with_capacity(alloc, seats.len()) else {
+        panic!(rt; "no room");
+    };
     let log = cells.gather(seats, loose);
     let mut entries = 0;
     for cell in &log.logs {
         entries = cell.entries.len();
     }
-    Ok(first.0 && second.1 && entries == 1)
+    let_go(log);
+    assert!(rt; first.0 && second.1 && entries == 1);
 }
 
 #[test]
-fn a_cell_takes_no_task_behind_a_stop(rt: HostRuntime) -> Result<(), Fail> {
-    let alloc = rt.alloc();
-    let program = program(alloc)?;
-    let fits = closes(&rt, alloc, &program);
-    let_go(program);
-    assert!(&rt; fits?);
-    Ok(())
+fn a_cell_takes_no_task_behind_a_stop(rt: HostRuntime) {
+    closes(&rt, coded(&rt));
 }

@@ -13,3 +13,5 @@ mod histories;
 mod neighbours;
 #[cfg(test)]
 mod rounds;
+#[cfg(test)]
+mod setting;

@@ -8,50 +8,45 @@ ghost use Rattle.ca_cells.specs.Rounds.{MayRun};
 ghost use Rattle.ca_cells.specs.declared.rule.Given.{Given};
 ghost use Rattle.ca_counters.specs.Counters.{IsSetFor, counters, operation};
 
+use crate::setting::{coded, set};
 use ca_base::Gate;
-use ca_beside::Beside;
-use ca_cells::{Cells, RoundLog};
-use ca_counters::{OPERATIONS, heap, let_go, program, task_of};
-use ca_extent::extent_of;
+use ca_cells::RoundLog;
+use ca_counters::{OPERATIONS, let_go, task_of};
 use ca_logs::Task;
 use ca_pool::Pool;
-use ca_program::{OpId, Program};
+use ca_sections::Coded;
 use std::alloc::{AllocError, Global};
+use std::process::Abort;
 use std::sync::Wait;
 use std::sync::atomic::{AtomicU64, Ordering};
-use std::test::Fail;
 use std::thread::Threads;
 
 /// A round of so many workers, whose first tasks call an operation so many times, on so many objects in turn: `add` is 0, `twice`
 /// is 1, and `two`, which takes no lock, is 2. Then how often it passes the gate, and how many entries it has on objects, and how
-/// many that stand in no history.
-type Row = (u32, u32, u32, u32, u64, usize, usize);
-
-const ROWS: [Row; 17] = [
-    // a task that takes no lock lists two neighbours
-    (1, 2, 1, 1, 1, 2, 1),
-    (2, 2, 1, 1, 1, 2, 1),
-    (64, 2, 1, 1, 1, 2, 1),
-    // so do four on four objects, and four on one
-    (1, 2, 4, 4, 4, 8, 4),
-    (1, 2, 4, 1, 4, 8, 4),
-    // one that takes the lock is no neighbour of the one that it lists
-    (1, 1, 1, 1, 2, 2, 0),
-    (1, 1, 3, 3, 6, 6, 0),
-    // but three are, and the three that they list
-    (1, 1, 3, 1, 2, 6, 0),
-    // neighbours that come first
-    (1, 0, 1, 1, 1, 1, 0),
-    (1, 0, 2, 1, 1, 2, 0),
-    (1, 0, 16, 1, 1, 16, 0),
-    (1, 0, 17, 1, 2, 17, 0),
-    (1, 0, 33, 1, 3, 33, 0),
-    (4, 0, 33, 1, 3, 33, 0),
-    // receivers that take turns
-    (1, 0, 2, 2, 2, 2, 0),
-    (1, 0, 8, 2, 8, 8, 0),
-    (1, 0, 9, 3, 9, 9, 0),
-];
+/// many that stand in no history. A line with `//` tells what the rows behind it are for.
+const ROWS: &str = "// a task that takes no lock lists two neighbours
+1 2 1 1 1 2 1
+2 2 1 1 1 2 1
+64 2 1 1 1 2 1
+// so do four on four objects, and four on one
+1 2 4 4 4 8 4
+1 2 4 1 4 8 4
+// one that takes the lock is no neighbour of the one that it lists
+1 1 1 1 2 2 0
+1 1 3 3 6 6 0
+// but three are, and the three that they list
+1 1 3 1 2 6 0
+// neighbours that come first
+1 0 1 1 1 1 0
+1 0 2 1 1 2 0
+1 0 16 1 1 16 0
+1 0 17 1 2 17 0
+1 0 33 1 3 33 0
+4 0 33 1 3 33 0
+// receivers that take turns
+1 0 2 2 2 2 0
+1 0 8 2 8 8 0
+1 0 9 3 9 9 0";
 
 /// Counts how often it is passed.
 #[derive(Drop)]
@@ -97,68 +92,74 @@ fn entries(log: &RoundLog) -> (usize, usize) {
 }
 
 /// How often a round passes the gate, and how many entries it has, where all its tasks ran.
-fn passes<R: Threads + Wait + Sync>(
+fn passes<R: Threads + Wait + Sync + AllocGlobal + Abort>(
     rt: &R,
-    alloc: Global,
-    program: &Program,
+    program: &Coded<'_>,
     workers: u32,
     op: u32,
     count: u32,
     objects: u32,
-) -> Result<(u64, usize, usize), Fail>
+) -> (u64, usize, usize)
     requires program { program_view program.now ≡ counters }
     requires row { (0 < workers) × (workers ≤ 64) × (op < 3) × (0 < objects) }
 {
-    let roots = [OpId(op)];
-    let extent = extent_of(alloc, program, &roots)?;
-    let heap = heap(alloc, program, objects)?;
-    let first = first_tasks(alloc, op, count, objects)?;
-    let beside = Beside::new(alloc);
-    let (cells, seats) = Cells::make(alloc, program, &extent, &heap, &beside, workers, false)?;
+    let alloc = rt.alloc();
+    let (extent, heap, beside, cells, seats) = set(rt, program, op, objects, workers, false);
+    let Ok(first) = first_tasks(alloc, op, count, objects) else {
+        panic!(rt; "no tasks");
+    };
     let mut pool = Pool::make(workers);
     let gate = CountingGate {
         passed: AtomicU64::new(0),
     };
-    let round = pool.round(
+    let ran = pool.round(
         rt, alloc, program, &extent, &heap, &beside, cells, seats, first, 16_384, 100, &gate,
-    )?;
-    if !round.rest.is_empty() || round.stop.is_some() {
-        return Err(Fail::new("a task is left"));
-    }
+    );
+    let_go(extent);
+    let_go(heap);
+    let_go(beside);
+    let round = ran.expect(rt, "a round");
+    let all_ran = round.rest.is_empty() && round.stop.is_none();
     let (there, free) = entries(&round.log);
-    Ok((gate.passed.load(Ordering::SeqCst), there, free))
+    let_go(round);
+    assert!(rt; all_ran);
+    (gate.passed.load(Ordering::SeqCst), there, free)
 }
 
-/// How many of the rows come before the first that isn't as it says.
-fn rows_that_hold<R: Threads + Wait + Sync>(
-    rt: &R,
-    alloc: Global,
-    program: &Program,
-) -> Result<usize, Fail>
+/// The number of a word.
+fn number<R: Abort>(rt: &R, word: &str) -> u32 {
+    word.parse().expect(rt, "a number")
+}
+
+/// The word that a row begins with, as a number, and the row behind it.
+fn first_number<'a, R: Abort>(rt: &R, row: &'a str) -> (u32, &'a str) {
+    let (word, row) = row.split_once(' ').expect(rt, "two words");
+    (number(rt, word), row)
+}
+
+/// Ends the test unless a row is as it says.
+fn holds<R: Threads + Wait + Sync + AllocGlobal + Abort>(rt: &R, program: &Coded<'_>, row: &str)
     requires { program_view program.now ≡ counters }
 {
-    let mut held: usize = 0;
-    for row in ROWS.as_slice() {
-        let (workers, op, count, objects, passed, there, free) = *row;
-        if workers == 0 || workers > 64 || op >= OPERATIONS || objects == 0 {
-            return Ok(held);
-        }
-        let round = passes(rt, alloc, program, workers, op, count, objects)?;
-        if round != (passed, there, free) {
-            return Ok(held);
-        }
-        held = held.wrapping_add(1);
-    }
-    Ok(held)
+    let (workers, rest) = first_number(rt, row);
+    let (op, rest) = first_number(rt, rest);
+    let (count, rest) = first_number(rt, rest);
+    let (objects, rest) = first_number(rt, rest);
+    let (passed, rest) = first_number(rt, rest);
+    let (there, rest) = first_number(rt, rest);
+    let free = number(rt, rest);
+    assert!(rt; workers > 0 && workers <= 64 && op < OPERATIONS && objects > 0);
+    let round = passes(rt, program, workers, op, count, objects);
+    let due = (u64::from(passed), there as usize, free as usize);
+    assert!(rt; round == due, "{row}");
 }
 
 #[test]
-fn neighbours_pass_one_gate(rt: HostRuntime) -> Result<(), Fail> {
-    let alloc = rt.alloc();
-    let program = program(alloc)?;
-    let held = rows_that_hold(&rt, alloc, &program);
-    let_go(program);
-    let held = held?;
-    assert!(&rt; held == ROWS.len(), "{held} rows hold");
-    Ok(())
+fn neighbours_pass_one_gate(rt: HostRuntime) {
+    let program = coded(&rt);
+    for row in ROWS.lines() {
+        if !row.starts_with("//") {
+            holds(&rt, program, row);
+        }
+    }
 }

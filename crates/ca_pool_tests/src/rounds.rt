@@ -1,42 +1,41 @@
 //! Rounds over counting objects.
 
-ghost use Rattle.std.specs.Prelude.{◌≡◌, ◌<◌, ◌≤◌};
+ghost use Rattle.std.specs.Prelude.{◌≡◌, ◌<◌};
 ghost use Rattle.std.specs.Thread.{IsSync};
 ghost use Rattle.ca_program.specs.View.{program_view};
 ghost use Rattle.ca_beside.specs.Beside.{present};
 ghost use Rattle.ca_cells.specs.Rounds.{now_of};
 ghost use Rattle.ca_cells.specs.Seats.{AreAll, IsOf, IsSameSeat, cells_key};
-ghost use Rattle.ca_counters.specs.Counters.{IsSet, counters, starts};
+ghost use Rattle.ca_counters.specs.Counters.{IsSetFor, counters, starts, twice};
 
+use crate::setting::{coded, set};
 use ca_base::OpenGate;
-use ca_beside::Beside;
 use ca_cells::{Applied, Cells, RoundLog, Seat};
-use ca_counters::{heap, let_go, program, twice};
-use ca_extent::extent_of;
+use ca_counters::{let_go, twice};
 use ca_model::{Object, Slot, Value};
 use ca_parallel::Op;
 use ca_pool::work::Reads;
-use ca_program::{OpId, Program};
+use ca_program::OpId;
 use ca_round_order::in_order;
-use ca_sections::Desk;
+use ca_sections::{Coded, Desk};
 use std::alloc::Global;
+use std::process::Abort;
 use std::sync::Wait;
-use std::test::Fail;
 use std::thread::{self, Threads};
 
 /// Counts twice on an object, by two tasks, and tells whether both ran.
 fn count_twice<'a, R: Wait>(
     rt: &R,
     alloc: Global,
-    desk: &mut Desk<'a>,
+    desk: &mut Desk,
     cells: &Cells,
     seat: &mut Seat,
-    program: &'a Program,
+    program: &'a Coded<'_>,
     reads: &Reads<'_>,
     object: u32,
 ) -> bool
     requires place { IsOf cells.now seat.old }
-    requires set { IsSet (cells_key cells.now) 10 × (program_view program.now ≡ counters) × (reads.now.frozen.now ≡ starts 10) }
+    requires set { IsSetFor twice (cells_key cells.now) 10 × (program_view program.now ≡ counters) × (reads.now.frozen.now ≡ starts 10) }
     requires now { now_of (cells_key cells.now) ≡ present reads.now.frozen.now reads.now.beside.now }
     requires object { object < 10 }
     ensures { IsSameSeat seat.old seat.new }
@@ -75,12 +74,12 @@ fn work<'a, R: Wait>(
     alloc: Global,
     cells: &Cells,
     seat: &mut Seat,
-    program: &'a Program,
+    program: &'a Coded<'_>,
     reads: &Reads<'_>,
     times: u32,
 )
     requires place { IsOf cells.now seat.old }
-    requires set { IsSet (cells_key cells.now) 10 × (program_view program.now ≡ counters) × (reads.now.frozen.now ≡ starts 10) }
+    requires set { IsSetFor twice (cells_key cells.now) 10 × (program_view program.now ≡ counters) × (reads.now.frozen.now ≡ starts 10) }
     requires now { now_of (cells_key cells.now) ≡ present reads.now.frozen.now reads.now.beside.now }
     ensures { IsSameSeat seat.old seat.new }
 {
@@ -102,38 +101,34 @@ fn work_all<R: Threads + Wait + Sync>(
     alloc: Global,
     cells: &Cells,
     seats: &mut [Seat],
-    program: &Program,
+    program: &Coded<'_>,
     reads: &Reads<'_>,
     times: u32,
 )
     requires all { AreAll cells.now seats.old }
-    requires set { IsSet (cells_key cells.now) 10 × (program_view program.now ≡ counters) × (reads.now.frozen.now ≡ starts 10) }
+    requires set { IsSetFor twice (cells_key cells.now) 10 × (program_view program.now ≡ counters) × (reads.now.frozen.now ≡ starts 10) }
     requires now { now_of (cells_key cells.now) ≡ present reads.now.frozen.now reads.now.beside.now }
     ensures { AreAll cells.now seats.new }
 {
     let part = |_: usize, seat: &mut Seat|
-        requires { IsSync R.row × IsOf cells.now seat.now × IsSet (cells_key cells.now) 10 × (program_view program.now ≡ counters) × (reads.now.frozen.now ≡ starts 10) × (now_of (cells_key cells.now) ≡ present reads.now.frozen.now reads.now.beside.now) }
+        requires { IsSync R.row × IsOf cells.now seat.now × IsSetFor twice (cells_key cells.now) 10 × (program_view program.now ≡ counters) × (reads.now.frozen.now ≡ starts 10) × (now_of (cells_key cells.now) ≡ present reads.now.frozen.now reads.now.beside.now) }
         ensures { IsSameSeat seat.entry.now seat.exit.now }
     { work(rt, alloc, cells, seat, program, reads, times) };
     thread::for_each_mut(rt, seats, 4, &part);
 }
 
-/// A round of so many workers, each of which counts twice so many times, that keeps its entries in memory or not.
-fn round<R: Threads + Wait + Sync>(
+/// A round of four workers, each of which counts twice so many times, that keeps its entries in memory or not.
+fn round<R: Threads + Wait + Sync + AllocGlobal + Abort>(
     rt: &R,
-    alloc: Global,
-    program: &Program,
-    workers: u32,
+    program: &Coded<'_>,
     times: u32,
     keeps: bool,
-) -> Result<RoundLog, Fail>
-    requires { (program_view program.now ≡ counters) × (0 < workers) × (workers ≤ 64) }
+) -> RoundLog
+    requires { program_view program.now ≡ counters }
 {
-    let roots = [OpId(1)];
-    let extent = extent_of(alloc, program, &roots)?;
-    let heap = heap(alloc, program, 10)?;
-    let beside = Beside::new(alloc);
-    let (cells, mut seats) = Cells::make(alloc, program, &extent, &heap, &beside, workers, keeps)?;
+    let alloc = rt.alloc();
+    let (extent, heap, beside, cells, mut seats) = set(rt, program, 1, 10, 4, keeps);
+    let_go(extent);
     let reads = Reads::of(&heap, &beside, &[]);
     work_all(
         rt,
@@ -144,8 +139,12 @@ fn round<R: Threads + Wait + Sync>(
         &reads,
         times,
     );
-    let loose = Vec::with_capacity(alloc, seats.len())?;
-    Ok(cells.gather(seats, loose))
+    let Ok(loose) = Vec::with_capacity(alloc, seats.len()) else {
+        panic!(rt; "no room");
+    };
+    let_go(heap);
+    let_go(beside);
+    cells.gather(seats, loose)
 }
 
 /// What an object has counted.
@@ -171,48 +170,40 @@ fn entries(log: &RoundLog) -> (usize, bool) {
 }
 
 #[test]
-fn four_threads_share_ten_objects(rt: HostRuntime) -> Result<(), Fail> {
-    let alloc = rt.alloc();
-    let program = program(alloc)?;
-    let log = round(&rt, alloc, &program, 4, 1_250, false);
-    let_go(program);
-    let log = log?;
+fn four_threads_share_ten_objects(rt: HostRuntime) {
+    let log = round(&rt, coded(&rt), 1_250, false);
     let (count, fits) = entries(&log);
-    assert!(&rt; log.logs.len() == 10);
-    assert!(&rt; count == 10_000);
-    assert!(&rt; fits);
-    Ok(())
+    let objects = log.logs.len();
+    let_go(log);
+    assert!(rt; objects == 10 && count == 10_000 && fits);
 }
 
-#[test]
-fn entries_that_are_kept_have_an_order(rt: HostRuntime) -> Result<(), Fail> {
-    let alloc = rt.alloc();
-    let program = program(alloc)?;
-    let log = round(&rt, alloc, &program, 4, 250, true);
-    let_go(program);
-    let log = log?;
-    let ops = in_order(alloc, log.logs.as_slice(), log.loose.as_slice())?;
-    assert!(&rt; ops.len() == 2_000);
-    assert!(&rt; begins_with(ops.as_slice(), OpId(1)));
-    Ok(())
-}
-
-#[test]
-fn entries_that_are_only_told_have_none(rt: HostRuntime) -> Result<(), Fail> {
-    let alloc = rt.alloc();
-    let program = program(alloc)?;
-    let log = round(&rt, alloc, &program, 4, 250, false);
-    let_go(program);
-    let log = log?;
-    let ops = in_order(alloc, log.logs.as_slice(), log.loose.as_slice());
-    assert!(&rt; ops.is_err());
-    Ok(())
-}
-
-/// Whether the first one is of this operation.
-fn begins_with(ops: &[Op], op: OpId) -> bool {
+/// Whether the first one of so many is of this operation.
+fn begins_with(ops: &[Op], count: usize, op: OpId) -> bool {
     match ops.first() {
-        Some(first) => first.op.0 == op.0,
+        Some(first) => ops.len() == count && first.op.0 == op.0,
         None => false,
     }
+}
+
+/// Ends the test unless the entries of a round have an order where they are kept, and none where they are only told.
+fn orders<R: Threads + Wait + Sync + AllocGlobal + Abort>(rt: &R, program: &Coded<'_>, keeps: bool)
+    requires { program_view program.now ≡ counters }
+{
+    let log = round(rt, program, 250, keeps);
+    let ops = in_order(rt.alloc(), log.logs.as_slice(), log.loose.as_slice());
+    let fits = match &ops {
+        Ok(ops) => keeps && begins_with(ops.as_slice(), 2_000, OpId(1)),
+        Err(_) => !keeps,
+    };
+    let_go(ops);
+    let_go(log);
+    assert!(rt; fits);
+}
+
+#[test]
+fn entries_that_are_kept_have_an_order(rt: HostRuntime) {
+    let program = coded(&rt);
+    orders(&rt, program, true);
+    orders(&rt, program, false);
 }

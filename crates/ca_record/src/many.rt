@@ -20,6 +20,7 @@ use ca_model::Heap;
 use ca_parallel::{Marks, Op};
 use ca_program::Program;
 use ca_run::OneWorker;
+use ca_sections::Coded;
 use ca_serial::ExtentAnswer;
 use ca_trace::Line;
 use std::alloc::Global;
@@ -29,13 +30,13 @@ use std::thread::Threads;
 /// An engine that hands what it is handed to a closure.
 #[derive(Drop)]
 pub struct Tracing<
-    F: FnMut(&Program, &mut Heap, &[Op], u64, &mut Vec<Line>) -> Result<ExtentAnswer, Memory>,
+    F: FnMut(&Coded<'_>, &mut Heap, &[Op], u64, &mut Vec<Line>) -> Result<ExtentAnswer, Memory>,
 > {
     pub call: F,
 }
 
 impl<
-    F: FnMut(&Program, &mut Heap, &[Op], u64, &mut Vec<Line>) -> Result<ExtentAnswer, Memory>,
+    F: FnMut(&Coded<'_>, &mut Heap, &[Op], u64, &mut Vec<Line>) -> Result<ExtentAnswer, Memory>,
 > Traced for Tracing<F> {
     // Each closure of the type may be called with what an engine is handed, and does what an engine is asked for.
     ghost ready = { (call : F) (program : _) (heap : _) (operations : _) (budget : ℕ) (lines : _) → MayBeHanded (program_view program.now) heap.now operations.now budget → F.pre call program heap operations budget lines × ((answer : _) (after : _) (behind : _) (next : F) → F.step call program heap operations budget lines answer after behind next → ServesTraced (program_view program.now) heap.now (invocations_of operations.now) budget after.now lines.now.items behind.now.items answer) };
@@ -43,7 +44,7 @@ impl<
     fn traced<R: Threads + Wait + Sync>(
         &mut self,
         _rt: &R,
-        program: &Program,
+        program: &Coded<'_>,
         heap: &mut Heap,
         operations: &[Op],
         budget: u64,

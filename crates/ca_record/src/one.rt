@@ -6,8 +6,8 @@ use crate::traced::Traced;
 use ca_base::Memory;
 use ca_model::Heap;
 use ca_parallel::Op;
-use ca_program::Program;
 use ca_run::{OneWorker, Passes};
+use ca_sections::Coded;
 use ca_serial::ExtentAnswer;
 use ca_trace::Line;
 use std::sync::Wait;
@@ -19,7 +19,7 @@ impl<'g, G: Passes> Traced for OneWorker<'g, G> {
     fn traced<R: Threads + Wait + Sync>(
         &mut self,
         _rt: &R,
-        program: &Program,
+        program: &Coded<'_>,
         heap: &mut Heap,
         operations: &[Op],
         budget: u64,

@@ -8,7 +8,7 @@ use crate::traced::Traced;
 use ca_base::Memory;
 use ca_model::Heap;
 use ca_parallel::Op;
-use ca_program::Program;
+use ca_sections::Coded;
 use ca_serial::{ExtentAnswer, Extents};
 use ca_trace::Line;
 use std::alloc::Global;
@@ -57,7 +57,7 @@ impl<E: Traced> Extents for Recorder<E> {
     fn run<R: Threads + Wait + Sync>(
         &mut self,
         rt: &R,
-        program: &Program,
+        program: &Coded<'_>,
         heap: &mut Heap,
         operations: &[Op],
         budget: u64,

@@ -12,7 +12,7 @@ ghost use Rattle.ca_run.specs.Traced.{Traces};
 use ca_base::Memory;
 use ca_model::Heap;
 use ca_parallel::Op;
-use ca_program::Program;
+use ca_sections::Coded;
 use ca_serial::ExtentAnswer;
 use ca_trace::Line;
 use std::sync::Wait;
@@ -28,7 +28,7 @@ pub trait Traced {
     fn traced<R: Threads + Wait + Sync>(
         &mut self,
         rt: &R,
-        program: &Program,
+        program: &Coded<'_>,
         heap: &mut Heap,
         operations: &[Op],
         budget: u64,

@@ -14,7 +14,7 @@ use crate::machine::{Machine, StepAnswer};
 use ca_base::Memory;
 use ca_model::Heap;
 use ca_parallel::Op;
-use ca_program::Program;
+use ca_sections::Coded;
 use ca_trace::Line;
 use std::alloc::Global;
 
@@ -40,10 +40,10 @@ fn begins_block(lines: &[Line]) -> bool
 }
 
 /// Follows the lines as far as they are a block of what waits.
-pub(crate) fn follow<'a>(
-    machine: &mut Machine<'a>,
+pub(crate) fn follow(
+    machine: &mut Machine,
     alloc: Global,
-    program: &'a Program,
+    program: &Coded<'_>,
     heap: &Heap,
     left: u64,
     lines: &[Line],
@@ -59,10 +59,10 @@ pub(crate) fn follow<'a>(
 }
 
 /// The steps that the operation takes, or nothing where a block doesn't go on by it.
-fn steps_by<'a>(
-    machine: &mut Machine<'a>,
+fn steps_by(
+    machine: &mut Machine,
     alloc: Global,
-    program: &'a Program,
+    program: &Coded<'_>,
     heap: &Heap,
     op: &Op,
     left: u64,
@@ -81,10 +81,10 @@ fn steps_by<'a>(
 }
 
 /// Follows the lines of a block behind its first one.
-fn follow_block<'a>(
-    machine: &mut Machine<'a>,
+fn follow_block(
+    machine: &mut Machine,
     alloc: Global,
-    program: &'a Program,
+    program: &Coded<'_>,
     heap: &Heap,
     left: u64,
     lines: &[Line],

@@ -14,9 +14,8 @@ use ca_base::Memory;
 use ca_beside::Beside;
 use ca_model::{Heap, Trap};
 use ca_parallel::Op;
-use ca_program::Program;
 use ca_run::copies;
-use ca_sections::{Desk, SectionAnswer};
+use ca_sections::{Coded, Desk, SectionAnswer};
 use std::alloc::Global;
 
 /// What a step of the machine by an operation answers.
@@ -35,14 +34,14 @@ pub enum StepAnswer {
 /// The pending machine: what waits, and the objects that changed, beside the heap that stays as it is. Its heap is
 /// `present` of that and of `beside`, and what waits is `waiting`, in whatever order.
 #[derive(Drop)]
-pub struct Machine<'a> {
-    desk: Desk<'a>,
+pub struct Machine {
+    desk: Desk,
     pub(crate) beside: Beside,
     pub(crate) waiting: Vec<Op>,
     hints: Hints,
 }
 
-impl<'a> Machine<'a> {
+impl Machine {
     /// The machine before its first step, on a heap, where these operations wait. What is beside the heap is forgotten; its
     /// memory serves the machine.
     pub fn start(
@@ -50,7 +49,7 @@ impl<'a> Machine<'a> {
         heap: &Heap,
         beside: Beside,
         first: &[Op],
-    ) -> Result<Machine<'a>, Memory>
+    ) -> Result<Machine, Memory>
         ensures heap { IfOk result (λ m. present heap.now m.beside ≡ heap.now) }
         ensures waits { IfOk result (λ m. invocations_of m.waiting.items ≡ invocations_of first.now) }
     {
@@ -75,7 +74,7 @@ impl<'a> Machine<'a> {
     pub fn step(
         &mut self,
         alloc: Global,
-        program: &'a Program,
+        program: &Coded<'_>,
         heap: &Heap,
         op: &Op,
         left: u64,
@@ -109,7 +108,7 @@ impl<'a> Machine<'a> {
     /// Puts the objects that changed into the heap of `start`, and gives back what stood beside it. It takes no memory.
     pub fn finish(self, heap: &mut Heap) -> Beside
         requires { SameShapes heap.old (present heap.old self.beside) }
-        ensures { heap.new ≡ present heap.old self.entry.beside }
+        ensures { heap.new ≡ present heap.old self.beside }
     {
         let mut beside = self.beside;
         beside.store(heap);
@@ -118,10 +117,10 @@ impl<'a> Machine<'a> {
 }
 
 /// Runs this operation, if it waits and its section is done within the budget.
-fn run_waiting<'a>(
-    desk: &mut Desk<'a>,
+fn run_waiting(
+    desk: &mut Desk,
     alloc: Global,
-    program: &'a Program,
+    program: &Coded<'_>,
     heap: &Heap,
     beside: &mut Beside,
     waiting: &mut Vec<Op>,
@@ -149,13 +148,7 @@ fn run_waiting<'a>(
 }
 
 /// Takes out the call at a place: the last one stands there then. Calls from `from` on are new to the hints.
-fn take_out<'a>(
-    desk: &mut Desk<'a>,
-    waiting: &mut Vec<Op>,
-    hints: &mut Hints,
-    place: usize,
-    from: usize,
-)
+fn take_out(desk: &mut Desk, waiting: &mut Vec<Op>, hints: &mut Hints, place: usize, from: usize)
     requires { place < length waiting.old.items }
     ensures { TakenOut waiting.old.items place waiting.new.items }
 {

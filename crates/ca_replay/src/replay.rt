@@ -20,8 +20,8 @@ use ca_base::{Memory, OpenGate};
 use ca_beside::Beside;
 use ca_model::Heap;
 use ca_parallel::Op;
-use ca_program::Program;
 use ca_run::OneWorker;
+use ca_sections::Coded;
 use ca_serial::{ExtentAnswer, Extents};
 use ca_trace::Line;
 use std::alloc::Global;
@@ -56,7 +56,7 @@ fn declines(lines: &[Line]) -> bool
 /// Runs the operations without lines.
 fn complete_here(
     alloc: Global,
-    program: &Program,
+    program: &Coded<'_>,
     heap: &mut Heap,
     first: &[Op],
     left: u64,
@@ -112,7 +112,7 @@ impl Replay {
     /// Runs the operations, along the lines as long as none is bad.
     fn replay(
         &mut self,
-        program: &Program,
+        program: &Coded<'_>,
         heap: &mut Heap,
         first: &[Op],
         left: u64,
@@ -153,7 +153,7 @@ impl Replay {
     /// Runs operations whose lines could not be followed past this one, and keeps the first bad line, if there is one.
     fn fall_back(
         &mut self,
-        program: &Program,
+        program: &Coded<'_>,
         heap: &mut Heap,
         first: &[Op],
         left: u64,
@@ -200,7 +200,7 @@ impl Extents for Replay {
     fn run<R: Threads + Wait + Sync>(
         &mut self,
         _rt: &R,
-        program: &Program,
+        program: &Coded<'_>,
         heap: &mut Heap,
         operations: &[Op],
         budget: u64,

@@ -17,8 +17,7 @@ use ca_beside::Beside;
 use ca_extent::Extent;
 use ca_model::Heap;
 use ca_parallel::Op;
-use ca_program::Program;
-use ca_sections::{Desk, SectionAnswer};
+use ca_sections::{Coded, Desk, SectionAnswer};
 use std::alloc::{AllocError, Global};
 
 /// Copies of the objects that a worker touched. Numbers that the extent writes began at 0 in them, so they are sums.
@@ -49,11 +48,11 @@ fn place_of(
 }
 
 /// Runs the section of an operation within a budget, on the copy of its receiver.
-fn run_on_copy<'a>(
+fn run_on_copy(
     copies: &mut Beside,
-    desk: &mut Desk<'a>,
+    desk: &mut Desk,
     alloc: Global,
-    program: &'a Program,
+    program: &Coded<'_>,
     extent: &Extent,
     frozen: &Heap,
     op: &Op,
@@ -96,11 +95,11 @@ impl Replica {
     /// What a section adds that is done is added to the sums, and it is what that section adds to every typed object that
     /// agrees with the frozen one on constants. On every answer other than `Done`, and where memory is wanting, all sums
     /// and `out` are as before. No object has two copies.
-    pub fn apply<'a>(
+    pub fn apply(
         &mut self,
-        desk: &mut Desk<'a>,
+        desk: &mut Desk,
         alloc: Global,
-        program: &'a Program,
+        program: &Coded<'_>,
         extent: &Extent,
         frozen: &Heap,
         op: &Op,

@@ -25,8 +25,7 @@ use ca_base::Memory;
 use ca_beside::Beside;
 use ca_model::Heap;
 use ca_parallel::Op;
-use ca_program::Program;
-use ca_sections::Desk;
+use ca_sections::{Coded, Desk};
 use ca_serial::{ExtentAnswer, Outcome};
 use ca_trace::Line;
 use std::alloc::Global;
@@ -44,11 +43,11 @@ pub fn line_of(outcome: Outcome, budget: u64) -> Line
 }
 
 /// Runs waiting operations and all that they list, and adds a line for each, and that the block ends.
-fn run_lines<'a, G: Passes>(
+fn run_lines<G: Passes>(
     gate: &G,
-    desk: &mut Desk<'a>,
+    desk: &mut Desk,
     alloc: Global,
-    program: &'a Program,
+    program: &Coded<'_>,
     heap: &Heap,
     beside: &mut Beside,
     waiting: &mut Vec<Op>,
@@ -78,7 +77,7 @@ impl<'g, G: Passes> OneWorker<'g, G> {
     /// Runs the operations beside the heap, and adds the lines of a block.
     fn run_block(
         &mut self,
-        program: &Program,
+        program: &Coded<'_>,
         heap: &Heap,
         first: &[Op],
         left: u64,
@@ -108,7 +107,7 @@ impl<'g, G: Passes> OneWorker<'g, G> {
     /// is declined else. After an error the heap and the lines are as they were.
     pub fn traced(
         &mut self,
-        program: &Program,
+        program: &Coded<'_>,
         heap: &mut Heap,
         first: &[Op],
         left: u64,

@@ -41,6 +41,7 @@ impl Olds {
         }
     }
 
+    #[inline(always)]
     fn add(&mut self, old: Old) -> Result<(), AllocError>
         ensures added { IfOk result (λ _. self.new ≡ old ∷ self.old) }
         ensures kept { OnErr result (self.new ≡ self.old) }
@@ -56,6 +57,7 @@ impl Olds {
     }
 
     /// Whether the last old value is of this place.
+    #[inline(always)]
     #[tactic(auto, using(crate::proofs::Back::first_is_last))]
     fn is_last(&self, field: u32, item: u32) -> bool
         ensures { result ≡ is_of (slice_get self.now 0) field item }
@@ -67,6 +69,7 @@ impl Olds {
     }
 
     /// Keeps the value of an item, but where the last old value is of the same place.
+    #[inline(always)]
     fn keep(&mut self, slots: &Slots, field: u32, item: u32) -> Result<(), AllocError>
         requires { HasItem (slice_get slots.now field) item }
         ensures keeps { IfOk result (λ _. self.new ≡ olds_after self.old slots.now field item) }
@@ -81,6 +84,7 @@ impl Olds {
 
     /// Puts a value into an item, and keeps the one that was there, but where the last old value is of the
     /// same place: then that one is what is put back. Whatever comes of it, putting back gives what it gave before.
+    #[inline(always)]
     #[tactic(auto, using(crate::proofs::Back::back_kept, crate::proofs::Back::there_kept))]
     pub fn put(
         &mut self,
@@ -132,6 +136,7 @@ impl Olds {
 }
 
 /// The value of an item.
+#[inline(always)]
 fn item_of(slots: &Slots, field: u32, item: u32) -> Value
     requires { HasItem (slice_get slots.now field) item }
     ensures { result ≡ item_in (slice_get slots.now field) item }

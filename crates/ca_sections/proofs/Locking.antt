@@ -14,11 +14,11 @@ use Rattle.ca_section.proofs.Locking.{free}
 abbrev pub TellLocks : PlainProgram → List FieldId → List Bool → Type 0
 TellLocks p written row = (op : OpId) (lock : Bool) → slice_get row op.0 ≡ Some lock → lock ≡ takes_lock written (operation_body p op)
 
-behind_first : (a : Bool) (row : List Bool) (b lock : Bool) (k : ℕ) → (slice_get row k ≡ Some lock) ⊎ ((k ≡ length row) × (b ≡ lock)) → (slice_get (a ∷ row) (suc k) ≡ Some lock) ⊎ ((suc k ≡ length (a ∷ row)) × (b ≡ lock))
+behind_first : {A : Type 0} (a : A) (row : List A) (b lock : A) (k : ℕ) → (slice_get row k ≡ Some lock) ⊎ ((k ≡ length row) × (b ≡ lock)) → (slice_get (a ∷ row) (suc k) ≡ Some lock) ⊎ ((suc k ≡ length (a ∷ row)) × (b ≡ lock))
 behind_first a row b lock k (inl e) = inl e
 behind_first a row b lock k (inr e) = inr (ap suc e.0, e.1)
 
-last_found : (row : List Bool) (b lock : Bool) (k : ℕ) → slice_get (row ++ b ∷ []) k ≡ Some lock → (slice_get row k ≡ Some lock) ⊎ ((k ≡ length row) × (b ≡ lock))
+pub last_found : {A : Type 0} (row : List A) (b lock : A) (k : ℕ) → slice_get (row ++ b ∷ []) k ≡ Some lock → (slice_get row k ≡ Some lock) ⊎ ((k ≡ length row) × (b ≡ lock))
 last_found [] b lock zero e = inr (refl, cc)
 last_found [] b lock (suc k) e = absurd cc
 last_found (a ∷ row) b lock zero e = inl e

@@ -1,77 +1,66 @@
 //! What a section works with.
 
-ghost use Rattle.std.specs.Prelude.{◌≡◌, ◌++◌, [], map, IfOk, OnErr};
-ghost use Rattle.ca_model.specs.Slots.{start_of};
-ghost use Rattle.ca_direct.specs.Direct.{own_in};
-ghost use Rattle.ca_sections.specs.Running.{own_slots, Begun};
+ghost use Rattle.std.specs.Prelude.{◌≡◌, ◌++◌, [], IfOk, OnErr};
 
 use crate::all_olds::AllOlds;
 use ca_base::Memory;
-use ca_direct::Scene;
-use ca_model::{Heap, Slots, Value};
-use ca_parallel::{HELD, Op};
-use ca_program::{FieldInfo, ValueType};
+use ca_model::{Slots, Value};
+use ca_parallel::{Arguments, HELD, Op};
+use ca_program::FieldInfo;
 use ca_section::Olds;
-use ca_values::{Evaluator, add_starts};
+use ca_steps::Frames;
 use std::alloc::{AllocError, Global};
 use std::mem;
 
-/// Where own accesses are made: in slots that are handed in, or in the heap, where they only read.
-#[derive(Clone, Copy)]
-pub enum Own {
-    Handed,
-    Frozen,
-}
-
-/// On whom a section runs, and with which memory.
-#[derive(Clone, Copy)]
-pub struct Receiver {
-    pub alloc: Global,
-    pub this: Value,
-    pub own: Own,
-}
-
-/// How a section stands. The receiver and where own accesses are made stay as they are while it runs; the
-/// slots, their old values, the locals, the operations that are listed and the steps left change.
+/// What stays of a section until the next one: its old values, and the memory of what it listed.
 #[derive(Drop)]
 pub struct State {
-    pub alloc: Global,
-    pub this: Value,
-    pub own: Own,
-    pub slots: Slots,
     pub olds: Olds,
-    pub locals: Vec<Value>,
     pub listed: Vec<Op>,
-    pub left: u64,
+}
+
+impl State {
+    /// Nothing is put or listed.
+    #[inline(always)]
+    pub(crate) fn clear(&mut self)
+        ensures olds { self.new.olds ≡ [] }
+        ensures listed { self.new.listed.items ≡ [] }
+    {
+        self.olds.forget();
+        self.listed.clear();
+    }
 }
 
 /// Serves sections, one behind the other, and keeps the memory that they took. An engine keeps one for each worker.
 #[derive(Drop)]
-pub struct Desk<'a> {
-    pub(crate) evaluator: Evaluator<'a>,
+pub struct Desk {
+    pub(crate) frames: Frames,
     pub(crate) state: State,
+    /// The locals behind a loop.
+    pub(crate) values: Vec<Value>,
     /// Operations whose lists of arguments serve others. What they hold is no matter.
     pub(crate) spare: Vec<Op>,
     /// Whose memory serves the old values of several sections. What it holds is no matter.
     pub(crate) room: AllOlds,
 }
 
-impl<'a> Desk<'a> {
+/// No slots, for a section that has none in hand. They take no memory.
+#[inline(always)]
+pub(crate) fn no_slots(alloc: Global) -> Result<Slots, Memory> {
+    let fields: &[FieldInfo] = &[];
+    Ok(Slots::start(alloc, fields)?)
+}
+
+impl Desk {
     /// A desk.
-    pub fn new(alloc: Global) -> Result<Desk<'a>, Memory> {
-        let fields: &[FieldInfo] = &[];
+    pub fn new(alloc: Global) -> Result<Desk, Memory> {
         Ok(Desk {
-            evaluator: Evaluator::new(alloc),
+            frames: Frames::none(alloc),
             state: State {
-                alloc,
-                this: Value::Null,
-                own: Own::Frozen,
-                slots: Slots::start(alloc, fields)?,
                 olds: Olds::new(alloc),
-                locals: Vec::new(alloc),
                 listed: Vec::new(alloc),
-                left: 0,
             },
+            values: Vec::new(alloc),
             spare: Vec::new(alloc),
             room: AllOlds::new(alloc),
         })
@@ -121,61 +110,24 @@ impl<'a> Desk<'a> {
         mem::swap(&mut self.spare, ops);
         ops.clear();
     }
-}
 
-/// Adds values to locals. They are few, so each is pushed.
-#[inline(always)]
-fn add_values(locals: &mut Vec<Value>, values: &[Value]) -> Result<(), AllocError>
-    ensures { IfOk result (λ _. locals.new.items ≡ locals.old.items ++ values.now) }
-{
-    for value in values {
-        locals.push(*value)?;
-    }
-    Ok(())
-}
-
-impl State {
-    /// Begins a section on this receiver, whose first locals have these values and whose others have these
-    /// types. The slots stay as they are.
+    /// An empty list. Where that for so many values takes memory it is one that was given back, if there is such a one.
     #[inline(always)]
-    pub(crate) fn begin(
-        &mut self,
-        receiver: Receiver,
-        values: &[Value],
-        others: &[ValueType],
-        left: u64,
-    ) -> Result<(), Memory>
-        ensures begun { IfOk result (λ _. Begun receiver (values.now ++ map start_of others.now) left self.new) }
-        ensures slots { self.new.slots ≡ self.old.slots }
+    pub(crate) fn no_values(
+        spare: &mut Vec<Op>,
+        alloc: Global,
+        count: usize,
+    ) -> Result<Arguments, AllocError>
+        ensures none { IfOk result (λ values. values ≡ []) }
     {
-        self.alloc = receiver.alloc;
-        self.this = receiver.this;
-        self.own = receiver.own;
-        self.olds.forget();
-        self.listed.clear();
-        self.left = left;
-        self.locals.clear();
-        add_values(&mut self.locals, values)?;
-        add_starts(&mut self.locals, others)
-    }
-
-    /// What expressions are read in.
-    #[inline]
-    pub(crate) fn scene<'s>(&'s self, frozen: &'s Heap) -> Scene<'s>
-        ensures heap { result.heap.now ≡ frozen.now }
-        ensures this { result.this ≡ self.now.this }
-        ensures own { own_in result ≡ own_slots self.now.own frozen.now self.now.this self.now.slots }
-        ensures locals { result.locals.now ≡ self.now.locals.items }
-    {
-        let own = match self.own {
-            Own::Handed => Some(self.slots.as_slice()),
-            Own::Frozen => None,
-        };
-        Scene {
-            heap: frozen,
-            this: self.this,
-            own,
-            locals: self.locals.as_slice(),
+        if count > HELD {
+            if let Some(spare) = spare.pop() {
+                let mut values = spare.args;
+                values.clear();
+                return Ok(values);
+            }
+            return Arguments::with_room(alloc, count);
         }
+        Ok(Arguments::new(alloc))
     }
 }

@@ -10,28 +10,33 @@
 //! the loop by its number. `specs/Answers.antt` has what the answers say, `specs/Running.antt` how a section in
 //! memory stands.
 //!
-//! Statements run by recursion over the syntax, whose nesting texts limit, with a loop for each loop. Values are
-//! found at once where nothing is called (`value_now`, by the scene of `ca_direct`), and else by `ca_values`. A `Desk`
+//! Instructions run by the loop of `ca_steps`, with a section's accesses (`InSection`), from one listed call to the next. A `Coded` is
+//! a program with its code, and which operations have bodies that fit it, asked once of the text; others want memory. A `Desk`
 //! keeps what a section needs of memory: on one that was used before, a section takes memory for what it lists alone.
 //!
 //! Whoever reads the public clauses must believe each file of `specs/`.
 #![tactic(auto)]
 
+mod access;
 mod all_olds;
-mod calls;
+mod coded;
 mod desk;
 mod find;
+mod fits;
 pub mod laws;
+mod loop_code;
 mod loops;
 mod operations;
-mod puts;
 mod rows;
-mod statements;
+mod running;
 mod stop;
-mod values;
 
+pub use access::{InSection, Own};
 pub use all_olds::AllOlds;
+pub use coded::Coded;
 pub use desk::Desk;
+pub use fits::Body;
+pub use loop_code::{LoopPlace, with_loops};
 pub use loops::{section_loop, section_of_loop};
 pub use operations::{SectionAnswer, section, section_frozen};
 pub use rows::lock_row;

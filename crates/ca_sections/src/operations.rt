@@ -1,24 +1,28 @@
 //! From an operation and its receiver to what its section leaves and lists: `section` of `ca_meaning/specs/Sections.antt`.
 
-ghost use Rattle.std.specs.Prelude.{◌≡◌, ◌≤◌, ℕ, [], IfOk, OnErr, Some, slice_get};
-ghost use Rattle.ca_program.specs.View.{program_view, statements_view};
+ghost use Rattle.std.specs.Prelude.{◌≡◌, ◌≤◌, ◌-◌, ℕ, [], IfOk, OnErr, Some, slice_get};
+ghost use Rattle.ca_program.specs.Plain.{PlainProgram};
+ghost use Rattle.ca_program.specs.View.{program_view};
 ghost use Rattle.ca_meaning.specs.Functions.{body_of};
 ghost use Rattle.ca_meaning.specs.Sections.{section};
 ghost use Rattle.ca_parallel.specs.Bodies.{targets_of_all};
+ghost use Rattle.ca_code.specs.Codes.{code_seen};
+ghost use Rattle.ca_code_laws.specs.Told.{IsLaidOut};
 ghost use Rattle.ca_section.specs.Olds.{put_back, AllThere};
-ghost use Rattle.ca_values.specs.Resume.{others_in};
 ghost use Rattle.ca_model.specs.declared.value.Object.{Object};
 ghost use Rattle.ca_sections.specs.declared.operations.SectionAnswer.TheVariants.{Done};
 ghost use Rattle.ca_sections.specs.Answers.{SectionIs, FrozenIs, CanUndo};
+ghost use Rattle.ca_sections.specs.Fitting.{Entered};
 ghost use Rattle.ca_sections.specs.Running.{Settled};
 
-use crate::desk::{Desk, Own, Receiver, State};
+use crate::access::{InSection, Own};
+use crate::coded::{Coded, Start};
+use crate::desk::{Desk, no_slots};
+use crate::running::run;
 use crate::stop::Stop;
 use ca_base::Memory;
 use ca_model::{Heap, Object, Trap, Value};
 use ca_parallel::Op;
-use ca_program::{OpId, Program};
-use ca_values::{Called, body_in};
 use std::alloc::Global;
 use std::mem;
 
@@ -30,59 +34,73 @@ pub enum SectionAnswer {
     Spent,
 }
 
-/// The body of an operation, and nothing where there is no such operation.
-#[inline(always)]
-fn body_of<'a>(program: &'a Program, op: OpId) -> Called<'a>
-    ensures stmts { statements_view result.stmts.now ≡ body_of (slice_get (program_view program.now).ops op.0) }
-    ensures others { result.others.now ≡ others_in (slice_get (program_view program.now).ops op.0) }
-{
-    if (op.0 as usize) < program.ops.len() {
-        body_in(program.op(op))
-    } else {
-        Called::nothing()
-    }
-}
-
-impl State {
-    /// Ends a section: what it listed goes behind what stands in a list, or the slots are put back.
+impl<'s> InSection<'s> {
+    /// Ends a section that has so many steps left of a budget: what it listed goes behind what stands in a list, or the slots are put
+    /// back.
     #[inline(always)]
     pub(crate) fn settle(
         &mut self,
         ran: Result<(), Stop>,
         out: &mut Vec<Op>,
+        budget: u64,
         left: u64,
     ) -> Result<SectionAnswer, Memory>
-        requires there { AllThere self.old.olds self.old.slots }
-        requires left { self.old.left ≤ left }
-        ensures settled { IfOk result (λ answer. Settled ran answer left self.old self.new.slots out.old.items out.new.items) }
-        ensures kept { OnErr result ((self.new.slots ≡ put_back self.old.olds self.old.slots) × (out.new.items ≡ out.old.items)) }
-        ensures locals { self.new.locals ≡ self.old.locals }
-        ensures olds { IfOk result (λ answer. (steps : ℕ) → answer ≡ Done steps → self.new.olds ≡ self.old.olds) }
+        requires there { AllThere self.old.olds.now self.old.slots.now }
+        ensures settled { IfOk result (λ answer. Settled ran answer budget left self.old self.new.slots.now out.old.items out.new.items) }
+        ensures kept { OnErr result ((self.new.slots.now ≡ put_back self.old.olds.now self.old.slots.now) × (out.new.items ≡ out.old.items)) }
+        ensures olds { IfOk result (λ answer. (steps : ℕ) → answer ≡ Done steps → self.new.olds.now ≡ self.old.olds.now) }
+        ensures same_slots { self.new.slots.ghost_name ≡ self.old.slots.ghost_name }
+        ensures same_olds { self.new.olds.ghost_name ≡ self.old.olds.ghost_name }
+        ensures same_list { self.new.listed.ghost_name ≡ self.old.listed.ghost_name }
     {
         if let Ok(()) = ran {
-            let steps = left - self.left;
+            let steps = budget.saturating_sub(left);
             if self.listed.len() == 0 {
                 return Ok(SectionAnswer::Done { steps });
             }
             if out.len() == 0 {
-                mem::swap(out, &mut self.listed);
+                mem::swap(out, self.listed);
                 return Ok(SectionAnswer::Done { steps });
             }
-            if let Ok(()) = out.append(&mut self.listed) {
+            if let Ok(()) = out.append(self.listed) {
                 return Ok(SectionAnswer::Done { steps });
             }
         }
-        self.olds.put_back(&mut self.slots);
+        self.olds.put_back(self.slots);
         match ran {
             Err(Stop::Trapped(trap)) => Ok(SectionAnswer::Trapped(trap)),
-            Err(Stop::GivesBack) => Ok(SectionAnswer::Spent),
             Err(Stop::Spent) => Ok(SectionAnswer::Spent),
             _ => Err(Memory),
         }
     }
 }
 
-impl<'a> Desk<'a> {
+impl Desk {
+    /// Stands before a body with the arguments of a call, which takes a step, where they are as many as it takes, and of its kinds.
+    #[inline(always)]
+    fn enter(&mut self, alloc: Global, start: Start<'_>, op: &Op, left: u64) -> Result<(), Memory>
+        requires least { 1 ≤ left }
+        ensures entered { IfOk result (λ _. (p : PlainProgram) → IsLaidOut p (code_seen start.entry.laid.now.code) → Entered p start.entry.place op.now (left - 1) self.new.frames) }
+        ensures state { self.new.state ≡ self.old.state }
+    {
+        let code = &start.laid.code;
+        let all = code.params.as_slice();
+        let place = op.op.0 as usize;
+        if place >= all.len() {
+            return Err(Memory);
+        }
+        self.frames.begin(
+            alloc,
+            code.room,
+            start.place,
+            left - 1,
+            Value::Ref(op.receiver),
+        )?;
+        self.frames
+            .put_values(all[place].as_slice(), op.args.as_slice())?;
+        Ok(())
+    }
+
     /// Puts the object of the desk's last section back, which was done, as it was before. It takes no memory.
     pub fn undo(&mut self, object: &mut Object)
         requires { (before : Object) × CanUndo self.old object.old before }
@@ -98,9 +116,9 @@ impl<'a> Desk<'a> {
 /// Done leaves the object of the section and puts what it lists behind what stands in `out`. On each other
 /// answer, and where memory runs out, object and `out` are as before.
 pub fn section<'a>(
-    desk: &mut Desk<'a>,
+    desk: &mut Desk,
     alloc: Global,
-    program: &'a Program,
+    program: &'a Coded<'_>,
     frozen: &Heap,
     object: &mut Object,
     op: &Op,
@@ -114,18 +132,28 @@ pub fn section<'a>(
     if left == 0 {
         return Ok(SectionAnswer::Spent);
     }
-    let receiver = Receiver {
-        alloc,
+    let Some(start) = program.body(op.op) else {
+        return Err(Memory);
+    };
+    desk.enter(alloc, start, op, left)?;
+    desk.state.clear();
+    let mut access = InSection {
+        frozen,
         this: Value::Ref(op.receiver),
         own: Own::Handed,
+        deep: false,
+        slots: &mut object.slots,
+        olds: &mut desk.state.olds,
+        listed: &mut desk.state.listed,
     };
-    let called = body_of(program, op.op);
-    desk.state
-        .begin(receiver, op.args.as_slice(), called.others, left - 1)?;
-    mem::swap(&mut desk.state.slots, &mut object.slots);
-    let ran = desk.exec_all(program, frozen, called.stmts);
-    let answer = desk.state.settle(ran, out, left);
-    mem::swap(&mut desk.state.slots, &mut object.slots);
+    let ran = run(
+        alloc,
+        start.laid,
+        &mut access,
+        &mut desk.frames,
+        &mut desk.spare,
+    );
+    let answer = access.settle(ran, out, left, desk.frames.left());
     answer
 }
 
@@ -135,9 +163,9 @@ pub fn section<'a>(
 /// Done puts what it lists behind what stands in `out`. On each other answer, and where memory runs out, `out` is as
 /// before.
 pub fn section_frozen<'a>(
-    desk: &mut Desk<'a>,
+    desk: &mut Desk,
     alloc: Global,
-    program: &'a Program,
+    program: &'a Coded<'_>,
     frozen: &Heap,
     op: &Op,
     left: u64,
@@ -149,14 +177,28 @@ pub fn section_frozen<'a>(
     if left == 0 {
         return Ok(SectionAnswer::Spent);
     }
-    let receiver = Receiver {
-        alloc,
+    let Some(start) = program.body(op.op) else {
+        return Err(Memory);
+    };
+    desk.enter(alloc, start, op, left)?;
+    let mut none = no_slots(alloc)?;
+    desk.state.clear();
+    let mut access = InSection {
+        frozen,
         this: Value::Ref(op.receiver),
         own: Own::Frozen,
+        deep: false,
+        slots: &mut none,
+        olds: &mut desk.state.olds,
+        listed: &mut desk.state.listed,
     };
-    let called = body_of(program, op.op);
-    desk.state
-        .begin(receiver, op.args.as_slice(), called.others, left - 1)?;
-    let ran = desk.exec_all(program, frozen, called.stmts);
-    desk.state.settle(ran, out, left)
+    let ran = run(
+        alloc,
+        start.laid,
+        &mut access,
+        &mut desk.frames,
+        &mut desk.spare,
+    );
+    let answer = access.settle(ran, out, left, desk.frames.left());
+    answer
 }

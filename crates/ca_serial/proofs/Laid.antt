@@ -1,17 +1,20 @@
 -- Bodies that heed marks, as they are laid out.
-use Rattle.std.proofs.Common.{◌≡◌, ℕ, List, true, false, Some, None, refl, sym, subst}
+use Rattle.std.proofs.Common.{◌≡◌, ℕ, List, true, false, Option, Some, None, refl, ap, sym, subst}
+use Rattle.std.specs.Prelude.{slice_get}
 use Rattle.ca_program.specs.declared.program.StmtForm.{StmtForm, Block', PutLocal, PutField, PutItem, NewLocal, NewField, NewItem, Invoke, If', While', For', Return, Print}
 use Rattle.ca_program.specs.Plain.{PlainProgram, Statement}
 use Rattle.ca_program.specs.View.{form_view}
 use Rattle.ca_program.specs.Kinds.{Kind, Kinds}
-use Rattle.ca_program.specs.Instructions.{HasAt}
+use Rattle.ca_program.specs.Instructions.{Placed, HasAt, StandsAt}
 use Rattle.ca_program.specs.Layout.{all_acts}
 use Rattle.ca_parallel.specs.Lists.{PlainMarks, loop_in, either}
 use Rattle.ca_code.specs.declared.layout.Code.{Code as CodeHeld}
 use Rattle.ca_code.specs.Codes.{IsLaidOutWith, code_seen}
 use Rattle.ca_code.specs.clauses.Laying.{Laying, Adds, HandsOn}
 use Rattle.ca_code.proofs.LaidOut.{main_is}
-use Rattle.ca_code_laws.specs.Heeding.{heed_acts, heed_hands, handed_code}
+use Rattle.ca_code_laws.specs.Heeding.{heed_acts, heed_hands, handed_code, heeding_code, main_heeding}
+use Rattle.ca_sections.specs.Extending.{Extended}
+use Rattle.ca_sections.proofs.Extending.{still_has, still_laid}
 use Rattle.ca_serial.specs.Codes.{IsMarked}
 
 -- a statement that is no call of an operation
@@ -44,3 +47,15 @@ marked_so marks p c h = record {
   heeding = λ m f is. h.heeding m f is;
   main = subst (λ code. HasAt (code_seen c) c.main code) (main_is (λ ks. heed_acts marks ks) (λ ks κs. heed_hands marks ks κs) p) h.main;
 }
+
+-- a code behind which loops are added is marked as it was
+pub still_marked : (marks : PlainMarks) (p : PlainProgram) (c d : CodeHeld) → Extended c d → IsMarked marks p (code_seen c) c.main → IsMarked marks p (code_seen d) d.main
+still_marked marks p c d e h = record {
+  laid = still_laid c d e p h.laid;
+  heeding = λ m f is. subst (λ xs. StandsAt (code_seen d) (slice_get xs m) (heeding_code marks p f)) (sym (ap (λ (c : CodeHeld). c.heeding.items) e.same)) (still_stands (slice_get c.heeding.items m) (heeding_code marks p f) (h.heeding m f is));
+  main = subst (λ (at : ℕ). HasAt (code_seen d) at (main_heeding marks p)) (sym (ap (λ (c : CodeHeld). c.main) e.same)) (still_has c d e c.main (main_heeding marks p) h.main);
+}
+  where
+    still_stands : (o : Option ℕ) (xs : List Placed) → StandsAt (code_seen c) o xs → StandsAt (code_seen d) o xs
+    still_stands None xs h = h
+    still_stands (Some at) xs h = still_has c d e at xs h

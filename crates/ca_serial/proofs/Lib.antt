@@ -1,4 +1,5 @@
 pub mod Asked
+pub mod Copied
 pub mod Endings
 pub mod Ends
 pub mod Flagged

@@ -1,11 +1,12 @@
 -- A loop that is handed on: one instruction of the machine.
-use Rattle.std.proofs.Common.{◌≡◌, ℕ, ◌+◌, ◌-◌, List, [], ◌∷◌, ◌++◌, map, Some, None, refl, ap, sym, subst, ◌∙◌, append-nil}
+use Rattle.std.proofs.Common.{◌≡◌, ◌<◌, ℕ, zero, suc, ◌+◌, ◌-◌, List, [], ◌∷◌, ◌++◌, length, map, get_or, Some, None, refl, ap, sym, subst, ◌∙◌, arith, append-nil}
 use Rattle.std.specs.Prelude.{Bool, true, false, cond, slice_get, Contains, Result, Ok, Err, IfOk}
 use Rattle.std.proofs.lemmas.List.Elements.{Contains-push}
 use Rattle.ca_program.specs.Plain.{PlainProgram, Statement}
 use Rattle.ca_program.specs.declared.program.ValueType.{ValueType}
 use Rattle.ca_program.specs.Kinds.{Kind, kind_type}
-use Rattle.ca_program.specs.Instructions.{Begin, Code}
+use Rattle.ca_program.specs.View.{statement_view}
+use Rattle.ca_program.specs.Instructions.{Begin, Code, Handed}
 use Rattle.ca_model.specs.declared.value.Value.{Value as Datum}
 use Rattle.ca_model.specs.declared.value.Object.{Object}
 use Rattle.ca_model.specs.declared.value.Trap.{Trap}
@@ -18,6 +19,8 @@ use Rattle.ca_parallel.specs.declared.op.Op.{Op}
 use Rattle.ca_parallel.specs.Lists.{note, either}
 use Rattle.ca_note_laws.specs.Listing.{puts_nothing}
 use Rattle.ca_sections.specs.Answers.{LoopIs, locals_after}
+use Rattle.ca_sections.specs.Extending.{AllStand, StandsAlone}
+use Rattle.ca_sections.specs.declared.loop_code.LoopPlace.{LoopPlace}
 use Rattle.ca_sections.specs.declared.operations.SectionAnswer.{SectionAnswer}
 use Rattle.ca_sections.specs.declared.operations.SectionAnswer.TheVariants.{Done, Trapped, Spent}
 use Rattle.ca_code_laws.specs.Words.{all_have}
@@ -68,19 +71,49 @@ is_done loop_over steps now h = absurd h
 pub done_locals : (o : LoopSectioned) (steps : ℕ) (listed : List Invocation) (d : IsDone o steps listed) (ls : List Datum) → locals_after o ls ≡ d.outcome.locals
 done_locals o steps listed d ls = ap (λ o. locals_after o ls) d.is
 
--- the section that was run is that of the loop where the machine stands
-pub filled : (p : PlainProgram) (h : List Object) (m : Frames) (tys : List ValueType) (line : ℕ) (loop : Statement) (answer : SectionAnswer) (this : Datum) (ls : List Datum) (left : ℕ) (out now : List Op) → this ≡ m.this → ls ≡ locals_at m tys → left ≡ m.left → out ≡ [] → LoopIs answer (loop_section p h this ls line loop left) out now → LoopIs answer (section_at p h m tys line loop) [] now
-filled p h m tys line loop answer this ls left out now a b c d s =
-    subst (λ (out : List Op). LoopIs answer (section_at p h m tys line loop) out now) d
-    (subst (λ (k : ℕ). LoopIs answer (loop_section p h m.this (locals_at m tys) line loop k) out now) c
-    (subst (λ (ls : List Datum). LoopIs answer (loop_section p h m.this ls line loop left) out now) b
-    (subst (λ (this : Datum). LoopIs answer (loop_section p h this ls line loop left) out now) a s)))
+-- ---- the loop that stands on its own
 
-pub filled_locals : (p : PlainProgram) (h : List Object) (m : Frames) (tys : List ValueType) (line : ℕ) (loop : Statement) (now : List Datum) (this : Datum) (ls : List Datum) (left : ℕ) → this ≡ m.this → ls ≡ locals_at m tys → left ≡ m.left → now ≡ locals_after (loop_section p h this ls line loop left) ls → now ≡ locals_after (section_at p h m tys line loop) (locals_at m tys)
-filled_locals p h m tys line loop now this ls left a b c s =
-    subst (λ (k : ℕ). now ≡ locals_after (loop_section p h m.this (locals_at m tys) line loop k) (locals_at m tys)) c
-    (subst (λ (ls : List Datum). now ≡ locals_after (loop_section p h m.this ls line loop left) ls) b
-    (subst (λ (this : Datum). now ≡ locals_after (loop_section p h this ls line loop left) ls) a s))
+pub stands_here : (p : PlainProgram) (c : Code) (ls : List LoopPlace) (i : ℕ) (l : LoopPlace) → i < length ls → l ≡ get_or ls i l → AllStand p c ls → StandsAlone p c l
+stands_here p c [] i l lt is all = absurd (omega (arith, lt))
+stands_here p c (x ∷ ls) zero l lt is all = subst (λ (y : LoopPlace). StandsAlone p c y) (sym is) all.0
+stands_here p c (x ∷ ls) (suc i) l lt is all = stands_here p c ls i l (omega (arith, lt)) is all.1
+
+-- a loop that stands on its own is this one, on its line, in a body with such locals
+pub record IsThat (l : LoopPlace) (line : ℕ) (loop : Statement) (tys : List ValueType) : Type 0 where
+  pub line_is : l.line ≡ line
+  pub loop_is : statement_view l.s.now ≡ loop
+  pub kinds_are : map kind_type l.types.now ≡ map kind_type tys
+
+some_same : {A : Type 0} {x y : A} → Some x ≡ Some y → x ≡ y
+some_same e = cc
+
+-- the one that begins where the machine stands
+pub that_loop : (p : PlainProgram) (c : Code) (m : Frames) (n line : ℕ) (loop : Statement) (tys : List ValueType) (l : LoopPlace) → BeginsAt c m n line loop tys → l.at ≡ m.at → StandsAlone p c l → IsThat l line loop tys
+that_loop p c m n line loop tys l b at alone =
+    let lines : l.line ≡ line = some_same (sym (subst (λ (i : ℕ). slice_get c.lines i ≡ Some l.line) at alone.line) ∙ b.on_line) in
+    let own : Handed = record { loop = statement_view l.s.now; locals = map kind_type l.types.now } in
+    let its : Handed = record { loop = loop; locals = map kind_type tys } in
+    let same : own ≡ its = some_same (some_same (sym (subst (λ (i : ℕ). slice_get c.loops i ≡ Some (Some own)) at alone.loop) ∙ b.is)) in
+    record { line_is = lines; loop_is = ap (λ (h : Handed). h.loop) same; kinds_are = ap (λ (h : Handed). h.locals) same }
+
+-- the section that was run is that of the loop where the machine stands
+module _ (p : PlainProgram) (h : List Object) (m : Frames) (tys : List ValueType) (line : ℕ) (loop : Statement) (l : LoopPlace) (is : IsThat l line loop tys) where
+  pub filled : (answer : SectionAnswer) (this : Datum) (ls : List Datum) (left : ℕ) (out now : List Op) → this ≡ m.this → ls ≡ row (seen m.slots.items) m.base (map kind_type l.types.now) → left ≡ m.left → out ≡ [] → LoopIs answer (loop_section p h this ls l.line (statement_view l.s.now) left) out now → LoopIs answer (section_at p h m tys line loop) [] now
+  filled answer this ls left out now a b c d s =
+      subst (λ (out : List Op). LoopIs answer (section_at p h m tys line loop) out now) d
+      (subst (λ (x : Statement). LoopIs answer (loop_section p h m.this (locals_at m tys) line x m.left) out now) is.loop_is
+      (subst (λ (n : ℕ). LoopIs answer (loop_section p h m.this (locals_at m tys) n (statement_view l.s.now) m.left) out now) is.line_is
+      (subst (λ (k : ℕ). LoopIs answer (loop_section p h m.this (locals_at m tys) l.line (statement_view l.s.now) k) out now) c
+      (subst (λ (ls : List Datum). LoopIs answer (loop_section p h m.this ls l.line (statement_view l.s.now) left) out now) (b ∙ ap (row (seen m.slots.items) m.base) is.kinds_are)
+      (subst (λ (this : Datum). LoopIs answer (loop_section p h this ls l.line (statement_view l.s.now) left) out now) a s)))))
+
+  pub filled_locals : (now : List Datum) (this : Datum) (ls : List Datum) (left : ℕ) → this ≡ m.this → ls ≡ row (seen m.slots.items) m.base (map kind_type l.types.now) → left ≡ m.left → now ≡ locals_after (loop_section p h this ls l.line (statement_view l.s.now) left) ls → now ≡ locals_after (section_at p h m tys line loop) (locals_at m tys)
+  filled_locals now this ls left a b c s =
+      subst (λ (x : Statement). now ≡ locals_after (loop_section p h m.this (locals_at m tys) line x m.left) (locals_at m tys)) is.loop_is
+      (subst (λ (n : ℕ). now ≡ locals_after (loop_section p h m.this (locals_at m tys) n (statement_view l.s.now) m.left) (locals_at m tys)) is.line_is
+      (subst (λ (k : ℕ). now ≡ locals_after (loop_section p h m.this (locals_at m tys) l.line (statement_view l.s.now) k) (locals_at m tys)) c
+      (subst (λ (ls : List Datum). now ≡ locals_after (loop_section p h m.this ls l.line (statement_view l.s.now) left) ls) (b ∙ ap (row (seen m.slots.items) m.base) is.kinds_are)
+      (subst (λ (this : Datum). now ≡ locals_after (loop_section p h this ls l.line (statement_view l.s.now) left) ls) a s))))
 
 -- ---- notes
 

@@ -4,7 +4,7 @@ use Rattle.std.specs.Prelude.{false, nat_eq}
 use Rattle.ca_program.specs.declared.program.LoopId.{LoopId}
 use Rattle.ca_program.specs.Plain.{Statement, block, put_local, put_field, put_item, new_local, new_field, new_item, invoke, if_else, while_loop, for_loop, return_value, print_value}
 use Rattle.ca_parallel.specs.Lists.{has_site, loop_in}
-use Rattle.ca_serial.specs.Marked.{site_in, is_marked}
+use Rattle.ca_serial.specs.clauses.Marked.{site_in, is_marked}
 
 for_sites : (sites : List LoopId) (own : ℕ) (site : LoopId) (loop : Statement) → ((x : LoopId) → has_site loop x ≡ nat_eq site.0 x.0) → loop_in sites loop ≡ site_in sites site
 for_sites [] own site loop has = refl

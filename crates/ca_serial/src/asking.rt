@@ -13,7 +13,7 @@ use crate::extents::{ExtentAnswer, Extents};
 use ca_base::Memory;
 use ca_model::Heap;
 use ca_parallel::Op;
-use ca_program::Program;
+use ca_sections::Coded;
 use std::sync::Wait;
 use std::thread::Threads;
 
@@ -21,7 +21,7 @@ use std::thread::Threads;
 /// run here.
 pub(crate) fn ask<R: Threads + Wait + Sync, E: Extents>(
     rt: &R,
-    program: &Program,
+    program: &Coded<'_>,
     heap: &mut Heap,
     ops: &[Op],
     left: u64,

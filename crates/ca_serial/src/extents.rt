@@ -16,7 +16,7 @@ ghost use Rattle.ca_serial.specs.Extents.{Answers, IsNotDone};
 use ca_base::Memory;
 use ca_model::Heap;
 use ca_parallel::Op;
-use ca_program::Program;
+use ca_sections::Coded;
 use std::sync::Wait;
 use std::thread::Threads;
 
@@ -51,7 +51,7 @@ pub trait Extents {
     fn run<R: Threads + Wait + Sync>(
         &mut self,
         rt: &R,
-        program: &Program,
+        program: &Coded<'_>,
         heap: &mut Heap,
         operations: &[Op],
         budget: u64,
@@ -86,7 +86,7 @@ impl Extents for NoExtents {
     fn run<R: Threads + Wait + Sync>(
         &mut self,
         _rt: &R,
-        program: &Program,
+        program: &Coded<'_>,
         heap: &mut Heap,
         operations: &[Op],
         budget: u64,

@@ -21,6 +21,7 @@ use ca_code::{Code, Kind};
 use ca_model::Value;
 use ca_parallel::{Arguments, Op};
 use ca_program::OpId;
+use ca_sections::Coded;
 use ca_steps::{Frames, InRun, Went};
 use std::alloc::Global;
 use std::sync::Wait;
@@ -31,6 +32,7 @@ use std::thread::Threads;
 pub(crate) fn hand_on<R: Threads + Wait + Sync, E: Extents>(
     rt: &R,
     alloc: Global,
+    coded: &Coded<'_>,
     code: &Code<'_>,
     run: &mut InRun<'_>,
     frames: &mut Frames,
@@ -41,18 +43,18 @@ pub(crate) fn hand_on<R: Threads + Wait + Sync, E: Extents>(
     engine: &mut E,
 ) -> Result<bool, Memory>
     requires ready { E.ready }
-    requires program { ProgramTyped (program_view run.old.program.now) }
+    requires program { ProgramTyped (program_view coded.now) }
     requires due { HandsAt (code_seen code.now) frames.old op first receiver }
-    requires good { NoteGood (program_view run.old.program.now) (note run.old.heap (due_at (code_seen code.now) frames.old op first receiver ∷ []) frames.old.left) }
+    requires good { NoteGood (program_view coded.now) (note run.old.heap (due_at (code_seen code.now) frames.old op first receiver ∷ []) frames.old.left) }
     requires serves { E.serves ≡ true }
-    ensures means { IfOk result (λ goes. (w : World) → Leads (run_access (program_view run.old.program.now)) (code_seen code.now) (state_of frames.old (in_heap w run.old.heap)) goes frames.new (in_heap (with_note (in_heap w run.old.heap) (due_at (code_seen code.now) frames.old op first receiver ∷ []) frames.old.left) run.new.heap)) }
-    ensures account { OnOk result (E.Accounts (E.account engine.old) (program_view run.old.program.now) run.old.heap (due_at (code_seen code.now) frames.old op first receiver ∷ []) frames.old.left (E.account engine.new)) }
-    ensures account_kept { OnErr result ((E.account engine.new ≡ E.account engine.old) ⊎ E.Accounts (E.account engine.old) (program_view run.old.program.now) run.old.heap (due_at (code_seen code.now) frames.old op first receiver ∷ []) frames.old.left (E.account engine.new)) }
+    ensures means { IfOk result (λ goes. (w : World) → Leads (run_access (program_view coded.now)) (code_seen code.now) (state_of frames.old (in_heap w run.old.heap)) goes frames.new (in_heap (with_note (in_heap w run.old.heap) (due_at (code_seen code.now) frames.old op first receiver ∷ []) frames.old.left) run.new.heap)) }
+    ensures account { OnOk result (E.Accounts (E.account engine.old) (program_view coded.now) run.old.heap (due_at (code_seen code.now) frames.old op first receiver ∷ []) frames.old.left (E.account engine.new)) }
+    ensures account_kept { OnErr result ((E.account engine.new ≡ E.account engine.old) ⊎ E.Accounts (E.account engine.old) (program_view coded.now) run.old.heap (due_at (code_seen code.now) frames.old op first receiver ∷ []) frames.old.left (E.account engine.new)) }
     ensures program { run.new.program ≡ run.old.program }
 {
     let ops = due_ops(alloc, code, frames, values, op, first, receiver)?;
     let left = frames.left();
-    let answer = ask(rt, run.program, &mut run.heap, ops.as_slice(), left, engine)?;
+    let answer = ask(rt, coded, &mut run.heap, ops.as_slice(), left, engine)?;
     match answer {
         Some(rest) => {
             frames.pass(rest)?;

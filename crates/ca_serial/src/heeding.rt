@@ -4,11 +4,11 @@ ghost use Rattle.std.specs.Prelude.{◌≡◌, IfOk};
 ghost use Rattle.ca_program.specs.View.{program_view, statement_view};
 ghost use Rattle.ca_code.specs.Codes.{code_seen};
 ghost use Rattle.ca_serial.specs.Codes.{IsMarked};
-ghost use Rattle.ca_serial.specs.Marked.{is_marked};
+ghost use Rattle.ca_serial.specs.clauses.Marked.{is_marked};
 
 use crate::marked::Marked;
 use ca_base::Memory;
-use ca_code::{Bodies, Code, Ins, PlainBodies, Rows, Scope, lay_out_with};
+use ca_code::{Bodies, Code, Ins, PlainBodies, Row, Rows, Scope, lay_out_with};
 use ca_parallel::Marks;
 use ca_program::{Program, Stmt, StmtForm};
 use std::alloc::Global;
@@ -24,10 +24,13 @@ pub struct HeedingBodies<'m> {
 
 impl<'m> Bodies for HeedingBodies<'m> {
     ghost use Rattle.ca_code_laws.specs.Heeding.{heed_acts, heed_hands};
+    ghost use Rattle.ca_serial.specs.clauses.Copies.{heeding_row};
 
     ghost acts = { λ s ks. heed_acts s.marked ks };
 
     ghost hands = { λ s ks κs. heed_hands s.marked ks κs };
+
+    ghost changed = { λ s r. heeding_row s.marked r };
 
     fn act<'a>(&self, scope: &Scope<'a>, rows: &mut Rows<'a>, line: u32, s: &'a Stmt, top: u32) {
         if top >= MOST_SLOTS {
@@ -65,6 +68,29 @@ impl<'m> Bodies for HeedingBodies<'m> {
         let past = rows.behind(place);
         rows.put(place, line, Ins::Begin(past, s, scope.locals));
         true
+    }
+
+    fn is_copied(&self) -> bool {
+        self.marked.has_no_loop()
+    }
+
+    fn change<'a>(&self, row: Row<'a>) -> Row<'a> {
+        match row.ins {
+            Ins::Invoke(op, first) => {
+                if self.marked.holds(op) {
+                    Row {
+                        ins: Ins::Hand(op, first),
+                        line: row.line,
+                    }
+                } else {
+                    Row {
+                        ins: Ins::Heed(op, first),
+                        line: row.line,
+                    }
+                }
+            }
+            _ => row,
+        }
     }
 }
 

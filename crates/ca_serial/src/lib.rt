@@ -11,8 +11,9 @@
 //! with the steps that are left behind those of the loop itself. Where the engine is done the call or the loop counts as
 //! run; where it declines, or the loop can't be listed to its end, that runs here, and hands nothing off within.
 //!
-//! The program is laid out as instructions, with the bodies that heed marks beside the plain ones (`heeding`). Frames, calls, creations and all
-//! instructions but the marks are in `ca_steps`. What is said here is the loop over them, and what is handed off.
+//! The program is laid out as instructions, with the bodies that heed marks beside the plain ones (`heeding`), and the code of each loop that
+//! is handed off once more on its own, by which its calls are listed. Frames, calls, creations and all instructions but the marks are in
+//! `ca_steps`. What is said here is the loop over them, and what is handed off.
 //!
 //! Whoever reads the public clauses must believe `Codes`, `Extents` and `Runs` of `specs/`; what stands in `specs/clauses/`
 //! serves clauses within the crate alone.

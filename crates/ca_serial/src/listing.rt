@@ -1,7 +1,9 @@
 //! Marked loops, whose calls are listed and handed to an engine.
 
-ghost use Rattle.std.specs.Prelude.{◌≡◌, ◌+◌, [], true, IfOk, Contains};
+ghost use Rattle.std.specs.Prelude.{◌≡◌, ◌+◌, ℕ, [], true, IfOk, IfSome, List, Contains};
 ghost use Rattle.ca_program.specs.View.{program_view, statement_view};
+ghost use Rattle.ca_program.specs.declared.program.ValueType.{ValueType as Typing};
+ghost use Rattle.ca_program.specs.Plain.{PlainProgram, Statement};
 ghost use Rattle.ca_program.specs.Instructions.{Code};
 ghost use Rattle.ca_meaning.specs.ProgramTyped.{ProgramTyped};
 ghost use Rattle.ca_meaning.specs.Serial.{Note, World, in_heap};
@@ -10,36 +12,38 @@ ghost use Rattle.ca_parallel.specs.Notes.{NoteGood};
 ghost use Rattle.ca_note_laws.specs.Listing.{puts_nothing};
 ghost use Rattle.ca_sections.specs.declared.operations.SectionAnswer.TheVariants.{Done};
 ghost use Rattle.ca_sections.specs.Answers.{LoopIs, locals_after};
+ghost use Rattle.ca_sections.specs.Extending.{AllStand, StandsAlone};
+ghost use Rattle.ca_code.specs.Codes.{code_seen};
 ghost use Rattle.ca_code_laws.specs.Machine.{Comes};
 ghost use Rattle.ca_code_laws.specs.Runs.{run_access};
 ghost use Rattle.ca_steps.specs.Stands.{state_of};
 ghost use Rattle.ca_serial.specs.clauses.Handing.{with_notes};
-ghost use Rattle.ca_serial.specs.clauses.Loops.{BeginsAt, begun_notes, locals_at, notes_of, section_at};
+ghost use Rattle.ca_serial.specs.clauses.Loops.{BeginsAt, HasLoops, begun_notes, locals_at, notes_of, section_at};
 
 use crate::asking::ask;
 use crate::extents::Extents;
 use crate::targets::puts_nothing;
 use ca_base::Memory;
-use ca_model::Value;
+use ca_model::{Heap, Value};
 use ca_parallel::Op;
 use ca_program::{Stmt, ValueType};
-use ca_sections::{Desk, SectionAnswer, section_of_loop};
-use ca_steps::{Frames, InRun};
+use ca_sections::{Coded, Desk, LoopPlace, SectionAnswer, section_of_loop};
+use ca_steps::{Frames, InRun, Laid};
 use std::alloc::Global;
 use std::sync::Wait;
 use std::thread::Threads;
 
 /// What handing on works with. Its memory stays from mark to mark.
 #[derive(Drop)]
-pub(crate) struct Lists<'a> {
-    desk: Desk<'a>,
+pub(crate) struct Lists {
+    desk: Desk,
     pub(crate) values: Vec<Value>,
     listed: Vec<Op>,
 }
 
-impl<'a> Lists<'a> {
+impl Lists {
     /// Nothing that is listed.
-    pub(crate) fn new(alloc: Global) -> Result<Lists<'a>, Memory> {
+    pub(crate) fn new(alloc: Global) -> Result<Lists, Memory> {
         Ok(Lists {
             desk: Desk::new(alloc)?,
             values: Vec::new(alloc),
@@ -47,33 +51,39 @@ impl<'a> Lists<'a> {
         })
     }
 
-    /// Lists the calls of a loop that begins and puts nothing into fields, in place of what was listed before, and finds the
-    /// locals behind it.
-    fn fill(
+    /// Lists the calls of the loop that begins where the machine stands, in place of what was listed before, and finds the locals
+    /// behind it.
+    fn fill<'a>(
         &mut self,
         alloc: Global,
-        run: &InRun<'a>,
+        coded: &Coded<'_>,
+        laid: &Laid<'a>,
+        places: &[LoopPlace<'a>],
+        heap: &Heap,
         frames: &Frames,
-        line: u32,
-        s: &'a Stmt,
-        types: &[ValueType],
     ) -> Result<SectionAnswer, Memory>
-        requires nothing { puts_nothing (statement_view s.now) ≡ true }
-        ensures listed { IfOk result (λ answer. LoopIs answer (section_at (program_view run.now.program.now) run.now.heap frames.now types.now line (statement_view s.now)) [] self.new.listed.items) }
-        ensures locals { IfOk result (λ _. self.new.values.items ≡ locals_after (section_at (program_view run.now.program.now) run.now.heap frames.now types.now line (statement_view s.now)) (locals_at frames.now types.now)) }
+        requires loops { HasLoops (program_view coded.now) laid.now places.now }
+        ensures listed { (n line : ℕ) (loop : Statement) (tys : List Typing) → BeginsAt (code_seen laid.now.code) frames.now n line loop tys → puts_nothing loop ≡ true → IfOk result (λ answer. LoopIs answer (section_at (program_view coded.now) heap.now frames.now tys line loop) [] self.new.listed.items) }
+        ensures locals { (n line : ℕ) (loop : Statement) (tys : List Typing) → BeginsAt (code_seen laid.now.code) frames.now n line loop tys → puts_nothing loop ≡ true → IfOk result (λ _. self.new.values.items ≡ locals_after (section_at (program_view coded.now) heap.now frames.now tys line loop) (locals_at frames.now tys)) }
     {
+        let Some(own) = place_in(places, frames.at) else {
+            return Err(Memory);
+        };
         self.desk.give_back_all(&mut self.listed);
         self.values.clear();
-        frames.locals(types, &mut self.values)?;
+        frames.locals(own.types, &mut self.values)?;
         let answer = section_of_loop(
             &mut self.desk,
             alloc,
-            run.program,
-            &run.heap,
+            coded,
+            laid,
+            own.place,
+            heap,
             frames.this(),
             &mut self.values,
-            line,
-            s,
+            own.types,
+            own.line,
+            own.s,
             frames.left(),
             &mut self.listed,
         )?;
@@ -81,14 +91,30 @@ impl<'a> Lists<'a> {
     }
 }
 
+/// The place of the code of the loop that is handed on here.
+fn place_in<'a>(places: &[LoopPlace<'a>], at: usize) -> Option<LoopPlace<'a>>
+    ensures at { IfSome result (λ l. l.at ≡ at) }
+    ensures stands { IfSome result (λ l. (p : PlainProgram) (c : Code) → AllStand p c places.now → StandsAlone p c l) }
+{
+    'places: for own in places {
+        if own.at == at {
+            return Some(*own);
+        }
+    }
+    None
+}
+
 /// Goes past a loop that begins, by an engine that runs the calls that it lists; where they can't be listed or the engine declines, into
 /// the loop, which hands nothing off within.
 pub(crate) fn list_on<'a, R: Threads + Wait + Sync, E: Extents>(
     rt: &R,
     alloc: Global,
+    coded: &Coded<'_>,
+    laid: &Laid<'a>,
+    places: &[LoopPlace<'a>],
     run: &mut InRun<'a>,
     frames: &mut Frames,
-    lists: &mut Lists<'a>,
+    lists: &mut Lists,
     count: u32,
     line: u32,
     s: &'a Stmt,
@@ -96,19 +122,23 @@ pub(crate) fn list_on<'a, R: Threads + Wait + Sync, E: Extents>(
     engine: &mut E,
 ) -> Result<(), Memory>
     requires ready { E.ready }
-    requires program { ProgramTyped (program_view run.old.program.now) }
-    requires handed { (n : Note) → Contains (begun_notes (program_view run.old.program.now) run.old.heap frames.old types.now line (statement_view s.now)) n → NoteGood (program_view run.old.program.now) n × (E.serves ≡ true) }
-    ensures means { IfOk result (λ _. (c : Code) (w : World) → BeginsAt c frames.old count line (statement_view s.now) types.now → Comes (run_access (program_view run.old.program.now)) c (state_of frames.old (in_heap w run.old.heap)) (state_of frames.new (in_heap (with_notes w (begun_notes (program_view run.old.program.now) run.old.heap frames.old types.now line (statement_view s.now))) run.new.heap))) }
-    ensures account { HandedOn E.Accounts (program_view run.old.program.now) (E.account engine.old) (E.account engine.new) result (begun_notes (program_view run.old.program.now) run.old.heap frames.old types.now line (statement_view s.now)) }
+    requires program { ProgramTyped (program_view coded.now) }
+    requires loops { HasLoops (program_view coded.now) laid.now places.now }
+    requires begins { BeginsAt (code_seen laid.now.code) frames.old count line (statement_view s.now) types.now }
+    requires handed { (n : Note) → Contains (begun_notes (program_view coded.now) run.old.heap frames.old types.now line (statement_view s.now)) n → NoteGood (program_view coded.now) n × (E.serves ≡ true) }
+    ensures means { IfOk result (λ _. (c : Code) (w : World) → BeginsAt c frames.old count line (statement_view s.now) types.now → Comes (run_access (program_view coded.now)) c (state_of frames.old (in_heap w run.old.heap)) (state_of frames.new (in_heap (with_notes w (begun_notes (program_view coded.now) run.old.heap frames.old types.now line (statement_view s.now))) run.new.heap))) }
+    ensures account { HandedOn E.Accounts (program_view coded.now) (E.account engine.old) (E.account engine.new) result (begun_notes (program_view coded.now) run.old.heap frames.old types.now line (statement_view s.now)) }
     ensures program { run.new.program ≡ run.old.program }
 {
     if !puts_nothing(s) {
         return go_in(frames);
     }
-    let answer = lists.fill(alloc, run, frames, line, s, types)?;
+    let answer = lists.fill(alloc, coded, laid, places, &run.heap, frames)?;
     match answer {
         SectionAnswer::Done { steps } => {
-            run_listed(rt, run, frames, lists, count, line, s, types, steps, engine)
+            run_listed(
+                rt, coded, run, frames, lists, count, line, s, types, steps, engine,
+            )
         }
         SectionAnswer::Trapped(_) => go_in(frames),
         SectionAnswer::Spent => go_in(frames),
@@ -126,9 +156,10 @@ fn go_in(frames: &mut Frames) -> Result<(), Memory>
 /// Hands the calls of a loop that are listed to an engine. The listing took so many steps.
 fn run_listed<'a, R: Threads + Wait + Sync, E: Extents>(
     rt: &R,
+    coded: &Coded<'_>,
     run: &mut InRun<'a>,
     frames: &mut Frames,
-    lists: &Lists<'a>,
+    lists: &Lists,
     count: u32,
     line: u32,
     s: &'a Stmt,
@@ -137,18 +168,18 @@ fn run_listed<'a, R: Threads + Wait + Sync, E: Extents>(
     engine: &mut E,
 ) -> Result<(), Memory>
     requires ready { E.ready }
-    requires program { ProgramTyped (program_view run.old.program.now) }
+    requires program { ProgramTyped (program_view coded.now) }
     requires nothing { puts_nothing (statement_view s.now) ≡ true }
-    requires handed { (n : Note) → Contains (notes_of run.old.heap frames.old.left (section_at (program_view run.old.program.now) run.old.heap frames.old types.now line (statement_view s.now))) n → NoteGood (program_view run.old.program.now) n × (E.serves ≡ true) }
-    requires listed { LoopIs (Done taken) (section_at (program_view run.old.program.now) run.old.heap frames.old types.now line (statement_view s.now)) [] lists.now.listed.items }
-    requires locals { lists.now.values.items ≡ locals_after (section_at (program_view run.old.program.now) run.old.heap frames.old types.now line (statement_view s.now)) (locals_at frames.old types.now) }
-    ensures means { IfOk result (λ _. (c : Code) (w : World) → BeginsAt c frames.old count line (statement_view s.now) types.now → Comes (run_access (program_view run.old.program.now)) c (state_of frames.old (in_heap w run.old.heap)) (state_of frames.new (in_heap (with_notes w (notes_of run.old.heap frames.old.left (section_at (program_view run.old.program.now) run.old.heap frames.old types.now line (statement_view s.now)))) run.new.heap))) }
-    ensures account { HandedOn E.Accounts (program_view run.old.program.now) (E.account engine.old) (E.account engine.new) result (notes_of run.old.heap frames.old.left (section_at (program_view run.old.program.now) run.old.heap frames.old types.now line (statement_view s.now))) }
+    requires handed { (n : Note) → Contains (notes_of run.old.heap frames.old.left (section_at (program_view coded.now) run.old.heap frames.old types.now line (statement_view s.now))) n → NoteGood (program_view coded.now) n × (E.serves ≡ true) }
+    requires listed { LoopIs (Done taken) (section_at (program_view coded.now) run.old.heap frames.old types.now line (statement_view s.now)) [] lists.now.listed.items }
+    requires locals { lists.now.values.items ≡ locals_after (section_at (program_view coded.now) run.old.heap frames.old types.now line (statement_view s.now)) (locals_at frames.old types.now) }
+    ensures means { IfOk result (λ _. (c : Code) (w : World) → BeginsAt c frames.old count line (statement_view s.now) types.now → Comes (run_access (program_view coded.now)) c (state_of frames.old (in_heap w run.old.heap)) (state_of frames.new (in_heap (with_notes w (notes_of run.old.heap frames.old.left (section_at (program_view coded.now) run.old.heap frames.old types.now line (statement_view s.now)))) run.new.heap))) }
+    ensures account { HandedOn E.Accounts (program_view coded.now) (E.account engine.old) (E.account engine.new) result (notes_of run.old.heap frames.old.left (section_at (program_view coded.now) run.old.heap frames.old types.now line (statement_view s.now))) }
     ensures program { run.new.program ≡ run.old.program }
 {
     let rest = frames.left().saturating_sub(taken);
     let listed = lists.listed.as_slice();
-    let answer = ask(rt, run.program, &mut run.heap, listed, rest, engine)?;
+    let answer = ask(rt, coded, &mut run.heap, listed, rest, engine)?;
     match answer {
         Some(left) => {
             frames.put_locals(types, lists.values.as_slice())?;

@@ -1,8 +1,8 @@
 //! The calls and loops that are handed off.
 
-ghost use Rattle.std.specs.Prelude.{◌≡◌, IfOk};
+ghost use Rattle.std.specs.Prelude.{◌≡◌, [], true, IfOk};
 ghost use Rattle.ca_parallel.specs.Lists.{op_in};
-ghost use Rattle.ca_serial.specs.Marked.{site_in};
+ghost use Rattle.ca_serial.specs.clauses.Marked.{site_in};
 ghost use Rattle.ca_serial.specs.clauses.Flags.{FlagsOf};
 
 use ca_parallel::Marks;
@@ -50,6 +50,14 @@ impl<'a> Marked<'a> {
             let marks = self.marks;
             is_among(marks.ops.as_slice(), op)
         }
+    }
+
+    /// Whether no loop is one of these.
+    pub fn has_no_loop(&self) -> bool
+        ensures { result ≡ true → self.now.loops ≡ [] }
+    {
+        let marks = self.marks;
+        marks.loops.as_slice().is_empty()
     }
 
     /// Whether the loop with this number is one of these.

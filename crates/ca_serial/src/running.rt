@@ -12,6 +12,7 @@ ghost use Rattle.ca_parallel.specs.Lists.{no_marks, lists};
 ghost use Rattle.ca_parallel.specs.Marks.{SoundMarks};
 ghost use Rattle.ca_parallel.specs.Notes.{NoteGood};
 ghost use Rattle.ca_code.specs.Codes.{code_seen};
+ghost use Rattle.ca_sections.specs.Extending.{AllStand};
 ghost use Rattle.ca_code_laws.specs.Runs.{beginning};
 ghost use Rattle.ca_steps.specs.Ops.{Runs};
 ghost use Rattle.ca_steps.specs.Stands.{state_of};
@@ -23,10 +24,11 @@ use crate::handing::hand_on;
 use crate::heeding::lay_out_marked;
 use crate::listing::{Lists, list_on};
 use crate::print::print_line;
-use ca_base::Sink;
+use ca_base::{Memory, Sink};
 use ca_model::{Heap, Trap};
 use ca_parallel::Marks;
 use ca_program::Program;
+use ca_sections::{Coded, LoopPlace, with_loops};
 use ca_steps::{Event, Frames, InRun, Laid, run_on};
 use std::alloc::Global;
 use std::mem;
@@ -79,12 +81,101 @@ pub fn drive<R: Threads + Wait + Sync, E: Extents, K: Sink>(
     // The engine was handed what the run with marks hands off, each once and in order, or a beginning of it.
     ensures account { HandedOn E.Accounts (program_view program.now) (E.account engine.old) (E.account engine.new) result (lists (program_view program.now) marks.now budget) }
 {
-    let Ok(code) = lay_out_marked(alloc, program, marks) else {
+    let Ok(made) = made_of(alloc, program, marks) else {
         return Err(RunError::Memory);
     };
-    let Ok(laid) = Laid::of(alloc, code) else {
+    run_made(
+        rt,
+        alloc,
+        program,
+        marks,
+        budget,
+        &made.laid,
+        made.places.as_slice(),
+        engine,
+        sink,
+    )
+}
+
+/// A program that is laid out with marks, and where the code of each loop that is handed on stands once more.
+#[derive(Drop)]
+struct Made<'a> {
+    laid: Laid<'a>,
+    places: Vec<LoopPlace<'a>>,
+}
+
+/// Lays a program out with marks.
+fn made_of<'a>(alloc: Global, program: &'a Program, marks: &Marks) -> Result<Made<'a>, Memory>
+    ensures marked { IfOk result (λ m. IsMarked marks.now (program_view program.now) (code_seen m.laid.code) m.laid.code.main) }
+    ensures ops { IfOk result (λ m. Runs (code_seen m.laid.code) m.laid.code.rows.items m.laid.ops.items) }
+    ensures loops { IfOk result (λ m. AllStand (program_view program.now) (code_seen m.laid.code) m.places.items) }
+{
+    let code = lay_out_marked(alloc, program, marks)?;
+    let (code, places) = with_loops(alloc, program, code)?;
+    let laid = Laid::of(alloc, code)?;
+    Ok(Made { laid, places })
+}
+
+/// Runs `main` of a program that is laid out with marks.
+fn run_made<'a, R: Threads + Wait + Sync, E: Extents, K: Sink>(
+    rt: &R,
+    alloc: Global,
+    program: &'a Program,
+    marks: &Marks,
+    budget: u64,
+    laid: &Laid<'a>,
+    places: &[LoopPlace<'a>],
+    engine: &mut E,
+    sink: &mut K,
+) -> Result<Outcome, RunError>
+    requires ready { E.ready }
+    requires program { ProgramTyped (program_view program.now) }
+    requires sound { SoundMarks (program_view program.now) marks.now }
+    requires served { E.serves ≡ false → marks.now ≡ no_marks }
+    requires laid { IsMarked marks.now (program_view program.now) (code_seen laid.now.code) laid.now.code.main }
+    requires ops { Runs (code_seen laid.now.code) laid.now.code.rows.items laid.now.ops.items }
+    requires loops { AllStand (program_view program.now) (code_seen laid.now.code) places.now }
+    ensures outcome { IfOk result (λ outcome. serial (program_view program.now) budget ≡ run_with (prints_of (serial (program_view program.now) budget)) outcome) }
+    ensures prints { Writes (K.written sink.old) (K.written sink.new) result (prints_text (prints_of (serial (program_view program.now) budget))) }
+    ensures write { OnWrite result (Rose (K.faults sink.old) (K.faults sink.new)) }
+    ensures later { K.faults sink.old ≤ K.faults sink.new }
+    ensures account { HandedOn E.Accounts (program_view program.now) (E.account engine.old) (E.account engine.new) result (lists (program_view program.now) marks.now budget) }
+{
+    let Ok(coded) = Coded::of(alloc, program, laid) else {
         return Err(RunError::Memory);
     };
+    run_coded(
+        rt, alloc, program, marks, budget, &coded, laid, places, engine, sink,
+    )
+}
+
+/// The same, where sections have its code too.
+fn run_coded<'a, R: Threads + Wait + Sync, E: Extents, K: Sink>(
+    rt: &R,
+    alloc: Global,
+    program: &'a Program,
+    marks: &Marks,
+    budget: u64,
+    coded: &'a Coded<'_>,
+    laid: &Laid<'a>,
+    places: &[LoopPlace<'a>],
+    engine: &mut E,
+    sink: &mut K,
+) -> Result<Outcome, RunError>
+    requires ready { E.ready }
+    requires program { ProgramTyped (program_view program.now) }
+    requires sound { SoundMarks (program_view program.now) marks.now }
+    requires served { E.serves ≡ false → marks.now ≡ no_marks }
+    requires laid { IsMarked marks.now (program_view program.now) (code_seen laid.now.code) laid.now.code.main }
+    requires ops { Runs (code_seen laid.now.code) laid.now.code.rows.items laid.now.ops.items }
+    requires coded { coded.now ≡ program.now }
+    requires loops { AllStand (program_view program.now) (code_seen laid.now.code) places.now }
+    ensures outcome { IfOk result (λ outcome. serial (program_view program.now) budget ≡ run_with (prints_of (serial (program_view program.now) budget)) outcome) }
+    ensures prints { Writes (K.written sink.old) (K.written sink.new) result (prints_text (prints_of (serial (program_view program.now) budget))) }
+    ensures write { OnWrite result (Rose (K.faults sink.old) (K.faults sink.new)) }
+    ensures later { K.faults sink.old ≤ K.faults sink.new }
+    ensures account { HandedOn E.Accounts (program_view program.now) (E.account engine.old) (E.account engine.new) result (lists (program_view program.now) marks.now budget) }
+{
     let Ok(mut frames) = Frames::before(alloc, laid.code.room, laid.code.main, budget) else {
         return Err(RunError::Memory);
     };
@@ -100,7 +191,9 @@ pub fn drive<R: Threads + Wait + Sync, E: Extents, K: Sink>(
         alloc,
         marks,
         budget,
-        &laid,
+        coded,
+        laid,
+        places,
         &mut run,
         &mut frames,
         &mut lists,
@@ -115,10 +208,12 @@ fn run_all<'a, R: Threads + Wait + Sync, E: Extents, K: Sink>(
     alloc: Global,
     marks: &Marks,
     budget: u64,
+    coded: &Coded<'_>,
     laid: &Laid<'a>,
+    places: &[LoopPlace<'a>],
     run: &mut InRun<'a>,
     frames: &mut Frames,
-    listing: &mut Lists<'a>,
+    listing: &mut Lists,
     engine: &mut E,
     sink: &mut K,
 ) -> Result<Outcome, RunError>
@@ -128,6 +223,8 @@ fn run_all<'a, R: Threads + Wait + Sync, E: Extents, K: Sink>(
     requires good { (n : Note) → Contains (lists (program_view run.old.program.now) marks.now budget) n → NoteGood (program_view run.old.program.now) n × (E.serves ≡ true) }
     requires laid { IsMarked marks.now (program_view run.old.program.now) (code_seen laid.now.code) laid.now.code.main }
     requires ops { Runs (code_seen laid.now.code) laid.now.code.rows.items laid.now.ops.items }
+    requires coded { coded.now ≡ run.old.program.now }
+    requires loops { AllStand (program_view run.old.program.now) (code_seen laid.now.code) places.now }
     // The machine stands before `main`.
     requires begins { state_of frames.old (fresh run.old.heap) ≡ beginning laid.now.code.main budget }
     ensures outcome { IfOk result (λ outcome. serial (program_view run.old.program.now) budget ≡ run_with (prints_of (serial (program_view run.old.program.now) budget)) outcome) }
@@ -148,7 +245,7 @@ fn run_all<'a, R: Threads + Wait + Sync, E: Extents, K: Sink>(
                 let code = &laid.code;
                 let values = &mut listing.values;
                 let Ok(goes) = hand_on(
-                    rt, alloc, code, run, frames, values, op, first, receiver, engine,
+                    rt, alloc, coded, code, run, frames, values, op, first, receiver, engine,
                 ) else {
                     return Err(RunError::Memory);
                 };
@@ -158,7 +255,8 @@ fn run_all<'a, R: Threads + Wait + Sync, E: Extents, K: Sink>(
             }
             Event::Begins(count, line, s, types) => {
                 if let Err(_) = list_on(
-                    rt, alloc, run, frames, listing, count, line, s, types, engine,
+                    rt, alloc, coded, laid, places, run, frames, listing, count, line, s, types,
+                    engine,
                 ) {
                     return Err(RunError::Memory);
                 }

@@ -1,4 +1,5 @@
 pub mod Doing
+pub mod Lists
 pub mod Ops
 pub mod Stands
 pub mod Ties

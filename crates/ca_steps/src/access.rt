@@ -1,8 +1,9 @@
 //! How a world is accessed.
 
 ghost use Rattle.std.specs.Prelude.{◌≡◌, IfSome, ℕ, slice_get, true};
-ghost use Rattle.ca_meaning.specs.Expressions.{one_in};
-ghost use Rattle.ca_code_laws.specs.Machine.{Accesses, Back};
+ghost use Rattle.ca_meaning.specs.Expressions.{Invocation, one_in};
+ghost use Rattle.ca_code_laws.specs.Machine.{Back, enters};
+ghost use Rattle.ca_steps.specs.Lists.{has_some};
 ghost use Rattle.ca_steps.specs.clauses.Telling.{Looks};
 
 use ca_model::{Heap, Value};
@@ -29,26 +30,41 @@ pub trait Access {
 
     ghost world: { Self → Past → World };
 
-    ghost accesses: { Self → Accesses World };
+    /// What stays as it is while instructions run.
+    ghost Fixed: { Type 0 };
+
+    ghost fixed: { Self → Fixed };
+
+    ghost accesses: { Fixed → Accesses World };
 
     /// Which bodies may stand below.
     ghost Fits: { Self → List Back → Type 0 };
 
+    /// Whether a call of an operation enters its body.
+    fn enters(&self) -> bool
+        ensures { result ≡ true → (w : World) (i : Invocation) (k : ℕ) → (accesses (fixed self.now)).call w i k ≡ enters w };
+
+    /// A body runs with others below it, or with none.
+    fn stand(&mut self, deep: bool)
+        ensures world { (past : Past) → world self.new past ≡ world self.old past }
+        ensures fixed { fixed self.new ≡ fixed self.old }
+        ensures fits { (bs cs : List Back) → Fits self.old bs → has_some cs ≡ deep → Fits self.new cs };
+
     /// The single value of an own field.
     fn own(&self, this: Value, f: FieldId) -> Option<Value>
-        ensures { IfSome result (λ v. (past : Past) (bs : List Back) → Fits self.now bs → one_in (slice_get ((accesses self.now).own bs (world self.now past) this) f.field) ≡ v) };
+        ensures { IfSome result (λ v. (past : Past) (bs : List Back) → Fits self.now bs → one_in (slice_get ((accesses (fixed self.now)).own bs (world self.now past) this) f.field) ≡ v) };
 
     /// An item of an own field.
     fn own_item(&self, this: Value, f: FieldId, index: i64) -> Look
-        ensures { (past : Past) (bs : List Back) (line k : ℕ) → Fits self.now bs → Looks line (slice_get ((accesses self.now).own bs (world self.now past) this) f.field) index k result };
+        ensures { (past : Past) (bs : List Back) (line k : ℕ) → Fits self.now bs → Looks line (slice_get ((accesses (fixed self.now)).own bs (world self.now past) this) f.field) index k result };
 
     /// The heap in which other objects are read.
     fn heap(&self) -> &Heap
-        ensures { (past : Past) → result.now ≡ (accesses self.now).heap (world self.now past) };
+        ensures { (past : Past) → result.now ≡ (accesses (fixed self.now)).heap (world self.now past) };
 
     /// Puts a value into an item of an own field, if there is one.
     fn put(&mut self, this: Value, f: FieldId, item: u32, value: Value) -> bool
-        ensures put { result ≡ true → (past : Past) → world self.new past ≡ (accesses self.old).put (world self.old past) this f item value }
-        ensures accesses { accesses self.new ≡ accesses self.old }
+        ensures put { result ≡ true → (past : Past) → world self.new past ≡ (accesses (fixed self.old)).put (world self.old past) this f item value }
+        ensures fixed { fixed self.new ≡ fixed self.old }
         ensures fits { (bs : List Back) → Fits self.old bs → Fits self.new bs };
 }

@@ -94,4 +94,26 @@ impl Frames {
         }
         Ok(())
     }
+
+    /// Puts values into the first slots, if each is of its kind and there are as many.
+    pub fn put_values(&mut self, kinds: &[Kind], values: &[Value]) -> Result<(), Memory>
+        ensures { IfOk result (λ _. PutLocals self.old (map kind_seen kinds.now) values.now self.new) }
+    {
+        if kinds.len() != values.len() || values.len() > MOST_LOCALS {
+            return Err(Memory);
+        }
+        let mut i = values.len();
+        'values: while i > 0 {
+            let value = values[i - 1];
+            if !has_kind(kinds[i - 1], value) {
+                return Err(Memory);
+            }
+            let place = self.base as usize + (i - 1);
+            if !self.put(place, word(value)) {
+                return Err(Memory);
+            }
+            i -= 1;
+        }
+        Ok(())
+    }
 }

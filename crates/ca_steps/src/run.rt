@@ -32,6 +32,7 @@ pub struct InRun<'a> {
 }
 
 impl<'a> Access for InRun<'a> {
+    ghost use Rattle.ca_program.specs.declared.program.Program.{Program};
     ghost use Rattle.ca_program.specs.View.{program_view};
     ghost use Rattle.ca_meaning.specs.Serial.{World as RunWorld, in_heap};
     ghost use Rattle.ca_code_laws.specs.Runs.{run_access};
@@ -42,9 +43,21 @@ impl<'a> Access for InRun<'a> {
 
     ghost world = { λ s past. in_heap past s.heap };
 
-    ghost accesses = { λ s. run_access (program_view s.program.now) };
+    ghost Fixed = { Program };
+
+    ghost fixed = { λ s. s.program.now };
+
+    ghost accesses = { λ p. run_access (program_view p) };
 
     ghost Fits = { λ s bs. Unit {0} };
+
+    #[inline(always)]
+    fn enters(&self) -> bool {
+        true
+    }
+
+    #[inline(always)]
+    fn stand(&mut self, _deep: bool) {}
 
     #[inline(always)]
     fn own(&self, this: Value, f: FieldId) -> Option<Value> {

@@ -1,6 +1,7 @@
 //! A stack, which contracts see as a list with its top first.
 
 ghost use Rattle.std.specs.Prelude.{◌≡◌, [], ◌∷◌, IfOk, MatchOption};
+ghost use Rattle.ca_steps.specs.Lists.{has_some};
 
 use std::alloc::{AllocError, Global};
 use std::marker::Model;
@@ -29,6 +30,14 @@ impl<T> Stack<T> {
         }
     }
 
+    /// Whether there is an item.
+    #[inline(always)]
+    pub fn has_some(&self) -> bool
+        ensures { result ≡ has_some self.now }
+    {
+        self.items.len() > 0
+    }
+
     /// Takes the top item, if there is one.
     #[inline(always)]
     pub fn pop(&mut self) -> Option<T>
@@ -39,6 +48,13 @@ impl<T> Stack<T> {
 }
 
 impl<T: Drop> Stack<T> {
+    /// Drops all items, and keeps the memory.
+    pub fn clear(&mut self)
+        ensures { self.new ≡ [] }
+    {
+        self.items.clear();
+    }
+
     /// Puts an item on top. It asks for memory only where the vector is full.
     #[inline(always)]
     pub fn push(&mut self, item: T) -> Result<(), AllocError>

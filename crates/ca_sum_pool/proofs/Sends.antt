@@ -30,4 +30,4 @@ global_send : IsSend global.the_row
 global_send = search crosses depth 20
 
 pub part_send : (T T' : RattleType) (g : round.Ghosts T.Denot) (g' : sums.Ghosts T'.Denot) → IsSend (part.the_row T T' g g')
-part_send T T' g g' = view_send _ _ _ _ _ (declared_send (inside.the_type T T' g g') (owner_sent.the_send T g, (thieves_sent.the_send T g, (replica_sent.the_send, (tasks_send, (search sendable, (search sendable, (search sendable, (search sendable, (stuck_send, (search sendable, (search (sendable, crosses) depth 10, (search sendable, (search sendable, (search sendable, (search sendable, (global_send, (search crosses, tt))))))))))))))))))
+part_send T T' g g' = view_send _ _ _ _ _ (declared_send (inside.the_type T T' g g') (owner_sent.the_send T g, (thieves_sent.the_send T g, (replica_sent.the_send, (tasks_send, (search sendable, (search sendable, (search sendable, (search sendable, (search sendable, (search (sendable, crosses) depth 10, (stuck_send, (search sendable, (search sendable, (search sendable, (search sendable, (global_send, (search crosses, tt))))))))))))))))))

@@ -1,6 +1,6 @@
 //! The tasks that the caller runs itself, on a replica of its own, when all workers have ended.
 
-ghost use Rattle.std.specs.Prelude.{◌≡◌, ◌∷◌, ◌++◌, [], map, IfOk};
+ghost use Rattle.std.specs.Prelude.{◌≡◌, ◌++◌, [], IfOk};
 ghost use Rattle.ca_program.specs.View.{program_view};
 ghost use Rattle.ca_order_laws.specs.Order.{StandsFor};
 ghost use Rattle.ca_deques.specs.Settings.{Fits, AllFit};
@@ -14,17 +14,16 @@ use ca_deques::taking::pour_ops;
 use ca_extent::Extent;
 use ca_logs::{Stop, Task};
 use ca_model::Heap;
-use ca_program::Program;
 use ca_replica::Replica;
-use ca_sections::Desk;
+use ca_sections::{Coded, Desk};
 use std::alloc::{AllocError, Global};
 
 /// Runs a task on the caller's replica. What its section lists goes into the rest, and so does the task where no clock is
 /// behind its own. `false`: it didn't run.
-fn run_alone<'a>(
-    desk: &mut Desk<'a>,
+fn run_alone(
+    desk: &mut Desk,
     alloc: Global,
-    program: &'a Program,
+    program: &Coded<'_>,
     extent: &Extent,
     frozen: &Heap,
     replica: &mut Replica,
@@ -67,10 +66,10 @@ fn run_alone<'a>(
 }
 
 /// Runs tasks of the rest on the caller's replica, as long as there are any, each runs, and there are fewer than the quota.
-fn run_rest<'a>(
-    desk: &mut Desk<'a>,
+fn run_rest(
+    desk: &mut Desk,
     alloc: Global,
-    program: &'a Program,
+    program: &Coded<'_>,
     extent: &Extent,
     frozen: &Heap,
     replica: &mut Replica,
@@ -106,7 +105,7 @@ fn run_rest<'a>(
 /// entries than the quota, and each has a clock behind its own. Adds their steps.
 pub fn finish(
     alloc: Global,
-    program: &Program,
+    program: &Coded<'_>,
     extent: &Extent,
     frozen: &Heap,
     rest: &mut Vec<Task>,

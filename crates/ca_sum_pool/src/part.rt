@@ -20,14 +20,14 @@ use ca_extent::Extent;
 use ca_logs::Task;
 use ca_model::Heap;
 use ca_parallel::Op;
-use ca_program::Program;
 use ca_replica::Replica;
-use ca_sections::Desk;
+use ca_sections::{Coded, Desk};
 use std::alloc::Global;
 use std::marker::{Model, PhantomData};
 
 /// What one worker has: its deque, its passes on the others', its replica, its share of what is left, its calls of the list
-/// that the round began with, and the task whose section stopped. Contracts see it as what stays the same while it runs.
+/// that the round began with, and the task whose section stopped. Contracts see it as what stays the same while it runs. What each
+/// task changes stands in the middle: no line of a cache has that and something of another part.
 #[derive(Drop)]
 pub struct Part<N: Round, K: Sums> {
     owner: Owner<N>,
@@ -40,11 +40,11 @@ pub struct Part<N: Round, K: Sums> {
     /// and those of them that neither ran nor are opened to others.
     at: usize,
     end: usize,
-    stuck: Option<Stuck>,
     /// So many tasks ran, or more.
     count: u32,
     /// Their steps, unless they are more than are left.
     steps: Option<u64>,
+    stuck: Option<Stuck>,
     /// Memory was wanting.
     short: bool,
     worker: u32,
@@ -165,10 +165,10 @@ impl<N: Round, K: Sums> Part<N, K> {
 
     /// Takes a task, or a call of the list, and runs it; there is room for what its section lists. `false` where it found none,
     /// or where it is the last one of this round.
-    fn step<'a, G: Gate>(
+    fn step<G: Gate>(
         &mut self,
-        desk: &mut Desk<'a>,
-        program: &'a Program,
+        desk: &mut Desk,
+        program: &Coded<'_>,
         extent: &Extent,
         frozen: &Heap,
         gate: &G,
@@ -235,10 +235,10 @@ impl<N: Round, K: Sums> Part<N, K> {
     }
 
     /// Runs at most so many tasks as the quota says.
-    fn run_quota<'a, G: Gate>(
+    fn run_quota<G: Gate>(
         &mut self,
-        desk: &mut Desk<'a>,
-        program: &'a Program,
+        desk: &mut Desk,
+        program: &Coded<'_>,
         extent: &Extent,
         frozen: &Heap,
         gate: &G,
@@ -262,7 +262,7 @@ impl<N: Round, K: Sums> Part<N, K> {
     /// Runs at most so many tasks as the quota says, at a desk of its own.
     pub fn run<G: Gate>(
         &mut self,
-        program: &Program,
+        program: &Coded<'_>,
         extent: &Extent,
         frozen: &Heap,
         gate: &G,

@@ -22,9 +22,8 @@ use ca_extent::Extent;
 use ca_logs::{Stop, Task};
 use ca_model::Heap;
 use ca_parallel::Op;
-use ca_program::Program;
 use ca_replica::Replica;
-use ca_sections::{Desk, SectionAnswer};
+use ca_sections::{Coded, Desk, SectionAnswer};
 use std::alloc::Global;
 use std::marker::Brand;
 use std::mem;
@@ -68,10 +67,10 @@ pub enum Went {
 
 /// Runs a call that waited behind a clock, on the replica. What its section lists goes into a list whose memory is given.
 #[inline(always)]
-pub fn run_task<'a>(
-    desk: &mut Desk<'a>,
+pub fn run_task(
+    desk: &mut Desk,
     alloc: Global,
-    program: &'a Program,
+    program: &Coded<'_>,
     extent: &Extent,
     frozen: &Heap,
     replica: &mut Replica,
@@ -112,10 +111,10 @@ pub enum Turn {
 
 /// Runs a task, or a call of the list, on a worker's replica. Tasks that its section lists are pushed; one that is kept goes
 /// into the share. The memory of a list of operations serves the next one.
-pub fn perform<'a, 'f, N: Round, G: Gate>(
+pub fn perform<'f, N: Round, G: Gate>(
     alloc: Global,
-    desk: &mut Desk<'a>,
-    program: &'a Program,
+    desk: &mut Desk,
+    program: &Coded<'_>,
     extent: &Extent,
     frozen: &Heap,
     gate: &G,

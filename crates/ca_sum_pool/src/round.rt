@@ -20,8 +20,8 @@ use ca_extent::Extent;
 use ca_logs::{Stop, Task};
 use ca_model::Heap;
 use ca_parallel::Op;
-use ca_program::Program;
 use ca_replica::Replica;
+use ca_sections::Coded;
 use std::alloc::Global;
 use std::marker::Brand;
 use std::sync::Wait;
@@ -41,7 +41,7 @@ pub struct SummedRound {
 fn run_round<N: Setting + Send + Sync, K: Sums + Send + Sync, R: Threads + Wait + Sync, G: Gate>(
     rt: &R,
     alloc: Global,
-    program: &Program,
+    program: &Coded<'_>,
     extent: &Extent,
     frozen: &Heap,
     gate: &G,
@@ -101,7 +101,7 @@ fn run_round<N: Setting + Send + Sync, K: Sums + Send + Sync, R: Threads + Wait 
 pub fn round_summed<R: Threads + Wait + Sync, G: Gate>(
     rt: &R,
     alloc: Global,
-    program: &Program,
+    program: &Coded<'_>,
     extent: &Extent,
     frozen: &Heap,
     gate: &G,

@@ -15,13 +15,13 @@ use ca_deques::Round;
 use ca_extent::Extent;
 use ca_model::Heap;
 use ca_parallel::Op;
-use ca_program::Program;
+use ca_sections::Coded;
 use std::thread::{self, Threads};
 
 /// Runs the workers side by side, where threads can be made: their list is halved until each has one thread.
 pub fn run_all<N: Round + Send + Sync, K: Sums + Send + Sync, R: Threads + Sync, G: Gate>(
     rt: &R,
-    program: &Program,
+    program: &Coded<'_>,
     extent: &Extent,
     frozen: &Heap,
     gate: &G,

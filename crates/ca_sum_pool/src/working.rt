@@ -17,8 +17,8 @@ use ca_extent::Extent;
 use ca_logs::Task;
 use ca_model::Heap;
 use ca_parallel::Op;
-use ca_program::Program;
 use ca_replica::Replica;
+use ca_sections::Coded;
 use std::alloc::{AllocError, Global};
 use std::sync::Wait;
 use std::thread::Threads;
@@ -39,7 +39,7 @@ pub struct Left {
 pub fn work<N: Round + Send + Sync, K: Sums + Send + Sync, R: Threads + Wait + Sync, G: Gate>(
     rt: &R,
     alloc: Global,
-    program: &Program,
+    program: &Coded<'_>,
     extent: &Extent,
     frozen: &Heap,
     gate: &G,

@@ -5,8 +5,8 @@ ghost use Rattle.std.specs.Prelude.{◌<◌};
 use crate::tasks::extent_of_calls;
 use crate::turning::may_copy;
 use ca_parallel::Op;
-use ca_program::Program;
 use ca_replica::summed;
+use ca_sections::Coded;
 use std::alloc::Global;
 
 /// The calling thread goes on alone as long as a single operation waits, and until what it ran weighs so much, about ten times what
@@ -31,7 +31,7 @@ const LIGHT: u64 = 40;
 #[derive(Drop)]
 pub struct Patience<'s> {
     alloc: Global,
-    program: &'s Program,
+    program: &'s Coded<'s>,
     first: &'s [Op],
     workers: u32,
     objects: u32,
@@ -46,7 +46,7 @@ impl<'s> Patience<'s> {
     /// For these operations, so many workers, and a heap of so many objects and values.
     pub fn new(
         alloc: Global,
-        program: &'s Program,
+        program: &'s Coded<'s>,
         first: &'s [Op],
         workers: u32,
         objects: u32,
@@ -103,7 +103,7 @@ impl<'s> Patience<'s> {
             return false;
         }
         match extent_of_calls(self.alloc, self.program, self.first) {
-            Ok(extent) => summed(self.program, &extent),
+            Ok(extent) => summed(self.program.program(), &extent),
             Err(_) => false,
         }
     }

@@ -18,6 +18,7 @@ use ca_model::Heap;
 use ca_parallel::{Marks, Op};
 use ca_program::Program;
 use ca_record::{Tracing, record};
+use ca_sections::Coded;
 use ca_trace::Line;
 use std::alloc::Global;
 use std::sync::Wait;
@@ -47,7 +48,9 @@ pub fn record_by_many<R: Threads + Wait + Sync, G: Gate>(
     let mut parallel = Parallel::new(alloc, workers, gate);
     let lent = &mut parallel;
     let engine = Tracing {
-        call: move |code: &Program, heap: &mut Heap, calls: &[Op], left: u64, lines: &mut Vec<Line>|
+        call: move |code: &Coded<'_>, heap: &mut Heap, calls: &[Op], left: u64, lines: &mut Vec<
+            Line,
+        >|
             requires program { ProgramTyped (program_view code.now) }
             requires heap { TypedHeap (program_view code.now) heap.now }
             requires typed { AllWellTyped (program_view code.now) heap.now (invocations_of calls.now) }

@@ -20,7 +20,7 @@ use crate::tasks::{extent_of_calls, first_tasks};
 use ca_base::{Gate, Memory};
 use ca_model::Heap;
 use ca_parallel::Op;
-use ca_program::Program;
+use ca_sections::Coded;
 use ca_serial::ExtentAnswer;
 use ca_trace::Line;
 use std::alloc::AllocError;
@@ -42,7 +42,7 @@ impl<'g, G: Gate> Parallel<'g, G> {
     fn run_block<R: Threads + Wait + Sync>(
         &mut self,
         rt: &R,
-        program: &Program,
+        program: &Coded<'_>,
         heap: &Heap,
         first: &[Op],
         left: u64,
@@ -75,7 +75,7 @@ impl<'g, G: Gate> Parallel<'g, G> {
     pub fn traced<R: Threads + Wait + Sync>(
         &mut self,
         rt: &R,
-        program: &Program,
+        program: &Coded<'_>,
         heap: &mut Heap,
         first: &[Op],
         left: u64,

@@ -80,7 +80,7 @@ impl<'s, R: Threads + Wait + Sync, G: Gate> Rounds<'s, R, G> {
         if !may_copy(self.workers, frozen.values()) {
             return false;
         }
-        summed(self.program, self.extent)
+        summed(self.program.program(), self.extent)
     }
 
     /// Runs a round in cells, and takes the objects that it touched beside the heap.

@@ -15,8 +15,7 @@ use crate::adding::{Added, add};
 use ca_base::Memory;
 use ca_logs::{CellLog, Mark, Stop, Task};
 use ca_model::Heap;
-use ca_program::Program;
-use ca_sections::{AllOlds, Desk};
+use ca_sections::{AllOlds, Coded, Desk};
 use std::alloc::Global;
 use std::mem;
 use std::snapshot::Snapshot;
@@ -61,12 +60,12 @@ fn take_back(log: &mut CellLog, mut olds: AllOlds, _found: &Snapshot<CellLog>, m
 
 impl Cells {
     /// Runs the next task. Without memory the history is as before.
-    fn run_next<'a>(
+    fn run_next(
         &self,
-        desk: &mut Desk<'a>,
+        desk: &mut Desk,
         log: &mut CellLog,
         alloc: Global,
-        program: &'a Program,
+        program: &Coded<'_>,
         frozen: &Heap,
         _number: u32,
         task: &Task,
@@ -97,13 +96,13 @@ impl Cells {
     }
 
     /// Runs the next task behind others, whose old values are kept.
-    fn run_behind<'a>(
+    fn run_behind(
         &self,
-        desk: &mut Desk<'a>,
+        desk: &mut Desk,
         olds: &mut AllOlds,
         log: &mut CellLog,
         alloc: Global,
-        program: &'a Program,
+        program: &Coded<'_>,
         frozen: &Heap,
         _number: u32,
         task: &Task,
@@ -127,12 +126,12 @@ impl Cells {
     }
 
     /// Runs the tasks behind the first one.
-    fn run_more<'a>(
+    fn run_more(
         &self,
-        desk: &mut Desk<'a>,
+        desk: &mut Desk,
         log: &mut CellLog,
         alloc: Global,
-        program: &'a Program,
+        program: &Coded<'_>,
         frozen: &Heap,
         number: u32,
         tasks: &[Task],
@@ -203,12 +202,12 @@ impl Cells {
 
     /// Runs tasks of one object in its history. What their sections list comes into `made`. Without memory the history is as
     /// before.
-    pub(super) fn run_tasks<'a>(
+    pub(super) fn run_tasks(
         &self,
-        desk: &mut Desk<'a>,
+        desk: &mut Desk,
         log: &mut CellLog,
         alloc: Global,
-        program: &'a Program,
+        program: &Coded<'_>,
         frozen: &Heap,
         number: u32,
         tasks: &[Task],

@@ -19,8 +19,7 @@ use ca_base::{Gate, Memory};
 use ca_beside::Beside;
 use ca_logs::Task;
 use ca_model::Heap;
-use ca_program::Program;
-use ca_sections::Desk;
+use ca_sections::{Coded, Desk};
 use std::alloc::Global;
 use std::snapshot::Snapshot;
 use std::sync::Wait;
@@ -34,7 +33,7 @@ fn receiver_of(tasks: &[Task]) -> u32
 }
 
 /// Lets go of all tasks, which were run. The desk takes the memory of their operations.
-fn let_go<'a>(desk: &mut Desk<'a>, tasks: &mut Vec<Task>)
+fn let_go(desk: &mut Desk, tasks: &mut Vec<Task>)
     ensures { tasks.new.items ≡ [] }
 {
     while let Some(task) = tasks.pop() {
@@ -43,7 +42,7 @@ fn let_go<'a>(desk: &mut Desk<'a>, tasks: &mut Vec<Task>)
 }
 
 /// What is left of tasks without the first ones, which were run. It takes no memory.
-fn behind<'a>(desk: &mut Desk<'a>, mut tasks: Vec<Task>, count: usize) -> Vec<Task>
+fn behind(desk: &mut Desk, mut tasks: Vec<Task>, count: usize) -> Vec<Task>
     requires { count ≤ length tasks.items }
     ensures { result.items ≡ drop count tasks.items }
 {
@@ -87,12 +86,12 @@ impl Cells {
     }
 
     /// Runs tasks of one object in its history in a slot.
-    fn run_in_slot<'a>(
+    fn run_in_slot(
         &self,
-        desk: &mut Desk<'a>,
+        desk: &mut Desk,
         log: &mut SlotLog,
         alloc: Global,
-        program: &'a Program,
+        program: &Coded<'_>,
         frozen: &Heap,
         number: u32,
         tasks: &[Task],
@@ -127,13 +126,13 @@ impl Cells {
     /// one on of which the cell takes no entry: its last entry has a stop, or its clock or the task's is the last one.
     /// Without memory all tasks come back, and the cell is as it was.
     #[inline(never)]
-    pub fn apply_all<'a, R: Wait, G: Gate>(
+    pub fn apply_all<R: Wait, G: Gate>(
         &self,
         rt: &R,
         alloc: Global,
-        desk: &mut Desk<'a>,
+        desk: &mut Desk,
         worker: &mut Seat,
-        program: &'a Program,
+        program: &Coded<'_>,
         frozen: &Heap,
         beside: &Beside,
         tasks: Vec<Task>,

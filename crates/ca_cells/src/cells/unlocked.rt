@@ -15,8 +15,7 @@ use crate::adding::Added;
 use crate::freeing::add_free;
 use ca_logs::Task;
 use ca_model::Heap;
-use ca_program::Program;
-use ca_sections::Desk;
+use ca_sections::{Coded, Desk};
 use std::alloc::Global;
 
 impl Cells {
@@ -25,12 +24,12 @@ impl Cells {
     ///
     /// It is `Kept` exactly where the task's clock is the last one or the seat's last entry has a stop, else `Stuck` exactly
     /// where the section stops, and else `Ran`. Without memory the task comes back, and the seat is as it was.
-    pub fn apply_free<'a>(
+    pub fn apply_free(
         &self,
         alloc: Global,
-        desk: &mut Desk<'a>,
+        desk: &mut Desk,
         worker: &mut Seat,
-        program: &'a Program,
+        program: &Coded<'_>,
         frozen: &Heap,
         task: Task,
         left: u64,

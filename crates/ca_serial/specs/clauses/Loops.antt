@@ -4,14 +4,20 @@ use Rattle.ca_program.specs.declared.program.ValueType.{ValueType}
 use Rattle.ca_program.specs.Plain.{PlainProgram, Statement}
 use Rattle.ca_program.specs.Kinds.{kind_type}
 use Rattle.ca_program.specs.Instructions.{Begin, Code}
+use Rattle.ca_code.specs.Codes.{code_seen}
 use Rattle.ca_model.specs.declared.value.Value.{Value as Datum}
 use Rattle.ca_model.specs.declared.value.Object.{Object}
 use Rattle.ca_meaning.specs.Sections.{LoopSectioned, loop_done, loop_stopped, loop_over, loop_section}
 use Rattle.ca_meaning.specs.Serial.{Note}
 use Rattle.ca_parallel.specs.Lists.{note, either}
 use Rattle.ca_note_laws.specs.Listing.{puts_nothing}
+use Rattle.ca_sections.specs.declared.loop_code.LoopPlace.{LoopPlace}
+use Rattle.ca_sections.specs.Extending.{AllStand}
 use Rattle.ca_code_laws.specs.Machine.{row}
+use Rattle.ca_code_laws.specs.Told.{IsLaidOut}
 use Rattle.ca_steps.specs.declared.frames.Frames.{Frames}
+use Rattle.ca_steps.specs.declared.running.Laid.{Laid}
+use Rattle.ca_steps.specs.Ops.{Runs}
 use Rattle.ca_steps.specs.Stands.{state_of}
 
 -- the loop begins there, on this line, with so many instructions and locals of these types
@@ -19,6 +25,12 @@ pub record BeginsAt (c : Code) (m : Frames) (n line : ℕ) (loop : Statement) (t
   pub stands : slice_get c.items m.at ≡ Some (Begin n)
   pub on_line : slice_get c.lines m.at ≡ Some line
   pub is : slice_get c.loops m.at ≡ Some (Some (record { loop = loop; locals = map kind_type tys }))
+
+-- The program is laid out in a code that is run, and so is each loop that is handed on, once more on its own.
+pub record HasLoops (p : PlainProgram) (on : Laid) (places : List LoopPlace) : Type 0 where
+  pub laid : IsLaidOut p (code_seen on.code)
+  pub runs : Runs (code_seen on.code) on.code.rows.items on.ops.items
+  pub alone : AllStand p (code_seen on.code) places
 
 abbrev pub locals_at : Frames → List ValueType → List Datum
 locals_at m tys = row (state_of m (tt {0})).slots m.base (map kind_type tys)

@@ -1,4 +1,4 @@
-use Rattle.std.proofs.Common.{rules, ◌≡◌, ap, arith}
+use Rattle.std.proofs.Common.{◌≡◌, ap, arith}
 use Rattle.ca_logs.specs.declared.log.Task.{Task}
 use Rattle.ca_cells.specs.Rounds.{MayRun}
 use Rattle.ca_pool_tests.proofs.FirstTasks.{may_count, one_at_end}

@@ -1,4 +1,4 @@
-use Rattle.std.proofs.Common.{◌≡◌, List, [], sym, subst, arith}
+use Rattle.std.proofs.Common.{List, [], sym, subst, arith}
 use Rattle.ca_program.specs.Plain.{PlainProgram}
 use Rattle.ca_program.specs.View.{program_view}
 use Rattle.ca_model.specs.declared.value.Object.{Object}
@@ -8,7 +8,7 @@ use Rattle.ca_meaning.specs.ProgramTyped.{ProgramTyped}
 use Rattle.ca_logs.specs.declared.log.Task.{Task}
 use Rattle.ca_logs.specs.Entries.{call_of}
 use Rattle.ca_logs.specs.Legal.{LegalCell}
-use Rattle.ca_counters.specs.Counters.{counters, starts}
+use Rattle.ca_counters.specs.Counters.{counters}
 use Rattle.ca_counters.proofs.Counting.{counters_typed, starts_typed, twice_typed}
 use Rattle.ca_pool_tests.proofs.histories.add_twice.Goals as goal
 

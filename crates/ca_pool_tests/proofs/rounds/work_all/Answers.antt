@@ -9,7 +9,7 @@ use Rattle.ca_pool.proofs.work.Reads.TheSendSync as reads
 use Rattle.ca_cells.specs.Seats.{IsSameSeat}
 use Rattle.ca_cells.specs.declared.cells.Seat.{Seat}
 use Rattle.ca_pool.proofs.Sends.{seat_send, cells_sync}
-use Rattle.ca_deques.proofs.SharedProgram.{program_sync}
+use Rattle.ca_sections.proofs.SharedProgram.{coded_sync}
 use Rattle.ca_pool_tests.proofs.SameSeats.{one_for_one, all_still}
 use Rattle.ca_pool_tests.proofs.rounds.work_all.Goals as goal
 
@@ -19,14 +19,14 @@ for_each_mut-requires-send-T g c κs within = search (sendable, seat_send) depth
 pub for_each_mut-requires-sync-F : goal.for_each_mut-requires-sync-F
 for_each_mut-requires-sync-F g c κs within =
     let shared : IsSync g.row.R = record { shared = c.type_bounds.sync-R.shared } in
-    let rows = lts.of-4 g.row.R g.R.laws g.R.Threads-dict g.R.Wait-dict (record { mir = named 6; lft = κs.1.1.1.1.1.1.0 }) (record { mir = named 7; lft = κs.1.1.1.1.1.1.1.0 }) (record { mir = named 8; lft = κs.1.1.1.1.1.1.1.1.0 }) (record { mir = named 9; lft = κs.1.1.1.1.1.1.1.1.1.0 }) (record { mir = named 10; lft = κs.1.1.1.1.1.1.1.1.1.1.0 }) (record { mir = named 11; lft = κs.1.1.1.1.1.1.1.1.1.1.1.0 }) (record { mir = named 12; lft = κs.1.1.1.1.1.1.1.1.1.1.1.1.0 }) in
+    let rows = lts.of-4 g.row.R g.R.laws g.R.Threads-dict g.R.Wait-dict (record { mir = named 6; lft = κs.1.1.1.1.1.1.0 }) (record { mir = named 7; lft = κs.1.1.1.1.1.1.1.0 }) (record { mir = named 8; lft = κs.1.1.1.1.1.1.1.1.0 }) (record { mir = named 9; lft = κs.1.1.1.1.1.1.1.1.1.0 }) (record { mir = named 10; lft = κs.1.1.1.1.1.1.1.1.1.1.0 }) (record { mir = named 11; lft = κs.1.1.1.1.1.1.1.1.1.1.1.0 }) (record { mir = named 12; lft = κs.1.1.1.1.1.1.1.1.1.1.1.1.0 }) (record { mir = named 13; lft = κs.1.1.1.1.1.1.1.1.1.1.1.1.1.0 }) in
     let each : AllSync rows = (
       shr_sync (named 6) κs.1.1.1.1.1.1.0 (param 0 g.row.R) (param_sync 0 g.row.R shared),
       (
         search sendable depth 12,
         (
           search (sendable, cells_sync) depth 10,
-          (search (sendable, program_sync) depth 10, (search (sendable, reads.the_sync) depth 10, (search sendable depth 10, tt))),
+          (search (sendable, coded_sync) depth 10, (search (sendable, reads.the_sync) depth 10, (search sendable depth 10, tt))),
         ),
       ),
     ) in

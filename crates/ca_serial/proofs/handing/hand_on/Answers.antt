@@ -23,14 +23,14 @@ ask-requires-clause-serves g c = λ κs o. c.requires.serves
 -- the machine stands behind the call
 pub returns-in-Some-clause-means : goal.returns-in-Some-clause-means
 returns-in-Some-clause-means g c = λ w.
-    let p = program_view c.args.run.now.program.now in
+    let p = program_view c.args.coded.now in
     call_passes p (code_seen c.args.code.now) c.args.frames.now c.args.op c.args.first c.args.receiver c.requires.due c.args.run.now.heap w c.ask.new.heap c.in-Some.rest c.pass.new.self
     (rw (c.as_slice.ensures.value, c.in_ok-ops.ensures.calls, c.left-left.ensures, c.in-Some.is) at (c.in_ok-answer.ensures.given w)) c.in_ok-pass-in-Some.ensures
 
 -- its body is entered
 pub returns-in-On-clause-means : goal.returns-in-On-clause-means
 returns-in-On-clause-means g c = λ w.
-    let p = program_view c.args.run.now.program.now in
+    let p = program_view c.args.coded.now in
     let m = c.args.frames.now in
     let x = with_note (in_heap w c.args.run.now.heap) (due_at (code_seen c.args.code.now) m c.args.op c.args.first c.args.receiver ∷ []) m.left in
     call_enters p (code_seen c.args.code.now) m c.args.op c.args.first c.args.receiver c.requires.due c.args.run.now.heap w c.ask.new.heap c.enter_operation.new.self
@@ -39,7 +39,7 @@ returns-in-On-clause-means g c = λ w.
 
 pub returns-in-Spends-clause-means : goal.returns-in-Spends-clause-means
 returns-in-Spends-clause-means g c = λ w.
-    let p = program_view c.args.run.now.program.now in
+    let p = program_view c.args.coded.now in
     let m = c.args.frames.now in
     let x = with_note (in_heap w c.args.run.now.heap) (due_at (code_seen c.args.code.now) m c.args.op c.args.first c.args.receiver ∷ []) m.left in
     call_spends p (code_seen c.args.code.now) m c.args.op c.args.first c.args.receiver c.requires.due c.args.run.now.heap w c.ask.new.heap

@@ -20,7 +20,7 @@ use Rattle.ca_serial.proofs.listing.list_on.Goals as goal
 -- into a loop that puts something
 pub returns-then-not-puts_nothing : goal.returns-then-not-puts_nothing
 returns-then-not-puts_nothing g c =
-    let p = program_view c.args.run.now.program.now in
+    let p = program_view c.args.coded.now in
     let m = c.args.frames.now in
     let h = c.args.run.now.heap in
     let loop = statement_view c.args.s.now in
@@ -36,13 +36,13 @@ returns-then-not-puts_nothing g c =
 
 pub returns-in_err-answer : goal.returns-in_err-answer
 returns-in_err-answer g c =
-    let p = program_view c.args.run.now.program.now in
+    let p = program_view c.args.coded.now in
     let e = err_from_is_err_and c.from_residual.result c.from_residual.ensures.1 in
     let ns = begun_notes p c.args.run.now.heap c.args.frames.now c.args.types.now c.args.line (statement_view c.args.s.now) in
     record { means = none_told _ c.from_residual.result e.0 e.1; account = part_told p _ _ c.from_residual.result e.0 ns e.1 (none_yet p _ ns); program = refl }
 
 pub fill-requires : goal.fill-requires
-fill-requires g c = record { nothing = sym c.puts_nothing.ensures ∙ c.if-not-puts_nothing.false }
+fill-requires g c = record { loops = c.requires.loops }
 
 pub run_listed-requires-clause-ready : goal.run_listed-requires-clause-ready
 run_listed-requires-clause-ready g c = λ κs o. c.requires.ready
@@ -55,7 +55,7 @@ run_listed-requires-clause-nothing g c = λ κs o. sym c.puts_nothing.ensures �
 
 pub run_listed-requires-clause-handed : goal.run_listed-requires-clause-handed
 run_listed-requires-clause-handed g c = λ κs o n at.
-    let p = program_view c.args.run.now.program.now in
+    let p = program_view c.args.coded.now in
     let m = c.args.frames.now in
     let h = c.args.run.now.heap in
     let loop = statement_view c.args.s.now in
@@ -66,14 +66,14 @@ run_listed-requires-clause-handed g c = λ κs o n at.
 
 pub run_listed-requires-clause-listed : goal.run_listed-requires-clause-listed
 run_listed-requires-clause-listed g c = λ κs o.
-    subst (λ (a : SectionAnswer). LoopIs a (section_at (program_view c.args.run.now.program.now) c.args.run.now.heap c.args.frames.now c.args.types.now c.args.line (statement_view c.args.s.now)) [] c.fill.new.self.listed.items) c.in-Done.is c.in_ok-answer.ensures.listed
+    subst (λ (a : SectionAnswer). LoopIs a (section_at (program_view c.args.coded.now) c.args.run.now.heap c.args.frames.now c.args.types.now c.args.line (statement_view c.args.s.now)) [] c.fill.new.self.listed.items) c.in-Done.is (c.in_ok-answer.ensures.listed c.args.count c.args.line (statement_view c.args.s.now) c.args.types.now c.requires.begins (sym c.puts_nothing.ensures ∙ c.if-not-puts_nothing.false))
 
 pub run_listed-requires-clause-locals : goal.run_listed-requires-clause-locals
-run_listed-requires-clause-locals g c = λ κs o. c.in_ok-answer.ensures.locals
+run_listed-requires-clause-locals g c = λ κs o. c.in_ok-answer.ensures.locals c.args.count c.args.line (statement_view c.args.s.now) c.args.types.now c.requires.begins (sym c.puts_nothing.ensures ∙ c.if-not-puts_nothing.false)
 
 pub returns-in-Done : goal.returns-in-Done
 returns-in-Done g c =
-    let p = program_view c.args.run.now.program.now in
+    let p = program_view c.args.coded.now in
     let m = c.args.frames.now in
     let h = c.args.run.now.heap in
     let loop = statement_view c.args.s.now in
@@ -88,14 +88,14 @@ returns-in-Done g c =
 
 pub returns-in-Trapped : goal.returns-in-Trapped
 returns-in-Trapped g c =
-    let p = program_view c.args.run.now.program.now in
+    let p = program_view c.args.coded.now in
     let m = c.args.frames.now in
     let h = c.args.run.now.heap in
     let loop = statement_view c.args.s.now in
     let tys = c.args.types.now in
     let put : puts_nothing loop ≡ true = sym c.puts_nothing.ensures ∙ c.if-not-puts_nothing.false in
     let o = section_at p h m tys c.args.line loop in
-    let stop : Stopped o = trapped o c.in-Trapped.field-0 c.in_ok-answer.answer c.fill.new.self.listed.items c.in-Trapped.is c.in_ok-answer.ensures.listed in
+    let stop : Stopped o = trapped o c.in-Trapped.field-0 c.in_ok-answer.answer c.fill.new.self.listed.items c.in-Trapped.is (c.in_ok-answer.ensures.listed c.args.count c.args.line loop tys c.requires.begins put) in
     let ns = begun_notes p h m tys c.args.line loop in
     let none : ns ≡ [] = ap (λ b. either b (notes_of h m.left o) []) put ∙ none_noted h m.left o stop in
     record {
@@ -106,14 +106,14 @@ returns-in-Trapped g c =
 
 pub returns-in-Spent : goal.returns-in-Spent
 returns-in-Spent g c =
-    let p = program_view c.args.run.now.program.now in
+    let p = program_view c.args.coded.now in
     let m = c.args.frames.now in
     let h = c.args.run.now.heap in
     let loop = statement_view c.args.s.now in
     let tys = c.args.types.now in
     let put : puts_nothing loop ≡ true = sym c.puts_nothing.ensures ∙ c.if-not-puts_nothing.false in
     let o = section_at p h m tys c.args.line loop in
-    let stop : Stopped o = spent o c.in_ok-answer.answer c.fill.new.self.listed.items c.in-Spent.is c.in_ok-answer.ensures.listed in
+    let stop : Stopped o = spent o c.in_ok-answer.answer c.fill.new.self.listed.items c.in-Spent.is (c.in_ok-answer.ensures.listed c.args.count c.args.line loop tys c.requires.begins put) in
     let ns = begun_notes p h m tys c.args.line loop in
     let none : ns ≡ [] = ap (λ b. either b (notes_of h m.left o) []) put ∙ none_noted h m.left o stop in
     record {

@@ -20,7 +20,7 @@ ask-requires-clause-program g c = λ κs o. c.requires.program
 
 pub ask-requires-clause-good : goal.ask-requires-clause-good
 ask-requires-clause-good g c = λ κs o.
-    let p = program_view c.args.run.now.program.now in
+    let p = program_view c.args.coded.now in
     let m = c.args.frames.now in
     let h = c.args.run.now.heap in
     let o = section_at p h m c.args.types.now c.args.line (statement_view c.args.s.now) in
@@ -31,7 +31,7 @@ ask-requires-clause-good g c = λ κs o.
 
 pub ask-requires-clause-serves : goal.ask-requires-clause-serves
 ask-requires-clause-serves g c = λ κs o.
-    let p = program_view c.args.run.now.program.now in
+    let p = program_view c.args.coded.now in
     let m = c.args.frames.now in
     let h = c.args.run.now.heap in
     let o = section_at p h m c.args.types.now c.args.line (statement_view c.args.s.now) in
@@ -41,7 +41,7 @@ ask-requires-clause-serves g c = λ κs o.
 
 pub returns-in_err-answer : goal.returns-in_err-answer
 returns-in_err-answer g c =
-    let p = program_view c.args.run.now.program.now in
+    let p = program_view c.args.coded.now in
     let e = err_from_is_err_and c.from_residual.result c.from_residual.ensures.1 in
     let ns = notes_of c.args.run.now.heap c.args.frames.now.left (section_at p c.args.run.now.heap c.args.frames.now c.args.types.now c.args.line (statement_view c.args.s.now)) in
     let kept = subst (λ b. ReachedPart g.E.Extents.Accounts p (g.E.Extents.account c.args.engine.now) ns b) (sym c.in_err-answer.ensures.account_kept) (none_yet p _ ns) in
@@ -49,7 +49,7 @@ returns-in_err-answer g c =
 
 pub returns-in_err-put_locals-in-Some : goal.returns-in_err-put_locals-in-Some
 returns-in_err-put_locals-in-Some g c =
-    let p = program_view c.args.run.now.program.now in
+    let p = program_view c.args.coded.now in
     let m = c.args.frames.now in
     let h = c.args.run.now.heap in
     let o = section_at p h m c.args.types.now c.args.line (statement_view c.args.s.now) in
@@ -63,7 +63,7 @@ returns-in_err-put_locals-in-Some g c =
 
 pub returns-in_ok-put_locals-in-Some : goal.returns-in_ok-put_locals-in-Some
 returns-in_ok-put_locals-in-Some g c =
-    let p = program_view c.args.run.now.program.now in
+    let p = program_view c.args.coded.now in
     let m = c.args.frames.now in
     let h = c.args.run.now.heap in
     let loop = statement_view c.args.s.now in
@@ -86,7 +86,7 @@ returns-in_ok-put_locals-in-Some g c =
 
 pub returns-in-None : goal.returns-in-None
 returns-in-None g c =
-    let p = program_view c.args.run.now.program.now in
+    let p = program_view c.args.coded.now in
     let m = c.args.frames.now in
     let h = c.args.run.now.heap in
     let loop = statement_view c.args.s.now in

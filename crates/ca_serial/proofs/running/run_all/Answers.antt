@@ -1,10 +1,13 @@
 use Rattle.std.proofs.Common.{◌≡◌, ◌∙◌, ◌-◌, ◌∷◌, [], refl, ap, sym, subst, arith, ⊎_elim, true, false}
 use Rattle.std.proofs.lemmas.List.Elements.{Contains-push}
+use Rattle.ca_program.specs.declared.program.Program.{Program}
 use Rattle.ca_program.specs.View.{program_view, statement_view}
 use Rattle.ca_meaning.specs.Serial.{in_heap}
 use Rattle.ca_parallel.specs.Accounts.{ReachedPart, at_first, by_one}
 use Rattle.ca_parallel.specs.Lists.{lists, note}
 use Rattle.ca_code.specs.Codes.{code_seen}
+use Rattle.ca_code_laws.specs.Told.{IsLaidOut}
+use Rattle.ca_sections.specs.Extending.{AllStand}
 use Rattle.ca_code_laws.specs.Machine.{Finished, Trapped, Spent}
 use Rattle.ca_code_laws.specs.Runs.{ended_as}
 use Rattle.ca_serial.specs.declared.running.Outcome.TheVariants.{Done, Trapped as Stopped, Spent as Exhausted}
@@ -99,7 +102,7 @@ pub hand_on-requires-clause-ready : goal.hand_on-requires-clause-ready
 hand_on-requires-clause-ready g c = λ κs o. c.requires.ready
 
 pub hand_on-requires-clause-program : goal.hand_on-requires-clause-program
-hand_on-requires-clause-program g c = λ κs o. rw (c.run_on.ensures.program ∙ c.loop.invariant.2) c.requires.program
+hand_on-requires-clause-program g c = λ κs o. rw c.requires.coded c.requires.program
 
 pub hand_on-requires-clause-due : goal.hand_on-requires-clause-due
 hand_on-requires-clause-due g c = λ κs o.
@@ -118,7 +121,7 @@ hand_on-requires-clause-good g c = λ κs o.
     let next = on g.E.Extents.Accounts p code c.args.laid.now.code.main c.args.budget _ _ i.0 m h e.0 in
     let n = note h (due_at code m c.in-Hands.op c.in-Hands.first c.in-Hands.receiver ∷ []) m.left in
     let split = call_next g.E.Extents.Accounts p code c.args.laid.now.code.main c.args.budget _ _ c.requires.program c.args.marks.now c.requires.sound c.requires.laid next c.in-Hands.op c.in-Hands.first c.in-Hands.receiver (record { stands = e.1; names = e.2 }) in
-    rw (c.run_on.ensures.program ∙ i.2) (c.requires.good n (stands_in (lists p c.args.marks.now c.args.budget) next.world.notes (n ∷ []) split n (Contains-push [] n))).0
+    rw c.requires.coded (c.requires.good n (stands_in (lists p c.args.marks.now c.args.budget) next.world.notes (n ∷ []) split n (Contains-push [] n))).0
 
 pub hand_on-requires-clause-serves : goal.hand_on-requires-clause-serves
 hand_on-requires-clause-serves g c = λ κs o.
@@ -145,7 +148,7 @@ returns-in_default-hand_on g c =
     let n = note h (due_at code m c.in-Hands.op c.in-Hands.first c.in-Hands.receiver ∷ []) m.left in
     let split = call_next g.E.Extents.Accounts p code c.args.laid.now.code.main c.args.budget _ _ c.requires.program c.args.marks.now c.requires.sound c.requires.laid next c.in-Hands.op c.in-Hands.first c.in-Hands.receiver (record { stands = e.1; names = e.2 }) in
     let all = lists p c.args.marks.now c.args.budget in
-    let kept = rw (c.run_on.ensures.program ∙ i.2) at c.in_default-hand_on.ensures.account_kept in
+    let kept = rw c.requires.coded at c.in_default-hand_on.ensures.account_kept in
     record {
       outcome = tt;
       prints = record { whole = tt; part = part_written g.E.Extents.Accounts p code c.args.laid.now.code.main c.args.budget _ _ c.requires.program c.args.marks.now c.requires.sound c.requires.laid i.0 };
@@ -168,9 +171,9 @@ returns-then-not-goes g c =
     let next = on g.E.Extents.Accounts p code c.args.laid.now.code.main c.args.budget _ _ i.0 m h e.0 in
     let is = due_at code m c.in-Hands.op c.in-Hands.first c.in-Hands.receiver ∷ [] in
     let x = in_heap (with_note (in_heap next.world h) is m.left) c.hand_on.new.run.heap in
-    let same : program_view c.run_on.new.run.program.now ≡ p = rw (c.run_on.ensures.program ∙ i.2) refl in
+    let same : program_view c.args.coded.now ≡ p = ap program_view c.requires.coded in
     let spends = leads_so p _ code (state_of m (in_heap next.world h)) _ false c.hand_on.new.frames x same c.if-not-goes.true (c.in-Ok.ensures.means next.world) in
-    let step = rw (c.run_on.ensures.program ∙ i.2) at c.in-Ok.ensures.account in
+    let step = rw c.requires.coded at c.in-Ok.ensures.account in
     let end = ends g.E.Extents.Accounts p code c.args.laid.now.code.main c.args.budget _ _ c.requires.program c.args.marks.now c.requires.sound c.requires.laid next (Spent x) x Exhausted _ spends refl refl (by_one (note h is m.left) next.reached step) refl in
     record { outcome = end.outcome; prints = record { whole = end.whole; part = tt }; write = tt; later = i.1; account = end.account; account_part = tt }
 
@@ -184,10 +187,10 @@ loop-preserved-else-not-goes g c =
     let e = rw (i.2, c.in-Hands.is) at (c.run_on.ensures.event i.0.world) in
     let next = on g.E.Extents.Accounts p code c.args.laid.now.code.main c.args.budget _ _ i.0 m h e.0 in
     let is = due_at code m c.in-Hands.op c.in-Hands.first c.in-Hands.receiver ∷ [] in
-    let same : program_view c.run_on.new.run.program.now ≡ p = rw (c.run_on.ensures.program ∙ i.2) refl in
+    let same : program_view c.args.coded.now ≡ p = ap program_view c.requires.coded in
     let x = in_heap (with_note (in_heap next.world h) is m.left) c.hand_on.new.run.heap in
     let goes = leads_so p _ code (state_of m (in_heap next.world h)) _ true c.hand_on.new.frames x same c.if-not-goes.false (c.in-Ok.ensures.means next.world) in
-    let step = rw (c.run_on.ensures.program ∙ i.2) at c.in-Ok.ensures.account in
+    let step = rw c.requires.coded at c.in-Ok.ensures.account in
     (hands_on g.E.Extents.Accounts p code c.args.laid.now.code.main c.args.budget _ _ next c.hand_on.new.frames c.hand_on.new.run.heap is m.left _ goes step, i.1, c.in-Ok.ensures.program ∙ (c.run_on.ensures.program ∙ i.2))
 
 -- ---- loops
@@ -196,7 +199,22 @@ pub list_on-requires-clause-ready : goal.list_on-requires-clause-ready
 list_on-requires-clause-ready g c = λ κs o. c.requires.ready
 
 pub list_on-requires-clause-program : goal.list_on-requires-clause-program
-list_on-requires-clause-program g c = λ κs o. rw (c.run_on.ensures.program ∙ c.loop.invariant.2) c.requires.program
+list_on-requires-clause-program g c = λ κs o. rw c.requires.coded c.requires.program
+
+pub list_on-requires-clause-loops : goal.list_on-requires-clause-loops
+list_on-requires-clause-loops g c = λ κs o.
+    let code = code_seen c.args.laid.now.code in
+    record {
+      laid = subst (λ (q : Program). IsLaidOut (program_view q) code) (sym c.requires.coded) c.requires.laid.laid;
+      runs = c.requires.ops;
+      alone = subst (λ (q : Program). AllStand (program_view q) code c.args.places.now) (sym c.requires.coded) c.requires.loops;
+    }
+
+pub list_on-requires-clause-begins : goal.list_on-requires-clause-begins
+list_on-requires-clause-begins g c = λ κs o.
+    let i = c.loop.invariant in
+    let e = rw (i.2, c.in-Begins.is) at (c.run_on.ensures.event i.0.world) in
+    record { stands = e.1; on_line = e.2; is = e.3 }
 
 pub list_on-requires-clause-handed : goal.list_on-requires-clause-handed
 list_on-requires-clause-handed g c =
@@ -211,7 +229,7 @@ list_on-requires-clause-handed g c =
     let next = on g.E.Extents.Accounts p code c.args.laid.now.code.main c.args.budget _ _ i.0 m h e.0 in
     let ns = begun_notes p h m tys c.in-Begins.line loop in
     let split = loop_next g.E.Extents.Accounts p code c.args.laid.now.code.main c.args.budget _ _ c.requires.program c.args.marks.now c.requires.sound c.requires.laid next c.in-Begins.count c.in-Begins.line loop tys (record { stands = e.1; on_line = e.2; is = e.3 }) in
-    rw (c.run_on.ensures.program ∙ i.2) (λ κs o n at. c.requires.good n (stands_in (lists p c.args.marks.now c.args.budget) next.world.notes ns split n at))
+    rw c.requires.coded (λ κs o n at. c.requires.good n (stands_in (lists p c.args.marks.now c.args.budget) next.world.notes ns split n at))
 
 pub returns-in-Err-list_on : goal.returns-in-Err-list_on
 returns-in-Err-list_on g c =
@@ -226,7 +244,7 @@ returns-in-Err-list_on g c =
     let next = on g.E.Extents.Accounts p code c.args.laid.now.code.main c.args.budget _ _ i.0 m h e.0 in
     let ns = begun_notes p h m tys c.in-Begins.line loop in
     let split = loop_next g.E.Extents.Accounts p code c.args.laid.now.code.main c.args.budget _ _ c.requires.program c.args.marks.now c.requires.sound c.requires.laid next c.in-Begins.count c.in-Begins.line loop tys (record { stands = e.1; on_line = e.2; is = e.3 }) in
-    let account = rw (c.run_on.ensures.program ∙ i.2) at c.in-Err-list_on.ensures.account in
+    let account = rw c.requires.coded at c.in-Err-list_on.ensures.account in
     record {
       outcome = tt;
       prints = record { whole = tt; part = part_written g.E.Extents.Accounts p code c.args.laid.now.code.main c.args.budget _ _ c.requires.program c.args.marks.now c.requires.sound c.requires.laid i.0 };
@@ -248,6 +266,6 @@ loop-preserved g c =
     let e = rw (i.2, c.in-Begins.is) at (c.run_on.ensures.event i.0.world) in
     let next = on g.E.Extents.Accounts p code c.args.laid.now.code.main c.args.budget _ _ i.0 m h e.0 in
     let ns = begun_notes p h m tys c.in-Begins.line loop in
-    let goes = rw (c.run_on.ensures.program ∙ i.2) at (c.in_default-list_on.ensures.means code next.world (record { stands = e.1; on_line = e.2; is = e.3 })) in
-    let account = rw (c.run_on.ensures.program ∙ i.2) at c.in_default-list_on.ensures.account in
+    let goes = rw c.requires.coded at (c.in_default-list_on.ensures.means code next.world (record { stands = e.1; on_line = e.2; is = e.3 })) in
+    let account = rw c.requires.coded at c.in_default-list_on.ensures.account in
     (lists_on g.E.Extents.Accounts p code c.args.laid.now.code.main c.args.budget _ _ next c.list_on.new.frames c.list_on.new.run.heap ns _ goes account.all, i.1, c.in_default-list_on.ensures.program ∙ (c.run_on.ensures.program ∙ i.2))

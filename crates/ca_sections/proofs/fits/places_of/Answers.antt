@@ -1,0 +1,33 @@
+use Rattle.std.proofs.Common.{◌≡◌, ◌<◌, true, [], ◌∷◌, length, length-append, map, Some, ap, ◌∙◌, arith}
+use Rattle.std.specs.Prelude.{slice_get}
+use Rattle.ca_program.specs.View.{method_view, program_view}
+use Rattle.ca_code_laws.specs.Fitting.{FitsMethod}
+use Rattle.ca_sections.proofs.Testing.{method_there, none_told, one_told}
+use Rattle.ca_sections.proofs.fits.places_of.Goals as goal
+
+pub ops-init : goal.ops-init
+ops-init c = record {
+  told = none_told (program_view c.args.program.now) c.args.starts.now c.in_ok-places.places.items c.in_ok-places.ensures.items;
+  count = omega (arith, ap length c.in_ok-places.ensures.items);
+}
+
+pub ops-preserved : goal.ops-preserved
+ops-preserved c =
+    let p = program_view c.args.program.now in
+    let ms = c.args.program.now.ops.items in
+    let i = c.ops.m-index in
+    let m = c.m-item.result in
+    let n = c.place_if-place.result in
+    let lt : i < length c.deref-m-items.result.now = omega arith in
+    let there = method_there ms i m (rw c.deref-m-items.ensures.value at lt) (rw c.deref-m-items.ensures.value at c.m-item.is) in
+    let at : slice_get (map method_view ms) (length c.ops.places.items) ≡ Some (method_view m) = ap (λ n. slice_get (map method_view ms) n) c.ops.invariant.count ∙ there in
+    let more = c.in_ok-push.ensures.items in
+    let tells : n < 4294967295 → FitsMethod p true (method_view m) × (slice_get c.args.starts.now (length c.ops.places.items) ≡ Some n) =
+    λ lt. let t = rw (c.len-in-ops.ensures ∙ c.ops.places.ok.0) at c.place_if-place.ensures in (c.fits_method-fits.ensures (t lt).0, (t lt).1) in
+    record {
+      told = one_told p c.args.starts.now c.ops.places.items _ n (method_view m) more at tells c.ops.invariant.told;
+      count = omega (arith, ap length more, length-append c.ops.places.items (n ∷ []), c.ops.invariant.count);
+    }
+
+pub returns : goal.returns
+returns c = c.ops.invariant.told

@@ -1,0 +1,47 @@
+-- A code with the code of loops behind it, each on its own.
+use Rattle.std.specs.Prelude.{◌≡◌, ◌++◌, true, false, List, [], ◌∷◌, Some, length, map, slice_get}
+use Rattle.ca_program.specs.Plain.{PlainProgram}
+use Rattle.ca_program.specs.Kinds.{as_pointer, kind_type}
+use Rattle.ca_program.specs.Instructions.{Instruction, Placed, Code}
+use Rattle.ca_program.specs.View.{statement_view}
+use Rattle.ca_code.specs.declared.layout.Code.{Code as CodeHeld}
+use Rattle.ca_code.specs.Seen.{placed}
+use Rattle.ca_code.specs.clauses.Laying.{Laying, laid}
+use Rattle.ca_code_laws.specs.Fitting.{FitsStatement}
+use Rattle.ca_code_laws.specs.Known.{loop_alone}
+use Rattle.ca_sections.specs.declared.loop_code.LoopPlace.{LoopPlace}
+use Rattle.ca_sections.specs.Fitting.{LoopStands}
+
+-- more rows stand behind, and what names places is as it was
+pub record Extended (c d : CodeHeld) : Type 0 where
+  pub more : List Placed
+  pub rows : map placed d.rows.items ≡ map placed c.rows.items ++ more
+  pub same : d ≡ record c { rows = d.rows; room = d.room }
+
+-- A loop's code stands on its own where it is told, and the loop is handed on where that is told.
+pub record StandsAlone (p : PlainProgram) (c : Code) (l : LoopPlace) : Type 0 where
+  pub code : LoopStands p c l.place l.types.now l.line (statement_view l.s.now)
+  pub line : slice_get c.lines l.at ≡ Some l.line
+  pub loop : slice_get c.loops l.at ≡ Some (Some (record { loop = statement_view l.s.now; locals = map kind_type l.types.now }))
+
+abbrev pub AllStand : PlainProgram → Code → List LoopPlace → Type 0
+AllStand p c [] = Unit {0}
+AllStand p c (l ∷ ls) = StandsAlone p c l × AllStand p c ls
+
+-- A loop's code that stands among rows, and the row that hands it on.
+pub record Stood (p : PlainProgram) (ps : List Placed) (l : LoopPlace) : Type 0 where
+  pub fits : FitsStatement p l.types.now true as_pointer (statement_view l.s.now)
+  pub before : List Placed
+  pub after : List Placed
+  pub is : ps ≡ before ++ (loop_alone p l.types.now l.line (statement_view l.s.now) ++ after)
+  pub place : l.place ≡ length before
+  pub row : (i : Instruction) × (slice_get ps l.at ≡ Some (record { instruction = i; line = l.line; loop = Some (record { loop = statement_view l.s.now; locals = map kind_type l.types.now }) }))
+
+abbrev pub AllStood : PlainProgram → List Placed → List LoopPlace → Type 0
+AllStood p ps [] = Unit {0}
+AllStood p ps (l ∷ ls) = Stood p ps l × AllStood p ps ls
+
+-- the rows of a code as far as loops are added behind them
+pub record Adding (p : PlainProgram) (old : List Placed) (now : Laying) (places : List LoopPlace) : Type 0 where
+  pub begun : now.failed ≡ false → (more : List Placed) × (laid now ≡ old ++ more)
+  pub each : now.failed ≡ false → AllStood p (laid now) places
