@@ -1,20 +1,19 @@
-// A small operation in a loop: two puts into fields and a call. The loop is for the serial run.
+// An operation in a marked loop, with puts into fields and a call of an operation that does nothing.
 class Node {
 public:
   long count;
   long sum;
+  long least;
+  long most;
+  long rest;
   Node *next;
-  void visit(long p) {
-    sum = sum + p;
-    count = count + 1;
-    next->rest(sum);
-  }
-  void rest(long p) { }
+  void visit(long p) { BODY }
+  void none(long p) { }
   void join(Node *n) { next = n; }
 };
 int main() {
   Node *a = new Node();
   Node *b = new Node();
   a->join(b);
-  for (long i = 0; i < COUNT; i++) a->visit(3);
+  for (long i = 0; i < CALLS; i++) a->visit(i);
 }
