@@ -5,7 +5,7 @@ ghost use Rattle.ca_program.specs.Kinds.{kind_type, kinds_in, param_kinds};
 ghost use Rattle.ca_program.specs.Layout.{operation_code, starts_code};
 ghost use Rattle.ca_program.specs.View.{method_view, program_view, statements_view};
 ghost use Rattle.ca_code.specs.Texts.{body_code, method_code};
-ghost use Rattle.ca_code.specs.Codes.{IsLaidOutWith, kinds_seen};
+ghost use Rattle.ca_code.specs.Codes.{IsLaidOutOnce, IsLaidOutWith, kinds_seen};
 ghost use Rattle.ca_code.specs.Seen.{row_of};
 ghost use Rattle.ca_code.specs.declared.ins.Ins.TheVariants.{Leave};
 ghost use Rattle.ca_code.specs.clauses.Laying.{Adds, Laying, laid};
@@ -117,7 +117,7 @@ fn add_copies<'a, B: Bodies>(rows: &mut Rows<'a>, bodies: &B, from: usize)
             return;
         };
         let changed = bodies.change(row);
-        rows.push(changed.line, changed.ins);
+        rows.again(changed.line, changed.ins);
     }
 }
 
@@ -216,6 +216,41 @@ pub fn lay_out_with<'a, B: Bodies>(
         functions,
         ops,
         heeding,
+        params,
+        main,
+        room,
+    })
+}
+
+/// Lays a program out, each body once and as it is.
+pub fn lay_out_once<'a>(alloc: Global, program: &'a Program) -> Result<Code<'a>, AllocError>
+    ensures { IfOk result (λ c. IsLaidOutOnce (program_view program.now) c) }
+{
+    let mut rows = Rows::new(alloc);
+    let values = program.functions.as_slice();
+    let functions = add_methods(alloc, &mut rows, program, &ValueBodies, Ins::Lack, values)?;
+    let methods = program.ops.as_slice();
+    let ops = add_methods(alloc, &mut rows, program, &PlainBodies, Ins::Leave, methods)?;
+    let params = all_params(alloc, methods)?;
+    let main = rows.here() as u32;
+    let body = &program.main;
+    let locals = body.locals.as_slice();
+    add_body(
+        &mut rows,
+        program,
+        &PlainBodies,
+        Ins::Leave,
+        0,
+        locals,
+        body.stmts.as_slice(),
+    );
+    let room = rows.room();
+    let rows = rows.finish()?;
+    Ok(Code {
+        rows,
+        functions,
+        ops,
+        heeding: Vec::new(alloc),
         params,
         main,
         room,

@@ -12,6 +12,6 @@ mod statements;
 
 pub use bodies::{Bodies, PlainBodies, ValueBodies};
 pub use ins::{Ins, Kind, Row, kind_type};
-pub use layout::{Code, lay_out_with};
+pub use layout::{Code, lay_out_once, lay_out_with};
 pub use rows::Rows;
 pub use scope::Scope;

@@ -73,7 +73,7 @@ impl<'a> Rows<'a> {
 
     /// Adds a row, if there is memory.
     #[inline(always)]
-    fn add(&mut self, line: u32, ins: Ins<'a>) -> Result<(), AllocError>
+    fn add_row(&mut self, line: u32, ins: Ins<'a>) -> Result<(), AllocError>
         ensures added { IfOk result (λ _. laid self.new ≡ laid self.old ++ row_of line ins.entry ∷ []) }
         ensures failed { self.new.failed ≡ self.old.failed }
     {
@@ -81,6 +81,16 @@ impl<'a> Rows<'a> {
             return Err(AllocError);
         }
         self.rows.push(Row { ins, line })?;
+        Ok(())
+    }
+
+    /// Adds a row, if there is memory, with its slots.
+    #[inline(always)]
+    fn add(&mut self, line: u32, ins: Ins<'a>) -> Result<(), AllocError>
+        ensures added { IfOk result (λ _. laid self.new ≡ laid self.old ++ row_of line ins.entry ∷ []) }
+        ensures failed { self.new.failed ≡ self.old.failed }
+    {
+        self.add_row(line, ins)?;
         self.room = self.room.max(reach(ins));
         Ok(())
     }
@@ -91,6 +101,16 @@ impl<'a> Rows<'a> {
         ensures { Adds self.old self.new (row_of line ins.entry ∷ []) }
     {
         if self.add(line, ins).is_err() {
+            self.failed = true;
+        }
+    }
+
+    /// Adds a row that names no slot beyond those of another, or keeps in mind that there was no memory.
+    #[inline(always)]
+    pub(crate) fn again(&mut self, line: u32, ins: Ins<'a>)
+        ensures { Adds self.old self.new (row_of line ins.entry ∷ []) }
+    {
+        if self.add_row(line, ins).is_err() {
             self.failed = true;
         }
     }

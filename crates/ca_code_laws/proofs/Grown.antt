@@ -1,8 +1,9 @@
 -- Prints and notes only grow: whatever the machine does, those that there are stay the first.
-use Rattle.std.proofs.Common.{◌≡◌, ℕ, zero, suc, ◌+◌, ◌-◌, List, [], ◌∷◌, ◌++◌, Option, Some, None, refl, sym, ap, ◌∙◌, subst, arith, append-nil, append_assoc}
+use Rattle.std.proofs.Common.{◌≡◌, ℕ, zero, suc, ◌+◌, ◌-◌, List, [], ◌∷◌, ◌++◌, map, Option, Some, None, refl, sym, ap, ◌∙◌, subst, arith, append-nil, append_assoc}
 use Rattle.std.specs.Prelude.{ℤ, Bool, true, false, cond, slice_get}
 use Rattle.ca_program.specs.declared.program.OpId.{OpId}
 use Rattle.ca_program.specs.Plain.{PlainProgram, Statement}
+use Rattle.ca_program.specs.Layout.{MainLaidOut}
 use Rattle.ca_program.specs.Kinds.{Kind, as_long, as_truth, as_pointer, unary_kind, binary_kind}
 use Rattle.ca_program.specs.Instructions.{Instruction, Constant, Receiver, Move, Own, OwnItem, Field, Item, Unary, Binary, Update, Check, CheckItem, Decide, Jump, Unless, Turn, Call, Return, Lack, Leave, PutField, PutItem, NewLocal, NewField, NewItem, Print, Invoke, Heed, Hand, Begin, Handed, Code}
 use Rattle.ca_model.specs.declared.value.Value.{Value as Datum}
@@ -12,22 +13,26 @@ use Rattle.ca_model.specs.Heaps.{created}
 use Rattle.ca_meaning.specs.Operators.{operated, signed, assigned}
 use Rattle.ca_meaning.specs.Expressions.{Out, gives, traps, over, ◌>>=◌, take_step, one_in, items_in, slot_of, pointed, indexed, answer, decided, Invocation}
 use Rattle.ca_meaning.specs.Flows.{Flow, goes_on, gives_back, stops, runs_out}
-use Rattle.ca_meaning.specs.Serial.{Note, World, fresh, in_heap, printed, put_own, serial_ops}
+use Rattle.ca_meaning.specs.Serial.{Note, World, fresh, in_heap, printed, put_own, serial, serial_ops}
+use Rattle.ca_model.specs.Slots.{start_of}
 use Rattle.ca_meaning.specs.Sections.{LoopOutcome, LoopSectioned, loop_done, loop_stopped, loop_over, loop_section}
 use Rattle.ca_meaning.specs.ProgramTyped.{ProgramTyped}
-use Rattle.ca_parallel.specs.Lists.{PlainMarks, note, noted, either, world_after, noted_run}
+use Rattle.ca_parallel.specs.Lists.{PlainMarks, no_marks, note, noted, either, world_after, noted_run}
+use Rattle.ca_parallel.proofs.Noted.{none_all, notes_change_nothing}
 use Rattle.ca_parallel.specs.Marks.{SoundMarks}
 use Rattle.ca_parallel.proofs.Moved.{Prints, Notes, shifted, moved as moved_run, serial_ops_moved}
-use Rattle.ca_note_laws.specs.Listing.{CallLoopsPutNothing, puts_nothing, with_list, listing_run}
+use Rattle.ca_note_laws.specs.Listing.{CallLoopsPutNothing, puts_nothing, with_list}
 use Rattle.ca_note_laws.proofs.Listing.{lists_first}
 use Rattle.ca_code_laws.specs.Words.{word, has_kind, all_have}
 use Rattle.ca_code_laws.specs.Machine.{Store, store, Back, enters, Begun, behind, plainly, Accesses, State, Outcome, Finished, Trapped, Spent, Wanting, Unfinished, Stuck, Next, moved, slot, after, put_as, giving, deciding, if_true, entering, returning, leaving, call_of, invoking, handed_call, loaded, row, beginning_by, handing, own_slots, item_named, object_named, act, line_in, runs, Comes, Ends}
-use Rattle.ca_code_laws.specs.Runs.{behind_or, begun_with, begun_by, with_call, handed_by, run_access, beginning, outcome_of}
+use Rattle.ca_code_laws.specs.Noted.{EndsNoted}
+use Rattle.ca_code_laws.specs.Runs.{behind_or, begun_with, begun_by, with_call, handed_by, run_access, beginning, outcome_of, ended_as}
 use Rattle.ca_code_laws.specs.Heeding.{HeedingLaidOut, MainHeeds}
 use Rattle.ca_code_laws.specs.Told.{IsLaidOut, Front}
 use Rattle.ca_code_laws.proofs.Steps.{joins_end}
 use Rattle.ca_code_laws.proofs.Heeding.{main_heeds}
-use Rattle.ca_code_laws.proofs.OneEnd.{one_end}
+use Rattle.ca_code_laws.proofs.Operations.{main_runs}
+use Rattle.ca_code_laws.proofs.OneEnd.{ended_is, one_end}
 
 -- the world with another heap
 in_front : (w : World) (h : List Object) → Front w (in_heap w h)
@@ -294,28 +299,40 @@ begins_with p c s o w ends h =
     let e : ends.count + suc 0 ≡ suc ends.count = omega arith in
     subst (λ o. Grown w o) (sym (ap (λ n. runs (run_access p) c n s) e) ∙ ends.by 0) (h (runs (run_access p) c ends.count) (runs_grow p c ends.count))
 
-module _ (p : PlainProgram) (typed : ProgramTyped p) (marks : PlainMarks) (sound : SoundMarks p marks) (puts : CallLoopsPutNothing) (code : Code) (is : IsLaidOut p code) (heeding : HeedingLaidOut marks p code) (at budget : ℕ) (main : MainHeeds marks p code at) where
-  whole : Ends (run_access p) code (beginning at budget) (outcome_of (listing_run p marks budget))
-  whole = main_heeds p code typed is.functions is.ops marks heeding at budget main
+-- code that heeds marks does what the run with marks does, and without marks the plain code does
+pub marked_ends : (p : PlainProgram) → ProgramTyped p → (marks : PlainMarks) → SoundMarks p marks → CallLoopsPutNothing → (code : Code) → IsLaidOut p code → HeedingLaidOut marks p code → (at : ℕ) → MainHeeds marks p code at → EndsNoted p marks code at
+marked_ends p typed marks sound puts code is heeding at main k =
+    subst (λ o. Ends (run_access p) code (beginning at k) (outcome_of o)) (lists_first p typed marks sound puts k) (main_heeds p code typed is.functions is.ops marks heeding at k main)
+
+pub plain_ends : (p : PlainProgram) → ProgramTyped p → (code : Code) → IsLaidOut p code → (at : ℕ) → MainLaidOut p code at → EndsNoted p no_marks code at
+plain_ends p typed code is at main k =
+    subst (λ o. Ends (run_access p) code (beginning at k) (outcome_of o)) (sym (none_all p Null p.main.statements (map start_of p.main.locals) (fresh []) k)) (main_runs p code typed is.functions is.ops at k main)
+
+module _ (p : PlainProgram) (marks : PlainMarks) (code : Code) (at budget : ℕ) (heeds : EndsNoted p marks code at) where
+  whole : Ends (run_access p) code (beginning at budget) (outcome_of (noted_run p marks budget))
+  whole = heeds budget
 
   -- what was printed and noted up to a state that is come to
   pub stands_in_front : (s : State World) → Comes (run_access p) code (beginning at budget) s → Front s.world (world_after (noted_run p marks budget))
   stands_in_front s comes =
-      let ends = ends_after (run_access p) code (beginning at budget) s (outcome_of (listing_run p marks budget)) comes whole in
-      subst (λ o. Front s.world (world_after o)) (lists_first p typed marks sound puts budget) (out_front s.world (listing_run p marks budget) (end_grows p code s (outcome_of (listing_run p marks budget)) ends))
+      let o = noted_run p marks budget in
+      out_front s.world o (end_grows p code s (outcome_of o) (ends_after (run_access p) code (beginning at budget) s (outcome_of o) comes whole))
 
   -- and how it ends, with its notes
   pub ends_noted : (s : State World) (o : Outcome World) → Comes (run_access p) code (beginning at budget) s → Ends (run_access p) code s o → o ≡ outcome_of (noted_run p marks budget)
-  ends_noted s o comes ends =
-      one_end (run_access p) code (beginning at budget) o (outcome_of (listing_run p marks budget)) (joins_end (run_access p) code comes ends) whole
-      ∙ ap outcome_of (lists_first p typed marks sound puts budget)
+  ends_noted s o comes ends = one_end (run_access p) code (beginning at budget) o (outcome_of (noted_run p marks budget)) (joins_end (run_access p) code comes ends) whole
+
+  -- as the serial run does
+  pub ends_serially : (s : State World) (o : Outcome World) → Comes (run_access p) code (beginning at budget) s → Ends (run_access p) code s o → serial p budget ≡ ended_as budget o
+  ends_serially s o comes ends =
+      sym (notes_change_nothing p marks budget) ∙ (sym (ended_is budget (noted_run p marks budget)) ∙ ap (ended_as budget) (sym (ends_noted s o comes ends)))
 
   -- a note that the machine is about to take stands behind those that it took
   noted_next : (s : State World) (n : Note) → Comes (run_access p) code (beginning at budget) s → ((next : Next World) → ((t : State World) → Grown t.world (next t)) → Grown (noted s.world n) (act (run_access p) code (line_in (slice_get code.lines s.at)) (slice_get code.items s.at) next s)) → Front (noted s.world n) (world_after (noted_run p marks budget))
   noted_next s n comes h =
-      let o = listing_run p marks budget in
+      let o = noted_run p marks budget in
       let ends = ends_after (run_access p) code (beginning at budget) s (outcome_of o) comes whole in
-      subst (λ o. Front (noted s.world n) (world_after o)) (lists_first p typed marks sound puts budget) (out_front (noted s.world n) o (begins_with p code s (outcome_of o) (noted s.world n) ends h))
+      out_front (noted s.world n) o (begins_with p code s (outcome_of o) (noted s.world n) ends h)
 
   -- that of a call
   pub call_noted : (s : State World) → Comes (run_access p) code (beginning at budget) s → (op : OpId) (first r : ℕ) → slice_get code.items s.at ≡ Some (Hand op first) → slot s as_pointer first ≡ Ref r → Front (noted s.world (note s.world.heap (call_of code s op first r ∷ []) s.left)) (world_after (noted_run p marks budget))

@@ -12,33 +12,26 @@ use Rattle.ca_model.specs.declared.value.Value.{Value as Datum}
 use Rattle.ca_model.specs.declared.value.Value.TheVariants.{Ref}
 use Rattle.ca_model.specs.declared.value.Object.{Object}
 use Rattle.ca_model.specs.Typed.{TypedHeap}
-use Rattle.ca_meaning.specs.Expressions.{invocation}
+use Rattle.ca_meaning.specs.Expressions.{Invocation, invocation}
 use Rattle.ca_meaning.specs.Flows.{Flow, goes_on, gives_back, stops, runs_out}
-use Rattle.ca_meaning.specs.Serial.{World, ended, serial, main_run}
+use Rattle.ca_meaning.specs.Serial.{World, ended, operations_of, serial, main_run}
 use Rattle.ca_meaning.specs.Sections.{Section, section, section_start, section_run, sectioned}
 use Rattle.ca_meaning.specs.WellTyped.{WellTyped, IsMethodOf, IsTypedObject}
 use Rattle.ca_meaning.specs.ProgramTyped.{ProgramTyped}
-use Rattle.ca_parallel.specs.Lists.{PlainMarks}
-use Rattle.ca_parallel.specs.Marks.{SoundMarks}
 use Rattle.ca_parallel.specs.Separable.{Separable}
-use Rattle.ca_parallel.proofs.Noted.{notes_change_nothing}
-use Rattle.ca_note_laws.specs.Listing.{CallLoopsPutNothing, listing_run}
-use Rattle.ca_note_laws.proofs.Listing.{lists_first}
 use Rattle.ca_code_laws.specs.Machine.{Store, Accesses, State, Outcome, runs, Comes, Ends}
 use Rattle.ca_code_laws.specs.Runs.{section_access, section_outcome, sectioned_as, run_access, beginning, outcome_of, ended_as}
 use Rattle.ca_code_laws.specs.Told.{Holds, IsLaidOut}
-use Rattle.ca_code_laws.specs.Heeding.{HeedingLaidOut, MainHeeds}
 use Rattle.ca_code_laws.proofs.Sections.{section_runs}
 use Rattle.ca_code_laws.proofs.Steps.{joins_end}
-use Rattle.ca_code_laws.proofs.Operations.{main_runs}
-use Rattle.ca_code_laws.proofs.Heeding.{main_heeds}
+use Rattle.ca_code_laws.proofs.Operations.{calls_end, main_runs}
 
 pub one_end : {S : Type 0} (acc : Accesses S) (code : Code) (s : State S) (o x : Outcome S) → Ends acc code s o → Ends acc code s x → o ≡ x
 one_end acc code s o x a b =
     let e : a.count + suc b.count ≡ b.count + suc a.count = omega arith in
     sym (a.by b.count) ∙ ap (λ n. runs acc code n s) e ∙ b.by a.count
 
-ended_is : (budget : ℕ) (o : Flow World) → ended_as budget (outcome_of o) ≡ ended budget o
+pub ended_is : (budget : ℕ) (o : Flow World) → ended_as budget (outcome_of o) ≡ ended budget o
 ended_is budget (goes_on ls w k) = refl
 ended_is budget (gives_back v w k) = refl
 ended_is budget (stops t w) = refl
@@ -50,10 +43,10 @@ whoever_ends p typed code is at budget main s o comes ends =
     let same = one_end (run_access p) code (beginning at budget) (outcome_of (main_run p budget)) o (main_runs p code typed is.functions is.ops at budget main) (joins_end (run_access p) code comes ends) in
     sym (ended_is budget (main_run p budget)) ∙ ap (ended_as budget) same
 
-pub whoever_heeds : (p : PlainProgram) → ProgramTyped p → (marks : PlainMarks) → SoundMarks p marks → CallLoopsPutNothing → (code : Code) → IsLaidOut p code → HeedingLaidOut marks p code → (at budget : ℕ) → MainHeeds marks p code at → (s : State World) (o : Outcome World) → Comes (run_access p) code (beginning at budget) s → Ends (run_access p) code s o → serial p budget ≡ ended_as budget o
-whoever_heeds p typed marks sound puts code is heeding at budget main s o comes ends =
-    let same = one_end (run_access p) code (beginning at budget) (outcome_of (listing_run p marks budget)) o (main_heeds p code typed is.functions is.ops marks heeding at budget main) (joins_end (run_access p) code comes ends) in
-    sym (notes_change_nothing p marks budget) ∙ ap (ended budget) (sym (lists_first p typed marks sound puts budget)) ∙ sym (ended_is budget (listing_run p marks budget)) ∙ ap (ended_as budget) same
+-- whoever runs the body of a call with none below to its end knows the call
+pub call_known : (p : PlainProgram) → ProgramTyped p → (code : Code) → IsLaidOut p code → (i : Invocation) (x : World) → TypedHeap p x.heap → WellTyped p x.heap i → (start base k : ℕ) (f : Store) → slice_get code.ops i.op.0 ≡ Some start → Holds (λ j. param_kind (slice_get p.ops i.op.0) j) f base i.arguments → (o : Outcome World) → Ends (run_access p) code (record { at = start; base = base; left = k; this = Ref i.receiver; below = []; slots = f; world = x }) o → o ≡ outcome_of ((operations_of p).invoke i x k)
+call_known p typed code is i x heap well start base k f place holds o ends =
+    one_end (run_access p) code (record { at = start; base = base; left = k; this = Ref i.receiver; below = []; slots = f; world = x }) o (outcome_of ((operations_of p).invoke i x k)) ends (calls_end p code typed is.functions is.ops i x start base k f place heap well holds)
 
 pub sectioned_is : (c : ClassId) (budget : ℕ) (o : Flow Section) → sectioned_as c budget (section_outcome o) ≡ sectioned c budget o
 sectioned_is c budget (goes_on ls s k) = refl

@@ -197,6 +197,43 @@ module _ (p : PlainProgram) (code : Code) (typed : ProgramTyped p) (laid : Funct
   pub operations_run : (n : ℕ) → InvokesRun n
   operations_run n = (both_run n).0
 
+  -- a body with none below ends as its call means
+  ends_from : (ks : Kinds) (ret : Kind) (s : State World) (l n : ℕ) → s.below ≡ [] → IsAt code (s.at + l) (on 0 Leave) → (o : Flow World) → Flows (run_access p) code (λ (x : World). x) ret s l (LocalsAt ks s.base n) o → Ends (run_access p) code s (outcome_of o)
+  ends_from ks ret s l n below h (goes_on ls x k) t =
+      joins_end (run_access p) code t.1 (steps_end (run_access p) code (moved s (s.at + l) k t.0 x) (Finished x k) (on 0 Leave) h (λ next. ap (λ y. leaving y (moved s (s.at + l) k t.0 x) next) below))
+  ends_from ks ret s l n below h (gives_back v x k) t =
+      joins_end (run_access p) code t.4 (steps_end (run_access p) code (moved s t.1 k t.0 x) (Spent x) (on t.3 (Return t.2)) t.5 (λ next. ap (λ y. returning y (moved s t.1 k t.0 x) next (t.0 (s.base + t.2))) below))
+  ends_from ks ret s l n below h (stops y x) t = t
+  ends_from ks ret s l n below h (runs_out x) t = t
+
+  body_ends : (n : ℕ) (m : PlainMethod) (i : ℕ) → slice_get p.ops i ≡ Some m → (r : ℕ) (vs : List Datum) (x : World) (at base k : ℕ) (f : Store) → k ≤ n → HasAt code at (operation_code p m) → TypedHeap p x.heap → CallTyped x.heap (Some m) r vs → Holds (kinds_of p m).locals f base vs → Ends (run_access p) code (record { at = at; base = base; left = k; this = Ref r; below = []; slots = f; world = x }) (outcome_of (exec_all (serial_parts p (Ref r)) (vs ++ map start_of (others_of m)) x m.body.statements k))
+  body_ends n m i found r vs x at base k f left h typed_heap call holds =
+      let both = both_run n in
+      let mt = typed.ops i m found in
+      let params : m.params ≡ length vs = arguments_counted x.heap m vs mt.method.parameters call.1 in
+      let first = starts_code m.params (others_of m) in
+      let body = statements_code (kinds_of p m) (all_acts (kinds_of p m)) no_hands m.body.statements (width_of m) in
+      let g = begun (run_access p) code (kinds_of p m).locals m.params (others_of m) (there at f) vs (sym params) (other_kinds p m) (has_front code at first (body ++ on 0 Leave ∷ []) h) holds in
+      let ls = vs ++ map start_of (others_of m) in
+      let len : length ls ≡ width_of m = omega (arith, length-append vs (map start_of (others_of m)), length_mapped start_of (others_of m), params) in
+      let hb = has_back code at first (body ++ on 0 Leave ∷ []) h in
+      let flows = statements_run (run_access p) code p true (λ (x : World). x) (all_acts (kinds_of p m)) no_hands (serial_parts p (Ref r)) (scope_of m) heap_of (WorldTyped p (scope_of m) (Ref r)) (Ref r) [] base n (width_of m) (parts_run n both.0 both.1 (scope_of m) (Ref r) [] base (width_of m) (sym (width_is m mt.method.parameters))) m.body.statements ls x (at + length first) k g.0 (has_front code (at + length first) body (on 0 Leave ∷ []) hb) (mt.method.body, all_may m.body.statements) len (record { heap = typed_heap; receiver = call.0 }, frame_typed x.heap vs m.params m.body.locals call.1) left g.2 in
+      joins_end (run_access p) code g.1 (ends_from (kinds_of p m) (kind_at m.result) (there (at + length first) g.0) (length body) (width_of m) refl (has_back code (at + length first) body (on 0 Leave ∷ []) hb).0 (exec_all (serial_parts p (Ref r)) ls x m.body.statements k) flows)
+    where
+      there : ℕ → Store → State World
+      there at f = record { at = at; base = base; left = k; this = Ref r; below = []; slots = f; world = x }
+
+  pub calls_end : (i : Invocation) (x : World) (start base k : ℕ) (f : Store) → slice_get code.ops i.op.0 ≡ Some start → TypedHeap p x.heap → WellTyped p x.heap i → Holds (λ j. param_kind (slice_get p.ops i.op.0) j) f base i.arguments → Ends (run_access p) code (record { at = start; base = base; left = k; this = Ref i.receiver; below = []; slots = f; world = x }) (outcome_of ((operations_of p).invoke i x k))
+  calls_end i x at base k f place typed_heap well holds =
+      subst (λ o. Ends (run_access p) code (record { at = at; base = base; left = k; this = Ref i.receiver; below = []; slots = f; world = x }) (outcome_of o)) (sym (invoke_runs p i x k)) (by (slice_get p.ops i.op.0) refl well holds)
+    where
+      at_its_place : (o : Option ℕ) (x : List Placed) → o ≡ Some at → StandsAt code o x → HasAt code at x
+      at_its_place o x e h = subst (λ o. StandsAt code o x) e h
+
+      by : (o : Option PlainMethod) → slice_get p.ops i.op.0 ≡ o → CallTyped x.heap o i.receiver i.arguments → Holds (λ j. param_kind o j) f base i.arguments → Ends (run_access p) code (record { at = at; base = base; left = k; this = Ref i.receiver; below = []; slots = f; world = x }) (outcome_of (exec_all (serial_parts p (Ref i.receiver)) (locals_of o i.arguments) x (body_of o) k))
+      by None e t holds = absurd t
+      by (Some m) e t holds = body_ends k m i.op.0 e i.receiver i.arguments x at base k f (omega arith) (at_its_place (slice_get code.ops i.op.0) (operation_code p m) place (ops_laid i.op.0 m e).0) typed_heap t holds
+
   -- a whole run
   pub main_runs : (at k : ℕ) → MainLaidOut p code at → Ends (run_access p) code (beginning at k) (outcome_of (main_run p k))
   main_runs at k h =

@@ -5,3 +5,4 @@ pub mod Runs
 pub mod Told
 pub mod Fitting
 pub mod Known
+pub mod Noted

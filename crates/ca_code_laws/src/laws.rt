@@ -22,7 +22,7 @@ ghost use Rattle.ca_meaning.specs.WellTyped.{ValuesTyped, CallTyped, WellTyped, 
 ghost use Rattle.ca_meaning.specs.ProgramTyped.{Scope, StatementTyped, StatementsTyped, ProgramTyped};
 ghost use Rattle.ca_meaning_laws.specs.Typed.{IsReceiver};
 ghost use Rattle.ca_parallel.specs.Bodies.{fors_in_all};
-ghost use Rattle.ca_parallel.specs.Lists.{PlainMarks, note, noted, noted_run, world_after};
+ghost use Rattle.ca_parallel.specs.Lists.{PlainMarks, no_marks, note, noted, noted_run, world_after};
 ghost use Rattle.ca_parallel.specs.Loops.{IsCallLoop};
 ghost use Rattle.ca_parallel.specs.Marks.{SoundMarks};
 ghost use Rattle.ca_parallel.specs.Separable.{Separable};
@@ -31,6 +31,7 @@ ghost use Rattle.ca_code_laws.specs.Fitting.{FitsMethod, FitsStatement, Function
 ghost use Rattle.ca_code_laws.specs.Heeding.{HeedingLaidOut, MainHeeds};
 ghost use Rattle.ca_code_laws.specs.Known.{IsKnown, KnowsLoop, loop_alone};
 ghost use Rattle.ca_code_laws.specs.Machine.{Store, Back, Accesses, State, Outcome, Comes, Ends, call_of, row, slot};
+ghost use Rattle.ca_code_laws.specs.Noted.{EndsNoted};
 ghost use Rattle.ca_code_laws.specs.Runs.{run_access, section_access, section_outcome, sectioned_as, beginning, outcome_of, ended_as};
 ghost use Rattle.ca_code_laws.specs.Told.{IsLaidOut, Holds, Returned, Came, Passed, Front};
 
@@ -43,6 +44,11 @@ pub fn value_methods_come_back<S>()
 /// A well typed call of an operation comes back to whatever is below, in the world that it leaves.
 pub fn operations_come_back()
     ensures { (p : PlainProgram) → ProgramTyped p → (code : Code) → IsLaidOut p code → (i : Invocation) (x : World) → TypedHeap p x.heap → WellTyped p x.heap i → (start base k : ℕ) (b : Back) (bs : List Back) (f : Store) → b.wants ≡ false → slice_get code.ops i.op.0 ≡ Some start → Holds (λ j. param_kind (slice_get p.ops i.op.0) j) f base i.arguments → Came p code (record { at = start; base = base; left = k; this = Ref i.receiver; below = b ∷ bs; slots = f; world = x }) b bs ((operations_of p).invoke i x k) }
+{}
+
+/// Whoever runs the body of a well typed call with none below to its end knows what the call means.
+pub fn whoever_ends_a_call_knows_it()
+    ensures { (p : PlainProgram) → ProgramTyped p → (code : Code) → IsLaidOut p code → (i : Invocation) (x : World) → TypedHeap p x.heap → WellTyped p x.heap i → (start base k : ℕ) (f : Store) → slice_get code.ops i.op.0 ≡ Some start → Holds (λ j. param_kind (slice_get p.ops i.op.0) j) f base i.arguments → (o : Outcome World) → Ends (run_access p) code (record { at = start; base = base; left = k; this = Ref i.receiver; below = []; slots = f; world = x }) o → o ≡ outcome_of ((operations_of p).invoke i x k) }
 {}
 
 /// The machine runs `main` to the end that the serial run has: the same heap, prints, trap and steps.
@@ -65,24 +71,34 @@ pub fn whoever_hands_on_ends_serially()
     ensures { (p : PlainProgram) → ProgramTyped p → (marks : PlainMarks) → SoundMarks p marks → CallLoopsPutNothing → (code : Code) → IsLaidOut p code → HeedingLaidOut marks p code → (at budget : ℕ) → MainHeeds marks p code at → (s : State World) (o : Outcome World) → Comes (run_access p) code (beginning at budget) s → Ends (run_access p) code s o → serial p budget ≡ ended_as budget o }
 {}
 
-/// Whoever hands marked calls and loops on ends as the run with marks, with its notes.
+/// Code that heeds marks does what the run with marks does, where they are sound.
+pub fn marked_code_ends_noted()
+    ensures { (p : PlainProgram) → ProgramTyped p → (marks : PlainMarks) → SoundMarks p marks → CallLoopsPutNothing → (code : Code) → IsLaidOut p code → HeedingLaidOut marks p code → (at : ℕ) → MainHeeds marks p code at → EndsNoted p marks code at }
+{}
+
+/// Where nothing is marked the plain code does.
+pub fn plain_code_ends_noted()
+    ensures { (p : PlainProgram) → ProgramTyped p → (code : Code) → IsLaidOut p code → (at : ℕ) → MainLaidOut p code at → EndsNoted p no_marks code at }
+{}
+
+/// Whoever runs code that does what the run with marks does ends as that, with its notes, and hands marked calls and loops on.
 pub fn whoever_hands_on_ends_noted()
-    ensures { (p : PlainProgram) → ProgramTyped p → (marks : PlainMarks) → SoundMarks p marks → CallLoopsPutNothing → (code : Code) → IsLaidOut p code → HeedingLaidOut marks p code → (at budget : ℕ) → MainHeeds marks p code at → (s : State World) (o : Outcome World) → Comes (run_access p) code (beginning at budget) s → Ends (run_access p) code s o → o ≡ outcome_of (noted_run p marks budget) }
+    ensures { (p : PlainProgram) (marks : PlainMarks) (code : Code) (at budget : ℕ) → EndsNoted p marks code at → (s : State World) (o : Outcome World) → Comes (run_access p) code (beginning at budget) s → Ends (run_access p) code s o → o ≡ outcome_of (noted_run p marks budget) }
 {}
 
 /// What was printed and noted up to a state stands at the front of what the whole run prints and notes.
 pub fn prints_and_notes_only_grow()
-    ensures { (p : PlainProgram) → ProgramTyped p → (marks : PlainMarks) → SoundMarks p marks → CallLoopsPutNothing → (code : Code) → IsLaidOut p code → HeedingLaidOut marks p code → (at budget : ℕ) → MainHeeds marks p code at → (s : State World) → Comes (run_access p) code (beginning at budget) s → Front s.world (world_after (noted_run p marks budget)) }
+    ensures { (p : PlainProgram) (marks : PlainMarks) (code : Code) (at budget : ℕ) → EndsNoted p marks code at → (s : State World) → Comes (run_access p) code (beginning at budget) s → Front s.world (world_after (noted_run p marks budget)) }
 {}
 
 /// The note of a call that is about to be handed on stands in the whole run's, behind those that were taken.
 pub fn calls_handed_on_are_noted()
-    ensures { (p : PlainProgram) → ProgramTyped p → (marks : PlainMarks) → SoundMarks p marks → CallLoopsPutNothing → (code : Code) → IsLaidOut p code → HeedingLaidOut marks p code → (at budget : ℕ) → MainHeeds marks p code at → (s : State World) → Comes (run_access p) code (beginning at budget) s → (op : OpId) (first r : ℕ) → slice_get code.items s.at ≡ Some (Hand op first) → slot s as_pointer first ≡ Ref r → Front (noted s.world (note s.world.heap (call_of code s op first r ∷ []) s.left)) (world_after (noted_run p marks budget)) }
+    ensures { (p : PlainProgram) (marks : PlainMarks) (code : Code) (at budget : ℕ) → EndsNoted p marks code at → (s : State World) → Comes (run_access p) code (beginning at budget) s → (op : OpId) (first r : ℕ) → slice_get code.items s.at ≡ Some (Hand op first) → slot s as_pointer first ≡ Ref r → Front (noted s.world (note s.world.heap (call_of code s op first r ∷ []) s.left)) (world_after (noted_run p marks budget)) }
 {}
 
 /// So does that of the calls which a loop lists that is about to be handed on.
 pub fn loops_handed_on_are_noted()
-    ensures { (p : PlainProgram) → ProgramTyped p → (marks : PlainMarks) → SoundMarks p marks → CallLoopsPutNothing → (code : Code) → IsLaidOut p code → HeedingLaidOut marks p code → (at budget : ℕ) → MainHeeds marks p code at → (s : State World) → Comes (run_access p) code (beginning at budget) s → (n line : ℕ) (h : Handed) (m : LoopOutcome) → slice_get code.items s.at ≡ Some (Begin n) → slice_get code.lines s.at ≡ Some line → slice_get code.loops s.at ≡ Some (Some h) → puts_nothing h.loop ≡ true → loop_section p s.world.heap s.this (row s.slots s.base h.locals) line h.loop s.left ≡ loop_done m → Front (noted s.world (note s.world.heap m.listed (s.left - m.steps))) (world_after (noted_run p marks budget)) }
+    ensures { (p : PlainProgram) (marks : PlainMarks) (code : Code) (at budget : ℕ) → EndsNoted p marks code at → (s : State World) → Comes (run_access p) code (beginning at budget) s → (n line : ℕ) (h : Handed) (m : LoopOutcome) → slice_get code.items s.at ≡ Some (Begin n) → slice_get code.lines s.at ≡ Some line → slice_get code.loops s.at ≡ Some (Some h) → puts_nothing h.loop ≡ true → loop_section p s.world.heap s.this (row s.slots s.base h.locals) line h.loop s.left ≡ loop_done m → Front (noted s.world (note s.world.heap m.listed (s.left - m.steps))) (world_after (noted_run p marks budget)) }
 {}
 
 /// The same instructions, with own accesses in hand and calls listed, run the section of a separable operation, behind the step

@@ -48,6 +48,7 @@ fn place_of(
 }
 
 /// Runs the section of an operation within a budget, on the copy of its receiver.
+#[inline(always)]
 fn run_on_copy(
     copies: &mut Beside,
     desk: &mut Desk,
@@ -95,6 +96,7 @@ impl Replica {
     /// What a section adds that is done is added to the sums, and it is what that section adds to every typed object that
     /// agrees with the frozen one on constants. On every answer other than `Done`, and where memory is wanting, all sums
     /// and `out` are as before. No object has two copies.
+    #[inline(always)]
     pub fn apply(
         &mut self,
         desk: &mut Desk,

@@ -1,25 +1,24 @@
 //! The engine for one worker: an `Extents` of `ca_serial` that needs no threads.
 //!
-//! `OneWorker` runs the operations of a parallel extent one at a time, in an order of its own: each as its section, and
-//! then what that lists waits with the others. It needs no runtime and always returns. Its answers are those of the
-//! serial run: done with its heap and its steps exactly where that is done, by the laws of `ca_order_laws`, which say
-//! that any order ends alike.
+//! `OneWorker` runs the operations of a list in their order, in the heap itself, each as an unmarked call runs: by the loop of
+//! `ca_steps`, with the calls within it (`in_place`). It needs no runtime and always returns. Its answers are those of the serial run,
+//! which it is: done with its heap and its steps exactly where that is done. At a put the old value is kept (`puts`), and what isn't
+//! done is undone; where there is no room for one more, of 65,536 and as many as the heap has values, the heap is copied and kept as it was.
 //!
-//! The heap that the operations were handed with stays as it is until the end, and serves as the frozen one. An object
-//! is copied beside it when it is first changed (`ca_beside`), and only a run that is done puts these into the heap. So a
-//! run costs what it touches, and one that isn't done has nothing to put back. What is handed in is run by reference, each
-//! behind all that the one before it listed.
 //! `run_round` runs operations that were handed in, and what they list; its clause is a run of the pending machine, from where it
 //! began to where it ended, of as many operations as its limit says, or of fewer where none waits any more.
-//! `OneWorker::traced` runs the same and adds the lines of a schedule (`ca_trace`), one for each operation in the order in
+//! `OneWorker::traced` runs sections beside the heap, which stays as it is until the end, and adds the lines of a schedule (`ca_trace`), one for each operation in the order in
 //! which they ran.
-//! `specs/Rounds.antt` says what a round leaves, `specs/Traced.antt` which lines are added.
+//! `specs/InPlace.antt` says what came of calls, `specs/Puts.antt` what undoing gives, `specs/Rounds.antt` what a round leaves,
+//! `specs/Traced.antt` which lines are added.
 //!
 //! Whoever reads the public clauses must believe each file of `specs/`.
 #![tactic(auto)]
 
+mod in_place;
 mod one_worker;
 mod passing;
+mod puts;
 mod rounds;
 mod tracing;
 

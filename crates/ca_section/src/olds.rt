@@ -41,12 +41,16 @@ impl Olds {
         }
     }
 
+    // It asks for memory only where the vector is full.
     #[inline(always)]
     fn add(&mut self, old: Old) -> Result<(), AllocError>
         ensures added { IfOk result (λ _. self.new ≡ old ∷ self.old) }
         ensures kept { OnErr result (self.new ≡ self.old) }
     {
-        self.items.push(old)?;
+        if self.items.len() == self.items.capacity() {
+            self.items.reserve(1)?;
+        }
+        self.items.push_reserved(old);
         Ok(())
     }
 

@@ -24,6 +24,10 @@ in_front f [] ys n v e = absurd (cc)
 in_front f (x ∷ xs) ys zero v e = e
 in_front f (x ∷ xs) ys (suc n) v e = in_front f xs ys n v e
 
+-- a code with nothing behind it
+pub unchanged : (c : CodeHeld) → Extended c c
+unchanged c = record { more = []; rows = sym (append-nil (map placed c.rows.items)); same = refl }
+
 -- rows that stand behind all others
 pub last_there : (d : CodeHeld) (before code : List Placed) → map placed d.rows.items ≡ before ++ code → HasAt (code_seen d) (length before) code
 last_there d before code e = has_at {c = code_seen d} before code [] (record { items = refl; lines = refl; loops = refl }) (e ∙ ap (λ xs. before ++ xs) (sym (append-nil code)))
@@ -39,7 +43,7 @@ module _ (c d : CodeHeld) (e : Extended c d) where
   still_has at [] h = tt
   still_has at (x ∷ xs) h = (one_still at x h.0, still_has (at + 1) xs h.1)
 
-  still_stands : (o : Option ℕ) (xs : List Placed) → StandsAt (code_seen c) o xs → StandsAt (code_seen d) o xs
+  pub still_stands : (o : Option ℕ) (xs : List Placed) → StandsAt (code_seen c) o xs → StandsAt (code_seen d) o xs
   still_stands None xs h = h
   still_stands (Some at) xs h = still_has at xs h
 

@@ -1,38 +1,43 @@
 -- A section that ran is settled, and what its answer says.
-use Rattle.std.proofs.Common.{◌≡◌, ℕ, suc, ◌-◌, List, [], ◌++◌, map, Result, Ok, Err, length, refl, sym, ap, ◌∙◌, subst, append-nil}
+use Rattle.std.proofs.Common.{◌≡◌, ℕ, suc, ◌-◌, List, [], ◌++◌, map, Result, Ok, Err, Some, length, refl, sym, ap, ◌∙◌, subst, append-nil}
 use Rattle.std.proofs.lemmas.List.{map-append, nil_from_length}
 use Rattle.ca_program.specs.declared.program.ClassId.{ClassId}
 use Rattle.ca_program.specs.Instructions.{Code}
 use Rattle.ca_program.specs.Plain.{PlainProgram}
+use Rattle.ca_program.specs.Kinds.{param_kind}
 use Rattle.ca_model.specs.declared.value.Value.TheVariants.{Ref}
 use Rattle.ca_model.specs.declared.value.Slot.{Slot}
 use Rattle.ca_model.specs.declared.value.Object.{Object}
 use Rattle.ca_meaning.specs.Sections.{Section, section, section_start}
 use Rattle.ca_parallel.specs.declared.op.Op.{Op}
 use Rattle.ca_parallel.specs.Calls.{invocation_of, invocations_of}
-use Rattle.std.specs.Prelude.{IfOk, OnErr}
+use Rattle.std.specs.Prelude.{IfOk, OnErr, pos}
 use Rattle.ca_base.specs.declared.faults.Memory.{Memory as NoMemory}
 use Rattle.ca_section.specs.declared.olds.Old.{Old}
 use Rattle.ca_section.specs.Olds.{put_back, AllThere}
-use Rattle.ca_code_laws.specs.Machine.{State, Outcome, Comes, Ends}
+use Rattle.ca_code_laws.specs.Known.{IsKnown}
+use Rattle.ca_code_laws.specs.Machine.{State, Outcome, Ends}
 use Rattle.ca_code_laws.specs.Machine as Stopped
 use Rattle.ca_code_laws.specs.Runs.{section_access, sectioned_as}
+use Rattle.ca_code_laws.specs.Told.{Holds}
+use Rattle.ca_code_laws.specs.Words.{pointer_of}
 use Rattle.ca_code_laws.proofs.FitEnd.{comes_to_end, knows_section}
 use Rattle.ca_code.specs.Codes.{code_seen}
 use Rattle.ca_steps.specs.declared.frames.Frames.{Frames}
 use Rattle.ca_steps.specs.declared.running.Laid.{Laid}
-use Rattle.ca_steps.specs.Stands.{back_seen, seen, state_of}
+use Rattle.ca_steps.specs.Stands.{back_seen, here_state, seen}
 use Rattle.ca_sections.specs.declared.access.InSection.{InSection}
 use Rattle.ca_sections.specs.declared.access.Own.TheVariants.{Handed}
 use Rattle.ca_sections.specs.declared.operations.SectionAnswer.{SectionAnswer}
 use Rattle.ca_sections.specs.declared.operations.SectionAnswer.TheVariants.{Done}
 use Rattle.ca_sections.specs.declared.operations.SectionAnswer.TheVariants as answer
+use Rattle.ca_sections.specs.declared.running.Ran.{Ran}
 use Rattle.ca_sections.specs.declared.stop.Stop.{Stop}
 use Rattle.ca_sections.specs.declared.stop.Stop.TheVariants.{Memory, Trapped, Spent}
 use Rattle.ca_sections.specs.declared.desk.Desk.{Desk}
 use Rattle.ca_sections.specs.Answers.{SectionIs, FrozenIs, CanUndo}
 use Rattle.ca_sections.specs.Fitting.{Entered, Starts}
-use Rattle.ca_sections.specs.Running.{AtEnd, Lasting, Settled, Went, lasting, own_slots, section_at}
+use Rattle.ca_sections.specs.Running.{Came, Lasting, Settled, Went, lasting, own_slots, section_at}
 
 -- a section whose list takes the place of an empty one
 pub settled_moved : (ran : Result (Unit {0}) Stop) (u : Unit {0}) (steps budget left : ℕ) (st : InSection) (after : List Slot) (out now : List Op) → ran ≡ Ok u → steps ≡ budget - left → after ≡ st.slots.now → now ≡ st.listed.now.items → length out ≡ 0 → Settled ran (Done steps) budget left st after out now
@@ -52,11 +57,11 @@ abbrev with_slots : ClassId → List Slot → Object
 with_slots c ss = record { class = c; slots = ss }
 
 -- how the machine ended that ran so
-abbrev outcome : Result (Unit {0}) Stop → Frames → Section → Outcome Section
-outcome (Ok u) m x = Stopped.Finished x m.left
-outcome (Err Memory) m x = Stopped.Wanting
-outcome (Err (Trapped t)) m x = Stopped.Trapped t x
-outcome (Err Spent) m x = Stopped.Spent x
+abbrev outcome : Result (Unit {0}) Stop → ℕ → Section → Outcome Section
+outcome (Ok u) k x = Stopped.Finished x k
+outcome (Err Memory) k x = Stopped.Wanting
+outcome (Err (Trapped t)) k x = Stopped.Trapped t x
+outcome (Err Spent) k x = Stopped.Spent x
 
 -- a section that wants no memory is told
 abbrev IsTold : Result (Unit {0}) Stop → Type 0
@@ -69,47 +74,53 @@ told (Err (Trapped t)) a budget left st after out now s = tt
 told (Err Spent) a budget left st after out now s = tt
 told (Err Memory) a budget left st after out now s = s
 
-module _ (p : PlainProgram) (on : Laid) (place : ℕ) (h : List Object) (op : Op) (k : ℕ) (object : Object) (m0 : Frames) (x0 : Section) (starts : Starts p op.op on place) (entered : Entered p place op k m0) (hand : x0 ≡ section_start object.slots) where
+module _ (p : PlainProgram) (on : Laid) (place number : ℕ) (h : List Object) (op : Op) (k : ℕ) (object : Object) (m0 : Frames) (x0 : Section) (starts : Starts p op.op on place) (entered : Entered p op m0) (named : pointer_of (pos number) ≡ Ref op.receiver) (hand : x0 ≡ section_start object.slots) where
   abbrev code : Code
   code = code_seen on.code
 
   abbrev start : State Section
   start = record { at = place; base = 0; left = k; this = Ref op.receiver; below = []; slots = seen m0.slots.items; world = section_start object.slots }
 
-  begins : state_of m0 x0 ≡ start
-  begins = λ i. record { at = entered.begins.at i; base = entered.begins.base i; left = entered.begins.left i; this = entered.begins.this i; below = none_below i; slots = seen m0.slots.items; world = hand i }
-    where
-      none_below : map back_seen m0.below ≡ []
-      none_below = ap (map back_seen) entered.begins.below
+  abbrev first : State Section
+  first = here_state (record { at = place; base = 0; left = k }) number m0.below m0.slots.items x0
 
-  ended : (ran : Result (Unit {0}) Stop) (m : Frames) (x : Section) → IsTold ran → Went h code (state_of m0 x0) ran m x → AtEnd code ran m → Ends (section_access h) code start (outcome ran m x)
-  ended ran m x is went end = subst (λ s. Ends (section_access h) code s (outcome ran m x)) begins (by ran is went end)
+  begins : first ≡ start
+  begins = λ i. record { at = place; base = 0; left = k; this = named i; below = ap (map back_seen) entered.below i; slots = seen m0.slots.items; world = hand i }
+
+  ended : (ran : Ran) (m : Frames) (x : Section) → IsTold ran.ended → Came h code first ran m x → Ends (section_access h) code start (outcome ran.ended ran.left x)
+  ended ran m x is came = subst (λ s. Ends (section_access h) code s (outcome ran.ended ran.left x)) begins (subst (λ k. Ends (section_access h) code first (outcome ran.ended k x)) came.left_is (subst (λ x. Ends (section_access h) code first (outcome ran.ended came.state.left x)) came.world_is (by ran.ended is came.went)))
     where
-      by : (r : Result (Unit {0}) Stop) → IsTold r → Went h code (state_of m0 x0) r m x → AtEnd code r m → Ends (section_access h) code (state_of m0 x0) (outcome r m x)
-      by (Ok u) is went end = comes_to_end (section_access h) code (state_of m0 x0) (state_of m x) (ap (map back_seen) end.1) end.0 went
-      by (Err (Trapped t)) is went end = went
-      by (Err Spent) is went end = went
-      by (Err Memory) is went end = absurd is
+      by : (r : Result (Unit {0}) Stop) → IsTold r → Went h code first r came.state → Ends (section_access h) code first (outcome r came.state.left came.state.world)
+      by (Ok u) is went = comes_to_end (section_access h) code first came.state went.2 went.1 went.0
+      by (Err (Trapped t)) is went = went
+      by (Err Spent) is went = went
+      by (Err Memory) is went = absurd is
 
   -- the section, as the machine ended
-  section_known : (ran : Result (Unit {0}) Stop) (m : Frames) (x : Section) → IsTold ran → Went h code (state_of m0 x0) ran m x → AtEnd code ran m → section p h op.receiver object op.op op.args (suc k) ≡ sectioned_as object.class (suc k) (outcome ran m x)
-  section_known ran m x is went end = by ran is (ended ran m x is went end)
+  section_known : (ran : Ran) (m : Frames) (x : Section) → IsTold ran.ended → Came h code first ran m x → section p h op.receiver object op.op op.args (suc k) ≡ sectioned_as object.class (suc k) (outcome ran.ended ran.left x)
+  section_known ran m x is came = by ran.ended is (ended ran m x is came)
     where
-      by : (r : Result (Unit {0}) Stop) → IsTold r → Ends (section_access h) code start (outcome r m x) → section p h op.receiver object op.op op.args (suc k) ≡ sectioned_as object.class (suc k) (outcome r m x)
-      by (Ok u) is e = knows_section p starts.functions code starts.laid h op.op starts.method starts.is starts.fits op.receiver op.args (entered.arguments starts.method starts.is starts.fits.parameters).0 object place 0 k (seen m0.slots.items) starts.begins (entered.arguments starts.method starts.is starts.fits.parameters).1 (Stopped.Finished x m.left) tt e
-      by (Err (Trapped t)) is e = knows_section p starts.functions code starts.laid h op.op starts.method starts.is starts.fits op.receiver op.args (entered.arguments starts.method starts.is starts.fits.parameters).0 object place 0 k (seen m0.slots.items) starts.begins (entered.arguments starts.method starts.is starts.fits.parameters).1 (Stopped.Trapped t x) tt e
-      by (Err Spent) is e = knows_section p starts.functions code starts.laid h op.op starts.method starts.is starts.fits op.receiver op.args (entered.arguments starts.method starts.is starts.fits.parameters).0 object place 0 k (seen m0.slots.items) starts.begins (entered.arguments starts.method starts.is starts.fits.parameters).1 (Stopped.Spent x) tt e
+      args : (starts.method.params ≡ length op.args) × Holds (λ i. param_kind (Some starts.method) i) (seen m0.slots.items) 0 op.args
+      args = entered.arguments starts.method starts.is starts.fits.parameters
+
+      knows : (o : Outcome Section) → IsKnown o → Ends (section_access h) code start o → section p h op.receiver object op.op op.args (suc k) ≡ sectioned_as object.class (suc k) o
+      knows = knows_section p starts.functions code starts.laid h op.op starts.method starts.is starts.fits op.receiver op.args args.0 object place 0 k (seen m0.slots.items) starts.begins args.1
+
+      by : (r : Result (Unit {0}) Stop) → IsTold r → Ends (section_access h) code start (outcome r ran.left x) → section p h op.receiver object op.op op.args (suc k) ≡ sectioned_as object.class (suc k) (outcome r ran.left x)
+      by (Ok u) is e = knows (Stopped.Finished x ran.left) tt e
+      by (Err (Trapped t)) is e = knows (Stopped.Trapped t x) tt e
+      by (Err Spent) is e = knows (Stopped.Spent x) tt e
       by (Err Memory) is e = absurd is
 
   -- what the answer says
-  section_is : (ran : Result (Unit {0}) Stop) (a1 : InSection) (m : Frames) (a : SectionAnswer) (after : List Slot) (out now : List Op) → a1.own ≡ Handed → put_back a1.olds.now a1.slots.now ≡ object.slots → Went h code (state_of m0 x0) ran m (section_at a1) → AtEnd code ran m → Settled ran a (suc k) m.left a1 after out now → SectionIs a (section p h op.receiver object op.op op.args (suc k)) object (record { class = object.class; slots = after }) out now
-  section_is ran a1 m a after out now own back went end s =
-      subst (λ z. SectionIs a z object (record { class = object.class; slots = after }) out now) (sym (section_known ran m (section_at a1) (told ran a (suc k) m.left a1 after out now s) went end)) (by ran a s)
+  section_is : (ran : Ran) (m : Frames) (a1 : InSection) (a : SectionAnswer) (after : List Slot) (out now : List Op) → a1.own ≡ Handed → put_back a1.olds.now a1.slots.now ≡ object.slots → Came h code first ran m (section_at a1) → Settled ran.ended a (suc k) ran.left a1 after out now → SectionIs a (section p h op.receiver object op.op op.args (suc k)) object (record { class = object.class; slots = after }) out now
+  section_is ran m a1 a after out now own back came s =
+      subst (λ z. SectionIs a z object (record { class = object.class; slots = after }) out now) (sym (section_known ran m (section_at a1) (told ran.ended a (suc k) ran.left a1 after out now s) came)) (by ran.ended a s)
     where
       hands : own_slots a1.own a1.frozen.now a1.this a1.slots.now ≡ a1.slots.now
       hands = ap (λ o. own_slots o a1.frozen.now a1.this a1.slots.now) own
 
-      by : (r : Result (Unit {0}) Stop) (a : SectionAnswer) → Settled r a (suc k) m.left a1 after out now → SectionIs a (sectioned_as object.class (suc k) (outcome r m (section_at a1))) object (record { class = object.class; slots = after }) out now
+      by : (r : Result (Unit {0}) Stop) (a : SectionAnswer) → Settled r a (suc k) ran.left a1 after out now → SectionIs a (sectioned_as object.class (suc k) (outcome r ran.left (section_at a1))) object (record { class = object.class; slots = after }) out now
       by (Ok u) (Done steps) s = (s.0, ap (λ ss. with_slots object.class ss) (s.1 ∙ sym hands), ap invocations_of s.2 ∙ map-append invocation_of out a1.listed.now.items)
       by (Err (Trapped t)) (answer.Trapped u) s = (sym s.0, ap (λ ss. with_slots object.class ss) (s.1 ∙ back), s.2)
       by (Err Spent) answer.Spent s = (ap (λ ss. with_slots object.class ss) (s.0 ∙ back), s.1)
@@ -122,11 +133,11 @@ module _ (p : PlainProgram) (on : Laid) (place : ℕ) (h : List Object) (op : Op
       by (Err Memory) a s = absurd s
 
   -- what it says of a section that puts nothing
-  frozen_is : (ran : Result (Unit {0}) Stop) (a1 : InSection) (m : Frames) (a : SectionAnswer) (after : List Slot) (out now : List Op) → Went h code (state_of m0 x0) ran m (section_at a1) → AtEnd code ran m → Settled ran a (suc k) m.left a1 after out now → FrozenIs a (section p h op.receiver object op.op op.args (suc k)) out now
-  frozen_is ran a1 m a after out now went end s =
-      subst (λ z. FrozenIs a z out now) (sym (section_known ran m (section_at a1) (told ran a (suc k) m.left a1 after out now s) went end)) (by ran a s)
+  frozen_is : (ran : Ran) (m : Frames) (a1 : InSection) (a : SectionAnswer) (after : List Slot) (out now : List Op) → Came h code first ran m (section_at a1) → Settled ran.ended a (suc k) ran.left a1 after out now → FrozenIs a (section p h op.receiver object op.op op.args (suc k)) out now
+  frozen_is ran m a1 a after out now came s =
+      subst (λ z. FrozenIs a z out now) (sym (section_known ran m (section_at a1) (told ran.ended a (suc k) ran.left a1 after out now s) came)) (by ran.ended a s)
     where
-      by : (r : Result (Unit {0}) Stop) (a : SectionAnswer) → Settled r a (suc k) m.left a1 after out now → FrozenIs a (sectioned_as object.class (suc k) (outcome r m (section_at a1))) out now
+      by : (r : Result (Unit {0}) Stop) (a : SectionAnswer) → Settled r a (suc k) ran.left a1 after out now → FrozenIs a (sectioned_as object.class (suc k) (outcome r ran.left (section_at a1))) out now
       by (Ok u) (Done steps) s = (s.0, ap invocations_of s.2 ∙ map-append invocation_of out a1.listed.now.items)
       by (Err (Trapped t)) (answer.Trapped u) s = (sym s.0, s.2)
       by (Err Spent) answer.Spent s = s.1
@@ -139,13 +150,13 @@ module _ (p : PlainProgram) (on : Laid) (place : ℕ) (h : List Object) (op : Op
       by (Err Memory) a s = absurd s
 
   -- both within a budget of one step more
-  pub section_told : (budget : ℕ) → budget ≡ suc k → (ran : Result (Unit {0}) Stop) (a1 : InSection) (m : Frames) (a : SectionAnswer) (after : List Slot) (out now : List Op) → a1.own ≡ Handed → put_back a1.olds.now a1.slots.now ≡ object.slots → Went h code (state_of m0 x0) ran m (section_at a1) → AtEnd code ran m → Settled ran a budget m.left a1 after out now → SectionIs a (section p h op.receiver object op.op op.args budget) object (record { class = object.class; slots = after }) out now
-  section_told budget e ran a1 m a after out now own back went end =
-      subst (λ b. Settled ran a b m.left a1 after out now → SectionIs a (section p h op.receiver object op.op op.args b) object (record { class = object.class; slots = after }) out now) (sym e) (section_is ran a1 m a after out now own back went end)
+  section_told : (budget : ℕ) → budget ≡ suc k → (ran : Ran) (m : Frames) (a1 : InSection) (a : SectionAnswer) (after : List Slot) (out now : List Op) → a1.own ≡ Handed → put_back a1.olds.now a1.slots.now ≡ object.slots → Came h code first ran m (section_at a1) → Settled ran.ended a budget ran.left a1 after out now → SectionIs a (section p h op.receiver object op.op op.args budget) object (record { class = object.class; slots = after }) out now
+  section_told budget e ran m a1 a after out now own back came =
+      subst (λ b. Settled ran.ended a b ran.left a1 after out now → SectionIs a (section p h op.receiver object op.op op.args b) object (record { class = object.class; slots = after }) out now) (sym e) (section_is ran m a1 a after out now own back came)
 
-  pub frozen_told : (budget : ℕ) → budget ≡ suc k → (ran : Result (Unit {0}) Stop) (a1 : InSection) (m : Frames) (a : SectionAnswer) (after : List Slot) (out now : List Op) → Went h code (state_of m0 x0) ran m (section_at a1) → AtEnd code ran m → Settled ran a budget m.left a1 after out now → FrozenIs a (section p h op.receiver object op.op op.args budget) out now
-  frozen_told budget e ran a1 m a after out now went end =
-      subst (λ b. Settled ran a b m.left a1 after out now → FrozenIs a (section p h op.receiver object op.op op.args b) out now) (sym e) (frozen_is ran a1 m a after out now went end)
+  frozen_told : (budget : ℕ) → budget ≡ suc k → (ran : Ran) (m : Frames) (a1 : InSection) (a : SectionAnswer) (after : List Slot) (out now : List Op) → Came h code first ran m (section_at a1) → Settled ran.ended a budget ran.left a1 after out now → FrozenIs a (section p h op.receiver object op.op op.args budget) out now
+  frozen_told budget e ran m a1 a after out now came =
+      subst (λ b. Settled ran.ended a b ran.left a1 after out now → FrozenIs a (section p h op.receiver object op.op op.args b) out now) (sym e) (frozen_is ran m a1 a after out now came)
 
 -- what holds of an answer holds of it in other words
 pub ok_told : {T E : Type 0} (P Q : T → Type 0) (r : Result T E) → ((x : T) → P x → Q x) → IfOk r P → IfOk r Q
@@ -179,20 +190,17 @@ can_undo (Err e) (answer.Trapped t) budget left st after out now desk before s s
 can_undo (Err e) answer.Spent budget left st after out now desk before s steps is same there back = cc
 
 -- How a section runs and is settled, with slots in hand or in the heap: what each of its clauses says.
-module _ (p : PlainProgram) (on : Laid) (place : ℕ) (h : List Object) (op : Op) (budget : ℕ) (object : Object) (m m1 : Frames) (x0 : Section) (l : Lasting) (a1 : InSection) (starts : Starts p op.op on place) (entered : Entered p place op (budget - 1) m) (least : budget ≡ suc (budget - 1)) (ran : Result (Unit {0}) Stop) (went : Went h (code_seen on.code) (state_of m x0) ran m1 (section_at a1)) (end : AtEnd (code_seen on.code) ran m1) (lasts : lasting a1 ≡ l) (hand : x0 ≡ section_start object.slots) (r : Result SectionAnswer NoMemory) (left : ℕ) (left_is : left ≡ m1.left) (after : List Slot) (out now : List Op) (is : IfOk r (λ answer. Settled ran answer budget left a1 after out now)) where
-  settled_so : (answer : SectionAnswer) → Settled ran answer budget left a1 after out now → Settled ran answer budget m1.left a1 after out now
-  settled_so answer s = subst (λ n. Settled ran answer budget n a1 after out now) left_is s
-
+module _ (p : PlainProgram) (on : Laid) (place number : ℕ) (h : List Object) (op : Op) (budget : ℕ) (object : Object) (m m1 : Frames) (x0 : Section) (l : Lasting) (a1 : InSection) (starts : Starts p op.op on place) (entered : Entered p op m) (named : pointer_of (pos number) ≡ Ref op.receiver) (least : budget ≡ suc (budget - 1)) (ran : Ran) (came : Came h (code_seen on.code) (here_state (record { at = place; base = 0; left = budget - 1 }) number m.below m.slots.items x0) ran m1 (section_at a1)) (lasts : lasting a1 ≡ l) (hand : x0 ≡ section_start object.slots) (r : Result SectionAnswer NoMemory) (after : List Slot) (out now : List Op) (is : IfOk r (λ answer. Settled ran.ended answer budget ran.left a1 after out now)) where
   pub handed_is : l.own ≡ Handed → l.before ≡ object.slots → IfOk r (λ answer. SectionIs answer (section p h op.receiver object op.op op.args budget) object (record { class = object.class; slots = after }) out now)
   handed_is in_hand slots =
-      ok_told (λ answer. Settled ran answer budget left a1 after out now) (λ answer. SectionIs answer (section p h op.receiver object op.op op.args budget) object (record { class = object.class; slots = after }) out now) r
-      (λ answer s. section_told p on place h op (budget - 1) object m x0 starts entered hand budget least ran a1 m1 answer after out now (ap (λ l. l.own) lasts ∙ in_hand) (ap (λ l. l.before) lasts ∙ slots) went end (settled_so answer s))
+      ok_told (λ answer. Settled ran.ended answer budget ran.left a1 after out now) (λ answer. SectionIs answer (section p h op.receiver object op.op op.args budget) object (record { class = object.class; slots = after }) out now) r
+      (λ answer s. section_told p on place number h op (budget - 1) object m x0 starts entered named hand budget least ran m1 a1 answer after out now (ap (λ l. l.own) lasts ∙ in_hand) (ap (λ l. l.before) lasts ∙ slots) came s)
       is
 
   pub frozen_so : IfOk r (λ answer. FrozenIs answer (section p h op.receiver object op.op op.args budget) out now)
   frozen_so =
-      ok_told (λ answer. Settled ran answer budget left a1 after out now) (λ answer. FrozenIs answer (section p h op.receiver object op.op op.args budget) out now) r
-      (λ answer s. frozen_told p on place h op (budget - 1) object m x0 starts entered hand budget least ran a1 m1 answer after out now went end (settled_so answer s))
+      ok_told (λ answer. Settled ran.ended answer budget ran.left a1 after out now) (λ answer. FrozenIs answer (section p h op.receiver object op.op op.args budget) out now) r
+      (λ answer s. frozen_told p on place number h op (budget - 1) object m x0 starts entered named hand budget least ran m1 a1 answer after out now came s)
       is
 
 -- without memory the slots are as before

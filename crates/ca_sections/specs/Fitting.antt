@@ -10,8 +10,6 @@ use Rattle.ca_program.specs.View.{program_view}
 use Rattle.ca_program.specs.Kinds.{Kind, as_pointer, kind_of, param_kind, kinds_in}
 use Rattle.ca_program.specs.Instructions.{Code, HasAt}
 use Rattle.ca_program.specs.Layout.{how_many}
-use Rattle.ca_model.specs.declared.value.Value.{Value as Datum}
-use Rattle.ca_model.specs.declared.value.Value.TheVariants.{Ref}
 use Rattle.ca_parallel.specs.declared.op.Op.{Op}
 use Rattle.ca_code.specs.Codes.{code_seen}
 use Rattle.ca_code_laws.specs.Fitting.{AreOf, Fits, FitsMethod, FitsStatement, FunctionsFit, Takes}
@@ -40,9 +38,9 @@ module _ (p : PlainProgram) (tys : List ValueType) where
 abbrev pub OpsBegin : PlainProgram → List ℕ → List ℕ → Type 0
 OpsBegin p starts places = (i place : ℕ) → slice_get places i ≡ Some place → place < 4294967295 → (m : PlainMethod) × (slice_get p.ops i ≡ Some m) × FitsMethod p true m × (slice_get starts i ≡ Some place)
 
--- The program is laid out in the code, which is run, and its value methods fit; so do the operations that have a place.
+-- The program is laid out in the code, which is run. Operations that have a place fit, and so do all value methods where there are places.
 pub record IsCoded (p : Program) (on : Laid) (places : List ℕ) : Type 0 where
-  pub functions : FunctionsFit (program_view p)
+  pub functions : 0 < length places → FunctionsFit (program_view p)
   pub laid : IsLaidOut (program_view p) (code_seen on.code)
   pub runs : Runs (code_seen on.code) on.code.rows.items on.ops.items
   pub each : OpsBegin (program_view p) on.code.ops.items places
@@ -57,17 +55,9 @@ pub record Starts (p : PlainProgram) (op : OpId) (on : Laid) (place : ℕ) : Typ
   pub fits : FitsMethod p true method
   pub begins : slice_get (code_seen on.code).ops op.0 ≡ Some place
 
--- A body stands here, on this receiver, with none below, and with so many steps left.
-pub record BeginsAt (place budget : ℕ) (me : Datum) (m : Frames) : Type 0 where
-  pub at : m.at ≡ place
-  pub base : m.base ≡ 0
-  pub left : m.left ≡ budget
-  pub this : m.this ≡ me
+-- The arguments of a call stand in the first slots, as many as it takes, each of its kind, and no body is below.
+pub record Entered (p : PlainProgram) (op : Op) (m : Frames) : Type 0 where
   pub below : m.below ≡ []
-
--- The arguments of a call stand in the first slots of that body, as many as it takes, each of its kind.
-pub record Entered (p : PlainProgram) (place : ℕ) (op : Op) (left : ℕ) (m : Frames) : Type 0 where
-  pub begins : BeginsAt place left (Ref op.receiver) m
   pub arguments : (method : PlainMethod) → slice_get p.ops op.op.0 ≡ Some method → method.params ≤ length method.body.locals → (method.params ≡ length op.args) × Holds (λ i. param_kind (Some method) i) (seen m.slots.items) 0 op.args
 
 -- The code of a loop that fits stands at a place of its own, in a body with locals of these types.

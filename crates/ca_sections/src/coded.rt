@@ -1,6 +1,6 @@
 //! A program with its code, by which sections run.
 
-ghost use Rattle.std.specs.Prelude.{◌≡◌, IfOk, IfSome, slice_get};
+ghost use Rattle.std.specs.Prelude.{◌≡◌, true, IfOk, IfSome, slice_get};
 ghost use Rattle.ca_program.specs.View.{program_view};
 ghost use Rattle.ca_code.specs.Codes.{code_seen};
 ghost use Rattle.ca_code_laws.specs.Fitting.{FunctionsFit};
@@ -34,7 +34,7 @@ fn place_of(places: &[u32], index: u32) -> Option<u32>
 pub struct Coded<'a> {
     pub(crate) program: &'a Program,
     pub(crate) laid: &'a Laid<'a>,
-    /// Where the body of each operation begins that sections run; of others `NONE`.
+    /// Where the body of each operation begins that sections run; of others `NONE`. None where no section is run.
     pub(crate) places: Vec<u32>,
 }
 
@@ -75,6 +75,19 @@ impl<'a> Coded<'a> {
         })
     }
 
+    /// A program with this code, of which no section is run: each wants memory.
+    pub fn without_sections(alloc: Global, program: &'a Program, laid: &'a Laid<'a>) -> Coded<'a>
+        requires laid { IsLaidOut (program_view program.now) (code_seen laid.now.code) }
+        requires runs { Runs (code_seen laid.now.code) laid.now.code.rows.items laid.now.ops.items }
+        ensures { result ≡ program.now }
+    {
+        Coded {
+            program,
+            laid,
+            places: Vec::new(alloc),
+        }
+    }
+
     /// The program.
     pub fn program(&self) -> &'a Program
         ensures { result.now ≡ self.now }
@@ -84,7 +97,7 @@ impl<'a> Coded<'a> {
 
     /// The body of an operation, if sections run it.
     #[inline(always)]
-    pub(crate) fn body(&self, op: OpId) -> Option<Start<'a>>
+    pub fn body(&self, op: OpId) -> Option<Start<'a>>
         ensures { IfSome result (λ s. Starts (program_view self.now) op s.laid.now s.place) }
     {
         match place_of(self.places.as_slice(), op.0) {
@@ -101,11 +114,11 @@ impl<'a> Coded<'a> {
         }
     }
 
-    /// Each value method has a body that fits.
+    /// Whether sections are run; then each value method has a body that fits.
     #[inline(always)]
-    pub(crate) fn functions_fit(&self)
-        ensures { FunctionsFit (program_view self.now) }
+    pub(crate) fn functions_fit(&self) -> bool
+        ensures { result ≡ true → FunctionsFit (program_view self.now) }
     {
-        let _program = self.program;
+        self.places.len() > 0
     }
 }

@@ -24,6 +24,7 @@ mod desk;
 mod find;
 mod fits;
 pub mod laws;
+mod listing;
 mod loop_code;
 mod loops;
 mod operations;
@@ -33,7 +34,7 @@ mod stop;
 
 pub use access::{InSection, Own};
 pub use all_olds::AllOlds;
-pub use coded::Coded;
+pub use coded::{Coded, Start};
 pub use desk::Desk;
 pub use fits::Body;
 pub use loop_code::{LoopPlace, with_loops};

@@ -1,6 +1,6 @@
 //! From an operation and its receiver to what its section leaves and lists: `section` of `ca_meaning/specs/Sections.antt`.
 
-ghost use Rattle.std.specs.Prelude.{◌≡◌, ◌≤◌, ◌-◌, ℕ, [], IfOk, OnErr, Some, slice_get};
+ghost use Rattle.std.specs.Prelude.{◌≡◌, ℕ, [], IfOk, OnErr, Some, slice_get};
 ghost use Rattle.ca_program.specs.Plain.{PlainProgram};
 ghost use Rattle.ca_program.specs.View.{program_view};
 ghost use Rattle.ca_meaning.specs.Functions.{body_of};
@@ -23,6 +23,7 @@ use crate::stop::Stop;
 use ca_base::Memory;
 use ca_model::{Heap, Object, Trap, Value};
 use ca_parallel::Op;
+use ca_steps::{Frames, number_of};
 use std::alloc::Global;
 use std::mem;
 
@@ -52,6 +53,7 @@ impl<'s> InSection<'s> {
         ensures same_slots { self.new.slots.ghost_name ≡ self.old.slots.ghost_name }
         ensures same_olds { self.new.olds.ghost_name ≡ self.old.olds.ghost_name }
         ensures same_list { self.new.listed.ghost_name ≡ self.old.listed.ghost_name }
+        ensures same_spare { self.new.spare.ghost_name ≡ self.old.spare.ghost_name }
     {
         if let Ok(()) = ran {
             let steps = budget.saturating_sub(left);
@@ -75,30 +77,32 @@ impl<'s> InSection<'s> {
     }
 }
 
-impl Desk {
-    /// Stands before a body with the arguments of a call, which takes a step, where they are as many as it takes, and of its kinds.
+impl<'a> Start<'a> {
+    /// Puts the arguments of a call into the first slots, where they are as many as its body takes, and of its kinds.
     #[inline(always)]
-    fn enter(&mut self, alloc: Global, start: Start<'_>, op: &Op, left: u64) -> Result<(), Memory>
-        requires least { 1 ≤ left }
-        ensures entered { IfOk result (λ _. (p : PlainProgram) → IsLaidOut p (code_seen start.entry.laid.now.code) → Entered p start.entry.place op.now (left - 1) self.new.frames) }
-        ensures state { self.new.state ≡ self.old.state }
+    pub fn enter(self, frames: &mut Frames, alloc: Global, op: &Op) -> Result<(), Memory>
+        ensures { IfOk result (λ _. (p : PlainProgram) → IsLaidOut p (code_seen self.entry.laid.now.code) → Entered p op.now frames.new) }
     {
-        let code = &start.laid.code;
+        let code = &self.laid.code;
         let all = code.params.as_slice();
         let place = op.op.0 as usize;
         if place >= all.len() {
             return Err(Memory);
         }
-        self.frames.begin(
-            alloc,
-            code.room,
-            start.place,
-            left - 1,
-            Value::Ref(op.receiver),
-        )?;
-        self.frames
-            .put_values(all[place].as_slice(), op.args.as_slice())?;
+        frames.make(alloc, code.room)?;
+        frames.put_values(all[place].as_slice(), op.args.as_slice())?;
         Ok(())
+    }
+}
+
+impl Desk {
+    /// Puts the arguments of a call into the first slots, where they are as many as its body takes, and of its kinds.
+    #[inline(always)]
+    fn enter(&mut self, alloc: Global, start: Start<'_>, op: &Op) -> Result<(), Memory>
+        ensures entered { IfOk result (λ _. (p : PlainProgram) → IsLaidOut p (code_seen start.entry.laid.now.code) → Entered p op.now self.new.frames) }
+        ensures state { self.new.state ≡ self.old.state }
+    {
+        start.enter(&mut self.frames, alloc, op)
     }
 
     /// Puts the object of the desk's last section back, which was done, as it was before. It takes no memory.
@@ -135,7 +139,10 @@ pub fn section<'a>(
     let Some(start) = program.body(op.op) else {
         return Err(Memory);
     };
-    desk.enter(alloc, start, op, left)?;
+    let Some(number) = number_of(Value::Ref(op.receiver)) else {
+        return Err(Memory);
+    };
+    desk.enter(alloc, start, op)?;
     desk.state.clear();
     let mut access = InSection {
         frozen,
@@ -145,15 +152,18 @@ pub fn section<'a>(
         slots: &mut object.slots,
         olds: &mut desk.state.olds,
         listed: &mut desk.state.listed,
+        spare: &mut desk.spare,
+        alloc,
     };
     let ran = run(
-        alloc,
         start.laid,
         &mut access,
         &mut desk.frames,
-        &mut desk.spare,
+        start.place,
+        left - 1,
+        number,
     );
-    let answer = access.settle(ran, out, left, desk.frames.left());
+    let answer = access.settle(ran.ended, out, left, ran.left);
     answer
 }
 
@@ -180,7 +190,10 @@ pub fn section_frozen<'a>(
     let Some(start) = program.body(op.op) else {
         return Err(Memory);
     };
-    desk.enter(alloc, start, op, left)?;
+    let Some(number) = number_of(Value::Ref(op.receiver)) else {
+        return Err(Memory);
+    };
+    desk.enter(alloc, start, op)?;
     let mut none = no_slots(alloc)?;
     desk.state.clear();
     let mut access = InSection {
@@ -191,14 +204,17 @@ pub fn section_frozen<'a>(
         slots: &mut none,
         olds: &mut desk.state.olds,
         listed: &mut desk.state.listed,
+        spare: &mut desk.spare,
+        alloc,
     };
     let ran = run(
-        alloc,
         start.laid,
         &mut access,
         &mut desk.frames,
-        &mut desk.spare,
+        start.place,
+        left - 1,
+        number,
     );
-    let answer = access.settle(ran, out, left, desk.frames.left());
+    let answer = access.settle(ran.ended, out, left, ran.left);
     answer
 }

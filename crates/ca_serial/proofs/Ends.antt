@@ -12,16 +12,14 @@ use Rattle.ca_meaning.specs.Output.{print_text, prints_text}
 use Rattle.ca_parallel.specs.Lists.{PlainMarks, noted_run, lists, world_after}
 use Rattle.ca_parallel.specs.Marks.{SoundMarks}
 use Rattle.ca_parallel.proofs.Noted.{notes_change_nothing}
-use Rattle.ca_sections.proofs.Fitting.{call_loop_fits}
 use Rattle.ca_code_laws.specs.Machine.{State, Outcome, Finished, Trapped, Spent, Comes, Ends}
 use Rattle.ca_code_laws.specs.Runs.{run_access, beginning, outcome_of, ended_as}
 use Rattle.ca_code_laws.specs.Told.{Front}
-use Rattle.ca_code_laws.proofs.Grown.{stands_in_front, ends_noted}
-use Rattle.ca_code_laws.proofs.OneEnd.{whoever_heeds}
+use Rattle.ca_code_laws.proofs.Grown.{stands_in_front, ends_noted, ends_serially}
 use Rattle.ca_serial.specs.Runs.{prints_of}
 use Rattle.ca_serial.proofs.Endings.{texts_append, ended_prints}
 use Rattle.ca_serial.proofs.Handings.{Split}
-use Rattle.ca_serial.specs.Codes.{IsMarked}
+use Rattle.ca_serial.specs.Codes.{IsRun}
 
 -- the notes of an end
 abbrev pub world_in : Outcome World → World → World
@@ -36,9 +34,9 @@ after_is x (gives_back v w k) = refl
 after_is x (stops t w) = refl
 after_is x (runs_out w) = refl
 
-module _ (p : PlainProgram) (typed : ProgramTyped p) (marks : PlainMarks) (sound : SoundMarks p marks) (code : Code) (at budget : ℕ) (laid : IsMarked marks p code at) where
+module _ (p : PlainProgram) (typed : ProgramTyped p) (marks : PlainMarks) (sound : SoundMarks p marks) (code : Code) (at budget : ℕ) (laid : IsRun marks p code at) where
   front : (s : State World) → Comes (run_access p) code (beginning at budget) s → Front s.world (world_after (noted_run p marks budget))
-  front s comes = stands_in_front p typed marks sound call_loop_fits code laid.laid laid.heeding at budget laid.main s comes
+  front s comes = stands_in_front p marks code at budget laid.ends s comes
 
   -- ---- what is printed
 
@@ -68,9 +66,9 @@ module _ (p : PlainProgram) (typed : ProgramTyped p) (marks : PlainMarks) (sound
   -- ---- how it ends
 
   pub ends_so : (s : State World) (o : Outcome World) → Comes (run_access p) code (beginning at budget) s → Ends (run_access p) code s o → serial p budget ≡ ended_as budget o
-  ends_so s o comes ends = whoever_heeds p typed marks sound call_loop_fits code laid.laid laid.heeding at budget laid.main s o comes ends
+  ends_so s o comes ends = ends_serially p marks code at budget laid.ends s o comes ends
 
   -- with all notes
   pub notes_whole : (s : State World) (o : Outcome World) (w : World) → world_in o s.world ≡ w → Comes (run_access p) code (beginning at budget) s → Ends (run_access p) code s o → w.notes ≡ lists p marks budget
   notes_whole s o w is comes ends =
-      ap (λ (w : World). w.notes) (sym is ∙ (ap (λ o. world_in o s.world) (ends_noted p typed marks sound call_loop_fits code laid.laid laid.heeding at budget laid.main s o comes ends) ∙ after_is s.world (noted_run p marks budget)))
+      ap (λ (w : World). w.notes) (sym is ∙ (ap (λ o. world_in o s.world) (ends_noted p marks code at budget laid.ends s o comes ends) ∙ after_is s.world (noted_run p marks budget)))

@@ -18,7 +18,6 @@ use Rattle.ca_parallel.specs.Accounts.{Reached, ReachedPart, at_first, by_one}
 use Rattle.ca_parallel.specs.Lists.{PlainMarks, lists, note, either}
 use Rattle.ca_parallel.specs.Marks.{SoundMarks}
 use Rattle.ca_note_laws.specs.Listing.{puts_nothing}
-use Rattle.ca_sections.proofs.Fitting.{call_loop_fits}
 use Rattle.ca_code_laws.specs.Machine.{State, Outcome, Comes, Ends}
 use Rattle.ca_code_laws.specs.Runs.{run_access, beginning, ended_as}
 use Rattle.ca_code_laws.proofs.Grown.{call_noted, loop_noted}
@@ -29,7 +28,7 @@ use Rattle.ca_serial.proofs.Endings.{told_more, told_so, ended_so, written_nothi
 use Rattle.ca_serial.proofs.Handings.{part_of, whole_of, part_on, reached_on, Split}
 use Rattle.ca_steps.specs.declared.frames.Frames.{Frames}
 use Rattle.ca_steps.specs.Stands.{state_of}
-use Rattle.ca_serial.specs.Codes.{IsMarked}
+use Rattle.ca_serial.specs.Codes.{IsRun}
 use Rattle.ca_serial.specs.clauses.Handing.{with_note, with_notes, HandsAt, due_at}
 use Rattle.ca_serial.specs.clauses.Loops.{BeginsAt, section_at, notes_of, begun_notes}
 use Rattle.ca_serial.proofs.Ends.{world_in, began_here, began_print, notes_here, ends_so, notes_whole}
@@ -92,7 +91,7 @@ module _ {A : Type 0} (S : A → PlainProgram → List Object → List Invocatio
       reached = reached_on p a b b2 i.world.notes ns i.reached more;
     }
 
-  module _ (typed : ProgramTyped p) (marks : PlainMarks) (sound : SoundMarks p marks) (laid : IsMarked marks p code at) {m : Frames} {h : List Object} {b : A} {now : Option (List ℕ)} (i : Here m h b now) where
+  module _ (typed : ProgramTyped p) (marks : PlainMarks) (sound : SoundMarks p marks) (laid : IsRun marks p code at) {m : Frames} {h : List Object} {b : A} {now : Option (List ℕ)} (i : Here m h b now) where
     abbrev here : State World
     here = state_of m (in_heap i.world h)
 
@@ -118,7 +117,7 @@ module _ {A : Type 0} (S : A → PlainProgram → List Object → List Invocatio
     -- a call, with its note
     pub call_next : (op : OpId) (first r : ℕ) → HandsAt code m op first r → Split (lists p marks budget) (i.world.notes ++ note h (due_at code m op first r ∷ []) m.left ∷ [])
     call_next op first r hands =
-        let f = call_noted p typed marks sound call_loop_fits code laid.laid laid.heeding at budget laid.main here i.comes op first r hands.stands hands.names in
+        let f = call_noted p marks code at budget laid.ends here i.comes op first r hands.stands hands.names in
         record { rest = f.notes; whole = f.noted }
 
     -- what a loop lists, with its notes
@@ -135,7 +134,7 @@ module _ {A : Type 0} (S : A → PlainProgram → List Object → List Invocatio
         by true put (loop_stopped t) e = none (begun_notes p h m tys line loop) (ap (λ b. either b (notes_of h m.left (section_at p h m tys line loop)) []) put ∙ ap (notes_of h m.left) e)
         by true put loop_over e = none (begun_notes p h m tys line loop) (ap (λ b. either b (notes_of h m.left (section_at p h m tys line loop)) []) put ∙ ap (notes_of h m.left) e)
         by true put (loop_done o) e =
-            let f = loop_noted p typed marks sound call_loop_fits code laid.laid laid.heeding at budget laid.main here i.comes n line (record { loop = loop; locals = map kind_type tys }) o b.stands b.on_line b.is put e in
+            let f = loop_noted p marks code at budget laid.ends here i.comes n line (record { loop = loop; locals = map kind_type tys }) o b.stands b.on_line b.is put e in
             let is : begun_notes p h m tys line loop ≡ note h o.listed (m.left - o.steps) ∷ [] = ap (λ b. either b (notes_of h m.left (section_at p h m tys line loop)) []) put ∙ ap (notes_of h m.left) e in
             subst (λ (ns : List Note). Split (lists p marks budget) (i.world.notes ++ ns)) (sym is) (record { rest = f.notes; whole = f.noted })
 

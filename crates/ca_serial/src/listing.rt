@@ -91,14 +91,25 @@ impl Lists {
     }
 }
 
-/// The place of the code of the loop that is handed on here.
+/// The place of the code of the loop that is handed on here. Loops stand in the order in which they are handed on.
 fn place_in<'a>(places: &[LoopPlace<'a>], at: usize) -> Option<LoopPlace<'a>>
     ensures at { IfSome result (λ l. l.at ≡ at) }
     ensures stands { IfSome result (λ l. (p : PlainProgram) (c : Code) → AllStand p c places.now → StandsAlone p c l) }
 {
-    'places: for own in places {
+    let mut low = 0;
+    let mut high = places.len();
+    'halving: while low < high {
+        let middle = low + (high - low) / 2;
+        if places[middle].at < at {
+            low = middle + 1;
+        } else {
+            high = middle;
+        }
+    }
+    if low < places.len() {
+        let own = places[low];
         if own.at == at {
-            return Some(*own);
+            return Some(own);
         }
     }
     None

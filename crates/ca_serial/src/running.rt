@@ -1,7 +1,7 @@
 //! From a program to its whole run, part of which may be handed off to an engine: `serial` of
 //! `ca_meaning/specs/Serial.antt`.
 
-ghost use Rattle.std.specs.Prelude.{◌≡◌, ◌≤◌, true, false, IfOk, OnOk, OnErr, Contains};
+ghost use Rattle.std.specs.Prelude.{◌≡◌, ◌≤◌, [], true, false, IfOk, OnOk, OnErr, Contains};
 ghost use Rattle.ca_base.specs.Devices.{Rose, Writes};
 ghost use Rattle.ca_program.specs.View.{program_view};
 ghost use Rattle.ca_meaning.specs.ProgramTyped.{ProgramTyped};
@@ -12,12 +12,13 @@ ghost use Rattle.ca_parallel.specs.Lists.{no_marks, lists};
 ghost use Rattle.ca_parallel.specs.Marks.{SoundMarks};
 ghost use Rattle.ca_parallel.specs.Notes.{NoteGood};
 ghost use Rattle.ca_code.specs.Codes.{code_seen};
-ghost use Rattle.ca_sections.specs.Extending.{AllStand};
+ghost use Rattle.ca_code_laws.specs.Told.{IsLaidOut};
+ghost use Rattle.ca_sections.specs.Extending.{AllStand, Extended};
 ghost use Rattle.ca_code_laws.specs.Runs.{beginning};
 ghost use Rattle.ca_steps.specs.Ops.{Runs};
 ghost use Rattle.ca_steps.specs.Stands.{state_of};
 ghost use Rattle.ca_serial.specs.Runs.{run_with, prints_of, OnWrite};
-ghost use Rattle.ca_serial.specs.Codes.{IsMarked};
+ghost use Rattle.ca_serial.specs.Codes.{IsRun};
 
 use crate::extents::Extents;
 use crate::handing::hand_on;
@@ -25,12 +26,13 @@ use crate::heeding::lay_out_marked;
 use crate::listing::{Lists, list_on};
 use crate::print::print_line;
 use ca_base::{Memory, Sink};
+use ca_code::{Code, lay_out_once};
 use ca_model::{Heap, Trap};
 use ca_parallel::Marks;
 use ca_program::Program;
 use ca_sections::{Coded, LoopPlace, with_loops};
 use ca_steps::{Event, Frames, InRun, Laid, run_on};
-use std::alloc::Global;
+use std::alloc::{AllocError, Global};
 use std::mem;
 use std::sync::Wait;
 use std::thread::Threads;
@@ -104,14 +106,88 @@ struct Made<'a> {
     places: Vec<LoopPlace<'a>>,
 }
 
-/// Lays a program out with marks.
-fn made_of<'a>(alloc: Global, program: &'a Program, marks: &Marks) -> Result<Made<'a>, Memory>
-    ensures marked { IfOk result (λ m. IsMarked marks.now (program_view program.now) (code_seen m.laid.code) m.laid.code.main) }
+/// The code with that of each loop that is handed on, which are none where no loop is marked.
+fn loops_of<'a>(
+    alloc: Global,
+    program: &'a Program,
+    marks: &Marks,
+    code: Code<'a>,
+) -> Result<(Code<'a>, Vec<LoopPlace<'a>>), AllocError>
+    ensures { IfOk result (λ r. Extended code.entry r.0 × AllStand (program_view program.now) (code_seen r.0) r.1.items) }
+{
+    if no_loops(marks) {
+        return Ok((code, Vec::new(alloc)));
+    }
+    with_loops(alloc, program, code)
+}
+
+/// Whether no call is handed on.
+fn no_calls(marks: &Marks) -> bool
+    ensures { result ≡ true → marks.now.ops ≡ [] }
+{
+    marks.ops.as_slice().is_empty()
+}
+
+/// Whether no loop is handed on.
+fn no_loops(marks: &Marks) -> bool
+    ensures { result ≡ true → marks.now.loops ≡ [] }
+{
+    marks.loops.as_slice().is_empty()
+}
+
+/// Whether nothing is handed on.
+fn nothing_is_marked(marks: &Marks) -> bool
+    ensures { result ≡ true → marks.now ≡ no_marks }
+{
+    no_calls(marks) & no_loops(marks)
+}
+
+/// The program with its code, whose bodies are asked where anything is handed on.
+fn coded_of<'a>(
+    alloc: Global,
+    program: &'a Program,
+    marks: &Marks,
+    laid: &'a Laid<'a>,
+) -> Result<Coded<'a>, AllocError>
+    requires laid { IsLaidOut (program_view program.now) (code_seen laid.now.code) }
+    requires runs { Runs (code_seen laid.now.code) laid.now.code.rows.items laid.now.ops.items }
+    ensures { IfOk result (λ c. c ≡ program.now) }
+{
+    if nothing_is_marked(marks) {
+        return Ok(Coded::without_sections(alloc, program, laid));
+    }
+    Coded::of(alloc, program, laid)
+}
+
+/// Lays a program out in which nothing is marked, each body once.
+fn made_once<'a>(alloc: Global, program: &'a Program, marks: &Marks) -> Result<Made<'a>, Memory>
+    requires program { ProgramTyped (program_view program.now) }
+    requires none { marks.now ≡ no_marks }
+    ensures run { IfOk result (λ m. IsRun marks.now (program_view program.now) (code_seen m.laid.code) m.laid.code.main) }
     ensures ops { IfOk result (λ m. Runs (code_seen m.laid.code) m.laid.code.rows.items m.laid.ops.items) }
     ensures loops { IfOk result (λ m. AllStand (program_view program.now) (code_seen m.laid.code) m.places.items) }
 {
+    let code = lay_out_once(alloc, program)?;
+    let laid = Laid::of(alloc, code)?;
+    Ok(Made {
+        laid,
+        places: Vec::new(alloc),
+    })
+}
+
+/// Lays a program out with marks.
+fn made_of<'a>(alloc: Global, program: &'a Program, marks: &Marks) -> Result<Made<'a>, Memory>
+    requires program { ProgramTyped (program_view program.now) }
+    requires sound { SoundMarks (program_view program.now) marks.now }
+    ensures run { IfOk result (λ m. IsRun marks.now (program_view program.now) (code_seen m.laid.code) m.laid.code.main) }
+    ensures ops { IfOk result (λ m. Runs (code_seen m.laid.code) m.laid.code.rows.items m.laid.ops.items) }
+    ensures loops { IfOk result (λ m. AllStand (program_view program.now) (code_seen m.laid.code) m.places.items) }
+{
+    if nothing_is_marked(marks) {
+        return made_once(alloc, program, marks);
+    }
     let code = lay_out_marked(alloc, program, marks)?;
-    let (code, places) = with_loops(alloc, program, code)?;
+    let (code, places) = loops_of(alloc, program, marks, code)?;
     let laid = Laid::of(alloc, code)?;
     Ok(Made { laid, places })
 }
@@ -132,7 +208,7 @@ fn run_made<'a, R: Threads + Wait + Sync, E: Extents, K: Sink>(
     requires program { ProgramTyped (program_view program.now) }
     requires sound { SoundMarks (program_view program.now) marks.now }
     requires served { E.serves ≡ false → marks.now ≡ no_marks }
-    requires laid { IsMarked marks.now (program_view program.now) (code_seen laid.now.code) laid.now.code.main }
+    requires laid { IsRun marks.now (program_view program.now) (code_seen laid.now.code) laid.now.code.main }
     requires ops { Runs (code_seen laid.now.code) laid.now.code.rows.items laid.now.ops.items }
     requires loops { AllStand (program_view program.now) (code_seen laid.now.code) places.now }
     ensures outcome { IfOk result (λ outcome. serial (program_view program.now) budget ≡ run_with (prints_of (serial (program_view program.now) budget)) outcome) }
@@ -141,7 +217,7 @@ fn run_made<'a, R: Threads + Wait + Sync, E: Extents, K: Sink>(
     ensures later { K.faults sink.old ≤ K.faults sink.new }
     ensures account { HandedOn E.Accounts (program_view program.now) (E.account engine.old) (E.account engine.new) result (lists (program_view program.now) marks.now budget) }
 {
-    let Ok(coded) = Coded::of(alloc, program, laid) else {
+    let Ok(coded) = coded_of(alloc, program, marks, laid) else {
         return Err(RunError::Memory);
     };
     run_coded(
@@ -166,7 +242,7 @@ fn run_coded<'a, R: Threads + Wait + Sync, E: Extents, K: Sink>(
     requires program { ProgramTyped (program_view program.now) }
     requires sound { SoundMarks (program_view program.now) marks.now }
     requires served { E.serves ≡ false → marks.now ≡ no_marks }
-    requires laid { IsMarked marks.now (program_view program.now) (code_seen laid.now.code) laid.now.code.main }
+    requires laid { IsRun marks.now (program_view program.now) (code_seen laid.now.code) laid.now.code.main }
     requires ops { Runs (code_seen laid.now.code) laid.now.code.rows.items laid.now.ops.items }
     requires coded { coded.now ≡ program.now }
     requires loops { AllStand (program_view program.now) (code_seen laid.now.code) places.now }
@@ -221,7 +297,7 @@ fn run_all<'a, R: Threads + Wait + Sync, E: Extents, K: Sink>(
     requires program { ProgramTyped (program_view run.old.program.now) }
     requires sound { SoundMarks (program_view run.old.program.now) marks.now }
     requires good { (n : Note) → Contains (lists (program_view run.old.program.now) marks.now budget) n → NoteGood (program_view run.old.program.now) n × (E.serves ≡ true) }
-    requires laid { IsMarked marks.now (program_view run.old.program.now) (code_seen laid.now.code) laid.now.code.main }
+    requires laid { IsRun marks.now (program_view run.old.program.now) (code_seen laid.now.code) laid.now.code.main }
     requires ops { Runs (code_seen laid.now.code) laid.now.code.rows.items laid.now.ops.items }
     requires coded { coded.now ≡ run.old.program.now }
     requires loops { AllStand (program_view run.old.program.now) (code_seen laid.now.code) places.now }

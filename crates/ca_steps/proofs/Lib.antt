@@ -11,6 +11,7 @@ pub mod Staying
 pub mod Calling
 pub mod Entering
 pub mod Halting
+pub mod Listing
 pub mod Creating
 pub mod Opping
 pub mod Opped

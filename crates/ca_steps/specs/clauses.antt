@@ -5,3 +5,4 @@ pub mod Events
 pub mod Handed
 pub mod Running
 pub mod Here
+pub mod Wide

@@ -1,13 +1,16 @@
 //! How a world is accessed.
 
-ghost use Rattle.std.specs.Prelude.{◌≡◌, IfSome, ℕ, slice_get, true};
-ghost use Rattle.ca_meaning.specs.Expressions.{Invocation, one_in};
-ghost use Rattle.ca_code_laws.specs.Machine.{Back, enters};
+ghost use Rattle.std.specs.Prelude.{◌≡◌, IfSome, ℕ, map, slice_get, true};
+ghost use Rattle.ca_meaning.specs.Expressions.{Invocation, invocation, one_in};
+ghost use Rattle.ca_code.specs.Seen.{kind_seen};
+ghost use Rattle.ca_code_laws.specs.Machine.{Back, enters, listed, row};
 ghost use Rattle.ca_steps.specs.Lists.{has_some};
+ghost use Rattle.ca_steps.specs.Stands.{seen};
 ghost use Rattle.ca_steps.specs.clauses.Telling.{Looks};
 
+use ca_code::Kind;
 use ca_model::{Heap, Value};
-use ca_program::FieldId;
+use ca_program::{FieldId, OpId};
 
 /// What an index finds: an item, at its place; nothing; or it isn't told.
 #[derive(Clone, Copy)]
@@ -43,6 +46,15 @@ pub trait Access {
     /// Whether a call of an operation enters its body.
     fn enters(&self) -> bool
         ensures { result ≡ true → (w : World) (i : Invocation) (k : ℕ) → (accesses (fixed self.now)).call w i k ≡ enters w };
+
+    /// Lists a call of an operation on an object, whose arguments stand in slots from one on, by their kinds, if calls are listed.
+    fn list(&mut self, op: OpId, receiver: u32, kinds: &[Kind], slots: &[i64], first: usize) -> bool
+        ensures listed { result ≡ true → (past : Past) (k : ℕ) → (accesses (fixed self.old)).call (world self.old past) (invocation receiver op (row (seen slots.now) first (map kind_seen kinds.now))) k ≡ listed (world self.new past) }
+        ensures fixed { fixed self.new ≡ fixed self.old }
+        ensures fits { (bs : List Back) → Fits self.old bs → Fits self.new bs };
+
+    /// An operation is about to be entered on the object that this number names in a slot, if it names one.
+    fn reach(&self, receiver: i64);
 
     /// A body runs with others below it, or with none.
     fn stand(&mut self, deep: bool)

@@ -5,8 +5,9 @@ ghost use Rattle.ca_meaning.specs.Serial.{put_own};
 
 use crate::access::{Access, Look};
 use crate::loads::{field_of, look_at};
+use ca_code::Kind;
 use ca_model::{Heap, Value};
-use ca_program::{FieldId, Program};
+use ca_program::{FieldId, OpId, Program};
 
 /// Puts a value into an item of a field of the object that a value names, if there is one.
 #[inline(always)]
@@ -55,6 +56,20 @@ impl<'a> Access for InRun<'a> {
     fn enters(&self) -> bool {
         true
     }
+
+    #[inline(always)]
+    fn list(
+        &mut self,
+        _op: OpId,
+        _receiver: u32,
+        _kinds: &[Kind],
+        _slots: &[i64],
+        _first: usize,
+    ) -> bool {
+        false
+    }
+
+    fn reach(&self, _receiver: i64) {}
 
     #[inline(always)]
     fn stand(&mut self, _deep: bool) {}

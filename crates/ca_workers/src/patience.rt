@@ -11,13 +11,13 @@ use std::alloc::Global;
 
 /// The calling thread goes on alone as long as a single operation waits, and until what it ran weighs so much, about ten times what
 /// a round's start is worth,
-pub const ALONE: u64 = 18_000;
+pub const ALONE: u64 = 34_000;
 
 /// and so much for each object, since light work on many objects gains nothing by rounds in cells.
 const ALONE_AN_OBJECT: u64 = 72;
 
 /// Where the operations only sum, a round costs what it touches, and so much for each object will do.
-const ALONE_AN_OBJECT_OF_SUMS: u64 = 3;
+const ALONE_AN_OBJECT_OF_SUMS: u64 = 6;
 
 /// In cells, on a heap of so many objects twice as much has to run or wait, on one of twice as many three times as much, and so
 /// on: who takes an object there looks for it among many.
@@ -39,6 +39,7 @@ pub struct Patience<'s> {
     enough: u64,
     light: u64,
     asks: bool,
+    count: u64,
     ghost some: { 0 < workers },
 }
 
@@ -64,12 +65,14 @@ impl<'s> Patience<'s> {
             enough: ALONE + ALONE_AN_OBJECT_OF_SUMS * u64::from(objects),
             light: LIGHT,
             asks: true,
+            count: 0,
         }
     }
 
     /// Whether it is enough that so many operations ran, of this weight together, where the next one weighs so much, and so many wait
     /// that they listed, and so many in all.
     pub fn is_over(&mut self, ran: u64, count: u64, weight: u64, listed: u64, waits: u64) -> bool {
+        self.count = count;
         if self.asks {
             if ran < self.enough {
                 return false;
@@ -83,6 +86,14 @@ impl<'s> Patience<'s> {
         }
         let all = ran.saturating_add(weight.saturating_mul(listed));
         all >= count.saturating_add(listed).saturating_mul(self.light)
+    }
+
+    /// About how many tasks each worker runs where so many calls wait, of a list of which so many ran with what they listed, and
+    /// a quarter more: on the mean each leads to as many as ran for one of these.
+    pub fn tasks_of_each(&self, calls: usize, done: usize) -> usize {
+        let for_one = self.count as usize / done.max(1);
+        let each = calls.saturating_mul(for_one) / self.workers as usize;
+        each.saturating_add(each / 4)
     }
 
     /// How much is enough, by what the operations do.

@@ -1,47 +1,82 @@
 //! What is known of operations: what they weigh, about how many parts of a body run in a step of theirs, statements and what their
-//! expressions are made of, and whether they take a lock. It only tells when a round is worth its start, and before which
-//! operations a gate is passed, so no clause speaks of it.
+//! expressions are made of, whether they take a lock, and whether they are light. It only tells when a round is worth its start, and
+//! before which operations a gate is passed, so no clause speaks of it.
 
 use ca_parallel::Op;
-use ca_program::{Expr, Program, Stmt, StmtForm};
+use ca_program::{Expr, FunctionId, Program, Stmt, StmtForm};
 use std::alloc::{AllocError, Global};
 
 /// What a step, a call or a turn of a loop, takes by itself, in parts.
-const STEP: u32 = 4;
+const STEP: u32 = 6;
 
 /// What a call of a value method takes by itself.
-const VALUE: u32 = 16;
+const VALUE: u32 = 5;
 
 /// What an operation weighs that none was told of.
 const UNKNOWN: u32 = 24;
+
+/// What a loop weighs whose turns list nothing, and what a value method that calls others: their text doesn't tell how long they
+/// take.
+const HEAVY: u32 = 1_048_576;
 
 /// What is known of an operation.
 #[derive(Clone, Copy)]
 pub struct Known {
     pub weight: u32,
+    /// How many parts its text tells of, with those of the value methods that it calls: `HEAVY` and more where it doesn't tell.
+    pub text: u32,
     /// Whether it takes a lock, where it was asked.
     pub locks: Option<bool>,
+    /// The most parts of it and of all that it leads to, where it was asked.
+    pub greatest: Option<u32>,
+}
+
+/// What is counted for a call of a value method, by its number as far as they are known, and for a loop whose turns list nothing.
+#[derive(Clone, Copy)]
+struct Costs<'c> {
+    values: &'c [u32],
+    other: u32,
+    turns: u32,
+}
+
+/// How many parts run, about, and whether they list operations.
+#[derive(Clone, Copy)]
+struct Count {
+    parts: u32,
+    lists: bool,
+}
+
+/// What a call of a value method takes by itself.
+fn value_cost(costs: Costs<'_>, function: FunctionId) -> u32 {
+    let number = function.0 as usize;
+    if number < costs.values.len() {
+        costs.values[number]
+    } else {
+        costs.other
+    }
 }
 
 /// How many parts an expression has.
 #[cycle(parts)]
-fn parts_in(e: &Expr) -> u32 {
+fn parts_in(e: &Expr, costs: Costs<'_>) -> u32 {
     match e {
-        Expr::OwnItem(_, index) => parts_in(index).saturating_add(1),
-        Expr::Read(of, _) => parts_in(of).saturating_add(1),
+        Expr::OwnItem(_, index) => parts_in(index, costs).saturating_add(1),
+        Expr::Read(of, _) => parts_in(of, costs).saturating_add(1),
         Expr::ReadItem(of, _, index) => {
-            parts_in(of)
-                .saturating_add(parts_in(index))
+            parts_in(of, costs)
+                .saturating_add(parts_in(index, costs))
                 .saturating_add(1)
         }
-        Expr::Value(of, _, args) => {
-            let given = all_parts(args.as_slice());
-            parts_in(of).saturating_add(given).saturating_add(VALUE)
+        Expr::Value(of, function, args) => {
+            let given = all_parts(args.as_slice(), costs);
+            parts_in(of, costs)
+                .saturating_add(given)
+                .saturating_add(value_cost(costs, *function))
         }
-        Expr::Unary(_, of) => parts_in(of).saturating_add(1),
+        Expr::Unary(_, of) => parts_in(of, costs).saturating_add(1),
         Expr::Binary(_, left, right) => {
-            parts_in(left)
-                .saturating_add(parts_in(right))
+            parts_in(left, costs)
+                .saturating_add(parts_in(right, costs))
                 .saturating_add(1)
         }
         _ => 1,
@@ -49,59 +84,119 @@ fn parts_in(e: &Expr) -> u32 {
 }
 
 #[cycle(parts)]
-fn all_parts(args: &[Expr]) -> u32 {
+fn all_parts(args: &[Expr], costs: Costs<'_>) -> u32 {
     let mut sum: u32 = 0;
     'expressions: for e in args {
-        sum = sum.saturating_add(parts_in(e));
+        sum = sum.saturating_add(parts_in(e, costs));
     }
     sum
+}
+
+/// So many parts and one more, which list nothing.
+fn one_more(parts: u32) -> Count {
+    Count {
+        parts: parts.saturating_add(1),
+        lists: false,
+    }
+}
+
+/// A turn of a loop with this head.
+fn turn_of(head: u32, body: Count, costs: Costs<'_>) -> Count {
+    let parts = body.parts.saturating_add(head);
+    if body.lists {
+        return Count { parts, lists: true };
+    }
+    Count {
+        parts: parts.saturating_add(costs.turns),
+        lists: false,
+    }
 }
 
 /// How many parts of a statement run, about: of an `if` the longer branch, of a loop those of a turn.
 #[cycle(counts)]
-fn count_in(s: &Stmt) -> u32 {
+fn count_in(s: &Stmt, costs: Costs<'_>) -> Count {
     match &s.kind {
-        StmtForm::Block(stmts) => count_all(stmts.as_slice()),
-        StmtForm::PutLocal(_, _, value) => parts_in(value).saturating_add(1),
-        StmtForm::PutField(_, _, value) => parts_in(value).saturating_add(1),
+        StmtForm::Block(stmts) => count_all(stmts.as_slice(), costs),
+        StmtForm::PutLocal(_, _, value) => one_more(parts_in(value, costs)),
+        StmtForm::PutField(_, _, value) => one_more(parts_in(value, costs)),
         StmtForm::PutItem(_, at, _, value) => {
-            parts_in(at)
-                .saturating_add(parts_in(value))
-                .saturating_add(1)
+            one_more(parts_in(at, costs).saturating_add(parts_in(value, costs)))
         }
         StmtForm::Invoke(of, _, args) => {
-            let given = all_parts(args.as_slice());
-            parts_in(of).saturating_add(given).saturating_add(1)
+            let given = all_parts(args.as_slice(), costs);
+            Count {
+                parts: parts_in(of, costs).saturating_add(given).saturating_add(1),
+                lists: true,
+            }
         }
         StmtForm::If(test, yes, no) => {
-            let branch = count_in(yes).max(count_in(no));
-            parts_in(test).saturating_add(branch)
+            let one = count_in(yes, costs);
+            let other = count_in(no, costs);
+            Count {
+                parts: parts_in(test, costs).saturating_add(one.parts.max(other.parts)),
+                lists: one.lists || other.lists,
+            }
         }
-        StmtForm::While(test, body) => count_in(body).saturating_add(parts_in(test)),
+        StmtForm::While(test, body) => {
+            turn_of(parts_in(test, costs), count_in(body, costs), costs)
+        }
         StmtForm::For(_, _, _, test, next, body) => {
-            let head = parts_in(test).saturating_add(count_in(next));
-            count_in(body).saturating_add(head)
+            let head = parts_in(test, costs).saturating_add(count_in(next, costs).parts);
+            turn_of(head, count_in(body, costs), costs)
         }
-        _ => 1,
+        StmtForm::Return(value) => one_more(parts_in(value, costs)),
+        _ => one_more(0),
     }
 }
 
 #[cycle(counts)]
-fn count_all(stmts: &[Stmt]) -> u32 {
-    let mut sum: u32 = 0;
+fn count_all(stmts: &[Stmt], costs: Costs<'_>) -> Count {
+    let mut parts: u32 = 0;
+    let mut lists = false;
     'statements: for s in stmts {
-        sum = sum.saturating_add(count_in(s));
+        let count = count_in(s, costs);
+        parts = parts.saturating_add(count.parts);
+        lists = lists || count.lists;
     }
-    sum
+    Count { parts, lists }
+}
+
+/// What a call of each value method takes, by their numbers.
+fn values_of(alloc: Global, program: &Program) -> Result<Vec<u32>, AllocError> {
+    let costs = Costs {
+        values: &[],
+        other: HEAVY,
+        turns: HEAVY,
+    };
+    let mut values = Vec::with_capacity(alloc, program.functions.len())?;
+    for function in &program.functions {
+        let count = count_all(function.body.stmts.as_slice(), costs);
+        values.push(count.parts.saturating_add(VALUE))?;
+    }
+    Ok(values)
 }
 
 /// What is known of the operations of a program at first, by their numbers.
 pub fn weights_of(alloc: Global, program: &Program) -> Result<Vec<Known>, AllocError> {
+    let values = values_of(alloc, program)?;
+    let turns = Costs {
+        values: &[],
+        other: VALUE,
+        turns: 0,
+    };
+    let text = Costs {
+        values: values.as_slice(),
+        other: HEAVY,
+        turns: HEAVY,
+    };
     let mut known = Vec::with_capacity(alloc, program.ops.len())?;
     for op in &program.ops {
+        let stmts = op.body.stmts.as_slice();
         known.push(Known {
-            weight: count_all(op.body.stmts.as_slice()).saturating_add(STEP),
+            weight: count_all(stmts, turns).parts.saturating_add(STEP),
+            text: count_all(stmts, text).parts,
             locks: None,
+            greatest: None,
         })?;
     }
     Ok(known)

@@ -13,7 +13,7 @@ returns-in_default g c = stopped c.fail.ensures
 
 pub rows-preserved : goal.rows-preserved
 rows-preserved g c =
-    one_copied (g.B.Bodies.changed c.args.bodies.now) c.rows.at _ (omega (arith, c.rows-test.true, c.here-end.ensures.value)) (placed_there c.rows.rows.rows _ _ c.in-Some.ensures) c.rows.invariant (row_is c.change-changed.ensures c.push.ensures)
+    one_copied (g.B.Bodies.changed c.args.bodies.now) c.rows.at _ (omega (arith, c.rows-test.true, c.here-end.ensures.value)) (placed_there c.rows.rows.rows _ _ c.in-Some.ensures) c.rows.invariant (row_is c.change-changed.ensures c.again.ensures)
 
 pub returns : goal.returns
 returns g c =

@@ -23,29 +23,29 @@ returns-then-left-eq0 c =
       undo = λ steps e. cc;
     }
 
-pub enter-requires : goal.enter-requires
-enter-requires c = record { least = omega arith }
-
 pub run-ran-requires : goal.run-ran-requires
 run-ran-requires c =
     let starts = c.in-Some.ensures in
     let entered = c.in_ok-enter.ensures.entered (program_view c.args.program.now) starts.laid in
     record {
       laid = starts.runs;
-      fits = record { deep = sym (ap (λ bs. has_some (map back_seen bs)) entered.begins.below); there = subst (λ os. AllThere os c.args.object.now.slots) (sym c.clear.ensures.olds) tt };
+      fits = record { deep = sym (ap (λ bs. has_some (map back_seen bs)) entered.below); there = subst (λ os. AllThere os c.args.object.now.slots) (sym c.clear.ensures.olds) tt };
     }
 
 pub settle-answer-requires : goal.settle-answer-requires
 settle-answer-requires c = record { there = c.run-ran.ensures.there }
 
 pub shape_of-desk : goal.shape_of-desk
-shape_of-desk c = sym (c.settle-answer.ensures.same_list ∙ ap (λ l. l.listed) c.run-ran.ensures.lasts)
+shape_of-desk c = sym (c.settle-answer.ensures.same_spare ∙ ap (λ l. l.spare) c.run-ran.ensures.lasts)
 
 pub shape_of-object : goal.shape_of-object
 shape_of-object c = sym (c.settle-answer.ensures.same_slots ∙ ap (λ l. l.slots) c.run-ran.ensures.lasts)
 
 pub shape_of-desk-2 : goal.shape_of-desk-2
-shape_of-desk-2 c = sym (c.settle-answer.ensures.same_olds ∙ ap (λ l. l.olds) c.run-ran.ensures.lasts)
+shape_of-desk-2 c = sym (c.settle-answer.ensures.same_list ∙ ap (λ l. l.listed) c.run-ran.ensures.lasts)
+
+pub shape_of-desk-3 : goal.shape_of-desk-3
+shape_of-desk-3 c = sym (c.settle-answer.ensures.same_olds ∙ ap (λ l. l.olds) c.run-ran.ensures.lasts)
 
 pub returns : goal.returns
 returns c =
@@ -64,7 +64,7 @@ returns c =
     let settled = c.settle-answer.ensures.settled in
     let before : put_back c.clear.new.self.olds o.slots ≡ o.slots = ap (λ os. put_back os o.slots) c.clear.ensures.olds in
     record {
-      answer = handed_is p _ _ c.args.frozen.now op c.args.left o m c.run-ran.new.frames _ _ a1 starts entered least _ run.went run.end run.lasts (λ i. record { own = o.slots; listed = invocations_of (c.clear.ensures.listed i) }) _ c.left.result c.left.ensures after out now settled refl before;
+      answer = handed_is p _ _ c.in-Some-number_of.number c.args.frozen.now op c.args.left o m c.run-ran.new.frames _ _ a1 starts entered c.in-Some-number_of.ensures least c.run-ran.result run.came run.lasts (λ i. record { own = o.slots; listed = invocations_of (c.clear.ensures.listed i) }) _ after out now settled refl before;
       kept = kept_so a1 _ o _ after (now ≡ out) run.lasts before c.settle-answer.ensures.kept;
-      undo = undo_so _ c.args.left c.left.result a1 _ o _ after out now _ c.settle-answer.new.self.olds.now run.lasts before run.there refl settled c.settle-answer.ensures.olds;
+      undo = undo_so _ c.args.left _ a1 _ o _ after out now _ c.settle-answer.new.self.olds.now run.lasts before run.there refl settled c.settle-answer.ensures.olds;
     }

@@ -22,26 +22,26 @@ returns-then-left-eq0 c =
       kept = tt;
     }
 
-pub enter-requires : goal.enter-requires
-enter-requires c = record { least = omega arith }
-
 pub run-ran-requires : goal.run-ran-requires
 run-ran-requires c =
     let starts = c.in-Some.ensures in
     let entered = c.in_ok-enter.ensures.entered (program_view c.args.program.now) starts.laid in
     record {
       laid = starts.runs;
-      fits = record { deep = sym (ap (λ bs. has_some (map back_seen bs)) entered.begins.below); there = subst (λ os. AllThere os c.in_ok-none.none) (sym c.clear.ensures.olds) tt };
+      fits = record { deep = sym (ap (λ bs. has_some (map back_seen bs)) entered.below); there = subst (λ os. AllThere os c.in_ok-none.none) (sym c.clear.ensures.olds) tt };
     }
 
 pub settle-answer-requires : goal.settle-answer-requires
 settle-answer-requires c = record { there = c.run-ran.ensures.there }
 
 pub shape_of-desk : goal.shape_of-desk
-shape_of-desk c = sym (c.settle-answer.ensures.same_list ∙ ap (λ l. l.listed) c.run-ran.ensures.lasts)
+shape_of-desk c = sym (c.settle-answer.ensures.same_spare ∙ ap (λ l. l.spare) c.run-ran.ensures.lasts)
 
 pub shape_of-desk-2 : goal.shape_of-desk-2
-shape_of-desk-2 c = sym (c.settle-answer.ensures.same_olds ∙ ap (λ l. l.olds) c.run-ran.ensures.lasts)
+shape_of-desk-2 c = sym (c.settle-answer.ensures.same_list ∙ ap (λ l. l.listed) c.run-ran.ensures.lasts)
+
+pub shape_of-desk-3 : goal.shape_of-desk-3
+shape_of-desk-3 c = sym (c.settle-answer.ensures.same_olds ∙ ap (λ l. l.olds) c.run-ran.ensures.lasts)
 
 pub returns : goal.returns
 returns c =
@@ -54,6 +54,6 @@ returns c =
     let out = c.args.out.now.items in
     let now = c.settle-answer.new.out.items in
     record {
-      answer = λ free o found. frozen_so p _ _ c.args.frozen.now op c.args.left o c.enter.new.self.frames c.run-ran.new.frames _ _ c.run-ran.new.access starts entered least _ run.went run.end run.lasts (λ i. record { own = slots_in (found i); listed = invocations_of (c.clear.ensures.listed i) }) _ c.left.result c.left.ensures _ out now c.settle-answer.ensures.settled;
+      answer = λ free o found. frozen_so p _ _ c.in-Some-number_of.number c.args.frozen.now op c.args.left o c.enter.new.self.frames c.run-ran.new.frames _ _ c.run-ran.new.access starts entered c.in-Some-number_of.ensures least c.run-ran.result run.came run.lasts (λ i. record { own = slots_in (found i); listed = invocations_of (c.clear.ensures.listed i) }) _ _ out now c.settle-answer.ensures.settled;
       kept = err_told _ (now ≡ out) _ (λ k. k.1) c.settle-answer.ensures.kept;
     }

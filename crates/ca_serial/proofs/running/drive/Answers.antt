@@ -12,6 +12,9 @@ returns-in_default g c = record {
   account = record { all = tt; part = record { done = []; rest = _; whole = refl; reached = at_first } };
 }
 
+pub made_of-requires : goal.made_of-requires
+made_of-requires g c = record { program = c.requires.program; sound = c.requires.sound }
+
 pub run_made-requires-clause-ready : goal.run_made-requires-clause-ready
 run_made-requires-clause-ready g c = λ κs o. c.requires.ready
 
@@ -25,7 +28,7 @@ pub run_made-requires-clause-served : goal.run_made-requires-clause-served
 run_made-requires-clause-served g c = λ κs o. c.requires.served
 
 pub run_made-requires-clause-laid : goal.run_made-requires-clause-laid
-run_made-requires-clause-laid g c = λ κs o. c.in-Ok.ensures.marked
+run_made-requires-clause-laid g c = λ κs o. c.in-Ok.ensures.run
 
 pub run_made-requires-clause-ops : goal.run_made-requires-clause-ops
 run_made-requires-clause-ops g c = λ κs o. c.in-Ok.ensures.ops

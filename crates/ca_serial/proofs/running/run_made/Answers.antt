@@ -3,8 +3,8 @@ use Rattle.ca_base.proofs.Writing.{began_nothing}
 use Rattle.ca_parallel.specs.Accounts.{at_first}
 use Rattle.ca_serial.proofs.running.run_made.Goals as goal
 
-pub of-requires : goal.of-requires
-of-requires g c = record { laid = c.requires.laid.laid; runs = c.requires.ops }
+pub coded_of-requires : goal.coded_of-requires
+coded_of-requires g c = record { laid = c.requires.laid.laid; runs = c.requires.ops }
 
 pub returns-in_default : goal.returns-in_default
 returns-in_default g c = record {

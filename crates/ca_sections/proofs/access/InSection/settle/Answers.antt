@@ -14,6 +14,7 @@ returns-then-len-eq0 c =
       same_slots = refl;
       same_olds = refl;
       same_list = refl;
+      same_spare = refl;
     }
 
 pub returns-then-len-eq0-2 : goal.returns-then-len-eq0-2
@@ -26,6 +27,7 @@ returns-then-len-eq0-2 c =
       same_slots = refl;
       same_olds = refl;
       same_list = refl;
+      same_spare = refl;
     }
 
 pub returns-in-Ok-append : goal.returns-in-Ok-append
@@ -37,4 +39,5 @@ returns-in-Ok-append c =
       same_slots = refl;
       same_olds = refl;
       same_list = refl;
+      same_spare = refl;
     }

@@ -1,0 +1,107 @@
+use Rattle.std.proofs.Common.{◌≡◌, ◌-◌, suc, refl, ap, arith}
+use Rattle.ca_program.specs.View.{program_view}
+use Rattle.ca_meaning.specs.Serial.{fresh}
+use Rattle.ca_parallel.specs.Calls.{invocation_of}
+use Rattle.ca_steps.specs.Stands.{here_state}
+use Rattle.ca_run.proofs.InPlace.{call_too_many}
+use Rattle.ca_run.proofs.Called.{call_ended, call_spent, call_trapped}
+use Rattle.std.proofs.lemmas.Result.{err_from_is_err_and}
+use Rattle.ca_run.proofs.in_place.run_call.Goals as goal
+
+pub returns-then-left-eq0 : goal.returns-then-left-eq0
+returns-then-left-eq0 g c =
+    let h = c.args.access.now.heap.now in
+    record {
+      ran = call_too_many (program_view c.args.program.now) h h (invocation_of c.args.op.now) c.args.left (omega arith);
+      before = refl;
+      same_heap = refl;
+      same_kept = refl;
+      same_program = refl;
+    }
+
+pub returns-in_default : goal.returns-in_default
+returns-in_default g c = record { ran = tt; before = refl; same_heap = refl; same_kept = refl; same_program = refl }
+
+pub returns-in_default-number_of : goal.returns-in_default-number_of
+returns-in_default-number_of g c = record { ran = tt; before = refl; same_heap = refl; same_kept = refl; same_program = refl }
+
+pub returns-in_err-enter : goal.returns-in_err-enter
+returns-in_err-enter g c =
+    let p = err_from_is_err_and c.from_residual.result c.from_residual.ensures.1 in
+    record { ran = rw p.1 tt; before = refl; same_heap = refl; same_kept = refl; same_program = refl }
+
+pub run_from-stopped-requires : goal.run_from-stopped-requires
+run_from-stopped-requires g c = record { laid = c.in-Some.ensures.runs; fits = tt }
+
+pub returns-in-Ends : goal.returns-in-Ends
+returns-in-Ends g c =
+    let p = program_view c.args.program.now in
+    let h = c.args.access.now.heap.now in
+    let starts = c.in-Some.ensures in
+    let least : c.args.left ≡ suc (c.args.left - 1) = omega arith in
+    let run = c.run_from-stopped in
+    let m = run.new.frames in
+    let after = run.new.access.heap.now in
+    record {
+      ran = call_ended p c.requires.program _ _ c.in-Some-number_of.number h c.requires.heap c.args.op.now c.requires.typed c.args.left c.enter.new.frames starts (c.in_ok-enter.ensures p starts.laid) c.in-Some-number_of.ensures least c.args.access.now.program.now (ap program_view c.requires.same) run.result.halt (here_state run.result.here m.number m.below m.slots.items (fresh after)) after refl (run.ensures.halted (fresh h)) run.result.here.left refl c.in-Ends.is;
+      before = ap (λ l. l.before) run.ensures.fixed;
+      same_heap = ap (λ l. l.heap) run.ensures.fixed;
+      same_kept = ap (λ l. l.kept) run.ensures.fixed;
+      same_program = ap (λ l. l.program) run.ensures.fixed;
+    }
+
+pub returns-in-Traps : goal.returns-in-Traps
+returns-in-Traps g c =
+    let p = program_view c.args.program.now in
+    let h = c.args.access.now.heap.now in
+    let starts = c.in-Some.ensures in
+    let least : c.args.left ≡ suc (c.args.left - 1) = omega arith in
+    let run = c.run_from-stopped in
+    let m = run.new.frames in
+    let after = run.new.access.heap.now in
+    record {
+      ran = call_trapped p c.requires.program _ _ c.in-Some-number_of.number h c.requires.heap c.args.op.now c.requires.typed c.args.left c.enter.new.frames starts (c.in_ok-enter.ensures p starts.laid) c.in-Some-number_of.ensures least c.args.access.now.program.now (ap program_view c.requires.same) run.result.halt (here_state run.result.here m.number m.below m.slots.items (fresh after)) after refl (run.ensures.halted (fresh h)) c.in-Traps.field-0 c.in-Traps.is;
+      before = ap (λ l. l.before) run.ensures.fixed;
+      same_heap = ap (λ l. l.heap) run.ensures.fixed;
+      same_kept = ap (λ l. l.kept) run.ensures.fixed;
+      same_program = ap (λ l. l.program) run.ensures.fixed;
+    }
+
+pub returns-in-Spends : goal.returns-in-Spends
+returns-in-Spends g c =
+    let p = program_view c.args.program.now in
+    let h = c.args.access.now.heap.now in
+    let starts = c.in-Some.ensures in
+    let least : c.args.left ≡ suc (c.args.left - 1) = omega arith in
+    let run = c.run_from-stopped in
+    let m = run.new.frames in
+    let after = run.new.access.heap.now in
+    record {
+      ran = call_spent p c.requires.program _ _ c.in-Some-number_of.number h c.requires.heap c.args.op.now c.requires.typed c.args.left c.enter.new.frames starts (c.in_ok-enter.ensures p starts.laid) c.in-Some-number_of.ensures least c.args.access.now.program.now (ap program_view c.requires.same) run.result.halt (here_state run.result.here m.number m.below m.slots.items (fresh after)) after refl (run.ensures.halted (fresh h)) c.in-Spends.is;
+      before = ap (λ l. l.before) run.ensures.fixed;
+      same_heap = ap (λ l. l.heap) run.ensures.fixed;
+      same_kept = ap (λ l. l.kept) run.ensures.fixed;
+      same_program = ap (λ l. l.program) run.ensures.fixed;
+    }
+
+pub returns-in-Leaves : goal.returns-in-Leaves
+returns-in-Leaves g c =
+    let run = c.run_from-stopped in
+    record {
+      ran = tt;
+      before = ap (λ l. l.before) run.ensures.fixed;
+      same_heap = ap (λ l. l.heap) run.ensures.fixed;
+      same_kept = ap (λ l. l.kept) run.ensures.fixed;
+      same_program = ap (λ l. l.program) run.ensures.fixed;
+    }
+
+pub returns-in-Fails : goal.returns-in-Fails
+returns-in-Fails g c =
+    let run = c.run_from-stopped in
+    record {
+      ran = tt;
+      before = ap (λ l. l.before) run.ensures.fixed;
+      same_heap = ap (λ l. l.heap) run.ensures.fixed;
+      same_kept = ap (λ l. l.kept) run.ensures.fixed;
+      same_program = ap (λ l. l.program) run.ensures.fixed;
+    }

@@ -1,0 +1,29 @@
+-- A run in the heap itself: what stays while its bodies run, and what came of a call.
+use base.Fml.{GName}
+use Rattle.std.specs.Prelude.{◌≡◌, ℕ, List, [], Option, Some, None}
+use Rattle.ca_program.specs.Plain.{PlainProgram}
+use Rattle.ca_program.specs.declared.program.Program.{Program}
+use Rattle.ca_model.specs.declared.value.Value.{Value as Datum}
+use Rattle.ca_model.specs.declared.value.Object.{Object}
+use Rattle.ca_meaning.specs.Expressions.{Invocation}
+use Rattle.ca_meaning.specs.Flows.{Flow, goes_on}
+use Rattle.ca_meaning.specs.Serial.{World, fresh, operations_of, run_call, serial_ops}
+
+-- the program, the heap as it was, and which heap and old values are borrowed
+pub record Lasting : Type 0 where
+  pub program : Program
+  pub before : List Object
+  pub heap : GName
+  pub kept : GName
+
+-- A flow of a world with this heap is done with this one and so many steps left, and printed nothing; or it isn't done.
+abbrev pub EndsIn : Flow World → List Object → Option ℕ → Type 0
+EndsIn flow after (Some left) = flow ≡ goes_on [] (fresh after) left
+EndsIn flow after None = (ls : List Datum) (w : World) (k : ℕ) → ¬ (flow ≡ goes_on ls w k)
+
+-- what came of a call, and of calls in their order
+abbrev pub CallEnds : PlainProgram → List Object → Invocation → ℕ → List Object → Option ℕ → Type 0
+CallEnds p h i budget after left = EndsIn (run_call (operations_of p) [] i (fresh h) budget) after left
+
+abbrev pub CallsEnd : PlainProgram → List Object → List Invocation → ℕ → List Object → Option ℕ → Type 0
+CallsEnd p h is budget after left = EndsIn (serial_ops p is (fresh h) budget) after left

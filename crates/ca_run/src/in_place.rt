@@ -1,0 +1,231 @@
+//! Calls that run in the heap itself, one after the other, each as an unmarked one does.
+
+ghost use Rattle.std.specs.Prelude.{◌≡◌, map, IfOk};
+ghost use Rattle.ca_program.specs.View.{program_view};
+ghost use Rattle.ca_model.specs.Typed.{TypedHeap};
+ghost use Rattle.ca_meaning.specs.ProgramTyped.{ProgramTyped};
+ghost use Rattle.ca_meaning.specs.WellTyped.{AllWellTyped, WellTyped};
+ghost use Rattle.ca_parallel.specs.Calls.{invocation_of, invocations_of};
+ghost use Rattle.ca_run.specs.InPlace.{CallEnds, CallsEnd};
+ghost use Rattle.ca_run.specs.Puts.{before};
+
+use crate::passing::Passes;
+use crate::puts::Kept;
+use ca_base::Memory;
+use ca_code::Kind;
+use ca_model::{Heap, Value};
+use ca_parallel::Op;
+use ca_program::{FieldId, OpId, Program};
+use ca_sections::Coded;
+use ca_steps::{Access, Frames, Halt, Look, field_of, look_at, number_of, run_from};
+use std::alloc::Global;
+
+/// The world of a run in a heap that is lent, with what undoes its puts, and the gate that each call passes.
+#[derive(Drop)]
+pub struct InPlace<'s, G: Passes> {
+    pub program: &'s Program,
+    pub gate: &'s G,
+    pub heap: &'s mut Heap,
+    pub kept: &'s mut Kept,
+}
+
+impl<'s, G: Passes> Access for InPlace<'s, G> {
+    ghost use Rattle.ca_program.specs.View.{program_view};
+    ghost use Rattle.ca_meaning.specs.Serial.{World as RunWorld, in_heap};
+    ghost use Rattle.ca_code_laws.specs.Runs.{run_access};
+    ghost use Rattle.ca_run.specs.InPlace.{Lasting};
+    ghost use Rattle.ca_run.specs.Puts.{before};
+
+    ghost World = { RunWorld };
+
+    ghost Past = { RunWorld };
+
+    ghost world = { λ s past. in_heap past s.heap.now };
+
+    ghost Fixed = { Lasting };
+
+    ghost fixed = { λ s. record { program = s.program.now; before = before s.kept.now s.heap.now; heap = s.heap.ghost_name; kept = s.kept.ghost_name } };
+
+    ghost accesses = { λ l. run_access (program_view l.program) };
+
+    ghost Fits = { λ s bs. Unit {0} };
+
+    #[inline(always)]
+    fn enters(&self) -> bool {
+        true
+    }
+
+    #[inline(always)]
+    fn list(
+        &mut self,
+        _op: OpId,
+        _receiver: u32,
+        _kinds: &[Kind],
+        _slots: &[i64],
+        _first: usize,
+    ) -> bool {
+        false
+    }
+
+    #[inline(always)]
+    fn reach(&self, receiver: i64) {
+        if receiver > 0 && receiver <= u32::MAX as i64 {
+            self.gate.pass((receiver - 1) as u32);
+        }
+    }
+
+    #[inline(always)]
+    fn stand(&mut self, _deep: bool) {}
+
+    #[inline(always)]
+    fn own(&self, this: Value, f: FieldId) -> Option<Value> {
+        match this {
+            Value::Ref(n) => Some(field_of(self.heap, n, f)),
+            Value::Null => Some(Value::Null),
+            Value::Long(_) => Some(Value::Null),
+            Value::Bool(_) => Some(Value::Null),
+        }
+    }
+
+    #[inline(always)]
+    fn own_item(&self, this: Value, f: FieldId, index: i64) -> Look {
+        match this {
+            Value::Ref(n) => look_at(self.heap, n, f, index),
+            Value::Null => Look::Outside,
+            Value::Long(_) => Look::Outside,
+            Value::Bool(_) => Look::Outside,
+        }
+    }
+
+    #[inline(always)]
+    fn heap(&self) -> &Heap {
+        self.heap
+    }
+
+    #[inline(always)]
+    fn put(&mut self, this: Value, f: FieldId, item: u32, value: Value) -> bool {
+        match this {
+            Value::Ref(n) => self.kept.put(self.heap, n, f.field, item, value),
+            Value::Null => false,
+            Value::Long(_) => false,
+            Value::Bool(_) => false,
+        }
+    }
+}
+
+impl<'s, G: Passes> InPlace<'s, G> {
+    /// The world of a run in this heap.
+    #[inline(always)]
+    fn lent(
+        program: &'s Program,
+        gate: &'s G,
+        heap: &'s mut Heap,
+        kept: &'s mut Kept,
+    ) -> InPlace<'s, G>
+        ensures program { result.program.now ≡ program.now }
+        ensures heap { result.heap.now ≡ heap.old }
+        ensures kept { result.kept.now ≡ kept.old }
+        ensures same_heap { result.heap.ghost_name ≡ heap.entry.ghost_name }
+        ensures same_kept { result.kept.ghost_name ≡ kept.entry.ghost_name }
+    {
+        InPlace {
+            program,
+            gate,
+            heap,
+            kept,
+        }
+    }
+}
+
+/// Runs a call within a budget of steps: it leaves so many, or it isn't done. What isn't done may be undone, and so may what wants
+/// memory. A call of a parallel extent creates and prints nothing: where one stands at such an instruction, memory is wanting.
+fn run_call<G: Passes>(
+    alloc: Global,
+    program: &Coded<'_>,
+    access: &mut InPlace<'_, G>,
+    frames: &mut Frames,
+    op: &Op,
+    left: u64,
+) -> Result<Option<u64>, Memory>
+    requires program { ProgramTyped (program_view program.now) }
+    requires same { access.old.program.now ≡ program.now }
+    requires heap { TypedHeap (program_view program.now) access.old.heap.now }
+    requires typed { WellTyped (program_view program.now) access.old.heap.now (invocation_of op.now) }
+    ensures ran { IfOk result (λ still. CallEnds (program_view program.now) access.old.heap.now (invocation_of op.now) left access.new.heap.now still) }
+    ensures before { before access.new.kept.now access.new.heap.now ≡ before access.old.kept.now access.old.heap.now }
+    ensures same_heap { access.new.heap.ghost_name ≡ access.old.heap.ghost_name }
+    ensures same_kept { access.new.kept.ghost_name ≡ access.old.kept.ghost_name }
+    ensures same_program { access.new.program.now ≡ access.old.program.now }
+{
+    if left == 0 {
+        return Ok(None);
+    }
+    let Some(start) = program.body(op.op) else {
+        return Err(Memory);
+    };
+    let Some(number) = number_of(Value::Ref(op.receiver)) else {
+        return Err(Memory);
+    };
+    start.enter(frames, alloc, op)?;
+    access.gate.pass(op.receiver);
+    let stopped = run_from(access, start.laid, frames, start.place, left - 1, number);
+    match stopped.halt {
+        Halt::Ends => Ok(Some(stopped.here.left)),
+        Halt::Traps(_) => Ok(None),
+        Halt::Spends => Ok(None),
+        Halt::Leaves => Err(Memory),
+        Halt::Fails => Err(Memory),
+    }
+}
+
+/// Runs calls in their order within a budget of steps: they leave so many, or one of them isn't done.
+fn run_calls<G: Passes>(
+    alloc: Global,
+    program: &Coded<'_>,
+    access: &mut InPlace<'_, G>,
+    frames: &mut Frames,
+    first: &[Op],
+    left: u64,
+) -> Result<Option<u64>, Memory>
+    requires program { ProgramTyped (program_view program.now) }
+    requires same { access.old.program.now ≡ program.now }
+    requires heap { TypedHeap (program_view program.now) access.old.heap.now }
+    requires typed { AllWellTyped (program_view program.now) access.old.heap.now (invocations_of first.now) }
+    ensures ran { IfOk result (λ still. CallsEnd (program_view program.now) access.old.heap.now (invocations_of first.now) left access.new.heap.now still) }
+    ensures before { before access.new.kept.now access.new.heap.now ≡ before access.old.kept.now access.old.heap.now }
+    ensures same_heap { access.new.heap.ghost_name ≡ access.old.heap.ghost_name }
+    ensures same_kept { access.new.kept.ghost_name ≡ access.old.kept.ghost_name }
+    ensures same_program { access.new.program.now ≡ access.old.program.now }
+{
+    let mut still = left;
+    'calls: for op in first {
+        let ran = run_call(alloc, program, access, frames, op, still)?;
+        match ran {
+            Some(left) => still = left,
+            None => return Ok(None),
+        }
+    }
+    Ok(Some(still))
+}
+
+/// The same in a heap that is lent, with what undoes it.
+pub(crate) fn run_all<G: Passes>(
+    alloc: Global,
+    gate: &G,
+    program: &Coded<'_>,
+    heap: &mut Heap,
+    kept: &mut Kept,
+    frames: &mut Frames,
+    first: &[Op],
+    left: u64,
+) -> Result<Option<u64>, Memory>
+    requires program { ProgramTyped (program_view program.now) }
+    requires heap { TypedHeap (program_view program.now) heap.old }
+    requires typed { AllWellTyped (program_view program.now) heap.old (invocations_of first.now) }
+    ensures ran { IfOk result (λ still. CallsEnd (program_view program.now) heap.old (invocations_of first.now) left heap.new still) }
+    ensures before { before kept.new heap.new ≡ before kept.old heap.old }
+{
+    let mut access = InPlace::lent(program.program(), gate, heap, kept);
+    let ran = run_calls(alloc, program, &mut access, frames, first, left);
+    ran
+}

@@ -1,0 +1,33 @@
+use Rattle.std.proofs.Common.{sym, subst}
+use Rattle.std.proofs.lemmas.Result.{err_from_is_err_and}
+use Rattle.ca_program.specs.View.{program_view}
+use Rattle.ca_code.specs.declared.layout.Code.{Code}
+use Rattle.ca_code.specs.Codes.{code_seen}
+use Rattle.ca_sections.specs.Extending.{AllStand}
+use Rattle.ca_serial.specs.Codes.{IsRun}
+use Rattle.ca_serial.proofs.Laid.{once_runs}
+use Rattle.ca_serial.proofs.Told.{none_told}
+use Rattle.ca_serial.proofs.running.made_once.Goals as goal
+
+pub returns-in_err-code : goal.returns-in_err-code
+returns-in_err-code c =
+    let r = c.from_residual.result in
+    let e = err_from_is_err_and r c.from_residual.ensures.1 in
+    record { run = none_told _ r e.0 e.1; ops = none_told _ r e.0 e.1; loops = none_told _ r e.0 e.1 }
+
+pub returns-in_err-laid : goal.returns-in_err-laid
+returns-in_err-laid c =
+    let r = c.from_residual-in_err-laid.result in
+    let e = err_from_is_err_and r c.from_residual-in_err-laid.ensures.1 in
+    record { run = none_told _ r e.0 e.1; ops = none_told _ r e.0 e.1; loops = none_told _ r e.0 e.1 }
+
+pub returns : goal.returns
+returns c =
+    let p = program_view c.args.program.now in
+    let marks = c.args.marks.now in
+    let told = c.in_ok-laid.ensures in
+    record {
+      run = subst (λ (d : Code). IsRun marks p (code_seen d) d.main) (sym told.0) (once_runs p c.requires.program marks c.requires.none c.in_ok-code.code c.in_ok-code.ensures);
+      ops = told.1;
+      loops = subst (λ ls. AllStand p (code_seen c.in_ok-laid.laid.code) ls) (sym c.new.ensures.items) tt;
+    }
