@@ -1,18 +1,24 @@
 //! Calls of `top` over devices in memory. Where memory runs out the test ends, so that nothing is dropped before its end.
 
+ghost use Rattle.std.specs.Prelude.{◌<◌};
+
+use crate::watch::Watch;
 use ca_app::top;
-use ca_base::{Gate, MemSink, MemSource, OpenGate, Sink, Source};
+use ca_base::{PieceSink, PieceSource, Sink, Source};
 use std::process::Abort;
 use std::sync::Wait;
 use std::thread::Threads;
 
+/// More bytes than a device gives or takes at once here.
+const WHOLE: usize = 1_000_000_000;
+
 /// The status of `top` on the words of a command line that is written with one space between them.
-pub fn serve<R: AllocGlobal + Threads + Wait + Sync + Abort, S: Source, K: Sink, G: Gate>(
+pub fn serve<R: AllocGlobal + Threads + Wait + Sync + Abort, S: Source, K: Sink>(
     rt: &R,
     line: &str,
     source: &mut S,
     sink: &mut K,
-    gate: &G,
+    gate: &Watch,
 ) -> u8 {
     let mut words = Vec::new(rt.alloc());
     for word in line.split_whitespace() {
@@ -63,21 +69,33 @@ impl<'a> Call<'a> {
 
     /// The status of the call, and what it wrote.
     pub fn run<R: AllocGlobal + Threads + Wait + Sync + Abort>(self, rt: &R) -> (u8, Vec<u8>) {
-        self.run_past(rt, &OpenGate)
+        self.run_past(rt, &Watch::open())
     }
 
     /// The same past a gate.
-    pub fn run_past<R: AllocGlobal + Threads + Wait + Sync + Abort, G: Gate>(
+    pub fn run_past<R: AllocGlobal + Threads + Wait + Sync + Abort>(
         self,
         rt: &R,
-        gate: &G,
+        gate: &Watch,
     ) -> (u8, Vec<u8>) {
+        self.run_by(rt, WHOLE, gate)
+    }
+
+    /// The same where the devices give and take at most `piece` bytes at once.
+    pub fn run_by<R: AllocGlobal + Threads + Wait + Sync + Abort>(
+        self,
+        rt: &R,
+        piece: usize,
+        gate: &Watch,
+    ) -> (u8, Vec<u8>)
+        requires { 0 < piece }
+    {
         let alloc = rt.alloc();
         let text = Vec::from_slice(alloc, self.text).expect(rt, "a text");
         let failing_reads = vec![in alloc; self.failing.0; 1].expect(rt, "a number");
         let failing_writes = vec![in alloc; self.failing.1; 1].expect(rt, "a number");
-        let mut source = MemSource::new(text, failing_reads);
-        let mut sink = MemSink::new(alloc, self.room, failing_writes).expect(rt, "a sink");
+        let mut source = PieceSource::new(text, piece, failing_reads);
+        let mut sink = PieceSink::new(alloc, piece, self.room, failing_writes).expect(rt, "a sink");
         let status = serve(rt, self.line, &mut source, &mut sink, gate);
         let written = Vec::from_slice(alloc, sink.bytes()).expect(rt, "what was written");
         (status, written)
@@ -107,10 +125,10 @@ impl<'a> Call<'a> {
     }
 
     /// The same past a gate.
-    pub fn ends_past<R: AllocGlobal + Threads + Wait + Sync + Abort, G: Gate>(
+    pub fn ends_past<R: AllocGlobal + Threads + Wait + Sync + Abort>(
         self,
         rt: &R,
-        gate: &G,
+        gate: &Watch,
         written: &str,
     ) -> bool {
         let (status, bytes) = self.run_past(rt, gate);

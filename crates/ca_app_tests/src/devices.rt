@@ -2,7 +2,8 @@
 
 use crate::calls::{Call, serve};
 use crate::sources::{FIRST, GRAPH_HEAP, GRAPH_VISIT, PRINTED, PRINTS};
-use ca_base::{OpenGate, SureSink, SureSource};
+use crate::watch::Watch;
+use ca_base::{SureSink, SureSource};
 use std::process::Abort;
 use std::sync::Wait;
 use std::thread::Threads;
@@ -129,7 +130,7 @@ fn runs_over_sure_devices(rt: HostRuntime) {
         "run 1 100",
         &mut source,
         &mut SureSink::new(),
-        &OpenGate,
+        &Watch::open(),
     );
     assert!(rt; status == 0);
 }

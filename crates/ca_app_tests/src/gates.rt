@@ -2,44 +2,48 @@
 
 use crate::calls::{Call, add_lines};
 use crate::sources::{GRAPH_HEAP, GRAPH_VISIT, TWO_BINS, TWO_BINS_HEAP};
-use ca_base::Gate;
+use crate::watch::Watch;
 use std::process::Abort;
 use std::sync::Wait;
-use std::sync::atomic::{AtomicU64, Ordering};
 use std::thread::Threads;
 
 /// Runs of small texts past a gate: the words, how often worker 0 passes it with the objects 0, 1 and 2 and how often it is passed
 /// otherwise, and what is written, with `$` for the end of a line. A line with a text stands before its runs.
-const ALONE: &str = "// two neighbours, and the operation that lists them, which takes no lock
+const ALONE: &str = "// light operations: the calling thread runs them as one worker does
 of class A { public: long n; void set(long v) { n = v; } void mul(long v) { n *= v; } void two(long v) { mul(v); mul(v + 1); } }; int main() { A *a = new A(); a->set(2); a->two(3); }
-run 2 4 | 1 0 0 0 | #0 A n=24$
-run 64 4 | 1 0 0 0 | #0 A n=24$
+run 2 4 | 3 0 0 0 | #0 A n=24$
+run 64 4 | 3 0 0 0 | #0 A n=24$
 run 1 4 | 3 0 0 0 | #0 A n=24$
+// operations that call a value method with a loop: two neighbours, and the one that lists them, which takes no lock
+of class A { public: long n; long same(long v) { long k = v; for (long i = 0; i < 1; i++) k = v; return k; } void set(long v) { n = v; } void mul(long v) { n *= v; } void two(long v) { mul(same(v)); mul(v + 1); } }; int main() { A *a = new A(); a->set(2); a->two(3); }
+run 2 1000 | 1 0 0 0 | #0 A n=24$
+run 64 1000 | 1 0 0 0 | #0 A n=24$
+run 1 1000 | 3 0 0 0 | #0 A n=24$
 // 33 neighbours
-of class A { public: long n; void set(long v) { n = v; } void mul(long v) { n *= v; } void many(long v) { for (long i = 0; i < 33; i++) mul(v); } }; int main() { A *a = new A(); a->set(1); a->many(2); }
-run 2 68 | 3 0 0 0 | #0 A n=8589934592$
-run 1 68 | 34 0 0 0 | #0 A n=8589934592$
+of class A { public: long n; long same(long v) { long k = v; for (long i = 0; i < 1; i++) k = v; return k; } void set(long v) { n = v; } void mul(long v) { n *= v; } void many(long v) { for (long i = 0; i < 33; i++) mul(same(v)); } }; int main() { A *a = new A(); a->set(1); a->many(2); }
+run 2 1000 | 3 0 0 0 | #0 A n=8589934592$
+run 1 1000 | 34 0 0 0 | #0 A n=8589934592$
 // 30 of them
-of class A { public: long n; void set(long v) { n = v; } void mul(long v) { n *= v; } void many(long v) { for (long i = 0; i < 30; i++) mul(v); } }; int main() { A *a = new A(); a->set(1); a->many(2); }
-run 2 62 | 2 0 0 0 | #0 A n=1073741824$
-run 4 62 | 2 0 0 0 | #0 A n=1073741824$
+of class A { public: long n; long same(long v) { long k = v; for (long i = 0; i < 1; i++) k = v; return k; } void set(long v) { n = v; } void mul(long v) { n *= v; } void many(long v) { for (long i = 0; i < 30; i++) mul(same(v)); } }; int main() { A *a = new A(); a->set(1); a->many(2); }
+run 2 1000 | 2 0 0 0 | #0 A n=1073741824$
+run 4 1000 | 2 0 0 0 | #0 A n=1073741824$
 // receivers that take turns, and then two and two
-of class A { public: long n; A *one; A *two; void set(A *o, A *t) { n = 1; one = o; two = t; } void mul(long v) { n *= v; } void turns(long v) { one->mul(v); two->mul(v); one->mul(v); two->mul(v); } }; int main() { A *a = new A(); A *b = new A(); A *c = new A(); a->set(b, c); b->set(b, c); c->set(b, c); a->turns(2); }
-run 2 8 | 0 2 2 0 | #0 A n=1 one=#1 two=#2$#1 A n=4 one=#1 two=#2$#2 A n=4 one=#1 two=#2$
-run 1 8 | 1 2 2 0 | #0 A n=1 one=#1 two=#2$#1 A n=4 one=#1 two=#2$#2 A n=4 one=#1 two=#2$
-of class A { public: long n; A *one; A *two; void set(A *o, A *t) { n = 1; one = o; two = t; } void mul(long v) { n *= v; } void pairs(long v) { one->mul(v); one->mul(v); two->mul(v); two->mul(v); } }; int main() { A *a = new A(); A *b = new A(); A *c = new A(); a->set(b, c); b->set(b, c); c->set(b, c); a->pairs(2); }
-run 2 8 | 0 1 1 0 | #0 A n=1 one=#1 two=#2$#1 A n=4 one=#1 two=#2$#2 A n=4 one=#1 two=#2$
-run 1 8 | 1 2 2 0 | #0 A n=1 one=#1 two=#2$#1 A n=4 one=#1 two=#2$#2 A n=4 one=#1 two=#2$
+of class A { public: long n; A *one; A *two; long same(long v) { long k = v; for (long i = 0; i < 1; i++) k = v; return k; } void set(A *o, A *t) { n = 1; one = o; two = t; } void mul(long v) { n *= v; } void turns(long v) { one->mul(same(v)); two->mul(v); one->mul(v); two->mul(v); } }; int main() { A *a = new A(); A *b = new A(); A *c = new A(); a->set(b, c); b->set(b, c); c->set(b, c); a->turns(2); }
+run 2 1000 | 0 2 2 0 | #0 A n=1 one=#1 two=#2$#1 A n=4 one=#1 two=#2$#2 A n=4 one=#1 two=#2$
+run 1 1000 | 1 2 2 0 | #0 A n=1 one=#1 two=#2$#1 A n=4 one=#1 two=#2$#2 A n=4 one=#1 two=#2$
+of class A { public: long n; A *one; A *two; long same(long v) { long k = v; for (long i = 0; i < 1; i++) k = v; return k; } void set(A *o, A *t) { n = 1; one = o; two = t; } void mul(long v) { n *= v; } void pairs(long v) { one->mul(same(v)); one->mul(v); two->mul(v); two->mul(v); } }; int main() { A *a = new A(); A *b = new A(); A *c = new A(); a->set(b, c); b->set(b, c); c->set(b, c); a->pairs(2); }
+run 2 1000 | 0 1 1 0 | #0 A n=1 one=#1 two=#2$#1 A n=4 one=#1 two=#2$#2 A n=4 one=#1 two=#2$
+run 1 1000 | 1 2 2 0 | #0 A n=1 one=#1 two=#2$#1 A n=4 one=#1 two=#2$#2 A n=4 one=#1 two=#2$
 // one that takes the lock, and its neighbour
-of class A { public: long n; void set(long v) { n = v; } void mul(long v) { n *= v; } void twice(long v) { n *= v; mul(v + 1); } }; int main() { A *a = new A(); a->set(2); a->twice(3); }
-run 2 3 | 1 0 0 0 | #0 A n=24$
-run 1 3 | 2 0 0 0 | #0 A n=24$
+of class A { public: long n; long same(long v) { long k = v; for (long i = 0; i < 1; i++) k = v; return k; } void set(long v) { n = v; } void mul(long v) { n *= v; } void twice(long v) { n *= v; mul(same(v) + 1); } }; int main() { A *a = new A(); a->set(2); a->twice(3); }
+run 2 1000 | 1 0 0 0 | #0 A n=24$
+run 1 1000 | 2 0 0 0 | #0 A n=24$
 // what reads fields that nobody writes takes no lock, and what reads one that another writes does
-of class A { public: long n; long k; A *to; void set(long v, A *t) { k = v; to = t; } void add(long v) { n += v; } void pass(long v) { to->add(k + v); } void both(long v) { n += v; to->pass(v); } }; int main() { A *a = new A(); A *b = new A(); A *c = new A(); a->set(1, b); b->set(2, c); a->both(5); }
-run 2 5 | 1 0 1 0 | #0 A n=5 k=1 to=#1$#1 A n=0 k=2 to=#2$#2 A n=7 k=0 to=null$
-run 1 5 | 1 1 1 0 | #0 A n=5 k=1 to=#1$#1 A n=0 k=2 to=#2$#2 A n=7 k=0 to=null$
-of class A { public: long n; A *to; void set(A *t) { to = t; } void add(long v) { n += v; } void look(long v) { long t = n; to->add(v); } }; int main() { A *a = new A(); A *b = new A(); a->set(b); a->look(5); }
-run 2 3 | 1 1 0 0 | #0 A n=0 to=#1$#1 A n=5 to=null$";
+of class A { public: long n; long k; A *to; long same(long v) { long k = v; for (long i = 0; i < 1; i++) k = v; return k; } void set(long v, A *t) { k = v; to = t; } void add(long v) { n += v; } void pass(long v) { to->add(k + v); } void both(long v) { n += v; to->pass(same(v)); } }; int main() { A *a = new A(); A *b = new A(); A *c = new A(); a->set(1, b); b->set(2, c); a->both(5); }
+run 2 1000 | 1 0 1 0 | #0 A n=5 k=1 to=#1$#1 A n=0 k=2 to=#2$#2 A n=7 k=0 to=null$
+run 1 1000 | 1 1 1 0 | #0 A n=5 k=1 to=#1$#1 A n=0 k=2 to=#2$#2 A n=7 k=0 to=null$
+of class A { public: long n; A *to; long same(long v) { long k = v; for (long i = 0; i < 1; i++) k = v; return k; } void set(A *t) { to = t; } void add(long v) { n += v; } void look(long v) { long t = n; to->add(same(v)); } }; int main() { A *a = new A(); A *b = new A(); a->set(b); a->look(5); }
+run 2 1000 | 1 1 0 0 | #0 A n=0 to=#1$#1 A n=5 to=null$";
 
 /// Runs that begin with a round, in which workers pass the gate: the words, how often all of them do, and what is written.
 const TOGETHER: &str = "// two lists of 30 neighbours on one object
@@ -53,51 +57,10 @@ of class A { public: long n; void set(long v) { n = v; } void mul(long v) { n *=
 run 2 200 | 6 | #0 A n=1$
 run 64 200 | 6 | #0 A n=1$";
 
-/// Counts how often worker 0 passes it with the objects 0, 1 and 2, and who passes it otherwise.
-#[derive(Drop)]
-struct CountingGate {
-    zero: AtomicU64,
-    one: AtomicU64,
-    two: AtomicU64,
-    others: AtomicU64,
-}
-
-impl CountingGate {
-    fn new() -> CountingGate {
-        CountingGate {
-            zero: AtomicU64::new(0),
-            one: AtomicU64::new(0),
-            two: AtomicU64::new(0),
-            others: AtomicU64::new(0),
-        }
-    }
-
-    fn counts(&self) -> (u64, u64, u64, u64) {
-        (
-            self.zero.load(Ordering::SeqCst),
-            self.one.load(Ordering::SeqCst),
-            self.two.load(Ordering::SeqCst),
-            self.others.load(Ordering::SeqCst),
-        )
-    }
-}
-
-impl Gate for CountingGate {
-    fn inside(&self, worker: u32, object: u32) {
-        let counter = match (worker, object) {
-            (0, 0) => &self.zero,
-            (0, 1) => &self.one,
-            (0, 2) => &self.two,
-            _ => &self.others,
-        };
-        counter.fetch_add(1, Ordering::SeqCst);
-    }
-}
-
 /// One worker runs the two calls of a marked loop, each past the gate.
 #[test]
 fn one_worker_counts(rt: HostRuntime) {
-    let gate = CountingGate::new();
+    let gate = Watch::counting();
     assert!(rt; Call::new("run 1 5", TWO_BINS).ends_past(&rt, &gate, TWO_BINS_HEAP));
     assert!(rt; gate.counts() == (0, 1, 1, 0));
 }
@@ -105,7 +68,7 @@ fn one_worker_counts(rt: HostRuntime) {
 /// One worker runs a marked call and the three that it leads to.
 #[test]
 fn one_worker_visits(rt: HostRuntime) {
-    let gate = CountingGate::new();
+    let gate = Watch::counting();
     assert!(rt; Call::new("run 1 6", GRAPH_VISIT).ends_past(&rt, &gate, GRAPH_HEAP));
     assert!(rt; gate.counts() == (2, 2, 0, 0));
 }
@@ -113,7 +76,7 @@ fn one_worker_visits(rt: HostRuntime) {
 /// One worker runs the marked call of a generated text and the two that it leads to.
 #[test]
 fn one_worker_loads(rt: HostRuntime) {
-    let gate = CountingGate::new();
+    let gate = Watch::counting();
     let written = "load objects=2 steps=7 total=4\n";
     assert!(rt; Call::new("load 0 1 1", "").ends_past(&rt, &gate, written));
     assert!(rt; gate.counts() == (0, 3, 0, 0));
@@ -131,7 +94,7 @@ fn passes<R: AllocGlobal + Threads + Wait + Sync + Abort>(
     let (passed, heap) = behind.split_once(" | ").expect(rt, "a heap");
     let mut due = Vec::new(alloc);
     add_lines(rt, &mut due, heap);
-    let gate = CountingGate::new();
+    let gate = Watch::counting();
     let (status, written) = Call::of_bytes(line, text).run_past(rt, &gate);
     let (zero, one, two, others) = gate.counts();
     let all = zero
@@ -160,7 +123,7 @@ fn all_pass<R: AllocGlobal + Threads + Wait + Sync + Abort>(rt: &R, rows: &str, 
 }
 
 /// The calling thread runs a marked call alone: neighbours of one receiver pass the gate once, 16 at most, and operations that take
-/// no lock don't. By one worker each operation does.
+/// no lock don't. By one worker each operation does, and so does each of a list of light ones.
 #[test]
 fn neighbours_alone_pass_once(rt: HostRuntime) {
     all_pass(&rt, ALONE, true);

@@ -35,3 +35,5 @@ mod sources;
 mod traced;
 #[cfg(test)]
 mod verified;
+#[cfg(test)]
+mod watch;

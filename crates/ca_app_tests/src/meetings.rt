@@ -6,121 +6,12 @@ use crate::sources::{
     THREE_PRODUCTS, THREE_PRODUCTS_HEAP, TWO_BINS, TWO_BINS_HEAP, TWO_PRODUCTS, TWO_PRODUCTS_HEAP,
 };
 use crate::traced::is_verified;
-use ca_base::Gate;
-use std::sync::atomic::{AtomicU64, Ordering};
-
-/// How often a section looks for another one.
-const MOST_TURNS: u32 = 1_000_000_000;
-
-/// Holds the section on each of two objects until the one on the other is inside, for so many turns of looking.
-#[derive(Drop)]
-struct MeetingGate {
-    one: u32,
-    other: u32,
-    one_inside: AtomicU64,
-    other_inside: AtomicU64,
-    third_inside: AtomicU64,
-    in_vain: AtomicU64,
-}
-
-impl MeetingGate {
-    fn new(one: u32, other: u32) -> MeetingGate {
-        MeetingGate {
-            one,
-            other,
-            one_inside: AtomicU64::new(0),
-            other_inside: AtomicU64::new(0),
-            third_inside: AtomicU64::new(0),
-            in_vain: AtomicU64::new(0),
-        }
-    }
-
-    /// Waits until a section is inside.
-    fn wait_for(&self, inside: &AtomicU64) {
-        for _ in 0..MOST_TURNS {
-            if inside.load(Ordering::SeqCst) > 0 {
-                return;
-            }
-        }
-        self.in_vain.fetch_add(1, Ordering::SeqCst);
-    }
-
-    /// How many sections were inside, on the one object, the other and any third, and how many waited in vain.
-    fn counts(&self) -> (u64, u64, u64, u64) {
-        (
-            self.one_inside.load(Ordering::SeqCst),
-            self.other_inside.load(Ordering::SeqCst),
-            self.third_inside.load(Ordering::SeqCst),
-            self.in_vain.load(Ordering::SeqCst),
-        )
-    }
-}
-
-impl Gate for MeetingGate {
-    fn inside(&self, _worker: u32, object: u32) {
-        if object == self.one {
-            self.one_inside.fetch_add(1, Ordering::SeqCst);
-            self.wait_for(&self.other_inside);
-        } else if object == self.other {
-            self.other_inside.fetch_add(1, Ordering::SeqCst);
-            self.wait_for(&self.one_inside);
-        } else {
-            self.third_inside.fetch_add(1, Ordering::SeqCst);
-        }
-    }
-}
-
-/// Holds the first section on an object until another one on it is inside, which another worker runs, for so many turns of
-/// looking.
-#[derive(Drop)]
-struct SharingGate {
-    object: u32,
-    turns: u32,
-    inside: AtomicU64,
-    in_vain: AtomicU64,
-}
-
-impl SharingGate {
-    fn new(object: u32, turns: u32) -> SharingGate {
-        SharingGate {
-            object,
-            turns,
-            inside: AtomicU64::new(0),
-            in_vain: AtomicU64::new(0),
-        }
-    }
-
-    /// Waits until two sections were inside.
-    fn wait(&self) {
-        for _ in 0..self.turns {
-            if self.inside.load(Ordering::SeqCst) > 1 {
-                return;
-            }
-        }
-        self.in_vain.fetch_add(1, Ordering::SeqCst);
-    }
-
-    /// How many sections were inside, and how many waited in vain.
-    fn counts(&self) -> (u64, u64) {
-        (
-            self.inside.load(Ordering::SeqCst),
-            self.in_vain.load(Ordering::SeqCst),
-        )
-    }
-}
-
-impl Gate for SharingGate {
-    fn inside(&self, _worker: u32, object: u32) {
-        if object == self.object && self.inside.fetch_add(1, Ordering::SeqCst) == 0 {
-            self.wait();
-        }
-    }
-}
+use crate::watch::{MOST_TURNS, Watch};
 
 /// Two calls of a marked loop run at one time.
 #[test]
 fn two_sections_meet(rt: HostRuntime) {
-    let gate = MeetingGate::new(1, 2);
+    let gate = Watch::meeting(1, 2);
     assert!(rt; Call::new("run 2 5", TWO_BINS).ends_past(&rt, &gate, TWO_BINS_HEAP));
     assert!(rt; gate.counts() == (1, 1, 0, 0));
 }
@@ -128,7 +19,7 @@ fn two_sections_meet(rt: HostRuntime) {
 /// They do where the run is recorded, and what is recorded follows.
 #[test]
 fn trace_meets(rt: HostRuntime) {
-    let gate = MeetingGate::new(1, 2);
+    let gate = Watch::meeting(1, 2);
     let (status, schedule) = Call::new("trace 2 5", TWO_BINS).run_past(&rt, &gate);
     assert!(rt; status == 0 && gate.counts() == (1, 1, 0, 0));
     assert!(rt; is_verified(&rt, TWO_BINS, &schedule, 5));
@@ -137,7 +28,7 @@ fn trace_meets(rt: HostRuntime) {
 /// Of three calls the first and the last run at one time.
 #[test]
 fn thief_meets_owner(rt: HostRuntime) {
-    let gate = MeetingGate::new(1, 3);
+    let gate = Watch::meeting(1, 3);
     assert!(rt; Call::new("run 2 7", THREE_BINS).ends_past(&rt, &gate, THREE_BINS_HEAP));
     assert!(rt; gate.counts() == (1, 1, 1, 0));
 }
@@ -145,7 +36,7 @@ fn thief_meets_owner(rt: HostRuntime) {
 /// The same of calls that multiply, for which each object has a lock.
 #[test]
 fn two_products_meet(rt: HostRuntime) {
-    let gate = MeetingGate::new(1, 2);
+    let gate = Watch::meeting(1, 2);
     assert!(rt; Call::new("run 2 7", TWO_PRODUCTS).ends_past(&rt, &gate, TWO_PRODUCTS_HEAP));
     assert!(rt; gate.counts() == (1, 1, 0, 0));
 }
@@ -153,7 +44,7 @@ fn two_products_meet(rt: HostRuntime) {
 /// And of three, of which the first and the last are dealt to one worker: the other takes one.
 #[test]
 fn thief_meets_owner_of_products(rt: HostRuntime) {
-    let gate = MeetingGate::new(1, 3);
+    let gate = Watch::meeting(1, 3);
     assert!(rt; Call::new("run 2 10", THREE_PRODUCTS).ends_past(&rt, &gate, THREE_PRODUCTS_HEAP));
     assert!(rt; gate.counts() == (1, 1, 1, 0));
 }
@@ -161,9 +52,9 @@ fn thief_meets_owner_of_products(rt: HostRuntime) {
 /// Two calls that add to one object run at one time, for each worker adds to a copy of its own.
 #[test]
 fn two_meet_on_one(rt: HostRuntime) {
-    let gate = SharingGate::new(1, MOST_TURNS);
+    let gate = Watch::sharing(1, MOST_TURNS);
     assert!(rt; Call::new("run 2 5", ONE_BIN).ends_past(&rt, &gate, ONE_BIN_HEAP));
-    assert!(rt; gate.counts() == (2, 0));
+    assert!(rt; gate.counts() == (2, 0, 0, 0));
     assert!(rt; Call::new("run 2 4", ONE_BIN).tells(&rt, 4, "spent 4$"));
 }
 
@@ -171,22 +62,22 @@ fn two_meet_on_one(rt: HostRuntime) {
 /// behind each other, past one gate.
 #[test]
 fn two_meet_beside_so_many_values(rt: HostRuntime) {
-    let gate = SharingGate::new(1, MOST_TURNS);
+    let gate = Watch::sharing(1, MOST_TURNS);
     let mut call = Call::new("run 64 5", ONE_BIN_BESIDE_MANY);
     call.room = 1_000_000;
     let (status, _) = call.run_past(&rt, &gate);
-    assert!(rt; status == 0 && gate.counts() == (2, 0));
-    let gate = SharingGate::new(1, 100_000);
+    assert!(rt; status == 0 && gate.counts() == (2, 0, 0, 0));
+    let gate = Watch::sharing(1, 100_000);
     let mut call = Call::new("run 64 5", ONE_BIN_BESIDE_MORE);
     call.room = 1_000_000;
     let (status, _) = call.run_past(&rt, &gate);
-    assert!(rt; status == 0 && gate.counts() == (1, 1));
+    assert!(rt; status == 0 && gate.counts() == (1, 0, 0, 1));
 }
 
 /// Two workers run the marked call of a generated text past the gate.
 #[test]
 fn two_workers_load(rt: HostRuntime) {
-    let gate = MeetingGate::new(2, 3);
+    let gate = Watch::meeting(2, 3);
     let written = "load objects=2 steps=7 total=4\n";
     assert!(rt; Call::new("load 0 1 2", "").ends_past(&rt, &gate, written));
     let (one, other, third, in_vain) = gate.counts();

@@ -3,8 +3,8 @@
 
 ghost use Rattle.std.specs.Prelude.{◌<◌};
 
-use crate::calls::serve;
-use ca_base::{OpenGate, PieceSink, PieceSource};
+use crate::calls::Call;
+use crate::watch::Watch;
 use std::process::Abort;
 use std::sync::Wait;
 use std::thread::Threads;
@@ -35,15 +35,12 @@ pub fn left<R: AllocGlobal + Threads + Wait + Sync + Abort>(
 ) -> (u8, Vec<u8>)
     requires { 0 < piece }
 {
-    let alloc = rt.alloc();
-    let text = Vec::from_slice(alloc, text.as_bytes()).expect(rt, "a text");
-    let failing_reads = vec![in alloc; failing.0; 1].expect(rt, "a number");
-    let failing_writes = vec![in alloc; failing.1; 1].expect(rt, "a number");
-    let mut source = PieceSource::new(text, piece, failing_reads);
-    let mut sink = PieceSink::new(alloc, piece, ROOM, failing_writes).expect(rt, "a sink");
-    let status = serve(rt, line, &mut source, &mut sink, &OpenGate);
-    let written = Vec::from_slice(alloc, sink.bytes()).expect(rt, "what was written");
-    (status, written)
+    let call = Call {
+        room: ROOM,
+        failing,
+        ..Call::new(line, text)
+    };
+    call.run_by(rt, piece, &Watch::open())
 }
 
 /// What the call of a row leaves over such devices.

@@ -163,6 +163,44 @@ fn runs_to_the_end(rt: HostRuntime) {
     );
 }
 
+/// A text with an operation of so many locals, between what stands before them and what stands behind them.
+fn wide<R: AllocGlobal + Abort>(rt: &R, front: &str, locals: u32, back: &str) -> Vec<u8> {
+    let mut text = Vec::new(rt.alloc());
+    add(
+        rt,
+        &mut text,
+        b"class W { public: long s; W *p; long half(long n) { return n / 2; } void init(W *q) { p = q; } void f(long n) { ",
+    );
+    add(rt, &mut text, front.as_bytes());
+    for number in 0..locals {
+        let local = format!(in rt.alloc(); " long y{number} = 1;").expect(rt, "a local");
+        add(rt, &mut text, local.as_bytes());
+    }
+    add(rt, &mut text, back.as_bytes());
+    add(
+        rt,
+        &mut text,
+        b" } }; int main() { W *a = new W(); W *b = new W(); a->init(b); a->f(4); }",
+    );
+    text
+}
+
+/// Operations whose locals take some 256 slots call one of another object, and a value method before it.
+#[test]
+fn wide_operations_run_to_the_end(rt: HostRuntime) {
+    for locals in 251..256 {
+        let text = wide(&rt, "s = s + n;", locals, " if (p != nullptr) p->f(n);");
+        runs(&rt, &text, "3 0:#0 W s=4 p=#1$#1 W s=4 p=null$");
+        let text = wide(
+            &rt,
+            "",
+            locals,
+            " s = s + half(n); if (p != nullptr) p->f(n);",
+        );
+        runs(&rt, &text, "5 0:#0 W s=2 p=#1$#1 W s=2 p=null$");
+    }
+}
+
 /// Runs of lists, loops and large heaps.
 #[test]
 fn longer_texts_run_to_the_end(rt: HostRuntime) {

@@ -4,7 +4,7 @@
 //! `spent` where a step is too many, or at a trap on a line: `null`, `outside` or `divided`.
 
 use crate::sources::{let_go, program};
-use ca_code::{PlainBodies, lay_out_with};
+use ca_code::{PlainBodies, lay_out_once, lay_out_with};
 use ca_model::{Heap, TrapKind, Value};
 use ca_steps::{Event, Frames, InRun, Laid, Op, run_on};
 use std::process::Abort;
@@ -22,7 +22,7 @@ enum End {
 fn ends<R: AllocGlobal + Abort + Wait>(rt: &R, text: &str, budget: u64, numbers: &[i64]) -> End {
     let alloc = rt.alloc();
     let program = program(rt, text);
-    let code = lay_out_with(alloc, program, &PlainBodies).expect(rt, "a code");
+    let code = lay_out_once(alloc, program).expect(rt, "a code");
     let laid = Laid::of(alloc, code).expect(rt, "what is run");
     let mut frames = Frames::before(alloc, laid.code.room, laid.code.main, budget).expect(
         rt, "frames",

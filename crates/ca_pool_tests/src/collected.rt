@@ -7,8 +7,8 @@ ghost use Rattle.ca_cells.specs.Rounds.{MayRun};
 ghost use Rattle.ca_cells.specs.declared.rule.Given.{Given};
 ghost use Rattle.ca_counters.specs.Counters.{IsSetFor, counters, twice};
 
+use crate::neighbours::CountingGate;
 use crate::setting::{coded, set};
-use ca_base::OpenGate;
 use ca_cells::RoundLog;
 use ca_counters::{let_go, twice};
 use ca_logs::Task;
@@ -84,9 +84,9 @@ fn collects<R: Threads + Wait + Sync + AllocGlobal + Abort>(
         panic!(rt; "no tasks");
     };
     let mut pool = Pool::make(workers);
-    let gate = &OpenGate;
+    let gate = CountingGate::new();
     let ran = pool.round(
-        rt, alloc, program, &extent, &heap, &beside, cells, seats, first, quota, 100, gate,
+        rt, alloc, program, &extent, &heap, &beside, cells, seats, first, quota, 100, &gate,
     );
     let_go(extent);
     let_go(heap);

@@ -48,10 +48,19 @@ const ROWS: &str = "// a task that takes no lock lists two neighbours
 1 0 8 2 8 8 0
 1 0 9 3 9 9 0";
 
-/// Counts how often it is passed.
+/// Counts how often it is passed. All rounds of a pool here pass this one, so that they are compiled once.
 #[derive(Drop)]
-struct CountingGate {
+pub struct CountingGate {
     passed: AtomicU64,
+}
+
+impl CountingGate {
+    /// A gate that nobody passed.
+    pub fn new() -> CountingGate {
+        CountingGate {
+            passed: AtomicU64::new(0),
+        }
+    }
 }
 
 impl Gate for CountingGate {
@@ -109,9 +118,7 @@ fn passes<R: Threads + Wait + Sync + AllocGlobal + Abort>(
         panic!(rt; "no tasks");
     };
     let mut pool = Pool::make(workers);
-    let gate = CountingGate {
-        passed: AtomicU64::new(0),
-    };
+    let gate = CountingGate::new();
     let ran = pool.round(
         rt, alloc, program, &extent, &heap, &beside, cells, seats, first, 16_384, 100, &gate,
     );
