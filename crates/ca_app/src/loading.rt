@@ -35,7 +35,7 @@ struct Loaded {
     steps: u64,
 }
 
-/// Runs the text of a seed and a size by so many workers, which pass the gate before each section, and then writes the summary
+/// Runs the text of a seed and a size by so many workers, which pass the gate as their engine does, and then writes the summary
 /// of what the run left.
 pub fn load<R: Threads + Wait + Sync, K: Sink, G: Gate>(
     rt: &R,

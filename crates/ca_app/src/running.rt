@@ -27,7 +27,7 @@ use std::alloc::Global;
 use std::sync::Wait;
 use std::thread::Threads;
 
-/// Runs a program by so many workers, which pass the gate before each section. What it prints is written as it comes. What is
+/// Runs a program by so many workers, which pass the gate as their engine does. What it prints is written as it comes. What is
 /// written doesn't depend on the workers.
 pub fn run_program<R: Threads + Wait + Sync, K: Sink, G: Gate>(
     rt: &R,

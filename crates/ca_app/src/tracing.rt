@@ -33,7 +33,7 @@ use std::alloc::Global;
 use std::sync::Wait;
 use std::thread::Threads;
 
-/// Runs the source by so many workers, which pass the gate before each section, and writes the schedule of the run. Nothing
+/// Runs the source by so many workers, which pass the gate as their engine does, and writes the schedule of the run. Nothing
 /// that the run prints is written.
 pub fn trace<R: Threads + Wait + Sync, S: Source, K: Sink, G: Gate>(
     rt: &R,

@@ -53,10 +53,10 @@ fn grow_free(
     task: &Task,
     clock: u64,
     steps: u64,
-    listed: Vec<Op>,
+    listed: &mut Vec<Op>,
 ) -> Result<Vec<Task>, Memory>
-    ensures tasks { IfOk result (λ tasks. tasks.items ≡ map (task_after clock) listed.items) }
-    ensures added { IfOk result (λ _. loose.new ≡ loose.old ++ ran_entry task.now clock steps listed.items ∷ []) }
+    ensures tasks { IfOk result (λ tasks. tasks.items ≡ map (task_after clock) listed.old.items) }
+    ensures added { IfOk result (λ _. loose.new ≡ loose.old ++ ran_entry task.now clock steps listed.old.items ∷ []) }
     ensures kept { OnErr result (loose.new ≡ loose.old) }
 {
     let tasks = tasks_after(alloc, clock, listed)?;
@@ -86,10 +86,11 @@ pub fn add_free(
     let Some(clock) = next_clock(loose, task.after) else {
         return Ok(Added::Kept);
     };
-    let mut listed = Vec::new(alloc);
+    let mut listed = desk.take_list(alloc);
     match section_frozen(desk, alloc, program, frozen, &task.op, left, &mut listed)? {
         SectionAnswer::Done { steps } => {
-            let tasks = grow_free(loose, alloc, task, clock, steps, listed)?;
+            let tasks = grow_free(loose, alloc, task, clock, steps, &mut listed)?;
+            desk.give_back_list(listed);
             Ok(Added::Ran { tasks, steps })
         }
         SectionAnswer::Trapped(trap) => stick_free(loose, alloc, task, clock, Stop::Trapped(trap)),

@@ -1,17 +1,13 @@
--- Puts, creations, prints and calls of operations: their instructions do what they mean, however a world is accessed.
-use Rattle.std.proofs.Common.{◌≡◌, ℕ, ◌+◌, ◌<◌, ◌≤◌, List, [], ◌∷◌, ◌++◌, length, Option, Some, None, refl, sym, ap, ◌∙◌, subst, arith, length-set, ◌⊎◌, inl, inr}
-use Rattle.std.specs.Prelude.{pos, negsuc, slice_get, slice_set}
+-- Puts, creations, prints and calls of operations do what they mean in typed programs, however a world is accessed.
+use Rattle.std.proofs.Common.{◌≡◌, ℕ, ◌+◌, ◌<◌, ◌≤◌, List, [], ◌∷◌, ◌++◌, length, ap, subst, arith, ◌⊎◌, inl, inr}
+use Rattle.std.specs.Prelude.{slice_get}
 use Rattle.std.proofs.lemmas.Option.{slice_get_within}
-use Rattle.ca_tree.specs.declared.tree.AssignOp.{AssignOp}
 use Rattle.ca_program.specs.declared.program.ClassId.{ClassId}
-use Rattle.ca_program.specs.declared.program.FieldId.{FieldId}
 use Rattle.ca_program.specs.declared.program.OpId.{OpId}
 use Rattle.ca_program.specs.Plain.{Expression, Expressions, Statement, put_field, put_item, new_local, new_field, new_item, print_value, PlainProgram}
 use Rattle.ca_model.specs.declared.value.Value.{Value as Datum}
-use Rattle.ca_model.specs.declared.value.Value.TheVariants.{Long, Bool as Truth, Null, Ref}
-use Rattle.ca_meaning.specs.Operators.{assigned}
-use Rattle.ca_meaning.specs.Expressions.{Out, gives, traps, over, ◌>>=◌, one_in, items_in, pointed, Item as Found, found, indexed, Place, Calls, eval, eval_all, Invocation, invocation, due}
-use Rattle.ca_meaning.specs.Flows.{Flow, goes_on, with}
+use Rattle.ca_meaning.specs.Expressions.{gives, ◌>>=◌, pointed, Calls, eval, eval_all, Invocation, invocation, due}
+use Rattle.ca_meaning.specs.Flows.{Flow, with}
 use Rattle.ca_meaning.specs.Functions.{functions_of}
 use Rattle.ca_program.specs.declared.program.ValueType.{ValueType}
 use Rattle.ca_program.specs.declared.program.ValueType.TheVariants.{Long as LongType, Bool as BoolType, Pointer}
@@ -20,33 +16,18 @@ use Rattle.ca_meaning.specs.WellTyped.{ValuesTyped}
 use Rattle.ca_meaning.specs.ProgramTyped.{Scope, IsOperation, ExpressionTyped, ExpressionsTyped, StatementTyped}
 use Rattle.ca_meaning_laws.specs.Typed.{PlaceTyped}
 use Rattle.ca_meaning_laws.proofs.Evals.{CallsTyped, eval_typed, all_typed}
-use Rattle.ca_code_laws.specs.Words.{word, read_as}
-use Rattle.ca_program.specs.Kinds.{Kind, kind_at, as_long, as_pointer, Kinds, kinds_in, kind_of}
-use Rattle.ca_program.specs.Instructions.{Instruction, CheckItem, PutField, PutItem, NewLocal, NewField, NewItem, Print, Code, Placed, on, IsAt, HasAt}
-use Rattle.ca_program.specs.Layout.{stands, expression_code, expressions_code, operand_code, how_many, all_acts, FunctionsLaidOut}
-use Rattle.ca_code_laws.specs.Machine.{Store, store, Back, Accesses, State, Outcome, Trapped, Spent, Next, after, act}
-use Rattle.ca_code_laws.specs.Told.{Below, Holds}
-use Rattle.ca_code_laws.proofs.Steps.{stored_here, stored_there, Within, steps, steps_end, Reaches, Flows, with_flows, step_flows}
+use Rattle.ca_code_laws.specs.Words.{read_as}
+use Rattle.ca_program.specs.Kinds.{Kind, kind_at, as_pointer, Kinds, kinds_in}
+use Rattle.ca_program.specs.Instructions.{Instruction, Code, on, IsAt, HasAt}
+use Rattle.ca_program.specs.Layout.{expression_code, expressions_code, all_acts, FunctionsLaidOut}
+use Rattle.ca_code_laws.specs.Machine.{Store, Back, Accesses, State}
+use Rattle.ca_code_laws.specs.Told.{Holds}
+use Rattle.ca_code_laws.proofs.Steps.{Within, Flows}
+use Rattle.ca_code_laws.proofs.Instead.{nothing_else, only}
+use Rattle.ca_code_laws.proofs.Acted.{seen, act_by, ActParts, Operands, acts_do, calls_do}
 use Rattle.ca_code_laws.proofs.Typed.{given, kind_is, arguments_fit, operation_params, slot_within}
-use Rattle.ca_code_laws.proofs.Values.{Valued, Stood, AllStood, apart, within_indexed, CallsRun, operand_runs, expression_runs, expressions_runs}
-use Rattle.ca_code_laws.proofs.Statements.{LocalsAt, local_put}
-
--- an index that is found is found with any steps
-pub indexed_again : (line : ℕ) (items : List Datum) (v : Datum) (k i j : ℕ) (x : Found) → indexed line items v k ≡ gives x j → indexed line items v i ≡ gives x i
-indexed_again line items (Long (pos a)) k i j x e = by (slice_get items a) e
-  where
-    by : (o : Option Datum) → found line a o k ≡ gives x j → found line a o i ≡ gives x i
-    by (Some v) e = let same : record { place = a; value = v } ≡ x = cc in ap (λ y. gives y i) same
-    by None e = cc
-indexed_again line items (Long (negsuc a)) k i j x e = cc
-indexed_again line items (Ref a) k i j x e = cc
-indexed_again line items (Truth a) k i j x e = cc
-indexed_again line items Null k i j x e = cc
-
-pub with_then : {A B S : Type 0} (o : Out A) (f : A → ℕ → Out B) (s : S) (g : B → ℕ → Flow S) → with (o >>= f) s g ≡ with o s (λ v k. with (f v k) s g)
-with_then (gives v k) f s g = refl
-with_then (traps t) f s g = refl
-with_then over f s g = refl
+use Rattle.ca_code_laws.proofs.Values.{CallsRun, operand_runs, expression_runs, expressions_runs}
+use Rattle.ca_code_laws.proofs.Executed.{LocalsAt}
 
 module _ {S : Type 0} (acc : Accesses S) (code : Code) (p : PlainProgram) (laid : FunctionsLaidOut p code) (sc : Scope) (Good : S → Type 0) (me : Datum) (below : List Back) (base n top : ℕ) (wide : length sc.locals ≡ top) (room_within : (line : ℕ) (x : S) (c : ClassId) (k : ℕ) → Within k (acc.room line x c k)) (calls_run : (x : S) → Good x → CallsRun acc code p laid x (functions_of p.functions (acc.heap x)).call n) (calls : (x : S) → Good x → CallsTyped p (acc.heap x) (functions_of p.functions (acc.heap x)).call) (places : (line : ℕ) (ls : List Datum) (x : S) → Good x → ValuesTyped (acc.heap x) ls sc.locals → PlaceTyped p sc (record { heap = acc.heap x; this = me; own = acc.own below x me; locals = ls; line = line })) where
   -- the kinds in the body
@@ -64,99 +45,28 @@ module _ {S : Type 0} (acc : Accesses S) (code : Code) (p : PlainProgram) (laid 
   abbrev pub there : ℕ → ℕ → Store → S → State S
   there at k f x = record { at = at; base = base; left = k; this = me; below = below; slots = f; world = x }
 
-  abbrev pub seen : ℕ → List Datum → S → Place
-  seen line ls x = record { heap = acc.heap x; this = me; own = acc.own below x me; locals = ls; line = line }
+  -- the value methods that may be called
+  abbrev calls_of : S → Calls
+  calls_of x = (functions_of p.functions (acc.heap x)).call
 
-  abbrev pub value : ℕ → List Datum → S → Expression → ℕ → Out Datum
-  value line ls x e k = eval (functions_of p.functions (acc.heap x)).call (seen line ls x) e k
+  -- expressions of some type
+  abbrev E : Expression → Type 0
+  E e = (ty : ValueType) × ExpressionTyped p sc e ty
 
-  abbrev pub item_at : ℕ → S → FieldId → Datum → ℕ → Out Found
-  item_at line x f v k = indexed line (items_in (slice_get (acc.own below x me) f.field)) v k
+  abbrev Es : Expressions → Type 0
+  Es es = (tys : List ValueType) × ExpressionsTyped p sc es tys
 
-  -- what a statement means that acts on a world that is accessed so
-  abbrev pub act_by : ℕ → List Datum → S → Statement → ℕ → Flow S
-  act_by line ls x (put_field _ f op e) k =
-      with (value line ls x e k) x (λ v k. goes_on ls (acc.put x me f 0 (assigned op (one_in (slice_get (acc.own below x me) f.field)) v)) k)
-  act_by line ls x (put_item _ f i op e) k =
-      with (value line ls x i k) x (λ v k. with (item_at line x f v k) x (λ item k.
-      with (value line ls x e k) x (λ v k. goes_on ls (acc.put x me f item.place (assigned op item.value v)) k)))
-  act_by line ls x (new_local _ l c) k =
-      with (acc.room line x c k) x (λ r k. goes_on (slice_set ls l.0 (Ref r)) (acc.with_new x c) k)
-  act_by line ls x (new_field _ f c) k =
-      with (acc.room line x c k) x (λ r k. goes_on ls (acc.put (acc.with_new x c) me f 0 (Ref r)) k)
-  act_by line ls x (new_item _ f i c) k =
-      with (value line ls x i k) x (λ v k. with (item_at line x f v k) x (λ item k.
-      with (acc.room line x c k) x (λ r k. goes_on ls (acc.put (acc.with_new x c) me f item.place (Ref r)) k)))
-  act_by line ls x (print_value _ e) k = with (value line ls x e k) x (λ v k. goes_on ls (acc.print x v) k)
-  act_by line ls x other k = goes_on ls x k
-
-  same : S → S
-  same x = x
-
-  abbrev Does : ℕ → ℕ → Store → S → ℕ → Flow S → Type 0
-  Does at k f x m o = Flows acc code (λ (x : S). x) ret (there at k f x) m (LocalsAt ks base top) o
-
-  -- one instruction that does what is left of a statement
-  does_once : {A : Type 0} (at k : ℕ) (f : Store) (x : S) (i : Placed) (o : Out A) (put : A → Store) (world : A → S) (ls : A → List Datum) → IsAt code at i → ((next : Next S) → act acc code i.line (Some i.instruction) next (there at k f x) ≡ after o x (λ v j. next (there (at + 1) j (put v) (world v)))) → Within k o → ((v : A) → LocalsAt ks base top (ls v) (put v)) → ((v : A) → Below base f (put v)) → Does at k f x 1 (with o x (λ v j. goes_on (ls v) (world v) j))
-  does_once at k f x i (gives v j) put world ls h a le locals bel = (put v, steps acc code (there at k f x) (there (at + 1) j (put v) (world v)) i h a, locals v, bel v, le)
-  does_once at k f x i (traps t) put world ls h a le locals bel = (steps_end acc code (there at k f x) (Trapped t x) i h a)
-  does_once at k f x i over put world ls h a le locals bel = (steps_end acc code (there at k f x) (Spent x) i h a)
-
-  operand : (e : Expression) (ty : ValueType) → ExpressionTyped p sc e ty → (line free : ℕ) (ls : List Datum) (x : S) (at k : ℕ) (f : Store) → HasAt code at (operand_code ks line e free) → length ls ≡ top → Here ls x → top ≤ free → k ≤ n → Holds ks.locals f base ls → Reaches acc code (there at k f x) (length (operand_code ks line e free)) (Stood base f (stands e free) free (kind_of ks e)) (value line ls x e k)
-  operand e ty t line free ls x at k f h len good le left holds =
-      operand_runs acc code p laid sc (there at k f x) (functions_of p.functions (acc.heap x)).call n (calls_run x good.0) (calls x good.0) e ty t line free ls (places line ls x good.0 good.1) at k f h (omega (arith, len, le)) left holds
-
-  -- a put to an item, behind its index
-  item_put : (line : ℕ) (f : FieldId) (i : Expression) (op : AssignOp) (e : Expression) (ty : ValueType) → ExpressionTyped p sc e ty → (ls : List Datum) (x : S) (at k : ℕ) (g : Store) (v : Datum) → HasAt code at (on line (CheckItem f (stands i top)) ∷ (operand_code ks line e (top + 1) ++ on line (PutItem f (stands i top) op (kind_of ks e) (stands e (top + 1))) ∷ [])) → read_as as_long (g (base + stands i top)) ≡ v → stands i top < top + 1 → length ls ≡ top → Here ls x → k ≤ n → Holds ks.locals g base ls → Does at k g x (length (on line (CheckItem f (stands i top)) ∷ (operand_code ks line e (top + 1) ++ on line (PutItem f (stands i top) op (kind_of ks e) (stands e (top + 1))) ∷ []))) (with (item_at line x f v k) x (λ item k. with (value line ls x e k) x (λ v k. goes_on ls (acc.put x me f item.place (assigned op item.value v)) k)))
-  item_put line f i op e ty t ls x at k g v h is in_frame len good left holds = by (item_at line x f v k) refl (within_indexed line (items_in (slice_get (acc.own below x me) f.field)) v k)
-    where
-      check : Placed
-      check = on line (CheckItem f (stands i top))
-
-      ce : List Placed
-      ce = operand_code ks line e (top + 1)
-
-      last : Placed
-      last = on line (PutItem f (stands i top) op (kind_of ks e) (stands e (top + 1)))
-
-      does : (o : Out Found) → item_at line x f v k ≡ o → (next : Next S) → act acc code line (Some check.instruction) next (there at k g x) ≡ after o x (λ item j. next (there (at + 1) j g x))
-      does o e next = ap (λ y. after (item_at line x f y k) x (λ item j. next (there (at + 1) j g x))) is ∙ ap (λ y. after y x (λ item j. next (there (at + 1) j g x))) e
-
-      by : (o : Out Found) → item_at line x f v k ≡ o → Within k o → Does at k g x (length (check ∷ (ce ++ last ∷ []))) (with o x (λ item k. with (value line ls x e k) x (λ v k. goes_on ls (acc.put x me f item.place (assigned op item.value v)) k)))
-      by (gives item j) z le =
-          step_flows acc code (λ (x : S). x) ret (there at k g x) j g x check (ce ++ last ∷ []) (LocalsAt ks base top) h (does (gives item j) z) (λ j lt. refl) le (with (value line ls x e j) x (λ v k. goes_on ls (acc.put x me f item.place (assigned op item.value v)) k))
-          (λ h. with_flows acc code (λ (x : S). x) ret (there (at + 1) j g x) x ce (last ∷ []) (Stood base g (stands e (top + 1)) (top + 1) (kind_of ks e)) (LocalsAt ks base top) (λ v k. goes_on ls (acc.put x me f item.place (assigned op item.value v)) k) refl h (value line ls x e j)
-          (λ h. operand e ty t line (top + 1) ls x (at + 1) j g h len good (omega arith) (omega (arith, le, left)) holds)
-          (λ u j2 g2 y h q bel le2.
-          does_once (at + 1 + length ce) j2 g2 x last (gives u j2) (λ u. g2) (λ u. acc.put x me f item.place (assigned op item.value u)) (λ u. ls) h.0
-          (λ next. ap (λ y. after (item_at line x f y j2) x (λ item k. next (there (at + 1 + length ce + 1) k g2 (acc.put x me f item.place (assigned op item.value (read_as (kind_of ks e) (g2 (base + stands e (top + 1))))))))) (ap (read_as as_long) (q.1 (stands i top) in_frame) ∙ is) ∙ ap (λ y. after y x (λ item k. next (there (at + 1 + length ce + 1) k g2 (acc.put x me f item.place (assigned op item.value (read_as (kind_of ks e) (g2 (base + stands e (top + 1))))))))) (indexed_again line (items_in (slice_get (acc.own below x me) f.field)) v k j2 j item z) ∙ ap (λ y. next (there (at + 1 + length ce + 1) j2 g2 (acc.put x me f item.place (assigned op item.value y)))) q.0)
-          (omega arith) (λ u. ((λ i lt. ap (read_as (ks.locals i)) (q.1 i (omega (arith, lt, len))) ∙ holds i lt), len)) (λ u j lt. refl)))
-      by (traps t) z le = (steps_end acc code (there at k g x) (Trapped t x) check h.0 (does (traps t) z))
-      by over z le = (steps_end acc code (there at k g x) (Spent x) check h.0 (does over z))
-
-  -- a new object in an item
-  item_made : (line : ℕ) (f : FieldId) (i : Expression) (c : ClassId) (ls : List Datum) (x : S) (at k : ℕ) (g : Store) (v : Datum) → IsAt code at (on line (NewItem f (stands i top) c)) → read_as as_long (g (base + stands i top)) ≡ v → length ls ≡ top → Holds ks.locals g base ls → Does at k g x 1 (with (item_at line x f v k) x (λ item k. with (acc.room line x c k) x (λ r k. goes_on ls (acc.put (acc.with_new x c) me f item.place (Ref r)) k)))
-  item_made line f i c ls x at k g v h is len holds = by (item_at line x f v k) refl (within_indexed line (items_in (slice_get (acc.own below x me) f.field)) v k)
-    where
-      last : Placed
-      last = on line (NewItem f (stands i top) c)
-
-      abbrev_next : Next S → Found → ℕ → Outcome S
-      abbrev_next next item j = after (acc.room line x c j) x (λ r k. next (there (at + 1) k g (acc.put (acc.with_new x c) me f item.place (Ref r))))
-
-      does : (o : Out Found) → item_at line x f v k ≡ o → (next : Next S) → act acc code line (Some last.instruction) next (there at k g x) ≡ after o x (abbrev_next next)
-      does o e next = ap (λ y. after (item_at line x f y k) x (abbrev_next next)) is ∙ ap (λ y. after y x (abbrev_next next)) e
-
-      by : (o : Out Found) → item_at line x f v k ≡ o → Within k o → Does at k g x 1 (with o x (λ item k. with (acc.room line x c k) x (λ r k. goes_on ls (acc.put (acc.with_new x c) me f item.place (Ref r)) k)))
-      by (gives item j) z le =
-          does_once at k g x last (acc.room line x c j) (λ r. g) (λ r. acc.put (acc.with_new x c) me f item.place (Ref r)) (λ r. ls) h (does (gives item j) z) (less (acc.room line x c j) (room_within line x c j) le) (λ r. (holds, len)) (λ r j lt. refl)
-        where
-          less : (o : Out ℕ) → Within j o → j ≤ k → Within k o
-          less (gives v i) h le = omega (arith, h, le)
-          less (traps t) h le = tt
-          less over h le = tt
-      by (traps t) z le = (steps_end acc code (there at k g x) (Trapped t x) last h (does (traps t) z))
-      by over z le = (steps_end acc code (there at k g x) (Spent x) last h (does over z))
+  operands : Operands acc calls_of me below code (nothing_else acc code) ks ret base n top E Es Here
+  operands = record {
+    within = λ e t. slot_within p sc e t.0 top t.1 (omega (arith, wide));
+    room = room_within;
+    operand = λ e t line free ls x at k f h len good le left holds.
+        inr (operand_runs acc code p laid sc (there at k f x) (calls_of x) n (calls_run x good.0) (calls x good.0) e t.0 t.1 line free ls (places line ls x good.0 good.1) at k f h (omega (arith, len, le)) left holds);
+    expression = λ e t line ls x at k f h len good left holds.
+        inr (expression_runs acc code p laid sc (there at k f x) (calls_of x) n (calls_run x good.0) (calls x good.0) e t.0 t.1 line top top ls (places line ls x good.0 good.1) at k f h (omega (arith, len)) (omega arith) left holds);
+    expressions = λ es t κs line ls x at k f h fits len good left holds.
+        inr (expressions_runs acc code p laid sc (there at k f x) (calls_of x) n (calls_run x good.0) (calls x good.0) es t.0 t.1 κs line (top + 1) ls (places line ls x good.0 good.1) at k f h fits (omega (arith, len)) left holds);
+  }
 
   abbrev pub Makes : Statement → Type 0
   Makes (put_field l f op e) = Unit {0}
@@ -171,73 +81,32 @@ module _ {S : Type 0} (acc : Accesses S) (code : Code) (p : PlainProgram) (laid 
   printable e (inl t) = (LongType, t)
   printable e (inr t) = (BoolType, t)
 
-  pub acts_run : (s : Statement) (line : ℕ) (ls : List Datum) (x : S) (at k : ℕ) (f : Store) → Makes s → HasAt code at (all_acts ks line s top) → StatementTyped p sc s → length ls ≡ top → Here ls x → k ≤ n → Holds ks.locals f base ls → Does at k f x (length (all_acts ks line s top)) (act_by line ls x s k)
-  acts_run (put_field l y op e) line ls x at k f is h t len good left holds =
-      let ce = operand_code ks line e top in
-      let last = on line (PutField y op (kind_of ks e) (stands e top)) in
-      let old = one_in (slice_get (acc.own below x me) y.field) in
-      with_flows acc code (λ (x : S). x) ret (there at k f x) x ce (last ∷ []) (Stood base f (stands e top) top (kind_of ks e)) (LocalsAt ks base top) (λ v k. goes_on ls (acc.put x me y 0 (assigned op old v)) k) refl h (value line ls x e k)
-      (λ h. operand e t.0 t.3.1 line top ls x at k f h len good (omega arith) left holds)
-      (λ u j g z h q bel le. does_once (at + length ce) j g x last (gives u j) (λ u. g) (λ u. acc.put x me y 0 (assigned op old u)) (λ u. ls) h.0
-      (λ next. ap (λ z. next (there (at + length ce + 1) j g (acc.put x me y 0 (assigned op old z)))) q.0) (omega arith) (λ u. ((λ i lt. ap (read_as (ks.locals i)) (q.1 i (omega (arith, lt, len))) ∙ holds i lt), len)) (λ u j lt. refl))
-  acts_run (put_item l y i op e) line ls x at k f is h t len good left holds =
-      let ci = operand_code ks line i top in
-      let rest = on line (CheckItem y (stands i top)) ∷ (operand_code ks line e (top + 1) ++ on line (PutItem y (stands i top) op (kind_of ks e) (stands e (top + 1))) ∷ []) in
-      with_flows acc code (λ (x : S). x) ret (there at k f x) x ci rest (Stood base f (stands i top) top (kind_of ks i)) (LocalsAt ks base top) (λ v k. with (item_at line x y v k) x (λ item k. with (value line ls x e k) x (λ v k. goes_on ls (acc.put x me y item.place (assigned op item.value v)) k))) refl h (value line ls x i k)
-      (λ h. operand i LongType t.3 line top ls x at k f h len good (omega arith) left holds)
-      (λ u j g z h q bel le. item_put line y i op e t.0 t.4.1 ls x (at + length ci) j g u h (ap (λ z. read_as z (g (base + stands i top))) (sym (kind_is p sc i LongType t.3)) ∙ q.0) (slot_within p sc i LongType top t.3 (omega (arith, wide))) len good (omega (arith, le, left)) (λ i lt. ap (read_as (ks.locals i)) (q.1 i (omega (arith, lt, len))) ∙ holds i lt))
-  acts_run (new_local l y c) line ls x at k f is h t len good left holds =
-      does_once at k f x (on line (NewLocal y.0 c)) (acc.room line x c k) (λ r. store f (base + y.0) (word (Ref r))) (λ r. acc.with_new x c) (λ r. slice_set ls y.0 (Ref r)) h.0 (λ next. refl) (room_within line x c k)
-      (λ r.
-      let g = store f (base + y.0) (word (Ref r)) in
-      let below_top : y.0 < top = subst (λ n. y.0 < n) wide (slice_get_within sc.locals y.0 (Pointer c) t.1) in
-      let reads : read_as (ks.locals y.0) (g (base + y.0)) ≡ Ref r = ap (λ z. read_as z (g (base + y.0))) (ap kind_at t.1) ∙ ap (read_as as_pointer) (stored_here f (base + y.0) (base + y.0) (word (Ref r)) refl) in
-      (local_put ks.locals base y.0 ls (Ref r) f g (omega (arith, below_top, len)) holds reads (λ j lt ne. stored_there f (base + y.0) (base + j) (word (Ref r)) (apart base j y.0 ne)), length-set ls y.0 (Ref r) ∙ len))
-      (λ r j lt. stored_there f (base + y.0) j (word (Ref r)) (λ e. absurd (omega (arith, lt, e))))
-  acts_run (new_field l y c) line ls x at k f is h t len good left holds =
-      does_once at k f x (on line (NewField y c)) (acc.room line x c k) (λ r. f) (λ r. acc.put (acc.with_new x c) me y 0 (Ref r)) (λ r. ls) h.0 (λ next. refl) (room_within line x c k) (λ r. (holds, len)) (λ r j lt. refl)
-  acts_run (new_item l y i c) line ls x at k f is h t len good left holds =
-      let ci = operand_code ks line i top in
-      with_flows acc code (λ (x : S). x) ret (there at k f x) x ci (on line (NewItem y (stands i top) c) ∷ []) (Stood base f (stands i top) top (kind_of ks i)) (LocalsAt ks base top) (λ v k. with (item_at line x y v k) x (λ item k. with (acc.room line x c k) x (λ r k. goes_on ls (acc.put (acc.with_new x c) me y item.place (Ref r)) k))) refl h (value line ls x i k)
-      (λ h. operand i LongType t.2 line top ls x at k f h len good (omega arith) left holds)
-      (λ u j g z h q bel le. item_made line y i c ls x (at + length ci) j g u h.0 (ap (λ z. read_as z (g (base + stands i top))) (sym (kind_is p sc i LongType t.2)) ∙ q.0) len (λ i lt. ap (read_as (ks.locals i)) (q.1 i (omega (arith, lt, len))) ∙ holds i lt))
-  acts_run (print_value l e) line ls x at k f is h t len good left holds =
-      let ce = operand_code ks line e top in
-      let typed = printable e t.1 in
-      with_flows acc code (λ (x : S). x) ret (there at k f x) x ce (on line (Print (kind_of ks e) (stands e top)) ∷ []) (Stood base f (stands e top) top (kind_of ks e)) (LocalsAt ks base top) (λ v k. goes_on ls (acc.print x v) k) refl h (value line ls x e k)
-      (λ h. operand e typed.0 typed.1 line top ls x at k f h len good (omega arith) left holds)
-      (λ u j g z h q bel le. does_once (at + length ce) j g x (on line (Print (kind_of ks e) (stands e top))) (gives u j) (λ u. g) (λ u. acc.print x u) (λ u. ls) h.0
-      (λ next. ap (λ z. next (there (at + length ce + 1) j g (acc.print x z))) q.0) (omega arith) (λ u. ((λ i lt. ap (read_as (ks.locals i)) (q.1 i (omega (arith, lt, len))) ∙ holds i lt), len)) (λ u j lt. refl))
-  acts_run other line ls x at k f is h t len good left holds = absurd is
+  act_parts : (s : Statement) → Makes s → StatementTyped p sc s → ActParts ks top E s
+  act_parts (put_field l y op e) is t = (t.0, t.3.1)
+  act_parts (put_item l y i op e) is t = (kind_is p sc i LongType t.3, (LongType, t.3), (t.0, t.4.1))
+  act_parts (new_local l y c) is t = (subst (λ n. y.0 < n) wide (slice_get_within sc.locals y.0 (Pointer c) t.1), ap kind_at t.1)
+  act_parts (new_field l y c) is t = tt
+  act_parts (new_item l y i c) is t = (kind_is p sc i LongType t.2, (LongType, t.2))
+  act_parts (print_value l e) is t = printable e t.1
+  act_parts other is t = absurd is
+
+  pub acts_run : (s : Statement) (line : ℕ) (ls : List Datum) (x : S) (at k : ℕ) (f : Store) → Makes s → HasAt code at (all_acts ks line s top) → StatementTyped p sc s → length ls ≡ top → Here ls x → k ≤ n → Holds ks.locals f base ls → Flows acc code (λ (x : S). x) ret (there at k f x) (length (all_acts ks line s top)) (LocalsAt ks base top) (act_by acc calls_of me below line ls x s k)
+  acts_run s line ls x at k f is h t len good left holds =
+      only (acts_do acc calls_of me below code (nothing_else acc code) ks ret base n top E Es Here operands s line ls x at k f (act_parts s is t) h len good left holds)
 
   -- what the call itself does, with the receiver and the arguments in their slots
   abbrev pub Hands : (OpId → ℕ → Instruction) → (List Datum → Invocation → S → ℕ → Flow S) → Type 0
   Hands instruction runs_call =
-      (line : ℕ) (op : OpId) (class : ClassId) (tys : List ValueType) (ls vs : List Datum) (v : Datum) (x : S) (at k : ℕ) (f : Store) → IsAt code at (on line (instruction op top)) → IsOperation (slice_get p.ops op.0) class tys → HasType (acc.heap x) v (Pointer class) → ValuesTyped (acc.heap x) vs tys → read_as as_pointer (f (base + top)) ≡ v → Holds (ks.arguments op) f (base + (top + 1)) vs → length ls ≡ top → Here ls x → k ≤ n → Holds ks.locals f base ls → Does at k f x 1 (with (pointed line v k >>= λ r k. gives (invocation r op vs) k) x (λ i k. runs_call ls i x k))
+      (line : ℕ) (op : OpId) (class : ClassId) (tys : List ValueType) (ls vs : List Datum) (v : Datum) (x : S) (at k : ℕ) (f : Store) → IsAt code at (on line (instruction op top)) → IsOperation (slice_get p.ops op.0) class tys → HasType (acc.heap x) v (Pointer class) → ValuesTyped (acc.heap x) vs tys → read_as as_pointer (f (base + top)) ≡ v → Holds (ks.arguments op) f (base + (top + 1)) vs → length ls ≡ top → Here ls x → k ≤ n → Holds ks.locals f base ls → Flows acc code (λ (x : S). x) ret (there at k f x) 1 (LocalsAt ks base top) (with (pointed line v k >>= λ r k. gives (invocation r op vs) k) x (λ i k. runs_call ls i x k))
 
-  pub invokes : (instruction : OpId → ℕ → Instruction) (runs_call : List Datum → Invocation → S → ℕ → Flow S) → Hands instruction runs_call → (e : Expression) (op : OpId) (es : Expressions) (class : ClassId) (tys : List ValueType) (line : ℕ) (ls : List Datum) (x : S) (at k : ℕ) (f : Store) → HasAt code at (expression_code ks line e top top ++ (expressions_code ks line es (top + 1) ++ on line (instruction op top) ∷ [])) → IsOperation (slice_get p.ops op.0) class tys → ExpressionTyped p sc e (Pointer class) → ExpressionsTyped p sc es tys → length ls ≡ top → Here ls x → k ≤ n → Holds ks.locals f base ls → Does at k f x (length (expression_code ks line e top top ++ (expressions_code ks line es (top + 1) ++ on line (instruction op top) ∷ []))) (with (due (functions_of p.functions (acc.heap x)).call (seen line ls x) e op es k) x (λ i k. runs_call ls i x k))
+  pub invokes : (instruction : OpId → ℕ → Instruction) (runs_call : List Datum → Invocation → S → ℕ → Flow S) → Hands instruction runs_call → (e : Expression) (op : OpId) (es : Expressions) (class : ClassId) (tys : List ValueType) (line : ℕ) (ls : List Datum) (x : S) (at k : ℕ) (f : Store) → HasAt code at (expression_code ks line e top top ++ (expressions_code ks line es (top + 1) ++ on line (instruction op top) ∷ [])) → IsOperation (slice_get p.ops op.0) class tys → ExpressionTyped p sc e (Pointer class) → ExpressionsTyped p sc es tys → length ls ≡ top → Here ls x → k ≤ n → Holds ks.locals f base ls → Flows acc code (λ (x : S). x) ret (there at k f x) (length (expression_code ks line e top top ++ (expressions_code ks line es (top + 1) ++ on line (instruction op top) ∷ []))) (LocalsAt ks base top) (with (due (calls_of x) (seen acc calls_of me below line ls x) e op es k) x (λ i k. runs_call ls i x k))
   invokes instruction runs_call hands e op es class tys line ls x at k f h is_op te tes len good left holds =
-      let c = (functions_of p.functions (acc.heap x)).call in
-      let ce = expression_code ks line e top top in
-      let ces = expressions_code ks line es (top + 1) in
-      let last = on line (instruction op top) in
-      let here = there at k f x in
       let place = places line ls x good.0 good.1 in
-      let fits = arguments_fit p sc es tys (ks.arguments op) tes (operation_params (slice_get p.ops op.0) class tys is_op) in
-      let next_two : Datum → ℕ → Flow S = λ v k. with (eval_all c (seen line ls x) es k) x (λ vs k. with (pointed line v k >>= λ r k. gives (invocation r op vs) k) x (λ i k. runs_call ls i x k)) in
-      subst (λ o. Does at k f x (length (ce ++ (ces ++ last ∷ []))) o) (sym (splits c (value line ls x e k)))
-      (with_flows acc code (λ (x : S). x) ret here x ce (ces ++ last ∷ []) (Valued base f top top (kind_of ks e)) (LocalsAt ks base top) next_two refl h (value line ls x e k)
-      (λ h. expression_runs acc code p laid sc here c n (calls_run x good.0) (calls x good.0) e (Pointer class) te line top top ls place at k f h (omega (arith, len)) (omega arith) left holds)
-      (λ v j g y h q bel le.
-      let holds1 : Holds ks.locals g base ls = λ i lt. ap (read_as (ks.locals i)) (q.1 i (omega (arith, lt, len)) (λ e. absurd (omega (arith, lt, len, e)))) ∙ holds i lt in
-      with_flows acc code (λ (x : S). x) ret (there (at + length ce) j g x) x ces (last ∷ []) (AllStood base g (top + 1) (how_many es) (ks.arguments op)) (LocalsAt ks base top) (λ vs k. with (pointed line v k >>= λ r k. gives (invocation r op vs) k) x (λ i k. runs_call ls i x k)) refl h (eval_all c (seen line ls x) es j)
-      (λ h. expressions_runs acc code p laid sc here c n (calls_run x good.0) (calls x good.0) es tys tes (ks.arguments op) line (top + 1) ls place (at + length ce) j g h fits (omega (arith, len)) (omega (arith, le, left)) holds1)
-      (λ vs j2 g2 z h q2 below2 le2.
-      let of_class = given (λ v. HasType (acc.heap x) v (Pointer class)) (value line ls x e k) v j (eval_typed p sc (seen line ls x) c (calls x good.0) place e (Pointer class) te k) y in
-      let of_types = given (λ vs. ValuesTyped (acc.heap x) vs tys) (eval_all c (seen line ls x) es j) vs j2 (all_typed p sc (seen line ls x) c (calls x good.0) place es tys tes j) z in
-      hands line op class tys ls vs v x (at + length ce + length ces) j2 g2 h.0 is_op of_class of_types (ap (read_as as_pointer) (q2.2 top (omega arith)) ∙ ap (λ z. read_as z (g (base + top))) (sym (kind_is p sc e (Pointer class) te)) ∙ q.0) q2.1 len good (omega (arith, le2, le, left)) (λ i lt. ap (read_as (ks.locals i)) (q2.2 i (omega (arith, lt, len))) ∙ holds1 i lt))))
-    where
-      splits : (c : Calls) (o : Out Datum) → with (o >>= λ v k. eval_all c (seen line ls x) es k >>= λ vs k. pointed line v k >>= λ r k. gives (invocation r op vs) k) x (λ i k. runs_call ls i x k) ≡ with o x (λ v k. with (eval_all c (seen line ls x) es k) x (λ vs k. with (pointed line v k >>= λ r k. gives (invocation r op vs) k) x (λ i k. runs_call ls i x k)))
-      splits c (gives v k) = with_then (eval_all c (seen line ls x) es k) (λ vs k. pointed line v k >>= λ r k. gives (invocation r op vs) k) x (λ i k. runs_call ls i x k)
-      splits c (traps t) = refl
-      splits c over = refl
+      let pl = seen acc calls_of me below line ls x in
+      only (calls_do acc calls_of me below code (nothing_else acc code) ks ret base n top E Es Here operands instruction runs_call e op es line ls x k
+      (λ v vs j i at f y z many h is arguments le locals.
+      inr (hands line op class tys ls vs v x at i f h is_op
+      (given (λ v. HasType (acc.heap x) v (Pointer class)) (eval (calls_of x) pl e k) v j (eval_typed p sc pl (calls_of x) (calls x good.0) place e (Pointer class) te k) y)
+      (given (λ vs. ValuesTyped (acc.heap x) vs tys) (eval_all (calls_of x) pl es j) vs i (all_typed p sc pl (calls_of x) (calls x good.0) place es tys tes j) z)
+      is arguments len good (omega (arith, le, left)) locals))
+      (kind_is p sc e (Pointer class) te) (arguments_fit p sc es tys (ks.arguments op) tes (operation_params (slice_get p.ops op.0) class tys is_op)) (Pointer class, te) (tys, tes) at f h len good left holds)

@@ -20,9 +20,9 @@ use Rattle.ca_code_laws.specs.Told.{Holds, IsLaidOut}
 use Rattle.ca_code_laws.specs.Fitting.{FitsStatement, FitsMethod, FunctionsFit}
 use Rattle.ca_code_laws.specs.Known.{IsKnown, loop_alone, StopsAs, before_loop, EndOf, KnowsLoop}
 use Rattle.ca_code_laws.proofs.Steps.{has_front, has_back, joins_end, steps_end}
-use Rattle.ca_code_laws.proofs.Statements.{LocalsAt}
+use Rattle.ca_code_laws.proofs.Executed.{LocalsAt}
 use Rattle.ca_code_laws.proofs.OneEnd.{one_end, sectioned_is}
-use Rattle.ca_code_laws.proofs.FitSteps.{Does}
+use Rattle.ca_code_laws.proofs.Instead.{or_wants, Does}
 use Rattle.ca_code_laws.proofs.FitSections.{section_fits, section_statement_fits}
 
 -- another end than at the end of a body
@@ -112,7 +112,7 @@ knows_loop p fit code is frozen tys loop fits me line ls len at base k f h holds
     run : Flow Section
     run = exec (section_parts p frozen me) line ls (section_start (own_of frozen me)) loop k
 
-    does : Does acc code (λ (s : Section). s) as_pointer here (length body) (LocalsAt (kinds_in p tys) base (length tys)) run
+    does : Does acc code (or_wants acc code) (λ (s : Section). s) as_pointer here (length body) (LocalsAt (kinds_in p tys) base (length tys)) run
     does = section_statement_fits p code fit is.functions is.ops frozen tys as_pointer me loop line ls (section_start (own_of frozen me)) at base k f (has_front code at body (on 0 Leave ∷ []) h) fits len holds
 
     -- the end of its code
@@ -125,7 +125,7 @@ knows_loop p fit code is frozen tys loop fits me line ls len at base k f h holds
         as_told : (x : Outcome Section) (s : _) → x ≡ o → StopsAs x s → StopsAs o s
         as_told x s same t = subst (λ y. StopsAs y s) same t
 
-        by : (z : Flow Section) → Does acc code (λ (s : Section). s) as_pointer here (length body) (LocalsAt (kinds_in p tys) base (length tys)) z → StopsAs o (loop_sectioned k z)
+        by : (z : Flow Section) → Does acc code (or_wants acc code) (λ (s : Section). s) as_pointer here (length body) (LocalsAt (kinds_in p tys) base (length tys)) z → StopsAs o (loop_sectioned k z)
         by z (inl w) = as_told Wanting (loop_sectioned k z) (one_end acc code here Wanting o w e) tt
         by (goes_on vs x j) (inr t) =
             as_told (Finished x j) (loop_sectioned k (goes_on vs x j)) (one_end acc code here (Finished x j) o (comes_to_end acc code here (record { at = at + length body; base = base; left = j; this = me; below = []; slots = t.0; world = x }) refl end_there t.1) e) tt
@@ -148,7 +148,7 @@ knows_loop p fit code is frozen tys loop fits me line ls len at base k f h holds
         not (Unfinished s) h e = absurd h
         not _ h e = absurd h
 
-        by : (z : Flow Section) → run ≡ z → Does acc code (λ (s : Section). s) as_pointer here (length body) (LocalsAt (kinds_in p tys) base (length tys)) z → EndOf p frozen code tys me line loop ls at base k f t
+        by : (z : Flow Section) → run ≡ z → Does acc code (or_wants acc code) (λ (s : Section). s) as_pointer here (length body) (LocalsAt (kinds_in p tys) base (length tys)) z → EndOf p frozen code tys me line loop ls at base k f t
         by z e (inl w) = not Wanting tt (one_end acc code here Wanting (Finished t.world t.left) w end)
         by (goes_on vs x j) e (inr d) =
             let u : State Section = record { at = at + length body; base = base; left = j; this = me; below = []; slots = d.0; world = x } in

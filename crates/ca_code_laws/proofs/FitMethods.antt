@@ -17,11 +17,11 @@ use Rattle.ca_code_laws.specs.Machine.{Store, Back, Accesses, State, Wanting, En
 use Rattle.ca_code_laws.specs.Told.{Holds, Returned}
 use Rattle.ca_code_laws.specs.Fitting.{Takes, FitsStatement, FunctionsFit}
 use Rattle.ca_code_laws.proofs.Steps.{has_front, has_back, joins_end, steps_end, rests, length_mapped}
-use Rattle.ca_code_laws.proofs.Values.{Valued, Stood}
+use Rattle.ca_code_laws.proofs.Evaluated.{Valued, Stood}
 use Rattle.ca_code_laws.proofs.Typed.{width_is}
-use Rattle.ca_code_laws.proofs.Statements.{LocalsAt, body_of_loop, tail_of_loop, IsLoop, acted}
+use Rattle.ca_code_laws.proofs.Executed.{LocalsAt, body_of_loop, tail_of_loop, IsLoop, acted}
 use Rattle.ca_code_laws.proofs.Methods.{begun, other_kinds, returned_here, returns_here}
-use Rattle.ca_code_laws.proofs.FitSteps.{Gets, Does}
+use Rattle.ca_code_laws.proofs.Instead.{or_wants, Gets, Does}
 use Rattle.ca_code_laws.proofs.FitValues.{CallsFit, expression_fits, operand_fits}
 use Rattle.ca_code_laws.proofs.FitStatements.{PartsFit, statements_fit, loop_fits}
 
@@ -29,7 +29,7 @@ module _ {S : Type 0} (acc : Accesses S) (code : Code) (p : PlainProgram) (fit :
   -- loops of value methods that come again with fewer than n steps left
   abbrev AgainsFit : ℕ → Type 0
   AgainsFit n =
-      (tys : List ValueType) (result : Kind) (me : Datum) (b : Back) (bs : List Back) (base top : ℕ) → length tys ≡ top → (x : Statement) (line : ℕ) (ls : List Datum) (u : Unit {0}) (at k : ℕ) (f : Store) → IsLoop x → HasAt code at (body_of_loop (kinds_in p tys) no_acts no_hands line x top ++ tail_of_loop (kinds_in p tys) no_acts no_hands line x top) → FitsStatement p tys false result x → length ls ≡ top → k < n → Holds (kinds_in p tys).locals f base ls → Does acc code (λ (u : Unit {0}). w) result (record { at = at + length (body_of_loop (kinds_in p tys) no_acts no_hands line x top); base = base; left = k; this = me; below = b ∷ bs; slots = f; world = w }) (length (tail_of_loop (kinds_in p tys) no_acts no_hands line x top)) (LocalsAt (kinds_in p tys) base top) ((functions_of p.functions (acc.heap w)).again me line ls u x k)
+      (tys : List ValueType) (result : Kind) (me : Datum) (b : Back) (bs : List Back) (base top : ℕ) → length tys ≡ top → (x : Statement) (line : ℕ) (ls : List Datum) (u : Unit {0}) (at k : ℕ) (f : Store) → IsLoop x → HasAt code at (body_of_loop (kinds_in p tys) no_acts no_hands line x top ++ tail_of_loop (kinds_in p tys) no_acts no_hands line x top) → FitsStatement p tys false result x → length ls ≡ top → k < n → Holds (kinds_in p tys).locals f base ls → Does acc code (or_wants acc code) (λ (u : Unit {0}). w) result (record { at = at + length (body_of_loop (kinds_in p tys) no_acts no_hands line x top); base = base; left = k; this = me; below = b ∷ bs; slots = f; world = w }) (length (tail_of_loop (kinds_in p tys) no_acts no_hands line x top)) (LocalsAt (kinds_in p tys) base top) ((functions_of p.functions (acc.heap w)).again me line ls u x k)
 
   acts_nothing : (me : Datum) (line : ℕ) (ls : List Datum) (u : Unit {0}) (x : Statement) (k : ℕ) → acted (function_parts (functions_of p.functions (acc.heap w)) (acc.heap w) me) line ls u x k ≡ goes_on ls u k
   acts_nothing me line ls u (invoke l e op es) k = refl
@@ -39,13 +39,13 @@ module _ {S : Type 0} (acc : Accesses S) (code : Code) (p : PlainProgram) (fit :
   parts_fit n calls agains tys result me b bs base top wide = record {
     wide = wide;
     values = λ e t line to ls u at k f h len le left holds.
-        subst (λ o. Gets acc code (there at k f) (length (expression_code (kinds_in p tys) line e to top)) (Valued base f to top (kind_of (kinds_in p tys) e)) (eval (functions_of p.functions (acc.heap w)).call (record { heap = acc.heap w; this = me; own = o; locals = ls; line = line }) e k)) (inner b bs w me)
+        subst (λ o. Gets acc code (or_wants acc code) (there at k f) (length (expression_code (kinds_in p tys) line e to top)) (Valued base f to top (kind_of (kinds_in p tys) e)) (eval (functions_of p.functions (acc.heap w)).call (record { heap = acc.heap w; this = me; own = o; locals = ls; line = line }) e k)) (inner b bs w me)
         (expression_fits acc code p laid tys (there at k f) (functions_of p.functions (acc.heap w)).call n calls e t line to top ls (len ∙ sym wide) at k f h (omega (arith, wide)) le left holds);
     operands = λ e t line ls u at k f h len left holds.
-        subst (λ o. Gets acc code (there at k f) (length (operand_code (kinds_in p tys) line e top)) (Stood base f (stands e top) top (kind_of (kinds_in p tys) e)) (eval (functions_of p.functions (acc.heap w)).call (record { heap = acc.heap w; this = me; own = o; locals = ls; line = line }) e k)) (inner b bs w me)
+        subst (λ o. Gets acc code (or_wants acc code) (there at k f) (length (operand_code (kinds_in p tys) line e top)) (Stood base f (stands e top) top (kind_of (kinds_in p tys) e)) (eval (functions_of p.functions (acc.heap w)).call (record { heap = acc.heap w; this = me; own = o; locals = ls; line = line }) e k)) (inner b bs w me)
         (operand_fits acc code p laid tys (there at k f) (functions_of p.functions (acc.heap w)).call n calls e t line top ls (len ∙ sym wide) at k f h (omega (arith, wide)) left holds);
     acting = λ x line ls u at k f is h fits len left holds.
-        subst (λ o. Does acc code (λ (u : Unit {0}). w) result (there at k f) 0 (LocalsAt (kinds_in p tys) base top) o) (sym (acts_nothing me line ls u x k))
+        subst (λ o. Does acc code (or_wants acc code) (λ (u : Unit {0}). w) result (there at k f) 0 (LocalsAt (kinds_in p tys) base top) o) (sym (acts_nothing me line ls u x k))
         (inr (f, rests acc code (there at k f), (holds, len), (λ j lt. refl), omega arith));
     agains = λ x line ls u at k f is h fits len lt holds. agains tys result me b bs base top wide x line ls u at k f is h fits len lt holds;
     begins = λ line ls u x k plain. refl;
@@ -56,7 +56,7 @@ module _ {S : Type 0} (acc : Accesses S) (code : Code) (p : PlainProgram) (fit :
 
   agains_too : (n : ℕ) → CallsFit acc code p laid w (functions_of p.functions (acc.heap w)).call n → AgainsFit n → AgainsFit (suc n)
   agains_too n calls agains tys result me b bs base top wide x line ls u at k f is h t len lt holds =
-      subst (λ o. Does acc code (λ (u : Unit {0}). w) result (record { at = at + length (body_of_loop (kinds_in p tys) no_acts no_hands line x top); base = base; left = k; this = me; below = b ∷ bs; slots = f; world = w }) (length (tail_of_loop (kinds_in p tys) no_acts no_hands line x top)) (LocalsAt (kinds_in p tys) base top) o) (sym (again_runs p.functions (acc.heap w) me line ls x k))
+      subst (λ o. Does acc code (or_wants acc code) (λ (u : Unit {0}). w) result (record { at = at + length (body_of_loop (kinds_in p tys) no_acts no_hands line x top); base = base; left = k; this = me; below = b ∷ bs; slots = f; world = w }) (length (tail_of_loop (kinds_in p tys) no_acts no_hands line x top)) (LocalsAt (kinds_in p tys) base top) o) (sym (again_runs p.functions (acc.heap w) me line ls x k))
       (loop_fits acc code p (λ (u : Unit {0}). w) no_acts (function_parts (functions_of p.functions (acc.heap w)) (acc.heap w) me) tys false result me (b ∷ bs) base n top (parts_fit n calls agains tys result me b bs base top wide) x line ls tt at k f is h t len (omega (arith, lt)) holds)
 
   -- a body, from its beginning to what it gives
@@ -83,7 +83,7 @@ module _ {S : Type 0} (acc : Accesses S) (code : Code) (p : PlainProgram) (fit :
       or g f (inl a) = inl (f a)
       or g f (inr b) = inr (g b)
 
-      ends : (at k : ℕ) (f : Store) (l : ℕ) (o : Flow (Unit {0})) → IsAt code (at + l) (on 0 Lack) → Does acc code (λ (u : Unit {0}). w) (kind_at m.result) (there at k f) l (LocalsAt (kinds_of p m) base (width_of m)) o → Ends acc code (there at k f) Wanting ⊎ Returned acc code (kind_at m.result) (there at k f) b bs (value_of_body o)
+      ends : (at k : ℕ) (f : Store) (l : ℕ) (o : Flow (Unit {0})) → IsAt code (at + l) (on 0 Lack) → Does acc code (or_wants acc code) (λ (u : Unit {0}). w) (kind_at m.result) (there at k f) l (LocalsAt (kinds_of p m) base (width_of m)) o → Ends acc code (there at k f) Wanting ⊎ Returned acc code (kind_at m.result) (there at k f) b bs (value_of_body o)
       ends at k f l o lack (inl t) = inl t
       ends at k f l (goes_on ls u j) lack (inr t) = inl (joins_end acc code t.1 (steps_end acc code (there (at + l) j t.0) Wanting (on 0 Lack) lack (λ next. refl)))
       ends at k f l (gives_back v u j) lack (inr t) =

@@ -1,30 +1,21 @@
 -- The instructions of a statement that fits its layout do what it means, or the machine wants memory, whatever its values and its
 -- acts mean. No loop is handed on.
-use Rattle.std.proofs.Common.{◌≡◌, ℕ, zero, suc, ◌+◌, ◌-◌, ◌<◌, ◌≤◌, List, [], ◌∷◌, ◌++◌, length, Some, refl, sym, ap, ◌∙◌, subst, arith, length-append, length-set, inl, inr}
-use Rattle.std.specs.Prelude.{true, false, Bool, slice_set, cond}
-use Rattle.ca_tree.specs.declared.tree.AssignOp.{AssignOp}
-use Rattle.ca_tree.specs.declared.tree.AssignOp.TheVariants as change
-use Rattle.ca_program.specs.declared.program.LoopId.{LoopId}
-use Rattle.ca_program.specs.declared.program.FirstPart.{FirstPart}
+use Rattle.std.proofs.Common.{◌≡◌, ℕ, ◌+◌, ◌<◌, ◌≤◌, List, ◌++◌, length, inr}
+use Rattle.std.specs.Prelude.{Bool}
 use Rattle.ca_program.specs.declared.program.ValueType.{ValueType}
-use Rattle.ca_program.specs.Plain.{Expression, Statement, Statements, block, put_local, put_field, put_item, new_local, new_field, new_item, invoke, if_else, while_loop, for_loop, return_value, print_value, no_statements, statement_and, PlainProgram}
+use Rattle.ca_program.specs.Plain.{Expression, Statement, Statements, block, put_local, if_else, while_loop, for_loop, return_value, PlainProgram}
 use Rattle.ca_model.specs.declared.value.Value.{Value as Datum}
-use Rattle.ca_model.specs.declared.value.Value.TheVariants.{Long, Bool as Truth, Null, Ref}
-use Rattle.ca_meaning.specs.Operators.{assigned}
-use Rattle.ca_meaning.specs.Expressions.{Out, gives, traps, over, take_step, value_at}
-use Rattle.ca_meaning.specs.Flows.{Flow, goes_on, gives_back, stops, runs_out, and_on, with, choose, Parts, line_of, turn_of, exec, exec_all, turn}
-use Rattle.ca_program.specs.Kinds.{Kind, as_truth, Kinds, kinds_in, kind_of}
-use Rattle.ca_program.specs.Instructions.{Return, Jump, Unless, Turn, Update, Code, Placed, on, IsAt, HasAt}
-use Rattle.ca_program.specs.Layout.{stands, expression_code, operand_code, loop_code, Acts, no_hands, update_code, statement_code, statements_code}
-use Rattle.ca_code_laws.specs.Words.{word, read_as, has_kind}
-use Rattle.ca_code_laws.specs.Machine.{Store, store, Back, Accesses, State, Spent, Wanting, Next, moved, after, if_true, act, Comes, put_as}
+use Rattle.ca_meaning.specs.Flows.{Flow, Parts, exec, exec_all, turn}
+use Rattle.ca_program.specs.Kinds.{Kind, Kinds, kinds_in, kind_of}
+use Rattle.ca_program.specs.Instructions.{Code, HasAt}
+use Rattle.ca_program.specs.Layout.{stands, expression_code, operand_code, Acts, no_hands, statement_code, statements_code}
+use Rattle.ca_code_laws.specs.Machine.{Store, Back, Accesses, State}
 use Rattle.ca_code_laws.specs.Told.{Holds}
 use Rattle.ca_code_laws.specs.Fitting.{Fits, FitsStatement, FitStatements}
-use Rattle.ca_code_laws.proofs.Words.{back}
-use Rattle.ca_code_laws.proofs.Steps.{stored_here, stored_there, has_front, has_back, stays, joins, steps, steps_end, rests}
-use Rattle.ca_code_laws.proofs.Values.{Valued, Stood, apart}
-use Rattle.ca_code_laws.proofs.Statements.{LocalsAt, body_of_loop, tail_code, tail_of_loop, IsLoop, IsAct, acted, local_put, put_is}
-use Rattle.ca_code_laws.proofs.FitSteps.{Gets, Does, comes_does, with_does, and_does, step_does}
+use Rattle.ca_code_laws.proofs.Steps.{none_is, goes_anyhow}
+use Rattle.ca_code_laws.proofs.Evaluated.{Valued, Stood}
+use Rattle.ca_code_laws.proofs.Executed.{LocalsAt, body_of_loop, tail_of_loop, IsLoop, IsAct, acted, StatementParts, Means, statement_does, statements_do, loop_does}
+use Rattle.ca_code_laws.proofs.Instead.{or_wants, Gets, Does}
 
 module _ {S P : Type 0} (acc : Accesses S) (code : Code) (pr : PlainProgram) (w : P → S) (a : Acts) (parts : Parts P) (tys : List ValueType) (acts : Bool) (ret : Kind) (me : Datum) (below : List Back) (base n top : ℕ) where
   -- the kinds in the body
@@ -45,268 +36,50 @@ module _ {S P : Type 0} (acc : Accesses S) (code : Code) (pr : PlainProgram) (w 
   -- what the parts of its meaning are laid out to
   pub record PartsFit : Type 0 where
     pub wide : length tys ≡ top
-    pub values : (e : Expression) → Fits pr tys e → (line to : ℕ) (ls : List Datum) (p : P) (at k : ℕ) (f : Store) → HasAt code at (expression_code ks line e to top) → length ls ≡ top → to ≤ top → k ≤ n → Holds ks.locals f base ls → Gets acc code (at_place at k f p) (length (expression_code ks line e to top)) (Valued base f to top (kind_of ks e)) (parts.value line ls p e k)
-    pub operands : (e : Expression) → Fits pr tys e → (line : ℕ) (ls : List Datum) (p : P) (at k : ℕ) (f : Store) → HasAt code at (operand_code ks line e top) → length ls ≡ top → k ≤ n → Holds ks.locals f base ls → Gets acc code (at_place at k f p) (length (operand_code ks line e top)) (Stood base f (stands e top) top (kind_of ks e)) (parts.value line ls p e k)
-    pub acting : (x : Statement) (line : ℕ) (ls : List Datum) (p : P) (at k : ℕ) (f : Store) → IsAct x → HasAt code at (a line x top) → Fit x → length ls ≡ top → k ≤ n → Holds ks.locals f base ls → Does acc code w ret (at_place at k f p) (length (a line x top)) (LocalsAt ks base top) (acted parts line ls p x k)
-    pub agains : (x : Statement) (line : ℕ) (ls : List Datum) (p : P) (at k : ℕ) (f : Store) → IsLoop x → HasAt code at (body_of_loop ks a no_hands line x top ++ tail_of_loop ks a no_hands line x top) → Fit x → length ls ≡ top → k < n → Holds ks.locals f base ls → Does acc code w ret (at_place (at + length (body_of_loop ks a no_hands line x top)) k f p) (length (tail_of_loop ks a no_hands line x top)) (LocalsAt ks base top) (parts.again line ls p x k)
+    pub values : (e : Expression) → Fits pr tys e → (line to : ℕ) (ls : List Datum) (p : P) (at k : ℕ) (f : Store) → HasAt code at (expression_code ks line e to top) → length ls ≡ top → to ≤ top → k ≤ n → Holds ks.locals f base ls → Gets acc code (or_wants acc code) (at_place at k f p) (length (expression_code ks line e to top)) (Valued base f to top (kind_of ks e)) (parts.value line ls p e k)
+    pub operands : (e : Expression) → Fits pr tys e → (line : ℕ) (ls : List Datum) (p : P) (at k : ℕ) (f : Store) → HasAt code at (operand_code ks line e top) → length ls ≡ top → k ≤ n → Holds ks.locals f base ls → Gets acc code (or_wants acc code) (at_place at k f p) (length (operand_code ks line e top)) (Stood base f (stands e top) top (kind_of ks e)) (parts.value line ls p e k)
+    pub acting : (x : Statement) (line : ℕ) (ls : List Datum) (p : P) (at k : ℕ) (f : Store) → IsAct x → HasAt code at (a line x top) → Fit x → length ls ≡ top → k ≤ n → Holds ks.locals f base ls → Does acc code (or_wants acc code) w ret (at_place at k f p) (length (a line x top)) (LocalsAt ks base top) (acted parts line ls p x k)
+    pub agains : (x : Statement) (line : ℕ) (ls : List Datum) (p : P) (at k : ℕ) (f : Store) → IsLoop x → HasAt code at (body_of_loop ks a no_hands line x top ++ tail_of_loop ks a no_hands line x top) → Fit x → length ls ≡ top → k < n → Holds ks.locals f base ls → Does acc code (or_wants acc code) w ret (at_place (at + length (body_of_loop ks a no_hands line x top)) k f p) (length (tail_of_loop ks a no_hands line x top)) (LocalsAt ks base top) (parts.again line ls p x k)
     pub begins : (line : ℕ) (ls : List Datum) (p : P) (x : Statement) (k : ℕ) (plain : Flow P) → parts.begin line ls p x k plain ≡ plain
 
   module _ (run : PartsFit) where
-    -- a statement that only evaluates and puts into a local
-    ends_does : (at k m : ℕ) (f : Store) (p : P) (Q : Datum → Store → Type 0) (g : Datum → List Datum) (o : Out Datum) → Gets acc code (at_place at k f p) m Q o → ((v : Datum) (f1 : Store) → Q v f1 → LocalsAt ks base top (g v) f1) → Does acc code w ret (at_place at k f p) m (LocalsAt ks base top) (with o p (λ v k. goes_on (g v) p k))
-    ends_does at k m f p Q g o (inl t) then = inl t
-    ends_does at k m f p Q g (gives v j) (inr r) then = inr (r.0, r.1, then v r.0 r.2, r.3, r.4)
-    ends_does at k m f p Q g (traps t) (inr r) then = inr r
-    ends_does at k m f p Q g over (inr r) then = inr r
+    -- nothing is asked of a state
+    abbrev Here : List Datum → P → Type 0
+    Here ls p = Unit {0}
 
-    -- what goes on goes on over more instructions
-    longer : (s : State S) (m l : ℕ) (R : List Datum → Store → Type 0) (o : Flow P) → Does acc code w ret s m R o → ((k : ℕ) (f : Store) (p : P) → Comes acc code (moved s (s.at + m) k f (w p)) (moved s (s.at + l) k f (w p))) → Does acc code w ret s l R o
-    longer s m l R o (inl t) then = inl t
-    longer s m l R (goes_on ls p k) (inr r) then = inr (r.0, joins acc code r.1 (then k r.0 p), r.2, r.3, r.4)
-    longer s m l R (gives_back v p k) (inr r) then = inr r
-    longer s m l R (stops t p) (inr r) then = inr r
-    longer s m l R (runs_out p) (inr r) then = inr r
+    parts_of : (x : Statement) → Fit x → StatementParts pr tys ret (Fits pr tys) Fit FitEach x
+    parts_of (block l ss) t = t
+    parts_of (put_local z l op e) t = t
+    parts_of (if_else l c x y) t = t
+    parts_of (while_loop l c b) t = t
+    parts_of (for_loop l site part first c next b) t = t
+    parts_of (return_value l e) t = t
+    parts_of other t = tt
 
-    -- a value is put into a local by one instruction, if it is of the local's kind
-    updated : (l : ℕ) (ls : List Datum) (x : Datum) (p : P) (at k : ℕ) (old g : Store) (i : Placed) → l < top → length ls ≡ top → Holds ks.locals old base ls → ((j : ℕ) → j < top → g (base + j) ≡ old (base + j)) → IsAt code at i → ((next : Next S) → act acc code i.line (Some i.instruction) next (at_place at k g p) ≡ put_as (ks.locals l) (at_place at k g p) next l 0 x k) → Does acc code w ret (at_place at k g p) 1 (LocalsAt ks base top) (goes_on (slice_set ls l x) p k)
-    updated l ls x p at k old g i lt len holds same h a = by (has_kind (ks.locals l) x) refl
-      where
-        f : Store
-        f = store g (base + l) (word x)
+    means : Means acc code (or_wants acc code) pr tys ret w a no_hands parts me below base n top (Fits pr tys) Fit FitEach Here
+    means = record {
+      wide = run.wide;
+      parts_of = parts_of;
+      more = λ x rest t. t;
+      values = λ e t line to ls p at k f h len good le left holds. run.values e t line to ls p at k f h len le left holds;
+      operands = λ e t line ls p at k f h len good left holds. run.operands e t line ls p at k f h len left holds;
+      acting = λ x line ls p at k f is h t len good left holds. run.acting x line ls p at k f is h t len left holds;
+      agains = λ x line ls p at k f is h t len good lt holds. run.agains x line ls p at k f is h t len lt holds;
+      begins = λ line ls p x k plain none. run.begins line ls p x k plain;
+      handed = λ line ls p x at k f plain cx some h t len good left holds. absurd (none_is some);
+      leaves = λ x t line ls p k good. goes_anyhow (exec parts line ls p x k);
+      keeps = λ z l op e t line ls p k j v good is. inr (λ s w. w);
+    }
 
-        by : (b : Bool) → has_kind (ks.locals l) x ≡ b → Does acc code w ret (at_place at k g p) 1 (LocalsAt ks base top) (goes_on (slice_set ls l x) p k)
-        by true has =
-            let within : l < length ls = omega (arith, lt, len) in
-            let z : at + 1 + 0 ≡ at + 1 = omega arith in
-            let is : read_as (ks.locals l) (f (base + l)) ≡ x = ap (read_as (ks.locals l)) (stored_here g (base + l) (base + l) (word x) refl) ∙ back (ks.locals l) x has in
-            let comes = steps acc code (at_place at k g p) (at_place (at + 1 + 0) k f p) i h (λ next. a next ∙ ap (λ b. cond b (next (at_place (at + 1 + 0) k f p)) Wanting) has) in
-            inr (f, subst (λ q. Comes acc code (at_place at k g p) (at_place q k f p)) z comes, (local_put ks.locals base l ls x old f within holds is (λ j lt2 ne. stored_there g (base + l) (base + j) (word x) (apart base j l ne) ∙ same j (omega (arith, lt2, len))), length-set ls l x ∙ len), (λ j lt2. stored_there g (base + l) j (word x) (λ e. absurd (omega (arith, lt2, e)))), omega arith)
-        by false has = inl (steps_end acc code (at_place at k g p) Wanting i h (λ next. a next ∙ ap (λ b. cond b (next (at_place (at + 1 + 0) k f p)) Wanting) has))
+    pub statement_fits : (x : Statement) (line : ℕ) (ls : List Datum) (p : P) (at k : ℕ) (f : Store) → HasAt code at (statement_code ks a no_hands line x top) → Fit x → length ls ≡ top → k ≤ n → Holds ks.locals f base ls → Does acc code (or_wants acc code) w ret (at_place at k f p) (length (statement_code ks a no_hands line x top)) (LocalsAt ks base top) (exec parts line ls p x k)
+    statement_fits x line ls p at k f h t len left holds =
+        statement_does acc code (or_wants acc code) pr tys ret w a no_hands parts me below base n top (Fits pr tys) Fit FitEach Here means x line ls p at k f h t len tt left holds
 
-    abbrev PutFits : ℕ → Expression → Type 0
-    PutFits l e = (l < length tys) × (kind_of ks e ≡ ks.locals l) × Fits pr tys e
-
-    updates : (op : AssignOp) (line l : ℕ) (e : Expression) (ls : List Datum) (p : P) (at k : ℕ) (f : Store) → HasAt code at (operand_code ks line e top ++ on line (Update l op (ks.locals l) (stands e top)) ∷ []) → PutFits l e → length ls ≡ top → k ≤ n → Holds ks.locals f base ls → Does acc code w ret (at_place at k f p) (length (operand_code ks line e top ++ on line (Update l op (ks.locals l) (stands e top)) ∷ [])) (LocalsAt ks base top) (with (parts.value line ls p e k) p (λ v k. goes_on (slice_set ls l (assigned op (value_at ls l) v)) p k))
-    updates op line l e ls p at k f h t len left holds =
-        let ce = operand_code ks line e top in
-        let κ = ks.locals l in
-        let last = on line (Update l op (ks.locals l) (stands e top)) in
-        let lt : l < top = omega (arith, t.0, run.wide) in
-        with_does acc code w ret (at_place at k f p) p ce (last ∷ []) (Stood base f (stands e top) top (kind_of ks e)) (LocalsAt ks base top) (λ v k. goes_on (slice_set ls l (assigned op (value_at ls l) v)) p k) refl h (parts.value line ls p e k)
-        (λ h. run.operands e t.2 line ls p at k f h len left holds)
-        (λ v j g h q below le.
-        let here = at_place (at + length ce) j g p in
-        let within : l < length ls = omega (arith, lt, len) in
-        let is_right : read_as κ (g (base + stands e top)) ≡ v = ap (λ y. read_as y (g (base + stands e top))) (sym t.1) ∙ q.0 in
-        let is_old : read_as κ (g (base + l)) ≡ value_at ls l = ap (read_as κ) (q.1 l lt) ∙ holds l within in
-        updated l ls (assigned op (value_at ls l) v) p (at + length ce) j f g last lt len holds q.1 h.0
-        (λ next. ap (λ y. put_as κ here next l 0 (assigned op y (read_as κ (g (base + stands e top)))) j) is_old ∙ ap (λ y. put_as κ here next l 0 (assigned op (value_at ls l) y) j) is_right))
-
-    puts : (op : AssignOp) (line l : ℕ) (e : Expression) (ls : List Datum) (p : P) (at k : ℕ) (f : Store) → HasAt code at (update_code ks line l op e top) → PutFits l e → length ls ≡ top → k ≤ n → Holds ks.locals f base ls → Does acc code w ret (at_place at k f p) (length (update_code ks line l op e top)) (LocalsAt ks base top) (with (parts.value line ls p e k) p (λ v k. goes_on (slice_set ls l (assigned op (value_at ls l) v)) p k))
-    puts change.Put line l e ls p at k f h t len left holds =
-        let below : l < top = omega (arith, t.0, run.wide) in
-        let lt : l < length ls = omega (arith, below, len) in
-        ends_does at k (length (expression_code ks line e l top)) f p (Valued base f l top (kind_of ks e)) (λ v. slice_set ls l (assigned change.Put (value_at ls l) v)) (parts.value line ls p e k) (run.values e t.2 line l ls p at k f h len (omega (arith, below)) left holds)
-        (λ v g q.
-        let is : read_as (ks.locals l) (g (base + l)) ≡ v = ap (λ y. read_as y (g (base + l))) (sym t.1) ∙ q.0 in
-        subst (λ x. LocalsAt ks base top (slice_set ls l x) g) (sym (put_is (value_at ls l) v)) (local_put ks.locals base l ls v f g lt holds is (λ j lt ne. q.1 j (omega (arith, lt, len)) ne), length-set ls l v ∙ len))
-    puts op line l e ls p at k f h t len left holds = updates op line l e ls p at k f h t len left holds
-
-    -- what a loop's body does, and the loop when it comes again
-    abbrev BodyRuns : List Placed → (List Datum → P → ℕ → Flow P) → ℕ → Type 0
-    BodyRuns body does at =
-        (ls : List Datum) (p : P) (k : ℕ) (f : Store) → length ls ≡ top → k ≤ n → Holds ks.locals f base ls → Does acc code w ret (at_place at k f p) (length body) (LocalsAt ks base top) (does ls p k)
-
-    abbrev AgainRuns : ℕ → Expression → List Placed → Statement → ℕ → Type 0
-    AgainRuns line c body loop at =
-        (ls : List Datum) (p : P) (k : ℕ) (f : Store) → length ls ≡ top → k < n → Holds ks.locals f base ls → Does acc code w ret (at_place (at + length body) k f p) (length (tail_code ks line c body top)) (LocalsAt ks base top) (parts.again line ls p loop k)
-
-    -- a loop from its condition on
-    turn_runs : (line : ℕ) (c : Expression) (body : List Placed) (does : List Datum → P → ℕ → Flow P) (loop : Statement) (at : ℕ) (ls : List Datum) (p : P) (k : ℕ) (f : Store) → HasAt code at (body ++ tail_code ks line c body top) → (kind_of ks c ≡ as_truth) × Fits pr tys c → length ls ≡ top → k ≤ n → Holds ks.locals f base ls → BodyRuns body does at → AgainRuns line c body loop at → Does acc code w ret (at_place (at + length body) k f p) (length (tail_code ks line c body top)) (LocalsAt ks base top) (turn_of parts c does loop line ls p k)
-    turn_runs line c body does loop at ls p k f h t len left holds body_runs again_runs =
-        with_does acc code w ret (at_place (at + length body) k f p) p cc (last ∷ []) (Stood base f (stands c top) top (kind_of ks c)) (LocalsAt ks base top) (λ v k. choose v (stepping k) (goes_on ls p k)) refl (has_back code at body (cc ++ last ∷ []) h) (parts.value line ls p c k)
-        (λ h. run.operands c t.1 line ls p (at + length body) k f h len left holds)
-        (λ v j g h q below le. turned v j g h.0 (ap (λ y. read_as y (g (base + stands c top))) (sym t.0) ∙ q.0) (λ i lt. ap (read_as (ks.locals i)) (q.1 i (omega (arith, lt, len))) ∙ holds i lt) (omega (arith, le, left)))
-      where
-        cc : List Placed
-        cc = operand_code ks line c top
-
-        last : Placed
-        last = on line (Turn (stands c top) (length body + length cc))
-
-        stepping : ℕ → Flow P
-        stepping k = with (take_step k) p (λ _ k. and_on (does ls p k) (λ ls p k. parts.again line ls p loop k))
-
-        here : ℕ → Store → State S
-        here k g = at_place (at + length body + length cc) k g p
-
-        acting : (v : Datum) (k : ℕ) (g : Store) → read_as as_truth (g (base + stands c top)) ≡ v → (next : Next S) → act acc code line (Some last.instruction) next (here k g) ≡ if_true v (after (take_step k) (w p) (λ _ k. next (at_place (at + length body + length cc - (length body + length cc)) k g p))) (next (at_place (at + length body + length cc + 1) k g p))
-        acting v k g is next = ap (λ y. if_true y (after (take_step k) (w p) (λ _ k. next (at_place (at + length body + length cc - (length body + length cc)) k g p))) (next (at_place (at + length body + length cc + 1) k g p))) is
-
-        goes : (v : Datum) (k : ℕ) (g : Store) → IsAt code (at + length body + length cc) last → Holds ks.locals g base ls → ((next : Next S) → act acc code line (Some last.instruction) next (here k g) ≡ next (at_place (at + length body + length cc + 1) k g p)) → Does acc code w ret (here k g) 1 (LocalsAt ks base top) (goes_on ls p k)
-        goes v k g h holds a = inr (g, steps acc code (here k g) (at_place (at + length body + length cc + 1) k g p) last h a, (holds, len), (λ j lt. refl), omega arith)
-
-        turned : (v : Datum) (k : ℕ) (g : Store) → IsAt code (at + length body + length cc) last → read_as as_truth (g (base + stands c top)) ≡ v → Holds ks.locals g base ls → k ≤ n → Does acc code w ret (here k g) 1 (LocalsAt ks base top) (choose v (stepping k) (goes_on ls p k))
-        turned (Truth true) zero g h is holds left = inr (steps_end acc code (here 0 g) (Spent (w p)) last h (acting (Truth true) 0 g is))
-        turned (Truth true) (suc k) g hl is holds left =
-            let back : at + length body + length cc - (length body + length cc) ≡ at = omega arith in
-            let begins = steps acc code (here (suc k) g) (at_place at k g p) last hl (λ next. acting (Truth true) (suc k) g is next ∙ ap (λ q. next (at_place q k g p)) back) in
-            let e : at + length (body ++ tail_code ks line c body top) ≡ at + length body + length cc + 1 = omega (arith, length-append body (tail_code ks line c body top), length-append cc (last ∷ [])) in
-            comes_does acc code w ret (here (suc k) g) at (length (body ++ tail_code ks line c body top)) 1 k g (w p) (LocalsAt ks base top) e begins (λ j lt. refl) (omega arith) (and_on (does ls p k) (λ ls p k. parts.again line ls p loop k))
-            (and_does acc code w ret (at_place at k g p) body (tail_code ks line c body top) (LocalsAt ks base top) (LocalsAt ks base top) (λ ls p k. parts.again line ls p loop k) h (does ls p k)
-            (λ h. body_runs ls p k g len (omega (arith, left)) holds)
-            (λ ls2 p2 j f2 h q below le. again_runs ls2 p2 j f2 q.1 (omega (arith, le, left)) q.0))
-        turned (Truth false) k g h is holds left = goes (Truth false) k g h holds (acting (Truth false) k g is)
-        turned (Long x) k g h is holds left = goes (Long x) k g h holds (acting (Long x) k g is)
-        turned (Ref x) k g h is holds left = goes (Ref x) k g h holds (acting (Ref x) k g is)
-        turned Null k g h is holds left = goes Null k g h holds (acting Null k g is)
-
-    -- a branch of an `if`, behind its condition
-    abbrev BranchRuns : List Placed → Flow P → ℕ → ℕ → Store → P → Type 0
-    BranchRuns cx o at k f p = HasAt code at cx → Does acc code w ret (at_place at k f p) (length cx) (LocalsAt ks base top) o
-
-    branches : (line : ℕ) (c : Expression) (cx cy : List Placed) (x y : Flow P) (v : Datum) (at k : ℕ) (g : Store) (p : P) → HasAt code at (on line (Unless (stands c top) (length cx + 1)) ∷ (cx ++ (on line (Jump (length cy)) ∷ cy))) → read_as as_truth (g (base + stands c top)) ≡ v → BranchRuns cx x (at + 1) k g p → BranchRuns cy y (at + 1 + (length cx + 1)) k g p → Does acc code w ret (at_place at k g p) (length (on line (Unless (stands c top) (length cx + 1)) ∷ (cx ++ (on line (Jump (length cy)) ∷ cy)))) (LocalsAt ks base top) (choose v x y)
-    branches line c cx cy x y v at k g p h is xs ys = by v is
-      where
-        test : Placed
-        test = on line (Unless (stands c top) (length cx + 1))
-
-        jump : Placed
-        jump = on line (Jump (length cy))
-
-        all : List Placed
-        all = test ∷ (cx ++ (jump ∷ cy))
-
-        acting : (v : Datum) → read_as as_truth (g (base + stands c top)) ≡ v → (next : Next S) → act acc code line (Some test.instruction) next (at_place at k g p) ≡ if_true v (next (at_place (at + 1) k g p)) (next (at_place (at + 1 + (length cx + 1)) k g p))
-        acting v is next = ap (λ z. if_true z (next (at_place (at + 1) k g p)) (next (at_place (at + 1 + (length cx + 1)) k g p))) is
-
-        after_x : HasAt code (at + 1 + length cx) (jump ∷ cy)
-        after_x = has_back code (at + 1) cx (jump ∷ cy) h.1
-
-        behind : at + 1 + length cx + 1 ≡ at + 1 + (length cx + 1)
-        behind = omega arith
-
-        else_side : ((next : Next S) → act acc code line (Some test.instruction) next (at_place at k g p) ≡ next (at_place (at + 1 + (length cx + 1)) k g p)) → Does acc code w ret (at_place at k g p) (length all) (LocalsAt ks base top) y
-        else_side a =
-            let e : at + 1 + (length cx + 1) + length cy ≡ at + length all = omega (arith, length-append cx (jump ∷ cy)) in
-            comes_does acc code w ret (at_place at k g p) (at + 1 + (length cx + 1)) (length cy) (length all) k g (w p) (LocalsAt ks base top) e (steps acc code (at_place at k g p) (at_place (at + 1 + (length cx + 1)) k g p) test h.0 a) (λ j lt. refl) (omega arith) y (ys (subst (λ q. HasAt code q cy) behind after_x.1))
-
-        by : (v : Datum) → read_as as_truth (g (base + stands c top)) ≡ v → Does acc code w ret (at_place at k g p) (length all) (LocalsAt ks base top) (choose v x y)
-        by (Truth true) is =
-            step_does acc code w ret (at_place at k g p) k g (w p) test (cx ++ (jump ∷ cy)) (LocalsAt ks base top) h (acting (Truth true) is) (λ j lt. refl) (omega arith) x
-            (λ h. longer (at_place (at + 1) k g p) (length cx) (length (cx ++ (jump ∷ cy))) (LocalsAt ks base top) x (xs (has_front code (at + 1) cx (jump ∷ cy) h))
-            (λ j f q. let e : at + 1 + length cx + 1 + length cy ≡ at + 1 + length (cx ++ (jump ∷ cy)) = omega (arith, length-append cx (jump ∷ cy)) in subst (λ z. Comes acc code (at_place (at + 1 + length cx) j f q) (at_place z j f q)) e (steps acc code (at_place (at + 1 + length cx) j f q) (at_place (at + 1 + length cx + 1 + length cy) j f q) jump after_x.0 (λ next. refl))))
-        by (Truth false) is = else_side (acting (Truth false) is)
-        by (Long z) is = else_side (acting (Long z) is)
-        by (Ref z) is = else_side (acting (Ref z) is)
-        by Null is = else_side (acting Null is)
-
-    -- to the condition of a loop, which stands behind its body
-    enters : (line : ℕ) (body tail : List Placed) (at k : ℕ) (f : Store) (p : P) (o : Flow P) → HasAt code at (on line (Jump (length body)) ∷ (body ++ tail)) → Does acc code w ret (at_place (at + 1 + length body) k f p) (length tail) (LocalsAt ks base top) o → Does acc code w ret (at_place at k f p) (length (on line (Jump (length body)) ∷ (body ++ tail))) (LocalsAt ks base top) o
-    enters line body tail at k f p o h r =
-        let e : at + 1 + length body + length tail ≡ at + length (on line (Jump (length body)) ∷ (body ++ tail)) = omega (arith, length-append body tail) in
-        comes_does acc code w ret (at_place at k f p) (at + 1 + length body) (length tail) (length (on line (Jump (length body)) ∷ (body ++ tail))) k f (w p) (LocalsAt ks base top) e (steps acc code (at_place at k f p) (at_place (at + 1 + length body) k f p) (on line (Jump (length body))) h.0 (λ next. refl)) (λ j lt. refl) (omega arith) o r
-
-    abbrev StatementFits : Statement → ℕ → Type 0
-    StatementFits x line =
-        (ls : List Datum) (p : P) (at k : ℕ) (f : Store) → HasAt code at (statement_code ks a no_hands line x top) → Fit x → length ls ≡ top → k ≤ n → Holds ks.locals f base ls → Does acc code w ret (at_place at k f p) (length (statement_code ks a no_hands line x top)) (LocalsAt ks base top) (exec parts line ls p x k)
-
-    for_fits : (l : ℕ) (site : LoopId) (part : FirstPart) (first : Statement) (c : Expression) (next b : Statement) (line : ℕ) (ls : List Datum) (p : P) (at k : ℕ) (f : Store) → HasAt code at (statement_code ks a no_hands line (for_loop l site part first c next b) top) → Fit (for_loop l site part first c next b) → length ls ≡ top → k ≤ n → Holds ks.locals f base ls → StatementFits first line → StatementFits b (line_of b) → StatementFits next line → Does acc code w ret (at_place at k f p) (length (statement_code ks a no_hands line (for_loop l site part first c next b) top)) (LocalsAt ks base top) (exec parts line ls p (for_loop l site part first c next b) k)
-    for_fits l site part first c next b line ls p at k f h fits len left holds first_fits b_fits next_fits = subst (λ o. Does acc code w ret (at_place at k f p) (length all) (LocalsAt ks base top) o) (sym (run.begins line ls p loop k plain)) plainly
-      where
-        loop : Statement
-        loop = for_loop l site part first c next b
-
-        cf : List Placed
-        cf = statement_code ks a no_hands line first top
-
-        cb : List Placed
-        cb = statement_code ks a no_hands (line_of b) b top
-
-        cn : List Placed
-        cn = statement_code ks a no_hands line next top
-
-        turns : List Datum → P → ℕ → Flow P
-        turns = turn_of parts c (λ ls s k. and_on (exec parts (line_of b) ls s b k) (λ ls s k. exec parts line ls s next k)) loop line
-
-        plain : Flow P
-        plain = and_on (exec parts line ls p first k) turns
-
-        all : List Placed
-        all = cf ++ (on line (Jump (length (cb ++ cn))) ∷ loop_code ks line c (cb ++ cn) top)
-
-        z : ℕ
-        z = at + length cf
-
-        plainly : Does acc code w ret (at_place at k f p) (length all) (LocalsAt ks base top) plain
-        plainly =
-            and_does acc code w ret (at_place at k f p) cf (on line (Jump (length (cb ++ cn))) ∷ loop_code ks line c (cb ++ cn) top) (LocalsAt ks base top) (LocalsAt ks base top) turns h (exec parts line ls p first k)
-            (λ h. first_fits ls p at k f h fits.0 len left holds)
-            (λ ls p j g h q below le.
-            enters line (cb ++ cn) (tail_code ks line c (cb ++ cn) top) z j g p (turns ls p j) h
-            (turn_runs line c (cb ++ cn) (λ ls s k. and_on (exec parts (line_of b) ls s b k) (λ ls s k. exec parts line ls s next k)) loop (z + 1) ls p j g h.1 (fits.1, fits.2) q.1 (omega (arith, le, left)) q.0
-            (λ ls p k f len left holds.
-            and_does acc code w ret (at_place (z + 1) k f p) cb cn (LocalsAt ks base top) (LocalsAt ks base top) (λ ls s k. exec parts line ls s next k) (has_front code (z + 1) (cb ++ cn) (tail_code ks line c (cb ++ cn) top) h.1) (exec parts (line_of b) ls p b k)
-            (λ h. b_fits ls p (z + 1) k f h fits.4 len left holds)
-            (λ ls p j g h q below le. next_fits ls p (z + 1 + length cb) j g h fits.3 q.1 (omega (arith, le, left)) q.0))
-            (λ ls p k f len lt holds. run.agains loop line ls p (z + 1) k f tt h.1 fits len lt holds)))
-
-    mutual
-      pub statement_fits : (x : Statement) (line : ℕ) (ls : List Datum) (p : P) (at k : ℕ) (f : Store) → HasAt code at (statement_code ks a no_hands line x top) → Fit x → length ls ≡ top → k ≤ n → Holds ks.locals f base ls → Does acc code w ret (at_place at k f p) (length (statement_code ks a no_hands line x top)) (LocalsAt ks base top) (exec parts line ls p x k)
-      statement_fits (block l ss) line ls p at k f h fits len left holds = statements_fit ss ls p at k f h fits len left holds
-      statement_fits (put_local z l op e) line ls p at k f h fits len left holds = puts op line l.0 e ls p at k f h fits len left holds
-      statement_fits (if_else l c x y) line ls p at k f h fits len left holds =
-          let cc = operand_code ks line c top in
-          let cx = statement_code ks a no_hands (line_of x) x top in
-          let cy = statement_code ks a no_hands (line_of y) y top in
-          with_does acc code w ret (at_place at k f p) p cc (on line (Unless (stands c top) (length cx + 1)) ∷ (cx ++ (on line (Jump (length cy)) ∷ cy))) (Stood base f (stands c top) top (kind_of ks c)) (LocalsAt ks base top) (λ v k. choose v (exec parts (line_of x) ls p x k) (exec parts (line_of y) ls p y k)) refl h (parts.value line ls p c k)
-          (λ h. run.operands c fits.1 line ls p at k f h len left holds)
-          (λ v j g h q below le.
-          branches line c cx cy (exec parts (line_of x) ls p x j) (exec parts (line_of y) ls p y j) v (at + length cc) j g p h (ap (λ y. read_as y (g (base + stands c top))) (sym fits.0) ∙ q.0)
-          (λ h. statement_fits x (line_of x) ls p (at + length cc + 1) j g h fits.2 len (omega (arith, le, left)) (λ i lt. ap (read_as (ks.locals i)) (q.1 i (omega (arith, lt, len))) ∙ holds i lt))
-          (λ h. statement_fits y (line_of y) ls p (at + length cc + 1 + (length cx + 1)) j g h fits.3 len (omega (arith, le, left)) (λ i lt. ap (read_as (ks.locals i)) (q.1 i (omega (arith, lt, len))) ∙ holds i lt)))
-      statement_fits (while_loop l c b) line ls p at k f h fits len left holds =
-          let cb = statement_code ks a no_hands (line_of b) b top in
-          enters line cb (tail_code ks line c cb top) at k f p (exec parts line ls p (while_loop l c b) k) h
-          (turn_runs line c cb (λ ls p k. exec parts (line_of b) ls p b k) (while_loop l c b) (at + 1) ls p k f h.1 (fits.0, fits.1) len left holds
-          (λ ls p k f len left holds. statement_fits b (line_of b) ls p (at + 1) k f (has_front code (at + 1) cb (tail_code ks line c cb top) h.1) fits.2 len left holds)
-          (λ ls p k f len lt holds. run.agains (while_loop l c b) line ls p (at + 1) k f tt h.1 fits len lt holds))
-      statement_fits (for_loop l site part first c next b) line ls p at k f h fits len left holds =
-          for_fits l site part first c next b line ls p at k f h fits len left holds (λ ls p at k f h fits len left holds. statement_fits first line ls p at k f h fits len left holds) (λ ls p at k f h fits len left holds. statement_fits b (line_of b) ls p at k f h fits len left holds) (λ ls p at k f h fits len left holds. statement_fits next line ls p at k f h fits len left holds)
-      statement_fits (return_value l e) line ls p at k f h fits len left holds =
-          let ce = operand_code ks line e top in
-          with_does acc code w ret (at_place at k f p) p ce (on line (Return (stands e top)) ∷ []) (Stood base f (stands e top) top (kind_of ks e)) (LocalsAt ks base top) (λ v k. gives_back v p k) refl h (parts.value line ls p e k)
-          (λ h. run.operands e fits.1 line ls p at k f h len left holds)
-          (λ v j g h q below le. inr (g, at + length ce, stands e top, line, stays acc code (at_place (at + length ce) j g p), h.0, ap (λ y. read_as y (g (base + stands e top))) (sym fits.0) ∙ q.0, (λ j lt. refl), omega arith))
-      statement_fits (invoke l e op es) line ls p at k f h fits len left holds = run.acting (invoke l e op es) line ls p at k f tt h fits len left holds
-      statement_fits (put_field l x op e) line ls p at k f h fits len left holds = run.acting (put_field l x op e) line ls p at k f tt h fits len left holds
-      statement_fits (put_item l x i op e) line ls p at k f h fits len left holds = run.acting (put_item l x i op e) line ls p at k f tt h fits len left holds
-      statement_fits (new_local l x c) line ls p at k f h fits len left holds = run.acting (new_local l x c) line ls p at k f tt h fits len left holds
-      statement_fits (new_field l x c) line ls p at k f h fits len left holds = run.acting (new_field l x c) line ls p at k f tt h fits len left holds
-      statement_fits (new_item l x i c) line ls p at k f h fits len left holds = run.acting (new_item l x i c) line ls p at k f tt h fits len left holds
-      statement_fits (print_value l e) line ls p at k f h fits len left holds = run.acting (print_value l e) line ls p at k f tt h fits len left holds
-
-      pub statements_fit : (xs : Statements) (ls : List Datum) (p : P) (at k : ℕ) (f : Store) → HasAt code at (statements_code ks a no_hands xs top) → FitEach xs → length ls ≡ top → k ≤ n → Holds ks.locals f base ls → Does acc code w ret (at_place at k f p) (length (statements_code ks a no_hands xs top)) (LocalsAt ks base top) (exec_all parts ls p xs k)
-      statements_fit no_statements ls p at k f h fits len left holds = inr (f, rests acc code (at_place at k f p), (holds, len), (λ j lt. refl), omega arith)
-      statements_fit (statement_and x rest) ls p at k f h fits len left holds =
-          and_does acc code w ret (at_place at k f p) (statement_code ks a no_hands (line_of x) x top) (statements_code ks a no_hands rest top) (LocalsAt ks base top) (LocalsAt ks base top) (λ ls s k. exec_all parts ls s rest k) h (exec parts (line_of x) ls p x k)
-          (λ h. statement_fits x (line_of x) ls p at k f h fits.0 len left holds)
-          (λ ls p j g h q below le. statements_fit rest ls p (at + length (statement_code ks a no_hands (line_of x) x top)) j g h fits.1 q.1 (omega (arith, le, left)) q.0)
+    pub statements_fit : (xs : Statements) (ls : List Datum) (p : P) (at k : ℕ) (f : Store) → HasAt code at (statements_code ks a no_hands xs top) → FitEach xs → length ls ≡ top → k ≤ n → Holds ks.locals f base ls → Does acc code (or_wants acc code) w ret (at_place at k f p) (length (statements_code ks a no_hands xs top)) (LocalsAt ks base top) (exec_all parts ls p xs k)
+    statements_fit xs ls p at k f h t len left holds =
+        statements_do acc code (or_wants acc code) pr tys ret w a no_hands parts me below base n top (Fits pr tys) Fit FitEach Here means xs ls p at k f h t len tt left holds
 
     -- a loop that comes again
-    pub loop_fits : (x : Statement) (line : ℕ) (ls : List Datum) (p : P) (at k : ℕ) (f : Store) → IsLoop x → HasAt code at (body_of_loop ks a no_hands line x top ++ tail_of_loop ks a no_hands line x top) → Fit x → length ls ≡ top → k ≤ n → Holds ks.locals f base ls → Does acc code w ret (at_place (at + length (body_of_loop ks a no_hands line x top)) k f p) (length (tail_of_loop ks a no_hands line x top)) (LocalsAt ks base top) (turn parts line ls p x k)
-    loop_fits (while_loop l c b) line ls p at k f is h fits len left holds =
-        let cb = statement_code ks a no_hands (line_of b) b top in
-        turn_runs line c cb (λ ls p k. exec parts (line_of b) ls p b k) (while_loop l c b) at ls p k f h (fits.0, fits.1) len left holds
-        (λ ls p k f len left holds. statement_fits b (line_of b) ls p at k f (has_front code at cb (tail_code ks line c cb top) h) fits.2 len left holds)
-        (λ ls p k f len lt holds. run.agains (while_loop l c b) line ls p at k f tt h fits len lt holds)
-    loop_fits (for_loop l site part first c next b) line ls p at k f is h fits len left holds =
-        let cb = statement_code ks a no_hands (line_of b) b top in
-        let cn = statement_code ks a no_hands line next top in
-        turn_runs line c (cb ++ cn) (λ ls s k. and_on (exec parts (line_of b) ls s b k) (λ ls s k. exec parts line ls s next k)) (for_loop l site part first c next b) at ls p k f h (fits.1, fits.2) len left holds
-        (λ ls p k f len left holds.
-        and_does acc code w ret (at_place at k f p) cb cn (LocalsAt ks base top) (LocalsAt ks base top) (λ ls s k. exec parts line ls s next k) (has_front code at (cb ++ cn) (tail_code ks line c (cb ++ cn) top) h) (exec parts (line_of b) ls p b k)
-        (λ h. statement_fits b (line_of b) ls p at k f h fits.4 len left holds)
-        (λ ls p j g h q below le. statement_fits next line ls p (at + length cb) j g h fits.3 q.1 (omega (arith, le, left)) q.0))
-        (λ ls p k f len lt holds. run.agains (for_loop l site part first c next b) line ls p at k f tt h fits len lt holds)
-    loop_fits other line ls p at k f is h fits len left holds = absurd is
+    pub loop_fits : (x : Statement) (line : ℕ) (ls : List Datum) (p : P) (at k : ℕ) (f : Store) → IsLoop x → HasAt code at (body_of_loop ks a no_hands line x top ++ tail_of_loop ks a no_hands line x top) → Fit x → length ls ≡ top → k ≤ n → Holds ks.locals f base ls → Does acc code (or_wants acc code) w ret (at_place (at + length (body_of_loop ks a no_hands line x top)) k f p) (length (tail_of_loop ks a no_hands line x top)) (LocalsAt ks base top) (turn parts line ls p x k)
+    loop_fits x line ls p at k f is h t len left holds =
+        loop_does acc code (or_wants acc code) pr tys ret w a no_hands parts me below base n top (Fits pr tys) Fit FitEach Here means x line ls p at k f is h t len tt left holds

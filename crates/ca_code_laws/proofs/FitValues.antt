@@ -1,27 +1,20 @@
 -- The instructions of an expression that fits its layout do what it means, or the machine wants memory.
-use Rattle.std.proofs.Common.{◌≡◌, ◌≢◌, ℕ, zero, suc, ◌+◌, ◌<◌, ◌≤◌, List, [], ◌∷◌, ◌++◌, length, Option, Some, None, refl, sym, ap, ◌∙◌, subst, arith, ◌⊎◌, inl, inr}
-use Rattle.std.specs.Prelude.{pos, cond, true, false, Bool, slice_get, ℤ}
-use Rattle.ca_tree.specs.declared.tree.BinaryOp.{BinaryOp}
-use Rattle.ca_program.specs.declared.program.FieldId.{FieldId}
+use Rattle.std.proofs.Common.{◌≡◌, ℕ, ◌+◌, ◌<◌, ◌≤◌, List, ◌∷◌, length, Option, Some, None, refl, sym, subst, arith, ◌⊎◌, inr}
+use Rattle.std.specs.Prelude.{true, slice_get}
 use Rattle.ca_program.specs.declared.program.FunctionId.{FunctionId}
 use Rattle.ca_program.specs.declared.program.ValueType.{ValueType}
-use Rattle.ca_program.specs.Plain.{Expression, Expressions, number, truth, null, this, local, own, own_item, read, read_item, value_call, unary, binary, no_expressions, expression_and, PlainMethod, PlainProgram}
+use Rattle.ca_program.specs.Plain.{Expression, Expressions, this, local, own, own_item, read, read_item, value_call, unary, binary, PlainMethod, PlainProgram}
 use Rattle.ca_model.specs.declared.value.Value.{Value as Datum}
-use Rattle.ca_model.specs.declared.value.Value.TheVariants.{Long, Bool as Truth, Null, Ref}
-use Rattle.ca_model.specs.declared.value.TrapKind.TheVariants.{NullPointer}
-use Rattle.ca_meaning.specs.Operators.{operated, signed}
-use Rattle.ca_meaning.specs.Expressions.{Out, gives, traps, over, ◌>>=◌, trap_at, take_step, value_at, one_in, items_in, slot_of, pointed, indexed, answer, decided, unless_decided, Place, Calls, eval, eval_all}
-use Rattle.ca_program.specs.Kinds.{Kind, as_long, as_truth, as_pointer, Kinds, kinds_in, param_kind, result_kind, unary_kind, binary_kind, kind_of}
-use Rattle.ca_program.specs.Instructions.{Constant, Receiver, Move, Own, OwnItem, Field, Item, Unary, Binary, Check, Decide, Call, Code, Placed, IsAt, on, HasAt, StandsAt}
-use Rattle.ca_program.specs.Layout.{stands, is_lazy, if_lazy, truth_number, expression_code, expressions_code, operand_code, how_many, function_code, FunctionsLaidOut}
-use Rattle.ca_code_laws.specs.Words.{word, read_as, has_kind}
-use Rattle.ca_code_laws.specs.Machine.{Store, store, Back, Accesses, State, Trapped, Spent, Wanting, Next, moved, after, put_as, giving, deciding, entering, act, Comes, Ends}
-use Rattle.ca_code_laws.specs.Told.{Holds, Below, Returned}
+use Rattle.ca_model.specs.declared.value.Value.TheVariants.{Ref}
+use Rattle.ca_meaning.specs.Expressions.{Place, Calls, eval, eval_all}
+use Rattle.ca_program.specs.Kinds.{Kind, Kinds, kinds_in, param_kind, result_kind, kind_of}
+use Rattle.ca_program.specs.Instructions.{Code, HasAt, StandsAt}
+use Rattle.ca_program.specs.Layout.{stands, expression_code, expressions_code, operand_code, how_many, function_code, FunctionsLaidOut}
+use Rattle.ca_code_laws.specs.Machine.{Store, Back, Accesses, State, Wanting, moved, Ends}
+use Rattle.ca_code_laws.specs.Told.{Holds, Returned}
 use Rattle.ca_code_laws.specs.Fitting.{Takes, AreOf, Fits, FitAll}
-use Rattle.ca_code_laws.proofs.Words.{back}
-use Rattle.ca_code_laws.proofs.Steps.{stored_here, stored_there, has_front, Within, joins, joins_end, steps, steps_end, rests}
-use Rattle.ca_code_laws.proofs.Values.{Valued, Stood, AllStood, apart, all_there, within_then, within_pointed, within_item, within_answer, eager, lazy_gives, truth_read}
-use Rattle.ca_code_laws.proofs.FitSteps.{Gets, then_gets, step_gets}
+use Rattle.ca_code_laws.proofs.Instead.{or_wants, Gets}
+use Rattle.ca_code_laws.proofs.Evaluated.{Valued, Stood, AllStood, PartsOf, Knows, expression_does, expressions_do, operand_does}
 
 -- the slot of an operand stands below the next free one
 pub fit_within : (p : PlainProgram) (tys : List ValueType) (e : Expression) (top : ℕ) → Fits p tys e → length tys ≤ top → stands e top < top + 1
@@ -43,246 +36,49 @@ module _ {S : Type 0} (acc : Accesses S) (code : Code) (p : PlainProgram) (laid 
       by (Some at) h = (at, refl)
 
   module _ (tys : List ValueType) (s0 : State S) (c : Calls) (n : ℕ) (calls_fit : CallsFit s0.world c n) where
-    -- the kinds in its body
-    abbrev ks : Kinds
-    ks = kinds_in p tys
-
-    -- the same body at another place
+    -- the same body at another place, and where its expressions are evaluated
     abbrev st : ℕ → ℕ → Store → State S
     st at k f = moved s0 at k f s0.world
 
-    -- where its expressions are evaluated
     abbrev pl : ℕ → List Datum → Place
     pl line ls = record { heap = acc.heap s0.world; this = s0.this; own = acc.own s0.below s0.world s0.this; locals = ls; line = line }
 
-    -- a slot of the frame that is put
-    put_there : (κ : Kind) (f old : Store) (to top : ℕ) (x : ℤ) (v : Datum) → read_as κ x ≡ v → ((j : ℕ) → j < top → j ≢ to → f (s0.base + j) ≡ old (s0.base + j)) → Valued s0.base old to top κ v (store f (s0.base + to) x)
-    put_there κ f old to top x v is same = (ap (read_as κ) (stored_here f (s0.base + to) (s0.base + to) x refl) ∙ is, λ j lt ne. stored_there f (s0.base + to) (s0.base + j) x (apart s0.base j to ne) ∙ same j lt ne)
+    abbrev ks : Kinds
+    ks = kinds_in p tys
 
-    put_above : (f : Store) (to : ℕ) (x : ℤ) → Below s0.base f (store f (s0.base + to) x)
-    put_above f to x j lt = stored_there f (s0.base + to) j x (λ e. absurd (omega (arith, lt, e)))
+    -- as many values as locals, and as many arguments as parameters
+    abbrev IsPlace : ℕ → List Datum → Type 0
+    IsPlace line ls = length ls ≡ length tys
 
-    -- one instruction that puts a number into a slot, which is read as the value
-    moves_to : (κ : Kind) (at k : ℕ) (f : Store) (to top : ℕ) (i : Placed) (x : ℤ) (v : Datum) → IsAt code at i → ((next : Next S) → act acc code i.line (Some i.instruction) next (st at k f) ≡ next (st (at + 1) k (store f (s0.base + to) x))) → read_as κ x ≡ v → Gets acc code (st at k f) 1 (Valued s0.base f to top κ) (gives v k)
-    moves_to κ at k f to top i x v h a is = inr (store f (s0.base + to) x, steps acc code (st at k f) (st (at + 1) k (store f (s0.base + to) x)) i h a, put_there κ f f to top x v is (λ j lt ne. refl), put_above f to x, omega arith)
+    abbrev Callable : FunctionId → ℕ → List Datum → Type 0
+    Callable m r vs = Takes (slice_get p.functions m.0) (length vs)
 
-    -- a value of the kind is put into a slot, n instructions on
-    puts_kept : (κ : Kind) (at k j m : ℕ) (f old : Store) (to top : ℕ) (i : Placed) (v : Datum) → IsAt code at i → ((next : Next S) → act acc code i.line (Some i.instruction) next (st at k f) ≡ put_as κ (st at k f) next to m v j) → has_kind κ v ≡ true → j ≤ k → ((j : ℕ) → j < top → j ≢ to → f (s0.base + j) ≡ old (s0.base + j)) → Gets acc code (st at k f) (1 + m) (Valued s0.base old to top κ) (gives v j)
-    puts_kept κ at k j m f old to top i v h a has le same =
-        let g : Store = store f (s0.base + to) (word v) in
-        let z : at + 1 + m ≡ at + (1 + m) = omega arith in
-        inr (g, subst (λ q. Comes acc code (st at k f) (st q j g)) z (steps acc code (st at k f) (st (at + 1 + m) j g) i h (λ next. a next ∙ ap (λ b. cond b (next (st (at + 1 + m) j g)) Wanting) has)), put_there κ f old to top (word v) v (back κ v has) same, put_above f to (word v), le)
+    parts : (e : Expression) → Fits p tys e → PartsOf p tys (Fits p tys) (FitAll p tys) e
+    parts (local l) t = t
+    parts (own_item x i) t = t
+    parts (read e x) t = t
+    parts (read_item e x i) t = t
+    parts (value_call e m es) t = (t.0, t.2, t.3, t.4)
+    parts (unary op e) t = t
+    parts (binary op a b) t = t
+    parts other t = tt
 
-    puts_value : (κ : Kind) (at k j m : ℕ) (f old : Store) (to top : ℕ) (i : Placed) (v : Datum) → IsAt code at i → ((next : Next S) → act acc code i.line (Some i.instruction) next (st at k f) ≡ put_as κ (st at k f) next to m v j) → j ≤ k → ((j : ℕ) → j < top → j ≢ to → f (s0.base + j) ≡ old (s0.base + j)) → Gets acc code (st at k f) (1 + m) (Valued s0.base old to top κ) (gives v j)
-    puts_value κ at k j m f old to top i v h a le same = by (has_kind κ v) refl
-      where
-        by : (b : Bool) → has_kind κ v ≡ b → Gets acc code (st at k f) (1 + m) (Valued s0.base old to top κ) (gives v j)
-        by true e = puts_kept κ at k j m f old to top i v h a e le same
-        by false e = inl (steps_end acc code (st at k f) Wanting i h (λ next. a next ∙ ap (λ b. cond b (next (st (at + 1 + m) j (store f (s0.base + to) (word v)))) Wanting) e))
+    know : Knows acc code (or_wants acc code) p tys s0 c n (Fits p tys) (FitAll p tys) IsPlace Callable
+    know = record {
+      parts = parts;
+      more = λ e es t. t;
+      counted = λ line ls place. place;
+      keeps = λ e t line ls place k. inr (λ s w. w);
+      callable = λ e m es t line ls place k j i r vs y z many. subst (λ n. Takes (slice_get p.functions m.0) n) (sym many) t.1;
+      starts = λ m r vs t. starts m.0 (length vs) (slice_get p.functions m.0) refl t;
+      calls = λ m r vs start base k b bs f wants lt place call holds. calls_fit m r vs start base k b bs f wants lt place call holds;
+    }
 
-    -- one instruction that puts a value into a slot
-    pub gives_to : (κ : Kind) (at k : ℕ) (f old : Store) (to top : ℕ) (i : Placed) (o : Out Datum) → IsAt code at i → ((next : Next S) → act acc code i.line (Some i.instruction) next (st at k f) ≡ giving κ (st at k f) next to o) → Within k o → ((j : ℕ) → j < top → j ≢ to → f (s0.base + j) ≡ old (s0.base + j)) → Gets acc code (st at k f) 1 (Valued s0.base old to top κ) o
-    gives_to κ at k f old to top i (gives v j) h a le same = puts_value κ at k j 0 f old to top i v h a le same
-    gives_to κ at k f old to top i (traps t) h a le same = inr (steps_end acc code (st at k f) (Trapped t s0.world) i h a)
-    gives_to κ at k f old to top i over h a le same = inr (steps_end acc code (st at k f) (Spent s0.world) i h a)
+    pub expression_fits : (e : Expression) → Fits p tys e → (line to top : ℕ) (ls : List Datum) → length ls ≡ length tys → (at k : ℕ) (f : Store) → HasAt code at (expression_code ks line e to top) → length tys ≤ top → to ≤ top → k ≤ n → Holds ks.locals f s0.base ls → Gets acc code (or_wants acc code) (st at k f) (length (expression_code ks line e to top)) (Valued s0.base f to top (kind_of ks e)) (eval c (pl line ls) e k)
+    expression_fits = expression_does acc code (or_wants acc code) p tys s0 c n (Fits p tys) (FitAll p tys) IsPlace Callable know
 
-    -- a value that stands in the first free slot
-    stood_of : (κ : Kind) (at k m top : ℕ) (f : Store) (o : Out Datum) → Gets acc code (st at k f) m (Valued s0.base f top top κ) o → Gets acc code (st at k f) m (Stood s0.base f top top κ) o
-    stood_of κ at k m top f o (inl w) = inl w
-    stood_of κ at k m top f (gives v j) (inr r) = inr (r.0, r.1, (r.2.0, λ j lt. r.2.1 j lt (λ e. absurd (omega (arith, lt, e)))), r.3, r.4)
-    stood_of κ at k m top f (traps t) (inr r) = inr r
-    stood_of κ at k m top f over (inr r) = inr r
+    pub expressions_fit : (es : Expressions) → FitAll p tys es → (κs : ℕ → Kind) (line top : ℕ) (ls : List Datum) → length ls ≡ length tys → (at k : ℕ) (f : Store) → HasAt code at (expressions_code ks line es top) → AreOf ks κs es → length tys ≤ top → k ≤ n → Holds ks.locals f s0.base ls → Gets acc code (or_wants acc code) (st at k f) (length (expressions_code ks line es top)) (AllStood s0.base f top (how_many es) κs) (eval_all c (pl line ls) es k)
+    expressions_fit = expressions_do acc code (or_wants acc code) p tys s0 c n (Fits p tys) (FitAll p tys) IsPlace Callable know
 
-    operand : (e : Expression) → Fits p tys e → (line top : ℕ) (ls : List Datum) → length ls ≡ length tys → (at k : ℕ) (f : Store) → HasAt code at (operand_code ks line e top) → Holds ks.locals f s0.base ls → (HasAt code at (expression_code ks line e top top) → Gets acc code (st at k f) (length (expression_code ks line e top top)) (Valued s0.base f top top (kind_of ks e)) (eval c (pl line ls) e k)) → Gets acc code (st at k f) (length (operand_code ks line e top)) (Stood s0.base f (stands e top) top (kind_of ks e)) (eval c (pl line ls) e k)
-    operand (local l) t line top ls many at k f h holds rec = inr (f, rests acc code (st at k f), (holds l.0 (omega (arith, t, many)), λ j lt. refl), (λ j lt. refl), omega arith)
-    operand e t line top ls many at k f h holds rec = stood_of (kind_of ks e) at k (length (expression_code ks line e top top)) top f (eval c (pl line ls) e k) (rec h)
-
-    -- what is as it was before is as it was before that
-    kept : (κ : Kind) (at k m : ℕ) (f old : Store) (to top : ℕ) (o : Out Datum) → ((j : ℕ) → j < top → f (s0.base + j) ≡ old (s0.base + j)) → Gets acc code (st at k f) m (Valued s0.base f to top κ) o → Gets acc code (st at k f) m (Valued s0.base old to top κ) o
-    kept κ at k m f old to top o same (inl w) = inl w
-    kept κ at k m f old to top (gives v j) same (inr r) = inr (r.0, r.1, (r.2.0, λ j lt ne. r.2.1 j lt ne ∙ same j lt), r.3, r.4)
-    kept κ at k m f old to top (traps t) same (inr r) = inr r
-    kept κ at k m f old to top over same (inr r) = inr r
-
-    -- an instruction over one operand, which it reads as of kind x, and which gives a value of kind κ
-    over_one : (κ x : Kind) (e : Expression) (line to top : ℕ) (ls : List Datum) (at k : ℕ) (f : Store) (i : Placed) (o : Datum → ℕ → Out Datum) → kind_of ks e ≡ x → HasAt code at (operand_code ks line e top ++ i ∷ []) → Gets acc code (st at k f) (length (operand_code ks line e top)) (Stood s0.base f (stands e top) top (kind_of ks e)) (eval c (pl line ls) e k) → ((at j : ℕ) (g : Store) (next : Next S) → act acc code i.line (Some i.instruction) next (st at j g) ≡ giving κ (st at j g) next to (o (read_as x (g (s0.base + stands e top))) j)) → ((v : Datum) (j : ℕ) → Within j (o v j)) → Gets acc code (st at k f) (length (operand_code ks line e top ++ i ∷ [])) (Valued s0.base f to top κ) (eval c (pl line ls) e k >>= o)
-    over_one κ x e line to top ls at k f i o fits h first a within =
-        then_gets acc code (st at k f) (operand_code ks line e top) (i ∷ []) (Stood s0.base f (stands e top) top (kind_of ks e)) (Valued s0.base f to top κ) o h (eval c (pl line ls) e k) (λ h. first)
-        (λ v j g h q below le.
-        let is : read_as x (g (s0.base + stands e top)) ≡ v = ap (λ y. read_as y (g (s0.base + stands e top))) (sym fits) ∙ q.0 in
-        gives_to κ (at + length (operand_code ks line e top)) j g f to top i (o v j) h.0 (λ next. a (at + length (operand_code ks line e top)) j g next ∙ ap (λ y. giving κ (st (at + length (operand_code ks line e top)) j g) next to (o y j)) is) (within v j) (λ j lt ne. q.1 j lt))
-
-    -- a step, the call, and its value where it is wanted
-    called : (m : FunctionId) (line to top : ℕ) (v : Datum) (vs : List Datum) (at k : ℕ) (f : Store) → to ≤ top → k ≤ n → HasAt code at (on line (Call m top to) ∷ []) → Takes (slice_get p.functions m.0) (length vs) → read_as as_pointer (f (s0.base + top)) ≡ v → Holds (ks.params m) f (s0.base + (top + 1)) vs → Gets acc code (st at k f) 1 (Valued s0.base f to top (ks.result m)) (pointed line v k >>= λ r k. take_step k >>= λ _ k. c m r vs k)
-    called m line to top v vs at k f le left h takes is holds = by v k left is
-      where
-        first : Datum → ℕ → Out ℕ
-        first v k = pointed line v k >>= λ r k. take_step k >>= λ _ k. gives r k
-
-        does : (v : Datum) (k : ℕ) → read_as as_pointer (f (s0.base + top)) ≡ v → (next : Next S) → act acc code line (Some (Call m top to)) next (st at k f) ≡ after (first v k) s0.world (λ r j. entering (slice_get code.functions m.0) (st at k f) next (Ref r) top true to j)
-        does v k is next = ap (λ x. after (first x k) s0.world (λ r j. entering (slice_get code.functions m.0) (st at k f) next (Ref r) top true to j)) is
-
-        below_it : Back
-        below_it = record { at = at + 1; base = s0.base; this = s0.this; wants = true; to = to }
-
-        here : ℕ → ℕ → ℕ → State S
-        here start r k = record { at = start; base = s0.base + (top + 1); left = k; this = Ref r; below = below_it ∷ s0.below; slots = f; world = s0.world }
-
-        ends : (r start k : ℕ) → (o : Out Datum) → Comes acc code (st at (suc k) f) (here start r k) → Ends acc code (here start r k) Wanting ⊎ Returned acc code (ks.result m) (here start r k) below_it s0.below o → Gets acc code (st at (suc k) f) 1 (Valued s0.base f to top (ks.result m)) o
-        ends r start k o begins (inl w) = inl (joins_end acc code begins w)
-        ends r start k (gives w j) begins (inr t) =
-            inr (store t.0 (s0.base + to) t.1, joins acc code begins t.2, put_there (ks.result m) t.0 f to top t.1 w t.5 (λ j lt ne. t.3 (s0.base + j) (omega (arith, lt))), (λ j lt. put_above t.0 to t.1 j lt ∙ t.3 j (omega (arith, lt))), omega (arith, t.4))
-        ends r start k (traps x) begins (inr t) = inr (joins_end acc code begins t)
-        ends r start k over begins (inr t) = inr (joins_end acc code begins t)
-
-        by : (v : Datum) (k : ℕ) → k ≤ n → read_as as_pointer (f (s0.base + top)) ≡ v → Gets acc code (st at k f) 1 (Valued s0.base f to top (ks.result m)) (pointed line v k >>= λ r k. take_step k >>= λ _ k. c m r vs k)
-        by (Ref r) zero left is = inr (steps_end acc code (st at 0 f) (Spent s0.world) (on line (Call m top to)) h.0 (does (Ref r) 0 is))
-        by (Ref r) (suc k) left is =
-            let place = starts m.0 (length vs) (slice_get p.functions m.0) refl takes in
-            let begins = steps acc code (st at (suc k) f) (here place.0 r k) (on line (Call m top to)) h.0 (λ next. does (Ref r) (suc k) is next ∙ ap (λ o. entering o (st at (suc k) f) next (Ref r) top true to k) place.1) in
-            ends r place.0 k (c m r vs k) begins (calls_fit m r vs place.0 (s0.base + (top + 1)) k below_it s0.below f refl (omega (arith, left)) place.1 takes holds)
-        by (Long x) k left is = inr (steps_end acc code (st at k f) (Trapped (trap_at line NullPointer) s0.world) (on line (Call m top to)) h.0 (does (Long x) k is))
-        by (Truth x) k left is = inr (steps_end acc code (st at k f) (Trapped (trap_at line NullPointer) s0.world) (on line (Call m top to)) h.0 (does (Truth x) k is))
-        by Null k left is = inr (steps_end acc code (st at k f) (Trapped (trap_at line NullPointer) s0.world) (on line (Call m top to)) h.0 (does Null k is))
-
-    one_more : (κs : ℕ → Kind) (κ : Kind) (at k m : ℕ) (f g : Store) (top count : ℕ) (v : Datum) (o : Out (List Datum)) → κ ≡ κs 0 → Valued s0.base f top top κ v g → Gets acc code (st at k g) m (AllStood s0.base g (top + 1) count (λ i. κs (suc i))) o → Gets acc code (st at k g) m (AllStood s0.base f top (suc count) κs) (o >>= λ vs k. gives (v ∷ vs) k)
-    one_more κs κ at k m f g top count v o fits q (inl w) = inl w
-    one_more κs κ at k m f g top count v (gives vs j) fits q (inr r) =
-        let is : read_as (κs 0) (r.0 (s0.base + top)) ≡ v = ap (read_as (κs 0)) (r.2.2 top (omega arith)) ∙ ap (λ y. read_as y (g (s0.base + top))) (sym fits) ∙ q.0 in
-        inr (r.0, r.1, (ap suc r.2.0, all_there κs s0.base top v vs r.0 is r.2.1, λ j lt. r.2.2 j (omega (arith, lt)) ∙ q.1 j lt (λ e. absurd (omega (arith, lt, e)))), r.3, r.4)
-    one_more κs κ at k m f g top count v (traps t) fits q (inr r) = inr r
-    one_more κs κ at k m f g top count v over fits q (inr r) = inr r
-
-    -- behind a pointer that was checked: the index, and the item
-    checked : (e : Expression) (x : FieldId) (i : Expression) (line to top : ℕ) (ls : List Datum) (at k : ℕ) (f g : Store) (v : Datum) → HasAt code at (on line (Check (stands e top)) ∷ (operand_code ks line i (top + 1) ++ on line (Item to (stands e top) (ks.field x) x (stands i (top + 1))) ∷ [])) → kind_of ks i ≡ as_long → read_as as_pointer (g (s0.base + stands e top)) ≡ v → ((j : ℕ) → j < top → g (s0.base + j) ≡ f (s0.base + j)) → stands e top < top + 1 → Holds ks.locals g s0.base ls → ((at : ℕ) → HasAt code at (operand_code ks line i (top + 1)) → Holds ks.locals g s0.base ls → Gets acc code (st at k g) (length (operand_code ks line i (top + 1))) (Stood s0.base g (stands i (top + 1)) (top + 1) (kind_of ks i)) (eval c (pl line ls) i k)) → Gets acc code (st at k g) (length (on line (Check (stands e top)) ∷ (operand_code ks line i (top + 1) ++ on line (Item to (stands e top) (ks.field x) x (stands i (top + 1))) ∷ []))) (Valued s0.base f to top (ks.field x)) (pointed line v k >>= λ r k. eval c (pl line ls) i k >>= λ v k. indexed line (items_in (slot_of (acc.heap s0.world) r x)) v k >>= λ item k. gives item.value k)
-    checked e x i line to top ls at k f g v h fits is same within holds rec = by v is
-      where
-        ci : List Placed
-        ci = operand_code ks line i (top + 1)
-
-        last : Placed
-        last = on line (Item to (stands e top) (ks.field x) x (stands i (top + 1)))
-
-        check : Placed
-        check = on line (Check (stands e top))
-
-        does : (v : Datum) → read_as as_pointer (g (s0.base + stands e top)) ≡ v → (next : Next S) → act acc code line (Some check.instruction) next (st at k g) ≡ after (pointed line v k) s0.world (λ r j. next (st (at + 1) j g))
-        does v is next = ap (λ y. after (pointed line y k) s0.world (λ r j. next (st (at + 1) j g))) is
-
-        by : (v : Datum) → read_as as_pointer (g (s0.base + stands e top)) ≡ v → Gets acc code (st at k g) (length (check ∷ (ci ++ last ∷ []))) (Valued s0.base f to top (ks.field x)) (pointed line v k >>= λ r k. eval c (pl line ls) i k >>= λ v k. indexed line (items_in (slot_of (acc.heap s0.world) r x)) v k >>= λ item k. gives item.value k)
-        by (Ref r) is =
-            step_gets acc code (st at k g) k g check (ci ++ last ∷ []) (Valued s0.base f to top (ks.field x)) h (does (Ref r) is) (λ j lt. refl) (omega arith) (eval c (pl line ls) i k >>= λ v k. indexed line (items_in (slot_of (acc.heap s0.world) r x)) v k >>= λ item k. gives item.value k)
-            (λ h. then_gets acc code (st (at + 1) k g) ci (last ∷ []) (Stood s0.base g (stands i (top + 1)) (top + 1) (kind_of ks i)) (Valued s0.base f to top (ks.field x)) (λ v k. indexed line (items_in (slot_of (acc.heap s0.world) r x)) v k >>= λ item k. gives item.value k) h (eval c (pl line ls) i k) (λ h. rec (at + 1) h holds)
-            (λ w j g2 h q below le.
-            let is_there : read_as as_pointer (g2 (s0.base + stands e top)) ≡ Ref r = ap (read_as as_pointer) (q.1 (stands e top) within) ∙ is in
-            let is_index : read_as as_long (g2 (s0.base + stands i (top + 1))) ≡ w = ap (λ y. read_as y (g2 (s0.base + stands i (top + 1)))) (sym fits) ∙ q.0 in
-            gives_to (ks.field x) (at + 1 + length ci) j g2 f to top last (indexed line (items_in (slot_of (acc.heap s0.world) r x)) w j >>= λ item k. gives item.value k) h.0
-            (λ next. ap (λ y. giving (ks.field x) (st (at + 1 + length ci) j g2) next to (pointed line y j >>= λ r k. indexed line (items_in (slot_of (acc.heap s0.world) r x)) (read_as as_long (g2 (s0.base + stands i (top + 1)))) k >>= λ item k. gives item.value k)) is_there ∙ ap (λ y. giving (ks.field x) (st (at + 1 + length ci) j g2) next to (indexed line (items_in (slot_of (acc.heap s0.world) r x)) y j >>= λ item k. gives item.value k)) is_index)
-            (within_item line (items_in (slot_of (acc.heap s0.world) r x)) w j) (λ j lt ne. q.1 j (omega (arith, lt)) ∙ same j lt)))
-        by (Long y) is = inr (steps_end acc code (st at k g) (Trapped (trap_at line NullPointer) s0.world) check h.0 (does (Long y) is))
-        by (Truth y) is = inr (steps_end acc code (st at k g) (Trapped (trap_at line NullPointer) s0.world) check h.0 (does (Truth y) is))
-        by Null is = inr (steps_end acc code (st at k g) (Trapped (trap_at line NullPointer) s0.world) check h.0 (does Null is))
-
-    -- the right side of an operator, unless the left side decides
-    right_side : (op : BinaryOp) (a b : Expression) (line to top : ℕ) (ls : List Datum) (at k : ℕ) (f g : Store) (v : Datum) → (is_lazy op ≡ true → kind_of ks a ≡ as_truth) → HasAt code at (if_lazy (is_lazy op) (on line (Decide to op (stands a top) (length (operand_code ks line b (top + 1) ++ on line (Binary to op (kind_of ks a) (kind_of ks b) (stands a top) (stands b (top + 1))) ∷ [])))) (operand_code ks line b (top + 1) ++ on line (Binary to op (kind_of ks a) (kind_of ks b) (stands a top) (stands b (top + 1))) ∷ [])) → read_as (kind_of ks a) (g (s0.base + stands a top)) ≡ v → ((j : ℕ) → j < top → g (s0.base + j) ≡ f (s0.base + j)) → stands a top < top + 1 → ((at : ℕ) → HasAt code at (operand_code ks line b (top + 1)) → Gets acc code (st at k g) (length (operand_code ks line b (top + 1))) (Stood s0.base g (stands b (top + 1)) (top + 1) (kind_of ks b)) (eval c (pl line ls) b k)) → Gets acc code (st at k g) (length (if_lazy (is_lazy op) (on line (Decide to op (stands a top) (length (operand_code ks line b (top + 1) ++ on line (Binary to op (kind_of ks a) (kind_of ks b) (stands a top) (stands b (top + 1))) ∷ [])))) (operand_code ks line b (top + 1) ++ on line (Binary to op (kind_of ks a) (kind_of ks b) (stands a top) (stands b (top + 1))) ∷ []))) (Valued s0.base f to top (binary_kind op)) (unless_decided (decided op v) k (eval c (pl line ls) b k >>= λ w k. answer line (operated op v w) k))
-    right_side op a b line to top ls at k f g v lazy_truth h is same within rec = by (is_lazy op) refl h
-      where
-        κ : Kind
-        κ = binary_kind op
-
-        cb : List Placed
-        cb = operand_code ks line b (top + 1)
-
-        last : Placed
-        last = on line (Binary to op (kind_of ks a) (kind_of ks b) (stands a top) (stands b (top + 1)))
-
-        decide : Placed
-        decide = on line (Decide to op (stands a top) (length (cb ++ last ∷ [])))
-
-        rest : Out Datum
-        rest = eval c (pl line ls) b k >>= λ w k. answer line (operated op v w) k
-
-        tail : (at : ℕ) → HasAt code at (cb ++ last ∷ []) → Gets acc code (st at k g) (length (cb ++ last ∷ [])) (Valued s0.base f to top κ) rest
-        tail at h =
-            then_gets acc code (st at k g) cb (last ∷ []) (Stood s0.base g (stands b (top + 1)) (top + 1) (kind_of ks b)) (Valued s0.base f to top κ) (λ w k. answer line (operated op v w) k) h (eval c (pl line ls) b k) (λ h. rec at h)
-            (λ w j g2 h q below le.
-            gives_to κ (at + length cb) j g2 f to top last (answer line (operated op v w) j) h.0
-            (λ next. ap (λ y. giving κ (st (at + length cb) j g2) next to (answer line (operated op y (read_as (kind_of ks b) (g2 (s0.base + stands b (top + 1))))) j)) (ap (read_as (kind_of ks a)) (q.1 (stands a top) within) ∙ is) ∙ ap (λ y. giving κ (st (at + length cb) j g2) next to (answer line (operated op v y) j)) q.0)
-            (within_answer line (operated op v w) j) (λ j lt ne. q.1 j (omega (arith, lt)) ∙ same j lt))
-
-        by_side : kind_of ks a ≡ as_truth → κ ≡ as_truth → (d : Option Datum) → decided op v ≡ d → HasAt code at (decide ∷ (cb ++ last ∷ [])) → Gets acc code (st at k g) (length (decide ∷ (cb ++ last ∷ []))) (Valued s0.base f to top κ) (unless_decided d k rest)
-        by_side fits gives_truth (Some w) e h =
-            let as_read : read_as as_truth (g (s0.base + stands a top)) ≡ v = ap (λ κ. read_as κ (g (s0.base + stands a top))) (sym fits) ∙ is in
-            let m = length (cb ++ last ∷ []) in
-            let does : (next : Next S) → act acc code line (Some decide.instruction) next (st at k g) ≡ put_as κ (st at k g) next to m w k = λ next. ap (λ y. deciding (st at k g) next to m (decided op y)) as_read ∙ ap (λ y. deciding (st at k g) next to m y) e ∙ ap (λ y. put_as y (st at k g) next to m w k) (sym gives_truth) in
-            let z : 1 + m ≡ length (decide ∷ (cb ++ last ∷ [])) = omega arith in
-            subst (λ l. Gets acc code (st at k g) l (Valued s0.base f to top κ) (gives w k)) z (puts_value κ at k k m g f to top decide w h.0 does (omega arith) (λ j lt ne. same j lt))
-        by_side fits gives_truth None e h =
-            let as_read : read_as as_truth (g (s0.base + stands a top)) ≡ v = ap (λ κ. read_as κ (g (s0.base + stands a top))) (sym fits) ∙ is in
-            step_gets acc code (st at k g) k g decide (cb ++ last ∷ []) (Valued s0.base f to top κ) h (λ next. ap (λ y. deciding (st at k g) next to (length (cb ++ last ∷ [])) (decided op y)) as_read ∙ ap (λ y. deciding (st at k g) next to (length (cb ++ last ∷ [])) y) e) (λ j lt. refl) (omega arith) rest (λ h. tail (at + 1) h)
-
-        by : (z : Bool) → is_lazy op ≡ z → HasAt code at (if_lazy z decide (cb ++ last ∷ [])) → Gets acc code (st at k g) (length (if_lazy z decide (cb ++ last ∷ []))) (Valued s0.base f to top κ) (unless_decided (decided op v) k rest)
-        by true e h = by_side (lazy_truth e) (lazy_gives op e) (decided op v) refl h
-        by false e h = subst (λ d. Gets acc code (st at k g) (length (cb ++ last ∷ [])) (Valued s0.base f to top κ) (unless_decided d k rest)) (sym (eager op v e)) (tail at h)
-
-    mutual
-      pub expression_fits : (e : Expression) → Fits p tys e → (line to top : ℕ) (ls : List Datum) → length ls ≡ length tys → (at k : ℕ) (f : Store) → HasAt code at (expression_code ks line e to top) → length tys ≤ top → to ≤ top → k ≤ n → Holds ks.locals f s0.base ls → Gets acc code (st at k f) (length (expression_code ks line e to top)) (Valued s0.base f to top (kind_of ks e)) (eval c (pl line ls) e k)
-      expression_fits (number v) t line to top ls many at k f h len le left holds = moves_to as_long at k f to top (on line (Constant to v)) v (Long v) h.0 (λ next. refl) refl
-      expression_fits (truth v) t line to top ls many at k f h len le left holds = moves_to as_truth at k f to top (on line (Constant to (truth_number v))) (truth_number v) (Truth v) h.0 (λ next. refl) (truth_read v)
-      expression_fits null t line to top ls many at k f h len le left holds = moves_to as_pointer at k f to top (on line (Constant to (pos 0))) (pos 0) Null h.0 (λ next. refl) refl
-      expression_fits this t line to top ls many at k f h len le left holds = gives_to as_pointer at k f f to top (on line (Receiver to)) (gives s0.this k) h.0 (λ next. refl) (omega arith) (λ j lt ne. refl)
-      expression_fits (local l) t line to top ls many at k f h len le left holds = moves_to (ks.locals l.0) at k f to top (on line (Move to l.0)) (f (s0.base + l.0)) (value_at ls l.0) h.0 (λ next. refl) (holds l.0 (omega (arith, t, many)))
-      expression_fits (own x) t line to top ls many at k f h len le left holds = gives_to (ks.field x) at k f f to top (on line (Own to (ks.field x) x)) (gives (one_in (slice_get (acc.own s0.below s0.world s0.this) x.field)) k) h.0 (λ next. refl) (omega arith) (λ j lt ne. refl)
-      expression_fits (own_item x i) t line to top ls many at k f h len le left holds =
-          over_one (ks.field x) as_long i line to top ls at k f (on line (OwnItem to (ks.field x) x (stands i top))) (λ v k. indexed line (items_in (slice_get (acc.own s0.below s0.world s0.this) x.field)) v k >>= λ item k. gives item.value k) t.0 h
-          (operand i t.1 line top ls many at k f (has_front code at (operand_code ks line i top) (on line (OwnItem to (ks.field x) x (stands i top)) ∷ []) h) holds (λ h. expression_fits i t.1 line top top ls many at k f h len (omega arith) left holds)) (λ at j g next. refl) (λ v j. within_item line (items_in (slice_get (acc.own s0.below s0.world s0.this) x.field)) v j)
-      expression_fits (read e x) t line to top ls many at k f h len le left holds =
-          over_one (ks.field x) as_pointer e line to top ls at k f (on line (Field to (stands e top) (ks.field x) x)) (λ v k. pointed line v k >>= λ r k. gives (one_in (slot_of (acc.heap s0.world) r x)) k) t.0 h
-          (operand e t.1 line top ls many at k f (has_front code at (operand_code ks line e top) (on line (Field to (stands e top) (ks.field x) x) ∷ []) h) holds (λ h. expression_fits e t.1 line top top ls many at k f h len (omega arith) left holds)) (λ at j g next. refl) (λ v j. within_then (pointed line v j) j (λ r k. gives (one_in (slot_of (acc.heap s0.world) r x)) k) (within_pointed line v j) (λ r i. omega arith))
-      expression_fits (unary op e) t line to top ls many at k f h len le left holds =
-          over_one (unary_kind op) (unary_kind op) e line to top ls at k f (on line (Unary to op (stands e top))) (λ v k. gives (signed op v) k) t.0 h
-          (operand e t.1 line top ls many at k f (has_front code at (operand_code ks line e top) (on line (Unary to op (stands e top)) ∷ []) h) holds (λ h. expression_fits e t.1 line top top ls many at k f h len (omega arith) left holds)) (λ at j g next. refl) (λ v j. omega arith)
-      expression_fits (read_item e x i) t line to top ls many at k f h len le left holds =
-          let ce = operand_code ks line e top in
-          let last = on line (Item to (stands e top) (ks.field x) x (stands i (top + 1))) in
-          let check = on line (Check (stands e top)) in
-          let rest : Datum → ℕ → Out Datum = λ v k. pointed line v k >>= λ r k. eval c (pl line ls) i k >>= λ v k. indexed line (items_in (slot_of (acc.heap s0.world) r x)) v k >>= λ item k. gives item.value k in
-          then_gets acc code (st at k f) ce (check ∷ (operand_code ks line i (top + 1) ++ last ∷ [])) (Stood s0.base f (stands e top) top (kind_of ks e)) (Valued s0.base f to top (ks.field x)) rest h (eval c (pl line ls) e k)
-          (λ h. operand e t.2 line top ls many at k f h holds (λ h. expression_fits e t.2 line top top ls many at k f h len (omega arith) left holds))
-          (λ v j g h q below le2. checked e x i line to top ls (at + length ce) j f g v h t.1 (ap (λ κ. read_as κ (g (s0.base + stands e top))) (sym t.0) ∙ q.0) q.1 (fit_within p tys e top t.2 len) (λ i lt. ap (read_as (ks.locals i)) (q.1 i (omega (arith, lt, len, many))) ∙ holds i lt)
-          (λ at h holds. operand i t.3 line (top + 1) ls many at j g h holds (λ h. expression_fits i t.3 line (top + 1) (top + 1) ls many at j g h (omega (arith, len)) (omega arith) (omega (arith, le2, left)) holds)))
-      expression_fits (value_call e m es) t line to top ls many at k f h len le left holds =
-          let ce = expression_code ks line e top top in
-          let ces = expressions_code ks line es (top + 1) in
-          let last = on line (Call m top to) in
-          then_gets acc code (st at k f) ce (ces ++ last ∷ []) (Valued s0.base f top top (kind_of ks e)) (Valued s0.base f to top (ks.result m)) (λ v k. eval_all c (pl line ls) es k >>= λ vs k. pointed line v k >>= λ r k. take_step k >>= λ _ k. c m r vs k) h (eval c (pl line ls) e k)
-          (λ h. expression_fits e t.3 line top top ls many at k f h len (omega arith) left holds)
-          (λ v j g h q below le2.
-          then_gets acc code (st (at + length ce) j g) ces (last ∷ []) (AllStood s0.base g (top + 1) (how_many es) (ks.params m)) (Valued s0.base f to top (ks.result m)) (λ vs k. pointed line v k >>= λ r k. take_step k >>= λ _ k. c m r vs k) h (eval_all c (pl line ls) es j)
-          (λ h. expressions_fit es t.4 (ks.params m) line (top + 1) ls many (at + length ce) j g h t.2 (omega (arith, len)) (omega (arith, le2, left)) (λ i lt. ap (read_as (ks.locals i)) (q.1 i (omega (arith, lt, len, many)) (λ e. absurd (omega (arith, lt, len, many, e)))) ∙ holds i lt))
-          (λ vs i g2 h q2 below2 le3.
-          kept (ks.result m) (at + length ce + length ces) i 1 g2 f to top (pointed line v i >>= λ r k. take_step k >>= λ _ k. c m r vs k) (λ j lt. q2.2 j (omega (arith, lt)) ∙ q.1 j lt (λ e. absurd (omega (arith, lt, e))))
-          (called m line to top v vs (at + length ce + length ces) i g2 le (omega (arith, le3, le2, left)) h (subst (λ x. Takes (slice_get p.functions m.0) x) (sym q2.0) t.1) (ap (read_as as_pointer) (q2.2 top (omega arith)) ∙ ap (λ κ. read_as κ (g (s0.base + top))) (sym t.0) ∙ q.0) q2.1)))
-      expression_fits (binary op a b) t line to top ls many at k f h len le left holds =
-          let ca = operand_code ks line a top in
-          let cb = operand_code ks line b (top + 1) in
-          let last = on line (Binary to op (kind_of ks a) (kind_of ks b) (stands a top) (stands b (top + 1))) in
-          let decide = on line (Decide to op (stands a top) (length (cb ++ last ∷ []))) in
-          let rest : Datum → ℕ → Out Datum = λ v k. unless_decided (decided op v) k (eval c (pl line ls) b k >>= λ w k. answer line (operated op v w) k) in
-          then_gets acc code (st at k f) ca (if_lazy (is_lazy op) decide (cb ++ last ∷ [])) (Stood s0.base f (stands a top) top (kind_of ks a)) (Valued s0.base f to top (binary_kind op)) rest h (eval c (pl line ls) a k)
-          (λ h. operand a t.1 line top ls many at k f h holds (λ h. expression_fits a t.1 line top top ls many at k f h len (omega arith) left holds))
-          (λ v j g h q below le2. right_side op a b line to top ls (at + length ca) j f g v t.0 h q.0 q.1 (fit_within p tys a top t.1 len)
-          (λ at h. operand b t.2 line (top + 1) ls many at j g h (λ i lt. ap (read_as (ks.locals i)) (q.1 i (omega (arith, lt, len, many))) ∙ holds i lt) (λ h. expression_fits b t.2 line (top + 1) (top + 1) ls many at j g h (omega (arith, len)) (omega arith) (omega (arith, le2, left)) (λ i lt. ap (read_as (ks.locals i)) (q.1 i (omega (arith, lt, len, many))) ∙ holds i lt))))
-
-      pub expressions_fit : (es : Expressions) → FitAll p tys es → (κs : ℕ → Kind) (line top : ℕ) (ls : List Datum) → length ls ≡ length tys → (at k : ℕ) (f : Store) → HasAt code at (expressions_code ks line es top) → AreOf ks κs es → length tys ≤ top → k ≤ n → Holds ks.locals f s0.base ls → Gets acc code (st at k f) (length (expressions_code ks line es top)) (AllStood s0.base f top (how_many es) κs) (eval_all c (pl line ls) es k)
-      expressions_fit no_expressions t κs line top ls many at k f h fits len left holds = inr (f, rests acc code (st at k f), (refl, (λ i lt. absurd (omega (arith, lt))), λ j lt. refl), (λ j lt. refl), omega arith)
-      expressions_fit (expression_and e es) t κs line top ls many at k f h fits len left holds =
-          let ce = expression_code ks line e top top in
-          let ces = expressions_code ks line es (top + 1) in
-          then_gets acc code (st at k f) ce ces (Valued s0.base f top top (kind_of ks e)) (AllStood s0.base f top (suc (how_many es)) κs) (λ v k. eval_all c (pl line ls) es k >>= λ vs k. gives (v ∷ vs) k) h (eval c (pl line ls) e k)
-          (λ h. expression_fits e t.0 line top top ls many at k f h len (omega arith) left holds)
-          (λ v j g h q below le2. one_more κs (kind_of ks e) (at + length ce) j (length ces) f g top (how_many es) v (eval_all c (pl line ls) es j) fits.0 q
-          (expressions_fit es t.1 (λ i. κs (suc i)) line (top + 1) ls many (at + length ce) j g h fits.1 (omega (arith, len)) (omega (arith, le2, left)) (λ i lt. ap (read_as (ks.locals i)) (q.1 i (omega (arith, lt, len, many)) (λ e. absurd (omega (arith, lt, len, many, e)))) ∙ holds i lt)))
-
-    pub operand_fits : (e : Expression) → Fits p tys e → (line top : ℕ) (ls : List Datum) → length ls ≡ length tys → (at k : ℕ) (f : Store) → HasAt code at (operand_code ks line e top) → length tys ≤ top → k ≤ n → Holds ks.locals f s0.base ls → Gets acc code (st at k f) (length (operand_code ks line e top)) (Stood s0.base f (stands e top) top (kind_of ks e)) (eval c (pl line ls) e k)
-    operand_fits e t line top ls many at k f h len left holds = operand e t line top ls many at k f h holds (λ h. expression_fits e t line top top ls many at k f h len (omega arith) left holds)
+    pub operand_fits : (e : Expression) → Fits p tys e → (line top : ℕ) (ls : List Datum) → length ls ≡ length tys → (at k : ℕ) (f : Store) → HasAt code at (operand_code ks line e top) → length tys ≤ top → k ≤ n → Holds ks.locals f s0.base ls → Gets acc code (or_wants acc code) (st at k f) (length (operand_code ks line e top)) (Stood s0.base f (stands e top) top (kind_of ks e)) (eval c (pl line ls) e k)
+    operand_fits = operand_does acc code (or_wants acc code) p tys s0 c n (Fits p tys) (FitAll p tys) IsPlace Callable know

@@ -1,5 +1,5 @@
 -- Prints and notes only grow: whatever the machine does, those that there are stay the first.
-use Rattle.std.proofs.Common.{◌≡◌, ℕ, zero, suc, ◌+◌, ◌-◌, List, [], ◌∷◌, ◌++◌, map, Option, Some, None, refl, sym, ap, ◌∙◌, subst, arith, append-nil, append_assoc}
+use Rattle.std.proofs.Common.{◌≡◌, ℕ, zero, suc, ◌+◌, ◌-◌, List, [], ◌∷◌, ◌++◌, length, map, Option, Some, None, refl, sym, ap, ◌∙◌, subst, arith, append-nil, append_assoc}
 use Rattle.std.specs.Prelude.{ℤ, Bool, true, false, cond, slice_get}
 use Rattle.ca_program.specs.declared.program.OpId.{OpId}
 use Rattle.ca_program.specs.Plain.{PlainProgram, Statement}
@@ -26,7 +26,7 @@ use Rattle.ca_note_laws.proofs.Listing.{lists_first}
 use Rattle.ca_code_laws.specs.Words.{word, has_kind, all_have}
 use Rattle.ca_code_laws.specs.Machine.{Store, store, Back, enters, Begun, behind, plainly, Accesses, State, Outcome, Finished, Trapped, Spent, Wanting, Unfinished, Stuck, Next, moved, slot, after, put_as, giving, deciding, if_true, entering, returning, leaving, call_of, invoking, handed_call, loaded, row, beginning_by, handing, own_slots, item_named, object_named, act, line_in, runs, Comes, Ends}
 use Rattle.ca_code_laws.specs.Noted.{EndsNoted}
-use Rattle.ca_code_laws.specs.Runs.{behind_or, begun_with, begun_by, with_call, handed_by, run_access, beginning, outcome_of, ended_as}
+use Rattle.ca_code_laws.specs.Runs.{Into, behind_or, begun_with, begun_by, with_call, handed_by, run_into, beginning, outcome_of, ended_as}
 use Rattle.ca_code_laws.specs.Heeding.{HeedingLaidOut, MainHeeds}
 use Rattle.ca_code_laws.specs.Told.{IsLaidOut, Front}
 use Rattle.ca_code_laws.proofs.Steps.{joins_end}
@@ -47,7 +47,7 @@ one_print w v = record { prints = v ∷ []; notes = []; printed = refl; noted = 
 one_note : (w : World) (n : Note) → Front w (noted w n)
 one_note w n = record { prints = []; notes = n ∷ []; printed = sym (append-nil w.prints); noted = refl }
 
-then_front : {w x y : World} → Front w x → Front x y → Front w y
+pub then_front : {w x y : World} → Front w x → Front x y → Front w y
 then_front {w} a b = record {
   prints = a.prints ++ b.prints;
   notes = a.notes ++ b.notes;
@@ -99,23 +99,30 @@ or_front w x ls a (gives_back v y k) g = a
 or_front w x ls a (stops t y) g = a
 or_front w x ls a (runs_out y) g = a
 
--- with a note of it
-noted_front : (p : PlainProgram) (w : World) (ls : List Datum) (is : List Invocation) (k : ℕ) → BegunFront (noted w (note w.heap is k)) (behind_or ls (noted w (note w.heap is k)) (serial_ops p is (noted w (note w.heap is k)) k))
-noted_front p w ls is k = let x = noted w (note w.heap is k) in or_front x x ls (stays x) (serial_ops p is x k) (ops_front p x is k)
+further : (w x : World) → Front w x → (b : Begun World) → BegunFront x b → BegunFront w b
+further w x a (behind ls y k) g = then_front a g
+further w x a (plainly y) g = then_front a g
 
-handed_front : (p : PlainProgram) (w : World) (i : Invocation) (k : ℕ) → BegunFront w (handed_by p w i k)
-handed_front p w i k =
-    let x = with_call w i k in
-    or_front w x [] (one_note w (note w.heap (i ∷ []) k)) (serial_ops p (i ∷ []) x k) (ops_front p x (i ∷ []) k)
+either_front : (w : World) (b : Bool) (x y : Begun World) → BegunFront w x → BegunFront w y → BegunFront w (either b x y)
+either_front w true x y f g = f
+either_front w false x y f g = g
 
-begun_front : (p : PlainProgram) (me : Datum) (line : ℕ) (ls : List Datum) (w : World) (loop : Statement) (k : ℕ) → BegunFront w (begun_by p me line ls w loop k)
-begun_front p me line ls w loop k = by (puts_nothing loop) (loop_section p w.heap me ls line loop k)
+-- with a note of it, whether it is gone into or not
+pub noted_front : (into : Into) (p : PlainProgram) (w : World) (ls : List Datum) (is : List Invocation) (k : ℕ)
+    → BegunFront (noted w (note w.heap is k)) (either (into (length w.notes)) (plainly (noted w (note w.heap is k))) (behind_or ls (noted w (note w.heap is k)) (serial_ops p is (noted w (note w.heap is k)) k)))
+noted_front into p w ls is k =
+    let x = noted w (note w.heap is k) in
+    either_front x (into (length w.notes)) (plainly x) (behind_or ls x (serial_ops p is x k)) (stays x) (or_front x x ls (stays x) (serial_ops p is x k) (ops_front p x is k))
+
+handed_front : (into : Into) (p : PlainProgram) (w : World) (i : Invocation) (k : ℕ) → BegunFront w (handed_by into p w i k)
+handed_front into p w i k = further w (with_call w i k) (one_note w (note w.heap (i ∷ []) k)) (handed_by into p w i k) (noted_front into p w [] (i ∷ []) k)
+
+begun_front : (into : Into) (p : PlainProgram) (me : Datum) (line : ℕ) (ls : List Datum) (w : World) (loop : Statement) (k : ℕ) → BegunFront w (begun_by into p me line ls w loop k)
+begun_front into p me line ls w loop k = by (puts_nothing loop) (loop_section p w.heap me ls line loop k)
   where
-    by : (b : Bool) (o : LoopSectioned) → BegunFront w (either b (begun_with p w k o) (plainly w))
+    by : (b : Bool) (o : LoopSectioned) → BegunFront w (either b (begun_with into p w k o) (plainly w))
     by false o = stays w
-    by true (loop_done m) =
-        let x = with_list w k m in
-        or_front w x m.locals (one_note w (note w.heap m.listed (k - m.steps))) (serial_ops p m.listed x (k - m.steps)) (ops_front p x m.listed (k - m.steps))
+    by true (loop_done m) = further w (with_list w k m) (one_note w (note w.heap m.listed (k - m.steps))) (begun_with into p w k (loop_done m)) (noted_front into p w m.locals m.listed (k - m.steps))
     by true (loop_stopped t) = stays w
     by true loop_over = stays w
 
@@ -127,7 +134,7 @@ Grown w (Finished x k) = Front w x
 Grown w (Trapped t x) = Front w x
 Grown w (Spent x) = Front w x
 Grown w Wanting = Unit {0}
-Grown w (Unfinished s) = Unit {0}
+Grown w (Unfinished s) = Front w s.world
 Grown w Stuck = Unit {0}
 
 from : (w x : World) → Front w x → (o : Outcome World) → Grown x o → Grown w o
@@ -135,7 +142,7 @@ from w x a (Finished y k) g = then_front a g
 from w x a (Trapped t y) g = then_front a g
 from w x a (Spent y) g = then_front a g
 from w x a Wanting g = tt
-from w x a (Unfinished s) g = tt
+from w x a (Unfinished s) g = then_front a g
 from w x a Stuck g = tt
 
 after_grows : {A : Type 0} (w : World) (o : Out A) (f : A → ℕ → Outcome World) → ((v : A) (k : ℕ) → Grown w (f v k)) → Grown w (after o w f)
@@ -154,9 +161,9 @@ choice_grows w (Long n) x y g h = h
 choice_grows w (Ref n) x y g h = h
 choice_grows w Null x y g h = h
 
-module _ (p : PlainProgram) (c : Code) (next : Next World) (grows : (t : State World) → Grown t.world (next t)) where
+module _ (into : Into) (p : PlainProgram) (c : Code) (next : Next World) (grows : (t : State World) → Grown t.world (next t)) where
   abbrev acc : Accesses World
-  acc = run_access p
+  acc = run_into into p
 
   put_grows : (κ : Kind) (s : State World) (d n : ℕ) (v : Datum) (k : ℕ) → Grown s.world (put_as κ s next d n v k)
   put_grows κ s d n v k =
@@ -194,11 +201,11 @@ module _ (p : PlainProgram) (c : Code) (next : Next World) (grows : (t : State W
   invoking_grows w start s r first (suc k) x a =
       from w x a (entering start (moved s s.at k s.slots x) next (Ref r) first false 0 k) (entering_grows start (moved s s.at k s.slots x) (Ref r) first false 0 k)
 
-  handed_grows : (w : World) (start : Option ℕ) (s : State World) (r first k : ℕ) (b : Begun World) → BegunFront w b → Grown w (handed_call start s next r first k b)
+  pub handed_grows : (w : World) (start : Option ℕ) (s : State World) (r first k : ℕ) (b : Begun World) → BegunFront w b → Grown w (handed_call start s next r first k b)
   handed_grows w start s r first k (behind ls x j) a = on_grows w s (s.at + 1) j s.slots x a
   handed_grows w start s r first k (plainly x) a = invoking_grows w start s r first k x a
 
-  beginning_grows : (w : World) (κs : List Kind) (s : State World) (n : ℕ) (b : Begun World) → BegunFront w b → Grown w (beginning_by κs s next n b)
+  pub beginning_grows : (w : World) (κs : List Kind) (s : State World) (n : ℕ) (b : Begun World) → BegunFront w b → Grown w (beginning_by κs s next n b)
   beginning_grows w κs s n (behind ls x k) a =
       cond_grows w (all_have κs ls) (next (moved s (s.at + 1 + n) k (loaded s.slots s.base ls) x)) Wanting (on_grows w s (s.at + 1 + n) k (loaded s.slots s.base ls) x a) tt
   beginning_grows w κs s n (plainly x) a = on_grows w s (s.at + 1) s.left s.slots x a
@@ -207,9 +214,9 @@ module _ (p : PlainProgram) (c : Code) (next : Next World) (grows : (t : State W
   handing_grows line s n None = tt
   handing_grows line s n (Some None) = tt
   handing_grows line s n (Some (Some h)) =
-      beginning_grows s.world h.locals s n (begun_by p s.this line (row s.slots s.base h.locals) s.world h.loop s.left) (begun_front p s.this line (row s.slots s.base h.locals) s.world h.loop s.left)
+      beginning_grows s.world h.locals s n (begun_by into p s.this line (row s.slots s.base h.locals) s.world h.loop s.left) (begun_front into p s.this line (row s.slots s.base h.locals) s.world h.loop s.left)
 
-  act_grows : (line : ℕ) (i : Option Instruction) (s : State World) → Grown s.world (act acc c line i next s)
+  pub act_grows : (line : ℕ) (i : Option Instruction) (s : State World) → Grown s.world (act acc c line i next s)
   act_grows line None s = tt
   act_grows line (Some (Constant d n)) s = grows (moved s (s.at + 1) s.left (store s.slots (s.base + d) n) s.world)
   act_grows line (Some (Receiver d)) s = giving_grows as_pointer s d (gives s.this s.left)
@@ -264,18 +271,18 @@ module _ (p : PlainProgram) (c : Code) (next : Next World) (grows : (t : State W
   act_grows line (Some (Heed op first)) s =
       after_grows s.world (object_named s line first) (λ n k. invoking (slice_get c.heeding op.0) s next n first k (enters s.world)) (λ n k. invoking_grows s.world (slice_get c.heeding op.0) s n first k s.world (stays s.world))
   act_grows line (Some (Hand op first)) s =
-      after_grows s.world (object_named s line first) (λ n k. handed_call (slice_get c.ops op.0) s next n first k (handed_by p s.world (call_of c s op first n) k))
-      (λ n k. handed_grows s.world (slice_get c.ops op.0) s n first k (handed_by p s.world (call_of c s op first n) k) (handed_front p s.world (call_of c s op first n) k))
+      after_grows s.world (object_named s line first) (λ n k. handed_call (slice_get c.ops op.0) s next n first k (handed_by into p s.world (call_of c s op first n) k))
+      (λ n k. handed_grows s.world (slice_get c.ops op.0) s n first k (handed_by into p s.world (call_of c s op first n) k) (handed_front into p s.world (call_of c s op first n) k))
   act_grows line (Some (Begin n)) s = handing_grows line s n (slice_get c.loops s.at)
 
 -- ---- runs
 
-module _ (p : PlainProgram) (c : Code) where
-  runs_grow : (n : ℕ) (s : State World) → Grown s.world (runs (run_access p) c n s)
-  runs_grow zero s = tt
-  runs_grow (suc n) s = act_grows p c (runs (run_access p) c n) (runs_grow n) (line_in (slice_get c.lines s.at)) (slice_get c.items s.at) s
+module _ (into : Into) (p : PlainProgram) (c : Code) where
+  pub runs_grow : (n : ℕ) (s : State World) → Grown s.world (runs (run_into into p) c n s)
+  runs_grow zero s = stays s.world
+  runs_grow (suc n) s = act_grows into p c (runs (run_into into p) c n) (runs_grow n) (line_in (slice_get c.lines s.at)) (slice_get c.items s.at) s
 
-  pub end_grows : (s : State World) (o : Outcome World) → Ends (run_access p) c s o → Grown s.world o
+  pub end_grows : (s : State World) (o : Outcome World) → Ends (run_into into p) c s o → Grown s.world o
   end_grows s o ends = subst (λ o. Grown s.world o) (ends.by 0) (runs_grow (ends.count + suc 0) s)
 
 -- a state that is come to ends as that does which it comes from
@@ -294,73 +301,73 @@ out_front w (stops t x) g = g
 out_front w (runs_out x) g = g
 
 -- a run that begins with one instruction
-begins_with : (p : PlainProgram) (c : Code) (s : State World) (o : Outcome World) (w : World) → Ends (run_access p) c s o → ((next : Next World) → ((t : State World) → Grown t.world (next t)) → Grown w (act (run_access p) c (line_in (slice_get c.lines s.at)) (slice_get c.items s.at) next s)) → Grown w o
-begins_with p c s o w ends h =
+begins_with : (into : Into) (p : PlainProgram) (c : Code) (s : State World) (o : Outcome World) (w : World) → Ends (run_into into p) c s o → ((next : Next World) → ((t : State World) → Grown t.world (next t)) → Grown w (act (run_into into p) c (line_in (slice_get c.lines s.at)) (slice_get c.items s.at) next s)) → Grown w o
+begins_with into p c s o w ends h =
     let e : ends.count + suc 0 ≡ suc ends.count = omega arith in
-    subst (λ o. Grown w o) (sym (ap (λ n. runs (run_access p) c n s) e) ∙ ends.by 0) (h (runs (run_access p) c ends.count) (runs_grow p c ends.count))
+    subst (λ o. Grown w o) (sym (ap (λ n. runs (run_into into p) c n s) e) ∙ ends.by 0) (h (runs (run_into into p) c ends.count) (runs_grow into p c ends.count))
 
 -- code that heeds marks does what the run with marks does, and without marks the plain code does
 pub marked_ends : (p : PlainProgram) → ProgramTyped p → (marks : PlainMarks) → SoundMarks p marks → CallLoopsPutNothing → (code : Code) → IsLaidOut p code → HeedingLaidOut marks p code → (at : ℕ) → MainHeeds marks p code at → EndsNoted p marks code at
-marked_ends p typed marks sound puts code is heeding at main k =
-    subst (λ o. Ends (run_access p) code (beginning at k) (outcome_of o)) (lists_first p typed marks sound puts k) (main_heeds p code typed is.functions is.ops marks heeding at k main)
+marked_ends p typed marks sound puts code is heeding at main into k =
+    subst (λ o. Ends (run_into into p) code (beginning at k) (outcome_of o)) (lists_first p typed marks sound puts into k) (main_heeds into p code typed is.functions is.ops marks heeding at k main)
 
 pub plain_ends : (p : PlainProgram) → ProgramTyped p → (code : Code) → IsLaidOut p code → (at : ℕ) → MainLaidOut p code at → EndsNoted p no_marks code at
-plain_ends p typed code is at main k =
-    subst (λ o. Ends (run_access p) code (beginning at k) (outcome_of o)) (sym (none_all p Null p.main.statements (map start_of p.main.locals) (fresh []) k)) (main_runs p code typed is.functions is.ops at k main)
+plain_ends p typed code is at main into k =
+    subst (λ o. Ends (run_into into p) code (beginning at k) (outcome_of o)) (sym (none_all p Null p.main.statements (map start_of p.main.locals) (fresh []) k)) (main_runs into p code typed is.functions is.ops at k main)
 
-module _ (p : PlainProgram) (marks : PlainMarks) (code : Code) (at budget : ℕ) (heeds : EndsNoted p marks code at) where
-  whole : Ends (run_access p) code (beginning at budget) (outcome_of (noted_run p marks budget))
-  whole = heeds budget
+module _ (p : PlainProgram) (marks : PlainMarks) (code : Code) (at budget : ℕ) (heeds : EndsNoted p marks code at) (into : Into) where
+  whole : Ends (run_into into p) code (beginning at budget) (outcome_of (noted_run p marks budget))
+  whole = heeds into budget
 
   -- what was printed and noted up to a state that is come to
-  pub stands_in_front : (s : State World) → Comes (run_access p) code (beginning at budget) s → Front s.world (world_after (noted_run p marks budget))
+  pub stands_in_front : (s : State World) → Comes (run_into into p) code (beginning at budget) s → Front s.world (world_after (noted_run p marks budget))
   stands_in_front s comes =
       let o = noted_run p marks budget in
-      out_front s.world o (end_grows p code s (outcome_of o) (ends_after (run_access p) code (beginning at budget) s (outcome_of o) comes whole))
+      out_front s.world o (end_grows into p code s (outcome_of o) (ends_after (run_into into p) code (beginning at budget) s (outcome_of o) comes whole))
 
   -- and how it ends, with its notes
-  pub ends_noted : (s : State World) (o : Outcome World) → Comes (run_access p) code (beginning at budget) s → Ends (run_access p) code s o → o ≡ outcome_of (noted_run p marks budget)
-  ends_noted s o comes ends = one_end (run_access p) code (beginning at budget) o (outcome_of (noted_run p marks budget)) (joins_end (run_access p) code comes ends) whole
+  pub ends_noted : (s : State World) (o : Outcome World) → Comes (run_into into p) code (beginning at budget) s → Ends (run_into into p) code s o → o ≡ outcome_of (noted_run p marks budget)
+  ends_noted s o comes ends = one_end (run_into into p) code (beginning at budget) o (outcome_of (noted_run p marks budget)) (joins_end (run_into into p) code comes ends) whole
 
   -- as the serial run does
-  pub ends_serially : (s : State World) (o : Outcome World) → Comes (run_access p) code (beginning at budget) s → Ends (run_access p) code s o → serial p budget ≡ ended_as budget o
+  pub ends_serially : (s : State World) (o : Outcome World) → Comes (run_into into p) code (beginning at budget) s → Ends (run_into into p) code s o → serial p budget ≡ ended_as budget o
   ends_serially s o comes ends =
       sym (notes_change_nothing p marks budget) ∙ (sym (ended_is budget (noted_run p marks budget)) ∙ ap (ended_as budget) (sym (ends_noted s o comes ends)))
 
   -- a note that the machine is about to take stands behind those that it took
-  noted_next : (s : State World) (n : Note) → Comes (run_access p) code (beginning at budget) s → ((next : Next World) → ((t : State World) → Grown t.world (next t)) → Grown (noted s.world n) (act (run_access p) code (line_in (slice_get code.lines s.at)) (slice_get code.items s.at) next s)) → Front (noted s.world n) (world_after (noted_run p marks budget))
+  noted_next : (s : State World) (n : Note) → Comes (run_into into p) code (beginning at budget) s → ((next : Next World) → ((t : State World) → Grown t.world (next t)) → Grown (noted s.world n) (act (run_into into p) code (line_in (slice_get code.lines s.at)) (slice_get code.items s.at) next s)) → Front (noted s.world n) (world_after (noted_run p marks budget))
   noted_next s n comes h =
       let o = noted_run p marks budget in
-      let ends = ends_after (run_access p) code (beginning at budget) s (outcome_of o) comes whole in
-      out_front (noted s.world n) o (begins_with p code s (outcome_of o) (noted s.world n) ends h)
+      let ends = ends_after (run_into into p) code (beginning at budget) s (outcome_of o) comes whole in
+      out_front (noted s.world n) o (begins_with into p code s (outcome_of o) (noted s.world n) ends h)
 
   -- that of a call
-  pub call_noted : (s : State World) → Comes (run_access p) code (beginning at budget) s → (op : OpId) (first r : ℕ) → slice_get code.items s.at ≡ Some (Hand op first) → slot s as_pointer first ≡ Ref r → Front (noted s.world (note s.world.heap (call_of code s op first r ∷ []) s.left)) (world_after (noted_run p marks budget))
+  pub call_noted : (s : State World) → Comes (run_into into p) code (beginning at budget) s → (op : OpId) (first r : ℕ) → slice_get code.items s.at ≡ Some (Hand op first) → slot s as_pointer first ≡ Ref r → Front (noted s.world (note s.world.heap (call_of code s op first r ∷ []) s.left)) (world_after (noted_run p marks budget))
   call_noted s comes op first r stands names =
       let i = call_of code s op first r in
       let n = note s.world.heap (i ∷ []) s.left in
       noted_next s n comes
       (λ next grows.
       let line = line_in (slice_get code.lines s.at) in
-      let is : act (run_access p) code line (slice_get code.items s.at) next s ≡ handed_call (slice_get code.ops op.0) s next r first s.left (handed_by p s.world i s.left) =
-      ap (λ i. act (run_access p) code line i next s) stands
-      ∙ ap (λ v. after (pointed line v s.left) s.world (λ r k. handed_call (slice_get code.ops op.0) s next r first k (handed_by p s.world (call_of code s op first r) k))) names in
+      let is : act (run_into into p) code line (slice_get code.items s.at) next s ≡ handed_call (slice_get code.ops op.0) s next r first s.left (handed_by into p s.world i s.left) =
+      ap (λ i. act (run_into into p) code line i next s) stands
+      ∙ ap (λ v. after (pointed line v s.left) s.world (λ r k. handed_call (slice_get code.ops op.0) s next r first k (handed_by into p s.world (call_of code s op first r) k))) names in
       subst (λ o. Grown (noted s.world n) o) (sym is)
-      (handed_grows p code next grows (noted s.world n) (slice_get code.ops op.0) s r first s.left (handed_by p s.world i s.left) (noted_front p s.world [] (i ∷ []) s.left)))
+      (handed_grows into p code next grows (noted s.world n) (slice_get code.ops op.0) s r first s.left (handed_by into p s.world i s.left) (noted_front into p s.world [] (i ∷ []) s.left)))
 
   -- that of a loop whose section is done
-  pub loop_noted : (s : State World) → Comes (run_access p) code (beginning at budget) s → (n line : ℕ) (h : Handed) (m : LoopOutcome) → slice_get code.items s.at ≡ Some (Begin n) → slice_get code.lines s.at ≡ Some line → slice_get code.loops s.at ≡ Some (Some h) → puts_nothing h.loop ≡ true → loop_section p s.world.heap s.this (row s.slots s.base h.locals) line h.loop s.left ≡ loop_done m → Front (noted s.world (note s.world.heap m.listed (s.left - m.steps))) (world_after (noted_run p marks budget))
+  pub loop_noted : (s : State World) → Comes (run_into into p) code (beginning at budget) s → (n line : ℕ) (h : Handed) (m : LoopOutcome) → slice_get code.items s.at ≡ Some (Begin n) → slice_get code.lines s.at ≡ Some line → slice_get code.loops s.at ≡ Some (Some h) → puts_nothing h.loop ≡ true → loop_section p s.world.heap s.this (row s.slots s.base h.locals) line h.loop s.left ≡ loop_done m → Front (noted s.world (note s.world.heap m.listed (s.left - m.steps))) (world_after (noted_run p marks budget))
   loop_noted s comes n line h m stands on_line is put done =
       let x = note s.world.heap m.listed (s.left - m.steps) in
       let ls = row s.slots s.base h.locals in
-      let given = behind_or m.locals (with_list s.world s.left m) (serial_ops p m.listed (with_list s.world s.left m) (s.left - m.steps)) in
+      let given = begun_with into p s.world s.left (loop_done m) in
       noted_next s x comes
       (λ next grows.
-      let does : act (run_access p) code (line_in (slice_get code.lines s.at)) (slice_get code.items s.at) next s ≡ beginning_by h.locals s next n given =
-      ap (λ l. act (run_access p) code (line_in l) (slice_get code.items s.at) next s) on_line
-      ∙ (ap (λ i. act (run_access p) code line i next s) stands
-      ∙ (ap (λ o. handing (run_access p) line s next n o) is
-      ∙ (ap (λ b. beginning_by h.locals s next n (either b (begun_with p s.world s.left (loop_section p s.world.heap s.this ls line h.loop s.left)) (plainly s.world))) put
-      ∙ ap (λ o. beginning_by h.locals s next n (begun_with p s.world s.left o)) done))) in
+      let does : act (run_into into p) code (line_in (slice_get code.lines s.at)) (slice_get code.items s.at) next s ≡ beginning_by h.locals s next n given =
+      ap (λ l. act (run_into into p) code (line_in l) (slice_get code.items s.at) next s) on_line
+      ∙ (ap (λ i. act (run_into into p) code line i next s) stands
+      ∙ (ap (λ o. handing (run_into into p) line s next n o) is
+      ∙ (ap (λ b. beginning_by h.locals s next n (either b (begun_with into p s.world s.left (loop_section p s.world.heap s.this ls line h.loop s.left)) (plainly s.world))) put
+      ∙ ap (λ o. beginning_by h.locals s next n (begun_with into p s.world s.left o)) done))) in
       subst (λ o. Grown (noted s.world x) o) (sym does)
-      (beginning_grows p code next grows (noted s.world x) h.locals s n given (noted_front p s.world m.locals m.listed (s.left - m.steps))))
+      (beginning_grows into p code next grows (noted s.world x) h.locals s n given (noted_front into p s.world m.locals m.listed (s.left - m.steps))))

@@ -26,7 +26,7 @@ use Rattle.ca_program.specs.Instructions.{Constant, Receiver, Move, Own, OwnItem
 use Rattle.ca_program.specs.Layout.{no_acts, all_acts, no_hands, expression_code, statement_code, function_code, operation_code, main_code}
 use Rattle.ca_code_laws.specs.Heeding.{begin_at, heed_acts, heed_hands, heeding_code, main_heeding}
 use Rattle.ca_code_laws.specs.Machine.{Outcome, Finished, Trapped, Spent, runs}
-use Rattle.ca_code_laws.specs.Runs.{run_access, section_access, beginning, outcome_of, ended_as}
+use Rattle.ca_code_laws.specs.Runs.{never, run_access, run_into, section_access, beginning, outcome_of, ended_as}
 
 abbrev class_a : ClassId
 class_a = record { 0 = 0 }
@@ -262,9 +262,14 @@ one_note : runs (run_access whole) (code loop_marked whole) 100 (beginning (at_h
 unfolding int_wrap
 one_note = refl
 
-as_it_lists_first : runs (run_access whole) (code loop_marked whole) 100 (beginning (at_heeding whole + length (heeding_code loop_marked whole adds)) 6) ≡ outcome_of (listing_run whole loop_marked 6)
+as_it_lists_first : runs (run_access whole) (code loop_marked whole) 100 (beginning (at_heeding whole + length (heeding_code loop_marked whole adds)) 6) ≡ outcome_of (listing_run never whole loop_marked 6)
 unfolding int_wrap
 as_it_lists_first = refl
+
+-- gone into it is noted all the same, and its code runs to the same end
+gone_into : runs (run_into (λ n. true) whole) (code loop_marked whole) 100 (beginning (at_heeding whole + length (heeding_code loop_marked whole adds)) 6) ≡ runs (run_access whole) (code loop_marked whole) 100 (beginning (at_heeding whole + length (heeding_code loop_marked whole adds)) 6)
+unfolding int_wrap
+gone_into = refl
 
 -- ---- a section
 

@@ -2,9 +2,13 @@ pub mod Steps
 pub mod Words
 pub mod Quiet
 pub mod Typed
+pub mod Instead
+pub mod Evaluated
 pub mod Values
+pub mod Executed
 pub mod Statements
 pub mod Methods
+pub mod Acted
 pub mod Acts
 pub mod Operations
 pub mod Loops
@@ -13,11 +17,12 @@ pub mod Listed
 pub mod Heeding
 pub mod OneEnd
 pub mod Grown
+pub mod Unnoted
 pub mod Examples
 pub mod LayoutExamples
-pub mod FitSteps
 pub mod FitValues
 pub mod FitStatements
 pub mod FitMethods
 pub mod FitSections
 pub mod FitEnd
+pub mod TypedFit

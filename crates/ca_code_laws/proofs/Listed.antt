@@ -1,5 +1,5 @@
 -- The run that lists the calls of marked loops first keeps types.
-use Rattle.std.proofs.Common.{◌≡◌, ℕ, zero, suc, ◌-◌, List, [], ◌∷◌, Bool, true, false, Option, Some, None, refl}
+use Rattle.std.proofs.Common.{◌≡◌, ℕ, zero, suc, ◌-◌, List, [], ◌∷◌, length, Bool, true, false, Option, Some, None, refl}
 use Rattle.std.specs.Prelude.{slice_get}
 use Rattle.ca_program.specs.Plain.{PlainProgram, PlainMethod, Statement}
 use Rattle.ca_model.specs.declared.value.Value.{Value as Datum}
@@ -47,9 +47,9 @@ module _ (p : PlainProgram) (typed : ProgramTyped p) where
       by (stops z x) f = tt
       by (runs_out x) f = tt
 
-  module _ (marks : PlainMarks) where
+  module _ (marks : PlainMarks) (into : ℕ → Bool) where
     -- a loop that is handed on
-    loop_typed : (s : Scope) (r : Datum) (h : List Object) (line : ℕ) (ls : List Datum) (w : World) (y : Statement) (k : ℕ) (plain : Flow World) → WorldTyped p s r w → Extends h w.heap → ValuesTyped w.heap ls s.locals → StatementTyped p s y → WorldFlow p s r h plain → WorldFlow p s r h (listing_loop p marks r line ls w y k plain)
+    loop_typed : (s : Scope) (r : Datum) (h : List Object) (line : ℕ) (ls : List Datum) (w : World) (y : Statement) (k : ℕ) (plain : Flow World) → WorldTyped p s r w → Extends h w.heap → ValuesTyped w.heap ls s.locals → StatementTyped p s y → WorldFlow p s r h plain → WorldFlow p s r h (listing_loop into p marks r line ls w y k plain)
     loop_typed s r h line ls w y k plain good ext v t flow =
         either_typed p s r h (loop_in marks.loops y) _ plain
         (either_typed p s r h (puts_nothing y) _ _ (by (loop_section p w.heap r ls line y k) (loop_leaves w.heap good.heap s r good.receiver y t line ls k v)) (serially w good ext v))
@@ -65,10 +65,11 @@ module _ (p : PlainProgram) (typed : ProgramTyped p) where
         by_list new plain (stops z x) of_types flow kept = flow
         by_list new plain (runs_out x) of_types flow kept = flow
 
-        by : (o : LoopSectioned) → LeavesTyped p w.heap s o → WorldFlow p s r h (by_section p r line ls w y k o)
+        by : (o : LoopSectioned) → LeavesTyped p w.heap s o → WorldFlow p s r h (by_section into p r line ls w y k o)
         by (loop_done m) leaves =
             let x = with_list w k m in
-            by_list m.locals _ _ leaves.0 (serially x (record { heap = good.heap; receiver = good.receiver }) ext v) (serial_ops_keep p typed m.listed x (k - m.steps) good.heap leaves.1)
+            either_typed p s r h (into (length w.notes)) _ _ (serially x (record { heap = good.heap; receiver = good.receiver }) ext v)
+            (by_list m.locals _ _ leaves.0 (serially x (record { heap = good.heap; receiver = good.receiver }) ext v) (serial_ops_keep p typed m.listed x (k - m.steps) good.heap leaves.1))
         by (loop_stopped z) leaves = serially w good ext v
         by loop_over leaves = serially w good ext v
 
@@ -79,7 +80,7 @@ module _ (p : PlainProgram) (typed : ProgramTyped p) where
         (run_typed p (operations_of p) (all_operations_typed p typed) s r h ls i x k (record { heap = good.heap; receiver = good.receiver }) ext v well)
         (run_typed p o all s r h ls i w k good ext v well)
 
-    pub listing_parts_typed : (o : Operations) → OperationsTyped p o → (s : Scope) (r : Datum) → PartsTyped heap_of (WorldTyped p s r) p s (listing_parts p marks o r)
+    pub listing_parts_typed : (o : Operations) → OperationsTyped p o → (s : Scope) (r : Datum) → PartsTyped heap_of (WorldTyped p s r) p s (listing_parts into p marks o r)
     listing_parts_typed o all s r =
         let plain = parts_typed p typed o all s r in
         record {
@@ -93,28 +94,28 @@ module _ (p : PlainProgram) (typed : ProgramTyped p) where
           begins = λ h line ls w y k a good ext v t flow. loop_typed s r h line ls w y k a good ext v t flow;
         }
 
-    body_typed : (o : Operations) → OperationsTyped p o → (n r : ℕ) (vs : List Datum) (w : World) (k : ℕ) → TypedHeap p w.heap → (m : Option PlainMethod) → slice_get p.ops n ≡ m → CallTyped w.heap m r vs → KeepsHeap p w.heap (exec_all (listing_parts p marks o (Ref r)) (locals_of m vs) w (body_of m) k)
+    body_typed : (o : Operations) → OperationsTyped p o → (n r : ℕ) (vs : List Datum) (w : World) (k : ℕ) → TypedHeap p w.heap → (m : Option PlainMethod) → slice_get p.ops n ≡ m → CallTyped w.heap m r vs → KeepsHeap p w.heap (exec_all (listing_parts into p marks o (Ref r)) (locals_of m vs) w (body_of m) k)
     body_typed o all n r vs w k heap None e call = absurd call
     body_typed o all n r vs w k heap (Some m) e call =
         let mt = typed.ops n m e in
         kept p typed (scope_of m) (Ref r) w.heap _
-        (all_exec_typed heap_of (WorldTyped p (scope_of m) (Ref r)) p (scope_of m) (listing_parts p marks o (Ref r)) (listing_parts_typed o all (scope_of m) (Ref r)) w.heap m.body.statements mt.method.body _ w k
+        (all_exec_typed heap_of (WorldTyped p (scope_of m) (Ref r)) p (scope_of m) (listing_parts into p marks o (Ref r)) (listing_parts_typed o all (scope_of m) (Ref r)) w.heap m.body.statements mt.method.body _ w k
         (record { heap = heap; receiver = call.0 }) (extends_self w.heap) (frame_typed w.heap vs m.params m.body.locals call.1))
 
-    operations_typed : (n : ℕ) → OperationsTyped p (listing_operations n p marks)
+    operations_typed : (n : ℕ) → OperationsTyped p (listing_operations into n p marks)
     operations_typed zero = record {
       invokes = λ i w k heap well. runs_out_kept w heap (extends_self w.heap);
       agains = λ s r h line ls w x k good ext v t. runs_out_typed w good ext;
     }
     operations_typed (suc n) =
-        let all : OperationsTyped p (listing_operations n p marks) = operations_typed n in
+        let all : OperationsTyped p (listing_operations into n p marks) = operations_typed n in
         record {
-          invokes = λ i w k heap well. body_typed (listing_operations n p marks) all i.op.0 i.receiver i.arguments w k heap (slice_get p.ops i.op.0) refl well;
+          invokes = λ i w k heap well. body_typed (listing_operations into n p marks) all i.op.0 i.receiver i.arguments w k heap (slice_get p.ops i.op.0) refl well;
           agains = λ s r h line ls w x k good ext v t.
-              turn_typed heap_of (WorldTyped p s r) p s (listing_parts p marks (listing_operations n p marks) r) (listing_parts_typed (listing_operations n p marks) all s r) h x t line ls w k good ext v;
+              turn_typed heap_of (WorldTyped p s r) p s (listing_parts into p marks (listing_operations into n p marks) r) (listing_parts_typed (listing_operations into n p marks) all s r) h x t line ls w k good ext v;
         }
 
-    pub listing_typed : OperationsTyped p (listing_of p marks)
+    pub listing_typed : OperationsTyped p (listing_of into p marks)
     listing_typed = record {
       invokes = λ i w k heap well. (operations_typed (suc k)).invokes i w k heap well;
       agains = λ s r h line ls w x k good ext v t. (operations_typed (suc k)).agains s r h line ls w x k good ext v t;

@@ -25,11 +25,13 @@ use Rattle.ca_program.specs.Instructions.{Return, Code, Placed, on, IsAt, HasAt,
 use Rattle.ca_program.specs.Layout.{stands, expression_code, operand_code, no_acts, no_hands, statements_code, starts_code, others_of, width_of, function_code, FunctionsLaidOut, kinds_of}
 use Rattle.ca_code_laws.specs.Machine.{Store, store, Back, Accesses, State, Trapped, Spent, moved, returning, Comes, Ends}
 use Rattle.ca_code_laws.specs.Told.{Below, Holds, Returned}
-use Rattle.ca_code_laws.proofs.Steps.{stored_here, stored_there, has_front, has_back, joins, joins_end, steps, rests, Reaches, Flows, length_mapped}
-use Rattle.ca_code_laws.proofs.Values.{Valued, Stood, CallsRun, expression_runs, operand_runs}
+use Rattle.ca_code_laws.proofs.Steps.{stored_here, stored_there, has_front, has_back, joins, joins_end, steps, rests, Reaches, Flows, length_mapped, none_is}
+use Rattle.ca_code_laws.proofs.Values.{CallsRun, expression_runs, operand_runs}
+use Rattle.ca_code_laws.proofs.Evaluated.{Valued, Stood}
 use Rattle.ca_code_laws.proofs.Typed.{width_is, arguments_counted}
 use Rattle.ca_code_laws.proofs.Quiet.{each_may, all_may}
-use Rattle.ca_code_laws.proofs.Statements.{LocalsAt, body_of_loop, tail_of_loop, IsLoop, acted, PartsRun, statements_run, loop_runs}
+use Rattle.ca_code_laws.proofs.Statements.{PartsRun, statements_run, loop_runs}
+use Rattle.ca_code_laws.proofs.Executed.{LocalsAt, body_of_loop, tail_of_loop, IsLoop, acted}
 
 append_nil : (xs : List Datum) → xs ++ [] ≡ xs
 append_nil [] = refl
@@ -69,9 +71,6 @@ zero_read : (ty : ValueType) → read_as (kind_type ty) (pos 0) ≡ start_of ty
 zero_read LongType = refl
 zero_read BoolType = refl
 zero_read (Pointer c) = refl
-
-none_is : {cx : List Placed} → None ≡ Some cx → ⊥
-none_is e = cc
 
 module _ {S : Type 0} (acc : Accesses S) (code : Code) where
   -- the locals that are no parameters

@@ -20,7 +20,7 @@ use Rattle.ca_meaning.specs.WellTyped.{WellTyped, IsMethodOf, IsTypedObject}
 use Rattle.ca_meaning.specs.ProgramTyped.{ProgramTyped}
 use Rattle.ca_parallel.specs.Separable.{Separable}
 use Rattle.ca_code_laws.specs.Machine.{Store, Accesses, State, Outcome, runs, Comes, Ends}
-use Rattle.ca_code_laws.specs.Runs.{section_access, section_outcome, sectioned_as, run_access, beginning, outcome_of, ended_as}
+use Rattle.ca_code_laws.specs.Runs.{never, section_access, section_outcome, sectioned_as, run_access, beginning, outcome_of, ended_as}
 use Rattle.ca_code_laws.specs.Told.{Holds, IsLaidOut}
 use Rattle.ca_code_laws.proofs.Sections.{section_runs}
 use Rattle.ca_code_laws.proofs.Steps.{joins_end}
@@ -40,13 +40,13 @@ ended_is budget (runs_out w) = refl
 -- whoever comes from the beginning to a state that ends knows how the serial run ends
 pub whoever_ends : (p : PlainProgram) → ProgramTyped p → (code : Code) → IsLaidOut p code → (at budget : ℕ) → MainLaidOut p code at → (s : State World) (o : Outcome World) → Comes (run_access p) code (beginning at budget) s → Ends (run_access p) code s o → serial p budget ≡ ended_as budget o
 whoever_ends p typed code is at budget main s o comes ends =
-    let same = one_end (run_access p) code (beginning at budget) (outcome_of (main_run p budget)) o (main_runs p code typed is.functions is.ops at budget main) (joins_end (run_access p) code comes ends) in
+    let same = one_end (run_access p) code (beginning at budget) (outcome_of (main_run p budget)) o (main_runs never p code typed is.functions is.ops at budget main) (joins_end (run_access p) code comes ends) in
     sym (ended_is budget (main_run p budget)) ∙ ap (ended_as budget) same
 
 -- whoever runs the body of a call with none below to its end knows the call
 pub call_known : (p : PlainProgram) → ProgramTyped p → (code : Code) → IsLaidOut p code → (i : Invocation) (x : World) → TypedHeap p x.heap → WellTyped p x.heap i → (start base k : ℕ) (f : Store) → slice_get code.ops i.op.0 ≡ Some start → Holds (λ j. param_kind (slice_get p.ops i.op.0) j) f base i.arguments → (o : Outcome World) → Ends (run_access p) code (record { at = start; base = base; left = k; this = Ref i.receiver; below = []; slots = f; world = x }) o → o ≡ outcome_of ((operations_of p).invoke i x k)
 call_known p typed code is i x heap well start base k f place holds o ends =
-    one_end (run_access p) code (record { at = start; base = base; left = k; this = Ref i.receiver; below = []; slots = f; world = x }) o (outcome_of ((operations_of p).invoke i x k)) ends (calls_end p code typed is.functions is.ops i x start base k f place heap well holds)
+    one_end (run_access p) code (record { at = start; base = base; left = k; this = Ref i.receiver; below = []; slots = f; world = x }) o (outcome_of ((operations_of p).invoke i x k)) ends (calls_end never p code typed is.functions is.ops i x start base k f place heap well holds)
 
 pub sectioned_is : (c : ClassId) (budget : ℕ) (o : Flow Section) → sectioned_as c budget (section_outcome o) ≡ sectioned c budget o
 sectioned_is c budget (goes_on ls s k) = refl

@@ -1,12 +1,12 @@
 -- Sections do what they mean: the same instructions, with another access.
-use Rattle.std.proofs.Common.{◌≡◌, ℕ, zero, suc, ◌+◌, ◌<◌, ◌≤◌, List, [], ◌∷◌, ◌++◌, length, Some, None, refl, sym, ap, ◌∙◌, subst, arith, length-append, map, Option, take}
+use Rattle.std.proofs.Common.{◌≡◌, ℕ, zero, suc, ◌+◌, ◌<◌, ◌≤◌, List, [], ◌∷◌, ◌++◌, length, Some, None, refl, sym, ap, ◌∙◌, subst, arith, length-append, map, Option, take, ◌⊎◌, ⊎_elim, inl, inr}
 use Rattle.std.specs.Prelude.{true, false, cond, slice_get}
 use Rattle.ca_program.specs.declared.program.ClassId.{ClassId}
 use Rattle.ca_program.specs.declared.program.FieldId.{FieldId}
 use Rattle.ca_program.specs.declared.program.OpId.{OpId}
 use Rattle.ca_program.specs.declared.program.ValueType.{ValueType}
 use Rattle.ca_program.specs.Plain.{PlainProgram, Statement, put_field, put_item, new_local, new_field, new_item, invoke, print_value, PlainMethod}
-use Rattle.ca_program.specs.Kinds.{Kind, as_pointer, kind_type, kind_at, param_kind, param_kinds, kinds_in}
+use Rattle.ca_program.specs.Kinds.{Kind, Kinds, as_pointer, kind_type, kind_at, param_kind, param_kinds, kinds_in}
 use Rattle.ca_program.specs.Instructions.{Return, Leave, Invoke, Code, Placed, on, IsAt, HasAt, StandsAt}
 use Rattle.ca_program.specs.Layout.{all_acts, no_hands, statement_code, statements_code, starts_code, others_of, width_of, operation_code, FunctionsLaidOut, kinds_of, OperationsLaidOut}
 use Rattle.ca_model.specs.declared.value.Value.{Value as Datum}
@@ -34,13 +34,15 @@ use Rattle.ca_code_laws.specs.Words.{read_as}
 use Rattle.ca_code_laws.specs.Machine.{Store, State, Finished, Trapped, Spent, Next, after, row, act, Ends, kinds_there}
 use Rattle.ca_code_laws.specs.Runs.{section_access, section_outcome}
 use Rattle.ca_code_laws.specs.Told.{Passed, Holds}
-use Rattle.ca_code_laws.proofs.Steps.{has_front, has_back, Within, joins_end, steps, steps_end, Flows, length_mapped}
+use Rattle.ca_code_laws.proofs.Steps.{has_front, has_back, Within, joins_end, steps, steps_end, Flows, length_mapped, none_is}
 use Rattle.ca_code_laws.proofs.Values.{CallsRun, expression_runs, operand_runs}
 use Rattle.ca_code_laws.proofs.Typed.{width_is, values_counted, arguments_counted, Sound}
 use Rattle.ca_code_laws.proofs.Quiet.{May, MayAll, separable_quiet}
-use Rattle.ca_code_laws.proofs.Statements.{LocalsAt, body_of_loop, tail_of_loop, IsLoop, IsAct, acted, PartsRun, statement_runs, statements_run, loop_runs}
+use Rattle.ca_code_laws.proofs.Statements.{PartsRun, statement_runs, statements_run, loop_runs}
+use Rattle.ca_code_laws.proofs.Executed.{LocalsAt, body_of_loop, tail_of_loop, IsLoop, IsAct, acted}
 use Rattle.ca_code_laws.proofs.Methods.{begun, methods_run, other_kinds}
 use Rattle.ca_code_laws.proofs.Acts.{Hands, acts_run, invokes}
+use Rattle.ca_code_laws.proofs.Instead.{Otherwise, nothing_else, only, Does}
 
 -- a row of slots
 pub row_is : (κs : ℕ → Kind) (kinds : List Kind) (vs : List Datum) (f : Store) (first : ℕ) → length vs ≡ length kinds → ((i : ℕ) (κ : Kind) → slice_get kinds i ≡ Some κ → κs i ≡ κ) → Holds κs f first vs → row f first kinds ≡ vs
@@ -81,8 +83,47 @@ arguments_are p code laid h op class tys vs f first is_op of_types holds = by (s
         let many : length vs ≡ length (param_kinds m) = values_counted h vs tys of_types ∙ sym (ap length t.1) ∙ sym (length_mapped kind_type (take m.params m.body.locals)) in
         ap (λ y. row f first (kinds_there y)) (laid op.0 m e).1 ∙ row_is (λ i. kind_at (slice_get m.body.locals i)) (param_kinds m) vs f first many (λ i κ e. kind_mapped m.body.locals m.params i κ e) holds
 
-none_is : {cx : List Placed} → None ≡ Some cx → ⊥
-none_is e = cc
+module _ (code : Code) (h : List Object) (alt : Otherwise (section_access h) code) (κ : Kind) (me : Datum) (base : ℕ) where
+  abbrev here : (at k : ℕ) → Store → Section → State Section
+  here at k f x = record { at = at; base = base; left = k; this = me; below = []; slots = f; world = x }
+
+  -- a call of an operation is listed
+  pub lists_call : (ks : Kinds) (top line : ℕ) (op : OpId) (ls vs : List Datum) (v : Datum) (x : Section) (at k : ℕ) (f : Store) → IsAt code at (on line (Invoke op top)) → read_as as_pointer (f (base + top)) ≡ v → row f (base + (top + 1)) (kinds_there (slice_get code.params op.0)) ≡ vs → LocalsAt ks base top ls f → Does (section_access h) code alt (λ (s : Section). s) κ (here at k f x) 1 (LocalsAt ks base top) (with (pointed line v k >>= λ r k. gives (invocation r op vs) k) x (λ i k. goes_on ls (with_listed x i) k))
+  lists_call ks top line op ls vs v x at k f hi is values locals = by v is
+    where
+      call : Placed
+      call = on line (Invoke op top)
+
+      does : (v : Datum) → read_as as_pointer (f (base + top)) ≡ v → (next : Next Section) → act (section_access h) code line (Some call.instruction) next (here at k f x) ≡ after (pointed line v k) x (λ r k. next (here (at + 1) k f (with_listed x (invocation r op vs))))
+      does v is next = ap (λ y. after (pointed line y k) x (λ r k. next (here (at + 1) k f (with_listed x (invocation r op (row f (base + (top + 1)) (kinds_there (slice_get code.params op.0)))))))) is ∙ ap (λ y. after (pointed line v k) x (λ r k. next (here (at + 1) k f (with_listed x (invocation r op y))))) values
+
+      by : (v : Datum) → read_as as_pointer (f (base + top)) ≡ v → Does (section_access h) code alt (λ (s : Section). s) κ (here at k f x) 1 (LocalsAt ks base top) (with (pointed line v k >>= λ r k. gives (invocation r op vs) k) x (λ i k. goes_on ls (with_listed x i) k))
+      by (Ref r) is = inr (f, steps (section_access h) code (here at k f x) (here (at + 1) k f (with_listed x (invocation r op vs))) call hi (does (Ref r) is), locals, (λ j lt. refl), omega arith)
+      by (Long y) is = inr (steps_end (section_access h) code (here at k f x) (Trapped (trap_at line NullPointer) x) call hi (does (Long y) is))
+      by (Truth y) is = inr (steps_end (section_access h) code (here at k f x) (Trapped (trap_at line NullPointer) x) call hi (does (Truth y) is))
+      by Null is = inr (steps_end (section_access h) code (here at k f x) (Trapped (trap_at line NullPointer) x) call hi (does Null is))
+
+  -- what a section does before it leaves is how it ends
+  ends : (at k : ℕ) (f : Store) (x0 : Section) (l : ℕ) (Q : List Datum → Store → Type 0) → IsAt code (at + l) (on 0 Leave) → (o : Flow Section) → Does (section_access h) code alt (λ (s : Section). s) κ (here at k f x0) l Q o → alt.there (here at k f x0) ⊎ Ends (section_access h) code (here at k f x0) (section_outcome o)
+  ends at k f x0 l Q hl o (inl t) = inl t
+  ends at k f x0 l Q hl (goes_on ls x j) (inr t) = inr (joins_end (section_access h) code t.1 (steps_end (section_access h) code (here (at + l) j t.0 x) (Finished x j) (on 0 Leave) hl (λ next. refl)))
+  ends at k f x0 l Q hl (gives_back v x j) (inr t) = inr (joins_end (section_access h) code t.4 (steps_end (section_access h) code (here t.1 j t.0 x) (Spent x) (on t.3 (Return t.2)) t.5 (λ next. refl)))
+  ends at k f x0 l Q hl (stops y x) (inr t) = inr t
+  ends at k f x0 l Q hl (runs_out x) (inr t) = inr t
+
+  -- the body of an operation: the other locals begin, and then the statements
+  pub body_ends : (p : PlainProgram) (m : PlainMethod) (vs : List Datum) (at k : ℕ) (f : Store) (x : Section) → HasAt code at (operation_code p m) → m.params ≡ length vs → Holds (kinds_of p m).locals f base vs → (o : Flow Section)
+      → ((at : ℕ) (f : Store) → HasAt code at (statements_code (kinds_of p m) (all_acts (kinds_of p m)) no_hands m.body.statements (width_of m)) → length (vs ++ map start_of (others_of m)) ≡ width_of m → Holds (kinds_of p m).locals f base (vs ++ map start_of (others_of m)) → Does (section_access h) code alt (λ (s : Section). s) κ (here at k f x) (length (statements_code (kinds_of p m) (all_acts (kinds_of p m)) no_hands m.body.statements (width_of m))) (LocalsAt (kinds_of p m) base (width_of m)) o)
+      → alt.there (here at k f x) ⊎ Ends (section_access h) code (here at k f x) (section_outcome o)
+  body_ends p m vs at k f x hc params holds o does =
+      let first = starts_code m.params (others_of m) in
+      let body = statements_code (kinds_of p m) (all_acts (kinds_of p m)) no_hands m.body.statements (width_of m) in
+      let g = begun (section_access h) code (kinds_of p m).locals m.params (others_of m) (here at k f x) vs (sym params) (other_kinds p m) (has_front code at first (body ++ on 0 Leave ∷ []) hc) holds in
+      let len : length (vs ++ map start_of (others_of m)) ≡ width_of m = omega (arith, length-append vs (map start_of (others_of m)), length_mapped start_of (others_of m), params) in
+      let hb = has_back code at first (body ++ on 0 Leave ∷ []) hc in
+      let behind = here (at + length first) k g.0 x in
+      ⊎_elim (λ e. inl (alt.back (here at k f x) behind g.1 e)) (λ e. inr (joins_end (section_access h) code g.1 e))
+      (ends (at + length first) k g.0 x (length body) (LocalsAt (kinds_of p m) base (width_of m)) (has_back code (at + length first) body (on 0 Leave ∷ []) hb).0 o (does (at + length first) g.0 (has_front code (at + length first) body (on 0 Leave ∷ []) hb) len g.2))
 
 module _ (p : PlainProgram) (code : Code) (typed : ProgramTyped p) (laid : FunctionsLaidOut p code) (ops_laid : OperationsLaidOut p code) (h : List Object) (typed_heap : TypedHeap p h) where
   values_run : (n : ℕ) (sc : Scope) (x : Section) → SectionTyped p h sc x → CallsRun (section_access h) code p laid x (functions_of p.functions h).call n
@@ -101,25 +142,8 @@ module _ (p : PlainProgram) (code : Code) (typed : ProgramTyped p) (laid : Funct
   there me base at k f x = record { at = at; base = base; left = k; this = me; below = []; slots = f; world = x }
 
   hands : (n : ℕ) (sc : Scope) (me : Datum) (receiver : IsReceiver h sc.class me) (base top : ℕ) (wide : length sc.locals ≡ top) → Hands (section_access h) code p laid sc (SectionTyped p h sc) me [] base n top wide room_within (values_run n sc) (value_calls sc) (places sc me receiver) Invoke (λ ls i x k. goes_on ls (with_listed x i) k)
-  hands n sc me receiver base top wide line op class tys ls vs v x at k f hi is_op of_class of_types is holds len good left locals = by v is
-    where
-      here : State Section
-      here = there me base at k f x
-
-      call : Placed
-      call = on line (Invoke op top)
-
-      values : row f (base + (top + 1)) (kinds_there (slice_get code.params op.0)) ≡ vs
-      values = arguments_are p code ops_laid h op class tys vs f (base + (top + 1)) is_op of_types holds
-
-      does : (v : Datum) → read_as as_pointer (f (base + top)) ≡ v → (next : Next Section) → act (section_access h) code line (Some call.instruction) next here ≡ after (pointed line v k) x (λ r k. next (there me base (at + 1) k f (with_listed x (invocation r op vs))))
-      does v is next = ap (λ y. after (pointed line y k) x (λ r k. next (there me base (at + 1) k f (with_listed x (invocation r op (row f (base + (top + 1)) (kinds_there (slice_get code.params op.0)))))))) is ∙ ap (λ y. after (pointed line v k) x (λ r k. next (there me base (at + 1) k f (with_listed x (invocation r op y))))) values
-
-      by : (v : Datum) → read_as as_pointer (f (base + top)) ≡ v → Flows (section_access h) code (λ (s : Section). s) (kind_at sc.result) here 1 (LocalsAt (kinds_in p sc.locals) base top) (with (pointed line v k >>= λ r k. gives (invocation r op vs) k) x (λ i k. goes_on ls (with_listed x i) k))
-      by (Ref r) is = (f, steps (section_access h) code here (there me base (at + 1) k f (with_listed x (invocation r op vs))) call hi (does (Ref r) is), (locals, len), (λ j lt. refl), omega arith)
-      by (Long y) is = steps_end (section_access h) code here (Trapped (trap_at line NullPointer) x) call hi (does (Long y) is)
-      by (Truth y) is = steps_end (section_access h) code here (Trapped (trap_at line NullPointer) x) call hi (does (Truth y) is)
-      by Null is = steps_end (section_access h) code here (Trapped (trap_at line NullPointer) x) call hi (does Null is)
+  hands n sc me receiver base top wide line op class tys ls vs v x at k f hi is_op of_class of_types is holds len good left locals =
+      only (lists_call code h (nothing_else (section_access h) code) (kind_at sc.result) me base (kinds_in p sc.locals) top line op ls vs v x at k f hi is (arguments_are p code ops_laid h op class tys vs f (base + (top + 1)) is_op of_types holds) (locals, len))
 
   abbrev AgainsRun : ℕ → Type 0
   AgainsRun n =
@@ -166,22 +190,10 @@ module _ (p : PlainProgram) (code : Code) (typed : ProgramTyped p) (laid : Funct
   body_runs n m found may r vs own call own_typed at base k f hc holds =
       let mt = typed.ops n m found in
       let x = section_start own in
-      let params : m.params ≡ length vs = arguments_counted h m vs mt.method.parameters call.1 in
-      let first = starts_code m.params (others_of m) in
-      let body = statements_code (kinds_of p m) (all_acts (kinds_of p m)) no_hands m.body.statements (width_of m) in
-      let g = begun (section_access h) code (kinds_of p m).locals m.params (others_of m) (there (Ref r) base at k f x) vs (sym params) (other_kinds p m) (has_front code at first (body ++ on 0 Leave ∷ []) hc) holds in
       let ls = vs ++ map start_of (others_of m) in
-      let len : length ls ≡ width_of m = omega (arith, length-append vs (map start_of (others_of m)), length_mapped start_of (others_of m), params) in
-      let hb = has_back code at first (body ++ on 0 Leave ∷ []) hc in
       let good : SectionTyped p h (scope_of m) x = record { own = own_typed; listed = tt } in
-      let flows = statements_run (section_access h) code p false (λ (s : Section). s) (all_acts (kinds_of p m)) no_hands (section_parts p h (Ref r)) (scope_of m) (frozen_heap h) (SectionTyped p h (scope_of m)) (Ref r) [] base k (width_of m) (parts_run k (again_runs k) (scope_of m) (Ref r) base (width_of m) (sym (width_is m mt.method.parameters)) call.0) m.body.statements ls x (at + length first) k g.0 (has_front code (at + length first) body (on 0 Leave ∷ []) hb) (mt.method.body, may) len (good, frame_typed h vs m.params m.body.locals call.1) (omega arith) g.2 in
-      joins_end (section_access h) code g.1 (ends (at + length first) g.0 (length body) (has_back code (at + length first) body (on 0 Leave ∷ []) hb).0 (exec_all (section_parts p h (Ref r)) ls x m.body.statements k) flows)
-    where
-      ends : (at : ℕ) (f : Store) (l : ℕ) → IsAt code (at + l) (on 0 Leave) → (o : Flow Section) → Flows (section_access h) code (λ (s : Section). s) (kind_at m.result) (there (Ref r) base at k f (section_start own)) l (LocalsAt (kinds_of p m) base (width_of m)) o → Ends (section_access h) code (there (Ref r) base at k f (section_start own)) (section_outcome o)
-      ends at f l hl (goes_on ls x j) t = joins_end (section_access h) code t.1 (steps_end (section_access h) code (there (Ref r) base (at + l) j t.0 x) (Finished x j) (on 0 Leave) hl (λ next. refl))
-      ends at f l hl (gives_back v x j) t = joins_end (section_access h) code t.4 (steps_end (section_access h) code (there (Ref r) base t.1 j t.0 x) (Spent x) (on t.3 (Return t.2)) t.5 (λ next. refl))
-      ends at f l hl (stops y x) t = t
-      ends at f l hl (runs_out x) t = t
+      only (body_ends code h (nothing_else (section_access h) code) (kind_at m.result) (Ref r) base p m vs at k f x hc (arguments_counted h m vs mt.method.parameters call.1) holds (exec_all (section_parts p h (Ref r)) ls x m.body.statements k)
+      (λ at g hb len stood. inr (statements_run (section_access h) code p false (λ (s : Section). s) (all_acts (kinds_of p m)) no_hands (section_parts p h (Ref r)) (scope_of m) (frozen_heap h) (SectionTyped p h (scope_of m)) (Ref r) [] base k (width_of m) (parts_run k (again_runs k) (scope_of m) (Ref r) base (width_of m) (sym (width_is m mt.method.parameters)) call.0) m.body.statements ls x at k g hb (mt.method.body, may) len (good, frame_typed h vs m.params m.body.locals call.1) (omega arith) stood)))
 
   pub section_runs : (written : List FieldId) (op : OpId) → Separable p written op → (r : ℕ) (vs : List Datum) → WellTyped p h (invocation r op vs) → (c : ClassId) → IsMethodOf (slice_get p.ops op.0) c → (object : Object) → IsTypedObject p h c object → (start base k : ℕ) (f : Store) → slice_get code.ops op.0 ≡ Some start → Holds (λ i. param_kind (slice_get p.ops op.0) i) f base vs → Ends (section_access h) code (there (Ref r) base start k f (section_start object.slots)) (section_outcome (section_run p h (invocation r op vs) object.slots (suc k)))
   section_runs written op separable r vs well c of_class object typed_object start base k f place holds =

@@ -1,104 +1,34 @@
--- The instructions of a statement do what it means, whatever its values and its acts mean.
-use Rattle.std.proofs.Common.{◌≡◌, ◌≢◌, ℕ, zero, suc, ◌+◌, ◌-◌, ◌<◌, ◌≤◌, List, [], ◌∷◌, ◌++◌, length, Option, Some, None, refl, sym, ap, ◌∙◌, subst, ⊎_elim, arith, length-append, length-set}
-use Rattle.std.specs.Prelude.{true, false, Bool, slice_get, slice_set, cond}
-use Rattle.std.proofs.lemmas.Bool.{cases_eq}
+-- The instructions of a statement of a typed program do what it means, whatever its values and its acts mean.
+use Rattle.std.proofs.Common.{◌≡◌, ℕ, ◌+◌, ◌<◌, ◌≤◌, List, ◌++◌, length, Some, None, sym, ap, ◌∙◌, inl, inr}
+use Rattle.std.specs.Prelude.{true, Bool}
 use Rattle.std.proofs.lemmas.Option.{slice_get_within}
 use Rattle.ca_tree.specs.declared.tree.AssignOp.{AssignOp}
-use Rattle.ca_program.specs.declared.program.LoopId.{LoopId}
-use Rattle.ca_program.specs.declared.program.FirstPart.{FirstPart}
-use Rattle.ca_program.specs.Plain.{Expression, Statement, Statements, block, put_local, put_field, put_item, new_local, new_field, new_item, invoke, if_else, while_loop, for_loop, return_value, print_value, no_statements, statement_and, PlainProgram}
+use Rattle.ca_program.specs.declared.program.LocalId.{LocalId}
+use Rattle.ca_program.specs.Plain.{Expression, Statement, Statements, block, put_local, if_else, while_loop, for_loop, return_value, PlainProgram}
 use Rattle.ca_model.specs.declared.value.Value.{Value as Datum}
-use Rattle.ca_model.specs.declared.value.Value.TheVariants.{Long, Bool as Truth, Null, Ref}
 use Rattle.ca_meaning.specs.Operators.{assigned}
-use Rattle.ca_meaning.specs.Expressions.{Out, gives, traps, over, take_step, value_at}
-use Rattle.ca_meaning.specs.Flows.{Flow, goes_on, gives_back, stops, runs_out, and_on, with, choose, Parts, line_of, turn_of, exec, exec_all, turn}
+use Rattle.ca_meaning.specs.Expressions.{gives, value_at}
+use Rattle.ca_meaning.specs.Flows.{Flow, Parts, exec, exec_all, turn}
 use Rattle.ca_program.specs.declared.program.ValueType.{ValueType}
 use Rattle.ca_program.specs.declared.program.ValueType.TheVariants.{Bool as BoolType}
 use Rattle.ca_model.specs.declared.value.Object.{Object}
 use Rattle.ca_model.specs.Typed.{HasType}
-use Rattle.ca_meaning.specs.ProgramTyped.{Scope, ExpressionTyped, RightTyped, StatementTyped, StatementsTyped}
+use Rattle.ca_meaning.specs.ProgramTyped.{Scope, ExpressionTyped, StatementTyped, StatementsTyped}
 use Rattle.ca_meaning_laws.proofs.Values.{assigned_typed, local_typed}
 use Rattle.ca_meaning_laws.proofs.Heaps.{extends_self}
 use Rattle.ca_meaning_laws.proofs.Statements.{PartsTyped, exec_typed}
-use Rattle.ca_code_laws.proofs.Words.{back}
-use Rattle.ca_code_laws.specs.Words.{word, read_as, has_kind}
-use Rattle.ca_program.specs.Kinds.{Kind, kind_at, as_truth, Kinds, kinds_in, kind_of}
-use Rattle.ca_program.specs.Instructions.{Return, Jump, Unless, Turn, Update, Code, Placed, on, IsAt, HasAt}
-use Rattle.ca_program.specs.Layout.{stands, expression_code, operand_code, loop_code, Acts, Hands, unless_handed, update_code, statement_code, statements_code}
-use Rattle.ca_code_laws.specs.Machine.{Store, store, Back, Accesses, State, Spent, Next, moved, after, if_true, act, Comes, Wanting, put_as}
+use Rattle.ca_code_laws.specs.Words.{has_kind}
+use Rattle.ca_program.specs.Kinds.{Kind, kind_at, Kinds, kinds_in, kind_of}
+use Rattle.ca_program.specs.Instructions.{Code, Placed, HasAt}
+use Rattle.ca_program.specs.Layout.{stands, expression_code, operand_code, Acts, Hands, statement_code, statements_code}
+use Rattle.ca_code_laws.specs.Machine.{Store, Back, Accesses, State}
 use Rattle.ca_code_laws.specs.Told.{Holds}
-use Rattle.ca_code_laws.proofs.Steps.{stored_here, stored_there, has_front, has_back, Goes, stays, joins, steps, steps_end, rests, Reaches, Flows, comes_flows, with_flows, and_flows, step_flows}
+use Rattle.ca_code_laws.proofs.Steps.{Reaches, Flows}
+use Rattle.ca_code_laws.proofs.Instead.{nothing_else, only}
 use Rattle.ca_code_laws.proofs.Typed.{of_kind, given, Sound, goes_sound, kind_is}
 use Rattle.ca_code_laws.proofs.Quiet.{May, MayAll}
-use Rattle.ca_code_laws.proofs.Values.{Valued, Stood, apart}
-use Rattle.ca_tree.specs.declared.tree.AssignOp.TheVariants as change
-
--- the locals stand in the first slots of the frame
-abbrev pub LocalsAt : Kinds → ℕ → ℕ → List Datum → Store → Type 0
-LocalsAt ks base n ls f = Holds ks.locals f base ls × (length ls ≡ n)
-
-set_same : (ls : List Datum) (i : ℕ) (v : Datum) → i < length ls → value_at (slice_set ls i v) i ≡ v
-set_same [] i v lt = absurd (omega (arith, lt))
-set_same (x ∷ ls) zero v lt = refl
-set_same (x ∷ ls) (suc i) v lt = set_same ls i v (omega (arith, lt))
-
-set_other : (ls : List Datum) (i j : ℕ) (v : Datum) → j ≢ i → value_at (slice_set ls i v) j ≡ value_at ls j
-set_other [] i j v ne = refl
-set_other (x ∷ ls) zero zero v ne = absurd (ne refl)
-set_other (x ∷ ls) zero (suc j) v ne = refl
-set_other (x ∷ ls) (suc i) zero v ne = refl
-set_other (x ∷ ls) (suc i) (suc j) v ne = set_other ls i j v (λ e. ne (ap suc e))
-
-pub put_is : (old v : Datum) → assigned change.Put old v ≡ v
-put_is (Long a) (Long b) = refl
-put_is (Long a) (Truth b) = refl
-put_is (Long a) Null = refl
-put_is (Long a) (Ref b) = refl
-put_is (Truth a) v = refl
-put_is Null v = refl
-put_is (Ref a) v = refl
-
--- a local that was put
-pub local_put : (κs : ℕ → Kind) (base l : ℕ) (ls : List Datum) (v : Datum) (old f : Store) → l < length ls → Holds κs old base ls → read_as (κs l) (f (base + l)) ≡ v → ((j : ℕ) → j < length ls → j ≢ l → f (base + j) ≡ old (base + j)) → Holds κs f base (slice_set ls l v)
-local_put κs base l ls v old f lt holds is same i within =
-    ⊎_elim
-    (λ e. ap (λ x. read_as (κs x) (f (base + x))) e ∙ is ∙ sym (ap (λ x. value_at (slice_set ls l v) x) e ∙ set_same ls l v lt))
-    (λ ne. ap (read_as (κs i)) (same i (subst (λ x. i < x) (length-set ls l v) within) ne) ∙ holds i (subst (λ x. i < x) (length-set ls l v) within) ∙ sym (set_other ls l i v ne))
-    (cases_eq i l)
-
--- the two parts of a loop's code, and what is asked of it
-abbrev pub body_of_loop : Kinds → Acts → Hands → ℕ → Statement → ℕ → List Placed
-body_of_loop ks a hd line (while_loop _ c b) top = statement_code ks a hd (line_of b) b top
-body_of_loop ks a hd line (for_loop l site part first c next b) top = statement_code ks a hd (line_of b) b top ++ statement_code ks a hd line next top
-body_of_loop ks a hd line other top = []
-
-abbrev pub tail_code : Kinds → ℕ → Expression → List Placed → ℕ → List Placed
-tail_code ks line c body top = operand_code ks line c top ++ on line (Turn (stands c top) (length body + length (operand_code ks line c top))) ∷ []
-
-abbrev pub tail_of_loop : Kinds → Acts → Hands → ℕ → Statement → ℕ → List Placed
-tail_of_loop ks a hd line (while_loop _ c b) top = tail_code ks line c (statement_code ks a hd (line_of b) b top) top
-tail_of_loop ks a hd line (for_loop l site part first c next b) top = tail_code ks line c (statement_code ks a hd (line_of b) b top ++ statement_code ks a hd line next top) top
-tail_of_loop ks a hd line other top = []
-
-abbrev pub IsLoop : Statement → Type 0
-IsLoop (while_loop _ c b) = Unit {0}
-IsLoop (for_loop l site part first c next b) = Unit {0}
-IsLoop other = ⊥
-
--- what isn't laid out here
-abbrev pub IsAct : Statement → Type 0
-IsAct (put_field l f op e) = Unit {0}
-IsAct (put_item l f i op e) = Unit {0}
-IsAct (new_local l x c) = Unit {0}
-IsAct (new_field l f c) = Unit {0}
-IsAct (new_item l f i c) = Unit {0}
-IsAct (print_value l e) = Unit {0}
-IsAct (invoke l e op es) = Unit {0}
-IsAct other = ⊥
-
-abbrev pub acted : {P : Type 0} → Parts P → ℕ → List Datum → P → Statement → ℕ → Flow P
-acted parts line ls p (invoke l e op es) k = parts.call line ls p e op es k
-acted parts line ls p other k = parts.act line ls p other k
+use Rattle.ca_code_laws.proofs.Evaluated.{Valued, Stood}
+use Rattle.ca_code_laws.proofs.Executed.{LocalsAt, body_of_loop, tail_of_loop, IsLoop, IsAct, acted, StatementParts, Means, statement_does, statements_do, loop_does}
 
 module _ {S P : Type 0} (acc : Accesses S) (code : Code) (pr : PlainProgram) (makes : Bool) (w : P → S) (a : Acts) (hd : Hands) (parts : Parts P) (sc : Scope) (heap : P → List Object) (Good : P → Type 0) (me : Datum) (below : List Back) (base n top : ℕ) where
   -- the kinds in the body
@@ -136,283 +66,51 @@ module _ {S P : Type 0} (acc : Accesses S) (code : Code) (pr : PlainProgram) (ma
     pub handed : (line : ℕ) (ls : List Datum) (p : P) (x : Statement) (at k : ℕ) (f : Store) (plain : Flow P) (cx : List Placed) → hd line x top ≡ Some cx → HasAt code at cx → Fits x → length ls ≡ top → Here ls p → k ≤ n → Holds ks.locals f base ls → Flows acc code w ret (at_place at k f p) (length cx) (LocalsAt ks base top) (parts.begin line ls p x k plain)
 
   module _ (run : PartsRun) where
-    -- a statement that only evaluates and puts into a local
-    ends_flows : (at k m : ℕ) (f : Store) (p : P) (Q : Datum → Store → Type 0) (g : Datum → List Datum) (o : Out Datum) → Reaches acc code (at_place at k f p) m Q o → ((v : Datum) (f1 : Store) → Q v f1 → LocalsAt ks base top (g v) f1) → Flows acc code w ret (at_place at k f p) m (LocalsAt ks base top) (with o p (λ v k. goes_on (g v) p k))
-    ends_flows at k m f p Q g (gives v j) r then = (r.0, r.1, then v r.0 r.2, r.3, r.4)
-    ends_flows at k m f p Q g (traps t) r then = r
-    ends_flows at k m f p Q g over r then = r
+    -- an expression of some type
+    abbrev E : Expression → Type 0
+    E e = (ty : ValueType) × ExpressionTyped pr sc e ty
 
-    -- what goes on goes on over more instructions
-    longer : (s : State S) (m l : ℕ) (R : List Datum → Store → Type 0) (o : Flow P) → Flows acc code w ret s m R o → ((k : ℕ) (f : Store) (p : P) → Comes acc code (moved s (s.at + m) k f (w p)) (moved s (s.at + l) k f (w p))) → Flows acc code w ret s l R o
-    longer s m l R (goes_on ls p k) r then = (r.0, joins acc code r.1 (then k r.0 p), r.2, r.3, r.4)
-    longer s m l R (gives_back v p k) r then = r
-    longer s m l R (stops t p) r then = r
-    longer s m l R (runs_out p) r then = r
+    parts_of : (x : Statement) → Fits x → StatementParts pr sc.locals ret E Fits FitAll x
+    parts_of (block l ss) t = t
+    parts_of (put_local z l op e) t = (slice_get_within sc.locals l.0 t.0.0 t.0.1, kind_is pr sc e t.0.0 t.0.2.1 ∙ sym (ap kind_at t.0.1), (t.0.0, t.0.2.1))
+    parts_of (if_else l c x y) t = (kind_is pr sc c BoolType t.0.0, (BoolType, t.0.0), (t.0.1, t.1.0), (t.0.2, t.1.1))
+    parts_of (while_loop l c b) t = (kind_is pr sc c BoolType t.0.0, (BoolType, t.0.0), (t.0.1, t.1))
+    parts_of (for_loop l site part first c next b) t = ((t.0.0, t.1.0), kind_is pr sc c BoolType t.0.1, (BoolType, t.0.1), (t.0.2, t.1.1), (t.0.3, t.1.2))
+    parts_of (return_value l e) t = (kind_is pr sc e t.0.0 t.0.2 ∙ sym (ap kind_at t.0.1), (t.0.0, t.0.2))
+    parts_of other t = tt
 
-    -- what a typed statement leaves
-    pub stays_sound : (x : Statement) → StatementTyped pr sc x → (line : ℕ) (ls : List Datum) (p : P) (k : ℕ) → Here ls p → Goes Here (exec parts line ls p x k)
-    stays_sound x t line ls p k good = goes_sound heap Good sc (heap p) (exec parts line ls p x k) (exec_typed heap Good pr sc parts run.types (heap p) x t line ls p k good.0 (extends_self (heap p)) good.1)
+    -- what is put into a local has its kind
+    keeps : (z : ℕ) (l : LocalId) (op : AssignOp) (e : Expression) → Fits (put_local z l op e) → (line : ℕ) (ls : List Datum) (p : P) (k j : ℕ) (v : Datum) → Here ls p → parts.value line ls p e k ≡ gives v j → has_kind (ks.locals l.0) (assigned op (value_at ls l.0) v) ≡ true
+    keeps z l op e t line ls p k j v good is =
+        let x = assigned op (value_at ls l.0) v in
+        let right = given (λ v. HasType (heap p) v t.0.0) (parts.value line ls p e k) v j (run.types.values line ls p e t.0.0 k good.0 good.1 t.0.2.1) is in
+        let of_type : HasType (heap p) x t.0.0 = assigned_typed (heap p) op (value_at ls l.0) v t.0.0 t.0.2.0 (local_typed (heap p) ls sc.locals l.0 t.0.0 good.1 t.0.1) right in
+        ap (λ y. has_kind y x) (ap kind_at t.0.1) ∙ of_kind (heap p) x t.0.0 of_type
 
-    and_sound : (o : Flow P) (g : List Datum → P → ℕ → Flow P) → Goes Here o → ((ls : List Datum) (p : P) (k : ℕ) → Here ls p → Goes Here (g ls p k)) → Goes Here (and_on o g)
-    and_sound (goes_on ls p k) g good next = next ls p k good
-    and_sound (gives_back v p k) g good next = tt
-    and_sound (stops t p) g good next = tt
-    and_sound (runs_out p) g good next = tt
+    means : Means acc code (nothing_else acc code) pr sc.locals ret w a hd parts me below base n top E Fits FitAll Here
+    means = record {
+      wide = run.wide;
+      parts_of = parts_of;
+      more = λ x rest t. ((t.0.0, t.1.0), (t.0.1, t.1.1));
+      values = λ e t line to ls p at k f h len good le left holds. inr (run.values e t.0 t.1 line to ls p at k f h len good le left holds);
+      operands = λ e t line ls p at k f h len good left holds. inr (run.operands e t.0 t.1 line ls p at k f h len good left holds);
+      acting = λ x line ls p at k f is h t len good left holds. inr (run.acts x line ls p at k f is h t len good left holds);
+      agains = λ x line ls p at k f is h t len good lt holds. inr (run.agains x line ls p at k f is h t len good lt holds);
+      begins = λ line ls p x k plain none. run.begins line ls p x k plain none;
+      handed = λ line ls p x at k f plain cx some h t len good left holds. inr (run.handed line ls p x at k f plain cx some h t len good left holds);
+      leaves = λ x t line ls p k good. goes_sound heap Good sc (heap p) (exec parts line ls p x k) (exec_typed heap Good pr sc parts run.types (heap p) x t.0 line ls p k good.0 (extends_self (heap p)) good.1);
+      keeps = λ z l op e t line ls p k j v good is. inl (keeps z l op e t line ls p k j v good is);
+    }
 
-    local_below : (l : ℕ) (ty : ValueType) → slice_get sc.locals l ≡ Some ty → l < top
-    local_below l ty t = subst (λ n. l < n) run.wide (slice_get_within sc.locals l ty t)
+    pub statement_runs : (x : Statement) (line : ℕ) (ls : List Datum) (p : P) (at k : ℕ) (f : Store) → HasAt code at (statement_code ks a hd line x top) → Fits x → length ls ≡ top → Here ls p → k ≤ n → Holds ks.locals f base ls → Flows acc code w ret (at_place at k f p) (length (statement_code ks a hd line x top)) (LocalsAt ks base top) (exec parts line ls p x k)
+    statement_runs x line ls p at k f h t len good left holds =
+        only (statement_does acc code (nothing_else acc code) pr sc.locals ret w a hd parts me below base n top E Fits FitAll Here means x line ls p at k f h t len good left holds)
 
-    -- a value of the local's kind is put into it by one instruction
-    updated : (l : ℕ) (ls : List Datum) (x : Datum) (p : P) (at k : ℕ) (old g : Store) (i : Placed) → l < top → length ls ≡ top → has_kind (ks.locals l) x ≡ true → Holds ks.locals old base ls → ((j : ℕ) → j < top → g (base + j) ≡ old (base + j)) → IsAt code at i → ((next : Next S) → act acc code i.line (Some i.instruction) next (at_place at k g p) ≡ put_as (ks.locals l) (at_place at k g p) next l 0 x k) → Flows acc code w ret (at_place at k g p) 1 (LocalsAt ks base top) (goes_on (slice_set ls l x) p k)
-    updated l ls x p at k old g i lt len has holds same h a =
-        let f : Store = store g (base + l) (word x) in
-        let within : l < length ls = omega (arith, lt, len) in
-        let z : at + 1 + 0 ≡ at + 1 = omega arith in
-        let is : read_as (ks.locals l) (f (base + l)) ≡ x = ap (read_as (ks.locals l)) (stored_here g (base + l) (base + l) (word x) refl) ∙ back (ks.locals l) x has in
-        let comes = steps acc code (at_place at k g p) (at_place (at + 1 + 0) k f p) i h (λ next. a next ∙ ap (λ b. cond b (next (at_place (at + 1 + 0) k f p)) Wanting) has) in
-        (f, subst (λ q. Comes acc code (at_place at k g p) (at_place q k f p)) z comes, (local_put ks.locals base l ls x old f within holds is (λ j lt2 ne. stored_there g (base + l) (base + j) (word x) (apart base j l ne) ∙ same j (omega (arith, lt2, len))), length-set ls l x ∙ len), (λ j lt2. stored_there g (base + l) j (word x) (λ e. absurd (omega (arith, lt2, e)))), omega arith)
-
-    abbrev PutTyped : AssignOp → ℕ → Expression → Type 0
-    PutTyped op l e = (ty : ValueType) × (slice_get sc.locals l ≡ Some ty) × RightTyped pr sc op e ty
-
-    updates : (op : AssignOp) (line l : ℕ) (e : Expression) (ls : List Datum) (p : P) (at k : ℕ) (f : Store) → HasAt code at (operand_code ks line e top ++ on line (Update l op (ks.locals l) (stands e top)) ∷ []) → PutTyped op l e → length ls ≡ top → Here ls p → k ≤ n → Holds ks.locals f base ls → Flows acc code w ret (at_place at k f p) (length (operand_code ks line e top ++ on line (Update l op (ks.locals l) (stands e top)) ∷ [])) (LocalsAt ks base top) (with (parts.value line ls p e k) p (λ v k. goes_on (slice_set ls l (assigned op (value_at ls l) v)) p k))
-    updates op line l e ls p at k f h t len good left holds =
-        let ce = operand_code ks line e top in
-        let κ = ks.locals l in
-        let last = on line (Update l op (ks.locals l) (stands e top)) in
-        let lt : l < top = local_below l t.0 t.1 in
-        let fits : kind_of ks e ≡ κ = kind_is pr sc e t.0 t.2.1 ∙ sym (ap kind_at t.1) in
-        with_flows acc code w ret (at_place at k f p) p ce (last ∷ []) (Stood base f (stands e top) top (kind_of ks e)) (LocalsAt ks base top) (λ v k. goes_on (slice_set ls l (assigned op (value_at ls l) v)) p k) refl h (parts.value line ls p e k)
-        (λ h. run.operands e t.0 t.2.1 line ls p at k f h len good left holds)
-        (λ v j g z h q below le.
-        let here = at_place (at + length ce) j g p in
-        let within : l < length ls = omega (arith, lt, len) in
-        let is_right : read_as κ (g (base + stands e top)) ≡ v = ap (λ y. read_as y (g (base + stands e top))) (sym fits) ∙ q.0 in
-        let is_old : read_as κ (g (base + l)) ≡ value_at ls l = ap (read_as κ) (q.1 l lt) ∙ holds l within in
-        let x = assigned op (value_at ls l) v in
-        let right = given (λ v. HasType (heap p) v t.0) (parts.value line ls p e k) v j (run.types.values line ls p e t.0 k good.0 good.1 t.2.1) z in
-        let of_type : HasType (heap p) x t.0 = assigned_typed (heap p) op (value_at ls l) v t.0 t.2.0 (local_typed (heap p) ls sc.locals l t.0 good.1 t.1) right in
-        let has : has_kind κ x ≡ true = ap (λ y. has_kind y x) (ap kind_at t.1) ∙ of_kind (heap p) x t.0 of_type in
-        updated l ls x p (at + length ce) j f g last lt len has holds q.1 h.0
-        (λ next. ap (λ y. put_as κ here next l 0 (assigned op y (read_as κ (g (base + stands e top)))) j) is_old ∙ ap (λ y. put_as κ here next l 0 (assigned op (value_at ls l) y) j) is_right))
-
-    puts : (op : AssignOp) (line l : ℕ) (e : Expression) (ls : List Datum) (p : P) (at k : ℕ) (f : Store) → HasAt code at (update_code ks line l op e top) → PutTyped op l e → length ls ≡ top → Here ls p → k ≤ n → Holds ks.locals f base ls → Flows acc code w ret (at_place at k f p) (length (update_code ks line l op e top)) (LocalsAt ks base top) (with (parts.value line ls p e k) p (λ v k. goes_on (slice_set ls l (assigned op (value_at ls l) v)) p k))
-    puts change.Put line l e ls p at k f h t len good left holds =
-        let below : l < top = local_below l t.0 t.1 in
-        let lt : l < length ls = omega (arith, below, len) in
-        let fits : kind_of ks e ≡ ks.locals l = kind_is pr sc e t.0 t.2.1 ∙ sym (ap kind_at t.1) in
-        ends_flows at k (length (expression_code ks line e l top)) f p (Valued base f l top (kind_of ks e)) (λ v. slice_set ls l (assigned change.Put (value_at ls l) v)) (parts.value line ls p e k) (run.values e t.0 t.2.1 line l ls p at k f h len good (omega (arith, below)) left holds)
-        (λ v g q.
-        let is : read_as (ks.locals l) (g (base + l)) ≡ v = ap (λ y. read_as y (g (base + l))) (sym fits) ∙ q.0 in
-        subst (λ x. LocalsAt ks base top (slice_set ls l x) g) (sym (put_is (value_at ls l) v)) (local_put ks.locals base l ls v f g lt holds is (λ j lt ne. q.1 j (omega (arith, lt, len)) ne), length-set ls l v ∙ len))
-    puts op line l e ls p at k f h t len good left holds = updates op line l e ls p at k f h t len good left holds
-
-    -- what a loop's body does, and the loop when it comes again
-    abbrev BodyRuns : List Placed → (List Datum → P → ℕ → Flow P) → ℕ → Type 0
-    BodyRuns body does at =
-        (ls : List Datum) (p : P) (k : ℕ) (f : Store) → length ls ≡ top → Here ls p → k ≤ n → Holds ks.locals f base ls → Flows acc code w ret (at_place at k f p) (length body) (LocalsAt ks base top) (does ls p k)
-
-    abbrev BodyGoes : (List Datum → P → ℕ → Flow P) → Type 0
-    BodyGoes does = (ls : List Datum) (p : P) (k : ℕ) → Here ls p → Goes Here (does ls p k)
-
-    abbrev AgainRuns : ℕ → Expression → List Placed → Statement → ℕ → Type 0
-    AgainRuns line c body loop at =
-        (ls : List Datum) (p : P) (k : ℕ) (f : Store) → length ls ≡ top → Here ls p → k < n → Holds ks.locals f base ls → Flows acc code w ret (at_place (at + length body) k f p) (length (tail_code ks line c body top)) (LocalsAt ks base top) (parts.again line ls p loop k)
-
-    -- a loop from its condition on
-    turn_runs : (line : ℕ) (c : Expression) (body : List Placed) (does : List Datum → P → ℕ → Flow P) (loop : Statement) (at : ℕ) (ls : List Datum) (p : P) (k : ℕ) (f : Store) → HasAt code at (body ++ tail_code ks line c body top) → ExpressionTyped pr sc c BoolType → length ls ≡ top → Here ls p → k ≤ n → Holds ks.locals f base ls → BodyRuns body does at → BodyGoes does → AgainRuns line c body loop at → Flows acc code w ret (at_place (at + length body) k f p) (length (tail_code ks line c body top)) (LocalsAt ks base top) (turn_of parts c does loop line ls p k)
-    turn_runs line c body does loop at ls p k f h t len good left holds body_runs body_goes again_runs =
-        with_flows acc code w ret (at_place (at + length body) k f p) p cc (last ∷ []) (Stood base f (stands c top) top (kind_of ks c)) (LocalsAt ks base top) (λ v k. choose v (stepping k) (goes_on ls p k)) refl (has_back code at body (cc ++ last ∷ []) h) (parts.value line ls p c k)
-        (λ h. run.operands c BoolType t line ls p (at + length body) k f h len good left holds)
-        (λ v j g z h q below le. turned v j g h.0 (ap (λ y. read_as y (g (base + stands c top))) (sym (kind_is pr sc c BoolType t)) ∙ q.0) (λ i lt. ap (read_as (ks.locals i)) (q.1 i (omega (arith, lt, len))) ∙ holds i lt) (omega (arith, le, left)))
-      where
-        cc : List Placed
-        cc = operand_code ks line c top
-
-        last : Placed
-        last = on line (Turn (stands c top) (length body + length cc))
-
-        stepping : ℕ → Flow P
-        stepping k = with (take_step k) p (λ _ k. and_on (does ls p k) (λ ls p k. parts.again line ls p loop k))
-
-        here : ℕ → Store → State S
-        here k g = at_place (at + length body + length cc) k g p
-
-        acts : (v : Datum) (k : ℕ) (g : Store) → read_as as_truth (g (base + stands c top)) ≡ v → (next : Next S) → act acc code line (Some last.instruction) next (here k g) ≡ if_true v (after (take_step k) (w p) (λ _ k. next (at_place (at + length body + length cc - (length body + length cc)) k g p))) (next (at_place (at + length body + length cc + 1) k g p))
-        acts v k g is next = ap (λ y. if_true y (after (take_step k) (w p) (λ _ k. next (at_place (at + length body + length cc - (length body + length cc)) k g p))) (next (at_place (at + length body + length cc + 1) k g p))) is
-
-        goes : (v : Datum) (k : ℕ) (g : Store) → IsAt code (at + length body + length cc) last → Holds ks.locals g base ls → ((next : Next S) → act acc code line (Some last.instruction) next (here k g) ≡ next (at_place (at + length body + length cc + 1) k g p)) → Flows acc code w ret (here k g) 1 (LocalsAt ks base top) (goes_on ls p k)
-        goes v k g h holds a = (g, steps acc code (here k g) (at_place (at + length body + length cc + 1) k g p) last h a, (holds, len), (λ j lt. refl), omega arith)
-
-        turned : (v : Datum) (k : ℕ) (g : Store) → IsAt code (at + length body + length cc) last → read_as as_truth (g (base + stands c top)) ≡ v → Holds ks.locals g base ls → k ≤ n → Flows acc code w ret (here k g) 1 (LocalsAt ks base top) (choose v (stepping k) (goes_on ls p k))
-        turned (Truth true) zero g h is holds left = (steps_end acc code (here 0 g) (Spent (w p)) last h (acts (Truth true) 0 g is))
-        turned (Truth true) (suc k) g hl is holds left =
-            let back : at + length body + length cc - (length body + length cc) ≡ at = omega arith in
-            let begins = steps acc code (here (suc k) g) (at_place at k g p) last hl (λ next. acts (Truth true) (suc k) g is next ∙ ap (λ q. next (at_place q k g p)) back) in
-            let e : at + length (body ++ tail_code ks line c body top) ≡ at + length body + length cc + 1 = omega (arith, length-append body (tail_code ks line c body top), length-append cc (last ∷ [])) in
-            comes_flows acc code w ret (here (suc k) g) at (length (body ++ tail_code ks line c body top)) 1 k g (w p) (LocalsAt ks base top) e begins (λ j lt. refl) (omega arith) (and_on (does ls p k) (λ ls p k. parts.again line ls p loop k))
-            (and_flows acc code w ret (at_place at k g p) body (tail_code ks line c body top) (LocalsAt ks base top) (LocalsAt ks base top) Here (λ ls p k. parts.again line ls p loop k) h (does ls p k) (body_goes ls p k good)
-            (λ h. body_runs ls p k g len good (omega (arith, left)) holds)
-            (λ ls2 p2 j f2 h good2 q below le. again_runs ls2 p2 j f2 q.1 good2 (omega (arith, le, left)) q.0))
-        turned (Truth false) k g h is holds left = goes (Truth false) k g h holds (acts (Truth false) k g is)
-        turned (Long x) k g h is holds left = goes (Long x) k g h holds (acts (Long x) k g is)
-        turned (Ref x) k g h is holds left = goes (Ref x) k g h holds (acts (Ref x) k g is)
-        turned Null k g h is holds left = goes Null k g h holds (acts Null k g is)
-
-    -- a branch of an `if`, behind its condition
-    abbrev BranchRuns : List Placed → Flow P → ℕ → ℕ → Store → P → Type 0
-    BranchRuns cx o at k f p = HasAt code at cx → Flows acc code w ret (at_place at k f p) (length cx) (LocalsAt ks base top) o
-
-    branches : (line : ℕ) (c : Expression) (cx cy : List Placed) (x y : Flow P) (v : Datum) (at k : ℕ) (g : Store) (p : P) → HasAt code at (on line (Unless (stands c top) (length cx + 1)) ∷ (cx ++ (on line (Jump (length cy)) ∷ cy))) → read_as as_truth (g (base + stands c top)) ≡ v → BranchRuns cx x (at + 1) k g p → BranchRuns cy y (at + 1 + (length cx + 1)) k g p → Flows acc code w ret (at_place at k g p) (length (on line (Unless (stands c top) (length cx + 1)) ∷ (cx ++ (on line (Jump (length cy)) ∷ cy)))) (LocalsAt ks base top) (choose v x y)
-    branches line c cx cy x y v at k g p h is xs ys = by v is
-      where
-        test : Placed
-        test = on line (Unless (stands c top) (length cx + 1))
-
-        jump : Placed
-        jump = on line (Jump (length cy))
-
-        all : List Placed
-        all = test ∷ (cx ++ (jump ∷ cy))
-
-        acts : (v : Datum) → read_as as_truth (g (base + stands c top)) ≡ v → (next : Next S) → act acc code line (Some test.instruction) next (at_place at k g p) ≡ if_true v (next (at_place (at + 1) k g p)) (next (at_place (at + 1 + (length cx + 1)) k g p))
-        acts v is next = ap (λ z. if_true z (next (at_place (at + 1) k g p)) (next (at_place (at + 1 + (length cx + 1)) k g p))) is
-
-        after_x : HasAt code (at + 1 + length cx) (jump ∷ cy)
-        after_x = has_back code (at + 1) cx (jump ∷ cy) h.1
-
-        behind : at + 1 + length cx + 1 ≡ at + 1 + (length cx + 1)
-        behind = omega arith
-
-        else_side : ((next : Next S) → act acc code line (Some test.instruction) next (at_place at k g p) ≡ next (at_place (at + 1 + (length cx + 1)) k g p)) → Flows acc code w ret (at_place at k g p) (length all) (LocalsAt ks base top) y
-        else_side a =
-            let e : at + 1 + (length cx + 1) + length cy ≡ at + length all = omega (arith, length-append cx (jump ∷ cy)) in
-            comes_flows acc code w ret (at_place at k g p) (at + 1 + (length cx + 1)) (length cy) (length all) k g (w p) (LocalsAt ks base top) e (steps acc code (at_place at k g p) (at_place (at + 1 + (length cx + 1)) k g p) test h.0 a) (λ j lt. refl) (omega arith) y (ys (subst (λ q. HasAt code q cy) behind after_x.1))
-
-        by : (v : Datum) → read_as as_truth (g (base + stands c top)) ≡ v → Flows acc code w ret (at_place at k g p) (length all) (LocalsAt ks base top) (choose v x y)
-        by (Truth true) is =
-            step_flows acc code w ret (at_place at k g p) k g (w p) test (cx ++ (jump ∷ cy)) (LocalsAt ks base top) h (acts (Truth true) is) (λ j lt. refl) (omega arith) x
-            (λ h. longer (at_place (at + 1) k g p) (length cx) (length (cx ++ (jump ∷ cy))) (LocalsAt ks base top) x (xs (has_front code (at + 1) cx (jump ∷ cy) h))
-            (λ j f q. let e : at + 1 + length cx + 1 + length cy ≡ at + 1 + length (cx ++ (jump ∷ cy)) = omega (arith, length-append cx (jump ∷ cy)) in subst (λ z. Comes acc code (at_place (at + 1 + length cx) j f q) (at_place z j f q)) e (steps acc code (at_place (at + 1 + length cx) j f q) (at_place (at + 1 + length cx + 1 + length cy) j f q) jump after_x.0 (λ next. refl))))
-        by (Truth false) is = else_side (acts (Truth false) is)
-        by (Long z) is = else_side (acts (Long z) is)
-        by (Ref z) is = else_side (acts (Ref z) is)
-        by Null is = else_side (acts Null is)
-
-    -- to the condition of a loop, which stands behind its body
-    enters : (line : ℕ) (body tail : List Placed) (at k : ℕ) (f : Store) (p : P) (o : Flow P) → HasAt code at (on line (Jump (length body)) ∷ (body ++ tail)) → Flows acc code w ret (at_place (at + 1 + length body) k f p) (length tail) (LocalsAt ks base top) o → Flows acc code w ret (at_place at k f p) (length (on line (Jump (length body)) ∷ (body ++ tail))) (LocalsAt ks base top) o
-    enters line body tail at k f p o h r =
-        let e : at + 1 + length body + length tail ≡ at + length (on line (Jump (length body)) ∷ (body ++ tail)) = omega (arith, length-append body tail) in
-        comes_flows acc code w ret (at_place at k f p) (at + 1 + length body) (length tail) (length (on line (Jump (length body)) ∷ (body ++ tail))) k f (w p) (LocalsAt ks base top) e (steps acc code (at_place at k f p) (at_place (at + 1 + length body) k f p) (on line (Jump (length body))) h.0 (λ next. refl)) (λ j lt. refl) (omega arith) o r
-
-    abbrev StatementRuns : Statement → ℕ → Type 0
-    StatementRuns x line =
-        (ls : List Datum) (p : P) (at k : ℕ) (f : Store) → HasAt code at (statement_code ks a hd line x top) → Fits x → length ls ≡ top → Here ls p → k ≤ n → Holds ks.locals f base ls → Flows acc code w ret (at_place at k f p) (length (statement_code ks a hd line x top)) (LocalsAt ks base top) (exec parts line ls p x k)
-
-    for_runs : (l : ℕ) (site : LoopId) (part : FirstPart) (first : Statement) (c : Expression) (next b : Statement) (line : ℕ) (ls : List Datum) (p : P) (at k : ℕ) (f : Store) → HasAt code at (statement_code ks a hd line (for_loop l site part first c next b) top) → Fits (for_loop l site part first c next b) → length ls ≡ top → Here ls p → k ≤ n → Holds ks.locals f base ls → StatementRuns first line → StatementRuns b (line_of b) → StatementRuns next line → Flows acc code w ret (at_place at k f p) (length (statement_code ks a hd line (for_loop l site part first c next b) top)) (LocalsAt ks base top) (exec parts line ls p (for_loop l site part first c next b) k)
-    for_runs l site part first c next b line ls p at k f h fits len good left holds first_runs b_runs next_runs = by (hd line (for_loop l site part first c next b) top) refl h
-      where
-        loop : Statement
-        loop = for_loop l site part first c next b
-
-        cf : List Placed
-        cf = statement_code ks a hd line first top
-
-        cb : List Placed
-        cb = statement_code ks a hd (line_of b) b top
-
-        cn : List Placed
-        cn = statement_code ks a hd line next top
-
-        turns : List Datum → P → ℕ → Flow P
-        turns = turn_of parts c (λ ls s k. and_on (exec parts (line_of b) ls s b k) (λ ls s k. exec parts line ls s next k)) loop line
-
-        plain : Flow P
-        plain = and_on (exec parts line ls p first k) turns
-
-        all : List Placed
-        all = cf ++ (on line (Jump (length (cb ++ cn))) ∷ loop_code ks line c (cb ++ cn) top)
-
-        z : ℕ
-        z = at + length cf
-
-        plainly : HasAt code at all → Flows acc code w ret (at_place at k f p) (length all) (LocalsAt ks base top) plain
-        plainly h =
-            and_flows acc code w ret (at_place at k f p) cf (on line (Jump (length (cb ++ cn))) ∷ loop_code ks line c (cb ++ cn) top) (LocalsAt ks base top) (LocalsAt ks base top) Here turns h (exec parts line ls p first k) (stays_sound first fits.0.0 line ls p k good)
-            (λ h. first_runs ls p at k f h (fits.0.0, fits.1.0) len good left holds)
-            (λ ls p j g h good q below le.
-            enters line (cb ++ cn) (tail_code ks line c (cb ++ cn) top) z j g p (turns ls p j) h
-            (turn_runs line c (cb ++ cn) (λ ls s k. and_on (exec parts (line_of b) ls s b k) (λ ls s k. exec parts line ls s next k)) loop (z + 1) ls p j g h.1 fits.0.1 q.1 good (omega (arith, le, left)) q.0
-            (λ ls p k f len good left holds.
-            and_flows acc code w ret (at_place (z + 1) k f p) cb cn (LocalsAt ks base top) (LocalsAt ks base top) Here (λ ls s k. exec parts line ls s next k) (has_front code (z + 1) (cb ++ cn) (tail_code ks line c (cb ++ cn) top) h.1) (exec parts (line_of b) ls p b k) (stays_sound b fits.0.3 (line_of b) ls p k good)
-            (λ h. b_runs ls p (z + 1) k f h (fits.0.3, fits.1.2) len good left holds)
-            (λ ls p j g h good q below le. next_runs ls p (z + 1 + length cb) j g h (fits.0.2, fits.1.1) q.1 good (omega (arith, le, left)) q.0))
-            (λ ls p k good. and_sound (exec parts (line_of b) ls p b k) (λ ls s k. exec parts line ls s next k) (stays_sound b fits.0.3 (line_of b) ls p k good) (λ ls p k good. stays_sound next fits.0.2 line ls p k good))
-            (λ ls p k f len good lt holds. run.agains loop line ls p (z + 1) k f tt h.1 fits len good lt holds)))
-
-        by : (o : Option (List Placed)) → hd line loop top ≡ o → HasAt code at (unless_handed o all) → Flows acc code w ret (at_place at k f p) (length (unless_handed o all)) (LocalsAt ks base top) (parts.begin line ls p loop k plain)
-        by (Some cx) e h = run.handed line ls p loop at k f plain cx e h fits len good left holds
-        by None e h = subst (λ o. Flows acc code w ret (at_place at k f p) (length all) (LocalsAt ks base top) o) (sym (run.begins line ls p loop k plain e)) (plainly h)
-
-    mutual
-      pub statement_runs : (x : Statement) (line : ℕ) (ls : List Datum) (p : P) (at k : ℕ) (f : Store) → HasAt code at (statement_code ks a hd line x top) → Fits x → length ls ≡ top → Here ls p → k ≤ n → Holds ks.locals f base ls → Flows acc code w ret (at_place at k f p) (length (statement_code ks a hd line x top)) (LocalsAt ks base top) (exec parts line ls p x k)
-      statement_runs (block l ss) line ls p at k f h fits len good left holds = statements_run ss ls p at k f h fits len good left holds
-      statement_runs (put_local z l op e) line ls p at k f h fits len good left holds = puts op line l.0 e ls p at k f h fits.0 len good left holds
-      statement_runs (if_else l c x y) line ls p at k f h fits len good left holds =
-          let cc = operand_code ks line c top in
-          let cx = statement_code ks a hd (line_of x) x top in
-          let cy = statement_code ks a hd (line_of y) y top in
-          with_flows acc code w ret (at_place at k f p) p cc (on line (Unless (stands c top) (length cx + 1)) ∷ (cx ++ (on line (Jump (length cy)) ∷ cy))) (Stood base f (stands c top) top (kind_of ks c)) (LocalsAt ks base top) (λ v k. choose v (exec parts (line_of x) ls p x k) (exec parts (line_of y) ls p y k)) refl h (parts.value line ls p c k)
-          (λ h. run.operands c BoolType fits.0.0 line ls p at k f h len good left holds)
-          (λ v j g z h q below le.
-          branches line c cx cy (exec parts (line_of x) ls p x j) (exec parts (line_of y) ls p y j) v (at + length cc) j g p h (ap (λ y. read_as y (g (base + stands c top))) (sym (kind_is pr sc c BoolType fits.0.0)) ∙ q.0)
-          (λ h. statement_runs x (line_of x) ls p (at + length cc + 1) j g h (fits.0.1, fits.1.0) len good (omega (arith, le, left)) (λ i lt. ap (read_as (ks.locals i)) (q.1 i (omega (arith, lt, len))) ∙ holds i lt))
-          (λ h. statement_runs y (line_of y) ls p (at + length cc + 1 + (length cx + 1)) j g h (fits.0.2, fits.1.1) len good (omega (arith, le, left)) (λ i lt. ap (read_as (ks.locals i)) (q.1 i (omega (arith, lt, len))) ∙ holds i lt)))
-      statement_runs (while_loop l c b) line ls p at k f h fits len good left holds =
-          let cb = statement_code ks a hd (line_of b) b top in
-          enters line cb (tail_code ks line c cb top) at k f p (exec parts line ls p (while_loop l c b) k) h
-          (turn_runs line c cb (λ ls p k. exec parts (line_of b) ls p b k) (while_loop l c b) (at + 1) ls p k f h.1 fits.0.0 len good left holds
-          (λ ls p k f len good left holds. statement_runs b (line_of b) ls p (at + 1) k f (has_front code (at + 1) cb (tail_code ks line c cb top) h.1) (fits.0.1, fits.1) len good left holds)
-          (λ ls p k good. stays_sound b fits.0.1 (line_of b) ls p k good)
-          (λ ls p k f len good lt holds. run.agains (while_loop l c b) line ls p (at + 1) k f tt h.1 fits len good lt holds))
-      statement_runs (for_loop l site part first c next b) line ls p at k f h fits len good left holds =
-          for_runs l site part first c next b line ls p at k f h fits len good left holds (λ ls p at k f h fits len good left holds. statement_runs first line ls p at k f h fits len good left holds) (λ ls p at k f h fits len good left holds. statement_runs b (line_of b) ls p at k f h fits len good left holds) (λ ls p at k f h fits len good left holds. statement_runs next line ls p at k f h fits len good left holds)
-      statement_runs (return_value l e) line ls p at k f h fits len good left holds =
-          let ce = operand_code ks line e top in
-          with_flows acc code w ret (at_place at k f p) p ce (on line (Return (stands e top)) ∷ []) (Stood base f (stands e top) top (kind_of ks e)) (LocalsAt ks base top) (λ v k. gives_back v p k) refl h (parts.value line ls p e k)
-          (λ h. run.operands e fits.0.0 fits.0.2 line ls p at k f h len good left holds)
-          (λ v j g z h q below le. (g, at + length ce, stands e top, line, stays acc code (at_place (at + length ce) j g p), h.0, ap (λ y. read_as y (g (base + stands e top))) (sym (kind_is pr sc e fits.0.0 fits.0.2 ∙ sym (ap kind_at fits.0.1))) ∙ q.0, (λ j lt. refl), omega arith))
-      statement_runs (invoke l e op es) line ls p at k f h fits len good left holds = run.acts (invoke l e op es) line ls p at k f tt h fits len good left holds
-      statement_runs (put_field l x op e) line ls p at k f h fits len good left holds = run.acts (put_field l x op e) line ls p at k f tt h fits len good left holds
-      statement_runs (put_item l x i op e) line ls p at k f h fits len good left holds = run.acts (put_item l x i op e) line ls p at k f tt h fits len good left holds
-      statement_runs (new_local l x c) line ls p at k f h fits len good left holds = run.acts (new_local l x c) line ls p at k f tt h fits len good left holds
-      statement_runs (new_field l x c) line ls p at k f h fits len good left holds = run.acts (new_field l x c) line ls p at k f tt h fits len good left holds
-      statement_runs (new_item l x i c) line ls p at k f h fits len good left holds = run.acts (new_item l x i c) line ls p at k f tt h fits len good left holds
-      statement_runs (print_value l e) line ls p at k f h fits len good left holds = run.acts (print_value l e) line ls p at k f tt h fits len good left holds
-
-      pub statements_run : (xs : Statements) (ls : List Datum) (p : P) (at k : ℕ) (f : Store) → HasAt code at (statements_code ks a hd xs top) → FitAll xs → length ls ≡ top → Here ls p → k ≤ n → Holds ks.locals f base ls → Flows acc code w ret (at_place at k f p) (length (statements_code ks a hd xs top)) (LocalsAt ks base top) (exec_all parts ls p xs k)
-      statements_run no_statements ls p at k f h fits len good left holds = (f, rests acc code (at_place at k f p), (holds, len), (λ j lt. refl), omega arith)
-      statements_run (statement_and x rest) ls p at k f h fits len good left holds =
-          and_flows acc code w ret (at_place at k f p) (statement_code ks a hd (line_of x) x top) (statements_code ks a hd rest top) (LocalsAt ks base top) (LocalsAt ks base top) Here (λ ls s k. exec_all parts ls s rest k) h (exec parts (line_of x) ls p x k) (stays_sound x fits.0.0 (line_of x) ls p k good)
-          (λ h. statement_runs x (line_of x) ls p at k f h (fits.0.0, fits.1.0) len good left holds)
-          (λ ls p j g h good q below le. statements_run rest ls p (at + length (statement_code ks a hd (line_of x) x top)) j g h (fits.0.1, fits.1.1) q.1 good (omega (arith, le, left)) q.0)
+    pub statements_run : (xs : Statements) (ls : List Datum) (p : P) (at k : ℕ) (f : Store) → HasAt code at (statements_code ks a hd xs top) → FitAll xs → length ls ≡ top → Here ls p → k ≤ n → Holds ks.locals f base ls → Flows acc code w ret (at_place at k f p) (length (statements_code ks a hd xs top)) (LocalsAt ks base top) (exec_all parts ls p xs k)
+    statements_run xs ls p at k f h t len good left holds =
+        only (statements_do acc code (nothing_else acc code) pr sc.locals ret w a hd parts me below base n top E Fits FitAll Here means xs ls p at k f h t len good left holds)
 
     -- a loop that comes again
     pub loop_runs : (x : Statement) (line : ℕ) (ls : List Datum) (p : P) (at k : ℕ) (f : Store) → IsLoop x → HasAt code at (body_of_loop ks a hd line x top ++ tail_of_loop ks a hd line x top) → Fits x → length ls ≡ top → Here ls p → k ≤ n → Holds ks.locals f base ls → Flows acc code w ret (at_place (at + length (body_of_loop ks a hd line x top)) k f p) (length (tail_of_loop ks a hd line x top)) (LocalsAt ks base top) (turn parts line ls p x k)
-    loop_runs (while_loop l c b) line ls p at k f is h fits len good left holds =
-        let cb = statement_code ks a hd (line_of b) b top in
-        turn_runs line c cb (λ ls p k. exec parts (line_of b) ls p b k) (while_loop l c b) at ls p k f h fits.0.0 len good left holds
-        (λ ls p k f len good left holds. statement_runs b (line_of b) ls p at k f (has_front code at cb (tail_code ks line c cb top) h) (fits.0.1, fits.1) len good left holds)
-        (λ ls p k good. stays_sound b fits.0.1 (line_of b) ls p k good)
-        (λ ls p k f len good lt holds. run.agains (while_loop l c b) line ls p at k f tt h fits len good lt holds)
-    loop_runs (for_loop l site part first c next b) line ls p at k f is h fits len good left holds =
-        let cb = statement_code ks a hd (line_of b) b top in
-        let cn = statement_code ks a hd line next top in
-        turn_runs line c (cb ++ cn) (λ ls s k. and_on (exec parts (line_of b) ls s b k) (λ ls s k. exec parts line ls s next k)) (for_loop l site part first c next b) at ls p k f h fits.0.1 len good left holds
-        (λ ls p k f len good left holds.
-        and_flows acc code w ret (at_place at k f p) cb cn (LocalsAt ks base top) (LocalsAt ks base top) Here (λ ls s k. exec parts line ls s next k) (has_front code at (cb ++ cn) (tail_code ks line c (cb ++ cn) top) h) (exec parts (line_of b) ls p b k) (stays_sound b fits.0.3 (line_of b) ls p k good)
-        (λ h. statement_runs b (line_of b) ls p at k f h (fits.0.3, fits.1.2) len good left holds)
-        (λ ls p j g h good q below le. statement_runs next line ls p (at + length cb) j g h (fits.0.2, fits.1.1) q.1 good (omega (arith, le, left)) q.0))
-        (λ ls p k good. and_sound (exec parts (line_of b) ls p b k) (λ ls s k. exec parts line ls s next k) (stays_sound b fits.0.3 (line_of b) ls p k good) (λ ls p k good. stays_sound next fits.0.2 line ls p k good))
-        (λ ls p k f len good lt holds. run.agains (for_loop l site part first c next b) line ls p at k f tt h fits len good lt holds)
-    loop_runs other line ls p at k f is h fits len good left holds = absurd is
+    loop_runs x line ls p at k f is h t len good left holds =
+        only (loop_does acc code (nothing_else acc code) pr sc.locals ret w a hd parts me below base n top E Fits FitAll Here means x line ls p at k f is h t len good left holds)

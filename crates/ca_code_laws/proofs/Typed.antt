@@ -11,7 +11,7 @@ use Rattle.ca_program.specs.declared.program.FieldInfo.{FieldInfo}
 use Rattle.ca_program.specs.declared.program.ValueType.{ValueType}
 use Rattle.ca_program.specs.declared.program.ValueType.TheVariants.{Long as LongType, Bool as BoolType, Pointer}
 use Rattle.ca_program.specs.Plain.{PlainProgram, PlainMethod, Expression, Expressions, number, truth, null, this, local, own, own_item, read, read_item, value_call, unary, binary, no_expressions, expression_and}
-use Rattle.ca_program.specs.Kinds.{Kind, kind_type, kind_at, field_kind, param_kind, result_kind, Kinds, kinds_in, unary_kind, binary_kind, kind_of}
+use Rattle.ca_program.specs.Kinds.{Kind, kind_type, kind_at, field_kind, param_kind, result_kind, kinds_in, unary_kind, binary_kind, kind_of}
 use Rattle.ca_program.specs.Layout.{width_of, is_lazy, stands}
 use Rattle.ca_model.specs.declared.value.Value.{Value as Datum}
 use Rattle.ca_model.specs.declared.value.Value.TheVariants.{Long, Bool as Truth, Null, Ref}
@@ -22,6 +22,7 @@ use Rattle.ca_meaning.specs.Flows.{Flow, goes_on, gives_back, stops, runs_out}
 use Rattle.ca_meaning.specs.WellTyped.{ValuesTyped, parameters_of, CallTyped}
 use Rattle.ca_meaning.specs.ProgramTyped.{Scope, IsFunction, IsOperation, ExpressionTyped, ExpressionsTyped, IsScalar, IsArray, SidesTyped, signed_type}
 use Rattle.ca_meaning_laws.specs.Typed.{Yields, yields, yields_trap, yields_over, FlowTyped, goes_on_typed}
+use Rattle.ca_code_laws.specs.Fitting.{AreOf}
 use Rattle.ca_code_laws.specs.Words.{has_kind, all_have}
 use Rattle.ca_code_laws.proofs.Steps.{length_taken, Goes}
 
@@ -168,11 +169,6 @@ pub operation_call : (h : List Object) (o : Option PlainMethod) (c : ClassId) (t
 operation_call h None c tys n vs f e t = absurd f
 operation_call h (Some m) c tys n vs f e t = (subst (λ z. IsOfClass (slice_get h n) z) (sym f.0) e, subst (λ z. ValuesTyped h vs z) (sym f.1) t)
 
--- expressions of these kinds
-abbrev pub ArgumentsFit : Kinds → (ℕ → Kind) → Expressions → Type 0
-ArgumentsFit ks κs no_expressions = Unit {0}
-ArgumentsFit ks κs (expression_and e es) = (kind_of ks e ≡ κs 0) × ArgumentsFit ks (λ i. κs (suc i)) es
-
 module _ (p : PlainProgram) (s : Scope) where
   pub kind_is : (e : Expression) (ty : ValueType) → ExpressionTyped p s e ty → kind_of (kinds_in p s.locals) e ≡ kind_type ty
   kind_is (number n) ty t = sym (ap kind_type t.0)
@@ -188,7 +184,7 @@ module _ (p : PlainProgram) (s : Scope) where
   kind_is (unary op e) ty t = signed_kind op ∙ sym (ap kind_type t.0)
   kind_is (binary op a b) ty t = sides_kind op t.0 ty t.1
 
-  pub arguments_fit : (es : Expressions) (tys : List ValueType) (κs : ℕ → Kind) → ExpressionsTyped p s es tys → ((i : ℕ) (ty : ValueType) → slice_get tys i ≡ Some ty → κs i ≡ kind_type ty) → ArgumentsFit (kinds_in p s.locals) κs es
+  pub arguments_fit : (es : Expressions) (tys : List ValueType) (κs : ℕ → Kind) → ExpressionsTyped p s es tys → ((i : ℕ) (ty : ValueType) → slice_get tys i ≡ Some ty → κs i ≡ kind_type ty) → AreOf (kinds_in p s.locals) κs es
   arguments_fit no_expressions tys κs t h = tt
   arguments_fit (expression_and e es) tys κs t h =
       (kind_is e t.0 t.3 ∙ sym (h zero t.0 (ap (λ z. slice_get z zero) t.2)), arguments_fit es t.1 (λ i. κs (suc i)) t.4 (λ i ty e. h (suc i) ty (ap (λ z. slice_get z (suc i)) t.2 ∙ e)))

@@ -1,6 +1,6 @@
 //! The laws of laid-out programs.
 
-ghost use Rattle.std.specs.Prelude.{◌≡◌, ℕ, ◌-◌, Contains, List, [], ◌∷◌, length, suc, Some, slice_get, false, true};
+ghost use Rattle.std.specs.Prelude.{◌≡◌, ℕ, ◌-◌, Bool, Contains, List, [], ◌∷◌, length, suc, None, Some, slice_get, false, true};
 ghost use Rattle.ca_program.specs.declared.program.ClassId.{ClassId};
 ghost use Rattle.ca_program.specs.declared.program.FieldId.{FieldId};
 ghost use Rattle.ca_program.specs.declared.program.FunctionId.{FunctionId};
@@ -25,15 +25,15 @@ ghost use Rattle.ca_parallel.specs.Bodies.{fors_in_all};
 ghost use Rattle.ca_parallel.specs.Lists.{PlainMarks, no_marks, note, noted, noted_run, world_after};
 ghost use Rattle.ca_parallel.specs.Loops.{IsCallLoop};
 ghost use Rattle.ca_parallel.specs.Marks.{SoundMarks};
-ghost use Rattle.ca_parallel.specs.Separable.{Separable};
+ghost use Rattle.ca_parallel.specs.Separable.{IsSeparated, Separable};
 ghost use Rattle.ca_note_laws.specs.Listing.{CallLoopsPutNothing, listing_run, puts_nothing};
 ghost use Rattle.ca_code_laws.specs.Fitting.{FitsMethod, FitsStatement, FunctionsFit};
 ghost use Rattle.ca_code_laws.specs.Heeding.{HeedingLaidOut, MainHeeds};
 ghost use Rattle.ca_code_laws.specs.Known.{IsKnown, KnowsLoop, loop_alone};
 ghost use Rattle.ca_code_laws.specs.Machine.{Store, Back, Accesses, State, Outcome, Comes, Ends, call_of, row, slot};
 ghost use Rattle.ca_code_laws.specs.Noted.{EndsNoted};
-ghost use Rattle.ca_code_laws.specs.Runs.{run_access, section_access, section_outcome, sectioned_as, beginning, outcome_of, ended_as};
-ghost use Rattle.ca_code_laws.specs.Told.{IsLaidOut, Holds, Returned, Came, Passed, Front};
+ghost use Rattle.ca_code_laws.specs.Runs.{Into, run_access, run_into, section_access, section_outcome, sectioned_as, beginning, outcome_of, ended_as};
+ghost use Rattle.ca_code_laws.specs.Told.{IsLaidOut, Holds, Returned, Came, Passed, Front, notes_in};
 
 /// A typed call of a value method comes back with its value, whatever world it runs in and however that is accessed, as long as
 /// the heap is typed and the method reads its receiver there.
@@ -61,17 +61,18 @@ pub fn whoever_ends_ends_serially()
     ensures { (p : PlainProgram) → ProgramTyped p → (code : Code) → IsLaidOut p code → (at budget : ℕ) → MainLaidOut p code at → (s : State World) (o : Outcome World) → Comes (run_access p) code (beginning at budget) s → Ends (run_access p) code s o → serial p budget ≡ ended_as budget o }
 {}
 
-/// Where marked calls and loops are handed on it ends as the run that lists the calls of a loop first, with the same notes.
+/// Where marked calls and loops are handed on, or gone into, it ends as the run that lists the calls of a loop first, with the same
+/// notes.
 pub fn marked_code_lists_first()
-    ensures { (p : PlainProgram) → ProgramTyped p → (code : Code) → IsLaidOut p code → (marks : PlainMarks) → HeedingLaidOut marks p code → (at k : ℕ) → MainHeeds marks p code at → Ends (run_access p) code (beginning at k) (outcome_of (listing_run p marks k)) }
+    ensures { (p : PlainProgram) → ProgramTyped p → (code : Code) → IsLaidOut p code → (marks : PlainMarks) → HeedingLaidOut marks p code → (into : Into) (at k : ℕ) → MainHeeds marks p code at → Ends (run_into into p) code (beginning at k) (outcome_of (listing_run into p marks k)) }
 {}
 
-/// Whoever hands marked calls and loops on knows how the serial run ends, where the marks are sound.
+/// Whoever hands marked calls and loops on, or goes into them, knows how the serial run ends, where the marks are sound.
 pub fn whoever_hands_on_ends_serially()
-    ensures { (p : PlainProgram) → ProgramTyped p → (marks : PlainMarks) → SoundMarks p marks → CallLoopsPutNothing → (code : Code) → IsLaidOut p code → HeedingLaidOut marks p code → (at budget : ℕ) → MainHeeds marks p code at → (s : State World) (o : Outcome World) → Comes (run_access p) code (beginning at budget) s → Ends (run_access p) code s o → serial p budget ≡ ended_as budget o }
+    ensures { (p : PlainProgram) → ProgramTyped p → (marks : PlainMarks) → SoundMarks p marks → CallLoopsPutNothing → (code : Code) → IsLaidOut p code → HeedingLaidOut marks p code → (at budget : ℕ) → MainHeeds marks p code at → (into : Into) (s : State World) (o : Outcome World) → Comes (run_into into p) code (beginning at budget) s → Ends (run_into into p) code s o → serial p budget ≡ ended_as budget o }
 {}
 
-/// Code that heeds marks does what the run with marks does, where they are sound.
+/// Code that heeds marks does what the run with marks does, where they are sound, whatever of what is handed on is gone into.
 pub fn marked_code_ends_noted()
     ensures { (p : PlainProgram) → ProgramTyped p → (marks : PlainMarks) → SoundMarks p marks → CallLoopsPutNothing → (code : Code) → IsLaidOut p code → HeedingLaidOut marks p code → (at : ℕ) → MainHeeds marks p code at → EndsNoted p marks code at }
 {}
@@ -83,22 +84,32 @@ pub fn plain_code_ends_noted()
 
 /// Whoever runs code that does what the run with marks does ends as that, with its notes, and hands marked calls and loops on.
 pub fn whoever_hands_on_ends_noted()
-    ensures { (p : PlainProgram) (marks : PlainMarks) (code : Code) (at budget : ℕ) → EndsNoted p marks code at → (s : State World) (o : Outcome World) → Comes (run_access p) code (beginning at budget) s → Ends (run_access p) code s o → o ≡ outcome_of (noted_run p marks budget) }
+    ensures { (p : PlainProgram) (marks : PlainMarks) (code : Code) (at budget : ℕ) → EndsNoted p marks code at → (into : Into) (s : State World) (o : Outcome World) → Comes (run_into into p) code (beginning at budget) s → Ends (run_into into p) code s o → o ≡ outcome_of (noted_run p marks budget) }
 {}
 
 /// What was printed and noted up to a state stands at the front of what the whole run prints and notes.
 pub fn prints_and_notes_only_grow()
-    ensures { (p : PlainProgram) (marks : PlainMarks) (code : Code) (at budget : ℕ) → EndsNoted p marks code at → (s : State World) → Comes (run_access p) code (beginning at budget) s → Front s.world (world_after (noted_run p marks budget)) }
+    ensures { (p : PlainProgram) (marks : PlainMarks) (code : Code) (at budget : ℕ) → EndsNoted p marks code at → (into : Into) (s : State World) → Comes (run_into into p) code (beginning at budget) s → Front s.world (world_after (noted_run p marks budget)) }
 {}
 
 /// The note of a call that is about to be handed on stands in the whole run's, behind those that were taken.
 pub fn calls_handed_on_are_noted()
-    ensures { (p : PlainProgram) (marks : PlainMarks) (code : Code) (at budget : ℕ) → EndsNoted p marks code at → (s : State World) → Comes (run_access p) code (beginning at budget) s → (op : OpId) (first r : ℕ) → slice_get code.items s.at ≡ Some (Hand op first) → slot s as_pointer first ≡ Ref r → Front (noted s.world (note s.world.heap (call_of code s op first r ∷ []) s.left)) (world_after (noted_run p marks budget)) }
+    ensures { (p : PlainProgram) (marks : PlainMarks) (code : Code) (at budget : ℕ) → EndsNoted p marks code at → (into : Into) (s : State World) → Comes (run_into into p) code (beginning at budget) s → (op : OpId) (first r : ℕ) → slice_get code.items s.at ≡ Some (Hand op first) → slot s as_pointer first ≡ Ref r → Front (noted s.world (note s.world.heap (call_of code s op first r ∷ []) s.left)) (world_after (noted_run p marks budget)) }
 {}
 
 /// So does that of the calls which a loop lists that is about to be handed on.
 pub fn loops_handed_on_are_noted()
-    ensures { (p : PlainProgram) (marks : PlainMarks) (code : Code) (at budget : ℕ) → EndsNoted p marks code at → (s : State World) → Comes (run_access p) code (beginning at budget) s → (n line : ℕ) (h : Handed) (m : LoopOutcome) → slice_get code.items s.at ≡ Some (Begin n) → slice_get code.lines s.at ≡ Some line → slice_get code.loops s.at ≡ Some (Some h) → puts_nothing h.loop ≡ true → loop_section p s.world.heap s.this (row s.slots s.base h.locals) line h.loop s.left ≡ loop_done m → Front (noted s.world (note s.world.heap m.listed (s.left - m.steps))) (world_after (noted_run p marks budget)) }
+    ensures { (p : PlainProgram) (marks : PlainMarks) (code : Code) (at budget : ℕ) → EndsNoted p marks code at → (into : Into) (s : State World) → Comes (run_into into p) code (beginning at budget) s → (n line : ℕ) (h : Handed) (m : LoopOutcome) → slice_get code.items s.at ≡ Some (Begin n) → slice_get code.lines s.at ≡ Some line → slice_get code.loops s.at ≡ Some (Some h) → puts_nothing h.loop ≡ true → loop_section p s.world.heap s.this (row s.slots s.base h.locals) line h.loop s.left ≡ loop_done m → Front (noted s.world (note s.world.heap m.listed (s.left - m.steps))) (world_after (noted_run p marks budget)) }
+{}
+
+/// What notes nothing comes to the same state, whatever of what is handed on is gone into.
+pub fn what_notes_nothing_comes_alike()
+    ensures { (p : PlainProgram) (code : Code) (into : Into) (s t : State World) → Comes (run_access p) code s t → t.world.notes ≡ s.world.notes → Comes (run_into into p) code s t }
+{}
+
+/// So it ends.
+pub fn what_notes_nothing_ends_alike()
+    ensures { (p : PlainProgram) (code : Code) (into : Into) (s : State World) (o : Outcome World) → Ends (run_access p) code s o → notes_in o ≡ Some s.world.notes → Ends (run_into into p) code s o }
 {}
 
 /// The same instructions, with own accesses in hand and calls listed, run the section of a separable operation, behind the step
@@ -126,6 +137,14 @@ pub fn loops_are_typed()
 /// as parameters, of their kinds. Whoever runs it to another end knows the section.
 pub fn fitting_bodies_know_their_sections()
     ensures { (p : PlainProgram) → FunctionsFit p → (code : Code) → IsLaidOut p code → (frozen : List Object) (op : OpId) (m : PlainMethod) → slice_get p.ops op.0 ≡ Some m → FitsMethod p true m → (r : ℕ) (vs : List Datum) → m.params ≡ length vs → (object : Object) (start base k : ℕ) (f : Store) → slice_get code.ops op.0 ≡ Some start → Holds (λ i. param_kind (Some m) i) f base vs → (o : Outcome Section) → IsKnown o → Ends (section_access frozen) code (record { at = start; base = base; left = k; this = Ref r; below = []; slots = f; world = section_start object.slots }) o → section p frozen r object op vs (suc k) ≡ sectioned_as object.class (suc k) o }
+{}
+
+/// The bodies of a typed program fit their layout: those of value methods, of separable operations, which make and print nothing,
+/// and loops that are handed on. So whoever asks a checked program's text whether it fits is told that it does.
+pub fn typed_texts_fit()
+    ensures functions { (p : PlainProgram) → ProgramTyped p → FunctionsFit p }
+    ensures operations { (p : PlainProgram) → ProgramTyped p → (written : List FieldId) (op : OpId) → Separable p written op → (m : PlainMethod) → slice_get p.ops op.0 ≡ Some m → FitsMethod p true m }
+    ensures loops { (p : PlainProgram) → ProgramTyped p → (s : Scope) → s.result ≡ None → (written : List FieldId) (after : Bool) (loop : Statement) → StatementTyped p s loop → IsSeparated p written after loop → FitsStatement p s.locals true as_pointer loop }
 {}
 
 /// So does a loop whose code stands on its own, with an end: who comes to its end has the loop's locals in the first slots.

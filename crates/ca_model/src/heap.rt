@@ -118,6 +118,15 @@ impl Heap {
         &self.objects[id as usize]
     }
 
+    /// The object at this place.
+    #[inline]
+    pub fn at(&self, place: usize) -> &Object
+        requires { place < length self.now }
+        ensures { slice_get self.now place ≡ Some result.now }
+    {
+        &self.objects[place]
+    }
+
     /// Whether there is such an object, and it has such an item.
     pub fn has_slot(&self, id: u32, field: u32, item: u32) -> bool
         ensures { IsTrue result ↔ HasSlot (slice_get self.now id) field item }

@@ -24,11 +24,7 @@ use Rattle.ca_sums.specs.Sums.{is_tied}
 use Rattle.ca_sums.proofs.Collect.{Gathered, SameCoefficients, gathered_same, gathered_collect, total_collect}
 use Rattle.ca_forms.proofs.Exact.{scalars_exact, monomials_exact}
 use Rattle.ca_forms.proofs.RowOrder.{IsGathered}
-
--- the word and the others of an operand, as the operator keeps them
-items_back : (xs : List PlainScalar) → items_of (scalars_of xs) ≡ xs
-items_back [] = refl
-items_back (x ∷ xs) = ap (λ ys. x ∷ ys) (items_back xs)
+use Rattle.ca_forms.proofs.Made.{items_back, polynomial_back}
 
 itself : (o : FoldOp) → nat_eq (fold_number o) (fold_number o) ≡ true
 itself Max = refl
@@ -282,10 +278,6 @@ pub number_of_neat : (x : PlainScalar) → NeatScalar x → (number_form (number
 number_of_neat (number_form f) h = (refl, h.0, h.1)
 number_of_neat (truth_form f) h = absurd h
 number_of_neat (pointer_form p) h = absurd h
-
-polynomial_back : (f : PlainPolynomial) → polynomial_of (products_of f) ≡ f
-polynomial_back no_products = refl
-polynomial_back (product_and m c f) = ap (product_and m c) (polynomial_back f)
 
 collect_again : (ps : Sum PlainMonomial) → Gathered monomial_cmp ps → collect monomial_cmp ps ≡ ps
 unfolding SameCoefficients

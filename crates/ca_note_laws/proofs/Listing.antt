@@ -1,5 +1,5 @@
 -- Whoever lists the calls of marked loops first runs what the run with marks does.
-use Rattle.std.proofs.Common.{◌≡◌, ℕ, zero, suc, ◌≤◌, ◌-◌, List, [], ◌∷◌, ◌++◌, Option, Some, None, refl, sym, subst, ap, ◌∙◌, true, false, Bool, map, arith}
+use Rattle.std.proofs.Common.{◌≡◌, ℕ, zero, suc, ◌≤◌, ◌-◌, List, [], ◌∷◌, ◌++◌, Option, Some, None, refl, sym, subst, ap, ◌∙◌, true, false, Bool, length, map, arith}
 use Rattle.std.specs.Prelude.{slice_get, Contains}
 use Rattle.ca_program.specs.declared.program.ClassId.{ClassId}
 use Rattle.ca_program.specs.declared.program.FirstPart.{FirstPart}
@@ -67,12 +67,22 @@ module _ (p : PlainProgram) where
   list_self [] w k = flow_go [] w k
   list_self (i ∷ is) w k = flow_on _ _ (run_near k (operations_of p) (operations_of p) (ops_self k) [] i w k (le_self k)) (λ ls w j le. list_self is w j)
 
-  section_self : (this : Datum) (line : ℕ) (ls : List Datum) (w : World) (s : Statement) (k : ℕ) (o : LoopSectioned) → NearFlow k (by_section p this line ls w s k o) (by_section p this line ls w s k o)
-  section_self this line ls w s k (loop_done m) =
-      let le : k - m.steps ≤ k = omega arith in
-      behind_near m.locals (flow_more le (list_self m.listed (with_list w k m) (k - m.steps))) (serial_self this line ls (with_list w k m) s k)
-  section_self this line ls w s k (loop_stopped t) = serial_self this line ls w s k
-  section_self this line ls w s k loop_over = serial_self this line ls w s k
+  section_self : (into : ℕ → Bool) (this : Datum) (line : ℕ) (ls : List Datum) (w : World) (s : Statement) (k : ℕ) (o : LoopSectioned) → NearFlow k (by_section into p this line ls w s k o) (by_section into p this line ls w s k o)
+  section_self into this line ls w s k (loop_done m) = from (into (length w.notes))
+    where
+      within : Flow World
+      within = exec (serial_parts p this) line ls (with_list w k m) s k
+
+      listed : Flow World
+      listed = behind_list m.locals (serial_ops p m.listed (with_list w k m) (k - m.steps)) (exec (serial_parts p this) line ls (with_list w k m) s k)
+
+      from : (b : Bool) → NearFlow k (either b within listed) (either b within listed)
+      from true = serial_self this line ls (with_list w k m) s k
+      from false =
+          let le : k - m.steps ≤ k = omega arith in
+          behind_near m.locals (flow_more le (list_self m.listed (with_list w k m) (k - m.steps))) (serial_self this line ls (with_list w k m) s k)
+  section_self into this line ls w s k (loop_stopped t) = serial_self this line ls w s k
+  section_self into this line ls w s k loop_over = serial_self this line ls w s k
 
   module _ (ms : PlainMarks) where
     call_near : (n : ℕ) (f g o u : Operations) → CloseOps n f g → CloseOps n o u → (ls : List Datum) (i : Invocation) (w : World) (k : ℕ) → k ≤ n → NearFlow k (noted_call ms f o ls i w k) (noted_call ms g u ls i w k)
@@ -83,45 +93,45 @@ module _ (p : PlainProgram) where
         from false = run_near n o u d ls i w k le
 
     -- ---- the run that lists first
+    module _ (into : ℕ → Bool) where
+      listing_loop_near : (this : Datum) (line : ℕ) (ls : List Datum) (w : World) (s : Statement) (k : ℕ) (x y : Flow World) → NearFlow k x y → NearFlow k (listing_loop into p ms this line ls w s k x) (listing_loop into p ms this line ls w s k y)
+      listing_loop_near this line ls w s k x y near = from (loop_in ms.loops s) (puts_nothing s)
+        where
+          from : (a b : Bool) → NearFlow k (either a (either b (by_section into p this line ls w s k (loop_section p w.heap this ls line s k)) (exec (serial_parts p this) line ls w s k)) x) (either a (either b (by_section into p this line ls w s k (loop_section p w.heap this ls line s k)) (exec (serial_parts p this) line ls w s k)) y)
+          from true true = section_self into this line ls w s k (loop_section p w.heap this ls line s k)
+          from true false = serial_self this line ls w s k
+          from false b = near
 
-    listing_loop_near : (this : Datum) (line : ℕ) (ls : List Datum) (w : World) (s : Statement) (k : ℕ) (x y : Flow World) → NearFlow k x y → NearFlow k (listing_loop p ms this line ls w s k x) (listing_loop p ms this line ls w s k y)
-    listing_loop_near this line ls w s k x y near = from (loop_in ms.loops s) (puts_nothing s)
-      where
-        from : (a b : Bool) → NearFlow k (either a (either b (by_section p this line ls w s k (loop_section p w.heap this ls line s k)) (exec (serial_parts p this) line ls w s k)) x) (either a (either b (by_section p this line ls w s k (loop_section p w.heap this ls line s k)) (exec (serial_parts p this) line ls w s k)) y)
-        from true true = section_self this line ls w s k (loop_section p w.heap this ls line s k)
-        from true false = serial_self this line ls w s k
-        from false b = near
+      listing_agree : (n : ℕ) (o u : Operations) → CloseOps n o u → (this : Datum) → CloseParts n (listing_parts into p ms o this) (listing_parts into p ms u this)
+      listing_agree n o u d this = record {
+        values = λ line ls w e k le. eval_self p.functions w.heap (place w.heap this line ls) e k;
+        acts = λ line ls w x k le. act_self p this line ls w x k;
+        calls = λ line ls w e op es k le. flow_with w _ _ (due_self p.functions w.heap (place w.heap this line ls) e op es k) (λ i k1 le1. call_near n (operations_of p) (operations_of p) o u (ops_self n) d ls i w k1 (omega arith));
+        agains = λ line ls w x k lt. d.agains this line ls w x k lt;
+        begins = λ line ls w x k a b le near. listing_loop_near this line ls w x k a b near;
+      }
 
-    listing_agree : (n : ℕ) (o u : Operations) → CloseOps n o u → (this : Datum) → CloseParts n (listing_parts p ms o this) (listing_parts p ms u this)
-    listing_agree n o u d this = record {
-      values = λ line ls w e k le. eval_self p.functions w.heap (place w.heap this line ls) e k;
-      acts = λ line ls w x k le. act_self p this line ls w x k;
-      calls = λ line ls w e op es k le. flow_with w _ _ (due_self p.functions w.heap (place w.heap this line ls) e op es k) (λ i k1 le1. call_near n (operations_of p) (operations_of p) o u (ops_self n) d ls i w k1 (omega arith));
-      agains = λ line ls w x k lt. d.agains this line ls w x k lt;
-      begins = λ line ls w x k a b le near. listing_loop_near this line ls w x k a b near;
-    }
+      close_listing : (n a b : ℕ) → n ≤ a → n ≤ b → CloseOps n (listing_operations into a p ms) (listing_operations into b p ms)
+      close_listing n zero b x y = record { invokes = λ i w k lt. absurd (omega arith); agains = λ this line ls w z k lt. absurd (omega arith) }
+      close_listing n (suc a) zero x y = record { invokes = λ i w k lt. absurd (omega arith); agains = λ this line ls w z k lt. absurd (omega arith) }
+      close_listing n (suc a) (suc b) x y = record {
+        invokes = λ i w k lt. all_exec_near k _ _ (listing_agree k _ _ (close_listing k a b (omega arith) (omega arith)) (Ref i.receiver)) (body_of (slice_get p.ops i.op.0)) (locals_of (slice_get p.ops i.op.0) i.arguments) w k (le_self k);
+        agains = λ this line ls w z k lt. loop_near k _ _ (listing_agree k _ _ (close_listing k a b (omega arith) (omega arith)) this) z line ls w k (le_self k);
+      }
 
-    close_listing : (n a b : ℕ) → n ≤ a → n ≤ b → CloseOps n (listing_operations a p ms) (listing_operations b p ms)
-    close_listing n zero b x y = record { invokes = λ i w k lt. absurd (omega arith); agains = λ this line ls w z k lt. absurd (omega arith) }
-    close_listing n (suc a) zero x y = record { invokes = λ i w k lt. absurd (omega arith); agains = λ this line ls w z k lt. absurd (omega arith) }
-    close_listing n (suc a) (suc b) x y = record {
-      invokes = λ i w k lt. all_exec_near k _ _ (listing_agree k _ _ (close_listing k a b (omega arith) (omega arith)) (Ref i.receiver)) (body_of (slice_get p.ops i.op.0)) (locals_of (slice_get p.ops i.op.0) i.arguments) w k (le_self k);
-      agains = λ this line ls w z k lt. loop_near k _ _ (listing_agree k _ _ (close_listing k a b (omega arith) (omega arith)) this) z line ls w k (le_self k);
-    }
+      close_all_listing : (n : ℕ) → CloseOps n (listing_operations into n p ms) (listing_of into p ms)
+      close_all_listing n = record {
+        invokes = λ i w k lt. let c : CloseOps (suc k) (listing_operations into n p ms) (listing_operations into (suc k) p ms) = close_listing (suc k) n (suc k) lt (le_self (suc k)) in c.invokes i w k (le_self (suc k));
+        agains = λ this line ls w x k lt. let c : CloseOps (suc k) (listing_operations into n p ms) (listing_operations into (suc k) p ms) = close_listing (suc k) n (suc k) lt (le_self (suc k)) in c.agains this line ls w x k (le_self (suc k));
+      }
 
-    close_all_listing : (n : ℕ) → CloseOps n (listing_operations n p ms) (listing_of p ms)
-    close_all_listing n = record {
-      invokes = λ i w k lt. let c : CloseOps (suc k) (listing_operations n p ms) (listing_operations (suc k) p ms) = close_listing (suc k) n (suc k) lt (le_self (suc k)) in c.invokes i w k (le_self (suc k));
-      agains = λ this line ls w x k lt. let c : CloseOps (suc k) (listing_operations n p ms) (listing_operations (suc k) p ms) = close_listing (suc k) n (suc k) lt (le_self (suc k)) in c.agains this line ls w x k (le_self (suc k));
-    }
+      -- a call runs its body
+      pub listing_invoke_runs : (i : Invocation) (w : World) (k : ℕ) → (listing_of into p ms).invoke i w k ≡ exec_all (listing_parts into p ms (listing_of into p ms) (Ref i.receiver)) (locals_of (slice_get p.ops i.op.0) i.arguments) w (body_of (slice_get p.ops i.op.0)) k
+      listing_invoke_runs i w k = flow_same (all_exec_near k _ _ (listing_agree k _ _ (close_all_listing k) (Ref i.receiver)) (body_of (slice_get p.ops i.op.0)) (locals_of (slice_get p.ops i.op.0) i.arguments) w k (le_self k))
 
-    -- a call runs its body
-    pub listing_invoke_runs : (i : Invocation) (w : World) (k : ℕ) → (listing_of p ms).invoke i w k ≡ exec_all (listing_parts p ms (listing_of p ms) (Ref i.receiver)) (locals_of (slice_get p.ops i.op.0) i.arguments) w (body_of (slice_get p.ops i.op.0)) k
-    listing_invoke_runs i w k = flow_same (all_exec_near k _ _ (listing_agree k _ _ (close_all_listing k) (Ref i.receiver)) (body_of (slice_get p.ops i.op.0)) (locals_of (slice_get p.ops i.op.0) i.arguments) w k (le_self k))
-
-    -- a loop that comes again begins anew
-    pub listing_loop_runs : (this : Datum) (line : ℕ) (ls : List Datum) (w : World) (x : Statement) (k : ℕ) → (listing_of p ms).again this line ls w x k ≡ turn (listing_parts p ms (listing_of p ms) this) line ls w x k
-    listing_loop_runs this line ls w x k = flow_same (loop_near k _ _ (listing_agree k _ _ (close_all_listing k) this) x line ls w k (le_self k))
+      -- a loop that comes again begins anew
+      pub listing_loop_runs : (this : Datum) (line : ℕ) (ls : List Datum) (w : World) (x : Statement) (k : ℕ) → (listing_of into p ms).again this line ls w x k ≡ turn (listing_parts into p ms (listing_of into p ms) this) line ls w x k
+      listing_loop_runs this line ls w x k = flow_same (loop_near k _ _ (listing_agree k _ _ (close_all_listing k) this) x line ls w k (le_self k))
 
     -- ---- the run with marks, by the whole serial run of what is handed off
 
@@ -174,7 +184,7 @@ module _ (p : PlainProgram) where
 
 -- ---- both runs do the same, where the state is good
 
-module _ (p : PlainProgram) (program : ProgramTyped p) (ms : PlainMarks) (sound : SoundMarks p ms) (puts_none : CallLoopsPutNothing) where
+module _ (p : PlainProgram) (program : ProgramTyped p) (ms : PlainMarks) (sound : SoundMarks p ms) (puts_none : CallLoopsPutNothing) (into : ℕ → Bool) where
   record SameOps (o u : Operations) : Type 0 where
     invokes : (i : Invocation) (w : World) (k : ℕ) → TypedHeap p w.heap → WellTyped p w.heap i → NotesGood p w.notes → o.invoke i w k ≡ u.invoke i w k
     agains : (s : Scope) (r : Datum) (line : ℕ) (ls : List Datum) (w : World) (y : Statement) (k : ℕ) → Good p s r w → ValuesTyped w.heap ls s.locals → StatementTyped p s y → Within (loops_of_program p) (fors_in y) → o.again r line ls w y k ≡ u.again r line ls w y k
@@ -205,8 +215,8 @@ module _ (p : PlainProgram) (program : ProgramTyped p) (ms : PlainMarks) (sound 
       from (runs_out w) flow = refl
 
   -- a marked loop that lists its calls first
-  section_same : (s : Scope) (r : Datum) (line : ℕ) (ls : List Datum) (w : World) (y : Statement) (k : ℕ) → WorldTyped p s r w → ValuesTyped w.heap ls s.locals → StatementTyped p s y → SoundLoop p y → (o : LoopSectioned) → loop_section p w.heap r ls line y k ≡ o → by_section p r line ls w y k o ≡ exec (serial_parts p r) line ls (loop_noted w k o) y k
-  section_same s r line ls w y k good t ty loop (loop_done m) e = from (serial_ops p m.listed (with_list w k m) (k - m.steps)) refl
+  section_same : (s : Scope) (r : Datum) (line : ℕ) (ls : List Datum) (w : World) (y : Statement) (k : ℕ) → WorldTyped p s r w → ValuesTyped w.heap ls s.locals → StatementTyped p s y → SoundLoop p y → (o : LoopSectioned) → loop_section p w.heap r ls line y k ≡ o → by_section into p r line ls w y k o ≡ exec (serial_parts p r) line ls (loop_noted w k o) y k
+  section_same s r line ls w y k good t ty loop (loop_done m) e = by (into (length w.notes))
     where
       v : World
       v = with_list w k m
@@ -220,6 +230,10 @@ module _ (p : PlainProgram) (program : ProgramTyped p) (ms : PlainMarks) (sound 
       from (gives_back z x j) d = refl
       from (stops z x) d = refl
       from (runs_out x) d = refl
+
+      by : (b : Bool) → either b (exec (serial_parts p r) line ls (with_list w k m) y k) (behind_list m.locals (serial_ops p m.listed (with_list w k m) (k - m.steps)) (exec (serial_parts p r) line ls (with_list w k m) y k)) ≡ exec (serial_parts p r) line ls (with_list w k m) y k
+      by true = refl
+      by false = from (serial_ops p m.listed (with_list w k m) (k - m.steps)) refl
   section_same s r line ls w y k good t ty loop (loop_stopped u) e = refl
   section_same s r line ls w y k good t ty loop loop_over e = refl
 
@@ -228,7 +242,7 @@ module _ (p : PlainProgram) (program : ProgramTyped p) (ms : PlainMarks) (sound 
     wp = noted_parts p ms (operations_of p) o r
 
     abbrev up : Parts World
-    up = listing_parts p ms u r
+    up = listing_parts into p ms u r
 
     good_exec : (y : Statement) → StatementTyped p s y → Within (loops_of_program p) (fors_in y) → (line : ℕ) (ls : List Datum) (w : World) (k : ℕ) → Good p s r w → Extends h w.heap → ValuesTyped w.heap ls s.locals → GoodFlow p s r h (exec wp line ls w y k)
     good_exec = exec_good p program ms sound (operations_of p) o (plain_all p program ms sound) all s r h
@@ -244,7 +258,7 @@ module _ (p : PlainProgram) (program : ProgramTyped p) (ms : PlainMarks) (sound 
     value : (line : ℕ) (ls : List Datum) (w : World) (e : Expression) (ty : ValueType) (k : ℕ) → Good p s r w → ValuesTyped w.heap ls s.locals → ExpressionTyped p s e ty → Yields (λ v. HasType w.heap v ty) (value_in p.functions w.heap r line ls e k)
     value = value_typed p program ms sound (operations_of p) o (plain_all p program ms sound) all s r h
 
-    begin_same : (line : ℕ) (ls : List Datum) (w : World) (l : ℕ) (site : LoopId) (part : FirstPart) (first : Statement) (c : Expression) (next b : Statement) (k : ℕ) (x z : Flow World) → Good p s r w → ValuesTyped w.heap ls s.locals → StatementTyped p s (for_loop l site part first c next b) → Within (loops_of_program p) (fors_in (for_loop l site part first c next b)) → x ≡ z → noted_loop p ms (operations_of p) r line ls w (for_loop l site part first c next b) k x ≡ listing_loop p ms r line ls w (for_loop l site part first c next b) k z
+    begin_same : (line : ℕ) (ls : List Datum) (w : World) (l : ℕ) (site : LoopId) (part : FirstPart) (first : Statement) (c : Expression) (next b : Statement) (k : ℕ) (x z : Flow World) → Good p s r w → ValuesTyped w.heap ls s.locals → StatementTyped p s (for_loop l site part first c next b) → Within (loops_of_program p) (fors_in (for_loop l site part first c next b)) → x ≡ z → noted_loop p ms (operations_of p) r line ls w (for_loop l site part first c next b) k x ≡ listing_loop into p ms r line ls w (for_loop l site part first c next b) k z
     begin_same line ls w l site part first c next b k x z good t ty here e = from (loop_in ms.loops y) refl
       where
         y : Statement
@@ -259,7 +273,7 @@ module _ (p : PlainProgram) (program : ProgramTyped p) (ms : PlainMarks) (sound 
         empty : targets_of y ≡ [] → puts_nothing y ≡ true
         empty none = ap is_empty none
 
-        from : (q : Bool) → loop_in ms.loops y ≡ q → either q (exec (serial_parts p r) line ls (loop_noted w k (loop_section p w.heap r ls line y k)) y k) x ≡ either q (either (puts_nothing y) (by_section p r line ls w y k (loop_section p w.heap r ls line y k)) (exec (serial_parts p r) line ls w y k)) z
+        from : (q : Bool) → loop_in ms.loops y ≡ q → either q (exec (serial_parts p r) line ls (loop_noted w k (loop_section p w.heap r ls line y k)) y k) x ≡ either q (either (puts_nothing y) (by_section into p r line ls w y k (loop_section p w.heap r ls line y k)) (exec (serial_parts p r) line ls w y k)) z
         from true d =
             let loop : SoundLoop p y = found d in
             let none : puts_nothing y ≡ true = empty (puts_none y loop.form) in
@@ -341,7 +355,7 @@ module _ (p : PlainProgram) (program : ProgramTyped p) (ms : PlainMarks) (sound 
 
   -- ---- the body of an operation, and the whole run
 
-  body_same : (o u : Operations) → NotedOps p program ms sound o → SameOps o u → (i : Invocation) (w : World) (k : ℕ) → TypedHeap p w.heap → NotesGood p w.notes → (m : Option PlainMethod) → slice_get p.ops i.op.0 ≡ m → CallTyped w.heap m i.receiver i.arguments → exec_all (noted_parts p ms (operations_of p) o (Ref i.receiver)) (locals_of m i.arguments) w (body_of m) k ≡ exec_all (listing_parts p ms u (Ref i.receiver)) (locals_of m i.arguments) w (body_of m) k
+  body_same : (o u : Operations) → NotedOps p program ms sound o → SameOps o u → (i : Invocation) (w : World) (k : ℕ) → TypedHeap p w.heap → NotesGood p w.notes → (m : Option PlainMethod) → slice_get p.ops i.op.0 ≡ m → CallTyped w.heap m i.receiver i.arguments → exec_all (noted_parts p ms (operations_of p) o (Ref i.receiver)) (locals_of m i.arguments) w (body_of m) k ≡ exec_all (listing_parts into p ms u (Ref i.receiver)) (locals_of m i.arguments) w (body_of m) k
   body_same o u all same i w k heap notes None e c = absurd c
   body_same o u all same i w k heap notes (Some m) e c =
       let mt : OperationTyped p m = program.ops i.op.0 m e in
@@ -361,11 +375,11 @@ module _ (p : PlainProgram) (program : ProgramTyped p) (ms : PlainMarks) (sound 
         agains = λ s r h line ls w y k good ext t ty here. turn_good p program ms sound (operations_of p) (even_operations p ms n) (plain_all p program ms sound) all s r h y ty here line ls w k good ext t;
       }
 
-  same_at : (n : ℕ) → SameOps (even_operations p ms n) (listing_operations n p ms)
+  same_at : (n : ℕ) → SameOps (even_operations p ms n) (listing_operations into n p ms)
   same_at zero = record { invokes = λ i w k heap well notes. refl; agains = λ s r line ls w y k good t ty here. refl }
   same_at (suc n) = record {
-    invokes = λ i w k heap well notes. body_same (even_operations p ms n) (listing_operations n p ms) (even_good n) (same_at n) i w k heap notes (slice_get p.ops i.op.0) refl well;
-    agains = λ s r line ls w y k good t ty here. turn_same (even_operations p ms n) (listing_operations n p ms) (even_good n) (same_at n) s r w.heap y ty here line ls w k good (extends_self w.heap) t;
+    invokes = λ i w k heap well notes. body_same (even_operations p ms n) (listing_operations into n p ms) (even_good n) (same_at n) i w k heap notes (slice_get p.ops i.op.0) refl well;
+    agains = λ s r line ls w y k good t ty here. turn_same (even_operations p ms n) (listing_operations into n p ms) (even_good n) (same_at n) s r w.heap y ty here line ls w k good (extends_self w.heap) t;
   }
 
   even_all : NotedOps p program ms sound (even_of p ms)
@@ -374,17 +388,17 @@ module _ (p : PlainProgram) (program : ProgramTyped p) (ms : PlainMarks) (sound 
     agains = λ s r h line ls w y k good ext t ty here. let all : NotedOps p program ms sound (even_operations p ms (suc k)) = even_good (suc k) in all.agains s r h line ls w y k good ext t ty here;
   }
 
-  same_all : SameOps (even_of p ms) (listing_of p ms)
+  same_all : SameOps (even_of p ms) (listing_of into p ms)
   same_all = record {
-    invokes = λ i w k heap well notes. let same : SameOps (even_operations p ms (suc k)) (listing_operations (suc k) p ms) = same_at (suc k) in same.invokes i w k heap well notes;
-    agains = λ s r line ls w y k good t ty here. let same : SameOps (even_operations p ms (suc k)) (listing_operations (suc k) p ms) = same_at (suc k) in same.agains s r line ls w y k good t ty here;
+    invokes = λ i w k heap well notes. let same : SameOps (even_operations p ms (suc k)) (listing_operations into (suc k) p ms) = same_at (suc k) in same.invokes i w k heap well notes;
+    agains = λ s r line ls w y k good t ty here. let same : SameOps (even_operations p ms (suc k)) (listing_operations into (suc k) p ms) = same_at (suc k) in same.agains s r line ls w y k good t ty here;
   }
 
-  run_same : (k : ℕ) → listing_run p ms k ≡ noted_run p ms k
+  run_same : (k : ℕ) → listing_run into p ms k ≡ noted_run p ms k
   run_same k =
       sym (even_run p ms k
-      ∙ all_same (even_of p ms) (listing_of p ms) even_all same_all (main_scope p) Null [] p.main.statements program.main (main_inside p) _ (fresh []) k
+      ∙ all_same (even_of p ms) (listing_of into p ms) even_all same_all (main_scope p) Null [] p.main.statements program.main (main_inside p) _ (fresh []) k
       (record { world = record { heap = tt; receiver = tt }; notes = λ n c. absurd (none_of n c) }) (extends_self []) (starts_typed [] p.main.locals))
 
 pub lists_first : ListsFirst
-lists_first p program ms sound none budget = run_same p program ms sound none budget
+lists_first p program ms sound none into budget = run_same p program ms sound none into budget

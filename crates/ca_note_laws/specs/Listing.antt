@@ -1,6 +1,7 @@
 -- The run with marks of whoever lists the calls of a marked loop before they run, as an engine is handed them: the
--- section of the loop, and then what that lists. Where either isn't done, the loop runs as the serial run runs it.
-use Rattle.std.specs.Prelude.{◌≡◌, ℕ, zero, suc, ◌-◌, Bool, true, false, List, [], ◌∷◌, map, slice_get}
+-- section of the loop, and then what that lists. Where either isn't done, the loop runs as the serial run runs it; and so does
+-- one that is gone into, which `into` says by how many notes stand before its own.
+use Rattle.std.specs.Prelude.{◌≡◌, ℕ, zero, suc, ◌-◌, Bool, true, false, List, [], ◌∷◌, length, map, slice_get}
 use Rattle.ca_program.specs.Plain.{PlainProgram, Statement}
 use Rattle.ca_model.specs.declared.value.Value.{Value as Datum}
 use Rattle.ca_model.specs.declared.value.Value.TheVariants.{Null, Ref}
@@ -36,50 +37,51 @@ abbrev pub with_list : World → ℕ → LoopOutcome → World
 with_list w k m = noted w (note w.heap m.listed (k - m.steps))
 
 -- a loop whose section ends so
-abbrev pub by_section : PlainProgram → Datum → ℕ → List Datum → World → Statement → ℕ → LoopSectioned → Flow World
-by_section p this line ls w loop k (loop_done m) =
-    behind_list m.locals (serial_ops p m.listed (with_list w k m) (k - m.steps)) (exec (serial_parts p this) line ls (with_list w k m) loop k)
-by_section p this line ls w loop k (loop_stopped t) = exec (serial_parts p this) line ls w loop k
-by_section p this line ls w loop k loop_over = exec (serial_parts p this) line ls w loop k
+abbrev pub by_section : (ℕ → Bool) → PlainProgram → Datum → ℕ → List Datum → World → Statement → ℕ → LoopSectioned → Flow World
+by_section into p this line ls w loop k (loop_done m) =
+    either (into (length w.notes)) (exec (serial_parts p this) line ls (with_list w k m) loop k)
+    (behind_list m.locals (serial_ops p m.listed (with_list w k m) (k - m.steps)) (exec (serial_parts p this) line ls (with_list w k m) loop k))
+by_section into p this line ls w loop k (loop_stopped t) = exec (serial_parts p this) line ls w loop k
+by_section into p this line ls w loop k loop_over = exec (serial_parts p this) line ls w loop k
 
-abbrev pub listing_loop : PlainProgram → PlainMarks → Datum → ℕ → List Datum → World → Statement → ℕ → Flow World → Flow World
-listing_loop p ms this line ls w loop k plain =
-    either (loop_in ms.loops loop) (either (puts_nothing loop) (by_section p this line ls w loop k (loop_section p w.heap this ls line loop k)) (exec (serial_parts p this) line ls w loop k)) plain
+abbrev pub listing_loop : (ℕ → Bool) → PlainProgram → PlainMarks → Datum → ℕ → List Datum → World → Statement → ℕ → Flow World → Flow World
+listing_loop into p ms this line ls w loop k plain =
+    either (loop_in ms.loops loop) (either (puts_nothing loop) (by_section into p this line ls w loop k (loop_section p w.heap this ls line loop k)) (exec (serial_parts p this) line ls w loop k)) plain
 
-abbrev pub listing_parts : PlainProgram → PlainMarks → Operations → Datum → Parts World
-listing_parts p ms o this = record {
+abbrev pub listing_parts : (ℕ → Bool) → PlainProgram → PlainMarks → Operations → Datum → Parts World
+listing_parts into p ms o this = record {
   value = λ line ls w e k. value_in p.functions w.heap this line ls e k;
   act = operation_act p this;
   call = λ line ls w e op arguments k.
       with (due (functions_of p.functions w.heap).call (place w.heap this line ls) e op arguments k) w (λ i k. noted_call ms (operations_of p) o ls i w k);
   again = o.again this;
-  begin = listing_loop p ms this;
+  begin = listing_loop into p ms this;
 }
 
 -- where calls and turns are nested at most n deep
-abbrev pub listing_operations : ℕ → PlainProgram → PlainMarks → Operations
-listing_operations zero p ms = record { invoke = λ i w k. runs_out w; again = λ this line ls w loop k. runs_out w }
-listing_operations (suc n) p ms = record {
+abbrev pub listing_operations : (ℕ → Bool) → ℕ → PlainProgram → PlainMarks → Operations
+listing_operations into zero p ms = record { invoke = λ i w k. runs_out w; again = λ this line ls w loop k. runs_out w }
+listing_operations into (suc n) p ms = record {
   invoke = λ i w k.
-      exec_all (listing_parts p ms (listing_operations n p ms) (Ref i.receiver)) (locals_of (slice_get p.ops i.op.0) i.arguments) w (body_of (slice_get p.ops i.op.0)) k;
-  again = λ this line ls w loop k. turn (listing_parts p ms (listing_operations n p ms) this) line ls w loop k;
+      exec_all (listing_parts into p ms (listing_operations into n p ms) (Ref i.receiver)) (locals_of (slice_get p.ops i.op.0) i.arguments) w (body_of (slice_get p.ops i.op.0)) k;
+  again = λ this line ls w loop k. turn (listing_parts into p ms (listing_operations into n p ms) this) line ls w loop k;
 }
 
-abbrev pub listing_of : PlainProgram → PlainMarks → Operations
-listing_of p ms = record {
-  invoke = λ i w k. (listing_operations (suc k) p ms).invoke i w k;
-  again = λ this line ls w loop k. (listing_operations (suc k) p ms).again this line ls w loop k;
+abbrev pub listing_of : (ℕ → Bool) → PlainProgram → PlainMarks → Operations
+listing_of into p ms = record {
+  invoke = λ i w k. (listing_operations into (suc k) p ms).invoke i w k;
+  again = λ this line ls w loop k. (listing_operations into (suc k) p ms).again this line ls w loop k;
 }
 
 -- `main` from the empty heap, with at most k steps
-abbrev pub listing_run : PlainProgram → PlainMarks → ℕ → Flow World
-listing_run p ms k = exec_all (listing_parts p ms (listing_of p ms) Null) (map start_of p.main.locals) (fresh []) p.main.statements k
+abbrev pub listing_run : (ℕ → Bool) → PlainProgram → PlainMarks → ℕ → Flow World
+listing_run into p ms k = exec_all (listing_parts into p ms (listing_of into p ms) Null) (map start_of p.main.locals) (fresh []) p.main.statements k
 
 -- a call loop puts nothing into fields
 abbrev pub CallLoopsPutNothing : Type 0
 CallLoopsPutNothing = (loop : Statement) → IsCallLoop loop → targets_of loop ≡ []
 
 -- Of a typed program with sound marks it is the run with marks: whoever lists the calls of a loop first, and hands off
--- what that lists, runs what the serial run does.
+-- what that lists, or goes into it, runs what the serial run does.
 abbrev pub ListsFirst : Type 0
-ListsFirst = (p : PlainProgram) → ProgramTyped p → (marks : PlainMarks) → SoundMarks p marks → CallLoopsPutNothing → (budget : ℕ) → listing_run p marks budget ≡ noted_run p marks budget
+ListsFirst = (p : PlainProgram) → ProgramTyped p → (marks : PlainMarks) → SoundMarks p marks → CallLoopsPutNothing → (into : ℕ → Bool) (budget : ℕ) → listing_run into p marks budget ≡ noted_run p marks budget

@@ -29,6 +29,7 @@ use Rattle.ca_cells.specs.Seats.{Applies, IsOf, IsSameSeat, IsStop, section_on, 
 use Rattle.ca_deques.specs.Settings.{Setting, Fits, AllFit}
 use Rattle.ca_pool.specs.Work.{setting_of, IsLoose, AreNoted, StopsFree, StopsWithin, noted_weight, listed_weight, ran_weight, made_weight, ran_by, listed_at}
 use Rattle.ca_pool.specs.Parts.{Did, made_in, kept_in, seat_key}
+use Rattle.ca_cells.proofs.Chains.{one_of}
 
 pub may_run : (s : Setting) (given : Given) (t : Task) → s ≡ setting_of given → Fits s t → MayRun given t
 may_run s given t e f = let g : Fits (setting_of given) t = subst (λ (x : Setting). Fits x t) e f in record { typed = g.typed; inside = g.inside }
@@ -48,10 +49,6 @@ same_seat_key old new s = ap (λ b. (b, (view_of new).number, (view_of new).out)
 pub still_of : (cells : Cells) (old new : Seat) → IsOf cells old → IsSameSeat old new → IsOf cells new
 still_of cells old new o s = (s.table ∙ o.0, s.given ∙ o.1)
 
-pub all_one : {A : Type 0} (P : A → Type 0) (x : A) → P x → All P (x ∷ [])
-all_one P x h zero d l = h
-all_one P x h (suc k) d l = absurd (omega arith)
-
 pub all_none : {A : Type 0} (P : A → Type 0) → All P []
 all_none P k d l = absurd (omega (arith, l))
 
@@ -69,7 +66,7 @@ one_more_weight : {A : Type 0} (g : A → ℕ) (olds news : List A) (n : A) → 
 one_more_weight g olds news n e = omega (arith, ap (weight g) e, weight_append g olds (n ∷ []))
 
 one_more_has : {A : Type 0} (P : A → Type 0) (olds news : List A) (n : A) → news ≡ olds ++ n ∷ [] → P n → All P olds → All P news
-one_more_has P olds news n e p h = subst (All P) (sym e) (All-append P olds (n ∷ []) h (all_one P n p))
+one_more_has P olds news n e p h = subst (All P) (sym e) (All-append P olds (n ∷ []) h (one_of P n p))
 
 pub none_some : (why : Stop) → None ≡ Some why → ⊥
 none_some why e = cc
@@ -213,7 +210,7 @@ module _ (s : Setting) (cells : Cells) (left : ℕ) (seat after : Seat) where
       seat_of = still_of cells seat after of same;
       same = same_seat_key seat after same;
       made_fit = all_none (Fits s);
-      kept_fit = all_one (Fits s) back (subst (Fits s) (sym is) fits);
+      kept_fit = one_of (Fits s) back (subst (Fits s) (sym is) fits);
       stops = λ h. subst (λ (ns : List Note). AreNoted key left ns (loose_of after)) (sym noted) (subst (AreNoted key left (notes_of seat)) (sym loose) h);
       ran = λ h. omega (arith, ap (weight (noted_weight h)) noted, ap (weight (ran_weight h)) loose, ap h is);
       listed = λ h. omega (arith, ap (weight (listed_weight h)) noted, ap (weight (made_weight h)) loose);

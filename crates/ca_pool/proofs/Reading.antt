@@ -160,10 +160,6 @@ all_full now ns ls a b h = let c : length (map fresh now) ≡ length ls = fresh_
 pub closing_told : (log : RoundLog) (loose : List (List Entry)) → IsTold log → HasClosing log.logs.items loose → HasClosing (logs_in log) loose
 closing_told log loose is h = subst (λ (es : List Entry). (e : Entry) × Contains (es ++ loose_entries loose) e × (is_closing e ≡ true)) (sym (entries_told log is)) h
 
-pub none_waits : (xs : List Task) → length xs ≡ 0 → xs ≡ []
-none_waits [] e = refl
-none_waits (x ∷ xs) e = absurd (omega arith)
-
 pub as_many_logs : (cells : Option Cells) (left : ℕ) (first : List Task) (a b : List CellLog) (k l : List (List Entry)) (r s : List Task) → Gathered cells left first a k r → Gathered cells left first b l s → length a ≡ length b
 as_many_logs None left first a b k l r s g h = absurd g
 as_many_logs (Some cells) left first a b k l r s g h = g.count ∙ sym h.count

@@ -10,6 +10,7 @@ use ca_model::Heap;
 use ca_parallel::Op;
 use ca_sections::Coded;
 use ca_serial::{ExtentAnswer, Extents};
+use ca_steps::Mark;
 use ca_trace::Line;
 use std::alloc::Global;
 use std::sync::Wait;
@@ -65,4 +66,10 @@ impl<E: Traced> Extents for Recorder<E> {
         self.engine
             .traced(rt, program, heap, operations, budget, &mut self.lines)
     }
+
+    fn in_order(&self, _heap: &Heap, _mark: Mark) -> bool {
+        false
+    }
+
+    fn pass(&self, _object: u32) {}
 }

@@ -20,28 +20,20 @@ use Rattle.ca_sections.specs.declared.operations.SectionAnswer.TheVariants.{Done
 use Rattle.ca_beside.specs.declared.beside.Changed.{Changed}
 use Rattle.ca_beside.specs.Beside.{present}
 use Rattle.ca_beside.specs.Beside as beside
-use Rattle.ca_beside.proofs.Present.{past_none, present_length, same_some}
+use Rattle.ca_beside.proofs.Present.{past_none, present_length, same_some, front}
+use Rattle.ca_order_laws.proofs.CallThenList.{set_same}
 use Rattle.ca_model.specs.declared.value.Trap.{Trap}
 use Rattle.ca_run.specs.Rounds.{RanThis}
 use Rattle.ca_replay.specs.Steps.{EndsSo, Kept, DoesntWait, TakenOut}
 use Rattle.ca_trace.proofs.Existing.{op_for}
+use Rattle.ca_code.proofs.Places.{there as get_map}
 
 -- ---- what waits
-
-get_map : {A B : Type 0} (f : A → B) (xs : List A) (n : ℕ) (x : A) → slice_get xs n ≡ Some x → slice_get (map f xs) n ≡ Some (f x)
-get_map f [] n x e = absurd (let z = e in cc)
-get_map f (y ∷ xs) zero x e = let z = e in cc
-get_map f (y ∷ xs) (suc n) x e = get_map f xs n x e
 
 get_within : {A : Type 0} (xs : List A) (n : ℕ) (x : A) → slice_get xs n ≡ Some x → n < length xs
 get_within [] n x e = absurd (let z = e in cc)
 get_within (y ∷ xs) zero x e = omega arith
 get_within (y ∷ xs) (suc n) x e = let l : n < length xs = get_within xs n x e in omega (arith, l)
-
-get_front : {A : Type 0} (xs ys : List A) (n : ℕ) (x : A) → slice_get xs n ≡ Some x → slice_get (xs ++ ys) n ≡ Some x
-get_front [] ys n x e = absurd (let z = e in cc)
-get_front (y ∷ xs) ys zero x e = e
-get_front (y ∷ xs) ys (suc n) x e = get_front xs ys n x e
 
 -- one item weighed apart from the others
 pub weigh_out : {A B : Type 0} (g : A → B) (f : B → ℕ) (xs : List A) (n : ℕ) (b : B) → slice_get (map g xs) n ≡ Some b → weight f (map g xs) ≡ f b + weight f (map g (take n xs ++ drop (n + 1) xs))
@@ -58,11 +50,6 @@ weigh_out {A} g f (x ∷ xs) (suc n) b e =
 is_zero : {x y : Invocation} (d : Decides x y) → ¬ (x ≡ y) → is_one decide_call d ≡ 0
 is_zero (equal e) n = absurd (n e)
 is_zero (other n) m = refl
-
-set_same : (h : List Object) (n : ℕ) (o : Object) → slice_get h n ≡ Some o → slice_set h n o ≡ h
-set_same [] n o e = absurd (let z = e in cc)
-set_same (x ∷ h) zero o e = ap (λ y. y ∷ h) (sym (same_some (slice_get (x ∷ h) 0) x o refl e))
-set_same (x ∷ h) (suc n) o e = ap (λ l. x ∷ l) (set_same h n o e)
 
 none_counted : (i : Invocation) (is : List Invocation) → ((n : ℕ) → ¬ (slice_get is n ≡ Some i)) → weight (count_of decide_call i) is ≡ 0
 none_counted i [] none = refl
@@ -135,7 +122,7 @@ module _ (p : PlainProgram) (frozen h : List Object) (ops : List Op) (op : Op) (
         heap = s.heap ∙ ap (λ o. slice_set h op.receiver o) i.1;
         waits = record {
           weighed = λ f.
-              let there : slice_get (invocations_of waiting) place ≡ Some (invocation_of op) = subst (λ (l : List Invocation). slice_get l place ≡ Some (invocation_of op)) (sym i.2) (get_front (invocations_of ops) m.listed place (invocation_of op) (get_map invocation_of ops place op at)) in
+              let there : slice_get (invocations_of waiting) place ≡ Some (invocation_of op) = subst (λ (l : List Invocation). slice_get l place ≡ Some (invocation_of op)) (sym i.2) (front (invocations_of ops) m.listed place (invocation_of op) (get_map invocation_of ops place op at)) in
               let a : weight f (invocations_of waiting) ≡ f (invocation_of op) + weight f (invocations_of rest) = (gone.others op (call_there waiting place op there)).weighed f in
               let b : weight f (invocations_of ops) ≡ f (invocation_of op) + weight f (invocations_of (take place ops ++ drop (place + 1) ops)) = weigh_out invocation_of f ops place (invocation_of op) (get_map invocation_of ops place op at) in
               let c : weight f (invocations_of waiting) ≡ weight f (invocations_of ops ++ m.listed) = ap (λ (l : List Invocation). weight f l) i.2 in

@@ -23,6 +23,7 @@ use ca_parallel::Op;
 use ca_run::OneWorker;
 use ca_sections::Coded;
 use ca_serial::{ExtentAnswer, Extents};
+use ca_steps::Mark;
 use ca_trace::Line;
 use std::alloc::Global;
 use std::mem;
@@ -207,4 +208,10 @@ impl Extents for Replay {
     ) -> Result<ExtentAnswer, Memory> {
         self.replay(program, heap, operations, budget)
     }
+
+    fn in_order(&self, _heap: &Heap, _mark: Mark) -> bool {
+        false
+    }
+
+    fn pass(&self, _object: u32) {}
 }

@@ -20,7 +20,7 @@ use Rattle.ca_sections.specs.Answers.{SectionIs}
 use Rattle.ca_sections.specs.declared.operations.SectionAnswer.{SectionAnswer}
 use Rattle.ca_sections.specs.declared.operations.SectionAnswer.TheVariants.{Done, Trapped, Spent}
 use Rattle.ca_beside.specs.Beside.{Sectioned as Ran}
-use Rattle.ca_beside.proofs.Present.{set_same}
+use Rattle.ca_order_laws.proofs.CallThenList.{set_same}
 use Rattle.ca_sum_laws.specs.Moves.{Moved, EndsAlike, both_done, both_stopped, both_over}
 use Rattle.ca_sum_laws.proofs.Alike.{move_alike}
 use Rattle.ca_sum_laws.proofs.Entering.{GoodHeap, good_heap, agree_both}

@@ -78,7 +78,7 @@ was fs [] n z e = cc
 was fs (o ∷ h) zero z e = (o, refl, cc)
 was fs (o ∷ h) (suc n) z e = was fs h n z e
 
-free_absent : (fs : List FieldId) (c : ClassId) (g : ℕ) → ¬ Contains fs (record { class = c; field = g }) → Absent fs c g
+pub free_absent : (fs : List FieldId) (c : ClassId) (g : ℕ) → ¬ Contains fs (record { class = c; field = g }) → Absent fs c g
 free_absent [] c g n = tt
 free_absent (f ∷ fs) c g n = (λ e. n (0, omega arith, made f e.0 e.1), free_absent fs c g (λ k. n (suc k.0, (let lt = k.1 in omega (arith, lt)), k.2)))
   where

@@ -6,6 +6,7 @@ pub mod Sums
 pub mod Taking
 pub mod Beginning
 pub mod Applying
+pub mod InPlace
 pub mod Together
 pub mod Putting
 mod Examples

@@ -18,7 +18,8 @@ use Rattle.ca_order_laws.proofs.Places.{get_set, get_else, set_again, set_length
 use Rattle.ca_order_laws.proofs.Frozen.{there_too}
 use Rattle.ca_beside.specs.declared.beside.Changed.{Changed}
 use Rattle.ca_beside.specs.Beside.{present, AreDistinct, IsAbsent}
-use Rattle.ca_beside.proofs.Present.{present_absent, present_set_first, set_same}
+use Rattle.ca_beside.proofs.Present.{present_absent, present_set_first}
+use Rattle.ca_order_laws.proofs.CallThenList.{set_same}
 use Rattle.ca_sum_laws.specs.Moves.{plus, Still}
 use Rattle.ca_sum_laws.specs.Replicas.{merged_slot, merged_object, merged}
 use Rattle.ca_sum_laws.proofs.Slots.{slot_here}
@@ -108,7 +109,7 @@ sum_else f g cs ss ne = from (number_at (slice_get ss f)) (number_at (slice_get 
     from None b = refl
     from (Some a) None = refl
 
-zero_here : (f : ℕ) (ss : List Slot) → slice_get (zeroed_slot f ss) f ≡ zero_one (slice_get ss f)
+pub zero_here : (f : ℕ) (ss : List Slot) → slice_get (zeroed_slot f ss) f ≡ zero_one (slice_get ss f)
 zero_here f ss = from (number_at (slice_get ss f)) refl
   where
     none : (s : Option Slot) → number_at s ≡ None → s ≡ zero_one s
@@ -123,7 +124,7 @@ zero_here f ss = from (number_at (slice_get ss f)) refl
     from (Some a) e = let s = numbered (slice_get ss f) a e in slot_here ss f (Long (pos 0)) (Long a) s ∙ sym (ap zero_one s)
     from None e = none (slice_get ss f) e
 
-zero_else : (f g : ℕ) (ss : List Slot) → f ≢ g → slice_get (zeroed_slot f ss) g ≡ slice_get ss g
+pub zero_else : (f g : ℕ) (ss : List Slot) → f ≢ g → slice_get (zeroed_slot f ss) g ≡ slice_get ss g
 zero_else f g ss ne = from (number_at (slice_get ss f))
   where
     from : (a : Option ℤ) → slice_get (zeroed_number ss f a) g ≡ slice_get ss g
@@ -131,14 +132,14 @@ zero_else f g ss ne = from (number_at (slice_get ss f))
     from None = refl
 
 -- one field of a class test
-chosen_else : (f : FieldId) (c : ClassId) (g : ℕ) (ss ts : List Slot) → ¬ ((f.class.0 ≡ c.0) × (f.field ≡ g)) → (f.field ≢ g → slice_get ts g ≡ slice_get ss g) → slice_get (cond (nat_eq f.class.0 c.0) ts ss) g ≡ slice_get ss g
+pub chosen_else : (f : FieldId) (c : ClassId) (g : ℕ) (ss ts : List Slot) → ¬ ((f.class.0 ≡ c.0) × (f.field ≡ g)) → (f.field ≢ g → slice_get ts g ≡ slice_get ss g) → slice_get (cond (nat_eq f.class.0 c.0) ts ss) g ≡ slice_get ss g
 chosen_else f c g ss ts n h = from (decide_nat f.class.0 c.0)
   where
     from : Decides f.class.0 c.0 → slice_get (cond (nat_eq f.class.0 c.0) ts ss) g ≡ slice_get ss g
     from (equal e) = ap (λ b. slice_get (cond b ts ss) g) (eq-eqb f.class.0 c.0 e) ∙ h (λ d. n (e, d))
     from (other ne) = ap (λ b. slice_get (cond b ts ss) g) (ne_eqb f.class.0 c.0 ne)
 
-chosen_here : (f : FieldId) (c : ClassId) (ss ts : List Slot) → f.class.0 ≡ c.0 → cond (nat_eq f.class.0 c.0) ts ss ≡ ts
+pub chosen_here : (f : FieldId) (c : ClassId) (ss ts : List Slot) → f.class.0 ≡ c.0 → cond (nat_eq f.class.0 c.0) ts ss ≡ ts
 chosen_here f c ss ts e = ap (λ b. cond b ts ss) (eq-eqb f.class.0 c.0 e)
 
 pub sums_absent : (fs : List FieldId) (c : ClassId) (g : ℕ) (cs ss : List Slot) → Absent fs c g → slice_get (sums_in fs c cs ss) g ≡ slice_get ss g

@@ -12,7 +12,7 @@ ghost use Rattle.ca_replica.specs.Unsummed.{touches, touches_any, is_no_sum, put
 use ca_extent::Extent;
 use ca_program::{AssignOp, BinaryOp, Expr, FieldId, Method, OpId, Program, Stmt, StmtForm};
 
-fn is_written(written: &[FieldId], field: FieldId) -> bool
+pub(crate) fn is_written(written: &[FieldId], field: FieldId) -> bool
     ensures { result ≡ is_written written.now field }
 {
     'fields: for f in written {

@@ -1,6 +1,6 @@
 //! What one worker added to each object that it touched.
 
-ghost use Rattle.std.specs.Prelude.{◌≡◌, ◌<◌, [], length, IfOk, OnErr, Contains};
+ghost use Rattle.std.specs.Prelude.{◌≡◌, ◌<◌, ℕ, [], length, IfOk, OnErr, Contains};
 ghost use Rattle.ca_program.specs.View.{program_view};
 ghost use Rattle.ca_meaning.specs.WellTyped.{WellTyped};
 ghost use Rattle.ca_parallel.specs.Calls.{invocation_of};
@@ -8,16 +8,23 @@ ghost use Rattle.ca_order_laws.specs.Order.{StandsFor};
 ghost use Rattle.ca_beside.specs.Beside.{present, AreDistinct, IsPlace, Sectioned};
 ghost use Rattle.ca_replica.specs.Adding.{added, Once, AreWhole};
 ghost use Rattle.ca_replica.specs.Applied.{Applied, IsRound, sums};
+ghost use Rattle.ca_replica.specs.Calls.{Completed, Marks};
+ghost use Rattle.ca_replica.specs.InPlace.{HasCopy};
 ghost use Rattle.ca_replica.specs.Zeroed.{zeroed_heap};
 
 use crate::adding::{add_copies, take_copies};
+use crate::in_place::run_whole;
+use crate::values::put_all_back;
 use crate::zeroing::zero;
-use ca_base::Memory;
+use ca_base::{Gate, Memory};
 use ca_beside::Beside;
 use ca_extent::Extent;
 use ca_model::Heap;
 use ca_parallel::Op;
+use ca_program::ClassId;
+use ca_run::Puts;
 use ca_sections::{Coded, Desk, SectionAnswer};
+use ca_steps::Frames;
 use std::alloc::{AllocError, Global};
 
 /// Copies of the objects that a worker touched. Numbers that the extent writes began at 0 in them, so they are sums.
@@ -26,8 +33,25 @@ pub struct Replica {
     pub copies: Beside,
 }
 
+/// Serves whole calls, one behind the other, with frames and the old values that undo one.
+#[derive(Drop)]
+pub struct Bench {
+    pub(crate) frames: Frames,
+    pub(crate) olds: Puts,
+}
+
+impl Bench {
+    /// It takes no memory.
+    pub fn new(alloc: Global) -> Bench {
+        Bench {
+            frames: Frames::none(alloc),
+            olds: Puts::new(alloc),
+        }
+    }
+}
+
 /// The place of an object's copy. One that has none is copied, with 0 in each number that the extent writes.
-fn place_of(
+pub(crate) fn place_of(
     copies: &mut Beside,
     extent: &Extent,
     frozen: &Heap,
@@ -36,6 +60,7 @@ fn place_of(
     requires { number < length frozen.now }
     ensures place { IfOk result (λ place. IsPlace copies.new place number) }
     ensures same { present (zeroed_heap extent.now.written frozen.now) copies.new ≡ present (zeroed_heap extent.now.written frozen.now) copies.old }
+    ensures has { (n : ℕ) → HasCopy copies.old n → HasCopy copies.new n }
 {
     match copies.find(number) {
         Some(place) => Ok(place),
@@ -129,6 +154,66 @@ impl Replica {
             left,
             out,
         )
+    }
+
+    /// Runs a call with all that it leads to within a budget, on the worker's copies. All that the extent doesn't write is read in the
+    /// frozen heap. The gate is passed before each section.
+    ///
+    /// It is done, with its steps, exactly where its serial run from the heap of sums is, and leaves what that leaves. Else, and
+    /// where memory is wanting, all sums are as before. No object has two copies.
+    pub fn complete<G: Gate>(
+        &mut self,
+        bench: &mut Bench,
+        marks: &[Option<ClassId>],
+        alloc: Global,
+        program: &Coded<'_>,
+        extent: &Extent,
+        frozen: &Heap,
+        gate: &G,
+        worker: u32,
+        op: &Op,
+        left: u64,
+    ) -> Result<Option<u64>, Memory>
+        requires round { IsRound (program_view program.now) extent.now frozen.now }
+        requires sums { StandsFor (program_view program.now) extent.now frozen.now (sums extent.now.written frozen.now self.old.copies) }
+        requires typed { WellTyped (program_view program.now) frozen.now (invocation_of op.now) }
+        // It has the marks of the extent (`marks_of`).
+        requires marks { Marks extent.now.written marks.now }
+        ensures completed { IfOk result (Completed (program_view program.now) (sums extent.now.written frozen.now self.old.copies) (invocation_of op.now) left (sums extent.now.written frozen.now self.new.copies)) }
+        ensures once { AreDistinct self.new.copies }
+        ensures kept { OnErr result (sums extent.now.written frozen.now self.new.copies ≡ sums extent.now.written frozen.now self.old.copies) }
+    {
+        bench.olds.forget();
+        match run_whole(
+            alloc,
+            program,
+            gate,
+            worker,
+            extent,
+            frozen,
+            marks,
+            &mut self.copies,
+            &mut bench.olds,
+            &mut bench.frames,
+            op,
+            left,
+        ) {
+            Ok(Some(still)) => {
+                self.copies.know_apart();
+                let steps = left.saturating_sub(still);
+                Ok(Some(steps))
+            }
+            Ok(None) => {
+                put_all_back(&mut self.copies, &mut bench.olds);
+                self.copies.know_apart();
+                Ok(None)
+            }
+            Err(wanting) => {
+                put_all_back(&mut self.copies, &mut bench.olds);
+                self.copies.know_apart();
+                Err(wanting)
+            }
+        }
     }
 
     /// Adds each sum to the heap, and changes nothing else. It takes no memory.

@@ -6,10 +6,10 @@ use Rattle.std.specs.declared.cmp.Ordering.TheVariants.{Less, Equal, Greater}
 use Rattle.std.specs.List.Sorted.{ties}
 use Rattle.ca_logs.specs.declared.log.Entry.{Entry}
 use Rattle.ca_logs.specs.LogOrder.{number_of, comes_before, put_in, ordered}
-use Rattle.ca_logs.proofs.Comparing.{less_true, less_false}
+use Rattle.ca_logs.proofs.Comparing.{less_true, less_false, by_bool}
 use Rattle.ca_round_order.specs.declared.order.Timed.{Timed}
 use Rattle.ca_round_order.specs.Timed.{timed_of, earlier, IsOrdered}
-use Rattle.ca_round_order.proofs.Stable.{by_bool, cond_true, cond_false, first_not, second_not, NoneBefore, no_more, not_before, Up, up_none, up, from_sorted, unique, up_map, filter_map}
+use Rattle.ca_round_order.proofs.Stable.{cond_true, cond_false, first_not, second_not, NoneBefore, no_more, not_before, Up, up_none, up, from_sorted, unique, up_map, filter_map}
 
 -- ---- what comes before, on numbers
 

@@ -18,7 +18,7 @@ use Rattle.ca_parallel.specs.declared.op.Op.{Op}
 use Rattle.ca_parallel.specs.Calls.{RunsTo, invocation_of, invocations_of}
 use Rattle.ca_code_laws.specs.Machine.{Finished}
 use Rattle.ca_code_laws.specs.Runs.{outcome_of}
-use Rattle.ca_run.specs.InPlace.{CallEnds, CallsEnd, EndsIn}
+use Rattle.ca_run.specs.InPlace.{CallEnds, CallsEnd, Continues, EndsIn}
 
 -- a call that its body ends so, behind the step that it takes: done
 pub call_done : (p : PlainProgram) (h after : List Object) (i : Invocation) (k left : ℕ) → outcome_of ((operations_of p).invoke i (fresh h) k) ≡ Finished (fresh after) left → CallEnds p h i (suc k) after (Some left)
@@ -44,7 +44,7 @@ call_undone p h after i k never = by ((operations_of p).invoke i (fresh h) k) ne
 pub call_too_many : (p : PlainProgram) (h after : List Object) (i : Invocation) (k : ℕ) → k ≡ 0 → CallEnds p h i k after None
 call_too_many p h after i k e = subst (λ n. CallEnds p h i n after None) (sym e) (λ ls w j same. cc)
 
-one_alone : (p : PlainProgram) (h after : List Object) (i : Invocation) (k left : ℕ) → CallEnds p h i k after (Some left) → serial_ops p (i ∷ []) (fresh h) k ≡ goes_on [] (fresh after) left
+pub one_alone : (p : PlainProgram) (h after : List Object) (i : Invocation) (k left : ℕ) → CallEnds p h i k after (Some left) → serial_ops p (i ∷ []) (fresh h) k ≡ goes_on [] (fresh after) left
 one_alone p h after i k left ran = ap (λ o. and_on o (λ ls w j. serial_ops p [] w j)) ran
 
 -- calls take no more steps than are left
@@ -68,17 +68,10 @@ typed_behind : (p : PlainProgram) → ProgramTyped p → (h after : List Object)
 typed_behind p typed h after i k left heap well ran =
     subst (DoneTyped p h) (one_alone p h after i k left ran) (done_typed p h (serial_ops p (i ∷ []) (fresh h) k) (serial_ops_keep p typed (i ∷ []) (fresh h) k heap (well, tt)))
 
--- What is left of calls, in the heap that is there and with the steps that are left, ends as all of them do.
-pub record Going (p : PlainProgram) (h : List Object) (all : List Invocation) (budget : ℕ) (now : List Object) (rest : List Invocation) (k : ℕ) : Type 0 where
-  pub same : serial_ops p all (fresh h) budget ≡ serial_ops p rest (fresh now) k
-  pub heap : TypedHeap p now
-  pub typed : AllWellTyped p now rest
-  pub few : k ≤ budget
-
-pub none_ran : (p : PlainProgram) (h : List Object) (all : List Invocation) (budget : ℕ) → TypedHeap p h → AllWellTyped p h all → Going p h all budget h all budget
+pub none_ran : (p : PlainProgram) (h : List Object) (all : List Invocation) (budget : ℕ) → TypedHeap p h → AllWellTyped p h all → Continues p h all budget h all budget
 none_ran p h all budget heap typed = record { same = refl; heap = heap; typed = typed; few = omega arith }
 
-pub one_ran : (p : PlainProgram) → ProgramTyped p → (h now after : List Object) (i : Invocation) (is all : List Invocation) (budget k left : ℕ) → Going p h all budget now (i ∷ is) k → CallEnds p now i k after (Some left) → Going p h all budget after is left
+pub one_ran : (p : PlainProgram) → ProgramTyped p → (h now after : List Object) (i : Invocation) (is all : List Invocation) (budget k left : ℕ) → Continues p h all budget now (i ∷ is) k → CallEnds p now i k after (Some left) → Continues p h all budget after is left
 one_ran p typed h now after i is all budget k left g ran =
     let kept = typed_behind p typed now after i k left g.heap g.typed.0 ran in
     record {
@@ -93,11 +86,11 @@ pub next_call : (ops : List Op) (i : ℕ) (op : Op) → i < length ops → op �
 next_call ops i op lt is = at_drop_more invocations_of ops i op lt ∙ ap (λ o. invocation_of o ∷ invocations_of (drop (i + 1) ops)) (sym is)
 
 -- all ran
-pub all_ran : (p : PlainProgram) (h now : List Object) (all rest : List Invocation) (budget k : ℕ) → Going p h all budget now rest k → rest ≡ [] → CallsEnd p h all budget now (Some k)
+pub all_ran : (p : PlainProgram) (h now : List Object) (all rest : List Invocation) (budget k : ℕ) → Continues p h all budget now rest k → rest ≡ [] → CallsEnd p h all budget now (Some k)
 all_ran p h now all rest budget k g none = g.same ∙ ap (λ is. serial_ops p is (fresh now) k) none
 
 -- or one isn't done
-pub one_stopped : (p : PlainProgram) (h now after last : List Object) (i : Invocation) (is all : List Invocation) (budget k : ℕ) → Going p h all budget now (i ∷ is) k → CallEnds p now i k after None → CallsEnd p h all budget last None
+pub one_stopped : (p : PlainProgram) (h now after last : List Object) (i : Invocation) (is all : List Invocation) (budget k : ℕ) → Continues p h all budget now (i ∷ is) k → CallEnds p now i k after None → CallsEnd p h all budget last None
 one_stopped p h now after last i is all budget k g never = λ ls w j e. by (run_call (operations_of p) [] i (fresh now) k) never ls w j (sym g.same ∙ e)
   where
     by : (o : Flow World) → EndsIn o after None → (ls : List Datum) (w : World) (j : ℕ) → ¬ (and_on o (λ ls w k. serial_ops p is w k) ≡ goes_on ls w j)

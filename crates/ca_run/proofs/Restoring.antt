@@ -1,5 +1,5 @@
 -- Old values that are put back give the heap that was there before puts.
-use Rattle.std.proofs.Common.{◌≡◌, ◌<◌, ℕ, zero, suc, true, false, List, [], ◌∷◌, length, Option, Some, None, refl, ap, sym, ◌∙◌, arith, inl, inr, lt-ltb, le-ltb, true≢false}
+use Rattle.std.proofs.Common.{◌≡◌, ℕ, zero, suc, true, false, List, [], ◌∷◌, Option, Some, None, refl, ap, sym, ◌∙◌, inl, inr, lt-ltb, le-ltb, true≢false}
 use Rattle.std.specs.Prelude.{is_some, if◌then◌else◌, slice_get}
 use Rattle.std.proofs.lemmas.Bool.{cases_lt}
 use Rattle.ca_model.specs.declared.value.Value.{Value as Datum}
@@ -39,12 +39,6 @@ item_not_told (Some s) i hasnt = elim (cases_lt i (slot_len s)) [ inl less ↦ a
 pub slot_not_told : (o : Option Object) (f i : ℕ) → ¬ HasSlot o f i → has_slot o f i ≡ false
 slot_not_told None f i hasnt = refl
 slot_not_told (Some o) f i hasnt = item_not_told (slice_get o.slots f) i hasnt
-
--- an object that has a slot is there
-pub object_there : (h : List Object) (n f i : ℕ) → HasSlot (slice_get h n) f i → n < length h
-object_there [] n f i has = absurd has
-object_there (o ∷ os) zero f i has = omega arith
-object_there (o ∷ os) (suc n) f i has = omega (arith, object_there os n f i has)
 
 pub put_back_nowhere : (h : List Object) (o : Put) → ¬ HasSlot (slice_get h o.object) o.field o.item → h ≡ put_back o h
 put_back_nowhere h o hasnt = sym (ap (λ b. if b then stored h o.object o.field o.item o.value else h) (slot_not_told (slice_get h o.object) o.field o.item hasnt))

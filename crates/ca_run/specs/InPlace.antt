@@ -1,13 +1,15 @@
--- A run in the heap itself: what stays while its bodies run, and what came of a call.
+-- A run in the heap itself: what stays while its bodies run, what came of a call, and of the first ones of some calls.
 use base.Fml.{GName}
-use Rattle.std.specs.Prelude.{◌≡◌, ℕ, List, [], Option, Some, None}
+use Rattle.std.specs.Prelude.{◌≡◌, ◌≤◌, ℕ, List, [], Option, Some, None}
 use Rattle.ca_program.specs.Plain.{PlainProgram}
 use Rattle.ca_program.specs.declared.program.Program.{Program}
 use Rattle.ca_model.specs.declared.value.Value.{Value as Datum}
 use Rattle.ca_model.specs.declared.value.Object.{Object}
+use Rattle.ca_model.specs.Typed.{TypedHeap}
 use Rattle.ca_meaning.specs.Expressions.{Invocation}
 use Rattle.ca_meaning.specs.Flows.{Flow, goes_on}
 use Rattle.ca_meaning.specs.Serial.{World, fresh, operations_of, run_call, serial_ops}
+use Rattle.ca_meaning.specs.WellTyped.{AllWellTyped}
 
 -- the program, the heap as it was, and which heap and old values are borrowed
 pub record Lasting : Type 0 where
@@ -27,3 +29,11 @@ CallEnds p h i budget after left = EndsIn (run_call (operations_of p) [] i (fres
 
 abbrev pub CallsEnd : PlainProgram → List Object → List Invocation → ℕ → List Object → Option ℕ → Type 0
 CallsEnd p h is budget after left = EndsIn (serial_ops p is (fresh h) budget) after left
+
+-- The first ones of some calls ran. The others, in the heap that is there and with the steps that are left, end as all of them do
+-- from where these began.
+pub record Continues (p : PlainProgram) (h : List Object) (all : List Invocation) (budget : ℕ) (now : List Object) (rest : List Invocation) (left : ℕ) : Type 0 where
+  pub same : serial_ops p all (fresh h) budget ≡ serial_ops p rest (fresh now) left
+  pub heap : TypedHeap p now
+  pub typed : AllWellTyped p now rest
+  pub few : left ≤ budget

@@ -17,7 +17,9 @@ use ca_model::{Heap, Value};
 use ca_parallel::Op;
 use ca_program::{FieldId, OpId, Program};
 use ca_sections::Coded;
-use ca_steps::{Access, Frames, Halt, Look, field_of, look_at, number_of, run_from};
+use ca_steps::{
+    Access, Frames, Halt, Look, field_of, look_at, number_of, receiver_of, run_from, sum_of,
+};
 use std::alloc::Global;
 
 /// The world of a run in a heap that is lent, with what undoes its puts, and the gate that each call passes.
@@ -50,6 +52,8 @@ impl<'s, G: Passes> Access for InPlace<'s, G> {
 
     ghost Fits = { λ s bs. Unit {0} };
 
+    ghost at_hand = { λ s. s.heap.now };
+
     #[inline(always)]
     fn enters(&self) -> bool {
         true
@@ -68,7 +72,7 @@ impl<'s, G: Passes> Access for InPlace<'s, G> {
     }
 
     #[inline(always)]
-    fn reach(&self, receiver: i64) {
+    fn reach(&self, receiver: i64, _start: u32) {
         if receiver > 0 && receiver <= u32::MAX as i64 {
             self.gate.pass((receiver - 1) as u32);
         }
@@ -103,12 +107,33 @@ impl<'s, G: Passes> Access for InPlace<'s, G> {
     }
 
     #[inline(always)]
+    fn reads(&self, _n: usize, _f: FieldId) -> bool {
+        true
+    }
+
+    #[inline(always)]
     fn put(&mut self, this: Value, f: FieldId, item: u32, value: Value) -> bool {
         match this {
             Value::Ref(n) => self.kept.put(self.heap, n, f.field, item, value),
             Value::Null => false,
             Value::Long(_) => false,
             Value::Bool(_) => false,
+        }
+    }
+
+    #[inline(always)]
+    fn add(&mut self, this: u32, f: FieldId, n: i64) -> Option<i64> {
+        let Value::Ref(o) = receiver_of(this) else {
+            return None;
+        };
+        let Value::Long(a) = field_of(self.heap, o, f) else {
+            return None;
+        };
+        let sum = sum_of(a, n);
+        if self.kept.put(self.heap, o, f.field, 0, Value::Long(sum)) {
+            Some(sum)
+        } else {
+            None
         }
     }
 }
@@ -137,8 +162,18 @@ impl<'s, G: Passes> InPlace<'s, G> {
     }
 }
 
+/// Passes the gate into an object, or goes by it.
+#[inline(always)]
+fn pass_where<G: Passes>(gate: &G, passes: bool, object: u32) {
+    if passes {
+        gate.pass(object);
+    }
+}
+
 /// Runs a call within a budget of steps: it leaves so many, or it isn't done. What isn't done may be undone, and so may what wants
-/// memory. A call of a parallel extent creates and prints nothing: where one stands at such an instruction, memory is wanting.
+/// memory. A call of a parallel extent creates and prints nothing: where one stands at such an instruction, memory is wanting. It passes
+/// the gate, or goes by it; the calls within pass it.
+#[inline(always)]
 fn run_call<G: Passes>(
     alloc: Global,
     program: &Coded<'_>,
@@ -146,6 +181,7 @@ fn run_call<G: Passes>(
     frames: &mut Frames,
     op: &Op,
     left: u64,
+    passes: bool,
 ) -> Result<Option<u64>, Memory>
     requires program { ProgramTyped (program_view program.now) }
     requires same { access.old.program.now ≡ program.now }
@@ -167,10 +203,10 @@ fn run_call<G: Passes>(
         return Err(Memory);
     };
     start.enter(frames, alloc, op)?;
-    access.gate.pass(op.receiver);
-    let stopped = run_from(access, start.laid, frames, start.place, left - 1, number);
-    match stopped.halt {
-        Halt::Ends => Ok(Some(stopped.here.left)),
+    pass_where(access.gate, passes, op.receiver);
+    let halt = run_from(access, start.laid, frames, start.place, left - 1, number);
+    match halt {
+        Halt::Ends => Ok(Some(frames.left)),
         Halt::Traps(_) => Ok(None),
         Halt::Spends => Ok(None),
         Halt::Leaves => Err(Memory),
@@ -199,7 +235,7 @@ fn run_calls<G: Passes>(
 {
     let mut still = left;
     'calls: for op in first {
-        let ran = run_call(alloc, program, access, frames, op, still)?;
+        let ran = run_call(alloc, program, access, frames, op, still, true)?;
         match ran {
             Some(left) => still = left,
             None => return Ok(None),
@@ -227,5 +263,28 @@ pub(crate) fn run_all<G: Passes>(
 {
     let mut access = InPlace::lent(program.program(), gate, heap, kept);
     let ran = run_calls(alloc, program, &mut access, frames, first, left);
+    ran
+}
+
+/// The same of one call.
+pub(crate) fn run_one<G: Passes>(
+    alloc: Global,
+    gate: &G,
+    program: &Coded<'_>,
+    heap: &mut Heap,
+    kept: &mut Kept,
+    frames: &mut Frames,
+    op: &Op,
+    left: u64,
+    passes: bool,
+) -> Result<Option<u64>, Memory>
+    requires program { ProgramTyped (program_view program.now) }
+    requires heap { TypedHeap (program_view program.now) heap.old }
+    requires typed { WellTyped (program_view program.now) heap.old (invocation_of op.now) }
+    ensures ran { IfOk result (λ still. CallEnds (program_view program.now) heap.old (invocation_of op.now) left heap.new still) }
+    ensures before { before kept.new heap.new ≡ before kept.old heap.old }
+{
+    let mut access = InPlace::lent(program.program(), gate, heap, kept);
+    let ran = run_call(alloc, program, &mut access, frames, op, left, passes);
     ran
 }

@@ -4,6 +4,7 @@
 //! `ca_steps`, with the calls within it (`in_place`). It needs no runtime and always returns. Its answers are those of the serial run,
 //! which it is: done with its heap and its steps exactly where that is done. At a put the old value is kept (`puts`), and what isn't
 //! done is undone; where there is no room for one more, of 65,536 and as many as the heap has values, the heap is copied and kept as it was.
+//! `run_more` runs so one call behind the other, as long as another engine likes, which may undo them all.
 //!
 //! `run_round` runs operations that were handed in, and what they list; its clause is a run of the pending machine, from where it
 //! began to where it ended, of as many operations as its limit says, or of fewer where none waits any more.
@@ -24,5 +25,6 @@ mod tracing;
 
 pub use one_worker::{OneWorker, copies};
 pub use passing::Passes;
+pub use puts::{Put, Puts, value_of};
 pub use rounds::{Round, run_round};
 pub use tracing::line_of;

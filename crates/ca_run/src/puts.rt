@@ -40,7 +40,7 @@ impl Model for Puts {
 
 impl Puts {
     /// None. It takes no memory.
-    fn new(alloc: Global) -> Puts
+    pub fn new(alloc: Global) -> Puts
         ensures { result ≡ [] }
     {
         Puts {
@@ -54,7 +54,7 @@ impl Puts {
     }
 
     /// Forgets all, and keeps the memory.
-    fn forget(&mut self)
+    pub fn forget(&mut self)
         ensures { self.new ≡ [] }
     {
         self.items.clear();
@@ -62,7 +62,7 @@ impl Puts {
 
     /// Adds an old value, if there is room.
     #[inline(always)]
-    fn add(&mut self, old: Put) -> bool
+    pub fn add(&mut self, old: Put) -> bool
         ensures added { result ≡ true → self.new ≡ old ∷ self.old }
         ensures same { result ≡ false → self.new ≡ self.old }
     {
@@ -74,7 +74,7 @@ impl Puts {
     }
 
     /// Adds an old value, and takes memory for it and as many more, if there is memory.
-    fn push(&mut self, old: Put) -> bool
+    pub fn push(&mut self, old: Put) -> bool
         ensures added { result ≡ true → self.new ≡ old ∷ self.old }
         ensures same { result ≡ false → self.new ≡ self.old }
     {
@@ -84,7 +84,8 @@ impl Puts {
         }
     }
 
-    fn last(&mut self) -> Option<Put>
+    /// Takes the last one out.
+    pub fn last(&mut self) -> Option<Put>
         ensures { MatchOption result ((self.old ≡ []) × (self.new ≡ [])) (λ x. self.old ≡ x ∷ self.new) }
     {
         self.items.pop()
@@ -113,7 +114,7 @@ fn put_back(heap: &mut Heap, old: Put)
 
 /// The value of an item.
 #[inline(always)]
-fn value_of(slots: &Slots, field: u32, item: u32) -> Value
+pub fn value_of(slots: &Slots, field: u32, item: u32) -> Value
     ensures { result ≡ item_in (slice_get slots.now field) item }
 {
     match slots.get(field) {

@@ -1,5 +1,5 @@
 -- A put of the old value undoes a put.
-use Rattle.std.proofs.Common.{◌≡◌, ℕ, zero, suc, ◌<◌, ◌-◌, Bool, true, false, List, [], ◌∷◌, Some, refl, ap, sym, ◌∙◌, subst, arith, length, get_or}
+use Rattle.std.proofs.Common.{◌≡◌, ℕ, zero, suc, ◌<◌, ◌-◌, Bool, true, false, List, [], ◌∷◌, Option, Some, refl, ap, sym, ◌∙◌, subst, arith, length, get_or}
 use Rattle.std.specs.Prelude.{reverse, nat_eq, if◌then◌else◌}
 use Rattle.std.proofs.lemmas.Bool.{and_parts, eqb-true}
 use Rattle.std.proofs.lemmas.List.{get_or-reverse, length-reverse}
@@ -88,3 +88,18 @@ first_is_last [] = refl
 first_is_last (x ∷ xs) =
     slice_get-get_or (reverse (x ∷ xs)) 0 x (omega (arith, length-reverse (x ∷ xs)))
     ∙ (ap Some (get_or-reverse (x ∷ xs) 0 x (omega arith)) ∙ (ap (λ (n : ℕ). Some (get_or (x ∷ xs) n x)) (omega arith) ∙ sym (slice_get-get_or (x ∷ xs) (length (x ∷ xs) - 1) x (omega arith))))
+
+-- what is kept of a put: nothing more where the last old value is of the place, and else the old value
+abbrev pub old_at : ℕ → ℕ → Datum → Old
+old_at f i v = record { field = f; item = i; value = v }
+
+pub same_kept : (olds : List Old) (ss : List Slot) (f i : ℕ) → is_of (slice_get olds 0) f i ≡ true → olds ≡ olds_after olds ss f i
+same_kept olds ss f i e = subst (λ b. olds ≡ (if b then olds else (old_at f i (item_in (slice_get ss f) i) ∷ olds))) (sym e) refl
+
+pub other_kept : (olds : List Old) (ss : List Slot) (f i : ℕ) (v : Datum) → is_of (slice_get olds 0) f i ≡ false → item_in (slice_get ss f) i ≡ v → (old_at f i v ∷ olds) ≡ olds_after olds ss f i
+other_kept olds ss f i v e is =
+    subst (λ b. (old_at f i v ∷ olds) ≡ (if b then olds else (old_at f i (item_in (slice_get ss f) i) ∷ olds))) (sym e) (ap (λ v. old_at f i v ∷ olds) (sym is))
+
+-- a single value has item 0
+pub one_there : (s : Option Slot) (v : Datum) → s ≡ Some (One v) → HasItem s 0
+one_there s v e = subst (λ s. HasItem s 0) (sym e) (omega arith)

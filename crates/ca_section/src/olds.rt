@@ -1,6 +1,9 @@
 //! The values that an object had before puts.
 
-ghost use Rattle.std.specs.Prelude.{◌≡◌, ◌∷◌, ◌++◌, [], List, IfOk, OnErr, MatchOption, slice_get};
+ghost use Rattle.std.specs.Prelude.{◌≡◌, ◌∷◌, ◌++◌, [], false, true, List, IfOk, OnErr, MatchOption, Some, slice_get};
+ghost use Rattle.ca_model.specs.declared.value.Slot.{Slot};
+ghost use Rattle.ca_model.specs.declared.value.Slot.TheVariants.{One};
+ghost use Rattle.ca_model.specs.declared.value.Value.TheVariants.{Long};
 ghost use Rattle.ca_model.specs.Slots.{put_slot, HasItem};
 ghost use Rattle.ca_section.specs.Olds.{put_back, AllThere, item_in, is_of, olds_after};
 
@@ -54,6 +57,19 @@ impl Olds {
         Ok(())
     }
 
+    /// The same without asking for memory, where there is room.
+    #[inline(always)]
+    fn add_at_hand(&mut self, old: Old) -> bool
+        ensures added { result ≡ true → self.new ≡ old ∷ self.old }
+        ensures kept { result ≡ false → self.new ≡ self.old }
+    {
+        if self.items.len() == self.items.capacity() {
+            return false;
+        }
+        self.items.push_reserved(old);
+        true
+    }
+
     fn last(&mut self) -> Option<Old>
         ensures { MatchOption result ((self.old ≡ []) × (self.new ≡ [])) (λ x. self.old ≡ x ∷ self.new) }
     {
@@ -86,6 +102,21 @@ impl Olds {
         self.add(Old { field, item, value })
     }
 
+    /// The same without asking for memory, where there is room.
+    #[inline(always)]
+    fn keep_at_hand(&mut self, slots: &Slots, field: u32, item: u32) -> bool
+        requires { HasItem (slice_get slots.now field) item }
+        ensures keeps { result ≡ true → self.new ≡ olds_after self.old slots.now field item }
+        ensures kept { result ≡ false → self.new ≡ self.old }
+    {
+        let again = self.is_last(field, item);
+        if again {
+            return true;
+        }
+        let value = item_of(slots, field, item);
+        self.add_at_hand(Old { field, item, value })
+    }
+
     /// Puts a value into an item, and keeps the one that was there, but where the last old value is of the
     /// same place: then that one is what is put back. Whatever comes of it, putting back gives what it gave before.
     #[inline(always)]
@@ -107,6 +138,56 @@ impl Olds {
         self.keep(slots, field, item)?;
         slots.put(field, item, value);
         Ok(())
+    }
+
+    /// The same without asking for memory. Where there is no room for the old value nothing is done.
+    #[inline(always)]
+    pub fn put_at_hand(&mut self, slots: &mut Slots, field: u32, item: u32, value: Value) -> bool
+        requires { HasItem (slice_get slots.old field) item }
+        ensures put { result ≡ true → slots.new ≡ put_slot slots.old field item value }
+        ensures back { put_back self.new slots.new ≡ put_back self.old slots.old }
+        ensures there { AllThere self.old slots.old → AllThere self.new slots.new }
+        ensures kept { result ≡ false → slots.new ≡ slots.old }
+    {
+        if self.keep_at_hand(slots, field, item) {
+            slots.put(field, item, value);
+            return true;
+        }
+        false
+    }
+
+    /// Keeps a number that stands in a single value, without asking for memory, where there is room, but where the last old value is of the
+    /// same place.
+    #[inline(always)]
+    fn keep_number(&mut self, field: u32, old: i64) -> bool
+        ensures keeps { result ≡ true → (slots : List Slot) → slice_get slots field ≡ Some (One (Long old)) → self.new ≡ olds_after self.old slots field 0 }
+        ensures kept { result ≡ false → self.new ≡ self.old }
+    {
+        let again = self.is_last(field, 0);
+        if again {
+            return true;
+        }
+        self.add_at_hand(Old {
+            field,
+            item: 0,
+            value: Value::Long(old),
+        })
+    }
+
+    /// Puts a number in the place of one, as `put_at_hand` does.
+    #[inline(always)]
+    pub fn put_number(&mut self, slots: &mut Slots, field: u32, old: i64, n: i64) -> bool
+        requires { slice_get slots.old field ≡ Some (One (Long old)) }
+        ensures put { result ≡ true → slots.new ≡ put_slot slots.old field 0 (Long n) }
+        ensures back { put_back self.new slots.new ≡ put_back self.old slots.old }
+        ensures there { AllThere self.old slots.old → AllThere self.new slots.new }
+        ensures kept { result ≡ false → slots.new ≡ slots.old }
+    {
+        if self.keep_number(field, old) {
+            slots.put(field, 0, Value::Long(n));
+            return true;
+        }
+        false
     }
 
     /// Moves those of a later section to these, as the first ones to be put back, and keeps the memory of both. Without

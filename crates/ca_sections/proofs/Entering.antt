@@ -1,5 +1,5 @@
 -- The first slots of a body, where a call or a loop begins.
-use Rattle.std.proofs.Common.{◌≡◌, ℕ, suc, ◌<◌, List, [], ◌∷◌, length, map, Some, refl, sym, ap, ◌∙◌, subst, take, Vec, Global}
+use Rattle.std.proofs.Common.{◌≡◌, ℕ, suc, ◌<◌, ◌≤◌, ◌^◌, List, [], ◌∷◌, length, map, Some, refl, sym, ap, ◌∙◌, subst, take, Vec, Global}
 use Rattle.std.specs.Prelude.{Bool, true, false, ◌&&◌, get_or, slice_get}
 use Rattle.std.proofs.lemmas.Option.{slice_get-get_or}
 use Rattle.ca_program.specs.declared.program.ValueType.{ValueType}
@@ -20,7 +20,7 @@ use Rattle.ca_code_laws.proofs.Sections.{all_mapped, kind_mapped}
 use Rattle.ca_code_laws.proofs.Steps.{length_mapped, length_taken}
 use Rattle.ca_steps.specs.declared.frames.Frames.{Frames}
 use Rattle.ca_steps.specs.Stands.{seen}
-use Rattle.ca_steps.specs.clauses.Handed.{Made, PutLocals}
+use Rattle.ca_steps.specs.clauses.Handed.{IsFirst, Made, PutLocals}
 use Rattle.ca_steps.proofs.Loading.{same_some}
 use Rattle.ca_sections.specs.Fitting.{Entered}
 
@@ -46,17 +46,26 @@ module _ (m0 m1 m2 : Frames) (κs : List Kind) (vs : List Datum) (made : Made m0
   below_none = ap (λ m. m.below) put.same ∙ made.below
 
   pub base_none : m2.base ≡ 0
-  base_none = ap (λ m. m.base) put.same ∙ made.base
+  base_none = ap (λ m. m.base) put.same ∙ made.first.base
+
+  pub first_still : IsFirst m2
+  first_still = record {
+    base = base_none;
+    room = subst (λ n. 2 ^ 8 ≤ n) (sym (ap (λ m. m.room) put.same)) made.first.room;
+    least = subst (λ n. 2 ^ 8 ≤ n) (sym put.many) made.first.least;
+    most = subst (λ n. n ≤ 2 ^ 32) (sym put.many) made.first.most;
+  }
 
   pub held_by : (by : ℕ → Kind) → ((i : ℕ) (κ : Kind) → slice_get κs i ≡ Some κ → by i ≡ κ) → Holds by (seen m2.slots.items) 0 vs
   held_by by fits =
-      let slots : seen m2.slots.items ≡ loaded (seen m1.slots.items) 0 vs = put.slots ∙ ap (λ b. loaded (seen m1.slots.items) b vs) made.base in
+      let slots : seen m2.slots.items ≡ loaded (seen m1.slots.items) 0 vs = put.slots ∙ ap (λ b. loaded (seen m1.slots.items) b vs) made.first.base in
       subst (λ f. Holds by f 0 vs) (sym slots) (loaded_is by κs vs (seen m1.slots.items) 0 put.have fits)
 
 -- the body of an operation
 pub entered_so : (p : PlainProgram) (c : CodeHeld) → IsLaidOut p (code_seen c) → (op : Op) (m0 m1 m2 : Frames) (kinds : List Held) → slice_get (code_seen c).params op.op.0 ≡ Some (map kind_seen kinds)
     → Made m0 m1 → PutLocals m1 (map kind_seen kinds) op.args m2 → Entered p op m2
 entered_so p c laid op m0 m1 m2 kinds there made put = record {
+  first = first_still m0 m1 m2 (map kind_seen kinds) op.args made put;
   below = below_none m0 m1 m2 (map kind_seen kinds) op.args made put;
   arguments = λ m found le.
       let are : map kind_seen kinds ≡ param_kinds m = same_some (sym there ∙ (laid.ops op.op.0 m found).1) in

@@ -1,6 +1,10 @@
 -- What stood in a code stands in it with more rows behind.
-use Rattle.std.proofs.Common.{◌≡◌, ℕ, zero, suc, ◌+◌, List, [], ◌∷◌, ◌++◌, length, map, true, false, Option, Some, None, refl, sym, ap, ◌∙◌, subst, append-nil, append_assoc}
+use Rattle.std.proofs.Common.{◌≡◌, ℕ, zero, suc, ◌+◌, ◌<◌, List, [], ◌∷◌, ◌++◌, length, map, drop, get_or, true, false, Option, Some, None, refl, sym, ap, ◌∙◌, subst, arith, append-nil, append_assoc}
 use Rattle.std.specs.Prelude.{slice_get}
+use Rattle.std.proofs.Math.ListN.{get_or-append}
+use Rattle.std.proofs.Math.Seq.{drop-cons}
+use Rattle.std.proofs.lemmas.List.{map-append}
+use Rattle.std.proofs.lemmas.Option.{get_or_from_slice_get}
 use Rattle.ca_program.specs.Plain.{PlainProgram}
 use Rattle.ca_program.specs.Kinds.{as_pointer, kind_type}
 use Rattle.ca_program.specs.Instructions.{Placed, IsAt, HasAt, StandsAt}
@@ -8,6 +12,7 @@ use Rattle.ca_program.specs.View.{statement_view}
 use Rattle.ca_program.specs.Layout.{function_code, operation_code}
 use Rattle.ca_code.specs.declared.layout.Code.{Code as CodeHeld}
 use Rattle.ca_code.specs.Codes.{code_seen, kinds_seen}
+use Rattle.ca_code.specs.declared.ins.Ins.{Ins}
 use Rattle.ca_code.specs.declared.ins.Ins.TheVariants.{Begin}
 use Rattle.ca_code.specs.declared.ins.Row.{Row}
 use Rattle.ca_code.specs.Seen.{instruction, placed, row_of}
@@ -17,7 +22,7 @@ use Rattle.ca_code_laws.specs.Fitting.{FitsStatement}
 use Rattle.ca_code_laws.specs.Known.{loop_alone}
 use Rattle.ca_code_laws.specs.Told.{IsLaidOut}
 use Rattle.ca_sections.specs.declared.loop_code.LoopPlace.{LoopPlace}
-use Rattle.ca_sections.specs.Extending.{Adding, AllStand, AllStood, Extended, StandsAlone, Stood}
+use Rattle.ca_sections.specs.Extending.{Adding, AllStand, AllStood, Extended, Looked, StandsAlone, Stood, ats, begins_from, instructions_of, with_begin}
 
 pub in_front : {A B : Type 0} (f : A → B) (xs ys : List A) (n : ℕ) (v : B) → slice_get (map f xs) n ≡ Some v → slice_get (map f (xs ++ ys)) n ≡ Some v
 in_front f [] ys n v e = absurd (cc)
@@ -113,6 +118,60 @@ one_added p old now next places l r n at is line place adds fits a = record {
       place = place;
       row = (instruction (Begin n l.s l.types), in_front_of (laid now) code l.at _ (there placed now.rows l.at r at ∙ ap Some row_is));
     }
+
+-- the rows are looked at from the first on
+pub none_looked : (p : PlainProgram) (old : List Placed) (now : Laying) (places : List LoopPlace) → laid now ≡ old → places ≡ [] → Looked p old 0 now places
+none_looked p old now places e none = record {
+  adding = none_added p old now places e none;
+  told = λ ok. ap (λ ls. ats ls ++ begins_from 0 (instructions_of old)) none;
+}
+
+-- the row at a place, of those that stood there at first
+first_row : (old more : List Placed) (at : ℕ) (x : Placed) → at < length old → slice_get (old ++ more) at ≡ Some x → drop at old ≡ x ∷ drop (at + 1) old
+first_row old more at x lt is =
+    let same : get_or old at x ≡ x = sym (get_or-append old more x at lt) ∙ get_or_from_slice_get (old ++ more) at x x is in
+    let n : at + 1 ≡ suc at = omega arith in
+    drop-cons old at x lt ∙ (ap (λ y. y ∷ drop (suc at) old) same ∙ ap (λ m. x ∷ drop m old) (sym n))
+
+seen_there : (p : PlainProgram) (old : List Placed) (now : Laying) (places : List LoopPlace) (r : Row) (at : ℕ) → slice_get now.rows at ≡ Some r → at < length old → now.failed ≡ false → Adding p old now places → drop at old ≡ placed r ∷ drop (at + 1) old
+seen_there p old now places r at is lt ok a =
+    let b = a.begun ok in
+    first_row old b.0 at (placed r) lt (ap (λ ps. slice_get ps at) (sym b.1) ∙ there placed now.rows at r is)
+
+no_begin : (i : Ins) → ((n : _) (s : _) (tys : _) → i ≡ Begin n s tys → ⊥) → (at : ℕ) (ns : List ℕ) → with_begin (instruction i) at ns ≡ ns
+no_begin (Begin n s tys) never at ns = absurd (never n s tys refl)
+no_begin other never at ns = refl
+
+-- a row more was looked at, which hands no loop on
+pub none_begun : (p : PlainProgram) (old : List Placed) (now : Laying) (places : List LoopPlace) (r : Row) (at : ℕ) → slice_get now.rows at ≡ Some r → ((n : _) (s : _) (tys : _) → r.ins ≡ Begin n s tys → ⊥) → at < length old
+    → Looked p old at now places → Looked p old (at + 1) now places
+none_begun p old now places r at is never lt k = record {
+  adding = k.adding;
+  told = λ ok.
+      let rest = instructions_of (drop (at + 1) old) in
+      let here : begins_from at (instructions_of (drop at old)) ≡ begins_from (suc at) rest =
+      ap (λ ps. begins_from at (instructions_of ps)) (seen_there p old now places r at is lt ok k.adding) ∙ no_begin r.ins never at (begins_from (suc at) rest) in
+      let n : at + 1 ≡ suc at = omega arith in
+      ap (λ m. ats places ++ begins_from m rest) n ∙ (ap (λ ns. ats places ++ ns) (sym here) ∙ k.told ok);
+}
+
+-- one that hands a loop on, whose code was added
+pub one_begun : (p : PlainProgram) (old : List Placed) (now next : Laying) (places : List LoopPlace) (l : LoopPlace) (r : Row) (n : ℕ) → slice_get now.rows l.at ≡ Some r → r.ins ≡ Begin n l.s l.types → l.line ≡ r.line → l.place ≡ length (laid now)
+    → Adds now next (loop_alone p l.types.now l.line (statement_view l.s.now)) → (next.failed ≡ false → FitsStatement p l.types.now true as_pointer (statement_view l.s.now)) → l.at < length old
+    → Looked p old l.at now places → Looked p old (l.at + 1) next (places ++ l ∷ [])
+one_begun p old now next places l r n at is line place adds fits lt k = record {
+  adding = one_added p old now next places l r n at is line place adds fits k.adding;
+  told = λ ok.
+      let before = adds.lasted ok in
+      let rest = instructions_of (drop (l.at + 1) old) in
+      let here : begins_from l.at (instructions_of (drop l.at old)) ≡ l.at ∷ begins_from (suc l.at) rest =
+      ap (λ ps. begins_from l.at (instructions_of ps)) (seen_there p old now places r l.at at lt before k.adding) ∙ ap (λ i. with_begin (instruction i) l.at (begins_from (suc l.at) rest)) is in
+      let m : l.at + 1 ≡ suc l.at = omega arith in
+      ap (λ ns. ns ++ begins_from (l.at + 1) rest) (map-append (λ (l : LoopPlace). l.at) places (l ∷ []))
+      ∙ (append_assoc (ats places) (l.at ∷ []) (begins_from (l.at + 1) rest)
+      ∙ (ap (λ m. ats places ++ l.at ∷ begins_from m rest) m
+      ∙ (ap (λ ns. ats places ++ ns) (sym here) ∙ k.told before)));
+}
 
 -- all are
 pub all_stand : (p : PlainProgram) (d : CodeHeld) (ps : List Placed) (ls : List LoopPlace) → map placed d.rows.items ≡ ps → AllStood p ps ls → AllStand p (code_seen d) ls

@@ -1,6 +1,6 @@
 -- A section that ran is settled, and what its answer says.
-use Rattle.std.proofs.Common.{◌≡◌, ℕ, suc, ◌-◌, List, [], ◌++◌, map, Result, Ok, Err, Some, length, refl, sym, ap, ◌∙◌, subst, append-nil}
-use Rattle.std.proofs.lemmas.List.{map-append, nil_from_length}
+use Rattle.std.proofs.Common.{◌≡◌, ℕ, suc, ◌-◌, List, [], map, Result, Ok, Err, Some, length, refl, sym, ap, ◌∙◌, subst}
+use Rattle.std.proofs.lemmas.List.{map-append, take-append-drop}
 use Rattle.ca_program.specs.declared.program.ClassId.{ClassId}
 use Rattle.ca_program.specs.Instructions.{Code}
 use Rattle.ca_program.specs.Plain.{PlainProgram}
@@ -35,23 +35,20 @@ use Rattle.ca_sections.specs.declared.running.Ran.{Ran}
 use Rattle.ca_sections.specs.declared.stop.Stop.{Stop}
 use Rattle.ca_sections.specs.declared.stop.Stop.TheVariants.{Memory, Trapped, Spent}
 use Rattle.ca_sections.specs.declared.desk.Desk.{Desk}
+use Rattle.ca_sections.specs.declared.desk.State.{State as Stays}
 use Rattle.ca_sections.specs.Answers.{SectionIs, FrozenIs, CanUndo}
 use Rattle.ca_sections.specs.Fitting.{Entered, Starts}
-use Rattle.ca_sections.specs.Running.{Came, Lasting, Settled, Went, lasting, own_slots, section_at}
+use Rattle.ca_sections.specs.Running.{Came, Lasting, Settled, Went, fore_in, lasting, listed_in, own_slots, section_at}
 
--- a section whose list takes the place of an empty one
-pub settled_moved : (ran : Result (Unit {0}) Stop) (u : Unit {0}) (steps budget left : ℕ) (st : InSection) (after : List Slot) (out now : List Op) → ran ≡ Ok u → steps ≡ budget - left → after ≡ st.slots.now → now ≡ st.listed.now.items → length out ≡ 0 → Settled ran (Done steps) budget left st after out now
-settled_moved ran u steps budget left st after out now is s a moved none =
-    rw is (s, a, moved ∙ ap (λ xs. xs ++ st.listed.now.items) (sym (nil_from_length out none)))
+-- a section that came to its end
+pub settled_whole : (ran : Result (Unit {0}) Stop) (u : Unit {0}) (steps budget left : ℕ) (st : InSection) (after : List Slot) (now : List Op) → ran ≡ Ok u → steps ≡ budget - left → after ≡ st.slots.now → now ≡ st.listed.now.items → Settled ran (Done steps) budget left st after (fore_in st) now
+settled_whole ran u steps budget left st after now is s a same =
+    rw is (s, a, same ∙ sym (take-append-drop st.first st.listed.now.items))
 
--- a section whose list stands behind others
-pub settled_added : (ran : Result (Unit {0}) Stop) (u : Unit {0}) (steps budget left : ℕ) (st : InSection) (after : List Slot) (out now : List Op) → ran ≡ Ok u → steps ≡ budget - left → after ≡ st.slots.now → now ≡ out ++ st.listed.now.items → Settled ran (Done steps) budget left st after out now
-settled_added ran u steps budget left st after out now is s a added = rw is (s, a, added)
-
--- a section that listed nothing is settled as it stands
-pub settled_empty : (ran : Result (Unit {0}) Stop) (u : Unit {0}) (steps budget left : ℕ) (st : InSection) (after : List Slot) (out : List Op) → ran ≡ Ok u → steps ≡ budget - left → after ≡ st.slots.now → length st.listed.now.items ≡ 0 → Settled ran (Done steps) budget left st after out out
-settled_empty ran u steps budget left st after out is s a none =
-    rw is (s, a, sym (ap (λ xs. out ++ xs) (nil_from_length st.listed.now.items none) ∙ append-nil out))
+-- a section that stopped otherwise
+pub settled_as : (ran : Result (Unit {0}) Stop) (stop : Stop) (budget left : ℕ) (st : InSection) (after : List Slot) (out now : List Op) (r : Result SectionAnswer NoMemory) → ran ≡ Err stop → IfOk r (λ answer. (budget left : ℕ) → Settled (Err stop) answer budget left st after out now) → IfOk r (λ answer. Settled ran answer budget left st after out now)
+settled_as ran stop budget left st after out now (Ok a) is settled = subst (λ q. Settled q a budget left st after out now) (sym is) (settled budget left)
+settled_as ran stop budget left st after out now (Err e) is settled = tt
 
 abbrev with_slots : ClassId → List Slot → Object
 with_slots c ss = record { class = c; slots = ss }
@@ -121,7 +118,7 @@ module _ (p : PlainProgram) (on : Laid) (place number : ℕ) (h : List Object) (
       hands = ap (λ o. own_slots o a1.frozen.now a1.this a1.slots.now) own
 
       by : (r : Result (Unit {0}) Stop) (a : SectionAnswer) → Settled r a (suc k) ran.left a1 after out now → SectionIs a (sectioned_as object.class (suc k) (outcome r ran.left (section_at a1))) object (record { class = object.class; slots = after }) out now
-      by (Ok u) (Done steps) s = (s.0, ap (λ ss. with_slots object.class ss) (s.1 ∙ sym hands), ap invocations_of s.2 ∙ map-append invocation_of out a1.listed.now.items)
+      by (Ok u) (Done steps) s = (s.0, ap (λ ss. with_slots object.class ss) (s.1 ∙ sym hands), ap invocations_of s.2 ∙ map-append invocation_of out (listed_in a1))
       by (Err (Trapped t)) (answer.Trapped u) s = (sym s.0, ap (λ ss. with_slots object.class ss) (s.1 ∙ back), s.2)
       by (Err Spent) answer.Spent s = (ap (λ ss. with_slots object.class ss) (s.0 ∙ back), s.1)
       by (Ok u) (answer.Trapped t) s = absurd s
@@ -138,7 +135,7 @@ module _ (p : PlainProgram) (on : Laid) (place number : ℕ) (h : List Object) (
       subst (λ z. FrozenIs a z out now) (sym (section_known ran m (section_at a1) (told ran.ended a (suc k) ran.left a1 after out now s) came)) (by ran.ended a s)
     where
       by : (r : Result (Unit {0}) Stop) (a : SectionAnswer) → Settled r a (suc k) ran.left a1 after out now → FrozenIs a (sectioned_as object.class (suc k) (outcome r ran.left (section_at a1))) out now
-      by (Ok u) (Done steps) s = (s.0, ap invocations_of s.2 ∙ map-append invocation_of out a1.listed.now.items)
+      by (Ok u) (Done steps) s = (s.0, ap invocations_of s.2 ∙ map-append invocation_of out (listed_in a1))
       by (Err (Trapped t)) (answer.Trapped u) s = (sym s.0, s.2)
       by (Err Spent) answer.Spent s = s.1
       by (Ok u) (answer.Trapped t) s = absurd s
@@ -188,6 +185,14 @@ can_undo (Err e) (Done n) budget left st after out now desk before s steps is sa
     no_done Spent n s = s
 can_undo (Err e) (answer.Trapped t) budget left st after out now desk before s steps is same there back = cc
 can_undo (Err e) answer.Spent budget left st after out now desk before s steps is same there back = cc
+
+-- a desk with the same old values puts it back as well
+pub still_undone : (old new : Desk) (now before : Object) → new.state ≡ old.state → CanUndo old now before → CanUndo new now before
+still_undone old new now before e can = record {
+  there = subst (λ (s : Stays). AllThere s.olds now.slots) (sym e) can.there;
+  back = ap (λ (s : Stays). put_back s.olds now.slots) e ∙ can.back;
+  class = can.class;
+}
 
 -- How a section runs and is settled, with slots in hand or in the heap: what each of its clauses says.
 module _ (p : PlainProgram) (on : Laid) (place number : ℕ) (h : List Object) (op : Op) (budget : ℕ) (object : Object) (m m1 : Frames) (x0 : Section) (l : Lasting) (a1 : InSection) (starts : Starts p op.op on place) (entered : Entered p op m) (named : pointer_of (pos number) ≡ Ref op.receiver) (least : budget ≡ suc (budget - 1)) (ran : Ran) (came : Came h (code_seen on.code) (here_state (record { at = place; base = 0; left = budget - 1 }) number m.below m.slots.items x0) ran m1 (section_at a1)) (lasts : lasting a1 ≡ l) (hand : x0 ≡ section_start object.slots) (r : Result SectionAnswer NoMemory) (after : List Slot) (out now : List Op) (is : IfOk r (λ answer. Settled ran.ended answer budget ran.left a1 after out now)) where

@@ -1,8 +1,8 @@
 -- A code with the code of loops behind it, each on its own.
-use Rattle.std.specs.Prelude.{◌≡◌, ◌++◌, true, false, List, [], ◌∷◌, Some, length, map, slice_get}
+use Rattle.std.specs.Prelude.{◌≡◌, ◌++◌, ◌+◌, ℕ, suc, true, false, List, [], ◌∷◌, Some, length, map, drop, slice_get}
 use Rattle.ca_program.specs.Plain.{PlainProgram}
 use Rattle.ca_program.specs.Kinds.{as_pointer, kind_type}
-use Rattle.ca_program.specs.Instructions.{Instruction, Placed, Code}
+use Rattle.ca_program.specs.Instructions.{Begin, Instruction, Placed, Code}
 use Rattle.ca_program.specs.View.{statement_view}
 use Rattle.ca_code.specs.declared.layout.Code.{Code as CodeHeld}
 use Rattle.ca_code.specs.Seen.{placed}
@@ -28,6 +28,19 @@ abbrev pub AllStand : PlainProgram → Code → List LoopPlace → Type 0
 AllStand p c [] = Unit {0}
 AllStand p c (l ∷ ls) = StandsAlone p c l × AllStand p c ls
 
+abbrev pub with_begin : Instruction → ℕ → List ℕ → List ℕ
+with_begin (Begin count) n ns = n ∷ ns
+with_begin _ n ns = ns
+
+-- the places at which loops are handed on, of instructions from a place on
+abbrev pub begins_from : ℕ → List Instruction → List ℕ
+begins_from n [] = []
+begins_from n (i ∷ is) = with_begin i n (begins_from (suc n) is)
+
+-- where these loops are handed on
+abbrev pub ats : List LoopPlace → List ℕ
+ats ls = map (λ (l : LoopPlace). l.at) ls
+
 -- A loop's code that stands among rows, and the row that hands it on.
 pub record Stood (p : PlainProgram) (ps : List Placed) (l : LoopPlace) : Type 0 where
   pub fits : FitsStatement p l.types.now true as_pointer (statement_view l.s.now)
@@ -45,3 +58,11 @@ AllStood p ps (l ∷ ls) = Stood p ps l × AllStood p ps ls
 pub record Adding (p : PlainProgram) (old : List Placed) (now : Laying) (places : List LoopPlace) : Type 0 where
   pub begun : now.failed ≡ false → (more : List Placed) × (laid now ≡ old ++ more)
   pub each : now.failed ≡ false → AllStood p (laid now) places
+
+abbrev pub instructions_of : List Placed → List Instruction
+instructions_of ps = map (λ (r : Placed). r.instruction) ps
+
+-- the same, where the rows before a place were looked at
+pub record Looked (p : PlainProgram) (old : List Placed) (at : ℕ) (now : Laying) (places : List LoopPlace) : Type 0 where
+  pub adding : Adding p old now places
+  pub told : now.failed ≡ false → ats places ++ begins_from at (instructions_of (drop at old)) ≡ begins_from 0 (instructions_of old)

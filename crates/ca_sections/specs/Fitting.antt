@@ -1,5 +1,5 @@
 -- What a program and its code are to sections, and what stands where one begins.
-use Rattle.std.specs.Prelude.{◌≡◌, ◌<◌, ◌≤◌, ℕ, List, [], true, length, Some, slice_get}
+use Rattle.std.specs.Prelude.{◌≡◌, ◌<◌, ◌≤◌, ℕ, Bool, List, [], true, length, Some, slice_get}
 use Rattle.ca_program.specs.declared.program.FunctionId.{FunctionId}
 use Rattle.ca_program.specs.declared.program.LocalId.{LocalId}
 use Rattle.ca_program.specs.declared.program.OpId.{OpId}
@@ -12,13 +12,18 @@ use Rattle.ca_program.specs.Instructions.{Code, HasAt}
 use Rattle.ca_program.specs.Layout.{how_many}
 use Rattle.ca_parallel.specs.declared.op.Op.{Op}
 use Rattle.ca_code.specs.Codes.{code_seen}
-use Rattle.ca_code_laws.specs.Fitting.{AreOf, Fits, FitsMethod, FitsStatement, FunctionsFit, Takes}
+use Rattle.ca_code_laws.specs.Fitting.{AreOf, FitAll, Fits, FitsMethod, FitsStatement, FunctionsFit, Takes}
 use Rattle.ca_code_laws.specs.Known.{loop_alone}
 use Rattle.ca_code_laws.specs.Told.{Holds, IsLaidOut}
 use Rattle.ca_steps.specs.declared.frames.Frames.{Frames}
 use Rattle.ca_steps.specs.declared.running.Laid.{Laid}
 use Rattle.ca_steps.specs.Ops.{Runs}
 use Rattle.ca_steps.specs.Stands.{seen}
+use Rattle.ca_steps.specs.clauses.Handed.{IsFirst}
+
+-- a test finds whether something is so
+abbrev pub Finds : Bool → Type 0 → Type 0
+Finds found A = (found ≡ true → A) × (A → found ≡ true)
 
 -- Parts of texts that fit: an operand that is read as a kind, an assignment to a local, and the arguments of calls.
 module _ (p : PlainProgram) (tys : List ValueType) where
@@ -34,18 +39,28 @@ module _ (p : PlainProgram) (tys : List ValueType) where
   abbrev pub Invokes : OpId → Expressions → Type 0
   Invokes op es = Takes (slice_get p.ops op.0) (how_many es) × AreOf (kinds_in p tys) ((kinds_in p tys).arguments op) es
 
+  abbrev pub InvokesOn : Expression → OpId → Expressions → Type 0
+  InvokesOn e op es = (kind_of (kinds_in p tys) e ≡ as_pointer) × Takes (slice_get p.ops op.0) (how_many es) × AreOf (kinds_in p tys) ((kinds_in p tys).arguments op) es × Fits p tys e × FitAll p tys es
+
 -- An operation that has a place there fits, and begins at it. Others have the greatest number of 32 bits.
 abbrev pub OpsBegin : PlainProgram → List ℕ → List ℕ → Type 0
 OpsBegin p starts places = (i place : ℕ) → slice_get places i ≡ Some place → place < 4294967295 → (m : PlainMethod) × (slice_get p.ops i ≡ Some m) × FitsMethod p true m × (slice_get starts i ≡ Some place)
 
--- The program is laid out in the code, which is run. Operations that have a place fit, and so do all value methods where there are places.
+-- Each operation that fits has its place.
+abbrev pub OpsStand : PlainProgram → List ℕ → List ℕ → Type 0
+OpsStand p starts places = (i start : ℕ) (m : PlainMethod) → slice_get p.ops i ≡ Some m → FitsMethod p true m → slice_get starts i ≡ Some start → slice_get places i ≡ Some start
+
+-- The program is laid out in the code, which is run. Where there are places, operations have one that fit, and no others, and all value
+-- methods fit.
 pub record IsCoded (p : Program) (on : Laid) (places : List ℕ) : Type 0 where
   pub functions : 0 < length places → FunctionsFit (program_view p)
   pub laid : IsLaidOut (program_view p) (code_seen on.code)
   pub runs : Runs (code_seen on.code) on.code.rows.items on.ops.items
   pub each : OpsBegin (program_view p) on.code.ops.items places
+  pub all : 0 < length places → OpsStand (program_view p) on.code.ops.items places
 
--- The body of an operation that fits begins at this place of a code, in which the program is laid out and which is run.
+-- The body of an operation that fits begins at this place of a code, in which the program is laid out and which is run. Something is
+-- run there.
 pub record Starts (p : PlainProgram) (op : OpId) (on : Laid) (place : ℕ) : Type 0 where
   pub functions : FunctionsFit p
   pub laid : IsLaidOut p (code_seen on.code)
@@ -54,9 +69,11 @@ pub record Starts (p : PlainProgram) (op : OpId) (on : Laid) (place : ℕ) : Typ
   pub is : slice_get p.ops op.0 ≡ Some method
   pub fits : FitsMethod p true method
   pub begins : slice_get (code_seen on.code).ops op.0 ≡ Some place
+  pub within : place < length on.ops.items
 
--- The arguments of a call stand in the first slots, as many as it takes, each of its kind, and no body is below.
+-- The arguments of a call stand in the first slots, as many as it takes, each of its kind, in a first frame, and no body is below.
 pub record Entered (p : PlainProgram) (op : Op) (m : Frames) : Type 0 where
+  pub first : IsFirst m
   pub below : m.below ≡ []
   pub arguments : (method : PlainMethod) → slice_get p.ops op.op.0 ≡ Some method → method.params ≤ length method.body.locals → (method.params ≡ length op.args) × Holds (λ i. param_kind (Some method) i) (seen m.slots.items) 0 op.args
 

@@ -12,23 +12,10 @@ use ca_steps::Frames;
 use std::alloc::{AllocError, Global};
 use std::mem;
 
-/// What stays of a section until the next one: its old values, and the memory of what it listed.
+/// What stays of a section until the next one: its old values.
 #[derive(Drop)]
 pub struct State {
     pub olds: Olds,
-    pub listed: Vec<Op>,
-}
-
-impl State {
-    /// Nothing is put or listed.
-    #[inline(always)]
-    pub(crate) fn clear(&mut self)
-        ensures olds { self.new.olds ≡ [] }
-        ensures listed { self.new.listed.items ≡ [] }
-    {
-        self.olds.forget();
-        self.listed.clear();
-    }
 }
 
 /// Serves sections, one behind the other, and keeps the memory that they took. An engine keeps one for each worker.
@@ -40,6 +27,8 @@ pub struct Desk {
     pub(crate) values: Vec<Value>,
     /// Operations whose lists of arguments serve others. What they hold is no matter.
     pub(crate) spare: Vec<Op>,
+    /// Whose memory serves what sections list. What it holds is no matter.
+    pub(crate) list: Vec<Op>,
     /// Whose memory serves the old values of several sections. What it holds is no matter.
     pub(crate) room: AllOlds,
 }
@@ -58,12 +47,31 @@ impl Desk {
             frames: Frames::none(alloc),
             state: State {
                 olds: Olds::new(alloc),
-                listed: Vec::new(alloc),
             },
             values: Vec::new(alloc),
             spare: Vec::new(alloc),
+            list: Vec::new(alloc),
             room: AllOlds::new(alloc),
         })
+    }
+
+    /// An empty list for what a section lists, in memory that served before.
+    #[inline(always)]
+    pub fn take_list(&mut self, alloc: Global) -> Vec<Op>
+        ensures none { result.items ≡ [] }
+        ensures state { self.new.state ≡ self.old.state }
+    {
+        let mut list = mem::replace(&mut self.list, Vec::new(alloc));
+        list.clear();
+        list
+    }
+
+    /// Takes a list that is used no more, for its memory.
+    #[inline(always)]
+    pub fn give_back_list(&mut self, list: Vec<Op>)
+        ensures { self.new.state ≡ self.old.state }
+    {
+        self.list = list;
     }
 
     /// No old values of several sections yet, in memory that served before.

@@ -32,7 +32,7 @@ mod rows;
 mod running;
 mod stop;
 
-pub use access::{InSection, Own};
+pub use access::{InSection, Own, Stand};
 pub use all_olds::AllOlds;
 pub use coded::{Coded, Start};
 pub use desk::Desk;

@@ -1,6 +1,6 @@
 //! Calls that a section lists.
 
-ghost use Rattle.std.specs.Prelude.{◌≡◌, ◌<◌, ◌+◌, ◌++◌, ◌∷◌, [], IfOk, IfSome, Some, length, map, slice_get, vec_capacity, vec_len};
+ghost use Rattle.std.specs.Prelude.{◌≡◌, ◌<◌, ◌+◌, ◌++◌, ◌∷◌, [], IfOk, IfSome, OnErr, Some, length, map, slice_get, vec_capacity, vec_len};
 ghost use Rattle.ca_code.specs.Seen.{kind_seen};
 ghost use Rattle.ca_code_laws.specs.Machine.{row};
 ghost use Rattle.ca_code_laws.specs.Words.{read_as};
@@ -126,7 +126,8 @@ fn list_one(
 ) -> Result<(), Memory>
     requires room { vec_len listed.old < vec_capacity listed.old }
     requires many { length kinds.now ≡ 1 }
-    ensures { IfOk result (λ _. listed.new.items ≡ listed.old.items ++ record { receiver = receiver; op = op; args = row (seen slots.now) first (map kind_seen kinds.now) } ∷ []) }
+    ensures listed { IfOk result (λ _. listed.new.items ≡ listed.old.items ++ record { receiver = receiver; op = op; args = row (seen slots.now) first (map kind_seen kinds.now) } ∷ []) }
+    ensures kept { OnErr result (listed.new.items ≡ listed.old.items) }
 {
     let kind = kind_in(kinds, 0);
     let Some(value) = value_at(slots, first, 0, kind) else {
@@ -150,7 +151,8 @@ fn list_two(
 ) -> Result<(), Memory>
     requires room { vec_len listed.old < vec_capacity listed.old }
     requires many { length kinds.now ≡ 2 }
-    ensures { IfOk result (λ _. listed.new.items ≡ listed.old.items ++ record { receiver = receiver; op = op; args = row (seen slots.now) first (map kind_seen kinds.now) } ∷ []) }
+    ensures listed { IfOk result (λ _. listed.new.items ≡ listed.old.items ++ record { receiver = receiver; op = op; args = row (seen slots.now) first (map kind_seen kinds.now) } ∷ []) }
+    ensures kept { OnErr result (listed.new.items ≡ listed.old.items) }
 {
     let kind = kind_in(kinds, 0);
     let next = kind_in(kinds, 1);
@@ -177,7 +179,8 @@ fn list_many(
     slots: &[i64],
     first: usize,
 ) -> Result<(), Memory>
-    ensures { IfOk result (λ _. listed.new.items ≡ listed.old.items ++ record { receiver = receiver; op = op; args = row (seen slots.now) first (map kind_seen kinds.now) } ∷ []) }
+    ensures listed { IfOk result (λ _. listed.new.items ≡ listed.old.items ++ record { receiver = receiver; op = op; args = row (seen slots.now) first (map kind_seen kinds.now) } ∷ []) }
+    ensures kept { OnErr result (listed.new.items ≡ listed.old.items) }
 {
     let args = arguments_of(alloc, spare, kinds, slots, first)?;
     listed.push(Op { receiver, op, args })?;
@@ -196,7 +199,8 @@ pub(crate) fn list_in(
     slots: &[i64],
     first: usize,
 ) -> Result<(), Memory>
-    ensures { IfOk result (λ _. listed.new.items ≡ listed.old.items ++ record { receiver = receiver; op = op; args = row (seen slots.now) first (map kind_seen kinds.now) } ∷ []) }
+    ensures listed { IfOk result (λ _. listed.new.items ≡ listed.old.items ++ record { receiver = receiver; op = op; args = row (seen slots.now) first (map kind_seen kinds.now) } ∷ []) }
+    ensures kept { OnErr result (listed.new.items ≡ listed.old.items) }
 {
     if listed.len() >= listed.capacity() || kinds.len() > HELD {
         return list_many(alloc, spare, listed, op, receiver, kinds, slots, first);

@@ -1,6 +1,6 @@
 //! The code of loops that are handed on, each once more on its own.
 
-ghost use Rattle.std.specs.Prelude.{◌≡◌, false, true, IfOk, OnOk, List, map};
+ghost use Rattle.std.specs.Prelude.{◌≡◌, ◌<◌, ◌+◌, false, true, IfOk, OnOk, List, length, map};
 ghost use Rattle.ca_program.specs.Kinds.{as_pointer};
 ghost use Rattle.ca_program.specs.View.{program_view, statement_view};
 ghost use Rattle.ca_code.specs.Codes.{code_seen};
@@ -9,7 +9,7 @@ ghost use Rattle.ca_code.specs.clauses.Laying.{Adds, laid};
 ghost use Rattle.ca_code_laws.specs.Fitting.{FitsStatement};
 ghost use Rattle.ca_code_laws.specs.Known.{loop_alone};
 ghost use Rattle.ca_program.specs.Instructions.{Placed};
-ghost use Rattle.ca_sections.specs.Extending.{Adding, AllStand, Extended};
+ghost use Rattle.ca_sections.specs.Extending.{AllStand, Extended, Looked, ats, begins_from};
 ghost use Rattle.ca_sections.specs.Fitting.{LoopStands};
 
 use crate::fits::Body;
@@ -81,7 +81,7 @@ fn add_handed<'a>(
     program: &'a Program,
     at: usize,
 ) -> Result<(), AllocError>
-    ensures { IfOk result (λ _. (old : List Placed) → Adding (program_view program.now) old rows.old places.old.items → Adding (program_view program.now) old rows.new places.new.items) }
+    ensures { IfOk result (λ _. (old : List Placed) → at < length old → Looked (program_view program.now) old at rows.old places.old.items → Looked (program_view program.now) old (at + 1) rows.new places.new.items) }
 {
     let Some(row) = rows.at(at) else {
         return Err(AllocError);
@@ -100,13 +100,13 @@ fn add_handed<'a>(
     Ok(())
 }
 
-/// Adds the code of each loop that is handed on, and tells where it stands.
+/// Adds the code of each loop that is handed on, and tells where it stands: of each one place, in the order in which they are.
 pub fn with_loops<'a>(
     alloc: Global,
     program: &'a Program,
     mut code: Code<'a>,
 ) -> Result<(Code<'a>, Vec<LoopPlace<'a>>), AllocError>
-    ensures { IfOk result (λ r. Extended code.entry r.0 × AllStand (program_view program.now) (code_seen r.0) r.1.items) }
+    ensures { IfOk result (λ r. Extended code.entry r.0 × AllStand (program_view program.now) (code_seen r.0) r.1.items × (ats r.1.items ≡ begins_from 0 (code_seen code.entry).items)) }
 {
     let mut places = Vec::new(alloc);
     let old = std::mem::replace(&mut code.rows, Vec::new(alloc));

@@ -1,6 +1,6 @@
 //! From an operation and its receiver to what its section leaves and lists: `section` of `ca_meaning/specs/Sections.antt`.
 
-ghost use Rattle.std.specs.Prelude.{◌≡◌, ℕ, [], IfOk, OnErr, Some, slice_get};
+ghost use Rattle.std.specs.Prelude.{◌≡◌, ℕ, [], Err, IfOk, OnErr, Some, slice_get};
 ghost use Rattle.ca_program.specs.Plain.{PlainProgram};
 ghost use Rattle.ca_program.specs.View.{program_view};
 ghost use Rattle.ca_meaning.specs.Functions.{body_of};
@@ -13,9 +13,9 @@ ghost use Rattle.ca_model.specs.declared.value.Object.{Object};
 ghost use Rattle.ca_sections.specs.declared.operations.SectionAnswer.TheVariants.{Done};
 ghost use Rattle.ca_sections.specs.Answers.{SectionIs, FrozenIs, CanUndo};
 ghost use Rattle.ca_sections.specs.Fitting.{Entered};
-ghost use Rattle.ca_sections.specs.Running.{Settled};
+ghost use Rattle.ca_sections.specs.Running.{Settled, fore_in};
 
-use crate::access::{InSection, Own};
+use crate::access::{InSection, Own, Stand};
 use crate::coded::{Coded, Start};
 use crate::desk::{Desk, no_slots};
 use crate::running::run;
@@ -25,7 +25,6 @@ use ca_model::{Heap, Object, Trap, Value};
 use ca_parallel::Op;
 use ca_steps::{Frames, number_of};
 use std::alloc::Global;
-use std::mem;
 
 /// What a section answers: it is done in so many steps, it traps, or a step is too many.
 #[derive(Clone, Copy, PartialEq, Eq)]
@@ -36,43 +35,51 @@ pub enum SectionAnswer {
 }
 
 impl<'s> InSection<'s> {
-    /// Ends a section that has so many steps left of a budget: what it listed goes behind what stands in a list, or the slots are put
-    /// back.
-    #[inline(always)]
-    pub(crate) fn settle(
-        &mut self,
-        ran: Result<(), Stop>,
-        out: &mut Vec<Op>,
-        budget: u64,
-        left: u64,
-    ) -> Result<SectionAnswer, Memory>
+    /// Ends a section that isn't done: the slots are put back, and in the list stands what stood there before.
+    #[cold]
+    #[inline(never)]
+    fn give_up(&mut self, stop: Stop) -> Result<SectionAnswer, Memory>
         requires there { AllThere self.old.olds.now self.old.slots.now }
-        ensures settled { IfOk result (λ answer. Settled ran answer budget left self.old self.new.slots.now out.old.items out.new.items) }
-        ensures kept { OnErr result ((self.new.slots.now ≡ put_back self.old.olds.now self.old.slots.now) × (out.new.items ≡ out.old.items)) }
+        ensures settled { IfOk result (λ answer. (budget left : ℕ) → Settled (Err stop) answer budget left self.old self.new.slots.now (fore_in self.old) self.new.listed.now.items) }
+        ensures kept { OnErr result ((self.new.slots.now ≡ put_back self.old.olds.now self.old.slots.now) × (self.new.listed.now.items ≡ fore_in self.old)) }
         ensures olds { IfOk result (λ answer. (steps : ℕ) → answer ≡ Done steps → self.new.olds.now ≡ self.old.olds.now) }
         ensures same_slots { self.new.slots.ghost_name ≡ self.old.slots.ghost_name }
         ensures same_olds { self.new.olds.ghost_name ≡ self.old.olds.ghost_name }
         ensures same_list { self.new.listed.ghost_name ≡ self.old.listed.ghost_name }
         ensures same_spare { self.new.spare.ghost_name ≡ self.old.spare.ghost_name }
     {
-        if let Ok(()) = ran {
-            let steps = budget.saturating_sub(left);
-            if self.listed.len() == 0 {
-                return Ok(SectionAnswer::Done { steps });
-            }
-            if out.len() == 0 {
-                mem::swap(out, self.listed);
-                return Ok(SectionAnswer::Done { steps });
-            }
-            if let Ok(()) = out.append(self.listed) {
-                return Ok(SectionAnswer::Done { steps });
-            }
-        }
         self.olds.put_back(self.slots);
+        self.listed.truncate(self.first);
+        match stop {
+            Stop::Trapped(trap) => Ok(SectionAnswer::Trapped(trap)),
+            Stop::Spent => Ok(SectionAnswer::Spent),
+            Stop::Memory => Err(Memory),
+        }
+    }
+
+    /// Ends a section that has so many steps left of a budget: what it listed stays in the list, or the slots are put back.
+    #[inline(always)]
+    pub(crate) fn settle(
+        &mut self,
+        ran: Result<(), Stop>,
+        budget: u64,
+        left: u64,
+    ) -> Result<SectionAnswer, Memory>
+        requires there { AllThere self.old.olds.now self.old.slots.now }
+        ensures settled { IfOk result (λ answer. Settled ran answer budget left self.old self.new.slots.now (fore_in self.old) self.new.listed.now.items) }
+        ensures kept { OnErr result ((self.new.slots.now ≡ put_back self.old.olds.now self.old.slots.now) × (self.new.listed.now.items ≡ fore_in self.old)) }
+        ensures olds { IfOk result (λ answer. (steps : ℕ) → answer ≡ Done steps → self.new.olds.now ≡ self.old.olds.now) }
+        ensures same_slots { self.new.slots.ghost_name ≡ self.old.slots.ghost_name }
+        ensures same_olds { self.new.olds.ghost_name ≡ self.old.olds.ghost_name }
+        ensures same_list { self.new.listed.ghost_name ≡ self.old.listed.ghost_name }
+        ensures same_spare { self.new.spare.ghost_name ≡ self.old.spare.ghost_name }
+    {
         match ran {
-            Err(Stop::Trapped(trap)) => Ok(SectionAnswer::Trapped(trap)),
-            Err(Stop::Spent) => Ok(SectionAnswer::Spent),
-            _ => Err(Memory),
+            Ok(()) => {
+                let steps = budget.saturating_sub(left);
+                Ok(SectionAnswer::Done { steps })
+            }
+            Err(stop) => self.give_up(stop),
         }
     }
 }
@@ -143,15 +150,17 @@ pub fn section<'a>(
         return Err(Memory);
     };
     desk.enter(alloc, start, op)?;
-    desk.state.clear();
+    desk.state.olds.forget();
+    let first = out.len();
     let mut access = InSection {
         frozen,
         this: Value::Ref(op.receiver),
         own: Own::Handed,
-        deep: false,
+        stands: Stand::Handed,
         slots: &mut object.slots,
         olds: &mut desk.state.olds,
-        listed: &mut desk.state.listed,
+        listed: &mut *out,
+        first,
         spare: &mut desk.spare,
         alloc,
     };
@@ -163,8 +172,7 @@ pub fn section<'a>(
         left - 1,
         number,
     );
-    let answer = access.settle(ran.ended, out, left, ran.left);
-    answer
+    access.settle(ran.ended, left, ran.left)
 }
 
 /// The section of an operation that puts nothing, on its receiver's object in the frozen heap, within a budget of steps.
@@ -195,15 +203,17 @@ pub fn section_frozen<'a>(
     };
     desk.enter(alloc, start, op)?;
     let mut none = no_slots(alloc)?;
-    desk.state.clear();
+    desk.state.olds.forget();
+    let first = out.len();
     let mut access = InSection {
         frozen,
         this: Value::Ref(op.receiver),
         own: Own::Frozen,
-        deep: false,
+        stands: Stand::Frozen,
         slots: &mut none,
         olds: &mut desk.state.olds,
-        listed: &mut desk.state.listed,
+        listed: &mut *out,
+        first,
         spare: &mut desk.spare,
         alloc,
     };
@@ -215,6 +225,5 @@ pub fn section_frozen<'a>(
         left - 1,
         number,
     );
-    let answer = access.settle(ran.ended, out, left, ran.left);
-    answer
+    access.settle(ran.ended, left, ran.left)
 }

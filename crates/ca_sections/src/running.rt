@@ -1,10 +1,11 @@
 //! Runs the body of a section to its end.
 
-ghost use Rattle.std.specs.Prelude.{◌≡◌, IfSome, map, slice_get};
+ghost use Rattle.std.specs.Prelude.{◌≡◌, ◌<◌, IfSome, length, map, slice_get};
 ghost use Rattle.ca_code.specs.Codes.{code_seen};
 ghost use Rattle.ca_section.specs.Olds.{AllThere};
 ghost use Rattle.ca_steps.specs.Ops.{Runs};
 ghost use Rattle.ca_steps.specs.Stands.{back_seen, here_state};
+ghost use Rattle.ca_steps.specs.clauses.Handed.{IsFirst};
 ghost use Rattle.ca_sections.specs.Running.{Came, IsEnd, StandsWith, lasting, line_of_row, section_at};
 
 use crate::access::InSection;
@@ -57,16 +58,18 @@ pub(crate) fn run(
     number: u32,
 ) -> Ran
     requires laid { Runs (code_seen laid.now.code) laid.now.code.rows.items laid.now.ops.items }
+    requires within { at < length laid.now.ops.items }
+    requires first { IsFirst frames.old }
     requires fits { StandsWith access.old (map back_seen frames.old.below) }
     ensures came { Came access.old.frozen.now (code_seen laid.now.code) (here_state (record { at = at; base = 0; left = left }) number frames.old.below frames.old.slots.items (section_at access.old)) result frames.new (section_at access.new) }
     ensures lasts { lasting access.new ≡ lasting access.old }
     ensures there { AllThere access.new.olds.now access.new.slots.now }
     ensures base { frames.new.base ≡ frames.old.base }
 {
-    let stopped = run_from(access, laid, frames, at, left, number);
-    let ended = ended_as(stopped.halt, laid.code.rows.as_slice(), stopped.here.at);
+    let halt = run_from(access, laid, frames, at, left, number);
+    let ended = ended_as(halt, laid.code.rows.as_slice(), frames.at);
     Ran {
         ended,
-        left: stopped.here.left,
+        left: frames.left,
     }
 }

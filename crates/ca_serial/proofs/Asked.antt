@@ -5,8 +5,8 @@ use Rattle.ca_program.specs.Plain.{PlainProgram}
 use Rattle.ca_model.specs.declared.value.Value.{Value as Datum}
 use Rattle.ca_model.specs.declared.value.Object.{Object}
 use Rattle.ca_meaning.specs.Expressions.{Invocation}
-use Rattle.ca_meaning.specs.Flows.{Flow, goes_on, gives_back, stops, runs_out, and_on}
-use Rattle.ca_meaning.specs.Serial.{Note, World, fresh, in_heap, run_call, operations_of, serial_ops}
+use Rattle.ca_meaning.specs.Flows.{Flow, goes_on, gives_back, stops, runs_out}
+use Rattle.ca_meaning.specs.Serial.{Note, World, fresh, in_heap, serial_ops}
 use Rattle.ca_meaning.proofs.Near.{left_of_flow}
 use Rattle.ca_parallel.specs.Calls.{RunsTo, invocations_of, operation_of}
 use Rattle.ca_parallel.specs.declared.op.Op.{Op}
@@ -20,20 +20,11 @@ use Rattle.ca_code_laws.specs.Runs.{behind_or}
 use Rattle.ca_serial.specs.Extents.{IsNotDone}
 use Rattle.ca_serial.proofs.Quiet.{run_is}
 use Rattle.ca_serial.specs.clauses.Handing.{with_note, given}
+use Rattle.ca_order_laws.proofs.Runs.{list_locals}
 
 pub ops_are : (os : List Op) → map op_of (invocations_of os) ≡ map operation_of os
 ops_are [] = refl
 ops_are (o ∷ os) = ap (λ l. o.op ∷ l) (ops_are os)
-
-ends_bare : (p : PlainProgram) (is : List Invocation) (w : World) (k : ℕ) (ls : List Datum) (v : World) (j : ℕ) → serial_ops p is w k ≡ goes_on ls v j → ls ≡ []
-ends_bare p [] w k ls v j e = cc
-ends_bare p (i ∷ is) w k ls v j e = from (run_call (operations_of p) [] i w k) (λ y n h. ends_bare p is y n ls v j h) e
-  where
-    from : (o : Flow World) → ((y : World) (n : ℕ) → serial_ops p is y n ≡ goes_on ls v j → ls ≡ []) → and_on o (λ ls w k. serial_ops p is w k) ≡ goes_on ls v j → ls ≡ []
-    from (goes_on xs y n) more h = more y n h
-    from (gives_back x y n) more h = cc
-    from (stops t y) more h = cc
-    from (runs_out y) more h = cc
 
 bare_notes : (p : PlainProgram) (is : List Invocation) (h : List Object) (k : ℕ) (ls : List Datum) (v : World) (j : ℕ) → serial_ops p is (fresh h) k ≡ goes_on ls v j → v.notes ≡ []
 bare_notes p is h k ls v j e = sym (ap (λ o. (world_after o).notes) (ap (λ o. moved (λ ps. ps) (λ ns. []) o) (sym e) ∙ serial_ops_moved (λ ps. ps) (λ ns. []) (λ ps v. refl) p is (fresh h) k ∙ e))
@@ -44,7 +35,7 @@ runs_to p is h k ls v j e =
     record {
       prints = v.prints;
       left = j;
-      run = e ∙ ap (λ xs. goes_on xs v j) (ends_bare p is (fresh h) k ls v j e) ∙ ap (λ ns. goes_on [] (record { heap = v.heap; prints = v.prints; notes = ns }) j) (bare_notes p is h k ls v j e);
+      run = e ∙ ap (λ xs. goes_on xs v j) (list_locals p is (fresh h) k ls v j e) ∙ ap (λ ns. goes_on [] (record { heap = v.heap; prints = v.prints; notes = ns }) j) (bare_notes p is h k ls v j e);
       taken = omega (arith, le);
     }
 

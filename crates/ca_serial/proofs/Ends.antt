@@ -13,7 +13,7 @@ use Rattle.ca_parallel.specs.Lists.{PlainMarks, noted_run, lists, world_after}
 use Rattle.ca_parallel.specs.Marks.{SoundMarks}
 use Rattle.ca_parallel.proofs.Noted.{notes_change_nothing}
 use Rattle.ca_code_laws.specs.Machine.{State, Outcome, Finished, Trapped, Spent, Comes, Ends}
-use Rattle.ca_code_laws.specs.Runs.{run_access, beginning, outcome_of, ended_as}
+use Rattle.ca_code_laws.specs.Runs.{Into, run_into, beginning, outcome_of, ended_as}
 use Rattle.ca_code_laws.specs.Told.{Front}
 use Rattle.ca_code_laws.proofs.Grown.{stands_in_front, ends_noted, ends_serially}
 use Rattle.ca_serial.specs.Runs.{prints_of}
@@ -34,23 +34,23 @@ after_is x (gives_back v w k) = refl
 after_is x (stops t w) = refl
 after_is x (runs_out w) = refl
 
-module _ (p : PlainProgram) (typed : ProgramTyped p) (marks : PlainMarks) (sound : SoundMarks p marks) (code : Code) (at budget : ℕ) (laid : IsRun marks p code at) where
-  front : (s : State World) → Comes (run_access p) code (beginning at budget) s → Front s.world (world_after (noted_run p marks budget))
-  front s comes = stands_in_front p marks code at budget laid.ends s comes
+module _ (p : PlainProgram) (typed : ProgramTyped p) (marks : PlainMarks) (sound : SoundMarks p marks) (code : Code) (at budget : ℕ) (laid : IsRun marks p code at) (into : Into) where
+  front : (s : State World) → Comes (run_into into p) code (beginning at budget) s → Front s.world (world_after (noted_run p marks budget))
+  front s comes = stands_in_front p marks code at budget laid.ends into s comes
 
   -- ---- what is printed
 
-  prints_are : (s : State World) (comes : Comes (run_access p) code (beginning at budget) s) → prints_of (serial p budget) ≡ s.world.prints ++ (front s comes).prints
+  prints_are : (s : State World) (comes : Comes (run_into into p) code (beginning at budget) s) → prints_of (serial p budget) ≡ s.world.prints ++ (front s comes).prints
   prints_are s comes = sym (ap prints_of (notes_change_nothing p marks budget)) ∙ (ended_prints budget (noted_run p marks budget) ∙ (front s comes).printed)
 
   -- a beginning of it was written
-  pub began_here : (s : State World) → Comes (run_access p) code (beginning at budget) s → (old now : Option (List ℕ)) → now ≡ grown old (prints_text s.world.prints) → Began old now (prints_text (prints_of (serial p budget)))
+  pub began_here : (s : State World) → Comes (run_into into p) code (beginning at budget) s → (old now : Option (List ℕ)) → now ≡ grown old (prints_text s.world.prints) → Began old now (prints_text (prints_of (serial p budget)))
   began_here s comes old now told =
       let more = (front s comes).prints in
       rw (prints_are s comes, texts_append s.world.prints more) (began_whole old now (prints_text s.world.prints) (prints_text more) told)
 
   -- and a value behind it not whole
-  pub began_print : (s : State World) (w : World) (v : Datum) → s.world ≡ printed w v → Comes (run_access p) code (beginning at budget) s → (old mid now : Option (List ℕ)) → mid ≡ grown old (prints_text w.prints) → Began mid now (print_text v) → Began old now (prints_text (prints_of (serial p budget)))
+  pub began_print : (s : State World) (w : World) (v : Datum) → s.world ≡ printed w v → Comes (run_into into p) code (beginning at budget) s → (old mid now : Option (List ℕ)) → mid ≡ grown old (prints_text w.prints) → Began mid now (print_text v) → Began old now (prints_text (prints_of (serial p budget)))
   began_print s w v is comes old mid now told part =
       let more = (front s comes).prints in
       let whole : prints_of (serial p budget) ≡ (w.prints ++ v ∷ []) ++ more = prints_are s comes ∙ ap (λ (x : World). x.prints ++ more) is in
@@ -60,15 +60,15 @@ module _ (p : PlainProgram) (typed : ProgramTyped p) (marks : PlainMarks) (sound
 
   -- ---- what is noted
 
-  pub notes_here : (s : State World) → Comes (run_access p) code (beginning at budget) s → Split (lists p marks budget) s.world.notes
+  pub notes_here : (s : State World) → Comes (run_into into p) code (beginning at budget) s → Split (lists p marks budget) s.world.notes
   notes_here s comes = let f = front s comes in record { rest = f.notes; whole = f.noted }
 
   -- ---- how it ends
 
-  pub ends_so : (s : State World) (o : Outcome World) → Comes (run_access p) code (beginning at budget) s → Ends (run_access p) code s o → serial p budget ≡ ended_as budget o
-  ends_so s o comes ends = ends_serially p marks code at budget laid.ends s o comes ends
+  pub ends_so : (s : State World) (o : Outcome World) → Comes (run_into into p) code (beginning at budget) s → Ends (run_into into p) code s o → serial p budget ≡ ended_as budget o
+  ends_so s o comes ends = ends_serially p marks code at budget laid.ends into s o comes ends
 
   -- with all notes
-  pub notes_whole : (s : State World) (o : Outcome World) (w : World) → world_in o s.world ≡ w → Comes (run_access p) code (beginning at budget) s → Ends (run_access p) code s o → w.notes ≡ lists p marks budget
+  pub notes_whole : (s : State World) (o : Outcome World) (w : World) → world_in o s.world ≡ w → Comes (run_into into p) code (beginning at budget) s → Ends (run_into into p) code s o → w.notes ≡ lists p marks budget
   notes_whole s o w is comes ends =
-      ap (λ (w : World). w.notes) (sym is ∙ (ap (λ o. world_in o s.world) (ends_noted p marks code at budget laid.ends s o comes ends) ∙ after_is s.world (noted_run p marks budget)))
+      ap (λ (w : World). w.notes) (sym is ∙ (ap (λ o. world_in o s.world) (ends_noted p marks code at budget laid.ends into s o comes ends) ∙ after_is s.world (noted_run p marks budget)))

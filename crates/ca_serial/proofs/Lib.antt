@@ -12,3 +12,4 @@ pub mod Quiet
 pub mod Quietness
 pub mod Sites
 pub mod Told
+pub mod Driving

@@ -17,20 +17,21 @@ use Rattle.ca_parallel.specs.Accounts.{Reached, ReachedPart, HandedOn, at_first,
 use Rattle.ca_parallel.specs.Calls.{invocations_of}
 use Rattle.ca_parallel.specs.declared.op.Op.{Op}
 use Rattle.ca_parallel.specs.Lists.{note, either}
-use Rattle.ca_note_laws.specs.Listing.{puts_nothing}
+use Rattle.ca_note_laws.specs.Listing.{puts_nothing, with_list}
 use Rattle.ca_sections.specs.Answers.{LoopIs, locals_after}
 use Rattle.ca_sections.specs.Extending.{AllStand, StandsAlone}
 use Rattle.ca_sections.specs.declared.loop_code.LoopPlace.{LoopPlace}
 use Rattle.ca_sections.specs.declared.operations.SectionAnswer.{SectionAnswer}
 use Rattle.ca_sections.specs.declared.operations.SectionAnswer.TheVariants.{Done, Trapped, Spent}
 use Rattle.ca_code_laws.specs.Words.{all_have}
-use Rattle.ca_code_laws.specs.Machine.{Store, State, Wanting, Next, moved, row, loaded, behind, plainly, beginning_by, handing, act, line_in, Comes}
-use Rattle.ca_code_laws.specs.Runs.{run_access, begun_with, begun_by}
+use Rattle.ca_code_laws.specs.Machine.{Store, State, Wanting, Next, Begun, moved, row, loaded, behind, plainly, beginning_by, handing, act, line_in, Comes}
+use Rattle.ca_code_laws.specs.Runs.{Into, run_into, begun_with, begun_by}
 use Rattle.ca_steps.specs.declared.frames.Frames.{Frames}
 use Rattle.ca_steps.specs.Stands.{back_seen, seen, state_of}
 use Rattle.ca_steps.specs.clauses.Handed.{PutLocals}
-use Rattle.ca_serial.specs.clauses.Handing.{with_note, with_notes, given, Given}
-use Rattle.ca_serial.specs.clauses.Loops.{BeginsAt, locals_at, section_at, notes_of, begun_notes}
+use Rattle.ca_steps.specs.Ways.{BeginsAt}
+use Rattle.ca_serial.specs.clauses.Handing.{Chose, with_note, with_notes, given, Given}
+use Rattle.ca_serial.specs.clauses.Loops.{locals_at, section_at, notes_of, begun_notes}
 use Rattle.ca_serial.proofs.Hands.{one_comes}
 
 -- ---- sections
@@ -172,7 +173,7 @@ asked_of P ops listed rest left taken a b h = subst (λ (k : ℕ). P (invocation
 
 -- ---- the instruction
 
-module _ (p : PlainProgram) (c : Code) (s : State World) (n line : ℕ) (loop : Statement) (κs : List Kind) (stands : slice_get c.items s.at ≡ Some (Begin n)) (on_line : slice_get c.lines s.at ≡ Some line) (is : slice_get c.loops s.at ≡ Some (Some (record { loop = loop; locals = κs }))) where
+module _ (p : PlainProgram) (c : Code) (s : State World) (n line : ℕ) (loop : Statement) (κs : List Kind) (stands : slice_get c.items s.at ≡ Some (Begin n)) (on_line : slice_get c.lines s.at ≡ Some line) (is : slice_get c.loops s.at ≡ Some (Some (record { loop = loop; locals = κs }))) (into : Into) where
   -- its locals, and its section
   abbrev pub locals : List Datum
   locals = row s.slots s.base κs
@@ -180,48 +181,58 @@ module _ (p : PlainProgram) (c : Code) (s : State World) (n line : ℕ) (loop : 
   abbrev pub section : LoopSectioned
   section = loop_section p s.world.heap s.this locals line loop s.left
 
-  begin_acts : (next : Next World) → act (run_access p) c (line_in (slice_get c.lines s.at)) (slice_get c.items s.at) next s ≡ beginning_by κs s next n (begun_by p s.this line locals s.world loop s.left)
+  begin_acts : (next : Next World) → act (run_into into p) c (line_in (slice_get c.lines s.at)) (slice_get c.items s.at) next s ≡ beginning_by κs s next n (begun_by into p s.this line locals s.world loop s.left)
   begin_acts next =
-      ap (λ l. act (run_access p) c (line_in l) (slice_get c.items s.at) next s) on_line
-      ∙ (ap (λ i. act (run_access p) c line i next s) stands ∙ ap (λ h. handing (run_access p) line s next n h) is)
+      ap (λ l. act (run_into into p) c (line_in l) (slice_get c.items s.at) next s) on_line
+      ∙ (ap (λ i. act (run_into into p) c line i next s) stands ∙ ap (λ h. handing (run_into into p) line s next n h) is)
 
   -- one that puts something, or whose section isn't done: the machine stands at its first instruction
-  goes_in : (b : Bool) (o : LoopSectioned) → puts_nothing loop ≡ b → section ≡ o → either b (begun_with p s.world s.left o) (plainly s.world) ≡ plainly s.world → Comes (run_access p) c s (moved s (s.at + 1) s.left s.slots s.world)
+  goes_in : (b : Bool) (o : LoopSectioned) → puts_nothing loop ≡ b → section ≡ o → either b (begun_with into p s.world s.left o) (plainly s.world) ≡ plainly s.world → Comes (run_into into p) c s (moved s (s.at + 1) s.left s.slots s.world)
   goes_in b o put sec e =
-      let same : begun_by p s.this line locals s.world loop s.left ≡ plainly s.world =
-      ap (λ b. either b (begun_with p s.world s.left section) (plainly s.world)) put ∙ (ap (λ o. either b (begun_with p s.world s.left o) (plainly s.world)) sec ∙ e) in
-      one_comes (run_access p) c s (moved s (s.at + 1) s.left s.slots s.world) (λ next. begin_acts next ∙ ap (beginning_by κs s next n) same)
+      let same : begun_by into p s.this line locals s.world loop s.left ≡ plainly s.world =
+      ap (λ b. either b (begun_with into p s.world s.left section) (plainly s.world)) put ∙ (ap (λ o. either b (begun_with into p s.world s.left o) (plainly s.world)) sec ∙ e) in
+      one_comes (run_into into p) c s (moved s (s.at + 1) s.left s.slots s.world) (λ next. begin_acts next ∙ ap (beginning_by κs s next n) same)
 
-  pub putting_goes_in : puts_nothing loop ≡ false → Comes (run_access p) c s (moved s (s.at + 1) s.left s.slots s.world)
+  pub putting_goes_in : puts_nothing loop ≡ false → Comes (run_into into p) c s (moved s (s.at + 1) s.left s.slots s.world)
   putting_goes_in put = goes_in false section put refl refl
 
-  pub stopped_goes_in : puts_nothing loop ≡ true → Stopped section → Comes (run_access p) c s (moved s (s.at + 1) s.left s.slots s.world)
+  pub stopped_goes_in : puts_nothing loop ≡ true → Stopped section → Comes (run_into into p) c s (moved s (s.at + 1) s.left s.slots s.world)
   stopped_goes_in put stop = goes_in true section put refl (by section stop)
     where
-      by : (o : LoopSectioned) → Stopped o → begun_with p s.world s.left o ≡ plainly s.world
+      by : (o : LoopSectioned) → Stopped o → begun_with into p s.world s.left o ≡ plainly s.world
       by o (by_trap t) = refl
       by o by_spent = refl
 
-  -- one whose section is done asks for what it lists
-  done_begun : puts_nothing loop ≡ true → (taken : ℕ) (listed : List Invocation) (d : IsDone section taken listed) → begun_by p s.this line locals s.world loop s.left ≡ given p s.world listed (s.left - taken) d.outcome.locals
-  done_begun put taken listed d =
-      ap (λ b. either b (begun_with p s.world s.left section) (plainly s.world)) put
-      ∙ (ap (begun_with p s.world s.left) d.is
-      ∙ (ap (λ l. given p s.world l (s.left - d.outcome.steps) d.outcome.locals) d.listed_are
-      ∙ ap (λ k. given p s.world listed (s.left - k) d.outcome.locals) d.steps_are))
+  -- one whose section is done is gone into, or asks for what it lists
+  abbrev asked : LoopOutcome → Bool → Begun World
+  asked o b = either b (plainly (with_list s.world s.left o)) (given p s.world o.listed (s.left - o.steps) o.locals)
 
-  -- that is done too: the machine stands behind the loop, with its locals
-  pub done_passes : puts_nothing loop ≡ true → (taken : ℕ) (listed : List Invocation) (d : IsDone section taken listed) (x : World) (left : ℕ) → given p s.world listed (s.left - taken) d.outcome.locals ≡ behind d.outcome.locals x left → all_have κs d.outcome.locals ≡ true → Comes (run_access p) c s (moved s (s.at + 1 + n) left (loaded s.slots s.base d.outcome.locals) x)
-  done_passes put taken listed d x left e have =
-      let t = moved s (s.at + 1 + n) left (loaded s.slots s.base d.outcome.locals) x in
-      one_comes (run_access p) c s t
-      (λ next. begin_acts next ∙ (ap (beginning_by κs s next n) (done_begun put taken listed d ∙ e) ∙ ap (λ b. cond b (next t) Wanting) have))
+  done_asks : puts_nothing loop ≡ true → (o : LoopOutcome) → section ≡ loop_done o → (b : Bool) → into (length s.world.notes) ≡ b → begun_by into p s.this line locals s.world loop s.left ≡ asked o b
+  done_asks put o e b is =
+      ap (λ b. either b (begun_with into p s.world s.left section) (plainly s.world)) put ∙ (ap (begun_with into p s.world s.left) e ∙ ap (asked o) is)
 
-  -- or not: the machine stands at its first instruction
-  pub alone_goes_in : puts_nothing loop ≡ true → (taken : ℕ) (listed : List Invocation) (d : IsDone section taken listed) (x : World) → given p s.world listed (s.left - taken) d.outcome.locals ≡ plainly x → Comes (run_access p) c s (moved s (s.at + 1) s.left s.slots x)
-  alone_goes_in put taken listed d x e =
-      one_comes (run_access p) c s (moved s (s.at + 1) s.left s.slots x)
-      (λ next. begin_acts next ∙ ap (beginning_by κs s next n) (done_begun put taken listed d ∙ e))
+  -- it is gone into: the machine stands at its first instruction
+  pub done_goes_in : puts_nothing loop ≡ true → (o : LoopOutcome) → section ≡ loop_done o → into (length s.world.notes) ≡ true → Comes (run_into into p) c s (moved s (s.at + 1) s.left s.slots (with_list s.world s.left o))
+  done_goes_in put o e within =
+      one_comes (run_into into p) c s (moved s (s.at + 1) s.left s.slots (with_list s.world s.left o))
+      (λ next. begin_acts next ∙ ap (beginning_by κs s next n) (done_asks put o e true within))
+
+  module _ (put : puts_nothing loop ≡ true) (out : into (length s.world.notes) ≡ false) (taken : ℕ) (listed : List Invocation) (d : IsDone section taken listed) where
+    done_begun : begun_by into p s.this line locals s.world loop s.left ≡ given p s.world listed (s.left - taken) d.outcome.locals
+    done_begun =
+        done_asks put d.outcome d.is false out
+        ∙ (ap (λ l. given p s.world l (s.left - d.outcome.steps) d.outcome.locals) d.listed_are
+        ∙ ap (λ k. given p s.world listed (s.left - k) d.outcome.locals) d.steps_are)
+
+    -- that is done too: the machine stands behind the loop, with its locals
+    pub done_passes : (x : World) (left : ℕ) → given p s.world listed (s.left - taken) d.outcome.locals ≡ behind d.outcome.locals x left → all_have κs d.outcome.locals ≡ true → Comes (run_into into p) c s (moved s (s.at + 1 + n) left (loaded s.slots s.base d.outcome.locals) x)
+    done_passes x left e have =
+        let t = moved s (s.at + 1 + n) left (loaded s.slots s.base d.outcome.locals) x in
+        one_comes (run_into into p) c s t (λ next. begin_acts next ∙ (ap (beginning_by κs s next n) (done_begun ∙ e) ∙ ap (λ b. cond b (next t) Wanting) have))
+
+    -- or not: the machine stands at its first instruction
+    pub alone_goes_in : (x : World) → given p s.world listed (s.left - taken) d.outcome.locals ≡ plainly x → Comes (run_into into p) c s (moved s (s.at + 1) s.left s.slots x)
+    alone_goes_in x e = one_comes (run_into into p) c s (moved s (s.at + 1) s.left s.slots x) (λ next. begin_acts next ∙ ap (beginning_by κs s next n) (done_begun ∙ e))
 
 -- ---- the same of frames in memory, with a world of this heap
 
@@ -229,7 +240,7 @@ module _ (p : PlainProgram) (c : Code) (s : State World) (n line : ℕ) (loop : 
 in_silence : (w : World) (heap : List Object) (ns : List Note) → ns ≡ [] → in_heap (with_notes w ns) heap ≡ in_heap w heap
 in_silence w heap ns e = ap (λ (ms : List Note). record { heap = heap; prints = w.prints; notes = ms }) (ap (λ (ms : List Note). w.notes ++ ms) e ∙ append-nil w.notes)
 
-module _ (p : PlainProgram) (c : Code) (m : Frames) (n line : ℕ) (loop : Statement) (tys : List ValueType) (b : BeginsAt c m n line loop tys) (heap : List Object) (w : World) where
+module _ (p : PlainProgram) (c : Code) (m : Frames) (n line : ℕ) (loop : Statement) (tys : List ValueType) (b : BeginsAt c m n line loop tys) (heap : List Object) (w : World) (into : Into) where
   abbrev pub here : State World
   here = state_of m (in_heap w heap)
 
@@ -241,41 +252,60 @@ module _ (p : PlainProgram) (c : Code) (m : Frames) (n line : ℕ) (loop : State
   with_its ns after = in_heap (with_notes w ns) after
 
   -- into the loop, with nothing noted
-  into : (new : Frames) (ns : List Note) → new ≡ record m { at = m.at + 1; left = m.left } → ns ≡ [] → Comes (run_access p) c here (moved here (here.at + 1) here.left here.slots here.world) → Comes (run_access p) c here (state_of new (with_its ns heap))
-  into new ns is none comes =
-      subst (λ (x : World). Comes (run_access p) c here (state_of new x)) (sym (in_silence w heap ns none))
-      (subst (λ (f : Frames). Comes (run_access p) c here (state_of f (in_heap w heap))) (sym is) comes)
+  enters_so : (new : Frames) (ns : List Note) → new ≡ record m { at = m.at + 1; left = m.left } → ns ≡ [] → Comes (run_into into p) c here (moved here (here.at + 1) here.left here.slots here.world) → Comes (run_into into p) c here (state_of new (with_its ns heap))
+  enters_so new ns is none comes =
+      subst (λ (x : World). Comes (run_into into p) c here (state_of new x)) (sym (in_silence w heap ns none))
+      (subst (λ (f : Frames). Comes (run_into into p) c here (state_of f (in_heap w heap))) (sym is) comes)
 
-  pub putting_enters : (new : Frames) → new ≡ record m { at = m.at + 1; left = m.left } → puts_nothing loop ≡ false → Comes (run_access p) c here (state_of new (with_its (begun_notes p heap m tys line loop) heap))
+  pub putting_enters : (new : Frames) → new ≡ record m { at = m.at + 1; left = m.left } → puts_nothing loop ≡ false → Comes (run_into into p) c here (state_of new (with_its (begun_notes p heap m tys line loop) heap))
   putting_enters new is put =
-      into new (begun_notes p heap m tys line loop) is (ap (λ b. either b (notes_of heap m.left its_section) []) put)
-      (putting_goes_in p c here n line loop (map kind_type tys) b.stands b.on_line b.is put)
+      enters_so new (begun_notes p heap m tys line loop) is (ap (λ b. either b (notes_of heap m.left its_section) []) put)
+      (putting_goes_in p c here n line loop (map kind_type tys) b.stands b.on_line b.is into put)
 
-  pub stopped_enters : (new : Frames) → new ≡ record m { at = m.at + 1; left = m.left } → puts_nothing loop ≡ true → Stopped its_section → Comes (run_access p) c here (state_of new (with_its (begun_notes p heap m tys line loop) heap))
+  pub stopped_enters : (new : Frames) → new ≡ record m { at = m.at + 1; left = m.left } → puts_nothing loop ≡ true → Stopped its_section → Comes (run_into into p) c here (state_of new (with_its (begun_notes p heap m tys line loop) heap))
   stopped_enters new is put stop =
-      into new (begun_notes p heap m tys line loop) is (ap (λ b. either b (notes_of heap m.left its_section) []) put ∙ none_noted heap m.left its_section stop)
-      (stopped_goes_in p c here n line loop (map kind_type tys) b.stands b.on_line b.is put stop)
+      enters_so new (begun_notes p heap m tys line loop) is (ap (λ b. either b (notes_of heap m.left its_section) []) put ∙ none_noted heap m.left its_section stop)
+      (stopped_goes_in p c here n line loop (map kind_type tys) b.stands b.on_line b.is into put stop)
+
+  -- it is gone into
+  pub loop_inside : (new : Frames) → new ≡ record m { at = m.at + 1; left = m.left } → Chose into (length w.notes) true (begun_notes p heap m tys line loop) → Comes (run_into into p) c here (state_of new (with_its (begun_notes p heap m tys line loop) heap))
+  loop_inside new is chose = by (puts_nothing loop) refl its_section refl
+    where
+      by : (q : Bool) → puts_nothing loop ≡ q → (o : LoopSectioned) → its_section ≡ o → Comes (run_into into p) c here (state_of new (with_its (begun_notes p heap m tys line loop) heap))
+      by false put o e = putting_enters new is put
+      by true put (loop_stopped t) e = stopped_enters new is put (subst Stopped (sym e) (by_trap t))
+      by true put loop_over e = stopped_enters new is put (subst Stopped (sym e) by_spent)
+      by true put (loop_done o) e =
+          let one : begun_notes p heap m tys line loop ≡ note heap o.listed (m.left - o.steps) ∷ [] = ap (λ b. either b (notes_of heap m.left its_section) []) put ∙ ap (notes_of heap m.left) e in
+          let within : into (length w.notes) ≡ true = subst (λ (ns : List Note). Chose into (length w.notes) true ns) one chose in
+          subst (λ (ns : List Note). Comes (run_into into p) c here (state_of new (with_its ns heap))) (sym one)
+          (subst (λ (f : Frames). Comes (run_into into p) c here (state_of f (with_its (note heap o.listed (m.left - o.steps) ∷ []) heap))) (sym is)
+          (done_goes_in p c here n line loop (map kind_type tys) b.stands b.on_line b.is into put o e within))
 
   module _ (put : puts_nothing loop ≡ true) (taken : ℕ) (listed : List Invocation) (d : IsDone its_section taken listed) where
+    -- that nothing of it is gone into
+    not_into : Chose into (length w.notes) false (notes_of heap m.left its_section) → into (length w.notes) ≡ false
+    not_into chose = subst (λ (ns : List Note). Chose into (length w.notes) false ns) (note_is heap m.left its_section taken listed d) chose
+
     -- the world with its note is that with its notes
     noted_so : (after : List Object) → in_heap (with_note (in_heap w heap) listed (m.left - taken)) after ≡ with_its (notes_of heap m.left its_section) after
     noted_so after = ap (λ (ns : List Note). record { heap = after; prints = w.prints; notes = w.notes ++ ns }) (sym (note_is heap m.left its_section taken listed d))
 
-    pub listed_passes : (after : List Object) (left : ℕ) (mid new : Frames) → Given p (in_heap w heap) listed (m.left - taken) after (Some left) → PutLocals m (map kind_type tys) d.outcome.locals mid → new ≡ record mid { at = mid.at + 1 + n; left = left } → Comes (run_access p) c here (state_of new (with_its (notes_of heap m.left its_section) after))
-    listed_passes after left mid new g laid is =
+    pub listed_passes : Chose into (length w.notes) false (notes_of heap m.left its_section) → (after : List Object) (left : ℕ) (mid new : Frames) → Given p (in_heap w heap) listed (m.left - taken) after (Some left) → PutLocals m (map kind_type tys) d.outcome.locals mid → new ≡ record mid { at = mid.at + 1 + n; left = left } → Comes (run_into into p) c here (state_of new (with_its (notes_of heap m.left its_section) after))
+    listed_passes chose after left mid new g laid is =
         let x = in_heap (with_note (in_heap w heap) listed (m.left - taken)) after in
         let stands : state_of new x ≡ moved here (here.at + 1 + n) left (loaded here.slots here.base d.outcome.locals) x =
         ap (λ (f : Frames). state_of f x) is
         ∙ (ap (λ (f : Frames). record { at = f.at + 1 + n; base = f.base; left = left; this = f.this; below = map back_seen f.below; slots = seen mid.slots.items; world = x }) laid.same
         ∙ ap (λ (f : Store). moved here (here.at + 1 + n) left f x) laid.slots) in
-        subst (λ (x : World). Comes (run_access p) c here (state_of new x)) (noted_so after)
-        (subst (λ (t : State World). Comes (run_access p) c here t) (sym stands)
-        (done_passes p c here n line loop (map kind_type tys) b.stands b.on_line b.is put taken listed d x left (g d.outcome.locals) laid.have))
+        subst (λ (x : World). Comes (run_into into p) c here (state_of new x)) (noted_so after)
+        (subst (λ (t : State World). Comes (run_into into p) c here t) (sym stands)
+        (done_passes p c here n line loop (map kind_type tys) b.stands b.on_line b.is into put (not_into chose) taken listed d x left (g d.outcome.locals) laid.have))
 
-    pub declined_enters : (after : List Object) (new : Frames) → Given p (in_heap w heap) listed (m.left - taken) after None → new ≡ record m { at = m.at + 1; left = m.left } → Comes (run_access p) c here (state_of new (with_its (notes_of heap m.left its_section) after))
-    declined_enters after new g is =
+    pub declined_enters : Chose into (length w.notes) false (notes_of heap m.left its_section) → (after : List Object) (new : Frames) → Given p (in_heap w heap) listed (m.left - taken) after None → new ≡ record m { at = m.at + 1; left = m.left } → Comes (run_into into p) c here (state_of new (with_its (notes_of heap m.left its_section) after))
+    declined_enters chose after new g is =
         let x = with_note (in_heap w heap) listed (m.left - taken) in
-        subst (λ (h : List Object). Comes (run_access p) c here (state_of new (with_its (notes_of heap m.left its_section) h))) (sym g.0)
-        (subst (λ (x : World). Comes (run_access p) c here (state_of new x)) (noted_so heap)
-        (subst (λ (f : Frames). Comes (run_access p) c here (state_of f x)) (sym is)
-        (alone_goes_in p c here n line loop (map kind_type tys) b.stands b.on_line b.is put taken listed d x (g.1 d.outcome.locals))))
+        subst (λ (h : List Object). Comes (run_into into p) c here (state_of new (with_its (notes_of heap m.left its_section) h))) (sym g.0)
+        (subst (λ (x : World). Comes (run_into into p) c here (state_of new x)) (noted_so heap)
+        (subst (λ (f : Frames). Comes (run_into into p) c here (state_of f x)) (sym is)
+        (alone_goes_in p c here n line loop (map kind_type tys) b.stands b.on_line b.is into put (not_into chose) taken listed d x (g.1 d.outcome.locals))))

@@ -1,4 +1,5 @@
 pub mod Copies
+pub mod Driving
 pub mod Flags
 pub mod Handing
 pub mod Loops

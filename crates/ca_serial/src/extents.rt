@@ -17,6 +17,7 @@ use ca_base::Memory;
 use ca_model::Heap;
 use ca_parallel::Op;
 use ca_sections::Coded;
+use ca_steps::Mark;
 use std::sync::Wait;
 use std::thread::Threads;
 
@@ -66,6 +67,14 @@ pub trait Extents {
         ensures accounts { OnOk result (Accounts (account self.old) (program_view program.now) heap.old (invocations_of operations.now) budget (account self.new)) }
         ensures heap_kept { OnErr result (heap.new ≡ heap.old) }
         ensures account_kept { OnErr result (account self.new ≡ account self.old) };
+
+    /// Whether it would run a marked call, or the calls of a marked loop, in order in the heap itself: then nothing is listed, and the run
+    /// goes on into it. It may say so where its account holds for every list as it is.
+    fn in_order(&self, heap: &Heap, mark: Mark) -> bool
+        ensures any { result ≡ true → (p : PlainProgram) (h : List Object) (is : List Invocation) (budget : ℕ) → Accounts (account self.now) p h is budget (account self.now) };
+
+    /// A call on this object is about to run within what the run goes on into.
+    fn pass(&self, object: u32);
 }
 
 /// The engine that declines whatever it is handed. It is for runs without marks.
@@ -107,4 +116,10 @@ impl Extents for NoExtents {
     {
         Ok(ExtentAnswer::Declined)
     }
+
+    fn in_order(&self, _heap: &Heap, _mark: Mark) -> bool {
+        false
+    }
+
+    fn pass(&self, _object: u32) {}
 }

@@ -1,6 +1,6 @@
 //! Calls that are handed to an engine.
 
-ghost use Rattle.std.specs.Prelude.{◌≡◌, ◌⊎◌, ◌∷◌, ◌++◌, [], true, IfOk, OnOk, OnErr, map, slice_get};
+ghost use Rattle.std.specs.Prelude.{◌≡◌, ◌⊎◌, ◌∷◌, ◌++◌, [], true, false, IfOk, OnOk, OnErr, length, map, slice_get};
 ghost use Rattle.ca_program.specs.View.{program_view};
 ghost use Rattle.ca_meaning.specs.ProgramTyped.{ProgramTyped};
 ghost use Rattle.ca_meaning.specs.Serial.{World, in_heap};
@@ -10,9 +10,10 @@ ghost use Rattle.ca_parallel.specs.Notes.{NoteGood};
 ghost use Rattle.ca_code.specs.Codes.{code_seen};
 ghost use Rattle.ca_code.specs.Seen.{kind_seen};
 ghost use Rattle.ca_code_laws.specs.Machine.{kinds_there};
-ghost use Rattle.ca_code_laws.specs.Runs.{run_access};
+ghost use Rattle.ca_code_laws.specs.Runs.{Into, run_into};
 ghost use Rattle.ca_steps.specs.Stands.{state_of};
-ghost use Rattle.ca_serial.specs.clauses.Handing.{HandsAt, Leads, due_at, with_note};
+ghost use Rattle.ca_steps.specs.Ways.{HandsAt};
+ghost use Rattle.ca_serial.specs.clauses.Handing.{Leads, due_at, with_note};
 
 use crate::asking::ask;
 use crate::extents::Extents;
@@ -47,7 +48,7 @@ pub(crate) fn hand_on<R: Threads + Wait + Sync, E: Extents>(
     requires due { HandsAt (code_seen code.now) frames.old op first receiver }
     requires good { NoteGood (program_view coded.now) (note run.old.heap (due_at (code_seen code.now) frames.old op first receiver ∷ []) frames.old.left) }
     requires serves { E.serves ≡ true }
-    ensures means { IfOk result (λ goes. (w : World) → Leads (run_access (program_view coded.now)) (code_seen code.now) (state_of frames.old (in_heap w run.old.heap)) goes frames.new (in_heap (with_note (in_heap w run.old.heap) (due_at (code_seen code.now) frames.old op first receiver ∷ []) frames.old.left) run.new.heap)) }
+    ensures means { IfOk result (λ goes. (w : World) (into : Into) → into (length w.notes) ≡ false → Leads (run_into into (program_view coded.now)) (code_seen code.now) (state_of frames.old (in_heap w run.old.heap)) goes frames.new (in_heap (with_note (in_heap w run.old.heap) (due_at (code_seen code.now) frames.old op first receiver ∷ []) frames.old.left) run.new.heap)) }
     ensures account { OnOk result (E.Accounts (E.account engine.old) (program_view coded.now) run.old.heap (due_at (code_seen code.now) frames.old op first receiver ∷ []) frames.old.left (E.account engine.new)) }
     ensures account_kept { OnErr result ((E.account engine.new ≡ E.account engine.old) ⊎ E.Accounts (E.account engine.old) (program_view coded.now) run.old.heap (due_at (code_seen code.now) frames.old op first receiver ∷ []) frames.old.left (E.account engine.new)) }
     ensures program { run.new.program ≡ run.old.program }

@@ -9,7 +9,8 @@
 //! An engine runs operations in an order of its own. `drive` hands it each call of a marked operation, before
 //! the call takes its step, with the heap and the steps that are left then; and of a marked loop the calls that it lists,
 //! with the steps that are left behind those of the loop itself. Where the engine is done the call or the loop counts as
-//! run; where it declines, or the loop can't be listed to its end, that runs here, and hands nothing off within.
+//! run; where it declines, or the loop can't be listed to its end, that runs here, and hands nothing off within. An engine that would run
+//! operations in order in the same heap says so when it is asked, and gets no list: the run goes on into the call or the loop.
 //!
 //! The program is laid out as instructions, with the bodies that heed marks beside the plain ones (`heeding`), and the code of each loop that
 //! is handed off once more on its own, by which its calls are listed. Frames, calls, creations and all instructions but the marks are in
@@ -23,6 +24,7 @@ mod asking;
 mod extents;
 mod handing;
 mod heeding;
+mod lending;
 mod listing;
 mod marked;
 mod print;

@@ -1,13 +1,13 @@
 //! From a program to its whole run, part of which may be handed off to an engine: `serial` of
 //! `ca_meaning/specs/Serial.antt`.
 
-ghost use Rattle.std.specs.Prelude.{◌≡◌, ◌≤◌, [], true, false, IfOk, OnOk, OnErr, Contains};
+ghost use Rattle.std.specs.Prelude.{◌≡◌, ◌≤◌, [], true, false, IfOk, Contains};
 ghost use Rattle.ca_base.specs.Devices.{Rose, Writes};
 ghost use Rattle.ca_program.specs.View.{program_view};
 ghost use Rattle.ca_meaning.specs.ProgramTyped.{ProgramTyped};
 ghost use Rattle.ca_meaning.specs.Serial.{Note, fresh, serial};
 ghost use Rattle.ca_meaning.specs.Output.{prints_text};
-ghost use Rattle.ca_parallel.specs.Accounts.{Reached, ReachedPart, HandedOn};
+ghost use Rattle.ca_parallel.specs.Accounts.{HandedOn};
 ghost use Rattle.ca_parallel.specs.Lists.{no_marks, lists};
 ghost use Rattle.ca_parallel.specs.Marks.{SoundMarks};
 ghost use Rattle.ca_parallel.specs.Notes.{NoteGood};
@@ -18,11 +18,12 @@ ghost use Rattle.ca_code_laws.specs.Runs.{beginning};
 ghost use Rattle.ca_steps.specs.Ops.{Runs};
 ghost use Rattle.ca_steps.specs.Stands.{state_of};
 ghost use Rattle.ca_serial.specs.Runs.{run_with, prints_of, OnWrite};
-ghost use Rattle.ca_serial.specs.Codes.{IsRun};
+ghost use Rattle.ca_serial.specs.clauses.Driving.{Drives, IsMade};
 
 use crate::extents::Extents;
 use crate::handing::hand_on;
 use crate::heeding::lay_out_marked;
+use crate::lending::go_on;
 use crate::listing::{Lists, list_on};
 use crate::print::print_line;
 use ca_base::{Memory, Sink};
@@ -31,7 +32,7 @@ use ca_model::{Heap, Trap};
 use ca_parallel::Marks;
 use ca_program::Program;
 use ca_sections::{Coded, LoopPlace, with_loops};
-use ca_steps::{Event, Frames, InRun, Laid, run_on};
+use ca_steps::{Event, Frames, InRun, Laid};
 use std::alloc::{AllocError, Global};
 use std::mem;
 use std::sync::Wait;
@@ -59,8 +60,8 @@ pub enum RunError {
 ///
 /// What the engine rests on holds, the program is typed, the marks are sound, and there are none where the engine
 /// doesn't serve. Each call of a marked operation is handed to the engine, and so are the calls that a marked loop lists;
-/// what the engine declines runs here. Within what was handed off nothing is. After an error a beginning of the prints was
-/// written.
+/// what the engine declines runs here, and so does what it would run in order anyway. Within what was handed off nothing is.
+/// After an error a beginning of the prints was written.
 pub fn drive<R: Threads + Wait + Sync, E: Extents, K: Sink>(
     rt: &R,
     alloc: Global,
@@ -163,9 +164,7 @@ fn coded_of<'a>(
 fn made_once<'a>(alloc: Global, program: &'a Program, marks: &Marks) -> Result<Made<'a>, Memory>
     requires program { ProgramTyped (program_view program.now) }
     requires none { marks.now ≡ no_marks }
-    ensures run { IfOk result (λ m. IsRun marks.now (program_view program.now) (code_seen m.laid.code) m.laid.code.main) }
-    ensures ops { IfOk result (λ m. Runs (code_seen m.laid.code) m.laid.code.rows.items m.laid.ops.items) }
-    ensures loops { IfOk result (λ m. AllStand (program_view program.now) (code_seen m.laid.code) m.places.items) }
+    ensures { IfOk result (λ m. IsMade marks.now (program_view program.now) m.laid m.places.items) }
 {
     let code = lay_out_once(alloc, program)?;
     let laid = Laid::of(alloc, code)?;
@@ -179,9 +178,7 @@ fn made_once<'a>(alloc: Global, program: &'a Program, marks: &Marks) -> Result<M
 fn made_of<'a>(alloc: Global, program: &'a Program, marks: &Marks) -> Result<Made<'a>, Memory>
     requires program { ProgramTyped (program_view program.now) }
     requires sound { SoundMarks (program_view program.now) marks.now }
-    ensures run { IfOk result (λ m. IsRun marks.now (program_view program.now) (code_seen m.laid.code) m.laid.code.main) }
-    ensures ops { IfOk result (λ m. Runs (code_seen m.laid.code) m.laid.code.rows.items m.laid.ops.items) }
-    ensures loops { IfOk result (λ m. AllStand (program_view program.now) (code_seen m.laid.code) m.places.items) }
+    ensures { IfOk result (λ m. IsMade marks.now (program_view program.now) m.laid m.places.items) }
 {
     if nothing_is_marked(marks) {
         return made_once(alloc, program, marks);
@@ -208,14 +205,8 @@ fn run_made<'a, R: Threads + Wait + Sync, E: Extents, K: Sink>(
     requires program { ProgramTyped (program_view program.now) }
     requires sound { SoundMarks (program_view program.now) marks.now }
     requires served { E.serves ≡ false → marks.now ≡ no_marks }
-    requires laid { IsRun marks.now (program_view program.now) (code_seen laid.now.code) laid.now.code.main }
-    requires ops { Runs (code_seen laid.now.code) laid.now.code.rows.items laid.now.ops.items }
-    requires loops { AllStand (program_view program.now) (code_seen laid.now.code) places.now }
-    ensures outcome { IfOk result (λ outcome. serial (program_view program.now) budget ≡ run_with (prints_of (serial (program_view program.now) budget)) outcome) }
-    ensures prints { Writes (K.written sink.old) (K.written sink.new) result (prints_text (prints_of (serial (program_view program.now) budget))) }
-    ensures write { OnWrite result (Rose (K.faults sink.old) (K.faults sink.new)) }
-    ensures later { K.faults sink.old ≤ K.faults sink.new }
-    ensures account { HandedOn E.Accounts (program_view program.now) (E.account engine.old) (E.account engine.new) result (lists (program_view program.now) marks.now budget) }
+    requires made { IsMade marks.now (program_view program.now) laid.now places.now }
+    ensures { Drives E.Accounts (program_view program.now) marks.now budget result (E.account engine.old) (E.account engine.new) (K.written sink.old) (K.written sink.new) (K.faults sink.old) (K.faults sink.new) }
 {
     let Ok(coded) = coded_of(alloc, program, marks, laid) else {
         return Err(RunError::Memory);
@@ -242,15 +233,9 @@ fn run_coded<'a, R: Threads + Wait + Sync, E: Extents, K: Sink>(
     requires program { ProgramTyped (program_view program.now) }
     requires sound { SoundMarks (program_view program.now) marks.now }
     requires served { E.serves ≡ false → marks.now ≡ no_marks }
-    requires laid { IsRun marks.now (program_view program.now) (code_seen laid.now.code) laid.now.code.main }
-    requires ops { Runs (code_seen laid.now.code) laid.now.code.rows.items laid.now.ops.items }
+    requires made { IsMade marks.now (program_view program.now) laid.now places.now }
     requires coded { coded.now ≡ program.now }
-    requires loops { AllStand (program_view program.now) (code_seen laid.now.code) places.now }
-    ensures outcome { IfOk result (λ outcome. serial (program_view program.now) budget ≡ run_with (prints_of (serial (program_view program.now) budget)) outcome) }
-    ensures prints { Writes (K.written sink.old) (K.written sink.new) result (prints_text (prints_of (serial (program_view program.now) budget))) }
-    ensures write { OnWrite result (Rose (K.faults sink.old) (K.faults sink.new)) }
-    ensures later { K.faults sink.old ≤ K.faults sink.new }
-    ensures account { HandedOn E.Accounts (program_view program.now) (E.account engine.old) (E.account engine.new) result (lists (program_view program.now) marks.now budget) }
+    ensures { Drives E.Accounts (program_view program.now) marks.now budget result (E.account engine.old) (E.account engine.new) (K.written sink.old) (K.written sink.new) (K.faults sink.old) (K.faults sink.new) }
 {
     let Ok(mut frames) = Frames::before(alloc, laid.code.room, laid.code.main, budget) else {
         return Err(RunError::Memory);
@@ -297,21 +282,14 @@ fn run_all<'a, R: Threads + Wait + Sync, E: Extents, K: Sink>(
     requires program { ProgramTyped (program_view run.old.program.now) }
     requires sound { SoundMarks (program_view run.old.program.now) marks.now }
     requires good { (n : Note) → Contains (lists (program_view run.old.program.now) marks.now budget) n → NoteGood (program_view run.old.program.now) n × (E.serves ≡ true) }
-    requires laid { IsRun marks.now (program_view run.old.program.now) (code_seen laid.now.code) laid.now.code.main }
-    requires ops { Runs (code_seen laid.now.code) laid.now.code.rows.items laid.now.ops.items }
+    requires made { IsMade marks.now (program_view run.old.program.now) laid.now places.now }
     requires coded { coded.now ≡ run.old.program.now }
-    requires loops { AllStand (program_view run.old.program.now) (code_seen laid.now.code) places.now }
     // The machine stands before `main`.
     requires begins { state_of frames.old (fresh run.old.heap) ≡ beginning laid.now.code.main budget }
-    ensures outcome { IfOk result (λ outcome. serial (program_view run.old.program.now) budget ≡ run_with (prints_of (serial (program_view run.old.program.now) budget)) outcome) }
-    ensures prints { Writes (K.written sink.old) (K.written sink.new) result (prints_text (prints_of (serial (program_view run.old.program.now) budget))) }
-    ensures write { OnWrite result (Rose (K.faults sink.old) (K.faults sink.new)) }
-    ensures later { K.faults sink.old ≤ K.faults sink.new }
-    ensures account { OnOk result (Reached E.Accounts (program_view run.old.program.now) (E.account engine.old) (lists (program_view run.old.program.now) marks.now budget) (E.account engine.new)) }
-    ensures account_part { OnErr result (ReachedPart E.Accounts (program_view run.old.program.now) (E.account engine.old) (lists (program_view run.old.program.now) marks.now budget) (E.account engine.new)) }
+    ensures { Drives E.Accounts (program_view run.old.program.now) marks.now budget result (E.account engine.old) (E.account engine.new) (K.written sink.old) (K.written sink.new) (K.faults sink.old) (K.faults sink.new) }
 {
     for _ in rt.forever() {
-        match run_on(rt, run, laid, frames) {
+        match go_on(rt, alloc, engine, run, laid, frames) {
             Event::Prints(value) => {
                 if let Err(_) = print_line(value, sink) {
                     return Err(RunError::Write);

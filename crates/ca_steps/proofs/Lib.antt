@@ -15,7 +15,11 @@ pub mod Listing
 pub mod Creating
 pub mod Opping
 pub mod Opped
+pub mod Adding
+pub mod Arms
+pub mod Forms
 pub mod Reaching
 pub mod Turning
 pub mod Handing
+pub mod Ways
 mod Examples

@@ -6,3 +6,4 @@ pub mod Handed
 pub mod Running
 pub mod Here
 pub mod Wide
+pub mod Passing

@@ -1,11 +1,11 @@
 //! What is handed on from a frame: the arguments of calls, and the locals of loops; and how it goes on behind that.
 
-ghost use Rattle.std.specs.Prelude.{◌≡◌, ◌+◌, ◌++◌, IfOk, map};
+ghost use Rattle.std.specs.Prelude.{◌≡◌, ◌<◌, ◌≤◌, ◌+◌, ◌++◌, IfOk, length, map, slice_set, true};
 ghost use Rattle.ca_program.specs.Kinds.{kind_type};
 ghost use Rattle.ca_code.specs.Seen.{kind_seen};
 ghost use Rattle.ca_code_laws.specs.Machine.{row};
 ghost use Rattle.ca_steps.specs.Stands.{seen};
-ghost use Rattle.ca_steps.specs.clauses.Handed.{PutLocals};
+ghost use Rattle.ca_steps.specs.clauses.Handed.{PutLocals, WordsPut};
 
 use crate::frames::Frames;
 use crate::words::{has_kind, word};
@@ -16,6 +16,34 @@ use ca_program::ValueType;
 
 /// The most locals that are put back.
 const MOST_LOCALS: usize = 2_000_000_000;
+
+/// Puts a number into a slot.
+#[inline(always)]
+fn put_at(slots: &mut Vec<i64>, place: usize, n: i64)
+    requires { place < length slots.old.items }
+    ensures { slots.new.items ≡ slice_set slots.old.items place n }
+{
+    slots[place] = n;
+}
+
+/// Puts the numbers of values into slots from one on, if each is of its kind.
+#[inline(always)]
+fn put_words(slots: &mut Vec<i64>, base: usize, kinds: &[Kind], values: &[Value]) -> bool
+    requires many { length kinds.now ≡ length values.now }
+    requires room { base + length values.now ≤ length slots.old.items }
+    ensures { result ≡ true → WordsPut slots.old.items base (map kind_seen kinds.now) values.now slots.new.items }
+{
+    let mut i = values.len();
+    'values: while i > 0 {
+        let value = values[i - 1];
+        if !has_kind(kinds[i - 1], value) {
+            return false;
+        }
+        put_at(slots, base + (i - 1), word(value));
+        i -= 1;
+    }
+    true
+}
 
 impl Frames {
     /// Adds the values of slots from one on, of these kinds.
@@ -96,24 +124,19 @@ impl Frames {
     }
 
     /// Puts values into the first slots, if each is of its kind and there are as many.
+    #[inline(always)]
     pub fn put_values(&mut self, kinds: &[Kind], values: &[Value]) -> Result<(), Memory>
         ensures { IfOk result (λ _. PutLocals self.old (map kind_seen kinds.now) values.now self.new) }
     {
-        if kinds.len() != values.len() || values.len() > MOST_LOCALS {
+        let base = self.base as usize;
+        let len = self.slots.len();
+        if kinds.len() != values.len() || len < base || len - base < values.len() {
             return Err(Memory);
         }
-        let mut i = values.len();
-        'values: while i > 0 {
-            let value = values[i - 1];
-            if !has_kind(kinds[i - 1], value) {
-                return Err(Memory);
-            }
-            let place = self.base as usize + (i - 1);
-            if !self.put(place, word(value)) {
-                return Err(Memory);
-            }
-            i -= 1;
+        if put_words(&mut self.slots, base, kinds, values) {
+            Ok(())
+        } else {
+            Err(Memory)
         }
-        Ok(())
     }
 }

@@ -4,7 +4,9 @@ ghost use Rattle.std.specs.Prelude.{◌≡◌, true};
 ghost use Rattle.ca_meaning.specs.Serial.{put_own};
 
 use crate::access::{Access, Look};
+use crate::frames::receiver_of;
 use crate::loads::{field_of, look_at};
+use crate::numbers::sum_of;
 use ca_code::Kind;
 use ca_model::{Heap, Value};
 use ca_program::{FieldId, OpId, Program};
@@ -52,6 +54,8 @@ impl<'a> Access for InRun<'a> {
 
     ghost Fits = { λ s bs. Unit {0} };
 
+    ghost at_hand = { λ s. s.heap };
+
     #[inline(always)]
     fn enters(&self) -> bool {
         true
@@ -69,7 +73,7 @@ impl<'a> Access for InRun<'a> {
         false
     }
 
-    fn reach(&self, _receiver: i64) {}
+    fn reach(&self, _receiver: i64, _start: u32) {}
 
     #[inline(always)]
     fn stand(&mut self, _deep: bool) {}
@@ -100,7 +104,29 @@ impl<'a> Access for InRun<'a> {
     }
 
     #[inline(always)]
+    fn reads(&self, _n: usize, _f: FieldId) -> bool {
+        true
+    }
+
+    #[inline(always)]
     fn put(&mut self, this: Value, f: FieldId, item: u32, value: Value) -> bool {
         store(&mut self.heap, this, f, item, value)
+    }
+
+    #[inline(always)]
+    fn add(&mut self, this: u32, f: FieldId, n: i64) -> Option<i64> {
+        let me = receiver_of(this);
+        let Value::Ref(o) = me else {
+            return None;
+        };
+        let Value::Long(a) = field_of(&self.heap, o, f) else {
+            return None;
+        };
+        let sum = sum_of(a, n);
+        if store(&mut self.heap, me, f, 0, Value::Long(sum)) {
+            Some(sum)
+        } else {
+            None
+        }
     }
 }

@@ -7,4 +7,5 @@ pub mod Entering
 pub mod Running
 pub mod FromHeap
 pub mod Facts
+pub mod Calls
 mod Examples

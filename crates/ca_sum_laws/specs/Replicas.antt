@@ -1,5 +1,5 @@
 -- Replicas: what each worker did to a heap of its own, how replicas are merged, and the law that they are a run.
-use Rattle.std.specs.Prelude.{suc, ℤ, ◌≡◌, ◌+ℤ◌, ◌-ℤ◌, List, [], ◌∷◌, ◌++◌, flat_map, map, All, Contains, Some, None, slice_get, slice_set}
+use Rattle.std.specs.Prelude.{suc, ◌≡◌, ◌+ℤ◌, ◌-ℤ◌, List, [], ◌∷◌, ◌++◌, flat_map, map, All, Contains, Some, None, slice_get, slice_set}
 use Rattle.std.specs.Int.{int_wrap, w64}
 use Rattle.ca_program.specs.declared.program.OpId.{OpId}
 use Rattle.ca_program.specs.Plain.{PlainProgram}

@@ -1,5 +1,6 @@
 //! The laws of summed extents.
 
+ghost use Rattle.ca_sum_laws.specs.Calls.{CallsLead};
 ghost use Rattle.ca_sum_laws.specs.Facts.{EntriesRanOnTheFrozenObjects};
 ghost use Rattle.ca_sum_laws.specs.Moves.{SummedSectionsMoveAlike};
 ghost use Rattle.ca_sum_laws.specs.Replicas.{ReplicasAreARun};
@@ -23,4 +24,9 @@ pub fn replicas_are_a_run()
 /// Each entry of a replica is the complete section of its task on the frozen object.
 pub fn entries_ran_on_the_frozen_objects()
     ensures { EntriesRanOnTheFrozenObjects }
+{}
+
+/// A call that is done, with all that it leads to, is what entries lead to: each section of its run, once.
+pub fn calls_lead()
+    ensures { CallsLead }
 {}

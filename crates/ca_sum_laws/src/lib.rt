@@ -6,7 +6,7 @@
 //! frozen one, have done together what one run of the pending machine does (`Replicas`). Each law is the contract of a
 //! function of `laws`. The lemmas are in `proofs/`: `Slots` and `Alike` (one section on two objects), `OnlySums`, `Heaps`
 //! and `Merging` (heaps that move by differences), `Entering` (what an entry changes), `Running` (replicas of the frozen
-//! heap), `FromHeap` and `Facts` (replicas of others). `Examples` has a bin that is added to in two ways and one whose sum
+//! heap), `FromHeap` and `Facts` (replicas of others), `Calls` (a whole call as entries). `Examples` has a bin that is added to in two ways and one whose sum
 //! is read.
 //!
 //! Whoever reads the public clauses must believe each file of `specs/`.

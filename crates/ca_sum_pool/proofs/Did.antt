@@ -1,7 +1,7 @@
 -- What a task does to a worker's part.
-use Rattle.std.proofs.Common.{◌≡◌, ℕ, suc, ◌+◌, ◌≤◌, Bool, false, true, true≢false, option_to_list, List, [], ◌∷◌, ◌++◌, Option, Some, None, map, sym, refl, ap, ◌∙◌, subst, arith}
-use Rattle.std.proofs.lemmas.List.{length_push}
+use Rattle.std.proofs.Common.{◌≡◌, ℕ, suc, ◌+◌, ◌≤◌, Bool, false, true, true≢false, option_to_list, List, [], ◌∷◌, ◌++◌, Option, Some, None, map, sym, refl, ap, ◌∙◌, subst, arith, length-append}
 use Rattle.std.proofs.lemmas.List.Elements.{All-cons, All-nil}
+use Rattle.ca_model.specs.declared.value.Object.{Object}
 use Rattle.ca_meaning.specs.Multisets.{weight}
 use Rattle.ca_parallel.specs.Extents.{Extent}
 use Rattle.ca_parallel.specs.declared.op.Op.{Op}
@@ -12,6 +12,7 @@ use Rattle.ca_logs.specs.declared.log.Entry.{Entry}
 use Rattle.ca_logs.specs.declared.log.Stop.{Stop}
 use Rattle.ca_logs.specs.Entries.{task_after, listed_by}
 use Rattle.ca_logs.specs.Laws.{steps_of}
+use Rattle.ca_logs.proofs.Tasks.{weight_map, weight_flat}
 use Rattle.ca_deques.specs.Settings.{Setting, Fits, AllFit}
 use Rattle.ca_deques.specs.Thieves.{OwnerView, OwnerKey, owner_key, ThiefView, taken_by_thief}
 use Rattle.ca_deques.specs.declared.rule.Hand.{Hand}
@@ -27,7 +28,7 @@ use Rattle.ca_sum_pool.specs.declared.performing.Stuck.{Stuck}
 use Rattle.ca_sum_pool.specs.declared.performing.Turn.{Turn}
 use Rattle.ca_sum_pool.specs.declared.performing.Turn.TheVariants as turns
 use Rattle.ca_sum_pool.specs.Rounded.{IsSum}
-use Rattle.ca_sum_pool.specs.Parts.{begun, sum_within, ran_entry, tasks_of, StopsSo, ran_weight, made_weight, RanOne, StoppedOne, Keeps, Tells, RanAndPushed, Performed, Did, Sound}
+use Rattle.ca_sum_pool.specs.Parts.{begun, sum_within, ran_entry, tasks_of, StopsSo, RanOne, RanWhole, SameSums, StoppedOne, Keeps, Tells, RanAndPushed, Performed, Did, Sound}
 use Rattle.ca_sum_pool.proofs.Totals.{sum_more, sum_is}
 
 -- ---- what is answered of a task
@@ -43,7 +44,7 @@ module _ (s : Setting) (x : Extent) (left : ℕ) (task : Task) where
   -- a task that was kept
   pub kept_performed : (o : OwnerView) (cs : List Changed) (share rest : List Task) (turn : Turn) → Keeps share task rest turn → Fits s task → AllFit s share → Performed s x left task o o cs cs share rest turn
   kept_performed o cs share rest (turns.Ran n) k f a = absurd k
-  kept_performed o cs share rest turns.Kept k f a = record { owner = refl; taken = refl; fits = grown_fit s rest share task k a (one_fits s task f); turned = (refl, refl, k) }
+  kept_performed o cs share rest turns.Kept k f a = record { owner = refl; taken = refl; fits = grown_fit s rest share task k a (one_fits s task f); turned = (record { once = λ d. d; same = refl }, refl, k) }
   kept_performed o cs share rest (turns.Stopped z) k f a = absurd k
   kept_performed o cs share rest turns.Short k f a = record { owner = refl; taken = refl; fits = subst (AllFit s) (sym k) a; turned = tt }
 
@@ -55,11 +56,54 @@ module _ (s : Setting) (x : Extent) (left : ℕ) (task : Task) where
     taken = taken;
     fits = all;
     turned = record {
-      ops = ops;
-      ran = ran;
-      pushed = subst (λ k. (h : Task → ℕ) → weight h new.hand.pushed + weight h rest ≡ weight h old.hand.pushed + weight h share + weight h (map (task_after k) ops)) is pushed;
+      entries = ran_entry task ops steps ∷ [];
+      ran = record { some = omega arith; once = ran.once; further = ran.further; stands = ran.stands; steps_are = omega arith };
+      pushed = λ h.
+          let w = subst (λ k. (h : Task → ℕ) → weight h new.hand.pushed + weight h rest ≡ weight h old.hand.pushed + weight h share + weight h (map (task_after k) ops)) is pushed in
+          omega (arith, w h);
     };
   }
+
+  -- one that ran with all that it leads to
+  pub whole_performed : (o : OwnerView) (before after : List Changed) (share : List Task) (steps : ℕ) → RanWhole s.program x s.frozen task before after steps → AllFit s share → Performed s x left task o o before after share share (turns.Ran steps)
+  whole_performed o before after share steps w a = record {
+    owner = refl;
+    taken = refl;
+    fits = a;
+    turned = record {
+      entries = w.entries;
+      ran = w.ran;
+      pushed = λ h. omega (arith, w.each.weighed h, weight_map h (λ (e : Entry). e.task) w.entries, weight_flat h listed_by w.entries);
+    };
+  }
+
+  -- what was answered of a task holds where the sums were the same before
+  pub performed_on : (o n : OwnerView) (before mid after : List Changed) (share rest : List Task) (turn : Turn) → SameSums s.program x s.frozen before mid → Performed s x left task o n mid after share rest turn → Performed s x left task o n before after share rest turn
+  performed_on o n before mid after share rest (turns.Ran steps) same q =
+      let f : RanAndPushed s x task o n mid after share rest steps = q.turned in
+      record {
+        owner = q.owner;
+        taken = q.taken;
+        fits = q.fits;
+        turned = record {
+          entries = f.entries;
+          ran = record {
+            some = f.ran.some;
+            once = f.ran.once;
+            further = λ es l. f.ran.further es (subst (λ (z : List Object). Replicates s.program x s.frozen (zeroed_heap x.written s.frozen) es z) (sym same.same) l);
+            stands = f.ran.stands;
+            steps_are = f.ran.steps_are;
+          };
+          pushed = f.pushed;
+        };
+      }
+  performed_on o n before mid after share rest turns.Kept same q =
+      let k : SameSums s.program x s.frozen mid after = q.turned.0 in
+      record { owner = q.owner; taken = q.taken; fits = q.fits; turned = (record { once = λ d. k.once (same.once d); same = k.same ∙ same.same }, q.turned.1, q.turned.2) }
+  performed_on o n before mid after share rest (turns.Stopped one) same q =
+      let z : StoppedOne s.program x s.frozen left task mid after one = q.turned.0 in
+      record { owner = q.owner; taken = q.taken; fits = q.fits; turned = (record { once = z.once; same = z.same ∙ same.same; task_is = z.task_is; stops = z.stops }, q.turned.1, q.turned.2) }
+  performed_on o n before mid after share rest turns.Short same q = record { owner = q.owner; taken = q.taken; fits = q.fits; turned = tt }
 
   pub short_performed : (old new : OwnerView) (before after : List Changed) (share rest : List Task) → owner_key new ≡ owner_key old → new.hand.taken ≡ old.hand.taken → AllFit s rest → Performed s x left task old new before after share rest turns.Short
   short_performed old new before after share rest key taken all = record { owner = key; taken = taken; fits = all; turned = tt }
@@ -136,15 +180,13 @@ module _ (s : Setting) (x : Extent) (left : ℕ) where
         did = λ e.
             let d : Did s x left o.hand thieves copies share mine (begun k at end) stuck count steps = i.did e in
             let f : RanAndPushed s x task m n copies after mid rest took = q.turned in
-            let entry : Entry = ran_entry task f.ops took in
-            let one : (h : Task → ℕ) → ran_weight h (entry ∷ []) + weight h n.hand.pushed + weight h rest ≡ weight h m.hand.pushed + weight h mid + h task + made_weight h (entry ∷ []) = λ h. omega (arith, f.pushed h) in
-            let steps_more : steps_of d.entries + took ≡ steps_of (d.entries ++ entry ∷ []) = let w = weight_append (λ (e : Entry). e.steps) d.entries (entry ∷ []) in omega (arith, w) in record {
-              entries = d.entries ++ entry ∷ [];
+            let steps_more : steps_of d.entries + took ≡ steps_of (d.entries ++ f.entries) = let w = weight_append (λ (e : Entry). e.steps) d.entries f.entries in omega (arith, w, f.ran.steps_are) in record {
+              entries = d.entries ++ f.entries;
               once = f.ran.once;
               leads = f.ran.further d.entries d.leads;
               stands = λ typed. f.ran.stands;
               stops = d.stops;
-              counted = omega (arith, d.counted, few, length_push d.entries entry);
+              counted = omega (arith, d.counted, few, f.ran.some, length-append d.entries f.entries);
               steps_are = sum_is left _ _ total steps_more (subst (IsSum left (steps_of d.entries + took)) (sym total_is) (sum_more left (steps_of d.entries) took steps d.steps_are));
               balance = λ h. omega (
                 arith,
@@ -153,12 +195,12 @@ module _ (s : Setting) (x : Extent) (left : ℕ) where
                 ap (λ z. weight h (begun z at end)) kl,
                 ap (λ z. weight h (begun z now last)) kl,
                 ap (λ (t : Option Task). weight h (option_to_list t)) is,
-                one h,
+                f.pushed h,
                 ap (weight h) q.taken,
                 ap (λ (k : OwnerKey). weight h k.2) q.owner,
                 ap (λ (k : OwnerKey). weight h k.2) same,
-                weight_append (λ (e : Entry). h e.task) d.entries (entry ∷ []),
-                weight_append (λ (e : Entry). weight h (listed_by e)) d.entries (entry ∷ []),
+                weight_append (λ (e : Entry). h e.task) d.entries f.entries,
+                weight_append (λ (e : Entry). weight h (listed_by e)) d.entries f.entries,
               );
             };
       }
@@ -169,11 +211,11 @@ module _ (s : Setting) (x : Extent) (left : ℕ) where
         fits = q.fits;
         did = λ e.
             let d : Did s x left o.hand thieves copies share mine (begun k at end) stuck count steps = i.did e in
-            let cs = q.turned.0 in let own = q.turned.1 in let put = q.turned.2 in record {
+            let cs : SameSums s.program x s.frozen copies after = q.turned.0 in let own = q.turned.1 in let put = q.turned.2 in record {
               entries = d.entries;
-              once = subst AreDistinct (sym cs) d.once;
-              leads = subst (λ (z : List Changed). Replicates s.program x s.frozen (zeroed_heap x.written s.frozen) d.entries (sums x.written s.frozen z)) (sym cs) d.leads;
-              stands = λ typed. subst (λ (z : List Changed). StandsFor s.program x s.frozen (sums x.written s.frozen z)) (sym cs) (d.stands typed);
+              once = cs.once d.once;
+              leads = subst (Replicates s.program x s.frozen (zeroed_heap x.written s.frozen) d.entries) (sym cs.same) d.leads;
+              stands = λ typed. subst (StandsFor s.program x s.frozen) (sym cs.same) (d.stands typed);
               stops = d.stops;
               counted = d.counted;
               steps_are = d.steps_are;

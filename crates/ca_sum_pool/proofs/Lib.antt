@@ -2,6 +2,7 @@ pub mod Totals
 pub mod Begun
 pub mod Tasks
 pub mod Did
+pub mod Wholes
 pub mod Steps
 pub mod Joins
 pub mod Sends

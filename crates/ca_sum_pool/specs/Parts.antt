@@ -1,9 +1,9 @@
 -- What is known of a worker's part of a round with replicas, and the equation that it keeps.
-use Rattle.std.specs.Prelude.{ℕ, zero, suc, ◌≡◌, ◌≢◌, ◌<◌, ◌≤◌, ◌+◌, ◌-◌, ◌⊎◌, nat_lt, cond, Bool, true, false, List, [], ◌∷◌, ◌++◌, length, map, reverse, option_to_list, All, Contains, Option, Some, None, slice_get}
+use Rattle.std.specs.Prelude.{ℕ, zero, suc, ◌≡◌, ◌≢◌, ◌<◌, ◌≤◌, ◌+◌, ◌-◌, ◌⊎◌, nat_lt, cond, Bool, true, false, List, [], ◌∷◌, ◌++◌, length, map, flat_map, reverse, option_to_list, All, Contains, Option, Some, None, slice_get}
 use Rattle.ca_program.specs.Plain.{PlainProgram}
 use Rattle.ca_model.specs.declared.value.Object.{Object}
 use Rattle.ca_model.specs.Typed.{TypedHeap}
-use Rattle.ca_meaning.specs.Multisets.{weight}
+use Rattle.ca_meaning.specs.Multisets.{weight, SameItems}
 use Rattle.ca_meaning.specs.Sections.{section}
 use Rattle.ca_parallel.specs.declared.op.Op.{Op}
 use Rattle.ca_parallel.specs.Extents.{Extent}
@@ -11,7 +11,7 @@ use Rattle.ca_order_laws.specs.Order.{StandsFor}
 use Rattle.ca_logs.specs.declared.log.Task.{Task}
 use Rattle.ca_logs.specs.declared.log.Entry.{Entry}
 use Rattle.ca_logs.specs.declared.log.Stop.{Stop}
-use Rattle.ca_logs.specs.Entries.{listed_by, task_after}
+use Rattle.ca_logs.specs.Entries.{listed_by, task_after, tasks_in}
 use Rattle.ca_logs.specs.Laws.{steps_of}
 use Rattle.ca_deques.specs.declared.rule.Hand.{Hand}
 use Rattle.ca_deques.specs.Settings.{Setting, AllFit}
@@ -119,6 +119,31 @@ module _ (p : PlainProgram) (x : Extent) (frozen : List Object) where
     pub fits : AllFit (setting_of p x frozen) (map (task_after (suc task.after)) ops)
     pub stands : StandsFor p x frozen (sums x.written frozen after)
 
+  -- Sections are done, one behind the other, in so many steps: whatever entries led to the copies before them, with these behind
+  -- them they lead to those after.
+  pub record RanAll (entries : List Entry) (before after : List Changed) (steps : ℕ) : Type 0 where
+    pub some : 0 < length entries
+    pub once : AreDistinct after
+    pub further : (es : List Entry) → Leads es before → Leads (es ++ entries) after
+    pub stands : StandsFor p x frozen (sums x.written frozen after)
+    pub steps_are : steps_of entries ≡ steps
+
+  -- all sums are the same, and no object has two copies if none had
+  pub record SameSums (before after : List Changed) : Type 0 where
+    pub once : AreDistinct before → AreDistinct after
+    pub same : sums x.written frozen after ≡ sums x.written frozen before
+
+  -- a task ran with all that it leads to, each section once
+  pub record RanWhole (task : Task) (before after : List Changed) (steps : ℕ) : Type 0 where
+    pub entries : List Entry
+    pub ran : RanAll entries before after steps
+    pub each : SameItems (tasks_in entries) (task ∷ flat_map listed_by entries)
+
+  -- or it isn't done
+  abbrev pub WentWhole : Task → List Changed → List Changed → Option ℕ → Type 0
+  WentWhole task before after (Some steps) = RanWhole task before after steps
+  WentWhole task before after None = SameSums before after
+
   -- The task's section stopped, and all sums are as before.
   pub record StoppedOne (left : ℕ) (task : Task) (before after : List Changed) (s : Stuck) : Type 0 where
     pub once : AreDistinct after
@@ -145,16 +170,16 @@ Tells task why turns.Kept = ⊥
 Tells task why (turns.Stopped s) = s ≡ record { task = task; why = why }
 Tells task why turns.Short = Unit {0}
 
--- a section ran, and what it lists was pushed, or is in the share
+-- Sections ran: that of the task, or all that it leads to. What they list ran too, was pushed, or is in the share.
 pub record RanAndPushed (s : Setting) (x : Extent) (task : Task) (old new : OwnerView) (before after : List Changed) (share rest : List Task) (steps : ℕ) : Type 0 where
-  pub ops : List Op
-  pub ran : RanOne s.program x s.frozen task before after ops steps
-  pub pushed : (h : Task → ℕ) → weight h new.hand.pushed + weight h rest ≡ weight h old.hand.pushed + weight h share + weight h (map (task_after (suc task.after)) ops)
+  pub entries : List Entry
+  pub ran : RanAll s.program x s.frozen entries before after steps
+  pub pushed : (h : Task → ℕ) → ran_weight h entries + weight h new.hand.pushed + weight h rest ≡ h task + made_weight h entries + weight h old.hand.pushed + weight h share
 
 -- by how the worker goes on
 abbrev pub TurnedSo : Setting → Extent → ℕ → Task → OwnerView → OwnerView → List Changed → List Changed → List Task → List Task → Turn → Type 0
 TurnedSo s x left task old new before after share rest (turns.Ran steps) = RanAndPushed s x task old new before after share rest steps
-TurnedSo s x left task old new before after share rest turns.Kept = (after ≡ before) × (new ≡ old) × (rest ≡ share ++ task ∷ [])
+TurnedSo s x left task old new before after share rest turns.Kept = SameSums s.program x s.frozen before after × (new ≡ old) × (rest ≡ share ++ task ∷ [])
 TurnedSo s x left task old new before after share rest (turns.Stopped one) = StoppedOne s.program x s.frozen left task before after one × (new ≡ old) × (rest ≡ share)
 TurnedSo s x left task old new before after share rest turns.Short = Unit {0}
 

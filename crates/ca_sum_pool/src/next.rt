@@ -8,10 +8,12 @@ ghost use Rattle.ca_deques.specs.Settings.{Setting, AllFit};
 ghost use Rattle.ca_deques.specs.Thieves.{owner_key, key_of, taken_by_thief};
 ghost use Rattle.ca_sum_pool.specs.Parts.{begun, next_task, taken_of, Took};
 
+use crate::callers::is_one;
 use ca_deques::taking::{keep, open_some, take_any};
 use ca_deques::{Owner, Round, Thieves};
 use ca_logs::Task;
 use ca_parallel::Op;
+use ca_program::OpId;
 use std::alloc::AllocError;
 
 /// When a deque holds as few items, its owner opens more.
@@ -215,6 +217,19 @@ fn open_now_and_then<N: Round>(owner: &mut Owner<N>, share: &mut Vec<Task>)
     if count >= OFTEN && count % OFTEN == 0 {
         open_more(owner, share);
     }
+}
+
+/// Whether a worker runs an operation with all that this leads to: one that calls others, where its share or its list has more to
+/// run, so that nobody waits for these.
+#[inline]
+pub fn runs_whole(share: &Vec<Task>, at: usize, end: usize, callers: &[OpId], op: OpId) -> bool {
+    if !is_one(callers, op) {
+        return false;
+    }
+    if share.len() > 0 {
+        return true;
+    }
+    at < end
 }
 
 /// The newest task of a share.

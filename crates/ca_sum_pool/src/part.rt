@@ -9,18 +9,21 @@ ghost use Rattle.ca_deques.specs.Hands.{IsUnused};
 ghost use Rattle.ca_deques.specs.Settings.{AllFit};
 ghost use Rattle.ca_deques.specs.Thieves.{owner_key, key_of, taken_by_thief};
 ghost use Rattle.ca_replica.specs.Applied.{IsRound};
+ghost use Rattle.ca_replica.specs.Calls.{Marks};
 ghost use Rattle.ca_sum_pool.specs.Parts.{Sound, begun, setting_of};
 
+use crate::callers::callers_of;
 use crate::counting::{add_steps, one_more};
-use crate::next::take_next;
-use crate::performing::{Stuck, Sums, Turn, perform};
+use crate::next::{runs_whole, take_next};
+use crate::performing::{FIRST_PATIENCE, Stuck, Sums, Turn, perform};
 use ca_base::Gate;
 use ca_deques::{Owner, Round, Thieves};
 use ca_extent::Extent;
 use ca_logs::Task;
 use ca_model::Heap;
 use ca_parallel::Op;
-use ca_replica::Replica;
+use ca_program::{ClassId, OpId};
+use ca_replica::{Bench, Replica, marks_of};
 use ca_sections::{Coded, Desk};
 use std::alloc::Global;
 use std::marker::{Model, PhantomData};
@@ -163,18 +166,23 @@ impl<N: Round, K: Sums> Part<N, K> {
         }
     }
 
-    /// Takes a task, or a call of the list, and runs it; there is room for what its section lists. `false` where it found none,
-    /// or where it is the last one of this round.
+    /// Takes a task, or a call of the list, and runs it, with all that it leads to where there are others; there is room for what its
+    /// section lists. `false` where it found none, or where it is the last one of this round.
     fn step<G: Gate>(
         &mut self,
         desk: &mut Desk,
+        bench: &mut Bench,
+        marks: &[Option<ClassId>],
+        callers: &[OpId],
         program: &Coded<'_>,
         extent: &Extent,
         frozen: &Heap,
         gate: &G,
         listed: &[Op],
+        patience: &mut u64,
         room: &mut Vec<Op>,
     ) -> bool
+        requires marks { Marks extent.now.written marks.now }
         requires picked { K.extent ≡ extent.now }
         requires listed { K.listed ≡ listed.now }
         requires calls { AllFit N.setting (map (task_after 0) listed.now) }
@@ -201,9 +209,13 @@ impl<N: Round, K: Sums> Part<N, K> {
         let alloc = self.alloc;
         let left = self.left;
         let worker = self.worker;
+        let op = next.call().op;
+        let whole = runs_whole(&self.share, self.at, self.end, callers, op);
         let turn = perform::<N, G>(
             alloc,
             desk,
+            bench,
+            marks,
             program,
             extent,
             frozen,
@@ -212,6 +224,8 @@ impl<N: Round, K: Sums> Part<N, K> {
             &mut self.owner,
             &mut self.replica,
             &mut self.share,
+            whole,
+            patience,
             left,
             room,
             next,
@@ -238,12 +252,15 @@ impl<N: Round, K: Sums> Part<N, K> {
     fn run_quota<G: Gate>(
         &mut self,
         desk: &mut Desk,
+        marks: &[Option<ClassId>],
+        callers: &[OpId],
         program: &Coded<'_>,
         extent: &Extent,
         frozen: &Heap,
         gate: &G,
         listed: &[Op],
     )
+        requires marks { Marks extent.now.written marks.now }
         requires picked { K.extent ≡ extent.now }
         requires listed { K.listed ≡ listed.now }
         requires calls { AllFit N.setting (map (task_after 0) listed.now) }
@@ -252,8 +269,22 @@ impl<N: Round, K: Sums> Part<N, K> {
         ensures { self.new ≡ self.old }
     {
         let mut room = Vec::new(self.alloc);
+        let mut bench = Bench::new(self.alloc);
+        let mut patience = FIRST_PATIENCE;
         for _ in 0..self.quota {
-            if !self.step(desk, program, extent, frozen, gate, listed, &mut room) {
+            if !self.step(
+                desk,
+                &mut bench,
+                marks,
+                callers,
+                program,
+                extent,
+                frozen,
+                gate,
+                listed,
+                &mut patience,
+                &mut room,
+            ) {
                 return;
             }
         }
@@ -279,6 +310,23 @@ impl<N: Round, K: Sums> Part<N, K> {
             self.short = true;
             return;
         };
-        self.run_quota(&mut desk, program, extent, frozen, gate, listed)
+        let Ok(marks) = marks_of(self.alloc, extent) else {
+            self.short = true;
+            return;
+        };
+        let Ok(callers) = callers_of(self.alloc, program, extent) else {
+            self.short = true;
+            return;
+        };
+        self.run_quota(
+            &mut desk,
+            marks.as_slice(),
+            callers.as_slice(),
+            program,
+            extent,
+            frozen,
+            gate,
+            listed,
+        )
     }
 }

@@ -11,7 +11,8 @@ ghost use Rattle.ca_logs.specs.Entries.{task_after};
 ghost use Rattle.ca_deques.specs.Settings.{Fits, AllFit};
 ghost use Rattle.ca_deques.specs.Thieves.{owner_key};
 ghost use Rattle.ca_replica.specs.Applied.{IsRound, sums};
-ghost use Rattle.ca_sum_pool.specs.Parts.{Keeps, Performed, Tells, WentSo, next_task, no_extent, setting_of};
+ghost use Rattle.ca_replica.specs.Calls.{Marks};
+ghost use Rattle.ca_sum_pool.specs.Parts.{Keeps, Performed, Tells, WentSo, WentWhole, next_task, no_extent, setting_of};
 ghost use Rattle.ca_sum_pool.specs.Rounded.{last_clock};
 
 use crate::next::Next;
@@ -22,7 +23,8 @@ use ca_extent::Extent;
 use ca_logs::{Stop, Task};
 use ca_model::Heap;
 use ca_parallel::Op;
-use ca_replica::Replica;
+use ca_program::ClassId;
+use ca_replica::{Bench, Replica};
 use ca_sections::{Coded, Desk, SectionAnswer};
 use std::alloc::Global;
 use std::marker::Brand;
@@ -109,9 +111,108 @@ pub enum Turn {
     Short,
 }
 
-/// Runs a task, or a call of the list, on a worker's replica. Tasks that its section lists are pushed; one that is kept goes
-/// into the share. The memory of a list of operations serves the next one.
+/// So many steps a call may take at first that is run with all that it leads to.
+pub const FIRST_PATIENCE: u64 = 16_384;
+
+/// And so many at most.
+const MOST_PATIENCE: u64 = 1_048_576;
+
+/// A longer patience.
+fn longer(patience: u64) -> u64 {
+    if patience < MOST_PATIENCE {
+        patience * 2
+    } else {
+        patience
+    }
+}
+
+/// Runs a call with all that it leads to, if that is asked for, within so many steps as are left, and within a patience, which
+/// grows where it isn't done. `None`: then all sums are as before.
+fn run_whole<G: Gate>(
+    whole: bool,
+    bench: &mut Bench,
+    marks: &[Option<ClassId>],
+    alloc: Global,
+    program: &Coded<'_>,
+    extent: &Extent,
+    frozen: &Heap,
+    gate: &G,
+    worker: u32,
+    replica: &mut Replica,
+    patience: &mut u64,
+    left: u64,
+    op: &Op,
+    after: u64,
+) -> Option<u64>
+    requires round { IsRound (program_view program.now) extent.now frozen.now }
+    requires marks { Marks extent.now.written marks.now }
+    requires stands { StandsFor (program_view program.now) extent.now frozen.now (sums extent.now.written frozen.now replica.old.copies) }
+    requires fits { Fits (setting_of (program_view program.now) extent.now frozen.now) (task_after after op.now) }
+    ensures { WentWhole (program_view program.now) extent.now frozen.now (task_after after op.now) replica.old.copies replica.new.copies result }
+{
+    if !whole {
+        return None;
+    }
+    let most = left.min(*patience);
+    match replica.complete(
+        bench, marks, alloc, program, extent, frozen, gate, worker, op, most,
+    ) {
+        Ok(Some(steps)) => Some(steps),
+        Ok(None) => {
+            *patience = longer(*patience);
+            None
+        }
+        Err(_) => None,
+    }
+}
+
+/// Runs a task, or a call of the list, on a worker's replica: with all that it leads to, where it may be and that is soon done,
+/// and else its section. Tasks that this lists are pushed; one that is kept goes into the share. The memory of a list of operations
+/// serves the next one.
 pub fn perform<'f, N: Round, G: Gate>(
+    alloc: Global,
+    desk: &mut Desk,
+    bench: &mut Bench,
+    marks: &[Option<ClassId>],
+    program: &Coded<'_>,
+    extent: &Extent,
+    frozen: &Heap,
+    gate: &G,
+    worker: u32,
+    owner: &mut Owner<N>,
+    replica: &mut Replica,
+    share: &mut Vec<Task>,
+    whole: bool,
+    patience: &mut u64,
+    left: u64,
+    room: &mut Vec<Op>,
+    next: Next<'f>,
+) -> Turn
+    requires round { IsRound (program_view program.now) extent.now frozen.now }
+    requires marks { Marks extent.now.written marks.now }
+    requires setting { N.setting ≡ setting_of (program_view program.now) extent.now frozen.now }
+    requires share { AllFit N.setting share.old.items }
+    requires fits { Fits N.setting (next_task next) }
+    requires stands { StandsFor (program_view program.now) extent.now frozen.now (sums extent.now.written frozen.now replica.old.copies) }
+    ensures { Performed N.setting extent.now left (next_task next.entry) owner.old owner.new replica.old.copies replica.new.copies share.old.items share.new.items result }
+{
+    let after = next.behind();
+    let op = next.call();
+    match run_whole(
+        whole, bench, marks, alloc, program, extent, frozen, gate, worker, replica, patience, left,
+        op, after,
+    ) {
+        Some(steps) => Turn::Ran { steps },
+        None => perform_section(
+            alloc, desk, program, extent, frozen, gate, worker, owner, replica, share, left, room,
+            next,
+        ),
+    }
+}
+
+/// Runs the section of a task, or of a call of the list, on a worker's replica. Tasks that it lists are pushed; one that is kept
+/// goes into the share.
+fn perform_section<'f, N: Round, G: Gate>(
     alloc: Global,
     desk: &mut Desk,
     program: &Coded<'_>,

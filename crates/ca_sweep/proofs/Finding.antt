@@ -20,6 +20,7 @@ use Rattle.ca_sweep.specs.Sweeps.{PlainSweep, is_product, is_sum, Counts, by_one
 use Rattle.ca_sweep.specs.Found.{Beginning, beginning, bound, counts_up, Addition, is_counter, is_its_item, added_if, of_sides, of_right, of_put, if_counter, addition, addition_alone, with_addition, with_bound, with_beginning, sweep_form, known, sums_known, is_below, if_sums}
 use Rattle.ca_sweep.specs.Means.{all_but}
 use Rattle.ca_sweep.specs.Laws.{FormsAreFound, SumsAreKnown, SweepsAreFound, SweepsAreWide, FormsAreSweeps}
+use Rattle.ca_program.proofs.Fields.{same_fields, same_itself}
 
 same_number : (m n : ℕ) → nat_eq m n ≡ true → m ≡ n
 same_number m n e = eqb-true m n e
@@ -53,9 +54,6 @@ counts_of (put_local line l Put (binary Plus (local m) (number n))) i e =
     (subst (λ z. Counts i (put_local line i Put (binary Plus (local z) (number n)))) (sym (same_local m i (and_left _ _ rest)))
     (subst (λ z. Counts i (put_local line i Put (binary Plus (local i) (number z)))) (sym (is_one n (and_right (nat_eq m.0 i.0) _ rest))) (puts_one_more line)))
 counts_of x i e = absurd cc
-
-same_fields : (f g : FieldId) → same_field f g ≡ true → f ≡ g
-same_fields f g e = ap₂ (λ m n. record { class = record { 0 = m }; field = n }) (same_number f.class.0 g.class.0 (and_left _ _ e)) (same_number f.field g.field (and_right (nat_eq f.class.0 g.class.0) _ e))
 
 counter_of : (e : Expression) (i : LocalId) → is_counter e i ≡ true → e ≡ local i
 counter_of (local l) i e = ap local (same_local l i e)
@@ -188,11 +186,8 @@ counts_found : (x : Statement) (i : LocalId) → Counts i x → counts_up x i �
 counts_found _ i (by_one line) = ap₂ (λ a b. a && b) (itself i.0) one_is
 counts_found _ i (puts_one_more line) = ap₂ (λ a b. a && b) (itself i.0) (ap₂ (λ a b. a && b) (itself i.0) one_is)
 
-field_itself : (f : FieldId) → same_field f f ≡ true
-field_itself f = ap₂ (λ a b. a && b) (itself f.class.0) (itself f.field)
-
 item_found : (f : FieldId) (i : LocalId) → is_its_item (own_item f (local i)) f i ≡ true
-item_found f i = ap₂ (λ a b. a && b) (field_itself f) (itself i.0)
+item_found f i = ap₂ (λ a b. a && b) (same_itself f) (itself i.0)
 
 added_found : (i : LocalId) (f : FieldId) (e : Expression) (minus : Bool) (x : Statement) → Adds i f e minus x → addition x i ≡ Some (record { field = f; addend = e; minus = minus })
 added_found i f e _ _ (adds line) = ap (λ b. if_counter b (of_put Add f e i)) (itself i.0)

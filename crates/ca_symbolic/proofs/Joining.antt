@@ -1,6 +1,5 @@
 -- Terms behind two branches, and those that a loop reads, one place after the other.
 use Rattle.std.proofs.Common.{◌≡◌, ℕ, zero, suc, min, ◌+◌, ◌<◌, ◌≤◌, ◌⊎◌, inl, inr, Bool, true, false, ◌||◌, List, [], ◌∷◌, ◌++◌, length, length-append, map, take, drop, get_or, take-suc, add-one, refl, sym, ap, ap₂, ◌∙◌, subst, arith, append_assoc, append-nil}
-use Rattle.std.proofs.Math.Seq.{drop-cons}
 use Rattle.std.proofs.lemmas.List.{drop_all}
 use Rattle.std.specs.List.{list_any}
 use Rattle.ca_norm.specs.Terms.{PlainTerm}
@@ -9,6 +8,7 @@ use Rattle.ca_symbolic.specs.Demands.{picked}
 use Rattle.ca_symbolic.specs.Made.{targets}
 use Rattle.ca_symbolic.specs.clauses.Places.{one_if}
 use Rattle.ca_shared_terms.specs.Heavy.{is_heavy}
+use Rattle.ca_forms.proofs.Merging.{item_and_rest}
 
 abbrev heavy_targets : (ℕ → Bool) → ℕ → List PlainTerm → Bool
 heavy_targets f n ts = list_any is_heavy (targets f n ts)
@@ -57,11 +57,6 @@ heavy_target f n (u ∷ ts) t rest e h =
 -- the items up to a place, and one more
 pub taken_more : {A : Type 0} (xs : List A) (i : ℕ) (x : A) → i < length xs → x ≡ get_or xs i x → take (i + 1) xs ≡ take i xs ++ x ∷ []
 taken_more xs i x h e = rw (add-one, take-suc xs i x h, ← e) refl
-
-pub item_and_rest : {A : Type 0} (xs : List A) (i : ℕ) (x : A) → i < length xs → x ≡ get_or xs i x → drop i xs ≡ x ∷ drop (i + 1) xs
-item_and_rest xs i x h e =
-    let n : i + 1 ≡ suc i = omega arith in
-    drop-cons xs i x h ∙ (ap (λ y. y ∷ drop (suc i) xs) (sym e) ∙ ap (λ m. x ∷ drop m xs) (sym n))
 
 either_or : {A B C D : Type 0} → (A → C) → (B → D) → A ⊎ B → C ⊎ D
 either_or f g (inl a) = inl (f a)

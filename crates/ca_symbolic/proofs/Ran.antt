@@ -13,7 +13,8 @@ use Rattle.ca_symbolic.specs.Demands.{then_guard, else_guard, demands_in, demand
 use Rattle.ca_symbolic.specs.Made.{joined_terms}
 use Rattle.ca_symbolic.specs.Demanded.{Demanded, with_demands, under}
 use Rattle.ca_symbolic.specs.clauses.Refusals.{refused, refused_by}
-use Rattle.ca_symbolic.proofs.Flags.{first_of, second_of, on_ok, both_ok, again, neither_before}
+use Rattle.ca_symbolic.proofs.Flags.{first_of, second_of, both_ok, again, neither_before}
+use Rattle.ca_forms.proofs.Told.{on_ok}
 use Rattle.ca_symbolic.proofs.Told.{else_refused}
 
 -- what a run tells of a statement: the state and what was demanded before it, and what is behind it

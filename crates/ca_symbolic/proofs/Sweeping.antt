@@ -20,7 +20,8 @@ use Rattle.ca_symbolic.specs.Made.{guards_in}
 use Rattle.ca_symbolic.specs.clauses.Refusals.{refused, refused_addend, refused_sweep}
 use Rattle.ca_symbolic.specs.clauses.Sums.{SumsDemandNothing}
 use Rattle.ca_symbolic.proofs.Ors.{absorbed}
-use Rattle.ca_symbolic.proofs.Flags.{first_of, second_of, on_ok}
+use Rattle.ca_symbolic.proofs.Flags.{first_of, second_of}
+use Rattle.ca_forms.proofs.Told.{on_ok}
 
 pub no_demands : (k : Known) (p : PlainProgram) (s : State) (g : PlainTerm) (e : Expression) → Summed k e → demands_in p s g e ≡ []
 no_demands k p s g _ (a_number n) = refl

@@ -19,7 +19,8 @@ use Rattle.ca_symbolic.specs.Demands.{right_guard, terms_in, demands_in, demands
 use Rattle.ca_symbolic.specs.Demanded.{Demanded, with_demands, under}
 use Rattle.ca_symbolic.specs.clauses.Refusals.{refused_guard, refused, refused_all}
 use Rattle.ca_symbolic.proofs.Calling.{call_term, call_demands}
-use Rattle.ca_symbolic.proofs.Flags.{first_of, second_of, on_ok, always, again}
+use Rattle.ca_symbolic.proofs.Flags.{first_of, second_of, always, again}
+use Rattle.ca_forms.proofs.Told.{on_ok}
 
 -- what evaluation tells of an expression: what was demanded before it, and what is behind it
 pub record Valued (p : PlainProgram) (s : State) (d now : Demanded) (r : Result PlainTerm ExecutionError) (x : Expression) : Type 0 where

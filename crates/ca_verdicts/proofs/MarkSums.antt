@@ -6,18 +6,15 @@ use Rattle.std.specs.List.Sorted.{IsStrictlySortedBy}
 use Rattle.std.specs.Map.{keys_of}
 use Rattle.std.specs.BTreeMap.{is_at}
 use Rattle.std.proofs.lemmas.Cmp.{eq_by_cmp_equiv, tied_itself}
-use Rattle.ca_sums.specs.Sums.{Sum, total, scale, collect, AddsSum}
+use Rattle.ca_sums.specs.Sums.{Sum, total, scale, AddsSum}
 use Rattle.ca_sums.proofs.Algebra.{alike_refl, alike_eq, alike_trans, alike_add, alike_mul, alike_mod, total_append, total_scale}
-use Rattle.ca_sums.proofs.Collect.{SameCoefficients, total_collect, collect_same}
 use Rattle.ca_sums.proofs.Products.{SameTotals, same_totals_refl}
-use Rattle.ca_forms.specs.Plain.{PlainMonomial, PlainPolynomial, scalar_and}
-use Rattle.ca_forms.specs.Lists.{polynomial_of, products_of, scalars_of}
-use Rattle.ca_forms.specs.Compare.{monomial_cmp}
+use Rattle.ca_forms.specs.Plain.{PlainMonomial, PlainPolynomial}
+use Rattle.ca_forms.specs.Lists.{products_of}
 use Rattle.ca_forms.specs.Rules.{gathered}
-use Rattle.ca_forms.proofs.Exact.{monomials_exact}
-use Rattle.ca_forms.proofs.Gathered.{products_polynomial}
-use Rattle.ca_norm.specs.Terms.{PlainTerm, terms_of}
-use Rattle.ca_norm.specs.Forms.{expand, scalar_of, arguments_of}
+use Rattle.ca_forms.proofs.Gathered.{gathered_same_totals, gathered_same}
+use Rattle.ca_norm.specs.Terms.{PlainTerm}
+use Rattle.ca_norm.specs.Forms.{expand}
 use Rattle.ca_symbolic.specs.declared.demand.Demand.{Demand}
 use Rattle.ca_symbolic.specs.declared.demand.Group.{Group}
 use Rattle.ca_symbolic.specs.declared.running.Side.{Side}
@@ -30,6 +27,7 @@ use Rattle.ca_verdicts.specs.Demands.{conditions, demanded_at}
 use Rattle.ca_verdicts.specs.Counts.{SameDemand, SameDemands}
 use Rattle.ca_verdicts.specs.clauses.Marks.{key_at, mark_if, marks_of, marks_in, same_side, marks_at, found, if_side, products_at, summed_up, condition_of, IsSame, AreSame, EachMarked}
 use Rattle.ca_verdicts.proofs.Conditions.{keys_exact}
+use Rattle.ca_order.proofs.Meant.{tied}
 
 -- Sums of the same totals
 
@@ -41,13 +39,6 @@ same_then ps qs rs h k = record { same = λ f. alike_trans (h.same f) (k.same f)
 
 pub same_append : {M : Type 0} (ps qs rs ss : Sum M) → SameTotals ps qs → SameTotals rs ss → SameTotals (ps ++ rs) (qs ++ ss)
 same_append ps qs rs ss h k = record { same = λ f. alike_trans (alike_eq (total_append f ps rs)) (alike_trans (alike_add (h.same f) (k.same f)) (alike_eq (sym (total_append f qs ss)))) }
-
-pub same_gathered : (ps qs : Sum PlainMonomial) → SameTotals ps qs → gathered ps ≡ gathered qs
-unfolding SameCoefficients
-same_gathered ps qs h = ap polynomial_of (collect_same monomial_cmp monomials_exact ps qs (λ m. h.same _))
-
-pub gathered_totals : (ps : Sum PlainMonomial) → SameTotals (products_of (gathered ps)) ps
-gathered_totals ps = record { same = λ f. alike_trans (alike_eq (ap (total f) (products_polynomial (collect monomial_cmp ps)))) (total_collect monomial_cmp monomials_exact f ps) }
 
 -- Marks
 
@@ -75,11 +66,6 @@ no_more false new old all h = same_then new (new ++ []) (old ++ all) (same_of _ 
 tied_turned : (k l : Key) → is_eq (key_cmp k l) ≡ is_eq (key_cmp l k)
 tied_turned k l = (eq_by_cmp_equiv key_total).symm k l
 
-tie_of : (o : Ordering) → is_eq o ≡ true → o ≡ Equal
-tie_of Less e = cc
-tie_of Equal e = refl
-tie_of Greater e = cc
-
 -- the marks under a key that were taken out, marked once more and put back
 module _ (old mid new : Key → Option Marks) (key : Key) (m : Marks) (one : Side) (n : ℕ)
     (removed : (q : Key) → mid q ≡ cond (is_eq (key_cmp key q)) None (old q))
@@ -87,7 +73,7 @@ module _ (old mid new : Key → Option Marks) (key : Key) (m : Marks) (one : Sid
     (marked : (s : Side) → SameTotals (marks_at s (Some m)) (marks_at s (old key) ++ mark_if (same_side one s) n)) where
   marked_at : (s : Side) (k : Key) (b : Bool) → is_eq (key_cmp key k) ≡ b → SameTotals (marks_at s (new k)) (marks_at s (old k) ++ if_side one s (mark_if b n))
   marked_at s k true e =
-      let same : key ≡ k = keys_exact.same key k (tie_of (key_cmp key k) e) in
+      let same : key ≡ k = keys_exact.same key k (tied (key_cmp key k) e) in
       let at : new k ≡ Some m = inserted k ∙ ap (λ b. cond b (Some m) (mid k)) e in
       same_then _ _ _ (same_of _ _ (ap (marks_at s) at)) (same_then _ _ _ (marked s) (same_of _ _ (ap₂ (λ x y. marks_at s x ++ y) (ap old same) (either (same_side one s)))))
     where
@@ -137,7 +123,7 @@ module _ (gs : List PlainPolynomial) (k : Key) (guard : PlainTerm) (n : ℕ) (at
   marked_once : (b : Bool) → SameTotals (summed_up gs (mark_if b n)) (if b then expand guard else [])
   marked_once true = record {
     same = λ f.
-        alike_trans (alike_eq (ap (total f) (append-nil (scale 1 (products_at gs n))) ∙ (once f (products_at gs n) ∙ ap (total f) products_is))) ((gathered_totals (expand guard)).same f);
+        alike_trans (alike_eq (ap (total f) (append-nil (scale 1 (products_at gs n))) ∙ (once f (products_at gs n) ∙ ap (total f) products_is))) ((gathered_same_totals (expand guard)).same f);
   }
   marked_once false = same_totals_refl []
 
@@ -158,7 +144,7 @@ marks_sum gs k n (g ∷ rest) h =
 -- what is demanded at a key, from the marks under it
 pub demanded_is : (groups : List Group) (k : Key) (ms : Sum ℕ) → SameTotals ms (marks_in k 0 groups) → gathered (summed_up (map condition_of groups) ms) ≡ demanded_at k (demands_of groups)
 demanded_is groups k ms h =
-    same_gathered _ _ (same_then _ _ _ (same_summed (map condition_of groups) ms (marks_in k 0 groups) h)
+    gathered_same _ _ (same_then _ _ _ (same_summed (map condition_of groups) ms (marks_in k 0 groups) h)
     (marks_sum (map condition_of groups) k 0 groups (λ i. ap (slice_get (map condition_of groups)) (let z : 0 + i ≡ i = omega arith in z))))
 
 -- Tables
@@ -182,7 +168,7 @@ same_found ones twos (x ∷ es) k m h e = at (is_at (key_cmp k) x.0) refl e (sam
   where
     at : (b : Bool) → is_at (key_cmp k) x.0 ≡ b → cond b (Some x.1) (found es k) ≡ Some m → (found es k ≡ Some m → IsSame ones twos (k, m)) → IsSame ones twos (k, m)
     at true f i r =
-        let own : k ≡ x.0 = keys_exact.same k x.0 (tie_of (key_cmp k x.0) f) in
+        let own : k ≡ x.0 = keys_exact.same k x.0 (tied (key_cmp k x.0) f) in
         let same : x.1 ≡ m = cc in
         subst (λ z. IsSame ones twos (k, z)) same (subst (λ (z : Key). IsSame ones twos (z, x.1)) (sym own) h.0)
     at false f i r = r i
@@ -250,15 +236,6 @@ module _ (es0 es1 es2 : List (Key × Marks)) (ones twos : List Group) (begun : e
   pub seconds_marked : (k : Key) → SameTotals (marks_at side.Second (found es2 k)) (marks_in k 0 twos)
   seconds_marked k =
       same_then _ _ _ (second side.Second k) (same_append _ _ _ _ (same_then _ _ _ (first side.Second k) (same_of _ _ (append-nil (marks_at side.Second (found es0 k)) ∙ none_at side.Second k))) (same_totals_refl (marks_in k 0 twos)))
-
-pub forms_are : (ts : List PlainTerm) → scalars_of (map scalar_of ts) ≡ arguments_of (terms_of ts)
-forms_are [] = refl
-forms_are (t ∷ ts) = ap (λ z. scalar_and (scalar_of t) z) (forms_are ts)
-
-pub adds_times : (a b : Sum PlainMonomial) (t : ℕ) (ps : Sum PlainMonomial) → AddsSum a b t ps → AddsSum a b 1 (scale t ps)
-adds_times a b t ps h = record {
-  added = λ f. alike_trans (h.added f) (alike_eq (ap (λ z. total f a + z) ((let z : t * total f ps ≡ 1 * (t * total f ps) = omega arith in z) ∙ ap (λ z. 1 * z) (sym (total_scale f t ps)))));
-}
 
 pub adds_none : (a : Sum PlainMonomial) → AddsSum a a 1 []
 adds_none a = record { added = λ f. alike_eq (let z : total f a ≡ total f a + 1 * 0 = omega arith in z) }

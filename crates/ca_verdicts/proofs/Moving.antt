@@ -38,6 +38,9 @@ use Rattle.ca_order.proofs.Raising.{raised_either_way, lowered_either_way}
 use Rattle.ca_verdicts.specs.Verdicts.{SameField, SameFields, VerdictOf}
 use Rattle.ca_verdicts.specs.MovingPairs.{IsLimit, a_number, a_parameter, IsPut, put, in_block, IsPast, IsMoving, IsLong, IsMovingPair}
 use Rattle.ca_verdicts.specs.MovingPairs as pair
+use Rattle.ca_plain_laws.proofs.Kept.{set_there}
+use Rattle.ca_symbolic_laws.proofs.Choices.{set_length}
+use Rattle.ca_sweep.proofs.Tables.{set_twice}
 
 -- the field is to be moved to the limit, up or down
 abbrev past : Bool → Bool → PlainTerm → PlainTerm → PlainTerm
@@ -326,21 +329,6 @@ module _ (p : PlainProgram) (m : PlainMethod) (g : ℕ) (f : FieldId) (up : Bool
 
 -- The pair
 
-set_twice : {A : Type 0} (xs : List A) (i : ℕ) (x y : A) → slice_set (slice_set xs i x) i y ≡ slice_set xs i y
-set_twice [] i x y = refl
-set_twice (z ∷ xs) zero x y = refl
-set_twice (z ∷ xs) (suc i) x y = ap (λ zs. z ∷ zs) (set_twice xs i x y)
-
-set_there : (ts : List PlainTerm) (i : ℕ) (t : PlainTerm) → i < length ts → term_at (slice_set ts i t) i ≡ t
-set_there [] i t l = absurd (omega (arith, l))
-set_there (u ∷ ts) zero t l = refl
-set_there (u ∷ ts) (suc i) t l = set_there ts i t (omega (arith, l))
-
-set_long : {A : Type 0} (xs : List A) (i : ℕ) (x : A) → length (slice_set xs i x) ≡ length xs
-set_long [] i x = refl
-set_long (z ∷ xs) zero x = refl
-set_long (z ∷ xs) (suc i) x = ap suc (set_long xs i x)
-
 same_itself : (ts : List PlainTerm) → SameFields ts ts
 same_itself [] = tt
 same_itself (t ∷ ts) = (inl refl, same_itself ts)
@@ -374,7 +362,7 @@ module _ (p : PlainProgram) (f : FieldId) (ts : List PlainTerm) (inside : f.fiel
   between = slice_set ts f.field first
 
   inside_then : f.field < length between
-  inside_then = subst (λ k. f.field < k) (sym (set_long ts f.field first)) inside
+  inside_then = subst (λ k. f.field < k) (sym (set_length ts f.field first)) inside
 
   both_fields : (executed p b h (executed p a g ts).fields).fields ≡ slice_set ts f.field (moved up y.strict first (point_term (limit_point h y.is_limit)))
   both_fields =

@@ -10,11 +10,8 @@ use Rattle.ca_forms.specs.Rules.{gathered}
 use Rattle.ca_symbolic.specs.declared.demand.Group.{Group}
 use Rattle.ca_verdicts.specs.declared.marks.Marks.{Marks}
 use Rattle.ca_verdicts.specs.clauses.Marks.{products_at, summed_up, condition_of, IsSettled}
-use Rattle.ca_verdicts.proofs.MarkSums.{same_gathered, summed_append}
-
--- the item at a place stands in front of those behind it
-pub at_front : {X : Type 0} (xs : List X) (i : ℕ) (x : X) → i < length xs → x ≡ get_or xs i x → drop i xs ≡ x ∷ drop (i + 1) xs
-at_front xs i x l e = drop-cons xs i x l ∙ ap₂ (λ y n. y ∷ drop n xs) (sym e) (sym (add-one i))
+use Rattle.ca_verdicts.proofs.MarkSums.{summed_append}
+use Rattle.ca_forms.proofs.Gathered.{gathered_same}
 
 mark_front : (ms : Sum ℕ) (i : ℕ) → i < length ms → drop i ms ≡ get_or ms i (0, 0) ∷ drop (i + 1) ms
 mark_front ms i l = drop-cons ms i (0, 0) l ∙ ap (λ n. get_or ms i (0, 0) ∷ drop n ms) (sym (add-one i))
@@ -48,7 +45,7 @@ module _ (fs gs : List PlainPolynomial) where
   pub turned_same : (ms ns begun rest front back : Sum ℕ) → ms ≡ begun ++ rest → ns ≡ front ++ back → summed_up fs begun ≡ summed_up gs back → summed_up fs rest ≡ summed_up gs front → gathered (summed_up fs ms) ≡ gathered (summed_up gs ns)
   turned_same ms ns begun rest front back i j s t =
       ap gathered (ap (summed_up fs) i ∙ (summed_append fs begun rest ∙ ap₂ (λ x y. x ++ y) s t))
-      ∙ (same_gathered _ _ (turned (summed_up gs back) (summed_up gs front)) ∙ ap gathered (sym (ap (summed_up gs) j ∙ summed_append gs front back)))
+      ∙ (gathered_same _ _ (turned (summed_up gs back) (summed_up gs front)) ∙ ap gathered (sym (ap (summed_up gs) j ∙ summed_append gs front back)))
     where
       turned : (ps qs : Sum PlainMonomial) → SameTotals (ps ++ qs) (qs ++ ps)
       turned ps qs = record {

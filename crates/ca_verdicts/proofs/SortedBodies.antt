@@ -28,7 +28,8 @@ use Rattle.ca_symbolic.specs.Execution.{sort_in, sort_of_result, divisor, term_o
 use Rattle.ca_symbolic.specs.Execution as execution
 use Rattle.ca_symbolic.specs.Demands.{terms_in, right_guard, demands_in, demands_in_all, picked, loop_reads, demanded_loop, demanded, demanded_all}
 use Rattle.ca_verdicts.proofs.MetDemands.{DemandsSorted}
-use Rattle.ca_verdicts.proofs.Sorts.{IsGood, own_sort, ArraysSorted, AllGood, at_place, set_good, mapped, slot_sort, scalar_at, InfoAt, scalar_info, array_info, read_sort, item_read_sort, result_sort, same_class, divisor_fits, good, operation_good, signed_good, guard_good, put_good, both_sorted}
+use Rattle.ca_verdicts.proofs.Sorts.{IsGood, own_sort, ArraysSorted, AllGood, at_place, set_good, mapped, slot_sort, scalar_at, InfoAt, scalar_info, array_info, read_sort, result_sort, same_class, divisor_fits, good, operation_good, signed_good, guard_good, put_good, both_sorted}
+use Rattle.ca_symbolic_laws.proofs.Runs.{sort_array}
 
 -- a state of the class whose fields have these sorts, where the locals have these types
 pub record StateGood (fields : List Sort) (locals : List ValueType) (st : State) : Type 0 where
@@ -92,7 +93,7 @@ module _ (arrays : ArraysSorted) where
             let s : sort_in (field_info p f) ≡ sort_of_type ty = read_sort (field_info p f) ty t.1 in
             record { sort = s; is = (s, scalar_at _ ty s, (term_good e (type.Pointer f.class) st g t.0 k.1).is) }
         term_good (read_item e f i) ty st g t k =
-            let s : sort_in (field_info p f) ≡ sort_of_type ty = item_read_sort (field_info p f) ty t.1 in
+            let s : sort_in (field_info p f) ≡ sort_of_type ty = sort_array (field_info p f) ty t.1 in
             record { sort = s; is = (s, scalar_at _ ty s, (term_good e (type.Pointer f.class) st g t.0 k.1).is, (term_good i type.Long st g t.2 k.2).is) }
         term_good (value_call e m arguments) ty st g t k =
             let s : sort_of_result (slice_get p.functions m.0) ≡ sort_of_type ty = result_sort (slice_get p.functions m.0) t.0 t.1 ty t.2 in

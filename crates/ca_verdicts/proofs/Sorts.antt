@@ -128,10 +128,6 @@ pub read_sort : (o : Option FieldInfo) (ty : ValueType) → typing.IsScalar o ty
 read_sort None ty i = absurd i
 read_sort (Some f) ty i = ap sort_of_type i.0
 
-pub item_read_sort : (o : Option FieldInfo) (ty : ValueType) → IsArray o ty → sort_in o ≡ sort_of_type ty
-item_read_sort None ty i = absurd i
-item_read_sort (Some f) ty i = ap sort_of_type i.0
-
 pub result_sort : (o : Option PlainMethod) (c : ClassId) (tys : List ValueType) (ty : ValueType) → IsFunction o c tys ty → sort_of_result o ≡ sort_of_type ty
 result_sort None c tys ty i = absurd i
 result_sort (Some m) c tys ty i = ap execution.sort_of_given i.2

@@ -11,4 +11,6 @@ pub mod Parts
 pub mod Roots
 pub mod Adding
 pub mod Lent
+pub mod InHeap
+pub mod Opened
 mod Examples

@@ -31,6 +31,13 @@ impl Habit {
         true
     }
 
+    /// Whether a list of so many operations would, if it came now; of one of which nobody knows how many it has, as of a long one that
+    /// may be short.
+    pub fn would_go_alone(&self, count: usize) -> bool {
+        let long = count > MOST_AT_ONCE && count < usize::MAX;
+        count < 2 || long || self.alone > 0
+    }
+
     /// A list ended within rounds, and alone it would not have outlasted what runs first: as many lists run alone first as were to,
     /// and twice as many behind the next such list.
     pub fn was_small(&mut self) {

@@ -1,22 +1,22 @@
-//! Which lists the calling thread runs in the heap itself, as one worker runs them: those of light operations, where the texts of all
-//! that they lead to tell that each takes little. No clause speaks of it.
+//! Which operations are light: the texts of all that one leads to tell that each takes little, so the calling thread runs its calls in
+//! the heap itself, as one worker runs them. No clause speaks of it.
 
-use crate::weights::Known;
-use ca_extent::extent_of;
+use crate::weights::{Known, Reach};
+use ca_extent::{Extent, extent_of};
 use ca_parallel::Op;
 use ca_program::{OpId, Program};
+use ca_replica::summed;
 use std::alloc::Global;
 
-/// Operations of more parts gain by rounds. Of one with fewer the section, the lock or the copy, and the way from list to worker take
-/// about as long as a run of it in the heap itself.
-const LIGHT: u32 = 39;
+/// Operations of more parts gain by rounds, by the clock. Of one with fewer the section, the lock or the copy, and the way from list to
+/// worker take as long as a run of it in the heap itself.
+const LIGHT: u32 = 120;
 
-/// The same where fewer calls come first than `FEW`: what these lead to mostly comes to each object once, and then a round pays for a
-/// copy of it, too.
-const LIGHT_OF_FEW: u32 = 120;
-
-/// Fewer calls are few.
-const FEW: usize = 16;
+/// Whether what reaches so far is light. Calls that lead to many, where all only sum, aren't: a worker runs each whole, on copies of its
+/// own, so the way to it is paid once.
+pub fn is_light(reach: Reach) -> bool {
+    reach.parts <= LIGHT && !reach.sums
+}
 
 /// The most parts of one of these.
 fn most_parts(known: &Vec<Known>, ops: &[OpId]) -> u32 {
@@ -31,42 +31,62 @@ fn most_parts(known: &Vec<Known>, ops: &[OpId]) -> u32 {
     most
 }
 
-/// The most parts of an operation, or of one that it leads to.
+/// Whether one of these calls others in a loop.
+fn call_many(known: &Vec<Known>, ops: &[OpId]) -> bool {
+    let mut many = false;
+    for op in ops {
+        let number = op.0 as usize;
+        if number < known.len() {
+            many = many || known[number].loops;
+        }
+    }
+    many
+}
+
+/// What the operations of this extent are.
+fn reached(program: &Program, known: &Vec<Known>, extent: &Extent) -> Reach {
+    let parts = most_parts(known, extent.ops());
+    let sums = call_many(known, extent.ops()) && summed(program, extent);
+    Reach { parts, sums }
+}
+
+/// What these operations reach.
 #[inline(never)]
-fn asked(alloc: Global, program: &Program, known: &Vec<Known>, op: OpId) -> u32 {
-    let roots = [op];
-    match extent_of(alloc, program, &roots) {
-        Ok(extent) => most_parts(known, extent.ops()),
-        Err(_) => u32::MAX,
+pub fn reach_of_all(alloc: Global, program: &Program, known: &Vec<Known>, roots: &[OpId]) -> Reach {
+    match extent_of(alloc, program, roots) {
+        Ok(extent) => reached(program, known, &extent),
+        Err(_) => Reach {
+            parts: u32::MAX,
+            sums: false,
+        },
     }
 }
 
-/// The same, which is asked once for each operation that is known.
-fn greatest(alloc: Global, program: &Program, known: &mut Vec<Known>, op: OpId) -> u32 {
+/// What one reaches, which is asked once for each operation that is known.
+pub fn reach_of(alloc: Global, program: &Program, known: &mut Vec<Known>, op: OpId) -> Reach {
     let number = op.0 as usize;
     if number >= known.len() {
-        return u32::MAX;
+        return Reach {
+            parts: u32::MAX,
+            sums: false,
+        };
     }
-    match known[number].greatest {
+    match known[number].reach {
         Some(answer) => answer,
         None => {
-            let answer = asked(alloc, program, known, op);
+            let roots = [op];
+            let answer = reach_of_all(alloc, program, known, &roots);
             let item = &mut known[number];
-            item.greatest = Some(answer);
+            item.reach = Some(answer);
             answer
         }
     }
 }
 
-/// Whether all calls of a list are of light operations.
+/// Whether all calls of a list are light.
 pub fn all_light(alloc: Global, program: &Program, known: &mut Vec<Known>, first: &[Op]) -> bool {
-    let most = if first.len() < FEW {
-        LIGHT_OF_FEW
-    } else {
-        LIGHT
-    };
     for op in first {
-        if greatest(alloc, program, known, op.op) > most {
+        if !is_light(reach_of(alloc, program, known, op.op)) {
             return false;
         }
     }

@@ -45,7 +45,7 @@ fn asked(alloc: Global, program: &Program, op: OpId) -> bool {
 }
 
 /// Whether an operation takes a lock, which is asked once for each that is known.
-fn takes_lock(alloc: Global, program: &Program, known: &mut Vec<Known>, op: OpId) -> bool {
+pub fn takes_lock(alloc: Global, program: &Program, known: &mut Vec<Known>, op: OpId) -> bool {
     let number = op.0 as usize;
     if number >= known.len() {
         return true;

@@ -24,31 +24,37 @@ const ALONE_AN_OBJECT_OF_SUMS: u64 = 6;
 const MANY_OBJECTS: u32 = 32_768;
 
 /// Operations that weigh less gain nothing by rounds in cells, on the mean of what ran and what that listed: a task with its claim and
-/// its history costs more.
-const LIGHT: u64 = 40;
+/// its history costs more, by the clock.
+const LIGHT: u64 = 120;
 
-/// When the calling thread has run enough. Whether the operations only sum is asked once, when that makes a difference.
+/// What the calling thread ran ahead of the first round, and when that is enough. Whether the operations only sum is asked once, when
+/// that makes a difference.
 #[derive(Drop)]
 pub struct Patience<'s> {
     alloc: Global,
     program: &'s Coded<'s>,
     first: &'s [Op],
+    calls: usize,
     workers: u32,
     objects: u32,
     values: u32,
     enough: u64,
     light: u64,
     asks: bool,
+    /// What ran weighs so much, it was so many operations and took so many steps.
+    ran: u64,
     count: u64,
+    steps: u64,
     ghost some: { 0 < workers },
 }
 
 impl<'s> Patience<'s> {
-    /// For these operations, so many workers, and a heap of so many objects and values.
+    /// For so many calls, which are these or come of these, so many workers, and a heap of so many objects and values.
     pub fn new(
         alloc: Global,
         program: &'s Coded<'s>,
         first: &'s [Op],
+        calls: usize,
         workers: u32,
         objects: u32,
         values: u32,
@@ -59,38 +65,56 @@ impl<'s> Patience<'s> {
             alloc,
             program,
             first,
+            calls,
             workers,
             objects,
             values,
             enough: ALONE + ALONE_AN_OBJECT_OF_SUMS * u64::from(objects),
             light: LIGHT,
             asks: true,
+            ran: 0,
             count: 0,
+            steps: 0,
         }
     }
 
-    /// Whether it is enough that so many operations ran, of this weight together, where the next one weighs so much, and so many wait
-    /// that they listed, and so many in all.
-    pub fn is_over(&mut self, ran: u64, count: u64, weight: u64, listed: u64, waits: u64) -> bool {
-        self.count = count;
+    /// Notes that an operation ran, of which a step weighs so much, in so many steps.
+    pub fn went(&mut self, steps: u64, weight: u64) {
+        self.ran = self.ran.saturating_add(steps.saturating_mul(weight));
+        self.count = self.count.saturating_add(1);
+        self.steps = self.steps.saturating_add(steps);
+    }
+
+    /// The steps of all that ran.
+    pub fn steps(&self) -> u64 {
+        self.steps
+    }
+
+    /// Whether it is enough where the next operation weighs so much, and so many wait that were listed, and so many in all. While a
+    /// single one waits it isn't.
+    pub fn is_over(&mut self, weight: u64, listed: u64, waits: u64) -> bool {
+        if waits < 2 {
+            return false;
+        }
         if self.asks {
-            if ran < self.enough {
+            if self.ran < self.enough {
                 return false;
             }
             self.asks = false;
             self.decide();
         }
         let wait = weight.saturating_mul(waits);
-        if ran.saturating_add(wait).saturating_add(wait) < self.enough {
+        if self.ran.saturating_add(wait).saturating_add(wait) < self.enough {
             return false;
         }
-        let all = ran.saturating_add(weight.saturating_mul(listed));
-        all >= count.saturating_add(listed).saturating_mul(self.light)
+        let all = self.ran.saturating_add(weight.saturating_mul(listed));
+        all >= self.count.saturating_add(listed).saturating_mul(self.light)
     }
 
-    /// About how many tasks each worker runs where so many calls wait, of a list of which so many ran with what they listed, and
-    /// a quarter more: on the mean each leads to as many as ran for one of these.
-    pub fn tasks_of_each(&self, calls: usize, done: usize) -> usize {
+    /// About how many tasks each worker runs where so many of the calls wait, and the others ran with what they listed, and a quarter
+    /// more: on the mean each leads to as many as ran for one of these. None where they wait as tasks.
+    pub fn tasks_of_each(&self, calls: usize) -> usize {
+        let done = self.calls.saturating_sub(calls);
         let for_one = self.count as usize / done.max(1);
         let each = calls.saturating_mul(for_one) / self.workers as usize;
         each.saturating_add(each / 4)

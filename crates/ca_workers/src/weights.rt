@@ -1,6 +1,6 @@
 //! What is known of operations: what they weigh, about how many parts of a body run in a step of theirs, statements and what their
-//! expressions are made of, whether they take a lock, and whether they are light. It only tells when a round is worth its start, and
-//! before which operations a gate is passed, so no clause speaks of it.
+//! expressions are made of, whether they call others, and take a lock. It only tells when a round is worth its start, and before which
+//! operations a gate is passed, so no clause speaks of it.
 
 use ca_parallel::Op;
 use ca_program::{Expr, FunctionId, Program, Stmt, StmtForm};
@@ -19,16 +19,33 @@ const UNKNOWN: u32 = 24;
 /// take.
 const HEAVY: u32 = 1_048_576;
 
+/// Of a number of calls that nothing tells.
+pub const UNTOLD: usize = usize::MAX;
+
 /// What is known of an operation.
 #[derive(Clone, Copy)]
 pub struct Known {
     pub weight: u32,
     /// How many parts its text tells of, with those of the value methods that it calls: `HEAVY` and more where it doesn't tell.
     pub text: u32,
+    /// Whether it calls others, and whether it does so in a loop.
+    pub calls: bool,
+    pub loops: bool,
     /// Whether it takes a lock, where it was asked.
     pub locks: Option<bool>,
-    /// The most parts of it and of all that it leads to, where it was asked.
-    pub greatest: Option<u32>,
+    /// What it and all that it leads to are, where it was asked.
+    pub reach: Option<Reach>,
+    /// How many calls the last list of two or more had that began with one of it.
+    pub count: usize,
+}
+
+/// What operations, and all that they lead to, are.
+#[derive(Clone, Copy)]
+pub struct Reach {
+    /// The most parts of one of them.
+    pub parts: u32,
+    /// Whether one of them calls others in a loop, and all only sum.
+    pub sums: bool,
 }
 
 /// What is counted for a call of a value method, by its number as far as they are known, and for a loop whose turns list nothing.
@@ -39,11 +56,12 @@ struct Costs<'c> {
     turns: u32,
 }
 
-/// How many parts run, about, and whether they list operations.
+/// How many parts run, about, and whether they list operations, and in a loop.
 #[derive(Clone, Copy)]
 struct Count {
     parts: u32,
     lists: bool,
+    loops: bool,
 }
 
 /// What a call of a value method takes by itself.
@@ -97,6 +115,7 @@ fn one_more(parts: u32) -> Count {
     Count {
         parts: parts.saturating_add(1),
         lists: false,
+        loops: false,
     }
 }
 
@@ -104,11 +123,16 @@ fn one_more(parts: u32) -> Count {
 fn turn_of(head: u32, body: Count, costs: Costs<'_>) -> Count {
     let parts = body.parts.saturating_add(head);
     if body.lists {
-        return Count { parts, lists: true };
+        return Count {
+            parts,
+            lists: true,
+            loops: true,
+        };
     }
     Count {
         parts: parts.saturating_add(costs.turns),
         lists: false,
+        loops: false,
     }
 }
 
@@ -127,6 +151,7 @@ fn count_in(s: &Stmt, costs: Costs<'_>) -> Count {
             Count {
                 parts: parts_in(of, costs).saturating_add(given).saturating_add(1),
                 lists: true,
+                loops: false,
             }
         }
         StmtForm::If(test, yes, no) => {
@@ -135,6 +160,7 @@ fn count_in(s: &Stmt, costs: Costs<'_>) -> Count {
             Count {
                 parts: parts_in(test, costs).saturating_add(one.parts.max(other.parts)),
                 lists: one.lists || other.lists,
+                loops: one.loops || other.loops,
             }
         }
         StmtForm::While(test, body) => {
@@ -153,12 +179,18 @@ fn count_in(s: &Stmt, costs: Costs<'_>) -> Count {
 fn count_all(stmts: &[Stmt], costs: Costs<'_>) -> Count {
     let mut parts: u32 = 0;
     let mut lists = false;
+    let mut loops = false;
     'statements: for s in stmts {
         let count = count_in(s, costs);
         parts = parts.saturating_add(count.parts);
         lists = lists || count.lists;
+        loops = loops || count.loops;
     }
-    Count { parts, lists }
+    Count {
+        parts,
+        lists,
+        loops,
+    }
 }
 
 /// What a call of each value method takes, by their numbers.
@@ -192,14 +224,36 @@ pub fn weights_of(alloc: Global, program: &Program) -> Result<Vec<Known>, AllocE
     let mut known = Vec::with_capacity(alloc, program.ops.len())?;
     for op in &program.ops {
         let stmts = op.body.stmts.as_slice();
+        let told = count_all(stmts, text);
         known.push(Known {
             weight: count_all(stmts, turns).parts.saturating_add(STEP),
-            text: count_all(stmts, text).parts,
+            text: told.parts,
+            calls: told.lists,
+            loops: told.loops,
             locks: None,
-            greatest: None,
+            reach: None,
+            count: UNTOLD,
         })?;
     }
     Ok(known)
+}
+
+/// Whether this call is of an operation that calls no others.
+pub fn calls_none(known: &Vec<Known>, op: &Op) -> bool {
+    let number = op.op.0 as usize;
+    if number < known.len() {
+        return !known[number].calls;
+    }
+    false
+}
+
+/// Whether this call is of an operation that calls others in a loop.
+pub fn calls_in_loop(known: &Vec<Known>, op: &Op) -> bool {
+    let number = op.op.0 as usize;
+    if number < known.len() {
+        return known[number].loops;
+    }
+    false
 }
 
 /// What a step of this call weighs.

@@ -1,9 +1,8 @@
 -- A loop that begins where the machine stands: its locals, its section, and what is handed on.
-use Rattle.std.specs.Prelude.{◌≡◌, ℕ, ◌-◌, List, [], ◌∷◌, map, Some, slice_get}
+use Rattle.std.specs.Prelude.{ℕ, ◌-◌, List, [], ◌∷◌, map}
 use Rattle.ca_program.specs.declared.program.ValueType.{ValueType}
 use Rattle.ca_program.specs.Plain.{PlainProgram, Statement}
 use Rattle.ca_program.specs.Kinds.{kind_type}
-use Rattle.ca_program.specs.Instructions.{Begin, Code}
 use Rattle.ca_code.specs.Codes.{code_seen}
 use Rattle.ca_model.specs.declared.value.Value.{Value as Datum}
 use Rattle.ca_model.specs.declared.value.Object.{Object}
@@ -19,12 +18,6 @@ use Rattle.ca_steps.specs.declared.frames.Frames.{Frames}
 use Rattle.ca_steps.specs.declared.running.Laid.{Laid}
 use Rattle.ca_steps.specs.Ops.{Runs}
 use Rattle.ca_steps.specs.Stands.{state_of}
-
--- the loop begins there, on this line, with so many instructions and locals of these types
-pub record BeginsAt (c : Code) (m : Frames) (n line : ℕ) (loop : Statement) (tys : List ValueType) : Type 0 where
-  pub stands : slice_get c.items m.at ≡ Some (Begin n)
-  pub on_line : slice_get c.lines m.at ≡ Some line
-  pub is : slice_get c.loops m.at ≡ Some (Some (record { loop = loop; locals = map kind_type tys }))
 
 -- The program is laid out in a code that is run, and so is each loop that is handed on, once more on its own.
 pub record HasLoops (p : PlainProgram) (on : Laid) (places : List LoopPlace) : Type 0 where

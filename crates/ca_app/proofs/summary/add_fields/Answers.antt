@@ -2,7 +2,8 @@ use Rattle.std.proofs.Common.{◌≡◌, ◌<◌, ◌≤◌, ◌∙◌, ◌+ℤ�
 use Rattle.std.specs.Int.{int_wrap, w64}
 use Rattle.std.proofs.lemmas.Int.{to_z-of_z}
 use Rattle.ca_app.specs.Summary.{sum_of, fields_of}
-use Rattle.ca_app.proofs.Totals.{item_at, sum_of_fields, added, all_added}
+use Rattle.ca_app.proofs.Totals.{sum_of_fields, added, all_added}
+use Rattle.ca_model.proofs.Stores.{found}
 use Rattle.ca_app.proofs.summary.add_fields.Goals as goal
 
 pub loop-slot-preserved : goal.loop-slot-preserved
@@ -10,7 +11,7 @@ loop-slot-preserved c =
     let slots = c.args.slots.now in
     let i = c.loop-slot.slot-index in
     let lt : i < length slots = omega arith in
-    added sum_of_fields slots i _ (to_z w64 c.loop-slot.total-bits) _ (item_at slots i _ lt c.slot-item.is) c.add_field-total.ensures ∙ c.loop-slot.invariant
+    added sum_of_fields slots i _ (to_z w64 c.loop-slot.total-bits) _ (found slots i _ lt c.slot-item.is) c.add_field-total.ensures ∙ c.loop-slot.invariant
 
 pub returns : goal.returns
 returns c =

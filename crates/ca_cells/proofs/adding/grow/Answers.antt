@@ -9,5 +9,5 @@ use Rattle.ca_cells.proofs.adding.grow.Goals as goal
 pub returns-clause-added : goal.returns-clause-added
 returns-clause-added c =
     let log = c.args.log.now in
-    let back : map operation_in c.in_ok-tasks.tasks.items ≡ c.args.listed.items = ap (map operation_in) c.in_ok-tasks.ensures ∙ operations_back (task_after c.args.clock) c.args.listed.items (λ _. refl) in
+    let back : map operation_in c.in_ok-tasks.tasks.items ≡ c.args.listed.now.items = ap (map operation_in) c.in_ok-tasks.ensures ∙ operations_back (task_after c.args.clock) c.args.listed.now.items (λ _. refl) in
     ap (λ (es : List Entry). record { opened = log.opened; object = log.object; entries = es }) (c.in_ok-ran.ensures.added ∙ ap (λ (ops : List Op). log.entries ++ ran_entry c.args.task.now c.args.clock c.args.steps ops ∷ []) back)

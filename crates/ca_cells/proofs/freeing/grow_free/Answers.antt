@@ -7,5 +7,5 @@ use Rattle.ca_cells.proofs.freeing.grow_free.Goals as goal
 
 pub returns-clause-added : goal.returns-clause-added
 returns-clause-added c =
-    let back : map operation_in c.in_ok-tasks.tasks.items ≡ c.args.listed.items = ap (map operation_in) c.in_ok-tasks.ensures ∙ operations_back (task_after c.args.clock) c.args.listed.items (λ _. refl) in
+    let back : map operation_in c.in_ok-tasks.tasks.items ≡ c.args.listed.now.items = ap (map operation_in) c.in_ok-tasks.ensures ∙ operations_back (task_after c.args.clock) c.args.listed.now.items (λ _. refl) in
     c.in_ok-ran.ensures.added ∙ ap (λ (ops : List Op). c.args.loose.now ++ ran_entry c.args.task.now c.args.clock c.args.steps ops ∷ []) back

@@ -1,7 +1,8 @@
 use Rattle.ca_program.specs.View.{program_view}
 use Rattle.ca_cells.specs.Seats.{cells_key}
 use Rattle.ca_pool.proofs.Does.{did_free, did_one, may_run}
-use Rattle.ca_pool.proofs.Performs.{on_both, on_err, on_ok, puts_nothing}
+use Rattle.ca_pool.proofs.Performs.{on_both, on_err, puts_nothing}
+use Rattle.ca_cells.proofs.Courses.{on_ok}
 use Rattle.ca_pool.proofs.performing.run_one.Goals as goal
 
 pub apply_free-requires-clause-may_run : goal.apply_free-requires-clause-may_run

@@ -2,7 +2,9 @@ use Rattle.std.proofs.Common.{◌≡◌, List, slice_get, Some, sym, ap, subst, 
 use Rattle.ca_beside.specs.declared.beside.Changed.{Changed}
 use Rattle.ca_beside.specs.Beside.{present, IsAbsent}
 use Rattle.ca_replica.specs.Zeroed.{zeroed, zeroed_heap}
+use Rattle.ca_replica.specs.InPlace.{HasCopy}
 use Rattle.ca_replica.proofs.Copying.{placed, zeroed_at, copied_same}
+use Rattle.ca_replica.proofs.InPlace.{has_added}
 use Rattle.ca_replica.proofs.replica.place_of.Goals as goal
 
 pub add-requires : goal.add-requires
@@ -25,3 +27,10 @@ returns-in_ok-object-in-None-clause-same c =
     let away : IsAbsent c.copied.new.self n = subst (λ (cs : List Changed). IsAbsent cs n) (sym unchanged) c.in-None.ensures in
     copied_same c.add.result (zeroed_heap ws h) c.copied.new.self c.add.new.self n c.zero.new.object away (zeroed_at ws h n c.in_ok-object-in-None.object there ∙ ap Some is) c.add.ensures.added c.add.ensures.kept
     ∙ ap (present (zeroed_heap ws h)) unchanged
+
+pub returns-in_err-object-in-None-clause-has : goal.returns-in_err-object-in-None-clause-has
+returns-in_err-object-in-None-clause-has c = λ n h. subst (λ (cs : List Changed). HasCopy cs n) (sym c.in_err-object-in-None.ensures.same) h
+
+pub returns-in_ok-object-in-None-clause-has : goal.returns-in_ok-object-in-None-clause-has
+returns-in_ok-object-in-None-clause-has c =
+    has_added c.add.result c.args.copies.now c.copied.new.self c.add.new.self c.args.number c.zero.new.object c.in_ok-object-in-None.ensures.same c.add.ensures.added c.add.ensures.kept

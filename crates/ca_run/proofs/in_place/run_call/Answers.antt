@@ -2,6 +2,7 @@ use Rattle.std.proofs.Common.{◌≡◌, ◌-◌, suc, refl, ap, arith}
 use Rattle.ca_program.specs.View.{program_view}
 use Rattle.ca_meaning.specs.Serial.{fresh}
 use Rattle.ca_parallel.specs.Calls.{invocation_of}
+use Rattle.ca_steps.specs.declared.here.Here.{Here}
 use Rattle.ca_steps.specs.Stands.{here_state}
 use Rattle.ca_run.proofs.InPlace.{call_too_many}
 use Rattle.ca_run.proofs.Called.{call_ended, call_spent, call_trapped}
@@ -30,8 +31,10 @@ returns-in_err-enter g c =
     let p = err_from_is_err_and c.from_residual.result c.from_residual.ensures.1 in
     record { ran = rw p.1 tt; before = refl; same_heap = refl; same_kept = refl; same_program = refl }
 
-pub run_from-stopped-requires : goal.run_from-stopped-requires
-run_from-stopped-requires g c = record { laid = c.in-Some.ensures.runs; fits = tt }
+pub run_from-halt-requires : goal.run_from-halt-requires
+run_from-halt-requires g c =
+    let starts = c.in-Some.ensures in
+    record { laid = starts.runs; within = starts.within; first = (c.in_ok-enter.ensures (program_view c.args.program.now) starts.laid).first; fits = tt }
 
 pub returns-in-Ends : goal.returns-in-Ends
 returns-in-Ends g c =
@@ -39,11 +42,13 @@ returns-in-Ends g c =
     let h = c.args.access.now.heap.now in
     let starts = c.in-Some.ensures in
     let least : c.args.left ≡ suc (c.args.left - 1) = omega arith in
-    let run = c.run_from-stopped in
+    let run = c.run_from-halt in
     let m = run.new.frames in
     let after = run.new.access.heap.now in
+    let halted = run.ensures.halted (fresh h) in
+    let there : Here = record { at = m.at; base = halted.0; left = m.left } in
     record {
-      ran = call_ended p c.requires.program _ _ c.in-Some-number_of.number h c.requires.heap c.args.op.now c.requires.typed c.args.left c.enter.new.frames starts (c.in_ok-enter.ensures p starts.laid) c.in-Some-number_of.ensures least c.args.access.now.program.now (ap program_view c.requires.same) run.result.halt (here_state run.result.here m.number m.below m.slots.items (fresh after)) after refl (run.ensures.halted (fresh h)) run.result.here.left refl c.in-Ends.is;
+      ran = call_ended p c.requires.program _ _ c.in-Some-number_of.number h c.requires.heap c.args.op.now c.requires.typed c.args.left c.enter.new.frames starts (c.in_ok-enter.ensures p starts.laid) c.in-Some-number_of.ensures least c.args.access.now.program.now (ap program_view c.requires.same) run.result (here_state there m.number m.below m.slots.items (fresh after)) after refl halted.1 m.left refl c.in-Ends.is;
       before = ap (λ l. l.before) run.ensures.fixed;
       same_heap = ap (λ l. l.heap) run.ensures.fixed;
       same_kept = ap (λ l. l.kept) run.ensures.fixed;
@@ -56,11 +61,13 @@ returns-in-Traps g c =
     let h = c.args.access.now.heap.now in
     let starts = c.in-Some.ensures in
     let least : c.args.left ≡ suc (c.args.left - 1) = omega arith in
-    let run = c.run_from-stopped in
+    let run = c.run_from-halt in
     let m = run.new.frames in
     let after = run.new.access.heap.now in
+    let halted = run.ensures.halted (fresh h) in
+    let there : Here = record { at = m.at; base = halted.0; left = m.left } in
     record {
-      ran = call_trapped p c.requires.program _ _ c.in-Some-number_of.number h c.requires.heap c.args.op.now c.requires.typed c.args.left c.enter.new.frames starts (c.in_ok-enter.ensures p starts.laid) c.in-Some-number_of.ensures least c.args.access.now.program.now (ap program_view c.requires.same) run.result.halt (here_state run.result.here m.number m.below m.slots.items (fresh after)) after refl (run.ensures.halted (fresh h)) c.in-Traps.field-0 c.in-Traps.is;
+      ran = call_trapped p c.requires.program _ _ c.in-Some-number_of.number h c.requires.heap c.args.op.now c.requires.typed c.args.left c.enter.new.frames starts (c.in_ok-enter.ensures p starts.laid) c.in-Some-number_of.ensures least c.args.access.now.program.now (ap program_view c.requires.same) run.result (here_state there m.number m.below m.slots.items (fresh after)) after refl halted.1 c.in-Traps.field-0 c.in-Traps.is;
       before = ap (λ l. l.before) run.ensures.fixed;
       same_heap = ap (λ l. l.heap) run.ensures.fixed;
       same_kept = ap (λ l. l.kept) run.ensures.fixed;
@@ -73,11 +80,13 @@ returns-in-Spends g c =
     let h = c.args.access.now.heap.now in
     let starts = c.in-Some.ensures in
     let least : c.args.left ≡ suc (c.args.left - 1) = omega arith in
-    let run = c.run_from-stopped in
+    let run = c.run_from-halt in
     let m = run.new.frames in
     let after = run.new.access.heap.now in
+    let halted = run.ensures.halted (fresh h) in
+    let there : Here = record { at = m.at; base = halted.0; left = m.left } in
     record {
-      ran = call_spent p c.requires.program _ _ c.in-Some-number_of.number h c.requires.heap c.args.op.now c.requires.typed c.args.left c.enter.new.frames starts (c.in_ok-enter.ensures p starts.laid) c.in-Some-number_of.ensures least c.args.access.now.program.now (ap program_view c.requires.same) run.result.halt (here_state run.result.here m.number m.below m.slots.items (fresh after)) after refl (run.ensures.halted (fresh h)) c.in-Spends.is;
+      ran = call_spent p c.requires.program _ _ c.in-Some-number_of.number h c.requires.heap c.args.op.now c.requires.typed c.args.left c.enter.new.frames starts (c.in_ok-enter.ensures p starts.laid) c.in-Some-number_of.ensures least c.args.access.now.program.now (ap program_view c.requires.same) run.result (here_state there m.number m.below m.slots.items (fresh after)) after refl halted.1 c.in-Spends.is;
       before = ap (λ l. l.before) run.ensures.fixed;
       same_heap = ap (λ l. l.heap) run.ensures.fixed;
       same_kept = ap (λ l. l.kept) run.ensures.fixed;
@@ -86,7 +95,7 @@ returns-in-Spends g c =
 
 pub returns-in-Leaves : goal.returns-in-Leaves
 returns-in-Leaves g c =
-    let run = c.run_from-stopped in
+    let run = c.run_from-halt in
     record {
       ran = tt;
       before = ap (λ l. l.before) run.ensures.fixed;
@@ -97,7 +106,7 @@ returns-in-Leaves g c =
 
 pub returns-in-Fails : goal.returns-in-Fails
 returns-in-Fails g c =
-    let run = c.run_from-stopped in
+    let run = c.run_from-halt in
     record {
       ran = tt;
       before = ap (λ l. l.before) run.ensures.fixed;

@@ -3,8 +3,8 @@ use Rattle.std.proofs.lemmas.List.{drop_all}
 use Rattle.std.proofs.lemmas.Result.{err_from_is_err_and}
 use Rattle.ca_program.specs.View.{program_view}
 use Rattle.ca_parallel.specs.Calls.{invocation_of, invocations_of}
-use Rattle.ca_run.specs.InPlace.{CallEnds}
-use Rattle.ca_run.proofs.InPlace.{Going, all_ran, next_call, none_ran, one_ran, one_stopped}
+use Rattle.ca_run.specs.InPlace.{CallEnds, Continues}
+use Rattle.ca_run.proofs.InPlace.{all_ran, next_call, none_ran, one_ran, one_stopped}
 use Rattle.ca_run.proofs.in_place.run_calls.Goals as goal
 
 pub calls-init : goal.calls-init
@@ -19,7 +19,7 @@ run_call-requires g c =
     let i = c.calls.op-index in
     let lt : i < length ops = omega arith in
     let now = c.calls.access.heap.now in
-    let going = subst (λ is. Going p c.args.access.now.heap.now (invocations_of ops) c.args.left now is c.calls.still) (next_call ops i c.op-item.result lt c.op-item.is) c.calls.invariant.0 in
+    let going = subst (λ is. Continues p c.args.access.now.heap.now (invocations_of ops) c.args.left now is c.calls.still) (next_call ops i c.op-item.result lt c.op-item.is) c.calls.invariant.0 in
     record { program = c.requires.program; same = c.calls.invariant.4 ∙ c.requires.same; heap = going.heap; typed = going.typed.0 }
 
 pub calls-preserved : goal.calls-preserved
@@ -34,7 +34,7 @@ calls-preserved g c =
     let now = c.calls.access.heap.now in
     let after = c.run_call.new.access.heap.now in
     let k = c.calls.still in
-    let going = subst (λ is. Going p h all c.args.left now is k) (next_call ops i op lt c.op-item.is) c.calls.invariant.0 in
+    let going = subst (λ is. Continues p h all c.args.left now is k) (next_call ops i op lt c.op-item.is) c.calls.invariant.0 in
     let run = c.run_call.ensures in
     let ran = subst (λ o. CallEnds p now (invocation_of op) k after o) c.in-Some.is c.in_ok-ran.ensures.ran in (
       one_ran p c.requires.program h now after (invocation_of op) (invocations_of (drop (i + 1) ops)) all c.args.left k c.in-Some.left going ran,
@@ -56,7 +56,7 @@ returns-in-None g c =
     let now = c.calls.access.heap.now in
     let after = c.run_call.new.access.heap.now in
     let k = c.calls.still in
-    let going = subst (λ is. Going p h all c.args.left now is k) (next_call ops i op lt c.op-item.is) c.calls.invariant.0 in
+    let going = subst (λ is. Continues p h all c.args.left now is k) (next_call ops i op lt c.op-item.is) c.calls.invariant.0 in
     let run = c.run_call.ensures in
     let never = subst (λ o. CallEnds p now (invocation_of op) k after o) c.in-None.is c.in_ok-ran.ensures.ran in
     record {

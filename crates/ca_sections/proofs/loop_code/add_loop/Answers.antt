@@ -14,5 +14,5 @@ returns-then-types-gt-MOST_LOCALS c = record {
 pub returns : goal.returns
 returns c = record {
   adds = then c.statement-2.ensures c.push.ensures;
-  fits = λ ok. c.statement.ensures c.if-not-statement.false;
+  fits = λ ok. c.statement.ensures.0 c.if-not-statement.false;
 }

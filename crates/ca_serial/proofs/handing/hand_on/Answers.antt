@@ -22,27 +22,27 @@ ask-requires-clause-serves g c = λ κs o. c.requires.serves
 
 -- the machine stands behind the call
 pub returns-in-Some-clause-means : goal.returns-in-Some-clause-means
-returns-in-Some-clause-means g c = λ w.
+returns-in-Some-clause-means g c = λ w into out.
     let p = program_view c.args.coded.now in
-    call_passes p (code_seen c.args.code.now) c.args.frames.now c.args.op c.args.first c.args.receiver c.requires.due c.args.run.now.heap w c.ask.new.heap c.in-Some.rest c.pass.new.self
+    call_passes p (code_seen c.args.code.now) c.args.frames.now c.args.op c.args.first c.args.receiver c.requires.due c.args.run.now.heap w into out c.ask.new.heap c.in-Some.rest c.pass.new.self
     (rw (c.as_slice.ensures.value, c.in_ok-ops.ensures.calls, c.left-left.ensures, c.in-Some.is) at (c.in_ok-answer.ensures.given w)) c.in_ok-pass-in-Some.ensures
 
 -- its body is entered
 pub returns-in-On-clause-means : goal.returns-in-On-clause-means
-returns-in-On-clause-means g c = λ w.
+returns-in-On-clause-means g c = λ w into out.
     let p = program_view c.args.coded.now in
     let m = c.args.frames.now in
     let x = with_note (in_heap w c.args.run.now.heap) (due_at (code_seen c.args.code.now) m c.args.op c.args.first c.args.receiver ∷ []) m.left in
-    call_enters p (code_seen c.args.code.now) m c.args.op c.args.first c.args.receiver c.requires.due c.args.run.now.heap w c.ask.new.heap c.enter_operation.new.self
+    call_enters p (code_seen c.args.code.now) m c.args.op c.args.first c.args.receiver c.requires.due c.args.run.now.heap w into out c.ask.new.heap c.enter_operation.new.self
     (rw (c.as_slice.ensures.value, c.in_ok-ops.ensures.calls, c.left-left.ensures, c.in-None.is) at (c.in_ok-answer.ensures.given w))
     (rw (c.as_slice-in-None.ensures.value, c.in-On.is) at (c.enter_operation.ensures 0 (in_heap w c.args.run.now.heap) x))
 
 pub returns-in-Spends-clause-means : goal.returns-in-Spends-clause-means
-returns-in-Spends-clause-means g c = λ w.
+returns-in-Spends-clause-means g c = λ w into out.
     let p = program_view c.args.coded.now in
     let m = c.args.frames.now in
     let x = with_note (in_heap w c.args.run.now.heap) (due_at (code_seen c.args.code.now) m c.args.op c.args.first c.args.receiver ∷ []) m.left in
-    call_spends p (code_seen c.args.code.now) m c.args.op c.args.first c.args.receiver c.requires.due c.args.run.now.heap w c.ask.new.heap
+    call_spends p (code_seen c.args.code.now) m c.args.op c.args.first c.args.receiver c.requires.due c.args.run.now.heap w into out c.ask.new.heap
     (rw (c.as_slice.ensures.value, c.in_ok-ops.ensures.calls, c.left-left.ensures, c.in-None.is) at (c.in_ok-answer.ensures.given w))
     (rw (c.as_slice-in-None.ensures.value, c.in-Spends.is) at (c.enter_operation.ensures 0 (in_heap w c.args.run.now.heap) x))
 

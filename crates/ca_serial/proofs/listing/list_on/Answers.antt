@@ -1,4 +1,4 @@
-use Rattle.std.proofs.Common.{◌≡◌, ◌∙◌, refl, ap, sym, subst, [], List}
+use Rattle.std.proofs.Common.{◌≡◌, ◌∙◌, refl, ap, sym, subst, [], length, List}
 use Rattle.std.specs.Prelude.{true, false, Contains, IfOk}
 use Rattle.std.proofs.lemmas.Result.{err_from_is_err_and}
 use Rattle.ca_program.specs.View.{program_view, statement_view}
@@ -9,10 +9,11 @@ use Rattle.ca_note_laws.specs.Listing.{puts_nothing}
 use Rattle.ca_sections.specs.declared.operations.SectionAnswer.{SectionAnswer}
 use Rattle.ca_sections.specs.Answers.{LoopIs}
 use Rattle.ca_code_laws.specs.Machine.{Comes}
-use Rattle.ca_code_laws.specs.Runs.{run_access}
+use Rattle.ca_code_laws.specs.Runs.{Into, run_into}
 use Rattle.ca_steps.specs.Stands.{state_of}
-use Rattle.ca_serial.specs.clauses.Handing.{with_notes}
-use Rattle.ca_serial.specs.clauses.Loops.{BeginsAt, section_at, notes_of, begun_notes}
+use Rattle.ca_steps.specs.Ways.{BeginsAt}
+use Rattle.ca_serial.specs.clauses.Handing.{Chose, with_notes}
+use Rattle.ca_serial.specs.clauses.Loops.{section_at, notes_of, begun_notes}
 use Rattle.ca_serial.proofs.Listed.{Stopped, trapped, spent, none_noted, unaccounted, none_yet, handed_all, handed_same, part_told, so_told, putting_enters, stopped_enters}
 use Rattle.ca_serial.proofs.Told.{none_told}
 use Rattle.ca_serial.proofs.listing.list_on.Goals as goal
@@ -29,7 +30,7 @@ returns-then-not-puts_nothing g c =
     let ns = begun_notes p h m tys c.args.line loop in
     let none : ns ≡ [] = ap (λ b. either b (notes_of h m.left (section_at p h m tys c.args.line loop)) []) put in
     record {
-      means = so_told c.go_in.result _ _ c.go_in.ensures (λ is c2 w b. putting_enters p c2 m c.args.count c.args.line loop tys b h w c.go_in.new.frames is put);
+      means = so_told c.go_in.result _ _ c.go_in.ensures (λ is c2 w into chose b. putting_enters p c2 m c.args.count c.args.line loop tys b h w into c.go_in.new.frames is put);
       account = handed_all p _ _ c.go_in.result ns (unaccounted p _ ns none);
       program = refl;
     }
@@ -81,7 +82,7 @@ returns-in-Done g c =
     let put : puts_nothing loop ≡ true = sym c.puts_nothing.ensures ∙ c.if-not-puts_nothing.false in
     let same : begun_notes p h m tys c.args.line loop ≡ notes_of h m.left (section_at p h m tys c.args.line loop) = ap (λ b. either b (notes_of h m.left (section_at p h m tys c.args.line loop)) []) put in
     record {
-      means = subst (λ (ns : List Note). IfOk c.run_listed.result (λ _. (c2 : Code) (w : World) → BeginsAt c2 m c.args.count c.args.line loop tys → Comes (run_access p) c2 (state_of m (in_heap w h)) (state_of c.run_listed.new.frames (in_heap (with_notes w ns) c.run_listed.new.run.heap)))) (sym same) c.run_listed.ensures.means;
+      means = subst (λ (ns : List Note). IfOk c.run_listed.result (λ _. (c2 : Code) (w : World) (into : Into) → Chose into (length w.notes) false ns → BeginsAt c2 m c.args.count c.args.line loop tys → Comes (run_into into p) c2 (state_of m (in_heap w h)) (state_of c.run_listed.new.frames (in_heap (with_notes w ns) c.run_listed.new.run.heap)))) (sym same) c.run_listed.ensures.means;
       account = handed_same p _ _ c.run_listed.result _ _ same c.run_listed.ensures.account;
       program = c.run_listed.ensures.program;
     }
@@ -99,7 +100,7 @@ returns-in-Trapped g c =
     let ns = begun_notes p h m tys c.args.line loop in
     let none : ns ≡ [] = ap (λ b. either b (notes_of h m.left o) []) put ∙ none_noted h m.left o stop in
     record {
-      means = so_told c.go_in-in-Trapped.result _ _ c.go_in-in-Trapped.ensures (λ is c2 w b. stopped_enters p c2 m c.args.count c.args.line loop tys b h w c.go_in-in-Trapped.new.frames is put stop);
+      means = so_told c.go_in-in-Trapped.result _ _ c.go_in-in-Trapped.ensures (λ is c2 w into chose b. stopped_enters p c2 m c.args.count c.args.line loop tys b h w into c.go_in-in-Trapped.new.frames is put stop);
       account = handed_all p _ _ c.go_in-in-Trapped.result ns (unaccounted p _ ns none);
       program = refl;
     }
@@ -117,7 +118,7 @@ returns-in-Spent g c =
     let ns = begun_notes p h m tys c.args.line loop in
     let none : ns ≡ [] = ap (λ b. either b (notes_of h m.left o) []) put ∙ none_noted h m.left o stop in
     record {
-      means = so_told c.go_in-in-Spent.result _ _ c.go_in-in-Spent.ensures (λ is c2 w b. stopped_enters p c2 m c.args.count c.args.line loop tys b h w c.go_in-in-Spent.new.frames is put stop);
+      means = so_told c.go_in-in-Spent.result _ _ c.go_in-in-Spent.ensures (λ is c2 w into chose b. stopped_enters p c2 m c.args.count c.args.line loop tys b h w into c.go_in-in-Spent.new.frames is put stop);
       account = handed_all p _ _ c.go_in-in-Spent.result ns (unaccounted p _ ns none);
       program = refl;
     }

@@ -79,7 +79,7 @@ returns-in_ok-put_locals-in-Some g c =
     λ w. subst (λ (rest : Option ℕ). Given p (in_heap w h) (invocations_of ops) (m.left - c.args.taken) c.ask.new.heap rest) c.in-Some.is (said_of (λ l k. Given p (in_heap w h) l k c.ask.new.heap c.in_ok-answer.answer) c.as_slice-listed.result.now ops c.saturating_sub-rest.result m.left c.args.taken c.as_slice-listed.ensures.value rest (c.in_ok-answer.ensures.given w)) in
     let locals = rw (c.as_slice.ensures.value ∙ c.requires.locals ∙ done_locals o c.args.taken (invocations_of ops) d _) at c.in_ok-put_locals-in-Some.ensures in
     record {
-      means = so_told c.jump.result _ _ c.jump.ensures (λ is c2 w b. listed_passes p c2 m c.args.count c.args.line loop tys b h w c.requires.nothing c.args.taken (invocations_of ops) d c.ask.new.heap c.in-Some.left c.put_locals.new.self c.jump.new.self (given w) locals is);
+      means = so_told c.jump.result _ _ c.jump.ensures (λ is c2 w into chose b. listed_passes p c2 m c.args.count c.args.line loop tys b h w into c.requires.nothing c.args.taken (invocations_of ops) d chose c.ask.new.heap c.in-Some.left c.put_locals.new.self c.jump.new.self (given w) locals is);
       account = handed_all p _ _ c.jump.result (notes_of h m.left o) reached;
       program = refl;
     }
@@ -101,7 +101,7 @@ returns-in-None g c =
     let given : (w : World) → Given p (in_heap w h) (invocations_of ops) (m.left - c.args.taken) c.ask.new.heap None =
     λ w. subst (λ (rest : Option ℕ). Given p (in_heap w h) (invocations_of ops) (m.left - c.args.taken) c.ask.new.heap rest) c.in-None.is (said_of (λ l k. Given p (in_heap w h) l k c.ask.new.heap c.in_ok-answer.answer) c.as_slice-listed.result.now ops c.saturating_sub-rest.result m.left c.args.taken c.as_slice-listed.ensures.value rest (c.in_ok-answer.ensures.given w)) in
     record {
-      means = so_told c.go_in.result _ _ c.go_in.ensures (λ is c2 w b. declined_enters p c2 m c.args.count c.args.line loop tys b h w c.requires.nothing c.args.taken (invocations_of ops) d c.ask.new.heap c.go_in.new.frames (given w) is);
+      means = so_told c.go_in.result _ _ c.go_in.ensures (λ is c2 w into chose b. declined_enters p c2 m c.args.count c.args.line loop tys b h w into c.requires.nothing c.args.taken (invocations_of ops) d chose c.ask.new.heap c.go_in.new.frames (given w) is);
       account = handed_all p _ _ c.go_in.result (notes_of h m.left o) reached;
       program = refl;
     }

@@ -1,16 +1,11 @@
-use Rattle.std.proofs.Common.{refl, [], arith}
-use Rattle.ca_base.proofs.Writing.{began_nothing}
-use Rattle.ca_parallel.specs.Accounts.{at_first}
+use Rattle.ca_program.specs.View.{program_view}
+use Rattle.ca_serial.proofs.Driving.{gave_up}
 use Rattle.ca_serial.proofs.running.drive.Goals as goal
 
 pub returns-in_default : goal.returns-in_default
-returns-in_default g c = record {
-  outcome = tt;
-  prints = record { whole = tt; part = began_nothing _ _ };
-  write = tt;
-  later = omega arith;
-  account = record { all = tt; part = record { done = []; rest = _; whole = refl; reached = at_first } };
-}
+returns-in_default g c =
+    let n = gave_up g.E.Extents.Accounts (program_view c.args.program.now) c.args.marks.now c.args.budget (g.E.Extents.account c.args.engine.now) (g.K.Sink.written c.args.sink.now) (g.K.Sink.faults c.args.sink.now) in
+    record { outcome = n.outcome; prints = n.prints; write = n.write; later = n.later; account = n.account }
 
 pub made_of-requires : goal.made_of-requires
 made_of-requires g c = record { program = c.requires.program; sound = c.requires.sound }
@@ -27,20 +22,8 @@ run_made-requires-clause-sound g c = λ κs o. c.requires.sound
 pub run_made-requires-clause-served : goal.run_made-requires-clause-served
 run_made-requires-clause-served g c = λ κs o. c.requires.served
 
-pub run_made-requires-clause-laid : goal.run_made-requires-clause-laid
-run_made-requires-clause-laid g c = λ κs o. c.in-Ok.ensures.run
-
-pub run_made-requires-clause-ops : goal.run_made-requires-clause-ops
-run_made-requires-clause-ops g c = λ κs o. c.in-Ok.ensures.ops
-
-pub run_made-requires-clause-loops : goal.run_made-requires-clause-loops
-run_made-requires-clause-loops g c = λ κs o. rw c.as_slice.ensures.value c.in-Ok.ensures.loops
+pub run_made-requires-clause-made : goal.run_made-requires-clause-made
+run_made-requires-clause-made g c = λ κs o. rw c.as_slice.ensures.value c.in-Ok.ensures
 
 pub returns : goal.returns
-returns g c = record {
-  outcome = c.run_made.ensures.outcome;
-  prints = c.run_made.ensures.prints;
-  write = c.run_made.ensures.write;
-  later = c.run_made.ensures.later;
-  account = c.run_made.ensures.account;
-}
+returns g c = let e = c.run_made.ensures in record { outcome = e.outcome; prints = e.prints; write = e.write; later = e.later; account = e.account }

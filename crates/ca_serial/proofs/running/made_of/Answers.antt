@@ -13,19 +13,19 @@ pub returns-in_err-code : goal.returns-in_err-code
 returns-in_err-code c =
     let r = c.from_residual.result in
     let e = err_from_is_err_and r c.from_residual.ensures.1 in
-    record { run = none_told _ r e.0 e.1; ops = none_told _ r e.0 e.1; loops = none_told _ r e.0 e.1 }
+    none_told _ r e.0 e.1
 
 pub returns-in_err-code-2 : goal.returns-in_err-code-2
 returns-in_err-code-2 c =
     let r = c.from_residual-in_err-code-2.result in
     let e = err_from_is_err_and r c.from_residual-in_err-code-2.ensures.1 in
-    record { run = none_told _ r e.0 e.1; ops = none_told _ r e.0 e.1; loops = none_told _ r e.0 e.1 }
+    none_told _ r e.0 e.1
 
 pub returns-in_err-laid : goal.returns-in_err-laid
 returns-in_err-laid c =
     let r = c.from_residual-in_err-laid.result in
     let e = err_from_is_err_and r c.from_residual-in_err-laid.ensures.1 in
-    record { run = none_told _ r e.0 e.1; ops = none_told _ r e.0 e.1; loops = none_told _ r e.0 e.1 }
+    none_told _ r e.0 e.1
 
 pub returns : goal.returns
 returns c =
@@ -43,4 +43,4 @@ pub made_once-requires : goal.made_once-requires
 made_once-requires c = record { program = c.requires.program; none = c.nothing_is_marked.ensures c.if-nothing_is_marked.true }
 
 pub returns-then-nothing_is_marked : goal.returns-then-nothing_is_marked
-returns-then-nothing_is_marked c = record { run = c.made_once.ensures.run; ops = c.made_once.ensures.ops; loops = c.made_once.ensures.loops }
+returns-then-nothing_is_marked c = c.made_once.ensures

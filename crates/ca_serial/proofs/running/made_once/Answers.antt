@@ -13,13 +13,13 @@ pub returns-in_err-code : goal.returns-in_err-code
 returns-in_err-code c =
     let r = c.from_residual.result in
     let e = err_from_is_err_and r c.from_residual.ensures.1 in
-    record { run = none_told _ r e.0 e.1; ops = none_told _ r e.0 e.1; loops = none_told _ r e.0 e.1 }
+    none_told _ r e.0 e.1
 
 pub returns-in_err-laid : goal.returns-in_err-laid
 returns-in_err-laid c =
     let r = c.from_residual-in_err-laid.result in
     let e = err_from_is_err_and r c.from_residual-in_err-laid.ensures.1 in
-    record { run = none_told _ r e.0 e.1; ops = none_told _ r e.0 e.1; loops = none_told _ r e.0 e.1 }
+    none_told _ r e.0 e.1
 
 pub returns : goal.returns
 returns c =

@@ -1,19 +1,12 @@
-use Rattle.std.proofs.Common.{refl, [], arith}
-use Rattle.ca_base.proofs.Writing.{began_nothing}
-use Rattle.ca_parallel.specs.Accounts.{at_first}
+use Rattle.ca_program.specs.View.{program_view}
+use Rattle.ca_serial.proofs.Driving.{gave_up}
 use Rattle.ca_serial.proofs.running.run_made.Goals as goal
 
 pub coded_of-requires : goal.coded_of-requires
-coded_of-requires g c = record { laid = c.requires.laid.laid; runs = c.requires.ops }
+coded_of-requires g c = record { laid = c.requires.made.run.laid; runs = c.requires.made.ops }
 
 pub returns-in_default : goal.returns-in_default
-returns-in_default g c = record {
-  outcome = tt;
-  prints = record { whole = tt; part = began_nothing _ _ };
-  write = tt;
-  later = omega arith;
-  account = record { all = tt; part = record { done = []; rest = _; whole = refl; reached = at_first } };
-}
+returns-in_default g c = gave_up g.E.Extents.Accounts (program_view c.args.program.now) c.args.marks.now c.args.budget (g.E.Extents.account c.args.engine.now) (g.K.Sink.written c.args.sink.now) (g.K.Sink.faults c.args.sink.now)
 
 pub run_coded-requires-clause-ready : goal.run_coded-requires-clause-ready
 run_coded-requires-clause-ready g c = λ κs o. c.requires.ready
@@ -27,23 +20,11 @@ run_coded-requires-clause-sound g c = λ κs o. c.requires.sound
 pub run_coded-requires-clause-served : goal.run_coded-requires-clause-served
 run_coded-requires-clause-served g c = λ κs o. c.requires.served
 
-pub run_coded-requires-clause-laid : goal.run_coded-requires-clause-laid
-run_coded-requires-clause-laid g c = λ κs o. c.requires.laid
-
-pub run_coded-requires-clause-ops : goal.run_coded-requires-clause-ops
-run_coded-requires-clause-ops g c = λ κs o. c.requires.ops
+pub run_coded-requires-clause-made : goal.run_coded-requires-clause-made
+run_coded-requires-clause-made g c = λ κs o. c.requires.made
 
 pub run_coded-requires-clause-coded : goal.run_coded-requires-clause-coded
 run_coded-requires-clause-coded g c = λ κs o. c.in-Ok.ensures
 
-pub run_coded-requires-clause-loops : goal.run_coded-requires-clause-loops
-run_coded-requires-clause-loops g c = λ κs o. c.requires.loops
-
 pub returns : goal.returns
-returns g c = record {
-  outcome = c.run_coded.ensures.outcome;
-  prints = c.run_coded.ensures.prints;
-  write = c.run_coded.ensures.write;
-  later = c.run_coded.ensures.later;
-  account = c.run_coded.ensures.account;
-}
+returns g c = c.run_coded.ensures

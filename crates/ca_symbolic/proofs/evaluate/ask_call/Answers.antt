@@ -2,7 +2,8 @@ use Rattle.std.proofs.Common.{◌≡◌, [], ◌∷◌, ◌++◌, List, ap, ap�
 use Rattle.ca_norm.specs.Terms.{PlainTerm}
 use Rattle.ca_symbolic.specs.States.{PlainDemand, demand, not_null}
 use Rattle.ca_symbolic.specs.Demanded.{kind_of, with_demands}
-use Rattle.ca_symbolic.proofs.Flags.{on_ok, one_item}
+use Rattle.ca_symbolic.proofs.Flags.{one_item}
+use Rattle.ca_forms.proofs.Told.{on_ok}
 use Rattle.ca_symbolic.proofs.Valued.{behind, guard_of}
 use Rattle.ca_symbolic.proofs.evaluate.ask_call.Goals as goal
 

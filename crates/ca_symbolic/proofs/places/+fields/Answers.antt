@@ -6,7 +6,7 @@ use Rattle.ca_program.specs.View.{form_view, statement_view, statements_view}
 use Rattle.ca_parallel.specs.Bodies.{targets_of, targets_of_all}
 use Rattle.ca_symbolic.specs.clauses.Places.{marked, fields_put, fields_put_all}
 use Rattle.ca_symbolic.proofs.Blocks.{block_view}
-use Rattle.ca_symbolic.proofs.Joining.{item_and_rest}
+use Rattle.ca_forms.proofs.Merging.{item_and_rest}
 use Rattle.ca_symbolic.proofs.Marks.{marked_step, fields_two}
 use Rattle.ca_symbolic.proofs.places.+fields.Goals as goal
 

@@ -9,7 +9,8 @@ use Rattle.ca_symbolic.specs.Demands.{demands_in}
 use Rattle.ca_symbolic.specs.Demanded.{with_demands}
 use Rattle.ca_symbolic.specs.clauses.Refusals.{refused_item, with_put, refused_value, put_sum, refused_sum}
 use Rattle.ca_symbolic.proofs.Alike.{own_item_alike}
-use Rattle.ca_symbolic.proofs.Flags.{on_ok, again}
+use Rattle.ca_symbolic.proofs.Flags.{again}
+use Rattle.ca_forms.proofs.Told.{on_ok}
 use Rattle.ca_symbolic.proofs.Making.{makes_as}
 use Rattle.ca_symbolic.proofs.Summing.{was_ok, sum_made, sum_not_made, sum_demands, sum_behind, sum_seen_large, sum_not_refused}
 use Rattle.ca_symbolic.proofs.Valued.{guard_of}

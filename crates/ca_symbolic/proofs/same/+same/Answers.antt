@@ -6,7 +6,7 @@ use Rattle.ca_program.specs.Plain.{expression_and}
 use Rattle.ca_program.specs.View.{expression_view, expressions_view}
 use Rattle.ca_symbolic.specs.Same.{same_expression, same_expressions}
 use Rattle.ca_symbolic.proofs.Blocks.{call_view, unequal, alike_so_far, not_alike}
-use Rattle.ca_symbolic.proofs.Joining.{item_and_rest}
+use Rattle.ca_forms.proofs.Merging.{item_and_rest}
 use Rattle.ca_symbolic.proofs.same.+same.Goals as goal
 
 pub same_expression-returns-in-Value-Value : goal.same_expression-returns-in-Value-Value

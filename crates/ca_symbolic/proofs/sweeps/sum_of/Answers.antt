@@ -1,6 +1,6 @@
 use Rattle.std.proofs.Common.{ap, ◌∙◌}
 use Rattle.ca_symbolic.specs.Demanded.{with_demands}
-use Rattle.ca_symbolic.proofs.Flags.{on_ok}
+use Rattle.ca_forms.proofs.Told.{on_ok}
 use Rattle.ca_symbolic.proofs.Sweeping.{nothing_more}
 use Rattle.ca_symbolic.proofs.sweeps.sum_of.Goals as goal
 

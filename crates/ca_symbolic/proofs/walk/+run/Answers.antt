@@ -10,7 +10,7 @@ use Rattle.ca_symbolic.specs.Demanded.{with_demands}
 use Rattle.ca_symbolic.specs.clauses.Refusals.{refused_by}
 use Rattle.ca_symbolic.proofs.Blocks.{block_view}
 use Rattle.ca_symbolic.proofs.Flags.{always, again, made_is_light}
-use Rattle.ca_symbolic.proofs.Joining.{item_and_rest}
+use Rattle.ca_forms.proofs.Merging.{item_and_rest}
 use Rattle.ca_symbolic.proofs.Ran.{ran_as, cut_short, if_condition, if_then, if_first, if_else_heavy, if_second, if_told}
 use Rattle.ca_symbolic.proofs.Rows.{runs_heavy, runs_step, runs_after, runs_demand, runs_light}
 use Rattle.ca_symbolic.proofs.Told.{loop_after, loop_told, loop_refused, loop_read}

@@ -8,7 +8,8 @@ use Rattle.ca_symbolic.specs.Execution.{after_loop}
 use Rattle.ca_symbolic.specs.Demands.{picked, demanded_loop}
 use Rattle.ca_symbolic.specs.Demanded.{with_demands}
 use Rattle.ca_symbolic.specs.clauses.Refusals.{refused_loop}
-use Rattle.ca_symbolic.proofs.Flags.{always, on_ok}
+use Rattle.ca_symbolic.proofs.Flags.{always}
+use Rattle.ca_forms.proofs.Told.{on_ok}
 use Rattle.ca_symbolic.proofs.Sweeping.{sums_demand_nothing}
 use Rattle.ca_symbolic.proofs.walk.run_loop.Goals as goal
 

@@ -8,7 +8,8 @@ use Rattle.ca_forms.specs.Lists.{polynomial_of}
 use Rattle.ca_forms.specs.Compare.{monomial_cmp}
 use Rattle.ca_forms.proofs.Exact.{monomials_exact}
 use Rattle.ca_verdicts.specs.clauses.Marks.{products_at, summed_up, condition_of}
-use Rattle.ca_verdicts.proofs.MarkSums.{adds_times, adds_none}
+use Rattle.ca_verdicts.proofs.MarkSums.{adds_none}
+use Rattle.ca_forms.proofs.Gathered.{adds_factor}
 use Rattle.ca_verdicts.proofs.sums.sum_of.Goals as goal
 
 pub loop-mark-preserved : goal.loop-mark-preserved
@@ -21,7 +22,7 @@ loop-mark-preserved c =
       λ end t. c.loop-mark.invariant.1 end
           (subst (λ z. AddsSum c.loop-mark.form.entries end 1 (summed_up (map condition_of c.args.groups.now) z)) (sym step)
           (adds_both c.loop-mark.form.entries c.add_condition.new.form.entries end 1 (scale m.1 (products_at (map condition_of c.args.groups.now) m.0)) (summed_up (map condition_of c.args.groups.now) rest)
-          (adds_times c.loop-mark.form.entries c.add_condition.new.form.entries m.1 (products_at (map condition_of c.args.groups.now) m.0) c.in_ok-add_condition.ensures.added) t)),
+          (adds_factor c.loop-mark.form.entries c.add_condition.new.form.entries m.1 (products_at (map condition_of c.args.groups.now) m.0) c.in_ok-add_condition.ensures.added) t)),
     )
 
 pub returns : goal.returns

@@ -2,7 +2,8 @@ use Rattle.std.proofs.Common.{◌∙◌, refl, sym, ap, subst, true≢false}
 use Rattle.std.specs.Prelude.{slice_get}
 use Rattle.ca_model.specs.Heaps.{HasSlot, stored}
 use Rattle.ca_run.specs.Puts.{before}
-use Rattle.ca_run.proofs.Restoring.{object_there, put_undone_by}
+use Rattle.ca_run.proofs.Restoring.{put_undone_by}
+use Rattle.ca_model.proofs.Stores.{object_there}
 use Rattle.ca_run.proofs.puts.Kept.put.Goals as goal
 
 pub returns-then-not-has_slot : goal.returns-then-not-has_slot

@@ -1,14 +1,12 @@
-use Rattle.std.proofs.Common.{◌≡◌, length, refl, ap, arith, Global}
-use Rattle.std.specs.declared.vec.Vec.{Vec}
-use Rattle.ca_parallel.specs.declared.op.Op.{Op}
-use Rattle.ca_sections.proofs.Settling.{settled_added, settled_moved, settled_empty}
+use Rattle.std.proofs.Common.{refl}
+use Rattle.ca_sections.specs.Running.{fore_in}
+use Rattle.ca_sections.proofs.Settling.{settled_as, settled_whole}
 use Rattle.ca_sections.proofs.access.InSection.settle.Goals as goal
 
-pub returns-then-len-eq0 : goal.returns-then-len-eq0
-returns-then-len-eq0 c =
-    let none : length c.args.self.now.listed.now.items ≡ 0 = omega arith in
+pub returns-in-Ok : goal.returns-in-Ok
+returns-in-Ok c =
     record {
-      settled = settled_empty c.args.ran _ _ c.args.budget c.args.left c.args.self.now c.args.self.now.slots.now c.args.out.now.items c.in-Ok.is c.saturating_sub-steps.ensures refl none;
+      settled = settled_whole c.args.ran _ _ c.args.budget c.args.left c.args.self.now c.args.self.now.slots.now _ c.in-Ok.is c.saturating_sub-steps.ensures refl refl;
       kept = tt;
       olds = λ steps e. refl;
       same_slots = refl;
@@ -17,27 +15,18 @@ returns-then-len-eq0 c =
       same_spare = refl;
     }
 
-pub returns-then-len-eq0-2 : goal.returns-then-len-eq0-2
-returns-then-len-eq0-2 c =
-    let none : length c.args.out.now.items ≡ 0 = omega arith in
+pub returns-in-Err : goal.returns-in-Err
+returns-in-Err c =
+    let g = c.give_up.ensures in
     record {
-      settled = settled_moved c.args.ran _ _ c.args.budget c.args.left c.args.self.now c.args.self.now.slots.now c.args.out.now.items _ c.in-Ok.is c.saturating_sub-steps.ensures refl (ap (λ (v : Vec Op Global). v.items) c.swap.ensures.x_after) none;
-      kept = tt;
-      olds = λ steps e. refl;
-      same_slots = refl;
-      same_olds = refl;
-      same_list = refl;
-      same_spare = refl;
+      settled = settled_as c.args.ran c.in-Err.stop c.args.budget c.args.left c.args.self.now c.give_up.new.self.slots.now (fore_in c.args.self.now) c.give_up.new.self.listed.now.items c.give_up.result c.in-Err.is g.settled;
+      kept = g.kept;
+      olds = g.olds;
+      same_slots = g.same_slots;
+      same_olds = g.same_olds;
+      same_list = g.same_list;
+      same_spare = g.same_spare;
     }
 
-pub returns-in-Ok-append : goal.returns-in-Ok-append
-returns-in-Ok-append c =
-    record {
-      settled = settled_added c.args.ran _ _ c.args.budget c.args.left c.args.self.now c.args.self.now.slots.now c.args.out.now.items _ c.in-Ok.is c.saturating_sub-steps.ensures refl c.in-Ok-append.ensures.items;
-      kept = tt;
-      olds = λ steps e. refl;
-      same_slots = refl;
-      same_olds = refl;
-      same_list = refl;
-      same_spare = refl;
-    }
+pub give_up-requires : goal.give_up-requires
+give_up-requires c = record { there = c.requires.there }

@@ -1,9 +1,10 @@
-use Rattle.std.proofs.Common.{◌≡◌, ◌<◌, length, true≢false, get_or, sym, ap, subst, arith}
+use Rattle.std.proofs.Common.{◌≡◌, ◌<◌, ◌≤◌, length, get_or, sym, ap, subst, arith}
 use Rattle.ca_program.specs.Kinds.{kinds_in, param_kind}
 use Rattle.ca_program.specs.Layout.{how_many}
 use Rattle.ca_program.specs.View.{expressions_view, program_view}
 use Rattle.ca_code_laws.specs.Fitting.{AreOf, Takes}
-use Rattle.ca_sections.proofs.Testing.{method_there}
+use Rattle.ca_sections.specs.Fitting.{Finds}
+use Rattle.ca_sections.proofs.Testing.{method_there, none_takes, refuted}
 use Rattle.ca_sections.proofs.fits.Body.invokes.Goals as goal
 
 pub returns-then-place-methods : goal.returns-then-place-methods
@@ -15,8 +16,10 @@ returns-then-place-methods c =
     let x = c.index-methods-place.result in
     let lt : c.args.op.0 < length ms = omega (arith, ap length c.as_slice-methods.ensures.value) in
     let at : x ≡ get_or ms c.args.op.0 x = rw c.as_slice-methods.ensures.value at c.index-methods-place.is in
-    let is = method_there ms c.args.op.0 x lt at in
-    λ ok. subst (λ o. Takes o (how_many es) × AreOf (kinds_in p tys) (λ i. param_kind o i) es) (sym is) (c.fit_params.ensures.takes ok, c.fit_params.ensures.kinds ok)
+    subst (λ o. Finds c.fit_params.result (Takes o (how_many es) × AreOf (kinds_in p tys) (λ i. param_kind o i) es)) (sym (method_there ms c.args.op.0 x lt at)) c.fit_params.ensures
 
 pub returns-else-place-methods : goal.returns-else-place-methods
-returns-else-place-methods c = λ e. absurd (true≢false (sym e))
+returns-else-place-methods c =
+    let ms = c.args.self.now.scope.program.now.ops.items in
+    let le : length ms ≤ c.args.op.0 = omega (arith, ap length c.as_slice-methods.ensures.value) in
+    refuted (λ h. none_takes ms c.args.op.0 (how_many (expressions_view c.args.es.now)) le h.0)

@@ -18,7 +18,7 @@ values-preserved c =
     let back : i ≡ (i - 1) + 1 = omega arith in
     let types = c.args.types.now in
     let values = c.args.values.now in
-    let lt : i - 1 < length values = omega (arith, c.values.invariant.few) in
+    let lt : i - 1 < length values = omega (arith, c.values.invariant.words.few) in
     let in_types : i - 1 < length types = omega (arith, lt) in
     putting_one kind_type types values c.args.self.now c.values.self c.put.new.self i (i - 1) _ _ c.word.result back in_types lt (here_is types (i - 1) _ in_types) (here_is values (i - 1) _ lt)
     (rw c.kind_type.ensures at (sym c.has_kind.ensures ∙ c.if-not-has_kind.false)) (c.put.ensures.put done) c.word.ensures (rw (to_z-of_z w64 c.word.result small) at (c.put.ensures.slots done)) (c.put.ensures.same done) c.values.invariant

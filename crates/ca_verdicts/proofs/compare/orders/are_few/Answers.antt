@@ -3,7 +3,7 @@ use Rattle.std.proofs.lemmas.List.{drop_all}
 use Rattle.ca_symbolic.specs.declared.demand.Group.{Group}
 use Rattle.ca_symbolic.specs.Demanded.{demands_of}
 use Rattle.ca_verdicts.proofs.JoinedGroups.{counted}
-use Rattle.ca_verdicts.proofs.SeenMarks.{at_front}
+use Rattle.ca_forms.proofs.Merging.{item_and_rest}
 use Rattle.ca_verdicts.proofs.compare.orders.are_few.Goals as goal
 
 pub loop-group-init : goal.loop-group-init
@@ -17,7 +17,7 @@ loop-group-preserved c =
     let i : ℕ = c.loop-group.group-index in
     let g : Group = c.group-item.result in
     let rest : List Group = drop (i + 1) gs in
-    let step : drop i gs ≡ g ∷ rest = at_front gs i g c.loop-group-test.true c.group-item.is in
+    let step : drop i gs ≡ g ∷ rest = item_and_rest gs i g c.loop-group-test.true c.group-item.is in
     let before : c.loop-group.count + length (demands_of (g ∷ rest)) ≡ length (demands_of gs) = subst (λ z. c.loop-group.count + length (demands_of z) ≡ length (demands_of gs)) step c.loop-group.invariant.0 in
     let all : c.in-Some.sum + length (demands_of rest) ≡ length (demands_of gs) = omega (arith, before, c.in-Some.ensures.1, c.len.ensures, g.items.ok.0, counted g rest) in
     (all, omega (arith, c.in-Some.ensures.0, c.in-Some.ensures.1))

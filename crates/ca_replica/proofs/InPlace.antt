@@ -1,0 +1,404 @@
+-- What a run on copies reads and puts is what it reads and puts in the heap of sums.
+use Rattle.std.proofs.Common.{◌≡◌, ◌≢◌, ◌<◌, ◌≤◌, ◌⊎◌, inl, inr, ⊎_elim, ℕ, zero, suc, ◌+◌, List, [], ◌∷◌, ◌++◌, length, drop, get_or, Option, Some, None, Result, Ok, Err, IfOk, refl, ap, sym, subst, ◌∙◌, arith, Bool, true, false, true≢false}
+use Rattle.std.specs.Prelude.{slice_get, slice_set, Contains, OnErr, is_some}
+use Rattle.std.proofs.lemmas.Bool.{cases_lt}
+use Rattle.std.proofs.lemmas.List.{get_or_default}
+use Rattle.std.proofs.lemmas.List.Elements.{Contains-append_cases}
+use Rattle.ca_program.specs.declared.program.ClassId.{ClassId}
+use Rattle.ca_program.specs.declared.program.FieldId.{FieldId}
+use Rattle.ca_program.specs.Plain.{PlainProgram}
+use Rattle.ca_model.specs.declared.value.Value.{Value as Datum}
+use Rattle.ca_model.specs.declared.value.Value.TheVariants.{Long, Bool as Truth, Null, Ref}
+use Rattle.ca_model.specs.declared.value.Slot.{Slot}
+use Rattle.ca_model.specs.declared.value.Slot.TheVariants.{One, Many}
+use Rattle.ca_model.specs.declared.value.Object.{Object}
+use Rattle.ca_model.specs.Heaps.{HasSlot, stored}
+use Rattle.ca_model.specs.Slots.{HasItem}
+use Rattle.ca_model.proofs.Stores.{stored_is}
+use Rattle.ca_meaning.specs.Agree.{AgreesAt}
+use Rattle.ca_meaning.specs.Expressions.{one_in, slot_of, slots_in}
+use Rattle.ca_parallel.specs.Extents.{Extent}
+use Rattle.ca_section.specs.Olds.{item_in}
+use Rattle.ca_section.specs.Offences.{is_written}
+use Rattle.ca_section.proofs.Fields.{written_decided}
+use Rattle.ca_order_laws.specs.Order.{StandsFor}
+use Rattle.ca_order_laws.proofs.Decided.{decide_nat}
+use Rattle.ca_order_laws.proofs.Frozen.{there_too}
+use Rattle.ca_order_laws.proofs.Grown.{none_of, single_is}
+use Rattle.ca_order_laws.proofs.Places.{get_else, one_some}
+use Rattle.ca_order_laws.proofs.Puts.{slot_else}
+use Rattle.ca_order_laws.proofs.Weights.{Decides, equal, other}
+use Rattle.ca_beside.specs.declared.beside.Changed.{Changed}
+use Rattle.ca_beside.specs.Beside.{present, AreDistinct, IsAbsent, IsPlace, with_value}
+use Rattle.ca_beside.proofs.Present.{changed, front, found_object, past_none, present_absent, present_at, present_length, present_set, set_at, set_past}
+use Rattle.ca_run.specs.declared.puts.Put.{Put}
+use Rattle.ca_run.specs.Puts.{put_back, restored}
+use Rattle.ca_run.proofs.Restoring.{put_back_there, put_back_nowhere, put_undone_by}
+use Rattle.ca_replica.specs.Zeroed.{zeroed, zeroed_field, zeroed_slot, zeroed_heap}
+use Rattle.ca_replica.specs.Applied.{sums}
+use Rattle.ca_replica.specs.Calls.{Marks}
+use Rattle.ca_replica.specs.InPlace.{mark_in, zero_value, KeepsConstants, HasCopy, AllHave, Keeps}
+use Rattle.ca_replica.proofs.Beginning.{free_absent}
+use Rattle.ca_replica.proofs.Copying.{zeroed_at}
+use Rattle.ca_replica.proofs.Steps.{drop_next, drop_end}
+use Rattle.ca_replica.proofs.Sums.{zero_absent, zero_one, zero_here, zero_else, chosen_here, chosen_else, zeroed_many}
+
+abbrev pub field_at : ClassId → ℕ → FieldId
+field_at c g = record { class = c; field = g }
+
+-- ---- marks
+
+-- a number that isn't marked is that of no field that is written
+pub unmarked : (written : List FieldId) (marks : List (Option ClassId)) (g : ℕ) → Marks written marks → is_some (mark_in (slice_get marks g)) ≡ false → (c : ClassId) → ¬ Contains written (field_at c g)
+unmarked written marks g m e c k = let at = m.all (field_at c g) k in true≢false (sym (ap (λ z. is_some (mark_in z)) at.1) ∙ e)
+
+-- a mark is the class of a field that is written
+pub marked_so : (written : List FieldId) (marks : List (Option ClassId)) (g : ℕ) (c : ClassId) → Marks written marks → mark_in (slice_get marks g) ≡ Some c → Contains written (field_at c g)
+marked_so written marks g c m e = m.only g c (from (slice_get marks g) e)
+  where
+    from : (z : Option (Option ClassId)) → mark_in z ≡ Some c → z ≡ Some (Some c)
+    from None e = cc
+    from (Some k) e = ap Some e
+
+-- so is the field of each class with the same number
+pub same_class : (written : List FieldId) (g : ℕ) (c d : ClassId) → c.0 ≡ d.0 → Contains written (field_at c g) → Contains written (field_at d g)
+same_class written g c d same at = subst (λ k. Contains written (field_at k g)) (ap class_of same) at
+  where
+    class_of : ℕ → ClassId
+    class_of n = record { 0 = n }
+
+-- the test tells whether a field is written
+pub not_written : (written : List FieldId) (f : FieldId) → is_written written f ≡ false → ¬ Contains written f
+not_written written f e k = true≢false (sym (let d = written_decided written f in d.1 k) ∙ e)
+
+pub yes_written : (written : List FieldId) (f : FieldId) → is_written written f ≡ true → Contains written f
+yes_written written f e = let d = written_decided written f in d.0 e
+
+-- ---- an object with 0 in what is written
+
+zero_twice : (s : Option Slot) → zero_one (zero_one s) ≡ zero_one s
+zero_twice None = refl
+zero_twice (Some (One (Long n))) = refl
+zero_twice (Some (One (Truth b))) = refl
+zero_twice (Some (One Null)) = refl
+zero_twice (Some (One (Ref n))) = refl
+zero_twice (Some (Many vs)) = refl
+
+-- one field of the list
+zero_field : (f : FieldId) (o : Object) (g : ℕ) → (slice_get (let z : Object = zeroed_field f o in z.slots) g ≡ slice_get o.slots g) ⊎ (slice_get (let z : Object = zeroed_field f o in z.slots) g ≡ zero_one (slice_get o.slots g))
+zero_field f o g = from (decide_nat f.class.0 o.class.0) (decide_nat f.field g)
+  where
+    from : Decides f.class.0 o.class.0 → Decides f.field g → (slice_get (let z : Object = zeroed_field f o in z.slots) g ≡ slice_get o.slots g) ⊎ (slice_get (let z : Object = zeroed_field f o in z.slots) g ≡ zero_one (slice_get o.slots g))
+    from (equal e) (equal d) = inr (ap (λ z. slice_get z g) (chosen_here f o.class o.slots (zeroed_slot f.field o.slots) e) ∙ subst (λ k. slice_get (zeroed_slot f.field o.slots) k ≡ zero_one (slice_get o.slots k)) d (zero_here f.field o.slots))
+    from (equal e) (other n) = inl (chosen_else f o.class g o.slots (zeroed_slot f.field o.slots) (λ z. n z.1) (λ ne. zero_else f.field g o.slots ne))
+    from (other n) d = inl (chosen_else f o.class g o.slots (zeroed_slot f.field o.slots) (λ z. n z.0) (λ ne. zero_else f.field g o.slots ne))
+
+-- what is 0 stays so
+zero_stays : (fs : List FieldId) (o : Object) (g : ℕ) → slice_get o.slots g ≡ zero_one (slice_get o.slots g) → slice_get (let z : Object = zeroed fs o in z.slots) g ≡ slice_get o.slots g
+zero_stays [] o g is = refl
+zero_stays (f ∷ fs) o g is = from (zero_field f o g) (λ e. zero_stays fs (zeroed_field f o) g e)
+  where
+    next : Object
+    next = zeroed_field f o
+
+    from : (slice_get next.slots g ≡ slice_get o.slots g) ⊎ (slice_get next.slots g ≡ zero_one (slice_get o.slots g)) → (slice_get next.slots g ≡ zero_one (slice_get next.slots g) → slice_get (let z : Object = zeroed fs next in z.slots) g ≡ slice_get next.slots g) → slice_get (let z : Object = zeroed fs next in z.slots) g ≡ slice_get o.slots g
+    from (inl e) rest = rest (e ∙ (is ∙ ap zero_one (sym e))) ∙ e
+    from (inr d) rest = let e : slice_get next.slots g ≡ slice_get o.slots g = d ∙ sym is in rest (e ∙ (is ∙ ap zero_one (sym e))) ∙ e
+
+-- a number that is written is 0
+pub zero_there : (fs : List FieldId) (o : Object) (g : ℕ) → Contains fs (field_at o.class g) → slice_get (let z : Object = zeroed fs o in z.slots) g ≡ zero_one (slice_get o.slots g)
+zero_there [] o g k = absurd (none_of _ k)
+zero_there (f ∷ fs) o g k = ⊎_elim here (λ c. zero_there fs (zeroed_field f o) g c ∙ from (zero_field f o g)) (Contains-append_cases (f ∷ []) fs (field_at o.class g) k)
+  where
+    next : Object
+    next = zeroed_field f o
+
+    here : Contains (f ∷ []) (field_at o.class g) → slice_get (let z : Object = zeroed fs next in z.slots) g ≡ zero_one (slice_get o.slots g)
+    here c =
+        let same : f ≡ field_at o.class g = single_is f (field_at o.class g) c in
+        let class : f.class.0 ≡ o.class.0 = ap (λ (z : FieldId). z.class.0) same in
+        let field : f.field ≡ g = ap (λ (z : FieldId). z.field) same in
+        let is : slice_get next.slots g ≡ zero_one (slice_get o.slots g) =
+        ap (λ z. slice_get z g) (chosen_here f o.class o.slots (zeroed_slot f.field o.slots) class) ∙ subst (λ k. slice_get (zeroed_slot f.field o.slots) k ≡ zero_one (slice_get o.slots k)) field (zero_here f.field o.slots) in
+        zero_stays fs next g (is ∙ (sym (zero_twice (slice_get o.slots g)) ∙ ap zero_one (sym is))) ∙ is
+
+    from : (slice_get next.slots g ≡ slice_get o.slots g) ⊎ (slice_get next.slots g ≡ zero_one (slice_get o.slots g)) → zero_one (slice_get next.slots g) ≡ zero_one (slice_get o.slots g)
+    from (inl e) = ap zero_one e
+    from (inr e) = ap zero_one e ∙ zero_twice (slice_get o.slots g)
+
+one_zeroed : (s : Option Slot) → one_in (zero_one s) ≡ zero_value (one_in s)
+one_zeroed None = refl
+one_zeroed (Some (One (Long n))) = refl
+one_zeroed (Some (One (Truth b))) = refl
+one_zeroed (Some (One Null)) = refl
+one_zeroed (Some (One (Ref n))) = refl
+one_zeroed (Some (Many vs)) = refl
+
+-- so its single value is 0, if it was a number
+pub value_zeroed : (written : List FieldId) (o : Object) (g : ℕ) (v : Datum) → v ≡ one_in (slice_get o.slots g) → is_written written (field_at o.class g) ≡ true → zero_value v ≡ one_in (slice_get (slots_in (Some (zeroed written o))) g)
+value_zeroed written o g v is e =
+    ap zero_value is ∙ (sym (one_zeroed (slice_get o.slots g)) ∙ ap one_in (sym (zero_there written o g (yes_written written (field_at o.class g) e))))
+
+-- and the value of any other field is as it was
+pub value_stays : (written : List FieldId) (o : Object) (g : ℕ) (v : Datum) → v ≡ one_in (slice_get o.slots g) → is_written written (field_at o.class g) ≡ false → v ≡ one_in (slice_get (slots_in (Some (zeroed written o))) g)
+value_stays written o g v is e =
+    is ∙ ap one_in (sym (zero_absent written o g (free_absent written o.class g (not_written written (field_at o.class g) e))))
+
+-- ---- the heap of sums
+
+pub sums_many : (written : List FieldId) (frozen : List Object) (cs : List Changed) → length (sums written frozen cs) ≡ length frozen
+sums_many written frozen cs = present_length (zeroed_heap written frozen) cs ∙ zeroed_many written frozen
+
+-- an object that has a copy
+pub copy_there : (written : List FieldId) (frozen : List Object) (cs : List Changed) → AreDistinct cs → (i n : ℕ) (o : Object) → n < length frozen → slice_get cs i ≡ Some (changed n o) → slice_get (sums written frozen cs) n ≡ Some o
+copy_there written frozen cs d i n o lt e =
+    let first = found_object (zeroed_heap written frozen) n (let many : length (zeroed_heap written frozen) ≡ length frozen = zeroed_many written frozen in omega (arith, lt, many)) in
+    present_at (zeroed_heap written frozen) cs d i (changed n o) e first.0 first.1
+
+-- and one that has none
+pub no_copy : (written : List FieldId) (frozen : List Object) (cs : List Changed) (n : ℕ) (o : Object) → IsAbsent cs n → slice_get frozen n ≡ Some o → slice_get (sums written frozen cs) n ≡ Some (zeroed written o)
+no_copy written frozen cs n o a there = present_absent (zeroed_heap written frozen) cs n a ∙ zeroed_at written frozen n o there
+
+past : {A : Type 0} (xs : List A) (n : ℕ) → length xs ≤ n → slice_get xs n ≡ None
+past [] n le = cc
+past (x ∷ xs) zero le = absurd (omega (arith, le))
+past (x ∷ xs) (suc n) le = past xs n (omega (arith, le))
+
+-- an object that isn't there has no value
+pub none_past : (written : List FieldId) (frozen : List Object) (cs : List Changed) (n : ℕ) (f : FieldId) → length frozen ≤ n → slot_of (sums written frozen cs) n f ≡ None
+none_past written frozen cs n f le =
+    let many : length (sums written frozen cs) ≡ length frozen = sums_many written frozen cs in
+    ap (λ z. slice_get (slots_in z) f.field) (past (sums written frozen cs) n (omega (arith, le, many))) ∙ empty f.field
+  where
+    empty : (g : ℕ) → slice_get (slots_in None) g ≡ None
+    empty g = cc
+
+-- what isn't written is the same in the frozen heap
+pub slot_same : (written : List FieldId) (frozen h : List Object) → length h ≡ length frozen → KeepsConstants written frozen h → (n : ℕ) (f : FieldId) → ((o : Object) → slice_get frozen n ≡ Some o → ¬ Contains written (field_at o.class f.field)) → slot_of frozen n f ≡ slot_of h n f
+slot_same written frozen h many k n f free = ⊎_elim within behind (cases_lt n (length frozen))
+  where
+    within : n < length frozen → slot_of frozen n f ≡ slot_of h n f
+    within lt =
+        let o = found_object frozen n lt in
+        ap (λ z. slice_get (slots_in z) f.field) o.1 ∙ sym (k n o.0 f.field o.1 (free o.0 o.1))
+
+    behind : length frozen ≤ n → slot_of frozen n f ≡ slot_of h n f
+    behind le = ap (λ z. slice_get (slots_in z) f.field) (past frozen n le ∙ sym (past h n (omega (arith, le, many))))
+
+-- at first all is so
+pub constants_first : (p : PlainProgram) (x : Extent) (frozen h : List Object) → StandsFor p x frozen h → KeepsConstants x.written frozen h
+constants_first p x frozen h s n o g there free =
+    let q = there_too h frozen s.agree.as_many n o there in
+    let a : AgreesAt x.written q.0 frozen n = s.agree.each n q.0 q.1 in
+    let same : a.other ≡ o = one_some _ a.other o a.there there in
+    let class : o.class ≡ (let z : Object = q.0 in z.class) = sym (a.agree.class ∙ ap (λ (z : Object). z.class) same) in
+    ap (λ z. slice_get (slots_in z) g) q.1 ∙ (a.agree.constants (field_at o.class g) class free ∙ ap (λ (z : Object). slice_get z.slots g) same)
+
+stored_other : (h : List Object) (n m f i : ℕ) (v : Datum) → n ≢ m → slice_get (stored h n f i v) m ≡ slice_get h m
+stored_other [] n m f i v ne = refl
+stored_other (x ∷ h) zero zero f i v ne = absurd (ne refl)
+stored_other (x ∷ h) zero (suc m) f i v ne = refl
+stored_other (x ∷ h) (suc n) zero f i v ne = refl
+stored_other (x ∷ h) (suc n) (suc m) f i v ne = stored_other h n m f i v (λ e. ne (ap suc e))
+
+stored_else : (h : List Object) (n f i : ℕ) (v : Datum) (g : ℕ) → f ≢ g → slice_get (slots_in (slice_get (stored h n f i v) n)) g ≡ slice_get (slots_in (slice_get h n)) g
+stored_else [] n f i v g ne = refl
+stored_else (x ∷ h) zero f i v g ne = slot_else x.slots f i v g ne
+stored_else (x ∷ h) (suc n) f i v g ne = stored_else h n f i v g ne
+
+stored_past : (h : List Object) (n f i : ℕ) (v : Datum) → length h ≤ n → stored h n f i v ≡ h
+stored_past [] n f i v le = refl
+stored_past (x ∷ h) zero f i v le = absurd (omega (arith, le))
+stored_past (x ∷ h) (suc n) f i v le = ap (λ l. x ∷ l) (stored_past h n f i v (omega (arith, le)))
+
+-- a put to what is written changes nothing else
+pub constants_put : (written : List FieldId) (frozen h : List Object) (n g i : ℕ) (v : Datum) (o : Object) → slice_get frozen n ≡ Some o → Contains written (field_at o.class g) → KeepsConstants written frozen h → KeepsConstants written frozen (stored h n g i v)
+constants_put written frozen h n g i v o there at k m q f found free = from (decide_nat n m) (decide_nat g f)
+  where
+    from : Decides n m → Decides g f → slice_get (slots_in (slice_get (stored h n g i v) m)) f ≡ slice_get q.slots f
+    from (other ne) d = ap (λ z. slice_get (slots_in z) f) (stored_other h n m g i v ne) ∙ k m q f found free
+    from (equal e) (other ne) =
+        subst (λ j. slice_get (slots_in (slice_get (stored h n g i v) j)) f ≡ slice_get (slots_in (slice_get h j)) f) e (stored_else h n g i v f ne) ∙ k m q f found free
+    from (equal e) (equal d) =
+        let same : o ≡ q = one_some (slice_get frozen m) o q (subst (λ j. slice_get frozen j ≡ Some o) e there) found in
+        absurd (free (subst (λ j. Contains written (field_at q.class j)) d (subst (λ (z : Object). Contains written (field_at z.class g)) same at)))
+
+-- ---- puts to copies
+
+-- a put to a copy is one to the heap for which the copies stand
+pub present_stored : (h : List Object) (cs : List Changed) → AreDistinct cs → (i n : ℕ) (o : Object) (f j : ℕ) (v : Datum) → slice_get cs i ≡ Some (changed n o) → present h (slice_set cs i (changed n (with_value o f j v))) ≡ stored (present h cs) n f j v
+present_stored h cs d i n o f j v e = present_set h cs d i (changed n o) (with_value o f j v) e ∙ ⊎_elim within behind (cases_lt n (length h))
+  where
+    within : n < length h → slice_set (present h cs) n (with_value o f j v) ≡ stored (present h cs) n f j v
+    within lt =
+        let first = found_object h n lt in
+        stored_is (present h cs) n f j v o (present_at h cs d i (changed n o) e first.0 first.1)
+
+    behind : length h ≤ n → slice_set (present h cs) n (with_value o f j v) ≡ stored (present h cs) n f j v
+    behind le =
+        let many : length (present h cs) ≡ length h = present_length h cs in
+        let far : length (present h cs) ≤ n = omega (arith, le, many) in
+        set_past (present h cs) n (with_value o f j v) far ∙ sym (stored_past (present h cs) n f j v far)
+
+-- the old value undoes it
+pub put_kept : (h : List Object) (cs new : List Changed) → AreDistinct cs → (i n : ℕ) (o : Object) (f j : ℕ) (v w : Datum) (olds all : List Put) → n < length h → slice_get cs i ≡ Some (changed n o) → new ≡ slice_set cs i (changed n (with_value o f j v)) → HasItem (slice_get o.slots f) j → w ≡ item_in (slice_get o.slots f) j → all ≡ record { object = n; field = f; item = j; value = w } ∷ olds → restored all (present h new) ≡ restored olds (present h cs)
+put_kept h cs new d i n o f j v w olds all lt e is has was kept =
+    let first = found_object h n lt in
+    let there : slice_get (present h cs) n ≡ Some o = present_at h cs d i (changed n o) e first.0 first.1 in
+    let slot : HasSlot (slice_get (present h cs) n) f j = subst (λ z. HasSlot z f j) (sym there) has in
+    ap (λ os. restored os (present h new)) kept
+    ∙ ap (λ g. restored olds (put_back (record { object = n; field = f; item = j; value = w }) g)) (ap (present h) is ∙ present_stored h cs d i n o f j v e)
+    ∙ ap (restored olds) (put_undone_by (present h cs) o n f j v w slot there was)
+
+-- an old value goes back into its copy
+pub back_there : (h : List Object) (cs new : List Changed) → AreDistinct cs → (i : ℕ) (o : Object) (old : Put) → slice_get cs i ≡ Some (changed old.object o) → new ≡ slice_set cs i (changed old.object (with_value o old.field old.item old.value)) → HasItem (slice_get o.slots old.field) old.item → present h new ≡ put_back old (present h cs)
+back_there h cs new d i o old e is has = ap (present h) is ∙ (present_stored h cs d i old.object o old.field old.item old.value e ∙ ⊎_elim within behind (cases_lt old.object (length h)))
+  where
+    within : old.object < length h → stored (present h cs) old.object old.field old.item old.value ≡ put_back old (present h cs)
+    within lt =
+        let first = found_object h old.object lt in
+        let there : slice_get (present h cs) old.object ≡ Some o = present_at h cs d i (changed old.object o) e first.0 first.1 in
+        sym (put_back_there (present h cs) old.object old.field old.item old.value (subst (λ z. HasSlot z old.field old.item) (sym there) has))
+
+    behind : length h ≤ old.object → stored (present h cs) old.object old.field old.item old.value ≡ put_back old (present h cs)
+    behind le =
+        let many : length (present h cs) ≡ length h = present_length h cs in
+        let far : length (present h cs) ≤ old.object = omega (arith, le, many) in
+        stored_past (present h cs) old.object old.field old.item old.value far ∙ put_back_nowhere (present h cs) old (λ s. subst (λ z. HasSlot z old.field old.item) (past (present h cs) old.object far) s)
+
+-- where the copy has no such item, none goes back
+pub back_nowhere : (h : List Object) (cs : List Changed) → AreDistinct cs → (i : ℕ) (o : Object) (old : Put) → slice_get cs i ≡ Some (changed old.object o) → ¬ HasItem (slice_get o.slots old.field) old.item → present h cs ≡ put_back old (present h cs)
+back_nowhere h cs d i o old e hasnt = put_back_nowhere (present h cs) old (λ s. ⊎_elim (within s) (behind s) (cases_lt old.object (length h)))
+  where
+    within : HasSlot (slice_get (present h cs) old.object) old.field old.item → old.object < length h → ⊥
+    within s lt =
+        let first = found_object h old.object lt in
+        hasnt (subst (λ z. HasSlot z old.field old.item) (present_at h cs d i (changed old.object o) e first.0 first.1) s)
+
+    behind : HasSlot (slice_get (present h cs) old.object) old.field old.item → length h ≤ old.object → ⊥
+    behind s le =
+        let many : length (present h cs) ≡ length h = present_length h cs in
+        subst (λ z. HasSlot z old.field old.item) (past (present h cs) old.object (omega (arith, le, many))) s
+
+-- ---- copies stay
+
+pub copy_is : (cs : List Changed) (n : ℕ) → IsAbsent cs n → HasCopy cs n → ⊥
+copy_is cs n a has = let at : IsPlace cs has.0 n = has.1 in a has.0 (changed n at.object) at.there refl
+
+pub has_after_put : (cs : List Changed) (i n : ℕ) (o q : Object) → slice_get cs i ≡ Some (changed n o) → (m : ℕ) → HasCopy cs m → HasCopy (slice_set cs i (changed n q)) m
+has_after_put cs i n o q e m has = from (decide_nat i has.0)
+  where
+    at : IsPlace cs has.0 m
+    at = has.1
+
+    within : (xs : List Changed) (k : ℕ) (c : Changed) → slice_get xs k ≡ Some c → k < length xs
+    within xs k c e = ⊎_elim (λ lt. lt) (λ le. absurd (past_none xs k c le e)) (cases_lt k (length xs))
+
+    from : Decides i has.0 → HasCopy (slice_set cs i (changed n q)) m
+    from (other ne) = (has.0, record { object = at.object; there = get_else cs i has.0 (changed n q) ne ∙ at.there })
+    from (equal same) =
+        let both : changed n o ≡ changed m at.object = one_some (slice_get cs has.0) (changed n o) (changed m at.object) (subst (λ k. slice_get cs k ≡ Some (changed n o)) same e) at.there in
+        let number : n ≡ m = ap (λ (z : Changed). z.number) both in
+        (i, record { object = q; there = set_at cs i (changed n q) (within cs i (changed n o) e) ∙ ap (λ k. Some (changed k q)) number })
+
+pub has_after_add : (cs : List Changed) (c : Changed) (m : ℕ) → HasCopy cs m → HasCopy (cs ++ c ∷ []) m
+has_after_add cs c m has = let at : IsPlace cs has.0 m = has.1 in (has.0, record { object = at.object; there = front cs (c ∷ []) has.0 (changed m at.object) at.there })
+
+pub all_have_on : (cs ds : List Changed) → ((m : ℕ) → HasCopy cs m → HasCopy ds m) → (os : List Put) → AllHave os cs → AllHave os ds
+all_have_on cs ds f [] a = tt
+all_have_on cs ds f (o ∷ os) a = (f o.object a.0, all_have_on cs ds f os a.1)
+
+-- with one old value more
+pub all_have_more : (cs ds : List Changed) (os all : List Put) (o : Put) → ((m : ℕ) → HasCopy cs m → HasCopy ds m) → all ≡ o ∷ os → HasCopy cs o.object → AllHave os cs → AllHave all ds
+all_have_more cs ds os all o f is has a = subst (λ z. AllHave z ds) (sym is) (f o.object has, all_have_on cs ds f os a)
+
+-- what is known stays where the sums do
+pub keeps_same : (written : List FieldId) (frozen : List Object) (marks : List (Option ClassId)) (cs ds : List Changed) (os : List Put) → sums written frozen ds ≡ sums written frozen cs → ((m : ℕ) → HasCopy cs m → HasCopy ds m) → Keeps written frozen marks cs os → Keeps written frozen marks ds os
+keeps_same written frozen marks cs ds os same has k = record {
+  marked = k.marked;
+  constants = subst (KeepsConstants written frozen) (sym same) k.constants;
+  there = all_have_on cs ds has os k.there;
+}
+
+-- and behind a put to what is written
+pub keeps_put : (written : List FieldId) (frozen : List Object) (marks : List (Option ClassId)) (cs mid ds : List Changed) (os all : List Put) (n g i : ℕ) (v : Datum) (o : Object) (b : Bool) → slice_get frozen n ≡ Some o → Contains written (field_at o.class g)
+    → sums written frozen mid ≡ sums written frozen cs → ((m : ℕ) → HasCopy cs m → HasCopy mid m) → (b ≡ true → sums written frozen ds ≡ stored (sums written frozen mid) n g i v) → (b ≡ false → ds ≡ mid) → (AllHave os mid → AllHave all ds)
+    → Keeps written frozen marks cs os → Keeps written frozen marks ds all
+keeps_put written frozen marks cs mid ds os all n g i v o true there at same has put not all_there k = record {
+  marked = k.marked;
+  constants = subst (KeepsConstants written frozen) (sym (put refl ∙ ap (λ h. stored h n g i v) same)) (constants_put written frozen (sums written frozen cs) n g i v o there at k.constants);
+  there = all_there (all_have_on cs mid has os k.there);
+}
+keeps_put written frozen marks cs mid ds os all n g i v o false there at same has put not all_there k = record {
+  marked = k.marked;
+  constants = subst (KeepsConstants written frozen) (sym (ap (sums written frozen) (not refl) ∙ same)) k.constants;
+  there = all_there (all_have_on cs mid has os k.there);
+}
+
+-- a copy that is added takes none away
+pub has_added : {E : Type 0} (r : Result ℕ E) (cs mid new : List Changed) (n : ℕ) (o : Object) → mid ≡ cs → IfOk r (λ _. new ≡ mid ++ changed n o ∷ []) → OnErr r (new ≡ mid) → (m : ℕ) → HasCopy cs m → HasCopy new m
+has_added (Ok i) cs mid new n o same is kept m has = subst (λ ds. HasCopy ds m) (sym (is ∙ ap (λ ds. ds ++ changed n o ∷ []) same)) (has_after_add cs (changed n o) m has)
+has_added (Err e) cs mid new n o same is kept m has = subst (λ ds. HasCopy ds m) (sym (kept ∙ same)) has
+
+-- ---- marks of a list
+
+-- one place more, without a mark
+pub none_more : (xs : List (Option ClassId)) (n : ℕ) (c : ClassId) → slice_get (xs ++ None ∷ []) n ≡ Some (Some c) → slice_get xs n ≡ Some (Some c)
+none_more [] zero c e = cc
+none_more [] (suc n) c e = cc
+none_more (x ∷ xs) zero c e = e
+none_more (x ∷ xs) (suc n) c e = none_more xs n c e
+
+-- a mark where there was none
+pub set_kept : (xs : List (Option ClassId)) (k n : ℕ) (d c : ClassId) → slice_get xs k ≡ Some None → slice_get xs n ≡ Some (Some c) → slice_get (slice_set xs k (Some d)) n ≡ Some (Some c)
+set_kept [] k n d c none e = cc
+set_kept (x ∷ xs) zero zero d c none e = cc
+set_kept (x ∷ xs) zero (suc n) d c none e = e
+set_kept (x ∷ xs) (suc k) zero d c none e = e
+set_kept (x ∷ xs) (suc k) (suc n) d c none e = set_kept xs k n d c none e
+
+pub set_only : (xs : List (Option ClassId)) (k n : ℕ) (d c : ClassId) → slice_get (slice_set xs k (Some d)) n ≡ Some (Some c) → (slice_get xs n ≡ Some (Some c)) ⊎ ((n ≡ k) × (c ≡ d))
+set_only [] k n d c e = inl e
+set_only (x ∷ xs) zero zero d c e = inr (refl, let same : d ≡ c = cc in sym same)
+set_only (x ∷ xs) zero (suc n) d c e = inl e
+set_only (x ∷ xs) (suc k) zero d c e = inl e
+set_only (x ∷ xs) (suc k) (suc n) d c e = from (set_only xs k n d c e)
+  where
+    from : (slice_get xs n ≡ Some (Some c)) ⊎ ((n ≡ k) × (c ≡ d)) → (slice_get xs n ≡ Some (Some c)) ⊎ ((suc n ≡ suc k) × (c ≡ d))
+    from (inl e) = inl e
+    from (inr e) = inr (ap suc e.0, e.1)
+
+-- what is marked so far: each field, or it is still to come, and no others
+pub record MarkedSoFar (fs : List FieldId) (i : ℕ) (marks : List (Option ClassId)) : Type 0 where
+  pub all : (f : FieldId) → Contains fs f → ((c : ClassId) × (slice_get marks f.field ≡ Some (Some c))) ⊎ Contains (drop i fs) f
+  pub only : (g : ℕ) (c : ClassId) → slice_get marks g ≡ Some (Some c) → Contains fs (field_at c g)
+
+pub none_marked : (fs : List FieldId) → MarkedSoFar fs 0 []
+none_marked fs = record { all = λ f k. inr k; only = λ g c e. cc }
+
+pub marked_more : (fs : List FieldId) (i : ℕ) (d : FieldId) (old new : List (Option ClassId)) → i < length fs → d ≡ get_or fs i d → ((n : ℕ) (c : ClassId) → slice_get old n ≡ Some (Some c) → slice_get new n ≡ Some (Some c))
+    → ((n : ℕ) (c : ClassId) → slice_get new n ≡ Some (Some c) → (slice_get old n ≡ Some (Some c)) ⊎ ((n ≡ d.field) × (c ≡ d.class))) → (c : ClassId) × (slice_get new d.field ≡ Some (Some c)) → MarkedSoFar fs i old → MarkedSoFar fs (i + 1) new
+marked_more fs i d old new lt is kept only marked m = record { all = λ f k. from f (m.all f k); only = λ g c e. back g c (only g c e) }
+  where
+    from : (f : FieldId) → ((c : ClassId) × (slice_get old f.field ≡ Some (Some c))) ⊎ Contains (drop i fs) f → ((c : ClassId) × (slice_get new f.field ≡ Some (Some c))) ⊎ Contains (drop (i + 1) fs) f
+    from f (inl e) = inl (e.0, kept f.field e.0 e.1)
+    from f (inr k) = ⊎_elim
+        (λ b. inl (subst (λ (z : FieldId). (c : ClassId) × (slice_get new z.field ≡ Some (Some c))) (is ∙ single_is (get_or fs i d) f b) marked))
+        (λ b. inr b) (Contains-append_cases (get_or fs i d ∷ []) (drop (i + 1) fs) f (subst (λ z. Contains z f) (drop_next fs i d lt) k))
+
+    here : Contains fs d
+    here = (i, lt, sym is)
+
+    back : (g : ℕ) (c : ClassId) → (slice_get old g ≡ Some (Some c)) ⊎ ((g ≡ d.field) × (c ≡ d.class)) → Contains fs (field_at c g)
+    back g c (inl e) = m.only g c e
+    back g c (inr e) = subst (λ z. Contains fs z) (sym (ap (λ k. field_at k g) e.1 ∙ ap (λ k. field_at d.class k) e.0)) here
+
+-- the same, where the field is read by its index
+pub marked_more_at : (fs : List FieldId) (i : ℕ) (d : FieldId) (old new : List (Option ClassId)) → i < length fs → ((n : ℕ) (c : ClassId) → slice_get old n ≡ Some (Some c) → slice_get new n ≡ Some (Some c))
+    → ((n : ℕ) (c : ClassId) → slice_get new n ≡ Some (Some c) → (slice_get old n ≡ Some (Some c)) ⊎ ((n ≡ (let z : FieldId = get_or fs i d in z.field)) × (c ≡ (let z : FieldId = get_or fs i d in z.class))))
+    → (c : ClassId) × (slice_get new (let z : FieldId = get_or fs i d in z.field) ≡ Some (Some c)) → MarkedSoFar fs i old → MarkedSoFar fs (i + 1) new
+marked_more_at fs i d old new lt = marked_more fs i (get_or fs i d) old new lt (get_or_default fs i d (get_or fs i d) lt)
+
+-- none is to come any more
+pub all_marked : (fs : List FieldId) (i : ℕ) (marks : List (Option ClassId)) → length fs ≤ i → MarkedSoFar fs i marks → Marks fs marks
+all_marked fs i marks le m = record { all = λ f k. ⊎_elim (λ e. e) (λ b. absurd (none_of f (subst (λ z. Contains z f) (drop_end fs i le) b))) (m.all f k); only = m.only }

@@ -1,0 +1,19 @@
+-- A call with all that it leads to, run on a replica.
+use Rattle.std.specs.Prelude.{ℕ, ◌≡◌, List, [], ◌∷◌, Contains, Option, Some, None, slice_get}
+use Rattle.ca_program.specs.declared.program.ClassId.{ClassId}
+use Rattle.ca_program.specs.declared.program.FieldId.{FieldId}
+use Rattle.ca_program.specs.Plain.{PlainProgram}
+use Rattle.ca_model.specs.declared.value.Object.{Object}
+use Rattle.ca_meaning.specs.Expressions.{Invocation}
+use Rattle.ca_parallel.specs.Calls.{RunsTo}
+
+-- What came of a call within a budget, from one heap of sums to another. Done, in so many steps: its serial run is. Else that isn't,
+-- and the sums are as before.
+abbrev pub Completed : PlainProgram → List Object → Invocation → ℕ → List Object → Option ℕ → Type 0
+Completed p old i left new (Some steps) = RunsTo p old (i ∷ []) left new steps
+Completed p old i left new None = ((after : List Object) (steps : ℕ) → ¬ RunsTo p old (i ∷ []) left after steps) × (new ≡ old)
+
+-- At the number of each of the fields stands the class of one that has it. Elsewhere stands none.
+pub record Marks (fields : List FieldId) (marks : List (Option ClassId)) : Type 0 where
+  pub all : (f : FieldId) → Contains fields f → (c : ClassId) × (slice_get marks f.field ≡ Some (Some c))
+  pub only : (g : ℕ) (c : ClassId) → slice_get marks g ≡ Some (Some c) → Contains fields (record { class = c; field = g })

@@ -1,0 +1,289 @@
+//! Calls that run on a replica, one with all that it leads to, each as an unmarked call runs.
+
+ghost use Rattle.std.specs.Prelude.{◌≡◌, IfOk};
+ghost use Rattle.ca_program.specs.View.{program_view};
+ghost use Rattle.ca_model.specs.Typed.{TypedHeap};
+ghost use Rattle.ca_meaning.specs.ProgramTyped.{ProgramTyped};
+ghost use Rattle.ca_meaning.specs.WellTyped.{WellTyped};
+ghost use Rattle.ca_parallel.specs.Calls.{invocation_of};
+ghost use Rattle.ca_run.specs.InPlace.{CallEnds};
+ghost use Rattle.ca_run.specs.Puts.{restored};
+ghost use Rattle.ca_replica.specs.Applied.{sums};
+ghost use Rattle.ca_replica.specs.InPlace.{AllHave, Keeps};
+
+use crate::marks::stays;
+use crate::values::{own_look, own_value, put_sum};
+use ca_base::{Gate, Memory};
+use ca_beside::Beside;
+use ca_code::Kind;
+use ca_extent::Extent;
+use ca_model::{Heap, Value};
+use ca_parallel::Op;
+use ca_program::{ClassId, FieldId, OpId, Program};
+use ca_run::Puts;
+use ca_sections::Coded;
+use ca_steps::{Access, Frames, Halt, Look, number_of, receiver_of, run_from, sum_of};
+use std::alloc::Global;
+
+/// The world of a run on copies: its heap is that of the sums. What the extent doesn't write is read in the frozen heap, where it is
+/// the same; what it writes is put into copies, which are made at their first puts, and old values are kept. Each call passes the gate.
+#[derive(Drop)]
+pub struct InReplica<'s, G: Gate> {
+    pub program: &'s Program,
+    pub gate: &'s G,
+    pub worker: u32,
+    pub extent: &'s Extent,
+    pub frozen: &'s Heap,
+    pub marks: &'s [Option<ClassId>],
+    pub copies: &'s mut Beside,
+    pub olds: &'s mut Puts,
+}
+
+impl<'s, G: Gate> Access for InReplica<'s, G> {
+    ghost use Rattle.ca_program.specs.View.{program_view};
+    ghost use Rattle.ca_meaning.specs.Serial.{World as RunWorld, in_heap};
+    ghost use Rattle.ca_code_laws.specs.Runs.{run_access};
+    ghost use Rattle.ca_run.specs.Puts.{restored};
+    ghost use Rattle.ca_replica.specs.Applied.{sums};
+    ghost use Rattle.ca_replica.specs.InPlace.{Keeps, Lasting};
+
+    ghost World = { RunWorld };
+
+    ghost Past = { RunWorld };
+
+    ghost world = { λ s past. in_heap past (sums s.extent.now.written s.frozen.now s.copies.now) };
+
+    ghost Fixed = { Lasting };
+
+    ghost fixed = { λ s. record { program = s.program.now; written = s.extent.now.written; frozen = s.frozen.now; marks = s.marks.now; before = restored s.olds.now (sums s.extent.now.written s.frozen.now s.copies.now); copies = s.copies.ghost_name; olds = s.olds.ghost_name } };
+
+    ghost accesses = { λ l. run_access (program_view l.program) };
+
+    ghost Fits = { λ s bs. Keeps s.extent.now.written s.frozen.now s.marks.now s.copies.now s.olds.now };
+
+    ghost at_hand = { λ s. s.frozen.now };
+
+    #[inline(always)]
+    fn enters(&self) -> bool {
+        true
+    }
+
+    #[inline(always)]
+    fn list(
+        &mut self,
+        _op: OpId,
+        _receiver: u32,
+        _kinds: &[Kind],
+        _slots: &[i64],
+        _first: usize,
+    ) -> bool {
+        false
+    }
+
+    #[inline(always)]
+    fn reach(&self, receiver: i64, _start: u32) {
+        if receiver > 0 && receiver <= u32::MAX as i64 {
+            self.gate.inside(self.worker, (receiver - 1) as u32);
+        }
+    }
+
+    #[inline(always)]
+    fn stand(&mut self, _deep: bool) {}
+
+    #[inline(always)]
+    fn own(&self, this: Value, f: FieldId) -> Option<Value> {
+        match this {
+            Value::Ref(n) => Some(own_value(
+                self.marks,
+                self.extent,
+                self.copies,
+                self.frozen,
+                n,
+                f,
+            )),
+            Value::Null => Some(Value::Null),
+            Value::Long(_) => Some(Value::Null),
+            Value::Bool(_) => Some(Value::Null),
+        }
+    }
+
+    #[inline(always)]
+    fn own_item(&self, this: Value, f: FieldId, index: i64) -> Look {
+        match this {
+            Value::Ref(n) => own_look(self.marks, self.extent, self.frozen, n, f, index),
+            Value::Null => Look::Outside,
+            Value::Long(_) => Look::Outside,
+            Value::Bool(_) => Look::Outside,
+        }
+    }
+
+    #[inline(always)]
+    fn heap(&self) -> &Heap {
+        self.frozen
+    }
+
+    #[inline(always)]
+    fn reads(&self, n: usize, f: FieldId) -> bool {
+        stays(self.marks, self.extent, self.frozen, n, f.field)
+    }
+
+    #[inline(always)]
+    fn put(&mut self, this: Value, f: FieldId, item: u32, value: Value) -> bool {
+        match this {
+            Value::Ref(n) => put_sum(
+                self.marks,
+                self.copies,
+                self.olds,
+                self.extent,
+                self.frozen,
+                n,
+                f.field,
+                item,
+                value,
+            ),
+            Value::Null => false,
+            Value::Long(_) => false,
+            Value::Bool(_) => false,
+        }
+    }
+
+    #[inline(always)]
+    fn add(&mut self, this: u32, f: FieldId, n: i64) -> Option<i64> {
+        let Value::Ref(o) = receiver_of(this) else {
+            return None;
+        };
+        let own = own_value(self.marks, self.extent, self.copies, self.frozen, o, f);
+        let Value::Long(a) = own else {
+            return None;
+        };
+        let sum = sum_of(a, n);
+        let is_put = put_sum(
+            self.marks,
+            self.copies,
+            self.olds,
+            self.extent,
+            self.frozen,
+            o,
+            f.field,
+            0,
+            Value::Long(sum),
+        );
+        if is_put { Some(sum) } else { None }
+    }
+}
+
+impl<'s, G: Gate> InReplica<'s, G> {
+    /// The world of a run on these copies.
+    #[inline(always)]
+    fn lent(
+        program: &'s Program,
+        gate: &'s G,
+        worker: u32,
+        extent: &'s Extent,
+        frozen: &'s Heap,
+        marks: &'s [Option<ClassId>],
+        copies: &'s mut Beside,
+        olds: &'s mut Puts,
+    ) -> InReplica<'s, G>
+        ensures program { result.program.now ≡ program.now }
+        ensures extent { result.extent.now ≡ extent.now }
+        ensures frozen { result.frozen.now ≡ frozen.now }
+        ensures marks { result.marks.now ≡ marks.now }
+        ensures copies { result.copies.now ≡ copies.old }
+        ensures olds { result.olds.now ≡ olds.old }
+        ensures same_copies { result.copies.ghost_name ≡ copies.entry.ghost_name }
+        ensures same_olds { result.olds.ghost_name ≡ olds.entry.ghost_name }
+    {
+        InReplica {
+            program,
+            gate,
+            worker,
+            extent,
+            frozen,
+            marks,
+            copies,
+            olds,
+        }
+    }
+}
+
+/// Runs a call within a budget of steps: it leaves so many, or it isn't done. What isn't done may be undone, and so may what wants
+/// memory.
+fn run_call<G: Gate>(
+    alloc: Global,
+    program: &Coded<'_>,
+    access: &mut InReplica<'_, G>,
+    frames: &mut Frames,
+    op: &Op,
+    left: u64,
+) -> Result<Option<u64>, Memory>
+    requires program { ProgramTyped (program_view program.now) }
+    requires same { access.old.program.now ≡ program.now }
+    requires heap { TypedHeap (program_view program.now) (sums access.old.extent.now.written access.old.frozen.now access.old.copies.now) }
+    requires typed { WellTyped (program_view program.now) (sums access.old.extent.now.written access.old.frozen.now access.old.copies.now) (invocation_of op.now) }
+    requires keeps { Keeps access.old.extent.now.written access.old.frozen.now access.old.marks.now access.old.copies.now access.old.olds.now }
+    ensures ran { IfOk result (λ still. CallEnds (program_view program.now) (sums access.old.extent.now.written access.old.frozen.now access.old.copies.now) (invocation_of op.now) left (sums access.new.extent.now.written access.new.frozen.now access.new.copies.now) still) }
+    ensures before { restored access.new.olds.now (sums access.new.extent.now.written access.new.frozen.now access.new.copies.now) ≡ restored access.old.olds.now (sums access.old.extent.now.written access.old.frozen.now access.old.copies.now) }
+    ensures there { AllHave access.new.olds.now access.new.copies.now }
+    ensures same_written { access.new.extent.now.written ≡ access.old.extent.now.written }
+    ensures same_frozen { access.new.frozen.now ≡ access.old.frozen.now }
+    ensures same_copies { access.new.copies.ghost_name ≡ access.old.copies.ghost_name }
+    ensures same_olds { access.new.olds.ghost_name ≡ access.old.olds.ghost_name }
+{
+    if left == 0 {
+        return Ok(None);
+    }
+    let Some(start) = program.body(op.op) else {
+        return Err(Memory);
+    };
+    let Some(number) = number_of(Value::Ref(op.receiver)) else {
+        return Err(Memory);
+    };
+    start.enter(frames, alloc, op)?;
+    access.gate.inside(access.worker, op.receiver);
+    let halt = run_from(access, start.laid, frames, start.place, left - 1, number);
+    match halt {
+        Halt::Ends => Ok(Some(frames.left)),
+        Halt::Traps(_) => Ok(None),
+        Halt::Spends => Ok(None),
+        Halt::Leaves => Err(Memory),
+        Halt::Fails => Err(Memory),
+    }
+}
+
+/// The same on copies that are lent, with what undoes it.
+pub(crate) fn run_whole<G: Gate>(
+    alloc: Global,
+    program: &Coded<'_>,
+    gate: &G,
+    worker: u32,
+    extent: &Extent,
+    frozen: &Heap,
+    marks: &[Option<ClassId>],
+    copies: &mut Beside,
+    olds: &mut Puts,
+    frames: &mut Frames,
+    op: &Op,
+    left: u64,
+) -> Result<Option<u64>, Memory>
+    requires program { ProgramTyped (program_view program.now) }
+    requires heap { TypedHeap (program_view program.now) (sums extent.now.written frozen.now copies.old) }
+    requires typed { WellTyped (program_view program.now) (sums extent.now.written frozen.now copies.old) (invocation_of op.now) }
+    requires keeps { Keeps extent.now.written frozen.now marks.now copies.old olds.old }
+    ensures ran { IfOk result (λ still. CallEnds (program_view program.now) (sums extent.now.written frozen.now copies.old) (invocation_of op.now) left (sums extent.now.written frozen.now copies.new) still) }
+    ensures before { restored olds.new (sums extent.now.written frozen.now copies.new) ≡ restored olds.old (sums extent.now.written frozen.now copies.old) }
+    ensures there { AllHave olds.new copies.new }
+{
+    let mut access = InReplica::lent(
+        program.program(),
+        gate,
+        worker,
+        extent,
+        frozen,
+        marks,
+        copies,
+        olds,
+    );
+    let ran = run_call(alloc, program, &mut access, frames, op, left);
+    ran
+}

@@ -1,0 +1,226 @@
+//! The numbers of objects as the sums have them, read, put and put back.
+
+ghost use Rattle.std.specs.Prelude.{◌≡◌, ◌<◌, ◌∷◌, ℕ, List, Some, length, slice_get, true, false};
+ghost use Rattle.ca_model.specs.declared.value.Object.{Object};
+ghost use Rattle.ca_model.specs.Heaps.{stored};
+ghost use Rattle.ca_meaning.specs.Expressions.{one_in, slot_of, slots_in};
+ghost use Rattle.ca_beside.specs.declared.beside.Changed.{Changed};
+ghost use Rattle.ca_beside.specs.Beside.{present, IsPlace};
+ghost use Rattle.ca_run.specs.Puts.{put_back, restored};
+ghost use Rattle.ca_run.specs.declared.puts.Put.{Put};
+ghost use Rattle.ca_steps.specs.clauses.Telling.{Looks};
+ghost use Rattle.ca_replica.specs.Applied.{sums};
+ghost use Rattle.ca_replica.specs.InPlace.{AllHave, HasCopy, Keeps, zero_value};
+ghost use Rattle.ca_replica.specs.Zeroed.{zeroed};
+
+use crate::deciding::is_written;
+use crate::marks::{is_marked, is_put, stays};
+use crate::replica::place_of;
+use ca_beside::Beside;
+use ca_extent::Extent;
+use ca_model::{Heap, Object, Slot, Slots, Value};
+use ca_program::{ClassId, FieldId};
+use ca_run::{Put, Puts, value_of};
+use ca_steps::{Look, field_of, look_at};
+
+/// The single value of a field, and null where there is none.
+#[inline(always)]
+fn one_of(slots: &Slots, field: u32) -> Value
+    ensures { result ≡ one_in (slice_get slots.now field) }
+{
+    match slots.get(field) {
+        Some(slot) => match slot {
+            Slot::One(value) => *value,
+            Slot::Many(_) => Value::Null,
+        },
+        None => Value::Null,
+    }
+}
+
+/// 0 in the place of a number.
+fn zero_of(value: Value) -> Value
+    ensures { result ≡ zero_value value }
+{
+    match value {
+        Value::Long(_) => Value::Long(0),
+        Value::Bool(b) => Value::Bool(b),
+        Value::Null => Value::Null,
+        Value::Ref(n) => Value::Ref(n),
+    }
+}
+
+/// The single value of a field of an object in which the numbers that are written are 0.
+fn zeroed_value(object: &Object, written: &[FieldId], field: u32) -> Value
+    ensures { result ≡ one_in (slice_get (slots_in (Some (zeroed written.now object.now))) field) }
+{
+    let value = one_of(&object.slots, field);
+    let class = object.class;
+    if is_written(written, FieldId { class, field }) {
+        return zero_of(value);
+    }
+    value
+}
+
+/// The single value of a field of object n, as the sums have it.
+fn value_in(copies: &Beside, written: &[FieldId], frozen: &Heap, n: u32, f: FieldId) -> Value
+    ensures { result ≡ one_in (slot_of (sums written.now frozen.now copies.now) n f) }
+{
+    if n >= frozen.len() {
+        return Value::Null;
+    }
+    copies.know_apart();
+    match copies.find(n) {
+        Some(place) => one_of(&copies.object_at(place).slots, f.field),
+        None => zeroed_value(frozen.get(n), written, f.field),
+    }
+}
+
+/// The single value of a field of object n, as the sums have it, read in the frozen heap where it surely isn't written.
+#[inline(always)]
+pub(crate) fn own_value(
+    marks: &[Option<ClassId>],
+    extent: &Extent,
+    copies: &Beside,
+    frozen: &Heap,
+    n: u32,
+    f: FieldId,
+) -> Value
+    ensures { (olds : List Put) → Keeps extent.now.written frozen.now marks.now copies.now olds → result ≡ one_in (slot_of (sums extent.now.written frozen.now copies.now) n f) }
+{
+    if is_marked(marks, f.field) {
+        return value_in(copies, extent.written(), frozen, n, f);
+    }
+    field_of(frozen, n, f)
+}
+
+/// What an index finds in a field of object n, if the extent surely doesn't write it.
+#[inline(always)]
+pub(crate) fn own_look(
+    marks: &[Option<ClassId>],
+    extent: &Extent,
+    frozen: &Heap,
+    n: u32,
+    f: FieldId,
+    index: i64,
+) -> Look
+    ensures { (copies : List Changed) (olds : List Put) → Keeps extent.now.written frozen.now marks.now copies olds → (line k : ℕ) → Looks line (slot_of (sums extent.now.written frozen.now copies) n f) index k result }
+{
+    if stays(marks, extent, frozen, n as usize, f.field) {
+        return look_at(frozen, n, f, index);
+    }
+    Look::Unknown
+}
+
+/// Keeps an old value, if there is memory.
+#[inline(always)]
+fn keep(olds: &mut Puts, old: Put) -> bool
+    ensures added { result ≡ true → olds.new ≡ old ∷ olds.old }
+    ensures same { result ≡ false → olds.new ≡ olds.old }
+{
+    if olds.add(old) {
+        return true;
+    }
+    olds.push(old)
+}
+
+/// Puts a value into an item of a field of the copy at a place, if there is one, and keeps the old value. Whatever comes of it,
+/// putting back gives what it gave before.
+#[inline(always)]
+fn put_at(
+    copies: &mut Beside,
+    olds: &mut Puts,
+    place: usize,
+    n: u32,
+    field: u32,
+    item: u32,
+    value: Value,
+) -> bool
+    requires { IsPlace copies.old place n }
+    ensures put { result ≡ true → (h : List Object) → present h copies.new ≡ stored (present h copies.old) n field item value }
+    ensures same { result ≡ false → copies.new ≡ copies.old }
+    ensures before { (h : List Object) → n < length h → restored olds.new (present h copies.new) ≡ restored olds.old (present h copies.old) }
+    ensures there { AllHave olds.old copies.old → AllHave olds.new copies.new }
+{
+    copies.know_apart();
+    let object = copies.object_at(place);
+    if !object.slots.has(field, item) {
+        return false;
+    }
+    let there = value_of(&object.slots, field, item);
+    let old = Put {
+        object: n,
+        field,
+        item,
+        value: there,
+    };
+    if !keep(olds, old) {
+        return false;
+    }
+    copies.store_at(place, field, item, value);
+    true
+}
+
+/// Puts a value into an item of a field of object n that is written, in its copy, which is made where there is none, and keeps the
+/// old value. Whatever comes of it, putting back gives what it gave before.
+#[inline(never)]
+pub(crate) fn put_sum(
+    marks: &[Option<ClassId>],
+    copies: &mut Beside,
+    olds: &mut Puts,
+    extent: &Extent,
+    frozen: &Heap,
+    n: u32,
+    field: u32,
+    item: u32,
+    value: Value,
+) -> bool
+    ensures put { result ≡ true → sums extent.now.written frozen.now copies.new ≡ stored (sums extent.now.written frozen.now copies.old) n field item value }
+    ensures before { restored olds.new (sums extent.now.written frozen.now copies.new) ≡ restored olds.old (sums extent.now.written frozen.now copies.old) }
+    ensures keeps { Keeps extent.now.written frozen.now marks.now copies.old olds.old → Keeps extent.now.written frozen.now marks.now copies.new olds.new }
+{
+    if n >= frozen.len() {
+        return false;
+    }
+    if !is_put(marks, extent, frozen, n, field) {
+        return false;
+    }
+    let Ok(place) = place_of(copies, extent, frozen, n) else {
+        return false;
+    };
+    put_at(copies, olds, place, n, field, item, value)
+}
+
+/// Puts an old value back into the copy at a place, where it has such an item.
+fn put_back_at(copies: &mut Beside, place: usize, old: Put)
+    requires { IsPlace copies.old place old.object }
+    ensures back { (h : List Object) → present h copies.new ≡ put_back old (present h copies.old) }
+    ensures has { (n : ℕ) → HasCopy copies.old n → HasCopy copies.new n }
+{
+    copies.know_apart();
+    let object = copies.object_at(place);
+    if object.slots.has(old.field, old.item) {
+        copies.store_at(place, old.field, old.item, old.value);
+    }
+}
+
+/// Puts an old value back into its copy.
+fn put_back(copies: &mut Beside, old: Put)
+    requires { HasCopy copies.old old.object }
+    ensures back { (h : List Object) → present h copies.new ≡ put_back old (present h copies.old) }
+    ensures has { (n : ℕ) → HasCopy copies.old n → HasCopy copies.new n }
+{
+    match copies.find(old.object) {
+        Some(place) => put_back_at(copies, place, old),
+        None => {}
+    }
+}
+
+/// Puts all old values back into copies, the last one first, and forgets them. It takes no memory.
+pub(crate) fn put_all_back(copies: &mut Beside, olds: &mut Puts)
+    requires { AllHave olds.old copies.old }
+    ensures { (h : List Object) → present h copies.new ≡ restored olds.old (present h copies.old) }
+{
+    'olds: while let Some(old) = olds.last() {
+        put_back(copies, old);
+    }
+}

@@ -1,0 +1,66 @@
+use Rattle.std.proofs.Common.{◌≡◌, List, MatchOption, drop, map, sym, subst}
+use Rattle.ca_program.specs.View.{program_view}
+use Rattle.ca_meaning.specs.WellTyped.{AllWellTyped}
+use Rattle.ca_parallel.specs.declared.op.Op.{Op}
+use Rattle.ca_parallel.specs.Calls.{invocations_of, operation_of}
+use Rattle.ca_run.specs.InPlace.{Continues}
+use Rattle.ca_run.specs.Puts.{before}
+use Rattle.ca_workers.specs.clauses.Ahead.{RanFront}
+use Rattle.ca_workers.proofs.InHeap.{ahead_kept, ahead_placed, fewer_inside, later, never_within, undone}
+use Rattle.ca_workers.proofs.parallel.Parallel.run_owned.Goals as goal
+
+pub begin_ahead-requires-clause-program : goal.begin_ahead-requires-clause-program
+begin_ahead-requires-clause-program g c κs o = c.requires.waits.setting.program
+
+pub begin_ahead-requires-clause-heap : goal.begin_ahead-requires-clause-heap
+begin_ahead-requires-clause-heap g c κs o = c.requires.waits.setting.heap
+
+pub begin_ahead-requires-clause-typed : goal.begin_ahead-requires-clause-typed
+begin_ahead-requires-clause-typed g c κs o =
+    subst (λ (os : List Op). AllWellTyped (program_view c.args.program.now) c.args.heap.now (invocations_of os)) (sym c.as_slice.ensures.value) c.requires.waits.waits.typed
+
+pub returns-in-None : goal.returns-in-None
+returns-in-None g c =
+    let p = program_view c.args.program.now in
+    let h = c.args.heap.now in
+    let ops = c.args.calls.items in
+    let here = c.begin_ahead.new.heap in
+    let w = c.requires.waits in
+    let told = subst (λ (os : List Op). RanFront p h os c.args.left here c.in_ok-begun.begun) c.as_slice.ensures.value c.in_ok-begun.ensures.ran in
+    let never = subst (λ o. RanFront p h ops c.args.left here o) c.in-None.is told in
+    let same = subst (λ o. MatchOption o (here ≡ h) (λ _. before c.begin_ahead.new.self.one.kept here ≡ h)) c.in-None.is c.in_ok-begun.ensures.before in
+    record { placed = (never_within p w.extent h w.setting (invocations_of ops) w.waits c.args.left here never, same); kept = tt }
+
+pub run_rest-ended-requires-clause-waits : goal.run_rest-ended-requires-clause-waits
+run_rest-ended-requires-clause-waits g c κs o =
+    let p = program_view c.args.program.now in
+    let h = c.args.heap.now in
+    let ops = c.args.calls.items in
+    let here = c.begin_ahead.new.heap in
+    let n = c.in-Some.front.count in
+    let told = subst (λ (os : List Op). RanFront p h os c.args.left here c.in_ok-begun.begun) c.as_slice.ensures.value c.in_ok-begun.ensures.ran in
+    let go : Continues p h (invocations_of ops) c.args.left here (invocations_of (drop n ops)) c.in-Some.front.left = subst (λ o. RanFront p h ops c.args.left here o) c.in-Some.is told in
+    later p h (map operation_of c.args.roots.now) ops n c.requires.waits c.args.left c.in-Some.front.left here go
+
+pub returns : goal.returns
+returns g c =
+    let p = program_view c.args.program.now in
+    let h = c.args.heap.now in
+    let ops = c.args.calls.items in
+    let here = c.begin_ahead.new.heap in
+    let n = c.in-Some.front.count in
+    let left = c.in-Some.front.left in
+    let w = c.requires.waits in
+    let ran = c.run_rest-ended in
+    let last = ran.new.heap in
+    let kept = ran.new.self.one.kept in
+    let rest = invocations_of (drop n ops) in
+    let told = subst (λ (os : List Op). RanFront p h os c.args.left here c.in_ok-begun.begun) c.as_slice.ensures.value c.in_ok-begun.ensures.ran in
+    let go : Continues p h (invocations_of ops) c.args.left here rest left = subst (λ o. RanFront p h ops c.args.left here o) c.in-Some.is told in
+    let back : before c.begin_ahead.new.self.one.kept here ≡ h = subst (λ o. MatchOption o (here ≡ h) (λ _. before c.begin_ahead.new.self.one.kept here ≡ h)) c.in-Some.is c.in_ok-begun.ensures.before in
+    let inside = fewer_inside w.extent ops n w.waits.inside in
+    let whole = before kept last in
+    record {
+      placed = ahead_placed p w.extent h w.setting (invocations_of ops) w.waits c.args.left here rest left go inside last whole (λ e. undone kept c.begin_ahead.new.self.one.kept last here h ran.ensures.one e back) c.end_ahead.new.heap ran.result c.end_ahead.result ran.ensures.placed c.end_ahead.ensures;
+      kept = ahead_kept p w.extent h w.setting (invocations_of ops) w.waits c.args.left here rest left go inside last whole (λ e. undone kept c.begin_ahead.new.self.one.kept last here h ran.ensures.one e back) c.end_ahead.new.heap ran.result c.end_ahead.result ran.ensures.kept c.end_ahead.ensures;
+    }
