@@ -42,6 +42,13 @@ run 1 1000 | 2 0 0 0 | #0 A n=24$
 of class A { public: long n; long k; A *to; long same(long v) { long k = v; for (long i = 0; i < 1; i++) k = v; return k; } void set(long v, A *t) { k = v; to = t; } void add(long v) { n += v; } void pass(long v) { to->add(k + v); } void both(long v) { n += v; to->pass(same(v)); } }; int main() { A *a = new A(); A *b = new A(); A *c = new A(); a->set(1, b); b->set(2, c); a->both(5); }
 run 2 1000 | 1 0 1 0 | #0 A n=5 k=1 to=#1$#1 A n=0 k=2 to=#2$#2 A n=7 k=0 to=null$
 run 1 1000 | 1 1 1 0 | #0 A n=5 k=1 to=#1$#1 A n=0 k=2 to=#2$#2 A n=7 k=0 to=null$
+// light calls of a marked loop on more than a few objects: the run goes on into it
+of class A { public: long n; void set(long v) { n = v; } void mul(long v) { n *= v; } }; class B { public: A *at[16]; void fill() { for (long i = 0; i < 16; i++) { at[i] = new A(); at[i]->set(1); } } }; int main() { B *b = new B(); b->fill(); for (long i = 0; i < 16; i++) b->at[i]->mul(3); }
+run 4 1000 | 0 1 1 14 | #0 B at=[#1,#2,#3,#4,#5,#6,#7,#8,#9,#10,#11,#12,#13,#14,#15,#16]$#1 A n=3$#2 A n=3$#3 A n=3$#4 A n=3$#5 A n=3$#6 A n=3$#7 A n=3$#8 A n=3$#9 A n=3$#10 A n=3$#11 A n=3$#12 A n=3$#13 A n=3$#14 A n=3$#15 A n=3$#16 A n=3$
+run 1 1000 | 0 1 1 14 | #0 B at=[#1,#2,#3,#4,#5,#6,#7,#8,#9,#10,#11,#12,#13,#14,#15,#16]$#1 A n=3$#2 A n=3$#3 A n=3$#4 A n=3$#5 A n=3$#6 A n=3$#7 A n=3$#8 A n=3$#9 A n=3$#10 A n=3$#11 A n=3$#12 A n=3$#13 A n=3$#14 A n=3$#15 A n=3$#16 A n=3$
+// serial operations pass nothing, nor does a call of one outside of what is marked
+of class A { public: long n; void set(long v) { n = v; } void mul(long v) { n *= v; } }; int main() { A *a = new A(); a->set(1); a->mul(2); for (long i = 0; i < 3; i++) a->mul(3); }
+run 1 1000 | 3 0 0 0 | #0 A n=54$
 of class A { public: long n; A *to; long same(long v) { long k = v; for (long i = 0; i < 1; i++) k = v; return k; } void set(A *t) { to = t; } void add(long v) { n += v; } void look(long v) { long t = n; to->add(same(v)); } }; int main() { A *a = new A(); A *b = new A(); a->set(b); a->look(5); }
 run 2 1000 | 1 1 0 0 | #0 A n=0 to=#1$#1 A n=5 to=null$";
 

@@ -2,9 +2,9 @@
 
 use crate::calls::{Call, add, add_lines};
 use crate::sources::{
-    ACCUMULATOR, BINS, DEEP_THEN_HIT, FIRST, GRAPH_VISIT, HIT_THEN_DEEP, LONG_LIST, PRINTS,
-    PRODUCTS_ON_ONE, STEPS_IN_A_LIST, STEPS_IN_A_LOOP, THREE_BINS, TRAP_IN_A_LIST, TRAP_IN_A_LOOP,
-    TWO_BINS, WRAPPING_SUM,
+    ACCUMULATOR, BINS, DEEP_THEN_HIT, FIRST, GRAPH_VISIT, HIT_THEN_DEEP, LONG_LIST,
+    LONGER_AND_LONGER, PRINTS, PRODUCTS_ON_ONE, STEPS_IN_A_LIST, STEPS_IN_A_LOOP, THREE_BINS,
+    TRAP_IN_A_LIST, TRAP_IN_A_LOOP, TWO_BINS, WRAPPING_SUM,
 };
 use std::alloc::Global;
 use std::process::Abort;
@@ -52,6 +52,14 @@ of int main() { for (long i = 0; i < 3; i++) { long s; s += 1; print(s); } }
 // comments, and what is added and taken away by one
 of int main() { long x = 5; x++; /* , */ x--; x *= 2; print(x); // done$ }
 1 0:10$
+// what many workers run in the heap ahead of a call that traps, or has no step left, is undone, and the run goes on into the loop
+of class A { public: long n; long same(long v) { long k = v; for (long i = 0; i < 1; i++) k = v; return k; } void put(long v) { n += 10 / same(v); } }; class B { public: A *at[20]; void fill() { for (long i = 0; i < 20; i++) at[i] = new A(); } }; int main() { B *b = new B(); b->fill(); for (long i = 0; i < 20; i++) b->at[i]->put(15 - i); }
+1000 3:trap 1 ZeroDivisor$
+60 4:spent 60$
+// so it is where one call only calls these
+of class A { public: long n; long same(long v) { long k = v; for (long i = 0; i < 1; i++) k = v; return k; } void put(long v) { n += 10 / same(v); } }; class B { public: A *at[20]; void fill() { for (long i = 0; i < 20; i++) at[i] = new A(); } void all(long v) { for (long i = 0; i < 20; i++) at[i]->put(v - i); } }; int main() { B *b = new B(); b->fill(); b->all(15); }
+1000 3:trap 1 ZeroDivisor$
+60 4:spent 60$
 // bits, and the greater and the less of two; `&` binds more than `^`, and `^` more than `|`
 of int main() { print(6 & 3); print(6 | 3); print(6 ^ 3); print(max(-1, 2)); print(min(-1, 2)); print(1 | 6 & 3); }
 1 0:2$7$5$2$-1$3$
@@ -209,6 +217,12 @@ fn longer_texts_run_to_the_end(rt: HostRuntime) {
     all_run(&rt, BINS, "5002 4:spent 5002$");
     all_run(&rt, LONG_LIST, "299999 4:spent 299999$");
     all_run(&rt, PRINTS, "9 0:0$1$2$true$#0 Bin n=3$");
+    // calls that a worker runs with all that they lead to, and some that are undone
+    all_run(
+        &rt,
+        LONGER_AND_LONGER,
+        "84033 0:#0 Set o=[#2,#3,#4,#5,#6,#7,#8,#9]$#1 Bin n=157479000$#2 Own b=#1$#3 Own b=#1$#4 Own b=#1$#5 Own b=#1$#6 Own b=#1$#7 Own b=#1$#8 Own b=#1$#9 Own b=#1$\n84032 4:spent 84032$",
+    );
     // an operation whose second statement is not done at once, in the middle of a list and of a loop
     all_run(
         &rt,

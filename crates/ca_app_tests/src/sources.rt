@@ -61,7 +61,11 @@ pub const ONE_BIN: &str =
 
 pub const ONE_BIN_HEAP: &str = "#0 Own b=#1\n#1 Bin n=3\n";
 
-/// The same in a heap of 250,000 values, of which 64 workers may have a copy each.
+/// Eight calls that add to one object by ever longer loops: some end soon, some don't.
+pub const LONGER_AND_LONGER: &str =
+    "class Bin { public: long n; void add(long v) { n = n + v; } }; class Own { public: Bin *b; void tie(Bin *x) { b = x; } void many(long v) { for (long i = 0; i < v; i++) b->add(i); } }; class Set { public: Own *o[8]; void fill() { Bin *x = new Bin(); for (long i = 0; i < 8; i++) { o[i] = new Own(); o[i]->tie(x); } } }; int main() { Set *s = new Set(); s->fill(); for (long i = 0; i < 8; i++) s->o[i]->many(i * 1500); }\n";
+
+/// Two calls that add to one object, in a heap of 250,000 values, of which 64 workers may have a copy each.
 pub const ONE_BIN_BESIDE_MANY: &str =
     "class Bin { public: long n; void add(long v) { n = n + v; } }; class Own { public: Bin *b; long a[249998]; void fill() { b = new Bin(); } }; int main() { Own *s = new Own(); s->fill(); for (long i = 0; i < 2; i++) s->b->add(i + 1); }\n";
 

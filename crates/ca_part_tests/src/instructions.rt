@@ -3,6 +3,7 @@
 //! A row is a run of a text: the budget, how it ends, and behind `:` the numbers that it prints. It is `done` with so many steps left,
 //! `spent` where a step is too many, or at a trap on a line: `null`, `outside` or `divided`.
 
+use crate::shut::Shut;
 use crate::sources::{let_go, program};
 use ca_code::{PlainBodies, lay_out_once, lay_out_with};
 use ca_model::{Heap, TrapKind, Value};
@@ -34,7 +35,7 @@ fn ends<R: AllocGlobal + Abort + Wait>(rt: &R, text: &str, budget: u64, numbers:
     let mut count: usize = 0;
     let mut end = End::Spent;
     for _ in rt.forever() {
-        match run_on(rt, &mut run, &laid, &mut frames) {
+        match run_on(rt, alloc, &mut run, &Shut, &laid, &mut frames) {
             Event::Prints(value) => {
                 assert!(rt; count < numbers.len() && value == Value::Long(numbers[count]));
                 count += 1;

@@ -52,6 +52,8 @@ mod sections;
 #[cfg(test)]
 mod separable;
 #[cfg(test)]
+mod shut;
+#[cfg(test)]
 mod sources;
 #[cfg(test)]
 mod sums;

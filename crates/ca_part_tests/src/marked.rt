@@ -1,5 +1,6 @@
 //! Programs laid out with marks: what is handed on. Where memory runs out the test ends.
 
+use crate::shut::Shut;
 use crate::sources::{let_go, program};
 use ca_model::{Heap, Value};
 use ca_parallel::Marks;
@@ -42,7 +43,7 @@ fn handed<R: AllocGlobal + Abort + Wait>(rt: &R, text: &str, row: &str) -> Strin
     let mut begun: u32 = 0;
     let mut last: i64 = 0;
     for _ in rt.forever() {
-        match run_on(rt, &mut run, &laid, &mut frames) {
+        match run_on(rt, alloc, &mut run, &Shut, &laid, &mut frames) {
             Event::Prints(value) => {
                 if let Value::Long(n) = value {
                     last = n;
