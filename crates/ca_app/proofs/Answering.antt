@@ -46,10 +46,13 @@ words_told words c names told n zero =
     let same = same_text c (Tell n.0) (one_asked words (Some (OnText c)) (Some (OnText (Tell n.0))) names n.1) in
     record { command = n.0; named = n.1; told = told n.0 same zero }
 
+ends_usage : {status : ℕ} {old now : Option (List ℕ)} (text : List ℕ) → Ends usage_reply status old now → EndsWith (RepliesTo None text) status old now
+ends_usage text = only_reply (RepliesTo None text) usage_reply refl (λ r s x y. x ∙ sym y)
+
 -- where nothing is read, the reply doesn't need the text
 unread_ends : {status : ℕ} {old now left : Option (List ℕ)} (words : List (List ℕ)) (text : List ℕ) (asked : Option Command) → Asks words asked → reads_source asked ≡ false
     → Answers left status old now asked → EndsWith (Replies words text) status old now
-unread_ends words text asked is nothing (no_command ends cause) = ends_asked words text None is (only_reply (RepliesTo None text) usage_reply refl (λ reply this. this) ends)
+unread_ends words text asked is nothing (no_command ends cause) = ends_asked words text None is (ends_usage text ends)
 unread_ends words text asked is nothing (alone {command = c} ends) = ends_asked words text (Some (Alone c)) is ends
 unread_ends words text asked is nothing (on_text served) = absurd (true≢false nothing)
 unread_ends words text asked is nothing (traced ends) = absurd (true≢false nothing)
@@ -59,7 +62,7 @@ got : {status : ℕ} {old now left : Option (List ℕ)} (words : List (List ℕ)
     → Answers left status old now asked → Got words text status old now
 got words text asked is told (no_command ends cause) =
     the_reply (no_trace words None is (λ e. omega arith)) (λ n zero. tells_none words None is (λ e. omega arith) n)
-    (ends_asked words text None is (only_reply (RepliesTo None text) usage_reply refl (λ reply this. this) ends))
+    (ends_asked words text None is (ends_usage text ends))
 got words text asked is told (on_text {command = c} served) =
     let s = served text told in
     the_reply (no_trace words (Some (OnText c)) is (λ e. omega arith)) (words_told words c is s.told) (ends_asked words text (Some (OnText c)) is s.ends)

@@ -60,34 +60,39 @@ pub unreplied_ends : {replies : Reply → Type 0} {status : ℕ} {old now : Opti
 unreplied_ends u = record { some = inl u; each = λ reply is. ends_unreplied u reply }
 
 module _ {status : ℕ} {old now : Option (List ℕ)} where
-  pub only_reply : (replies : Reply → Type 0) (is : Reply) → replies is → ((reply : Reply) → replies reply → reply ≡ is) → Ends is status old now → EndsWith replies status old now
+  -- with the one reply that there is
+  pub only_reply : (replies : Reply → Type 0) (is : Reply) → replies is → ((r s : Reply) → replies r → replies s → r ≡ s) → Ends is status old now → EndsWith replies status old now
   only_reply replies is one only ends = record {
     some = inr (is, one);
-    each = λ reply this. let P : Reply → Type 0 = λ r. Ends r status old now in subst P (sym (only reply this)) ends;
+    each = λ reply this. let P : Reply → Type 0 = λ r. Ends r status old now in subst P (only is reply one this) ends;
   }
+
+  -- with what is a reply of two kinds at once
+  pub ends_alike : (replies others : Reply → Type 0) → ((reply : Reply) → replies reply → others reply) → ((reply : Reply) → others reply → replies reply) → EndsWith replies status old now → EndsWith others status old now
+  ends_alike replies others to back ends = record { some = some ends.some; each = λ reply other. ends.each reply (back reply other) }
+    where
+      some : Unreplied status old now ⊎ ((reply : Reply) × replies reply) → Unreplied status old now ⊎ ((reply : Reply) × others reply)
+      some (inl u) = inl u
+      some (inr s) = inr (s.0, to s.0 s.1)
 
 module _ {command : TextCommand} {text : List ℕ} {status : ℕ} {old now : Option (List ℕ)} where
   pub ends_refused : {at : Place} {code : ℕ} → IsRefusalOf text at code → Ends (refusal_reply at code) status old now → EndsWith (CommandReplies command text) status old now
-  ends_refused is = only_reply (CommandReplies command text) _ (refuses is.refused) (λ reply this. command_reply this (refuses is.refused))
+  ends_refused is = only_reply (CommandReplies command text) _ (refuses is.refused) (λ r s x y. command_reply x y)
 
   pub ends_program : (p : PlainProgram) (tree : TextTree) → IsProgramOf text p → HasOneTree text tree → EndsWith (ProgramReplies tree p command) status old now → EndsWith (CommandReplies command text) status old now
-  ends_program p tree is one ends = record {
-    some = some ends.some;
-    each = each;
-  }
+  ends_program p tree is one = ends_alike (ProgramReplies tree p command) (CommandReplies command text) to back
     where
-      some : Unreplied status old now ⊎ ((reply : Reply) × ProgramReplies tree p command reply) → Unreplied status old now ⊎ ((reply : Reply) × CommandReplies command text reply)
-      some (inl u) = inl u
-      some (inr s) =
-          let P : TextTree → Type 0 = λ t. ProgramReplies t p command s.0 in
-          inr (s.0, serves is.accepted (subst P (sym (one.only is.accepted.tree is.accepted.has_tree)) s.1))
+      to : (reply : Reply) → ProgramReplies tree p command reply → CommandReplies command text reply
+      to reply replies =
+          let P : TextTree → Type 0 = λ t. ProgramReplies t p command reply in
+          serves is.accepted (subst P (sym (one.only is.accepted.tree is.accepted.has_tree)) replies)
 
-      each : (reply : Reply) → CommandReplies command text reply → Ends reply status old now
-      each reply (refuses {at = q} {code = d} refused) = absurd (is.unrefused q d refused)
-      each reply (serves {p = q} accepted' replies) =
+      back : (reply : Reply) → CommandReplies command text reply → ProgramReplies tree p command reply
+      back reply (refuses {at = q} {code = d} refused) = absurd (is.unrefused q d refused)
+      back reply (serves {p = q} accepted' replies) =
           let P : PlainProgram → Type 0 = λ x. ProgramReplies tree x command reply in
           let Q : TextTree → Type 0 = λ x. ProgramReplies x q command reply in
-          ends.each reply (subst P (is.only q accepted') (subst Q (one.only accepted'.tree accepted'.has_tree) replies))
+          subst P (is.only q accepted') (subst Q (one.only accepted'.tree accepted'.has_tree) replies)
 
 -- what was told of the program was told of the text
 pub told_of_text : {command : PlanCommand} {text : List ℕ} {old now : Option (List ℕ)} (p : PlainProgram) (tree : TextTree) → IsProgramOf text p → HasOneTree text tree
@@ -99,6 +104,28 @@ told_of_text {command} {old = old} {now = now} p tree is one told =
       accepted = is.accepted;
       told = subst P (sym (one.only is.accepted.tree is.accepted.has_tree)) told;
     }
+
+-- what a command tells of a plan
+abbrev pub told_text : TextTree → PlainProgram → PlainPlan → PlanCommand → List ℕ
+told_text tree p plan Pairs = pairs_text p plan
+told_text tree p plan Plan = plan_text p plan
+told_text tree p plan Emit = annotated_text p plan tree
+
+its_text : (tree : TextTree) (p : PlainProgram) (plan : PlainPlan) (c : PlanCommand) → Tells tree p plan c (told_text tree p plan c)
+its_text tree p plan Pairs = verdicts
+its_text tree p plan Plan = marks
+its_text tree p plan Emit = annotated
+
+one_text : {tree : TextTree} {p : PlainProgram} {plan : PlainPlan} {c : PlanCommand} {bytes : List ℕ} → Tells tree p plan c bytes → told_text tree p plan c ≡ bytes
+one_text verdicts = refl
+one_text marks = refl
+one_text annotated = refl
+
+pub told_so : {tree : TextTree} {p : PlainProgram} {plan : PlainPlan} {command : PlanCommand} {bytes : List ℕ} {status : ℕ} {old now : Option (List ℕ)} (c : PlanCommand) → command ≡ c → Tells tree p plan command bytes
+    → Ends (record { status = 0; bytes = told_text tree p plan c }) status old now → Ends (record { status = 0; bytes = bytes }) status old now
+told_so {tree} {p} {plan} {command} {bytes} {status} {old} {now} c e told ends =
+    let P : List ℕ → Type 0 = λ b. Ends (record { status = 0; bytes = b }) status old now in
+    subst P (ap (told_text tree p plan) (sym e) ∙ one_text told) ends
 
 -- what a run replies begins with its prints
 abbrev rest_of_reply : PlainProgram → ℕ → Ended → List ℕ
@@ -129,42 +156,32 @@ ends_run_written p b e r status ended rest old mid now is reply told written sta
 
 module _ {status : ℕ} {old now : Option (List ℕ)} where
   pub ends_run : (tree : TextTree) (p : PlainProgram) (workers budget : ℕ) → Ends (output p budget) status old now → EndsWith (ProgramReplies tree p (Run workers budget)) status old now
-  ends_run tree p workers budget = only_reply _ _ runs (λ reply this. program_reply this runs)
+  ends_run tree p workers budget = only_reply _ _ runs (λ r s x y. program_reply x y)
 
   pub ends_generated : (seed size : ℕ) → Ends (generated_reply seed size) status old now → EndsWith (UnreadReplies (Gen seed size)) status old now
-  ends_generated seed size = only_reply _ _ generates (λ reply this. unread_reply this generates)
+  ends_generated seed size = only_reply _ _ generates (λ r s x y. unread_reply x y)
 
   pub ends_loaded : (seed size workers steps : ℕ) (heap : List Object) → IsLoaded seed size heap steps → Ends (loaded_reply heap steps) status old now
       → EndsWith (UnreadReplies (Load seed size workers)) status old now
-  ends_loaded seed size workers steps heap loaded = only_reply _ _ (loads loaded) (λ reply this. unread_reply this (loads loaded))
+  ends_loaded seed size workers steps heap loaded = only_reply _ _ (loads loaded) (λ r s x y. unread_reply x y)
 
   -- what a command tells of some plan of the program is its reply
   pub ends_told : (tree : TextTree) (p : PlainProgram) (plan : PlainPlan) (command : PlanCommand) → PlanOf p plan
       → ((bytes : List ℕ) → Tells tree p plan command bytes → Ends (record { status = 0; bytes = bytes }) status old now) → EndsWith (ProgramReplies tree p (Tell command)) status old now
-  ends_told tree p plan command is ends =
-      let t = some_telling command in
-      only_reply _ _ (tells is t.1) (λ reply this. program_reply this (tells is t.1)) (ends t.0 t.1)
-    where
-      some_telling : (c : PlanCommand) → (bytes : List ℕ) × Tells tree p plan c bytes
-      some_telling Pairs = (_, verdicts)
-      some_telling Plan = (_, marks)
-      some_telling Emit = (_, annotated)
+  ends_told tree p plan command is ends = let t = its_text tree p plan command in only_reply _ _ (tells is t) (λ r s x y. program_reply x y) (ends (told_text tree p plan command) t)
 
   -- and where the status is 0 it was written whole
   pub was_told : (tree : TextTree) (p : PlainProgram) (plan : PlainPlan) (command : PlanCommand) → PlanOf p plan → SoundMarks p plan.marks → CommuteAsTold p plan
       → ((bytes : List ℕ) → Tells tree p plan command bytes → Ends (record { status = 0; bytes = bytes }) status old now) → status ≡ 0 → ProgramTold tree p command old now
-  was_told tree p plan command is sound commute ends zero = at command ends
+  was_told tree p plan command is sound commute ends zero =
+      let t = its_text tree p plan command in
+      record { plan = plan; is = is; bytes = told_text tree p plan command; tells = t; written = written (ends (told_text tree p plan command) t); sound = sound; commute = commute }
     where
       written : {bytes : List ℕ} → Ends (record { status = 0; bytes = bytes }) status old now → now ≡ grown old bytes
       written (whole e w) = w
       written (no_memory e w) = absurd (omega (arith, zero, e))
       written (read_fault e w) = absurd (omega (arith, zero, e))
       written (write_fault e w) = absurd (omega (arith, zero, e))
-
-      at : (c : PlanCommand) → ((bytes : List ℕ) → Tells tree p plan c bytes → Ends (record { status = 0; bytes = bytes }) status old now) → ProgramTold tree p c old now
-      at Pairs f = record { plan = plan; is = is; bytes = pairs_text p plan; tells = verdicts; written = written (f _ verdicts); sound = sound; commute = commute }
-      at Plan f = record { plan = plan; is = is; bytes = plan_text p plan; tells = marks; written = written (f _ marks); sound = sound; commute = commute }
-      at Emit f = record { plan = plan; is = is; bytes = annotated_text p plan tree; tells = annotated; written = written (f _ annotated); sound = sound; commute = commute }
 
 -- a run tells no plan
 pub no_telling : {A : Type 0} (workers budget : ℕ) (told : PlanCommand) → ◌≡◌ {A = TextCommand} (Run workers budget) (Tell told) → A
@@ -176,27 +193,5 @@ same_telling c d e = cc
 -- what is replied to what was asked is replied to the words and the text
 pub ends_asked : {status : ℕ} {old now : Option (List ℕ)} (words : List (List ℕ)) (text : List ℕ) (asked : Option Command) → Asks words asked
     → EndsWith (RepliesTo asked text) status old now → EndsWith (Replies words text) status old now
-ends_asked {status} {old} {now} words text asked is ends = record { some = some ends.some; each = λ reply replies. ends.each reply (replies_to words text reply asked is replies) }
-  where
-    some : Unreplied status old now ⊎ ((reply : Reply) × RepliesTo asked text reply) → Unreplied status old now ⊎ ((reply : Reply) × Replies words text reply)
-    some (inl u) = inl u
-    some (inr s) = inr (s.0, replies_of words text s.0 asked is s.1)
-
--- what each of these commands tells
-pub told_verdicts : {tree : TextTree} {p : PlainProgram} {plan : PlainPlan} {command : PlanCommand} {bytes : List ℕ} {status : ℕ} {old now : Option (List ℕ)} → command ≡ Pairs → Tells tree p plan command bytes
-    → Ends (record { status = 0; bytes = pairs_text p plan }) status old now → Ends (record { status = 0; bytes = bytes }) status old now
-told_verdicts e verdicts ends = ends
-told_verdicts e marks ends = absurd cc
-told_verdicts e annotated ends = absurd cc
-
-pub told_marks : {tree : TextTree} {p : PlainProgram} {plan : PlainPlan} {command : PlanCommand} {bytes : List ℕ} {status : ℕ} {old now : Option (List ℕ)} → command ≡ Plan → Tells tree p plan command bytes
-    → Ends (record { status = 0; bytes = plan_text p plan }) status old now → Ends (record { status = 0; bytes = bytes }) status old now
-told_marks e verdicts ends = absurd cc
-told_marks e marks ends = ends
-told_marks e annotated ends = absurd cc
-
-pub told_annotated : {tree : TextTree} {p : PlainProgram} {plan : PlainPlan} {command : PlanCommand} {bytes : List ℕ} {status : ℕ} {old now : Option (List ℕ)} → command ≡ Emit → Tells tree p plan command bytes
-    → Ends (record { status = 0; bytes = annotated_text p plan tree }) status old now → Ends (record { status = 0; bytes = bytes }) status old now
-told_annotated e verdicts ends = absurd cc
-told_annotated e marks ends = absurd cc
-told_annotated e annotated ends = ends
+ends_asked words text asked is =
+    ends_alike (RepliesTo asked text) (Replies words text) (λ reply replies. replies_of words text reply asked is replies) (λ reply replies. replies_to words text reply asked is replies)

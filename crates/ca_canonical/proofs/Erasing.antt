@@ -5,7 +5,7 @@ use Rattle.std.specs.Prelude.{◌==◌, ◌&&◌, not, if◌then◌else◌, ◌^
 use Rattle.std.specs.Char.{is_ascii_digit}
 use Rattle.std.specs.Fmt.{decimal, signed_decimal}
 use Rattle.std.proofs.Math.Dec.{eqb}
-use Rattle.std.proofs.lemmas.Bool.{eqb-true}
+use Rattle.std.proofs.lemmas.Bool.{eqb-true, and_parts}
 use Rattle.ca_tree.specs.declared.token.Kind.{Kind}
 use Rattle.ca_tree.specs.declared.token.Kind.TheVariants.{Word, Number, Key, Sign}
 use Rattle.ca_tree.specs.declared.token.Keyword.{Keyword}
@@ -27,10 +27,6 @@ abbrev quiet : List ℕ → Bool
 quiet [] = true
 quiet (b ∷ w) = not (b == code "/") && quiet w
 
-and_true : (a b : Bool) → a && b ≡ true → (a ≡ true) × (b ≡ true)
-and_true true b h = (refl, h)
-and_true false b h = absurd (cc)
-
 no_comment : (t : Bool) (n : Option ℕ) → not t ≡ true → (if t then n else None) ≡ None
 no_comment true n h = absurd (cc)
 no_comment false n h = refl
@@ -38,7 +34,7 @@ no_comment false n h = refl
 quiet_erased : (w s t : List ℕ) → quiet w ≡ true → Erased s t → Erased (w ++ s) (w ++ t)
 quiet_erased [] s t h e = e
 quiet_erased (b ∷ w) s t h e =
-    let q = and_true (not (b == code "/")) (quiet w) h in
+    let q = and_parts (not (b == code "/")) (quiet w) h in
     a_byte (no_comment (b == code "/") (comment_behind (w ++ s)) q.0) (quiet_erased w s t q.1 e)
 
 no_slash : (p : ℕ → Bool) (b : ℕ) → p b ≡ true → p 47 ≡ false → eqb b 47 ≡ false

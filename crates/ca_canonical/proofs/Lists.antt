@@ -2,6 +2,7 @@
 use Rattle.std.proofs.Common.{map, ◌≡◌, ℕ, suc, ◌+◌, ◌<◌, ◌≤◌, List, [], ◌∷◌, ◌++◌, Bool, true, false, Option, Some, length, drop, get_or, refl, sym, ap, ◌∙◌, subst, arith}
 use Rattle.std.proofs.Math.Seq.{drop-cons}
 use Rattle.std.proofs.lemmas.List.{drop_all}
+use Rattle.ca_lists.proofs.Places.{item_and_rest}
 use Rattle.ca_tree.specs.declared.token.Kind.{Kind}
 use Rattle.ca_tree.specs.declared.token.Kind.TheVariants.{Sign}
 use Rattle.ca_tree.specs.declared.token.Sign.TheVariants.{Comma}
@@ -18,12 +19,6 @@ use Rattle.ca_canonical.specs.Annotated.{marked, pieces_of, marked_all, marked_m
 use Rattle.ca_canonical.specs.Spell.{spell_line, spell_expression, spell_list, spell_others, spell_param, spell_params, spell_other_params}
 use Rattle.ca_canonical.specs.clauses.Pens.{Written, Writes, WritesPieces}
 use Rattle.ca_canonical.proofs.Writing.{Leaves, after, as_pieces, fewer_left, fewer_tokens}
-
--- the items from i on
-pub item_and_rest : {A : Type 0} (xs : List A) (i : ℕ) (x : A) → i < length xs → x ≡ get_or xs i x → drop i xs ≡ x ∷ drop (i + 1) xs
-item_and_rest xs i x h e =
-    let n : i + 1 ≡ suc i = omega arith in
-    drop-cons xs i x h ∙ (ap (λ y. y ∷ drop (suc i) xs) (sym e) ∙ ap (λ m. x ∷ drop m xs) (sym n))
 
 -- the comma before an item that is not the first
 abbrev pub comma : Bool → List Kind

@@ -2,6 +2,7 @@
 use Rattle.std.proofs.Common.{◌≡◌, ℕ, ℤ, List, [], ◌∷◌, Bool, true, false, refl, ap, ◌∙◌, subst}
 use Rattle.std.specs.Prelude.{Option, Some, None, cond}
 use Rattle.std.proofs.lemmas.Bool.{eq-eqb}
+use Rattle.std.proofs.lemmas.Option.{same_Some}
 use Rattle.ca_descent.specs.Exact.{Sees, sees}
 use Rattle.ca_tree.specs.declared.name.Place.{Place}
 use Rattle.ca_tree.specs.declared.token.Kind.{Kind}
@@ -74,11 +75,8 @@ AllRead ts = AllWritable (kinds ts)
 pub behind : {A : Type 0} {want : Token → Option A} {s r : List Token} {a : A} → AllRead s → Sees want s a r → AllRead r
 behind h (sees e) = h.1
 
-some_is : {A : Type 0} {a b : A} → Some a ≡ Some b → a ≡ b
-some_is e = cc
-
 named_by : (k : Kind) (at : Place) (n : List ℕ × Place) → name_of k at ≡ Some n → Writable k → IsName n.0
-named_by (Word w) at n e h = subst (λ m. IsName m.0) (some_is e) h
+named_by (Word w) at n e h = subst (λ m. IsName m.0) (same_Some _ _ e) h
 named_by (Number m) at n e h = cc
 named_by (Key k) at n e h = cc
 named_by (Sign k) at n e h = cc
@@ -87,7 +85,7 @@ pub name_read : {s r : List Token} {n : List ℕ × Place} → AllRead s → See
 name_read {n = n} h (sees {t = t} e) = named_by t.kind t.at n e h.0
 
 number_by : (k : Kind) (at : Place) (n : ℤ × Place) → number_of k at ≡ Some n → Writable k → Writable (Number n.0)
-number_by (Number m) at n e h = subst (λ m. Writable (Number m.0)) (some_is e) h
+number_by (Number m) at n e h = subst (λ m. Writable (Number m.0)) (same_Some _ _ e) h
 number_by (Word w) at n e h = cc
 number_by (Key k) at n e h = cc
 number_by (Sign k) at n e h = cc
@@ -102,13 +100,13 @@ pub data Literal : Expression → Type 0 where
   null_literal : {at : Place} → Literal (null at)
 
 key_literal : (k : Keyword) (at : Place) (x : Expression) → literal_of_key k at ≡ Some x → Literal x
-key_literal key.Nullptr at x e = subst Literal (some_is e) (null_literal {at = at})
-key_literal key.True at x e = subst Literal (some_is e) (truth_literal {at = at} {b = true})
-key_literal key.False at x e = subst Literal (some_is e) (truth_literal {at = at} {b = false})
+key_literal key.Nullptr at x e = subst Literal (same_Some _ _ e) (null_literal {at = at})
+key_literal key.True at x e = subst Literal (same_Some _ _ e) (truth_literal {at = at} {b = true})
+key_literal key.False at x e = subst Literal (same_Some _ _ e) (truth_literal {at = at} {b = false})
 key_literal other at x e = cc
 
 literal_by : (k : Kind) (at : Place) (x : Expression) → literal_of k at ≡ Some x → Writable k → Literal x
-literal_by (Number n) at x e h = subst Literal (some_is e) (number_literal {at = at} {n = n} h)
+literal_by (Number n) at x e h = subst Literal (same_Some _ _ e) (number_literal {at = at} {n = n} h)
 literal_by (Key k) at x e h = key_literal k at x e
 literal_by (Word w) at x e h = cc
 literal_by (Sign k) at x e h = cc

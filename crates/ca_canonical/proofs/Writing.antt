@@ -21,9 +21,6 @@ as_tokens {a = a} w e = record { lasted = w.lasted; says = λ f more. w.says f m
 pub nothing : (p : Written) → Writes p p []
 nothing p = record { lasted = λ f. f; says = λ f more. refl }
 
-pub no_piece : (p : Written) → WritesPieces p p []
-no_piece p = record { lasted = λ f. f; says = λ f more. refl }
-
 pub after : {a b c : Written} {ps qs : List Piece} → WritesPieces a b ps → WritesPieces b c qs → WritesPieces a c (ps ++ qs)
 after {a = a} {ps = ps} {qs = qs} v w = record {
   lasted = λ f. v.lasted (w.lasted f);

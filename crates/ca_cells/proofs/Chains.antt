@@ -4,6 +4,7 @@ use Rattle.std.specs.List.{slice_get as std_get}
 use Rattle.std.proofs.lemmas.List.{length-map}
 use Rattle.std.proofs.lemmas.List.Elements.{All-append}
 use Rattle.std.specs.declared.snapshot.Snapshot.{Snapshot}
+use Rattle.ca_lists.proofs.Places.{get_in_front, get_last}
 use Rattle.ca_model.specs.declared.value.Object.{Object}
 use Rattle.ca_meaning.specs.Multisets.{weight}
 use Rattle.ca_logs.specs.Lasts.{last_of}
@@ -19,7 +20,7 @@ use Rattle.ca_cells.specs.declared.rule.Note.{Note}
 use Rattle.ca_cells.specs.declared.rule.Given.{Given}
 use Rattle.ca_cells.specs.declared.rule.Place.{Place}
 use Rattle.ca_cells.proofs.Histories.{not_closed}
-use Rattle.ca_cells.proofs.Sums.{get_longer, take_longer, get_last, take_all, below_more}
+use Rattle.ca_cells.proofs.Sums.{take_longer, take_all, below_more}
 
 pub one_of : {A : Type 0} (P : A → Type 0) (x : A) → P x → All P (x ∷ [])
 one_of P x h zero d l = h
@@ -28,14 +29,14 @@ one_of P x h (suc k) d l = absurd (omega arith)
 -- what is noted of a history is so of a longer one
 notes_stay : (given : Given) (i : ℕ) (old new : CellLog) (entry : Entry) → Grows given i old entry new → (note : Note) → IsNoted given old note → IsNoted given new note
 notes_stay given i old new entry c note h = (
-  ap (λ (l : List Entry). std_get l note.place) c.entries ∙ get_longer old.entries (entry ∷ []) note.place note.entry h.0,
+  ap (λ (l : List Entry). std_get l note.place) c.entries ∙ get_in_front old.entries (entry ∷ []) note.place note.entry h.0,
   h.1,
   subst (λ (l : List Entry). Ran (program_of given) (frozen_of given) note.cell new.opened.value 0 l note.found h.1) (sym (ap (take note.place) c.entries ∙ take_longer old.entries (entry ∷ []) note.place note.entry h.0))
       (subst (λ (o : Snapshot Object). Ran (program_of given) (frozen_of given) note.cell o.value 0 (take note.place old.entries) note.found h.1) (sym c.opened) h.2),
 )
 
 kept_stay : (given : Given) (i : ℕ) (old new : CellLog) (entry : Entry) → Grows given i old entry new → (place : Place) → IsKept old place → IsKept new place
-kept_stay given i old new entry c place h = (h.0, ap (λ (l : List Entry). std_get l place.place) c.entries ∙ get_longer old.entries (entry ∷ []) place.place h.0 h.1, h.2)
+kept_stay given i old new entry c place h = (h.0, ap (λ (l : List Entry). std_get l place.place) c.entries ∙ get_in_front old.entries (entry ∷ []) place.place h.0 h.1, h.2)
 
 -- the entry that is added is noted with the object that the entries before it leave
 new_noted : (given : Given) (i : ℕ) (old new : CellLog) (entry : Entry) → Grows given i old entry new → IsLegal given i old → IsNoted given new (note_of i old entry)

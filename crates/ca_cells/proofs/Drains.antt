@@ -1,5 +1,5 @@
 -- Histories that are taken off the shelves and put in order.
-use Rattle.std.proofs.Common.{◌≡◌, ◌≢◌, ◌<◌, ◌≤◌, ◌+◌, ◌-◌, ◌%◌, ◌⊎◌, inl, inr, ⊎_elim, ℕ, zero, suc, eqb, cond, List, [], ◌∷◌, ◌++◌, All, length, length-append, map, reverse, take, get_or, Option, Some, None, refl, ap, sym, subst, ◌∙◌, arith, append-nil, append_assoc, eq-eqb, ne_eqb}
+use Rattle.std.proofs.Common.{◌≡◌, ◌≢◌, ◌<◌, ◌≤◌, ◌+◌, ◌-◌, ◌%◌, ◌⊎◌, inl, inr, ⊎_elim, ℕ, zero, suc, eqb, cond, List, [], ◌∷◌, ◌++◌, All, length, length-append, map, reverse, take, get_or, Option, Some, None, refl, ap, sym, subst, ◌∙◌, arith, append-nil, append_assoc, eq-eqb, ne_eqb, length-set}
 use Rattle.std.specs.Prelude.{slice_get, slice_set}
 use Rattle.std.specs.List.{Contains, sum_by}
 use Rattle.std.specs.List.Sorted.{IsPermutation, IsNonDecreasingBy}
@@ -12,8 +12,9 @@ use mathlib.Core.Logic.{dite}
 use native.Mathlib.Decide.{dec_le, ℕ_discrete}
 use mathlib.Core.Option.{some, some-injective, some-ne-none}
 use lib.ListN.{get_elem?}
+use Rattle.ca_lists.proofs.Places.{get_set_here}
 use Rattle.ca_model.specs.declared.value.Object.{Object}
-use Rattle.ca_order_laws.proofs.Places.{get_set, get_else, set_length}
+use Rattle.ca_order_laws.proofs.Places.{get_else}
 use Rattle.ca_logs.specs.declared.log.CellLog.{CellLog}
 use Rattle.ca_logs.specs.Touched.{Touched, pairs, fresh, put_logs, logs_of, AreRising, AreBelow}
 use Rattle.ca_logs.proofs.Touching.{logs_length, fresh_length, fresh_at, rising_more, pairs_more}
@@ -247,11 +248,11 @@ get_put : (xs : List Held) → AreOnce xs → (logs : List CellLog) (i : ℕ) �
 unfolding found_or
 get_put [] o logs i l = refl
 get_put (x ∷ xs) o logs i l = let logs' : List CellLog = slice_set logs x.number x.log in
-    let rest = get_put xs o.1 logs' i (let z = set_length logs x.number x.log in omega (arith, z, l)) in
+    let rest = get_put xs o.1 logs' i (let z = length-set logs x.number x.log in omega (arith, z, l)) in
     dite (ℕ_discrete x.number i)
     (λ e. let was = log_at logs i l in
     rest ∙ (ap (λ (k : Option CellLog). found_or k (slice_get logs' i)) (ap (found xs) (sym e) ∙ o.0)
-    ∙ (ap (λ (n : ℕ). slice_get (slice_set logs n x.log) i) e ∙ (get_set logs i was.0 x.log was.1 ∙ sym (ap (λ (k : Option CellLog). found_or k (slice_get logs i)) (found_here x xs i e))))))
+    ∙ (ap (λ (n : ℕ). slice_get (slice_set logs n x.log) i) e ∙ (get_set_here logs i was.0 x.log was.1 ∙ sym (ap (λ (k : Option CellLog). found_or k (slice_get logs i)) (found_here x xs i e))))))
     (λ ne. rest ∙ (ap (found_or (found xs i)) (get_else logs x.number i x.log ne) ∙ ap (λ (k : Option CellLog). found_or k (slice_get logs i)) (sym (found_past x xs i ne))))
 
 past_none : (xs : List CellLog) (k : ℕ) (y : CellLog) → slice_get xs k ≡ Some y → k < length xs

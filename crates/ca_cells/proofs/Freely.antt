@@ -2,6 +2,7 @@
 use Rattle.std.proofs.Common.{◌≡◌, ℕ, zero, suc, ◌+◌, Bool, true, false, List, [], ◌∷◌, ◌++◌, All, map, Option, Some, None, Result, IfOk, sym, refl, ap, ◌∙◌, subst, arith}
 use Rattle.std.specs.Prelude.{slice_get}
 use Rattle.std.proofs.lemmas.List.Elements.{All-append}
+use Rattle.ca_lists.proofs.Places.{item_there}
 use Rattle.ca_program.specs.Plain.{PlainProgram}
 use Rattle.ca_model.specs.declared.value.Object.{Object}
 use Rattle.ca_model.specs.declared.value.Trap.{Trap}
@@ -42,11 +43,10 @@ use Rattle.ca_cells.specs.declared.rule.Given.{Given}
 use Rattle.ca_cells.proofs.Applies.{Making, all_may_run, receiver_in, NotStuck, ran_not_stuck, same_stop, NotKept, ran_not_kept}
 use Rattle.ca_cells.proofs.Courses.{on_ok}
 use Rattle.ca_cells.proofs.Histories.{same_ops, same_calls, same_ran}
-use Rattle.ca_beside.proofs.Present.{found_object}
 
 -- the receiver's object is there
 found_at : (p : PlainProgram) (h : List Object) (t : Task) → WellTyped p h (call_of t) → (o : Object) × (slice_get h t.op.receiver ≡ Some o)
-found_at p h t typed = found_object h t.op.receiver (receiver_in p h (call_of t) typed)
+found_at p h t typed = item_there h t.op.receiver (receiver_in p h (call_of t) typed)
 
 -- ---- by its definition
 

@@ -1,4 +1,5 @@
+pub mod Codes
+pub mod Laying
 pub mod Seen
 pub mod Texts
-pub mod Codes
 pub mod clauses

@@ -5,7 +5,7 @@ ghost use Rattle.ca_program.specs.Kinds.{kinds_in};
 ghost use Rattle.ca_program.specs.Layout.{all_acts};
 ghost use Rattle.ca_program.specs.Plain.{invoke, new_field, new_item, new_local, print_value, put_field, put_item};
 ghost use Rattle.ca_program.specs.View.{expression_view, expressions_view, program_view, statement_view};
-ghost use Rattle.ca_code.specs.clauses.Laying.{Adds};
+ghost use Rattle.ca_code.specs.Laying.{Adds};
 
 use crate::expressions::{MOST_SLOTS, stands};
 use crate::ins::Ins;

@@ -6,7 +6,7 @@ ghost use Rattle.ca_program.specs.Layout.{all_acts, no_acts, no_hands};
 ghost use Rattle.ca_program.specs.View.{program_view, statement_view};
 ghost use Rattle.ca_code.specs.Seen.{placed};
 ghost use Rattle.ca_code.specs.Texts.{IsCopied};
-ghost use Rattle.ca_code.specs.clauses.Laying.{Adds, HandsOn};
+ghost use Rattle.ca_code.specs.Laying.{Adds, HandsOn};
 
 use crate::ins::Row;
 use crate::rows::Rows;

@@ -8,7 +8,7 @@ ghost use Rattle.ca_code.specs.Texts.{body_code, method_code};
 ghost use Rattle.ca_code.specs.Codes.{IsLaidOutOnce, IsLaidOutWith, kinds_seen};
 ghost use Rattle.ca_code.specs.Seen.{row_of};
 ghost use Rattle.ca_code.specs.declared.ins.Ins.TheVariants.{Leave};
-ghost use Rattle.ca_code.specs.clauses.Laying.{Adds, Laying, laid};
+ghost use Rattle.ca_code.specs.Laying.{Adds, Laying, laid};
 ghost use Rattle.ca_code.specs.clauses.Places.{Lays};
 
 use crate::bodies::{Bodies, PlainBodies, ValueBodies};

@@ -2,7 +2,7 @@
 
 ghost use Rattle.std.specs.Prelude.{◌≡◌, ◌≤◌, [], ◌∷◌, ◌++◌, false, true, length, map, IfOk, OnOk, slice_get};
 ghost use Rattle.ca_code.specs.Seen.{placed, row_of};
-ghost use Rattle.ca_code.specs.clauses.Laying.{Adds, Puts, behind, laid};
+ghost use Rattle.ca_code.specs.Laying.{Adds, Puts, behind, laid};
 
 use crate::ins::{Ins, Row, reach};
 use std::alloc::{AllocError, Global};
@@ -24,7 +24,7 @@ pub struct Rows<'a> {
 impl<'a> Model for Rows<'a> {
     ghost use Rattle.std.specs.Coded.{codes};
     ghost use Rattle.ca_program.specs.contracts.program.Stmt as stmt;
-    ghost use Rattle.ca_code.specs.clauses.Laying.{Laying};
+    ghost use Rattle.ca_code.specs.Laying.{Laying};
 
     ghost Value = { Laying };
 

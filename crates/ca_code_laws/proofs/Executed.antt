@@ -12,6 +12,7 @@ use Rattle.ca_meaning.specs.Operators.{assigned}
 use Rattle.ca_meaning.specs.Expressions.{Out, gives, traps, over, take_step, value_at}
 use Rattle.ca_meaning.specs.Flows.{Flow, goes_on, gives_back, stops, runs_out, and_on, with, choose, Parts, line_of, turn_of, exec, exec_all, turn}
 use Rattle.ca_program.specs.declared.program.ValueType.{ValueType}
+use Rattle.ca_meaning.proofs.Putting.{put_stores}
 use Rattle.ca_code_laws.proofs.Words.{back}
 use Rattle.ca_code_laws.specs.Words.{word, read_as, has_kind}
 use Rattle.ca_program.specs.Kinds.{Kind, as_truth, Kinds, kinds_in, kind_of}
@@ -40,15 +41,6 @@ set_other (x ∷ ls) zero zero v ne = absurd (ne refl)
 set_other (x ∷ ls) zero (suc j) v ne = refl
 set_other (x ∷ ls) (suc i) zero v ne = refl
 set_other (x ∷ ls) (suc i) (suc j) v ne = set_other ls i j v (λ e. ne (ap suc e))
-
-pub put_is : (old v : Datum) → assigned change.Put old v ≡ v
-put_is (Long a) (Long b) = refl
-put_is (Long a) (Truth b) = refl
-put_is (Long a) Null = refl
-put_is (Long a) (Ref b) = refl
-put_is (Truth a) v = refl
-put_is Null v = refl
-put_is (Ref a) v = refl
 
 -- a local that was put
 pub local_put : (κs : ℕ → Kind) (base l : ℕ) (ls : List Datum) (v : Datum) (old f : Store) → l < length ls → Holds κs old base ls → read_as (κs l) (f (base + l)) ≡ v → ((j : ℕ) → j < length ls → j ≢ l → f (base + j) ≡ old (base + j)) → Holds κs f base (slice_set ls l v)
@@ -199,7 +191,7 @@ module _ {S P : Type 0} (acc : Accesses S) (code : Code) (alt : Otherwise acc co
           ends_does at k (length (expression_code ks line e l top)) f p (Valued base f l top (kind_of ks e)) (λ v. slice_set ls l (assigned change.Put (value_at ls l) v)) (parts.value line ls p e k) (run.values e t.2 line l ls p at k f h len good (omega (arith, below)) left holds)
           (λ v g q.
           let is : read_as (ks.locals l) (g (base + l)) ≡ v = ap (λ y. read_as y (g (base + l))) (sym t.1) ∙ q.0 in
-          subst (λ x. LocalsAt ks base top (slice_set ls l x) g) (sym (put_is (value_at ls l) v)) (local_put ks.locals base l ls v f g lt holds is (λ j lt ne. q.1 j (omega (arith, lt, len)) ne), length-set ls l v ∙ len))
+          subst (λ x. LocalsAt ks base top (slice_set ls l x) g) (sym (put_stores (value_at ls l) v)) (local_put ks.locals base l ls v f g lt holds is (λ j lt ne. q.1 j (omega (arith, lt, len)) ne), length-set ls l v ∙ len))
       puts op line l e ls p at k f h t len good left holds = updates op line l e ls p at k f h t len good left holds
 
       -- what a loop's body does, and the loop when it comes again

@@ -1,6 +1,7 @@
 -- The instructions of a statement that fits its layout do what it means, or the machine wants memory, whatever its values and its
 -- acts mean. No loop is handed on.
 use Rattle.std.proofs.Common.{◌≡◌, ℕ, ◌+◌, ◌<◌, ◌≤◌, List, ◌++◌, length, inr}
+use Rattle.std.proofs.lemmas.Option.{none-some}
 use Rattle.std.specs.Prelude.{Bool}
 use Rattle.ca_program.specs.declared.program.ValueType.{ValueType}
 use Rattle.ca_program.specs.Plain.{Expression, Statement, Statements, block, put_local, if_else, while_loop, for_loop, return_value, PlainProgram}
@@ -12,7 +13,7 @@ use Rattle.ca_program.specs.Layout.{stands, expression_code, operand_code, Acts,
 use Rattle.ca_code_laws.specs.Machine.{Store, Back, Accesses, State}
 use Rattle.ca_code_laws.specs.Told.{Holds}
 use Rattle.ca_code_laws.specs.Fitting.{Fits, FitsStatement, FitStatements}
-use Rattle.ca_code_laws.proofs.Steps.{none_is, goes_anyhow}
+use Rattle.ca_code_laws.proofs.Steps.{goes_anyhow}
 use Rattle.ca_code_laws.proofs.Evaluated.{Valued, Stood}
 use Rattle.ca_code_laws.proofs.Executed.{LocalsAt, body_of_loop, tail_of_loop, IsLoop, IsAct, acted, StatementParts, Means, statement_does, statements_do, loop_does}
 use Rattle.ca_code_laws.proofs.Instead.{or_wants, Gets, Does}
@@ -66,7 +67,7 @@ module _ {S P : Type 0} (acc : Accesses S) (code : Code) (pr : PlainProgram) (w 
       acting = λ x line ls p at k f is h t len good left holds. run.acting x line ls p at k f is h t len left holds;
       agains = λ x line ls p at k f is h t len good lt holds. run.agains x line ls p at k f is h t len lt holds;
       begins = λ line ls p x k plain none. run.begins line ls p x k plain;
-      handed = λ line ls p x at k f plain cx some h t len good left holds. absurd (none_is some);
+      handed = λ line ls p x at k f plain cx some h t len good left holds. absurd (none-some _ some);
       leaves = λ x t line ls p k good. goes_anyhow (exec parts line ls p x k);
       keeps = λ z l op e t line ls p k j v good is. inr (λ s w. w);
     }

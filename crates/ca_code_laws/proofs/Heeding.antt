@@ -1,6 +1,7 @@
 -- A run that heeds marks: a marked call and a marked loop are handed on, and where that isn't done they run unheeding.
 use Rattle.std.proofs.Common.{◌≡◌, ℕ, zero, suc, ◌+◌, ◌-◌, ◌<◌, ◌≤◌, List, [], ◌∷◌, ◌++◌, length, map, Option, Some, None, refl, sym, ap, ◌∙◌, subst, arith, length-append}
-use Rattle.std.specs.Prelude.{Bool, true, false, slice_get, cond, ◌&&◌}
+use Rattle.std.proofs.lemmas.Bool.{and_parts}
+use Rattle.std.specs.Prelude.{Bool, true, false, slice_get, cond}
 use Rattle.ca_program.specs.Plain.{PlainProgram, Statement, put_field, put_item, new_local, new_field, new_item, invoke, print_value, PlainMethod}
 use Rattle.ca_model.specs.declared.value.Value.{Value as Datum}
 use Rattle.ca_model.specs.declared.value.Value.TheVariants.{Long, Bool as Truth, Null, Ref}
@@ -48,21 +49,17 @@ loaded_below : (vs : List Datum) (f : Store) (first j : ℕ) → j < first → l
 loaded_below [] f first j lt = refl
 loaded_below (v ∷ vs) f first j lt = stored_there (loaded f (first + 1) vs) first j (word v) (λ e. absurd (omega (arith, lt, e))) ∙ loaded_below vs f (first + 1) j (omega (arith, lt))
 
-both_true : (a b : Bool) → (a && b) ≡ true → (a ≡ true) × (b ≡ true)
-both_true true b e = (refl, e)
-both_true false b e = cc
-
 -- values that were put are held
 pub loaded_is : (κs : ℕ → Kind) (kinds : List Kind) (vs : List Datum) (f : Store) (first : ℕ) → all_have kinds vs ≡ true → ((i : ℕ) (κ : Kind) → slice_get kinds i ≡ Some κ → κs i ≡ κ) → Holds κs (loaded f first vs) first vs
 loaded_is κs [] [] f first have fits i lt = absurd (omega (arith, lt))
 loaded_is κs [] (v ∷ vs) f first have fits i lt = cc
 loaded_is κs (κ ∷ kinds) [] f first have fits i lt = absurd (omega (arith, lt))
 loaded_is κs (κ ∷ kinds) (v ∷ vs) f first have fits zero lt =
-    let has = (both_true (has_kind κ v) (all_have kinds vs) have).0 in
+    let has = (and_parts (has_kind κ v) (all_have kinds vs) have).0 in
     ap (λ y. read_as y (loaded f first (v ∷ vs) (first + 0))) (fits 0 κ refl) ∙ ap (read_as κ) (stored_here (loaded f (first + 1) vs) first (first + 0) (word v) (omega arith)) ∙ back κ v has
 loaded_is κs (κ ∷ kinds) (v ∷ vs) f first have fits (suc i) lt =
     let e : first + suc i ≡ first + 1 + i = omega arith in
-    let others = (both_true (has_kind κ v) (all_have kinds vs) have).1 in
+    let others = (and_parts (has_kind κ v) (all_have kinds vs) have).1 in
     ap (read_as (κs (suc i))) (stored_there (loaded f (first + 1) vs) first (first + suc i) (word v) (λ e. absurd (omega (arith, e))) ∙ ap (loaded f (first + 1) vs) e) ∙ loaded_is (λ i. κs (suc i)) kinds vs f (first + 1) others (λ i κ e. fits (suc i) κ e) i (omega (arith, lt))
 
 -- what a call means whose run alone is done

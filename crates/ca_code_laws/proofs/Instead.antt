@@ -105,11 +105,7 @@ module _ {S : Type 0} (acc : Accesses S) (code : Code) (alt : Otherwise acc code
         let e : s.at + 1 + length cb ≡ s.at + length (i ∷ cb) = omega arith in
         comes_does s (s.at + 1) (length cb) (length (i ∷ cb)) k f x R e (steps acc code s (moved s (s.at + 1) k f x) i h.0 a) b le o (next h.1)
 
--- Where nothing else may be: an evaluation and then a statement, and one step and then.
+-- Where nothing else may be: one step and then.
 module _ {S : Type 0} (acc : Accesses S) (code : Code) {P : Type 0} (w : P → S) (κ : Kind) where
-  pub with_flows : {A : Type 0} (s : State S) (p : P) (ca cb : List Placed) (Q : A → Store → Type 0) (R : List Datum → Store → Type 0) (g : A → ℕ → Flow P) → s.world ≡ w p → HasAt code s.at (ca ++ cb) → (o : Out A) → (HasAt code s.at ca → Reaches acc code s (length ca) Q o) → ((v : A) (k : ℕ) (f : Store) → o ≡ gives v k → HasAt code (s.at + length ca) cb → Q v f → Below s.base s.slots f → k ≤ s.left → Flows acc code w κ (moved s (s.at + length ca) k f s.world) (length cb) R (g v k)) → Flows acc code w κ s (length (ca ++ cb)) R (with o p g)
-  with_flows s p ca cb Q R g same h o first next =
-      only (with_does acc code (nothing_else acc code) w κ s p ca cb Q R g same h o (λ h. inr (first h)) (λ v k f is h q b le. inr (next v k f is h q b le)))
-
   pub step_flows : (s : State S) (k : ℕ) (f : Store) (x : S) (i : Placed) (cb : List Placed) (R : List Datum → Store → Type 0) → HasAt code s.at (i ∷ cb) → ((next : Next S) → act acc code i.line (Some i.instruction) next s ≡ next (moved s (s.at + 1) k f x)) → Below s.base s.slots f → k ≤ s.left → (o : Flow P) → (HasAt code (s.at + 1) cb → Flows acc code w κ (moved s (s.at + 1) k f x) (length cb) R o) → Flows acc code w κ s (length (i ∷ cb)) R o
   step_flows s k f x i cb R h a b le o next = only (step_does acc code (nothing_else acc code) w κ s k f x i cb R h a b le o (λ h. inr (next h)))

@@ -2,6 +2,7 @@
 use Rattle.std.proofs.Common.{◌≡◌, ℕ, zero, suc, ◌+◌, ◌<◌, ◌≤◌, List, [], ◌∷◌, ◌++◌, length, Option, Some, None, refl, sym, ap, ◌∙◌, subst, ⊎_elim, arith, length-append, append_assoc, map, drop}
 use Rattle.std.specs.Prelude.{true, cond, slice_get, ℤ, pos}
 use Rattle.std.proofs.lemmas.Bool.{cases_lt}
+use Rattle.std.proofs.lemmas.Option.{none-some}
 use Rattle.ca_program.specs.Plain.{Statement, invoke, PlainMethod, PlainProgram}
 use Rattle.ca_program.specs.declared.program.ValueType.{ValueType}
 use Rattle.ca_program.specs.declared.program.ValueType.TheVariants.{Long as LongType, Bool as BoolType, Pointer}
@@ -25,7 +26,7 @@ use Rattle.ca_program.specs.Instructions.{Return, Code, Placed, on, IsAt, HasAt,
 use Rattle.ca_program.specs.Layout.{stands, expression_code, operand_code, no_acts, no_hands, statements_code, starts_code, others_of, width_of, function_code, FunctionsLaidOut, kinds_of}
 use Rattle.ca_code_laws.specs.Machine.{Store, store, Back, Accesses, State, Trapped, Spent, moved, returning, Comes, Ends}
 use Rattle.ca_code_laws.specs.Told.{Below, Holds, Returned}
-use Rattle.ca_code_laws.proofs.Steps.{stored_here, stored_there, has_front, has_back, joins, joins_end, steps, rests, Reaches, Flows, length_mapped, none_is}
+use Rattle.ca_code_laws.proofs.Steps.{stored_here, stored_there, has_front, has_back, joins, joins_end, steps, rests, Reaches, Flows, length_mapped}
 use Rattle.ca_code_laws.proofs.Values.{CallsRun, expression_runs, operand_runs}
 use Rattle.ca_code_laws.proofs.Evaluated.{Valued, Stood}
 use Rattle.ca_code_laws.proofs.Typed.{width_is, arguments_counted}
@@ -132,7 +133,7 @@ module _ {S : Type 0} (acc : Accesses S) (code : Code) (p : PlainProgram) (typed
         (f, rests acc code (there at k f), (holds, len), (λ j lt. refl), omega arith);
     agains = λ x line ls u at k f is h fits len good lt holds. agains s me b bs base top wide receiver x line ls u at k f is h fits.0 len good.1 lt holds;
     begins = λ line ls u x k plain e. refl;
-    handed = λ line ls u x at k f plain cx e h fits len good left holds. absurd (none_is e);
+    handed = λ line ls u x at k f plain cx e h fits len good left holds. absurd (none-some _ e);
   }
     where
       there : ℕ → ℕ → Store → State S

@@ -1,5 +1,6 @@
 -- Sections do what they mean: the same instructions, with another access.
 use Rattle.std.proofs.Common.{◌≡◌, ℕ, zero, suc, ◌+◌, ◌<◌, ◌≤◌, List, [], ◌∷◌, ◌++◌, length, Some, None, refl, sym, ap, ◌∙◌, subst, arith, length-append, map, Option, take, ◌⊎◌, ⊎_elim, inl, inr}
+use Rattle.std.proofs.lemmas.Option.{none-some}
 use Rattle.std.specs.Prelude.{true, false, cond, slice_get}
 use Rattle.ca_program.specs.declared.program.ClassId.{ClassId}
 use Rattle.ca_program.specs.declared.program.FieldId.{FieldId}
@@ -34,7 +35,7 @@ use Rattle.ca_code_laws.specs.Words.{read_as}
 use Rattle.ca_code_laws.specs.Machine.{Store, State, Finished, Trapped, Spent, Next, after, row, act, Ends, kinds_there}
 use Rattle.ca_code_laws.specs.Runs.{section_access, section_outcome}
 use Rattle.ca_code_laws.specs.Told.{Passed, Holds}
-use Rattle.ca_code_laws.proofs.Steps.{has_front, has_back, Within, joins_end, steps, steps_end, Flows, length_mapped, none_is}
+use Rattle.ca_code_laws.proofs.Steps.{has_front, has_back, Within, joins_end, steps, steps_end, Flows, length_mapped}
 use Rattle.ca_code_laws.proofs.Values.{CallsRun, expression_runs, operand_runs}
 use Rattle.ca_code_laws.proofs.Typed.{width_is, values_counted, arguments_counted, Sound}
 use Rattle.ca_code_laws.proofs.Quiet.{May, MayAll, separable_quiet}
@@ -160,7 +161,7 @@ module _ (p : PlainProgram) (code : Code) (typed : ProgramTyped p) (laid : Funct
     acts = made;
     agains = λ s line ls x at k f is hc fits len good lt holds. agains sc me base top wide receiver s line ls x at k f is hc fits.0 fits.1 len good.0 good.1 lt holds;
     begins = λ line ls x s k plain e. refl;
-    handed = λ line ls x s at k f plain cx e hc fits len good left holds. absurd (none_is e);
+    handed = λ line ls x s at k f plain cx e hc fits len good left holds. absurd (none-some _ e);
   }
     where
       nothing_made : {A : Type 0} → false ≡ true → A

@@ -1,5 +1,6 @@
 -- What notes nothing is the same, whatever of what is handed on is gone into: an instruction goes on alike, ends alike, or takes a note.
 use Rattle.std.proofs.Common.{◌≡◌, ℕ, zero, suc, ◌+◌, ◌-◌, List, [], ◌∷◌, ◌++◌, length, Option, Some, None, refl, sym, ap, ◌∙◌, subst, arith, length-append}
+use Rattle.std.proofs.lemmas.Option.{same_Some, none-some}
 use Rattle.std.specs.Prelude.{ℤ, Bool, true, false, cond, slice_get}
 use Rattle.ca_program.specs.Plain.{PlainProgram}
 use Rattle.ca_program.specs.Kinds.{Kind, as_long, as_truth, as_pointer, unary_kind, binary_kind}
@@ -27,19 +28,13 @@ longer w n x f e =
     let two : length x.notes ≡ length w.notes = ap length e in
     omega (arith, one, two, length-append (w.notes ++ n ∷ []) f.notes, length-append w.notes (n ∷ []))
 
-some_is : {A : Type 0} {x y : A} → Some x ≡ Some y → x ≡ y
-some_is e = cc
-
-none_is : {A : Type 0} {x : A} → None ≡ Some x → ⊥
-none_is e = cc
-
 noted_more : (w : World) (n : Note) (o : Outcome World) → Grown (noted w n) o → notes_in o ≡ Some w.notes → ⊥
-noted_more w n (Finished x k) g e = longer w n x g (some_is e)
-noted_more w n (Trapped t x) g e = longer w n x g (some_is e)
-noted_more w n (Spent x) g e = longer w n x g (some_is e)
-noted_more w n Wanting g e = none_is e
-noted_more w n (Unfinished s) g e = longer w n s.world g (some_is e)
-noted_more w n Stuck g e = none_is e
+noted_more w n (Finished x k) g e = longer w n x g (same_Some _ _ e)
+noted_more w n (Trapped t x) g e = longer w n x g (same_Some _ _ e)
+noted_more w n (Spent x) g e = longer w n x g (same_Some _ _ e)
+noted_more w n Wanting g e = none-some _ e
+noted_more w n (Unfinished s) g e = longer w n s.world g (same_Some _ _ e)
+noted_more w n Stuck g e = none-some _ e
 
 -- ---- an instruction in both
 

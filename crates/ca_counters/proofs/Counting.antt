@@ -1,5 +1,5 @@
 -- The counting program is well typed, its operations are separable, and a heap of its objects begins a round.
-use Rattle.std.proofs.Common.{◌≡◌, ℕ, zero, suc, ◌<◌, false, List, [], ◌∷◌, ◌++◌, length, Some, None, refl, sym, ap, ◌∙◌, subst, arith, pos, replicate}
+use Rattle.std.proofs.Common.{◌≡◌, ℕ, zero, suc, ◌<◌, false, List, [], ◌∷◌, Some, refl, ap, subst, arith, pos}
 use Rattle.std.specs.Prelude.{slice_get, Contains, FitsSigned}
 use Rattle.std.specs.Int.{w64}
 use Rattle.std.proofs.lemmas.Int.{ints}
@@ -14,12 +14,11 @@ use Rattle.ca_meaning.specs.Expressions.{invocation}
 use Rattle.ca_meaning.specs.Functions.{body_of}
 use Rattle.ca_meaning.specs.WellTyped.{WellTyped}
 use Rattle.ca_meaning.specs.ProgramTyped.{ProgramTyped, OperationTyped}
-use Rattle.ca_meaning.specs.Agree.{Agree, AgreesAt, HeapsAgree}
 use Rattle.ca_parallel.specs.Extents.{Extent, IsExtentOf}
 use Rattle.ca_parallel.specs.Separable.{AreSeparated}
 use Rattle.ca_order_laws.specs.Order.{StandsFor}
 use Rattle.ca_cells.specs.Rounds.{SeparableIn}
-use Rattle.ca_counters.specs.Counters.{counter, add, twice, operation, method, counts, calls_add, counters, start, starts}
+use Rattle.ca_counters.specs.Counters.{counter, twice, operation, method, counts, calls_add, counters, start, starts}
 
 fits_one : FitsSigned w64 (pos 1)
 fits_one = omega (arith, ints)

@@ -68,13 +68,7 @@ start = record { class = counter; slots = One (LongValue (pos 0)) ∷ [] }
 abbrev pub starts : ℕ → List Object
 starts n = replicate n start
 
--- cells that were made for so many of these objects, and an extent that has `twice`
-pub record IsSet (key : Given) (n : ℕ) : Type 0 where
-  pub program : program_of key ≡ counters
-  pub frozen : frozen_of key ≡ starts n
-  pub inside : Contains (extent_of key).ops twice
-
--- the same with an extent that has this operation
+-- cells that were made for so many of these objects, and an extent that has this operation
 pub record IsSetFor (op : OpId) (key : Given) (n : ℕ) : Type 0 where
   pub program : program_of key ≡ counters
   pub frozen : frozen_of key ≡ starts n

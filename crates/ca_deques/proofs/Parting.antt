@@ -2,6 +2,7 @@
 use Rattle.std.proofs.Common.{◌≡◌, ℕ, suc, ◌+◌, ◌<◌, get_or, List, [], ◌∷◌, ◌++◌, length, map, reverse, take, drop, slice_get, refl, sym, ap, ◌∙◌, arith, append_assoc, append-nil}
 use lib.Seq.{take-append_seam}
 use Rattle.std.proofs.lemmas.List.{length_push, reverse-append, map-append}
+use Rattle.ca_lists.proofs.Places.{get_in_front, get_last}
 use Rattle.ca_meaning.specs.Multisets.{weight}
 use Rattle.ca_order_laws.proofs.Weights.{weight_append}
 use Rattle.ca_logs.specs.declared.log.Task.{Task}
@@ -9,7 +10,6 @@ use Rattle.ca_deques.specs.Settings.{Setting, AllFit}
 use Rattle.ca_deques.specs.Hands.{IsUnused}
 use Rattle.ca_deques.specs.Thieves.{OwnerView, ThiefView, taken_by_thief}
 use Rattle.ca_deques.specs.Settling.{AreUnused, all_of as all_thieves}
-use Rattle.ca_deques.proofs.Places.{get_last, get_longer}
 use Rattle.ca_deques.proofs.Bands.{all_last}
 
 same_head : {A : Type 0} (a b : A) (xs ys : List A) → a ≡ b → xs ≡ ys → a ∷ xs ≡ b ∷ ys
@@ -50,7 +50,7 @@ pub mirrored : {A : Type 0} (xs ys : List A) → xs ≡ reverse ys → ys ≡ re
 mirrored xs ys e = sym (reverse_twice ys) ∙ ap reverse (sym e)
 
 pub last_unused : (owners news : List OwnerView) (o : OwnerView) → owners ≡ news ++ o ∷ [] → AreUnused owners → IsUnused o.hand × AreUnused news
-last_unused owners news o e u = (u (length news) o (ap (λ (l : List OwnerView). slice_get l (length news)) e ∙ get_last news o), λ d x there. u d x (ap (λ (l : List OwnerView). slice_get l d) e ∙ get_longer news (o ∷ []) d x there))
+last_unused owners news o e u = (u (length news) o (ap (λ (l : List OwnerView). slice_get l (length news)) e ∙ get_last news o), λ d x there. u d x (ap (λ (l : List OwnerView). slice_get l d) e ∙ get_in_front news (o ∷ []) d x there))
 
 pub last_stole_nothing : (bands news : List (List ThiefView)) (mine : List ThiefView) → bands ≡ news ++ mine ∷ [] → ((h : Task → ℕ) → weight (taken_by_thief h) (all_thieves bands) ≡ 0) → (h : Task → ℕ) → (weight (taken_by_thief h) mine ≡ 0) × (weight (taken_by_thief h) (all_thieves news) ≡ 0)
 last_stole_nothing bands news mine e z h = let q = ap (weight (taken_by_thief h)) (all_last news bands mine e) in let s = weight_append (taken_by_thief h) (all_thieves news) mine in let y = z h in (omega (arith, q, s, y), omega (arith, q, s, y))

@@ -3,7 +3,7 @@ use Rattle.std.proofs.Common.{◌≡◌, ℤ, Bool, true, false, ◌&&◌, ◌�
 use Rattle.std.specs.Prelude.{ℕ, Some}
 use Rattle.std.specs.Ordering.{int_eq}
 use Rattle.std.specs.Str.{bytes_eq}
-use Rattle.std.proofs.lemmas.Bool.{and_parts}
+use Rattle.std.proofs.lemmas.Bool.{and_parts, and_from}
 use Rattle.std.proofs.lemmas.Bool.Decides.{Decides-int_eq}
 use Rattle.std.proofs.lemmas.Slice.Eq.{bytes_eq-Decides}
 use Rattle.ca_tree.specs.declared.tree.BinaryOp.{BinaryOp}
@@ -85,11 +85,6 @@ sign_itself s = eq-eqb (sign_code s) (sign_code s) refl
 binary_itself : (o : BinaryOp) → same_binary o o ≡ true
 binary_itself o = eq-eqb (binary_code o) (binary_code o) refl
 
-two : (a b : Bool) → a ≡ true → b ≡ true → (a && b) ≡ true
-two true true p q = refl
-two true false p q = absurd cc
-two false b p q = absurd cc
-
 mutual
   -- the same as itself without places
   bare_is : (e : Expression) → same_expression (bare_expression e) (bare_expression e) ≡ true
@@ -98,20 +93,20 @@ mutual
   bare_is (null at) = refl
   bare_is (this at) = refl
   bare_is (named at n) = name_itself n
-  bare_is (call at n es) = two (bytes_eq n n) (same_expressions (bare_expressions es) (bare_expressions es)) (name_itself n) (all_bare es)
-  bare_is (field at e n) = two (bytes_eq n n) (same_expression (bare_expression e) (bare_expression e)) (name_itself n) (bare_is e)
+  bare_is (call at n es) = and_from (bytes_eq n n) (same_expressions (bare_expressions es) (bare_expressions es)) (name_itself n) (all_bare es)
+  bare_is (field at e n) = and_from (bytes_eq n n) (same_expression (bare_expression e) (bare_expression e)) (name_itself n) (bare_is e)
   bare_is (method at e n es) =
-      two (bytes_eq n n) (same_expression (bare_expression e) (bare_expression e) && same_expressions (bare_expressions es) (bare_expressions es)) (name_itself n)
-      (two (same_expression (bare_expression e) (bare_expression e)) (same_expressions (bare_expressions es) (bare_expressions es)) (bare_is e) (all_bare es))
-  bare_is (index at e i) = two (same_expression (bare_expression e) (bare_expression e)) (same_expression (bare_expression i) (bare_expression i)) (bare_is e) (bare_is i)
-  bare_is (unary at o e) = two (same_sign (unary_sign o) (unary_sign o)) (same_expression (bare_expression e) (bare_expression e)) (sign_itself (unary_sign o)) (bare_is e)
+      and_from (bytes_eq n n) (same_expression (bare_expression e) (bare_expression e) && same_expressions (bare_expressions es) (bare_expressions es)) (name_itself n)
+      (and_from (same_expression (bare_expression e) (bare_expression e)) (same_expressions (bare_expressions es) (bare_expressions es)) (bare_is e) (all_bare es))
+  bare_is (index at e i) = and_from (same_expression (bare_expression e) (bare_expression e)) (same_expression (bare_expression i) (bare_expression i)) (bare_is e) (bare_is i)
+  bare_is (unary at o e) = and_from (same_sign (unary_sign o) (unary_sign o)) (same_expression (bare_expression e) (bare_expression e)) (sign_itself (unary_sign o)) (bare_is e)
   bare_is (binary at o a b) =
-      two (same_binary o o) (same_expression (bare_expression a) (bare_expression a) && same_expression (bare_expression b) (bare_expression b)) (binary_itself o)
-      (two (same_expression (bare_expression a) (bare_expression a)) (same_expression (bare_expression b) (bare_expression b)) (bare_is a) (bare_is b))
+      and_from (same_binary o o) (same_expression (bare_expression a) (bare_expression a) && same_expression (bare_expression b) (bare_expression b)) (binary_itself o)
+      (and_from (same_expression (bare_expression a) (bare_expression a)) (same_expression (bare_expression b) (bare_expression b)) (bare_is a) (bare_is b))
 
   all_bare : (es : Expressions) → same_expressions (bare_expressions es) (bare_expressions es) ≡ true
   all_bare no_expressions = refl
-  all_bare (expression_and e es) = two (same_expression (bare_expression e) (bare_expression e)) (same_expressions (bare_expressions es) (bare_expressions es)) (bare_is e) (all_bare es)
+  all_bare (expression_and e es) = and_from (same_expression (bare_expression e) (bare_expression e)) (same_expressions (bare_expressions es) (bare_expressions es)) (bare_is e) (all_bare es)
 
 mutual
   -- places don't matter

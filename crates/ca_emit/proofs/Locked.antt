@@ -1,7 +1,7 @@
 -- The marks in the body of a parallel operation are those with which it keeps the lock discipline.
 use Rattle.std.proofs.Common.{◌≡◌, ℕ, zero, suc, ◌+◌, Bool, true, false, List, [], ◌∷◌, ◌++◌, map, Option, Some, Result, Ok, Err, IfOk, refl, sym, ap, ap₂, subst, ◌∙◌, if◌then◌else◌, true≢false, arith}
 use Rattle.std.specs.Prelude.{Contains, nat_eq, slice_get}
-use Rattle.std.proofs.lemmas.Bool.{eq-eqb, or_left, or_right}
+use Rattle.std.proofs.lemmas.Bool.{eq-eqb, or_left, or_right, false_from_ne_true}
 use Rattle.std.proofs.lemmas.List.Elements.{Contains-append_left, Contains-append_right}
 use Rattle.ca_tree.specs.declared.name.Place.{Place}
 use Rattle.ca_tree.specs.Plain.{Expression, Statement as Node, call_statement, MethodTree, TextTree}
@@ -144,10 +144,6 @@ lock_among p written (x ∷ xs) op (zero, below, is) e =
 lock_among p written (x ∷ xs) op (suc k, below, is) e =
     Contains-append_right (ops_if (takes_lock written (operation_body p x)) (x ∷ [])) (locked_of p written xs) op (lock_among p written xs op (k, omega (arith, below), is) e)
 
-pub is_false : (b : Bool) → (b ≡ true → ⊥) → b ≡ false
-is_false true h = absurd (h refl)
-is_false false h = refl
-
 -- extents of the same operations write the same fields
 free_in : (p : PlainProgram) (roots : List OpId) (x y : Extent) (op : OpId) → IsExtentOf p roots x → IsExtentOf p roots y → IsFree p x.written op → IsFree p y.written op
 free_in p roots x y op a b f = record { untouched = λ g c w. f.untouched g c ((a.written g).1 ((b.written g).0 w)) }
@@ -198,7 +194,7 @@ module _ (p : PlainProgram) (plan : PlainPlan) (is : PlanOf p plan) (checked : C
   is_free op none roots b x e there =
       let r = reached_from b in
       let without : takes_lock r.extent.written (operation_body p op) ≡ false =
-      is_false (takes_lock r.extent.written (operation_body p op)) (λ h. none (r.reaches (locked_in p) op (lock_among p r.extent.written r.extent.ops op (among_ops r x e op there) h))) in
+      false_from_ne_true (takes_lock r.extent.written (operation_body p op)) (λ h. none (r.reaches (locked_in p) op (lock_among p r.extent.written r.extent.ops op (among_ops r x e op there) h))) in
       free_in p roots r.extent x op r.holds e (free p op r.extent.written without).1
 
   module _ (sound : SoundMarks p plan.marks) (t : TextTree) (n : ℕ) (x : MethodTree) (found : slice_get (operations_of t.classes) n ≡ Some x) where

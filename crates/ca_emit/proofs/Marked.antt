@@ -1,7 +1,7 @@
 -- No mark of a call or a loop that runs in parallel is lost.
 use Rattle.std.proofs.Common.{◌≡◌, ℕ, zero, suc, ◌+◌, Bool, true, false, ◌||◌, List, [], ◌∷◌, ◌++◌, map, length, Option, Some, None, Result, Ok, Err, IfOk, refl, sym, ap, ap₂, subst, ◌∙◌, arith}
 use Rattle.std.specs.Prelude.{slice_get, nat_eq, Contains}
-use Rattle.std.proofs.lemmas.Bool.{or_right}
+use Rattle.std.proofs.lemmas.Bool.{or_right, false_from_ne_true, both_ways}
 use Rattle.std.proofs.lemmas.List.{length-map, length-append}
 use Rattle.ca_tree.specs.declared.name.Place.{Place}
 use Rattle.ca_tree.specs.Plain as tree
@@ -20,7 +20,7 @@ use Rattle.ca_plan.specs.Plans.{PlainPlan, op_at}
 use Rattle.ca_plan.specs.Texts.{loop_in}
 use Rattle.ca_emit.specs.Annotations.{annotated_text, before_statement, is_among, locked_bodies, marking_by, marking_of, marks_if, number_in, operations_of, parallel_bodies, parallel_ops, parallel_sites, picked, place_in, place_number, run_parallel, runs_parallel, sites_from, sites_in, sites_of_all, sites_of_method}
 use Rattle.ca_emit.specs.Locks.{Marks, MarksEach, MarkedText, SpawnsNothing}
-use Rattle.ca_emit.proofs.Locked.{behind, in_front, body_there, is_false}
+use Rattle.ca_emit.proofs.Locked.{behind, in_front, body_there}
 
 -- ---- as many flags as lines
 
@@ -113,9 +113,6 @@ spawned false false sites e at h = (refl, refl)
 is_plain : (locked parallel sites : Place → Bool) (at : Place) → SpawnsNothing (marking_by locked parallel sites) at → IsPlain locked parallel (Some at)
 is_plain locked parallel sites at h = spawned (locked at) (parallel at) sites (tree.this at) at (h None (tree.call_statement at (tree.this at)))
 
-true_is_false : (b : Bool) → b ≡ true → b ≡ false → ⊥
-true_is_false b h g = absurd cc
-
 same_body : (ms : List MethodTree) (xs : List PlainMethod) (n : ℕ) (x : MethodTree) → AllBodies SameSites ms xs → slice_get ms n ≡ Some x → SameSites x.body (body_of (slice_get xs n))
 same_body [] xs n x h e = absurd cc
 same_body (m ∷ ms) [] n x h e = absurd h
@@ -155,7 +152,7 @@ module _ (p : PlainProgram) (plan : PlainPlan) (t : TextTree) (resolves : Progra
       let bodies = place_in (parallel_bodies plan t) in
       let plain = is_plain (place_in (locked_bodies p plan t)) bodies (place_in (parallel_sites p plan t)) x.at quiet in
       let at_zero : n ≡ 0 + n = omega arith in
-      let none : op_in ops (op_at (0 + n)) ≡ false = is_false (op_in ops (op_at (0 + n))) (λ h. let there : bodies x.at ≡ true = body_there ops 0 n (operations_of t.classes) x found h in absurd (true_is_false (bodies x.at) there plain.1)) in
+      let none : op_in ops (op_at (0 + n)) ≡ false = false_from_ne_true (op_in ops (op_at (0 + n))) (λ h. let there : bodies x.at ≡ true = body_there ops 0 n (operations_of t.classes) x found h in absurd (both_ways (bodies x.at) plain.1 there)) in
       let same = same_body (operations_of t.classes) p.ops n x (sites_paired t p resolves).operations found in
       marks_each plan.marks (place_in (locked_bodies p plan t)) bodies (place_in (parallel_sites p plan t)) (Some x.at) x.body (operation_body p (op_at n)) same plain
       (λ at h. has_left (sites_from p plan.marks ops 0 (operations_of t.classes)) (sites_in plan.marks false t.main p.main.statements) at

@@ -1,6 +1,5 @@
 -- Two plans of one program annotate a tree alike.
-use Rattle.std.proofs.Common.{◌≡◌, ◌+◌, ℕ, suc, List, [], ◌∷◌, ◌++◌, Some, length, refl, sym, ap, ap₂, ◌∙◌, subst, arith}
-use Rattle.std.specs.Prelude.{slice_get}
+use Rattle.std.proofs.Common.{◌≡◌, ◌+◌, ℕ, suc, List, [], ◌∷◌, ◌++◌, length, refl, sym, ap, ap₂, ◌∙◌, arith}
 use Rattle.ca_tree.specs.Plain.{TextTree}
 use Rattle.ca_program.specs.declared.program.LoopId.{LoopId}
 use Rattle.ca_program.specs.declared.program.OpId.{OpId}
@@ -11,31 +10,19 @@ use Rattle.ca_parallel.specs.Lists.{PlainMarks, op_in}
 use Rattle.ca_parallel.proofs.OneExtent.{one_extent}
 use Rattle.ca_canonical.specs.Annotated.{annotated}
 use Rattle.ca_canonical.specs.Texts.{text_of_pieces}
-use Rattle.ca_plan.specs.Plans.{Judged, JudgedLoop, IsJudged, IsJudgedLoop, PlainPlan, PlanOf, op_at, call_loops}
+use Rattle.ca_plan.specs.Plans.{Judged, JudgedLoop, IsJudgedLoop, PlainPlan, PlanOf, op_at, call_loops}
 use Rattle.ca_plan.specs.Texts.{loop_in}
 use Rattle.ca_plan.proofs.Made.{site_is}
-use Rattle.ca_plan.proofs.OnePlan.{one_marks}
+use Rattle.ca_plan.proofs.OnePlan.{one_marks, Each, each_first, each_rest, EachLoop, from_zero}
 use Rattle.ca_emit.specs.Annotations.{all_ops, all_sites, annotated_text, bodies_from, locked_in, locked_ops, marking_by, operations_of, ops_if, parallel_ops, place_in, reached, reached_by_loops, reached_by_ops}
-
-abbrev Each : PlainProgram → ℕ → List Judged → Type 0
-Each p n js = (k : ℕ) (j : Judged) → slice_get js k ≡ Some j → IsJudged p (op_at (n + k) ∷ []) j
-
-first : (p : PlainProgram) (n : ℕ) (x : Judged) (xs : List Judged) → Each p n (x ∷ xs) → IsJudged p (op_at n ∷ []) x
-first p n x xs each = let m : n + 0 ≡ n = omega arith in subst (λ z. IsJudged p (op_at z ∷ []) x) m (each 0 x refl)
-
-others : (p : PlainProgram) (n : ℕ) (x : Judged) (xs : List Judged) → Each p n (x ∷ xs) → Each p (n + 1) xs
-others p n x xs each k j e = let m : n + suc k ≡ (n + 1) + k = omega arith in subst (λ z. IsJudged p (op_at z ∷ []) j) m (each (suc k) j e)
 
 same_ops : (of : Extent → List OpId) (p : PlainProgram) (marked : List OpId) (n : ℕ) (xs ys : List Judged) → length xs ≡ length ys → Each p n xs → Each p n ys → reached_by_ops of marked n xs ≡ reached_by_ops of marked n ys
 same_ops of p marked n [] [] e a b = refl
 same_ops of p marked n [] (y ∷ ys) e a b = absurd (omega (arith, e))
 same_ops of p marked n (x ∷ xs) [] e a b = absurd (omega (arith, e))
 same_ops of p marked n (x ∷ xs) (y ∷ ys) e a b =
-    ap₂ (λ (z : Extent) rest. ops_if (op_in marked (op_at n)) (of z) ++ rest) (one_extent p (op_at n ∷ []) x.extent y.extent (first p n x xs a).extent (first p n y ys b).extent)
-    (same_ops of p marked (n + 1) xs ys (omega (arith, e)) (others p n x xs a) (others p n y ys b))
-
-abbrev EachLoop : PlainProgram → List Statement → List JudgedLoop → Type 0
-EachLoop p ss ls = (n : ℕ) (s : Statement) (l : JudgedLoop) → slice_get ss n ≡ Some s → slice_get ls n ≡ Some l → IsJudgedLoop p s l
+    ap₂ (λ (z : Extent) rest. ops_if (op_in marked (op_at n)) (of z) ++ rest) (one_extent p (op_at n ∷ []) x.extent y.extent (each_first p n x xs a).extent (each_first p n y ys b).extent)
+    (same_ops of p marked (n + 1) xs ys (omega (arith, e)) (each_rest p n x xs a) (each_rest p n y ys b))
 
 same_loop : (of : Extent → List OpId) (p : PlainProgram) (marked : List LoopId) (s : Statement) (x y : JudgedLoop) → IsJudgedLoop p s x → IsJudgedLoop p s y → ops_if (loop_in marked x.site) (of x.judged.extent) ≡ ops_if (loop_in marked y.site) (of y.judged.extent)
 same_loop of p marked s x y a b =
@@ -52,13 +39,10 @@ same_loops of p marked (s ∷ ss) (x ∷ xs) (y ∷ ys) e f a b =
     ap₂ (λ u v. u ++ v) (same_loop of p marked s x y (a 0 s x refl refl) (b 0 s y refl refl))
     (same_loops of p marked ss xs ys (omega (arith, e)) (omega (arith, f)) (λ n t l g h. a (suc n) t l g h) (λ n t l g h. b (suc n) t l g h))
 
-zeroth : (p : PlainProgram) (js : List Judged) → ((k : ℕ) (j : Judged) → slice_get js k ≡ Some j → IsJudged p (op_at k ∷ []) j) → Each p 0 js
-zeroth p js each k j e = let m : k ≡ 0 + k = omega arith in subst (λ z. IsJudged p (op_at z ∷ []) j) m (each k j e)
-
 same_reached : (of : Extent → List OpId) (p : PlainProgram) (x y : PlainPlan) → PlanOf p x → PlanOf p y → reached of x ≡ reached of y
 same_reached of p x y a b =
     ap (λ (m : PlainMarks). reached_by_ops of m.ops 0 x.ops ++ reached_by_loops of m.loops x.loops) (one_marks p x y a b)
-    ∙ ap₂ (λ u v. u ++ v) (same_ops of p y.marks.ops 0 x.ops y.ops (a.as_many ∙ sym b.as_many) (zeroth p x.ops a.ops) (zeroth p y.ops b.ops))
+    ∙ ap₂ (λ u v. u ++ v) (same_ops of p y.marks.ops 0 x.ops y.ops (a.as_many ∙ sym b.as_many) (from_zero p x.ops a.ops) (from_zero p y.ops b.ops))
     (same_loops of p y.marks.loops (call_loops p) x.loops y.loops a.each_loop b.each_loop a.loops b.loops)
 
 -- the text, by what of a plan it tells

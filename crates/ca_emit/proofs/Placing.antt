@@ -1,7 +1,7 @@
 -- Numbers that are found by halving.
-use Rattle.std.proofs.Common.{◌≡◌, ◌<◌, ◌≤◌, ◌⊎◌, inl, inr, ℕ, zero, suc, Bool, true, false, List, length, get_or, Result, Ok, Err, refl, sym, arith}
+use Rattle.std.proofs.Common.{◌≡◌, ◌<◌, ◌≤◌, ◌⊎◌, inl, inr, ℕ, Bool, true, false, List, length, get_or, Result, Ok, Err, refl, sym, arith}
 use Rattle.std.specs.Prelude.{nat_eq, is_ok, MatchResult}
-use Rattle.std.proofs.lemmas.Bool.{eq-eqb, eqb-true}
+use Rattle.std.proofs.lemmas.Bool.{eq-eqb, eqb-true, cases_lt}
 use Rattle.std.proofs.lemmas.List.Folds.{list_any_at, list_any_none}
 use Rattle.std.proofs.lemmas.List.{get_or_default}
 use Rattle.ca_emit.specs.Annotations.{number_in}
@@ -13,17 +13,8 @@ different a b n = at (nat_eq a b) refl
     at true e = absurd (n (eqb-true a b e))
     at false e = refl
 
-split : (k i : ℕ) → (k < i) ⊎ (i ≤ k)
-split k zero = inr (omega arith)
-split zero (suc i) = inl (omega arith)
-split (suc k) (suc i) = at (split k i)
-  where
-    at : (k < i) ⊎ (i ≤ k) → (suc k < suc i) ⊎ (suc i ≤ suc k)
-    at (inl l) = inl (omega (arith, l))
-    at (inr l) = inr (omega (arith, l))
-
 apart : (xs : List ℕ) (n i : ℕ) → ((k : ℕ) → k < i → get_or xs k 0 < n) → ((k : ℕ) → i ≤ k → k < length xs → n < get_or xs k 0) → (k d : ℕ) → k < length xs → get_or xs k d ≡ n → ⊥
-apart xs n i below above k d l e = at (split k i)
+apart xs n i below above k d l e = at (cases_lt k i)
   where
     at : (k < i) ⊎ (i ≤ k) → ⊥
     at (inl h) = let less : get_or xs k 0 < n = below k h in let same : get_or xs k d ≡ get_or xs k 0 = get_or_default xs k d 0 l in omega (arith, less, same, e)

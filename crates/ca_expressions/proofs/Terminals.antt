@@ -1,6 +1,7 @@
 -- What a terminal that was read says of the token that stands there, and of every other test of it.
-use Rattle.std.proofs.Common.{◌≡◌, ℕ, ℤ, pos, List, [], Bool, true, false, cond, nat_eq, Option, Some, None, refl, ◌∙◌, ap}
+use Rattle.std.proofs.Common.{◌≡◌, ℕ, ℤ, pos, List, [], cond, nat_eq, Option, Some, None, refl, ◌∙◌, ap}
 use Rattle.std.proofs.lemmas.Bool.{eq-eqb}
+use Rattle.std.proofs.lemmas.Option.{cond_some}
 use Rattle.ca_descent.specs.Exact.{Unlimited, Sees, sees, head_of}
 use Rattle.ca_descent.proofs.Exact.{sees_default}
 use Rattle.ca_descent.proofs.Parts.{Part}
@@ -15,10 +16,6 @@ use Rattle.ca_tree.specs.Codes.{key_code, sign_code}
 use Rattle.ca_tree.proofs.Table.{is_key, is_sign}
 use Rattle.ca_expressions.specs.Terminals.{key_of, sign_of, name_of, number_of, key, sign, name, number}
 
-on : {A : Type 0} (b : Bool) (x y : A) → cond b (Some x) None ≡ Some y → (b ≡ true) × (x ≡ y)
-on true x y h = (refl, cc)
-on false x y h = absurd cc
-
 -- a test of a token is one of its kind and its place
 abbrev pub test : {A : Type 0} → (Kind → Place → Option A) → Token → Option A
 test f t = f t.kind t.at
@@ -26,7 +23,7 @@ test f t = f t.kind t.at
 pub key_kind : {A : Type 0} (f : Kind → Place → Option A) (k : Keyword) (x : Kind) (at p : Place) → key_of k x at ≡ Some p
     → f x at ≡ f (KeyKind k) p
 key_kind f k (KeyKind w) at p h =
-    let e = on _ at p h in ap (λ z. f (KeyKind z) at) (is_key w k e.0) ∙ ap (λ z. f (KeyKind k) z) e.1
+    let e = cond_some _ at p h in ap (λ z. f (KeyKind z) at) (is_key w k e.0) ∙ ap (λ z. f (KeyKind k) z) e.1
 key_kind f k (SignKind w) at p h = absurd cc
 key_kind f k (Word n) at p h = absurd cc
 key_kind f k (Number n) at p h = absurd cc
@@ -34,7 +31,7 @@ key_kind f k (Number n) at p h = absurd cc
 pub sign_kind : {A : Type 0} (f : Kind → Place → Option A) (k : Sign) (x : Kind) (at p : Place) → sign_of k x at ≡ Some p
     → f x at ≡ f (SignKind k) p
 sign_kind f k (SignKind w) at p h =
-    let e = on _ at p h in ap (λ z. f (SignKind z) at) (is_sign w k e.0) ∙ ap (λ z. f (SignKind k) z) e.1
+    let e = cond_some _ at p h in ap (λ z. f (SignKind z) at) (is_sign w k e.0) ∙ ap (λ z. f (SignKind k) z) e.1
 sign_kind f k (KeyKind w) at p h = absurd cc
 sign_kind f k (Word n) at p h = absurd cc
 sign_kind f k (Number n) at p h = absurd cc

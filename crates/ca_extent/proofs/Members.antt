@@ -1,21 +1,9 @@
 -- What a list made from another one holds.
-use Rattle.std.proofs.Common.{◌≡◌, ◌⊎◌, inl, inr, zero, suc, ◌<◌, List, [], ◌∷◌, ◌++◌, map, length, get_or, refl, sym, ap, ◌∙◌, subst, arith}
+use Rattle.std.proofs.Common.{◌≡◌, ◌⊎◌, inl, inr, ◌<◌, List, [], ◌∷◌, ◌++◌, map, length, get_or, sym, ◌∙◌, subst, arith}
 use Rattle.std.specs.Prelude.{Contains, flat_map}
 use Rattle.std.proofs.lemmas.List.{length-map, get_or-map}
 use Rattle.std.proofs.lemmas.List.Elements.{Contains-get_or, Contains-append_left, Contains-append_right, Contains-append_cases}
-
-at_front : {A : Type 0} (x y : A) (xs : List A) → Contains (x ∷ xs) y → (x ≡ y) ⊎ Contains xs y
-at_front x y xs (zero, below, is) = inl is
-at_front x y xs (suc k, below, is) = inr (k, omega (arith, below), is)
-
-front : {A : Type 0} (x : A) (xs : List A) → Contains (x ∷ xs) x
-front x xs = (zero, omega arith, refl)
-
-behind : {A : Type 0} (x y : A) (xs : List A) → Contains xs y → Contains (x ∷ xs) y
-behind x y xs (k, below, is) = (suc k, omega (arith, below), is)
-
-pub into_map : {A B : Type 0} (f : A → B) (xs : List A) (x : A) → Contains xs x → Contains (map f xs) (f x)
-into_map f xs x (k, below, is) = (k, omega (arith, below, length-map xs f), get_or-map f xs k x (f x) below ∙ ap f is)
+use Rattle.ca_lists.proofs.Members.{has_first, has_further, first_or_behind}
 
 pub from_map : {A B : Type 0} (f : A → B) (xs : List A) (y : B) → Contains (map f xs) y → (x : A) × Contains xs x × (f x ≡ y)
 from_map f [] y (k, below, is) = absurd (omega (arith, below))
@@ -25,7 +13,7 @@ from_map f (x ∷ xs) y (k, below, is) =
 
 pub into_flat_map : {A B : Type 0} (f : A → List B) (xs : List A) (x : A) (y : B) → Contains xs x → Contains (f x) y → Contains (flat_map f xs) y
 into_flat_map f [] x y (k, below, is) d = absurd (omega (arith, below))
-into_flat_map {B = B} f (z ∷ zs) x y c d = from (at_front z x zs c) (λ b. into_flat_map f zs x y b d)
+into_flat_map {B = B} f (z ∷ zs) x y c d = from (first_or_behind z x zs c) (λ b. into_flat_map f zs x y b d)
   where
     from : (z ≡ x) ⊎ Contains zs x → (Contains zs x → Contains (flat_map f zs) y) → Contains (f z ++ flat_map f zs) y
     from (inl e) more = Contains-append_left (f z) (flat_map f zs) y (subst (λ u. Contains (f u) y) (sym e) d)
@@ -36,5 +24,5 @@ from_flat_map f [] y (k, below, is) = absurd (omega (arith, below))
 from_flat_map {A} f (z ∷ zs) y c = from (Contains-append_cases (f z) (flat_map f zs) y c) (λ d. from_flat_map f zs y d)
   where
     from : Contains (f z) y ⊎ Contains (flat_map f zs) y → (Contains (flat_map f zs) y → (x : A) × Contains zs x × Contains (f x) y) → (x : A) × Contains (z ∷ zs) x × Contains (f x) y
-    from (inl d) more = (z, front z zs, d)
-    from (inr d) more = let r = more d in (r.0, behind z r.0 zs r.1, r.2)
+    from (inl d) more = (z, has_first z zs, d)
+    from (inr d) more = let r = more d in (r.0, has_further z r.0 zs r.1, r.2)

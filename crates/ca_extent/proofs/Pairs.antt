@@ -1,11 +1,12 @@
 -- The order of pairs of numbers.
-use Rattle.std.proofs.Common.{◌≡◌, inl, inr, ℕ, ◌<◌, ◌&&◌, Bool, true, false, eqb, List, get_or, Ordering, Less, Greater, suc, refl, ap₂, subst, arith, rules}
+use Rattle.std.proofs.Common.{◌≡◌, inl, inr, ℕ, ◌<◌, ◌&&◌, Bool, true, eqb, List, get_or, Ordering, Less, Greater, suc, ap₂, subst, arith, rules, eqb-true}
 use Rattle.std.specs.Cmp.{IsTotalOrder, IsEquivalence, ranks, nat_cmp_total, then_total, on_total, and_equiv, on_equiv, both_tied}
 use Rattle.std.specs.Ordering.{nat_cmp, is_eq, ordering_then, eq_by_cmp, MatchOrdering}
 use Rattle.std.specs.List.Sorted.{IsStrictlySortedBy}
 use Rattle.std.proofs.lemmas.Cmp.{by_ranked}
 use Rattle.std.proofs.lemmas.Map.Keys.{Less-from_sorted}
 use Rattle.std.proofs.lemmas.Option.{slice_get_within, get_or_from_slice_get}
+use Rattle.std.proofs.lemmas.Bool.{and_parts}
 use Rattle.ca_parallel.specs.ExtentsOf.{Rises}
 use Rattle.ca_extent.specs.clauses.Rising.{PairBefore}
 
@@ -30,16 +31,8 @@ pairs_tie x y = both_tied _ _ (nat_cmp x.0 y.0) (nat_cmp x.1 y.1) (number_ties x
 pub pairs_equal : IsEquivalence pair_eqb
 pairs_equal = and_equiv (on_equiv (λ (p : ℕ × ℕ). p.0) numbers_equal) (on_equiv (λ (p : ℕ × ℕ). p.1) numbers_equal)
 
-number_equal : (x y : ℕ) → eqb x y ≡ true → x ≡ y
-number_equal x y e = search rules
-
-both_true : (a b : Bool) → (a && b) ≡ true → (a ≡ true) × (b ≡ true)
-both_true true true e = (refl, refl)
-both_true true false e = absurd cc
-both_true false b e = absurd cc
-
 pub equal_pairs : (x y : ℕ × ℕ) → pair_eqb x y ≡ true → x ≡ y
-equal_pairs x y e = let both = both_true (eqb x.0 y.0) (eqb x.1 y.1) e in ap₂ (λ (a b : ℕ). (a, b)) (number_equal x.0 y.0 both.0) (number_equal x.1 y.1 both.1)
+equal_pairs x y e = let both = and_parts (eqb x.0 y.0) (eqb x.1 y.1) e in ap₂ (λ (a b : ℕ). (a, b)) (eqb-true x.0 y.0 both.0) (eqb-true x.1 y.1 both.1)
 
 less_means : (x y : ℕ) → nat_cmp x y ≡ Less → x < y
 less_means x y e = subst (λ o. MatchOrdering o (x < y) (x ≡ y) (y < x)) e (ranks x y)

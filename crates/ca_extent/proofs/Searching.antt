@@ -4,7 +4,7 @@ use Rattle.std.proofs.Math.ListN.{set}
 use Rattle.std.specs.Prelude.{Contains, replicate}
 use Rattle.std.proofs.lemmas.List.{length-append, length-set, get_or_append_left, get_or-set_same, get_or-set_other, get_or_default, get_or-replicate, get_or_past, length-replicate}
 use Rattle.std.proofs.lemmas.List.Elements.{Contains-get_or, Contains-append_left, Contains-append_right, Contains-append_cases}
-use Rattle.std.proofs.lemmas.Bool.{cases_lt, cases_eq}
+use Rattle.std.proofs.lemmas.Bool.{cases_lt, cases_eq, both_ways}
 use Rattle.ca_extent.specs.clauses.Reached.{Reached, from_root, onward, Turn, read, passed}
 
 -- how many numbers the bodies have that are not read yet
@@ -42,13 +42,10 @@ pub starts : (next : ℕ → List ℕ) (roots : List ℕ) (marks : List Bool) (k
 starts next roots marks k e = record {
   reached = λ n c. from_root c;
   begun = λ n c. c;
-  led = λ n m is c. absurd (apart (subst (λ ms. get_or ms n false ≡ true) e is) (unmarked k n));
+  led = λ n m is c. absurd (both_ways _ (unmarked k n) (subst (λ ms. get_or ms n false ≡ true) e is));
   seen = λ n h below. absurd (omega (arith, h));
   within = omega arith;
 }
-  where
-    apart : {b : Bool} → b ≡ true → b ≡ false → ⊥
-    apart p q = absurd cc
 
 seen_more : (marks : List Bool) (met : List ℕ) (done : ℕ)
     → ((k : ℕ) → k < done → get_or met k 0 < length marks → get_or marks (get_or met k 0) false ≡ true)

@@ -1,14 +1,9 @@
 -- A list that is read item by item: what was found, and what is found in the items that are left.
-use Rattle.std.proofs.Common.{◌≡◌, ℕ, suc, ◌+◌, ◌<◌, ◌≤◌, List, [], ◌∷◌, ◌++◌, length, drop, get_or, sym, ap, ◌∙◌, arith, append_assoc, append-nil, subst, Result, Ok, Err}
+use Rattle.std.proofs.Common.{◌≡◌, ℕ, ◌+◌, ◌<◌, ◌≤◌, List, [], ◌∷◌, ◌++◌, length, drop, get_or, sym, ap, ◌∙◌, append_assoc, append-nil, subst, Result, Ok, Err}
 use Rattle.std.specs.Prelude.{IfOk}
 use Rattle.std.specs.Result.{result_and}
-use Rattle.std.proofs.Math.Seq.{drop-cons}
 use Rattle.std.proofs.lemmas.List.{drop_all, get_or_default}
-
-item_and_rest : {A : Type 0} (xs : List A) (i : ℕ) (x : A) → i < length xs → x ≡ get_or xs i x → drop i xs ≡ x ∷ drop (i + 1) xs
-item_and_rest xs i x h e =
-    let n : i + 1 ≡ suc i = omega arith in
-    drop-cons xs i x h ∙ (ap (λ y. y ∷ drop (suc i) xs) (sym e) ∙ ap (λ m. x ∷ drop m xs) (sym n))
+use Rattle.ca_lists.proofs.Places.{item_and_rest}
 
 -- one item more: `found` of a list is that of its first item, and then that of the others
 pub one_more : {A B : Type 0} (one : A → List B) (found : List A → List B) → ((x : A) (xs : List A) → found (x ∷ xs) ≡ one x ++ found xs)

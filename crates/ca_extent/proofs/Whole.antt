@@ -4,6 +4,7 @@ use Rattle.std.specs.Prelude.{Contains, flat_map, slice_get}
 use Rattle.std.specs.List.Sorted.{IsStrictlyIncreasing}
 use Rattle.std.proofs.lemmas.List.{length-map, get_or-map}
 use Rattle.std.proofs.lemmas.Option.{slice_get_within, get_or_from_slice_get, slice_get-get_or}
+use Rattle.ca_lists.proofs.Members.{map_has}
 use Rattle.ca_program.specs.declared.program.FieldId.{FieldId}
 use Rattle.ca_program.specs.declared.program.FunctionId.{FunctionId}
 use Rattle.ca_program.specs.declared.program.OpId.{OpId}
@@ -18,7 +19,7 @@ use Rattle.ca_extent.specs.clauses.Reached.{Reached, from_root, onward, calls_at
 use Rattle.ca_extent.specs.clauses.Rising.{PairBefore}
 use Rattle.ca_extent.specs.clauses.Targets.{written_at}
 use Rattle.ca_extent.proofs.Alike.{function_number, pair, all_calls_alike, all_targets_alike, all_functions_alike}
-use Rattle.ca_extent.proofs.Members.{into_map, from_map, into_flat_map, from_flat_map}
+use Rattle.ca_extent.proofs.Members.{from_map, into_flat_map, from_flat_map}
 
 -- ---- lists that rise, item by item
 
@@ -65,7 +66,7 @@ module _ (p : PlainProgram) (roots : List OpId) where
       subst (λ z. Contains (calls_of_all (body_of (slice_get p.ops n))) z) (ap op_of r.2) r.1
 
   call_to : (op callee : OpId) → Contains (calls_of_all (operation_body p op)) callee → Contains (calls_at Operations p.ops op.0) callee.0
-  call_to op callee c = subst (λ z. Contains z callee.0) (sym (all_calls_alike (body_of (slice_get p.ops op.0)))) (into_map op_number _ callee c)
+  call_to op callee c = subst (λ z. Contains z callee.0) (sym (all_calls_alike (body_of (slice_get p.ops op.0)))) (map_has op_number _ callee c)
 
   value_from : (n m : ℕ) → Contains (calls_at Functions p.ops n) m → Contains (functions_of_body (operation_body p (op_of n))) (function_of m)
   value_from n m c =
@@ -73,7 +74,7 @@ module _ (p : PlainProgram) (roots : List OpId) where
       subst (λ z. Contains (functions_of_body (body_of (slice_get p.ops n))) z) (ap function_of r.2) r.1
 
   value_to : (op : OpId) (m : FunctionId) → Contains (functions_of_body (operation_body p op)) m → Contains (calls_at Functions p.ops op.0) m.0
-  value_to op m c = subst (λ z. Contains z m.0) (sym (all_functions_alike (body_of (slice_get p.ops op.0)))) (into_map function_number _ m c)
+  value_to op m c = subst (λ z. Contains z m.0) (sym (all_functions_alike (body_of (slice_get p.ops op.0)))) (map_has function_number _ m c)
 
   inner_from : (n m : ℕ) → Contains (calls_at Functions p.functions n) m → Contains (functions_of_body (function_body p (function_of n))) (function_of m)
   inner_from n m c =
@@ -81,7 +82,7 @@ module _ (p : PlainProgram) (roots : List OpId) where
       subst (λ z. Contains (functions_of_body (body_of (slice_get p.functions n))) z) (ap function_of r.2) r.1
 
   inner_to : (n m : FunctionId) → Contains (functions_of_body (function_body p n)) m → Contains (calls_at Functions p.functions n.0) m.0
-  inner_to n m c = subst (λ z. Contains z m.0) (sym (all_functions_alike (body_of (slice_get p.functions n.0)))) (into_map function_number _ m c)
+  inner_to n m c = subst (λ z. Contains z m.0) (sym (all_functions_alike (body_of (slice_get p.functions n.0)))) (map_has function_number _ m c)
 
   target_from : (n : ℕ) (q : ℕ × ℕ) → Contains (written_at p.ops n) q → Contains (targets_of_all (operation_body p (op_of n))) (field_of q)
   target_from n q c =
@@ -89,7 +90,7 @@ module _ (p : PlainProgram) (roots : List OpId) where
       subst (λ z. Contains (targets_of_all (body_of (slice_get p.ops n))) z) (ap field_of r.2) r.1
 
   target_to : (op : OpId) (f : FieldId) → Contains (targets_of_all (operation_body p op)) f → Contains (written_at p.ops op.0) (pair f)
-  target_to op f c = subst (λ z. Contains z (pair f)) (sym (all_targets_alike (body_of (slice_get p.ops op.0)))) (into_map pair _ f c)
+  target_to op f c = subst (λ z. Contains z (pair f)) (sym (all_targets_alike (body_of (slice_get p.ops op.0)))) (map_has pair _ f c)
 
   root_from : (n : ℕ) → Contains (map op_number roots) n → Contains roots (op_of n)
   root_from n c = let r = from_map op_number roots n c in subst (λ z. Contains roots z) (ap op_of r.2) r.1
@@ -99,7 +100,7 @@ module _ (p : PlainProgram) (roots : List OpId) where
   invoked (onward {n} {m} r c) = called (invoked r) (call_from n m c)
 
   reached : {op : OpId} → Invokes p roots op → Reached (calls_at Operations p.ops) (map op_number roots) op.0
-  reached (root {op} c) = from_root (into_map op_number roots op c)
+  reached (root {op} c) = from_root (map_has op_number roots op c)
   reached (called {op} {callee} i c) = onward (reached i) (call_to op callee c)
 
   module _ (ops : List ℕ) (all : IsReached (calls_at Operations p.ops) (map op_number roots) ops) where
@@ -134,9 +135,9 @@ module _ (p : PlainProgram) (roots : List OpId) where
         → ExtentOf p roots (record { ops = map op_of ops; functions = map function_of functions; written = map field_of pairs })
     whole functions raw pairs values is up keeps adds_none = record {
       holds = record {
-        ops = λ op. (op_in op, λ i. into_map op_of ops op.0 (listed i));
-        functions = λ m. (function_in m, λ e. into_map function_of functions m.0 ((values.all m.0).1 (called_values e)));
-        written = λ f. (field_in f, λ w. into_map field_of pairs (pair f) (keeps (pair f) (subst (λ z. Contains z (pair f)) (sym is) (written f w))));
+        ops = λ op. (op_in op, λ i. map_has op_of ops op.0 (listed i));
+        functions = λ m. (function_in m, λ e. map_has function_of functions m.0 ((values.all m.0).1 (called_values e)));
+        written = λ f. (field_in f, λ w. map_has field_of pairs (pair f) (keeps (pair f) (subst (λ z. Contains z (pair f)) (sym is) (written f w))));
       };
       ops = rising_map op_of OpBefore (λ m n less. less) ops all.rises;
       functions = rising_map function_of FunctionBefore (λ m n less. less) functions values.rises;

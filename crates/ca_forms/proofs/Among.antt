@@ -1,16 +1,12 @@
 -- One operand more among others that rise.
 use Rattle.std.proofs.Common.{◌≡◌, ℕ, zero, suc, ◌+◌, ◌<◌, ◌≤◌, Bool, true, false, List, [], ◌∷◌, ◌++◌, length, take, drop, drop-cons, add-one, get_or, refl, sym, ap, subst, ◌∙◌, arith, Ordering, Less, Equal, Greater, is_eq}
 use Rattle.std.proofs.lemmas.List.{drop_all}
+use Rattle.std.specs.Cmp.{Equal-is}
 use Rattle.ca_sums.proofs.Collect.{Exact}
 use Rattle.ca_folds.specs.Operands.{merge}
-use Rattle.ca_folds.proofs.Rising.{Above, Rising, rising_merge, merge_turned, merge_inside}
+use Rattle.ca_folds.proofs.Rising.{Above, Rising, rising_merge, merge_turned, merge_inside, eq_true as is_tie}
 use Rattle.ca_forms.specs.clauses.Among.{AllBefore, NotBefore, is_first}
 use Rattle.ca_forms.proofs.Folding.{less_first, equal_first, greater_first, merge_none}
-
-is_tie : (o : Ordering) → is_eq o ≡ true → o ≡ Equal
-is_tie Less e = cc
-is_tie Equal e = refl
-is_tie Greater e = cc
 
 no_tie : (o : Ordering) → (o ≡ Equal → ⊥) → false ≡ is_eq o
 no_tie Less h = refl
@@ -61,14 +57,14 @@ module _ {F : Type 0} (R : F → F → Ordering) where
   pub put_gone : (xs : List F) (n : ℕ) (k : F) → AllBefore R k (take n xs) → is_first R k (drop n xs) ≡ true → merge true R xs (k ∷ []) ≡ take n xs ++ drop (suc n) xs
   put_gone [] zero k h e = cc
   put_gone [] (suc n) k h e = cc
-  put_gone (y ∷ ys) zero k h e = equal_first true R y k ys [] (is_tie (R y k) e) ∙ merge_none true R ys
+  put_gone (y ∷ ys) zero k h e = equal_first true R y k ys [] ((Equal-is (R y k)).0 e) ∙ merge_none true R ys
   put_gone (y ∷ ys) (suc n) k h e = less_first true R y k ys [] h.0 ∙ ap (λ z. y ∷ z) (put_gone ys n k h.1 e)
 
   -- or one of them does
   pub put_kept : (xs : List F) (n : ℕ) (k : F) → AllBefore R k (take n xs) → is_first R k (drop n xs) ≡ true → merge false R xs (k ∷ []) ≡ xs
   put_kept [] zero k h e = cc
   put_kept [] (suc n) k h e = cc
-  put_kept (y ∷ ys) zero k h e = equal_first false R y k ys [] (is_tie (R y k) e) ∙ ap (λ z. y ∷ z) (merge_none false R ys)
+  put_kept (y ∷ ys) zero k h e = equal_first false R y k ys [] ((Equal-is (R y k)).0 e) ∙ ap (λ z. y ∷ z) (merge_none false R ys)
   put_kept (y ∷ ys) (suc n) k h e = less_first false R y k ys [] h.0 ∙ ap (λ z. y ∷ z) (put_kept ys n k h.1 e)
 
   first_new : (b : Bool) (o : Ordering) (y k : F) (ys : List F) → R y k ≡ o → (o ≡ Less → ⊥) → is_eq o ≡ false → merge b R (y ∷ ys) (k ∷ []) ≡ k ∷ y ∷ ys

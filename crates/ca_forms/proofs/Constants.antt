@@ -4,6 +4,7 @@ use Rattle.std.proofs.lemmas.Bool.Decides.{nat_tests}
 use Rattle.ca_forms.specs.Plain.{PlainPart, PlainPolynomial, PlainMonomial, no_powers, power_and, product_and}
 use Rattle.ca_forms.specs.Lists.{monomial_of, polynomial_of}
 use Rattle.ca_forms.specs.Rules.{is_one, constancy}
+use Rattle.ca_forms.specs.clauses.Places.{is_nothing}
 
 pub positive : (n : ℕ) → (suc n == 0) ≡ false
 positive n = grind (arith, nat_tests)
@@ -11,6 +12,10 @@ positive n = grind (arith, nat_tests)
 pub one_of : (ps : List (PlainPart × ℕ)) → (length ps == 0) ≡ is_one (monomial_of ps)
 one_of [] = refl
 one_of (p ∷ ps) = positive (length ps)
+
+pub is_none : (ps : List (PlainMonomial × ℕ)) → (length ps == 0) ≡ is_nothing (polynomial_of ps)
+is_none [] = refl
+is_none (p ∷ ps) = positive (length ps)
 
 many_at : (m : PlainMonomial) (c : ℕ) (n : PlainMonomial) (d : ℕ) (f : PlainPolynomial) → None ≡ constancy (product_and m c (product_and n d f))
 many_at no_powers c n d f = refl

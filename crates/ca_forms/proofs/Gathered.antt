@@ -107,7 +107,7 @@ adds_scaled a b k d ps h = record {
 pub adds_more : (a b end : Sum PlainMonomial) (k : ℕ) (x : PlainMonomial × ℕ) (xs : Sum PlainMonomial) → Adds a b x.0 ((k * x.1) % (2 ^ 64)) → AddsSum b end k xs → AddsSum a end k (x ∷ xs)
 adds_more a b end k x xs h t = adds_both a b end k (x ∷ []) xs (adds_one a b k x.1 x.0 h) t
 
-add_flip : (m n : ℕ) → m + n ≡ n + m
+pub add_flip : (m n : ℕ) → m + n ≡ n + m
 add_flip m n = omega arith
 
 -- with one product more at the end

@@ -25,10 +25,10 @@ no_made op (node.Over (unary.Modulus n) a) h = refl
 no_made op (node.Over (unary.OwnItem s g n) a) h = refl
 no_made op n h = refl
 
-unequal : (m n : ℕ) → (m ≡ n → ⊥) → nat_eq m n ≡ false
+pub unequal : (m n : ℕ) → (m ≡ n → ⊥) → nat_eq m n ≡ false
 unequal m n h = grind (arith, nat_tests)
 
-equal : (m n : ℕ) → m ≡ n → nat_eq m n ≡ true
+pub equal : (m n : ℕ) → m ≡ n → nat_eq m n ≡ true
 equal m n h = grind (arith, nat_tests)
 
 pub not_one : (op : FoldOp) (ps : List (PlainPart × ℕ)) → (length ps ≡ 1 → ⊥) → false ≡ is_some (monomial_made op (monomial_of ps))
@@ -78,9 +78,6 @@ last_product op ps [] p s e h = some_of (nat_eq p.1 1) (monomial_made op p.0) s 
 last_product op ps (u ∷ []) p s e h = absurd (let x : None ≡ Some s = ap (λ z. made_in op (polynomial_of z)) (sym e) ∙ h in cc)
 last_product op ps (u ∷ (v ∷ us)) p s e h = absurd (let x : None ≡ Some s = ap (λ z. made_in op (polynomial_of z)) (sym e) ∙ h in cc)
 
-pub no_product : (op : FoldOp) (ps : List (PlainMonomial × ℕ)) (s : ℕ × List PlainScalar) → ps ≡ [] → made_in op (polynomial_of ps) ≡ Some s → ⊥
-no_product op ps s e h = absurd (let x : None ≡ Some s = ap (λ z. made_in op (polynomial_of z)) (sym e) ∙ h in cc)
-
 pub polynomial_back : (f : PlainPolynomial) → polynomial_of (products_of f) ≡ f
 polynomial_back no_products = refl
 polynomial_back (product_and m c f) = ap (product_and m c) (polynomial_back f)
@@ -88,15 +85,6 @@ polynomial_back (product_and m c f) = ap (product_and m c) (polynomial_back f)
 pub items_back : (xs : List PlainScalar) → items_of (scalars_of xs) ≡ xs
 items_back [] = refl
 items_back (x ∷ xs) = ap (λ ys. x ∷ ys) (items_back xs)
-
-some_same : {T : Type 0} (x y : T) → Some x ≡ Some y → x ≡ y
-some_same x y e = cc
-
-pub made_same : (b : Bool) (w : ℕ) (xs : List PlainScalar) (s : ℕ × List PlainScalar) → cond b (Some (w, xs)) None ≡ Some s → (w, xs) ≡ s
-made_same b w xs s e = some_same (w, xs) s (some_of b (Some (w, xs)) s e)
-
-pub made_none : (op : FoldOp) (n : Node) (s : ℕ × List PlainScalar) → ((o : FoldOp) (w : ℕ) (xs : PlainScalars) → n ≡ node.Fold o w xs → ⊥) → part_made op (part_of n) ≡ Some s → ⊥
-made_none op n s h e = absurd (let x : false ≡ true = no_made op n h ∙ ap is_some e in cc)
 
 pub opened_is : (op : FoldOp) (k : Option ℕ) (j : Option (ℕ × List PlainScalar)) (r : ℕ × List PlainScalar) (x : PlainScalar) → k ≡ None → is_some j ≡ true → ((s : ℕ × List PlainScalar) → j ≡ Some s → r ≡ s) → r ≡ parts_of op k j x
 opened_is op None (Some s) r x e h g = g s refl

@@ -1,13 +1,10 @@
 -- Powers of two monomials, merged one by one.
-use Rattle.std.proofs.Common.{◌≡◌, ℕ, ◌+◌, ◌<◌, ◌≤◌, ◌⊎◌, inl, inr, List, [], ◌∷◌, ◌++◌, Result, Ok, Err, length, get_or, drop, drop-cons, add-one, refl, sym, ap, ◌∙◌, Less, Equal, Greater}
+use Rattle.std.proofs.Common.{◌≡◌, ℕ, ◌+◌, ◌≤◌, ◌⊎◌, inl, inr, List, [], ◌∷◌, ◌++◌, Result, Ok, Err, length, drop, refl, sym, ap, ◌∙◌, Less, Equal, Greater}
 use Rattle.std.proofs.lemmas.List.{append_assoc, append-nil, drop_all}
 use Rattle.std.specs.Prelude.{IfOk, IsOkAnd}
 use Rattle.ca_forms.specs.Plain.{PlainPart}
 use Rattle.ca_forms.specs.Compare.{part_cmp}
 use Rattle.ca_forms.specs.Products.{joined, merge}
-
-pub item_and_rest : {X : Type 0} (xs : List X) (i : ℕ) (x : X) → i < length xs → x ≡ get_or xs i x → drop i xs ≡ x ∷ drop (i + 1) xs
-item_and_rest xs i x h e = rw (drop-cons xs i x h, ← e, add-one) refl
 
 -- one item is taken from what is left
 pub took : {X : Type 0} (old new rest whole all : List X) (z : X) → new ≡ old ++ z ∷ [] → whole ≡ z ∷ rest → old ++ whole ≡ all → new ++ rest ≡ all

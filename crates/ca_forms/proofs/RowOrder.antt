@@ -22,6 +22,7 @@ use Rattle.ca_forms.specs.ArrayRules.{row_if, joined_rows, put_row_at, put_row, 
 use Rattle.ca_forms.specs.clauses.Places.{is_nothing}
 use Rattle.ca_forms.proofs.Exact.{monomials_exact}
 use Rattle.ca_forms.proofs.Gathered.{products_polynomial, gathered_same_totals}
+use Rattle.ca_forms.proofs.Made.{polynomial_back}
 
 pub span_same : (s r : PlainSpan) → span_cmp s r ≡ Equal → s ≡ r
 span_same s r e = span_inj s r (tree_exact (span_code s) (span_code r) e)
@@ -156,10 +157,6 @@ module _ (F : PlainSpan × PlainMonomial → ℕ) where
 abbrev back : Rows PlainSpan PlainMonomial → PlainRows
 back [] = []
 back (r ∷ rs) = (r.0, polynomial_of r.1) ∷ back rs
-
-polynomial_back : (f : PlainPolynomial) → polynomial_of (products_of f) ≡ f
-polynomial_back no_products = refl
-polynomial_back (product_and m c f) = ap (product_and m c) (polynomial_back f)
 
 rows_back : (rs : PlainRows) → back (as_rows rs) ≡ rs
 rows_back [] = refl

@@ -1,7 +1,7 @@
 //! Parts of a term or a form, in boxes and in lists. Where memory runs out they are dropped here, in functions for values
 //! of all types, since a drop written out for a term or a form takes in each of its kinds.
 
-ghost use Rattle.std.specs.Prelude.{◌≡◌, ◌++◌, ◌∷◌, [], Ok, IfOk, OnOk, IsOkAnd, box_value};
+ghost use Rattle.std.specs.Prelude.{◌≡◌, ◌++◌, ◌∷◌, [], false, Ok, IfOk, OnOk, IsOkAnd, IfSome, IfNone, IsTrue, box_value};
 
 use std::alloc::{AllocError, Global};
 
@@ -62,4 +62,15 @@ pub fn longer<T: Drop>(items: Vec<T>, item: T) -> Result<Vec<T>, AllocError>
     let mut more = items;
     more.push(item)?;
     Ok(more)
+}
+
+/// Two values, unless they are alike.
+#[inline(never)]
+pub fn unless<T: Drop>(alike: bool, one: T, other: T) -> Option<(T, T)>
+    ensures first { IfSome result (λ p. p.0 ≡ one) }
+    ensures second { IfSome result (λ p. p.1 ≡ other) }
+    ensures differ { IfSome result (λ _. alike ≡ false) }
+    ensures same { IfNone result (IsTrue alike) }
+{
+    if alike { None } else { Some((one, other)) }
 }

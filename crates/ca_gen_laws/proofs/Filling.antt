@@ -1,8 +1,8 @@
 -- The loop of a table takes a step for each node.
-use Rattle.std.proofs.Common.{◌≡◌, ℕ, zero, suc, ◌+◌, ◌*◌, ◌<◌, ◌≤◌, List, [], ◌∷◌, ◌++◌, length, Bool, true, false, ◌⊎◌, inl, inr, refl, sym, ap, ◌∙◌, subst, arith}
-use Rattle.std.specs.Prelude.{Some, slice_get, slice_set, get_or, pos, ◌+ℤ◌, ◌||◌, nat_le, nat_lt, FitsSigned}
+use Rattle.std.proofs.Common.{◌≡◌, ℕ, zero, suc, ◌+◌, ◌*◌, ◌<◌, ◌≤◌, List, [], ◌∷◌, ◌++◌, length, false, ◌⊎◌, inl, inr, refl, sym, ap, ◌∙◌, subst, arith}
+use Rattle.std.specs.Prelude.{Some, slice_get, slice_set, get_or, pos, ◌+ℤ◌, nat_le, nat_lt, FitsSigned}
 use Rattle.std.specs.Int.{int_wrap, w64}
-use Rattle.std.proofs.lemmas.Bool.{lt-ltb, le-ltb, lt-leb}
+use Rattle.std.proofs.lemmas.Bool.{lt-ltb, le-ltb, lt-leb, or_from, cases_eq}
 use Rattle.std.proofs.lemmas.Int.{int_wrap_fits, ints}
 use Rattle.std.proofs.lemmas.List.{length-append, length-set, get_or-set_same, get_or-set_other}
 use Rattle.std.proofs.lemmas.Option.{slice_get-get_or, get_or_from_slice_get}
@@ -19,7 +19,6 @@ use Rattle.ca_meaning.specs.Flows.{Flow, goes_on, and_on, with, choose, exec, tu
 use Rattle.ca_meaning.specs.Serial.{World, in_heap, unless_full, put_own, operations_of, serial_parts}
 use Rattle.ca_meaning.proofs.Fix.{loop_runs}
 use Rattle.ca_gen_laws.proofs.Program.{field, node, table, the_local, fill_loop, the_program}
-use Rattle.ca_gen_laws.proofs.Heaps.{same_or_not}
 use Rattle.ca_gen_laws.proofs.Nodes.{a_node, a_table}
 
 -- a node as it is created
@@ -56,7 +55,7 @@ read_set items i j v w other there within =
     ∙ ap Some (get_or-set_other items i j v Null other ∙ get_or_from_slice_get items j w Null there)
 
 pointing_more : (items : List Datum) (j : ℕ) (v : Datum) → v ≡ Ref (suc j) → j < length items → Pointing j items → Pointing (suc j) (slice_set items j v)
-pointing_more items j v is within before i below = at (same_or_not i j)
+pointing_more items j v is within before i below = at (cases_eq i j)
   where
     at : (i ≡ j) ⊎ (i ≡ j → ⊥) → slice_get (slice_set items j v) i ≡ Some (Ref (suc i))
     at (inl e) =
@@ -65,10 +64,6 @@ pointing_more items j v is within before i below = at (same_or_not i j)
         let P : ℕ → Type 0 = λ z. slice_get (slice_set items j v) z ≡ Some (Ref (suc z)) in
         subst P (sym e) here
     at (inr other) = read_set items j i v (Ref (suc i)) other (before i (omega (arith, below, other))) (omega (arith, below, within))
-
-both_false : (a b : Bool) → a ≡ false → b ≡ false → a || b ≡ false
-both_false false b e f = f
-both_false true b e f = absurd cc
 
 next_number : (j : ℕ) → j ≤ 20000 → int_wrap w64 (pos j +ℤ pos 1) ≡ pos (suc j)
 next_number j most =
@@ -113,7 +108,7 @@ module _ (size : ℕ) (most : size ≤ 20000) (a b : ℕ → Token) (main : Stat
 
     has_room : is_full heap (starts_of p node) ≡ false
     has_room =
-        both_false (nat_le 1000000 (length heap)) (nat_lt 4000000 (values_in heap + slots_len (starts_of p node)))
+        or_from (nat_le 1000000 (length heap)) (nat_lt 4000000 (values_in heap + slots_len (starts_of p node)))
         (lt-leb 1000000 (length heap) (omega (arith, as_many, below, most)))
         (le-ltb 4000000 (values_in heap + slots_len (starts_of p node)) (omega (arith, as_many, below, most, long, fresh_values nodes are)))
 

@@ -1,5 +1,5 @@
 -- The objects of a heap in which something was stored, and how many nodes of it aren't marked.
-use Rattle.std.proofs.Common.{◌≡◌, ℕ, zero, suc, ◌+◌, ◌≤◌, List, [], ◌∷◌, length, true, false, ◌⊎◌, inl, inr, refl, ap, subst, arith}
+use Rattle.std.proofs.Common.{◌≡◌, ℕ, zero, suc, ◌+◌, ◌≤◌, List, [], ◌∷◌, length, true, false, refl, ap, subst, arith}
 use Rattle.std.specs.Prelude.{Option, Some, None, slice_get}
 use Rattle.ca_model.specs.declared.value.Value.{Value as Datum}
 use Rattle.ca_model.specs.declared.value.Value.TheVariants.{Long, Bool as Truth, Null, Ref}
@@ -31,16 +31,6 @@ pub stored_length : (h : List Object) (n f i : ℕ) (v : Datum) → length (stor
 stored_length [] n f i v = refl
 stored_length (x ∷ h) zero f i v = refl
 stored_length (x ∷ h) (suc n) f i v = omega (arith, stored_length h n f i v)
-
-pub same_or_not : (i j : ℕ) → (i ≡ j) ⊎ (i ≡ j → ⊥)
-same_or_not zero zero = inl refl
-same_or_not zero (suc j) = inr (λ e. omega (arith, e))
-same_or_not (suc i) zero = inr (λ e. omega (arith, e))
-same_or_not (suc i) (suc j) = at (same_or_not i j)
-  where
-    at : (i ≡ j) ⊎ (i ≡ j → ⊥) → (suc i ≡ suc j) ⊎ (suc i ≡ suc j → ⊥)
-    at (inl e) = inl (ap suc e)
-    at (inr other) = inr (λ e. other (omega (arith, e)))
 
 -- 1 where the first field is a mark that isn't set
 abbrev pub unset : Option Slot → ℕ

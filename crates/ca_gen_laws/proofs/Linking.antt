@@ -1,5 +1,6 @@
 -- A link takes two steps.
 use Rattle.std.proofs.Common.{◌≡◌, ℕ, suc, ◌<◌, List, [], ◌∷◌, length, Bool, ◌⊎◌, inl, inr, refl, sym, ap, ◌∙◌, subst, arith}
+use Rattle.std.proofs.lemmas.Bool.{cases_eq}
 use Rattle.std.specs.Prelude.{Option, Some, slice_get, pos, ◌+ℤ◌}
 use Rattle.std.specs.Int.{int_wrap, w64}
 use Rattle.ca_tree.specs.declared.token.Token.{Token}
@@ -16,7 +17,7 @@ use Rattle.ca_meaning.specs.Functions.{place, functions_of}
 use Rattle.ca_meaning.specs.Serial.{World, in_heap, operations_of, run_call}
 use Rattle.ca_gen_laws.proofs.Program.{field, node, table, op, the_local, the_program}
 use Rattle.ca_gen_laws.proofs.Steps.{put_on, call_on, called}
-use Rattle.ca_gen_laws.proofs.Heaps.{stored_there, stored_elsewhere, stored_length, same_or_not}
+use Rattle.ca_gen_laws.proofs.Heaps.{stored_there, stored_elsewhere, stored_length}
 use Rattle.ca_gen_laws.proofs.Nodes.{a_node, a_table, LinkedAt, moved}
 
 -- object n is a node
@@ -148,8 +149,8 @@ module _ (size : ℕ) (a b : ℕ → Token) (main : Statements) where
       items = ready.items;
       is_table = elsewhere 0 not_first ∙ ready.is_table;
       points = ready.points;
-      shape = λ j in_size. shape_at j in_size (same_or_not j i);
-      linked = λ j before. linked_at j before (same_or_not j i);
+      shape = λ j in_size. shape_at j in_size (cases_eq j i);
+      linked = λ j before. linked_at j before (cases_eq j i);
       long = stored_length two_set (suc i) 4 0 (Ref (suc r)) ∙ stored_length one_set (suc i) 3 0 (Ref (suc l)) ∙ stored_length h (suc i) 1 0 x ∙ ready.long;
     }
 

@@ -1,5 +1,6 @@
 -- Nodes that are linked to nodes, in a heap.
 use Rattle.std.proofs.Common.{◌≡◌, ℕ, suc, ◌<◌, List, [], ◌∷◌, Bool, ◌⊎◌, inl, inr, sym, ◌∙◌, subst, arith}
+use Rattle.std.proofs.lemmas.Bool.{cases_eq}
 use Rattle.std.specs.Prelude.{Some, slice_get}
 use Rattle.ca_model.specs.declared.value.Value.{Value as Datum}
 use Rattle.ca_model.specs.declared.value.Value.TheVariants.{Bool as Truth, Ref}
@@ -7,7 +8,7 @@ use Rattle.ca_model.specs.declared.value.Slot.TheVariants.{One, Many}
 use Rattle.ca_model.specs.declared.value.Object.{Object}
 use Rattle.ca_model.specs.Heaps.{stored}
 use Rattle.ca_gen_laws.proofs.Program.{node, table}
-use Rattle.ca_gen_laws.proofs.Heaps.{stored_elsewhere, same_or_not}
+use Rattle.ca_gen_laws.proofs.Heaps.{stored_elsewhere}
 
 abbrev pub a_node : Bool → Datum → Datum → Datum → Datum → Object
 a_node m v s l r = record { class = node; slots = One (Truth m) ∷ One v ∷ One s ∷ One l ∷ One r ∷ [] }
@@ -37,7 +38,7 @@ suc_same : {i j : ℕ} → suc i ≡ suc j → i ≡ j
 suc_same e = omega (arith, e)
 
 pub nodes_stored : (size : ℕ) (h : List Object) (i f : ℕ) (v : Datum) → Nodes size h → LinkedAt size (stored h (suc i) f 0 v) (suc i) → Nodes size (stored h (suc i) f 0 v)
-nodes_stored size h i f v nodes here j in_size = at (same_or_not j i)
+nodes_stored size h i f v nodes here j in_size = at (cases_eq j i)
   where
     at : (j ≡ i) ⊎ (j ≡ i → ⊥) → LinkedAt size (stored h (suc i) f 0 v) (suc j)
     at (inl e) = let P : ℕ → Type 0 = λ z. LinkedAt size (stored h (suc i) f 0 v) (suc z) in subst P (sym e) here

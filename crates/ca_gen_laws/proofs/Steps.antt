@@ -1,5 +1,5 @@
 -- Statements of a serial run, one at a time.
-use Rattle.std.proofs.Common.{◌≡◌, ℕ, suc, List, refl, ap, ◌∙◌}
+use Rattle.std.proofs.Common.{◌≡◌, ℕ, suc, List, ap, ◌∙◌}
 use Rattle.std.specs.Prelude.{slice_get}
 use Rattle.ca_tree.specs.declared.tree.AssignOp.{AssignOp}
 use Rattle.ca_tree.specs.declared.tree.AssignOp.TheVariants.{Put}
@@ -7,23 +7,14 @@ use Rattle.ca_program.specs.declared.program.FieldId.{FieldId}
 use Rattle.ca_program.specs.declared.program.OpId.{OpId}
 use Rattle.ca_program.specs.Plain.{PlainProgram, Expression, Expressions, Statement, Statements, put_field, invoke, if_else, statement_and}
 use Rattle.ca_model.specs.declared.value.Value.{Value as Datum}
-use Rattle.ca_model.specs.declared.value.Value.TheVariants.{Long, Bool as Truth, Null, Ref}
+use Rattle.ca_model.specs.declared.value.Value.TheVariants.{Ref}
 use Rattle.ca_meaning.specs.Operators.{assigned}
 use Rattle.ca_meaning.specs.Expressions.{gives, Invocation, due}
 use Rattle.ca_meaning.specs.Flows.{goes_on, and_on, with, choose, line_of, exec, exec_all}
 use Rattle.ca_meaning.specs.Functions.{place, body_of, locals_of, functions_of, value_in}
 use Rattle.ca_meaning.specs.Serial.{World, in_heap, put_own, own_value, came_back, operations_of, run_call, serial_parts}
 use Rattle.ca_meaning.proofs.Fix.{call_means}
-
--- what is put is what is stored
-pub put_stores : (old v : Datum) → assigned Put old v ≡ v
-put_stores (Long a) (Long b) = refl
-put_stores (Long a) (Truth b) = refl
-put_stores (Long a) Null = refl
-put_stores (Long a) (Ref b) = refl
-put_stores (Truth a) v = refl
-put_stores Null v = refl
-put_stores (Ref a) v = refl
+use Rattle.ca_meaning.proofs.Putting.{put_stores}
 
 module _ (p : PlainProgram) (this : Datum) where
   -- a field is changed

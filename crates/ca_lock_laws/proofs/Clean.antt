@@ -3,6 +3,7 @@
 use Rattle.std.proofs.Common.{◌≡◌, List, [], ◌∷◌, ◌++◌, Bool, true, refl, subst, map}
 use Rattle.std.specs.Prelude.{Contains}
 use Rattle.std.specs.List.{AllByRecursion}
+use Rattle.ca_lists.proofs.Places.{all_append}
 use Rattle.ca_tree.specs.Plain as tree
 use Rattle.ca_program.specs.declared.program.FieldId.{FieldId}
 use Rattle.ca_program.specs.declared.program.FunctionId.{FunctionId}
@@ -20,10 +21,6 @@ Ready after held = Unit {0}
 Ready after free = after ≡ true
 Ready after spawning = ⊥
 Ready after behind = ⊥
-
-all_and : {A : Type 0} (P : A → Type 0) (xs ys : List A) → AllByRecursion P xs → AllByRecursion P ys → AllByRecursion P (xs ++ ys)
-all_and P [] ys a b = b
-all_and P (x ∷ xs) ys a b = (a.0, all_and P xs ys a.1 b)
 
 -- a line calls no operation
 put_calls : {x : program.Statement} → IsPut x → calls_of x ≡ []
@@ -61,15 +58,15 @@ module _ (p : PlainProgram) (written : List FieldId) where
     fields_clean (local n) c = tt
     fields_clean (own f) c = (c, tt)
     fields_clean (own_item f i) c = (c.0, fields_clean i c.1)
-    fields_clean (read e f) c = all_and Constant (fields_in e) (f ∷ []) (fields_clean e c.1) (c.0, tt)
-    fields_clean (read_item e f i) c = all_and Constant (fields_in e) (f ∷ fields_in i) (fields_clean e c.1) (c.0, fields_clean i c.2)
-    fields_clean (value_call e m es) c = all_and Constant (fields_in e) (fields_in_all es) (fields_clean e c.1) (all_fields_clean es c.2)
+    fields_clean (read e f) c = all_append Constant (fields_in e) (f ∷ []) (fields_clean e c.1) (c.0, tt)
+    fields_clean (read_item e f i) c = all_append Constant (fields_in e) (f ∷ fields_in i) (fields_clean e c.1) (c.0, fields_clean i c.2)
+    fields_clean (value_call e m es) c = all_append Constant (fields_in e) (fields_in_all es) (fields_clean e c.1) (all_fields_clean es c.2)
     fields_clean (unary op e) c = fields_clean e c
-    fields_clean (binary op a b) c = all_and Constant (fields_in a) (fields_in b) (fields_clean a c.1) (fields_clean b c.2)
+    fields_clean (binary op a b) c = all_append Constant (fields_in a) (fields_in b) (fields_clean a c.1) (fields_clean b c.2)
 
     all_fields_clean : (es : Expressions) → AreClean p written true es → AllByRecursion Constant (fields_in_all es)
     all_fields_clean no_expressions c = tt
-    all_fields_clean (expression_and e es) c = all_and Constant (fields_in e) (fields_in_all es) (fields_clean e c.0) (all_fields_clean es c.1)
+    all_fields_clean (expression_and e es) c = all_append Constant (fields_in e) (fields_in_all es) (fields_clean e c.0) (all_fields_clean es c.1)
 
   mutual
     functions_clean : (e : Expression) → IsClean p written true e → AllByRecursion Blind (functions_in e)
@@ -81,16 +78,16 @@ module _ (p : PlainProgram) (written : List FieldId) where
     functions_clean (own f) c = tt
     functions_clean (own_item f i) c = functions_clean i c.1
     functions_clean (read e f) c = functions_clean e c.1
-    functions_clean (read_item e f i) c = all_and Blind (functions_in e) (functions_in i) (functions_clean e c.1) (functions_clean i c.2)
+    functions_clean (read_item e f i) c = all_append Blind (functions_in e) (functions_in i) (functions_clean e c.1) (functions_clean i c.2)
     functions_clean (value_call e m es) c =
-        all_and Blind (functions_in e) (functions_in_all es ++ m ∷ []) (functions_clean e c.1)
-        (all_and Blind (functions_in_all es) (m ∷ []) (all_functions_clean es c.2) (c.0, tt))
+        all_append Blind (functions_in e) (functions_in_all es ++ m ∷ []) (functions_clean e c.1)
+        (all_append Blind (functions_in_all es) (m ∷ []) (all_functions_clean es c.2) (c.0, tt))
     functions_clean (unary op e) c = functions_clean e c
-    functions_clean (binary op a b) c = all_and Blind (functions_in a) (functions_in b) (functions_clean a c.1) (functions_clean b c.2)
+    functions_clean (binary op a b) c = all_append Blind (functions_in a) (functions_in b) (functions_clean a c.1) (functions_clean b c.2)
 
     all_functions_clean : (es : Expressions) → AreClean p written true es → AllByRecursion Blind (functions_in_all es)
     all_functions_clean no_expressions c = tt
-    all_functions_clean (expression_and e es) c = all_and Blind (functions_in e) (functions_in_all es) (functions_clean e c.0) (all_functions_clean es c.1)
+    all_functions_clean (expression_and e es) c = all_append Blind (functions_in e) (functions_in_all es) (functions_clean e c.0) (all_functions_clean es c.1)
 
   held_fields : (fs : List FieldId) → Leads p written held (map accesses fs) held
   held_fields [] = nowhere

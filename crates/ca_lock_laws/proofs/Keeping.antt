@@ -9,6 +9,7 @@ use Rattle.ca_program.specs.Plain.{PlainProgram, for_loop}
 use Rattle.ca_meaning.specs.ProgramTyped.{Scope, StatementTyped, StatementsTyped}
 use Rattle.ca_parallel.specs.Bodies.{calls_of, calls_of_all}
 use Rattle.ca_parallel.specs.Separable.{IsClean, is_some_of, holds_call, IsSeparated, AreSeparated}
+use Rattle.ca_parallel.proofs.Somes.{some_left, some_right}
 use Rattle.ca_lock_laws.specs.Events.{Event, unlocks, spawns, calls, evaluated, happens}
 use Rattle.ca_lock_laws.specs.Paths.{IsLine, declared, assigned, printed, Way, goes_on, returns, Path, empty, of_line, call, gives_back, block, passed, taken, one_branch, other_branch, repeated, counted, Paths, none, and_then, no_more, Turns, leaves, turn, broken, Through, to_its_end, to_a_return}
 use Rattle.ca_lock_laws.specs.Discipline.{Lock, free, held, spawning, behind, takes, give_back, have_given_back, spawn, call as called, follow, Leads, nowhere, forgets, and_then as on, Disciplined}
@@ -44,14 +45,6 @@ next false false l m r c e = subst (Ready false) (sym (e refl)) r
 again : (looped k : Bool) (l m : Lock) → Ready looped l → Calm m → (k ≡ false → m ≡ l) → (k ≡ true → looped ≡ true) → Ready looped m
 again looped true l m r c e f = ready_behind m c looped (f refl)
 again looped false l m r c e f = subst (Ready looped) (sym (e refl)) r
-
-some_left : {A : Type 0} (xs ys : List A) → is_some_of (xs ++ ys) ≡ false → is_some_of xs ≡ false
-some_left [] ys h = refl
-some_left (x ∷ xs) ys h = absurd cc
-
-some_right : {A : Type 0} (xs ys : List A) → is_some_of (xs ++ ys) ≡ false → is_some_of ys ≡ false
-some_right [] ys h = h
-some_right (x ∷ xs) ys h = absurd cc
 
 -- how the lock stands, and how it is known to stand: directly behind a call it is known to be free
 data Ends : Lock → Lock → Type 0 where

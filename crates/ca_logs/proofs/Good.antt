@@ -1,6 +1,7 @@
 -- Sections of an extent of separable operations keep its objects good and list good calls.
 use Rattle.std.proofs.Common.{◌≡◌, ℕ, List, ◌∷◌, ◌++◌, Some, sym, subst, ◌∙◌, arith}
 use Rattle.std.specs.Prelude.{slice_get, slice_set, Contains}
+use Rattle.ca_lists.proofs.Places.{get_set_here}
 use Rattle.ca_program.specs.declared.program.OpId.{OpId}
 use Rattle.ca_program.specs.Plain.{PlainProgram}
 use Rattle.ca_model.specs.declared.value.Object.{Object}
@@ -17,7 +18,7 @@ use Rattle.ca_parallel.specs.Separable.{Separable}
 use Rattle.ca_order_laws.specs.Order.{AllInside}
 use Rattle.ca_order_laws.proofs.Weights.{weight_append, Split, Decides, equal, other, count_of, there, count_self}
 use Rattle.ca_order_laws.proofs.Decided.{decide_nat}
-use Rattle.ca_order_laws.proofs.Places.{get_set, get_else, one_some}
+use Rattle.ca_order_laws.proofs.Places.{get_else, one_some}
 use Rattle.ca_order_laws.proofs.Sections.{Bounded, bounded, typed_leaves}
 use Rattle.ca_order_laws.proofs.Setting.{GoodCall, GoodObject, method_of, taken, well_typed_at}
 use Rattle.ca_logs.specs.declared.log.Task.{Task}
@@ -56,7 +57,7 @@ module _ (p : PlainProgram) (x : Extent) (frozen : List Object) where
     where
       from : (m : ℕ) (w : Object) → slice_get (slice_set h n v) m ≡ Some w → Decides n m → GoodObject p x frozen m w
       from m w got (equal e) =
-          let t : slice_get (slice_set h n v) m ≡ Some v = subst (λ k. slice_get (slice_set h n v) k ≡ Some v) e (get_set h n o v found) in
+          let t : slice_get (slice_set h n v) m ≡ Some v = subst (λ k. slice_get (slice_set h n v) k ≡ Some v) e (get_set_here h n o v found) in
           subst (λ k. GoodObject p x frozen k w) e (subst (λ u. GoodObject p x frozen n u) (one_some _ v w t got) good)
       from m w got (other ne) = all.each m w (sym (get_else h n m v ne) ∙ got)
 

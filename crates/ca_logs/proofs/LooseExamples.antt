@@ -3,6 +3,7 @@ use Rattle.std.proofs.Common.{◌≡◌, ◌<◌, ℕ, zero, suc, List, [], ◌�
 use Rattle.std.proofs.lemmas.Int.{ints}
 use Rattle.std.specs.Prelude.{Contains, FitsSigned, slice_get}
 use Rattle.std.specs.Int.{w64}
+use Rattle.ca_lists.proofs.Members.{has_nothing, has_only}
 use Rattle.ca_program.specs.declared.program.FieldId.{FieldId}
 use Rattle.ca_program.specs.declared.program.FunctionId.{FunctionId}
 use Rattle.ca_program.specs.declared.program.OpId.{OpId}
@@ -28,7 +29,7 @@ use Rattle.ca_logs.specs.Balanced.{BalancedWith}
 use Rattle.ca_logs.specs.LogOrder.{order_of}
 use Rattle.ca_logs.specs.Laws.{AllowsLoose}
 use Rattle.ca_logs.proofs.LogRuns.{log_to_run}
-use Rattle.ca_logs.proofs.Examples.{node, other_field, state, go, end, two, going, ending, turning, calling_two, nodes, node_at, op_on, task_on, is_typed, no_item, one_item, the_item, before}
+use Rattle.ca_logs.proofs.Examples.{node, other_field, state, go, end, two, going, ending, turning, calling_two, nodes, node_at, op_on, task_on, is_typed, the_item, before}
 
 -- ---- the program is typed
 
@@ -77,7 +78,7 @@ IsReached op = Three go two end op
 callees : (op callee : OpId) → IsReached op → Contains (calls_of_all (operation_body nodes op)) callee → IsReached callee
 callees _ callee the_first c = one_of (λ z. IsReached z) end callee the_third c
 callees _ callee the_second c = two_of (λ z. IsReached z) end end callee the_third the_third c
-callees _ callee the_third c = absurd (no_item callee c)
+callees _ callee the_third c = absurd (has_nothing callee c)
 
 invoked : {op : OpId} → Invokes nodes from_both op → IsReached op
 invoked (root {op} c) = two_of (λ z. IsReached z) go two op the_first the_second c
@@ -95,9 +96,9 @@ invokes _ the_second = two_runs
 invokes _ the_third = called go_runs (the_item end)
 
 no_function : (op : OpId) (m : FunctionId) → IsReached op → ¬ Contains (functions_of_body (operation_body nodes op)) m
-no_function _ m the_first c = no_item m c
-no_function _ m the_second c = no_item m c
-no_function _ m the_third c = no_item m c
+no_function _ m the_first c = has_nothing m c
+no_function _ m the_second c = has_nothing m c
+no_function _ m the_third c = has_nothing m c
 
 none_evaluated : {m : FunctionId} → ¬ Evaluates nodes from_both m
 none_evaluated (by_operation {op} {m} i c) = no_function op m (invoked i) c
@@ -105,13 +106,13 @@ none_evaluated (by_function e c) = none_evaluated e
 
 targets : (op : OpId) (f : FieldId) → IsReached op → Contains (targets_of_all (operation_body nodes op)) f → Contains (state ∷ []) f
 targets _ f the_first c = c
-targets _ f the_second c = absurd (no_item f c)
+targets _ f the_second c = absurd (has_nothing f c)
 targets _ f the_third c = c
 
 reached_is : IsExtentOf nodes from_both reached
 reached_is = record {
   ops = λ op. (λ c. invokes op (three_of go two end op c), λ i. of_three go two end op (invoked i));
-  functions = λ m. (λ c. absurd (no_item m c), λ e. absurd (none_evaluated e));
+  functions = λ m. (λ c. absurd (has_nothing m c), λ e. absurd (none_evaluated e));
   written = λ f. (
     λ c. one_of (λ z. Writes nodes from_both z) state f (record { op = end; invoked = invokes end the_third; target = the_item state }) c,
     λ w. targets w.op f (invoked w.invoked) w.target,
@@ -119,7 +120,7 @@ reached_is = record {
 }
 
 other_is_constant : ¬ Contains (state ∷ []) other_field
-other_is_constant c = let e : state ≡ other_field = one_item state other_field c in let n : 1 ≡ 0 = ap (λ (f : FieldId). f.field) e in absurd (omega (arith, n))
+other_is_constant c = let e : state ≡ other_field = has_only state other_field c in let n : 1 ≡ 0 = ap (λ (f : FieldId). f.field) e in absurd (omega (arith, n))
 
 separate : (op : OpId) → IsReached op → Separable nodes reached.written op
 separate _ the_first = ((tt, tt), ((tt, tt), tt))
@@ -197,7 +198,7 @@ histories_legal = record { each = each }
     each (suc (suc n)) log e = absurd cc
 
 loose_balanced : BalancedWith caller_and_called one_loose (task_on 0 two 0 ∷ []) []
-loose_balanced = record { tasks = record { weighed = λ f. omega arith }; stuck = λ e c. absurd (no_item e c) }
+loose_balanced = record { tasks = record { weighed = λ f. omega arith }; stuck = λ e c. absurd (has_nothing e c) }
 
 -- without the loose entry nobody called `end`
 loose_is_lost : BalancedWith caller_and_called [] (task_on 0 two 0 ∷ []) [] → ⊥

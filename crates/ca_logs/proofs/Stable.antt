@@ -1,5 +1,6 @@
 -- The order of a log is by clock and then by object number, and stable.
-use Rattle.std.proofs.Common.{◌≡◌, ℕ, zero, suc, List, [], ◌∷◌, filter, Bool, true, false, true≢false, cond, ◌&&◌, nat_eq, Some, refl, ap, sym, subst, ◌∙◌, arith, eqb-true}
+use Rattle.std.proofs.Common.{◌≡◌, ℕ, zero, suc, List, [], ◌∷◌, filter, Bool, true, false, true≢false, cond, nat_eq, Some, refl, ap, sym, subst, ◌∙◌, arith, eqb-true}
+use Rattle.std.proofs.lemmas.Bool.{and_parts}
 use Rattle.std.specs.Prelude.{slice_get}
 use Rattle.ca_logs.specs.declared.log.Entry.{Entry}
 use Rattle.ca_logs.specs.Entries.{all_entries, ran_in}
@@ -10,16 +11,12 @@ use Rattle.ca_logs.proofs.Orders.{put_behind, put_front, weight_ordered}
 
 -- ---- those that are equal in both stand as they stood
 
-both : (a b : Bool) → a && b ≡ true → (a ≡ true) × (b ≡ true)
-both true b e = (refl, e)
-both false b e = absurd (true≢false (sym e))
-
 module _ (c n : ℕ) where
   abbrev kept : List Entry → List Entry
   kept es = filter (same_key c n) es
 
   keyed : (e : Entry) → same_key c n e ≡ true → (e.clock ≡ c) × (number_of e ≡ n)
-  keyed e h = let b = both (nat_eq e.clock c) (nat_eq (number_of e) n) h in (eqb-true e.clock c b.0, eqb-true (number_of e) n b.1)
+  keyed e h = let b = and_parts (nat_eq e.clock c) (nat_eq (number_of e) n) h in (eqb-true e.clock c b.0, eqb-true (number_of e) n b.1)
 
   keeps : (e : Entry) (es : List Entry) → same_key c n e ≡ true → kept (e ∷ es) ≡ e ∷ kept es
   keeps e es h = ap (λ b. cond b (e ∷ kept es) (kept es)) h

@@ -1,8 +1,8 @@
 -- The histories of all objects, with one more that was touched.
-use Rattle.std.proofs.Common.{◌≡◌, ◌<◌, ◌+◌, ◌⊎◌, inl, inr, ⊎_elim, ℕ, zero, suc, List, [], ◌∷◌, ◌++◌, length, length-append, map, Some, refl, ap, sym, subst, ◌∙◌, arith}
+use Rattle.std.proofs.Common.{◌≡◌, ◌<◌, ◌+◌, ◌⊎◌, inl, inr, ⊎_elim, ℕ, zero, suc, List, [], ◌∷◌, ◌++◌, length, length-append, map, Some, refl, ap, sym, subst, ◌∙◌, arith, length-set}
+use Rattle.std.proofs.lemmas.List.{set_comm}
 use Rattle.std.specs.Prelude.{slice_get, slice_set}
 use Rattle.ca_model.specs.declared.value.Object.{Object}
-use Rattle.ca_order_laws.proofs.Places.{set_length, set_swap}
 use Rattle.ca_logs.specs.declared.log.CellLog.{CellLog}
 use Rattle.ca_logs.specs.Touched.{Touched, pairs, fresh, put_logs, logs_of, AreRising, AreBelow}
 
@@ -12,7 +12,7 @@ put_one_more (x ∷ ts) t logs = put_one_more ts t (slice_set logs x.number x.lo
 
 pub put_length : (ts : List Touched) (logs : List CellLog) → length (put_logs ts logs) ≡ length logs
 put_length [] logs = refl
-put_length (t ∷ ts) logs = put_length ts (slice_set logs t.number t.log) ∙ set_length logs t.number t.log
+put_length (t ∷ ts) logs = put_length ts (slice_set logs t.number t.log) ∙ length-set logs t.number t.log
 
 pub fresh_length : (now : List Object) → length (map fresh now) ≡ length now
 fresh_length [] = refl
@@ -99,4 +99,4 @@ pairs_last ns ns' ls ls' n l e a b =
 -- a history that is put behind the others may be put before them
 pub put_last : (ts : List Touched) (n : ℕ) (l : CellLog) (logs : List CellLog) → AreBelow ts n → put_logs ts (slice_set logs n l) ≡ slice_set (put_logs ts logs) n l
 put_last [] n l logs below = refl
-put_last (t ∷ ts) n l logs below = let m = below 0 t refl in ap (put_logs ts) (set_swap logs n t.number l t.log (λ e. omega arith)) ∙ put_last ts n l (slice_set logs t.number t.log) (λ i a e. below (suc i) a e)
+put_last (t ∷ ts) n l logs below = let m = below 0 t refl in ap (put_logs ts) (set_comm logs n t.number l t.log (λ e. omega arith)) ∙ put_last ts n l (slice_set logs t.number t.log) (λ i a e. below (suc i) a e)

@@ -28,6 +28,7 @@ use Rattle.ca_meaning.specs.Operators.{is_zero, operated, operated_longs, signed
 use Rattle.ca_meaning.specs.Expressions.{Out, value_at, one_in, items_in, found, indexed, answer, decided, unless_decided}
 use Rattle.ca_meaning.specs.WellTyped.{ValuesTyped}
 use Rattle.ca_meaning.specs.ProgramTyped.{IsScalar, IsArray, SidesTyped, signed_type, AssignTyped}
+use Rattle.ca_meaning.proofs.Putting.{put_stores}
 use Rattle.ca_meaning_laws.specs.Typed.{Yields, yields, yields_trap}
 
 -- ---- numbers
@@ -211,15 +212,6 @@ signed_typed h sign.Not (Long a) hv = absurd hv
 signed_typed h sign.Not Null hv = absurd hv
 signed_typed h sign.Not (Ref a) hv = absurd hv
 
-put_is : (old v : Datum) → assigned Put old v ≡ v
-put_is (Long a) (Long b) = refl
-put_is (Long a) (Truth b) = refl
-put_is (Long a) Null = refl
-put_is (Long a) (Ref b) = refl
-put_is (Truth a) v = refl
-put_is Null v = refl
-put_is (Ref a) v = refl
-
 assigned_fits : (op : AssignOp) (a b : ℤ) → FitsSigned w64 b → FitsSigned w64 (assigned_longs op a b)
 assigned_fits Put a b f = f
 assigned_fits Add a b f = SFits-int_wrap w64 (a +ℤ b)
@@ -243,7 +235,7 @@ compound_typed h op old v ty e ho hv = rw e (numbers_assigned h op old v (subst 
 
 -- what an assignment stores
 pub assigned_typed : (h : List Object) (op : AssignOp) (old v : Datum) (ty : ValueType) → AssignTyped op ty → HasType h old ty → HasType h v ty → HasType h (assigned op old v) ty
-assigned_typed h Put old v ty t ho hv = rw (put_is old v) hv
+assigned_typed h Put old v ty t ho hv = rw (put_stores old v) hv
 assigned_typed h Add old v ty t ho hv = compound_typed h Add old v ty t ho hv
 assigned_typed h Sub old v ty t ho hv = compound_typed h Sub old v ty t ho hv
 assigned_typed h Mul old v ty t ho hv = compound_typed h Mul old v ty t ho hv

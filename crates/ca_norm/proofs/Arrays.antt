@@ -1,5 +1,5 @@
 -- What the rules for arrays come to under a valuation, item by item.
-use Rattle.std.proofs.Common.{◌≡◌, ℕ, ◌+◌, ◌-◌, ◌*◌, ◌%◌, ◌^◌, ◌<◌, ℤ, Bool, true, false, cond, [], ◌∷◌, ◌++◌, Ordering, Less, Equal, Greater, refl, sym, ap, ap₂, ◌∙◌, arith, subst, w64, to_z, mod-lt, pow_pos}
+use Rattle.std.proofs.Common.{◌≡◌, ℕ, ◌+◌, ◌-◌, ◌*◌, ◌%◌, ◌^◌, ◌<◌, ℤ, Bool, true, false, cond, [], ◌∷◌, ◌++◌, Ordering, Less, Equal, Greater, refl, sym, ap, ap₂, ◌∙◌, arith, subst, w64, to_z}
 use Rattle.std.proofs.lemmas.Int.{of_z-to_z}
 use Rattle.std.specs.Prelude.{nat_eq, int_lt}
 use Rattle.std.specs.Ordering.{is_eq}
@@ -29,6 +29,7 @@ use Rattle.ca_norm.proofs.Operations.{IsLong, IsTyped, sort_typed, wrapped, chos
 use Rattle.ca_norm.proofs.Quotients.{cast_fits}
 use Rattle.ca_norm.proofs.Rules.{less_value, truth_value, gathered_value, alone_value, zero_value, product_value, minus_value, equal_words}
 use Rattle.ca_norm.proofs.Pointers.{chosen_pointer_means}
+use Rattle.ca_folds.proofs.Laws.{word as small_word}
 
 pub bit_small : (b : Bool) → bit b % (2 ^ 64) ≡ bit b
 bit_small true = refl
@@ -47,9 +48,6 @@ nought b t = omega arith
 -- a word that is read as a number is that word
 word_back : (x : ℕ) → x < 2 ^ 64 → word (to_z w64 x) ≡ x
 word_back x h = word_fits (to_z w64 x) (cast_fits x) ∙ of_z-to_z w64 x h
-
-small_word : (n : ℕ) → n % (2 ^ 64) < 2 ^ 64
-small_word n = mod-lt n (pow_pos 64)
 
 pub number_word : (n : ℕ) → Alike (word_of (number_in n)) n
 number_word n = alike_trans (alike_eq (word_back (n % (2 ^ 64)) (small_word n))) (alike_mod n)

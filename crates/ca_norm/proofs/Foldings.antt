@@ -1,13 +1,12 @@
 -- What operators leave as words whose operands may stand in any order.
 use Rattle.std.proofs.Common.{◌≡◌, ℕ, zero, suc, ◌%◌, ◌^◌, ℤ, FitsSigned, Bool, true, false, cond, List, [], ◌∷◌, Some, None, refl, sym, ap, ap₂, ◌∙◌, arith, w64, of_z, to_z}
 use Rattle.std.specs.Prelude.{nat_eq, int_lt}
-use Rattle.std.proofs.lemmas.Bool.Decides.{nat_tests}
 use Rattle.std.proofs.Math.Nat.{mod-eq_of_lt}
 use Rattle.ca_sums.specs.Sums.{Alike}
 use Rattle.ca_folds.specs.declared.operator.FoldOp.{FoldOp}
 use Rattle.ca_folds.specs.declared.operator.FoldOp.TheVariants.{Max, Min, BitAnd, BitOr, BitXor}
 use Rattle.ca_folds.specs.Operators.{fold_number, fold_inj, folded_longs, folded}
-use Rattle.ca_folds.proofs.Laws.{fold_small}
+use Rattle.ca_folds.proofs.Laws.{fold_small, same_number}
 use Rattle.ca_folds.proofs.Worth.{worth, gives_worth}
 use Rattle.ca_forms.specs.Plain.{PlainPart, PlainPolynomial, PlainMonomial, PlainScalar, PlainScalars, variable, is_less, is_zero, same_pointer, quotient, modulus, field_of, item_of, result_of, own_item, fold_of, no_powers, power_and, no_products, product_and, number_form, truth_form, pointer_form, no_scalars, scalar_and}
 use Rattle.ca_forms.specs.Lists.{scalars_of}
@@ -62,10 +61,7 @@ folded_word o d e m n g h k l =
 
 -- ---- on forms
 
-same_number : (m n : ℕ) → nat_eq m n ≡ true → m ≡ n
-same_number m n e = grind (arith, nat_tests)
-
-some_same : {T : Type 0} (x y : T) → Some x ≡ Some y → x ≡ y
+pub some_same : {T : Type 0} (x y : T) → Some x ≡ Some y → x ≡ y
 some_same x y e = cc
 
 module _ (v : Valuation) where

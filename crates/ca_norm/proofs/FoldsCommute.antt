@@ -1,5 +1,5 @@
 -- Operands have one form in either order, however they are nested.
-use Rattle.std.proofs.Common.{◌≡◌, ℕ, ◌-◌, ◌^◌, Bool, true, false, [], ◌∷◌, ◌++◌, Option, Some, None, Ordering, Less, Equal, Greater, refl, sym, ap, ◌∙◌}
+use Rattle.std.proofs.Common.{◌≡◌, ℕ, ◌-◌, ◌^◌, Bool, true, false, [], ◌∷◌, ◌++◌, Option, Some, None, Ordering, Less, Equal, Greater, sym, ap, ◌∙◌}
 use Rattle.ca_sums.specs.Sums.{Sum, total, scale}
 use Rattle.ca_sums.proofs.Algebra.{alike_eq, alike_sym, alike_trans}
 use Rattle.ca_sums.proofs.Products.{SameTotals}
@@ -241,9 +241,6 @@ operand_of o a b =
 
 operand_good : (o : FoldOp) (t : PlainTerm) → Kept o (parts o (operand t))
 operand_good o t = parts_kept o (gathered (expand t)) (operand_neat t).0 (operand_neat t).1
-
-form_is : (o : FoldOp) (a b : PlainTerm) → norm (fold o a b) ≡ normal.Scalar (operand (fold o a b))
-form_is o a b = refl
 
 pub folds_commute : (o : FoldOp) (a b : PlainTerm) → norm (fold o a b) ≡ norm (fold o b a)
 folds_commute o a b =

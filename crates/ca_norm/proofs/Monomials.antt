@@ -12,7 +12,7 @@ use Rattle.ca_forms.specs.Products.{is_truth, is_truth_sort, joined, merge_in, m
 use Rattle.ca_forms.proofs.Exact.{part_same}
 use Rattle.ca_norm.specs.Meanings.{IsOfSort, Valuation, bit, power, word_of, number_in, index_in, part_value, polynomial_value, monomial_value, pointer_mean, scalars_mean}
 
-monomial_powers : (m : PlainMonomial) → monomial_of (powers_of m) ≡ m
+pub monomial_powers : (m : PlainMonomial) → monomial_of (powers_of m) ≡ m
 monomial_powers no_powers = refl
 monomial_powers (power_and p e m) = ap (power_and p e) (monomial_powers m)
 

@@ -1,9 +1,9 @@
 -- Sums in which what operators were made of is in order, and what keeps them so.
-use Rattle.std.proofs.Common.{◌≡◌, ℕ, zero, suc, ◌^◌, ◌<◌, Bool, true, false, cond, List, [], ◌∷◌, ◌++◌, Option, Some, None, Ordering, Less, Equal, Greater, refl, sym, ap, ◌∙◌, arith, subst}
+use Rattle.std.proofs.Common.{◌≡◌, ℕ, zero, suc, ◌^◌, ◌<◌, Bool, true, false, cond, List, [], ◌∷◌, ◌++◌, Option, Some, None, Ordering, Less, Equal, Greater, refl, sym, ap, ◌∙◌, arith, subst, eqb-true}
+use Rattle.std.proofs.lemmas.Option.{same_Some}
 use Rattle.std.specs.Prelude.{nat_eq}
 use Rattle.std.specs.Ordering.{match_ordering}
 use Rattle.std.specs.List.Sorted.{IsStrictlySortedBy}
-use Rattle.std.proofs.lemmas.Bool.Decides.{nat_tests}
 use Rattle.ca_sums.specs.Sums.{Sum, scale, put_if, insert_at, insert, collect}
 use Rattle.ca_sums.specs.Products.{row, product}
 use Rattle.ca_folds.specs.declared.operator.FoldOp.{FoldOp}
@@ -11,7 +11,7 @@ use Rattle.ca_folds.specs.declared.operator.FoldOp.TheVariants.{Max}
 use Rattle.ca_folds.specs.Operators.{fold_number, fold_inj, folded, neutral, is_absorbing, cancels}
 use Rattle.ca_folds.specs.Operands.{parts_of, together, settled, formed}
 use Rattle.ca_folds.specs.Operands as folds
-use Rattle.ca_folds.proofs.Laws.{neutral_small}
+use Rattle.ca_folds.proofs.Laws.{neutral_small, same_number}
 use Rattle.ca_folds.proofs.Order.{Each}
 use Rattle.ca_folds.proofs.Order as order
 use Rattle.ca_forms.specs.Plain.{PlainPart, PlainPolynomial, PlainMonomial, PlainScalar, PlainScalars, variable, is_less, is_zero, same_pointer, quotient, modulus, field_of, item_of, result_of, own_item, fold_of, no_powers, power_and, no_products, product_and, number_form, truth_form, pointer_form, no_scalars, scalar_and}
@@ -25,6 +25,7 @@ use Rattle.ca_sums.proofs.Collect.{Gathered, SameCoefficients, gathered_same, ga
 use Rattle.ca_forms.proofs.Exact.{scalars_exact, monomials_exact}
 use Rattle.ca_forms.proofs.RowOrder.{IsGathered}
 use Rattle.ca_forms.proofs.Made.{items_back, polynomial_back}
+use Rattle.ca_norm.proofs.Foldings.{some_same}
 
 itself : (o : FoldOp) → nat_eq (fold_number o) (fold_number o) ≡ true
 itself Max = refl
@@ -159,12 +160,6 @@ minus_neat ps h = scale_neat _ ps h
 
 -- ---- operands
 
-same_number : (m n : ℕ) → nat_eq m n ≡ true → m ≡ n
-same_number m n e = grind (arith, nat_tests)
-
-some_same : {T : Type 0} (x y : T) → Some x ≡ Some y → x ≡ y
-some_same x y e = cc
-
 each_neat : (xs : PlainScalars) → NeatScalars xs → Each NeatScalar (items_of xs)
 each_neat no_scalars h = tt
 each_neat (scalar_and x xs) h = (h.0, each_neat xs h.1)
@@ -180,8 +175,8 @@ pub record Kept (o : FoldOp) (s : ℕ × List PlainScalar) : Type 0 where
 
 part_kept_at : (op : FoldOp) (b : Bool) (o : FoldOp) (w : ℕ) (xs : PlainScalars) (s : ℕ × List PlainScalar) → nat_eq (fold_number op) (fold_number o) ≡ b → cond b (Some (w, items_of xs)) None ≡ Some s → NeatPart (fold_of o w xs) → Kept op s
 part_kept_at op true o w xs s e h g =
-    let is : o ≡ op = sym (fold_inj op o (same_number (fold_number op) (fold_number o) e)) in
-    let t : (w, items_of xs) ≡ s = some_same (w, items_of xs) s h in
+    let is : o ≡ op = sym (fold_inj op o (eqb-true (fold_number op) (fold_number o) e)) in
+    let t : (w, items_of xs) ≡ s = same_Some (w, items_of xs) s h in
     subst (Kept op) t (subst (λ p. Kept p (w, items_of xs)) is (record { good = g.0; neat = each_neat xs g.1 }))
 part_kept_at op false o w xs s e h g = cc
 
@@ -217,8 +212,8 @@ made_kept op no_products s h g = cc
 made_kept op (product_and m c (product_and n d f)) s h g = cc
 
 word_small : (f : PlainPolynomial) (n : ℕ) → IsGathered f → constancy f ≡ Some n → n < 2 ^ 64
-word_small no_products n g e = let x : 0 ≡ n = some_same 0 n e in omega (arith, x)
-word_small (product_and no_powers c no_products) n g e = let x : c ≡ n = some_same c n e in subst (λ k. k < 2 ^ 64) x g.1.1
+word_small no_products n g e = let x : 0 ≡ n = same_Some 0 n e in omega (arith, x)
+word_small (product_and no_powers c no_products) n g e = let x : c ≡ n = same_Some c n e in subst (λ k. k < 2 ^ 64) x g.1.1
 word_small (product_and no_powers c (product_and m d f)) n g e = cc
 word_small (product_and (power_and p e m) c f) n g h = cc
 

@@ -19,6 +19,8 @@ use Rattle.ca_sums.proofs.Algebra.{alike_eq, alike_trans}
 use Rattle.ca_norm.specs.Terms.{IsArray}
 use Rattle.ca_norm.specs.Meanings.{IsOfSort, operate, chosen, bit, word_of}
 use Rattle.ca_norm.proofs.Words.{word, word_fits, word_wrap, word_pos, word_add, word_sub, word_mul, word_small}
+use Rattle.ca_folds.proofs.Laws.{same_number as nat_eq_true}
+use Rattle.ca_forms.proofs.Made.{equal as nat_eq_itself}
 
 pub record IsLong (d : Datum) : Type 0 where
   pub number : ℤ
@@ -121,29 +123,23 @@ not_more_word d e m n g h k l =
     let less : bit (int_lt h.number g.number) ≡ bit (is_below n m) = sym (ap₂ (λ x y. word_of (operate op.Less x y)) h.is g.is) ∙ flipped in
     alike_trans (alike_eq (ap₂ (λ x y. word_of (operate op.LessEqual x y)) g.is h.is)) (alike_trans (bit_not (int_lt h.number g.number)) (alike_eq (ap (λ z. 1 + (2 ^ 64 - 1) * z) less)))
 
-bools_same : (p q : Bool) → (p ≡ true → q ≡ true) → (q ≡ true → p ≡ true) → p ≡ q
+pub bools_same : (p q : Bool) → (p ≡ true → q ≡ true) → (q ≡ true → p ≡ true) → p ≡ q
 bools_same true q f g = sym (f refl)
 bools_same false true f g = g refl
 bools_same false false f g = refl
 
-same_int_true : (m n : ℤ) → same_int m n ≡ true → m ≡ n
+pub same_int_true : (m n : ℤ) → same_int m n ≡ true → m ≡ n
 same_int_true (pos a) (pos b) e = ap pos (grind (arith, nat_tests))
 same_int_true (negsuc a) (negsuc b) e = ap negsuc (grind (arith, nat_tests))
 same_int_true (pos a) (negsuc b) e = cc
 same_int_true (negsuc a) (pos b) e = cc
 
-itself : (a : ℕ) → eqb a a ≡ true
+pub itself : (a : ℕ) → eqb a a ≡ true
 itself a = grind (arith, nat_tests)
 
-same_int_itself : (m : ℤ) → same_int m m ≡ true
+pub same_int_itself : (m : ℤ) → same_int m m ≡ true
 same_int_itself (pos a) = itself a
 same_int_itself (negsuc a) = itself a
-
-nat_eq_true : (a b : ℕ) → nat_eq a b ≡ true → a ≡ b
-nat_eq_true a b e = grind (arith, nat_tests)
-
-nat_eq_itself : (a b : ℕ) → a ≡ b → nat_eq a b ≡ true
-nat_eq_itself a b e = grind (arith, nat_tests)
 
 pub same_words : (m n : ℤ) → FitsSigned w64 m → FitsSigned w64 n → same_int m n ≡ nat_eq (word m) (word n)
 same_words m n f g =

@@ -14,9 +14,8 @@ use Rattle.ca_forms.proofs.Exact.{pointer_same}
 use Rattle.ca_sums.specs.Sums.{total}
 use Rattle.ca_norm.specs.Meanings.{IsOfSort, IsObject, Valuation, chosen, bit, truth_in, part_value, polynomial_value, monomial_value, part_mean, pointer_mean}
 use Rattle.ca_norm.proofs.Rules.{constancy_value, alone_value, truth_value}
-
-eqb_itself : (n : ℕ) → eqb n n ≡ true
-eqb_itself n = grind (arith, nat_tests)
+use Rattle.ca_folds.proofs.Laws.{same_number as nat_is}
+use Rattle.ca_norm.proofs.Operations.{itself as eqb_itself}
 
 eqb_flip : (m n : ℕ) → eqb m n ≡ eqb n m
 eqb_flip m n = grind (arith, nat_tests)
@@ -62,13 +61,6 @@ is_pointer PointerArray e = absurd cc
 both_true : (a b : Bool) → (a && b) ≡ true → (a ≡ true) × (b ≡ true)
 both_true true b e = (refl, e)
 both_true false b e = absurd cc
-
-either_true : (a b : Bool) → (a || b) ≡ true → (a ≡ false → b ≡ true)
-either_true true b e = λ h. absurd cc
-either_true false b e = λ h. e
-
-nat_is : (m n : ℕ) → nat_eq m n ≡ true → m ≡ n
-nat_is m n e = grind (arith, nat_tests)
 
 module _ (v : Valuation) where
   -- a part that is the receiver means an object

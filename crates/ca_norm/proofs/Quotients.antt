@@ -13,7 +13,7 @@ use Rattle.ca_norm.specs.Meanings.{value_or_null, operate, word_of}
 use Rattle.ca_norm.proofs.Words.{word_fits}
 use Rattle.ca_norm.proofs.Operations.{IsLong, back}
 
-none : (n : ℤ) → n ≢ pos 0 → is_zero n ≡ false
+pub none : (n : ℤ) → n ≢ pos 0 → is_zero n ≡ false
 none (pos zero) h = absurd (h refl)
 none (pos (suc n)) h = refl
 none (negsuc n) h = refl

@@ -31,7 +31,7 @@ alone_is : (b : Bool) (x : ℕ) → x ≡ 1 * (power b x 1 * 1) + 0
 alone_is true x = last x
 alone_is false x = last x ∙ ap (λ y. 1 * (y * 1) + 0) (first_power x)
 
-not_below_itself : (z : ℤ) → int_lt z z ≡ false
+pub not_below_itself : (z : ℤ) → int_lt z z ≡ false
 not_below_itself z = grind arith
 
 pub equal_words : (a b : ℕ) → a < 2 ^ 64 → b < 2 ^ 64 → nat_eq a b ≡ nat_eq ((a + (2 ^ 64 - 1) * b) % (2 ^ 64)) 0

@@ -4,11 +4,8 @@ use Rattle.ca_forms.specs.declared.sort.Sort.{Sort}
 use Rattle.ca_forms.specs.declared.sort.Sort.TheVariants.{Long, Bool as Truth, Pointer, LongArray, BoolArray, PointerArray}
 use Rattle.ca_forms.specs.Plain.{PlainPolynomial}
 use Rattle.ca_forms.specs.Rules.{gathered}
-use Rattle.ca_forms.specs.Compare.{polynomial_total}
-use Rattle.std.specs.Ordering.{is_eq}
-use Rattle.std.proofs.lemmas.Cmp.{tied_itself}
 use Rattle.ca_forms.specs.Arrays.{PlainSpan, one, range, PlainRows, PlainArray, own_items, put_item, with_sums, array_choice}
-use Rattle.ca_forms.specs.ArrayRules.{put_sum, put_unless, rest_of, last_rows, summed, added_at, put_weighed, agree, chosen_rows, chosen_if}
+use Rattle.ca_forms.specs.ArrayRules.{put_sum, rest_of, last_rows, summed, added_at, put_weighed, agree, chosen_rows, chosen_if}
 use Rattle.ca_forms.proofs.RowOrder.{IsGathered, AreOrdered, gathered_itself, sum_ordered, weighed_ordered, sums_commute as rows_commute}
 use Rattle.ca_norm.specs.Terms.{PlainTerm, atom, choose, put, add_at, sweep, sort_of}
 use Rattle.ca_norm.specs.Forms.{expand, array_of, form_at, norm}
@@ -83,14 +80,6 @@ pub mixed_arrays : (a f t x j y : PlainTerm) → array_of (add_at (sweep a f t x
 mixed_arrays a f t x j y =
     adds_commute (array_of a) (range (gathered (expand f)) (gathered (expand t))) (gathered (expand x)) (one (gathered (expand j))) (gathered (expand y)) (gathered_itself (expand x)) (gathered_itself (expand y)) (sound a)
 
--- the array of a gathered sum and the array before it
-whole_again : (a : PlainArray) → IsSound a → IsWhole a → summed (rest_of a) (last_rows a) ≡ a
-whole_again (own_items s g n) h w = refl
-whole_again (put_item a i x) h w = refl
-whole_again (with_sums a (r ∷ rs)) h w = refl
-whole_again (with_sums a []) h w = absurd w
-whole_again (array_choice c a b) h w = refl
-
 summed_whole : (r : PlainArray) (rs : PlainRows) → IsBase r → IsWhole (summed r rs)
 summed_whole (own_items s g n) [] h = tt
 summed_whole (put_item a i x) [] h = tt
@@ -109,11 +98,6 @@ whole (sweep a f t x) = summed_whole (rest_of (array_of a)) (put_sum (range (gat
 whole (put a i x) = tt
 whole (atom s g n) = tt
 whole t = tt
-
-pub empty_arrays : (a f x : PlainTerm) → array_of (sweep a f f x) ≡ array_of a
-empty_arrays a f x =
-    ap (λ b. summed (rest_of (array_of a)) (put_unless b (range (gathered (expand f)) (gathered (expand f))) (gathered (expand x)) (last_rows (array_of a)))) (ap is_eq (tied_itself polynomial_total (gathered (expand f))))
-    ∙ whole_again (array_of a) (sound a) (whole a)
 
 at_sort : (s : Sort) (a i x j y : PlainTerm) → form_at s (add_at (add_at a i x) j y) ≡ form_at s (add_at (add_at a j y) i x)
 at_sort Long a i x j y = refl

@@ -95,7 +95,7 @@ never : false ≡ true → ⊥
 never e = cc
 
 -- a term of a sort has that sort
-sort_is : (s : Sort) (t : PlainTerm) → IsOf s t → sort_of t ≡ s
+pub sort_is : (s : Sort) (t : PlainTerm) → IsOf s t → sort_of t ≡ s
 sort_is s (number n) i = sym i.0
 sort_is s (truth b) i = sym i
 sort_is s null i = sym i

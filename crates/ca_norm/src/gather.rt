@@ -26,7 +26,7 @@ use std::alloc::{AllocError, Global};
 use std::collections::BTreeMap;
 
 /// The factor of what is taken away.
-fn opposite(factor: u64) -> u64
+pub fn opposite(factor: u64) -> u64
     ensures { result ≡ (factor * (2 ^ 64 - 1)) % 2 ^ 64 }
 {
     factor.wrapping_mul(u64::MAX)

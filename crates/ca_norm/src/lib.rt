@@ -14,7 +14,7 @@
 #![tactic(auto)]
 
 pub mod gather;
-mod items;
+pub mod items;
 pub mod laws;
 pub mod operators;
 mod term;
@@ -27,7 +27,7 @@ ghost use Rattle.ca_norm.specs.Weights.{weight_of};
 ghost use Rattle.ca_norm.specs.Forms.{norm};
 
 use crate::gather::{array_of, pointer_of, polynomial_of};
-pub use crate::term::Term;
+pub use crate::term::{Term, item_sort};
 pub use crate::weigh::{Measure, weight};
 use ca_forms::polynomial::Scalar;
 pub use ca_forms::{Normal, Sort};

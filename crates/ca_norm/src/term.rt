@@ -95,7 +95,7 @@ impl Term {
 }
 
 /// The sort of the items of an array.
-pub(crate) fn item_sort(sort: Sort) -> Sort
+pub fn item_sort(sort: Sort) -> Sort
     ensures { result ≡ item_sort sort }
 {
     match sort {

@@ -2,7 +2,8 @@
 use Rattle.std.proofs.Common.{◌≡◌, ℕ, zero, suc, ◌-◌, List, [], ◌∷◌, ◌++◌, Option, Some, None, refl, sym, subst, ap, ◌∙◌, true, false, Bool, map, ⊎_elim}
 use Rattle.std.specs.Prelude.{slice_get, nat_eq, ◌||◌, Contains, flat_map}
 use Rattle.std.proofs.lemmas.Bool.{eqb-true}
-use Rattle.std.proofs.lemmas.List.Elements.{Contains-push, Contains-push_cases, Contains-append_left, Contains-append_right, Contains-append_cases}
+use Rattle.std.proofs.lemmas.List.Elements.{Contains-push_cases, Contains-append_left, Contains-append_right, Contains-append_cases}
+use Rattle.ca_lists.proofs.Members.{has_first, has_further, has_nothing, has_only}
 use Rattle.ca_program.specs.declared.program.ClassId.{ClassId}
 use Rattle.ca_program.specs.declared.program.FirstPart.{FirstPart}
 use Rattle.ca_program.specs.declared.program.LoopId.{LoopId}
@@ -36,20 +37,11 @@ use Rattle.ca_parallel.specs.Notes.{op_of, NoteGood}
 use Rattle.ca_parallel.proofs.Moved.{Notes, moved, act_moved, MovedOps, call_moved, exec_serial_moved, ops_moved, all_ops_moved}
 use Rattle.ca_parallel.proofs.Noted.{as_is, run_forgets}
 use Rattle.ca_order_laws.proofs.Kept.{IsKept, Within, within_left, within_right}
-use Rattle.ca_order_laws.proofs.Grown.{none_of, single_is, GrownFlow, grew, section_grown}
+use Rattle.ca_order_laws.proofs.Grown.{GrownFlow, grew, section_grown}
 use Rattle.ca_order_laws.proofs.Loops.{loop_kept}
 use Rattle.ca_note_laws.specs.Handed.{ListsAreGood, NotesAside, without_notes}
 
 -- ---- lists
-
-pub at_front : {A : Type 0} (x : A) (xs : List A) → Contains (x ∷ xs) x
-at_front x xs = Contains-append_left (x ∷ []) xs x (Contains-push [] x)
-
-behind : {A : Type 0} (x : A) (xs : List A) (y : A) → Contains xs y → Contains (x ∷ xs) y
-behind x xs y c = Contains-append_right (x ∷ []) xs y c
-
-same_number : (a b : ℕ) → nat_eq a b ≡ true → a ≡ b
-same_number a b e = eqb-true a b e
 
 abbrev op_at : ℕ → OpId
 op_at n = record { 0 = n }
@@ -58,26 +50,26 @@ abbrev loop_at : ℕ → LoopId
 loop_at n = record { 0 = n }
 
 same_op : (x op : OpId) → nat_eq x.0 op.0 ≡ true → x ≡ op
-same_op x op e = ap op_at (same_number x.0 op.0 e)
+same_op x op e = ap op_at (eqb-true x.0 op.0 e)
 
 op_there : (xs : List OpId) (op : OpId) → op_in xs op ≡ true → Contains xs op
 op_there [] op e = absurd (cc)
 op_there (x ∷ xs) op e = from (nat_eq x.0 op.0) refl e (λ d. op_there xs op d)
   where
     from : (b : Bool) → nat_eq x.0 op.0 ≡ b → b || op_in xs op ≡ true → (op_in xs op ≡ true → Contains xs op) → Contains (x ∷ xs) op
-    from true d e more = subst (λ z. Contains (z ∷ xs) op) (sym (same_op x op d)) (at_front op xs)
-    from false d e more = behind x xs op (more e)
+    from true d e more = subst (λ z. Contains (z ∷ xs) op) (sym (same_op x op d)) (has_first op xs)
+    from false d e more = has_further x op xs (more e)
 
 pub loop_there : (ids : List LoopId) (x : Statement) → loop_in ids x ≡ true → (id : LoopId) × Contains ids id × (has_site x id ≡ true)
 loop_there [] x e = absurd (cc)
 loop_there (id ∷ ids) x e = from (has_site x id) refl e (λ d. loop_there ids x d)
   where
     from : (b : Bool) → has_site x id ≡ b → b || loop_in ids x ≡ true → (loop_in ids x ≡ true → (i : LoopId) × Contains ids i × (has_site x i ≡ true)) → (i : LoopId) × Contains (id ∷ ids) i × (has_site x i ≡ true)
-    from true d e more = (id, at_front id ids, d)
-    from false d e more = let r = more e in (r.0, behind id ids r.0 r.1, r.2)
+    from true d e more = (id, has_first id ids, d)
+    from false d e more = let r = more e in (r.0, has_further id r.0 ids r.1, r.2)
 
 pub same_site : (site id : LoopId) → nat_eq site.0 id.0 ≡ true → site ≡ id
-same_site site id e = ap loop_at (same_number site.0 id.0 e)
+same_site site id e = ap loop_at (eqb-true site.0 id.0 e)
 
 pub loops_inside : (p : PlainProgram) (m : PlainMethod) (n : ℕ) → slice_get p.ops n ≡ Some m → Within (loops_of_program p) (fors_in_all m.body.statements)
 loops_inside p m n e x c = Contains-append_left (flat_map loops_of_method p.ops) (fors_in_all p.main.statements) x (from p.ops n e)
@@ -171,9 +163,9 @@ module _ (p : PlainProgram) where
   section_inside written ops class b c x k (runs_out y) none g m e i at = absurd (cc)
 
   ops_inside : (ops : List OpId) (is : List Invocation) → ((i : Invocation) → Contains is i → Contains ops i.op) → (op : OpId) → Contains (map op_of is) op → Contains ops op
-  ops_inside ops [] inside op at = absurd (none_of op at)
+  ops_inside ops [] inside op at = absurd (has_nothing op at)
   ops_inside ops (i ∷ is) inside op at =
-      ⊎_elim (λ a. subst (Contains ops) (single_is i.op op a) (inside i (at_front i is))) (λ a. ops_inside ops is (λ j c. inside j (behind i is j c)) op a) (Contains-append_cases (i.op ∷ []) (map op_of is) op at)
+      ⊎_elim (λ a. subst (Contains ops) (has_only i.op op a) (inside i (has_first i is))) (λ a. ops_inside ops is (λ j c. inside j (has_further i j is c)) op a) (Contains-append_cases (i.op ∷ []) (map op_of is) op at)
 
   module _ (program : ProgramTyped p) (ms : PlainMarks) (sound : SoundMarks p ms) where
     loop_note : (s : Scope) (r : Datum) (line : ℕ) (ls : List Datum) (w : World) (y : Statement) (k : ℕ) → WorldTyped p s r w → ValuesTyped w.heap ls s.locals → StatementTyped p s y → SoundLoop p y → NotesGood w.notes → (o : LoopSectioned) → loop_section p w.heap r ls line y k ≡ o → NotesGood (loop_noted w k o).notes
@@ -252,7 +244,7 @@ module _ (p : PlainProgram) where
           found e =
               let m = loop_there ms.loops y e in
               let same : site ≡ m.0 = same_site site m.0 m.2 in
-              sound.sites m.0 m.1 y (here y (at_front y (fors_in first ++ (fors_in next ++ fors_in b)))) same
+              sound.sites m.0 m.1 y (here y (has_first y (fors_in first ++ (fors_in next ++ fors_in b)))) same
 
           from : (z : Bool) → loop_in ms.loops y ≡ z → GoodFlow s r h (either z (exec (operation_parts p q r) line ls (loop_noted w k (loop_section p w.heap r ls line y k)) y k) a)
           from true e =
@@ -384,7 +376,7 @@ module _ (p : PlainProgram) where
     run_good k =
         kept_of (main_scope p) Null [] (noted_run p ms k)
         (all_exec_good (operations_of p) (noted_of p ms) plain_all noted_all (main_scope p) Null [] p.main.statements program.main (main_inside p) _ (record { heap = []; prints = []; notes = [] }) k
-        (record { world = record { heap = tt; receiver = tt }; notes = λ n c. absurd (none_of n c) }) (extends_self []) (starts_typed [] p.main.locals))
+        (record { world = record { heap = tt; receiver = tt }; notes = λ n c. absurd (has_nothing n c) }) (extends_self []) (starts_typed [] p.main.locals))
 
 pub lists_good : ListsAreGood
 lists_good p program ms sound budget n c = let all : Kept p [] (noted_run p ms budget) = run_good p program ms sound budget in all.notes n c

@@ -1,13 +1,12 @@
 -- Whoever lists the calls of marked loops first runs what the run with marks does.
-use Rattle.std.proofs.Common.{◌≡◌, ℕ, zero, suc, ◌≤◌, ◌-◌, List, [], ◌∷◌, ◌++◌, Option, Some, None, refl, sym, subst, ap, ◌∙◌, true, false, Bool, length, map, arith}
-use Rattle.std.specs.Prelude.{slice_get, Contains}
-use Rattle.ca_program.specs.declared.program.ClassId.{ClassId}
+use Rattle.std.proofs.Common.{◌≡◌, ℕ, zero, suc, ◌≤◌, ◌-◌, List, [], ◌∷◌, ◌++◌, Option, Some, None, refl, sym, ap, ◌∙◌, true, false, Bool, length, map, arith}
+use Rattle.std.specs.Prelude.{slice_get}
+use Rattle.ca_lists.proofs.Members.{has_nothing, has_first}
 use Rattle.ca_program.specs.declared.program.FirstPart.{FirstPart}
 use Rattle.ca_program.specs.declared.program.LoopId.{LoopId}
-use Rattle.ca_program.specs.declared.program.OpId.{OpId}
 use Rattle.ca_program.specs.declared.program.ValueType.{ValueType}
-use Rattle.ca_program.specs.declared.program.ValueType.TheVariants.{Bool as BoolType, Pointer}
-use Rattle.ca_program.specs.Plain.{PlainProgram, PlainMethod, Expression, Expressions, Statement, Statements, block, put_local, put_field, put_item, new_local, new_field, new_item, invoke, if_else, while_loop, for_loop, return_value, print_value, no_statements, statement_and}
+use Rattle.ca_program.specs.declared.program.ValueType.TheVariants.{Bool as BoolType}
+use Rattle.ca_program.specs.Plain.{PlainProgram, PlainMethod, Expression, Statement, Statements, block, put_local, put_field, put_item, new_local, new_field, new_item, invoke, if_else, while_loop, for_loop, return_value, print_value, no_statements, statement_and}
 use Rattle.ca_model.specs.declared.value.Value.{Value as Datum}
 use Rattle.ca_model.specs.declared.value.Value.TheVariants.{Long, Bool as Truth, Null, Ref}
 use Rattle.ca_model.specs.declared.value.Object.{Object}
@@ -16,15 +15,15 @@ use Rattle.ca_model.specs.Typed.{HasType, TypedHeap}
 use Rattle.ca_meaning.specs.Expressions.{Out, gives, traps, over, take_step, Invocation, due}
 use Rattle.ca_meaning.specs.Flows.{Flow, goes_on, gives_back, stops, runs_out, and_on, with, choose, Parts, line_of, turn_of, exec, exec_all, turn}
 use Rattle.ca_meaning.specs.Functions.{place, body_of, locals_of, functions_of, value_in}
-use Rattle.ca_meaning.specs.Serial.{World, fresh, Operations, came_back, run_call, operation_act, operation_parts, operations, operations_of, serial_parts, serial_ops}
-use Rattle.ca_meaning.specs.Sections.{LoopOutcome, LoopSectioned, loop_done, loop_stopped, loop_over, loop_section}
+use Rattle.ca_meaning.specs.Serial.{World, fresh, Operations, came_back, run_call, operation_parts, operations, operations_of, serial_parts, serial_ops}
+use Rattle.ca_meaning.specs.Sections.{LoopSectioned, loop_done, loop_stopped, loop_over, loop_section}
 use Rattle.ca_meaning.proofs.Near.{le_self, NearFlow, both_go, both_return, both_stop, both_run_out, flow_same, flow_more, flow_go, flow_with, flow_on, CloseParts, exec_near, all_exec_near, loop_near}
 use Rattle.ca_meaning.proofs.Fix.{eval_self, due_self, act_self, CloseOps, run_near, operation_agree, close_ops, close_all_ops}
 use Rattle.ca_parallel.specs.Bodies.{targets_of}
-use Rattle.ca_parallel.specs.Lists.{PlainMarks, op_in, loop_in, note, noted, either, noted_call, loop_noted, noted_loop, noted_parts, noted_operations, noted_of, marked_parts, noted_run}
-use Rattle.ca_meaning.specs.WellTyped.{ValuesTyped, CallTyped, WellTyped, AllWellTyped}
+use Rattle.ca_parallel.specs.Lists.{PlainMarks, op_in, loop_in, note, noted, either, noted_call, loop_noted, noted_loop, noted_parts, noted_operations, noted_of, noted_run}
+use Rattle.ca_meaning.specs.WellTyped.{ValuesTyped, CallTyped, WellTyped}
 use Rattle.ca_meaning.specs.ProgramTyped.{Scope, ExpressionTyped, StatementTyped, StatementsTyped, scope_of, MethodTyped, OperationTyped, main_scope, ProgramTyped}
-use Rattle.ca_meaning_laws.specs.Typed.{Yields, yields, yields_trap, yields_over, Extends, FlowTyped, goes_on_typed, gives_back_typed, stops_typed, runs_out_typed, runs_out_kept, WorldTyped, heap_of}
+use Rattle.ca_meaning_laws.specs.Typed.{Yields, yields, Extends, goes_on_typed, runs_out_typed, runs_out_kept, WorldTyped, heap_of}
 use Rattle.ca_meaning_laws.proofs.Values.{starts_typed, frame_typed}
 use Rattle.ca_meaning_laws.proofs.Heaps.{extends_self}
 use Rattle.ca_meaning_laws.proofs.Evals.{due_typed}
@@ -34,9 +33,8 @@ use Rattle.ca_parallel.specs.Bodies.{fors_in, fors_in_all}
 use Rattle.ca_parallel.specs.Marks.{loops_of_program, SoundLoop, SoundMarks}
 use Rattle.ca_order_laws.specs.Order.{then_looped}
 use Rattle.ca_order_laws.proofs.Kept.{Within, within_left, within_right}
-use Rattle.ca_order_laws.proofs.Grown.{none_of}
 use Rattle.ca_order_laws.proofs.Loops.{loop_then_list}
-use Rattle.ca_note_laws.proofs.Good.{at_front, same_site, loop_there, loops_inside, main_inside, NotesGood, Good, GoodFlow, NotedOps, exec_good, turn_good, value_typed, body_good, plain_all}
+use Rattle.ca_note_laws.proofs.Good.{same_site, loop_there, loops_inside, main_inside, NotesGood, Good, GoodFlow, NotedOps, exec_good, turn_good, value_typed, body_good, plain_all}
 use Rattle.ca_note_laws.specs.Listing.{puts_nothing, is_empty, behind_list, CallLoopsPutNothing, ListsFirst, with_list, by_section, listing_loop, listing_parts, listing_operations, listing_of, listing_run}
 
 -- ---- runs that give no steps back
@@ -268,7 +266,7 @@ module _ (p : PlainProgram) (program : ProgramTyped p) (ms : PlainMarks) (sound 
         found e =
             let m = loop_there ms.loops y e in
             let same : site ≡ m.0 = same_site site m.0 m.2 in
-            sound.sites m.0 m.1 y (here y (at_front y (fors_in first ++ (fors_in next ++ fors_in b)))) same
+            sound.sites m.0 m.1 y (here y (has_first y (fors_in first ++ (fors_in next ++ fors_in b)))) same
 
         empty : targets_of y ≡ [] → puts_nothing y ≡ true
         empty none = ap is_empty none
@@ -398,7 +396,7 @@ module _ (p : PlainProgram) (program : ProgramTyped p) (ms : PlainMarks) (sound 
   run_same k =
       sym (even_run p ms k
       ∙ all_same (even_of p ms) (listing_of into p ms) even_all same_all (main_scope p) Null [] p.main.statements program.main (main_inside p) _ (fresh []) k
-      (record { world = record { heap = tt; receiver = tt }; notes = λ n c. absurd (none_of n c) }) (extends_self []) (starts_typed [] p.main.locals))
+      (record { world = record { heap = tt; receiver = tt }; notes = λ n c. absurd (has_nothing n c) }) (extends_self []) (starts_typed [] p.main.locals))
 
 pub lists_first : ListsFirst
 lists_first p program ms sound none into budget = run_same p program ms sound none into budget

@@ -1,6 +1,7 @@
 -- Terms that are the same under each order of their points mean the same.
 use Rattle.std.proofs.Common.{inl, inr, ◌≡◌, ℕ, Bool, true, false, cond, List, [], ◌∷◌, ◌++◌, map, sym, ◌∙◌, arith, subst}
 use Rattle.std.specs.Prelude.{Contains, ◌⊎◌}
+use Rattle.ca_lists.proofs.Members.{first_or_behind}
 use Rattle.ca_forms.specs.declared.sort.Sort.{Sort}
 use Rattle.ca_forms.specs.declared.sort.Sort.TheVariants.{Long, Bool as Truth, Pointer, LongArray}
 use Rattle.ca_norm.specs.Terms.{PlainTerm, PlainTerms, number, truth, null, atom, add, sub, neg, mul, divide, remainder, less, less_equal, same, not, and, or, choose, read, read_at, result, select, put, add_at, fold, sweep, no_terms, term_and, sort_of, item_sort, IsOf, AreSorted}
@@ -12,7 +13,7 @@ use Rattle.ca_order.specs.Under.{AreFit, under}
 use Rattle.ca_order.specs.Rankings.{ranked}
 use Rattle.ca_order.specs.OrderSame.{side, atom_point, all_points, points_of_all, comes_before, with_point, in_order, points_of, OrderSame}
 use Rattle.ca_order.proofs.Meant.{sorted, under_means, of_own_sort}
-use Rattle.ca_order.proofs.Existing.{cons_cases, exists, rank}
+use Rattle.ca_order.proofs.Existing.{exists, rank}
 
 abbrev AllFit : List Point → Type 0
 AllFit [] = Unit {0}
@@ -81,7 +82,7 @@ order_fit (p ∷ ps) f = with_fit p (in_order ps) f.0 (order_fit ps f.1)
 ranked_fit : (ps : List Point) (ks : List ℕ) → AllFit ps → AreFit (ranked ps ks)
 ranked_fit [] ks f = λ x h. let l = h.1 in absurd (omega arith)
 ranked_fit (p ∷ ps) [] f = λ x h. let l = h.1 in absurd (omega arith)
-ranked_fit (p ∷ ps) (k ∷ ks) f = λ x h. by x (cons_cases (p, k) x (ranked ps ks) h) (ranked_fit ps ks f.1 x)
+ranked_fit (p ∷ ps) (k ∷ ks) f = λ x h. by x (first_or_behind (p, k) x (ranked ps ks) h) (ranked_fit ps ks f.1 x)
   where
     by : (x : Point × ℕ) → ((p, k) ≡ x) ⊎ Contains (ranked ps ks) x → (Contains (ranked ps ks) x → FitsPoint x.0) → FitsPoint x.0
     by x (inl e) more = subst (λ (z : Point × ℕ). FitsPoint z.0) e f.0

@@ -4,6 +4,7 @@ use Rattle.std.specs.Prelude.{nat_eq, Option, Some, None, Contains, ◌&&◌, �
 use Rattle.std.specs.Ordering.{is_eq}
 use Rattle.std.proofs.lemmas.Bool.Decides.{nat_tests}
 use Rattle.std.proofs.lemmas.List.Elements.{Contains-append_left, Contains-append_right}
+use Rattle.ca_lists.proofs.Members.{has_first, has_further}
 use Rattle.ca_forms.specs.declared.sort.Sort.{Sort}
 use Rattle.ca_forms.specs.declared.sort.Sort.TheVariants.{Long}
 use Rattle.ca_forms.specs.Plain.{PlainPolynomial}
@@ -14,7 +15,6 @@ use Rattle.ca_order.specs.declared.point.Point.{Point}
 use Rattle.ca_order.specs.Points.{Ranked, form_of}
 use Rattle.ca_order.specs.Rankings.{ranked}
 use Rattle.ca_order.specs.Under.{under}
-use Rattle.ca_order.proofs.Meant.{here, there}
 use Rattle.ca_order.specs.Alike.{form_under, of_numbers, Each, EachOf, next, place_of_form, JoinTheSame, SameOrderAt}
 use Rattle.ca_order.specs.Asked.{place_in, has_pair, with_pair, with_sides, with_equal, asked, all_asked, Stands}
 use Rattle.ca_order.proofs.Alike.{each_more, joined_alike}
@@ -24,13 +24,13 @@ Grows q s = (x : ℕ × ℕ) → Contains q x → Contains s x
 
 pair_there : (i j : ℕ) (q : List (ℕ × ℕ)) → has_pair i j q ≡ true → Contains q (i, j)
 pair_there i j [] e = cc
-pair_there i j (x ∷ xs) e = by (nat_eq i x.0) (nat_eq j x.1) refl refl e (λ f. there x (i, j) xs (pair_there i j xs f))
+pair_there i j (x ∷ xs) e = by (nat_eq i x.0) (nat_eq j x.1) refl refl e (λ f. has_further x (i, j) xs (pair_there i j xs f))
   where
     equal : (a b : ℕ) → nat_eq a b ≡ true → a ≡ b
     equal a b h = grind (arith, nat_tests)
 
     same : nat_eq i x.0 ≡ true → nat_eq j x.1 ≡ true → Contains (x ∷ xs) (i, j)
-    same f g = subst (Contains (x ∷ xs)) (ap₂ (λ (a b : ℕ). (a, b)) (sym (equal i x.0 f)) (sym (equal j x.1 g))) (here x xs)
+    same f g = subst (Contains (x ∷ xs)) (ap₂ (λ (a b : ℕ). (a, b)) (sym (equal i x.0 f)) (sym (equal j x.1 g))) (has_first x xs)
 
     by : (b d : Bool) → nat_eq i x.0 ≡ b → nat_eq j x.1 ≡ d → (b && d) || has_pair i j xs ≡ true → (has_pair i j xs ≡ true → Contains (x ∷ xs) (i, j)) → Contains (x ∷ xs) (i, j)
     by true true f g h more = same f g
@@ -53,7 +53,7 @@ pair_stands (Some i) (Some j) q = by (has_pair i j q) refl
   where
     by : (b : Bool) → has_pair i j q ≡ b → Contains (cond b q (q ++ (i, j) ∷ [])) (i, j)
     by true e = pair_there i j q e
-    by false e = Contains-append_right q ((i, j) ∷ []) (i, j) (here (i, j) [])
+    by false e = Contains-append_right q ((i, j) ∷ []) (i, j) (has_first (i, j) [])
 
 stands_more : (q s : List (ℕ × ℕ)) → Grows q s → (i j : Option ℕ) → Stands q i j → Stands s i j
 stands_more q s g None j h = tt

@@ -1,12 +1,11 @@
 -- The first of the orders under which two terms differ.
 use Rattle.std.proofs.Common.{inl, inr, ◌⊎◌, ◌≡◌, ℕ, zero, suc, ◌+◌, ◌<◌, ◌≤◌, List, [], ◌∷◌, ◌++◌, length, map, take, Some, None, refl, sym, ap, ◌∙◌, arith, subst, slice_index_or, Global, Vec}
 use Rattle.std.specs.Prelude.{Contains, slice_get}
+use Rattle.ca_lists.proofs.Members.{has_first, has_further, first_or_behind}
 use Rattle.ca_norm.specs.Terms.{PlainTerm}
 use Rattle.ca_order.specs.declared.point.Point.{Point}
 use Rattle.ca_order.specs.Rankings.{IsRanking, rankings_of}
 use Rattle.ca_order.specs.OrderSame.{all_points, points_of, OrderSame, PointsRise}
-use Rattle.ca_order.proofs.Meant.{here, there}
-use Rattle.ca_order.proofs.Existing.{cons_cases}
 use Rattle.ca_order.proofs.Known.{Rising, order_rises}
 use Rattle.ca_order.proofs.Listed.{rankings_are_all}
 use Rattle.ca_order.specs.Answers.{SameUnder, AllSame, FirstDiffers, DiffersAt}
@@ -24,8 +23,8 @@ stands_at (y ∷ xs) (suc i) x l e = stands_at xs i x (omega (arith, l)) e
 
 pub item_in : (xs : List (Vec ℕ Global)) (i : ℕ) (x : Vec ℕ Global) → i < length xs → x ≡ slice_index_or xs i x → Contains (map items xs) x.items
 item_in [] i x l e = absurd (omega (arith, l))
-item_in (y ∷ xs) zero x l e = subst (Contains (y.items ∷ map items xs)) (ap items (sym e)) (here y.items (map items xs))
-item_in (y ∷ xs) (suc i) x l e = there y.items x.items (map items xs) (item_in xs i x (omega (arith, l)) e)
+item_in (y ∷ xs) zero x l e = subst (Contains (y.items ∷ map items xs)) (ap items (sym e)) (has_first y.items (map items xs))
+item_in (y ∷ xs) (suc i) x l e = has_further y.items x.items (map items xs) (item_in xs i x (omega (arith, l)) e)
 
 one_more : (xs : List (Vec ℕ Global)) (i : ℕ) (x : Vec ℕ Global) → i < length xs → x ≡ slice_index_or xs i x → take (suc i) (map items xs) ≡ take i (map items xs) ++ x.items ∷ []
 one_more [] i x l e = absurd (omega (arith, l))
@@ -45,7 +44,7 @@ same_more ps t u xs i x l e h k =
 
     by : (ls : List ℕ) → Contains (take i (map items xs)) ls ⊎ Contains (x.items ∷ []) ls → SameUnder ps t u ls
     by ls (inl g) = h ls g
-    by ls (inr g) = last ls (cons_cases x.items ls [] g)
+    by ls (inr g) = last ls (first_or_behind x.items ls [] g)
 
 take_over : {A : Type 0} (xs : List A) (i : ℕ) → length xs ≤ i → take i xs ≡ xs
 take_over [] zero l = refl

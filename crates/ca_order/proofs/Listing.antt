@@ -2,13 +2,12 @@
 use Rattle.std.proofs.Common.{◌≡◌, ℕ, zero, suc, ◌+◌, ◌<◌, ◌≤◌, Bool, true, false, cond, List, [], ◌∷◌, ◌++◌, length, map, drop, take, refl, sym, ap, ap₂, ◌∙◌, arith, slice_index_or, Global, Vec}
 use Rattle.std.specs.Prelude.{Result, Ok, Err, IfOk, IsOkAnd}
 use Rattle.std.specs.List.{filter}
-use Rattle.std.proofs.lemmas.List.{map-append, append_assoc, append-nil}
+use Rattle.std.proofs.lemmas.List.{map-append, append_assoc, drop_all}
 use Rattle.ca_order.specs.declared.point.Point.{Point}
 use Rattle.ca_order.specs.declared.point.Point.TheVariants as point
 use Rattle.ca_order.specs.declared.rankings.Ranking.{Ranking}
 use Rattle.ca_order.specs.Points.{Ranked}
 use Rattle.ca_order.specs.Rankings.{ranked, order_in, numbers_rise, each_behind}
-use Rattle.ca_order.proofs.Ending.{drop_end}
 
 abbrev pub items : Vec ℕ Global → List ℕ
 items v = v.items
@@ -19,13 +18,13 @@ rise_none (point.Number n ∷ ps) = refl
 rise_none (point.Atom g n ∷ ps) = refl
 
 pub no_ranks : (ps : List Point) (ks : List ℕ) (i : ℕ) → length ks ≤ i → numbers_rise ps (drop i ks) ≡ true
-no_ranks ps ks i l = ap (numbers_rise ps) (drop_end ks i l) ∙ rise_none ps
+no_ranks ps ks i l = ap (numbers_rise ps) (drop_all i ks l) ∙ rise_none ps
 
 rise_all : (ks : List ℕ) → numbers_rise [] ks ≡ true
 rise_all ks = refl
 
 pub no_points : (ps : List Point) (ks : List ℕ) (i : ℕ) → length ps ≤ i → numbers_rise (drop i ps) ks ≡ true
-no_points ps ks i l = ap (λ z. numbers_rise z ks) (drop_end ps i l) ∙ rise_all ks
+no_points ps ks i l = ap (λ z. numbers_rise z ks) (drop_all i ps l) ∙ rise_all ks
 
 each_append : (k : ℕ) (xs : List (List ℕ)) (y : List ℕ) → each_behind k (xs ++ y ∷ []) ≡ each_behind k xs ++ (k ∷ y) ∷ []
 each_append k [] y = refl
@@ -51,9 +50,6 @@ one_behind r k i x xs first old new l e h f g =
     ∙ append_assoc (map items first) (each_behind k (map items (take i xs))) ((k ∷ x.items) ∷ [])
     ∙ ap (λ z. map items first ++ z) (sym (each_append k (map items (take i xs)) x.items) ∙ ap (each_behind k) (sym (take_more xs i x l e)))
 
-pub suc_is : (n : ℕ) → n + 1 ≡ suc n
-suc_is n = omega arith
-
 filter_append : (p : List ℕ → Bool) (xs : List (List ℕ)) (y : List ℕ) → filter p (xs ++ y ∷ []) ≡ filter p xs ++ cond (p y) (y ∷ []) []
 filter_append p [] y = by (p y)
   where
@@ -75,11 +71,6 @@ pub kept_more : {E : Type 0} (r : Result (Vec ℕ Global) E) (p : List ℕ → B
     map items new ≡ filter p (map items (take (i + 1) xs))
 kept_more r p i x xs old new l e t h f g =
     put_items r x.items old new h f ∙ ap (λ z. z ++ x.items ∷ []) g ∙ sym (one_kept p i x xs l e ∙ ap (λ b. filter p (map items (take i xs)) ++ cond b (x.items ∷ []) []) t)
-
-pub left_out : (p : List ℕ → Bool) (i : ℕ) (x : Vec ℕ Global) (xs old : List (Vec ℕ Global)) → i < length xs → x ≡ slice_index_or xs i x →
-    p x.items ≡ false → map items old ≡ filter p (map items (take i xs)) → map items old ≡ filter p (map items (take (i + 1) xs))
-left_out p i x xs old l e t g =
-    g ∙ sym (one_kept p i x xs l e ∙ ap (λ b. filter p (map items (take i xs)) ++ cond b (x.items ∷ []) []) t ∙ append-nil (filter p (map items (take i xs))))
 
 -- one order more, as a list of points with their ranks
 pub one_ranked : {E : Type 0} (r : Result Ranking E) (ps : List Point) (i : ℕ) (x : Vec ℕ Global) (xs : List (Vec ℕ Global)) (old new : List Ranking) → i < length xs → x ≡ slice_index_or xs i x →

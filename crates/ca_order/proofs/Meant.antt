@@ -1,8 +1,7 @@
 -- Under an order that a valuation meets, a term means what it means, and it keeps its sort.
-use Rattle.std.proofs.Common.{◌≡◌, ℕ, suc, ℤ, pos, negsuc, Bool, true, false, cond, List, [], ◌∷◌, Option, Some, None, refl, sym, ap, ap₂, ◌∙◌, arith, subst, eqb, Ordering, Less, Equal, Greater}
+use Rattle.std.proofs.Common.{◌≡◌, ℕ, suc, ℤ, Bool, true, false, cond, List, [], ◌∷◌, Option, Some, None, refl, sym, ap, ap₂, ◌∙◌, arith, subst, eqb, Less, Equal}
 use Rattle.std.specs.Prelude.{nat_lt, nat_eq, Contains, ◌&&◌}
 use Rattle.std.specs.Ordering.{is_eq}
-use Rattle.std.proofs.lemmas.Bool.Decides.{nat_tests}
 use Rattle.ca_tree.specs.declared.tree.BinaryOp.TheVariants as op
 use Rattle.ca_tree.specs.declared.tree.UnaryOp.TheVariants as sign
 use Rattle.ca_model.specs.declared.value.Value.{Value as Datum}
@@ -18,11 +17,15 @@ use Rattle.ca_forms.proofs.Exact.{polynomial_same}
 use Rattle.ca_norm.specs.Terms.{PlainTerm, PlainTerms, number, truth, null, atom, add, sub, neg, mul, divide, remainder, less, less_equal, same, not, and, or, choose, read, read_at, result, select, put, add_at, fold, sweep, no_terms, term_and, sort_of, item_sort, IsScalar, IsArray, IsOf, AreSorted}
 use Rattle.ca_norm.specs.Forms.{expand, norm, form_at}
 use Rattle.ca_norm.specs.Meanings.{Valuation, IsOfSort, operate, binary_of, chosen, number_of, between, mean, item_mean, means}
-use Rattle.ca_norm.proofs.Values.{same_forms}
+use Rattle.ca_norm.proofs.Values.{same_forms, sort_is}
 use Rattle.ca_order.specs.declared.point.Point.{Point}
 use Rattle.ca_order.specs.declared.point.Point.TheVariants as point
 use Rattle.ca_order.specs.Points.{point_term, form_of, value_of, same_point, FitsPoint, Ranked}
 use Rattle.ca_order.specs.Under.{rank_of, first_of_rank, first_like, leader, rank_of_form, decided, rank_of_term, atom_under, not_more, same_under, under, all_under, Meets, AreFit}
+use Rattle.ca_norm.proofs.Operations.{same_int_true}
+use Rattle.ca_folds.proofs.Laws.{same_number as nat_eq_true}
+use Rattle.ca_folds.proofs.Rising.{eq_true as tied}
+use Rattle.ca_forms.proofs.Made.{equal as nat_eq_itself}
 
 pub here : {A : Type 0} (x : A) (xs : List A) → Contains (x ∷ xs) x
 here x xs = (0, omega arith, refl)
@@ -30,40 +33,12 @@ here x xs = (0, omega arith, refl)
 pub there : {A : Type 0} (x y : A) (xs : List A) → Contains xs y → Contains (x ∷ xs) y
 there x y xs h = let lt = h.1 in (suc h.0, omega arith, h.2)
 
--- a term of a sort has that sort
-pub sort_is : (s : Sort) (t : PlainTerm) → IsOf s t → sort_of t ≡ s
-sort_is s (number n) i = sym i.0
-sort_is s (truth b) i = sym i
-sort_is s null i = sym i
-sort_is s (atom sort group n) i = i
-sort_is s (choose c a b) i = sort_is s a i.1
-sort_is s (read r p c f) i = i.0
-sort_is s (read_at r p c f j) i = i.0
-sort_is s (result r m p ts) i = i.0
-sort_is s (select a j) i = sym i.1
-sort_is s (put a j x) i = sort_is s a i.1
-sort_is s (add_at a j x) i = sort_is LongArray a i.1 ∙ sym i.0
-sort_is s (sweep a f t x) i = sort_is LongArray a i.1 ∙ sym i.0
-sort_is s t i = sym i.0
-
 pub of_own_sort : (s : Sort) (t : PlainTerm) → IsOf s t → IsOf (sort_of t) t
 of_own_sort s t i = subst (λ z. IsOf z t) (sym (sort_is s t i)) i
 
-nat_eq_true : (a b : ℕ) → nat_eq a b ≡ true → a ≡ b
-nat_eq_true a b e = grind (arith, nat_tests)
-
-nat_eq_itself : (a b : ℕ) → a ≡ b → nat_eq a b ≡ true
-nat_eq_itself a b e = grind (arith, nat_tests)
-
-both_true : (a b : Bool) → a && b ≡ true → (a ≡ true) × (b ≡ true)
+pub both_true : (a b : Bool) → a && b ≡ true → (a ≡ true) × (b ≡ true)
 both_true true b e = (refl, e)
 both_true false b e = cc
-
-pub same_int_true : (m n : ℤ) → same_int m n ≡ true → m ≡ n
-same_int_true (pos a) (pos b) e = ap pos (nat_eq_true a b e)
-same_int_true (negsuc a) (negsuc b) e = ap negsuc (nat_eq_true a b e)
-same_int_true (pos a) (negsuc b) e = cc
-same_int_true (negsuc a) (pos b) e = cc
 
 pub point_is : (p q : Point) → same_point p q ≡ true → p ≡ q
 point_is (point.Number m) (point.Number n) e = ap point.Number (same_int_true m n e)
@@ -106,11 +81,6 @@ is_first (x ∷ xs) p k = first_if x xs p k (nat_eq x.1 k) (first_of_rank xs p k
 data FormRank (r : Ranked) (f : PlainPolynomial) : Option ℕ → Type 0 where
   no_point : FormRank r f None
   of_point : (x : Point × ℕ) → Contains r x → f ≡ form_of x.0 → FormRank r f (Some x.1)
-
-pub tied : (o : Ordering) → is_eq o ≡ true → o ≡ Equal
-tied Less e = cc
-tied Equal e = refl
-tied Greater e = cc
 
 form_if : (x : Point × ℕ) (xs : Ranked) (f : PlainPolynomial) (b : Bool) (o : Option ℕ) → is_eq (polynomial_cmp f (form_of x.0)) ≡ b → FormRank xs f o → FormRank (x ∷ xs) f (cond b (Some x.1) o)
 form_if x xs f true o e h = of_point x (here x xs) (polynomial_same f (form_of x.0) (tied _ e))

@@ -1,6 +1,6 @@
 -- What the test of a class tells.
-use Rattle.std.proofs.Common.{inl, inr, ◌⊎◌, ◌≡◌, ℕ, zero, suc, ◌+◌, ◌<◌, Bool, true, false, List, [], ◌∷◌, length, refl, sym, ap, ◌∙◌, arith, subst}
-use Rattle.std.specs.Prelude.{nat_lt, nat_eq, ◌&&◌, Some, Contains}
+use Rattle.std.proofs.Common.{inl, inr, ◌⊎◌, ◌≡◌, ℕ, zero, suc, ◌<◌, Bool, true, false, List, [], ◌∷◌, length, refl, sym, arith, subst}
+use Rattle.std.specs.Prelude.{nat_lt, nat_eq, Some, Contains}
 use Rattle.std.proofs.lemmas.Bool.Decides.{nat_tests}
 use Rattle.ca_norm.specs.Terms.{PlainTerm}
 use Rattle.ca_norm.specs.Forms.{norm}
@@ -8,24 +8,20 @@ use Rattle.ca_order.specs.declared.point.Point.{Point}
 use Rattle.ca_order.specs.Rankings.{ranked}
 use Rattle.ca_order.specs.Under.{under}
 use Rattle.ca_order.proofs.Existing.{cons_cases}
-use Rattle.ca_order.proofs.Known.{nothing, test}
+use Rattle.ca_order.proofs.Known.{nothing}
 use Rattle.ca_order.specs.Alike.{rank_at, SameOrderAt}
 use Rattle.ca_order.specs.Asked.{asked}
 use Rattle.ca_order.proofs.Asking.{AlikeAt, class_same}
 use Rattle.ca_order.specs.clauses.Classes.{alike, same_order_at, joined_alike_at, pairs_alike, row_alike, joins_alike, one_class}
-
-both : (a b : Bool) → a && b ≡ true → (a ≡ true) × (b ≡ true)
-both true b e = (refl, e)
-both false b e = cc
+use Rattle.ca_order.proofs.Meant.{both_true as both}
+use Rattle.ca_folds.proofs.Laws.{same_number as equal}
+use Rattle.ca_order.proofs.Ranks.{test}
 
 alike_same : (a b : Bool) → alike a b ≡ true → a ≡ b
 alike_same true true e = refl
 alike_same true false e = cc
 alike_same false true e = cc
 alike_same false false e = refl
-
-equal : (a b : ℕ) → nat_eq a b ≡ true → a ≡ b
-equal a b e = grind (arith, nat_tests)
 
 pairs_told : (ks ls : List ℕ) (q : List (ℕ × ℕ)) → pairs_alike ks ls q ≡ true → AlikeAt ks ls q
 pairs_told ks ls [] e i j h = absurd (nothing (i, j) h)
@@ -70,9 +66,3 @@ class_told ps ks ls t u d e h same =
     class_same ps ks ls t u d e
     (λ i j b c. alike_same _ _ (row_told ks ls i (length ps) (rows_told ks ls (length ps) (length ps) w.0 i b) j c))
     (pairs_told ks ls q w.1) same
-
-pub row_more : (ks ls : List ℕ) (i j : ℕ) → joined_alike_at ks ls i j ≡ true → row_alike ks ls i j ≡ true → row_alike ks ls i (j + 1) ≡ true
-row_more ks ls i j h k = ap (row_alike ks ls i) (let z : j + 1 ≡ suc j = omega arith in z) ∙ ap (λ b. b && row_alike ks ls i j) h ∙ k
-
-pub rows_more : (ks ls : List ℕ) (n i : ℕ) → row_alike ks ls i n ≡ true → joins_alike ks ls n i ≡ true → joins_alike ks ls n (i + 1) ≡ true
-rows_more ks ls n i h k = ap (joins_alike ks ls n) (let z : i + 1 ≡ suc i = omega arith in z) ∙ ap (λ b. b && joins_alike ks ls n i) h ∙ k

@@ -1,5 +1,5 @@
 -- Points put in order one by one are all of them in order.
-use Rattle.std.proofs.Common.{◌≡◌, ◌+◌, ◌<◌, arith, length, map, drop, slice_index_or, ℕ, ℤ, pos, negsuc, Bool, true, false, cond, List, [], ◌∷◌, ◌++◌, refl, sym, ap, ◌∙◌, eqb}
+use Rattle.std.proofs.Common.{◌≡◌, ◌+◌, ◌<◌, arith, length, map, drop, slice_index_or, ℕ, ℤ, Bool, true, false, cond, List, [], ◌∷◌, ◌++◌, refl, sym, ap, ◌∙◌, eqb}
 use Rattle.std.specs.Prelude.{nat_lt, int_lt, ◌||◌, ◌&&◌}
 use Rattle.ca_forms.specs.declared.sort.Sort.{Sort}
 use Rattle.ca_forms.specs.declared.sort.Sort.TheVariants.{Long}
@@ -10,7 +10,6 @@ use Rattle.std.specs.Ordering.{match_ordering, ordering_then}
 use Rattle.std.proofs.Common.{Less, Equal, Greater}
 use Rattle.std.specs.BTreeSet.{insert_key}
 use Rattle.std.proofs.lemmas.List.{at_drop_more}
-use Rattle.std.proofs.lemmas.Bool.Decides.{nat_tests}
 use Rattle.ca_meaning.specs.Operators.{same_int}
 use Rattle.ca_norm.specs.declared.term.Term.{Term}
 use Rattle.ca_order.specs.declared.point.Point.TheVariants as point
@@ -18,6 +17,7 @@ use Rattle.ca_order.specs.contracts.point.PointOrd.TheImpl as point_ord
 use Rattle.ca_order.specs.Points.{same_point}
 use Rattle.ca_order.specs.OrderSame.{comes_before}
 use Rattle.ca_order.specs.clauses.Added.{added_side, added_atom, added, added_all}
+use Rattle.ca_norm.proofs.Operations.{same_int_true as int_is, same_int_itself as int_itself}
 
 abbrev onto : List Point → List Point → List Point
 onto [] q = q
@@ -85,16 +85,6 @@ abbrev neither : Bool → Bool → Bool
 neither true d = false
 neither false true = false
 neither false false = true
-
-int_itself : (z : ℤ) → same_int z z ≡ true
-int_itself (pos n) = grind (arith, nat_tests)
-int_itself (negsuc n) = grind (arith, nat_tests)
-
-int_is : (m n : ℤ) → same_int m n ≡ true → m ≡ n
-int_is (pos m) (pos n) e = let z : m ≡ n = grind (arith, nat_tests) in ap pos z
-int_is (negsuc m) (negsuc n) e = let z : m ≡ n = grind (arith, nat_tests) in ap negsuc z
-int_is (pos m) (negsuc n) e = cc
-int_is (negsuc m) (pos n) e = cc
 
 int_same : (m n : ℤ) → same_int m n ≡ neither (int_lt m n) (int_lt n m)
 int_same m n = by (int_lt m n) (int_lt n m) (same_int m n) refl refl refl

@@ -3,6 +3,7 @@ use Rattle.std.proofs.Common.{inl, inr, ◌⊎◌, ◌≡◌, ℕ, ◌≤◌, Bo
 use Rattle.std.specs.Prelude.{Contains, nat_lt, max, min}
 use Rattle.std.proofs.lemmas.Bool.Decides.{nat_tests}
 use Rattle.std.proofs.lemmas.List.Elements.{Contains-append_left, Contains-append_right, Contains-append_cases}
+use Rattle.ca_lists.proofs.Members.{has_first, has_further, first_or_behind}
 use Rattle.ca_meaning.specs.Operators.{not_of}
 use Rattle.ca_forms.specs.declared.sort.Sort.TheVariants.{Long}
 use Rattle.ca_forms.specs.declared.form.Normal.TheVariants as normal
@@ -17,8 +18,6 @@ use Rattle.ca_order.specs.Under.{under, not_more}
 use Rattle.ca_order.specs.Rankings.{ranked, IsRanking}
 use Rattle.ca_order.specs.OrderSame.{side, all_points, points_of, OrderSame}
 use Rattle.ca_order.specs.Raised.{below, raised, lowered}
-use Rattle.ca_order.proofs.Meant.{here, there}
-use Rattle.ca_order.proofs.Existing.{cons_cases}
 use Rattle.ca_order.proofs.Known.{Rising, order_rises, order_there, order_back, few_points}
 use Rattle.ca_order.proofs.Sorts.{sort_kept, point_sort}
 use Rattle.ca_order.proofs.Steps.{AllFitted, point_entry, Is, form_at_rank, point_has, chosen_has, less_known, less_equal_known}
@@ -77,7 +76,7 @@ no_points : (ps : List Point) → Among ps []
 no_points ps = λ q h. let l = h.1 in absurd (omega arith)
 
 one_point : (ps : List Point) (p : Point) → Contains ps p → Among ps (p ∷ [])
-one_point ps p h = λ q g. by q (cons_cases p q [] g)
+one_point ps p h = λ q g. by q (first_or_behind p q [] g)
   where
     by : (q : Point) → (p ≡ q) ⊎ Contains [] q → Contains ps q
     by q (inl e) = subst (Contains ps) e h
@@ -93,8 +92,8 @@ own_among ps (point.Atom g n) h = one_point ps (point.Atom g n) h
 
 -- what stands in a point's term or as a side
 own_there : (p : Point) → Contains (side (point_term p) ++ all_points (point_term p)) p
-own_there (point.Number n) = here (point.Number n) []
-own_there (point.Atom g n) = here (point.Atom g n) []
+own_there (point.Number n) = has_first (point.Number n) []
+own_there (point.Atom g n) = has_first (point.Atom g n) []
 
 abbrev compared : PlainTerm → PlainTerm → List Point
 compared a b = (side a ++ side b) ++ (all_points a ++ all_points b)
@@ -141,13 +140,13 @@ module _ (cond_of : Bool → PlainTerm → PlainTerm → PlainTerm) (pick : ℕ 
     three = f ∷ e ∷ d ∷ []
 
     has_f : Contains three f
-    has_f = here f (e ∷ d ∷ [])
+    has_f = has_first f (e ∷ d ∷ [])
 
     has_e : Contains three e
-    has_e = there f e (e ∷ d ∷ []) (here e (d ∷ []))
+    has_e = has_further f e (e ∷ d ∷ []) (has_first e (d ∷ []))
 
     has_d : Contains three d
-    has_d = there f d (e ∷ d ∷ []) (there e d (d ∷ []) (here d []))
+    has_d = has_further f d (e ∷ d ∷ []) (has_further e d (d ∷ []) (has_first d []))
 
     step_among : (s : Bool) (a : PlainTerm) (p : Point) → Contains three p → Among three (side a) → Among three (all_points a) → Among three (all_points (step s a (point_term p)))
     step_among s a p h g i =
@@ -174,7 +173,7 @@ module _ (cond_of : Bool → PlainTerm → PlainTerm → PlainTerm) (pick : ℕ 
     few = omega (arith, three_points)
 
     fit : AllFitted ps
-    fit p h = by (cons_cases f p (e ∷ d ∷ []) (all_among p (order_back (all_points t ++ all_points u) p h)))
+    fit p h = by (first_or_behind f p (e ∷ d ∷ []) (all_among p (order_back (all_points t ++ all_points u) p h)))
       where
         last : (d ≡ p) ⊎ Contains [] p → FitsPoint p
         last (inl i) = subst FitsPoint i fd
@@ -182,11 +181,11 @@ module _ (cond_of : Bool → PlainTerm → PlainTerm → PlainTerm) (pick : ℕ 
 
         next : (e ≡ p) ⊎ Contains (d ∷ []) p → FitsPoint p
         next (inl i) = subst FitsPoint i fe
-        next (inr i) = last (cons_cases d p [] i)
+        next (inr i) = last (first_or_behind d p [] i)
 
         by : (f ≡ p) ⊎ Contains (e ∷ d ∷ []) p → FitsPoint p
         by (inl i) = subst FitsPoint i ff
-        by (inr i) = next (cons_cases e p (d ∷ []) i)
+        by (inr i) = next (first_or_behind e p (d ∷ []) i)
 
     cond_there : (s : Bool) (a b : PlainTerm) (q : Point) → Contains (all_points (cond_of s a b)) q → Contains (all_points (step s a b)) q
     cond_there s a b q h = Contains-append_left (all_points (cond_of s a b)) (all_points b ++ all_points a) q h
@@ -249,12 +248,3 @@ lowered_either_way =
     (λ s t e q h. subst (λ z. Contains z q) (sym (below_points s e t)) (second_there e t q h))
     (λ s t e q h. subst (λ z. Contains z q) (sym (below_points s e t)) (first_there e t q h))
     lowered_picked
-
--- such terms have at most three points
-pub raised_points : (one other : Bool) (f e d : Point) → FitsPoint f → FitsPoint e → FitsPoint d → length (points_of (raised other (raised one (point_term f) (point_term e)) (point_term d)) (raised one (raised other (point_term f) (point_term d)) (point_term e))) ≤ 3
-raised_points =
-    three_points below max max_turned
-    (λ s t e ps f g h i. subst (Among ps) (sym (below_points s t e)) (compared_among ps t e f g h i))
-    (λ s t e q h. subst (λ z. Contains z q) (sym (below_points s t e)) (first_there t e q h))
-    (λ s t e q h. subst (λ z. Contains z q) (sym (below_points s t e)) (second_there t e q h))
-    raised_picked

@@ -1,12 +1,12 @@
 -- Terms of which anything else is answered are not the same under each order.
-use Rattle.std.proofs.Common.{◌≡◌, ◌≢◌, ℕ, zero, suc, Bool, true, List, [], ◌∷◌, ◌++◌, length, Some, None, Result, Ok, Err, sym, ◌∙◌, arith, subst}
-use Rattle.std.specs.Prelude.{Contains, slice_get, Option, IfOk, IsTrue}
+use Rattle.std.proofs.Common.{◌≡◌, ◌≢◌, ℕ, Bool, true, List, [], ◌++◌, length, Some, Result, Ok, Err, sym, ◌∙◌, arith, subst}
+use Rattle.std.specs.Prelude.{slice_get, IfOk, IsTrue}
+use Rattle.ca_lists.proofs.Members.{place_has}
 use Rattle.ca_norm.specs.Terms.{PlainTerm}
 use Rattle.ca_norm.specs.Forms.{norm}
 use Rattle.ca_order.specs.Under.{under}
 use Rattle.ca_order.specs.Rankings.{ranked, IsRanking, is_ranking, rankings_of}
 use Rattle.ca_order.specs.OrderSame.{all_points, points_of, OrderSame, PointsRise}
-use Rattle.ca_order.proofs.Meant.{here, there}
 use Rattle.ca_order.proofs.Known.{order_rises}
 use Rattle.ca_order.proofs.Listed.{tested_ranking, rankings_are_all}
 use Rattle.ca_order.specs.declared.point.Point.{Point}
@@ -15,16 +15,11 @@ use Rattle.ca_order.specs.declared.answers.OrderAnswer.TheVariants as answer
 use Rattle.ca_order.specs.Answers.{Answers, IsSame}
 use Rattle.ca_order.proofs.Found.{rises}
 
-stands_in : {A : Type 0} (xs : List A) (n : ℕ) (x : A) → slice_get xs n ≡ Some x → Contains xs x
-stands_in {A} [] n x e = absurd (let f : ◌≡◌ {A = Option A} None (Some x) = e in cc)
-stands_in (y ∷ xs) zero x e = subst (Contains (y ∷ xs)) (let f : y ≡ x = cc in f) (here y xs)
-stands_in (y ∷ xs) (suc n) x e = there y x xs (stands_in xs n x e)
-
 -- an order under which two terms have different forms
 pub apart_under : (t u : PlainTerm) (n : ℕ) (ks : List ℕ) → slice_get (rankings_of (points_of t u)) n ≡ Some ks →
     norm (under (ranked (points_of t u) ks) t) ≢ norm (under (ranked (points_of t u) ks) u) → OrderSame t u → ⊥
 apart_under t u n ks e d o =
-    let is : IsRanking (points_of t u) ks = (rankings_are_all (points_of t u) (rises (points_of t u) (order_rises (all_points t ++ all_points u))) ks).1 (stands_in (rankings_of (points_of t u)) n ks e) in
+    let is : IsRanking (points_of t u) ks = (rankings_are_all (points_of t u) (rises (points_of t u) (order_rises (all_points t ++ all_points u))) ks).1 (place_has (rankings_of (points_of t u)) n ks e) in
     d (o.same ks is)
 
 pub told_same : (t u : PlainTerm) (a : OrderAnswer) → Answers t u a → IsSame a → OrderSame t u

@@ -2,6 +2,7 @@
 use Rattle.std.proofs.Common.{inl, inr, ◌⊎◌, ◌≡◌, ℕ, zero, suc, ◌<◌, true, List, [], ◌∷◌, ◌++◌, length, sym, ap, ap₂, ◌∙◌, arith, subst, slice_index_or}
 use Rattle.std.specs.Prelude.{Result, Ok, Err, IfOk, IsOkAnd, Contains}
 use Rattle.std.proofs.lemmas.List.Elements.{Contains-append_cases}
+use Rattle.ca_lists.proofs.Members.{has_first, has_further, first_or_behind}
 use Rattle.ca_norm.specs.Terms.{PlainTerm}
 use Rattle.ca_order.specs.declared.point.Point.{Point}
 use Rattle.ca_order.specs.declared.classes.Class.{Class}
@@ -10,14 +11,12 @@ use Rattle.ca_order.specs.Asked.{asked}
 use Rattle.ca_order.specs.Answers.{SameUnder}
 use Rattle.ca_order.specs.clauses.Classes.{one_class}
 use Rattle.ca_order.specs.clauses.Seen.{IsKnown, AllKnown}
-use Rattle.ca_order.proofs.Meant.{here, there}
-use Rattle.ca_order.proofs.Existing.{cons_cases}
 use Rattle.ca_order.proofs.OneClass.{class_told}
 
 pub stands_at : (cs : List Class) (i : ℕ) (c : Class) → i < length cs → c ≡ slice_index_or cs i c → Contains cs c
 stands_at [] i c l e = absurd (omega (arith, l))
-stands_at (d ∷ cs) zero c l e = subst (Contains (d ∷ cs)) (sym e) (here d cs)
-stands_at (d ∷ cs) (suc i) c l e = there d c cs (stands_at cs i c (omega (arith, l)) e)
+stands_at (d ∷ cs) zero c l e = subst (Contains (d ∷ cs)) (sym e) (has_first d cs)
+stands_at (d ∷ cs) (suc i) c l e = has_further d c cs (stands_at cs i c (omega (arith, l)) e)
 
 pub none_known : (ps : List Point) (t u : PlainTerm) → AllKnown ps t u []
 none_known ps t u c h = let m = h.1 in absurd (omega arith)
@@ -42,5 +41,5 @@ known_more ps t u ks (Ok c) old new e f g same long known = subst (AllKnown ps t
 
     by : (x : Class) → Contains old x ⊎ Contains (c ∷ []) x → IsKnown ps t u x
     by x (inl h) = known x h
-    by x (inr h) = last x (cons_cases c x [] h)
+    by x (inr h) = last x (first_or_behind c x [] h)
 known_more ps t u ks (Err x) old new e f g same long known = absurd e

@@ -25,7 +25,7 @@ use crate::points::points;
 use crate::rankings::{Ranking, copied, orders};
 use crate::shortcuts::is_seen_same;
 use crate::tries::soon_refuted;
-use ca_forms::parts::{add, both, let_go};
+use ca_forms::parts::{add, both, let_go, unless};
 use ca_norm::{Normal, Term, same};
 use std::alloc::{AllocError, Global};
 
@@ -80,17 +80,6 @@ fn both_forms(
 {
     let one = form_of(alloc, places, first);
     both(one, form_of(alloc, places, second))
-}
-
-/// Two values, unless they are alike.
-#[inline(never)]
-fn unless<T: Drop>(alike: bool, one: T, other: T) -> Option<(T, T)>
-    ensures first { IfSome result (λ p. p.0 ≡ one) }
-    ensures second { IfSome result (λ p. p.1 ≡ other) }
-    ensures differ { IfSome result (λ _. alike ≡ false) }
-    ensures same { IfNone result (IsTrue alike) }
-{
-    if alike { None } else { Some((one, other)) }
 }
 
 /// The places that two terms compare under an order.

@@ -1,6 +1,6 @@
 //! Atoms and comparisons under an order.
 
-ghost use Rattle.std.specs.Prelude.{◌≡◌, ◌*◌, ◌-◌, ◌%◌, ◌^◌, IfOk, OnOk};
+ghost use Rattle.std.specs.Prelude.{◌≡◌, IfOk, OnOk};
 ghost use Rattle.ca_sums.specs.Sums.{NoZero, AddsSum};
 ghost use Rattle.ca_norm.specs.Terms.{shape};
 ghost use Rattle.ca_norm.specs.Forms.{expand, pointer_of, array_of};
@@ -14,16 +14,10 @@ use crate::point::Point;
 use ca_forms::array::Array;
 use ca_forms::polynomial::{Monomial, Part, Pointer, Polynomial};
 use ca_forms::rules::{add_less, add_number, add_part, add_same, add_truth};
+use ca_norm::gather::opposite;
 use ca_norm::{Sort, Term};
 use std::alloc::{AllocError, Global};
 use std::collections::BTreeMap;
-
-/// The factor of what is taken away.
-pub(crate) fn opposite(factor: u64) -> u64
-    ensures { result ≡ (factor * (2 ^ 64 - 1)) % 2 ^ 64 }
-{
-    factor.wrapping_mul(u64::MAX)
-}
 
 /// The term of an atom.
 pub(crate) fn atom_under(places: &[Place], sort: Sort, group: u32, number: u32) -> Term

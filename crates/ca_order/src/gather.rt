@@ -10,9 +10,7 @@ ghost use Rattle.ca_order.specs.Under.{under, all_under};
 
 use crate::comparisons::{
     add_atom, add_less_equal_under, add_less_under, add_same_under, atom_array, atom_pointer,
-    opposite,
 };
-use crate::items::{add_item_of, pointer_of_item};
 use crate::places::Place;
 use ca_forms::array::{Array, Span};
 use ca_forms::array_rules::chosen_array;
@@ -25,6 +23,8 @@ use ca_forms::rules::{
     add_truth,
 };
 use ca_forms::sums::{add_product_of, add_whole, finish};
+use ca_norm::gather::opposite;
+use ca_norm::items::{add_item_of, pointer_of_item};
 use ca_norm::{Sort, Term};
 use std::alloc::{AllocError, Global};
 use std::collections::BTreeMap;

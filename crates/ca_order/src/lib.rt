@@ -15,7 +15,6 @@ mod comparisons;
 mod depth;
 mod forms;
 mod gather;
-mod items;
 pub mod laws;
 mod places;
 mod point;

@@ -1,6 +1,8 @@
 -- The serial run of a call is its section and then the run of what that lists.
-use Rattle.std.proofs.Common.{◌≡◌, ℕ, zero, suc, ◌+◌, List, [], ◌∷◌, Option, Some, None, refl, ap, sym, subst, ◌∙◌, arith, false}
+use Rattle.std.proofs.Common.{◌≡◌, ℕ, zero, suc, ◌+◌, List, [], ◌∷◌, Option, Some, None, refl, ap, sym, subst, ◌∙◌, arith, false, set-set}
 use Rattle.std.specs.Prelude.{slice_get, slice_set, Contains}
+use Rattle.ca_lists.proofs.Members.{has_nothing}
+use Rattle.ca_lists.proofs.Places.{get_set_here}
 use Rattle.ca_program.specs.declared.program.ClassId.{ClassId}
 use Rattle.ca_program.specs.declared.program.FieldId.{FieldId}
 use Rattle.ca_program.specs.declared.program.OpId.{OpId}
@@ -31,10 +33,8 @@ use Rattle.ca_parallel.specs.Bodies.{calls_of_all}
 use Rattle.ca_parallel.specs.Extents.{Extent, IsExtentOf}
 use Rattle.ca_parallel.specs.Separable.{is_some_of, AreSeparated, Separable}
 use Rattle.ca_order_laws.proofs.Runs.{ends_same, ends_left, reaches_same, reaches_steps, stop_reaches}
-use Rattle.ca_order_laws.proofs.Places.{get_set, set_again}
 use Rattle.ca_order_laws.proofs.Likes.{Like}
 use Rattle.ca_order_laws.proofs.Kept.{AreKept}
-use Rattle.ca_order_laws.proofs.Grown.{none_of}
 use Rattle.ca_order_laws.proofs.Sections.{object_with, body_kept}
 use Rattle.ca_order_laws.proofs.Related.{Puts, Constants, Related, Common}
 use Rattle.ca_order_laws.proofs.BothRuns.{Placed, common}
@@ -51,8 +51,8 @@ set_same (y ∷ ys) (suc r) o e = ap (λ z. y ∷ z) (set_same ys r o e)
 -- a put in the heap is a put in the object
 put_set : (h : List Object) (r : ℕ) (o : Object) (own : List Slot) (f i : ℕ) (v : Datum) → slice_get h r ≡ Some o → stored (slice_set h r (object_with o own)) r f i v ≡ slice_set h r (object_with o (put_slot own f i v))
 put_set h r o own f i v found =
-    sym (stored_is (slice_set h r (object_with o own)) r f i v (object_with o own) (get_set h r o (object_with o own) found))
-    ∙ set_again h r (object_with o own) (object_with o (put_slot own f i v))
+    sym (stored_is (slice_set h r (object_with o own)) r f i v (object_with o own) (get_set_here h r o (object_with o own) found))
+    ∙ set-set h r (object_with o own) (object_with o (put_slot own f i v))
 
 set_extends : (h : List Object) (r : ℕ) (o : Object) (own : List Slot) → slice_get h r ≡ Some o → Extends h (slice_set h r (object_with o own))
 set_extends h r o own found = record { keeps = λ n c t. from h r n c found t }
@@ -133,7 +133,7 @@ module _ (p : PlainProgram) (program : ProgramTyped p) (roots : List OpId) (x : 
 
     puts : Puts p x.written x.ops (scope_of m) w (Ref i.receiver) put_in false
     puts = record {
-      own_is = λ own. ap slots_in (get_set w.heap i.receiver o (object_with o own) found);
+      own_is = λ own. ap slots_in (get_set_here w.heap i.receiver o (object_with o own) found);
       put_is = λ own f n v. ap (λ h. in_heap w h) (sym (put_set w.heap i.receiver o own f.field n v found));
     }
 
@@ -165,7 +165,7 @@ module _ (p : PlainProgram) (program : ProgramTyped p) (roots : List OpId) (x : 
         rises = λ e. refl;
         typed = record { own = subst (λ z. ObjectTyped w.heap (slice_get p.classes z.0) o.slots) of_class (subst (λ z. ObjectTyped w.heap (slice_get p.classes o.class.0) (slots_in z)) found (object_typed p w.heap w.heap i.receiver o.class heap (subst (λ z. IsOfClass z o.class) (sym found) refl))); listed = tt };
         constants = λ f e free. sym (own_found f);
-        inside = λ j c. absurd (none_of j c);
+        inside = λ j c. absurd (has_nothing j c);
       };
       run = record { at = λ k. (stop_reaches [] (put_in o.slots)).at k ∙ ap (λ h. goes_on [] (in_heap w h) k) (set_same w.heap i.receiver o found) };
     }

@@ -1,6 +1,8 @@
 -- Confluence, the diamond: where sections commute, every complete run ends alike.
-use Rattle.std.proofs.Common.{◌≡◌, ℕ, suc, ◌+◌, List, [], ◌∷◌, ◌++◌, length, Some, refl, ap, sym, subst, ◌∙◌, arith, ◌≢◌}
+use Rattle.std.proofs.Common.{◌≡◌, ℕ, suc, ◌+◌, List, [], ◌∷◌, ◌++◌, length, Some, refl, ap, sym, subst, ◌∙◌, arith, ◌≢◌, length-set, set-set}
+use Rattle.std.proofs.lemmas.List.{set_comm}
 use Rattle.std.specs.Prelude.{slice_get, slice_set}
+use Rattle.ca_lists.proofs.Places.{get_set_here}
 use Rattle.ca_program.specs.Plain.{PlainProgram}
 use Rattle.ca_model.specs.declared.value.Object.{Object}
 use Rattle.ca_meaning.specs.Expressions.{Invocation}
@@ -10,7 +12,7 @@ use Rattle.ca_order_laws.specs.Pending.{Leaves, PendingRun, rests, runs}
 use Rattle.ca_order_laws.proofs.Weights.{weight_append, Split, Decides, equal, other, Two, one, both, count_of, there, count_self, two}
 use Rattle.ca_order_laws.proofs.Decided.{decide_nat}
 use Rattle.ca_order_laws.proofs.PendingRuns.{run_same}
-use Rattle.ca_order_laws.proofs.Places.{get_set, get_else, set_again, set_swap, set_length, one_some}
+use Rattle.ca_order_laws.proofs.Places.{get_else, one_some}
 
 -- b before a where a came before b
 pub record Swapped (p : PlainProgram) (frozen : List Object) (a b : Invocation) (o : Object) (r q : Outcome) : Type 0 where
@@ -46,7 +48,7 @@ module _ {p : PlainProgram} {frozen : List Object} {Good : Invocation → Type 0
 
   set_decided : (h : List Object) (n m : ℕ) (v o w : Object) → slice_get h n ≡ Some o → GoodObject n v → (slice_get h m ≡ Some w → GoodObject m w) → Decides n m → slice_get (slice_set h n v) m ≡ Some w → GoodObject m w
   set_decided h n m v o w found good old (equal e) got =
-      let t : slice_get (slice_set h n v) m ≡ Some v = subst (λ k. slice_get (slice_set h n v) k ≡ Some v) e (get_set h n o v found) in
+      let t : slice_get (slice_set h n v) m ≡ Some v = subst (λ k. slice_get (slice_set h n v) k ≡ Some v) e (get_set_here h n o v found) in
       subst (λ k. GoodObject k w) e (subst (λ u. GoodObject n u) (one_some _ v w t got) good)
   set_decided h n m v o w found good old (other ne) got = old (sym (get_else h n m v ne) ∙ got)
 
@@ -55,7 +57,7 @@ module _ {p : PlainProgram} {frozen : List Object} {Good : Invocation → Type 0
       let good_a : Good a = fine.ops a record { others = others; same = same } in
       let good_o : GoodObject a.receiver o = fine.objects a.receiver o found in
       record {
-        size = set_length h a.receiver r.object ∙ fine.size;
+        size = length-set h a.receiver r.object ∙ fine.size;
         objects = λ n w got. set_decided h a.receiver n r.object o w found (z.object a o r good_a good_o sec) (fine.objects n w) (decide_nat a.receiver n) got;
         ops = fine_append r.listed others (z.listed a o r good_a good_o sec) (λ x s. fine.ops x record { others = a ∷ s.others; same = record { weighed = λ f. let p = same.weighed f in let q = s.same.weighed f in omega arith } });
       }
@@ -76,9 +78,9 @@ module _ {p : PlainProgram} {frozen : List Object} {Good : Invocation → Type 0
   front_here : {last : List Object} (a b : Invocation) (h : List Object) (others zs es : List Invocation) (ob oa : Object) (rb ra : Outcome) (s left : ℕ) → b.receiver ≡ a.receiver → SameItems others (b ∷ zs) → slice_get h b.receiver ≡ Some ob → slice_get (slice_set h b.receiver rb.object) a.receiver ≡ Some oa → PendingRun p frozen last [] es (slice_set (slice_set h b.receiver rb.object) a.receiver ra.object) (ra.listed ++ (rb.listed ++ zs)) left → s ≡ ra.steps + left → Swapped p frozen b a ob rb ra → Ahead last h a others (suc (suc (length es))) (rb.steps + s)
   front_here {last} a b h others zs es ob oa rb ra s left e same found_b found_a run steps w =
       let heap : slice_set (slice_set h b.receiver rb.object) a.receiver ra.object ≡ slice_set (slice_set h a.receiver w.first.object) b.receiver w.second.object =
-      ap (λ n. slice_set (slice_set h n rb.object) a.receiver ra.object) e ∙ set_again h a.receiver rb.object ra.object ∙ ap (λ v. slice_set h a.receiver v) (sym w.object) ∙ sym (set_again h a.receiver w.first.object w.second.object) ∙ ap (λ n. slice_set (slice_set h a.receiver w.first.object) n w.second.object) (sym e) in
+      ap (λ n. slice_set (slice_set h n rb.object) a.receiver ra.object) e ∙ set-set h a.receiver rb.object ra.object ∙ ap (λ v. slice_set h a.receiver v) (sym w.object) ∙ sym (set-set h a.receiver w.first.object w.second.object) ∙ ap (λ n. slice_set (slice_set h a.receiver w.first.object) n w.second.object) (sym e) in
       let at_a : slice_get h a.receiver ≡ Some ob = subst (λ n. slice_get h n ≡ Some ob) e found_b in
-      let at_b : slice_get (slice_set h a.receiver w.first.object) b.receiver ≡ Some w.first.object = subst (λ n. slice_get (slice_set h a.receiver w.first.object) n ≡ Some w.first.object) (sym e) (get_set h a.receiver ob w.first.object at_a) in
+      let at_b : slice_get (slice_set h a.receiver w.first.object) b.receiver ≡ Some w.first.object = subst (λ n. slice_get (slice_set h a.receiver w.first.object) n ≡ Some w.first.object) (sym e) (get_set_here h a.receiver ob w.first.object at_a) in
       let moved : PendingRun p frozen last [] es (slice_set (slice_set h a.receiver w.first.object) b.receiver w.second.object) (ra.listed ++ (rb.listed ++ zs)) left = subst (λ g. PendingRun p frozen last [] es g (ra.listed ++ (rb.listed ++ zs)) left) heap run in
       let pending : SameItems (w.second.listed ++ (w.first.listed ++ zs)) (ra.listed ++ (rb.listed ++ zs)) = record { weighed = λ f. let p = w.listed.weighed f in let p1 = weight_append f rb.listed ra.listed in let p2 = weight_append f w.first.listed w.second.listed in let p3 = weight_append f w.second.listed (w.first.listed ++ zs) in let p4 = weight_append f w.first.listed zs in let p5 = weight_append f ra.listed (rb.listed ++ zs) in let p6 = weight_append f rb.listed zs in omega arith } in
       let sum : w.second.steps + left ≡ w.second.steps + left = refl in
@@ -100,7 +102,7 @@ module _ {p : PlainProgram} {frozen : List Object} {Good : Invocation → Type 0
   -- a and b at different places
   front_apart : {last : List Object} (a b : Invocation) (h : List Object) (others zs es : List Invocation) (ob oa : Object) (rb ra : Outcome) (s left : ℕ) → b.receiver ≢ a.receiver → SameItems others (b ∷ zs) → slice_get h b.receiver ≡ Some ob → slice_get (slice_set h b.receiver rb.object) a.receiver ≡ Some oa → Leaves p frozen b ob rb → Leaves p frozen a oa ra → PendingRun p frozen last [] es (slice_set (slice_set h b.receiver rb.object) a.receiver ra.object) (ra.listed ++ (rb.listed ++ zs)) left → s ≡ ra.steps + left → Ahead last h a others (suc (suc (length es))) (rb.steps + s)
   front_apart {last} a b h others zs es ob oa rb ra s left ne same found_b found_a sec_b sec_a run steps =
-      let moved : PendingRun p frozen last [] es (slice_set (slice_set h a.receiver ra.object) b.receiver rb.object) (ra.listed ++ (rb.listed ++ zs)) left = subst (λ g. PendingRun p frozen last [] es g (ra.listed ++ (rb.listed ++ zs)) left) (set_swap h b.receiver a.receiver rb.object ra.object ne) run in
+      let moved : PendingRun p frozen last [] es (slice_set (slice_set h a.receiver ra.object) b.receiver rb.object) (ra.listed ++ (rb.listed ++ zs)) left = subst (λ g. PendingRun p frozen last [] es g (ra.listed ++ (rb.listed ++ zs)) left) (set_comm h b.receiver a.receiver rb.object ra.object ne) run in
       record {
         o = oa;
         r = ra;
@@ -120,7 +122,7 @@ module _ {p : PlainProgram} {frozen : List Object} {Good : Invocation → Type 0
   front_two {last} a b h others zs ob rb n s good_a good_b good_o same found_b sec_b w (other ne) =
       subst (λ k. Ahead last h a others (suc k) (rb.steps + s)) (sym w.fewer) (front_apart a b h others zs w.es ob w.o rb w.r s w.left ne same found_b w.found sec_b w.section w.run w.steps)
   front_two {last} a b h others zs ob rb n s good_a good_b good_o same found_b sec_b w (equal e) =
-      let here : slice_get (slice_set h b.receiver rb.object) a.receiver ≡ Some rb.object = subst (λ k. slice_get (slice_set h b.receiver rb.object) k ≡ Some rb.object) e (get_set h b.receiver ob rb.object found_b) in
+      let here : slice_get (slice_set h b.receiver rb.object) a.receiver ≡ Some rb.object = subst (λ k. slice_get (slice_set h b.receiver rb.object) k ≡ Some rb.object) e (get_set_here h b.receiver ob rb.object found_b) in
       let sec : Leaves p frozen a rb.object w.r = subst (λ v. Leaves p frozen a v w.r) (one_some _ w.o rb.object w.found here) w.section in
       subst (λ k. Ahead last h a others (suc k) (rb.steps + s)) (sym w.fewer) (front_here a b h others zs w.es ob w.o rb w.r s w.left e same found_b w.found w.run w.steps (z.commutes b a ob rb w.r good_b good_a e good_o sec_b sec))
 

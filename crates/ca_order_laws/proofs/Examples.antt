@@ -3,6 +3,7 @@ use Rattle.std.proofs.Common.{◌≡◌, ◌≢◌, ◌<◌, ℕ, zero, suc, Lis
 use Rattle.std.proofs.lemmas.Int.{ints}
 use Rattle.std.specs.Prelude.{Contains, FitsSigned, slice_get}
 use Rattle.std.specs.Int.{w64, int_wrap}
+use Rattle.ca_lists.proofs.Members.{has_nothing}
 use Rattle.ca_tree.specs.declared.tree.AssignOp.TheVariants.{Put, Add}
 use Rattle.ca_tree.specs.declared.tree.BinaryOp.TheVariants.{Less}
 use Rattle.ca_program.specs.declared.program.ClassId.{ClassId}
@@ -139,9 +140,6 @@ of_three x y z _ the_first = (zero, omega arith, refl)
 of_three x y z _ the_second = (suc zero, omega arith, refl)
 of_three x y z _ the_third = (suc (suc zero), omega arith, refl)
 
-pub no_item : {A : Type 0} (x : A) → ¬ Contains [] x
-no_item x c = let below = c.1 in absurd (omega arith)
-
 pub first_of_two : {A : Type 0} (x y : A) → Contains (x ∷ y ∷ []) x
 first_of_two x y = (zero, omega arith, refl)
 
@@ -168,8 +166,8 @@ IsReached op = Three go mark_left mark_right op
 
 callees : (op callee : OpId) → IsReached op → Contains (calls_of_all (operation_body three op)) callee → IsReached callee
 callees _ callee the_first c = two_of (λ z. IsReached z) mark_left mark_right callee the_second the_third c
-callees _ callee the_second c = absurd (no_item callee c)
-callees _ callee the_third c = absurd (no_item callee c)
+callees _ callee the_second c = absurd (has_nothing callee c)
+callees _ callee the_third c = absurd (has_nothing callee c)
 
 invoked : {op : OpId} → Invokes three from_go op → IsReached op
 invoked (root {op} c) = one_of (λ z. IsReached z) go op the_first c
@@ -184,23 +182,23 @@ invokes _ the_second = called go_runs (first_of_two mark_left mark_right)
 invokes _ the_third = called go_runs (second_of_two mark_left mark_right)
 
 no_function : (op : OpId) (m : FunctionId) → IsReached op → ¬ Contains (functions_of_body (operation_body three op)) m
-no_function _ m the_first c = no_item m c
-no_function _ m the_second c = no_item m c
-no_function _ m the_third c = no_item m c
+no_function _ m the_first c = has_nothing m c
+no_function _ m the_second c = has_nothing m c
+no_function _ m the_third c = has_nothing m c
 
 none_evaluated : {m : FunctionId} → ¬ Evaluates three from_go m
 none_evaluated (by_operation {op} {m} i c) = no_function op m (invoked i) c
 none_evaluated (by_function e c) = none_evaluated e
 
 targets : (op : OpId) (f : FieldId) → IsReached op → Contains (targets_of_all (operation_body three op)) f → Contains (a ∷ b ∷ []) f
-targets _ f the_first c = absurd (no_item f c)
+targets _ f the_first c = absurd (has_nothing f c)
 targets _ f the_second c = one_of (λ z. Contains (a ∷ b ∷ []) z) a f (first_of_two a b) c
 targets _ f the_third c = one_of (λ z. Contains (a ∷ b ∷ []) z) b f (second_of_two a b) c
 
 reached_is : IsExtentOf three from_go reached
 reached_is = record {
   ops = λ op. (λ c. invokes op (three_of go mark_left mark_right op c), λ i. of_three go mark_left mark_right op (invoked i));
-  functions = λ m. (λ c. absurd (no_item m c), λ e. absurd (none_evaluated e));
+  functions = λ m. (λ c. absurd (has_nothing m c), λ e. absurd (none_evaluated e));
   written = λ f. (
     λ c. two_of (λ z. Writes three from_go z) a b f
         (record { op = mark_left; invoked = invokes mark_left the_second; target = (zero, omega arith, refl) })

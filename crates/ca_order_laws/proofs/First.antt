@@ -21,12 +21,13 @@ use Rattle.ca_meaning.specs.Sections.{Section, with_own, with_listed, section_pl
 use Rattle.ca_meaning.specs.WellTyped.{ValuesTyped}
 use Rattle.ca_meaning.specs.ProgramTyped.{Scope, ExpressionTyped, StatementTyped, StatementsTyped}
 use Rattle.ca_meaning.proofs.Fix.{loop_runs, section_loop_runs}
+use Rattle.ca_parallel.proofs.Somes.{some_left, some_right}
 use Rattle.ca_meaning_laws.specs.Budgets.{Takes, End, on_with, Reaches}
 use Rattle.ca_meaning_laws.proofs.Steady.{SteadyFlow, flow_less, steady_with, steady_on, steady_stop, steady_choose, steady_turn, steady_indexed, SteadyParts, exec_steady, all_exec_steady, reaches_with, reaches_on}
 use Rattle.ca_meaning_laws.proofs.Bigs.{value_steady, dues_steady, serial_parts_steady, serial_call_steady, PartsWith, parts_with, PartsOn, parts_on, AfterStep, after_step, before_step}
 use Rattle.ca_parallel.specs.Bodies.{calls_of, calls_of_all}
 use Rattle.ca_parallel.specs.Separable.{IsClean, is_some_of, holds_call, IsSeparated, AreSeparated}
-use Rattle.ca_order_laws.proofs.Flags.{some_left, some_right, Rise, rise_or, rise_part, rise_other, rise_two, rise_again, never_down}
+use Rattle.ca_order_laws.proofs.Flags.{Rise, rise_or, rise_part, rise_other, rise_two, rise_again, never_down}
 use Rattle.ca_order_laws.proofs.Runs.{AtOnce, at_once, reaches_same, takes_same, stop_reaches, reaches_steps, Called, called, one_more}
 use Rattle.ca_order_laws.proofs.Kept.{IsKept, AreKept}
 use Rattle.ca_order_laws.proofs.Grown.{due_calls}

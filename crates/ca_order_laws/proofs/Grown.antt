@@ -1,8 +1,9 @@
 -- A section only adds to its list, calls of the extent alone, keeps the constants of its object, and once it may have
 -- called keeps the whole object.
-use Rattle.std.proofs.Common.{◌≡◌, ℕ, zero, suc, List, [], ◌∷◌, ◌++◌, Option, Some, refl, ap, sym, subst, ◌∙◌, true, false, Bool, ⊎_elim, arith, append_assoc, append-nil}
+use Rattle.std.proofs.Common.{◌≡◌, ℕ, zero, suc, List, [], ◌∷◌, ◌++◌, Option, Some, refl, ap, sym, subst, ◌∙◌, true, false, Bool, ⊎_elim, append_assoc, append-nil}
 use Rattle.std.specs.Prelude.{slice_get, ◌||◌, Contains}
-use Rattle.std.proofs.lemmas.List.Elements.{Contains-push_cases, Contains-append_cases}
+use Rattle.std.proofs.lemmas.List.Elements.{Contains-append_cases}
+use Rattle.ca_lists.proofs.Members.{has_nothing, has_only}
 use Rattle.ca_program.specs.declared.program.ClassId.{ClassId}
 use Rattle.ca_program.specs.declared.program.FieldId.{FieldId}
 use Rattle.ca_program.specs.declared.program.OpId.{OpId}
@@ -17,11 +18,12 @@ use Rattle.ca_meaning.specs.Flows.{Flow, goes_on, gives_back, stops, runs_out, a
 use Rattle.ca_meaning.specs.Functions.{functions_of}
 use Rattle.ca_meaning.specs.Sections.{Section, with_own, with_listed, section_place, section_item_at, Again, section_parts_with, loops, loops_of, section_parts}
 use Rattle.ca_meaning.specs.ProgramTyped.{Scope, StatementTyped, StatementsTyped}
+use Rattle.ca_parallel.proofs.Somes.{some_left, some_right}
 use Rattle.ca_meaning_laws.specs.Typed.{Yields, yields, yields_trap, yields_over}
 use Rattle.ca_parallel.specs.Bodies.{calls_of, calls_of_all}
 use Rattle.ca_parallel.specs.Separable.{MayAccess, is_some_of, holds_call, IsSeparated, AreSeparated}
 use Rattle.ca_order_laws.proofs.Puts.{slot_else, field_same}
-use Rattle.ca_order_laws.proofs.Flags.{some_left, some_right, Rise, rise_stays, rise_self, rise_or, rise_part, rise_other, rise_two, rise_again, never_down}
+use Rattle.ca_order_laws.proofs.Flags.{Rise, rise_stays, rise_self, rise_or, rise_part, rise_other, rise_two, rise_again, never_down}
 use Rattle.ca_order_laws.proofs.Kept.{IsKept, AreKept}
 
 -- ---- the operation of a call that is due
@@ -36,12 +38,6 @@ due_calls c q e op es k =
     any_then (λ i. i.op ≡ op) (eval c q e k) _ (λ v k. any_then (λ i. i.op ≡ op) (eval_all c q es k) _ (λ vs k. any_then (λ i. i.op ≡ op) (pointed q.line v k) _ (λ n k. yields (invocation n op vs) k refl)))
 
 -- ---- lists
-
-pub none_of : {A : Type 0} (x : A) → ¬ Contains [] x
-none_of x c = let lt = c.1 in absurd (omega arith)
-
-pub single_is : {A : Type 0} (x y : A) → Contains (x ∷ []) y → x ≡ y
-single_is x y c = ⊎_elim (λ a. absurd (none_of y a)) (λ e. e) (Contains-push_cases [] x y c)
 
 module _ (written : List FieldId) (ops : List OpId) (class : Option ClassId) where
   -- from s to t, where a call may have come before s (b) and before t (c)
@@ -63,7 +59,7 @@ module _ (written : List FieldId) (ops : List OpId) (class : Option ClassId) whe
   grown_of (grew _ _ _ g) = g
 
   pub grows_self : (b c : Bool) (s : Section) → Grows b c s s
-  grows_self b c s = record { more = []; listed = sym (append-nil s.listed); own = λ e. refl; constants = λ f e n. refl; inside = λ i m. absurd (none_of i m); none = λ e. refl }
+  grows_self b c s = record { more = []; listed = sym (append-nil s.listed); own = λ e. refl; constants = λ f e n. refl; inside = λ i m. absurd (has_nothing i m); none = λ e. refl }
 
   pub grows_then : {b c : Bool} {s t u : Section} → Grows b c s t → Grows b c t u → Grows b c s u
   grows_then {b} {c} {s} {t} {u} g k = record {
@@ -125,7 +121,7 @@ module _ (written : List FieldId) (ops : List OpId) (class : Option ClassId) whe
     listed = sym (append-nil s.listed);
     own = λ e. may_not b f may at e;
     constants = λ g e n. slot_else s.own f.field i v g.field (λ same. n (subst (λ z. Contains written z) (field_same f g (let z : Some f.class ≡ Some g.class = sym of_class ∙ e in cc) same) at));
-    inside = λ i m. absurd (none_of i m);
+    inside = λ i m. absurd (has_nothing i m);
     none = λ e. refl;
   }
 
@@ -135,7 +131,7 @@ module _ (written : List FieldId) (ops : List OpId) (class : Option ClassId) whe
     listed = refl;
     own = λ e. refl;
     constants = λ g e n. refl;
-    inside = λ j m. subst (λ z. Contains ops z.op) (single_is i j m) at;
+    inside = λ j m. subst (λ z. Contains ops z.op) (has_only i j m) at;
     none = λ e. never_down b e;
   }
 

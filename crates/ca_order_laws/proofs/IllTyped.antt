@@ -4,6 +4,7 @@ use Rattle.std.proofs.Common.{◌≡◌, ℕ, zero, suc, ◌-◌, List, [], ◌�
 use Rattle.std.specs.Prelude.{pos, length, Contains, FitsSigned}
 use Rattle.std.specs.Int.{int_wrap, w64}
 use Rattle.std.proofs.lemmas.Int.{ints}
+use Rattle.ca_lists.proofs.Members.{has_nothing}
 use Rattle.ca_tree.specs.declared.tree.AssignOp.TheVariants.{Add, Mul}
 use Rattle.ca_tree.specs.declared.tree.BinaryOp.TheVariants.{Equal}
 use Rattle.ca_program.specs.declared.program.ValueType.TheVariants.{Long, Pointer}
@@ -32,7 +33,7 @@ use Rattle.ca_parallel.specs.Separable.{Separable}
 use Rattle.ca_model.specs.Typed.{TypedHeap}
 use Rattle.ca_order_laws.specs.Pending.{CompleteRun, runs, rests}
 use Rattle.ca_order_laws.specs.Order.{AllInside}
-use Rattle.ca_order_laws.proofs.Examples.{Three, the_first, the_second, the_third, three_of, of_three, no_item, first_of_two, second_of_two, two_of, one_of}
+use Rattle.ca_order_laws.proofs.Examples.{Three, the_first, the_second, the_third, three_of, of_three, first_of_two, second_of_two, two_of, one_of}
 
 abbrev a_class : ClassId
 a_class = record { 0 = 0 }
@@ -157,8 +158,8 @@ from_start = operation 0 ∷ []
 
 callees : (a callee : OpId) → IsMember a → Contains (calls_of_all (operation_body program a)) callee → IsMember callee
 callees _ callee the_first c = two_of (λ z. IsMember z) (operation 1) (operation 2) callee the_second the_third c
-callees _ callee the_second c = absurd (no_item callee c)
-callees _ callee the_third c = absurd (no_item callee c)
+callees _ callee the_second c = absurd (has_nothing callee c)
+callees _ callee the_third c = absurd (has_nothing callee c)
 
 invoked : {a : OpId} → Invokes program from_start a → IsMember a
 invoked (root {op} c) = one_of (λ z. IsMember z) (operation 0) op the_first c
@@ -173,23 +174,23 @@ invokes _ the_second = called start_is_invoked (first_of_two (operation 1) (oper
 invokes _ the_third = called start_is_invoked (second_of_two (operation 1) (operation 2))
 
 no_function : (a : OpId) (m : FunctionId) → IsMember a → ¬ Contains (functions_of_body (operation_body program a)) m
-no_function _ m the_first c = no_item m c
-no_function _ m the_second c = no_item m c
-no_function _ m the_third c = no_item m c
+no_function _ m the_first c = has_nothing m c
+no_function _ m the_second c = has_nothing m c
+no_function _ m the_third c = has_nothing m c
 
 none_evaluated : {m : FunctionId} → ¬ Evaluates program from_start m
 none_evaluated (by_operation {op} {m} i c) = no_function op m (invoked i) c
 none_evaluated (by_function e c) = none_evaluated e
 
 targets : (a : OpId) (f : FieldId) → IsMember a → Contains (targets_of_all (operation_body program a)) f → Contains (m_field ∷ []) f
-targets _ f the_first c = absurd (no_item f c)
+targets _ f the_first c = absurd (has_nothing f c)
 targets _ f the_second c = c
 targets _ f the_third c = c
 
 whole_is : IsExtentOf program from_start whole
 whole_is = record {
   ops = λ a. (λ c. invokes a (three_of (operation 0) (operation 1) (operation 2) a c), λ i. of_three (operation 0) (operation 1) (operation 2) a (invoked i));
-  functions = λ m. (λ c. absurd (no_item m c), λ e. absurd (none_evaluated e));
+  functions = λ m. (λ c. absurd (has_nothing m c), λ e. absurd (none_evaluated e));
   written = λ f. (λ c. record { op = operation 1; invoked = invokes (operation 1) the_second; target = c }, λ w. targets w.op f (invoked w.invoked) w.target);
 }
 

@@ -2,6 +2,7 @@
 use Rattle.std.proofs.Common.{◌≡◌, ℕ, suc, ◌+◌, ◌-◌, List, [], ◌++◌, None, refl, ap, ◌∙◌, arith, true}
 use Rattle.std.specs.Prelude.{◌||◌}
 use Rattle.std.proofs.lemmas.List.Elements.{Contains-push}
+use Rattle.ca_lists.proofs.Members.{has_nothing}
 use Rattle.ca_program.specs.declared.program.FieldId.{FieldId}
 use Rattle.ca_program.specs.declared.program.LocalId.{LocalId}
 use Rattle.ca_program.specs.declared.program.OpId.{OpId}
@@ -28,7 +29,6 @@ use Rattle.ca_parallel.specs.Loops.{Begins, CountsUp, IsCall, AreCalls, CallsAlo
 use Rattle.ca_order_laws.specs.Order.{LoopThenList, then_looped}
 use Rattle.ca_order_laws.proofs.Runs.{stop_reaches, reaches_steps, list_locals}
 use Rattle.ca_order_laws.proofs.Kept.{IsKept, AreKept, Within, within_left, within_right}
-use Rattle.ca_order_laws.proofs.Grown.{none_of}
 use Rattle.ca_order_laws.proofs.Frames.{like_self}
 use Rattle.ca_order_laws.proofs.Sections.{body_kept}
 use Rattle.ca_order_laws.proofs.Related.{Related, Common}
@@ -142,7 +142,7 @@ module _ (p : PlainProgram) (program : ProgramTyped p) (roots : List OpId) (x : 
 
   at_start : Related p x.written x.ops s w this stays true true w start 0
   at_start = record {
-    lite = record { none = λ e. cc; rises = λ e. cc; typed = record { own = own_typed p w.heap s.class this good.heap good.receiver; listed = tt }; constants = λ f e free. refl; inside = λ i c. absurd (none_of i c) };
+    lite = record { none = λ e. cc; rises = λ e. cc; typed = record { own = own_typed p w.heap s.class this good.heap good.receiver; listed = tt }; constants = λ f e free. refl; inside = λ i c. absurd (has_nothing i c) };
     run = stop_reaches [] w;
   }
 

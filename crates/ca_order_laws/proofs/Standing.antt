@@ -1,6 +1,7 @@
 -- A heap of good objects stands for the frozen one, and so does the heap that a run leaves.
 use Rattle.std.proofs.Common.{◌≡◌, ℕ, suc, List, [], ◌∷◌, length, Option, Some, None, refl, ap, sym, subst, ◌∙◌, arith}
 use Rattle.std.specs.Prelude.{slice_get}
+use Rattle.ca_lists.proofs.Members.{has_only}
 use Rattle.ca_program.specs.declared.program.ClassId.{ClassId}
 use Rattle.ca_program.specs.Plain.{PlainProgram}
 use Rattle.ca_model.specs.declared.value.Object.{Object}
@@ -21,7 +22,6 @@ use Rattle.std.proofs.lemmas.List.Elements.{Contains-push, Contains-append_left,
 use Rattle.ca_order_laws.specs.Order.{RunsStay}
 use Rattle.ca_order_laws.proofs.DepthFirst.{fine_end}
 use Rattle.ca_order_laws.proofs.Weights.{Split}
-use Rattle.ca_order_laws.proofs.Grown.{single_is}
 
 each_from : (p : PlainProgram) (g os : List Object) → ((n : ℕ) (o : Object) → slice_get os n ≡ Some o → ObjectTyped g (slice_get p.classes o.class.0) o.slots) → EachTyped p g os
 each_from p g [] f = tt
@@ -53,7 +53,7 @@ split_at [] i c = absurd (let below = c.1 in omega arith)
 split_at (j ∷ is) i c = from (Contains-append_cases (j ∷ []) is i c) (λ a. split_at is i a)
   where
     from : Contains (j ∷ []) i ⊎ Contains is i → (Contains is i → Split i is) → Split i (j ∷ is)
-    from (inl a) f = record { others = is; same = subst (λ z. SameItems (z ∷ is) (i ∷ is)) (sym (single_is j i a)) (record { weighed = λ g. refl }) }
+    from (inl a) f = record { others = is; same = subst (λ z. SameItems (z ∷ is) (i ∷ is)) (sym (has_only j i a)) (record { weighed = λ g. refl }) }
     from (inr a) f = let s : Split i is = f a in record { others = j ∷ s.others; same = record { weighed = λ g. let e = s.same.weighed g in omega arith } }
 
 all_typed : (p : PlainProgram) (h : List Object) (is : List Invocation) → ((i : Invocation) → Contains is i → WellTyped p h i) → AllWellTyped p h is

@@ -1,5 +1,7 @@
 -- Items of lists that hold the same.
-use Rattle.std.proofs.Common.{◌≡◌, ℕ, ◌+◌, ◌<◌, List, [], ◌∷◌, ◌++◌, refl, ap, sym, arith, ◌≢◌}
+use Rattle.std.proofs.Common.{◌≡◌, ℕ, zero, suc, ◌+◌, ◌<◌, ◌≤◌, List, [], ◌∷◌, ◌++◌, set, refl, ap, sym, arith, ◌≢◌}
+use mathlib.Core.Option.{some, some-injective, some-ne-none}
+use lib.ListN.{get_elem?}
 use Rattle.ca_meaning.specs.Multisets.{weight, SameItems}
 
 pub weight_append : {A : Type 0} (g : A → ℕ) (l m : List A) → weight g (l ++ m) ≡ weight g l + weight g m
@@ -56,3 +58,24 @@ module _ {A : Type 0} (decide : (x y : A) → Decides x y) where
 
   pub two : (a b : A) (xs ys : List A) → SameItems (a ∷ xs) (b ∷ ys) → Two a b xs ys
   two a b xs ys s = two_from a b xs ys (decide a b) s
+
+-- of lists of which one item is looked at, or changes
+module _ {A : Type 0} (g : A → ℕ) where
+  pub weight_set : (l : List A) (j : ℕ) (v w : A) → get_elem? l j ≡ some v → weight g (set l j w) + g v ≡ weight g l + g w
+  weight_set [] j v w e = absurd (some-ne-none v (sym e))
+  weight_set (x ∷ xs) zero v w e = omega (arith, ap g (some-injective x v e))
+  weight_set (x ∷ xs) (suc j) v w e = omega (arith, weight_set xs j v w e)
+
+  pub term_le : (l : List A) (j : ℕ) (v : A) → get_elem? l j ≡ some v → g v ≤ weight g l
+  term_le [] j v e = absurd (some-ne-none v (sym e))
+  term_le (x ∷ xs) zero v e = omega (arith, ap g (some-injective x v e))
+  term_le (x ∷ xs) (suc j) v e = omega (arith, term_le xs j v e)
+
+  pub weight_zero : (l : List A) → ((j : ℕ) (u : A) → get_elem? l j ≡ some u → g u ≡ 0) → weight g l ≡ 0
+  weight_zero [] h = refl
+  weight_zero (x ∷ xs) h = omega (arith, h 0 x refl, weight_zero xs (λ j u e. h (suc j) u e))
+
+  pub weight_one : (l : List A) (i : ℕ) (v : A) → get_elem? l i ≡ some v → ((j : ℕ) (u : A) → j ≢ i → get_elem? l j ≡ some u → g u ≡ 0) → weight g l ≡ g v
+  weight_one [] i v e h = absurd (some-ne-none v (sym e))
+  weight_one (x ∷ xs) zero v e h = omega (arith, ap g (some-injective x v e), weight_zero xs (λ j u d. h (suc j) u (λ z. omega arith) d))
+  weight_one (x ∷ xs) (suc i) v e h = omega (arith, h 0 x (λ z. omega arith) refl, weight_one xs i v e (λ j u n d. h (suc j) u (λ z. n (omega arith)) d))

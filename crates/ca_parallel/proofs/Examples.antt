@@ -1,6 +1,7 @@
 -- Worked examples of bodies: which are separable in an extent that writes `sum` alone, and which are not.
-use Rattle.std.proofs.Common.{◌≡◌, ◌≢◌, ℕ, zero, suc, true, false, List, [], ◌∷◌, refl, ap, arith, rules}
+use Rattle.std.proofs.Common.{◌≡◌, ◌≢◌, ℕ, zero, true, false, List, [], ◌∷◌, refl, ap, arith, rules}
 use Rattle.std.specs.Prelude.{pos, Contains}
+use Rattle.ca_lists.proofs.Members.{has_only}
 use Rattle.ca_tree.specs.declared.tree.AssignOp.TheVariants.{Put, Add}
 use Rattle.ca_tree.specs.declared.tree.UnaryOp.TheVariants as sign
 use Rattle.ca_tree.specs.declared.tree.BinaryOp.TheVariants.{NotEqual, Less, Plus, Divide, Remainder, BitXor, Max}
@@ -50,19 +51,11 @@ first_op = record { 0 = 0 }
 pub apart : (m n : ℕ) → m ≢ n → field m ≢ field n
 apart m n differ e = differ (ap (λ f. f.field) e)
 
--- a list of one holds nothing else
-pub only : {A : Type 0} (x y : A) → Contains (x ∷ []) y → x ≡ y
-only x y (zero, below, is) = is
-only x y (suc k, below, is) = absurd (omega arith)
-
-pub none : {A : Type 0} (y : A) → ¬ Contains [] y
-none y (k, below, is) = absurd (omega arith)
-
 pub there : {A : Type 0} (x : A) → Contains (x ∷ []) x
 there x = (zero, omega arith, refl)
 
 pub other_fields : (m n : ℕ) → m ≢ n → ¬ Contains (field m ∷ []) (field n)
-other_fields m n differ c = apart m n differ (only (field m) (field n) c)
+other_fields m n differ c = apart m n differ (has_only (field m) (field n) c)
 
 -- the fields that are written
 abbrev pub written : List FieldId

@@ -1,6 +1,7 @@
 -- Worked examples of extents and of marks, over whole programs.
 use Rattle.std.proofs.Common.{◌≡◌, ◌⊎◌, inl, inr, ℕ, zero, suc, ◌-◌, true, false, List, [], ◌∷◌, None, Some, refl, ap, ap₂, sym, subst, ◌∙◌, arith, codes}
 use Rattle.std.specs.Prelude.{pos, Contains, slice_get}
+use Rattle.ca_lists.proofs.Members.{has_nothing, has_only}
 use Rattle.ca_tree.specs.declared.tree.AssignOp.TheVariants.{Put, Add}
 use Rattle.ca_tree.specs.declared.tree.BinaryOp.TheVariants.{Less, Plus}
 use Rattle.ca_program.specs.declared.program.ValueType.TheVariants.{Long}
@@ -23,7 +24,7 @@ use Rattle.ca_parallel.specs.ExtentsOf.{Rises, FieldBefore, ExtentOf}
 use Rattle.ca_parallel.specs.Separable.{ReadsWritten, itself, through, IsClean, Separable}
 use Rattle.ca_parallel.specs.Parallel.{ParallelFrom}
 use Rattle.ca_parallel.specs.Marks.{SoundLoop, SoundMarks}
-use Rattle.ca_parallel.proofs.Examples.{cell, sum_field, base_field, last_field, parameter, counter, written, apart, other_fields, only, none, there, call_next, statements_2, add_to_sum}
+use Rattle.ca_parallel.proofs.Examples.{cell, sum_field, base_field, last_field, parameter, counter, written, apart, other_fields, there, call_next, statements_2, add_to_sum}
 
 -- ---- a program: class Cell { public: long sum; long base; long last; Cell *next; .. };
 
@@ -80,8 +81,8 @@ twice_reads : ReadsWritten cells written twice
 twice_reads = through (zero, omega arith, refl) total_reads
 
 start_reads_constants : ¬ ReadsWritten cells written start
-start_reads_constants (itself {f} is_read is_written) = apart 0 1 (omega arith) (only sum_field f is_written ∙ sym (only base_field f is_read))
-start_reads_constants (through {callee} call reads) = none callee call
+start_reads_constants (itself {f} is_read is_written) = apart 0 1 (omega arith) (has_only sum_field f is_written ∙ sym (has_only base_field f is_read))
+start_reads_constants (through {callee} call reads) = has_nothing callee call
 
 calls_total : ¬ IsClean cells written false (value_call parameter total no_expressions)
 calls_total s = s.0 total_reads
@@ -118,10 +119,10 @@ visited = record { ops = visit ∷ mark ∷ []; functions = start ∷ []; writte
 
 visit_calls : (op callee : OpId) → (visit ≡ op) ⊎ (mark ≡ op) → Contains (calls_of_all (operation_body cells op)) callee → (visit ≡ callee) ⊎ (mark ≡ callee)
 visit_calls op callee (inl e) c = pair visit mark callee (subst (λ o. Contains (calls_of_all (operation_body cells o)) callee) (sym e) c)
-visit_calls op callee (inr e) c = absurd (none callee (subst (λ o. Contains (calls_of_all (operation_body cells o)) callee) (sym e) c))
+visit_calls op callee (inr e) c = absurd (has_nothing callee (subst (λ o. Contains (calls_of_all (operation_body cells o)) callee) (sym e) c))
 
 invoked_from_visit : {op : OpId} → Invokes cells from_visit op → (visit ≡ op) ⊎ (mark ≡ op)
-invoked_from_visit (root {op} c) = inl (only visit op c)
+invoked_from_visit (root {op} c) = inl (has_only visit op c)
 invoked_from_visit (called {op} {callee} i c) = visit_calls op callee (invoked_from_visit i) c
 
 visit_is_invoked : Invokes cells from_visit visit
@@ -136,24 +137,24 @@ invokes op (inr e) = subst (λ z. Invokes cells from_visit z) e mark_is_invoked
 
 functions_from : (op : OpId) (m : FunctionId) → (visit ≡ op) ⊎ (mark ≡ op) → Contains (functions_of_body (operation_body cells op)) m → Contains (start ∷ []) m
 functions_from op m (inl e) c = subst (λ o. Contains (functions_of_body (operation_body cells o)) m) (sym e) c
-functions_from op m (inr e) c = absurd (none m (subst (λ o. Contains (functions_of_body (operation_body cells o)) m) (sym e) c))
+functions_from op m (inr e) c = absurd (has_nothing m (subst (λ o. Contains (functions_of_body (operation_body cells o)) m) (sym e) c))
 
 evaluated : {m : FunctionId} → Evaluates cells from_visit m → Contains (start ∷ []) m
 evaluated (by_operation {op} {m} i c) = functions_from op m (invoked_from_visit i) c
-evaluated (by_function {m} {callee} e c) = absurd (none callee (subst (λ z. Contains (functions_of_body (function_body cells z)) callee) (sym (only start m (evaluated e))) c))
+evaluated (by_function {m} {callee} e c) = absurd (has_nothing callee (subst (λ z. Contains (functions_of_body (function_body cells z)) callee) (sym (has_only start m (evaluated e))) c))
 
 writes : (f : FieldId) → (sum_field ≡ f) ⊎ (last_field ≡ f) → Writes cells from_visit f
 writes f (inl e) = subst (λ z. Writes cells from_visit z) e (record { op = visit; invoked = visit_is_invoked; target = there sum_field })
 writes f (inr e) = subst (λ z. Writes cells from_visit z) e (record { op = mark; invoked = mark_is_invoked; target = there last_field })
 
 targets_from : (op : OpId) (f : FieldId) → (visit ≡ op) ⊎ (mark ≡ op) → Contains (targets_of_all (operation_body cells op)) f → (sum_field ≡ f) ⊎ (last_field ≡ f)
-targets_from op f (inl e) c = inl (only sum_field f (subst (λ o. Contains (targets_of_all (operation_body cells o)) f) (sym e) c))
-targets_from op f (inr e) c = inr (only last_field f (subst (λ o. Contains (targets_of_all (operation_body cells o)) f) (sym e) c))
+targets_from op f (inl e) c = inl (has_only sum_field f (subst (λ o. Contains (targets_of_all (operation_body cells o)) f) (sym e) c))
+targets_from op f (inr e) c = inr (has_only last_field f (subst (λ o. Contains (targets_of_all (operation_body cells o)) f) (sym e) c))
 
 visited_is : IsExtentOf cells from_visit visited
 visited_is = record {
   ops = λ op. (λ c. invokes op (pair visit mark op c), λ i. listed visit mark op (invoked_from_visit i));
-  functions = λ m. (λ c. subst (λ z. Evaluates cells from_visit z) (only start m c) (by_operation visit_is_invoked (there start)), λ e. evaluated e);
+  functions = λ m. (λ c. subst (λ z. Evaluates cells from_visit z) (has_only start m c) (by_operation visit_is_invoked (there start)), λ e. evaluated e);
   written = λ f. (λ c. writes f (pair sum_field last_field f c), λ w. listed sum_field last_field f (targets_from w.op f (invoked_from_visit w.invoked) w.target));
 }
 
@@ -162,7 +163,7 @@ number_of a b e = ap (λ o. o.0) e
 
 -- without `mark`, or with `reset`, it is none
 lesser : ¬ IsExtentOf cells from_visit (record { ops = visit ∷ []; functions = start ∷ []; written = sum_field ∷ [] })
-lesser x = let same : visit ≡ mark = only visit mark ((x.ops mark).1 mark_is_invoked) in absurd (omega (arith, number_of visit mark same))
+lesser x = let same : visit ≡ mark = has_only visit mark ((x.ops mark).1 mark_is_invoked) in absurd (omega (arith, number_of visit mark same))
 
 not_reset : ¬ ((visit ≡ reset) ⊎ (mark ≡ reset))
 not_reset (inl e) = absurd (omega (arith, number_of visit reset e))
@@ -211,8 +212,8 @@ abbrev pub from_mark : List OpId
 from_mark = mark ∷ []
 
 invoked_from_mark : {op : OpId} → Invokes cells from_mark op → mark ≡ op
-invoked_from_mark (root {op} c) = only mark op c
-invoked_from_mark (called {op} {callee} i c) = absurd (none callee (subst (λ o. Contains (calls_of_all (operation_body cells o)) callee) (sym (invoked_from_mark i)) c))
+invoked_from_mark (root {op} c) = has_only mark op c
+invoked_from_mark (called {op} {callee} i c) = absurd (has_nothing callee (subst (λ o. Contains (calls_of_all (operation_body cells o)) callee) (sym (invoked_from_mark i)) c))
 
 -- what one call of `mark` leaves
 abbrev left : Object → Outcome
@@ -254,15 +255,15 @@ abbrev mark_alone : Extent
 mark_alone = record { ops = mark ∷ []; functions = []; written = last_field ∷ [] }
 
 nothing_from_mark : {m : FunctionId} → ¬ Evaluates cells from_mark m
-nothing_from_mark (by_operation {op} {m} i c) = none m (subst (λ o. Contains (functions_of_body (operation_body cells o)) m) (sym (invoked_from_mark i)) c)
+nothing_from_mark (by_operation {op} {m} i c) = has_nothing m (subst (λ o. Contains (functions_of_body (operation_body cells o)) m) (sym (invoked_from_mark i)) c)
 nothing_from_mark (by_function e c) = nothing_from_mark e
 
 mark_alone_is : IsExtentOf cells from_mark mark_alone
 mark_alone_is = record {
-  ops = λ op. (λ c. subst (λ z. Invokes cells from_mark z) (only mark op c) (root (there mark)), λ i. subst (λ z. Contains from_mark z) (invoked_from_mark i) (there mark));
-  functions = λ m. (λ c. absurd (none m c), λ e. absurd (nothing_from_mark e));
+  ops = λ op. (λ c. subst (λ z. Invokes cells from_mark z) (has_only mark op c) (root (there mark)), λ i. subst (λ z. Contains from_mark z) (invoked_from_mark i) (there mark));
+  functions = λ m. (λ c. absurd (has_nothing m c), λ e. absurd (nothing_from_mark e));
   written = λ f. (
-    λ c. subst (λ z. Writes cells from_mark z) (only last_field f c) (record { op = mark; invoked = root (there mark); target = there last_field }),
+    λ c. subst (λ z. Writes cells from_mark z) (has_only last_field f c) (record { op = mark; invoked = root (there mark); target = there last_field }),
     λ w. subst (λ o. Contains (targets_of_all (operation_body cells o)) f) (sym (invoked_from_mark w.invoked)) w.target,
   );
 }
@@ -274,10 +275,10 @@ mark_is_parallel = record {
   is = mark_alone_is;
   holds = λ op c. c;
   parallel = record {
-    separable = λ op c. subst (λ z. Separable cells mark_alone.written z) (only mark op c) ((tt, tt), tt);
+    separable = λ op c. subst (λ z. Separable cells mark_alone.written z) (has_only mark op c) ((tt, tt), tt);
     commute = λ a b in_a in_b.
-        subst (λ z. Commutes cells mark_alone.written z b) (only mark a in_a)
-        (subst (λ z. Commutes cells mark_alone.written mark z) (only mark b in_b) (marks_commute mark_alone.written));
+        subst (λ z. Commutes cells mark_alone.written z b) (has_only mark a in_a)
+        (subst (λ z. Commutes cells mark_alone.written mark z) (has_only mark b in_b) (marks_commute mark_alone.written));
   };
 }
 
@@ -298,8 +299,8 @@ marks_are_parallel = record {
 
 marked : SoundMarks cells (record { ops = from_mark; loops = [] })
 marked = record {
-  operations = λ op c. subst (λ z. ParallelFrom cells (z ∷ [])) (only mark op c) mark_is_parallel;
-  sites = λ id c. absurd (none id c);
+  operations = λ op c. subst (λ z. ParallelFrom cells (z ∷ [])) (has_only mark op c) mark_is_parallel;
+  sites = λ id c. absurd (has_nothing id c);
 }
 
 -- ---- loops that call `mark`
@@ -354,11 +355,11 @@ tell_is_separable : Separable speakers [] tell
 tell_is_separable = ((tt, (tt, tt)), tt)
 
 tell_calls : (op callee : OpId) → (tell ≡ op) ⊎ (say ≡ op) → Contains (calls_of_all (operation_body speakers op)) callee → say ≡ callee
-tell_calls op callee (inl e) c = only say callee (subst (λ o. Contains (calls_of_all (operation_body speakers o)) callee) (sym e) c)
-tell_calls op callee (inr e) c = absurd (none callee (subst (λ o. Contains (calls_of_all (operation_body speakers o)) callee) (sym e) c))
+tell_calls op callee (inl e) c = has_only say callee (subst (λ o. Contains (calls_of_all (operation_body speakers o)) callee) (sym e) c)
+tell_calls op callee (inr e) c = absurd (has_nothing callee (subst (λ o. Contains (calls_of_all (operation_body speakers o)) callee) (sym e) c))
 
 invoked_from_tell : {op : OpId} → Invokes speakers from_tell op → (tell ≡ op) ⊎ (say ≡ op)
-invoked_from_tell (root {op} c) = inl (only tell op c)
+invoked_from_tell (root {op} c) = inl (has_only tell op c)
 invoked_from_tell (called {op} {callee} i c) = inr (tell_calls op callee (invoked_from_tell i) c)
 
 say_is_invoked : Invokes speakers from_tell say

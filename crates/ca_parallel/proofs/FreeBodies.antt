@@ -1,7 +1,8 @@
 -- The body of a free operation is separable as if a call had come before it.
-use Rattle.std.proofs.Common.{List, [], ◌∷◌, ◌++◌, Bool, true, false, ◌⊎◌, inl, inr, arith}
+use Rattle.std.proofs.Common.{List, [], ◌∷◌, ◌++◌, Bool, true, false, ◌⊎◌, inl, inr}
 use Rattle.std.specs.Prelude.{Contains, ◌||◌, flat_map}
 use Rattle.std.proofs.lemmas.List.Elements.{Contains-push, Contains-append_left, Contains-append_right, Contains-append_cases}
+use Rattle.ca_lists.proofs.Members.{flat_left, flat_right}
 use Rattle.ca_program.specs.declared.program.FieldId.{FieldId}
 use Rattle.ca_program.specs.declared.program.OpId.{OpId}
 use Rattle.ca_program.specs.Plain.{PlainProgram, Expression, Expressions, number, truth, null, this, local, own, own_item, read, read_item, value_call, unary, binary, no_expressions, expression_and, Statement, Statements, block, put_local, put_field, put_item, new_local, new_field, new_item, invoke, if_else, while_loop, for_loop, return_value, print_value, no_statements, statement_and}
@@ -9,18 +10,6 @@ use Rattle.ca_parallel.specs.Bodies.{fields_in, fields_in_all, listed, expressio
 use Rattle.ca_parallel.specs.Extents.{operation_body}
 use Rattle.ca_parallel.specs.Separable.{IsClean, AreClean, holds_call, IsSeparated, AreSeparated, Separable}
 use Rattle.ca_parallel.specs.Free.{IsFree}
-
-flat_left : {A B : Type 0} (f : A → List B) (xs ys : List A) (y : B) → Contains (flat_map f xs) y → Contains (flat_map f (xs ++ ys)) y
-flat_left f [] ys y c = let lt = c.1 in absurd (omega arith)
-flat_left f (x ∷ xs) ys y c = from (λ a. flat_left f xs ys y a) (Contains-append_cases (f x) (flat_map f xs) y c)
-  where
-    from : (Contains (flat_map f xs) y → Contains (flat_map f (xs ++ ys)) y) → Contains (f x) y ⊎ Contains (flat_map f xs) y → Contains (f x ++ flat_map f (xs ++ ys)) y
-    from h (inl a) = Contains-append_left (f x) (flat_map f (xs ++ ys)) y a
-    from h (inr a) = Contains-append_right (f x) (flat_map f (xs ++ ys)) y (h a)
-
-flat_right : {A B : Type 0} (f : A → List B) (xs ys : List A) (y : B) → Contains (flat_map f ys) y → Contains (flat_map f (xs ++ ys)) y
-flat_right f [] ys y c = c
-flat_right f (x ∷ xs) ys y c = Contains-append_right (f x) (flat_map f (xs ++ ys)) y (flat_right f xs ys y c)
 
 module _ (p : PlainProgram) (written : List FieldId) where
   -- none of these fields is written

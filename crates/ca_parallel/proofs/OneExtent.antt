@@ -1,6 +1,7 @@
 -- Rising lists of the same items are one list, so the extent of some operations is one value.
-use Rattle.std.proofs.Common.{◌≡◌, ◌⊎◌, inl, inr, zero, suc, ◌<◌, List, [], ◌∷◌, refl, ap, ap₂, sym, subst, ◌∙◌, arith}
+use Rattle.std.proofs.Common.{◌≡◌, ◌⊎◌, inl, inr, suc, ◌<◌, List, [], ◌∷◌, refl, ap, ap₂, sym, subst, ◌∙◌, arith}
 use Rattle.std.specs.Prelude.{◌↔◌, Contains}
+use Rattle.ca_lists.proofs.Members.{has_first, has_further, first_or_behind}
 use Rattle.ca_program.specs.declared.program.FieldId.{FieldId}
 use Rattle.ca_program.specs.declared.program.FunctionId.{FunctionId}
 use Rattle.ca_program.specs.declared.program.OpId.{OpId}
@@ -13,16 +14,6 @@ pub record Orders {A : Type 0} (Before : A → A → Type 0) : Type 0 where
   pub never : (x : A) → ¬ Before x x
   pub through : (x y z : A) → Before x y → Before y z → Before x z
 
-at_front : {A : Type 0} (x y : A) (xs : List A) → Contains (x ∷ xs) y → (x ≡ y) ⊎ Contains xs y
-at_front x y xs (zero, below, is) = inl is
-at_front x y xs (suc k, below, is) = inr (k, omega (arith, below), is)
-
-front : {A : Type 0} (x : A) (xs : List A) → Contains (x ∷ xs) x
-front x xs = (zero, omega arith, refl)
-
-behind : {A : Type 0} (x y : A) (xs : List A) → Contains xs y → Contains (x ∷ xs) y
-behind x y xs (k, below, is) = (suc k, omega (arith, below), is)
-
 module _ {A : Type 0} (Before : A → A → Type 0) (order : Orders Before) where
   rest_rises : (x : A) (xs : List A) → Rises Before (x ∷ xs) → Rises Before xs
   rest_rises x xs r = record { rises = λ n y z at next. r.rises (suc n) y z at next }
@@ -33,13 +24,13 @@ module _ {A : Type 0} (Before : A → A → Type 0) (order : Orders Before) wher
 
   first_is_least : (x : A) (xs : List A) → Rises Before (x ∷ xs) → (y : A) → Contains xs y → Before x y
   first_is_least x [] r y (k, below, is) = absurd (omega (arith, below))
-  first_is_least x (z ∷ zs) r y c = least_from x z zs y (r.rises 0 x z refl refl) (first_is_least z zs (rest_rises x (z ∷ zs) r) y) (at_front z y zs c)
+  first_is_least x (z ∷ zs) r y c = least_from x z zs y (r.rises 0 x z refl refl) (first_is_least z zs (rest_rises x (z ∷ zs) r) y) (first_or_behind z y zs c)
 
   abbrev pub Same : List A → List A → Type 0
   Same xs ys = (z : A) → Contains xs z ↔ Contains ys z
 
   first_same : (x y : A) (xs ys : List A) → Rises Before (x ∷ xs) → Rises Before (y ∷ ys) → Same (x ∷ xs) (y ∷ ys) → x ≡ y
-  first_same x y xs ys rx ry same = from (at_front y x ys ((same x).0 (front x xs))) (at_front x y xs ((same y).1 (front y ys)))
+  first_same x y xs ys rx ry same = from (first_or_behind y x ys ((same x).0 (has_first x xs))) (first_or_behind x y xs ((same y).1 (has_first y ys)))
     where
       from : (y ≡ x) ⊎ Contains ys x → (x ≡ y) ⊎ Contains xs y → x ≡ y
       from (inl e) b = sym e
@@ -48,7 +39,7 @@ module _ {A : Type 0} (Before : A → A → Type 0) (order : Orders Before) wher
 
   -- what both lists hold stands behind the item that they begin with
   rest_holds : (x y : A) (xs ys : List A) → Rises Before (x ∷ xs) → x ≡ y → ((z : A) → Contains (x ∷ xs) z → Contains (y ∷ ys) z) → (z : A) → Contains xs z → Contains ys z
-  rest_holds x y xs ys rx e held z c = from (at_front y z ys (held z (behind x z xs c)))
+  rest_holds x y xs ys rx e held z c = from (first_or_behind y z ys (held z (has_further x z xs c)))
     where
       from : (y ≡ z) ⊎ Contains ys z → Contains ys z
       from (inl f) = absurd (order.never x (subst (λ u. Before x u) (sym (e ∙ f)) (first_is_least x xs rx z c)))
@@ -59,11 +50,11 @@ module _ {A : Type 0} (Before : A → A → Type 0) (order : Orders Before) wher
 
   pub one_list : (xs ys : List A) → Rises Before xs → Rises Before ys → Same xs ys → xs ≡ ys
   one_list [] [] rx ry same = refl
-  one_list [] (y ∷ ys) rx ry same = none ((same y).1 (front y ys))
+  one_list [] (y ∷ ys) rx ry same = none ((same y).1 (has_first y ys))
     where
       none : Contains [] y → [] ≡ y ∷ ys
       none (k, below, is) = absurd (omega (arith, below))
-  one_list (x ∷ xs) [] rx ry same = none ((same x).0 (front x xs))
+  one_list (x ∷ xs) [] rx ry same = none ((same x).0 (has_first x xs))
     where
       none : Contains [] x → x ∷ xs ≡ []
       none (k, below, is) = absurd (omega (arith, below))

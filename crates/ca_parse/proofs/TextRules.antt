@@ -1,8 +1,7 @@
 -- The rules of `main` and of whole texts as their parts.
-use Rattle.std.proofs.Common.{◌≡◌, ◌-◌, ◌&&◌, nat_eq, suc, ℕ, ℤ, List, [], ◌∷◌, ◌++◌, Bool, true, false, cond, length, take, map, Some, None, is_some, refl, sym, ◌∙◌, ap, subst, append_assoc, length-append, arith}
+use Rattle.std.proofs.Common.{◌≡◌, ◌-◌, ◌&&◌, nat_eq, suc, ℕ, ℤ, List, [], ◌∷◌, ◌++◌, Bool, true, false, cond, length, take, map, Some, None, is_some, refl, sym, ◌∙◌, ap, subst, append_assoc, length-append, arith, ne_eqb}
 use Rattle.std.proofs.Math.Seq.{take-append_seam}
 use Rattle.std.proofs.lemmas.List.{map-append, take-map, length-map}
-use Rattle.std.proofs.lemmas.Bool.{eqb-true}
 use Rattle.ca_descent.specs.Exact.{Unlimited, Failure, NoMemory, Wrong, TooDeep, Answer, Got, Failed, Viable, Exact, Sees, sees, head_of, image}
 use Rattle.ca_descent.proofs.Exact.{exact_map, exact_image}
 use Rattle.ca_descent.proofs.Parts.{then, upto, done, Part, ◌⨾◌, finish}
@@ -178,13 +177,6 @@ not_return (t ∷ u ∷ []) h = refl
 not_return (t ∷ u ∷ v ∷ []) h = rw h refl
 not_return (t ∷ u ∷ v ∷ w ∷ s) h = refl
 
-not_eq : (a b : ℕ) → (a ≡ b → ⊥) → nat_eq a b ≡ false
-not_eq a b f = go (nat_eq a b) refl
-  where
-    go : (c : Bool) → nat_eq a b ≡ c → nat_eq a b ≡ false
-    go true e = absurd (f (eqb-true a b e))
-    go false e = e
-
 both_off : (a b c : Bool) → b ≡ false → ((a && b) && c) ≡ false
 both_off a true c h = absurd cc
 both_off true false c h = refl
@@ -228,7 +220,7 @@ end_wanted (sees h) (sees {r = v ∷ w ∷ r} k) e = refl
 pub return_read : {s r m e : List Token} {p q : Place} {n : ℤ × Place} → Sees (key Return) s p r → is_some (head_of zero r) ≡ true → Sees number r n m
     → Sees (sign Semicolon) m q e → is_return_zero s ≡ nat_eq (length e) 0
 return_read (sees {t = t} h) z (sees {t = u} k) (sees {t = v} {r = []} l) = all_on (is_some (key Return t)) (is_some (zero u)) (is_some (sign Semicolon v)) (ap is_some h) z (ap is_some l)
-return_read (sees h) z (sees k) (sees {r = w ∷ r} l) = sym (not_eq (length (w ∷ r)) 0 (λ e. omega (arith, e)))
+return_read (sees h) z (sees k) (sees {r = w ∷ r} l) = sym (ne_eqb (length (w ∷ r)) 0 (λ e. omega (arith, e)))
 
 abbrev pub program_parts : Part Token TextTree
 program_parts = declarations_part ⨾ λ cs. word Main ⨾ λ m. mark OpenParenthesis ⨾ λ o. mark CloseParenthesis ⨾ λ c. mark OpenBrace ⨾ λ b. main_part ⨾ λ xs. finish (record { classes = cs; main = statements xs })

@@ -51,7 +51,7 @@ IsFine (at i x) = IsLow i × IsLow x
 IsFine (over f t x) = IsSimple f × IsSimple t × IsLow x
 IsFine (to x) = IsSimple x
 
-not_above : (n : ℕ) → n ≤ 65536 → nat_lt 65536 n ≡ false
+pub not_above : (n : ℕ) → n ≤ 65536 → nat_lt 65536 n ≡ false
 not_above n l = grind (arith, nat_tests)
 
 low_light : (t : PlainTerm) → IsLow t → is_heavy t ≡ false

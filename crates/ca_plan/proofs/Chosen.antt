@@ -1,11 +1,13 @@
 -- Marks that are given one after another.
-use Rattle.std.proofs.Common.{◌≡◌, ◌≢◌, ◌↔◌, ◌<◌, ◌≤◌, ◌+◌, ◌⊎◌, inl, inr, ℕ, zero, suc, true, ◌++◌, List, [], ◌∷◌, Some, Global, length, map, get_or, refl, sym, ap, ◌∙◌, subst, arith}
+use Rattle.std.proofs.Common.{◌≡◌, ◌≢◌, ◌↔◌, ◌<◌, ◌≤◌, ◌+◌, ℕ, zero, suc, true, ◌++◌, List, [], ◌∷◌, Some, Global, length, map, get_or, refl, sym, ap, ◌∙◌, subst, arith}
 use Rattle.std.specs.Prelude.{slice_get, option_map, Contains}
 use Rattle.std.specs.List.Sorted.{IsStrictlyIncreasing}
 use Rattle.std.proofs.lemmas.List.{length-map, get_or-map}
 use Rattle.std.proofs.lemmas.List.Elements.{Contains-append_left, Contains-append_right, Contains-append_cases}
 use Rattle.std.proofs.lemmas.Option.{same_Some, slice_get_within, get_or_from_slice_get, slice_get-map}
 use Rattle.std.specs.declared.rc.Rc.{Rc}
+use Rattle.ca_lists.proofs.Members.{has_first, has_nothing, has_only, map_has}
+use Rattle.ca_lists.proofs.Places.{before_or_last}
 use Rattle.ca_program.specs.declared.program.LoopId.{LoopId}
 use Rattle.ca_program.specs.declared.program.Method.{Method}
 use Rattle.ca_program.specs.declared.program.OpId.{OpId}
@@ -18,8 +20,8 @@ use Rattle.ca_parallel.specs.Extents.{operation_body}
 use Rattle.ca_parallel.specs.ExtentsOf.{Rises, OpBefore}
 use Rattle.ca_parallel.specs.Separable.{IsSeparated}
 use Rattle.ca_model.proofs.Stores.{found}
-use Rattle.ca_section.proofs.Members.{pick, front, alone, none}
-use Rattle.ca_extent.proofs.Members.{into_map, from_map}
+use Rattle.ca_section.proofs.Members.{pick}
+use Rattle.ca_extent.proofs.Members.{from_map}
 use Rattle.ca_plan.specs.Plans.{Judged, JudgedLoop, LoopBefore, op_at}
 use Rattle.ca_plan.specs.Told.{AllCommute, CommutingOp, CommutingLoop, Noted, taken, left, loop_of, shared}
 
@@ -37,7 +39,7 @@ tail x xs r = record { rises = λ n a b e f. r.rises (suc n) a b e f }
 
 pub rise_more : {A : Type 0} {Before : A → A → Type 0} (xs : List A) (x : A) → Rises Before xs → ((y : A) → Contains xs y → Before y x) → (n : ℕ) (a b : A) → slice_get (xs ++ x ∷ []) n ≡ Some a → slice_get (xs ++ x ∷ []) (suc n) ≡ Some b → Before a b
 rise_more [] x r below n a b e f = absurd cc
-rise_more {Before = Before} (y ∷ []) x r below n a b e f = rise_two Before y x (below y (front y [])) n a b e f
+rise_more {Before = Before} (y ∷ []) x r below n a b e f = rise_two Before y x (below y (has_first y [])) n a b e f
 rise_more (y ∷ z ∷ xs) x r below zero a b e f = r.rises 0 a b e f
 rise_more (y ∷ z ∷ xs) x r below (suc n) a b e f = rise_more (z ∷ xs) x (tail y (z ∷ xs) r) (λ w c. below w (Contains-append_right (y ∷ []) (z ∷ xs) w c)) n a b e f
 
@@ -59,22 +61,12 @@ pub record MarkedTo (p : PlainProgram) (js : List Judged) (n : ℕ) (ms : List O
 
 pub none_marked : (p : PlainProgram) (js : List Judged) → MarkedTo p js 0 []
 none_marked p js = record {
-  marked = λ op. (λ c. absurd (none op c), λ k. absurd (omega (arith, k.0)));
+  marked = λ op. (λ c. absurd (has_nothing op c), λ k. absurd (omega (arith, k.0)));
   rise = record { rises = λ n a b e f. absurd cc };
 }
 
 same_op : (op : OpId) (n : ℕ) → op.0 ≡ n → op ≡ op_at n
 same_op op n e = λ i. record { 0 = e i }
-
-last_or_before : (k n : ℕ) → k < n + 1 → (k < n) ⊎ (k ≡ n)
-last_or_before zero zero h = inr refl
-last_or_before zero (suc n) h = inl (omega arith)
-last_or_before (suc k) zero h = absurd (omega (arith, h))
-last_or_before (suc k) (suc n) h = at (last_or_before k n (omega (arith, h)))
-  where
-    at : (k < n) ⊎ (k ≡ n) → (suc k < suc n) ⊎ (suc k ≡ suc n)
-    at (inl l) = inl (omega (arith, l))
-    at (inr e) = inr (ap suc e)
 
 abbrev MarkHere : PlainProgram → ℕ → Judged → Type 0
 MarkHere p n j = (calls_of_all (operation_body p (op_at n)) ≢ []) × AllCommute j
@@ -89,7 +81,7 @@ pub next_op : (p : PlainProgram) (js : List Judged) (n : ℕ) (ms new : List OpI
 next_op p js n ms new j at (left never is) m = subst (λ z. MarkedTo p js (n + 1) z) (sym is) (record {
   marked = λ op. (
     λ c. let k = (m.marked op).0 c in (omega (arith, k.0), k.1),
-    λ k. pick (last_or_before op.0 n k.0) (λ l. (m.marked op).1 (l, k.1)) (λ e. absurd (never (here p js n j op at e k.1))),
+    λ k. pick (before_or_last op.0 n k.0) (λ l. (m.marked op).1 (l, k.1)) (λ e. absurd (never (here p js n j op at e k.1))),
   );
   rise = m.rise;
 })
@@ -97,10 +89,10 @@ next_op p js n ms new j at (taken sure is) m = subst (λ z. MarkedTo p js (n + 1
   marked = λ op. (
     λ c. pick (Contains-append_cases ms (op_at n ∷ []) op c)
         (λ z. let k = (m.marked op).0 z in (omega (arith, k.0), k.1))
-        (λ z. subst (λ (o : OpId). (o.0 < n + 1) × CommutingOp p js o) (alone (op_at n) op z) (omega arith, record { judged = j; found = at; calls = sure.0; commute = sure.1 })),
-    λ k. pick (last_or_before op.0 n k.0)
+        (λ z. subst (λ (o : OpId). (o.0 < n + 1) × CommutingOp p js o) (has_only (op_at n) op z) (omega arith, record { judged = j; found = at; calls = sure.0; commute = sure.1 })),
+    λ k. pick (before_or_last op.0 n k.0)
         (λ l. Contains-append_left ms (op_at n ∷ []) op ((m.marked op).1 (l, k.1)))
-        (λ e. subst (λ z. Contains (ms ++ op_at n ∷ []) z) (sym (same_op op n e)) (Contains-append_right ms (op_at n ∷ []) (op_at n) (front (op_at n) []))),
+        (λ e. subst (λ z. Contains (ms ++ op_at n ∷ []) z) (sym (same_op op n e)) (Contains-append_right ms (op_at n ∷ []) (op_at n) (has_first (op_at n) []))),
   );
   rise = record { rises = rise_more ms (op_at n) m.rise (λ y c. ((m.marked y).0 c).0) };
 })
@@ -119,7 +111,7 @@ pub record SitesTo (p : PlainProgram) (loops : List Statement) (ls : List Judged
   pub sites : (n : ℕ) → Contains ns n ↔ ((m : CommutingLoop p loops ls n) × (m.place < k))
 
 pub no_sites : (p : PlainProgram) (loops : List Statement) (ls : List JudgedLoop) → SitesTo p loops ls 0 []
-no_sites p loops ls = record { sites = λ n. (λ c. absurd (none n c), λ k. absurd (omega (arith, k.1))) }
+no_sites p loops ls = record { sites = λ n. (λ c. absurd (has_nothing n c), λ k. absurd (omega (arith, k.1))) }
 
 abbrev LoopHere : PlainProgram → Statement → JudgedLoop → Type 0
 LoopHere p s l = AllCommute l.judged × IsSeparated p l.judged.extent.written true s
@@ -136,17 +128,17 @@ pub next_site : (p : PlainProgram) (loops : List Statement) (ls : List JudgedLoo
 next_site p loops ls k ns new s l at there (left never is) m = subst (λ z. SitesTo p loops ls (k + 1) z) (sym is) (record {
   sites = λ n. (
     λ c. let w = (m.sites n).0 c in (w.0, omega (arith, w.1)),
-    λ w. pick (last_or_before w.0.place k w.1) (λ h. (m.sites n).1 (w.0, h)) (λ e. absurd (never (loop_here p loops ls k s l n at there w.0 e).0)),
+    λ w. pick (before_or_last w.0.place k w.1) (λ h. (m.sites n).1 (w.0, h)) (λ e. absurd (never (loop_here p loops ls k s l n at there w.0 e).0)),
   );
 })
 next_site p loops ls k ns new s l at there (taken sure is) m = subst (λ z. SitesTo p loops ls (k + 1) z) (sym is) (record {
   sites = λ n. (
     λ c. pick (Contains-append_cases ns (l.site.0 ∷ []) n c)
         (λ z. let w = (m.sites n).0 z in (w.0, omega (arith, w.1)))
-        (λ z. (record { place = k; loop = s; judged = l; stands = at; found = there; number = alone l.site.0 n z; commute = sure.0; constant = sure.1 }, omega arith)),
-    λ w. pick (last_or_before w.0.place k w.1)
+        (λ z. (record { place = k; loop = s; judged = l; stands = at; found = there; number = has_only l.site.0 n z; commute = sure.0; constant = sure.1 }, omega arith)),
+    λ w. pick (before_or_last w.0.place k w.1)
         (λ h. Contains-append_left ns (l.site.0 ∷ []) n ((m.sites n).1 (w.0, h)))
-        (λ e. subst (λ z. Contains (ns ++ l.site.0 ∷ []) z) (loop_here p loops ls k s l n at there w.0 e).1 (Contains-append_right ns (l.site.0 ∷ []) l.site.0 (front l.site.0 []))),
+        (λ e. subst (λ z. Contains (ns ++ l.site.0 ∷ []) z) (loop_here p loops ls k s l n at there w.0 e).1 (Contains-append_right ns (l.site.0 ∷ []) l.site.0 (has_first l.site.0 []))),
   );
 })
 
@@ -161,7 +153,7 @@ same_loop site = refl
 pub loops_among : (ns : List ℕ) (site : LoopId) → Contains (map loop_of ns) site ↔ Contains ns site.0
 loops_among ns site = (
   λ c. let w = from_map loop_of ns site c in subst (λ z. Contains ns z) (ap (λ (l : LoopId). l.0) w.2) w.1,
-  λ c. into_map loop_of ns site.0 c,
+  λ c. map_has loop_of ns site.0 c,
 )
 
 pub loops_rise : (ns : List ℕ) → IsStrictlyIncreasing ns → Rises LoopBefore (map loop_of ns)

@@ -4,14 +4,14 @@ use Rattle.std.specs.Prelude.{Contains}
 use Rattle.std.proofs.lemmas.List.{map-append, take_more_same}
 use Rattle.std.proofs.lemmas.List.Elements.{Contains-get_or, Contains-append_cases}
 use Rattle.std.specs.declared.rc.Rc.{Rc}
+use Rattle.ca_lists.proofs.Members.{has_nothing, has_only, map_has}
 use Rattle.ca_program.specs.declared.program.FieldId.{FieldId}
 use Rattle.ca_program.specs.declared.program.FunctionId.{FunctionId}
 use Rattle.ca_program.specs.declared.program.OpId.{OpId}
 use Rattle.ca_program.specs.Plain.{PlainProgram}
 use Rattle.ca_parallel.specs.Extents.{Extent, Invokes, Evaluates, by_operation, by_function, Writes}
 use Rattle.ca_parallel.specs.ExtentsOf.{ExtentOf}
-use Rattle.ca_extent.proofs.Members.{into_map}
-use Rattle.ca_section.proofs.Members.{pick, alone, none}
+use Rattle.ca_section.proofs.Members.{pick}
 use Rattle.ca_plan.specs.Plans.{Judged}
 use Rattle.ca_plan.specs.Told.{AllWhollyTold, WhollyTold, shared}
 
@@ -19,7 +19,7 @@ use Rattle.ca_plan.specs.Told.{AllWhollyTold, WhollyTold, shared}
 pub among : (js : List (Rc Judged Global)) (n : ℕ) (x : Rc Judged Global) (y : Judged) (all : List Judged) → n < length js → x ≡ get_or js n x → y ≡ x.value → shared js ≡ all → Contains all y
 among js n x y all h is same view =
     let c : Contains js x = subst (λ z. Contains js z) (sym is) (Contains-get_or js n x h) in
-    subst (λ z. Contains z y) view (subst (λ z. Contains (shared js) z) (sym same) (into_map (λ (r : Rc Judged Global). r.value) js x c))
+    subst (λ z. Contains z y) view (subst (λ z. Contains (shared js) z) (sym same) (map_has (λ (r : Rc Judged Global). r.value) js x c))
 
 -- lists of operations that are compared one by one
 pub one_more_same : (xs ys : List OpId) (i : ℕ) (d : OpId) → i < length xs → i < length ys → (get_or xs i d).0 ≡ (get_or ys i d).0 → take i xs ≡ take i ys → take (i + 1) xs ≡ take (i + 1) ys
@@ -50,7 +50,7 @@ same_extent p roots others x y same a b =
 
 -- none yet
 pub none_told : (p : PlainProgram) (js : List (Rc Judged Global)) → js ≡ [] → AllWhollyTold p (shared js)
-none_told p js is = λ j c. absurd (none j (subst (λ z. Contains (shared z) j) is c))
+none_told p js is = λ j c. absurd (has_nothing j (subst (λ z. Contains (shared z) j) is c))
 
 -- one more
 pub one_more : (js new : List (Rc Judged Global)) (r : Rc Judged Global) (j : Judged) → new ≡ js ++ r ∷ [] → r.value ≡ j → shared new ≡ shared js ++ j ∷ []
@@ -58,4 +58,4 @@ one_more js new r j is same = ap shared is ∙ map-append (λ (x : Rc Judged Glo
 
 pub told_with : (p : PlainProgram) (js new : List Judged) (j : Judged) → new ≡ js ++ j ∷ [] → AllWhollyTold p js → WhollyTold p j → AllWhollyTold p new
 told_with p js new j is all told = λ i c.
-    pick (Contains-append_cases js (j ∷ []) i (subst (λ z. Contains z i) is c)) (λ z. all i z) (λ z. subst (λ k. WhollyTold p k) (alone j i z) told)
+    pick (Contains-append_cases js (j ∷ []) i (subst (λ z. Contains z i) is c)) (λ z. all i z) (λ z. subst (λ k. WhollyTold p k) (has_only j i z) told)

@@ -9,7 +9,9 @@ use Rattle.ca_parallel.specs.Extents.{Extent}
 use Rattle.ca_parallel.specs.Separable.{Separable}
 use Rattle.ca_symbolic.specs.Runs.{first_other_loop}
 use Rattle.ca_verdicts.specs.Analysed.{Analysed}
+use Rattle.ca_section.specs.declared.offence.Why.{Why}
 use Rattle.ca_verdicts.specs.declared.verdicts.Reason.{Reason}
+use Rattle.ca_verdicts.specs.declared.verdicts.Reason.TheVariants.{NotSeparable}
 use Rattle.ca_verdicts.specs.declared.verdicts.Verdict.{Verdict}
 use Rattle.ca_verdicts.specs.declared.verdicts.Verdict.TheVariants.{Commutes, Unproved}
 use Rattle.ca_verdicts.specs.Verdicts.{BothSeparable, loop_of_both, CanExecute, OffenceTold, VerdictOf}
@@ -39,6 +41,10 @@ told_there p x a b (Err e) both these fits = tt
 -- an offence is told
 pub told_offence : (p : PlainProgram) (x : Extent) (a b : OpId) (r : Reason) → OffenceTold p x.written a b r → PairTold p x (verdict_on a b (Unproved r))
 told_offence p x a b r t = record { exact = told_verdict p x.written a b r t; sound = λ q is. absurd (not_commutes r is) }
+
+-- offences that are compared part by part
+pub one_offence : (op other : OpId) (line at : ℕ) (why what : Why) → op ≡ other → line ≡ at → why ≡ what → NotSeparable op line why ≡ NotSeparable other at what
+one_offence op other line at why what e f g = λ i. NotSeparable (e i) (f i) (g i)
 
 -- Lines
 

@@ -3,6 +3,7 @@
 use Rattle.std.proofs.Common.{◌≡◌, ◌+◌, ℕ, zero, suc, List, [], ◌∷◌, ◌++◌, Some, length, map, refl, sym, ap, ap₂, ◌∙◌, subst, arith, codes}
 use Rattle.std.specs.Prelude.{true, slice_get, Contains, flat_map, decimal}
 use Rattle.std.proofs.lemmas.List.Elements.{Contains-append_cases, Contains-append_right}
+use Rattle.ca_lists.proofs.Members.{has_first, has_nothing, has_only}
 use Rattle.ca_program.specs.declared.program.FieldId.{FieldId}
 use Rattle.ca_program.specs.declared.program.LoopId.{LoopId}
 use Rattle.ca_program.specs.declared.program.OpId.{OpId}
@@ -13,7 +14,7 @@ use Rattle.ca_parallel.specs.Lists.{PlainMarks}
 use Rattle.ca_parallel.specs.Separable.{Separable, IsSeparated}
 use Rattle.ca_parallel.specs.ExtentsOf.{OpBefore}
 use Rattle.ca_parallel.proofs.OneExtent.{Orders, ops_order, one_extent, one_list}
-use Rattle.ca_section.proofs.Members.{pick, front, alone, none}
+use Rattle.ca_section.proofs.Members.{pick}
 use Rattle.ca_verdicts.specs.Laws.{SameVerdict, OneVerdict}
 use Rattle.ca_verdicts.specs.declared.verdicts.Verdict.{Verdict}
 use Rattle.ca_verdicts.specs.declared.verdicts.Verdict.TheVariants.{Commutes, Unproved}
@@ -67,16 +68,16 @@ module _ (one : OneVerdict) (p : PlainProgram) (written : List FieldId) where
   lines (x ∷ xs) (y ∷ ys) e s t =
       let first : pair_of x ≡ pair_of y = cc in
       let more : map pair_of xs ≡ map pair_of ys = cc in
-      ap₂ (λ a b. a ++ b) (same_line x y first (both x y first (s x (front x xs)) (t y (front y ys)))) (lines xs ys more (rest x xs s) (rest y ys t))
+      ap₂ (λ a b. a ++ b) (same_line x y first (both x y first (s x (has_first x xs)) (t y (has_first y ys)))) (lines xs ys more (rest x xs s) (rest y ys t))
 
   commute_too : (xs ys : List PairVerdict) → map pair_of xs ≡ map pair_of ys → AreVerdicts p written xs → AreVerdicts p written ys → ((v : PairVerdict) → Contains xs v → v.verdict ≡ Commutes) → (v : PairVerdict) → Contains ys v → v.verdict ≡ Commutes
-  commute_too xs [] e s t all v c = absurd (none v c)
+  commute_too xs [] e s t all v c = absurd (has_nothing v c)
   commute_too [] (y ∷ ys) e s t all v c = absurd cc
   commute_too (x ∷ xs) (y ∷ ys) e s t all v c =
       let first : pair_of x ≡ pair_of y = cc in
       let more : map pair_of xs ≡ map pair_of ys = cc in
       pick (Contains-append_cases (y ∷ []) ys v c)
-      (λ z. subst (λ (w : PairVerdict). w.verdict ≡ Commutes) (alone y v z) (same_commutes x.verdict y.verdict (both x y first (s x (front x xs)) (t y (front y ys))) (all x (front x xs))))
+      (λ z. subst (λ (w : PairVerdict). w.verdict ≡ Commutes) (has_only y v z) (same_commutes x.verdict y.verdict (both x y first (s x (has_first x xs)) (t y (has_first y ys))) (all x (has_first x xs))))
       (λ z. commute_too xs ys more (rest x xs s) (rest y ys t) (rest x xs all) v z)
 
 -- Extents
@@ -101,15 +102,15 @@ same_judged one p roots x y a b =
     }
 
 -- what is said of operations from number n on
-abbrev Each : PlainProgram → ℕ → List Judged → Type 0
+abbrev pub Each : PlainProgram → ℕ → List Judged → Type 0
 Each p n js = (k : ℕ) (j : Judged) → slice_get js k ≡ Some j → IsJudged p (op_at (n + k) ∷ []) j
 
-each_rest : (p : PlainProgram) (n : ℕ) (x : Judged) (xs : List Judged) → Each p n (x ∷ xs) → Each p (n + 1) xs
+pub each_rest : (p : PlainProgram) (n : ℕ) (x : Judged) (xs : List Judged) → Each p n (x ∷ xs) → Each p (n + 1) xs
 each_rest p n x xs each k j e =
     let m : n + suc k ≡ (n + 1) + k = omega arith in
     subst (λ z. IsJudged p (op_at z ∷ []) j) m (each (suc k) j e)
 
-each_first : (p : PlainProgram) (n : ℕ) (x : Judged) (xs : List Judged) → Each p n (x ∷ xs) → IsJudged p (op_at n ∷ []) x
+pub each_first : (p : PlainProgram) (n : ℕ) (x : Judged) (xs : List Judged) → Each p n (x ∷ xs) → IsJudged p (op_at n ∷ []) x
 each_first p n x xs each = let m : n + 0 ≡ n = omega arith in subst (λ z. IsJudged p (op_at z ∷ []) x) m (each 0 x refl)
 
 same_extents : OneVerdict → (p : PlainProgram) (n : ℕ) (xs ys : List Judged) → length xs ≡ length ys → Each p n xs → Each p n ys → extents_text p n xs ≡ extents_text p n ys
@@ -122,7 +123,7 @@ same_extents one p n (x ∷ xs) (y ∷ ys) e a b =
 
 -- Loops
 
-abbrev EachLoop : PlainProgram → List Statement → List JudgedLoop → Type 0
+abbrev pub EachLoop : PlainProgram → List Statement → List JudgedLoop → Type 0
 EachLoop p ss ls = (n : ℕ) (s : Statement) (l : JudgedLoop) → slice_get ss n ≡ Some s → slice_get ls n ≡ Some l → IsJudgedLoop p s l
 
 pub record SameLoop (p : PlainProgram) (x y : JudgedLoop) : Type 0 where
@@ -152,7 +153,7 @@ same_loops one p (s ∷ ss) (x ∷ xs) (y ∷ ys) e f a b =
     ap₂ (λ u v. u ++ v) (loop_line p x y (same_loop one p s x y (a 0 s x refl refl) (b 0 s y refl refl)))
     (same_loops one p ss xs ys (omega (arith, e)) (omega (arith, f)) (loops_rest p s ss x xs a) (loops_rest p s ss y ys b))
 
-from_zero : (p : PlainProgram) (js : List Judged) → ((k : ℕ) (j : Judged) → slice_get js k ≡ Some j → IsJudged p (op_at k ∷ []) j) → Each p 0 js
+pub from_zero : (p : PlainProgram) (js : List Judged) → ((k : ℕ) (j : Judged) → slice_get js k ≡ Some j → IsJudged p (op_at k ∷ []) j) → Each p 0 js
 from_zero p js each k j e = let m : k ≡ 0 + k = omega arith in subst (λ z. IsJudged p (op_at z ∷ []) j) m (each k j e)
 
 pairs_by : OneVerdict → (p : PlainProgram) (x y : PlainPlan) → PlanOf p x → PlanOf p y → pairs_text p x ≡ pairs_text p y

@@ -3,6 +3,7 @@ use Rattle.std.proofs.Common.{◌≡◌, ◌⊎◌, inl, inr, Bool, true, false,
 use Rattle.std.specs.Prelude.{ℕ, zero, suc, Contains}
 use Rattle.std.proofs.lemmas.Bool.{eq-eqb}
 use Rattle.std.proofs.lemmas.List.Elements.{Contains-append_left, Contains-append_right, Contains-append_cases}
+use Rattle.ca_lists.proofs.Members.{has_first, has_nothing, has_only, place_has}
 use Rattle.ca_program.specs.declared.program.ClassId.{ClassId}
 use Rattle.ca_program.specs.declared.program.FieldId.{FieldId}
 use Rattle.ca_program.specs.declared.program.OpId.{OpId}
@@ -16,7 +17,7 @@ use Rattle.ca_parallel.specs.Marks.{loops_of_program, SoundLoop, SoundMarks}
 use Rattle.ca_parallel.specs.Parallel.{Parallel, ParallelFrom}
 use Rattle.ca_symbolic.specs.OtherLoops.{is_call_loop}
 use Rattle.ca_symbolic.proofs.CallLoops.{call_loops_are_told}
-use Rattle.ca_section.proofs.Members.{pick, front, alone, none}
+use Rattle.ca_section.proofs.Members.{pick}
 use Rattle.ca_extent.proofs.Members.{from_map}
 use Rattle.ca_plan.specs.Pairs.{Pair, is_one_class, of_one_class, pairs_with, pairs_in}
 use Rattle.ca_plan.specs.Checked.{OneLoopEach}
@@ -43,22 +44,22 @@ behind_if true y z ys c = Contains-append_right (z ∷ []) ys y c
 behind_if false y z ys c = c
 
 in_front : (t : Bool) (y : Pair) (ys : List Pair) → t ≡ true → Contains (if t then y ∷ ys else ys) y
-in_front t y ys e = subst (λ b. Contains (if b then y ∷ ys else ys) y) (sym e) (front y ys)
+in_front t y ys e = subst (λ b. Contains (if b then y ∷ ys else ys) y) (sym e) (has_first y ys)
 
 with_found : (p : PlainProgram) (a b : OpId) (bs : List OpId) → of_one_class p a b ≡ true → Contains bs b → Contains (pairs_with p a bs) (pair a b)
-with_found p a b [] e c = absurd (none b c)
+with_found p a b [] e c = absurd (has_nothing b c)
 with_found p a b (x ∷ xs) e c =
     pick (Contains-append_cases (x ∷ []) xs b c)
-    (λ z. subst (λ o. Contains (pairs_with p a (o ∷ xs)) (pair a b)) (sym (alone x b z)) (in_front (of_one_class p a b) (pair a b) (pairs_with p a xs) e))
+    (λ z. subst (λ o. Contains (pairs_with p a (o ∷ xs)) (pair a b)) (sym (has_only x b z)) (in_front (of_one_class p a b) (pair a b) (pairs_with p a xs) e))
     (λ z. behind_if (of_one_class p a x) (pair a b) (pair a x) (pairs_with p a xs) (with_found p a b xs e z))
 
 pub found : (p : PlainProgram) (xs : List OpId) (a b : OpId) → Contains xs a → Contains xs b → of_one_class p a b ≡ true → of_one_class p b a ≡ true → Contains (pairs_in p xs) (pair a b) ⊎ Contains (pairs_in p xs) (pair b a)
-found p [] a b c d e f = absurd (none a c)
+found p [] a b c d e f = absurd (has_nothing a c)
 found p (x ∷ xs) a b c d e f =
     pick (Contains-append_cases (x ∷ []) xs a c)
-    (λ z. inl (subst (λ o. Contains (pairs_with p o (x ∷ xs) ++ pairs_in p xs) (pair a b)) (sym (alone x a z)) (Contains-append_left (pairs_with p a (x ∷ xs)) (pairs_in p xs) (pair a b) (with_found p a b (x ∷ xs) e d))))
+    (λ z. inl (subst (λ o. Contains (pairs_with p o (x ∷ xs) ++ pairs_in p xs) (pair a b)) (sym (has_only x a z)) (Contains-append_left (pairs_with p a (x ∷ xs)) (pairs_in p xs) (pair a b) (with_found p a b (x ∷ xs) e d))))
     (λ y. pick (Contains-append_cases (x ∷ []) xs b d)
-    (λ z. inr (subst (λ o. Contains (pairs_with p o (x ∷ xs) ++ pairs_in p xs) (pair b a)) (sym (alone x b z)) (Contains-append_left (pairs_with p b (x ∷ xs)) (pairs_in p xs) (pair b a) (with_found p b a (x ∷ xs) f c))))
+    (λ z. inr (subst (λ o. Contains (pairs_with p o (x ∷ xs) ++ pairs_in p xs) (pair b a)) (sym (has_only x b z)) (Contains-append_left (pairs_with p b (x ∷ xs)) (pairs_in p xs) (pair b a) (with_found p b a (x ∷ xs) f c))))
     (λ z. pick (found p xs a b y z e f)
     (λ w. inl (Contains-append_right (pairs_with p x (x ∷ xs)) (pairs_in p xs) (pair a b) w))
     (λ w. inr (Contains-append_right (pairs_with p x (x ∷ xs)) (pairs_in p xs) (pair b a) w))))
@@ -105,7 +106,7 @@ more x xs loop (c, f) = (Contains-append_right (x ∷ []) xs loop c, f)
 
 first : (x : Statement) (xs ys : List Statement) (loop : Statement) (k : ℕ) → is_call_loop x ≡ true → slice_get (x ∷ ys) k ≡ Some loop → ((m : ℕ) → slice_get ys m ≡ Some loop → Among xs loop) → Among (x ∷ xs) loop
 unfolding Among
-first x xs ys loop zero f i later = let s : x ≡ loop = cc in (subst (λ y. Contains (x ∷ xs) y) s (front x xs), subst (λ y. is_call_loop y ≡ true) s f)
+first x xs ys loop zero f i later = let s : x ≡ loop = cc in (subst (λ y. Contains (x ∷ xs) y) s (has_first x xs), subst (λ y. is_call_loop y ≡ true) s f)
 first x xs ys loop (suc k) f i later = more x xs loop (later k i)
 
 by_form : (x : Statement) (xs ys : List Statement) (loop : Statement) (n : ℕ) (t : Bool) → is_call_loop x ≡ t → slice_get (if t then x ∷ ys else ys) n ≡ Some loop → ((m : ℕ) → slice_get ys m ≡ Some loop → Among xs loop) → Among (x ∷ xs) loop
@@ -117,11 +118,6 @@ stands_among : (xs : List Statement) (n : ℕ) (loop : Statement) → slice_get 
 stands_among [] n loop e = absurd cc
 stands_among (x ∷ xs) n loop e = by_form x xs (call_loops_of xs) loop n (is_call_loop x) refl e (λ m i. stands_among xs m loop i)
 
-pub there : {A : Type 0} (xs : List A) (n : ℕ) (x : A) → slice_get xs n ≡ Some x → Contains xs x
-there [] n x e = absurd cc
-there (y ∷ xs) zero x e = let s : y ≡ x = cc in subst (λ z. Contains (y ∷ xs) z) s (front y xs)
-there (y ∷ xs) (suc n) x e = Contains-append_right (y ∷ []) xs x (there xs n x e)
-
 -- so it is of the form
 pub of_form : (xs : List Statement) (n : ℕ) (loop : Statement) → slice_get (call_loops_of xs) n ≡ Some loop → is_call_loop loop ≡ true
 unfolding Among
@@ -132,7 +128,7 @@ unfolding Among parallel_from
 marks_are_sound p plan right one is = record {
   operations = λ op c.
       let m = (is.marks.ops op).0 c in
-      parallel_from p (op ∷ []) m.judged (right.ops m.judged (there plan.ops op.0 m.judged m.found)) (is.ops op.0 m.judged m.found) m.order;
+      parallel_from p (op ∷ []) m.judged (right.ops m.judged (place_has plan.ops op.0 m.judged m.found)) (is.ops op.0 m.judged m.found) m.order;
   sites = λ id c loop stands numbered.
       let m = (is.marks.loops id).0 c in
       let (among, form) = stands_among (loops_of_program p) m.place m.loop m.stands in
@@ -140,7 +136,7 @@ marks_are_sound p plan right one is = record {
       let judged = is.loops m.place m.loop m.judged m.stands m.found in
       subst (λ x. SoundLoop p x) same (record {
         form = (call_loops_are_told m.loop).0 form;
-        calls = parallel_from p (calls_of m.loop) m.judged.judged (right.loops m.judged (there plan.loops m.place m.judged m.found)) judged.judged m.order;
+        calls = parallel_from p (calls_of m.loop) m.judged.judged (right.loops m.judged (place_has plan.loops m.place m.judged m.found)) judged.judged m.order;
         constant = m.constant;
       });
 }

@@ -1,21 +1,21 @@
 -- Verdicts that are added pair by pair.
-use Rattle.std.proofs.Common.{◌≡◌, ◌<◌, ◌≤◌, ◌+◌, ℕ, suc, Bool, true, false, if◌then◌else◌, List, [], ◌∷◌, ◌++◌, length, drop, get_or, map, refl, sym, ap, ◌∙◌, subst, arith, append_assoc, append-nil}
+use Rattle.std.proofs.Common.{◌≡◌, ◌<◌, ◌≤◌, ◌+◌, ℕ, Bool, true, false, if◌then◌else◌, List, [], ◌∷◌, ◌++◌, length, drop, get_or, map, refl, sym, ap, ◌∙◌, subst, append_assoc, append-nil}
 use Rattle.std.specs.Prelude.{Contains}
-use Rattle.std.proofs.Math.Seq.{drop-cons}
-use Rattle.std.proofs.lemmas.List.{drop_all, map-append}
+use Rattle.std.proofs.lemmas.List.{drop_all, map-append, drop_more}
 use Rattle.std.proofs.lemmas.List.Elements.{Contains-append_cases}
+use Rattle.ca_lists.proofs.Members.{has_nothing, has_only}
 use Rattle.ca_program.specs.declared.program.OpId.{OpId}
 use Rattle.ca_program.specs.Plain.{PlainProgram}
 use Rattle.ca_parallel.specs.Extents.{Extent}
 use Rattle.ca_parallel.specs.ExtentsOf.{ExtentOf}
-use Rattle.ca_section.proofs.Members.{pick, alone, none}
+use Rattle.ca_section.proofs.Members.{pick}
 use Rattle.ca_plan.specs.clauses.Keeping.{IsOn}
 use Rattle.ca_plan.specs.Pairs.{Pair, of_one_class, pairs_with, pairs_in}
 use Rattle.ca_plan.specs.Plans.{PairVerdict, pair_of}
 use Rattle.ca_plan.specs.Told.{PairTold, Told, WhollyTold}
 
 pub told_none : (p : PlainProgram) (x : Extent) (old : List PairVerdict) → Told p x old old []
-told_none p x old = record { added = []; all = sym (append-nil old); on = refl; each = λ v c. absurd (none v c) }
+told_none p x old = record { added = []; all = sym (append-nil old); on = refl; each = λ v c. absurd (has_nothing v c) }
 
 pub told_after : (p : PlainProgram) (x : Extent) (old mid new : List PairVerdict) (ps qs : List Pair) → Told p x old mid ps → Told p x mid new qs → Told p x old new (ps ++ qs)
 told_after p x old mid new ps qs t u = record {
@@ -32,7 +32,7 @@ told_one p x old new a b v these t is told = record {
   added = v ∷ [];
   all = is;
   on = rw t (ap (λ (q : Pair). q ∷ []) these);
-  each = λ w c. subst (λ z. PairTold p x z) (alone v w c) told;
+  each = λ w c. subst (λ z. PairTold p x z) (has_only v w c) told;
 }
 
 pub told_no_pair : (p : PlainProgram) (x : Extent) (old : List PairVerdict) (a b : OpId) → of_one_class p a b ≡ false → Told p x old old (pairs_with p a (b ∷ []))
@@ -43,11 +43,6 @@ told_no_pair p x old a b t = rw t (told_none p x old)
 by_class : (t : Bool) (q : Pair) (qs : List Pair) → (if t then q ∷ qs else qs) ≡ (if t then q ∷ [] else []) ++ qs
 by_class true q qs = refl
 by_class false q qs = refl
-
-item_and_rest : {A : Type 0} (xs : List A) (i : ℕ) (d : A) → i < length xs → drop i xs ≡ get_or xs i d ∷ drop (i + 1) xs
-item_and_rest xs i d h =
-    let n : i + 1 ≡ suc i = omega arith in
-    drop-cons xs i d h ∙ ap (λ m. get_or xs i d ∷ drop m xs) (sym n)
 
 pub record TellingWith (p : PlainProgram) (x : Extent) (old new : List PairVerdict) (a : OpId) (others : List OpId) (i : ℕ) : Type 0 where
   pub done : List Pair
@@ -63,7 +58,7 @@ next_with p x old mid new a others i d h t told =
     let b = get_or others i d in
     let one = pairs_with p a (b ∷ []) in
     let more = pairs_with p a (drop (i + 1) others) in
-    let front : pairs_with p a (drop i others) ≡ one ++ more = ap (pairs_with p a) (item_and_rest others i d h) ∙ by_class (of_one_class p a b) (record { a = a; b = b }) more in
+    let front : pairs_with p a (drop i others) ≡ one ++ more = ap (pairs_with p a) (drop_more others i d h) ∙ by_class (of_one_class p a b) (record { a = a; b = b }) more in
     record {
       done = t.done ++ one;
       told = told_after p x old mid new t.done one t.told told;
@@ -91,7 +86,7 @@ next_in p x old mid new ops i d h t told =
     let a = get_or ops i d in
     let one = pairs_with p a (drop i ops) in
     let more = pairs_in p (drop (i + 1) ops) in
-    let rest : drop i ops ≡ a ∷ drop (i + 1) ops = item_and_rest ops i d h in
+    let rest : drop i ops ≡ a ∷ drop (i + 1) ops = drop_more ops i d h in
     let front : pairs_in p (drop i ops) ≡ one ++ more = ap (pairs_in p) rest ∙ ap (λ z. pairs_with p a z ++ more) (sym rest) in
     record {
       done = t.done ++ one;

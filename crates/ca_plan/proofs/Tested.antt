@@ -3,14 +3,11 @@ use Rattle.std.proofs.Common.{◌≡◌, ◌↔◌, ◌<◌, ◌+◌, ℕ, Bool,
 use Rattle.std.specs.Prelude.{Contains, IsTrue}
 use Rattle.std.proofs.lemmas.List.{take_more}
 use Rattle.std.proofs.lemmas.List.Elements.{Contains-get_or, Contains-append_cases}
+use Rattle.ca_lists.proofs.Members.{has_only}
 use Rattle.ca_verdicts.specs.declared.verdicts.Verdict.TheVariants.{Commutes}
-use Rattle.ca_section.proofs.Members.{pick, alone}
+use Rattle.ca_section.proofs.Members.{pick}
 use Rattle.ca_plan.specs.Plans.{PairVerdict}
 use Rattle.ca_plan.specs.Told.{Noted, taken, left}
-
-pub not_both : (b : Bool) → b ≡ false → b ≡ true → ⊥
-not_both true e t = cc
-not_both false e t = cc
 
 pub one_there : {A : Type 0} (xs : List A) (i : ℕ) (x : A) → i < length xs → x ≡ get_or xs i x → Contains xs x
 one_there xs i x h is = subst (λ z. Contains xs z) (sym is) (Contains-get_or xs i x h)
@@ -19,7 +16,7 @@ pub one_told : (xs : List PairVerdict) (i : ℕ) (x : PairVerdict) → i < lengt
     → (v : PairVerdict) → Contains (take (i + 1) xs) v → v.verdict ≡ Commutes
 one_told xs i x h is all here v c =
     let more : take (i + 1) xs ≡ take i xs ++ x ∷ [] = take_more xs i x h ∙ ap (λ z. take i xs ++ z ∷ []) (sym is) in
-    pick (Contains-append_cases (take i xs) (x ∷ []) v (subst (λ z. Contains z v) more c)) (λ z. all v z) (λ z. subst (λ (w : PairVerdict). w.verdict ≡ Commutes) (alone x v z) here)
+    pick (Contains-append_cases (take i xs) (x ∷ []) v (subst (λ z. Contains z v) more c)) (λ z. all v z) (λ z. subst (λ (w : PairVerdict). w.verdict ≡ Commutes) (has_only x v z) here)
 
 -- a mark is given, or not
 pub given : {A P : Type 0} (b : Bool) (old new : List A) (x : A) → IsTrue b ↔ P → b ≡ true → new ≡ old ++ x ∷ [] → Noted P old new x

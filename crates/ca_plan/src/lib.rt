@@ -24,6 +24,7 @@ mod names;
 mod offences;
 mod pairs;
 mod plans;
+mod sharing;
 mod texts;
 
 ghost use Rattle.std.specs.Prelude.{IfOk};

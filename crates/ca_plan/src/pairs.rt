@@ -9,10 +9,10 @@ ghost use Rattle.ca_plan.specs.Told.{PairTold, Told};
 use crate::known::Known;
 use crate::offences::Offences;
 use crate::plans::PairVerdict;
+use crate::sharing::offence_on;
 use ca_base::Memory;
 use ca_extent::Extent;
 use ca_program::{OpId, Program};
-use ca_verdicts::Verdict;
 use std::alloc::Global;
 
 /// Whether both are operations of one class.
@@ -27,7 +27,7 @@ fn of_one_class(program: &Program, a: OpId, b: OpId) -> bool
     program.op(a).class.0 == program.op(b).class.0
 }
 
-/// The verdict on two operations of an extent.
+/// The verdict on two operations of an extent, behind these pairs.
 fn verdict_in(
     alloc: Global,
     program: &Program,
@@ -36,6 +36,7 @@ fn verdict_in(
     known: &mut Known,
     a: OpId,
     b: OpId,
+    pairs: &[PairVerdict],
 ) -> Result<PairVerdict, Memory>
     requires first { a.0 < length program.now.ops.items }
     requires second { b.0 < length program.now.ops.items }
@@ -47,7 +48,7 @@ fn verdict_in(
 {
     match offences.first(program, extent, a, b) {
         Some(reason) => {
-            let pair = PairVerdict::of(alloc, a, b, Verdict::Unproved(reason))?;
+            let pair = offence_on(alloc, a, b, reason, pairs)?;
             Ok(pair)
         }
         None => known.verdict(alloc, program, a, b),
@@ -71,7 +72,8 @@ fn add_pair(
     ensures known { OnOk result (AllFit (program_view program.now) known.new.slots.items) }
 {
     if of_one_class(program, a, b) {
-        let pair = verdict_in(alloc, program, extent, offences, known, a, b)?;
+        let pairs = out.as_slice();
+        let pair = verdict_in(alloc, program, extent, offences, known, a, b, pairs)?;
         out.push(pair)?;
     }
     Ok(())

@@ -67,6 +67,14 @@ impl PairVerdict {
         &self.verdict
     }
 
+    /// The same verdict on other two.
+    pub(crate) fn on(&self, a: OpId, b: OpId) -> Result<PairVerdict, AllocError>
+        ensures { IfOk result (λ v. v ≡ record { a = a; b = b; verdict = self.now.verdict }) }
+    {
+        let verdict = self.verdict.clone()?;
+        Ok(PairVerdict { a, b, verdict })
+    }
+
     /// The same once more.
     pub fn share(&self) -> Result<PairVerdict, AllocError>
         ensures { IfOk result (λ v. v ≡ self.now) }

@@ -1,6 +1,7 @@
 -- What a task does, or tasks of one receiver by one claim: their entries are noted or stand in the seat's loose list.
-use Rattle.std.proofs.Common.{◌≡◌, ℕ, zero, suc, ◌+◌, Bool, true, false, true≢false, ◌||◌, List, [], ◌∷◌, ◌++◌, All, Option, Some, None, is_some, cond, map, sym, refl, ap, ◌∙◌, subst, arith}
-use Rattle.std.proofs.lemmas.List.Elements.{All-append, All-contains, Contains-push}
+use Rattle.std.proofs.Common.{◌≡◌, ℕ, ◌+◌, Bool, true, false, true≢false, ◌||◌, List, [], ◌∷◌, ◌++◌, All, Option, Some, None, is_some, cond, map, sym, refl, ap, ◌∙◌, subst, arith}
+use Rattle.std.proofs.lemmas.List.Elements.{All-append, All-contains, Contains-push, All-head, All-tail, All-cons}
+use Rattle.std.proofs.lemmas.Option.{same_Some}
 use Rattle.ca_meaning.specs.Multisets.{weight}
 use Rattle.ca_meaning.specs.Sections.{section}
 use Rattle.ca_order_laws.proofs.Weights.{weight_append}
@@ -52,16 +53,6 @@ still_of cells old new o s = (s.table ∙ o.0, s.given ∙ o.1)
 pub all_none : {A : Type 0} (P : A → Type 0) → All P []
 all_none P k d l = absurd (omega (arith, l))
 
-all_first : {A : Type 0} (P : A → Type 0) (x : A) (xs : List A) → All P (x ∷ xs) → P x
-all_first P x xs h = h 0 x (omega arith)
-
-all_rest : {A : Type 0} (P : A → Type 0) (x : A) (xs : List A) → All P (x ∷ xs) → All P xs
-all_rest P x xs h k d l = h (suc k) d (omega (arith, l))
-
-all_more : {A : Type 0} (P : A → Type 0) (x : A) (xs : List A) → P x → All P xs → All P (x ∷ xs)
-all_more P x xs a h zero d l = a
-all_more P x xs a h (suc k) d l = h k d (omega (arith, l))
-
 one_more_weight : {A : Type 0} (g : A → ℕ) (olds news : List A) (n : A) → news ≡ olds ++ n ∷ [] → weight g news ≡ weight g olds + g n
 one_more_weight g olds news n e = omega (arith, ap (weight g) e, weight_append g olds (n ∷ []))
 
@@ -70,9 +61,6 @@ one_more_has P olds news n e p h = subst (All P) (sym e) (All-append P olds (n �
 
 pub none_some : (why : Stop) → None ≡ Some why → ⊥
 none_some why e = cc
-
-some_same : (a b : Stop) → Some a ≡ Some b → a ≡ b
-some_same a b e = cc
 
 -- ---- several tasks by one claim
 
@@ -95,8 +83,8 @@ module _ (given : Given) (left cell : ℕ) where
   -- tasks that are kept are some of these
   runs_keep : (P : Task → Type 0) (old new : CellLog) (tasks : List Task) (notes : List Note) (made : List Task) (stop : Option Stop) (kept : List Task) → Runs given left cell old tasks notes made stop kept new → All P tasks → All P kept
   runs_keep P old new tasks notes made stop kept (all_ran log) h = h
-  runs_keep P old new tasks notes made stop kept (one_ran from task more m ns ms s k to fresh sec legal rest) h = runs_keep P _ _ _ _ _ _ _ rest (all_rest P task more h)
-  runs_keep P old new tasks notes made stop kept (one_stuck from task more why fresh sec legal) h = all_rest P task more h
+  runs_keep P old new tasks notes made stop kept (one_ran from task more m ns ms s k to fresh sec legal rest) h = runs_keep P _ _ _ _ _ _ _ rest (All-tail P task more h)
+  runs_keep P old new tasks notes made stop kept (one_stuck from task more why fresh sec legal) h = All-tail P task more h
   runs_keep P old new tasks notes made stop kept (one_kept from task more closed) h = h
 
   -- a noted stop is that of its section
@@ -104,10 +92,10 @@ module _ (given : Given) (left cell : ℕ) where
       → All (MayRun given) tasks → All (HasReceiver cell) tasks → All (StopsWithin given left) notes
   runs_stop old new tasks notes made stop kept (all_ran log) m r = all_none (StopsWithin given left)
   runs_stop old new tasks notes made stop kept (one_ran from task more m ns ms s k to fresh sec legal rest) may one =
-      all_more (StopsWithin given left) _ ns (λ why e. absurd (none_some why e)) (runs_stop _ _ _ _ _ _ _ rest (all_rest (MayRun given) task more may) (all_rest (HasReceiver cell) task more one))
-  runs_stop old new tasks notes made stop kept (one_stuck from task more why fresh sec legal) may one = all_more (StopsWithin given left) _ [] (λ other e. record {
-    may_run = all_first (MayRun given) task more may;
-    section = subst (IsStop _) (some_same why other e) (subst (λ (n : ℕ). IsStop (section (program_of given) (frozen_of given) n from.object task.op.op task.op.args left) why) (all_first (HasReceiver cell) task more one) sec);
+      All-cons (StopsWithin given left) _ ns (λ why e. absurd (none_some why e)) (runs_stop _ _ _ _ _ _ _ rest (All-tail (MayRun given) task more may) (All-tail (HasReceiver cell) task more one))
+  runs_stop old new tasks notes made stop kept (one_stuck from task more why fresh sec legal) may one = All-cons (StopsWithin given left) _ [] (λ other e. record {
+    may_run = All-head (MayRun given) task more may;
+    section = subst (IsStop _) (same_Some why other e) (subst (λ (n : ℕ). IsStop (section (program_of given) (frozen_of given) n from.object task.op.op task.op.args left) why) (All-head (HasReceiver cell) task more one) sec);
   }) (all_none (StopsWithin given left))
   runs_stop old new tasks notes made stop kept (one_kept from task more closed) may one = all_none (StopsWithin given left)
 
@@ -221,7 +209,7 @@ module _ (s : Setting) (cells : Cells) (left : ℕ) (seat after : Seat) where
     did_one (Ran tasks steps) loose r = noted_one (note_of task.op.receiver r.found (ran_entry task (next_clock r.found task.after) r.outcome.steps (map op_of r.outcome.listed))) tasks.items r.noted loose
         (λ why e. absurd (none_some why e)) (all_fit s key tasks.items es r.may_run) (λ h. refl) (λ h. ap (weight h) (sym r.tasks))
     did_one (Stuck why) loose r = noted_one (note_of task.op.receiver r.found (stuck_entry task (next_clock r.found task.after) why)) [] r.noted loose
-        (λ other e. record { may_run = may_run s key task es fits; section = subst (IsStop (section_on key task left seat after r.found)) (some_same why other e) r.section }) (all_none (Fits s)) (λ h. refl) (λ h. refl)
+        (λ other e. record { may_run = may_run s key task es fits; section = subst (IsStop (section_on key task left seat after r.found)) (same_Some why other e) r.section }) (all_none (Fits s)) (λ h. refl) (λ h. refl)
     did_one (Kept back) loose r = kept_one back r.same r.noted loose
 
     -- one task without a lock
@@ -230,5 +218,5 @@ module _ (s : Setting) (cells : Cells) (left : ℕ) (seat after : Seat) where
     did_free (Ran tasks steps) noted r legal = loose_one (free_ran task r.outcome) tasks.items noted r.loose r.takes_one legal
         (λ why e. absurd (none_some why e)) (all_fit s key tasks.items es r.may_run) (λ h. refl) (λ h. ap (weight h) (sym r.tasks))
     did_free (Stuck why) noted r legal = loose_one (free_stuck task why) [] noted r.loose r.takes_one legal
-        (λ other e. record { may_run = may_run s key task es fits; section = subst (IsStop (frozen_section (program_of key) (frozen_of key) task left)) (some_same why other e) r.section }) (all_none (Fits s)) (λ h. refl) (λ h. refl)
+        (λ other e. record { may_run = may_run s key task es fits; section = subst (IsStop (frozen_section (program_of key) (frozen_of key) task left)) (same_Some why other e) r.section }) (all_none (Fits s)) (λ h. refl) (λ h. refl)
     did_free (Kept back) noted r legal = kept_one back r.same noted r.loose

@@ -1,9 +1,8 @@
 -- Histories that are spread out: one without entries for each object, and then those that were touched, put at their numbers.
-use Rattle.std.proofs.Common.{◌≡◌, ◌≤◌, ◌<◌, ◌+◌, ℕ, zero, suc, List, [], ◌∷◌, ◌++◌, length, map, take, Some, sym, ap, subst, ◌∙◌, arith}
+use Rattle.std.proofs.Common.{◌≡◌, ◌≤◌, ◌<◌, ◌+◌, ℕ, zero, suc, List, [], ◌∷◌, ◌++◌, length, map, take, Some, sym, ap, subst, ◌∙◌, arith, length-set}
 use Rattle.std.specs.Prelude.{slice_get, slice_set}
 use Rattle.std.proofs.lemmas.List.{map-append, take_all}
 use Rattle.ca_model.specs.declared.value.Object.{Object}
-use Rattle.ca_order_laws.proofs.Places.{set_length}
 use Rattle.ca_logs.specs.declared.log.CellLog.{CellLog}
 use Rattle.ca_logs.specs.Touched.{Touched, pairs, fresh, put_logs, AreRising, AreBelow}
 use Rattle.ca_logs.proofs.Touching.{put_one_more, rising_less, below_less, pairs_last, put_last}
@@ -46,7 +45,7 @@ put_one ns₀ ns ns' ls₀ ls ls' all₀ all all' n l a b c i =
     record {
       alike = p.0;
       rising = r.0;
-      below = subst (AreBelow ts) (sym (ap length c ∙ set_length all n l)) m.0;
+      below = subst (AreBelow ts) (sym (ap length c ∙ length-set all n l)) m.0;
       same = ap (put_logs ts) c ∙ (put_last ts n l all r.1 ∙ (sym (put_one_more ts t all) ∙ (ap (λ (xs : List Touched). put_logs xs all) (sym p.1) ∙ i.same)));
     }
 

@@ -4,7 +4,7 @@ ghost use Rattle.std.specs.Prelude.{◌≡◌, ◌≤◌, map, true, [], ℕ, Li
 ghost use Rattle.ca_trace.specs.declared.line.Line.{Line};
 ghost use Rattle.ca_trace.specs.Engines.{Recorded};
 
-use crate::traced::Traced;
+use crate::tracer::Tracer;
 use ca_base::Memory;
 use ca_model::Heap;
 use ca_parallel::Op;
@@ -16,14 +16,14 @@ use std::alloc::Global;
 use std::sync::Wait;
 use std::thread::Threads;
 
-/// An engine that keeps the lines of all that another one ran.
+/// An engine that keeps the lines of all that a tracer ran.
 #[derive(Drop)]
-pub struct Recorder<E: Traced> {
+pub struct Recorder<E: Tracer> {
     engine: E,
     lines: Vec<Line>,
 }
 
-impl<E: Traced> Recorder<E> {
+impl<E: Tracer> Recorder<E> {
     /// No lines yet. It takes no memory.
     pub fn new(alloc: Global, engine: E) -> Recorder<E>
         ensures { result.lines.items ≡ [] }
@@ -44,7 +44,7 @@ impl<E: Traced> Recorder<E> {
     }
 }
 
-impl<E: Traced> Extents for Recorder<E> {
+impl<E: Tracer> Extents for Recorder<E> {
     ghost Account = { List Line };
 
     ghost account = { λ r. r.lines.items };
@@ -64,7 +64,7 @@ impl<E: Traced> Extents for Recorder<E> {
         budget: u64,
     ) -> Result<ExtentAnswer, Memory> {
         self.engine
-            .traced(rt, program, heap, operations, budget, &mut self.lines)
+            .trace(rt, program, heap, operations, budget, &mut self.lines)
     }
 
     fn in_order(&self, _heap: &Heap, _mark: Mark) -> bool {

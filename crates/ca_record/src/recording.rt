@@ -8,7 +8,7 @@ ghost use Rattle.ca_trace.specs.Lines.{Follows};
 ghost use Rattle.ca_trace.specs.Texts.{IsLineOf};
 
 use crate::recorder::Recorder;
-use crate::traced::Traced;
+use crate::tracer::Tracer;
 use ca_base::{Memory, SureSink};
 use ca_parallel::Marks;
 use ca_program::Program;
@@ -20,7 +20,7 @@ use std::sync::Wait;
 use std::thread::Threads;
 
 /// Runs a program by an engine, and tells the lines of its schedule. What it prints goes nowhere.
-pub fn record<R: Threads + Wait + Sync, E: Traced + Drop>(
+pub fn record<R: Threads + Wait + Sync, E: Tracer + Drop>(
     rt: &R,
     alloc: Global,
     program: &Program,

@@ -12,7 +12,7 @@ use Rattle.ca_trace.specs.declared.line.Line.{Line}
 use Rattle.ca_trace.specs.declared.line.Line.TheVariants.{Block, End, Step, Declined, Done, Trapped, Spent, Close}
 use Rattle.ca_trace.specs.Lines.{step_of, steps_of}
 use Rattle.ca_trace.specs.Laws.{RunsNow}
-use Rattle.ca_run.specs.Rounds.{RanThis}
+use Rattle.ca_run.specs.Turns.{RanThis}
 use Rattle.ca_run.proofs.Going.{ran_within, one_run}
 use Rattle.ca_replay.specs.Following.{starts_block, Halts, Passed, HaltsAt, BlockThere}
 

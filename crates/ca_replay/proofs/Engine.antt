@@ -22,7 +22,7 @@ use Rattle.ca_trace.specs.declared.line.Line.{Line}
 use Rattle.ca_trace.specs.declared.line.Line.TheVariants.{Block, End, Step, Declined, Done, Trapped, Spent, Close}
 use Rattle.ca_trace.specs.Lines.{step_of, steps_of, block_of, LinesOf, not_done}
 use Rattle.ca_trace.specs.Bad.{FirstBad, NoneInFront}
-use Rattle.ca_trace.specs.Engines.{Replaying, Replayed, still_bad, follows, refused}
+use Rattle.ca_trace.specs.Engines.{Replay, Replayed, still_bad, follows, refused}
 use Rattle.ca_trace.specs.Laws.{RunsNow, Going, DoesntGoOn}
 use Rattle.ca_trace.proofs.Existing.{all_inside, itself}
 use Rattle.ca_trace.proofs.Going.{refused_there, refused_at_end, refused_at_first, done_in_full}

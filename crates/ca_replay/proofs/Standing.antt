@@ -23,7 +23,7 @@ use Rattle.ca_trace.specs.Laws.{RunsNow}
 use Rattle.ca_trace.proofs.Existing.{all_inside, itself}
 use Rattle.ca_replay.specs.declared.machine.StepAnswer.{StepAnswer}
 use Rattle.ca_replay.specs.declared.machine.StepAnswer.TheVariants.{Done, NotPending, Trapped, Spent}
-use Rattle.ca_run.specs.Rounds.{RanThis}
+use Rattle.ca_run.specs.Turns.{RanThis}
 use Rattle.ca_run.proofs.Going.{one_run}
 use Rattle.ca_replay.specs.Steps.{Stands, Kept, EndsSo, DoesntWait, StepIs}
 

@@ -1,9 +1,11 @@
 -- A step of the pending machine in memory.
-use Rattle.std.proofs.Common.{◌≡◌, ℕ, zero, suc, ◌+◌, ◌<◌, ◌≤◌, List, [], ◌∷◌, ◌++◌, length, take, drop, get_or, map, Option, Some, None, refl, ap, sym, subst, ◌∙◌, arith, slice_index_or, length-append}
+use Rattle.std.proofs.Common.{◌≡◌, ℕ, zero, suc, ◌+◌, ◌<◌, List, [], ◌∷◌, ◌++◌, length, take, drop, get_or, map, Option, Some, None, refl, ap, sym, subst, ◌∙◌, arith, slice_index_or, length-append}
 use Rattle.std.specs.Prelude.{slice_get, slice_set}
 use Rattle.std.specs.List.{fold, sum_by, swap_remove}
 use Rattle.std.proofs.lemmas.List.Sums.{sum_by-swap_remove}
 use Rattle.std.proofs.lemmas.List.{map-append, length-map}
+use Rattle.std.proofs.lemmas.Option.{slice_get_within}
+use Rattle.ca_lists.proofs.Places.{get_in_front, get_map}
 use Rattle.ca_program.specs.Plain.{PlainProgram}
 use Rattle.ca_model.specs.declared.value.Object.{Object}
 use Rattle.ca_model.specs.declared.value.Value.{Value as Datum}
@@ -20,20 +22,14 @@ use Rattle.ca_sections.specs.declared.operations.SectionAnswer.TheVariants.{Done
 use Rattle.ca_beside.specs.declared.beside.Changed.{Changed}
 use Rattle.ca_beside.specs.Beside.{present}
 use Rattle.ca_beside.specs.Beside as beside
-use Rattle.ca_beside.proofs.Present.{past_none, present_length, same_some, front}
+use Rattle.ca_beside.proofs.Present.{past_none, present_length, same_some}
 use Rattle.ca_order_laws.proofs.CallThenList.{set_same}
 use Rattle.ca_model.specs.declared.value.Trap.{Trap}
-use Rattle.ca_run.specs.Rounds.{RanThis}
+use Rattle.ca_run.specs.Turns.{RanThis}
 use Rattle.ca_replay.specs.Steps.{EndsSo, Kept, DoesntWait, TakenOut}
 use Rattle.ca_trace.proofs.Existing.{op_for}
-use Rattle.ca_code.proofs.Places.{there as get_map}
 
 -- ---- what waits
-
-get_within : {A : Type 0} (xs : List A) (n : ℕ) (x : A) → slice_get xs n ≡ Some x → n < length xs
-get_within [] n x e = absurd (let z = e in cc)
-get_within (y ∷ xs) zero x e = omega arith
-get_within (y ∷ xs) (suc n) x e = let l : n < length xs = get_within xs n x e in omega (arith, l)
 
 -- one item weighed apart from the others
 pub weigh_out : {A B : Type 0} (g : A → B) (f : B → ℕ) (xs : List A) (n : ℕ) (b : B) → slice_get (map g xs) n ≡ Some b → weight f (map g xs) ≡ f b + weight f (map g (take n xs ++ drop (n + 1) xs))
@@ -122,7 +118,7 @@ module _ (p : PlainProgram) (frozen h : List Object) (ops : List Op) (op : Op) (
         heap = s.heap ∙ ap (λ o. slice_set h op.receiver o) i.1;
         waits = record {
           weighed = λ f.
-              let there : slice_get (invocations_of waiting) place ≡ Some (invocation_of op) = subst (λ (l : List Invocation). slice_get l place ≡ Some (invocation_of op)) (sym i.2) (front (invocations_of ops) m.listed place (invocation_of op) (get_map invocation_of ops place op at)) in
+              let there : slice_get (invocations_of waiting) place ≡ Some (invocation_of op) = subst (λ (l : List Invocation). slice_get l place ≡ Some (invocation_of op)) (sym i.2) (get_in_front (invocations_of ops) m.listed place (invocation_of op) (get_map invocation_of ops place op at)) in
               let a : weight f (invocations_of waiting) ≡ f (invocation_of op) + weight f (invocations_of rest) = (gone.others op (call_there waiting place op there)).weighed f in
               let b : weight f (invocations_of ops) ≡ f (invocation_of op) + weight f (invocations_of (take place ops ++ drop (place + 1) ops)) = weigh_out invocation_of f ops place (invocation_of op) (get_map invocation_of ops place op at) in
               let c : weight f (invocations_of waiting) ≡ weight f (invocations_of ops ++ m.listed) = ap (λ (l : List Invocation). weight f l) i.2 in
@@ -137,7 +133,7 @@ module _ (p : PlainProgram) (frozen h : List Object) (ops : List Op) (op : Op) (
 
 pub place_stays : (ops waiting : List Op) (listed : List Invocation) (place : ℕ) (op : Op) → slice_get ops place ≡ Some op → invocations_of waiting ≡ invocations_of ops ++ listed → place < length waiting
 place_stays ops waiting listed place op at e =
-    let l : place < length ops = get_within ops place op at in
+    let l : place < length ops = slice_get_within ops place op at in
     let a : length (invocations_of waiting) ≡ length waiting = length-map waiting invocation_of in
     let b : length (invocations_of ops) ≡ length ops = length-map ops invocation_of in
     let c = ap length e in let d = length-append (invocations_of ops) listed in

@@ -11,7 +11,7 @@ use Rattle.ca_trace.specs.declared.line.Line.{Line}
 use Rattle.ca_trace.specs.declared.line.Line.TheVariants.{Block, End, Step, Declined}
 use Rattle.ca_trace.specs.Lines.{steps_of, block_of}
 use Rattle.ca_trace.specs.Laws.{RunsNow}
-use Rattle.ca_trace.specs.Engines.{Replaying}
+use Rattle.ca_trace.specs.Engines.{Replay}
 use Rattle.ca_replay.specs.declared.following.Followed.{Followed}
 use Rattle.ca_replay.specs.declared.following.Followed.TheVariants.{Whole, Stopped}
 
@@ -71,5 +71,5 @@ is_word [] = false
 is_word (Declined ∷ ls) = true
 is_word (l ∷ ls) = false
 
-abbrev pub kept : List Line → ℕ → Option ℕ → Replaying
+abbrev pub kept : List Line → ℕ → Option ℕ → Replay
 kept lines place bad = record { lines = lines; place = place; bad = bad }

@@ -12,7 +12,7 @@ use Rattle.ca_parallel.specs.Calls.{invocation_of, invocations_of}
 use Rattle.ca_parallel.specs.Notes.{op_of}
 use Rattle.ca_parallel.specs.Parallel.{ParallelFrom}
 use Rattle.ca_order_laws.specs.Pending.{PendingRun}
-use Rattle.ca_run.specs.Rounds.{RanThis}
+use Rattle.ca_run.specs.Turns.{RanThis}
 use Rattle.ca_replay.specs.declared.machine.StepAnswer.{StepAnswer}
 use Rattle.ca_replay.specs.declared.machine.StepAnswer.TheVariants.{Done, NotPending, Trapped, Spent}
 

@@ -6,7 +6,7 @@ ghost use Rattle.ca_meaning.specs.ProgramTyped.{ProgramTyped};
 ghost use Rattle.ca_parallel.specs.Calls.{invocation_of, invocations_of};
 ghost use Rattle.ca_beside.specs.Beside.{present};
 ghost use Rattle.ca_trace.specs.Laws.{RunsNow};
-ghost use Rattle.ca_run.specs.Rounds.{RanThis};
+ghost use Rattle.ca_run.specs.Turns.{RanThis};
 ghost use Rattle.ca_replay.specs.Steps.{Stands};
 ghost use Rattle.ca_replay.specs.Following.{FollowedFrom, BlockIs, starts_block};
 

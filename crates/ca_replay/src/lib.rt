@@ -1,7 +1,7 @@
 //! Schedules that are followed.
 //!
 //! `Machine` is the pending machine in memory: operations wait, and whichever of them the caller names runs its section
-//! next. `Replay` is an engine that runs each list along the lines of a schedule, by a `Machine`, and keeps the first bad
+//! next. `Replayer` is an engine that runs each list along the lines of a schedule, by a `Machine`, and keeps the first bad
 //! line; where lines don't go on, the engine for one worker runs the list. `check` runs a program by it, and tells
 //! whether a schedule follows, or its first bad line.
 //! `specs/Steps.antt` says what a step of the machine answers, `specs/Following.antt` how far lines are followed, and
@@ -19,4 +19,4 @@ mod same;
 
 pub use checking::check;
 pub use machine::{Machine, StepAnswer};
-pub use replay::Replay;
+pub use replay::Replayer;

@@ -10,7 +10,7 @@ ghost use Rattle.ca_parallel.specs.Lists.{note};
 ghost use Rattle.ca_parallel.specs.Parallel.{ParallelFrom};
 ghost use Rattle.ca_serial.specs.declared.extents.ExtentAnswer.TheVariants.{Declined};
 ghost use Rattle.ca_serial.specs.Extents.{Answers, IsNotDone};
-ghost use Rattle.ca_trace.specs.Engines.{Replaying, Replayed};
+ghost use Rattle.ca_trace.specs.Engines.{Replay, Replayed};
 ghost use Rattle.ca_replay.specs.declared.following.Followed.TheVariants.{Stopped};
 ghost use Rattle.ca_replay.specs.Following.{FollowedIs, kept, is_word};
 
@@ -32,7 +32,7 @@ use std::thread::Threads;
 
 /// An engine that follows the lines of a schedule, as long as none is bad.
 #[derive(Drop)]
-pub struct Replay {
+pub struct Replayer {
     alloc: Global,
     pub(crate) lines: Vec<Line>,
     pub(crate) place: usize,
@@ -75,12 +75,12 @@ fn complete_here(
     engine.complete(program, heap, first, left)
 }
 
-impl Replay {
+impl Replayer {
     /// An engine that follows these lines. It takes no memory.
-    pub fn new(alloc: Global, lines: Vec<Line>) -> Replay
+    pub fn new(alloc: Global, lines: Vec<Line>) -> Replayer
         ensures { kept result.lines.items result.place result.bad ≡ kept lines.items 0 None }
     {
-        Replay {
+        Replayer {
             alloc,
             lines,
             place: 0,
@@ -187,8 +187,8 @@ impl Replay {
     }
 }
 
-impl Extents for Replay {
-    ghost Account = { Replaying };
+impl Extents for Replayer {
+    ghost Account = { Replay };
 
     ghost account = { λ r. kept r.lines.items r.place r.bad };
 

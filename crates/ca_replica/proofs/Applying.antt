@@ -1,6 +1,8 @@
 -- A section on a copy adds what it adds to each object.
 use Rattle.std.proofs.Common.{◌≡◌, ◌+◌, ℕ, List, [], ◌∷◌, ◌++◌, Some, refl, ap, sym, subst, ◌∙◌, ℤ}
 use Rattle.std.specs.Prelude.{slice_get, slice_set, Contains, Result, Ok, Err, IfOk}
+use Rattle.ca_lists.proofs.Members.{has_only}
+use Rattle.ca_lists.proofs.Places.{get_set_here}
 use Rattle.ca_program.specs.Plain.{PlainProgram}
 use Rattle.ca_model.specs.declared.value.Object.{Object}
 use Rattle.ca_meaning.specs.Expressions.{Invocation, slots_in}
@@ -12,8 +14,7 @@ use Rattle.ca_parallel.specs.Calls.{invocation_of, invocations_of}
 use Rattle.ca_parallel.specs.Extents.{Extent}
 use Rattle.ca_order_laws.specs.Pending.{PendingRun, rests, runs}
 use Rattle.ca_order_laws.specs.Order.{StandsFor, AllInside}
-use Rattle.ca_order_laws.proofs.Grown.{single_is}
-use Rattle.ca_order_laws.proofs.Places.{get_set, get_else}
+use Rattle.ca_order_laws.proofs.Places.{get_else}
 use Rattle.ca_order_laws.proofs.Setting.{GoodObject, method_of}
 use Rattle.ca_order_laws.proofs.Standing.{runs_stay}
 use Rattle.ca_sections.specs.Answers.{SectionIs}
@@ -33,7 +34,7 @@ module _ (p : PlainProgram) (x : Extent) (frozen : List Object) (round : IsRound
   -- the sums behind a section that is done stand for the frozen heap
   stays : (i : Invocation) → Contains x.ops i.op → WellTyped p frozen i → (o : Object) → slice_get old i.receiver ≡ Some o → (k : ℕ) (m : Outcome) → section p frozen i.receiver o i.op i.arguments k ≡ done m → StandsFor p x frozen (slice_set old i.receiver m.object)
   stays i inside typed o found k m e =
-      let all : AllInside x (i ∷ []) = λ j c. subst (λ (z : Invocation). Contains x.ops z.op) (single_is i j c) inside in
+      let all : AllInside x (i ∷ []) = λ j c. subst (λ (z : Invocation). Contains x.ops z.op) (has_only i j c) inside in
       let run : PendingRun p frozen (slice_set old i.receiver m.object) (m.listed ++ []) (i ∷ []) old (i ∷ []) (m.steps + 0) =
       runs i [] old (i ∷ []) [] o m 0 record { weighed = λ f. refl } found (k, e) (rests (m.listed ++ []) record { weighed = λ f. refl }) in
       let z = runs_stay p round.program round.roots x round.is round.parallel frozen old round.heap standing (i ∷ []) (typed, tt) all (slice_set old i.receiver m.object) (m.listed ++ []) (i ∷ []) (m.steps + 0) run in
@@ -52,7 +53,7 @@ module _ (p : PlainProgram) (x : Extent) (frozen : List Object) (round : IsRound
     is.2 ∙ ap (λ l. invocations_of out ++ l) alike.listed,
     record {
       added = alike.differences;
-      sums = moved_between alike.differences o.slots m.object.slots _ _ (slots_at old r o found) (ap (λ (z : Object). z.slots) (sym is.1) ∙ slots_at (slice_set old r left) r left (get_set old r o left found)) alike.first;
+      sums = moved_between alike.differences o.slots m.object.slots _ _ (slots_at old r o found) (ap (λ (z : Object). z.slots) (sym is.1) ∙ slots_at (slice_set old r left) r left (get_set_here old r o left found)) alike.first;
       object = alike.second;
       others = λ n ne. get_else old r n left ne;
     },

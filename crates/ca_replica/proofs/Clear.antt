@@ -2,6 +2,7 @@
 use Rattle.std.proofs.Common.{◌≡◌, ◌||◌, Bool, true, false, not, List, [], ◌∷◌, refl, sym, ◌∙◌, ⊎_elim, subst, true≢false}
 use Rattle.std.specs.Prelude.{Contains, ◌↔◌, IsTrue}
 use Rattle.std.proofs.lemmas.List.Elements.{Contains-append_left, Contains-append_right, Contains-append_cases, Contains-push}
+use Rattle.ca_lists.proofs.Members.{has_nothing, has_only}
 use Rattle.ca_tree.specs.declared.tree.AssignOp.{AssignOp}
 use Rattle.ca_tree.specs.declared.tree.AssignOp.TheVariants.{Put, Add, Sub, Mul}
 use Rattle.ca_tree.specs.declared.tree.AssignOp.TheVariants as change
@@ -15,7 +16,6 @@ use Rattle.ca_program.proofs.Fields.{same_fields, same_itself}
 use Rattle.ca_parallel.specs.Extents.{operation_body}
 use Rattle.ca_section.specs.Offences.{is_written}
 use Rattle.ca_section.proofs.Fields.{written_decided}
-use Rattle.ca_order_laws.proofs.Grown.{none_of, single_is}
 use Rattle.ca_sum_laws.specs.Summed.{IsSum, Untouched, AllUntouched, SumsWith, Adds, OnlySums, AllOnlySums, HasOnlySums}
 use Rattle.ca_replica.specs.Unsummed.{touches, touches_any, is_no_sum, puts_else, assigns_else, does_else, any_does_else, some_does_else}
 
@@ -153,10 +153,10 @@ mutual
   all_only_sums w (statement_and s ss) = both (does_else w s) (any_does_else w ss) (only_sums w s) (all_only_sums w ss)
 
 each : (p : PlainProgram) (w : List FieldId) (ops : List OpId) → Clear (some_does_else p w ops) ((op : OpId) → Contains ops op → HasOnlySums p w op)
-each p w [] = none (λ op c. absurd (none_of op c))
+each p w [] = none (λ op c. absurd (has_nothing op c))
 each p w (o ∷ ops) =
     let z = both (any_does_else w (operation_body p o)) (some_does_else p w ops) (all_only_sums w (operation_body p o)) (each p w ops) in (
-      λ e. let r = z.0 e in λ op c. ⊎_elim (λ b. subst (λ k. HasOnlySums p w k) (single_is o op b) r.0) (λ b. r.1 op b) (Contains-append_cases (o ∷ []) ops op c),
+      λ e. let r = z.0 e in λ op c. ⊎_elim (λ b. subst (λ k. HasOnlySums p w k) (has_only o op b) r.0) (λ b. r.1 op b) (Contains-append_cases (o ∷ []) ops op c),
       λ h. z.1 (h o (Contains-append_left (o ∷ []) ops o (Contains-push [] o)), λ op c. h op (Contains-append_right (o ∷ []) ops op c)),
     )
 

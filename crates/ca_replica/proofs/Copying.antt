@@ -1,6 +1,7 @@
 -- A copy that is added to a replica.
-use Rattle.std.proofs.Common.{◌≡◌, ℕ, zero, suc, List, [], ◌∷◌, ◌++◌, length, Some, Result, Ok, Err, IfOk, refl, ap, ◌∙◌}
+use Rattle.std.proofs.Common.{◌≡◌, ℕ, zero, suc, List, [], ◌∷◌, ◌++◌, length, Some, Result, Ok, Err, IfOk, ap, ◌∙◌}
 use Rattle.std.specs.Prelude.{slice_get, OnErr}
+use Rattle.ca_lists.proofs.Places.{get_last}
 use Rattle.ca_program.specs.declared.program.FieldId.{FieldId}
 use Rattle.ca_model.specs.declared.value.Object.{Object}
 use Rattle.ca_beside.specs.declared.beside.Changed.{Changed}
@@ -8,12 +9,8 @@ use Rattle.ca_beside.specs.Beside.{present, IsAbsent, IsPlace}
 use Rattle.ca_beside.proofs.Present.{changed, present_copied}
 use Rattle.ca_replica.specs.Zeroed.{zeroed, zeroed_heap}
 
-last_item : (cs : List Changed) (c : Changed) → slice_get (cs ++ c ∷ []) (length cs) ≡ Some c
-last_item [] c = refl
-last_item (d ∷ cs) c = last_item cs c
-
 pub placed : {E : Type 0} (r : Result ℕ E) (cs new : List Changed) (n : ℕ) (o : Object) → IfOk r (λ i. i ≡ length cs) → IfOk r (λ _. new ≡ cs ++ changed n o ∷ []) → IfOk r (λ i. IsPlace new i n)
-placed (Ok i) cs new n o at is = record { object = o; there = ap (λ z. slice_get z i) is ∙ ap (λ k. slice_get (cs ++ changed n o ∷ []) k) at ∙ last_item cs (changed n o) }
+placed (Ok i) cs new n o at is = record { object = o; there = ap (λ z. slice_get z i) is ∙ ap (λ k. slice_get (cs ++ changed n o ∷ []) k) at ∙ get_last cs (changed n o) }
 placed (Err e) cs new n o at is = tt
 
 pub zeroed_at : (fs : List FieldId) (h : List Object) (n : ℕ) (o : Object) → slice_get h n ≡ Some o → slice_get (zeroed_heap fs h) n ≡ Some (zeroed fs o)

@@ -2,8 +2,11 @@
 use Rattle.std.proofs.Common.{◌≡◌, ◌≢◌, ◌<◌, ◌≤◌, ◌⊎◌, inl, inr, ⊎_elim, ℕ, zero, suc, ◌+◌, List, [], ◌∷◌, ◌++◌, length, drop, get_or, Option, Some, None, Result, Ok, Err, IfOk, refl, ap, sym, subst, ◌∙◌, arith, Bool, true, false, true≢false}
 use Rattle.std.specs.Prelude.{slice_get, slice_set, Contains, OnErr, is_some}
 use Rattle.std.proofs.lemmas.Bool.{cases_lt}
-use Rattle.std.proofs.lemmas.List.{get_or_default}
+use Rattle.std.proofs.lemmas.List.{get_or_default, drop_more, drop_all}
 use Rattle.std.proofs.lemmas.List.Elements.{Contains-append_cases}
+use Rattle.std.proofs.lemmas.Option.{slice_get_past}
+use Rattle.ca_lists.proofs.Members.{has_nothing, has_only}
+use Rattle.ca_lists.proofs.Places.{get_in_front, item_there}
 use Rattle.ca_program.specs.declared.program.ClassId.{ClassId}
 use Rattle.ca_program.specs.declared.program.FieldId.{FieldId}
 use Rattle.ca_program.specs.Plain.{PlainProgram}
@@ -24,13 +27,12 @@ use Rattle.ca_section.proofs.Fields.{written_decided}
 use Rattle.ca_order_laws.specs.Order.{StandsFor}
 use Rattle.ca_order_laws.proofs.Decided.{decide_nat}
 use Rattle.ca_order_laws.proofs.Frozen.{there_too}
-use Rattle.ca_order_laws.proofs.Grown.{none_of, single_is}
 use Rattle.ca_order_laws.proofs.Places.{get_else, one_some}
 use Rattle.ca_order_laws.proofs.Puts.{slot_else}
 use Rattle.ca_order_laws.proofs.Weights.{Decides, equal, other}
 use Rattle.ca_beside.specs.declared.beside.Changed.{Changed}
 use Rattle.ca_beside.specs.Beside.{present, AreDistinct, IsAbsent, IsPlace, with_value}
-use Rattle.ca_beside.proofs.Present.{changed, front, found_object, past_none, present_absent, present_at, present_length, present_set, set_at, set_past}
+use Rattle.ca_beside.proofs.Present.{changed, past_none, present_absent, present_at, present_length, present_set, set_at, set_past}
 use Rattle.ca_run.specs.declared.puts.Put.{Put}
 use Rattle.ca_run.specs.Puts.{put_back, restored}
 use Rattle.ca_run.proofs.Restoring.{put_back_there, put_back_nowhere, put_undone_by}
@@ -40,7 +42,6 @@ use Rattle.ca_replica.specs.Calls.{Marks}
 use Rattle.ca_replica.specs.InPlace.{mark_in, zero_value, KeepsConstants, HasCopy, AllHave, Keeps}
 use Rattle.ca_replica.proofs.Beginning.{free_absent}
 use Rattle.ca_replica.proofs.Copying.{zeroed_at}
-use Rattle.ca_replica.proofs.Steps.{drop_next, drop_end}
 use Rattle.ca_replica.proofs.Sums.{zero_absent, zero_one, zero_here, zero_else, chosen_here, chosen_else, zeroed_many}
 
 abbrev pub field_at : ClassId → ℕ → FieldId
@@ -107,7 +108,7 @@ zero_stays (f ∷ fs) o g is = from (zero_field f o g) (λ e. zero_stays fs (zer
 
 -- a number that is written is 0
 pub zero_there : (fs : List FieldId) (o : Object) (g : ℕ) → Contains fs (field_at o.class g) → slice_get (let z : Object = zeroed fs o in z.slots) g ≡ zero_one (slice_get o.slots g)
-zero_there [] o g k = absurd (none_of _ k)
+zero_there [] o g k = absurd (has_nothing _ k)
 zero_there (f ∷ fs) o g k = ⊎_elim here (λ c. zero_there fs (zeroed_field f o) g c ∙ from (zero_field f o g)) (Contains-append_cases (f ∷ []) fs (field_at o.class g) k)
   where
     next : Object
@@ -115,7 +116,7 @@ zero_there (f ∷ fs) o g k = ⊎_elim here (λ c. zero_there fs (zeroed_field f
 
     here : Contains (f ∷ []) (field_at o.class g) → slice_get (let z : Object = zeroed fs next in z.slots) g ≡ zero_one (slice_get o.slots g)
     here c =
-        let same : f ≡ field_at o.class g = single_is f (field_at o.class g) c in
+        let same : f ≡ field_at o.class g = has_only f (field_at o.class g) c in
         let class : f.class.0 ≡ o.class.0 = ap (λ (z : FieldId). z.class.0) same in
         let field : f.field ≡ g = ap (λ (z : FieldId). z.field) same in
         let is : slice_get next.slots g ≡ zero_one (slice_get o.slots g) =
@@ -152,23 +153,18 @@ sums_many written frozen cs = present_length (zeroed_heap written frozen) cs ∙
 -- an object that has a copy
 pub copy_there : (written : List FieldId) (frozen : List Object) (cs : List Changed) → AreDistinct cs → (i n : ℕ) (o : Object) → n < length frozen → slice_get cs i ≡ Some (changed n o) → slice_get (sums written frozen cs) n ≡ Some o
 copy_there written frozen cs d i n o lt e =
-    let first = found_object (zeroed_heap written frozen) n (let many : length (zeroed_heap written frozen) ≡ length frozen = zeroed_many written frozen in omega (arith, lt, many)) in
+    let first = item_there (zeroed_heap written frozen) n (let many : length (zeroed_heap written frozen) ≡ length frozen = zeroed_many written frozen in omega (arith, lt, many)) in
     present_at (zeroed_heap written frozen) cs d i (changed n o) e first.0 first.1
 
 -- and one that has none
 pub no_copy : (written : List FieldId) (frozen : List Object) (cs : List Changed) (n : ℕ) (o : Object) → IsAbsent cs n → slice_get frozen n ≡ Some o → slice_get (sums written frozen cs) n ≡ Some (zeroed written o)
 no_copy written frozen cs n o a there = present_absent (zeroed_heap written frozen) cs n a ∙ zeroed_at written frozen n o there
 
-past : {A : Type 0} (xs : List A) (n : ℕ) → length xs ≤ n → slice_get xs n ≡ None
-past [] n le = cc
-past (x ∷ xs) zero le = absurd (omega (arith, le))
-past (x ∷ xs) (suc n) le = past xs n (omega (arith, le))
-
 -- an object that isn't there has no value
 pub none_past : (written : List FieldId) (frozen : List Object) (cs : List Changed) (n : ℕ) (f : FieldId) → length frozen ≤ n → slot_of (sums written frozen cs) n f ≡ None
 none_past written frozen cs n f le =
     let many : length (sums written frozen cs) ≡ length frozen = sums_many written frozen cs in
-    ap (λ z. slice_get (slots_in z) f.field) (past (sums written frozen cs) n (omega (arith, le, many))) ∙ empty f.field
+    ap (λ z. slice_get (slots_in z) f.field) (slice_get_past (sums written frozen cs) n (omega (arith, le, many))) ∙ empty f.field
   where
     empty : (g : ℕ) → slice_get (slots_in None) g ≡ None
     empty g = cc
@@ -179,11 +175,11 @@ slot_same written frozen h many k n f free = ⊎_elim within behind (cases_lt n 
   where
     within : n < length frozen → slot_of frozen n f ≡ slot_of h n f
     within lt =
-        let o = found_object frozen n lt in
+        let o = item_there frozen n lt in
         ap (λ z. slice_get (slots_in z) f.field) o.1 ∙ sym (k n o.0 f.field o.1 (free o.0 o.1))
 
     behind : length frozen ≤ n → slot_of frozen n f ≡ slot_of h n f
-    behind le = ap (λ z. slice_get (slots_in z) f.field) (past frozen n le ∙ sym (past h n (omega (arith, le, many))))
+    behind le = ap (λ z. slice_get (slots_in z) f.field) (slice_get_past frozen n le ∙ sym (slice_get_past h n (omega (arith, le, many))))
 
 -- at first all is so
 pub constants_first : (p : PlainProgram) (x : Extent) (frozen h : List Object) → StandsFor p x frozen h → KeepsConstants x.written frozen h
@@ -231,7 +227,7 @@ present_stored h cs d i n o f j v e = present_set h cs d i (changed n o) (with_v
   where
     within : n < length h → slice_set (present h cs) n (with_value o f j v) ≡ stored (present h cs) n f j v
     within lt =
-        let first = found_object h n lt in
+        let first = item_there h n lt in
         stored_is (present h cs) n f j v o (present_at h cs d i (changed n o) e first.0 first.1)
 
     behind : length h ≤ n → slice_set (present h cs) n (with_value o f j v) ≡ stored (present h cs) n f j v
@@ -243,7 +239,7 @@ present_stored h cs d i n o f j v e = present_set h cs d i (changed n o) (with_v
 -- the old value undoes it
 pub put_kept : (h : List Object) (cs new : List Changed) → AreDistinct cs → (i n : ℕ) (o : Object) (f j : ℕ) (v w : Datum) (olds all : List Put) → n < length h → slice_get cs i ≡ Some (changed n o) → new ≡ slice_set cs i (changed n (with_value o f j v)) → HasItem (slice_get o.slots f) j → w ≡ item_in (slice_get o.slots f) j → all ≡ record { object = n; field = f; item = j; value = w } ∷ olds → restored all (present h new) ≡ restored olds (present h cs)
 put_kept h cs new d i n o f j v w olds all lt e is has was kept =
-    let first = found_object h n lt in
+    let first = item_there h n lt in
     let there : slice_get (present h cs) n ≡ Some o = present_at h cs d i (changed n o) e first.0 first.1 in
     let slot : HasSlot (slice_get (present h cs) n) f j = subst (λ z. HasSlot z f j) (sym there) has in
     ap (λ os. restored os (present h new)) kept
@@ -256,7 +252,7 @@ back_there h cs new d i o old e is has = ap (present h) is ∙ (present_stored h
   where
     within : old.object < length h → stored (present h cs) old.object old.field old.item old.value ≡ put_back old (present h cs)
     within lt =
-        let first = found_object h old.object lt in
+        let first = item_there h old.object lt in
         let there : slice_get (present h cs) old.object ≡ Some o = present_at h cs d i (changed old.object o) e first.0 first.1 in
         sym (put_back_there (present h cs) old.object old.field old.item old.value (subst (λ z. HasSlot z old.field old.item) (sym there) has))
 
@@ -264,7 +260,7 @@ back_there h cs new d i o old e is has = ap (present h) is ∙ (present_stored h
     behind le =
         let many : length (present h cs) ≡ length h = present_length h cs in
         let far : length (present h cs) ≤ old.object = omega (arith, le, many) in
-        stored_past (present h cs) old.object old.field old.item old.value far ∙ put_back_nowhere (present h cs) old (λ s. subst (λ z. HasSlot z old.field old.item) (past (present h cs) old.object far) s)
+        stored_past (present h cs) old.object old.field old.item old.value far ∙ put_back_nowhere (present h cs) old (λ s. subst (λ z. HasSlot z old.field old.item) (slice_get_past (present h cs) old.object far) s)
 
 -- where the copy has no such item, none goes back
 pub back_nowhere : (h : List Object) (cs : List Changed) → AreDistinct cs → (i : ℕ) (o : Object) (old : Put) → slice_get cs i ≡ Some (changed old.object o) → ¬ HasItem (slice_get o.slots old.field) old.item → present h cs ≡ put_back old (present h cs)
@@ -272,13 +268,13 @@ back_nowhere h cs d i o old e hasnt = put_back_nowhere (present h cs) old (λ s.
   where
     within : HasSlot (slice_get (present h cs) old.object) old.field old.item → old.object < length h → ⊥
     within s lt =
-        let first = found_object h old.object lt in
+        let first = item_there h old.object lt in
         hasnt (subst (λ z. HasSlot z old.field old.item) (present_at h cs d i (changed old.object o) e first.0 first.1) s)
 
     behind : HasSlot (slice_get (present h cs) old.object) old.field old.item → length h ≤ old.object → ⊥
     behind s le =
         let many : length (present h cs) ≡ length h = present_length h cs in
-        subst (λ z. HasSlot z old.field old.item) (past (present h cs) old.object (omega (arith, le, many))) s
+        subst (λ z. HasSlot z old.field old.item) (slice_get_past (present h cs) old.object (omega (arith, le, many))) s
 
 -- ---- copies stay
 
@@ -302,7 +298,7 @@ has_after_put cs i n o q e m has = from (decide_nat i has.0)
         (i, record { object = q; there = set_at cs i (changed n q) (within cs i (changed n o) e) ∙ ap (λ k. Some (changed k q)) number })
 
 pub has_after_add : (cs : List Changed) (c : Changed) (m : ℕ) → HasCopy cs m → HasCopy (cs ++ c ∷ []) m
-has_after_add cs c m has = let at : IsPlace cs has.0 m = has.1 in (has.0, record { object = at.object; there = front cs (c ∷ []) has.0 (changed m at.object) at.there })
+has_after_add cs c m has = let at : IsPlace cs has.0 m = has.1 in (has.0, record { object = at.object; there = get_in_front cs (c ∷ []) has.0 (changed m at.object) at.there })
 
 pub all_have_on : (cs ds : List Changed) → ((m : ℕ) → HasCopy cs m → HasCopy ds m) → (os : List Put) → AllHave os cs → AllHave os ds
 all_have_on cs ds f [] a = tt
@@ -383,8 +379,8 @@ marked_more fs i d old new lt is kept only marked m = record { all = λ f k. fro
     from : (f : FieldId) → ((c : ClassId) × (slice_get old f.field ≡ Some (Some c))) ⊎ Contains (drop i fs) f → ((c : ClassId) × (slice_get new f.field ≡ Some (Some c))) ⊎ Contains (drop (i + 1) fs) f
     from f (inl e) = inl (e.0, kept f.field e.0 e.1)
     from f (inr k) = ⊎_elim
-        (λ b. inl (subst (λ (z : FieldId). (c : ClassId) × (slice_get new z.field ≡ Some (Some c))) (is ∙ single_is (get_or fs i d) f b) marked))
-        (λ b. inr b) (Contains-append_cases (get_or fs i d ∷ []) (drop (i + 1) fs) f (subst (λ z. Contains z f) (drop_next fs i d lt) k))
+        (λ b. inl (subst (λ (z : FieldId). (c : ClassId) × (slice_get new z.field ≡ Some (Some c))) (is ∙ has_only (get_or fs i d) f b) marked))
+        (λ b. inr b) (Contains-append_cases (get_or fs i d ∷ []) (drop (i + 1) fs) f (subst (λ z. Contains z f) (drop_more fs i d lt) k))
 
     here : Contains fs d
     here = (i, lt, sym is)
@@ -401,4 +397,4 @@ marked_more_at fs i d old new lt = marked_more fs i (get_or fs i d) old new lt (
 
 -- none is to come any more
 pub all_marked : (fs : List FieldId) (i : ℕ) (marks : List (Option ClassId)) → length fs ≤ i → MarkedSoFar fs i marks → Marks fs marks
-all_marked fs i marks le m = record { all = λ f k. ⊎_elim (λ e. e) (λ b. absurd (none_of f (subst (λ z. Contains z f) (drop_end fs i le) b))) (m.all f k); only = m.only }
+all_marked fs i marks le m = record { all = λ f k. ⊎_elim (λ e. e) (λ b. absurd (has_nothing f (subst (λ z. Contains z f) (drop_all i fs le) b))) (m.all f k); only = m.only }

@@ -1,8 +1,9 @@
 -- Adding sums is merging.
-use Rattle.std.proofs.Common.{◌≡◌, ◌≢◌, ◌⊎◌, inl, inr, ℕ, zero, suc, List, [], ◌∷◌, length, Option, Some, None, refl, ap, sym, subst, ◌∙◌, arith, ℤ, pos, ◌+ℤ◌, ◌-ℤ◌, Bool, true, false, cond, nat_eq, eq-eqb, ne_eqb}
+use Rattle.std.proofs.Common.{◌≡◌, ◌≢◌, ◌⊎◌, inl, inr, ℕ, zero, suc, List, [], ◌∷◌, length, Option, Some, None, refl, ap, sym, subst, ◌∙◌, arith, ℤ, pos, ◌+ℤ◌, ◌-ℤ◌, Bool, true, false, cond, nat_eq, eq-eqb, ne_eqb, length-set, set-set}
 use Rattle.std.specs.Prelude.{slice_get, slice_set}
 use Rattle.std.specs.Int.{int_wrap, w64}
 use Rattle.std.proofs.lemmas.Int.{int_wrap-add_left, ints}
+use Rattle.ca_lists.proofs.Places.{get_set_here, same_by_places}
 use Rattle.ca_program.specs.declared.program.ClassId.{ClassId}
 use Rattle.ca_program.specs.declared.program.FieldId.{FieldId}
 use Rattle.ca_model.specs.declared.value.Value.TheVariants.{Long, Bool as Truth, Null, Ref}
@@ -14,7 +15,7 @@ use Rattle.ca_meaning.specs.Expressions.{slots_in}
 use Rattle.ca_order_laws.proofs.Decided.{decide_nat}
 use Rattle.ca_order_laws.proofs.Weights.{Decides, equal, other}
 use Rattle.ca_order_laws.proofs.Puts.{slot_else}
-use Rattle.ca_order_laws.proofs.Places.{get_set, get_else, set_again, set_length, one_some}
+use Rattle.ca_order_laws.proofs.Places.{get_else, one_some}
 use Rattle.ca_order_laws.proofs.Frozen.{there_too}
 use Rattle.ca_beside.specs.declared.beside.Changed.{Changed}
 use Rattle.ca_beside.specs.Beside.{present, AreDistinct, IsAbsent}
@@ -23,7 +24,7 @@ use Rattle.ca_order_laws.proofs.CallThenList.{set_same}
 use Rattle.ca_sum_laws.specs.Moves.{plus, Still}
 use Rattle.ca_sum_laws.specs.Replicas.{merged_slot, merged_object, merged}
 use Rattle.ca_sum_laws.proofs.Slots.{slot_here}
-use Rattle.ca_sum_laws.proofs.Heaps.{same_lists, merged_slot_at, merged_slot_option}
+use Rattle.ca_sum_laws.proofs.Heaps.{merged_slot_at, merged_slot_option}
 use Rattle.ca_sum_laws.proofs.Merging.{one_by_one}
 use Rattle.ca_replica.specs.Zeroed.{number_at, zeroed_number, zeroed_slot, zeroed_field, zeroed, zeroed_heap}
 use Rattle.ca_replica.specs.Adding.{sum_numbers, sum_at, sums_in, added_numbers, added_number, added_field, added_object, added, Absent, Once, IsCopy, AddingIsMerging}
@@ -177,7 +178,7 @@ object_of c ss = record { class = c; slots = ss }
 pub added_set : (fs : List FieldId) (n : ℕ) (b : Object) (h : List Object) (o : Object) → slice_get h n ≡ Some o → added_object fs n b h ≡ slice_set h n (object_of o.class (sums_in fs b.class b.slots o.slots))
 added_set [] n b h o e = sym (set_same h n o e)
 added_set (f ∷ fs) n b h o e =
-    ap (added_object fs n b) one ∙ added_set fs n b (slice_set h n next) next (get_set h n o next e) ∙ set_again h n next _
+    ap (added_object fs n b) one ∙ added_set fs n b (slice_set h n next) next (get_set_here h n o next e) ∙ set-set h n next _
   where
     next : Object
     next = object_of o.class (cond (nat_eq f.class.0 b.class.0) (sum_at f.field b.slots o.slots) o.slots)
@@ -269,7 +270,7 @@ same_merged (Some (Many n)) (Some q) t = refl
 
 object_summed : (fs : List FieldId) → Once fs → (first copy : Object) (i : IsCopy fs first copy) (o : Object) → Still o →
     object_of o.class (sums_in fs copy.class copy.slots o.slots) ≡ merged_object o (zeroed fs first) copy
-object_summed fs once first copy i o still = ap (object_of o.class) (same_lists _ _ (λ g. from g (look fs once first.class g) ∙ sym (merged_slot_at o.slots (slots_of (zeroed fs first)) copy.slots g)))
+object_summed fs once first copy i o still = ap (object_of o.class) (same_by_places _ _ (λ g. from g (look fs once first.class g) ∙ sym (merged_slot_at o.slots (slots_of (zeroed fs first)) copy.slots g)))
   where
     from : (g : ℕ) → Hit first.class g fs ⊎ Absent fs first.class g → slice_get (sums_in fs copy.class copy.slots o.slots) g ≡ merged_slot_option (slice_get o.slots g) (slice_get (slots_of (zeroed fs first)) g) (slice_get copy.slots g)
     from g (inl h) =
@@ -338,7 +339,7 @@ module _ (fs : List FieldId) (once : Once fs) (frozen : List Object) where
       nothing_merged [] qs t = refl
       nothing_merged (o ∷ os) [] t = refl
       nothing_merged (o ∷ os) (q ∷ qs) t =
-          let one : o ≡ merged_object o q q = ap (object_of o.class) (same_lists _ _ (λ g. same_merged (slice_get o.slots g) (slice_get q.slots g) (t 0 o refl g) ∙ sym (merged_slot_at o.slots q.slots q.slots g))) in
+          let one : o ≡ merged_object o q q = ap (object_of o.class) (same_by_places _ _ (λ g. same_merged (slice_get o.slots g) (slice_get q.slots g) (t 0 o refl g) ∙ sym (merged_slot_at o.slots q.slots q.slots g))) in
           let more : os ≡ merged os qs qs = nothing_merged os qs (λ n. t (suc n)) in
           ap (λ z. z ∷ os) one ∙ ap (λ l. merged_object o q q ∷ l) more
   merges (c ∷ cs) now d many still copy = case (slice_get frozen c.number) refl (λ g m t. merges cs g tail m t more)
@@ -356,7 +357,7 @@ module _ (fs : List FieldId) (once : Once fs) (frozen : List Object) where
       still_next k o now r there t u n q e = from (decide_nat k n)
         where
           from : Decides k n → Still q
-          from (equal s) = subst (λ (z : Object). Still z) (one_some (slice_get (slice_set now k r) n) r q (subst (λ z. slice_get (slice_set now k r) z ≡ Some r) s (get_set now k o r there)) e) u
+          from (equal s) = subst (λ (z : Object). Still z) (one_some (slice_get (slice_set now k r) n) r q (subst (λ z. slice_get (slice_set now k r) z ≡ Some r) s (get_set_here now k o r there)) e) u
           from (other ne) = t n q (sym (get_else now k n r ne) ∙ e)
 
       case : (z : Option Object) → slice_get frozen c.number ≡ z → ((g : List Object) → length g ≡ length frozen → ((n : ℕ) (o : Object) → slice_get g n ≡ Some o → Still o) → added fs cs g ≡ merged g base (present base cs)) → added fs (c ∷ cs) now ≡ merged now base (present base (c ∷ cs))
@@ -374,7 +375,7 @@ module _ (fs : List FieldId) (once : Once fs) (frozen : List Object) where
           let t : Still o.0 = still c.number o.0 o.1 in
           let one : added_object fs c.number c.object now ≡ next = added_set fs c.number c.object now o.0 o.1 ∙ ap (slice_set now c.number) (object_summed fs once q c.object i o.0 t) in
           let split = one_by_one now base (present base cs) c.number o.0 a c.object t o.1 base_there (present_absent base cs c.number away ∙ base_there) in
-          let rest = again next (set_length now c.number (merged_object o.0 a c.object) ∙ many) (λ n q e. still_next c.number o.0 now (merged_object o.0 a c.object) o.1 still (object_still o.0 a c.object t) n q e) in
+          let rest = again next (length-set now c.number (merged_object o.0 a c.object) ∙ many) (λ n q e. still_next c.number o.0 now (merged_object o.0 a c.object) o.1 still (object_still o.0 a c.object t) n q e) in
           ap (added fs cs) one ∙ rest ∙ sym split ∙ ap (merged now base) (sym (present_set_first base cs c.number c.object away))
 
 pub adding_merges : AddingIsMerging

@@ -4,6 +4,7 @@ use Rattle.std.specs.Prelude.{slice_get, slice_set}
 use Rattle.std.specs.Int.{int_wrap, w64}
 use Rattle.std.proofs.lemmas.Int.{ints}
 use Rattle.std.proofs.lemmas.List.{reverse-append}
+use Rattle.ca_lists.proofs.Places.{same_by_places}
 use Rattle.ca_program.specs.declared.program.FieldId.{FieldId}
 use Rattle.ca_model.specs.declared.value.Value.TheVariants.{Long, Bool as Truth, Null, Ref}
 use Rattle.ca_model.specs.declared.value.Slot.{Slot}
@@ -13,7 +14,7 @@ use Rattle.ca_beside.specs.declared.beside.Changed.{Changed}
 use Rattle.ca_beside.specs.Beside.{present, IsAbsent}
 use Rattle.ca_beside.proofs.Present.{changed, present_more, present_absent}
 use Rattle.ca_sum_laws.specs.Moves.{plus}
-use Rattle.ca_sum_laws.proofs.Heaps.{same_lists, moved_object, moved_slot_at}
+use Rattle.ca_sum_laws.proofs.Heaps.{moved_object, moved_slot_at}
 use Rattle.ca_replica.specs.Zeroed.{zeroed}
 use Rattle.ca_replica.specs.Adding.{sums_in, added_object, added, Absent, Once, IsCopy, AreAlike, IsWhole, IsWholeOf, AreWhole}
 use Rattle.ca_replica.proofs.Sums.{Hit, look, sum_one, zero_one, numbered, sums_absent, sums_hit, zero_hit, slots_of, object_of, added_set}
@@ -33,7 +34,7 @@ sum_turned s t (inr k) = numbers_turned s t k.0 k.1 (numbered s k.0 k.2) (number
 
 -- the object's numbers, added to a whole copy, make what the copy's, added to the object, make
 turned_sums : (fs : List FieldId) → Once fs → (first copy : Object) → IsWhole fs first copy → sums_in fs first.class first.slots copy.slots ≡ sums_in fs copy.class copy.slots first.slots
-turned_sums fs once first copy i = same_lists _ _ (λ g. from g (look fs once first.class g))
+turned_sums fs once first copy i = same_by_places _ _ (λ g. from g (look fs once first.class g))
   where
     from : (g : ℕ) → Hit first.class g fs ⊎ Absent fs first.class g → slice_get (sums_in fs first.class first.slots copy.slots) g ≡ slice_get (sums_in fs copy.class copy.slots first.slots) g
     from g (inl h) =

@@ -2,6 +2,7 @@
 use Rattle.std.proofs.Common.{◌≡◌, ℕ, suc, List, [], ◌∷◌, ◌++◌, map, length, Option, Some, None, refl, ap, sym, subst, ◌∙◌, ℤ, pos, ⊎_elim}
 use Rattle.std.specs.Prelude.{slice_get, Contains, All}
 use Rattle.std.proofs.lemmas.List.Elements.{All-cons, All-nil, Contains-append_cases}
+use Rattle.ca_lists.proofs.Members.{has_nothing, has_only}
 use Rattle.ca_program.specs.declared.program.ClassId.{ClassId}
 use Rattle.ca_program.specs.declared.program.FieldId.{FieldId}
 use Rattle.ca_program.specs.Plain.{PlainProgram}
@@ -10,7 +11,6 @@ use Rattle.ca_meaning.specs.WellTyped.{IsTypedObject}
 use Rattle.ca_parallel.specs.Extents.{Extent}
 use Rattle.ca_order_laws.specs.Pending.{PendingRun}
 use Rattle.ca_order_laws.specs.Order.{StandsFor}
-use Rattle.ca_order_laws.proofs.Grown.{none_of, single_is}
 use Rattle.ca_order_laws.proofs.Places.{one_some}
 use Rattle.ca_order_laws.proofs.Setting.{GoodObject}
 use Rattle.ca_logs.specs.declared.log.Task.{Task}
@@ -37,9 +37,9 @@ use Rattle.ca_replica.proofs.Sums.{numbered, adding_merges}
 use Rattle.ca_replica.proofs.Taking.{moved_whole, each_whole}
 
 absent_free : (fs : List FieldId) (c : ClassId) (g : ℕ) → Absent fs c g → ¬ Contains fs (record { class = c; field = g })
-absent_free [] c g a k = none_of _ k
+absent_free [] c g a k = has_nothing _ k
 absent_free (f ∷ fs) c g a k = ⊎_elim
-    (λ b. let e = single_is f (record { class = c; field = g }) b in a.0 (ap (λ (z : FieldId). z.class.0) e, ap (λ (z : FieldId). z.field) e))
+    (λ b. let e = has_only f (record { class = c; field = g }) b in a.0 (ap (λ (z : FieldId). z.class.0) e, ap (λ (z : FieldId). z.field) e))
     (λ b. absent_free fs c g a.1 b) (Contains-append_cases (f ∷ []) fs _ k)
 
 moved_many : (d : ℕ → ℕ → ℤ) (h : List Object) → length (moved_heap d h) ≡ length h

@@ -12,17 +12,16 @@ ghost use Rattle.ca_replica.specs.Applied.{sums};
 ghost use Rattle.ca_replica.specs.InPlace.{AllHave, Keeps};
 
 use crate::marks::stays;
-use crate::values::{own_look, own_value, put_sum};
+use crate::values::{add_sum, own_look, own_value, put_sum};
 use ca_base::{Gate, Memory};
 use ca_beside::Beside;
-use ca_code::Kind;
 use ca_extent::Extent;
 use ca_model::{Heap, Value};
 use ca_parallel::Op;
-use ca_program::{ClassId, FieldId, OpId, Program};
+use ca_program::{ClassId, FieldId, Program};
 use ca_run::Puts;
 use ca_sections::Coded;
-use ca_steps::{Access, Frames, Halt, Look, number_of, receiver_of, run_from, sum_of};
+use ca_steps::{Access, Frames, Halt, Look, number_of, receiver_of, run_from};
 use std::alloc::Global;
 
 /// The world of a run on copies: its heap is that of the sums. What the extent doesn't write is read in the frozen heap, where it is
@@ -66,18 +65,6 @@ impl<'s, G: Gate> Access for InReplica<'s, G> {
     #[inline(always)]
     fn enters(&self) -> bool {
         true
-    }
-
-    #[inline(always)]
-    fn list(
-        &mut self,
-        _op: OpId,
-        _receiver: u32,
-        _kinds: &[Kind],
-        _slots: &[i64],
-        _first: usize,
-    ) -> bool {
-        false
     }
 
     #[inline(always)]
@@ -152,23 +139,16 @@ impl<'s, G: Gate> Access for InReplica<'s, G> {
         let Value::Ref(o) = receiver_of(this) else {
             return None;
         };
-        let own = own_value(self.marks, self.extent, self.copies, self.frozen, o, f);
-        let Value::Long(a) = own else {
-            return None;
-        };
-        let sum = sum_of(a, n);
-        let is_put = put_sum(
+        add_sum(
             self.marks,
             self.copies,
             self.olds,
             self.extent,
             self.frozen,
             o,
-            f.field,
-            0,
-            Value::Long(sum),
-        );
-        if is_put { Some(sum) } else { None }
+            f,
+            n,
+        )
     }
 }
 

@@ -5,7 +5,7 @@ ghost use Rattle.ca_program.specs.View.{program_view};
 ghost use Rattle.ca_meaning.specs.WellTyped.{WellTyped};
 ghost use Rattle.ca_parallel.specs.Calls.{invocation_of};
 ghost use Rattle.ca_order_laws.specs.Order.{StandsFor};
-ghost use Rattle.ca_beside.specs.Beside.{present, AreDistinct, IsPlace, Sectioned};
+ghost use Rattle.ca_beside.specs.Beside.{present, AreDistinct, IsAbsent, IsPlace, Sectioned};
 ghost use Rattle.ca_replica.specs.Adding.{added, Once, AreWhole};
 ghost use Rattle.ca_replica.specs.Applied.{Applied, IsRound, sums};
 ghost use Rattle.ca_replica.specs.Calls.{Completed, Marks};
@@ -50,7 +50,27 @@ impl Bench {
     }
 }
 
+/// Copies an object that has no copy, with 0 in each number that the extent writes, and tells the copy's place.
+#[inline(never)]
+fn new_place(
+    copies: &mut Beside,
+    extent: &Extent,
+    frozen: &Heap,
+    number: u32,
+) -> Result<usize, AllocError>
+    requires inside { number < length frozen.now }
+    requires none { IsAbsent copies.old number }
+    ensures place { IfOk result (λ place. IsPlace copies.new place number) }
+    ensures same { present (zeroed_heap extent.now.written frozen.now) copies.new ≡ present (zeroed_heap extent.now.written frozen.now) copies.old }
+    ensures has { (n : ℕ) → HasCopy copies.old n → HasCopy copies.new n }
+{
+    let mut object = copies.copied(frozen.get(number))?;
+    zero(&mut object, extent.written());
+    copies.add(number, object)
+}
+
 /// The place of an object's copy. One that has none is copied, with 0 in each number that the extent writes.
+#[inline(always)]
 pub(crate) fn place_of(
     copies: &mut Beside,
     extent: &Extent,
@@ -64,11 +84,7 @@ pub(crate) fn place_of(
 {
     match copies.find(number) {
         Some(place) => Ok(place),
-        None => {
-            let mut object = copies.copied(frozen.get(number))?;
-            zero(&mut object, extent.written());
-            copies.add(number, object)
-        }
+        None => new_place(copies, extent, frozen, number),
     }
 }
 

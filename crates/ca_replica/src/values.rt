@@ -1,27 +1,28 @@
 //! The numbers of objects as the sums have them, read, put and put back.
 
-ghost use Rattle.std.specs.Prelude.{◌≡◌, ◌<◌, ◌∷◌, ℕ, List, Some, length, slice_get, true, false};
+ghost use Rattle.std.specs.Prelude.{◌≡◌, ◌<◌, ◌∷◌, ℕ, List, Some, IfSome, length, slice_get, true, false};
 ghost use Rattle.ca_model.specs.declared.value.Object.{Object};
+ghost use Rattle.ca_model.specs.declared.value.Value.TheVariants.{Long};
 ghost use Rattle.ca_model.specs.Heaps.{stored};
 ghost use Rattle.ca_meaning.specs.Expressions.{one_in, slot_of, slots_in};
 ghost use Rattle.ca_beside.specs.declared.beside.Changed.{Changed};
 ghost use Rattle.ca_beside.specs.Beside.{present, IsPlace};
 ghost use Rattle.ca_run.specs.Puts.{put_back, restored};
 ghost use Rattle.ca_run.specs.declared.puts.Put.{Put};
-ghost use Rattle.ca_steps.specs.clauses.Telling.{Looks};
+ghost use Rattle.ca_steps.specs.Telling.{Adds, Looks};
 ghost use Rattle.ca_replica.specs.Applied.{sums};
 ghost use Rattle.ca_replica.specs.InPlace.{AllHave, HasCopy, Keeps, zero_value};
 ghost use Rattle.ca_replica.specs.Zeroed.{zeroed};
 
 use crate::deciding::is_written;
-use crate::marks::{is_marked, is_put, stays};
+use crate::marks::{is_put, stays};
 use crate::replica::place_of;
 use ca_beside::Beside;
 use ca_extent::Extent;
 use ca_model::{Heap, Object, Slot, Slots, Value};
 use ca_program::{ClassId, FieldId};
 use ca_run::{Put, Puts, value_of};
-use ca_steps::{Look, field_of, look_at};
+use ca_steps::{Look, field_of, look_at, sum_of};
 
 /// The single value of a field, and null where there is none.
 #[inline(always)]
@@ -87,10 +88,10 @@ pub(crate) fn own_value(
 ) -> Value
     ensures { (olds : List Put) → Keeps extent.now.written frozen.now marks.now copies.now olds → result ≡ one_in (slot_of (sums extent.now.written frozen.now copies.now) n f) }
 {
-    if is_marked(marks, f.field) {
-        return value_in(copies, extent.written(), frozen, n, f);
+    if stays(marks, extent, frozen, n as usize, f.field) {
+        return field_of(frozen, n, f);
     }
-    field_of(frozen, n, f)
+    value_in(copies, extent.written(), frozen, n, f)
 }
 
 /// What an index finds in a field of object n, if the extent surely doesn't write it.
@@ -188,6 +189,47 @@ pub(crate) fn put_sum(
         return false;
     };
     put_at(copies, olds, place, n, field, item, value)
+}
+
+/// Adds a number to that of a field of object n that is written, in its copy, which is made where there is none, tells the sum, and
+/// keeps the old number. Whatever comes of it, putting back gives what it gave before.
+#[inline(never)]
+pub(crate) fn add_sum(
+    marks: &[Option<ClassId>],
+    copies: &mut Beside,
+    olds: &mut Puts,
+    extent: &Extent,
+    frozen: &Heap,
+    n: u32,
+    f: FieldId,
+    more: i64,
+) -> Option<i64>
+    ensures adds { IfSome result (λ m. Adds (one_in (slot_of (sums extent.now.written frozen.now copies.old) n f)) more m) }
+    ensures put { IfSome result (λ m. sums extent.now.written frozen.now copies.new ≡ stored (sums extent.now.written frozen.now copies.old) n f.field 0 (Long m)) }
+    ensures before { restored olds.new (sums extent.now.written frozen.now copies.new) ≡ restored olds.old (sums extent.now.written frozen.now copies.old) }
+    ensures keeps { Keeps extent.now.written frozen.now marks.now copies.old olds.old → Keeps extent.now.written frozen.now marks.now copies.new olds.new }
+{
+    if n >= frozen.len() {
+        return None;
+    }
+    if !is_put(marks, extent, frozen, n, f.field) {
+        return None;
+    }
+    let Ok(place) = place_of(copies, extent, frozen, n) else {
+        return None;
+    };
+    copies.know_apart();
+    let object = copies.object_at(place);
+    let own = one_of(&object.slots, f.field);
+    let Value::Long(a) = own else {
+        return None;
+    };
+    let sum = sum_of(a, more);
+    if put_at(copies, olds, place, n, f.field, 0, Value::Long(sum)) {
+        Some(sum)
+    } else {
+        None
+    }
 }
 
 /// Puts an old value back into the copy at a place, where it has such an item.

@@ -9,4 +9,5 @@ pub mod Innermost
 pub mod CallNodes
 pub mod Shapes
 pub mod Arguments
+pub mod Holding
 mod Examples

@@ -1,7 +1,8 @@
 -- The walks that make the tables of classes and members.
 use Rattle.std.proofs.Common.{◌≡◌, ℕ, ◌+◌, ◌<◌, ◌≤◌, List, [], ◌∷◌, ◌++◌, map, length, take, drop, get_or, refl, sym, ◌∙◌, ap, arith, Bor}
-use Rattle.std.proofs.lemmas.List.{append_assoc, append-nil, drop_all, drop_more, take_all, take_more, map-append, length-append}
+use Rattle.std.proofs.lemmas.List.{append_assoc, append-nil, drop_all, take_all, take_more, map-append, length-append}
 use Rattle.std.specs.List.{zip}
+use Rattle.ca_lists.proofs.Places.{item_and_rest}
 use Rattle.ca_tree.specs.declared.tree.Member.{Member}
 use Rattle.ca_tree.specs.declared.tree.ClassNode.{ClassNode}
 use Rattle.ca_tree.specs.View.{member_view, class_view}
@@ -10,10 +11,6 @@ use Rattle.ca_resolve.specs.declared.classes.MemberTable.{MemberTable}
 use Rattle.ca_resolve.specs.Scopes.{Numbers, meaning_of, meanings, member_name, after_member, after_members, after_class, members_from}
 use Rattle.ca_resolve.specs.View.{meaning_view, members_view}
 use Rattle.ca_resolve.proofs.Index.{names_of}
-
--- what is left of a list begins with the item that was read
-pub next_read : {X : Type 0} (xs : List X) (i : ℕ) (x : X) → i < length xs → x ≡ get_or xs i x → drop i xs ≡ x ∷ drop (i + 1) xs
-next_read xs i x h e = drop_more xs i x h ∙ ap (λ y. y ∷ drop (i + 1) xs) (sym e)
 
 zip_more : {X : Type 0} (ns : List (List ℕ)) (xs : List X) (n : List ℕ) (x : X) → length ns ≡ length xs → zip (ns ++ n ∷ []) (xs ++ x ∷ []) ≡ zip ns xs ++ (n, x) ∷ []
 zip_more [] [] n x h = refl
@@ -53,7 +50,7 @@ pub table_step : (classes : List (List ℕ)) (class : ℕ) (first : Numbers) (me
     → i < length members → x ≡ get_or members i x → name.now ≡ member_name (member_view x) → meaning_view m ≡ meaning_of classes class next (member_view x) → after ≡ after_member next (member_view x)
     → more_names ≡ names ++ name ∷ [] → more ≡ found ++ m ∷ [] → Tabled classes class first members i names found next → Tabled classes class first members (i + 1) more_names more after
 table_step classes class first members i x names more_names found more name m next after h is called means follows p q (as_many, whole, numbers) =
-    let rest = next_read members i x h is in
+    let rest = item_and_rest members i x h is in
     let tail = meanings classes class (after_member next (member_view x)) (map member_view (drop (i + 1) members)) in
     let front = zip (names_of names) (map meaning_view found) in
     let all_names : names_of (names ++ name ∷ []) ≡ names_of names ++ name.now ∷ [] = map-append (λ n. n.now) names (name ∷ []) in
@@ -95,7 +92,7 @@ pub list_step : (names : List (List ℕ)) (first : Numbers) (classes : List Clas
 list_step names first classes i c members tables more t class following next after h is same table counted follows p whole =
     let tail = members_from names (class + 1) (after_class next (map member_view members)) (map class_view (drop (i + 1) classes)) in
     let one : members_from names class next (map class_view (drop i classes)) ≡ members_view t ∷ tail =
-    ap (λ cs. members_from names class next (map class_view cs)) (next_read classes i c h is)
+    ap (λ cs. members_from names class next (map class_view cs)) (item_and_rest classes i c h is)
     ∙ (ap (λ ms. meanings names class next (map member_view ms) ∷ members_from names (class + 1) (after_class next (map member_view ms)) (map class_view (drop (i + 1) classes))) (sym same) ∙ ap (λ v. v ∷ tail) (sym table)) in
     rw (p, counted, follows)
     (whole ∙ (ap (λ ts. map members_view tables ++ ts) one ∙ (sym (append_assoc (map members_view tables) (members_view t ∷ []) tail) ∙ ap (λ ts. ts ++ tail) (sym (map-append members_view tables (t ∷ []))))))

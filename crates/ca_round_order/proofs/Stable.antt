@@ -3,6 +3,7 @@ use Rattle.std.proofs.Common.{◌≡◌, ℕ, suc, ◌+◌, ◌<◌, Bool, true,
 use Rattle.std.specs.Cmp.{IsStrictWeakOrder}
 use Rattle.std.specs.List.Sorted.{IsSortedBy, ties}
 use Rattle.std.proofs.lemmas.List.Sorted.{sorted_far}
+use Rattle.ca_lists.proofs.Places.{heads, tails, no_item}
 use Rattle.ca_logs.proofs.Comparing.{by_bool}
 
 pub cond_true : {A : Type 0} (b : Bool) (x y : A) → b ≡ true → cond b x y ≡ x
@@ -10,15 +11,6 @@ cond_true b x y e = ap (λ c. cond c x y) e
 
 pub cond_false : {A : Type 0} (b : Bool) (x y : A) → b ≡ false → cond b x y ≡ y
 cond_false b x y e = ap (λ c. cond c x y) e
-
-heads : {A : Type 0} {x y : A} {xs ys : List A} → x ∷ xs ≡ y ∷ ys → x ≡ y
-heads e = cc
-
-tails : {A : Type 0} {x y : A} {xs ys : List A} → x ∷ xs ≡ y ∷ ys → xs ≡ ys
-tails e = cc
-
-no_item : {A : Type 0} {x : A} {xs : List A} → [] ≡ x ∷ xs → ⊥
-no_item e = cc
 
 both_not : (a b : Bool) → a ≡ false → b ≡ false → not a && not b ≡ true
 both_not false false p q = refl

@@ -1,6 +1,6 @@
 -- A call whose body ran in the heap, with none below it, is what it means.
-use Rattle.std.proofs.Common.{◌≡◌, ◌-◌, ℕ, suc, List, [], map, Some, None, ap, sym, ◌∙◌, subst}
-use Rattle.std.specs.Prelude.{pos, slice_get}
+use Rattle.std.proofs.Common.{◌≡◌, ◌-◌, ℕ, suc, List, [], map, Option, Some, None, Result, Ok, Err, refl, ap, sym, ◌∙◌, subst}
+use Rattle.std.specs.Prelude.{pos, slice_get, IfOk}
 use Rattle.ca_program.specs.declared.program.Program.{Program}
 use Rattle.ca_program.specs.Plain.{PlainProgram}
 use Rattle.ca_program.specs.Instructions.{Code}
@@ -28,9 +28,9 @@ use Rattle.ca_steps.specs.declared.running.Halt.{Halt}
 use Rattle.ca_steps.specs.declared.running.Halt.TheVariants as halt
 use Rattle.ca_steps.specs.declared.running.Laid.{Laid}
 use Rattle.ca_steps.specs.Stands.{back_seen, here_state, seen}
-use Rattle.ca_steps.specs.clauses.Here.{Halted}
+use Rattle.ca_steps.specs.Here.{Halted}
 use Rattle.ca_sections.specs.Fitting.{Entered, Starts}
-use Rattle.ca_run.specs.InPlace.{CallEnds}
+use Rattle.ca_run.specs.InPlace.{CallEnds, LeftBy}
 use Rattle.ca_run.proofs.InPlace.{call_done, call_undone}
 
 module _ (p : PlainProgram) (typed : ProgramTyped p) (on : Laid) (place number : ℕ) (h : List Object) (heap : TypedHeap p h) (op : Op) (well : WellTyped p h (invocation_of op)) (k : ℕ) (m0 : Frames) (starts : Starts p op.op on place) (entered : Entered p op m0) (named : pointer_of (pos number) ≡ Ref op.receiver) where
@@ -69,17 +69,29 @@ module _ (p : PlainProgram) (typed : ProgramTyped p) (on : Laid) (place number :
   halted : (y : Halt) → x ≡ y → Halted (run_access p) (code_seen on.code) from y t
   halted y e = subst (λ y. Halted (run_access p) (code_seen on.code) from y t) e (subst (λ p. Halted (run_access p) (code_seen on.code) from x t) same ran)
 
-  pub call_ended : (left : ℕ) → t.left ≡ left → x ≡ halt.Ends → CallEnds p h (invocation_of op) budget after (Some left)
+  call_ended : (left : ℕ) → t.left ≡ left → x ≡ halt.Ends → CallEnds p h (invocation_of op) budget after (Some left)
   call_ended left so e =
       subst (λ n. CallEnds p h (invocation_of op) n after (Some left)) (sym least)
       (subst (λ n. CallEnds p h (invocation_of op) (suc (budget - 1)) after (Some n)) so (ended p typed on place number h heap op well (budget - 1) m0 starts entered named t after is (halted halt.Ends e)))
 
-  pub call_trapped : (kind : TrapKind) → x ≡ halt.Traps kind → CallEnds p h (invocation_of op) budget after None
+  call_trapped : (kind : TrapKind) → x ≡ halt.Traps kind → CallEnds p h (invocation_of op) budget after None
   call_trapped kind e =
       subst (λ n. CallEnds p h (invocation_of op) n after None) (sym least)
       (undone p typed on place number h heap op well (budget - 1) m0 starts entered named (Trapped (trap_at (line_in (slice_get (code_seen on.code).lines t.at)) kind) t.world) after (λ w j e. cc) (halted (halt.Traps kind) e))
 
-  pub call_spent : x ≡ halt.Spends → CallEnds p h (invocation_of op) budget after None
+  call_spent : x ≡ halt.Spends → CallEnds p h (invocation_of op) budget after None
   call_spent e =
       subst (λ n. CallEnds p h (invocation_of op) n after None) (sym least)
       (undone p typed on place number h heap op well (budget - 1) m0 starts entered named (Spent t.world) after (λ w j e. cc) (halted halt.Spends e))
+
+  -- what is left by how it halts
+  pub call_told : {E : Type 0} (left : ℕ) → t.left ≡ left → (r : Result (Option ℕ) E) → IfOk r (λ still. LeftBy x left still) → IfOk r (λ still. CallEnds p h (invocation_of op) budget after still)
+  call_told left so (Err e) told = tt
+  call_told left so (Ok still) told = by x refl still told
+    where
+      by : (y : Halt) → x ≡ y → (still : Option ℕ) → LeftBy y left still → CallEnds p h (invocation_of op) budget after still
+      by halt.Ends e still is = subst (λ (o : Option ℕ). CallEnds p h (invocation_of op) budget after o) (sym is) (call_ended left so e)
+      by (halt.Traps kind) e still is = subst (λ (o : Option ℕ). CallEnds p h (invocation_of op) budget after o) (sym is) (call_trapped kind e)
+      by halt.Spends e still is = subst (λ (o : Option ℕ). CallEnds p h (invocation_of op) budget after o) (sym is) (call_spent e)
+      by halt.Leaves e still is = absurd is
+      by halt.Fails e still is = absurd is

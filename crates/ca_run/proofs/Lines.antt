@@ -8,7 +8,7 @@ use Rattle.ca_parallel.specs.declared.op.Op.{Op}
 use Rattle.ca_parallel.specs.Calls.{invocation_of, invocations_of}
 use Rattle.ca_order_laws.specs.Pending.{PendingRun, rests}
 use Rattle.ca_order_laws.proofs.PendingRuns.{rounds}
-use Rattle.ca_run.specs.Rounds.{RanThis, Sticking, StuckBehind}
+use Rattle.ca_run.specs.Turns.{RanThis, Sticking, StuckBehind}
 use Rattle.ca_run.proofs.Going.{ran_within, one_run}
 use Rattle.ca_run.proofs.Turning.{taken}
 use Rattle.ca_trace.specs.declared.line.Line.{Line}

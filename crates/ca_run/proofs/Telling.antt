@@ -17,7 +17,7 @@ use Rattle.ca_parallel.specs.Parallel.{ParallelFrom}
 use Rattle.ca_serial.specs.declared.extents.ExtentAnswer.TheVariants.{Done, Declined}
 use Rattle.ca_serial.specs.Extents.{IsNotDone}
 use Rattle.ca_beside.specs.Beside.{present, SameShapes}
-use Rattle.ca_run.specs.Rounds.{StuckBehind}
+use Rattle.ca_run.specs.Turns.{StuckBehind}
 use Rattle.ca_run.proofs.Answering.{same_shapes, stuck_not_done}
 use Rattle.ca_order_laws.proofs.Standing.{runs_stay}
 use Rattle.ca_trace.specs.declared.line.Line.{Line}

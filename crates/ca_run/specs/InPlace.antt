@@ -10,6 +10,8 @@ use Rattle.ca_meaning.specs.Expressions.{Invocation}
 use Rattle.ca_meaning.specs.Flows.{Flow, goes_on}
 use Rattle.ca_meaning.specs.Serial.{World, fresh, operations_of, run_call, serial_ops}
 use Rattle.ca_meaning.specs.WellTyped.{AllWellTyped}
+use Rattle.ca_steps.specs.declared.running.Halt.{Halt}
+use Rattle.ca_steps.specs.declared.running.Halt.TheVariants.{Ends, Traps, Spends, Leaves, Fails}
 
 -- the program, the heap as it was, and which heap and old values are borrowed
 pub record Lasting : Type 0 where
@@ -29,6 +31,14 @@ CallEnds p h i budget after left = EndsIn (run_call (operations_of p) [] i (fres
 
 abbrev pub CallsEnd : PlainProgram → List Object → List Invocation → ℕ → List Object → Option ℕ → Type 0
 CallsEnd p h is budget after left = EndsIn (serial_ops p is (fresh h) budget) after left
+
+-- What is left of so many steps by how a body halts, or that it isn't done. Of one that leaves or fails nothing is said.
+abbrev pub LeftBy : Halt → ℕ → Option ℕ → Type 0
+LeftBy Ends left still = still ≡ Some left
+LeftBy (Traps kind) left still = still ≡ None
+LeftBy Spends left still = still ≡ None
+LeftBy Leaves left still = ⊥
+LeftBy Fails left still = ⊥
 
 -- The first ones of some calls ran. The others, in the heap that is there and with the steps that are left, end as all of them do
 -- from where these began.

@@ -6,19 +6,19 @@ ghost use Rattle.ca_model.specs.Typed.{TypedHeap};
 ghost use Rattle.ca_meaning.specs.ProgramTyped.{ProgramTyped};
 ghost use Rattle.ca_meaning.specs.WellTyped.{AllWellTyped, WellTyped};
 ghost use Rattle.ca_parallel.specs.Calls.{invocation_of, invocations_of};
-ghost use Rattle.ca_run.specs.InPlace.{CallEnds, CallsEnd};
+ghost use Rattle.ca_run.specs.InPlace.{CallEnds, CallsEnd, LeftBy};
 ghost use Rattle.ca_run.specs.Puts.{before};
 
 use crate::passing::Passes;
 use crate::puts::Kept;
 use ca_base::Memory;
-use ca_code::Kind;
 use ca_model::{Heap, Value};
 use ca_parallel::Op;
-use ca_program::{FieldId, OpId, Program};
+use ca_program::{FieldId, Program};
 use ca_sections::Coded;
 use ca_steps::{
-    Access, Frames, Halt, Look, field_of, look_at, number_of, receiver_of, run_from, sum_of,
+    Access, Frames, Halt, Look, field_of, number_of, own_field, own_look, receiver_of, run_from,
+    sum_of,
 };
 use std::alloc::Global;
 
@@ -60,18 +60,6 @@ impl<'s, G: Passes> Access for InPlace<'s, G> {
     }
 
     #[inline(always)]
-    fn list(
-        &mut self,
-        _op: OpId,
-        _receiver: u32,
-        _kinds: &[Kind],
-        _slots: &[i64],
-        _first: usize,
-    ) -> bool {
-        false
-    }
-
-    #[inline(always)]
     fn reach(&self, receiver: i64, _start: u32) {
         if receiver > 0 && receiver <= u32::MAX as i64 {
             self.gate.pass((receiver - 1) as u32);
@@ -83,22 +71,12 @@ impl<'s, G: Passes> Access for InPlace<'s, G> {
 
     #[inline(always)]
     fn own(&self, this: Value, f: FieldId) -> Option<Value> {
-        match this {
-            Value::Ref(n) => Some(field_of(self.heap, n, f)),
-            Value::Null => Some(Value::Null),
-            Value::Long(_) => Some(Value::Null),
-            Value::Bool(_) => Some(Value::Null),
-        }
+        Some(own_field(self.heap, this, f))
     }
 
     #[inline(always)]
     fn own_item(&self, this: Value, f: FieldId, index: i64) -> Look {
-        match this {
-            Value::Ref(n) => look_at(self.heap, n, f, index),
-            Value::Null => Look::Outside,
-            Value::Long(_) => Look::Outside,
-            Value::Bool(_) => Look::Outside,
-        }
+        own_look(self.heap, this, f, index)
     }
 
     #[inline(always)]
@@ -170,6 +148,21 @@ fn pass_where<G: Passes>(gate: &G, passes: bool, object: u32) {
     }
 }
 
+/// What a call leaves whose body came to this with so many steps left: these, or it isn't done. Where the body stands at what it doesn't
+/// run, memory is wanting.
+#[inline(always)]
+fn left_of(halt: Halt, left: u64) -> Result<Option<u64>, Memory>
+    ensures { IfOk result (λ still. LeftBy halt left still) }
+{
+    match halt {
+        Halt::Ends => Ok(Some(left)),
+        Halt::Traps(_) => Ok(None),
+        Halt::Spends => Ok(None),
+        Halt::Leaves => Err(Memory),
+        Halt::Fails => Err(Memory),
+    }
+}
+
 /// Runs a call within a budget of steps: it leaves so many, or it isn't done. What isn't done may be undone, and so may what wants
 /// memory. A call of a parallel extent creates and prints nothing: where one stands at such an instruction, memory is wanting. It passes
 /// the gate, or goes by it; the calls within pass it.
@@ -205,13 +198,7 @@ fn run_call<G: Passes>(
     start.enter(frames, alloc, op)?;
     pass_where(access.gate, passes, op.receiver);
     let halt = run_from(access, start.laid, frames, start.place, left - 1, number);
-    match halt {
-        Halt::Ends => Ok(Some(frames.left)),
-        Halt::Traps(_) => Ok(None),
-        Halt::Spends => Ok(None),
-        Halt::Leaves => Err(Memory),
-        Halt::Fails => Err(Memory),
-    }
+    left_of(halt, frames.left)
 }
 
 /// Runs calls in their order within a budget of steps: they leave so many, or one of them isn't done.

@@ -6,11 +6,11 @@
 //! done is undone; where there is no room for one more, of 65,536 and as many as the heap has values, the heap is copied and kept as it was.
 //! `run_more` runs so one call behind the other, as long as another engine likes, which may undo them all.
 //!
-//! `run_round` runs operations that were handed in, and what they list; its clause is a run of the pending machine, from where it
-//! began to where it ended, of as many operations as its limit says, or of fewer where none waits any more.
-//! `OneWorker::traced` runs sections beside the heap, which stays as it is until the end, and adds the lines of a schedule (`ca_trace`), one for each operation in the order in
-//! which they ran.
-//! `specs/InPlace.antt` says what came of calls, `specs/Puts.antt` what undoing gives, `specs/Rounds.antt` what a round leaves,
+//! `run_some` runs operations that were handed in, and what they list, by sections beside the heap; its clause is a run of the pending
+//! machine, from where it began to where it ended, of as many operations as its limit says, or of fewer where none waits any more.
+//! `OneTracer` runs a list so, and adds the lines of a schedule (`ca_trace`), one for each operation in the order in which they ran. The
+//! heap stays as it is until the end.
+//! `specs/InPlace.antt` says what came of calls, `specs/Puts.antt` what undoing gives, `specs/Turns.antt` what turns leave,
 //! `specs/Traced.antt` which lines are added.
 //!
 //! Whoever reads the public clauses must believe each file of `specs/`.
@@ -20,11 +20,11 @@ mod in_place;
 mod one_worker;
 mod passing;
 mod puts;
-mod rounds;
 mod tracing;
+mod turns;
 
 pub use one_worker::{OneWorker, copies};
 pub use passing::Passes;
 pub use puts::{Put, Puts, value_of};
-pub use rounds::{Round, run_round};
-pub use tracing::line_of;
+pub use tracing::{OneTracer, line_of};
+pub use turns::{Progress, run_some};

@@ -1,4 +1,4 @@
-//! The engine for one worker tells the lines of what it runs: `Traces` of `specs/Traced.antt`.
+//! One worker that tells the lines of what it runs, by sections beside the heap: `Traces` of `specs/Traced.antt`.
 //!
 //! Lines are added while operations run, before the heap changes: where memory for one is wanting, the heap is as it was.
 
@@ -11,16 +11,16 @@ ghost use Rattle.ca_meaning.specs.WellTyped.{AllWellTyped};
 ghost use Rattle.ca_parallel.specs.Calls.{invocations_of, operation_of};
 ghost use Rattle.ca_parallel.specs.Parallel.{ParallelFrom};
 ghost use Rattle.ca_beside.specs.Beside.{present};
-ghost use Rattle.ca_run.specs.Rounds.{StuckBehind};
+ghost use Rattle.ca_run.specs.Turns.{StuckBehind};
 ghost use Rattle.ca_run.specs.Traced.{Told, Traces, LinesBehind};
 ghost use Rattle.ca_serial.specs.Runs.{run_with, prints_of};
 ghost use Rattle.ca_trace.specs.Lines.{outcome_line};
 ghost use Rattle.ca_trace.specs.Texts.{IsLineOf};
 ghost use Rattle.ca_trace.specs.declared.line.Line.TheVariants.{Block};
 
-use crate::one_worker::{OneWorker, copies};
+use crate::one_worker::copies;
 use crate::passing::Passes;
-use crate::rounds::run_given;
+use crate::turns::run_given;
 use ca_base::Memory;
 use ca_beside::Beside;
 use ca_model::Heap;
@@ -73,7 +73,24 @@ fn run_lines<G: Passes>(
     Ok(Some(left - still))
 }
 
-impl<'g, G: Passes> OneWorker<'g, G> {
+/// One worker that tells lines, without threads. It passes its gate as worker 0, before each section.
+#[derive(Drop)]
+pub struct OneTracer<'g, G: Passes> {
+    alloc: Global,
+    gate: &'g G,
+    beside: Beside,
+}
+
+impl<'g, G: Passes> OneTracer<'g, G> {
+    /// One that passes this gate. It takes no memory before its first run.
+    pub fn new(alloc: Global, gate: &'g G) -> OneTracer<'g, G> {
+        OneTracer {
+            alloc,
+            gate,
+            beside: Beside::new(alloc),
+        }
+    }
+
     /// Runs the operations beside the heap, and adds the lines of a block.
     fn run_block(
         &mut self,
@@ -103,9 +120,9 @@ impl<'g, G: Passes> OneWorker<'g, G> {
         )
     }
 
-    /// As `complete`, and adds the lines of the list: a block of a complete run where the answer is `Done`, and that the list
-    /// is declined else. After an error the heap and the lines are as they were.
-    pub fn traced(
+    /// Runs the operations as `OneWorker::complete` does, and adds the lines of the list: a block of a complete run where the answer is
+    /// `Done`, and that the list is declined else. After an error the heap and the lines are as they were.
+    pub fn trace(
         &mut self,
         program: &Coded<'_>,
         heap: &mut Heap,

@@ -1,5 +1,5 @@
 -- A put of the old value undoes a put.
-use Rattle.std.proofs.Common.{◌≡◌, ℕ, zero, suc, ◌<◌, ◌-◌, Bool, true, false, List, [], ◌∷◌, Option, Some, refl, ap, sym, ◌∙◌, subst, arith, length, get_or}
+use Rattle.std.proofs.Common.{◌≡◌, ℕ, zero, suc, ◌<◌, ◌-◌, Bool, true, false, List, [], ◌∷◌, Option, Some, refl, ap, sym, ◌∙◌, subst, arith, length, get_or, length-set}
 use Rattle.std.specs.Prelude.{reverse, nat_eq, if◌then◌else◌}
 use Rattle.std.proofs.lemmas.Bool.{and_parts, eqb-true}
 use Rattle.std.proofs.lemmas.List.{get_or-reverse, length-reverse}
@@ -17,11 +17,6 @@ set_back [] i v lt = absurd (omega arith)
 set_back (x ∷ vs) zero v lt = refl
 set_back (x ∷ vs) (suc i) v lt = ap (λ r. x ∷ r) (set_back vs i v (omega arith))
 
-set_len : (vs : List Datum) (i : ℕ) (v : Datum) → length (slice_set vs i v) ≡ length vs
-set_len [] i v = refl
-set_len (x ∷ vs) zero v = refl
-set_len (x ∷ vs) (suc i) v = ap suc (set_len vs i v)
-
 pub put_undone : (ss : List Slot) (f i : ℕ) (v : Datum) → HasItem (slice_get ss f) i → put_slot (put_slot ss f i v) f i (item_in (slice_get ss f) i) ≡ ss
 put_undone [] f i v h = refl
 put_undone (One x ∷ ss) zero i v h = refl
@@ -31,7 +26,7 @@ put_undone (s ∷ ss) (suc f) i v h = ap (λ r. s ∷ r) (put_undone ss f i v h)
 pub still_there : (ss : List Slot) (f i : ℕ) (v : Datum) → HasItem (slice_get ss f) i → HasItem (slice_get (put_slot ss f i v) f) i
 still_there [] f i v h = h
 still_there (One x ∷ ss) zero i v h = h
-still_there (Many vs ∷ ss) zero i v h = rw (set_len vs i v) h
+still_there (Many vs ∷ ss) zero i v h = rw (length-set vs i v) h
 still_there (s ∷ ss) (suc f) i v h = still_there ss f i v h
 
 set_twice : (vs : List Datum) (i : ℕ) (v w : Datum) → slice_set (slice_set vs i v) i w ≡ slice_set vs i w

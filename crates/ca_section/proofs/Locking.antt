@@ -2,8 +2,10 @@
 use Rattle.std.proofs.Common.{zero, suc, ◌≡◌, Bool, true, false, ◌||◌, List, [], ◌∷◌, ◌++◌, refl, sym, ap, ap₂, ◌∙◌, subst, true≢false, arith}
 use Rattle.std.specs.Prelude.{Contains}
 use Rattle.std.specs.List.{list_any}
-use Rattle.std.proofs.lemmas.Bool.{or_cases, or_left, or_right}
+use Rattle.std.specs.Cmp.{both_ways}
+use Rattle.std.proofs.lemmas.Bool.{or_cases, or_left, or_right, or_parts}
 use Rattle.std.proofs.lemmas.List.Elements.{Contains-append_left, Contains-append_right}
+use Rattle.ca_lists.proofs.Members.{has_first}
 use Rattle.ca_program.specs.declared.program.FieldId.{FieldId}
 use Rattle.ca_program.specs.declared.program.OpId.{OpId}
 use Rattle.ca_program.specs.Plain.{PlainProgram, Statements}
@@ -15,13 +17,8 @@ use Rattle.ca_section.specs.Offences.{is_written}
 use Rattle.ca_section.specs.Readers.{known, touched_by_any}
 use Rattle.ca_section.specs.TakesLock.{hold_target, takes_lock}
 use Rattle.ca_section.proofs.Fields.{written_decided}
-use Rattle.ca_section.proofs.Members.{pick, front}
+use Rattle.ca_section.proofs.Members.{pick}
 use Rattle.ca_section.proofs.Touching.{Touched, by_field, by_function, body_touches, body_touched}
-
-both_ways : (a b : Bool) → (a ≡ true → b ≡ true) → (b ≡ true → a ≡ true) → a ≡ b
-both_ways true b f g = sym (f refl)
-both_ways false true f g = g refl
-both_ways false false f g = refl
 
 any_of : (test : FieldId → Bool) (fs : List FieldId) (f : FieldId) → Contains fs f → test f ≡ true → list_any test fs ≡ true
 any_of test [] f (k, below, is) e = absurd (omega (arith, below))
@@ -35,7 +32,7 @@ record OneOf (test : FieldId → Bool) (fs : List FieldId) : Type 0 where
 
 one_of : (test : FieldId → Bool) (fs : List FieldId) → list_any test fs ≡ true → OneOf test fs
 one_of test [] e = absurd cc
-one_of test (g ∷ gs) e = pick (or_cases (test g) (list_any test gs) e) (λ h. record { field = g; among = front g gs; is = h })
+one_of test (g ∷ gs) e = pick (or_cases (test g) (list_any test gs) e) (λ h. record { field = g; among = has_first g gs; is = h })
     (λ h. let o = one_of test gs h in record { field = o.field; among = Contains-append_right (g ∷ []) gs o.field o.among; is = o.is })
 
 -- where no value method has a mark, the fields alone count
@@ -51,16 +48,12 @@ no_targets : (fs : List FieldId) → is_some_of fs ≡ false → fs ≡ []
 no_targets [] e = refl
 no_targets (f ∷ fs) e = absurd cc
 
-neither : (a b : Bool) → (a || b) ≡ false → (a ≡ false) × (b ≡ false)
-neither true b e = absurd cc
-neither false b e = (refl, e)
-
 module _ (p : PlainProgram) (op : OpId) where
   abbrev body : Statements
   body = operation_body p op
 
   pub free : (written : List FieldId) → takes_lock written body ≡ false → (targets_of_all body ≡ []) × IsFree p written op
-  free written e = let n = neither (hold_target body) (list_any (is_written written) (reads_of_body body)) e in let none : targets_of_all body ≡ [] = no_targets (targets_of_all body) n.0 in (
+  free written e = let n = or_parts (hold_target body) (list_any (is_written written) (reads_of_body body)) e in let none : targets_of_all body ≡ [] = no_targets (targets_of_all body) n.0 in (
     none,
     record {
       untouched = λ f c w. let d : Contains (reads_of_body body) f = subst (λ (fs : List FieldId). Contains (fs ++ reads_of_body body) f) none c in
@@ -71,7 +64,7 @@ module _ (p : PlainProgram) (op : OpId) where
   a_target : (x : Extent) (roots : List OpId) → IsExtentOf p roots x → Contains x.ops op → (fs : List FieldId) → targets_of_all body ≡ fs → is_some_of fs ≡ true → IsFree p x.written op → ⊥
   a_target x roots is inside [] e q free = absurd cc
   a_target x roots is inside (f ∷ fs) e q free =
-      let t : Contains (targets_of_all body) f = subst (λ (gs : List FieldId). Contains gs f) (sym e) (front f fs) in
+      let t : Contains (targets_of_all body) f = subst (λ (gs : List FieldId). Contains gs f) (sym e) (has_first f fs) in
       let w : Writes p roots f = record { op = op; invoked = (is.ops op).0 inside; target = t } in
       free.untouched f (Contains-append_left (targets_of_all body) (reads_of_body body) f t) ((is.written f).1 w)
 

@@ -145,9 +145,11 @@ impl Olds {
     pub fn put_at_hand(&mut self, slots: &mut Slots, field: u32, item: u32, value: Value) -> bool
         requires { HasItem (slice_get slots.old field) item }
         ensures put { result ≡ true → slots.new ≡ put_slot slots.old field item value }
+        ensures keeps { result ≡ true → self.new ≡ olds_after self.old slots.old field item }
         ensures back { put_back self.new slots.new ≡ put_back self.old slots.old }
         ensures there { AllThere self.old slots.old → AllThere self.new slots.new }
         ensures kept { result ≡ false → slots.new ≡ slots.old }
+        ensures olds { result ≡ false → self.new ≡ self.old }
     {
         if self.keep_at_hand(slots, field, item) {
             slots.put(field, item, value);
@@ -179,9 +181,11 @@ impl Olds {
     pub fn put_number(&mut self, slots: &mut Slots, field: u32, old: i64, n: i64) -> bool
         requires { slice_get slots.old field ≡ Some (One (Long old)) }
         ensures put { result ≡ true → slots.new ≡ put_slot slots.old field 0 (Long n) }
+        ensures keeps { result ≡ true → self.new ≡ olds_after self.old slots.old field 0 }
         ensures back { put_back self.new slots.new ≡ put_back self.old slots.old }
         ensures there { AllThere self.old slots.old → AllThere self.new slots.new }
         ensures kept { result ≡ false → slots.new ≡ slots.old }
+        ensures olds { result ≡ false → self.new ≡ self.old }
     {
         if self.keep_number(field, old) {
             slots.put(field, 0, Value::Long(n));

@@ -1,7 +1,9 @@
 -- The first slots of a body, where a call or a loop begins.
 use Rattle.std.proofs.Common.{◌≡◌, ℕ, suc, ◌<◌, ◌≤◌, ◌^◌, List, [], ◌∷◌, length, map, Some, refl, sym, ap, ◌∙◌, subst, take, Vec, Global}
-use Rattle.std.specs.Prelude.{Bool, true, false, ◌&&◌, get_or, slice_get}
-use Rattle.std.proofs.lemmas.Option.{slice_get-get_or}
+use Rattle.std.specs.Prelude.{true, get_or, slice_get}
+use Rattle.std.specs.Cmp.{second_so}
+use Rattle.std.proofs.lemmas.Option.{slice_get-get_or, same_Some}
+use Rattle.ca_lists.proofs.Places.{get_map}
 use Rattle.ca_program.specs.declared.program.ValueType.{ValueType}
 use Rattle.ca_program.specs.Plain.{PlainProgram}
 use Rattle.ca_program.specs.Kinds.{Kind, kind_type, kinds_in, param_kind, param_kinds}
@@ -11,7 +13,6 @@ use Rattle.ca_code.specs.declared.ins.Kind.{Kind as Held}
 use Rattle.ca_code.specs.declared.layout.Code.{Code as CodeHeld}
 use Rattle.ca_code.specs.Codes.{code_seen, kinds_seen}
 use Rattle.ca_code.specs.Seen.{kind_seen}
-use Rattle.ca_code.proofs.Places.{there}
 use Rattle.ca_code_laws.specs.Machine.{loaded}
 use Rattle.ca_code_laws.specs.Told.{Holds, IsLaidOut}
 use Rattle.ca_code_laws.specs.Words.{all_have, has_kind}
@@ -20,18 +21,13 @@ use Rattle.ca_code_laws.proofs.Sections.{all_mapped, kind_mapped}
 use Rattle.ca_code_laws.proofs.Steps.{length_mapped, length_taken}
 use Rattle.ca_steps.specs.declared.frames.Frames.{Frames}
 use Rattle.ca_steps.specs.Stands.{seen}
-use Rattle.ca_steps.specs.clauses.Handed.{IsFirst, Made, PutLocals}
-use Rattle.ca_steps.proofs.Loading.{same_some}
+use Rattle.ca_steps.specs.Handed.{IsFirst, Made, PutLocals}
 use Rattle.ca_sections.specs.Fitting.{Entered}
-
-back_of : (a b : Bool) → (a && b) ≡ true → b ≡ true
-back_of true b e = e
-back_of false b e = cc
 
 -- the kinds at a place of the rows of a code
 pub kinds_known : (rows all : List (Vec Held Global)) (i : ℕ) (x : Vec Held Global) (ks : List Held) → all ≡ rows → i < length rows → x ≡ get_or all i x → ks ≡ x.items → slice_get (map kinds_seen rows) i ≡ Some (map kind_seen ks)
 kinds_known rows all i x ks same lt at is =
-    there kinds_seen rows i x (slice_get-get_or rows i x lt ∙ ap Some (sym (at ∙ ap (λ (xs : List (Vec Held Global)). get_or xs i x) same)))
+    get_map kinds_seen rows i x (slice_get-get_or rows i x lt ∙ ap Some (sym (at ∙ ap (λ (xs : List (Vec Held Global)). get_or xs i x) same)))
     ∙ ap (λ xs. Some (map kind_seen xs)) (sym is)
 
 -- values of so many kinds are as many
@@ -39,7 +35,7 @@ have_many : (κs : List Kind) (vs : List Datum) → all_have κs vs ≡ true →
 have_many [] [] e = refl
 have_many [] (v ∷ vs) e = cc
 have_many (κ ∷ κs) [] e = cc
-have_many (κ ∷ κs) (v ∷ vs) e = ap suc (have_many κs vs (back_of (has_kind κ v) (all_have κs vs) e))
+have_many (κ ∷ κs) (v ∷ vs) e = ap suc (have_many κs vs (second_so (has_kind κ v) (all_have κs vs) e))
 
 module _ (m0 m1 m2 : Frames) (κs : List Kind) (vs : List Datum) (made : Made m0 m1) (put : PutLocals m1 κs vs m2) where
   pub below_none : m2.below ≡ []
@@ -68,7 +64,7 @@ entered_so p c laid op m0 m1 m2 kinds there made put = record {
   first = first_still m0 m1 m2 (map kind_seen kinds) op.args made put;
   below = below_none m0 m1 m2 (map kind_seen kinds) op.args made put;
   arguments = λ m found le.
-      let are : map kind_seen kinds ≡ param_kinds m = same_some (sym there ∙ (laid.ops op.op.0 m found).1) in
+      let are : map kind_seen kinds ≡ param_kinds m = same_Some _ _ (sym there ∙ (laid.ops op.op.0 m found).1) in
       let have : all_have (param_kinds m) op.args ≡ true = ap (λ κs. all_have κs op.args) (sym are) ∙ put.have in
       let many : length (param_kinds m) ≡ length op.args = have_many (param_kinds m) op.args have in
       let taken : length (param_kinds m) ≡ m.params = length_mapped kind_type (take m.params m.body.locals) ∙ length_taken m.params m.body.locals le in

@@ -5,6 +5,7 @@ use Rattle.std.proofs.Math.ListN.{get_or-append}
 use Rattle.std.proofs.Math.Seq.{drop-cons}
 use Rattle.std.proofs.lemmas.List.{map-append}
 use Rattle.std.proofs.lemmas.Option.{get_or_from_slice_get}
+use Rattle.ca_lists.proofs.Places.{get_in_front, get_map}
 use Rattle.ca_program.specs.Plain.{PlainProgram}
 use Rattle.ca_program.specs.Kinds.{as_pointer, kind_type}
 use Rattle.ca_program.specs.Instructions.{Placed, IsAt, HasAt, StandsAt}
@@ -16,8 +17,8 @@ use Rattle.ca_code.specs.declared.ins.Ins.{Ins}
 use Rattle.ca_code.specs.declared.ins.Ins.TheVariants.{Begin}
 use Rattle.ca_code.specs.declared.ins.Row.{Row}
 use Rattle.ca_code.specs.Seen.{instruction, placed, row_of}
-use Rattle.ca_code.specs.clauses.Laying.{Laying, Adds, laid}
-use Rattle.ca_code.proofs.Places.{has_at, there}
+use Rattle.ca_code.specs.Laying.{Laying, Adds, laid}
+use Rattle.ca_code.proofs.Places.{has_at}
 use Rattle.ca_code_laws.specs.Fitting.{FitsStatement}
 use Rattle.ca_code_laws.specs.Known.{loop_alone}
 use Rattle.ca_code_laws.specs.Told.{IsLaidOut}
@@ -63,11 +64,6 @@ module _ (c d : CodeHeld) (e : Extended c d) where
         );
   }
 
-in_front_of : {A : Type 0} (xs ys : List A) (n : ℕ) (v : A) → slice_get xs n ≡ Some v → slice_get (xs ++ ys) n ≡ Some v
-in_front_of [] ys n v e = absurd (cc)
-in_front_of (x ∷ xs) ys zero v e = e
-in_front_of (x ∷ xs) ys (suc n) v e = in_front_of xs ys n v e
-
 all_more : (p : PlainProgram) (ps more : List Placed) (ls : List LoopPlace) → AllStood p ps ls → AllStood p (ps ++ more) ls
 all_more p ps more [] h = tt
 all_more p ps more (l ∷ ls) h = (stood_more h.0, all_more p ps more ls h.1)
@@ -81,7 +77,7 @@ all_more p ps more (l ∷ ls) h = (stood_more h.0, all_more p ps more ls h.1)
           after = s.after ++ more;
           is = ap (λ ps. ps ++ more) s.is ∙ (append_assoc s.before (code ++ s.after) more ∙ ap (λ xs. s.before ++ xs) (append_assoc code s.after more));
           place = s.place;
-          row = ((s.row).0, in_front_of ps more l.at _ (s.row).1);
+          row = ((s.row).0, get_in_front ps more l.at _ (s.row).1);
         }
 
 all_last : (p : PlainProgram) (ps : List Placed) (ls : List LoopPlace) (l : LoopPlace) → AllStood p ps ls → Stood p ps l → AllStood p ps (ls ++ l ∷ [])
@@ -116,7 +112,7 @@ one_added p old now next places l r n at is line place adds fits a = record {
       after = [];
       is = ap (λ xs. laid now ++ xs) (sym (append-nil code));
       place = place;
-      row = (instruction (Begin n l.s l.types), in_front_of (laid now) code l.at _ (there placed now.rows l.at r at ∙ ap Some row_is));
+      row = (instruction (Begin n l.s l.types), get_in_front (laid now) code l.at _ (get_map placed now.rows l.at r at ∙ ap Some row_is));
     }
 
 -- the rows are looked at from the first on
@@ -136,7 +132,7 @@ first_row old more at x lt is =
 seen_there : (p : PlainProgram) (old : List Placed) (now : Laying) (places : List LoopPlace) (r : Row) (at : ℕ) → slice_get now.rows at ≡ Some r → at < length old → now.failed ≡ false → Adding p old now places → drop at old ≡ placed r ∷ drop (at + 1) old
 seen_there p old now places r at is lt ok a =
     let b = a.begun ok in
-    first_row old b.0 at (placed r) lt (ap (λ ps. slice_get ps at) (sym b.1) ∙ there placed now.rows at r is)
+    first_row old b.0 at (placed r) lt (ap (λ ps. slice_get ps at) (sym b.1) ∙ get_map placed now.rows at r is)
 
 no_begin : (i : Ins) → ((n : _) (s : _) (tys : _) → i ≡ Begin n s tys → ⊥) → (at : ℕ) (ns : List ℕ) → with_begin (instruction i) at ns ≡ ns
 no_begin (Begin n s tys) never at ns = absurd (never n s tys refl)
@@ -184,6 +180,6 @@ all_stand p d ps (l ∷ ls) e h = (stands (h.0), all_stand p d ps ls e h.1)
         fits = s.fits;
         there = subst (λ n. HasAt (code_seen d) n (loop_alone p l.types.now l.line (statement_view l.s.now))) (sym s.place) (has_at {c = code_seen d} s.before (loop_alone p l.types.now l.line (statement_view l.s.now)) s.after (record { items = refl; lines = refl; loops = refl }) (e ∙ s.is));
       };
-      line = there (λ (x : Placed). x.line) (map placed d.rows.items) l.at _ (ap (λ ps. slice_get ps l.at) e ∙ (s.row).1);
-      loop = there (λ (x : Placed). x.loop) (map placed d.rows.items) l.at _ (ap (λ ps. slice_get ps l.at) e ∙ (s.row).1);
+      line = get_map (λ (x : Placed). x.line) (map placed d.rows.items) l.at _ (ap (λ ps. slice_get ps l.at) e ∙ (s.row).1);
+      loop = get_map (λ (x : Placed). x.loop) (map placed d.rows.items) l.at _ (ap (λ ps. slice_get ps l.at) e ∙ (s.row).1);
     }

@@ -14,7 +14,7 @@ use Rattle.ca_code_laws.specs.Machine as Stopped
 use Rattle.ca_code_laws.specs.Runs.{section_access}
 use Rattle.ca_steps.specs.declared.running.Halt.{Halt}
 use Rattle.ca_steps.specs.declared.running.Halt.TheVariants as halt
-use Rattle.ca_steps.specs.clauses.Here.{Halted}
+use Rattle.ca_steps.specs.Here.{Halted}
 use Rattle.ca_sections.specs.declared.stop.Stop.{Stop}
 use Rattle.ca_sections.specs.Running.{IsEnd, Went, line_of_row}
 

@@ -160,10 +160,6 @@ pub ok_told : {T E : Type 0} (P Q : T → Type 0) (r : Result T E) → ((x : T) 
 ok_told P Q (Ok x) f h = f x h
 ok_told P Q (Err e) f h = tt
 
-pub ok_both : {T E : Type 0} (P P' Q : T → Type 0) (r : Result T E) → ((x : T) → P x → P' x → Q x) → IfOk r P → IfOk r P' → IfOk r Q
-ok_both P P' Q (Ok x) f h g = f x h g
-ok_both P P' Q (Err e) f h g = tt
-
 pub err_told : {T E : Type 0} (P Q : Type 0) (r : Result T E) → (P → Q) → OnErr r P → OnErr r Q
 err_told P Q (Ok x) f h = tt
 err_told P Q (Err e) f h = f h
@@ -214,6 +210,11 @@ kept_so a1 l object r after P lasts slots kept =
     err_told ((after ≡ put_back a1.olds.now a1.slots.now) × P) (((record { class = object.class; slots = after }) ≡ object) × P) r
     (λ k. (ap (λ ss. with_slots object.class ss) (k.0 ∙ (ap (λ l. l.before) lasts ∙ slots)), k.1))
     kept
+
+-- what an answer says by two clauses
+ok_both : {T E : Type 0} (P P' Q : T → Type 0) (r : Result T E) → ((x : T) → P x → P' x → Q x) → IfOk r P → IfOk r P' → IfOk r Q
+ok_both P P' Q (Ok x) f h g = f x h g
+ok_both P P' Q (Err e) f h g = tt
 
 -- what is done can be undone
 pub undo_so : (ran : Result (Unit {0}) Stop) (budget left : ℕ) (a1 : InSection) (l : Lasting) (object : Object) (r : Result SectionAnswer NoMemory) (after : List Slot) (out now : List Op) (desk : Desk) (olds : List Old) → lasting a1 ≡ l → l.before ≡ object.slots → AllThere a1.olds.now a1.slots.now → desk.state.olds ≡ olds → IfOk r (λ answer. Settled ran answer budget left a1 after out now) → IfOk r (λ answer. (steps : ℕ) → answer ≡ Done steps → olds ≡ a1.olds.now) → IfOk r (λ answer. (steps : ℕ) → answer ≡ Done steps → CanUndo desk (record { class = object.class; slots = after }) object)

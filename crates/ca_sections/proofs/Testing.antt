@@ -1,8 +1,9 @@
 -- What tests of truth tell of texts, part by part.
-use Rattle.std.proofs.Common.{◌≡◌, ◌⊎◌, inl, inr, ⊎_elim, ℕ, zero, suc, ◌+◌, ◌<◌, ◌≤◌, List, [], ◌∷◌, ◌++◌, length, length-append, map, drop, get_or, Bool, true, false, ◌&&◌, not, true≢false, Some, refl, sym, ap, ◌∙◌, subst, arith}
+use Rattle.std.proofs.Common.{◌≡◌, ◌⊎◌, ⊎_elim, ℕ, zero, suc, ◌+◌, ◌<◌, ◌≤◌, List, [], ◌∷◌, ◌++◌, length, length-append, map, drop, get_or, Bool, true, false, ◌&&◌, not, true≢false, Some, refl, sym, ap, ◌∙◌, subst, arith}
 use Rattle.std.specs.Prelude.{◌||◌, slice_get}
 use Rattle.std.proofs.lemmas.List.{drop_all}
 use Rattle.std.proofs.lemmas.Option.{slice_get-get_or, slice_get_within}
+use Rattle.ca_lists.proofs.Places.{item_and_rest, get_map, before_or_last}
 use Rattle.ca_program.specs.declared.program.Expr.{Expr}
 use Rattle.ca_program.specs.declared.program.Stmt.{Stmt}
 use Rattle.ca_program.specs.declared.program.Method.{Method}
@@ -11,9 +12,7 @@ use Rattle.ca_program.specs.Plain.{PlainProgram, PlainMethod}
 use Rattle.ca_program.specs.Kinds.{Kind, Kinds, kind_of}
 use Rattle.ca_program.specs.Layout.{how_many}
 use Rattle.ca_program.specs.View.{expression_view, expressions_view, method_view, statement_view, statements_view}
-use Rattle.ca_code.proofs.Places.{there}
 use Rattle.ca_code_laws.specs.Fitting.{AreOf, FitAll, FitStatements, Fits, FitsMethod, FitsStatement, Takes}
-use Rattle.ca_section.proofs.Listed.{item_and_rest}
 use Rattle.ca_sections.specs.Fitting.{Finds, OpsBegin, OpsStand}
 use Rattle.ca_sections.proofs.Locking.{last_found}
 
@@ -131,19 +130,12 @@ argument_in ks κ (x ∷ es) (suc i) e lt at h = argument_in ks (λ j. κ (suc j
 -- Methods
 
 pub method_there : (ms : List Method) (i : ℕ) (m : Method) → i < length ms → m ≡ get_or ms i m → slice_get (map method_view ms) i ≡ Some (method_view m)
-method_there ms i m lt at = there method_view ms i m (slice_get-get_or ms i m lt ∙ ap Some (sym at))
+method_there ms i m lt at = get_map method_view ms i m (slice_get-get_or ms i m lt ∙ ap Some (sym at))
 
 pub none_takes : (ms : List Method) (i n : ℕ) → length ms ≤ i → Takes (slice_get (map method_view ms) i) n → ⊥
 none_takes [] i n le t = t
 none_takes (m ∷ ms) zero n le t = omega (arith, le)
 none_takes (m ∷ ms) (suc i) n le t = none_takes ms i n (omega (arith, le)) t
-
--- rows that grow by one
-below_or_last : (i k : ℕ) → i < k + 1 → (i < k) ⊎ (i ≡ k)
-below_or_last zero zero lt = inr refl
-below_or_last zero (suc k) lt = inl (omega arith)
-below_or_last (suc i) zero lt = absurd (omega (arith, lt))
-below_or_last (suc i) (suc k) lt = ⊎_elim (λ e. inl (omega (arith, e))) (λ e. inr (ap suc e)) (below_or_last i k (omega (arith, lt)))
 
 kept_there : (xs : List ℕ) (n i k : ℕ) → slice_get xs i ≡ Some k → slice_get (xs ++ n ∷ []) i ≡ Some k
 kept_there [] n i k e = absurd cc
@@ -196,7 +188,7 @@ module _ (p : PlainProgram) where
 
   pub one_stands : (starts places more : List ℕ) (n : ℕ) (m : PlainMethod) → more ≡ places ++ n ∷ [] → slice_get p.ops (length places) ≡ Some m → ((start : ℕ) → FitsMethod p true m → slice_get starts (length places) ≡ Some start → n ≡ start) → StandSoFar starts places → StandSoFar starts more
   one_stands starts places more n m is at tells all i start x lt there fits begins =
-      subst (λ (r : List ℕ). slice_get r i ≡ Some start) (sym is) (⊎_elim before last (below_or_last i (length places) (omega (arith, lt, ap length is, length-append places (n ∷ [])))))
+      subst (λ (r : List ℕ). slice_get r i ≡ Some start) (sym is) (⊎_elim before last (before_or_last i (length places) (omega (arith, lt, ap length is, length-append places (n ∷ [])))))
     where
       before : i < length places → slice_get (places ++ n ∷ []) i ≡ Some start
       before l = kept_there places n i start (all i start x l there fits begins)

@@ -6,7 +6,7 @@ use Rattle.ca_program.specs.Instructions.{Begin, Instruction, Placed, Code}
 use Rattle.ca_program.specs.View.{statement_view}
 use Rattle.ca_code.specs.declared.layout.Code.{Code as CodeHeld}
 use Rattle.ca_code.specs.Seen.{placed}
-use Rattle.ca_code.specs.clauses.Laying.{Laying, laid}
+use Rattle.ca_code.specs.Laying.{Laying, laid}
 use Rattle.ca_code_laws.specs.Fitting.{FitsStatement}
 use Rattle.ca_code_laws.specs.Known.{loop_alone}
 use Rattle.ca_sections.specs.declared.loop_code.LoopPlace.{LoopPlace}

@@ -19,7 +19,7 @@ use Rattle.ca_steps.specs.declared.frames.Frames.{Frames}
 use Rattle.ca_steps.specs.declared.running.Laid.{Laid}
 use Rattle.ca_steps.specs.Ops.{Runs}
 use Rattle.ca_steps.specs.Stands.{seen}
-use Rattle.ca_steps.specs.clauses.Handed.{IsFirst}
+use Rattle.ca_steps.specs.Handed.{IsFirst}
 
 -- a test finds whether something is so
 abbrev pub Finds : Bool → Type 0 → Type 0

@@ -82,6 +82,16 @@ fn kind_in(kinds: &[Kind], place: usize) -> Kind
     kinds[place]
 }
 
+/// The argument at a place of a call.
+#[inline(always)]
+fn argument(kinds: &[Kind], slots: &[i64], first: usize, place: usize) -> Option<Value>
+    requires { place < length kinds.now }
+    ensures { IfSome result (λ v. slice_get (row (seen slots.now) first (map kind_seen kinds.now)) place ≡ Some v) }
+{
+    let kind = kind_in(kinds, place);
+    value_at(slots, first, place, kind)
+}
+
 /// One argument. It takes no memory of its own.
 #[inline(always)]
 fn one_of(alloc: Global, value: Value) -> Result<Arguments, Memory>
@@ -129,8 +139,7 @@ fn list_one(
     ensures listed { IfOk result (λ _. listed.new.items ≡ listed.old.items ++ record { receiver = receiver; op = op; args = row (seen slots.now) first (map kind_seen kinds.now) } ∷ []) }
     ensures kept { OnErr result (listed.new.items ≡ listed.old.items) }
 {
-    let kind = kind_in(kinds, 0);
-    let Some(value) = value_at(slots, first, 0, kind) else {
+    let Some(value) = argument(kinds, slots, first, 0) else {
         return Err(Memory);
     };
     let args = one_of(alloc, value)?;
@@ -154,12 +163,10 @@ fn list_two(
     ensures listed { IfOk result (λ _. listed.new.items ≡ listed.old.items ++ record { receiver = receiver; op = op; args = row (seen slots.now) first (map kind_seen kinds.now) } ∷ []) }
     ensures kept { OnErr result (listed.new.items ≡ listed.old.items) }
 {
-    let kind = kind_in(kinds, 0);
-    let next = kind_in(kinds, 1);
-    let Some(value) = value_at(slots, first, 0, kind) else {
+    let Some(value) = argument(kinds, slots, first, 0) else {
         return Err(Memory);
     };
-    let Some(other) = value_at(slots, first, 1, next) else {
+    let Some(other) = argument(kinds, slots, first, 1) else {
         return Err(Memory);
     };
     let args = two_of(alloc, value, other)?;

@@ -5,7 +5,7 @@ ghost use Rattle.ca_program.specs.Kinds.{as_pointer};
 ghost use Rattle.ca_program.specs.View.{program_view, statement_view};
 ghost use Rattle.ca_code.specs.Codes.{code_seen};
 ghost use Rattle.ca_code.specs.Seen.{placed};
-ghost use Rattle.ca_code.specs.clauses.Laying.{Adds, laid};
+ghost use Rattle.ca_code.specs.Laying.{Adds, laid};
 ghost use Rattle.ca_code_laws.specs.Fitting.{FitsStatement};
 ghost use Rattle.ca_code_laws.specs.Known.{loop_alone};
 ghost use Rattle.ca_program.specs.Instructions.{Placed};

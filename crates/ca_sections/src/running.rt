@@ -5,7 +5,7 @@ ghost use Rattle.ca_code.specs.Codes.{code_seen};
 ghost use Rattle.ca_section.specs.Olds.{AllThere};
 ghost use Rattle.ca_steps.specs.Ops.{Runs};
 ghost use Rattle.ca_steps.specs.Stands.{back_seen, here_state};
-ghost use Rattle.ca_steps.specs.clauses.Handed.{IsFirst};
+ghost use Rattle.ca_steps.specs.Handed.{IsFirst};
 ghost use Rattle.ca_sections.specs.Running.{Came, IsEnd, StandsWith, lasting, line_of_row, section_at};
 
 use crate::access::InSection;

@@ -85,15 +85,15 @@ pub record Ending {A : Type 0} (S : A → PlainProgram → List Object → List 
   pub account : Reached S p a (lists p marks budget) b
 
 -- an account that stays as it is, whatever is handed on
-reached_so : {A : Type 0} (S : A → PlainProgram → List Object → List Invocation → ℕ → A → Type 0) (p : PlainProgram) (b : A) → ((q : PlainProgram) (g : List Object) (is : List Invocation) (k : ℕ) → S b q g is k b) → (ns : List Note) → Reached S p b ns b
+abbrev pub Same : {A : Type 0} → (A → PlainProgram → List Object → List Invocation → ℕ → A → Type 0) → A → Type 0
+Same S b = (q : PlainProgram) (g : List Object) (is : List Invocation) (k : ℕ) → S b q g is k b
+
+reached_so : {A : Type 0} (S : A → PlainProgram → List Object → List Invocation → ℕ → A → Type 0) (p : PlainProgram) (b : A) → Same S b → (ns : List Note) → Reached S p b ns b
 reached_so S p b same [] = at_first
 reached_so S p b same (n ∷ ns) = reached_on p b b b (n ∷ []) ns (by_one n at_first (same p n.heap n.first n.left)) (reached_so S p b same ns)
 
-module _ {A : Type 0} (S : A → PlainProgram → List Object → List Invocation → ℕ → A → Type 0) (p : PlainProgram) (code : Code) (at budget : ℕ) (a : A) (old : Option (List ℕ)) where
-  abbrev pub Here : Frames → List Object → A → Option (List ℕ) → Type 0
-  Here m h b now = Going S p code at budget a old m h b now
-
-  pub begins : (m : Frames) (h : List Object) → state_of m (fresh h) ≡ beginning at budget → Here m h a old
+module _ {A : Type 0} {S : A → PlainProgram → List Object → List Invocation → ℕ → A → Type 0} {p : PlainProgram} {code : Code} {at budget : ℕ} {a : A} {old : Option (List ℕ)} where
+  pub begins : (m : Frames) (h : List Object) → state_of m (fresh h) ≡ beginning at budget → Going S p code at budget a old m h a old
   begins m h e = record {
     world = fresh h;
     gone = λ n. false;
@@ -102,9 +102,9 @@ module _ {A : Type 0} (S : A → PlainProgram → List Object → List Invocatio
     reached = at_first;
   }
 
-  module _ {m : Frames} {h : List Object} {b : A} {now : Option (List ℕ)} (i : Here m h b now) (m2 : Frames) (h2 : List Object) where
+  module _ {m : Frames} {h : List Object} {b : A} {now : Option (List ℕ)} (i : Going S p code at budget a old m h b now) (m2 : Frames) (h2 : List Object) where
     -- it goes on
-    pub on : Comes (run_access p) code (state_of m (in_heap i.world h)) (state_of m2 (in_heap i.world h2)) → Here m2 h2 b now
+    pub on : Comes (run_access p) code (state_of m (in_heap i.world h)) (state_of m2 (in_heap i.world h2)) → Going S p code at budget a old m2 h2 b now
     on e = record {
       world = i.world;
       gone = i.gone;
@@ -114,7 +114,7 @@ module _ {A : Type 0} (S : A → PlainProgram → List Object → List Invocatio
     }
 
     -- it prints a value, which is written
-    pub prints_on : (v : Datum) (now2 : Option (List ℕ)) → Comes (run_access p) code (state_of m (in_heap i.world h)) (state_of m2 (printed (in_heap i.world h2) v)) → now2 ≡ grown now (print_text v) → Here m2 h2 b now2
+    pub prints_on : (v : Datum) (now2 : Option (List ℕ)) → Comes (run_access p) code (state_of m (in_heap i.world h)) (state_of m2 (printed (in_heap i.world h2) v)) → now2 ≡ grown now (print_text v) → Going S p code at budget a old m2 h2 b now2
     prints_on v now2 e more = record {
       world = printed i.world v;
       gone = i.gone;
@@ -124,7 +124,7 @@ module _ {A : Type 0} (S : A → PlainProgram → List Object → List Invocatio
     }
 
     -- it hands on with these notes, or goes into what gives them
-    pub notes_on : (q : Bool) (ns : List Note) (b2 : A) → ((into : Into) → Chose into (length i.world.notes) q ns → Comes (run_into into p) code (state_of m (in_heap i.world h)) (state_of m2 (in_heap (with_notes i.world ns) h2))) → Reached S p b ns b2 → Here m2 h2 b2 now
+    pub notes_on : (q : Bool) (ns : List Note) (b2 : A) → ((into : Into) → Chose into (length i.world.notes) q ns → Comes (run_into into p) code (state_of m (in_heap i.world h)) (state_of m2 (in_heap (with_notes i.world ns) h2))) → Reached S p b ns b2 → Going S p code at budget a old m2 h2 b2 now
     notes_on q ns b2 e more = record {
       world = with_notes i.world ns;
       gone = and_this i.gone (length i.world.notes) q;
@@ -136,11 +136,11 @@ module _ {A : Type 0} (S : A → PlainProgram → List Object → List Invocatio
     }
 
     -- it hands operations on, with a note
-    pub hands_on : (is : List Invocation) (k : ℕ) (b2 : A) → ((into : Into) → into (length i.world.notes) ≡ false → Comes (run_into into p) code (state_of m (in_heap i.world h)) (state_of m2 (in_heap (with_note (in_heap i.world h) is k) h2))) → S b p h is k b2 → Here m2 h2 b2 now
+    pub hands_on : (is : List Invocation) (k : ℕ) (b2 : A) → ((into : Into) → into (length i.world.notes) ≡ false → Comes (run_into into p) code (state_of m (in_heap i.world h)) (state_of m2 (in_heap (with_note (in_heap i.world h) is k) h2))) → S b p h is k b2 → Going S p code at budget a old m2 h2 b2 now
     hands_on is k b2 e step = notes_on false (note h is k ∷ []) b2 e (by_one (note h is k) at_first step)
 
   -- it goes into what is handed on, whose account stays as it is
-  inside : {m : Frames} {h : List Object} {b : A} {now : Option (List ℕ)} (i : Here m h b now) (m2 : Frames) → ((q : PlainProgram) (g : List Object) (is : List Invocation) (k : ℕ) → S b q g is k b) → GoesIn code m m2 → Here m2 h b now
+  inside : {m : Frames} {h : List Object} {b : A} {now : Option (List ℕ)} (i : Going S p code at budget a old m h b now) (m2 : Frames) → Same S b → GoesIn code m m2 → Going S p code at budget a old m2 h b now
   inside {m} {h} {b} {now} i m2 same (into_call op first r hands enters) =
       let ns = note h (due_at code m op first r ∷ []) m.left ∷ [] in
       let x = with_note (in_heap i.world h) (due_at code m op first r ∷ []) m.left in
@@ -149,12 +149,12 @@ module _ {A : Type 0} (S : A → PlainProgram → List Object → List Invocatio
       let ns = begun_notes p h m tys line loop in
       notes_on i m2 h true ns b (λ into chose. loop_inside p code m n line loop tys begins h i.world into m2 is chose) (reached_so S p b same ns)
 
-  pub way_on : {Lets : Type 0} {m : Frames} {h : List Object} {b : A} {now : Option (List ℕ)} → (Lets → (q : PlainProgram) (g : List Object) (is : List Invocation) (k : ℕ) → S b q g is k b) → Here m h b now → (m2 : Frames) (h2 : List Object) → Way Lets p code m h m2 h2 → Here m2 h2 b now
-  way_on any i m2 h2 stays = i
-  way_on any i m2 h2 (comes w e) = let j = way_on any i _ _ w in on j m2 h2 (e j.world)
-  way_on any i m2 h2 (goes_in w k g) = inside (way_on any i _ _ w) m2 (any k) g
+  pub way_on : {m : Frames} {h : List Object} {b : A} {now : Option (List ℕ)} → Going S p code at budget a old m h b now → (m2 : Frames) (h2 : List Object) → Way (Same S b) p code m h m2 h2 → Going S p code at budget a old m2 h2 b now
+  way_on i m2 h2 stays = i
+  way_on i m2 h2 (comes w e) = let j = way_on i _ _ w in on j m2 h2 (e j.world)
+  way_on i m2 h2 (goes_in w same g) = inside (way_on i _ _ w) m2 same g
 
-  module _ (typed : ProgramTyped p) (marks : PlainMarks) (sound : SoundMarks p marks) (laid : IsRun marks p code at) {m : Frames} {h : List Object} {b : A} {now : Option (List ℕ)} (i : Here m h b now) where
+  module _ {marks : PlainMarks} (typed : ProgramTyped p) (sound : SoundMarks p marks) (laid : IsRun marks p code at) {m : Frames} {h : List Object} {b : A} {now : Option (List ℕ)} (i : Going S p code at budget a old m h b now) where
     abbrev here : State World
     here = state_of m (in_heap i.world h)
 

@@ -2,6 +2,7 @@
 use Rattle.std.proofs.Common.{◌≡◌, ℕ, ◌+◌, List, [], ◌∷◌, ◌++◌, refl, ap, sym, subst, ◌∙◌, map, append-nil, append_assoc}
 use Rattle.std.specs.Prelude.{Bool, true, false, Contains}
 use Rattle.std.proofs.lemmas.List.Elements.{Contains-append_left, Contains-append_right}
+use Rattle.ca_lists.proofs.Members.{has_nothing}
 use Rattle.ca_program.specs.Plain.{PlainProgram}
 use Rattle.ca_model.specs.declared.value.Value.TheVariants.{Null}
 use Rattle.ca_model.specs.Slots.{start_of}
@@ -16,7 +17,6 @@ use Rattle.ca_parallel.specs.Marks.{SoundMarks}
 use Rattle.ca_parallel.specs.Notes.{NoteGood}
 use Rattle.ca_parallel.proofs.Noted.{none_all}
 use Rattle.ca_parallel.proofs.Moved.{moved, all_serial_moved, all_ops_moved}
-use Rattle.ca_order_laws.proofs.Grown.{none_of}
 use Rattle.ca_note_laws.proofs.Good.{lists_good}
 
 -- these notes stand at the front of all
@@ -50,7 +50,7 @@ none_listed p budget =
 -- what is handed off is good, and goes to an engine that serves
 pub all_good : (p : PlainProgram) → ProgramTyped p → (marks : PlainMarks) → SoundMarks p marks → (budget : ℕ) (serves : Bool) → (serves ≡ false → marks ≡ no_marks) → (n : Note) → Contains (lists p marks budget) n → NoteGood p n × (serves ≡ true)
 all_good p typed marks sound budget true served n at = (lists_good p typed marks sound budget n at, refl)
-all_good p typed marks sound budget false served n at = absurd (none_of n (subst (λ l. Contains l n) (none_listed p budget) (subst (λ ms. Contains (lists p ms budget) n) (served refl) at)))
+all_good p typed marks sound budget false served n at = absurd (has_nothing n (subst (λ l. Contains l n) (none_listed p budget) (subst (λ ms. Contains (lists p ms budget) n) (served refl) at)))
 
 pub stands_in : (all before more : List Note) → Split all (before ++ more) → (n : Note) → Contains more n → Contains all n
 stands_in all before more s n at = subst (λ l. Contains l n) (sym s.whole) (Contains-append_left (before ++ more) s.rest n (Contains-append_right before more n at))

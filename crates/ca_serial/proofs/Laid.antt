@@ -12,7 +12,7 @@ use Rattle.ca_parallel.specs.Lists.{PlainMarks, no_marks, loop_in, either}
 use Rattle.ca_parallel.specs.Marks.{SoundMarks}
 use Rattle.ca_code.specs.declared.layout.Code.{Code as CodeHeld}
 use Rattle.ca_code.specs.Codes.{IsLaidOutOnce, IsLaidOutWith, code_seen}
-use Rattle.ca_code.specs.clauses.Laying.{Laying, Adds, HandsOn}
+use Rattle.ca_code.specs.Laying.{Laying, Adds, HandsOn}
 use Rattle.ca_code.proofs.LaidOut.{main_is}
 use Rattle.ca_code_laws.specs.Heeding.{heed_acts, heed_hands, handed_code, heeding_code, main_heeding}
 use Rattle.ca_code_laws.specs.Told.{IsLaidOut}

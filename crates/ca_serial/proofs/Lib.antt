@@ -1,3 +1,4 @@
+pub mod Arriving
 pub mod Asked
 pub mod Copied
 pub mod Endings

@@ -1,7 +1,8 @@
 -- A loop that is handed on: one instruction of the machine.
-use Rattle.std.proofs.Common.{◌≡◌, ◌<◌, ℕ, zero, suc, ◌+◌, ◌-◌, List, [], ◌∷◌, ◌++◌, length, map, get_or, Some, None, refl, ap, sym, subst, ◌∙◌, arith, append-nil}
+use Rattle.std.proofs.Common.{◌≡◌, ◌<◌, ℕ, zero, suc, ◌+◌, ◌-◌, List, [], ◌∷◌, ◌++◌, length, map, get_or, Option, Some, None, refl, ap, sym, subst, ◌∙◌, arith, append-nil}
 use Rattle.std.specs.Prelude.{Bool, true, false, cond, slice_get, Contains, Result, Ok, Err, IfOk}
 use Rattle.std.proofs.lemmas.List.Elements.{Contains-push}
+use Rattle.std.proofs.lemmas.Option.{same_Some}
 use Rattle.ca_program.specs.Plain.{PlainProgram, Statement}
 use Rattle.ca_program.specs.declared.program.ValueType.{ValueType}
 use Rattle.ca_program.specs.Kinds.{Kind, kind_type}
@@ -28,10 +29,10 @@ use Rattle.ca_code_laws.specs.Machine.{Store, State, Wanting, Next, Begun, moved
 use Rattle.ca_code_laws.specs.Runs.{Into, run_into, begun_with, begun_by}
 use Rattle.ca_steps.specs.declared.frames.Frames.{Frames}
 use Rattle.ca_steps.specs.Stands.{back_seen, seen, state_of}
-use Rattle.ca_steps.specs.clauses.Handed.{PutLocals}
+use Rattle.ca_steps.specs.Handed.{PutLocals}
 use Rattle.ca_steps.specs.Ways.{BeginsAt}
 use Rattle.ca_serial.specs.clauses.Handing.{Chose, with_note, with_notes, given, Given}
-use Rattle.ca_serial.specs.clauses.Loops.{locals_at, section_at, notes_of, begun_notes}
+use Rattle.ca_serial.specs.clauses.Loops.{GoesPast, locals_at, section_at, notes_of, begun_notes}
 use Rattle.ca_serial.proofs.Hands.{one_comes}
 
 -- ---- sections
@@ -85,16 +86,13 @@ pub record IsThat (l : LoopPlace) (line : ℕ) (loop : Statement) (tys : List Va
   pub loop_is : statement_view l.s.now ≡ loop
   pub kinds_are : map kind_type l.types.now ≡ map kind_type tys
 
-some_same : {A : Type 0} {x y : A} → Some x ≡ Some y → x ≡ y
-some_same e = cc
-
 -- the one that begins where the machine stands
 pub that_loop : (p : PlainProgram) (c : Code) (m : Frames) (n line : ℕ) (loop : Statement) (tys : List ValueType) (l : LoopPlace) → BeginsAt c m n line loop tys → l.at ≡ m.at → StandsAlone p c l → IsThat l line loop tys
 that_loop p c m n line loop tys l b at alone =
-    let lines : l.line ≡ line = some_same (sym (subst (λ (i : ℕ). slice_get c.lines i ≡ Some l.line) at alone.line) ∙ b.on_line) in
+    let lines : l.line ≡ line = same_Some _ _ (sym (subst (λ (i : ℕ). slice_get c.lines i ≡ Some l.line) at alone.line) ∙ b.on_line) in
     let own : Handed = record { loop = statement_view l.s.now; locals = map kind_type l.types.now } in
     let its : Handed = record { loop = loop; locals = map kind_type tys } in
-    let same : own ≡ its = some_same (some_same (sym (subst (λ (i : ℕ). slice_get c.loops i ≡ Some (Some own)) at alone.loop) ∙ b.is)) in
+    let same : own ≡ its = same_Some _ _ (same_Some _ _ (sym (subst (λ (i : ℕ). slice_get c.loops i ≡ Some (Some own)) at alone.loop) ∙ b.is)) in
     record { line_is = lines; loop_is = ap (λ (h : Handed). h.loop) same; kinds_are = ap (λ (h : Handed). h.locals) same }
 
 -- the section that was run is that of the loop where the machine stands
@@ -147,9 +145,6 @@ module _ {A : Type 0} {S : A → PlainProgram → List Object → List Invocatio
   handed_all a b (Ok x) ns reached = record { all = reached; part = tt }
   handed_all a b (Err y) ns reached = record { all = tt; part = whole_part a b ns reached }
 
-  pub handed_same : {T E : Type 0} (a b : A) (r : Result T E) (ns ms : List Note) → ns ≡ ms → HandedOn S p a b r ms → HandedOn S p a b r ns
-  handed_same a b r ns ms e h = subst (λ l. HandedOn S p a b r l) (sym e) h
-
   pub part_told : {T E : Type 0} (a b : A) (r : Result T E) (e : E) (ns : List Note) → r ≡ Err e → ReachedPart S p a ns b → HandedOn S p a b r ns
   part_told a b (Ok x) e ns is part = cc
   part_told a b (Err y) e ns is part = record { all = tt; part = part }
@@ -170,6 +165,14 @@ said_of P ops listed rest left taken a b h = subst (λ (k : ℕ). P (invocations
 
 pub asked_of : (P : List Invocation → ℕ → Type 0) (ops listed : List Op) (rest left taken : ℕ) → ops ≡ listed → rest ≡ left - taken → P (invocations_of listed) (left - taken) → P (invocations_of ops) rest
 asked_of P ops listed rest left taken a b h = subst (λ (k : ℕ). P (invocations_of ops) k) (sym b) (subst (λ (l : List Op). P (invocations_of l) (left - taken)) (sym a) h)
+
+module _ {ops asked : List Op} {rest : ℕ} (left taken : ℕ) (items : asked ≡ ops) (steps : rest ≡ left - taken) where
+  pub account_of : {A : Type 0} (S : A → PlainProgram → List Object → List Invocation → ℕ → A → Type 0) (p : PlainProgram) (h : List Object) (o : LoopSectioned) → IsDone o taken (invocations_of ops) → {a b : A} → S a p h (invocations_of asked) rest b → Reached S p a (notes_of h left o) b
+  account_of S p h o d {a} {b} step = accounted p a b h left o taken (invocations_of ops) d (said_of (λ l k. S a p h l k b) asked ops rest left taken items steps step)
+
+  pub given_of : (p : PlainProgram) (h after : List Object) {answer x : Option ℕ} → answer ≡ x → ((w : World) → Given p (in_heap w h) (invocations_of asked) rest after answer) → (w : World) → Given p (in_heap w h) (invocations_of ops) (left - taken) after x
+  given_of p h after {answer} {x} is told w =
+      subst (λ (y : Option ℕ). Given p (in_heap w h) (invocations_of ops) (left - taken) after y) is (said_of (λ l k. Given p (in_heap w h) l k after answer) asked ops rest left taken items steps (told w))
 
 -- ---- the instruction
 
@@ -309,3 +312,19 @@ module _ (p : PlainProgram) (c : Code) (m : Frames) (n line : ℕ) (loop : State
         (subst (λ (x : World). Comes (run_into into p) c here (state_of new x)) (noted_so heap)
         (subst (λ (f : Frames). Comes (run_into into p) c here (state_of f x)) (sym is)
         (alone_goes_in p c here n line loop (map kind_type tys) b.stands b.on_line b.is into put (not_into chose) taken listed d x (g.1 d.outcome.locals))))
+
+-- what is told of a loop that is gone into, since it puts something or can't be listed to its end
+module _ {A T E : Type 0} {S : A → PlainProgram → List Object → List Invocation → ℕ → A → Type 0} (p : PlainProgram) (m : Frames) (h : List Object) (n line : ℕ) (loop : Statement) (tys : List ValueType) (r : Result T E) (new : Frames) (go : IfOk r (λ _. new ≡ record m { at = m.at + 1; left = m.left })) {a : A} where
+  pub past_putting : puts_nothing loop ≡ false → GoesPast S p (begun_notes p h m tys line loop) m h n line loop tys r a a new h
+  past_putting put = record {
+    means = so_told r _ _ go (λ is c w into chose b. putting_enters p c m n line loop tys b h w into new is put);
+    account = handed_all p a a r (begun_notes p h m tys line loop) (unaccounted p a (begun_notes p h m tys line loop) (ap (λ b. either b (notes_of h m.left (section_at p h m tys line loop)) []) put));
+  }
+
+  pub past_stopped : puts_nothing loop ≡ true → Stopped (section_at p h m tys line loop) → GoesPast S p (begun_notes p h m tys line loop) m h n line loop tys r a a new h
+  past_stopped put stop = record {
+    means = so_told r _ _ go (λ is c w into chose b. stopped_enters p c m n line loop tys b h w into new is put stop);
+    account =
+        handed_all p a a r (begun_notes p h m tys line loop)
+        (unaccounted p a (begun_notes p h m tys line loop) (ap (λ b. either b (notes_of h m.left (section_at p h m tys line loop)) []) put ∙ none_noted h m.left (section_at p h m tys line loop) stop));
+  }

@@ -1,25 +1,20 @@
 //! Marked loops, whose calls are listed and handed to an engine.
 
-ghost use Rattle.std.specs.Prelude.{◌≡◌, ◌+◌, ℕ, [], true, false, IfOk, IfSome, List, Contains, length};
+ghost use Rattle.std.specs.Prelude.{◌≡◌, ◌+◌, ℕ, [], true, IfOk, IfSome, List, Contains};
 ghost use Rattle.ca_program.specs.View.{program_view, statement_view};
 ghost use Rattle.ca_program.specs.declared.program.ValueType.{ValueType as Typing};
 ghost use Rattle.ca_program.specs.Plain.{PlainProgram, Statement};
 ghost use Rattle.ca_program.specs.Instructions.{Code};
 ghost use Rattle.ca_meaning.specs.ProgramTyped.{ProgramTyped};
-ghost use Rattle.ca_meaning.specs.Serial.{Note, World, in_heap};
-ghost use Rattle.ca_parallel.specs.Accounts.{HandedOn};
+ghost use Rattle.ca_meaning.specs.Serial.{Note};
 ghost use Rattle.ca_parallel.specs.Notes.{NoteGood};
 ghost use Rattle.ca_note_laws.specs.Listing.{puts_nothing};
 ghost use Rattle.ca_sections.specs.declared.operations.SectionAnswer.TheVariants.{Done};
 ghost use Rattle.ca_sections.specs.Answers.{LoopIs, locals_after};
 ghost use Rattle.ca_sections.specs.Extending.{AllStand, StandsAlone};
 ghost use Rattle.ca_code.specs.Codes.{code_seen};
-ghost use Rattle.ca_code_laws.specs.Machine.{Comes};
-ghost use Rattle.ca_code_laws.specs.Runs.{Into, run_into};
-ghost use Rattle.ca_steps.specs.Stands.{state_of};
 ghost use Rattle.ca_steps.specs.Ways.{BeginsAt};
-ghost use Rattle.ca_serial.specs.clauses.Handing.{Chose, with_notes};
-ghost use Rattle.ca_serial.specs.clauses.Loops.{HasLoops, begun_notes, locals_at, notes_of, section_at};
+ghost use Rattle.ca_serial.specs.clauses.Loops.{GoesPast, HasLoops, begun_notes, locals_at, notes_of, section_at};
 
 use crate::asking::ask;
 use crate::extents::Extents;
@@ -138,8 +133,7 @@ pub(crate) fn list_on<'a, R: Threads + Wait + Sync, E: Extents>(
     requires loops { HasLoops (program_view coded.now) laid.now places.now }
     requires begins { BeginsAt (code_seen laid.now.code) frames.old count line (statement_view s.now) types.now }
     requires handed { (n : Note) → Contains (begun_notes (program_view coded.now) run.old.heap frames.old types.now line (statement_view s.now)) n → NoteGood (program_view coded.now) n × (E.serves ≡ true) }
-    ensures means { IfOk result (λ _. (c : Code) (w : World) (into : Into) → Chose into (length w.notes) false (begun_notes (program_view coded.now) run.old.heap frames.old types.now line (statement_view s.now)) → BeginsAt c frames.old count line (statement_view s.now) types.now → Comes (run_into into (program_view coded.now)) c (state_of frames.old (in_heap w run.old.heap)) (state_of frames.new (in_heap (with_notes w (begun_notes (program_view coded.now) run.old.heap frames.old types.now line (statement_view s.now))) run.new.heap))) }
-    ensures account { HandedOn E.Accounts (program_view coded.now) (E.account engine.old) (E.account engine.new) result (begun_notes (program_view coded.now) run.old.heap frames.old types.now line (statement_view s.now)) }
+    ensures past { GoesPast E.Accounts (program_view coded.now) (begun_notes (program_view coded.now) run.old.heap frames.old types.now line (statement_view s.now)) frames.old run.old.heap count line (statement_view s.now) types.now result (E.account engine.old) (E.account engine.new) frames.new run.new.heap }
     ensures program { run.new.program ≡ run.old.program }
 {
     if !puts_nothing(s) {
@@ -185,8 +179,7 @@ fn run_listed<'a, R: Threads + Wait + Sync, E: Extents>(
     requires handed { (n : Note) → Contains (notes_of run.old.heap frames.old.left (section_at (program_view coded.now) run.old.heap frames.old types.now line (statement_view s.now))) n → NoteGood (program_view coded.now) n × (E.serves ≡ true) }
     requires listed { LoopIs (Done taken) (section_at (program_view coded.now) run.old.heap frames.old types.now line (statement_view s.now)) [] lists.now.listed.items }
     requires locals { lists.now.values.items ≡ locals_after (section_at (program_view coded.now) run.old.heap frames.old types.now line (statement_view s.now)) (locals_at frames.old types.now) }
-    ensures means { IfOk result (λ _. (c : Code) (w : World) (into : Into) → Chose into (length w.notes) false (notes_of run.old.heap frames.old.left (section_at (program_view coded.now) run.old.heap frames.old types.now line (statement_view s.now))) → BeginsAt c frames.old count line (statement_view s.now) types.now → Comes (run_into into (program_view coded.now)) c (state_of frames.old (in_heap w run.old.heap)) (state_of frames.new (in_heap (with_notes w (notes_of run.old.heap frames.old.left (section_at (program_view coded.now) run.old.heap frames.old types.now line (statement_view s.now)))) run.new.heap))) }
-    ensures account { HandedOn E.Accounts (program_view coded.now) (E.account engine.old) (E.account engine.new) result (notes_of run.old.heap frames.old.left (section_at (program_view coded.now) run.old.heap frames.old types.now line (statement_view s.now))) }
+    ensures past { GoesPast E.Accounts (program_view coded.now) (notes_of run.old.heap frames.old.left (section_at (program_view coded.now) run.old.heap frames.old types.now line (statement_view s.now))) frames.old run.old.heap count line (statement_view s.now) types.now result (E.account engine.old) (E.account engine.new) frames.new run.new.heap }
     ensures program { run.new.program ≡ run.old.program }
 {
     let rest = frames.left().saturating_sub(taken);

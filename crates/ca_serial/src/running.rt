@@ -18,7 +18,7 @@ ghost use Rattle.ca_code_laws.specs.Runs.{beginning};
 ghost use Rattle.ca_steps.specs.Ops.{Runs};
 ghost use Rattle.ca_steps.specs.Stands.{state_of};
 ghost use Rattle.ca_serial.specs.Runs.{run_with, prints_of, OnWrite};
-ghost use Rattle.ca_serial.specs.clauses.Driving.{Drives, IsMade};
+ghost use Rattle.ca_serial.specs.clauses.Driving.{Drives, IsMade, MayDrive};
 
 use crate::extents::Extents;
 use crate::handing::hand_on;
@@ -201,10 +201,7 @@ fn run_made<'a, R: Threads + Wait + Sync, E: Extents, K: Sink>(
     engine: &mut E,
     sink: &mut K,
 ) -> Result<Outcome, RunError>
-    requires ready { E.ready }
-    requires program { ProgramTyped (program_view program.now) }
-    requires sound { SoundMarks (program_view program.now) marks.now }
-    requires served { E.serves ≡ false → marks.now ≡ no_marks }
+    requires may { MayDrive E.ready E.serves (program_view program.now) marks.now }
     requires made { IsMade marks.now (program_view program.now) laid.now places.now }
     ensures { Drives E.Accounts (program_view program.now) marks.now budget result (E.account engine.old) (E.account engine.new) (K.written sink.old) (K.written sink.new) (K.faults sink.old) (K.faults sink.new) }
 {
@@ -229,10 +226,7 @@ fn run_coded<'a, R: Threads + Wait + Sync, E: Extents, K: Sink>(
     engine: &mut E,
     sink: &mut K,
 ) -> Result<Outcome, RunError>
-    requires ready { E.ready }
-    requires program { ProgramTyped (program_view program.now) }
-    requires sound { SoundMarks (program_view program.now) marks.now }
-    requires served { E.serves ≡ false → marks.now ≡ no_marks }
+    requires may { MayDrive E.ready E.serves (program_view program.now) marks.now }
     requires made { IsMade marks.now (program_view program.now) laid.now places.now }
     requires coded { coded.now ≡ program.now }
     ensures { Drives E.Accounts (program_view program.now) marks.now budget result (E.account engine.old) (E.account engine.new) (K.written sink.old) (K.written sink.new) (K.faults sink.old) (K.faults sink.new) }

@@ -1,6 +1,7 @@
 -- In the tree of some tokens the first and the last part of each `for` are declarations or assignments.
-use Rattle.std.proofs.Common.{ℕ, List, [], ◌∷◌, ◌++◌, Bool, true, false, Option, Some, None, cond}
+use Rattle.std.proofs.Common.{ℕ, List, [], ◌∷◌, Bool, true, false, Option, Some, None, cond}
 use Rattle.std.specs.List.{AllByRecursion}
+use Rattle.ca_lists.proofs.Places.{all_append}
 use Rattle.ca_descent.specs.Exact.{Following, following_end, following}
 use Rattle.ca_tree.specs.declared.token.Token.{Token}
 use Rattle.ca_tree.specs.declared.tree.TypeNode.{TypeNode}
@@ -14,13 +15,9 @@ use Rattle.ca_lock_laws.specs.Courses.{IsHead, HeadsStand, AllHeadsStand, BodyHe
 abbrev Gives : {A : Type 0} → (A → Type 0) → Deriving A → Type 0
 Gives {A} P D = (free : ℕ) (s r : List Token) (x : A) → D free s x r → P x
 
-both : {A : Type 0} (P : A → Type 0) (xs ys : List A) → AllByRecursion P xs → AllByRecursion P ys → AllByRecursion P (xs ++ ys)
-both P [] ys a b = b
-both P (x ∷ xs) ys a b = (a.0, both P xs ys a.1 b)
-
 lines_stand : {A B : Type 0} {P : A → Type 0} {D : Deriving (List A)} {close : Token → Option B} → Gives (AllByRecursion P) D → Gives (AllByRecursion P) (Lines D close)
 lines_stand g free s r xs (lines_end c) = tt
-lines_stand {P = P} g free s r xs (lines_and {q = q} {xs = us} {ys = vs} d ds) = both P us vs (g free s q us d) (lines_stand g free q r vs ds)
+lines_stand {P = P} g free s r xs (lines_and {q = q} {xs = us} {ys = vs} d ds) = all_append P us vs (g free s q us d) (lines_stand g free q r vs ds)
 
 one_stands : {A : Type 0} {P : A → Type 0} {D : Deriving A} → Gives P D → Gives (AllByRecursion P) (One D)
 one_stands g free s r xs (one {x = x} d) = (g free s r x d, tt)
@@ -102,7 +99,7 @@ operations (method_member m ∷ ms) h = with_operation m.result m (operations_in
 
 all_operations : (cs : List ClassTree) → AllByRecursion ClassStands cs → AllByRecursion BodyHeadsStand (operations_of cs)
 all_operations [] h = tt
-all_operations (c ∷ cs) h = both BodyHeadsStand (operations_in c.members) (operations_of cs) (operations c.members h.0) (all_operations cs h.1)
+all_operations (c ∷ cs) h = all_append BodyHeadsStand (operations_in c.members) (operations_of cs) (operations c.members h.0) (all_operations cs h.1)
 
 -- ---- the whole
 

@@ -1,3 +1,2 @@
-mod Holding
 pub mod Shapes
 pub mod Heads

@@ -12,12 +12,12 @@ use Rattle.ca_program.specs.Plain.{PlainMethod, PlainProgram}
 use Rattle.ca_resolve.specs.Judged.{Judged, fine, both, within, unless, beside, each}
 use Rattle.ca_resolve.specs.Scopes.{Target, to_local, to_field, to_item, Ty, ty_of, find_local, classes_of}
 use Rattle.ca_resolve.specs.Values.{place_of, in_order, judge_call}
+use Rattle.ca_resolve.proofs.Holding.{Holds, within_holds, within_any, both_hold, unless_holds, beside_holds, any_holds, of_fine}
 use Rattle.ca_types.specs.Rules.{local_once, called_operation, creates_nothing, prints_nothing, return_stands, local_limit, loop_limit, class_limit, class_once, member_once, ends_with_return}
 use Rattle.ca_types.specs.Statements.{Env, enter_block, leave_block, counted, behind, behind_all, judge_type, Source, of_value, of_new, creates, judge_wanted, judge_right, put, judge_put_target, right_ty, judge_assign, judge_start, start_creates, judge_local, judge_call_statement, judge_condition, judge_return, judge_printed, judge_print, nothing, first_part, statements_in, judge_statement, judge_each, judge_statements}
 use Rattle.ca_types.specs.Classes.{along, method_limit, method_begin, body_begin, judge_parameters, method_of, judge_result_type, judge_method, judge_field_member, MemberEnv, Member, a_field, a_method, Members, members_of, method_and, judge_member, behind_member, judge_members, class_begin, ClassEnv, judge_class, judge_named, behind_class, Parts, parts_of, judge_classes, first_class, main_begin, program_of, judge}
 use Rattle.ca_lock_laws.specs.Paths.{IsPut, puts_local, puts_field, puts_item, creates_local, creates_field, creates_item, declared, assigned, printed}
 use Rattle.ca_lock_laws.specs.Resolves.{Resolves, an_empty, a_line, a_call, a_return, a_block, an_if, an_else, a_while, a_for, AllResolve, none, and_all, operation_and, operations_in, operations_of, AllBodies, ProgramResolves}
-use Rattle.ca_shape_laws.proofs.Holding.{Holds, within_holds, within_any, both_hold, unless_holds, beside_holds, any_holds, of_fine}
 
 -- ---- statements with no other inside
 

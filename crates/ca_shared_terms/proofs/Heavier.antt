@@ -6,7 +6,7 @@ use Rattle.ca_folds.specs.declared.operator.FoldOp.{FoldOp}
 use Rattle.ca_forms.specs.declared.sort.Sort.{Sort}
 use Rattle.ca_forms.specs.declared.sort.Sort.TheVariants.{Bool as Truth}
 use Rattle.ca_norm.specs.Terms.{PlainTerm, number, truth, null, atom, add, sub, neg, mul, divide, remainder, less, less_equal, same, not, and, or, choose, read, read_at, result, select, put, add_at, fold, sweep, sort_of}
-use Rattle.ca_norm.specs.Weights.{same_spread, spread, share, nodes, depth, weight_of}
+use Rattle.ca_norm.specs.Weights.{same_spread, spread, nodes, depth, weight_of}
 use Rattle.ca_shared_terms.specs.Heavy.{is_heavy}
 
 some_same : (s : Sort) (a b : ℕ) → 0 < a → 0 < same_spread s a b
@@ -41,33 +41,6 @@ mutual
   some_spread (add_at a i x) = omega (arith, some_spread a)
   some_spread (fold o a b) = omega (arith, some_spread a)
   some_spread (sweep a f t x) = omega (arith, some_spread a)
-
-pub some_share : (t : PlainTerm) → 0 < share t
-some_share (put a i x) = omega (arith, some_share a)
-some_share (add_at a i x) = omega (arith, some_share a)
-some_share (sweep a f t x) = omega (arith, some_share a)
-some_share (choose c a b) = omega (arith, some_share b)
-some_share (number n) = omega arith
-some_share (truth b) = omega arith
-some_share null = omega arith
-some_share (atom s g n) = omega arith
-some_share (add a b) = omega arith
-some_share (sub a b) = omega arith
-some_share (neg a) = omega arith
-some_share (mul a b) = omega arith
-some_share (divide a n) = omega arith
-some_share (remainder a n) = omega arith
-some_share (less a b) = omega arith
-some_share (less_equal a b) = omega arith
-some_share (same a b) = omega arith
-some_share (not a) = omega arith
-some_share (and a b) = omega arith
-some_share (or a b) = omega arith
-some_share (read s p c f) = omega arith
-some_share (read_at s p c f i) = omega arith
-some_share (result s m p ts) = omega arith
-some_share (select a i) = omega arith
-some_share (fold o a b) = omega arith
 
 -- a term that is no smaller in each of the three numbers
 pub heavier : (t u : PlainTerm) → spread t ≤ spread u → nodes t ≤ nodes u → depth t ≤ depth u → is_heavy t ≡ true → is_heavy u ≡ true

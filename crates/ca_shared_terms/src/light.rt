@@ -2,7 +2,7 @@
 
 ghost use Rattle.std.specs.Prelude.{◌≡◌, false, true, IfOk};
 ghost use Rattle.ca_forms.specs.declared.sort.Sort.{Sort};
-ghost use Rattle.ca_norm.specs.Terms.{number, truth, null, atom, add, sub, neg, mul, divide, remainder, less, less_equal, same, not, and, or, choose, read, read_at, result as call_result, select, put, add_at, fold, sweep, sort_of, item_sort, terms_of};
+ghost use Rattle.ca_norm.specs.Terms.{number, truth, null, atom, add, sub, neg, mul, divide, remainder, less, less_equal, same, not, and, or, choose, read, read_at, result as call_result, select, put, add_at, fold, sweep, sort_of, terms_of};
 ghost use Rattle.ca_norm.specs.Measures.{Measures, MeasuresAll};
 ghost use Rattle.ca_shared_terms.specs.Nodes.{node_of};
 ghost use Rattle.ca_shared_terms.specs.Heavy.{is_heavy};
@@ -10,7 +10,7 @@ ghost use Rattle.ca_shared_terms.specs.Heavy.{is_heavy};
 use crate::errors::ExecutionError;
 use ca_folds::FoldOp;
 use ca_forms::parts::let_go;
-use ca_norm::{MOST_WEIGHT, Measure, Sort};
+use ca_norm::{MOST_WEIGHT, Measure, Sort, item_sort};
 use std::alloc::{AllocError, Global};
 use std::marker::Model;
 use std::rc::Rc;
@@ -122,18 +122,6 @@ fn measure_of_all(terms: &[LightTerm]) -> Measure
         all = all.along(term.measure);
     }
     all
-}
-
-/// The sort of the items of an array.
-fn item_sort(sort: Sort) -> Sort
-    ensures { result ≡ item_sort sort }
-{
-    match sort {
-        Sort::LongArray => Sort::Long,
-        Sort::BoolArray => Sort::Bool,
-        Sort::PointerArray => Sort::Pointer,
-        other => other,
-    }
 }
 
 impl LightTerm {

@@ -1,7 +1,15 @@
 pub mod Doing
+pub mod Events
+pub mod Handed
+pub mod Here
+pub mod Leaving
 pub mod Lists
 pub mod Ops
+pub mod Passing
+pub mod Running
 pub mod Stands
+pub mod Stops
+pub mod Telling
 pub mod Ties
 pub mod Ways
-pub mod clauses
+pub mod Wide

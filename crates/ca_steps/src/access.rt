@@ -8,7 +8,7 @@ ghost use Rattle.ca_code_laws.specs.Machine.{Back, enters, listed, row};
 ghost use Rattle.ca_code_laws.specs.Words.{pointer_of};
 ghost use Rattle.ca_steps.specs.Lists.{has_some};
 ghost use Rattle.ca_steps.specs.Stands.{seen};
-ghost use Rattle.ca_steps.specs.clauses.Telling.{Adds, Looks};
+ghost use Rattle.ca_steps.specs.Telling.{Adds, Looks};
 
 use ca_code::Kind;
 use ca_model::{Heap, Value};
@@ -54,13 +54,25 @@ pub trait Access {
         ensures { result ≡ true → (w : World) (i : Invocation) (k : ℕ) → (accesses (fixed self.now)).call w i k ≡ enters w };
 
     /// Lists a call of an operation on an object, whose arguments stand in slots from one on, by their kinds, if calls are listed.
-    fn list(&mut self, op: OpId, receiver: u32, kinds: &[Kind], slots: &[i64], first: usize) -> bool
-        ensures listed { result ≡ true → (past : Past) (k : ℕ) → (accesses (fixed self.old)).call (world self.old past) (invocation receiver op (row (seen slots.now) first (map kind_seen kinds.now))) k ≡ listed (world self.new past) }
+    #[inline(always)]
+    fn list(
+        &mut self,
+        _op: OpId,
+        _receiver: u32,
+        _kinds: &[Kind],
+        _slots: &[i64],
+        _first: usize,
+    ) -> bool
+        ensures listed { result ≡ true → (past : Past) (k : ℕ) → (accesses (fixed self.old)).call (world self.old past) (invocation _receiver _op (row (seen _slots.now) _first (map kind_seen _kinds.now))) k ≡ listed (world self.new past) }
         ensures fixed { fixed self.new ≡ fixed self.old }
-        ensures fits { (bs : List Back) → Fits self.old bs → Fits self.new bs };
+        ensures fits { (bs : List Back) → Fits self.old bs → Fits self.new bs }
+    {
+        false
+    }
 
     /// An operation whose body begins at a place is about to be entered on the object that this number names in a slot, if it names one.
-    fn reach(&self, receiver: i64, start: u32);
+    #[inline(always)]
+    fn reach(&self, _receiver: i64, _start: u32) {}
 
     /// A body runs with others below it, or with none.
     fn stand(&mut self, deep: bool)

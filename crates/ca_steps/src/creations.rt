@@ -10,7 +10,7 @@ ghost use Rattle.ca_code.specs.Seen.{kind_seen};
 ghost use Rattle.ca_code_laws.specs.Machine.{Next, act};
 ghost use Rattle.ca_code_laws.specs.Runs.{run_access};
 ghost use Rattle.ca_steps.specs.Stands.{state_of};
-ghost use Rattle.ca_steps.specs.clauses.Leaving.{Acts, Makes, made_in};
+ghost use Rattle.ca_steps.specs.Leaving.{Acts, Makes, made_in};
 
 use crate::access::{Access, Look};
 use crate::calls::Went;

@@ -1,13 +1,13 @@
 //! The world of a run that passes a door.
 
-ghost use Rattle.std.specs.Prelude.{◌≡◌, true};
+ghost use Rattle.std.specs.Prelude.{◌≡◌};
 
 use crate::access::{Access, Look};
 use crate::doors::Door;
 use crate::run::InRun;
-use ca_code::{Code, Kind};
+use ca_code::Code;
 use ca_model::{Heap, Value};
-use ca_program::{FieldId, OpId, Program};
+use ca_program::{FieldId, Program};
 
 /// A run, and the door that it tells of calls within what was handed on: of those that enter a body in front of a place.
 #[derive(Drop)]
@@ -68,18 +68,6 @@ impl<'s, 'd, D: Door> Access for Gated<'s, 'd, D> {
     #[inline(always)]
     fn enters(&self) -> bool {
         true
-    }
-
-    #[inline(always)]
-    fn list(
-        &mut self,
-        _op: OpId,
-        _receiver: u32,
-        _kinds: &[Kind],
-        _slots: &[i64],
-        _first: usize,
-    ) -> bool {
-        false
     }
 
     #[inline(always)]

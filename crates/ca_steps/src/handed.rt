@@ -5,7 +5,7 @@ ghost use Rattle.ca_program.specs.Kinds.{kind_type};
 ghost use Rattle.ca_code.specs.Seen.{kind_seen};
 ghost use Rattle.ca_code_laws.specs.Machine.{row};
 ghost use Rattle.ca_steps.specs.Stands.{seen};
-ghost use Rattle.ca_steps.specs.clauses.Handed.{PutLocals, WordsPut};
+ghost use Rattle.ca_steps.specs.Handed.{PutLocals, WordsPut};
 
 use crate::frames::Frames;
 use crate::words::{has_kind, word};

@@ -8,7 +8,7 @@ ghost use Rattle.ca_program.specs.View.{program_view};
 ghost use Rattle.ca_code.specs.Codes.{code_seen};
 ghost use Rattle.ca_steps.specs.Ops.{Runs};
 ghost use Rattle.ca_steps.specs.Ways.{BeginsAt, HandsAt};
-ghost use Rattle.ca_steps.specs.clauses.Passing.{Arrives, HaltsPast, WentIn};
+ghost use Rattle.ca_steps.specs.Passing.{Arrives, HaltsPast, WentIn};
 
 use crate::calls::Went;
 use crate::doors::{Door, Mark};

@@ -39,7 +39,7 @@ pub use fast::do_op;
 pub use frames::{Frames, Waiting, number_of, receiver_of};
 pub use here::Here;
 pub use inside::run_on;
-pub use loads::{Read, Target, field_of, look_at};
+pub use loads::{Read, Target, field_of, look_at, own_field, own_look};
 pub use numbers::{Out, sum_of};
 pub use ops::{Narrow, Op};
 pub use ran::{Exit, Ran, Stop};

@@ -5,11 +5,10 @@ ghost use Rattle.ca_meaning.specs.Serial.{put_own};
 
 use crate::access::{Access, Look};
 use crate::frames::receiver_of;
-use crate::loads::{field_of, look_at};
+use crate::loads::{field_of, own_field, own_look};
 use crate::numbers::sum_of;
-use ca_code::Kind;
 use ca_model::{Heap, Value};
-use ca_program::{FieldId, OpId, Program};
+use ca_program::{FieldId, Program};
 
 /// Puts a value into an item of a field of the object that a value names, if there is one.
 #[inline(always)]
@@ -62,40 +61,16 @@ impl<'a> Access for InRun<'a> {
     }
 
     #[inline(always)]
-    fn list(
-        &mut self,
-        _op: OpId,
-        _receiver: u32,
-        _kinds: &[Kind],
-        _slots: &[i64],
-        _first: usize,
-    ) -> bool {
-        false
-    }
-
-    fn reach(&self, _receiver: i64, _start: u32) {}
-
-    #[inline(always)]
     fn stand(&mut self, _deep: bool) {}
 
     #[inline(always)]
     fn own(&self, this: Value, f: FieldId) -> Option<Value> {
-        match this {
-            Value::Ref(n) => Some(field_of(&self.heap, n, f)),
-            Value::Null => Some(Value::Null),
-            Value::Long(_) => Some(Value::Null),
-            Value::Bool(_) => Some(Value::Null),
-        }
+        Some(own_field(&self.heap, this, f))
     }
 
     #[inline(always)]
     fn own_item(&self, this: Value, f: FieldId, index: i64) -> Look {
-        match this {
-            Value::Ref(n) => look_at(&self.heap, n, f, index),
-            Value::Null => Look::Outside,
-            Value::Long(_) => Look::Outside,
-            Value::Bool(_) => Look::Outside,
-        }
+        own_look(&self.heap, this, f, index)
     }
 
     #[inline(always)]

@@ -1,11 +1,20 @@
 //! Values in slots.
 
 ghost use Rattle.std.specs.Prelude.{◌≡◌, IfSome};
+ghost use Rattle.ca_model.specs.declared.value.Value.TheVariants.{Ref};
 ghost use Rattle.ca_code.specs.Seen.{kind_seen};
 ghost use Rattle.ca_code_laws.specs.Words.{has_kind, read_as, word};
 
 use ca_code::Kind;
 use ca_model::Value;
+
+/// The number of a pointer to an object.
+#[inline(always)]
+pub(crate) fn name_of(id: u32) -> i64
+    ensures { result ≡ word (Ref id) }
+{
+    id as i64 + 1
+}
 
 /// The number of a value.
 #[inline(always)]
@@ -17,7 +26,7 @@ pub fn word(v: Value) -> i64
         Value::Bool(true) => 1,
         Value::Bool(false) => 0,
         Value::Null => 0,
-        Value::Ref(id) => id as i64 + 1,
+        Value::Ref(id) => name_of(id),
     }
 }
 

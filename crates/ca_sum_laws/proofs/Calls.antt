@@ -2,6 +2,7 @@
 use Rattle.std.proofs.Common.{◌≡◌, ℕ, suc, ◌+◌, ◌<◌, List, [], ◌∷◌, ◌++◌, length, map, Option, Some, None, refl, ap, sym, subst, ◌∙◌, arith, append-nil, append_assoc}
 use Rattle.std.specs.Prelude.{slice_get, slice_set, Contains, All}
 use Rattle.std.proofs.lemmas.List.Elements.{All-append, All-cons, All-head, All-nil, All-tail, Contains-append_right}
+use Rattle.ca_lists.proofs.Members.{has_only}
 use Rattle.ca_program.specs.declared.program.ClassId.{ClassId}
 use Rattle.ca_program.specs.declared.program.FieldId.{FieldId}
 use Rattle.ca_program.specs.declared.program.OpId.{OpId}
@@ -26,7 +27,6 @@ use Rattle.ca_order_laws.specs.Pending.{Leaves, PendingRun, CompleteRun, rests, 
 use Rattle.ca_order_laws.specs.Order.{StandsFor, AllInside}
 use Rattle.ca_order_laws.proofs.Decided.{decide_call}
 use Rattle.ca_order_laws.proofs.Frozen.{any_frozen_heap, there_too}
-use Rattle.ca_order_laws.proofs.Grown.{single_is}
 use Rattle.ca_order_laws.proofs.Places.{one_some}
 use Rattle.ca_order_laws.proofs.SerialOrder.{depth_first}
 use Rattle.ca_order_laws.proofs.Setting.{GoodCall, GoodObject, method_of}
@@ -243,7 +243,7 @@ module _ (p : PlainProgram) (program : ProgramTyped p) (roots : List OpId) (x : 
 pub calls_lead : CallsLead
 calls_lead p program roots x is parallel summed frozen h heap standing t may budget after steps r =
     let well : AllWellTyped p h (call_of t ∷ []) = well_typed_there p x frozen h standing (call_of t ∷ []) (may.typed, tt) in
-    let inside : AllInside x (call_of t ∷ []) = λ i c. subst (λ (j : Invocation). Contains x.ops j.op) (single_is (call_of t) i c) may.inside in
+    let inside : AllInside x (call_of t ∷ []) = λ i c. subst (λ (j : Invocation). Contains x.ops j.op) (has_only (call_of t) i c) may.inside in
     let done = (depth_first p program roots x is parallel h standing.heap (call_of t ∷ []) well inside budget after steps).0 r in
     let run : CompleteRun p h h (call_of t ∷ []) after steps = done.1 in
     let good : GoodHeap p program roots x is parallel summed frozen heap h = good_heap p program roots x is parallel summed frozen heap h standing in

@@ -1,7 +1,8 @@
 -- What an entry of a summed extent changes: the same on every object, as on the frozen one.
-use Rattle.std.proofs.Common.{◌≡◌, ℕ, ◌+◌, List, [], ◌∷◌, ◌++◌, length, Option, Some, None, refl, ap, sym, subst, ◌∙◌, arith, ℤ, pos, ◌+ℤ◌, ◌-ℤ◌, Bool, true, false, cond, nat_eq, eq-eqb, ne_eqb}
+use Rattle.std.proofs.Common.{◌≡◌, ℕ, ◌+◌, List, [], ◌∷◌, ◌++◌, length, Option, Some, None, refl, ap, sym, subst, ◌∙◌, arith, ℤ, pos, ◌+ℤ◌, ◌-ℤ◌, Bool, true, false, cond, nat_eq, eq-eqb, ne_eqb, length-set}
 use Rattle.std.specs.Prelude.{slice_get, slice_set, Contains}
 use Rattle.std.proofs.lemmas.Int.{ints}
+use Rattle.ca_lists.proofs.Places.{get_set_here, same_by_places}
 use Rattle.ca_program.specs.declared.program.OpId.{OpId}
 use Rattle.ca_program.specs.declared.program.ClassId.{ClassId}
 use Rattle.ca_program.specs.Plain.{PlainProgram}
@@ -20,7 +21,7 @@ use Rattle.ca_parallel.specs.Parallel.{Parallel}
 use Rattle.ca_order_laws.specs.Order.{StandsFor}
 use Rattle.ca_order_laws.proofs.Decided.{decide_nat}
 use Rattle.ca_order_laws.proofs.Weights.{Decides, equal, other}
-use Rattle.ca_order_laws.proofs.Places.{get_set, get_else, set_length, one_some}
+use Rattle.ca_order_laws.proofs.Places.{get_else, one_some}
 use Rattle.ca_order_laws.proofs.Sections.{leaves_by, at_all}
 use Rattle.ca_order_laws.proofs.Setting.{GoodCall, GoodObject, good_object, kept_object, method_of}
 use Rattle.ca_logs.specs.declared.log.Entry.{Entry}
@@ -32,7 +33,7 @@ use Rattle.ca_sum_laws.specs.Moves.{plus, Moved, MovesAlike, EndsAlike, both_don
 use Rattle.ca_sum_laws.specs.Replicas.{MayRun}
 use Rattle.ca_sum_laws.proofs.Alike.{move_alike}
 use Rattle.ca_sum_laws.proofs.Slots.{object_fits}
-use Rattle.ca_sum_laws.proofs.Heaps.{moved_slots, moved_heap, moved_is, moved_option, moved_at, Still, still_option, moved_back, SameKind, objects_kinds, same_lists}
+use Rattle.ca_sum_laws.proofs.Heaps.{moved_slots, moved_heap, moved_is, moved_option, moved_at, Still, still_option, moved_back, SameKind, objects_kinds}
 
 -- ---- what an entry changes
 
@@ -234,7 +235,7 @@ module _ (p : PlainProgram) (program : ProgramTyped p) (roots : List OpId) (x : 
 
   -- a heap in which an entry ran
   pub entered : (h : List Object) → GoodHeap h → (e : Entry) (o after : Object) → slice_get h e.task.op.receiver ≡ Some o → after.class ≡ o.class → Moved (change p frozen e) o.slots after.slots → slice_set h e.task.op.receiver after ≡ moved_heap (change_at p frozen e) h
-  entered h g e o after found class m = same_lists _ _ (λ k. from k (decide_nat e.task.op.receiver k) ∙ sym (moved_at (change_at p frozen e) h k))
+  entered h g e o after found class m = same_by_places _ _ (λ k. from k (decide_nat e.task.op.receiver k) ∙ sym (moved_at (change_at p frozen e) h k))
     where
       n : ℕ
       n = e.task.op.receiver
@@ -247,13 +248,13 @@ module _ (p : PlainProgram) (program : ProgramTyped p) (roots : List OpId) (x : 
 
       from : (k : ℕ) → Decides n k → slice_get (slice_set h n after) k ≡ moved_option (change_at p frozen e k) (slice_get h k)
       from k (equal same) = subst (λ k. slice_get (slice_set h n after) k ≡ moved_option (change_at p frozen e k) (slice_get h k)) same
-          (get_set h n o after found ∙ sym (ap (λ z. moved_option (change_at p frozen e n) z) found
+          (get_set_here h n o after found ∙ sym (ap (λ z. moved_option (change_at p frozen e n) z) found
           ∙ ap (λ c. made c (moved_slots (change_at p frozen e n) o.slots)) (sym class)
           ∙ ap (λ ss. made after.class ss) (sym (moved_is (change_at p frozen e n) o.slots after.slots record { at = λ f. m.at f ∙ ap (λ d. plus (slice_get o.slots f) d) (sym (here f)) }))))
       from k (other ne) = get_else h n k after ne ∙ sym (still_option (change_at p frozen e k) (slice_get h k) (still_at h g k) (λ f. ap (λ b. cond b (change p frozen e f) (pos 0)) (ne_eqb n k ne)))
 
   pub entered_good : (h : List Object) → GoodHeap h → (e : Entry) → MayRun p x frozen e.task → (o after : Object) → slice_get h e.task.op.receiver ≡ Some o → Completes p frozen e.task.op.receiver o e.task.op.op e.task.op.args (outcome_of e after) → GoodHeap (slice_set h e.task.op.receiver after)
-  entered_good h g e may o after found c = record { as_many = set_length h e.task.op.receiver after ∙ g.as_many; objects = λ k q f. from k q (decide_nat e.task.op.receiver k) f }
+  entered_good h g e may o after found c = record { as_many = length-set h e.task.op.receiver after ∙ g.as_many; objects = λ k q f. from k q (decide_nat e.task.op.receiver k) f }
     where
       n : ℕ
       n = e.task.op.receiver
@@ -263,6 +264,6 @@ module _ (p : PlainProgram) (program : ProgramTyped p) (roots : List OpId) (x : 
 
       from : (k : ℕ) (q : Object) → Decides n k → slice_get (slice_set h n after) k ≡ Some q → GoodObject p x frozen k q
       from k q (equal same) f =
-          let z : after ≡ q = one_some _ after q (ap (λ k. slice_get (slice_set h n after) k) (sym same) ∙ get_set h n o after found) f in
+          let z : after ≡ q = one_some _ after q (ap (λ k. slice_get (slice_set h n after) k) (sym same) ∙ get_set_here h n o after found) f in
           subst (λ q. GoodObject p x frozen k q) z (subst (λ k. GoodObject p x frozen k after) same kept)
       from k q (other ne) f = g.objects k q (sym (get_else h n k after ne) ∙ f)

@@ -4,6 +4,7 @@ use Rattle.std.specs.Prelude.{Contains}
 use Rattle.std.specs.Int.{int_wrap, w64}
 use Rattle.std.proofs.lemmas.Int.{int_wrap_fits, ints}
 use Rattle.std.proofs.lemmas.List.Elements.{Contains-push}
+use Rattle.ca_lists.proofs.Members.{has_only}
 use Rattle.ca_tree.specs.declared.tree.AssignOp.TheVariants.{Put, Add, Mul}
 use Rattle.ca_tree.specs.declared.tree.BinaryOp.TheVariants.{Minus, Times}
 use Rattle.ca_program.specs.declared.program.ClassId.{ClassId}
@@ -13,7 +14,6 @@ use Rattle.ca_program.specs.Plain.{local, own, read, binary, put_field, print_va
 use Rattle.ca_model.specs.declared.value.Value.TheVariants.{Long}
 use Rattle.ca_model.specs.declared.value.Slot.TheVariants.{One}
 use Rattle.ca_model.specs.declared.value.Object.{Object}
-use Rattle.ca_order_laws.proofs.Grown.{single_is}
 use Rattle.ca_sum_laws.specs.Summed.{OnlySums}
 use Rattle.ca_sum_laws.specs.Replicas.{all_merged}
 
@@ -35,7 +35,7 @@ abbrev written : List FieldId
 written = n ∷ []
 
 key_is_constant : ¬ Contains written key
-key_is_constant c = let e = ap (λ (f : FieldId). f.field) (single_is n key c) in absurd (omega (arith, e))
+key_is_constant c = let e = ap (λ (f : FieldId). f.field) (has_only n key c) in absurd (omega (arith, e))
 
 -- n += v;
 adds_a_parameter : OnlySums written (put_field 1 n Add (local v))

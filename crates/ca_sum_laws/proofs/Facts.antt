@@ -2,6 +2,7 @@
 use Rattle.std.proofs.Common.{List, [], ◌∷◌, subst, ⊎_elim}
 use Rattle.std.specs.Prelude.{Contains}
 use Rattle.std.proofs.lemmas.List.Elements.{Contains-append_cases}
+use Rattle.ca_lists.proofs.Members.{has_nothing, has_only}
 use Rattle.ca_program.specs.declared.program.OpId.{OpId}
 use Rattle.ca_program.specs.Plain.{PlainProgram}
 use Rattle.ca_model.specs.declared.value.Object.{Object}
@@ -9,7 +10,6 @@ use Rattle.ca_model.specs.Typed.{TypedHeap}
 use Rattle.ca_meaning.specs.ProgramTyped.{ProgramTyped}
 use Rattle.ca_parallel.specs.Extents.{Extent, IsExtentOf}
 use Rattle.ca_parallel.specs.Parallel.{Parallel}
-use Rattle.ca_order_laws.proofs.Grown.{none_of, single_is}
 use Rattle.ca_logs.specs.declared.log.Entry.{Entry}
 use Rattle.ca_logs.specs.Entries.{call_of}
 use Rattle.ca_sum_laws.specs.Summed.{Summed}
@@ -21,8 +21,8 @@ use Rattle.ca_sum_laws.proofs.Running.{AllFree, none_free, free_and, Told, told,
 
 module _ (p : PlainProgram) (program : ProgramTyped p) (roots : List OpId) (x : Extent) (is : IsExtentOf p roots x) (parallel : Parallel p x) (summed : (op : OpId) → Contains x.ops op → Summed p x.written op) (frozen : List Object) (heap : TypedHeap p frozen) where
   free_at : {es : List Entry} → AllFree p program roots x is parallel summed frozen heap es → (e : Entry) → Contains es e → Free p program roots x is parallel summed frozen heap e
-  free_at none_free e c = absurd (none_of e c)
-  free_at (free_and y es f a) e c = ⊎_elim (λ b. subst (λ z. Free p program roots x is parallel summed frozen heap z) (single_is y e b) f) (λ b. free_at a e b) (Contains-append_cases (y ∷ []) es e c)
+  free_at none_free e c = absurd (has_nothing e c)
+  free_at (free_and y es f a) e c = ⊎_elim (λ b. subst (λ z. Free p program roots x is parallel summed frozen heap z) (has_only y e b) f) (λ b. free_at a e b) (Contains-append_cases (y ∷ []) es e c)
 
 pub ran_on_frozen : EntriesRanOnTheFrozenObjects
 ran_on_frozen p program roots x is parallel summed frozen base heap standing es h r e c =

@@ -3,6 +3,7 @@ use Rattle.std.proofs.Common.{◌≡◌, ℕ, zero, suc, List, [], ◌∷◌, Op
 use Rattle.std.specs.Prelude.{slice_get}
 use Rattle.std.specs.Int.{int_wrap, w64}
 use Rattle.std.proofs.lemmas.Int.{int_wrap-add_right, ints}
+use Rattle.ca_lists.proofs.Places.{same_by_places}
 use Rattle.ca_program.specs.declared.program.FieldInfo.{FieldInfo}
 use Rattle.ca_program.specs.declared.program.ValueType.{ValueType}
 use Rattle.ca_program.specs.declared.program.ValueType.TheVariants.{Long as LongType, Bool as BoolType, Pointer}
@@ -15,12 +16,6 @@ use Rattle.ca_model.specs.Typed.{SlotTyped, SlotsTyped, ObjectTyped}
 use Rattle.ca_sum_laws.specs.Moves.{plus_one, plus, Moved}
 use Rattle.ca_sum_laws.specs.Replicas.{merged_slot, merged_slots, merged_object, merged}
 use Rattle.ca_sum_laws.proofs.Slots.{plus_plus}
-
-pub same_lists : {A : Type 0} (xs ys : List A) → ((n : ℕ) → slice_get xs n ≡ slice_get ys n) → xs ≡ ys
-same_lists [] [] h = refl
-same_lists [] (y ∷ ys) h = let e = h 0 in cc
-same_lists (x ∷ xs) [] h = let e = h 0 in cc
-same_lists (x ∷ xs) (y ∷ ys) h = let e = h 0 in let t : xs ≡ ys = same_lists xs ys (λ n. h (suc n)) in cc
 
 -- ---- moved slots, objects and heaps
 
@@ -41,7 +36,7 @@ moved_slot_at d (s ∷ ss) zero = refl
 moved_slot_at d (s ∷ ss) (suc f) = moved_slot_at (λ f. d (suc f)) ss f
 
 pub moved_is : (d : ℕ → ℤ) (ss ts : List Slot) → Moved d ss ts → ts ≡ moved_slots d ss
-moved_is d ss ts m = same_lists ts (moved_slots d ss) (λ f. m.at f ∙ sym (moved_slot_at d ss f))
+moved_is d ss ts m = same_by_places ts (moved_slots d ss) (λ f. m.at f ∙ sym (moved_slot_at d ss f))
 
 abbrev pub moved_option : (ℕ → ℤ) → Option Object → Option Object
 moved_option d None = None
@@ -53,10 +48,10 @@ moved_at d (o ∷ os) zero = refl
 moved_at d (o ∷ os) (suc n) = moved_at (λ n. d (suc n)) os n
 
 slots_twice : (d e : ℕ → ℤ) (ss : List Slot) → moved_slots e (moved_slots d ss) ≡ moved_slots (λ f. d f +ℤ e f) ss
-slots_twice d e ss = same_lists _ _ (λ f. moved_slot_at e (moved_slots d ss) f ∙ ap (λ s. plus s (e f)) (moved_slot_at d ss f) ∙ plus_plus (slice_get ss f) (d f) (e f) ∙ sym (moved_slot_at (λ f. d f +ℤ e f) ss f))
+slots_twice d e ss = same_by_places _ _ (λ f. moved_slot_at e (moved_slots d ss) f ∙ ap (λ s. plus s (e f)) (moved_slot_at d ss f) ∙ plus_plus (slice_get ss f) (d f) (e f) ∙ sym (moved_slot_at (λ f. d f +ℤ e f) ss f))
 
 slots_alike : (d e : ℕ → ℤ) (ss : List Slot) → ((f : ℕ) → d f ≡ e f) → moved_slots d ss ≡ moved_slots e ss
-slots_alike d e ss h = same_lists _ _ (λ f. moved_slot_at d ss f ∙ ap (λ z. plus (slice_get ss f) z) (h f) ∙ sym (moved_slot_at e ss f))
+slots_alike d e ss h = same_by_places _ _ (λ f. moved_slot_at d ss f ∙ ap (λ z. plus (slice_get ss f) z) (h f) ∙ sym (moved_slot_at e ss f))
 
 abbrev object_of : Object → List Slot → Object
 object_of o ss = record { class = o.class; slots = ss }
@@ -70,10 +65,10 @@ option_alike d e None h = refl
 option_alike d e (Some o) h = ap (λ ss. Some (object_of o ss)) (slots_alike d e o.slots h)
 
 pub moved_twice : (d e : ℕ → ℕ → ℤ) (h : List Object) → moved_heap e (moved_heap d h) ≡ moved_heap (λ n f. d n f +ℤ e n f) h
-moved_twice d e h = same_lists _ _ (λ n. moved_at e (moved_heap d h) n ∙ ap (λ o. moved_option (e n) o) (moved_at d h n) ∙ option_twice (d n) (e n) (slice_get h n) ∙ sym (moved_at (λ n f. d n f +ℤ e n f) h n))
+moved_twice d e h = same_by_places _ _ (λ n. moved_at e (moved_heap d h) n ∙ ap (λ o. moved_option (e n) o) (moved_at d h n) ∙ option_twice (d n) (e n) (slice_get h n) ∙ sym (moved_at (λ n f. d n f +ℤ e n f) h n))
 
 pub moved_alike : (d e : ℕ → ℕ → ℤ) (h : List Object) → ((n f : ℕ) → d n f ≡ e n f) → moved_heap d h ≡ moved_heap e h
-moved_alike d e h same = same_lists _ _ (λ n. moved_at d h n ∙ option_alike (d n) (e n) (slice_get h n) (λ f. same n f) ∙ sym (moved_at e h n))
+moved_alike d e h same = same_by_places _ _ (λ n. moved_at d h n ∙ option_alike (d n) (e n) (slice_get h n) (λ f. same n f) ∙ sym (moved_at e h n))
 
 -- ---- objects that move by nothing
 
@@ -83,7 +78,7 @@ Still (Some o) = (f : ℕ) → plus (slice_get o.slots f) (pos 0) ≡ slice_get 
 
 pub still_option : (d : ℕ → ℤ) (o : Option Object) → Still o → ((f : ℕ) → d f ≡ pos 0) → moved_option d o ≡ o
 still_option d None t h = refl
-still_option d (Some o) t h = ap (λ ss. Some (object_of o ss)) (same_lists _ _ (λ f. moved_slot_at d o.slots f ∙ ap (λ z. plus (slice_get o.slots f) z) (h f) ∙ t f))
+still_option d (Some o) t h = ap (λ ss. Some (object_of o ss)) (same_by_places _ _ (λ f. moved_slot_at d o.slots f ∙ ap (λ z. plus (slice_get o.slots f) z) (h f) ∙ t f))
 
 -- ---- merged
 
@@ -157,14 +152,14 @@ pub record Fits (os qs : List Object) : Type 0 where
   pub fit : (n : ℕ) (o : Object) → slice_get os n ≡ Some o → (q : Object) × (slice_get qs n ≡ Some q) × ((f : ℕ) → SameKind (slice_get o.slots f) (slice_get q.slots f))
 
 pub merged_moved : (d : ℕ → ℕ → ℤ) (now frozen : List Object) → Fits now frozen → merged now frozen (moved_heap d frozen) ≡ moved_heap d now
-merged_moved d now frozen fits = same_lists _ _ (λ n. merged_at now frozen (moved_heap d frozen) n ∙ ap (λ z. merged_option (slice_get now n) (slice_get frozen n) z) (moved_at d frozen n) ∙ from n (slice_get now n) refl ∙ sym (moved_at d now n))
+merged_moved d now frozen fits = same_by_places _ _ (λ n. merged_at now frozen (moved_heap d frozen) n ∙ ap (λ z. merged_option (slice_get now n) (slice_get frozen n) z) (moved_at d frozen n) ∙ from n (slice_get now n) refl ∙ sym (moved_at d now n))
   where
     from : (n : ℕ) (o : Option Object) → slice_get now n ≡ o → merged_option o (slice_get frozen n) (moved_option (d n) (slice_get frozen n)) ≡ moved_option (d n) o
     from n None e = refl
     from n (Some o) e =
         let q = fits.fit n o e in
         subst (λ z. merged_option (Some o) z (moved_option (d n) z) ≡ Some (moved_object (d n) o)) (sym q.1)
-        (ap (λ ss. Some (object_of o ss)) (same_lists _ _ (λ f. merged_slot_at o.slots (let z : Object = q.0 in z.slots) _ f ∙ ap (λ z. merged_slot_option (slice_get o.slots f) (slice_get (let z : Object = q.0 in z.slots) f) z) (moved_slot_at (d n) (let z : Object = q.0 in z.slots) f) ∙ merged_moved_slot (slice_get o.slots f) (slice_get (let z : Object = q.0 in z.slots) f) (d n f) (q.2 f) ∙ sym (moved_slot_at (d n) o.slots f))))
+        (ap (λ ss. Some (object_of o ss)) (same_by_places _ _ (λ f. merged_slot_at o.slots (let z : Object = q.0 in z.slots) _ f ∙ ap (λ z. merged_slot_option (slice_get o.slots f) (slice_get (let z : Object = q.0 in z.slots) f) z) (moved_slot_at (d n) (let z : Object = q.0 in z.slots) f) ∙ merged_moved_slot (slice_get o.slots f) (slice_get (let z : Object = q.0 in z.slots) f) (d n f) (q.2 f) ∙ sym (moved_slot_at (d n) o.slots f))))
 
 kind_moved : (s a : Option Slot) (d : ℤ) → SameKind s a → SameKind (plus s d) a
 kind_moved None a d k = record { number = λ n e. cc }

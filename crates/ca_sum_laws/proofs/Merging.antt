@@ -3,16 +3,17 @@ use Rattle.std.proofs.Common.{◌≡◌, ℕ, List, Option, Some, None, refl, ap
 use Rattle.std.specs.Prelude.{slice_get, slice_set}
 use Rattle.std.specs.Int.{int_wrap, w64}
 use Rattle.std.proofs.lemmas.Int.{int_wrap_fits, SFits-int_wrap, ints}
+use Rattle.ca_lists.proofs.Places.{get_set_here, same_by_places}
 use Rattle.ca_model.specs.declared.value.Value.TheVariants.{Long, Bool as Truth, Null, Ref}
 use Rattle.ca_model.specs.declared.value.Slot.{Slot}
 use Rattle.ca_model.specs.declared.value.Slot.TheVariants.{One, Many}
 use Rattle.ca_model.specs.declared.value.Object.{Object}
 use Rattle.ca_order_laws.proofs.Decided.{decide_nat}
 use Rattle.ca_order_laws.proofs.Weights.{Decides, equal, other}
-use Rattle.ca_order_laws.proofs.Places.{get_set, get_else}
+use Rattle.ca_order_laws.proofs.Places.{get_else}
 use Rattle.ca_sum_laws.specs.Moves.{plus, Still}
 use Rattle.ca_sum_laws.specs.Replicas.{merged_slots, merged_object, merged}
-use Rattle.ca_sum_laws.proofs.Heaps.{same_lists, merged_slot_option, merged_slot_at, merged_option, merged_at}
+use Rattle.ca_sum_laws.proofs.Heaps.{merged_slot_option, merged_slot_at, merged_option, merged_at}
 
 still_number : (n k : ℤ) → int_wrap w64 (n +ℤ pos 0) ≡ n → int_wrap w64 (n +ℤ (k -ℤ k)) ≡ n
 still_number n k e = let z : n +ℤ (k -ℤ k) ≡ n +ℤ pos 0 = omega (arith, ints) in ap (int_wrap w64) z ∙ e
@@ -58,7 +59,7 @@ abbrev with_slots : Object → List Slot → Object
 with_slots o ss = record { class = o.class; slots = ss }
 
 again : (o a b : Object) → Still o → merged_object (merged_object o a b) a a ≡ merged_object o a b
-again o a b still = ap (with_slots o) (same_lists _ _ (λ f.
+again o a b still = ap (with_slots o) (same_by_places _ _ (λ f.
     merged_slot_at (merged_slots o.slots a.slots b.slots) a.slots a.slots f
     ∙ ap (λ z. merged_slot_option z (slice_get a.slots f) (slice_get a.slots f)) (merged_slot_at o.slots a.slots b.slots f)
     ∙ again_slot (slice_get o.slots f) (slice_get a.slots f) (slice_get b.slots f) (still f)
@@ -67,7 +68,7 @@ again o a b still = ap (with_slots o) (same_lists _ _ (λ f.
 -- Where the replica has another object in place of the first one, that one may be merged first, and then the rest.
 pub one_by_one : (now frozen replica : List Object) (n : ℕ) (o a b : Object) → Still o → slice_get now n ≡ Some o → slice_get frozen n ≡ Some a → slice_get replica n ≡ Some a →
     merged now frozen (slice_set replica n b) ≡ merged (slice_set now n (merged_object o a b)) frozen replica
-one_by_one now frozen replica n o a b still there first before = same_lists _ _ (λ m. from m (decide_nat n m))
+one_by_one now frozen replica n o a b still there first before = same_by_places _ _ (λ m. from m (decide_nat n m))
   where
     next : List Object
     next = slice_set now n (merged_object o a b)
@@ -77,9 +78,9 @@ one_by_one now frozen replica n o a b still there first before = same_lists _ _ 
         (merged_at now frozen (slice_set replica n b) n
         ∙ ap (λ z. merged_option z (slice_get frozen n) (slice_get (slice_set replica n b) n)) there
         ∙ ap (λ z. merged_option (Some o) z (slice_get (slice_set replica n b) n)) first
-        ∙ ap (λ z. merged_option (Some o) (Some a) z) (get_set replica n a b before)
+        ∙ ap (λ z. merged_option (Some o) (Some a) z) (get_set_here replica n a b before)
         ∙ sym (merged_at next frozen replica n
-        ∙ ap (λ z. merged_option z (slice_get frozen n) (slice_get replica n)) (get_set now n o (merged_object o a b) there)
+        ∙ ap (λ z. merged_option z (slice_get frozen n) (slice_get replica n)) (get_set_here now n o (merged_object o a b) there)
         ∙ ap (λ z. merged_option (Some (merged_object o a b)) z (slice_get replica n)) first
         ∙ ap (λ z. merged_option (Some (merged_object o a b)) (Some a) z) before
         ∙ ap Some (again o a b still)))

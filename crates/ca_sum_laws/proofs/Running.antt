@@ -4,6 +4,7 @@ use Rattle.std.specs.Prelude.{slice_get, slice_set, Contains, All}
 use Rattle.std.proofs.lemmas.Int.{ints}
 use Rattle.std.proofs.lemmas.List.{map-append}
 use Rattle.std.proofs.lemmas.List.Elements.{All-head, All-tail}
+use Rattle.ca_lists.proofs.Places.{same_by_places}
 use Rattle.ca_program.specs.declared.program.OpId.{OpId}
 use Rattle.ca_program.specs.declared.program.ClassId.{ClassId}
 use Rattle.ca_program.specs.Plain.{PlainProgram, PlainMethod}
@@ -39,7 +40,7 @@ use Rattle.ca_logs.proofs.Orders.{weight_ordered, climbs_ordered}
 use Rattle.ca_sum_laws.specs.Summed.{Summed}
 use Rattle.ca_sum_laws.specs.Moves.{Moved}
 use Rattle.ca_sum_laws.specs.Replicas.{MayRun, Replicates, nothing, one_more, Replica, entries_in, heaps_in, merged, all_merged, AreBalanced}
-use Rattle.ca_sum_laws.proofs.Heaps.{moved_heap, moved_at, moved_twice, moved_alike, still_option, Fits, SameKind, merged_moved, fits_moved, objects_kinds, same_lists}
+use Rattle.ca_sum_laws.proofs.Heaps.{moved_heap, moved_at, moved_twice, moved_alike, still_option, Fits, SameKind, merged_moved, fits_moved, objects_kinds}
 use Rattle.ca_sum_laws.proofs.Entering.{change, change_at, total, total_append, total_ordered, Free, MovesOn, free_of, GoodHeap, good_heap, frozen_stands, still_at, entered, entered_good}
 
 pub plus_none : (a : ℤ) → a +ℤ pos 0 ≡ a
@@ -115,7 +116,7 @@ module _ (p : PlainProgram) (program : ProgramTyped p) (roots : List OpId) (x : 
     good = frozen_stands p program roots x is parallel summed frozen heap;
     free = none_free;
     own = owns_none;
-    moved = same_lists _ _ (λ n. sym (moved_at (total p frozen []) frozen n ∙ still_option _ (slice_get frozen n) (still_at p program roots x is parallel summed frozen heap frozen (frozen_stands p program roots x is parallel summed frozen heap) n) (λ f. refl)));
+    moved = same_by_places _ _ (λ n. sym (moved_at (total p frozen []) frozen n ∙ still_option _ (slice_get frozen n) (still_at p program roots x is parallel summed frozen heap frozen (frozen_stands p program roots x is parallel summed frozen heap) n) (λ f. refl)));
   }
   told all g (one_more es h e o after before may clock stop found section) =
       let t : Told es h = told es h before in
@@ -146,7 +147,7 @@ module _ (p : PlainProgram) (program : ProgramTyped p) (roots : List OpId) (x : 
 
   -- nothing moved
   pub unmoved : (now : List Object) → Good now → now ≡ moved_heap (λ n f. pos 0) now
-  unmoved now g = same_lists _ _ (λ n. sym (moved_at (λ n f. pos 0) now n ∙ still_option _ (slice_get now n) (still_at p program roots x is parallel summed frozen heap now g n) (λ f. refl)))
+  unmoved now g = same_by_places _ _ (λ n. sym (moved_at (λ n f. pos 0) now n ∙ still_option _ (slice_get now n) (still_at p program roots x is parallel summed frozen heap now g n) (λ f. refl)))
 
   module _ (now : List Object) (standing : Good now) where
     record MergedTold (rs : List Replica) : Type 0 where

@@ -1,12 +1,13 @@
 -- Calls of a list, from one place on, up to another.
 use Rattle.std.proofs.Common.{◌≡◌, ◌<◌, ◌≤◌, ◌+◌, ◌-◌, ℕ, zero, suc, List, [], ◌∷◌, Some, length, map, refl, ap, subst, arith}
+use Rattle.std.proofs.lemmas.Option.{same_Some}
 use Rattle.std.specs.Prelude.{slice_get}
 use Rattle.ca_meaning.specs.Multisets.{weight}
 use Rattle.ca_parallel.specs.declared.op.Op.{Op}
 use Rattle.ca_logs.specs.declared.log.Task.{Task}
 use Rattle.ca_logs.specs.Entries.{task_after}
 use Rattle.ca_deques.specs.Settings.{Setting, Fits, AllFit}
-use Rattle.ca_deques.proofs.Places.{nothing_there, some_is}
+use Rattle.ca_deques.proofs.Places.{nothing_there}
 use Rattle.ca_sum_pool.specs.Parts.{begun}
 
 pub begun_none : (calls : List Op) (at : ℕ) → begun calls at zero ≡ []
@@ -42,14 +43,14 @@ module _ (h : Task → ℕ) where
   first_in : (calls : List Op) (at end : ℕ) (o : Op) → at < end → slice_get calls at ≡ Some o → weight h (begun calls at end) ≡ h (task_after 0 o) + weight h (begun calls (suc at) end)
   first_in [] at end o lt there = absurd (nothing_there at o there)
   first_in (c ∷ os) at zero o lt there = absurd (omega (arith, lt))
-  first_in (c ∷ os) zero (suc end) o lt there = ap (λ (z : Op). h (task_after 0 z) + weight h (begun os zero end)) (some_is c o there)
+  first_in (c ∷ os) zero (suc end) o lt there = ap (λ (z : Op). h (task_after 0 z) + weight h (begun os zero end)) (same_Some c o there)
   first_in (c ∷ os) (suc at) (suc end) o lt there = first_in os at end o (omega (arith, lt)) there
 
   last_in : (calls : List Op) (at end : ℕ) (o : Op) → at ≤ end → slice_get calls end ≡ Some o → weight h (begun calls at (suc end)) ≡ weight h (begun calls at end) + h (task_after 0 o)
   last_in [] at end o le there = absurd (nothing_there end o there)
   last_in (c ∷ os) zero zero o le there =
       let none : weight h (begun os zero zero) ≡ 0 = ap (weight h) (begun_none os zero) in
-      let same : h (task_after 0 c) ≡ h (task_after 0 o) = ap (λ (z : Op). h (task_after 0 z)) (some_is c o there) in
+      let same : h (task_after 0 c) ≡ h (task_after 0 o) = ap (λ (z : Op). h (task_after 0 z)) (same_Some c o there) in
       omega (arith, none, same)
   last_in (c ∷ os) (suc at) zero o le there = absurd (omega (arith, le))
   last_in (c ∷ os) zero (suc end) o le there = let a = last_in os zero end o (omega arith) there in omega (arith, a)
@@ -68,5 +69,5 @@ module _ (h : Task → ℕ) where
 -- a call of a list whose calls fit
 pub call_fits : (s : Setting) (calls : List Op) (at : ℕ) (o : Op) → AllFit s (map (task_after 0) calls) → slice_get calls at ≡ Some o → Fits s (task_after 0 o)
 call_fits s [] at o all there = absurd (nothing_there at o there)
-call_fits s (c ∷ os) zero o all there = subst (λ (z : Op). Fits s (task_after 0 z)) (some_is c o there) (all 0 (task_after 0 c) (omega arith))
+call_fits s (c ∷ os) zero o all there = subst (λ (z : Op). Fits s (task_after 0 z)) (same_Some c o there) (all 0 (task_after 0 c) (omega arith))
 call_fits s (c ∷ os) (suc at) o all there = call_fits s os at o (λ k d l. all (suc k) d (omega (arith, l))) there

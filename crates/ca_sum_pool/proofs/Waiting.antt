@@ -2,8 +2,8 @@
 use Rattle.std.proofs.Common.{◌≡◌, ◌≢◌, ◌<◌, ℕ, List, [], ◌∷◌, map, flat_map, cond, nat_eq, eq-eqb, ne_eqb, refl, ap, ◌∙◌, arith, ⊎_elim}
 use Rattle.std.specs.Prelude.{Contains}
 use Rattle.std.proofs.lemmas.List.Elements.{Contains-append_left, Contains-append_right, Contains-append_cases, Contains-push}
+use Rattle.ca_lists.proofs.Members.{has_nothing, has_only}
 use Rattle.ca_meaning.specs.Multisets.{weight}
-use Rattle.ca_order_laws.proofs.Grown.{none_of, single_is}
 use Rattle.ca_order_laws.proofs.Weights.{weight_append}
 use Rattle.ca_parallel.specs.declared.op.Op.{Op}
 use Rattle.ca_logs.specs.declared.log.Task.{Task}
@@ -37,9 +37,9 @@ none_listed clock (e ∷ es) h =
     omega (arith, a, b, c)
 
 one_rest : (clock : ℕ) (ts : List Task) (t : Task) → Contains ts t → t.after ≡ clock → 0 < weight (behind clock) ts
-one_rest clock [] t c e = absurd (none_of t c)
+one_rest clock [] t c e = absurd (has_nothing t c)
 one_rest clock (u ∷ ts) t c e = ⊎_elim
-    (λ b. let same : u ≡ t = single_is u t b in let one : behind clock u ≡ 1 = ap (λ k. cond k 1 0) (eq-eqb u.after clock (ap (λ (z : Task). z.after) same ∙ e)) in omega (arith, one))
+    (λ b. let same : u ≡ t = has_only u t b in let one : behind clock u ≡ 1 = ap (λ k. cond k 1 0) (eq-eqb u.after clock (ap (λ (z : Task). z.after) same ∙ e)) in omega (arith, one))
     (λ b. let more = one_rest clock ts t b e in omega (arith, more)) (Contains-append_cases (u ∷ []) ts t c)
 
 -- Where no entry has this clock no task of the rest may only run after it.

@@ -3,13 +3,13 @@ use Rattle.std.proofs.Common.{◌≡◌, ◌≢◌, ℕ, suc, ◌+◌, ◌<◌, 
 use Rattle.std.specs.Prelude.{Contains, filter, is_none, is_some, slice_index_or}
 use Rattle.std.proofs.lemmas.List.{length-append}
 use Rattle.std.proofs.lemmas.List.Elements.{All-append, All-map, All-cons, All-nil, All-head, All-tail, Contains-append_left, Contains-append_right, Contains-append_cases, Contains-push, filter-append}
+use Rattle.ca_lists.proofs.Members.{has_nothing, has_only}
 use Rattle.ca_program.specs.Plain.{PlainProgram}
 use Rattle.ca_model.specs.declared.value.Object.{Object}
 use Rattle.ca_meaning.specs.Multisets.{weight, SameItems}
 use Rattle.ca_parallel.specs.Extents.{Extent}
 use Rattle.ca_parallel.specs.declared.op.Op.{Op}
 use Rattle.ca_order_laws.specs.Pending.{PendingRun}
-use Rattle.ca_order_laws.proofs.Grown.{none_of, single_is}
 use Rattle.ca_order_laws.proofs.Weights.{weight_append}
 use Rattle.ca_logs.specs.declared.log.Task.{Task}
 use Rattle.ca_logs.specs.declared.log.Entry.{Entry}
@@ -68,23 +68,23 @@ why_of [] s e lt = absurd (omega (arith, lt))
 why_of (t ∷ ss) s e lt = ap (λ (z : Stuck). Some z.why) e
 
 stuck_tasks_there : (ss : List Stuck) (e : Entry) → Contains (stuck_entries ss) e → Contains (tasks_of ss) e.task
-stuck_tasks_there [] e c = absurd (none_of e c)
+stuck_tasks_there [] e c = absurd (has_nothing e c)
 stuck_tasks_there (s ∷ ss) e c = ⊎_elim
-    (λ b. subst (λ (z : Entry). Contains (s.task ∷ tasks_of ss) z.task) (single_is (stuck_entry s) e b) (Contains-append_left (s.task ∷ []) (tasks_of ss) s.task (Contains-push [] s.task)))
+    (λ b. subst (λ (z : Entry). Contains (s.task ∷ tasks_of ss) z.task) (has_only (stuck_entry s) e b) (Contains-append_left (s.task ∷ []) (tasks_of ss) s.task (Contains-push [] s.task)))
     (λ b. Contains-append_right (s.task ∷ []) (tasks_of ss) e.task (stuck_tasks_there ss e b)) (Contains-append_cases (stuck_entry s ∷ []) (stuck_entries ss) e c)
 
 stuck_clocks : (ss : List Stuck) (e : Entry) → Contains (stuck_entries ss) e → e.clock ≡ suc e.task.after
-stuck_clocks [] e c = absurd (none_of e c)
-stuck_clocks (s ∷ ss) e c = ⊎_elim (λ b. subst (λ (z : Entry). z.clock ≡ suc z.task.after) (single_is (stuck_entry s) e b) refl) (λ b. stuck_clocks ss e b) (Contains-append_cases (stuck_entry s ∷ []) (stuck_entries ss) e c)
+stuck_clocks [] e c = absurd (has_nothing e c)
+stuck_clocks (s ∷ ss) e c = ⊎_elim (λ b. subst (λ (z : Entry). z.clock ≡ suc z.task.after) (has_only (stuck_entry s) e b) refl) (λ b. stuck_clocks ss e b) (Contains-append_cases (stuck_entry s ∷ []) (stuck_entries ss) e c)
 
 module _ (p : PlainProgram) (x : Extent) (frozen : List Object) (left : ℕ) where
   stops_there : (s : Stuck) → StopsSo p x frozen left s → StopsThere p frozen left (stuck_entry s)
   stops_there s z = record { why = s.why; stop = refl; steps = refl; invoked = refl; object = z.object; there = z.there; section = z.section }
 
   all_stop_there : (ss : List Stuck) → All (StopsSo p x frozen left) ss → (e : Entry) → Contains (stuck_entries ss) e → StopsThere p frozen left e
-  all_stop_there [] a e c = absurd (none_of e c)
+  all_stop_there [] a e c = absurd (has_nothing e c)
   all_stop_there (s ∷ ss) a e c = ⊎_elim
-      (λ b. subst (λ (z : Entry). StopsThere p frozen left z) (single_is (stuck_entry s) e b) (stops_there s (All-head (StopsSo p x frozen left) s ss a)))
+      (λ b. subst (λ (z : Entry). StopsThere p frozen left z) (has_only (stuck_entry s) e b) (stops_there s (All-head (StopsSo p x frozen left) s ss a)))
       (λ b. all_stop_there ss (All-tail (StopsSo p x frozen left) s ss a) e b) (Contains-append_cases (stuck_entry s ∷ []) (stuck_entries ss) e c)
 
   all_may_run : (ss : List Stuck) → All (StopsSo p x frozen left) ss → All (MayRun p x frozen) (tasks_of ss)
@@ -105,8 +105,8 @@ module _ (p : PlainProgram) (x : Extent) (frozen base : List Object) where
       filter-append (λ (e : Entry). is_some e.stop) es (e ∷ []) ∙ ap (λ l. l ++ stuck_in (e ∷ [])) (none_stuck es h before) ∙ ap (λ z. cond (is_some z) (e ∷ []) []) stop
 
   ran_clocks : (es : List Entry) (h : List Object) → Replicates p x frozen base es h → (d : Entry) → Contains es d → d.clock ≡ suc d.task.after
-  ran_clocks es h nothing d c = absurd (none_of d c)
-  ran_clocks all g (one_more es h e o after before may clock stop found section) d c = ⊎_elim (λ b. ran_clocks es h before d b) (λ b. subst (λ (z : Entry). z.clock ≡ suc z.task.after) (single_is e d b) clock) (Contains-append_cases es (e ∷ []) d c)
+  ran_clocks es h nothing d c = absurd (has_nothing d c)
+  ran_clocks all g (one_more es h e o after before may clock stop found section) d c = ⊎_elim (λ b. ran_clocks es h before d b) (λ b. subst (λ (z : Entry). z.clock ≡ suc z.task.after) (has_only e d b) clock) (Contains-append_cases es (e ∷ []) d c)
 
 module _ (p : PlainProgram) (x : Extent) (frozen : List Object) where
   workers_ran : (ws : List (Worker p x frozen)) → ran_in (all_entries ws) ≡ all_entries ws
@@ -122,11 +122,11 @@ module _ (p : PlainProgram) (x : Extent) (frozen : List Object) where
       ∙ workers_not_stuck ws
 
   workers_clocks : (ws : List (Worker p x frozen)) (e : Entry) → Contains (all_entries ws) e → e.clock ≡ suc e.task.after
-  workers_clocks [] e c = absurd (none_of e c)
+  workers_clocks [] e c = absurd (has_nothing e c)
   workers_clocks (w ∷ ws) e c = ⊎_elim (λ b. ran_clocks p x frozen (zeroed_heap x.written frozen) w.entries (sums x.written frozen w.copies) w.replicates e b) (λ b. workers_clocks ws e b) (Contains-append_cases w.entries (all_entries ws) e c)
 
   workers_on_frozen : IsRound p x frozen → (ws : List (Worker p x frozen)) (e : Entry) → Contains (all_entries ws) e → OnFrozen p frozen e
-  workers_on_frozen round [] e c = absurd (none_of e c)
+  workers_on_frozen round [] e c = absurd (has_nothing e c)
   workers_on_frozen round (w ∷ ws) e c = ⊎_elim
       (λ b. ran_on_frozen p round.program round.roots x round.is round.parallel round.summed frozen (zeroed_heap x.written frozen) round.heap (no_sums_stand p x frozen round.heap) w.entries (sums x.written frozen w.copies) w.replicates e b)
       (λ b. workers_on_frozen round ws e b) (Contains-append_cases w.entries (all_entries ws) e c)
@@ -152,8 +152,8 @@ left_over (t ∷ ts) [] b ne none = let w = b.weighed (λ u. 1) in absurd (omega
 left_over (t ∷ ts) (u ∷ us) b ne none = cc
 
 first_begins : (ts : List Task) → All (λ (t : Task). t.after ≡ 0) ts → (t : Task) → Contains ts t → t.after ≡ 0
-first_begins [] a t c = absurd (none_of t c)
-first_begins (u ∷ ts) a t c = ⊎_elim (λ b. subst (λ (z : Task). z.after ≡ 0) (single_is u t b) (All-head (λ (t : Task). t.after ≡ 0) u ts a)) (λ b. first_begins ts (All-tail (λ (t : Task). t.after ≡ 0) u ts a) t b) (Contains-append_cases (u ∷ []) ts t c)
+first_begins [] a t c = absurd (has_nothing t c)
+first_begins (u ∷ ts) a t c = ⊎_elim (λ b. subst (λ (z : Task). z.after ≡ 0) (has_only u t b) (All-head (λ (t : Task). t.after ≡ 0) u ts a)) (λ b. first_begins ts (All-tail (λ (t : Task). t.after ≡ 0) u ts a) t b) (Contains-append_cases (u ∷ []) ts t c)
 
 may_run_of : (p : PlainProgram) (x : Extent) (frozen : List Object) (ts : List Task) → AllFit (setting_of p x frozen) ts → All (MayRun p x frozen) ts
 may_run_of p x frozen ts h k d l = let m : Fits (setting_of p x frozen) _ = h k d l in record { typed = m.typed; inside = m.inside }
@@ -233,7 +233,7 @@ module _ (p : PlainProgram) (x : Extent) (frozen : List Object) (round : IsRound
       let z = empty_left es (stuck_entries all) none in
       let free : all ≡ [] = no_stuck all z.1 in
       let b : AreBalanced [] first more = subst (λ k. AreBalanced k first more) z.0 (subst (λ k. AreBalanced es first k) (ap (λ k. more ++ tasks_of k) free ∙ append-nil more) balanced) in
-      let q = enough free (left_over first more b ne) (λ e c. absurd (none_of e (subst (λ k. Contains k e) none c))) in
+      let q = enough free (left_over first more b ne) (λ e c. absurd (has_nothing e (subst (λ k. Contains k e) none c))) in
       let short = ap length none in
       absurd (omega (arith, q, short, some_quota))
 

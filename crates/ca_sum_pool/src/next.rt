@@ -219,10 +219,20 @@ fn open_now_and_then<N: Round>(owner: &mut Owner<N>, share: &mut Vec<Task>)
     }
 }
 
-/// Whether a worker runs an operation with all that this leads to: one that calls others, where its share or its list has more to
-/// run, so that nobody waits for these.
+/// Whether a worker runs an operation with all that this leads to, as long as it has patience: one that calls others, where its share
+/// or its list has more to run, so that nobody waits for these.
 #[inline]
-pub fn runs_whole(share: &Vec<Task>, at: usize, end: usize, callers: &[OpId], op: OpId) -> bool {
+pub fn runs_whole(
+    patience: u64,
+    share: &Vec<Task>,
+    at: usize,
+    end: usize,
+    callers: &[OpId],
+    op: OpId,
+) -> bool {
+    if patience == 0 {
+        return false;
+    }
     if !is_one(callers, op) {
         return false;
     }

@@ -15,7 +15,7 @@ ghost use Rattle.ca_sum_pool.specs.Parts.{Sound, begun, setting_of};
 use crate::callers::callers_of;
 use crate::counting::{add_steps, one_more};
 use crate::next::{runs_whole, take_next};
-use crate::performing::{FIRST_PATIENCE, Stuck, Sums, Turn, perform};
+use crate::performing::{PATIENCE, Stuck, Sums, Turn, perform};
 use ca_base::Gate;
 use ca_deques::{Owner, Round, Thieves};
 use ca_extent::Extent;
@@ -210,7 +210,7 @@ impl<N: Round, K: Sums> Part<N, K> {
         let left = self.left;
         let worker = self.worker;
         let op = next.call().op;
-        let whole = runs_whole(&self.share, self.at, self.end, callers, op);
+        let whole = runs_whole(*patience, &self.share, self.at, self.end, callers, op);
         let turn = perform::<N, G>(
             alloc,
             desk,
@@ -270,7 +270,7 @@ impl<N: Round, K: Sums> Part<N, K> {
     {
         let mut room = Vec::new(self.alloc);
         let mut bench = Bench::new(self.alloc);
-        let mut patience = FIRST_PATIENCE;
+        let mut patience = PATIENCE;
         for _ in 0..self.quota {
             if !self.step(
                 desk,

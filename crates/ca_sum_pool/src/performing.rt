@@ -111,23 +111,11 @@ pub enum Turn {
     Short,
 }
 
-/// So many steps a call may take at first that is run with all that it leads to.
-pub const FIRST_PATIENCE: u64 = 16_384;
+/// So many steps a call may take that is run with all that it leads to.
+pub const PATIENCE: u64 = 16_384;
 
-/// And so many at most.
-const MOST_PATIENCE: u64 = 1_048_576;
-
-/// A longer patience.
-fn longer(patience: u64) -> u64 {
-    if patience < MOST_PATIENCE {
-        patience * 2
-    } else {
-        patience
-    }
-}
-
-/// Runs a call with all that it leads to, if that is asked for, within so many steps as are left, and within a patience, which
-/// grows where it isn't done. `None`: then all sums are as before.
+/// Runs a call with all that it leads to, if that is asked for, within so many steps as are left, and within a patience, of which
+/// nothing is left where it isn't done: long calls are worth more where others take parts of them. `None`: then all sums are as before.
 fn run_whole<G: Gate>(
     whole: bool,
     bench: &mut Bench,
@@ -159,7 +147,7 @@ fn run_whole<G: Gate>(
     ) {
         Ok(Some(steps)) => Some(steps),
         Ok(None) => {
-            *patience = longer(*patience);
+            *patience = 0;
             None
         }
         Err(_) => None,

@@ -1,7 +1,7 @@
 -- What a term adds to a map, from what its parts add.
-use Rattle.std.proofs.Common.{◌≡◌, ℕ, ◌+◌, ◌-◌, ◌*◌, ◌%◌, ◌^◌, [], ◌∷◌, ◌++◌, sym, ap, ◌∙◌, arith, mul_assoc}
-use Rattle.ca_sums.specs.Sums.{Sum, total, scale, Adds, AddsSum}
-use Rattle.ca_sums.proofs.Algebra.{alike_refl, alike_eq, alike_trans, alike_add, alike_mul, alike_mod, total_append, total_scale}
+use Rattle.std.proofs.Common.{◌≡◌, ℕ, ◌+◌, ◌*◌, ◌%◌, ◌^◌, [], ◌∷◌, ◌++◌, sym, ap, ◌∙◌, arith}
+use Rattle.ca_sums.specs.Sums.{Sum, total, Adds, AddsSum}
+use Rattle.ca_sums.proofs.Algebra.{alike_refl, alike_eq, alike_trans, alike_add, alike_mul, alike_mod, total_append}
 
 one_product : (k n g : ℕ) → (k * n) * g ≡ k * (n * g + 0)
 one_product k n g = omega arith
@@ -17,9 +17,4 @@ three o k x y = omega arith
 pub adds_both : {M : Type 0} (a b c : Sum M) (k : ℕ) (xs ys : Sum M) → AddsSum a b k xs → AddsSum b c k ys → AddsSum a c k (xs ++ ys)
 adds_both a b c k xs ys g h = record {
   added = λ f. alike_trans (h.added f) (alike_trans (alike_add (g.added f) (alike_refl (k * total f ys))) (alike_eq (three (total f a) k (total f xs) (total f ys) ∙ ap (λ z. total f a + k * z) (sym (total_append f xs ys)))));
-}
-
-pub adds_minus : {M : Type 0} (a b c : Sum M) (k : ℕ) (xs ys : Sum M) → AddsSum a b k xs → AddsSum b c ((k * (2 ^ 64 - 1)) % (2 ^ 64)) ys → AddsSum a c k (xs ++ scale (2 ^ 64 - 1) ys)
-adds_minus a b c k xs ys g h = record {
-  added = λ f. alike_trans (h.added f) (alike_trans (alike_add (g.added f) (alike_trans (alike_mul (alike_mod (k * (2 ^ 64 - 1))) (alike_refl (total f ys))) (alike_eq (mul_assoc k (2 ^ 64 - 1) (total f ys))))) (alike_eq (three (total f a) k (total f xs) ((2 ^ 64 - 1) * total f ys) ∙ ap (λ z. total f a + k * z) (ap (λ z. total f xs + z) (sym (total_scale f (2 ^ 64 - 1) ys)) ∙ sym (total_append f xs (scale (2 ^ 64 - 1) ys))))));
 }

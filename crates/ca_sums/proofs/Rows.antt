@@ -11,7 +11,7 @@ use Rattle.ca_sums.specs.clauses.Rows.{Rows, at_index, flat, pair_cmp, joins, be
 use Rattle.ca_sums.proofs.Algebra.{alike_sym, alike_trans}
 use Rattle.ca_sums.proofs.Collect.{Exact, Gathered, Above, SameCoefficients, gathered_same, gathered_collect, total_collect}
 
-then_equal : (o p : Ordering) → ordering_then o p ≡ Equal → (o ≡ Equal) × (p ≡ Equal)
+pub then_equal : (o p : Ordering) → ordering_then o p ≡ Equal → (o ≡ Equal) × (p ≡ Equal)
 then_equal Less p e = cc
 then_equal Equal p e = (refl, e)
 then_equal Greater p e = cc

@@ -25,17 +25,17 @@ use Rattle.ca_program.proofs.Fields.{same_fields, same_itself}
 same_number : (m n : ℕ) → nat_eq m n ≡ true → m ≡ n
 same_number m n e = eqb-true m n e
 
-itself : (n : ℕ) → nat_eq n n ≡ true
+pub itself : (n : ℕ) → nat_eq n n ≡ true
 itself n = grind (arith, nat_tests)
 
-same_local : (l i : LocalId) → nat_eq l.0 i.0 ≡ true → l ≡ i
+pub same_local : (l i : LocalId) → nat_eq l.0 i.0 ≡ true → l ≡ i
 same_local l i e = ap (λ n. record { 0 = n }) (same_number l.0 i.0 e)
 
-and_left : (a b : Bool) → a && b ≡ true → a ≡ true
+pub and_left : (a b : Bool) → a && b ≡ true → a ≡ true
 and_left true b e = refl
 and_left false b e = cc
 
-and_right : (a b : Bool) → a && b ≡ true → b ≡ true
+pub and_right : (a b : Bool) → a && b ≡ true → b ≡ true
 and_right true b e = e
 and_right false b e = cc
 

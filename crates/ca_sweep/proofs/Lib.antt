@@ -2,7 +2,7 @@ pub mod Tables
 pub mod Sums
 pub mod Turns
 pub mod Runs
-mod Blocks
+pub mod Blocks
 pub mod Finding
 pub mod Shown
 pub mod Typed

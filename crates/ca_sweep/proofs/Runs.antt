@@ -18,18 +18,16 @@ use Rattle.ca_meaning.specs.Expressions.{gives, Invocation, value_at}
 use Rattle.ca_meaning.specs.Flows.{Flow, goes_on, and_on, with, exec, turn}
 use Rattle.ca_meaning.specs.Functions.{functions_of}
 use Rattle.ca_meaning.specs.Sections.{Section, section_place, section_value, section_parts}
+use Rattle.ca_meaning.proofs.Putting.{put_stores}
 use Rattle.ca_sweep.specs.Sweeps.{PlainSweep, Counts, AddsAlone, a_sweep}
 use Rattle.ca_sweep.specs.Means.{Table, items_from, swept_by, operate, added, with_items, range_cost, sweep_cost, sum_value, all_but}
 use Rattle.ca_sweep.specs.Laws.{GoesOn, Sweeps, sweeps, fails, Stands, SweepsAreSwept}
-use Rattle.ca_sweep.proofs.Tables.{Changed, swept_changed, swept_before, items_same, none_swept, set_itself}
+use Rattle.ca_sweep.proofs.Tables.{Changed, swept_changed, swept_before, items_same, none_swept, set_itself, below as before_end}
 use Rattle.ca_sweep.proofs.Sums.{Summed, sum_summed, sum_gives, sum_same}
-use Rattle.ca_sweep.proofs.Turns.{AddendGives, Stuck, stuck_back, stuck_stop, stuck_out, put_is_right, last_turn, no_step, next_turn, stuck_turn, past, negative}
+use Rattle.ca_sweep.proofs.Turns.{AddendGives, Stuck, stuck_back, stuck_stop, stuck_out, last_turn, no_step, next_turn, stuck_turn, past, negative}
 
 at_end : (b : ℕ) → int_lt (pos b) (pos b) ≡ false
 at_end b = grind (arith, nat_tests)
-
-before_end : (m b : ℕ) → m < b → int_lt (pos m) (pos b) ≡ true
-before_end m b l = grind (arith, nat_tests)
 
 fits_before : (m b : ℕ) → m < b → FitsSigned w64 (pos b) → FitsSigned w64 (pos (suc m))
 fits_before m b l f = omega (arith, ints, l, f.sfits)
@@ -216,7 +214,7 @@ module _ (p : PlainProgram) (h : List Object) (this : Datum) (line : ℕ) (s : P
       sum_gives (all_but s.counter.0) (functions_of p.functions h).call (section_place h this own line ls) s.from stands.sum_from k ∙ ap (λ v. gives v k) stands.from_is in
       let begins : exec (section_parts p h this) line ls q loop k ≡ begun k =
       ap (λ o. and_on (with o q (λ v k. goes_on (slice_set ls s.counter.0 (assigned Put (value_at ls s.counter.0) v)) q k)) (λ ls q k. turn (section_parts p h this) line ls q loop k)) first_is
-      ∙ ap (λ v. turn (section_parts p h this) line (slice_set ls s.counter.0 v) q loop k) (put_is_right (value_at ls s.counter.0) (Long from)) in
+      ∙ ap (λ v. turn (section_parts p h this) line (slice_set ls s.counter.0 v) q loop k) (put_stores (value_at ls s.counter.0) (Long from)) in
       subst (Ends k) (sym begins) (whole k from to refl refl (int_lt from to) refl)
 
 bounded : (s : PlainSweep) (ls : List Datum) (own : List Slot) (len : ℕ) (t : Table) (from to x : ℤ) → Stands s ls own len t from to x → Bounded s ls own len t from to

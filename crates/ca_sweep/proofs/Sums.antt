@@ -1,6 +1,6 @@
 -- A sum of products gives its value at once, whatever a sweep has changed.
 use Rattle.std.proofs.Common.{◌≡◌, ℕ, Bool, true, false, List, ℤ, Ok, refl, ap, ap₂, ◌∙◌, slice_set, Some}
-use Rattle.std.specs.Prelude.{slice_get, nat_eq, ◌&&◌}
+use Rattle.std.specs.Prelude.{slice_get, nat_eq}
 use Rattle.ca_tree.specs.declared.tree.BinaryOp.{BinaryOp}
 use Rattle.ca_tree.specs.declared.tree.BinaryOp.TheVariants.{Plus, Minus, Times}
 use Rattle.ca_program.specs.declared.program.FieldId.{FieldId}
@@ -15,6 +15,7 @@ use Rattle.ca_meaning.specs.Expressions.{Out, gives, ◌>>=◌, answer, decided,
 use Rattle.ca_sweep.specs.Sweeps.{Known, is_product, is_sum}
 use Rattle.ca_sweep.specs.Means.{operate, sum_value, all_but}
 use Rattle.ca_sweep.proofs.Tables.{value_other, one_set}
+use Rattle.ca_sweep.proofs.Finding.{and_left, and_right}
 
 -- an operator that never traps
 abbrev pub Smooth : BinaryOp → Type 0
@@ -57,14 +58,6 @@ pub data Summed (k : Known) : Expression → Type 0 where
   a_sum : (a b : Expression) → Summed k a → Summed k b → Summed k (binary Plus a b)
   a_product : (a b : Expression) → Summed k a → Summed k b → Summed k (binary Times a b)
 
-and_left : (a b : Bool) → a && b ≡ true → a ≡ true
-and_left true b e = refl
-and_left false b e = cc
-
-and_right : (a b : Bool) → a && b ≡ true → b ≡ true
-and_right true b e = e
-and_right false b e = cc
-
 product_summed : (k : Known) (e : Expression) → is_product k e ≡ true → Summed k e
 product_summed k (number n) e = a_number n
 product_summed k (local l) e = a_local l e
@@ -103,7 +96,7 @@ sum_gives known c p _ (a_field f e) k = refl
 sum_gives known c p _ (a_sum a b x y) k = both_give c p Plus a b k _ _ tt (sum_gives known c p a x k) (sum_gives known c p b y k)
 sum_gives known c p _ (a_product a b x y) k = both_give c p Times a b k _ _ tt (sum_gives known c p a x k) (sum_gives known c p b y k)
 
-not_false : (b : Bool) → not_of b ≡ true → b ≡ false
+pub not_false : (b : Bool) → not_of b ≡ true → b ≡ false
 not_false true e = cc
 not_false false e = refl
 

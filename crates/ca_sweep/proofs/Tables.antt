@@ -50,16 +50,6 @@ items_set t u d k (suc n) (suc i) c =
 
 -- Slots
 
-pub set_twice : {A : Type 0} (xs : List A) (i : ℕ) (x y : A) → slice_set (slice_set xs i x) i y ≡ slice_set xs i y
-set_twice [] i x y = refl
-set_twice (z ∷ xs) zero x y = refl
-set_twice (z ∷ xs) (suc i) x y = ap (λ r. z ∷ r) (set_twice xs i x y)
-
-pub set_there : {A : Type 0} (xs : List A) (i : ℕ) (x y : A) → slice_get xs i ≡ Some y → slice_get (slice_set xs i x) i ≡ Some x
-set_there [] i x y e = cc
-set_there (z ∷ xs) zero x y e = refl
-set_there (z ∷ xs) (suc i) x y e = set_there xs i x y e
-
 pub set_itself : {A : Type 0} (xs : List A) (i : ℕ) (x : A) → slice_get xs i ≡ Some x → xs ≡ slice_set xs i x
 set_itself [] i x e = refl
 set_itself (z ∷ xs) zero x e = let same : z ≡ x = cc in ap (λ r. r ∷ xs) same
@@ -94,7 +84,7 @@ one_set (s ∷ ss) (suc f) (suc g) xs ys e = one_set ss f g xs ys e
 -- Ranges
 
 -- from a number that is no less than the beginning, the range grows by that number
-below : (m n : ℕ) → m < n → int_lt (pos m) (pos n) ≡ true
+pub below : (m n : ℕ) → m < n → int_lt (pos m) (pos n) ≡ true
 below m n l = grind (arith, nat_tests)
 
 not_below : (m n : ℕ) → n ≤ m → int_lt (pos m) (pos n) ≡ false

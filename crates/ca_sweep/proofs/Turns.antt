@@ -1,8 +1,9 @@
 -- One turn of a sweep.
-use Rattle.std.proofs.Common.{◌≡◌, ℕ, zero, suc, ◌+◌, ◌-◌, ◌<◌, ◌≤◌, Bool, true, false, List, length, Some, ℤ, pos, negsuc, ◌+ℤ◌, ◌-ℤ◌, neg_ℤ, refl, sym, ap, ◌∙◌, arith, subst, slice_set, FitsSigned, w64}
+use Rattle.std.proofs.Common.{◌≡◌, ℕ, zero, suc, ◌+◌, ◌-◌, ◌<◌, ◌≤◌, Bool, true, false, List, length, Some, ℤ, pos, negsuc, ◌+ℤ◌, ◌-ℤ◌, neg_ℤ, refl, sym, ap, ◌∙◌, arith, subst, slice_set, FitsSigned, w64, set-set}
 use Rattle.std.specs.Prelude.{slice_get, int_lt, nat_eq}
 use Rattle.std.specs.Int.{int_wrap}
 use Rattle.std.proofs.lemmas.Int.{ints, int_wrap_fits, int_wrap-add_right}
+use Rattle.ca_lists.proofs.Places.{get_set_here}
 use Rattle.ca_tree.specs.declared.tree.AssignOp.{AssignOp}
 use Rattle.ca_tree.specs.declared.tree.AssignOp.TheVariants.{Put, Add, Sub}
 use Rattle.ca_tree.specs.declared.tree.BinaryOp.TheVariants.{Less, Plus, Minus}
@@ -24,14 +25,11 @@ use Rattle.ca_meaning.specs.Flows.{Flow, goes_on, gives_back, stops, runs_out, a
 use Rattle.ca_meaning.specs.Functions.{functions_of}
 use Rattle.ca_meaning.specs.Sections.{Section, with_own, section_place, section_value, section_item_at, section_parts, loops_of}
 use Rattle.ca_meaning.proofs.Fix.{section_loop_runs}
+use Rattle.ca_meaning.proofs.Putting.{put_stores}
 use Rattle.ca_sweep.specs.Sweeps.{PlainSweep, Counts, by_one, puts_one_more, Adds, adds, takes_off, puts_sum, puts_difference, AddsAlone, bare, in_block}
 use Rattle.ca_sweep.specs.Means.{Table, items_from, operate, added, with_items, sum_value, all_but}
-use Rattle.ca_sweep.proofs.Tables.{item_there, item_gone, Changed, items_set, set_twice, set_there, value_set, put_set}
+use Rattle.ca_sweep.proofs.Tables.{item_there, item_gone, Changed, items_set, value_set, put_set}
 use Rattle.ca_sweep.proofs.Sums.{Summed, both_give, sum_gives, sum_same}
-
-pub put_is_right : (d e : Datum) → assigned Put d e ≡ e
-put_is_right (Long a) (Long b) = refl
-put_is_right d e = refl
 
 taken_off : (z x : ℤ) → operate Plus (Long z) (signed sign.Minus (Long x)) ≡ Long (int_wrap w64 (z -ℤ x))
 taken_off z x = ap Long (int_wrap-add_right w64 z (neg_ℤ x) ∙ ap (int_wrap w64) (let e : z +ℤ neg_ℤ x ≡ z -ℤ x = omega (arith, ints) in e))
@@ -83,7 +81,7 @@ module _ (p : PlainProgram) (h : List Object) (this : Datum) (line : ℕ) (s : P
   counter_is lb n u k = ap (λ v. gives v k) (value_set ls s.counter.0 (Long n) counted)
 
   slot_is : (u : Table) → slice_get (at u).own s.field.field ≡ Some (Many (items_from u 0 len))
-  slot_is u = set_there own s.field.field (Many (items_from u 0 len)) (Many (items_from t 0 len)) there
+  slot_is u = get_set_here own s.field.field (Many (items_from t 0 len)) (Many (items_from u 0 len)) there
 
   item_is : (lb : ℕ) (u : Table) (m : ℕ) (k : ℕ) → m < len → section_item_at lb (at u) s.field (Long (pos m)) k ≡ gives (record { place = m; value = u (pos m) }) k
   item_is lb u m k l =
@@ -132,11 +130,11 @@ module _ (p : PlainProgram) (h : List Object) (this : Datum) (line : ℕ) (s : P
       by _ e _ (puts_sum own_line) =
           stored lb own_line u w m Put (binary Plus (own_item s.field (local s.counter)) s.addend) (operate Plus (u (pos m)) (Long (x (pos m)))) (operate Plus (Long z) (d (pos m))) k l
           (λ j. both_give (functions_of p.functions h).call (section_place h this (at u).own lb (locals (pos m))) Plus (own_item s.field (local s.counter)) s.addend j _ _ tt (own_item_is lb u m j l) (addend_gives lb u m l j))
-          (put_is_right (u (pos m)) _ ∙ ap (λ v. operate Plus v (Long (x (pos m)))) is ∙ ap (λ b. operate Plus (Long z) (added b (Long (x (pos m))))) (sym e)) c
+          (put_stores (u (pos m)) _ ∙ ap (λ v. operate Plus v (Long (x (pos m)))) is ∙ ap (λ b. operate Plus (Long z) (added b (Long (x (pos m))))) (sym e)) c
       by _ e _ (puts_difference own_line) =
           stored lb own_line u w m Put (binary Minus (own_item s.field (local s.counter)) s.addend) (operate Minus (u (pos m)) (Long (x (pos m)))) (operate Plus (Long z) (d (pos m))) k l
           (λ j. both_give (functions_of p.functions h).call (section_place h this (at u).own lb (locals (pos m))) Minus (own_item s.field (local s.counter)) s.addend j _ _ tt (own_item_is lb u m j l) (addend_gives lb u m l j))
-          (put_is_right (u (pos m)) _ ∙ ap (λ v. operate Minus v (Long (x (pos m)))) is ∙ sym (taken_off z (x (pos m))) ∙ ap (λ b. operate Plus (Long z) (added b (Long (x (pos m))))) (sym e)) c
+          (put_stores (u (pos m)) _ ∙ ap (λ v. operate Minus v (Long (x (pos m)))) is ∙ sym (taken_off z (x (pos m))) ∙ ap (λ b. operate Plus (Long z) (added b (Long (x (pos m))))) (sym e)) c
 
   -- and where the counter is no index
   adds_traps : (lb : ℕ) (b : Statement) → Adds s.counter s.field s.addend s.minus b → (u : Table) (n : ℤ) (k : ℕ) → ((j : ℕ) → section_item_at lb (at u) s.field (Long n) j ≡ traps (trap_at lb OutOfRange)) → exec parts lb (locals n) (at u) b k ≡ stops (trap_at lb OutOfRange) (at u)
@@ -160,12 +158,12 @@ module _ (p : PlainProgram) (h : List Object) (this : Datum) (line : ℕ) (s : P
   counted_up : (c : Statement) → Counts s.counter c → (u : Table) (m k : ℕ) → FitsSigned w64 (pos (suc m)) → exec parts line (locals (pos m)) (at u) c k ≡ goes_on (locals (pos (suc m))) (at u) k
   counted_up _ (by_one own_line) u m k f =
       ap (λ v. goes_on (slice_set (locals (pos m)) s.counter.0 (assigned Add v (Long (pos 1)))) (at u) k) (value_set ls s.counter.0 (Long (pos m)) counted)
-      ∙ ap (λ v. goes_on v (at u) k) (set_twice ls s.counter.0 _ _ ∙ ap (λ n. slice_set ls s.counter.0 (Long n)) (one_more m f))
+      ∙ ap (λ v. goes_on v (at u) k) (set-set ls s.counter.0 _ _ ∙ ap (λ n. slice_set ls s.counter.0 (Long n)) (one_more m f))
   counted_up _ (puts_one_more own_line) u m k f =
       ap (λ o. with o (at u) (λ v k. goes_on (slice_set (locals (pos m)) s.counter.0 (assigned Put (value_at (locals (pos m)) s.counter.0) v)) (at u) k))
       (both_give (functions_of p.functions h).call (section_place h this (at u).own line (locals (pos m))) Plus (local s.counter) (number (pos 1)) k (Long (pos m)) (Long (pos 1)) tt (counter_is line (pos m) u k) refl)
-      ∙ ap (λ v. goes_on (slice_set (locals (pos m)) s.counter.0 v) (at u) k) (put_is_right (value_at (locals (pos m)) s.counter.0) _)
-      ∙ ap (λ v. goes_on v (at u) k) (set_twice ls s.counter.0 _ _ ∙ ap (λ n. slice_set ls s.counter.0 (Long n)) (one_more m f))
+      ∙ ap (λ v. goes_on (slice_set (locals (pos m)) s.counter.0 v) (at u) k) (put_stores (value_at (locals (pos m)) s.counter.0) _)
+      ∙ ap (λ v. goes_on v (at u) k) (set-set ls s.counter.0 _ _ ∙ ap (λ n. slice_set ls s.counter.0 (Long n)) (one_more m f))
 
   condition_is : (n : ℤ) (u : Table) (k : ℕ) → section_value p h this line (locals n) (at u) (binary Less (local s.counter) s.to) k ≡ gives (Truth (int_lt n to)) k
   condition_is n u k =

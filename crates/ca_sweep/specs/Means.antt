@@ -79,9 +79,9 @@ abbrev pub sweep_cost : ℕ → ℤ → ℤ → Option ℕ
 sweep_cost len from to = if int_lt from to then range_cost len from to else Some 0
 
 -- from the length of the field, if it has one, and the values of the bounds
-abbrev pub swept_cost : Option ℕ → Datum → Datum → Option ℕ
-swept_cost (Some len) (Long from) (Long to) = sweep_cost len from to
-swept_cost len from to = None
+abbrev pub sweep_cost_of : Option ℕ → Datum → Datum → Option ℕ
+sweep_cost_of (Some len) (Long from) (Long to) = sweep_cost len from to
+sweep_cost_of len from to = None
 
 abbrev pub length_in : Option FieldInfo → Option ℕ
 length_in None = None

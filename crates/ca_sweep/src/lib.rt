@@ -4,4 +4,4 @@
 pub mod laws;
 mod loops;
 
-pub use crate::loops::{SweepLoop, counts_up, sweep_at, sweep_form, sweep_of};
+pub use crate::loops::{SweepLoop, counts_up, sweep_at, sweep_form, sweep_in};

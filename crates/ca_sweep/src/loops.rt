@@ -408,7 +408,7 @@ impl SweepLoop<'_> {
 
 /// The sweep that a statement is, in a method with so many parameters, of an extent that writes these fields. It takes no
 /// memory.
-pub fn sweep_of<'a>(params: u32, written: &[FieldId], s: &'a Stmt) -> Option<SweepLoop<'a>>
+pub fn sweep_in<'a>(params: u32, written: &[FieldId], s: &'a Stmt) -> Option<SweepLoop<'a>>
     ensures some { IfSome result (λ x. sweep_in params written.now (statement_view s.now) ≡ Some (sweep_view x)) }
     ensures none { IfNone result (sweep_in params written.now (statement_view s.now) ≡ None) }
 {

@@ -28,7 +28,7 @@ use Rattle.ca_meaning.specs.Sections as sections
 use Rattle.ca_meaning.specs.WellTyped.{ValuesTyped, IsTypedObject, parameters_of}
 use Rattle.ca_meaning_laws.proofs.Values.{local_typed, frame_typed, own_scalar}
 use Rattle.ca_sweep.specs.Sweeps.{PlainSweep, Counts, AddsAlone, IsSweep, AreSums}
-use Rattle.ca_sweep.specs.Means.{sum_value, all_but, Table, items_from, swept, operate, added, with_items, sweep_cost, length_in, swept_cost}
+use Rattle.ca_sweep.specs.Means.{sum_value, all_but, Table, items_from, swept, operate, added, with_items, sweep_cost, length_in, sweep_cost_of}
 use Rattle.ca_sweep.specs.Laws.{GoesOn, Sweeps, sweeps, Stands}
 use Rattle.ca_sweep.specs.Laws as plain
 use Rattle.ca_sweep.proofs.Shown.{Shown, shown, shown_of}
@@ -202,7 +202,7 @@ module _ (p : PlainProgram) (h : List Object) (r : ℕ) (o : Object) (op : OpId)
     }
 
     abbrev Ended : ℕ → Sectioned → Type 0
-    Ended k r = Ends o s (length numbers.items) table first.0 last.0 (added s.minus (Long more.0)) (swept_cost (length_in (field_info p s.field)) (Long first.0) (Long last.0)) k r
+    Ended k r = Ends o s (length numbers.items) table first.0 last.0 (added s.minus (Long more.0)) (sweep_cost_of (length_in (field_info p s.field)) (Long first.0) (Long last.0)) k r
 
     run_with : Option PlainMethod → Statements → ℕ → Sectioned
     run_with f xs k = sectioned o.class k (with (take_step k) (section_start o.slots) (λ _ k. exec_all (section_parts p h (Ref r)) (locals_of f arguments) (section_start o.slots) xs k))
@@ -211,8 +211,8 @@ module _ (p : PlainProgram) (h : List Object) (r : ℕ) (o : Object) (op : OpId)
     unfolding run_with
     section_is k = ap (λ f. sectioned o.class k (with (take_step k) (section_start o.slots) (λ _ k. exec_all (section_parts p h (Ref r)) (locals_of f arguments) (section_start o.slots) (body_of f) k))) there ∙ ap (λ xs. run_with (Some m) xs k) alone_body
 
-    price_is : swept_cost (length_in (field_info p s.field)) (Long first.0) (Long last.0) ≡ sweep_cost (length numbers.items) first.0 last.0
-    price_is = ap (λ l. swept_cost l (Long first.0) (Long last.0)) long_is
+    price_is : sweep_cost_of (length_in (field_info p s.field)) (Long first.0) (Long last.0) ≡ sweep_cost (length numbers.items) first.0 last.0
+    price_is = ap (λ l. sweep_cost_of l (Long first.0) (Long last.0)) long_is
 
     ends_at : (k : ℕ) → Ended k (run_with (Some m) (statement_and loop no_statements) k)
     unfolding run_with
@@ -226,7 +226,7 @@ module _ (p : PlainProgram) (h : List Object) (r : ℕ) (o : Object) (op : OpId)
 
 by_form : (p : PlainProgram) (h : List Object) (r : ℕ) (o : Object) (op : OpId) (m : PlainMethod) → slice_get p.ops op.0 ≡ Some m → OperationTyped p m → IsTypedObject p h m.class o →
     (arguments : List Datum) → ValuesTyped h arguments (parameters_of m) → (s : PlainSweep) (loop : Statement) → Shown s loop → m.body.statements ≡ statement_and loop no_statements → IsSweep s loop → AreSums (all_but s.counter.0) s →
-    (w : Sweeping p o (locals_of (Some m) arguments) s) × ((k : ℕ) → Ends o s w.len w.table w.from w.to (added s.minus (Long w.addend)) (swept_cost (length_in (field_info p s.field)) (Long w.from) (Long w.to)) k (section p h r o op arguments k))
+    (w : Sweeping p o (locals_of (Some m) arguments) s) × ((k : ℕ) → Ends o s w.len w.table w.from w.to (added s.minus (Long w.addend)) (sweep_cost_of (length_in (field_info p s.field)) (Long w.from) (Long w.to)) k (section p h r o op arguments k))
 unfolding sweeping
 by_form p h r o op m there typed object arguments given s _ (shown own_line site at_line next body counts alone) e is sums =
     (sweeping p h r o op m there typed object arguments given s own_line site at_line next body counts alone is e sums, λ k. ends p h r o op m there typed object arguments given s own_line site at_line next body counts alone is e sums k)

@@ -12,7 +12,7 @@ use Rattle.ca_meaning.specs.Sections.{Sectioned, done, section}
 use Rattle.ca_meaning.specs.Sections as sections
 use Rattle.ca_meaning.specs.WellTyped.{ValuesTyped, IsTypedObject, parameters_of}
 use Rattle.ca_sweep.specs.Sweeps.{PlainSweep, IsSweep, AreSums}
-use Rattle.ca_sweep.specs.Means.{sum_value, all_but, Table, items_from, swept, added, with_items, length_in, swept_cost}
+use Rattle.ca_sweep.specs.Means.{sum_value, all_but, Table, items_from, swept, added, with_items, length_in, sweep_cost_of}
 
 abbrev pub IsDone : Sectioned → Type 0
 IsDone (done m) = Unit {0}
@@ -43,4 +43,4 @@ SectionsOfSweeps =
     (arguments : List Datum) → ValuesTyped h arguments (parameters_of m) →
     (s : PlainSweep) (loop : Statement) → m.body.statements ≡ statement_and loop no_statements → IsSweep s loop → AreSums (all_but s.counter.0) s →
     (w : Sweeping p o (locals_of (Some m) arguments) s) × ((k : ℕ) →
-    Ends o s w.len w.table w.from w.to (added s.minus (Long w.addend)) (swept_cost (length_in (field_info p s.field)) (Long w.from) (Long w.to)) k (section p h r o op arguments k))
+    Ends o s w.len w.table w.from w.to (added s.minus (Long w.addend)) (sweep_cost_of (length_in (field_info p s.field)) (Long w.from) (Long w.to)) k (section p h r o op arguments k))

@@ -10,13 +10,13 @@ use Rattle.ca_tree.specs.declared.tree.UnaryOp.{UnaryOp}
 use Rattle.ca_tree.specs.declared.tree.UnaryOp.TheVariants as sign
 use Rattle.ca_program.specs.declared.program.FieldId.{FieldId}
 use Rattle.ca_program.specs.declared.program.FunctionId.{FunctionId}
-use Rattle.ca_program.specs.declared.program.LocalId.{LocalId}
 use Rattle.ca_program.specs.Fields.{same_field}
 use Rattle.ca_program.specs.Plain.{Expression, Expressions, number, truth, null, this, local, own, own_item, read, read_item, value_call, unary, binary, no_expressions, expression_and}
 use Rattle.ca_program.proofs.Fields.{same_fields, same_itself}
 use Rattle.ca_symbolic.specs.Execution.{is_item}
 use Rattle.ca_symbolic.specs.clauses.Refusals.{is_own_item}
 use Rattle.ca_symbolic.specs.Same.{same_truth, same_sign, place_of, same_expression, same_expressions}
+use Rattle.ca_sweep.proofs.Finding.{same_local as locals}
 
 truths : (a b : Bool) → same_truth a b ≡ true → a ≡ b
 truths true b e = sym e
@@ -25,9 +25,6 @@ truths false false e = refl
 
 numbers : (m n : ℤ) → int_eq m n ≡ true → m ≡ n
 numbers m n e = (Decides-int_eq m n).0 e
-
-locals : (l m : LocalId) → nat_eq l.0 m.0 ≡ true → l ≡ m
-locals l m e = let c : l.0 ≡ m.0 = eqb-true l.0 m.0 e in λ i. record { 0 = c i }
 
 functions : (l m : FunctionId) → nat_eq l.0 m.0 ≡ true → l ≡ m
 functions l m e = let c : l.0 ≡ m.0 = eqb-true l.0 m.0 e in λ i. record { 0 = c i }
@@ -122,7 +119,7 @@ sign_itself : (o : UnaryOp) → same_sign o o ≡ true
 sign_itself sign.Minus = refl
 sign_itself sign.Not = refl
 
-two : (a b : Bool) → a ≡ true → b ≡ true → (a && b) ≡ true
+pub two : (a b : Bool) → a ≡ true → b ≡ true → (a && b) ≡ true
 two true true p q = refl
 two true false p q = absurd cc
 two false b p q = absurd cc

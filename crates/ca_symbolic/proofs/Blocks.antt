@@ -5,15 +5,11 @@ use Rattle.std.specs.declared.boxed.Box.{Box}
 use Rattle.ca_program.specs.declared.program.Expr.{Expr, Value}
 use Rattle.ca_program.specs.declared.program.FunctionId.{FunctionId}
 use Rattle.ca_program.specs.declared.program.Stmt.{Stmt}
-use Rattle.ca_program.specs.declared.program.StmtForm.{Block}
 use Rattle.ca_program.specs.Plain.{Expression, Expressions, expression_and, Statement, Statements, statement_and, block, value_call}
-use Rattle.ca_program.specs.View.{form_view, statement_view, statements_view, expression_view, expressions_view}
+use Rattle.ca_program.specs.View.{statements_view, expression_view, expressions_view}
 use Rattle.ca_symbolic.specs.OtherLoops.{is_call, are_calls, calls_alone}
 use Rattle.ca_symbolic.specs.Same.{same_expression, same_expressions}
-use Rattle.ca_program.proofs.Rows.{block_is, row_is_list}
-
-pub block_view : (s : Stmt) (v : Vec Stmt Global) → s.kind ≡ Block v → statement_view s ≡ block s.line (statements_view v.items)
-block_view s v is = ap (λ k. form_view k s.line) is ∙ block_is s.line v
+use Rattle.ca_program.proofs.Rows.{row_is_list}
 
 pub call_view : (e : Expr) (p : Box Expr Global) (m : FunctionId) (v : Vec Expr Global) → e ≡ Value p m v → expression_view e ≡ value_call (expression_view p.value) m (expressions_view v.items)
 call_view e p m v is = ap expression_view is ∙ ap (λ es. value_call (expression_view p.value) m es) (row_is_list v)

@@ -1,8 +1,8 @@
 -- The test whether a statement is a call loop decides it.
-use Rattle.std.proofs.Common.{◌≡◌, Bool, true, false, ◌&&◌, ◌↔◌, refl, ap, ◌∙◌, pos, Some, None}
+use Rattle.std.proofs.Common.{◌≡◌, true, ◌&&◌, ◌↔◌, refl, ap, ◌∙◌, pos, Some, None}
 use Rattle.std.specs.Prelude.{nat_eq, Option}
 use Rattle.std.specs.Ordering.{int_eq}
-use Rattle.std.proofs.lemmas.Bool.{eqb-true, eq-eqb, and_parts}
+use Rattle.std.proofs.lemmas.Bool.{eq-eqb, and_parts}
 use Rattle.std.proofs.lemmas.Bool.Decides.{Decides-int_eq}
 use Rattle.ca_tree.specs.declared.tree.AssignOp.TheVariants.{Put, Add}
 use Rattle.ca_tree.specs.declared.tree.BinaryOp.TheVariants.{Less, Plus}
@@ -13,9 +13,8 @@ use Rattle.ca_program.specs.Plain.{Expression, number, local, binary, Statement,
 use Rattle.ca_parallel.specs.Loops.{Begins, Compares, CountsUp, IsCall, AreCalls, CallsAlone, IsCallLoopOf, IsCallLoop}
 use Rattle.ca_sweep.specs.Found.{counts_up}
 use Rattle.ca_symbolic.specs.OtherLoops.{counter_of, compares, is_call, are_calls, calls_alone, counts, is_call_loop}
-
-same : (l m : LocalId) → nat_eq l.0 m.0 ≡ true → l ≡ m
-same l m e = let c : l.0 ≡ m.0 = eqb-true l.0 m.0 e in λ i. record { 0 = c i }
+use Rattle.ca_sweep.proofs.Finding.{same_local as same}
+use Rattle.ca_symbolic.proofs.Alike.{two}
 
 one_call : (x : Statement) → is_call x ≡ true → IsCall x
 one_call (invoke line e op arguments) s = tt
@@ -58,11 +57,6 @@ call_loop_of (Some i) part first c next x e s =
 call_loop : (x : Statement) → is_call_loop x ≡ true → IsCallLoop x
 call_loop (for_loop line site part first c next x) s = call_loop_of (counter_of part first) part first c next x refl s
 call_loop x s = absurd cc
-
-two : (a b : Bool) → a ≡ true → b ≡ true → (a && b) ≡ true
-two true true p q = refl
-two true false p q = absurd cc
-two false b p q = absurd cc
 
 told_same : (l m : LocalId) → l ≡ m → nat_eq l.0 m.0 ≡ true
 told_same l m e = eq-eqb l.0 m.0 (ap (λ (k : LocalId). k.0) e)

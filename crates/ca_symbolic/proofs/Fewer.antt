@@ -9,14 +9,7 @@ use Rattle.ca_sweep.specs.Sweeps.{PlainSweep, is_product, is_sum}
 use Rattle.ca_sweep.specs.Found.{known, sums_known, sweep_form, if_sums, sweep_in}
 use Rattle.ca_symbolic.specs.OtherLoops.{is_call_loop, if_no_sweep, other_loop, other_loop_in}
 use Rattle.ca_symbolic.specs.Laws.{LoopsAreFewer}
-
-and_left : (a b : Bool) → a && b ≡ true → a ≡ true
-and_left true b e = refl
-and_left false b e = absurd cc
-
-and_right : (a b : Bool) → a && b ≡ true → b ≡ true
-and_right true b e = e
-and_right false b e = absurd cc
+use Rattle.ca_sweep.proofs.Finding.{and_left, and_right}
 
 fewer_product : (i : ℕ) (below : Option ℕ) (written : List FieldId) (e : Expression) → is_product (known i below written) e ≡ true → is_product (known i below []) e ≡ true
 fewer_product i below written (number n) h = refl

@@ -1,6 +1,7 @@
 -- What is refused, and what is not.
 use Rattle.std.proofs.Common.{◌≡◌, Bool, true, false, ◌||◌, List, [], ◌∷◌, Result, Ok, Err, OnOk, IfOk, IsOkAnd, refl, ap, subst, ◌∙◌}
 
+-- `auto` takes these three by name
 pub neither : (a b : Bool) → a ≡ false → b ≡ false → (a || b) ≡ false
 neither false b p q = q
 neither true b p q = absurd cc

@@ -1,14 +1,15 @@
 -- Terms behind two branches, and those that a loop reads, one place after the other.
 use Rattle.std.proofs.Common.{◌≡◌, ℕ, zero, suc, min, ◌+◌, ◌<◌, ◌≤◌, ◌⊎◌, inl, inr, Bool, true, false, ◌||◌, List, [], ◌∷◌, ◌++◌, length, length-append, map, take, drop, get_or, take-suc, add-one, refl, sym, ap, ap₂, ◌∙◌, subst, arith, append_assoc, append-nil}
 use Rattle.std.proofs.lemmas.List.{drop_all}
+use Rattle.std.proofs.lemmas.Bool.{or_right}
 use Rattle.std.specs.List.{list_any}
+use Rattle.ca_lists.proofs.Places.{item_and_rest}
 use Rattle.ca_norm.specs.Terms.{PlainTerm}
 use Rattle.ca_symbolic.specs.Execution.{choose_if, choices}
 use Rattle.ca_symbolic.specs.Demands.{picked}
 use Rattle.ca_symbolic.specs.Made.{targets}
 use Rattle.ca_symbolic.specs.clauses.Places.{one_if}
 use Rattle.ca_shared_terms.specs.Heavy.{is_heavy}
-use Rattle.ca_forms.proofs.Merging.{item_and_rest}
 
 abbrev heavy_targets : (ℕ → Bool) → ℕ → List PlainTerm → Bool
 heavy_targets f n ts = list_any is_heavy (targets f n ts)
@@ -37,12 +38,8 @@ more_light f n [] t h light = one_target f n t (λ e. light (subst (λ m. f m �
 more_light f n (u ∷ ts) t h light =
     in_front f n u ts (ts ++ t ∷ []) (λ g. more_light f (suc n) ts t g (λ e. light (subst (λ m. f m ≡ true) (omega arith) e))) (f n) refl h
 
-second : (x y : Bool) → y ≡ true → (x || y) ≡ true
-second true y e = refl
-second false y e = e
-
 behind_one : (f : ℕ → Bool) (n : ℕ) (u : PlainTerm) (us : List PlainTerm) → heavy_targets f (suc n) us ≡ true → (b : Bool) → f n ≡ b → heavy_targets f n (u ∷ us) ≡ true
-behind_one f n u us next true e = rw e (second (is_heavy u) (heavy_targets f (suc n) us) next)
+behind_one f n u us next true e = rw e (or_right (is_heavy u) (heavy_targets f (suc n) us) next)
 behind_one f n u us next false e = rw e next
 
 -- a heavy target behind others

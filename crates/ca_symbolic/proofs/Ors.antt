@@ -2,9 +2,11 @@
 use Rattle.std.proofs.Common.{◌≡◌, ℕ, Bool, true, false, ◌||◌, ◌&&◌, List, [], ◌∷◌, ◌++◌, refl, sym, ap, ap₂, ◌∙◌}
 use Rattle.std.specs.Prelude.{nat_eq, get_or}
 use Rattle.std.specs.List.{list_any}
+use Rattle.std.specs.Cmp.{both_ways}
 use Rattle.std.proofs.Math.Bool.{or-false}
-use Rattle.std.proofs.lemmas.Bool.{eqb-true, and_parts}
+use Rattle.std.proofs.lemmas.Bool.{eqb-true, and_parts, or_right}
 use Rattle.std.proofs.lemmas.List.Folds.{list_any-append}
+use Rattle.ca_norm.proofs.Operations.{bools_same as alike}
 
 -- a disjunction over values that have numbers
 pub data Or : Type 0 where
@@ -35,14 +37,10 @@ abbrev pub within : List ℕ → List ℕ → Bool
 within [] ns = true
 within (m ∷ ms) ns = among m ns && within ms ns
 
-right : (x y : Bool) → y ≡ true → (x || y) ≡ true
-right true y e = refl
-right false y e = e
-
 at_first : (f : ℕ → Bool) (m n : ℕ) (ns : List ℕ) → f m ≡ true → (among m ns ≡ true → list_any f ns ≡ true) → (b : Bool) → nat_eq m n ≡ b →
     (b || among m ns) ≡ true → (f n || list_any f ns) ≡ true
 at_first f m n ns t later true e a = ap (λ x. f x || list_any f ns) (sym (eqb-true m n e)) ∙ ap (λ x. x || list_any f ns) t
-at_first f m n ns t later false e a = right (f n) (list_any f ns) (later a)
+at_first f m n ns t later false e a = or_right (f n) (list_any f ns) (later a)
 
 found : (f : ℕ → Bool) (m : ℕ) (ns : List ℕ) → among m ns ≡ true → f m ≡ true → list_any f ns ≡ true
 found f m [] a t = absurd cc
@@ -59,16 +57,10 @@ carried f (m ∷ ms) ns w t =
     let b = and_parts (among m ns) (within ms ns) w in
     one_or_more f m ms ns b.0 (λ u. carried f ms ns b.1 u) (f m) refl t
 
-alike : (x y : Bool) → (x ≡ true → y ≡ true) → (y ≡ true → x ≡ true) → x ≡ y
-alike true true f g = refl
-alike false false f g = refl
-alike true false f g = absurd (let h : false ≡ true = f refl in cc)
-alike false true f g = absurd (let h : false ≡ true = g refl in cc)
-
 pub same_ors : (bs : List Bool) (t u : Or) → within (leaves t) (leaves u) ≡ true → within (leaves u) (leaves t) ≡ true → value bs t ≡ value bs u
 same_ors bs t u p q =
     let f : ℕ → Bool = λ n. get_or bs n false in
-    by_leaves bs t ∙ (alike (list_any f (leaves t)) (list_any f (leaves u)) (carried f (leaves t) (leaves u) p) (carried f (leaves u) (leaves t) q) ∙ sym (by_leaves bs u))
+    by_leaves bs t ∙ (both_ways (list_any f (leaves t)) (list_any f (leaves u)) (carried f (leaves t) (leaves u) p) (carried f (leaves u) (leaves t) q) ∙ sym (by_leaves bs u))
 
 -- what makes another true can stand beside it
 pub absorbed : (x y : Bool) → (x ≡ true → y ≡ true) → y ≡ (x || y)

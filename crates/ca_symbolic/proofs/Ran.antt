@@ -1,5 +1,6 @@
 -- What is told of a statement whose parts were run one behind the other.
 use Rattle.std.proofs.Common.{◌≡◌, ℕ, Bool, true, false, ◌||◌, List, ◌++◌, Result, Err, OnOk, sym, ap, ap₂, subst, ◌∙◌, append_assoc}
+use Rattle.std.proofs.lemmas.Bool.{or_right, or_left}
 use Rattle.std.specs.List.{list_any}
 use Rattle.ca_program.specs.Plain.{PlainProgram, Expression, Statement, if_else}
 use Rattle.ca_norm.specs.Terms.{PlainTerm, not}
@@ -13,7 +14,7 @@ use Rattle.ca_symbolic.specs.Demands.{then_guard, else_guard, demands_in, demand
 use Rattle.ca_symbolic.specs.Made.{joined_terms}
 use Rattle.ca_symbolic.specs.Demanded.{Demanded, with_demands, under}
 use Rattle.ca_symbolic.specs.clauses.Refusals.{refused, refused_by}
-use Rattle.ca_symbolic.proofs.Flags.{first_of, second_of, both_ok, again, neither_before}
+use Rattle.ca_symbolic.proofs.Flags.{both_ok, again, neither_before}
 use Rattle.ca_forms.proofs.Told.{on_ok}
 use Rattle.ca_symbolic.proofs.Told.{else_refused}
 
@@ -63,7 +64,7 @@ module _ (p : PlainProgram) (s : State) (d : Demanded) (x : Statement) (line : �
   refused_is = ap (refused_by p s d.guard) is
 
   pub if_condition : refused p s d.guard c ≡ true → refused_by p s d.guard x ≡ true
-  if_condition h = refused_is ∙ first_of (refused p s d.guard c) (is_heavy (then_guard d.guard (term_of p s c)) || yes_part p s d.guard line c a b) h
+  if_condition h = refused_is ∙ or_left (refused p s d.guard c) (is_heavy (then_guard d.guard (term_of p s c)) || yes_part p s d.guard line c a b) h
 
   module _ (t : PlainTerm) (d1 : Demanded) (named : t ≡ term_of p s c) (first : d1 ≡ with_demands d (demands_in p s d.guard c)) where
     outside : d1.guard ≡ d.guard
@@ -75,8 +76,8 @@ module _ (p : PlainProgram) (s : State) (d : Demanded) (x : Statement) (line : �
     pub if_then : is_heavy (then_guard d1.guard t) ≡ true → refused_by p s d.guard x ≡ true
     if_then h =
         refused_is
-        ∙ second_of (refused p s d.guard c) (is_heavy (then_guard d.guard (term_of p s c)) || yes_part p s d.guard line c a b)
-        (first_of (is_heavy (then_guard d.guard (term_of p s c))) (yes_part p s d.guard line c a b) (then_heavy ∙ h))
+        ∙ or_right (refused p s d.guard c) (is_heavy (then_guard d.guard (term_of p s c)) || yes_part p s d.guard line c a b)
+        (or_left (is_heavy (then_guard d.guard (term_of p s c))) (yes_part p s d.guard line c a b) (then_heavy ∙ h))
 
     module _ (d2 : Demanded) (next : d2 ≡ under d1 (then_guard d1.guard t)) where
       yes_guard : d2.guard ≡ then_guard d.guard (term_of p s c)
@@ -88,9 +89,9 @@ module _ (p : PlainProgram) (s : State) (d : Demanded) (x : Statement) (line : �
       pub if_first : refused_by p s d2.guard a ≡ true → refused_by p s d.guard x ≡ true
       if_first h =
           refused_is
-          ∙ second_of (refused p s d.guard c) (is_heavy (then_guard d.guard (term_of p s c)) || yes_part p s d.guard line c a b)
-          (second_of (is_heavy (then_guard d.guard (term_of p s c))) (yes_part p s d.guard line c a b)
-          (first_of (refused_by p s (then_guard d.guard (term_of p s c)) a) (else_part p s d.guard line c a b) (yes_refused ∙ h)))
+          ∙ or_right (refused p s d.guard c) (is_heavy (then_guard d.guard (term_of p s c)) || yes_part p s d.guard line c a b)
+          (or_right (is_heavy (then_guard d.guard (term_of p s c))) (yes_part p s d.guard line c a b)
+          (or_left (refused_by p s (then_guard d.guard (term_of p s c)) a) (else_part p s d.guard line c a b) (yes_refused ∙ h)))
 
       module _ (k : Fork) (kept : k ≡ record { condition = t; outer = d1.guard; other = s }) where
         condition_is : k.condition ≡ term_of p s c
@@ -120,12 +121,12 @@ module _ (p : PlainProgram) (s : State) (d : Demanded) (x : Statement) (line : �
           pub if_second : refused_by p s2 d4.guard b ≡ true → refused_by p s d.guard x ≡ true
           if_second h =
               refused_is
-              ∙ second_of (refused p s d.guard c) (is_heavy (then_guard d.guard (term_of p s c)) || yes_part p s d.guard line c a b)
-              (second_of (is_heavy (then_guard d.guard (term_of p s c))) (yes_part p s d.guard line c a b)
-              (second_of (refused_by p s (then_guard d.guard (term_of p s c)) a) (else_part p s d.guard line c a b)
-              (second_of (is_heavy (not (term_of p s c))) (is_heavy (else_guard d.guard (term_of p s c)) || no_part p s d.guard line c a b)
-              (second_of (is_heavy (else_guard d.guard (term_of p s c))) (no_part p s d.guard line c a b)
-              (first_of (refused_by p s (else_guard d.guard (term_of p s c)) b) (joined p s line c a b) (no_refused ∙ h))))))
+              ∙ or_right (refused p s d.guard c) (is_heavy (then_guard d.guard (term_of p s c)) || yes_part p s d.guard line c a b)
+              (or_right (is_heavy (then_guard d.guard (term_of p s c))) (yes_part p s d.guard line c a b)
+              (or_right (refused_by p s (then_guard d.guard (term_of p s c)) a) (else_part p s d.guard line c a b)
+              (or_right (is_heavy (not (term_of p s c))) (is_heavy (else_guard d.guard (term_of p s c)) || no_part p s d.guard line c a b)
+              (or_right (is_heavy (else_guard d.guard (term_of p s c))) (no_part p s d.guard line c a b)
+              (or_left (refused_by p s (else_guard d.guard (term_of p s c)) b) (joined p s line c a b) (no_refused ∙ h))))))
 
           -- where each part is light, the whole is refused for what the branches are joined to
           if_rest : refused p s d.guard c ≡ false → is_heavy (then_guard d1.guard t) ≡ false → refused_by p s d2.guard a ≡ false →

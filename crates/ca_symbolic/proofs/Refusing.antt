@@ -464,9 +464,3 @@ mutual
 -- a body is refused exactly where a term that is made on the way is too heavy
 pub refused_exactly : (p : PlainProgram) (s : State) (g : PlainTerm) (xs : Statements) → refused_by_all p s g xs ≡ H (made_by p s g xs)
 refused_exactly p s g xs = refused_by_all_is p s g xs ∙ sym (both (steps_made_all p s g xs) (flat_map (λ d. d.parts) (demanded_all p s g xs)))
-
-pub run_lightly : (p : PlainProgram) (s : State) (g : PlainTerm) (xs : Statements) → refused_by_all p s g xs ≡ false → list_any is_heavy (made_by p s g xs) ≡ false
-run_lightly p s g xs h = sym (refused_exactly p s g xs) ∙ h
-
-pub run_heavily : (p : PlainProgram) (s : State) (g : PlainTerm) (xs : Statements) → refused_by_all p s g xs ≡ true → list_any is_heavy (made_by p s g xs) ≡ true
-run_heavily p s g xs h = sym (refused_exactly p s g xs) ∙ h

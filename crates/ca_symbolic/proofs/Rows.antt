@@ -1,5 +1,6 @@
 -- What is told of a row of expressions or statements, which are taken one behind the other.
 use Rattle.std.proofs.Common.{◌≡◌, true, false, ◌||◌, List, [], ◌∷◌, ◌++◌, sym, ap, ap₂, ◌∙◌, append_assoc, append-nil}
+use Rattle.std.proofs.lemmas.Bool.{or_left}
 use Rattle.ca_program.specs.Plain.{PlainProgram, Expression, Expressions, no_expressions, expression_and, Statement, Statements, no_statements, statement_and}
 use Rattle.ca_norm.specs.Terms.{PlainTerm}
 use Rattle.ca_symbolic.specs.States.{State, PlainDemand}
@@ -7,7 +8,6 @@ use Rattle.ca_symbolic.specs.Execution.{term_of, after, after_all}
 use Rattle.ca_symbolic.specs.Demands.{terms_in, demands_in, demands_in_all, demanded, demanded_all}
 use Rattle.ca_symbolic.specs.Demanded.{Demanded, with_demands}
 use Rattle.ca_symbolic.specs.clauses.Refusals.{refused, refused_all, refused_by, refused_by_all}
-use Rattle.ca_symbolic.proofs.Flags.{first_of}
 
 -- one step more, behind what was demanded so far
 longer : (now next : Demanded) (g : PlainTerm) (f : PlainTerm → List PlainDemand) (rest : List PlainDemand) → now.guard ≡ g → next ≡ with_demands now (f now.guard) →
@@ -26,7 +26,7 @@ module _ (p : PlainProgram) (s : State) (d now : Demanded) (all left : Expressio
   module _ (y : Expression) (rest : Expressions) (opened : left ≡ expression_and y rest) where
     pub values_heavy : refused p s now.guard y ≡ true → refused_all p s d.guard all ≡ true
     values_heavy h =
-        sym refusal ∙ (ap (refused_all p s d.guard) opened ∙ first_of (refused p s d.guard y) (refused_all p s d.guard rest) (ap (λ (k : PlainTerm). refused p s k y) (sym guard) ∙ h))
+        sym refusal ∙ (ap (refused_all p s d.guard) opened ∙ or_left (refused p s d.guard y) (refused_all p s d.guard rest) (ap (λ (k : PlainTerm). refused p s k y) (sym guard) ∙ h))
 
     pub values_step : (t : PlainTerm) (ts : List PlainTerm) (next : Demanded) → ts ≡ vs ++ t ∷ [] → t ≡ term_of p s y → next ≡ with_demands now (demands_in p s now.guard y) → refused p s now.guard y ≡ false →
         (ts ++ terms_in p s rest ≡ terms_in p s all) × (next.guard ≡ d.guard) × (next.list ++ demands_in_all p s d.guard rest ≡ d.list ++ demands_in_all p s d.guard all) ×
@@ -57,7 +57,7 @@ module _ (p : PlainProgram) (s here : State) (d now : Demanded) (all left : Stat
     pub runs_heavy : refused_by p here now.guard y ≡ true → refused_by_all p s d.guard all ≡ true
     runs_heavy h =
         sym refusal
-        ∙ (ap (refused_by_all p here d.guard) opened ∙ first_of (refused_by p here d.guard y) (refused_by_all p (after p here y) d.guard rest) (ap (λ (k : PlainTerm). refused_by p here k y) (sym guard) ∙ h))
+        ∙ (ap (refused_by_all p here d.guard) opened ∙ or_left (refused_by p here d.guard y) (refused_by_all p (after p here y) d.guard rest) (ap (λ (k : PlainTerm). refused_by p here k y) (sym guard) ∙ h))
 
     pub runs_step : (there : State) (next : Demanded) → there ≡ after p here y → next ≡ with_demands now (demanded p here now.guard y) → refused_by p here now.guard y ≡ false →
         (after_all p there rest ≡ after_all p s all) × (next.guard ≡ d.guard) × (next.list ++ demanded_all p there d.guard rest ≡ d.list ++ demanded_all p s d.guard all) ×

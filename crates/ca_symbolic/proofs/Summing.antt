@@ -1,5 +1,6 @@
 -- A put to an item, by its right side: `left op right` adds to the item where the left side is that item.
 use Rattle.std.proofs.Common.{◌≡◌, Bool, true, false, ◌||◌, ◌++◌, Result, Ok, Err, OnOk, Global, refl, sym, ap, ap₂, ◌∙◌}
+use Rattle.std.proofs.lemmas.Bool.{or_left}
 use Rattle.std.specs.Prelude.{if◌then◌else◌}
 use Rattle.std.specs.declared.boxed.Box.{Box}
 use Rattle.ca_tree.specs.declared.tree.AssignOp.{AssignOp}
@@ -16,7 +17,6 @@ use Rattle.ca_symbolic.specs.Execution.{term_of, is_item, put_right, array_term}
 use Rattle.ca_symbolic.specs.Demands.{demands_in}
 use Rattle.ca_symbolic.specs.Demanded.{Demanded, with_demands}
 use Rattle.ca_symbolic.specs.clauses.Refusals.{refused_item, with_put, refused_value, put_sum, refused_sum, refused_right, refused_array}
-use Rattle.ca_symbolic.proofs.Flags.{first_of}
 use Rattle.ca_symbolic.proofs.Valued.{behind, guard_of}
 
 pub was_ok : {T E : Type 0} (r : Result T E) (x : T) (P : Type 0) → r ≡ Ok x → OnOk r P → P
@@ -52,7 +52,7 @@ module _ (p : PlainProgram) (s : State) (f : FieldId) (i : Expression) (op : Ass
         ∙ sym (sum_refused true h ∙ ap (λ b. b || refused_value p s g f op t right) quiet)
 
     pub sum_seen_large : is_item f i left ≡ true → refused_item p s g left ≡ true → refused_sum p s g f i op t left right e ≡ true
-    sum_seen_large h a = sum_refused true h ∙ first_of (refused_item p s g left) (refused_value p s g f op t right) a
+    sum_seen_large h a = sum_refused true h ∙ or_left (refused_item p s g left) (refused_value p s g f op t right) a
 
     pub sum_not_refused : is_item f i left ≡ false → refused_value p s g f assign.Put t e ≡ refused_sum p s g f i op t left right e
     sum_not_refused h = sym (sum_refused false h)

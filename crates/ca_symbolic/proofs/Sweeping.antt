@@ -1,6 +1,7 @@
 -- Sums demand nothing and have no condition, and what is told of a sweep whose parts were made one behind the other.
 use Rattle.std.proofs.Common.{◌≡◌, Bool, true, false, ◌&&◌, ◌||◌, List, [], ◌∷◌, ◌++◌, Some, Result, Err, OnOk, refl, sym, ap, ap₂, ◌∙◌, append-nil}
 use Rattle.std.proofs.Math.Bool.{or-false}
+use Rattle.std.proofs.lemmas.Bool.{or_right, or_left}
 use Rattle.ca_program.specs.Plain.{PlainProgram, Expression, Statement}
 use Rattle.ca_sweep.specs.Sweeps.{PlainSweep, Known}
 use Rattle.ca_sweep.specs.Found.{sweep_at}
@@ -20,7 +21,6 @@ use Rattle.ca_symbolic.specs.Made.{guards_in}
 use Rattle.ca_symbolic.specs.clauses.Refusals.{refused, refused_addend, refused_sweep}
 use Rattle.ca_symbolic.specs.clauses.Sums.{SumsDemandNothing}
 use Rattle.ca_symbolic.proofs.Ors.{absorbed}
-use Rattle.ca_symbolic.proofs.Flags.{first_of, second_of}
 use Rattle.ca_forms.proofs.Told.{on_ok}
 
 pub no_demands : (k : Known) (p : PlainProgram) (s : State) (g : PlainTerm) (e : Expression) → Summed k e → demands_in p s g e ≡ []
@@ -73,15 +73,15 @@ module _ (p : PlainProgram) (s : State) (d : Demanded) (w : PlainSweep) where
   whole = is_heavy (sweep_term p s w)
 
   pub from_heavy : first ≡ true → refused_sweep p s d.guard w ≡ true
-  from_heavy h = first_of first (second || (third || whole)) h
+  from_heavy h = or_left first (second || (third || whole)) h
 
   -- where what was demanded is as before
   pub to_heavy : (d1 : Demanded) → d1 ≡ d → refused p s d1.guard w.to ≡ true → refused_sweep p s d.guard w ≡ true
-  to_heavy d1 e h = second_of first (second || (third || whole)) (first_of second (third || whole) (sym (ap (λ (z : Demanded). refused p s z.guard w.to) e) ∙ h))
+  to_heavy d1 e h = or_right first (second || (third || whole)) (or_left second (third || whole) (sym (ap (λ (z : Demanded). refused p s z.guard w.to) e) ∙ h))
 
   pub addend_refused : (d2 : Demanded) → d2 ≡ d → refused_addend p s d2.guard w.minus w.addend ≡ true → refused_sweep p s d.guard w ≡ true
   addend_refused d2 e h =
-      second_of first (second || (third || whole)) (second_of second (third || whole) (first_of third whole (sym (ap (λ (z : Demanded). refused_addend p s z.guard w.minus w.addend) e) ∙ h)))
+      or_right first (second || (third || whole)) (or_right second (third || whole) (or_left third whole (sym (ap (λ (z : Demanded). refused_addend p s z.guard w.minus w.addend) e) ∙ h)))
 
   -- where its parts are light, the whole is refused for the array behind it
   pub swept_as : {T : Type 0} (r : Result T ExecutionError) (left : State) (d1 d2 d3 now : Demanded) (f t x : PlainTerm) → d1 ≡ d → d2 ≡ d1 → d3 ≡ d2 →

@@ -3,6 +3,7 @@ use Rattle.std.proofs.Common.{◌≡◌, ℕ, ◌<◌, Bool, true, false, ◌||�
 use Rattle.std.specs.Prelude.{None, if◌then◌else◌}
 use Rattle.std.specs.List.{list_any}
 use Rattle.std.proofs.lemmas.List.Folds.{list_any-append}
+use Rattle.std.proofs.lemmas.Bool.{or_right, or_left, or_from}
 use Rattle.ca_program.specs.declared.program.FieldId.{FieldId}
 use Rattle.ca_program.specs.declared.program.FirstPart.{FirstPart}
 use Rattle.ca_program.specs.declared.program.LoopId.{LoopId}
@@ -19,7 +20,6 @@ use Rattle.ca_symbolic.specs.OtherLoops.{is_call_loop, if_no_sweep, other_loop}
 use Rattle.ca_shared_terms.specs.Heavy.{is_heavy}
 use Rattle.ca_symbolic.proofs.Among.{reads_told, field_targets_told, local_targets_told}
 use Rattle.ca_symbolic.proofs.Marks.{marked_append, among, so_long}
-use Rattle.ca_symbolic.proofs.Flags.{neither, first_of, second_of}
 
 -- marks made by two branches, where nothing is marked before
 module _ (count : ℕ) (m0 m1 m2 : List Bool) (xs ys : List ℕ) (p : m0 ≡ replicate count false) (q : m1 ≡ marked m0 xs) (r : m2 ≡ marked m1 ys) where
@@ -42,17 +42,17 @@ local_marks count m0 m1 m2 a b p q r n h = both_among count m0 m1 m2 (locals_put
 
 pub joins_lightly : (a b : Statement) (s : State) → list_any is_heavy (targets (field_target a b) 0 s.fields) ≡ false →
     list_any is_heavy (targets (local_target a b) 0 s.locals) ≡ false → list_any is_heavy (joined_terms a b s) ≡ false
-joins_lightly a b s p q = list_any-append is_heavy (targets (field_target a b) 0 s.fields) (targets (local_target a b) 0 s.locals) ∙ neither _ _ p q
+joins_lightly a b s p q = list_any-append is_heavy (targets (field_target a b) 0 s.fields) (targets (local_target a b) 0 s.locals) ∙ or_from _ _ p q
 
 pub heavy_field : (a b : Statement) (c : PlainTerm) (s t : State) → list_any is_heavy (targets (field_target a b) 0 (choices (field_target a b) 0 c s.fields t.fields)) ≡ true →
     list_any is_heavy (joined_terms a b (joined_state c a b s t)) ≡ true
 heavy_field a b c s t h =
-    list_any-append is_heavy (targets (field_target a b) 0 (choices (field_target a b) 0 c s.fields t.fields)) (targets (local_target a b) 0 (choices (local_target a b) 0 c s.locals t.locals)) ∙ first_of _ _ h
+    list_any-append is_heavy (targets (field_target a b) 0 (choices (field_target a b) 0 c s.fields t.fields)) (targets (local_target a b) 0 (choices (local_target a b) 0 c s.locals t.locals)) ∙ or_left _ _ h
 
 pub heavy_local : (a b : Statement) (c : PlainTerm) (s t : State) → list_any is_heavy (targets (local_target a b) 0 (choices (local_target a b) 0 c s.locals t.locals)) ≡ true →
     list_any is_heavy (joined_terms a b (joined_state c a b s t)) ≡ true
 heavy_local a b c s t h =
-    list_any-append is_heavy (targets (field_target a b) 0 (choices (field_target a b) 0 c s.fields t.fields)) (targets (local_target a b) 0 (choices (local_target a b) 0 c s.locals t.locals)) ∙ second_of _ _ h
+    list_any-append is_heavy (targets (field_target a b) 0 (choices (field_target a b) 0 c s.fields t.fields)) (targets (local_target a b) 0 (choices (local_target a b) 0 c s.locals t.locals)) ∙ or_right _ _ h
 
 -- a loop, by what is found of it
 module _ (p : PlainProgram) (s : State) (g : PlainTerm) (x : Statement) (line : ℕ) (site : LoopId) (part : FirstPart) (first : Statement) (c : Expression) (next b : Statement)
@@ -77,7 +77,7 @@ other_for n written x line site part first c next b is = ap (λ y. if is_call_lo
 
 either_of : (n e r : Bool) → (n || e) ≡ true → (n || (e || r)) ≡ true
 either_of true e r h = h
-either_of false e r h = first_of e r h
+either_of false e r h = or_left e r h
 
 -- an `if` is refused where the condition of its second branch is too heavy
 pub else_refused : (p : PlainProgram) (s : State) (g : PlainTerm) (x : Statement) (line : ℕ) (c : Expression) (a b : Statement) → x ≡ if_else line c a b →
@@ -87,6 +87,6 @@ else_refused p s g x line c a b is h =
     let e : Bool = is_heavy (else_guard g (term_of p s c)) in
     let rest : Bool = refused_by p s (else_guard g (term_of p s c)) b || list_any is_heavy (joined_terms a b (after p s (if_else line c a b))) in
     ap (refused_by p s g) is
-    ∙ second_of (refused p s g c) (is_heavy (then_guard g (term_of p s c)) || (refused_by p s (then_guard g (term_of p s c)) a || (n || (e || rest))))
-    (second_of (is_heavy (then_guard g (term_of p s c))) (refused_by p s (then_guard g (term_of p s c)) a || (n || (e || rest)))
-    (second_of (refused_by p s (then_guard g (term_of p s c)) a) (n || (e || rest)) (either_of n e rest h)))
+    ∙ or_right (refused p s g c) (is_heavy (then_guard g (term_of p s c)) || (refused_by p s (then_guard g (term_of p s c)) a || (n || (e || rest))))
+    (or_right (is_heavy (then_guard g (term_of p s c))) (refused_by p s (then_guard g (term_of p s c)) a || (n || (e || rest)))
+    (or_right (refused_by p s (then_guard g (term_of p s c)) a) (n || (e || rest)) (either_of n e rest h)))

@@ -1,5 +1,6 @@
 -- What is told of an expression whose parts were evaluated one behind the other.
 use Rattle.std.proofs.Common.{◌≡◌, ◌≢◌, Bool, true, false, ◌||◌, List, [], ◌∷◌, ◌++◌, Option, Result, Ok, Err, IfOk, OnOk, sym, ap, ap₂, subst, ◌∙◌, append_assoc, append-nil, ℤ}
+use Rattle.std.proofs.lemmas.Bool.{or_right, or_left}
 use Rattle.std.specs.Prelude.{slice_get}
 use Rattle.ca_tree.specs.declared.tree.BinaryOp.{BinaryOp}
 use Rattle.ca_tree.specs.declared.tree.UnaryOp.{UnaryOp}
@@ -19,7 +20,7 @@ use Rattle.ca_symbolic.specs.Demands.{right_guard, terms_in, demands_in, demands
 use Rattle.ca_symbolic.specs.Demanded.{Demanded, with_demands, under}
 use Rattle.ca_symbolic.specs.clauses.Refusals.{refused_guard, refused, refused_all}
 use Rattle.ca_symbolic.proofs.Calling.{call_term, call_demands}
-use Rattle.ca_symbolic.proofs.Flags.{first_of, second_of, always, again}
+use Rattle.ca_symbolic.proofs.Flags.{always, again}
 use Rattle.ca_forms.proofs.Told.{on_ok}
 
 -- what evaluation tells of an expression: what was demanded before it, and what is behind it
@@ -89,7 +90,7 @@ module _ (p : PlainProgram) (s : State) (d : Demanded) (x : Expression) where
 
   module _ (f : FieldId) (i : Expression) (is : x ≡ own_item f i) where
     pub own_item_first : refused p s d.guard i ≡ true → refused p s d.guard x ≡ true
-    own_item_first h = ap (refused p s d.guard) is ∙ first_of (refused p s d.guard i) (is_heavy (term_of p s (own_item f i))) h
+    own_item_first h = ap (refused p s d.guard) is ∙ or_left (refused p s d.guard i) (is_heavy (term_of p s (own_item f i))) h
 
     pub own_item_told : (t : PlainTerm) (d1 now : Demanded) (r : Result PlainTerm ExecutionError) →
         t ≡ term_of p s i → d1 ≡ with_demands d (demands_in p s d.guard i) → refused p s d.guard i ≡ false →
@@ -105,7 +106,7 @@ module _ (p : PlainProgram) (s : State) (d : Demanded) (x : Expression) where
 
   module _ (o : Expression) (f : FieldId) (is : x ≡ plain.read o f) where
     pub read_first : refused p s d.guard o ≡ true → refused p s d.guard x ≡ true
-    read_first h = ap (refused p s d.guard) is ∙ first_of (refused p s d.guard o) (is_heavy (term_of p s (plain.read o f))) h
+    read_first h = ap (refused p s d.guard) is ∙ or_left (refused p s d.guard o) (is_heavy (term_of p s (plain.read o f))) h
 
     pub read_told : (t : PlainTerm) (d1 now : Demanded) (r : Result PlainTerm ExecutionError) →
         t ≡ term_of p s o → d1 ≡ with_demands d (demands_in p s d.guard o) → refused p s d.guard o ≡ false →
@@ -121,7 +122,7 @@ module _ (p : PlainProgram) (s : State) (d : Demanded) (x : Expression) where
 
   module _ (o : Expression) (f : FieldId) (i : Expression) (is : x ≡ read_item o f i) where
     pub read_item_first : refused p s d.guard o ≡ true → refused p s d.guard x ≡ true
-    read_item_first h = ap (refused p s d.guard) is ∙ first_of (refused p s d.guard o) (refused p s d.guard i || is_heavy (term_of p s (read_item o f i))) h
+    read_item_first h = ap (refused p s d.guard) is ∙ or_left (refused p s d.guard o) (refused p s d.guard i || is_heavy (term_of p s (read_item o f i))) h
 
     -- the object, which isn't null, and then the index
     module _ (t : PlainTerm) (d1 d2 : Demanded) (named : t ≡ term_of p s o) (first : d1 ≡ with_demands d (demands_in p s d.guard o)) (next : d2 ≡ with_demands d1 (demand d1.guard not_null (t ∷ []) ∷ [])) where
@@ -134,8 +135,8 @@ module _ (p : PlainProgram) (s : State) (d : Demanded) (x : Expression) where
       pub read_item_second : refused p s d2.guard i ≡ true → refused p s d.guard x ≡ true
       read_item_second h =
           ap (refused p s d.guard) is
-          ∙ second_of (refused p s d.guard o) (refused p s d.guard i || is_heavy (term_of p s (read_item o f i)))
-          (first_of (refused p s d.guard i) (is_heavy (term_of p s (read_item o f i))) (ap (λ k. refused p s k i) (sym item_kept) ∙ h))
+          ∙ or_right (refused p s d.guard o) (refused p s d.guard i || is_heavy (term_of p s (read_item o f i)))
+          (or_left (refused p s d.guard i) (is_heavy (term_of p s (read_item o f i))) (ap (λ k. refused p s k i) (sym item_kept) ∙ h))
 
       pub read_item_told : (u v : PlainTerm) (d3 now : Demanded) (r : Result PlainTerm ExecutionError) → u ≡ t → v ≡ term_of p s i → d3 ≡ with_demands d2 (demands_in p s d2.guard i) →
           refused p s d.guard o ≡ false → refused p s d2.guard i ≡ false →
@@ -159,7 +160,7 @@ module _ (p : PlainProgram) (s : State) (d : Demanded) (x : Expression) where
 
   module _ (o : Expression) (m : FunctionId) (es : Expressions) (is : x ≡ value_call o m es) where
     pub call_first : refused p s d.guard o ≡ true → refused p s d.guard x ≡ true
-    call_first h = ap (refused p s d.guard) is ∙ first_of (refused p s d.guard o) (refused_all p s d.guard es || is_heavy (term_of p s (value_call o m es))) h
+    call_first h = ap (refused p s d.guard) is ∙ or_left (refused p s d.guard o) (refused_all p s d.guard es || is_heavy (term_of p s (value_call o m es))) h
 
     module _ (d1 : Demanded) (first : d1 ≡ with_demands d (demands_in p s d.guard o)) where
       call_calm : refused_all p s d.guard es ≡ refused_all p s d1.guard es
@@ -168,8 +169,8 @@ module _ (p : PlainProgram) (s : State) (d : Demanded) (x : Expression) where
       pub call_second : refused_all p s d1.guard es ≡ true → refused p s d.guard x ≡ true
       call_second h =
           ap (refused p s d.guard) is
-          ∙ second_of (refused p s d.guard o) (refused_all p s d.guard es || is_heavy (term_of p s (value_call o m es)))
-          (first_of (refused_all p s d.guard es) (is_heavy (term_of p s (value_call o m es))) (call_calm ∙ h))
+          ∙ or_right (refused p s d.guard o) (refused_all p s d.guard es || is_heavy (term_of p s (value_call o m es)))
+          (or_left (refused_all p s d.guard es) (is_heavy (term_of p s (value_call o m es))) (call_calm ∙ h))
 
       pub call_told : (t : PlainTerm) (ts : List PlainTerm) (d2 now : Demanded) (r : Result PlainTerm ExecutionError) → t ≡ term_of p s o → ts ≡ terms_in p s es →
           d2 ≡ with_demands d1 (demands_in_all p s d1.guard es) → refused p s d.guard o ≡ false → refused_all p s d1.guard es ≡ false →
@@ -186,7 +187,7 @@ module _ (p : PlainProgram) (s : State) (d : Demanded) (x : Expression) where
 
   module _ (op : UnaryOp) (a : Expression) (is : x ≡ unary op a) where
     pub unary_first : refused p s d.guard a ≡ true → refused p s d.guard x ≡ true
-    unary_first h = ap (refused p s d.guard) is ∙ first_of (refused p s d.guard a) (is_heavy (signed_term op (term_of p s a))) h
+    unary_first h = ap (refused p s d.guard) is ∙ or_left (refused p s d.guard a) (is_heavy (signed_term op (term_of p s a))) h
 
     pub unary_told : (t : PlainTerm) (now : Demanded) (r : Result PlainTerm ExecutionError) → t ≡ term_of p s a → now ≡ with_demands d (demands_in p s d.guard a) → refused p s d.guard a ≡ false →
         IfOk r (λ u. u ≡ signed_term op t) → OnOk r (is_heavy (signed_term op t) ≡ false) → (r ≡ Err Large → is_heavy (signed_term op t) ≡ true) → Valued p s d now r x
@@ -198,7 +199,7 @@ module _ (p : PlainProgram) (s : State) (d : Demanded) (x : Expression) where
 
   module _ (op : BinaryOp) (a b : Expression) (is : x ≡ binary op a b) where
     pub binary_first : refused p s d.guard a ≡ true → refused p s d.guard x ≡ true
-    binary_first h = ap (refused p s d.guard) is ∙ first_of (refused p s d.guard a) (refused_guard op d.guard (term_of p s a) || (refused p s (inside p s d op a) b || whole p s op a b)) h
+    binary_first h = ap (refused p s d.guard) is ∙ or_left (refused p s d.guard a) (refused_guard op d.guard (term_of p s a) || (refused p s (inside p s d op a) b || whole p s op a b)) h
 
     module _ (t : PlainTerm) (d1 : Demanded) (named : t ≡ term_of p s a) (first : d1 ≡ with_demands d (demands_in p s d.guard a)) where
       binary_guarded : d1.guard ≡ d.guard
@@ -210,8 +211,8 @@ module _ (p : PlainProgram) (s : State) (d : Demanded) (x : Expression) where
       pub binary_guard : refused_guard op d1.guard t ≡ true → refused p s d.guard x ≡ true
       binary_guard h =
           ap (refused p s d.guard) is
-          ∙ second_of (refused p s d.guard a) (refused_guard op d.guard (term_of p s a) || (refused p s (inside p s d op a) b || whole p s op a b))
-          (first_of (refused_guard op d.guard (term_of p s a)) (refused p s (inside p s d op a) b || whole p s op a b) (binary_entered ∙ h))
+          ∙ or_right (refused p s d.guard a) (refused_guard op d.guard (term_of p s a) || (refused p s (inside p s d op a) b || whole p s op a b))
+          (or_left (refused_guard op d.guard (term_of p s a)) (refused p s (inside p s d op a) b || whole p s op a b) (binary_entered ∙ h))
 
       module _ (d2 : Demanded) (next : d2 ≡ under d1 (right_guard op d1.guard t)) where
         binary_opened : d2.guard ≡ inside p s d op a
@@ -223,8 +224,8 @@ module _ (p : PlainProgram) (s : State) (d : Demanded) (x : Expression) where
         pub binary_second : refused p s d2.guard b ≡ true → refused p s d.guard x ≡ true
         binary_second h =
             ap (refused p s d.guard) is
-            ∙ second_of (refused p s d.guard a) (refused_guard op d.guard (term_of p s a) || (refused p s (inside p s d op a) b || whole p s op a b))
-            (second_of (refused_guard op d.guard (term_of p s a)) (refused p s (inside p s d op a) b || whole p s op a b) (first_of (refused p s (inside p s d op a) b) (whole p s op a b) (binary_calm ∙ h)))
+            ∙ or_right (refused p s d.guard a) (refused_guard op d.guard (term_of p s a) || (refused p s (inside p s d op a) b || whole p s op a b))
+            (or_right (refused_guard op d.guard (term_of p s a)) (refused p s (inside p s d op a) b || whole p s op a b) (or_left (refused p s (inside p s d op a) b) (whole p s op a b) (binary_calm ∙ h)))
 
         pub binary_told : (l u outer : PlainTerm) (n : Option ℤ) (d3 now : Demanded) (r : Result PlainTerm ExecutionError) → l ≡ t → u ≡ term_of p s b → outer ≡ d1.guard → n ≡ divisor b →
             d3 ≡ with_demands d2 (demands_in p s d2.guard b) → refused p s d.guard a ≡ false → refused_guard op d1.guard t ≡ false → refused p s d2.guard b ≡ false →

@@ -10,7 +10,7 @@ ghost use Rattle.ca_sweep.specs.Found.{sweep_in};
 ghost use Rattle.ca_symbolic.specs.OtherLoops.{counter_of, compares, is_call, are_calls, calls_alone, counts, is_call_loop, if_no_sweep, other_loop, other_loop_in};
 
 use ca_program::{AssignOp, BinaryOp, Expr, FieldId, FirstPart, LocalId, Stmt, StmtForm};
-use ca_sweep::{counts_up, sweep_of};
+use ca_sweep::{counts_up, sweep_in};
 
 /// The local that a statement puts, without an operator.
 fn put_by(s: &Stmt) -> Option<LocalId>
@@ -130,7 +130,7 @@ fn line_of_loop(params: u32, written: &[FieldId], s: &Stmt) -> Option<u32>
     if is_call_loop(s) {
         return None;
     }
-    match sweep_of(params, written, s) {
+    match sweep_in(params, written, s) {
         Some(_) => None,
         None => Some(s.line),
     }

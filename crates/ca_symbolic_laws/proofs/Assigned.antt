@@ -1,5 +1,5 @@
 -- What a put leaves: in a local, in a field, and at each item of an array.
-use Rattle.std.proofs.Common.{◌≡◌, ℕ, Bool, true, false, List, ℤ, pos, negsuc, ◌+ℤ◌, ◌-ℤ◌, neg_ℤ, refl, sym, ap, ◌∙◌, arith, subst, w64}
+use Rattle.std.proofs.Common.{◌≡◌, ℕ, Bool, true, false, List, ℤ, ◌+ℤ◌, ◌-ℤ◌, neg_ℤ, refl, sym, ap, ◌∙◌, arith, subst, w64}
 use Rattle.std.specs.Prelude.{cond, eqb, if◌then◌else◌}
 use Rattle.std.specs.Int.{int_wrap}
 use Rattle.std.proofs.lemmas.Int.{int_wrap-add_right, ints}
@@ -30,6 +30,7 @@ use Rattle.ca_symbolic.proofs.Alike.{alike_is_equal}
 use Rattle.ca_symbolic_laws.specs.Meant.{item_meant}
 use Rattle.ca_symbolic_laws.proofs.Indexes.{number_of}
 use Rattle.ca_symbolic_laws.proofs.Selects.{by_number, of_put, of_add}
+use Rattle.ca_norm.proofs.Operations.{same_int_true as same_int_is}
 
 pub put_means : (v w : Datum) → assigned assign.Put v w ≡ w
 put_means (Long a) (Long b) = refl
@@ -90,12 +91,6 @@ less_negated h (Ref a) e t u = absurd t
 
 same_number : (m n : ℕ) → eqb m n ≡ true → m ≡ n
 same_number m n e = grind (arith, nat_tests, e)
-
-same_int_is : (k z : ℤ) → same_int k z ≡ true → k ≡ z
-same_int_is (pos m) (pos n) e = ap pos (same_number m n e)
-same_int_is (negsuc m) (negsuc n) e = ap negsuc (same_number m n e)
-same_int_is (pos m) (negsuc n) e = cc
-same_int_is (negsuc m) (pos n) e = cc
 
 cond_same : (k z : ℤ) (d e y : Datum) → (k ≡ z → d ≡ e) → cond (same_int k z) d y ≡ cond (same_int k z) e y
 cond_same k z d e y h = at (same_int k z) refl

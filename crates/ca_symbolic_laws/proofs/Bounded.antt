@@ -16,7 +16,7 @@ no_value (gives w i) h = absurd (h w i refl)
 no_value (traps t) h = refl
 no_value over h = refl
 
-le_of : (s k : ℕ) → nat_le s k ≡ true → s ≤ k
+pub le_of : (s k : ℕ) → nat_le s k ≡ true → s ≤ k
 le_of s k e = grind (arith, nat_tests)
 
 not_le : (s k : ℕ) → nat_le s k ≡ false → s ≤ k → ⊥

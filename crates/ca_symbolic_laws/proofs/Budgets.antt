@@ -1,9 +1,10 @@
 -- Costs one after the other.
-use Rattle.std.proofs.Common.{◌≡◌, ℕ, ◌+◌, ◌-◌, ◌≤◌, Bool, true, false, Option, Some, None, refl, sym, ap, ap₂, ◌∙◌, arith}
+use Rattle.std.proofs.Common.{◌≡◌, ℕ, ◌+◌, ◌-◌, ◌≤◌, Bool, true, false, Option, Some, None, refl, sym, ap, ap₂, ◌∙◌, arith, leb-true}
 use Rattle.std.specs.Prelude.{nat_le}
 use Rattle.std.proofs.lemmas.Bool.Decides.{nat_tests}
 use Rattle.ca_meaning.specs.Expressions.{Out, gives, traps, over, ◌>>=◌}
 use Rattle.ca_symbolic_laws.specs.Costs.{plus, left_if, left, value_of, with_left}
+use Rattle.ca_symbolic_laws.proofs.Bounded.{le_of as le_true}
 
 abbrev pub and_then : {A B : Type 0} → Option A → (A → Option B) → Option B
 and_then None f = None
@@ -35,9 +36,6 @@ plus_assoc (Some a) None c = refl
 plus_assoc (Some a) (Some b) None = refl
 plus_assoc (Some a) (Some b) (Some c) = ap Some (let z : a + b + c ≡ a + (b + c) = omega arith in z)
 
-le_true : (m k : ℕ) → nat_le m k ≡ true → m ≤ k
-le_true m k e = grind (arith, nat_tests)
-
 more_true : (m n k : ℕ) → m ≤ k → nat_le (m + n) k ≡ nat_le n (k - m)
 more_true m n k h = grind (arith, nat_tests)
 
@@ -49,7 +47,7 @@ minus_twice m n k = omega arith
 
 some_then : {A B : Type 0} (v : A) (w : B) (m n k : ℕ) (F : A → ℕ → Option (B × ℕ)) (b : Bool) → nat_le m k ≡ b → ((j : ℕ) → j ≤ k → F v j ≡ with_left w (left (Some n) j)) → and_then (with_left v (left_if b (k - m))) (λ r. F r.0 r.1) ≡ with_left w (left (Some (m + n)) k)
 some_then v w m n k F true e h =
-    h (k - m) (omega arith) ∙ ap₂ (λ b j. with_left w (left_if b j)) (sym (more_true m n k (le_true m k e))) (minus_twice m n k)
+    h (k - m) (omega arith) ∙ ap₂ (λ b j. with_left w (left_if b j)) (sym (more_true m n k (leb-true m k e))) (minus_twice m n k)
 some_then v w m n k F false e h = ap (λ b. with_left w (left_if b (k - (m + n)))) (sym (more_false m n k e))
 
 none_then : {A B : Type 0} (v : A) (w : B) (k j : ℕ) (F : A → ℕ → Option (B × ℕ)) (b : Bool) → F v j ≡ None → and_then (with_left v (left_if b j)) (λ r. F r.0 r.1) ≡ None

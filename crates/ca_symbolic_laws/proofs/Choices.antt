@@ -1,9 +1,10 @@
 -- What statements leave alone, and what a choice of two lists of terms is.
-use Rattle.std.proofs.Common.{◌≡◌, ℕ, zero, suc, ◌+◌, Bool, true, false, List, [], ◌∷◌, ◌++◌, length, Option, Some, None, refl, sym, ap, ◌∙◌, arith, slice_set, add-zero, zero-add}
+use Rattle.std.proofs.Common.{◌≡◌, ℕ, zero, suc, ◌+◌, Bool, true, false, List, [], ◌∷◌, ◌++◌, length, Option, Some, None, refl, sym, ap, ◌∙◌, arith, slice_set, add-zero, zero-add, length-set}
 use Rattle.std.specs.Prelude.{slice_get, ◌||◌, nat_eq}
 use Rattle.std.specs.List.{list_any}
 use Rattle.std.proofs.lemmas.Bool.Decides.{nat_tests}
 use Rattle.std.proofs.lemmas.List.Folds.{list_any-append}
+use Rattle.std.proofs.lemmas.Bool.{or_parts}
 use Rattle.ca_program.specs.declared.program.FieldId.{FieldId}
 use Rattle.ca_program.specs.Plain.{PlainProgram, Statement, Statements, block, put_local, put_field, put_item, new_local, new_field, new_item, invoke, if_else, while_loop, for_loop, return_value, print_value, no_statements, statement_and}
 use Rattle.ca_parallel.specs.Bodies.{targets_of, targets_of_all}
@@ -15,21 +16,12 @@ use Rattle.ca_sweep.specs.Found.{sweep_at}
 use Rattle.ca_sweep.proofs.Finding.{forms_are_sweeps}
 use Rattle.ca_symbolic_laws.proofs.SweepForms.{sweep_targets}
 
-pub or_false : (a b : Bool) → a || b ≡ false → (a ≡ false) × (b ≡ false)
-or_false true b e = cc
-or_false false b e = (refl, e)
-
 set_other : {A : Type 0} (xs : List A) (f n : ℕ) (x : A) → nat_eq f n ≡ false → slice_get (slice_set xs f x) n ≡ slice_get xs n
 set_other [] f n x e = refl
 set_other (y ∷ xs) zero zero x e = absurd (let c : true ≡ false = e in cc)
 set_other (y ∷ xs) zero (suc n) x e = refl
 set_other (y ∷ xs) (suc f) zero x e = refl
 set_other (y ∷ xs) (suc f) (suc n) x e = set_other xs f n x (let d : nat_eq f n ≡ nat_eq (suc f) (suc n) = grind (arith, nat_tests) in d ∙ e)
-
-pub set_length : {A : Type 0} (xs : List A) (f : ℕ) (x : A) → length (slice_set xs f x) ≡ length xs
-set_length [] f x = refl
-set_length (y ∷ xs) zero x = refl
-set_length (y ∷ xs) (suc f) x = ap suc (set_length xs f x)
 
 choices_length : (is_put : ℕ → Bool) (n : ℕ) (c : PlainTerm) (xs ys : List PlainTerm) → length xs ≡ length ys → length (choices is_put n c xs ys) ≡ length xs
 choices_length is_put n c [] ys e = refl
@@ -55,18 +47,18 @@ kept_all : (is_put : ℕ → Bool) (xs : List PlainTerm) → Kept is_put xs xs
 kept_all is_put xs = record { long = refl; other = λ n e. refl }
 
 kept_set : (xs : List PlainTerm) (f : ℕ) (t : PlainTerm) → Kept (λ n. nat_eq f n) xs (slice_set xs f t)
-kept_set xs f t = record { long = set_length xs f t; other = λ n e. set_other xs f n t e }
+kept_set xs f t = record { long = length-set xs f t; other = λ n e. set_other xs f n t e }
 
 kept_less : (a b : ℕ → Bool) (xs ys : List PlainTerm) → ((n : ℕ) → b n ≡ false → a n ≡ false) → Kept a xs ys → Kept b xs ys
 kept_less a b xs ys h k = record { long = k.long; other = λ n e. k.other n (h n e) }
 
 kept_both : (a b : ℕ → Bool) (xs ys zs : List PlainTerm) → Kept a xs ys → Kept b ys zs → Kept (λ n. a n || b n) xs zs
-kept_both a b xs ys zs h k = record { long = k.long ∙ h.long; other = λ n e. let t : (a n ≡ false) × (b n ≡ false) = or_false (a n) (b n) e in k.other n t.1 ∙ h.other n t.0 }
+kept_both a b xs ys zs h k = record { long = k.long ∙ h.long; other = λ n e. let t : (a n ≡ false) × (b n ≡ false) = or_parts (a n) (b n) e in k.other n t.1 ∙ h.other n t.0 }
 
 kept_choice : (a b : ℕ → Bool) (c : PlainTerm) (xs ys zs : List PlainTerm) → Kept a xs ys → Kept b xs zs → Kept (λ n. a n || b n) xs (choices (λ n. a n || b n) 0 c ys zs)
 kept_choice a b c xs ys zs h k = record {
   long = choices_length (λ n. a n || b n) 0 c ys zs (h.long ∙ sym k.long) ∙ h.long;
-  other = λ n e. let t : (a n ≡ false) × (b n ≡ false) = or_false (a n) (b n) e in choices_other (λ n. a n || b n) 0 c ys zs n (h.long ∙ sym k.long) (ap (λ m. a m || b m) (zero-add n) ∙ e) ∙ h.other n t.0;
+  other = λ n e. let t : (a n ≡ false) × (b n ≡ false) = or_parts (a n) (b n) e in choices_other (λ n. a n || b n) 0 c ys zs n (h.long ∙ sym k.long) (ap (λ m. a m || b m) (zero-add n) ∙ e) ∙ h.other n t.0;
 }
 
 -- Fields

@@ -2,6 +2,7 @@
 use Rattle.std.proofs.Common.{◌≡◌, ℕ, zero, suc, ◌+◌, ◌-◌, ◌≤◌, Bool, true, false, List, [], ◌∷◌, map, Option, Some, None, pos, refl, sym, ap, ap₂, ◌∙◌, arith, subst, add-zero}
 use Rattle.std.specs.Prelude.{slice_get, nat_le, nat_lt, nat_eq, ◌||◌, if◌then◌else◌, IsSome}
 use Rattle.std.proofs.lemmas.Bool.Decides.{nat_tests}
+use Rattle.std.proofs.lemmas.Bool.{or_parts}
 use Rattle.ca_tree.specs.declared.tree.BinaryOp.{BinaryOp}
 use Rattle.ca_program.specs.declared.program.ClassId.{ClassId}
 use Rattle.ca_program.specs.declared.program.FieldId.{FieldId}
@@ -40,25 +41,19 @@ use Rattle.ca_symbolic_laws.proofs.Runs.{Runs}
 use Rattle.ca_symbolic_laws.proofs.Selects.{by_number}
 use Rattle.ca_symbolic_laws.proofs.Terms.{means_are, own_info, mean_typed, means_typed}
 use Rattle.ca_symbolic_laws.proofs.Demands.{cost_append, asked, one_asked, off_expression}
+use Rattle.ca_sweep.proofs.Finding.{itself as is_itself}
 
 -- Names
-
-pub or_false : (a b : Bool) → a || b ≡ false → (a ≡ false) × (b ≡ false)
-or_false true b e = cc
-or_false false b e = (refl, e)
 
 -- what is hidden isn't named
 abbrev pub Unnamed : (ℕ → Bool) → (ℕ → Bool) → Type 0
 Unnamed is_hidden is_named = (n : ℕ) → is_hidden n ≡ true → is_named n ≡ false
 
 pub unnamed_left : (t a b : ℕ → Bool) → Unnamed t (λ n. a n || b n) → Unnamed t a
-unnamed_left t a b h = λ n e. (or_false (a n) (b n) (h n e)).0
+unnamed_left t a b h = λ n e. (or_parts (a n) (b n) (h n e)).0
 
 pub unnamed_right : (t a b : ℕ → Bool) → Unnamed t (λ n. a n || b n) → Unnamed t b
-unnamed_right t a b h = λ n e. (or_false (a n) (b n) (h n e)).1
-
-pub is_itself : (n : ℕ) → nat_eq n n ≡ true
-is_itself n = grind (arith, nat_tests)
+unnamed_right t a b h = λ n e. (or_parts (a n) (b n) (h n e)).1
 
 -- what is named isn't hidden
 pub shown : (t : ℕ → Bool) (l : ℕ) → ((n : ℕ) → t n ≡ true → nat_eq l n ≡ false) → t l ≡ false

@@ -3,6 +3,7 @@ use Rattle.std.proofs.Common.{◌≡◌, ℕ, Bool, true, false, List, Option, S
 use Rattle.std.specs.Prelude.{◌||◌, Contains}
 use Rattle.std.specs.Option.{option_or}
 use Rattle.std.proofs.lemmas.List.Elements.{Contains-append_left, Contains-append_right}
+use Rattle.std.proofs.lemmas.Bool.{or_parts}
 use Rattle.ca_program.specs.declared.program.FieldId.{FieldId}
 use Rattle.ca_program.specs.Plain.{PlainMethod, Expression, Statement, Statements, block, if_else, statement_and}
 use Rattle.ca_meaning.specs.ProgramTyped.{StatementTyped, StatementsTyped, scope_of}
@@ -11,7 +12,6 @@ use Rattle.ca_parallel.specs.Scoped.{names, counts, any_counts, names_outside, a
 use Rattle.ca_parallel.specs.Separable.{holds_call, IsSeparated, AreSeparated}
 use Rattle.ca_norm.specs.Environments.{Environment}
 use Rattle.ca_symbolic.specs.OtherLoops.{other_loop, other_loop_in}
-use Rattle.ca_symbolic_laws.proofs.Choices.{or_false}
 use Rattle.ca_symbolic_laws.proofs.Expressions.{Unnamed}
 
 first_none : {A : Type 0} (a b : Option A) → option_or a b ≡ None → a ≡ None
@@ -22,10 +22,10 @@ second_none : {A : Type 0} (a b : Option A) → option_or a b ≡ None → b ≡
 second_none None b e = e
 second_none (Some x) b e = cc
 
-or_first : (a b : Bool) → a ≡ true → a || b ≡ true
+pub or_first : (a b : Bool) → a ≡ true → a || b ≡ true
 or_first a b e = rw e refl
 
-or_second : (a b : Bool) → b ≡ true → a || b ≡ true
+pub or_second : (a b : Bool) → b ≡ true → a || b ≡ true
 or_second true b e = refl
 or_second false b e = e
 
@@ -60,7 +60,7 @@ module _ (s : Environment) (m : PlainMethod) (written : List FieldId) (is_counte
     puts = λ g c. f.puts g (Contains-append_left (targets_of x) (targets_of_all xs) g c);
     inside = λ y c. f.inside y (Contains-append_left (fors_in x) (fors_in_all xs) y c);
     counted = λ n e. f.counted n (or_first (counts x n) (any_counts xs n) e);
-    apart = λ n e. (or_false (names_outside x n) (any_names_outside xs n) (f.apart n e)).0;
+    apart = λ n e. (or_parts (names_outside x n) (any_names_outside xs n) (f.apart n e)).0;
   }
 
   pub in_tail : (called : Bool) (x : Statement) (xs : Statements) → FitAll called (statement_and x xs) → FitAll (called || holds_call x) xs
@@ -71,11 +71,11 @@ module _ (s : Environment) (m : PlainMethod) (written : List FieldId) (is_counte
     puts = λ g c. f.puts g (Contains-append_right (targets_of x) (targets_of_all xs) g c);
     inside = λ y c. f.inside y (Contains-append_right (fors_in x) (fors_in_all xs) y c);
     counted = λ n e. f.counted n (or_second (counts x n) (any_counts xs n) e);
-    apart = λ n e. (or_false (names_outside x n) (any_names_outside xs n) (f.apart n e)).1;
+    apart = λ n e. (or_parts (names_outside x n) (any_names_outside xs n) (f.apart n e)).1;
   }
 
   outside_branches : (c : Expression) (a b : Statement) → Unnamed is_counter (λ n. names c n || (names_outside a n || names_outside b n)) → Unnamed is_counter (λ n. names_outside a n || names_outside b n)
-  outside_branches c a b h = λ n e. (or_false (names c n) (names_outside a n || names_outside b n) (h n e)).1
+  outside_branches c a b h = λ n e. (or_parts (names c n) (names_outside a n || names_outside b n) (h n e)).1
 
   pub in_then : (called : Bool) (line : ℕ) (c : Expression) (a b : Statement) → Fits called (if_else line c a b) → Fits called a
   in_then called line c a b f = record {
@@ -85,7 +85,7 @@ module _ (s : Environment) (m : PlainMethod) (written : List FieldId) (is_counte
     puts = λ g k. f.puts g (Contains-append_left (targets_of a) (targets_of b) g k);
     inside = λ y k. f.inside y (Contains-append_left (fors_in a) (fors_in b) y k);
     counted = λ n e. f.counted n (or_first (counts a n) (counts b n) e);
-    apart = λ n e. (or_false (names_outside a n) (names_outside b n) (outside_branches c a b f.apart n e)).0;
+    apart = λ n e. (or_parts (names_outside a n) (names_outside b n) (outside_branches c a b f.apart n e)).0;
   }
 
   pub in_else : (called : Bool) (line : ℕ) (c : Expression) (a b : Statement) → Fits called (if_else line c a b) → Fits called b
@@ -96,5 +96,5 @@ module _ (s : Environment) (m : PlainMethod) (written : List FieldId) (is_counte
     puts = λ g k. f.puts g (Contains-append_right (targets_of a) (targets_of b) g k);
     inside = λ y k. f.inside y (Contains-append_right (fors_in a) (fors_in b) y k);
     counted = λ n e. f.counted n (or_second (counts a n) (counts b n) e);
-    apart = λ n e. (or_false (names_outside a n) (names_outside b n) (outside_branches c a b f.apart n e)).1;
+    apart = λ n e. (or_parts (names_outside a n) (names_outside b n) (outside_branches c a b f.apart n e)).1;
   }

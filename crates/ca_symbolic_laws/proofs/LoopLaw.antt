@@ -1,5 +1,5 @@
 -- Each call loop of a body does what its demand means.
-use Rattle.std.proofs.Common.{◌≡◌, ℕ, ◌≤◌, Bool, true, false, List, [], ◌∷◌, ◌++◌, length, map, Option, Some, None, refl, sym, ap, ap₂, ◌∙◌, arith, subst, append-nil, zero-add, inl, inr, ⊎_elim}
+use Rattle.std.proofs.Common.{◌≡◌, ℕ, ◌≤◌, Bool, true, false, List, [], ◌∷◌, ◌++◌, length, map, Option, Some, None, refl, sym, ap, ap₂, ◌∙◌, subst, append-nil, zero-add, inl, inr, ⊎_elim}
 use Rattle.std.specs.Prelude.{◌||◌, nat_eq, cond, if◌then◌else◌, ◌⊎◌, Contains}
 use Rattle.ca_tree.specs.declared.tree.AssignOp.TheVariants.{Put}
 use Rattle.ca_program.specs.declared.program.FieldId.{FieldId}
@@ -18,10 +18,9 @@ use Rattle.ca_parallel.specs.Loops.{CountsUp, IsCall, CallsAlone, IsCallLoopOf}
 use Rattle.ca_parallel.specs.Scoped.{names, names_outside}
 use Rattle.ca_symbolic_laws.specs.Costs.{left, with_left, hidden, state_of}
 use Rattle.ca_symbolic_laws.specs.Demanded.{loop_steps, loop_lists}
-use Rattle.ca_symbolic_laws.proofs.Named.{SameAt, SameConstants, or_left, or_right}
+use Rattle.ca_symbolic_laws.proofs.Named.{SameAt, SameConstants}
 use Rattle.ca_symbolic_laws.proofs.LoopRuns.{Alike}
-use Rattle.std.proofs.lemmas.Bool.{eqb-true}
-use Rattle.std.proofs.lemmas.Bool.Decides.{nat_tests}
+use Rattle.std.proofs.lemmas.Bool.{eqb-true, or_parts}
 use Rattle.ca_program.specs.declared.program.FieldInfo.{FieldInfo}
 use Rattle.ca_program.specs.declared.program.OpId.{OpId}
 use Rattle.ca_meaning.specs.Functions.{own_of}
@@ -37,7 +36,7 @@ use Rattle.ca_symbolic.specs.States.{State, loops, sweeps}
 use Rattle.ca_symbolic.specs.Execution.{term_of, with_field, sweep_term, after_loop}
 use Rattle.ca_sweep.specs.Sweeps.{PlainSweep}
 use Rattle.ca_sweep.specs.Found.{sweep_in, sweep_at}
-use Rattle.ca_sweep.proofs.Finding.{sweeps_are_wide, forms_are_sweeps}
+use Rattle.ca_sweep.proofs.Finding.{sweeps_are_wide, forms_are_sweeps, itself}
 use Rattle.ca_symbolic_laws.proofs.SweepForms.{calls_sweep_nothing}
 use Rattle.ca_sweep.proofs.Shown.{shown_of}
 use Rattle.ca_symbolic_laws.proofs.SweepMeans.{means_of}
@@ -49,16 +48,12 @@ use Rattle.ca_symbolic_laws.specs.Meant.{slots_meant}
 use Rattle.ca_symbolic_laws.specs.Demanded.{loop_at, spread_out, section_at, loop_within, cost, lists}
 use Rattle.ca_symbolic_laws.specs.Laws.{fields_in, Typed, StateTyped, LocalsAre}
 use Rattle.ca_symbolic_laws.proofs.Runs.{Runs}
-use Rattle.ca_symbolic_laws.proofs.Choices.{or_false}
 use Rattle.ca_symbolic_laws.proofs.Demands.{told, one_asked}
 use Rattle.ca_symbolic_laws.proofs.Expressions.{hidden_at}
-use Rattle.ca_symbolic_laws.proofs.Fits.{Fits}
+use Rattle.ca_symbolic_laws.proofs.Fits.{Fits, or_first as or_left, or_second as or_right}
 use Rattle.ca_symbolic_laws.proofs.Statements.{IsMeant, LoopsAreMeant}
 use Rattle.ca_symbolic_laws.proofs.LoopReads.{Begun, begun, begun_of, next_names, spread_at, spread_long, hidden_long, mapped_long, typed_long, reads_first, reads_condition, reads_body}
 use Rattle.ca_symbolic_laws.proofs.LoopsMeant.{loop_takes, lifted, lifted_left, alike_lifted, for_alike}
-
-itself : (n : ℕ) → nat_eq n n ≡ true
-itself n = grind (arith, nat_tests)
 
 cleared : (x y : Bool) → (x ≡ true → y ≡ false) → y ≡ true → x ≡ false
 cleared true y h e = let z : true ≡ false = sym e ∙ h refl in cc
@@ -130,14 +125,14 @@ module _ (s : Environment) (v : Valuation) (runs : Runs s v) (m : PlainMethod) (
 
     -- a local that the first part names isn't hidden, and so isn't the counter
     shown_first : (n : ℕ) → names e n ≡ true → t n ≡ false
-    shown_first n q = cleared (t n) (names e n) (λ z. (or_false (names e n) _ (f.apart n z)).0) q
+    shown_first n q = cleared (t n) (names e n) (λ z. (or_parts (names e n) _ (f.apart n z)).0) q
 
     no_counter : (n : ℕ) → t n ≡ false → nat_eq i.0 n ≡ false
     no_counter n q = cleared (nat_eq i.0 n) (t i.0) (λ z. ap t (eqb-true i.0 n z) ∙ q) hides
 
     -- nor is any other that the loop names
     shown_rest : (n : ℕ) → nat_eq i.0 n ≡ false → named n ≡ true → t n ≡ false
-    shown_rest n o q = cleared (t n) (named n) (λ z. ap (λ b. cond b false (named n)) (sym o) ∙ (or_false (names e n) _ (f.apart n z)).1) q
+    shown_rest n o q = cleared (t n) (named n) (λ z. ap (λ b. cond b false (named n)) (sym o) ∙ (or_parts (names e n) _ (f.apart n z)).1) q
 
     long : length st.locals ≡ length m.body.locals
     long = typed_long s.heap v st.locals m.body.locals is.locals

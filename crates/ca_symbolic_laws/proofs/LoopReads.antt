@@ -25,7 +25,7 @@ use Rattle.ca_symbolic.specs.Demands.{loop_reads, picked}
 use Rattle.ca_symbolic_laws.specs.Costs.{hidden}
 use Rattle.ca_symbolic_laws.specs.Meant.{LocalsTyped}
 use Rattle.ca_symbolic_laws.specs.Demanded.{spread_out}
-use Rattle.ca_symbolic_laws.proofs.Named.{or_left, or_right}
+use Rattle.ca_symbolic_laws.proofs.Fits.{or_first as or_left, or_second as or_right}
 
 -- Lists of locals
 

@@ -22,7 +22,8 @@ use Rattle.ca_meaning.specs.Sections.{Section, section_parts_with, section_parts
 use Rattle.ca_parallel.specs.Scoped.{names, names_outside, any_names_outside}
 use Rattle.ca_parallel.specs.Separable.{IsClean, holds_call, IsSeparated, AreSeparated}
 use Rattle.ca_symbolic_laws.specs.Costs.{hidden}
-use Rattle.ca_symbolic_laws.proofs.Named.{SameAt, SameConstants, or_left, or_right, eval_same, due_same}
+use Rattle.ca_symbolic_laws.proofs.Named.{SameAt, SameConstants, eval_same, due_same}
+use Rattle.ca_symbolic_laws.proofs.Fits.{or_first as or_left, or_second as or_right}
 
 -- as many locals, the same where the test says so
 pub record SameLocals (t : ℕ → Bool) (ls ms : List Datum) : Type 0 where
@@ -60,7 +61,7 @@ hides : (x d : Datum) (b : Bool) → b ≡ true → (if b then Null else d) ≡ 
 hides x d true e = refl
 hides x d false e = cc
 
-hidden_put : (h : ℕ → Bool) (n : ℕ) (ls : List Datum) (l : ℕ) (d : Datum) → h (n + l) ≡ true → hidden h n (slice_set ls l d) ≡ hidden h n ls
+pub hidden_put : (h : ℕ → Bool) (n : ℕ) (ls : List Datum) (l : ℕ) (d : Datum) → h (n + l) ≡ true → hidden h n (slice_set ls l d) ≡ hidden h n ls
 hidden_put h n [] l d e = refl
 hidden_put h n (x ∷ ls) zero d e = ap (λ z. z ∷ hidden h (n + 1) ls) (hides x d (h n) (ap h (let z : n ≡ n + zero = omega arith in z) ∙ e))
 hidden_put h n (x ∷ ls) (suc l) d e = ap (λ z. (if h n then Null else x) ∷ z) (hidden_put h (n + 1) ls l d (ap h (let z : n + 1 + l ≡ n + suc l = omega arith in z) ∙ e))

@@ -17,6 +17,7 @@ use Rattle.ca_meaning.specs.Flows.{Flow, goes_on, gives_back, stops, runs_out, e
 use Rattle.ca_meaning.specs.Functions.{functions_of}
 use Rattle.ca_meaning.specs.ProgramTyped.{ExpressionTyped, StatementTyped, scope_of}
 use Rattle.ca_meaning.specs.Sections.{Section, section_parts, loop_sectioned, loop_run}
+use Rattle.ca_meaning.proofs.Putting.{put_stores}
 use Rattle.ca_meaning_laws.specs.Budgets.{Taken, on_with, Reached}
 use Rattle.ca_meaning_laws.proofs.Bigs.{loop_run_steady}
 use Rattle.ca_parallel.specs.Loops.{CountsUp, IsCall, AreCalls, CallsAlone}
@@ -25,7 +26,6 @@ use Rattle.ca_parallel.specs.Separable.{IsClean, IsSeparated}
 use Rattle.ca_symbolic_laws.specs.Costs.{left, with_left, value_of, hidden, state_of}
 use Rattle.ca_symbolic_laws.specs.Demanded.{steps_taken, loop_steps, loop_lists}
 use Rattle.ca_symbolic_laws.proofs.Bounded.{bounded}
-use Rattle.ca_symbolic_laws.proofs.Assigned.{put_means}
 use Rattle.ca_symbolic_laws.proofs.Named.{SameAt, SameConstants, eval_same}
 use Rattle.ca_symbolic_laws.proofs.LoopRuns.{Alike, both_on, both_back, both_stop, both_out, Simple, AllSimple, on_alike, with_alike, put_alike, rest_alike}
 use Rattle.ca_tree.specs.declared.tree.AssignOp.TheVariants.{Add}
@@ -130,7 +130,7 @@ module _ (h : ℕ → Bool) (seen : List Datum) (t : ℕ → Bool) (a b : List S
     for_alike ls ms k long first same v =
         on_alike h seen t a b l _ _ _ _
         (with_alike h seen t a b l _ _ (record { own = a; listed = l ++ [] }) (record { own = b; listed = [] }) _ _ (eval_same p m written (functions_of p.functions heap).call heap me a b agree called must line ls ms e typed_e.0 typed_e.2.1 clean_e first k)
-        (λ d j. subst (λ z. Alike h seen t a b l (goes_on (slice_set ls i.0 z) (record { own = a; listed = l ++ [] }) j) (goes_on (slice_set ms i.0 (assigned Put (value_at ms i.0) d)) (record { own = b; listed = [] }) j)) (sym (put_means (value_at ls i.0) d))
-        (subst (λ z. Alike h seen t a b l (goes_on (slice_set ls i.0 d) (record { own = a; listed = l ++ [] }) j) (goes_on (slice_set ms i.0 z) (record { own = b; listed = [] }) j)) (sym (put_means (value_at ms i.0) d))
+        (λ d j. subst (λ z. Alike h seen t a b l (goes_on (slice_set ls i.0 z) (record { own = a; listed = l ++ [] }) j) (goes_on (slice_set ms i.0 (assigned Put (value_at ms i.0) d)) (record { own = b; listed = [] }) j)) (sym (put_stores (value_at ls i.0) d))
+        (subst (λ z. Alike h seen t a b l (goes_on (slice_set ls i.0 d) (record { own = a; listed = l ++ [] }) j) (goes_on (slice_set ms i.0 z) (record { own = b; listed = [] }) j)) (sym (put_stores (value_at ms i.0) d))
         (put_alike h seen t a b l p heap me m written agree i.0 d ls ms [] j hides long same v))))
         (λ hs bs q j g o. rest_alike h seen t a b l p heap me m written agree own line site Declares (put_local at i Put e) c next x called must typed_c typed_next typed_x clean_c clean_next clean_x (simple_next next i ups hides) (simple_body x calls) in_c in_next in_x hs bs q j g o)

@@ -1,5 +1,5 @@
 -- What terms of operators mean, for sides of their types.
-use Rattle.std.proofs.Common.{◌≡◌, ◌≢◌, ℕ, zero, suc, Bool, true, false, List, Some, None, ℤ, pos, negsuc, neg_ℤ, ◌-ℤ◌, refl, sym, ap, ◌∙◌, arith, subst, w64}
+use Rattle.std.proofs.Common.{◌≡◌, ℕ, Bool, true, false, List, Some, None, ℤ, pos, neg_ℤ, ◌-ℤ◌, refl, sym, ap, ◌∙◌, arith, subst, w64}
 use Rattle.std.specs.Prelude.{FitsSigned}
 use Rattle.std.specs.Int.{int_wrap}
 use Rattle.std.proofs.lemmas.Int.{int_wrap_fits, int_wrap-sub_right, ints}
@@ -26,6 +26,7 @@ use Rattle.ca_norm.specs.Meanings.{Valuation, value_or_null, operate, mean}
 use Rattle.ca_symbolic.specs.States.{State}
 use Rattle.ca_symbolic.specs.Execution.{divisor, operation, signed_term, term_of}
 use Rattle.ca_symbolic.specs.Demands.{right_guard}
+use Rattle.ca_norm.proofs.Quotients.{none as not_zero}
 
 abbrev pub IsTruth : Datum → Type 0
 IsTruth (Truth b) = Unit {0}
@@ -53,15 +54,10 @@ Fine Divide d = Divides d
 Fine Remainder d = Divides d
 Fine op d = Unit {0}
 
-not_zero : (n : ℤ) → n ≢ pos 0 → is_zero n ≡ false
-not_zero (pos zero) h = absurd (h refl)
-not_zero (pos (suc n)) h = refl
-not_zero (negsuc n) h = refl
-
-twice_negated : (n : ℤ) → n ≡ pos 0 -ℤ neg_ℤ n
+pub twice_negated : (n : ℤ) → n ≡ pos 0 -ℤ neg_ℤ n
 twice_negated n = omega (arith, ints)
 
-negated_zero : (n : ℤ) → FitsSigned w64 n → int_wrap w64 (neg_ℤ n) ≡ pos 0 → n ≡ pos 0
+pub negated_zero : (n : ℤ) → FitsSigned w64 n → int_wrap w64 (neg_ℤ n) ≡ pos 0 → n ≡ pos 0
 negated_zero n f e =
     sym (int_wrap_fits w64 n f) ∙ ap (int_wrap w64) (twice_negated n) ∙ sym (int_wrap-sub_right w64 (pos 0) (neg_ℤ n))
     ∙ ap (λ z. int_wrap w64 (pos 0 -ℤ z)) e ∙ int_wrap_fits w64 (pos 0) (record { sfits = omega arith })

@@ -65,7 +65,7 @@ pub sort_array : (o : Option FieldInfo) (ty : ValueType) → IsArray o ty → so
 sort_array None ty i = absurd i
 sort_array (Some f) ty i = ap sort_of_type i.0
 
-sort_function : (o : Option PlainMethod) (c : ClassId) (tys : List ValueType) (ty : ValueType) → IsFunction o c tys ty → sort_of_result o ≡ sort_of_type ty
+pub sort_function : (o : Option PlainMethod) (c : ClassId) (tys : List ValueType) (ty : ValueType) → IsFunction o c tys ty → sort_of_result o ≡ sort_of_type ty
 sort_function None c tys ty i = absurd i
 sort_function (Some m) c tys ty i = ap sort_of_given i.2
 

@@ -1,5 +1,5 @@
 -- Slots that terms mean: puts into them, and choices of them.
-use Rattle.std.proofs.Common.{◌≡◌, ℕ, zero, suc, ◌+◌, ◌<◌, Bool, true, false, List, [], ◌∷◌, length, map, Option, Some, None, ℤ, pos, refl, sym, ap, ap₂, ◌∙◌, arith, slice_set}
+use Rattle.std.proofs.Common.{◌≡◌, ℕ, zero, suc, ◌+◌, ◌<◌, Bool, true, false, List, [], ◌∷◌, length, map, Option, Some, None, ℤ, pos, refl, sym, ap, ap₂, ◌∙◌, arith, slice_set, eq-eqb}
 use Rattle.std.specs.Prelude.{slice_get, cond, eqb, IsSome}
 use Rattle.std.proofs.lemmas.Bool.Decides.{nat_tests}
 use Rattle.ca_program.specs.declared.program.FieldInfo.{FieldInfo}
@@ -18,9 +18,6 @@ use Rattle.ca_symbolic_laws.proofs.Selects.{of_choice}
 
 -- Items
 
-same_true : (m n : ℕ) → m ≡ n → eqb m n ≡ true
-same_true m n e = grind (arith, nat_tests, e)
-
 same_false : (m n : ℕ) → n < m → eqb m n ≡ false
 same_false m n e = grind (arith, nat_tests)
 
@@ -38,7 +35,7 @@ items_other v y t d i c k (suc n) l = ap₂ (λ x z. x ∷ z) (sym (c.at (pos k)
 items_put : (v : Valuation) (y t : PlainTerm) (d : Datum) (k n i : ℕ) → Changed v y t (k + i) d → slice_set (items_meant v y k n) i d ≡ items_meant v t k n
 items_put v y t d k zero i c = refl
 items_put v y t d k (suc n) zero c =
-    ap₂ (λ x z. x ∷ z) (sym (c.at (pos k) ∙ ap (λ b. cond b d (item_meant v y (pos k))) (same_true (k + zero) k (omega arith)))) (items_other v y t d (k + zero) c (suc k) n (omega arith))
+    ap₂ (λ x z. x ∷ z) (sym (c.at (pos k) ∙ ap (λ b. cond b d (item_meant v y (pos k))) (eq-eqb (k + zero) k (omega arith)))) (items_other v y t d (k + zero) c (suc k) n (omega arith))
 items_put v y t d k (suc n) (suc i) c =
     ap₂ (λ x z. x ∷ z) (sym (c.at (pos k) ∙ ap (λ b. cond b d (item_meant v y (pos k))) (same_false (k + suc i) k (omega arith)))) (items_put v y t d (suc k) n i (record { at = λ z. c.at z ∙ ap (λ j. cond (same_int (pos j) z) d (item_meant v y z)) (let e : k + suc i ≡ suc k + i = omega arith in e) }))
 

@@ -4,6 +4,7 @@ use Rattle.std.specs.Prelude.{slice_get, ◌||◌, nat_eq, Contains}
 use Rattle.std.specs.List.{list_any}
 use Rattle.std.proofs.lemmas.Bool.{eqb-true}
 use Rattle.std.proofs.lemmas.List.Elements.{Contains-push, Contains-push_cases, Contains-append_left, Contains-append_right, Contains-append_cases}
+use Rattle.ca_lists.proofs.Members.{has_nothing}
 use Rattle.ca_program.specs.declared.program.ClassId.{ClassId}
 use Rattle.ca_program.specs.declared.program.FieldId.{FieldId}
 use Rattle.ca_program.specs.declared.program.FieldInfo.{FieldInfo}
@@ -36,21 +37,18 @@ slots_get v (x ∷ xs) (y ∷ ys) (f ∷ fs) (suc n) l e = slots_get v xs ys fs 
 
 -- Targets
 
-none_there : {A : Type 0} (x : A) → Contains [] x → ⊥
-none_there x c = let lt = c.1 in absurd (omega arith)
-
 module _ (p : PlainProgram) (m : PlainMethod) where
   abbrev Mine : FieldId → Type 0
   Mine f = Some m.class ≡ Some f.class
 
   one_mine : (f g : FieldId) → Mine f → Contains (f ∷ []) g → Mine g
-  one_mine f g e c = subst Mine (⊎_elim (λ a. absurd (none_there g a)) (λ q. q) (Contains-push_cases [] f g c)) e
+  one_mine f g e c = subst Mine (⊎_elim (λ a. absurd (has_nothing g a)) (λ q. q) (Contains-push_cases [] f g c)) e
 
   both_mine : (xs ys : List FieldId) → ((g : FieldId) → Contains xs g → Mine g) → ((g : FieldId) → Contains ys g → Mine g) → (g : FieldId) → Contains (xs ++ ys) g → Mine g
   both_mine xs ys a b g c = ⊎_elim (λ q. a g q) (λ q. b g q) (Contains-append_cases xs ys g c)
 
   none_mine : (g : FieldId) → Contains [] g → Mine g
-  none_mine g c = absurd (none_there g c)
+  none_mine g c = absurd (has_nothing g c)
 
   mutual
     -- puts and creations are made in own fields

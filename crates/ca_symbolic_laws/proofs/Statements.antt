@@ -27,6 +27,7 @@ use Rattle.ca_meaning.specs.Functions.{functions_of}
 use Rattle.ca_meaning.specs.ProgramTyped.{IsScalar, IsArray, field_info, ExpressionTyped, ExpressionsTyped, scope_of}
 use Rattle.ca_meaning.specs.Sections.{Section, section_place, section_parts}
 use Rattle.std.proofs.lemmas.List.Elements.{Contains-append_left, Contains-push}
+use Rattle.std.proofs.lemmas.Bool.{or_parts}
 use Rattle.ca_parallel.specs.Bodies.{fors_in}
 use Rattle.ca_parallel.specs.Scoped.{names, any_names, names_outside}
 use Rattle.ca_parallel.specs.Separable.{holds_call, IsClean, AreClean}
@@ -48,7 +49,7 @@ use Rattle.ca_symbolic_laws.proofs.Runs.{Runs}
 use Rattle.ca_symbolic_laws.proofs.Terms.{means_are, own_info, mean_typed}
 use Rattle.ca_symbolic_laws.proofs.Demands.{cost_append, lists_append, asked, told, Off, off_statement, quiet, quiet_all}
 use Rattle.ca_symbolic_laws.proofs.Expressions.{Unnamed, unnamed_left, unnamed_right, shown, hidden_at, local_means, field_means, own_index, eval_is, evals_are}
-use Rattle.ca_symbolic_laws.proofs.Choices.{or_false, fields_kept, locals_kept}
+use Rattle.ca_symbolic_laws.proofs.Choices.{fields_kept, locals_kept}
 use Rattle.ca_symbolic_laws.proofs.Assigned.{assigned_means}
 use Rattle.ca_symbolic_laws.proofs.Typings.{array_behind, typed_behind}
 use Rattle.ca_symbolic_laws.proofs.Slots.{put_one, put_at, AllSame, choices_true, choices_false, values_same, slots_same}
@@ -155,8 +156,8 @@ module _ (s : Environment) (v : Valuation) (runs : Runs s v) (m : PlainMethod) (
       hd (else_guard g (term_of p st c)) on
       ∙ ap₂ (λ x z. with_left x (left z k))
       (sym (same_meant (after p st (if_else own_line c a d)) (after p st d) _ _
-      (choices_false v (local_target a d) 0 (term_of p st c) (after p st a).locals (after p st d).locals long_locals e (λ n f. let z : (puts_local a n ≡ false) × (puts_local d n ≡ false) = or_false (puts_local a n) (puts_local d n) (ap (local_target a d) (sym (zero-add n)) ∙ f) in (locals_kept p a st).other n z.0 ∙ sym ((locals_kept p d st).other n z.1)))
-      (choices_false v (field_target a d) 0 (term_of p st c) (after p st a).fields (after p st d).fields long_fields e (λ n f. let z : (puts_field a n ≡ false) × (puts_field d n ≡ false) = or_false (puts_field a n) (puts_field d n) (ap (field_target a d) (sym (zero-add n)) ∙ f) in (fields_kept p a st).other n z.0 ∙ sym ((fields_kept p d st).other n z.1)))
+      (choices_false v (local_target a d) 0 (term_of p st c) (after p st a).locals (after p st d).locals long_locals e (λ n f. let z : (puts_local a n ≡ false) × (puts_local d n ≡ false) = or_parts (puts_local a n) (puts_local d n) (ap (local_target a d) (sym (zero-add n)) ∙ f) in (locals_kept p a st).other n z.0 ∙ sym ((locals_kept p d st).other n z.1)))
+      (choices_false v (field_target a d) 0 (term_of p st c) (after p st a).fields (after p st d).fields long_fields e (λ n f. let z : (puts_field a n ≡ false) × (puts_field d n ≡ false) = or_parts (puts_field a n) (puts_field d n) (ap (field_target a d) (sym (zero-add n)) ∙ f) in (fields_kept p a st).other n z.0 ∙ sym ((fields_kept p d st).other n z.1)))
       (ap (λ z. l ++ z) (lists_append s v (demands_in p st g c) _ ∙ ap₂ (λ x z. x ++ z) (quiet s v p st c g) (lists_append s v (demanded p st (then_guard g (term_of p st c)) a) _ ∙ ap (λ z. z ++ lists s v (demanded p st (else_guard g (term_of p st c)) d)) idle.silent)))))
       (sym (cost_append s v (demanded p st (then_guard g (term_of p st c)) a) _ ∙ ap (λ z. plus z (cost s v (demanded p st (else_guard g (term_of p st c)) d))) idle.free ∙ none_plus _))
   branches own_line c a d st g ls l k y ha hd (Long n) e u = absurd u

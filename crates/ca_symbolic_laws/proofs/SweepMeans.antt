@@ -1,8 +1,8 @@
 -- A sweep within a body, over terms.
-use Rattle.std.proofs.Common.{◌≡◌, ℕ, zero, suc, ◌+◌, ◌-◌, ◌<◌, ◌≤◌, Bool, true, false, List, [], ◌∷◌, length, map, Option, Some, None, ℤ, pos, refl, sym, ap, ap₂, ◌∙◌, arith, subst, slice_set, FitsSigned, w64, add-zero}
-use Rattle.std.specs.Prelude.{slice_get, nat_eq, nat_le, cond, ◌||◌, IsSome, if◌then◌else◌}
+use Rattle.std.proofs.Common.{◌≡◌, ℕ, zero, suc, ◌+◌, ◌-◌, ◌<◌, ◌≤◌, Bool, true, false, List, [], ◌∷◌, length, map, Option, Some, None, ℤ, pos, refl, sym, ap, ap₂, ◌∙◌, arith, subst, slice_set, FitsSigned, w64}
+use Rattle.std.specs.Prelude.{slice_get, nat_eq, nat_le, cond, ◌||◌, IsSome}
 use Rattle.std.proofs.lemmas.Bool.Decides.{nat_tests}
-use Rattle.std.proofs.lemmas.Bool.{eqb-true}
+use Rattle.std.proofs.lemmas.Bool.{eqb-true, or_parts}
 use Rattle.std.proofs.lemmas.Int.{SFits-int_wrap}
 use Rattle.ca_tree.specs.declared.tree.AssignOp.TheVariants.{Put}
 use Rattle.ca_tree.specs.declared.tree.BinaryOp.TheVariants.{Less, Plus}
@@ -19,7 +19,6 @@ use Rattle.ca_model.specs.declared.value.Slot.{Slot}
 use Rattle.ca_model.specs.declared.value.Slot.TheVariants.{Many}
 use Rattle.ca_model.specs.declared.value.Object.{Object}
 use Rattle.ca_model.specs.Typed.{HasType}
-use Rattle.ca_meaning.specs.Operators.{not_of}
 use Rattle.ca_meaning.specs.Expressions.{Invocation}
 use Rattle.ca_meaning.specs.Flows.{Flow, goes_on, gives_back, stops, runs_out, exec}
 use Rattle.ca_meaning.specs.Functions.{functions_of}
@@ -40,34 +39,31 @@ use Rattle.ca_symbolic.proofs.Sweeping.{no_demands}
 use Rattle.ca_symbolic_laws.proofs.Budgets.{nothing_left}
 use Rattle.ca_symbolic_laws.proofs.Runs.{Runs}
 use Rattle.ca_symbolic_laws.proofs.Terms.{mean_typed, item_has, own_info}
-use Rattle.ca_symbolic_laws.proofs.Expressions.{Unnamed, or_false, eval_is}
+use Rattle.ca_symbolic_laws.proofs.Expressions.{Unnamed, eval_is}
 use Rattle.ca_symbolic_laws.proofs.LoopReads.{hidden_long, mapped_long, typed_long}
 use Rattle.ca_sweep.specs.Sweeps.{PlainSweep, Counts, Adds, adds, takes_off, puts_sum, puts_difference, AddsAlone, bare, in_block}
-use Rattle.ca_sweep.specs.Means.{sum_value, all_but, Table, items_from, between, swept, operate, added, with_items, sweep_cost, length_in, swept_cost}
+use Rattle.ca_sweep.specs.Means.{sum_value, all_but, Table, items_from, between, swept, operate, added, with_items, sweep_cost, length_in, sweep_cost_of}
 use Rattle.ca_sweep.specs.Laws.{GoesOn, Sweeps, sweeps, fails, Stands}
 use Rattle.ca_sweep.proofs.Shown.{Shown, shown}
 use Rattle.ca_sweep.proofs.Typed.{SweepTyped, SweepClean, sweep_typed, sweep_clean}
-use Rattle.ca_sweep.proofs.Sums.{Summed, a_number, a_local, a_field, a_sum, a_product, sum_summed, sum_gives}
+use Rattle.ca_sweep.proofs.Sums.{Summed, a_number, a_local, a_field, a_sum, a_product, sum_summed, sum_gives, not_false as not_counter}
 use Rattle.ca_sweep.proofs.Runs.{sweeps_are_swept}
 use Rattle.ca_symbolic_laws.proofs.SweepPlaces.{MeansSwept, MayStand}
+use Rattle.ca_symbolic_laws.proofs.LoopRuns.{hidden_put}
 
 -- Names of a sweep's parts
 
 named_in : (s : PlainSweep) (minus : Bool) (b : Statement) → Adds s.counter s.field s.addend minus b → (n : ℕ) → names_outside b n ≡ false → names s.addend n ≡ false
-named_in s _ _ (adds line) n e = (or_false (nat_eq s.counter.0 n) (names s.addend n) e).1
-named_in s _ _ (takes_off line) n e = (or_false (nat_eq s.counter.0 n) (names s.addend n) e).1
-named_in s _ _ (puts_sum line) n e = (or_false (nat_eq s.counter.0 n) (names s.addend n) ((or_false (nat_eq s.counter.0 n) _ e).1)).1
-named_in s _ _ (puts_difference line) n e = (or_false (nat_eq s.counter.0 n) (names s.addend n) ((or_false (nat_eq s.counter.0 n) _ e).1)).1
+named_in s _ _ (adds line) n e = (or_parts (nat_eq s.counter.0 n) (names s.addend n) e).1
+named_in s _ _ (takes_off line) n e = (or_parts (nat_eq s.counter.0 n) (names s.addend n) e).1
+named_in s _ _ (puts_sum line) n e = (or_parts (nat_eq s.counter.0 n) (names s.addend n) ((or_parts (nat_eq s.counter.0 n) _ e).1)).1
+named_in s _ _ (puts_difference line) n e = (or_parts (nat_eq s.counter.0 n) (names s.addend n) ((or_parts (nat_eq s.counter.0 n) _ e).1)).1
 
 named_alone : (s : PlainSweep) (minus : Bool) (b : Statement) → AddsAlone s.counter s.field s.addend minus b → (n : ℕ) → names_outside b n ≡ false → names s.addend n ≡ false
 named_alone s minus _ (bare b a) n e = named_in s minus b a n e
-named_alone s minus _ (in_block line b a) n e = named_in s minus b a n (or_false (names_outside b n) false e).0
+named_alone s minus _ (in_block line b a) n e = named_in s minus b a n (or_parts (names_outside b n) false e).0
 
 -- a sum doesn't name the counter
-not_counter : (b : Bool) → not_of b ≡ true → b ≡ false
-not_counter true e = cc
-not_counter false e = refl
-
 unnamed_counter : (i : ℕ) (e : Expression) → Summed (all_but i) e → names e i ≡ false
 unnamed_counter i _ (a_number n) = refl
 unnamed_counter i _ (a_local l e) = let z : nat_eq i l.0 ≡ nat_eq l.0 i = grind (arith, nat_tests) in sym z ∙ not_counter (nat_eq i l.0) e
@@ -121,7 +117,7 @@ array_long (Some f) ty a = some f.length a.1
     some None i = cc
     some (Some n) i = (n, refl)
 
-array_set : (h : List Object) (v : Valuation) (ts : List PlainTerm) (fs : List FieldInfo) (f : ℕ) (t : PlainTerm) (ty : ValueType) → FieldsTyped h v ts fs → IsArray (slice_get fs f) ty → ((z : ℤ) → HasType h (item_meant v t z) ty) → FieldsTyped h v (slice_set ts f t) fs
+pub array_set : (h : List Object) (v : Valuation) (ts : List PlainTerm) (fs : List FieldInfo) (f : ℕ) (t : PlainTerm) (ty : ValueType) → FieldsTyped h v ts fs → IsArray (slice_get fs f) ty → ((z : ℤ) → HasType h (item_meant v t z) ty) → FieldsTyped h v (slice_set ts f t) fs
 array_set h v [] [] f t ty k i e = tt
 array_set h v [] (x ∷ fs) f t ty k i e = absurd k
 array_set h v (y ∷ ts) [] f t ty k i e = absurd k
@@ -134,19 +130,12 @@ array_set h v (y ∷ ts) (x ∷ fs) (suc f) t ty k i e = (k.0, array_set h v ts 
 
 -- Locals
 
-hidden_put : (t : ℕ → Bool) (n : ℕ) (ls : List Datum) (i : ℕ) (d : Datum) → t (n + i) ≡ true → hidden t n (slice_set ls i d) ≡ hidden t n ls
-hidden_put t n [] i d e = refl
-hidden_put t n (x ∷ ls) zero d e =
-    let here : t n ≡ true = ap t (sym (add-zero n)) ∙ e in
-    ap (λ z. z ∷ hidden t (n + 1) ls) (ap (λ b. if b then Null else d) here ∙ sym (ap (λ b. if b then Null else x) here))
-hidden_put t n (x ∷ ls) (suc i) d e = ap (λ r. (if t n then Null else x) ∷ r) (hidden_put t (n + 1) ls i d (ap t (let z : n + 1 + i ≡ n + suc i = omega arith in z) ∙ e))
-
 there_below : (tys : List ValueType) (i : ℕ) (ty : ValueType) → slice_get tys i ≡ Some ty → i < length tys
 there_below [] i ty e = cc
 there_below (x ∷ tys) zero ty e = omega arith
 there_below (x ∷ tys) (suc i) ty e = let l = there_below tys i ty e in omega (arith, l)
 
-le_of : (s k : ℕ) → s ≤ k → nat_le s k ≡ true
+pub le_of : (s k : ℕ) → s ≤ k → nat_le s k ≡ true
 le_of s k e = grind (arith, nat_tests)
 
 more_than : (s k : ℕ) → k < s → nat_le s k ≡ false
@@ -254,12 +243,12 @@ module _ (s : Environment) (v : Valuation) (in_run : Runs s v) (m : PlainMethod)
 
     outside : (n : ℕ) → t n ≡ true → (names w.from n ≡ false) × (nat_eq w.counter.0 n ≡ false → (names w.to n ≡ false) × (names w.addend n ≡ false))
     outside n e =
-        let both = or_false (names w.from n) (cond (nat_eq w.counter.0 n) false (names (binary Less (local w.counter) w.to) n || (names_outside next n || names_outside body n))) (apart n e) in (
+        let both = or_parts (names w.from n) (cond (nat_eq w.counter.0 n) false (names (binary Less (local w.counter) w.to) n || (names_outside next n || names_outside body n))) (apart n e) in (
           both.0,
           λ o.
               let all = sym (ap (λ b. cond b false (names (binary Less (local w.counter) w.to) n || (names_outside next n || names_outside body n))) o) ∙ both.1 in
-              let two = or_false (names (binary Less (local w.counter) w.to) n) (names_outside next n || names_outside body n) all in
-              ((or_false (nat_eq w.counter.0 n) (names w.to n) two.0).1, named_alone w w.minus body alone n ((or_false (names_outside next n) (names_outside body n) two.1).1)),
+              let two = or_parts (names (binary Less (local w.counter) w.to) n) (names_outside next n || names_outside body n) all in
+              ((or_parts (nat_eq w.counter.0 n) (names w.to n) two.0).1, named_alone w w.minus body alone n ((or_parts (names_outside next n) (names_outside body n) two.1).1)),
         )
 
     unnamed : (x : Expression) → Summed (all_but w.counter.0) x → ((n : ℕ) → t n ≡ true → nat_eq w.counter.0 n ≡ false → names x n ≡ false) → Unnamed t (names x)
@@ -315,7 +304,7 @@ module _ (s : Environment) (v : Valuation) (in_run : Runs s v) (m : PlainMethod)
 
       pub means_so : (y : PlainTerm) → MeansSwept s v st w y → (listed : List Invocation) (line k : ℕ) →
           state_of t (exec (section_parts p s.heap (Ref s.receiver)) line ls (record { own = slots_meant v st.fields fs; listed = listed }) loop k)
-          ≡ with_left (hidden t 0 (map (mean v) (with_field st w.field.field y).locals), record { own = slots_meant v (with_field st w.field.field y).fields fs; listed = listed }) (left (swept_cost (length_in (field_info p w.field)) (mean v (term_of p st w.from)) (mean v (term_of p st w.to))) k)
+          ≡ with_left (hidden t 0 (map (mean v) (with_field st w.field.field y).locals), record { own = slots_meant v (with_field st w.field.field y).fields fs; listed = listed }) (left (sweep_cost_of (length_in (field_info p w.field)) (mean v (term_of p st w.from)) (mean v (term_of p st w.to))) k)
       means_so y means listed line k =
           let n : ℕ = (array_long (slice_get fs w.field.field) type.Long array_is).0 in
           let e : length_in (slice_get fs w.field.field) ≡ Some n = (array_long (slice_get fs w.field.field) type.Long array_is).1 in
@@ -327,13 +316,13 @@ module _ (s : Environment) (v : Valuation) (in_run : Runs s v) (m : PlainMethod)
           ended t w ls (slots_meant v st.fields fs) listed n (item_meant v old) from to d k _ hides runs_so
           ∙ ap₂ (λ a b. with_left (a, record { own = b; listed = listed }) (left (sweep_cost n from to) k)) same (slots_set v st.fields fs w.field.field n y table e items)
           ∙ ap (λ o. with_left (hidden t 0 (map (mean v) st.locals), record { own = slots_meant v (with_field st w.field.field y).fields fs; listed = listed }) (left o k))
-          (ap₂ (swept_cost (Some n)) (sym (is_long s.heap _ from_long).0) (sym (is_long s.heap _ to_long).0) ∙ ap (λ o. swept_cost o (mean v (term_of p st w.from)) (mean v (term_of p st w.to))) (sym e ∙ long_is))
+          (ap₂ (sweep_cost_of (Some n)) (sym (is_long s.heap _ from_long).0) (sym (is_long s.heap _ to_long).0) ∙ ap (λ o. sweep_cost_of o (mean v (term_of p st w.from)) (mean v (term_of p st w.to))) (sym e ∙ long_is))
 
 pub means_of : (s : Environment) (v : Valuation) → Runs s v → (m : PlainMethod) → Typed s m → (written : List FieldId) (called : Bool) (w : PlainSweep) (loop : Statement) → Shown w loop → MayStand s m written called w loop →
     (st : State) → StateTyped s v m st → (t : ℕ → Bool) → ((n : ℕ) → counts_in loop n ≡ true → t n ≡ true) → ((n : ℕ) → t n ≡ true → names_outside loop n ≡ false) → (y : PlainTerm) → MeansSwept s v st w y → (ls : List Datum) → LocalsAre v t ls st.locals → (listed : List Invocation) (line k : ℕ) →
     state_of t (exec (section_parts s.program s.heap (Ref s.receiver)) line ls (record { own = slots_meant v st.fields (fields_in s m.class); listed = listed }) loop k)
     ≡ with_left (hidden t 0 (map (mean v) (with_field st w.field.field y).locals), record { own = slots_meant v (with_field st w.field.field y).fields (fields_in s m.class); listed = listed })
-    (left (swept_cost (length_in (field_info s.program w.field)) (mean v (term_of s.program st w.from)) (mean v (term_of s.program st w.to))) k)
+    (left (sweep_cost_of (length_in (field_info s.program w.field)) (mean v (term_of s.program st w.from)) (mean v (term_of s.program st w.to))) k)
 means_of s v in_run m typed written called w _ (shown own_line site at_line next body counts alone) may st is t counted apart y means ls same listed line k =
     means_so s v in_run m typed written called w own_line site at_line next body counts alone may st is t counted apart ls same y means listed line k
 

@@ -64,7 +64,7 @@ pub means_are : (v : Valuation) (p : PlainProgram) (st : State) (es : Expression
 means_are v p st no_expressions = refl
 means_are v p st (expression_and e es) = ap (λ z. mean v (term_of p st e) ∷ z) (means_are v p st es)
 
-class_same : (a b : ClassId) → Some a ≡ Some b → a ≡ b
+pub class_same : (a b : ClassId) → Some a ≡ Some b → a ≡ b
 class_same a b e = cc
 
 module _ (s : Environment) (v : Valuation) (runs : Runs s v) (m : PlainMethod) (typed : Typed s m)

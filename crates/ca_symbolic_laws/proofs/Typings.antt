@@ -23,7 +23,7 @@ use Rattle.ca_sweep.specs.Sweeps.{PlainSweep}
 use Rattle.ca_sweep.specs.Found.{sweep_at}
 use Rattle.ca_sweep.proofs.Finding.{forms_are_sweeps}
 use Rattle.ca_sweep.proofs.Shown.{shown_of}
-use Rattle.ca_symbolic_laws.proofs.SweepMeans.{typed_of}
+use Rattle.ca_symbolic_laws.proofs.SweepMeans.{typed_of, array_set}
 use Rattle.ca_symbolic_laws.proofs.SweepTerms.{sweep_means}
 use Rattle.ca_symbolic_laws.specs.Meant.{item_meant, TermTyped, FieldsTyped, LocalsTyped}
 use Rattle.ca_symbolic_laws.specs.Laws.{fields_in, Typed, StateTyped}
@@ -49,13 +49,6 @@ scalar_set h v [] (x ∷ fs) f t ty k i e = absurd k
 scalar_set h v (y ∷ ts) [] f t ty k i e = absurd k
 scalar_set h v (y ∷ ts) (x ∷ fs) zero t ty k i e = (scalar_term h v t x.ty ty x.length i.0 i.1 e, k.1)
 scalar_set h v (y ∷ ts) (x ∷ fs) (suc f) t ty k i e = (k.0, scalar_set h v ts fs f t ty k.1 i e)
-
-array_set : (h : List Object) (v : Valuation) (ts : List PlainTerm) (fs : List FieldInfo) (f : ℕ) (t : PlainTerm) (ty : ValueType) → FieldsTyped h v ts fs → IsArray (slice_get fs f) ty → ((z : ℤ) → HasType h (item_meant v t z) ty) → FieldsTyped h v (slice_set ts f t) fs
-array_set h v [] [] f t ty k i e = tt
-array_set h v [] (x ∷ fs) f t ty k i e = absurd k
-array_set h v (y ∷ ts) [] f t ty k i e = absurd k
-array_set h v (y ∷ ts) (x ∷ fs) zero t ty k i e = (array_term_typed h v t x.ty ty x.length i.0 i.1 e, k.1)
-array_set h v (y ∷ ts) (x ∷ fs) (suc f) t ty k i e = (k.0, array_set h v ts fs f t ty k.1 i e)
 
 local_set : (h : List Object) (v : Valuation) (ts : List PlainTerm) (tys : List ValueType) (l : ℕ) (t : PlainTerm) (ty : ValueType) → LocalsTyped h v ts tys → slice_get tys l ≡ Some ty → HasType h (mean v t) ty → LocalsTyped h v (slice_set ts l t) tys
 local_set h v [] [] l t ty k i e = tt

@@ -1,7 +1,6 @@
 -- What the demands of a body take and list in a run: those under true guards, and no others.
 use Rattle.std.specs.Prelude.{ℕ, zero, suc, ◌-◌, pos, Bool, true, false, nat_lt, if◌then◌else◌, List, [], ◌∷◌, ◌++◌, length, map, Option, Some, None}
 use Rattle.std.specs.Option.{option_or}
-use Rattle.ca_program.specs.declared.program.FieldInfo.{FieldInfo}
 use Rattle.ca_program.specs.declared.program.FunctionId.{FunctionId}
 use Rattle.ca_program.specs.declared.program.LoopId.{LoopId}
 use Rattle.ca_program.specs.Plain.{PlainMethod, Statement}
@@ -16,7 +15,7 @@ use Rattle.ca_parallel.specs.Bodies.{fors_in_all}
 use Rattle.ca_parallel.specs.Lists.{has_site}
 use Rattle.ca_norm.specs.Meanings.{Valuation, mean}
 use Rattle.ca_norm.specs.Environments.{Environment}
-use Rattle.ca_sweep.specs.Means.{length_in, swept_cost}
+use Rattle.ca_sweep.specs.Means.{length_in, sweep_cost_of}
 use Rattle.ca_symbolic.specs.States.{DemandKind, not_null, in_range, calls, invokes, loops, sweeps, PlainDemand}
 use Rattle.ca_symbolic.specs.Demands.{loop_reads}
 use Rattle.ca_symbolic_laws.specs.Costs.{plus}
@@ -103,7 +102,7 @@ kind_cost s (calls m) (d ∷ xs) = plus (Some 1) (call_cost s m d xs)
 kind_cost s (invokes op) (d ∷ xs) = Some 0
 kind_cost s (loops site) xs = loop_steps (loop_within s site xs)
 kind_cost s (sweeps f) (d ∷ []) = None
-kind_cost s (sweeps f) (d ∷ e ∷ xs) = swept_cost (length_in (field_info s.program f)) d e
+kind_cost s (sweeps f) (d ∷ e ∷ xs) = sweep_cost_of (length_in (field_info s.program f)) d e
 kind_cost s kind [] = None
 
 -- the object that a pointer names; a call through null is never made

@@ -2,6 +2,7 @@
 use Rattle.std.proofs.Common.{◌≡◌, ℕ, List, [], ◌∷◌, ◌++◌, None, inl, refl, codes, pos}
 use Rattle.std.specs.Int.{int_wrap}
 use Rattle.std.specs.Fmt.{digits}
+use Rattle.ca_lists.proofs.Places.{heads, tails}
 use Rattle.ca_tree.specs.declared.tree.AssignOp.TheVariants.{Add}
 use Rattle.ca_program.specs.declared.program.ValueType.TheVariants.{Long, Pointer}
 use Rattle.ca_program.specs.declared.program.ClassId.{ClassId}
@@ -23,7 +24,6 @@ use Rattle.ca_trace.specs.declared.line.Line.TheVariants.{Block, End, Step, Decl
 use Rattle.ca_trace.specs.Lines.{LinesOf, ran, LinesOfAll, of_none, of_more, last_lines, Follows}
 use Rattle.ca_trace.specs.Bad.{FirstBad, at_line, at_end, Begins}
 use Rattle.ca_trace.specs.Texts.{line_text, schedule_text, HasHeader}
-use Rattle.ca_trace.proofs.Splitting.{heads, tails}
 
 -- class A { public: long n; void add(long x) { n += x; } void twice(long x) { add(x); add(x); } };
 abbrev class_a : ClassId

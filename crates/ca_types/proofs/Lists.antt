@@ -1,13 +1,13 @@
 -- A walk over a list of parameters, members or classes.
 use Rattle.std.proofs.Common.{◌≡◌, ℕ, ◌+◌, ◌<◌, ◌≤◌, List, [], ◌∷◌, map, drop, length, get_or, refl, sym, ◌∙◌, ap}
 use Rattle.std.proofs.lemmas.List.{drop_all}
+use Rattle.ca_lists.proofs.Places.{item_and_rest}
 use Rattle.ca_resolve.specs.Judged.{Judged}
-use Rattle.ca_resolve.proofs.Tables.{next_read}
 use Rattle.ca_types.specs.Classes.{walked}
 use Rattle.ca_types.specs.clauses.Adding.{gathered}
 
 pub next_item : {X Y : Type 0} (view : X → Y) (xs : List X) (i : ℕ) (x : X) → i < length xs → x ≡ get_or xs i x → map view (drop i xs) ≡ view x ∷ map view (drop (i + 1) xs)
-next_item view xs i x h e = ap (map view) (next_read xs i x h e)
+next_item view xs i x h e = ap (map view) (item_and_rest xs i x h e)
 
 -- the items of a list from i on, behind others that gave `front`, are all that is left of the whole
 pub record Rest {S T A : Type 0} (next : S → T → S) (add : S → Judged A → T → Judged A) (s0 : S) (front0 : Judged A) (all : List T) (s : S) (front : Judged A) (rest : List T) : Type 0 where

@@ -1,17 +1,17 @@
 -- A walk over the statements of a list.
 use Rattle.std.proofs.Common.{◌≡◌, ℕ, ◌+◌, ◌<◌, ◌≤◌, List, [], ◌∷◌, ◌++◌, Bool, false, drop, length, get_or, refl, sym, ◌∙◌, ap, append_assoc, append-nil}
 use Rattle.std.proofs.lemmas.List.{drop_all}
+use Rattle.ca_lists.proofs.Places.{item_and_rest}
 use Rattle.ca_tree.specs.declared.tree.StmtNode.{StmtNode}
 use Rattle.ca_tree.specs.Plain.{Statement, Statements, no_statements, statement_and}
 use Rattle.ca_tree.specs.View.{statement_view, statements_view}
 use Rattle.ca_program.specs.Plain as program
 use Rattle.ca_resolve.specs.Judged.{Judged}
-use Rattle.ca_resolve.proofs.Tables.{next_read}
 use Rattle.ca_types.specs.Rules.{returns, last_returns}
 use Rattle.ca_types.specs.Statements.{Env, behind, behind_all, judge_statement, judge_each}
 
 next_statement : (xs : List StmtNode) (i : ℕ) (s : StmtNode) → i < length xs → s ≡ get_or xs i s → statements_view (drop i xs) ≡ statement_and (statement_view s) (statements_view (drop (i + 1) xs))
-next_statement xs i s h e = ap statements_view (next_read xs i s h e)
+next_statement xs i s h e = ap statements_view (item_and_rest xs i s h e)
 
 -- the statements of a list from i on, behind others that were judged so, are all that is left of the whole
 pub record Left (c0 : Env) (all : Statements) (c : Env) (front : List (Judged program.Statement)) (rest : Statements) : Type 0 where

@@ -1,5 +1,6 @@
 -- What holds of the parts of a judgement that is fine.
 use Rattle.std.proofs.Common.{◌≡◌, ℕ, List, [], ◌∷◌, Bool, true, false, refl, sym, ap, ◌∙◌}
+use Rattle.std.proofs.lemmas.Bool.{not-false}
 use Rattle.std.specs.Prelude.{not, Option, Some, None}
 use Rattle.ca_tree.specs.declared.name.Place.{Place}
 use Rattle.ca_resolve.specs.Judged.{Violation, Judged, fine, faulty, both, within, unless, found, broken_if, beside}
@@ -48,12 +49,8 @@ pub not_broken : (b : Bool) (at : Place) (code : ℕ) → broken_if b at code �
 not_broken true at code h = absurd (cc)
 not_broken false at code h = refl
 
-pub not_not : (b : Bool) → not b ≡ false → b ≡ true
-not_not true h = refl
-not_not false h = absurd (cc)
-
 pub kept : {A : Type 0} (agrees : Bool) (at : Place) (code : ℕ) (a b : A) → unless (broken_if (not agrees) at code) a ≡ fine b → (agrees ≡ true) × (a ≡ b)
-kept agrees at code a b h = (not_not agrees (not_broken (not agrees) at code (none_broken (broken_if (not agrees) at code) a b h)), unless_fine (broken_if (not agrees) at code) a b h)
+kept agrees at code a b h = (not-false agrees (not_broken (not agrees) at code (none_broken (broken_if (not agrees) at code) a b h)), unless_fine (broken_if (not agrees) at code) a b h)
 
 -- an `if` and a `for` whose parts are judged
 pub record IfFine (line : ℕ) (i : Judged program.Expression) (j k : Judged program.Statement) (x : program.Statement) : Type 0 where

@@ -3,7 +3,7 @@ use Rattle.std.proofs.Common.{◌≡◌, ◌≤◌, ℕ, ◌+◌, List, [], ◌�
 use Rattle.std.specs.Prelude.{Some, slice_get}
 use Rattle.std.specs.List.{AllByRecursion}
 use Rattle.std.proofs.lemmas.List.{append_assoc, append-nil, length-append}
-use Rattle.std.proofs.lemmas.List.Elements.{All-from_recursion, recursion_from_All, All-append}
+use Rattle.std.proofs.lemmas.List.Elements.{All-from_recursion}
 use Rattle.std.proofs.lemmas.Option.{slice_get_within, get_or_from_slice_get}
 
 -- the second list begins with the first
@@ -30,9 +30,6 @@ there (y ∷ xs) x zs = there xs x zs
 pub item_there : {A : Type 0} (xs ys : List A) (x : A) → Begins (xs ++ x ∷ []) ys → slice_get ys (length xs) ≡ Some x
 item_there xs ys x h = ap (λ zs. slice_get zs (length xs)) (sym h.1 ∙ append_assoc xs (x ∷ []) h.0) ∙ there xs x h.0
 
-pub one_longer : {A : Type 0} (xs : List A) (x : A) → length (xs ++ x ∷ []) ≡ length xs + 1
-one_longer xs x = length-append xs (x ∷ [])
-
 taken : {A : Type 0} (xs zs : List A) → take (length xs) (xs ++ zs) ≡ xs
 taken [] zs = refl
 taken (x ∷ xs) zs = ap (λ ys. x ∷ ys) (taken xs zs)
@@ -44,8 +41,5 @@ pub begins_shorter : {A : Type 0} (xs ys : List A) → Begins xs ys → length x
 begins_shorter xs ys h = let e : length xs + length h.0 ≡ length ys = sym (length-append xs h.0) ∙ ap length h.1 in omega (arith, e)
 
 module _ {A : Type 0} (P : A → Type 0) where
-  pub all_append : (xs ys : List A) → AllByRecursion P xs → AllByRecursion P ys → AllByRecursion P (xs ++ ys)
-  all_append xs ys h k = recursion_from_All P (xs ++ ys) (All-append P xs ys (All-from_recursion P xs h) (All-from_recursion P ys k))
-
   pub all_at : (xs : List A) (i : ℕ) (x : A) → AllByRecursion P xs → slice_get xs i ≡ Some x → P x
   all_at xs i x h e = subst P (get_or_from_slice_get xs i x x e) (All-from_recursion P xs h i x (slice_get_within xs i x e))

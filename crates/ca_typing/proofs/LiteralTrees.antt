@@ -5,6 +5,7 @@ use Rattle.std.specs.Prelude.{ℤ}
 use Rattle.std.specs.Int.{w64}
 use Rattle.std.specs.List.{AllByRecursion}
 use Rattle.std.proofs.lemmas.Int.{fits_signed_from_abs}
+use Rattle.ca_lists.proofs.Places.{all_append}
 use Rattle.ca_descent.specs.Exact.{Sees, sees, Following, following_end, following, separated_none, separated}
 use Rattle.ca_tree.specs.declared.name.Place.{Place}
 use Rattle.ca_tree.specs.declared.token.Kind.{Kind}
@@ -15,7 +16,6 @@ use Rattle.ca_tree.specs.declared.tree.ParamNode.{ParamNode}
 use Rattle.ca_tree.specs.declared.tree.AssignOp.{AssignOp}
 use Rattle.ca_tree.specs.Plain.{RightSide, Statement, TextTree}
 use Rattle.ca_parse.specs.Grammar.{Deriving, statements, TypeName, long, bool, pointer, Right, expression, creation, creation_call, Local, declares, begins, Change, puts, changes, increments, decrements, Assign, assigns, AssignLine, assign_line, First, first_local, first_assign, Stmt, nothing, a_block, an_assign, a_call, an_if, an_if_else, a_while, a_for, a_return, a_print, Item, a_local, a_statement, Items, items_end, items_and, Lines, lines_end, lines_and, One, one, Listed, Param, param, Signature, signature, Length, scalar, array, Further, further_plain, further_pointer, Member, fields, operation, value_method, Declaration, forward, a_class, MainItem, main_item, kept, program, DerivesFree}
-use Rattle.ca_typing.proofs.Lists.{all_append}
 use Rattle.ca_expressions.specs.Terminals.{name, name_of}
 use Rattle.ca_typing.specs.Names.{IsName}
 use Rattle.ca_typing.proofs.Fits.{KindFits, TokensFit, RightFits, StatementFits, StatementsFit, MemberFits, ClassFits, LiteralsFit}

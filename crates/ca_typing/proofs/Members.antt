@@ -3,8 +3,9 @@ use Rattle.std.proofs.Common.{◌≡◌, ℕ, ℤ, ◌+◌, List, [], ◌∷◌,
 use Rattle.std.specs.Prelude.{Option, Some, None, is_some, slice_get, IsSome}
 use Rattle.std.specs.List.{AllByRecursion}
 use Rattle.std.specs.Map.{lookup}
-use Rattle.std.proofs.lemmas.List.{append_assoc}
+use Rattle.std.proofs.lemmas.List.{append_assoc, length_push}
 use Rattle.std.proofs.lemmas.Option.{same_Some}
+use Rattle.ca_lists.proofs.Places.{all_append}
 use Rattle.ca_tree.specs.declared.tree.TypeNode.{TypeNode}
 use Rattle.ca_tree.specs.declared.tree.FieldNode.{FieldNode}
 use Rattle.ca_tree.specs.Plain.{MethodTree, MemberTree, field_member, method_member}
@@ -23,7 +24,7 @@ use Rattle.ca_types.specs.Statements.{judge_type, type_of}
 use Rattle.ca_types.specs.Classes.{MemberEnv, Members, item_count, judge_field_member, result_ty, judge_method, behind_member, behind_members}
 use Rattle.ca_types.specs.clauses.Adding.{gathered, with_field, with_method, add_member}
 use Rattle.ca_typing.proofs.Fits.{MemberFits}
-use Rattle.ca_typing.proofs.Lists.{Begins, begins_itself, begins_through, begins_behind, item_there, one_longer, all_append}
+use Rattle.ca_typing.proofs.Lists.{Begins, begins_itself, begins_through, begins_behind, item_there}
 use Rattle.ca_typing.proofs.Judging.{same_fine, within_fine, made_fine, both_fine, unless_fine, beside_fine, gathered_fine}
 use Rattle.ca_typing.proofs.Types.{type_declared}
 use Rattle.ca_typing.proofs.Values.{AllDeclared, MeaningTyped, ClassesTyped}
@@ -107,7 +108,7 @@ pub record Numbered (other_ops other_functions : List PlainMethod) (n : Numbers)
   pub functions : length (other_functions ++ a.functions) ≡ n.function
 
 one_more : {A : Type 0} (front xs : List A) (x : A) (n : ℕ) → length (front ++ xs) ≡ n → length (front ++ (xs ++ x ∷ [])) ≡ n + 1
-one_more front xs x n h = ap length (sym (append_assoc front xs (x ∷ []))) ∙ (one_longer (front ++ xs) x ∙ ap (λ m. m + 1) h)
+one_more front xs x n h = ap length (sym (append_assoc front xs (x ∷ []))) ∙ (length_push (front ++ xs) x ∙ ap (λ m. m + 1) h)
 
 module _ (p : PlainProgram) (ops functions : List PlainMethod) where
   abbrev In : Members → Type 0
@@ -171,7 +172,7 @@ module _ (p : PlainProgram) (ops functions : List PlainMethod) where
       let begins : MembersBegin (with_field a d.0) all = subst (λ b. MembersBegin b all) (sym d.2) (members_begin next w.0 all ms w.2) in
       let here : slice_get all.fields c.numbers.field ≡ Some d.0 = ap (slice_get all.fields) (sym n.fields) ∙ item_there a.fields all.fields d.0 begins.fields in
       let there = ap (λ xs. slice_get xs c.numbers.field) fs ∙ here in
-      let numbered : Numbered ops functions next.numbers (with_field a d.0) = record { fields = one_longer a.fields d.0 ∙ ap (λ k. k + 1) n.fields; ops = n.ops; functions = n.functions } in
+      let numbered : Numbered ops functions next.numbers (with_field a d.0) = record { fields = length_push a.fields d.0 ∙ ap (λ k. k + 1) n.fields; ops = n.ops; functions = n.functions } in
       let rest = row_typed next w.0 all ms fs i (subst (Numbered ops functions next.numbers) d.2 numbered) w.2 in
       ((field_meaning_typed c f d.0 d.1 there, rest.0), rest.1)
   row_typed c a all (method_member m ∷ ms) fs i n h =

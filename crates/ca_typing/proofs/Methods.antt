@@ -2,6 +2,7 @@
 use Rattle.std.proofs.Common.{◌≡◌, ℕ, List, [], ◌∷◌, ◌++◌, true, length, map, take, refl, sym, subst, ap, ◌∙◌, arith}
 use Rattle.std.specs.Prelude.{Option, Some, None, is_some, not, ◌&&◌}
 use Rattle.std.proofs.lemmas.List.{append_assoc, append-nil, length-map}
+use Rattle.std.proofs.lemmas.Bool.{not-false}
 use Rattle.ca_tree.specs.declared.tree.TypeNode.{TypeNode}
 use Rattle.ca_tree.specs.declared.tree.ParamNode.{ParamNode}
 use Rattle.ca_tree.specs.Plain.{MethodTree}
@@ -19,7 +20,7 @@ use Rattle.ca_types.specs.clauses.Adding.{gathered, add_parameter}
 use Rattle.ca_types.proofs.Gathered.{parameters_gathered}
 use Rattle.ca_typing.proofs.Fits.{StatementsFit}
 use Rattle.ca_typing.proofs.Lists.{Begins, begins_itself, begins_through, begins_taken, begins_shorter, item_there}
-use Rattle.ca_typing.proofs.Judging.{same_fine, within_fine, made_fine, both_fine, unless_fine, none_broken, beside_fine, not_broken, not_not, gathered_fine}
+use Rattle.ca_typing.proofs.Judging.{same_fine, within_fine, made_fine, both_fine, unless_fine, none_broken, beside_fine, not_broken, gathered_fine}
 use Rattle.ca_typing.proofs.Types.{Declared, type_declared}
 use Rattle.ca_typing.proofs.Values.{AllDeclared, ClassesTyped}
 use Rattle.ca_typing.proofs.Statements.{ResultTyped, Stands, from_none, all_grow, in_order_typed, statements_typed}
@@ -145,5 +146,5 @@ module _ (c : MemberEnv) (m : MethodTree) (method : PlainMethod) (f : MethodFine
   pub method_returns : is_some m.result ≡ true → LastReturns method.body.statements
   method_returns some =
       let ends = not_broken (is_some m.result && not (last_returns m.body)) m.at 30 f.ends in
-      let last : last_returns m.body ≡ true = not_not (last_returns m.body) (ap (λ b. b && not (last_returns m.body)) (sym some) ∙ ends) in
+      let last : last_returns m.body ≡ true = not-false (last_returns m.body) (ap (λ b. b && not (last_returns m.body)) (sym some) ∙ ends) in
       subst (λ (x : PlainMethod). LastReturns x.body.statements) f.is (statements_return (body_begin c m) m.body f.statements f.statements_are last)

@@ -9,30 +9,13 @@ use Rattle.ca_tree.specs.Plain.{MethodTree, MemberTree, ClassTree, TextTree, fie
 use Rattle.ca_program.specs.declared.program.ValueType.{ValueType}
 use Rattle.ca_program.specs.Plain.{PlainProgram, PlainClass, PlainMethod}
 use Rattle.ca_program.specs.Plain as program
-use Rattle.ca_resolve.specs.Judged.{Violation, Judged, fine, faulty, both, within, unless, beside, each, broken_if}
+use Rattle.ca_resolve.specs.Judged.{Violation, Judged, fine, faulty, both, unless, beside, each, broken_if}
 use Rattle.ca_resolve.specs.Scopes.{classes_of, member_name, number_of}
+use Rattle.ca_resolve.proofs.Holding.{Holds, within_any, both_hold, of_fine, within_holds}
 use Rattle.ca_types.specs.Rules.{class_once, member_once, is_number, class_limit}
 use Rattle.ca_types.specs.Classes.{MemberEnv, Member, a_field, a_method, Members, members_of, method_and, judge_field_member, judge_method, judge_member, judge_members, judge_parts, method_of, method_limit, behind_member, along, ClassEnv, class_begin, behind_class, judge_class, judge_named, judge_classes, Parts, parts_of, first_class, judge, program_of, main_begin}
 use Rattle.ca_types.specs.Statements.{judge_statements, behind_all}
 use Rattle.ca_typing.specs.Names.{NamedOnce}
-
--- what holds of whatever a part resolves to
-abbrev pub Holds : {A : Type 0} → (A → Type 0) → Judged A → Type 0
-Holds P (fine a) = P a
-Holds P (faulty v vs) = Unit {0}
-
-pub within_holds : {A B : Type 0} (P : A → Type 0) (Q : B → Type 0) (j : Judged A) (rule : A → Judged B) → Holds P j → ((a : A) → P a → Holds Q (rule a)) → Holds Q (within j rule)
-within_holds P Q (fine a) rule h f = f a h
-within_holds P Q (faulty v vs) rule h f = tt
-
-pub within_any : {A B : Type 0} (Q : B → Type 0) (j : Judged A) (rule : A → Judged B) → ((a : A) → Holds Q (rule a)) → Holds Q (within j rule)
-within_any Q (fine a) rule f = f a
-within_any Q (faulty v vs) rule f = tt
-
-pub both_hold : {A B : Type 0} (P : A → Type 0) (Q : B → Type 0) (j : Judged A) (k : Judged B) → Holds P j → Holds Q k → Holds (λ (p : A × B). P p.0 × Q p.1) (both j k)
-both_hold P Q (fine a) (fine b) h g = (h, g)
-both_hold P Q (fine a) (faulty u us) h g = tt
-both_hold P Q (faulty v vs) k h g = tt
 
 pub first_holds : {A B : Type 0} (P : A → Type 0) (j : Judged A) (k : Judged B) → Holds P j → Holds (λ (p : A × B). P p.0) (both j k)
 first_holds P (fine a) (fine b) h = h
@@ -47,9 +30,6 @@ unless_told P (Some v) a h = tt
 pub beside_told : {A : Type 0} (P : A → Type 0) (v : Option Violation) (j : Judged A) → (v ≡ None → Holds P j) → Holds P (beside v j)
 beside_told P None j h = h refl
 beside_told P (Some v) j h = tt
-
-pub of_fine : {A : Type 0} (P : A → Type 0) (j : Judged A) (a : A) → Holds P j → j ≡ fine a → P a
-of_fine P j a h e = subst (Holds P) e h
 
 not_true : (b : Bool) (at : Place) (code : ℕ) → broken_if (not b) at code ≡ None → b ≡ true
 not_true true at code h = refl

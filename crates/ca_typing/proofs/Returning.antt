@@ -1,5 +1,6 @@
 -- A body that is found to return does so as it is resolved.
 use Rattle.std.proofs.Common.{◌≡◌, List, [], ◌∷◌, true, subst}
+use Rattle.std.proofs.lemmas.Bool.{and_parts}
 use Rattle.ca_tree.specs.Plain.{Statement, Statements, block, if_else, return_value, no_statements, statement_and}
 use Rattle.ca_program.specs.Plain as program
 use Rattle.ca_meaning.specs.ProgramTyped.{Returns, LastReturns}
@@ -7,7 +8,6 @@ use Rattle.ca_resolve.specs.Judged.{fine, unless}
 use Rattle.ca_types.specs.Rules.{returns, last_returns, return_stands}
 use Rattle.ca_types.specs.Statements.{Env, enter_block, leave_block, behind, judge_wanted, judge_condition, statements_in, judge_statement, judge_statements}
 use Rattle.ca_typing.proofs.Judging.{within_fine, made_fine, unless_fine, if_fine}
-use Rattle.ca_typing.proofs.Types.{and_both}
 use Rattle.ca_typing.proofs.Statements.{from_none, none_behind, statements_fine}
 
 one_before : (x : program.Statement) (xs : List program.Statement) → LastReturns (statements_in xs) → LastReturns (statements_in (x ∷ xs))
@@ -24,7 +24,7 @@ mutual
       let yes_part = judge_statement (enter_block c) a in
       let no_part = judge_statement (enter_block (leave_block c (behind (enter_block c) a))) b in
       let w = if_fine at.line test yes_part no_part x h in
-      let k = and_both (returns a) (returns b) r in
+      let k = and_parts (returns a) (returns b) r in
       subst Returns w.is (statement_returns (enter_block c) a w.one w.one_is k.0, statement_returns (enter_block (leave_block c (behind (enter_block c) a))) b w.other w.other_is k.1)
   statement_returns c (return_value at e) x h r =
       let w = within_fine (judge_wanted c.scope c.result e) (λ v. unless (return_stands c.result at) (program.return_value at.line v)) x h in

@@ -1,7 +1,8 @@
 -- The operations of a program that a tree resolves to name the counters of their loops inside these alone.
-use Rattle.std.proofs.Common.{◌≡◌, List, [], ◌∷◌, ◌++◌, Bool, true, false, Option, Some, None, refl, sym, subst, ◌∙◌, arith}
+use Rattle.std.proofs.Common.{◌≡◌, List, [], ◌∷◌, ◌++◌, Option, Some, None, sym, subst, ◌∙◌, arith}
 use Rattle.std.specs.Prelude.{Contains, length, slice_index_or}
 use Rattle.std.proofs.lemmas.List.Elements.{Contains-append_cases}
+use Rattle.std.proofs.lemmas.Bool.{false_from_ne_true}
 use Rattle.ca_tree.specs.declared.tree.ParamNode.{ParamNode}
 use Rattle.ca_tree.specs.Plain.{MethodTree, MemberTree, ClassTree, TextTree, field_member, method_member}
 use Rattle.ca_program.specs.declared.program.ValueType.{ValueType}
@@ -26,17 +27,13 @@ parameters_bounded : (c : Env) (ps : List ParamNode) → BoundedAt c → Bounded
 parameters_bounded c [] b = b
 parameters_bounded c (p ∷ ps) b = parameters_bounded (behind_parameter c p) ps (declares c (ty_of c.scope.classes.names p.ty) p.name b).bounded
 
-not_true : (b : Bool) → (b ≡ true → ⊥) → b ≡ false
-not_true true h = absurd (h refl)
-not_true false h = refl
-
 method_scoped : (c : MemberEnv) (m : MethodTree) (x : PlainMethod) → judge_method c m ≡ fine x → Scoped x.body.statements
 method_scoped c m x h =
     let f = method_fine c m x h in
     let begin = body_begin c m in
     let b : BoundedAt begin = parameters_bounded (method_begin c m) m.params (λ n v. absurd v) in
     let t = all_stand begin begin m.body [] f.statements b (stays begin.scope.locals (length begin.locals) b) (none_stand begin) (from_none begin m.body f.statements f.statements_are) in
-    subst (λ (y : PlainMethod). Scoped y.body.statements) f.is (λ n q. not_true (any_names_outside (statements_in f.statements) n) (λ p. t.apart n q p))
+    subst (λ (y : PlainMethod). Scoped y.body.statements) f.is (λ n q. false_from_ne_true (any_names_outside (statements_in f.statements) n) (λ p. t.apart n q p))
 
 -- all of these are
 abbrev Each : List PlainMethod → Type 0

@@ -1,6 +1,7 @@
 -- The names of classes and operations are those of the tree.
 use Rattle.std.proofs.Common.{◌≡◌, ℕ, List, [], ◌∷◌, Option, Some, None}
 use Rattle.std.specs.List.{AllByRecursion}
+use Rattle.ca_lists.proofs.Places.{all_append}
 use Rattle.ca_tree.specs.Plain.{MethodTree, MemberTree, ClassTree, TextTree, field_member, method_member}
 use Rattle.ca_tree.specs.declared.token.Token.{Token}
 use Rattle.ca_program.specs.declared.program.ValueType.{ValueType}
@@ -10,15 +11,16 @@ use Rattle.ca_lex.specs.Tokens.{Tokens}
 use Rattle.ca_parse.specs.Grammar.{DerivesFree}
 use Rattle.ca_resolve.specs.Judged.{Judged, fine, both, unless, beside, each}
 use Rattle.ca_resolve.specs.Scopes.{classes_of}
+use Rattle.ca_resolve.proofs.Holding.{Holds, within_any, both_hold, of_fine, within_holds}
 use Rattle.ca_types.specs.Rules.{class_once, member_once, class_limit}
 use Rattle.ca_types.specs.Classes.{MemberEnv, Member, a_field, a_method, Members, members_of, method_and, judge_field_member, judge_method, judge_member, judge_members, judge_parts, method_of, method_limit, behind_member, along, ClassEnv, class_begin, behind_class, judge_class, judge_named, judge_classes, Parts, parts_of, first_class, judge, program_of, main_begin}
 use Rattle.ca_types.specs.Statements.{judge_statements, behind_all}
 use Rattle.ca_typing.specs.Names.{IsName, NamesSpelled}
 use Rattle.ca_typing.proofs.Fits.{MemberFits, ClassFits, LiteralsFit}
-use Rattle.ca_typing.proofs.Lists.{all_append, all_at}
+use Rattle.ca_typing.proofs.Lists.{all_at}
 use Rattle.ca_typing.proofs.LiteralTokens.{tokens_fit}
 use Rattle.ca_typing.proofs.LiteralTrees.{tree_fits}
-use Rattle.ca_typing.proofs.Once.{Holds, within_holds, within_any, both_hold, first_holds, unless_told, beside_told, of_fine}
+use Rattle.ca_typing.proofs.Once.{first_holds, unless_told, beside_told}
 
 abbrev IsSpelled : PlainMethod → Type 0
 IsSpelled m = IsName m.name

@@ -4,6 +4,8 @@ use Rattle.std.specs.Prelude.{◌⊎◌, Option, Some, None, slice_get, is_some,
 use Rattle.std.specs.Int.{w64}
 use Rattle.std.specs.List.{AllByRecursion}
 use Rattle.std.proofs.lemmas.Int.{fits_signed_from_abs}
+use Rattle.std.proofs.lemmas.Bool.{not-false}
+use Rattle.ca_lists.proofs.Places.{all_append}
 use Rattle.ca_tree.specs.declared.name.Place.{Place}
 use Rattle.ca_tree.specs.declared.tree.TypeNode.{TypeNode}
 use Rattle.ca_tree.specs.declared.tree.AssignOp.{AssignOp}
@@ -24,8 +26,8 @@ use Rattle.ca_resolve.specs.Values.{place_of, in_order, judge_found, judge_value
 use Rattle.ca_types.specs.Rules.{local_once, condition_agrees, printed_agrees, compound_agrees, writes_no_field, called_operation, creates_nothing, prints_nothing, return_stands, local_limit, is_own, has_text}
 use Rattle.ca_types.specs.Statements.{Env, enter_block, leave_block, counted, declare, behind, behind_all, class_defined, judge_type, type_of, Source, of_value, of_new, creates, judge_wanted, new_agrees, judge_right, put, judge_put_target, right_ty, judge_assign, start_value, judge_start, start_creates, judge_local, judge_call_statement, judge_condition, judge_return, judge_printed, judge_print, nothing, first_part, statements_in, judge_statement, judge_statements}
 use Rattle.ca_typing.proofs.Fits.{NumbersFit, RightFits, StartFits, StatementFits, StatementsFit}
-use Rattle.ca_typing.proofs.Lists.{Begins, begins_itself, begins_through, item_there, all_append}
-use Rattle.ca_typing.proofs.Judging.{same_fine, within_fine, made_fine, both_fine, unless_fine, none_broken, beside_fine, not_broken, not_not, kept, for_fine, if_fine}
+use Rattle.ca_typing.proofs.Lists.{Begins, begins_itself, begins_through, item_there}
+use Rattle.ca_typing.proofs.Judging.{same_fine, within_fine, made_fine, both_fine, unless_fine, none_broken, beside_fine, not_broken, kept, for_fine, if_fine}
 use Rattle.ca_typing.proofs.Types.{Holds, Declared, declared_holds, class_found, type_declared, one_type, long_type, truth_type, text_type}
 use Rattle.ca_typing.proofs.Values.{ScopeTyped, MeaningTyped, FoundTyped, own_class, value_fits, found_typed, value_typed, call_typed}
 
@@ -192,17 +194,17 @@ module _ (p : PlainProgram) (q : TypesOf) where
         let r = right_typed t.1 (TargetTyped t.0) right source at holds fits n h in
         put_typed line t.0 Put source r.0 own r.1 r.2 tt
     assigned_typed line t Add right source at place holds own k fits n h =
-        compound_typed line t Add right source at holds own (not_not (is_long t.1) (not_broken (not (is_long t.1)) place TYPES_DISAGREE k)) refl fits n h
+        compound_typed line t Add right source at holds own (not-false (is_long t.1) (not_broken (not (is_long t.1)) place TYPES_DISAGREE k)) refl fits n h
     assigned_typed line t Sub right source at place holds own k fits n h =
-        compound_typed line t Sub right source at holds own (not_not (is_long t.1) (not_broken (not (is_long t.1)) place TYPES_DISAGREE k)) refl fits n h
+        compound_typed line t Sub right source at holds own (not-false (is_long t.1) (not_broken (not (is_long t.1)) place TYPES_DISAGREE k)) refl fits n h
     assigned_typed line t Mul right source at place holds own k fits n h =
-        compound_typed line t Mul right source at holds own (not_not (is_long t.1) (not_broken (not (is_long t.1)) place TYPES_DISAGREE k)) refl fits n h
+        compound_typed line t Mul right source at holds own (not-false (is_long t.1) (not_broken (not (is_long t.1)) place TYPES_DISAGREE k)) refl fits n h
     assigned_typed line t BitAnd right source at place holds own k fits n h =
-        compound_typed line t BitAnd right source at holds own (not_not (is_long t.1) (not_broken (not (is_long t.1)) place TYPES_DISAGREE k)) refl fits n h
+        compound_typed line t BitAnd right source at holds own (not-false (is_long t.1) (not_broken (not (is_long t.1)) place TYPES_DISAGREE k)) refl fits n h
     assigned_typed line t BitOr right source at place holds own k fits n h =
-        compound_typed line t BitOr right source at holds own (not_not (is_long t.1) (not_broken (not (is_long t.1)) place TYPES_DISAGREE k)) refl fits n h
+        compound_typed line t BitOr right source at holds own (not-false (is_long t.1) (not_broken (not (is_long t.1)) place TYPES_DISAGREE k)) refl fits n h
     assigned_typed line t BitXor right source at place holds own k fits n h =
-        compound_typed line t BitXor right source at holds own (not_not (is_long t.1) (not_broken (not (is_long t.1)) place TYPES_DISAGREE k)) refl fits n h
+        compound_typed line t BitXor right source at holds own (not-false (is_long t.1) (not_broken (not (is_long t.1)) place TYPES_DISAGREE k)) refl fits n h
 
     assign_typed : (at : Place) (target : Expression) (op : AssignOp) (right : RightSide) (x : program.Statement) → NumbersFit target → RightFits right
         → judge_assign c at (judge_put_target c op target) op right ≡ fine x → StatementTyped p q x

@@ -1,5 +1,5 @@
 -- Types of values, and those of the resolved program.
-use Rattle.std.proofs.Common.{◌≡◌, ℕ, List, Bool, true, false, refl, sym, subst, ap, ◌∙◌, inl, inr}
+use Rattle.std.proofs.Common.{◌≡◌, ℕ, List, true, refl, sym, subst, ap, ◌∙◌, inl, inr}
 use Rattle.std.specs.Prelude.{Some, ◌&&◌, ◌⊎◌}
 use Rattle.ca_tree.specs.declared.tree.UnaryOp.{UnaryOp}
 use Rattle.ca_tree.specs.declared.tree.UnaryOp.TheVariants as sign
@@ -18,7 +18,7 @@ use Rattle.ca_resolve.specs.Rules.{is_long, is_truth, can_hold, can_compare, tak
 use Rattle.ca_types.specs.Statements.{class_defined, judge_type, type_of}
 use Rattle.ca_types.specs.Rules.{has_text}
 use Rattle.ca_typing.proofs.Judging.{same_fine, made_fine, found_fine}
-use Rattle.std.proofs.lemmas.Bool.{eqb-true}
+use Rattle.std.proofs.lemmas.Bool.{eqb-true, and_parts}
 
 -- what is said of the program's type of the values; `nullptr` has the type of each pointer
 abbrev pub Holds : Ty → (ValueType → Type 0) → Type 0
@@ -81,10 +81,6 @@ pub truth_type : (t : Ty) (P : ValueType → Type 0) → Holds t P → is_truth 
 truth_type truth P p h = p
 truth_type t P p h = absurd (first_of (assumption, cc))
 
-pub and_both : (a b : Bool) → a && b ≡ true → (a ≡ true) × (b ≡ true)
-and_both true b h = (refl, h)
-and_both false b h = absurd (cc)
-
 pub text_type : (t : Ty) (P : ValueType → Type 0) → Holds t P → has_text t ≡ true → P LongValue ⊎ P TruthValue
 text_type long P p h = inl p
 text_type truth P p h = inr p
@@ -103,10 +99,10 @@ compared (pointer c) b P Q p q h = one_type (pointer c) b P Q p q h
 compared (undefined n) b P Q p q h = absurd p
 
 both_long : (a b : Ty) (P Q : ValueType → Type 0) → Holds a P → Holds b Q → is_long a && is_long b ≡ true → P LongValue × Q LongValue
-both_long a b P Q p q h = let w = and_both (is_long a) (is_long b) h in (long_type a P p w.0, long_type b Q q w.1)
+both_long a b P Q p q h = let w = and_parts (is_long a) (is_long b) h in (long_type a P p w.0, long_type b Q q w.1)
 
 both_truth : (a b : Ty) (P Q : ValueType → Type 0) → Holds a P → Holds b Q → is_truth a && is_truth b ≡ true → P TruthValue × Q TruthValue
-both_truth a b P Q p q h = let w = and_both (is_truth a) (is_truth b) h in (truth_type a P p w.0, truth_type b Q q w.1)
+both_truth a b P Q p q h = let w = and_parts (is_truth a) (is_truth b) h in (truth_type a P p w.0, truth_type b Q q w.1)
 
 -- what an operator takes has the type of its sides
 pub sides_typed : (op : BinaryOp) (a b : Ty) (P Q : ValueType → Type 0) → Holds a P → Holds b Q → takes_binary op a b ≡ true

@@ -2,8 +2,9 @@
 use Rattle.std.proofs.Common.{◌≡◌, ℕ, zero, suc, ◌+◌, List, [], ◌∷◌, ◌++◌, Bool, true, false, cond, length, refl, sym, subst, ap, ◌∙◌, arith}
 use Rattle.std.specs.Prelude.{Some, slice_get}
 use Rattle.std.specs.List.{AllByRecursion, position_from}
-use Rattle.std.proofs.lemmas.List.{append-nil}
+use Rattle.std.proofs.lemmas.List.{append-nil, length_push}
 use Rattle.std.proofs.lemmas.Option.{same_Some}
+use Rattle.ca_lists.proofs.Places.{all_append}
 use Rattle.ca_tree.specs.Plain.{ClassTree, TextTree}
 use Rattle.ca_program.specs.declared.program.ClassId.{ClassId}
 use Rattle.ca_program.specs.Plain as program
@@ -18,7 +19,7 @@ use Rattle.ca_types.specs.Classes.{Members, no_members, behind_member, behind_me
 use Rattle.ca_types.specs.clauses.Adding.{gathered, add_member, with_class, add_class}
 use Rattle.ca_types.proofs.Gathered.{members_gathered, classes_gathered}
 use Rattle.ca_typing.proofs.Fits.{ClassFits, LiteralsFit}
-use Rattle.ca_typing.proofs.Lists.{Begins, begins_itself, begins_through, item_there, one_longer, all_append, all_at}
+use Rattle.ca_typing.proofs.Lists.{Begins, begins_itself, begins_through, item_there, all_at}
 use Rattle.ca_typing.proofs.Judging.{same_fine, within_fine, made_fine, both_fine, unless_fine, beside_fine, gathered_fine}
 use Rattle.ca_typing.proofs.Values.{MeaningTyped, ClassesTyped}
 use Rattle.ca_typing.proofs.Statements.{Stands, from_none, in_order_typed, statements_typed}
@@ -129,7 +130,7 @@ module _ (p : PlainProgram) where
       → Counted (behind_class c t) b
   counted_next c a b t m n e k =
       let next : Counted (behind_class c t) (with_class a t.name m) =
-      record { classes = one_longer a.classes (record { name = t.name; fields = m.fields }) ∙ ap (λ i. i + 1) n.classes; ops = k.ops; functions = k.functions } in
+      record { classes = length_push a.classes (record { name = t.name; fields = m.fields }) ∙ ap (λ i. i + 1) n.classes; ops = k.ops; functions = k.functions } in
       subst (Counted (behind_class c t)) e next
 
   -- what names mean is typed, from a class on

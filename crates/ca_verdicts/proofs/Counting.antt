@@ -1,19 +1,17 @@
 -- How often something is demanded, summed from the left, and where that is too heavy.
 use Rattle.std.proofs.Common.{◌≡◌, ℕ, ◌+◌, ◌<◌, ◌≤◌, pos, Bool, true, false, List, [], ◌∷◌, ◌++◌, length, map, drop, Option, Some, None, Result, Ok, Err, refl, sym, ap, ◌∙◌, arith, subst, slice_index_or, is_eq}
-use Rattle.std.specs.Prelude.{◌==◌, IfOk, IfSome, IfNone, IsTrue, if◌then◌else◌}
+use Rattle.std.specs.Prelude.{◌==◌, IfOk, IfSome, IfNone, if◌then◌else◌}
 use Rattle.std.proofs.lemmas.List.{at_drop_more, drop_all}
 use Rattle.ca_norm.specs.Terms.{PlainTerm, number, add}
 use Rattle.ca_shared_terms.specs.Heavy.{is_heavy}
 use Rattle.ca_shared_terms.specs.declared.errors.ExecutionError.{ExecutionError}
 use Rattle.ca_shared_terms.specs.declared.errors.ExecutionError.TheVariants.{Large}
 use Rattle.ca_shared_terms.proofs.Heavier.{add_left, add_right}
-use Rattle.ca_order.specs.OrderSame.{OrderSame}
-use Rattle.ca_symbolic.specs.declared.demand.Demand.{Demand}
 use Rattle.ca_symbolic.specs.declared.demand.Group.{Group}
 use Rattle.ca_symbolic.specs.States.{PlainDemand}
 use Rattle.ca_symbolic.specs.Demanded.{demand_of, demands_of}
 use Rattle.ca_verdicts.specs.Keys.{Key, key_of, key_cmp}
-use Rattle.ca_verdicts.specs.Counts.{counted, conditions_of, counted_onto, count_of, LightOrderSame}
+use Rattle.ca_verdicts.specs.Counts.{counted, conditions_of, counted_onto, count_of}
 
 -- What a maker tells, or that the term is too heavy.
 module _ {E : Type 0} (r : Result (Option PlainTerm) E) (m : Result PlainTerm ExecutionError) (x : PlainTerm) where

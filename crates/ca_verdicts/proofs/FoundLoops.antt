@@ -4,12 +4,12 @@ use Rattle.std.specs.Prelude.{slice_get, Contains, if◌then◌else◌}
 use Rattle.std.specs.Option.{option_or}
 use Rattle.std.proofs.lemmas.Bool.Decides.{nat_tests}
 use Rattle.std.proofs.lemmas.List.Elements.{Contains-push, Contains-push_cases, Contains-append_left, Contains-append_right, Contains-append_cases}
+use Rattle.ca_lists.proofs.Members.{has_nothing}
 use Rattle.ca_program.specs.declared.program.LoopId.{LoopId}
 use Rattle.ca_program.specs.Plain.{PlainProgram, PlainMethod, Statement, block, put_local, put_field, put_item, new_local, new_field, new_item, invoke, if_else, while_loop, for_loop, return_value, print_value}
 use Rattle.ca_parallel.specs.Bodies.{fors_in_all}
 use Rattle.ca_parallel.specs.Lists.{has_site}
 use Rattle.ca_parallel.specs.Marks.{HasSite}
-use Rattle.ca_section.proofs.Members.{none}
 use Rattle.ca_symbolic_laws.specs.Demanded.{LoopPlace, loop_among, loop_at}
 use Rattle.ca_verdicts.proofs.Sound.{LoopsFound}
 
@@ -39,7 +39,7 @@ pub at_head : (y x : Statement) (ys : List Statement) → Contains (y ∷ ys) x 
 at_head y x ys c = split (Contains-append_cases (y ∷ []) ys x c)
   where
     head : Contains [] x ⊎ (y ≡ x) → (y ≡ x) ⊎ Contains ys x
-    head (inl i) = absurd (none x i)
+    head (inl i) = absurd (has_nothing x i)
     head (inr i) = inl i
 
     split : Contains (y ∷ []) x ⊎ Contains ys x → (y ≡ x) ⊎ Contains ys x
@@ -53,7 +53,7 @@ later : (y x : Statement) (ys : List Statement) → Contains ys x → Contains (
 later y x ys c = Contains-append_right (y ∷ []) ys x c
 
 among_found : (n : ℕ) (id : LoopId) (x : Statement) (xs : List Statement) → Contains xs x → HasSite x id → ((y : Statement) → Contains xs y → HasSite y id → y ≡ x) → loop_among n id xs ≡ place x n
-among_found n id x [] c s one = absurd (none x c)
+among_found n id x [] c s one = absurd (has_nothing x c)
 among_found n id x (y ∷ ys) c s one = at (has_site y id) refl (at_head y x ys c) (λ d. among_found n id x ys d s (λ z k t. one z (later y z ys k) t))
   where
     at : (b : Bool) → has_site y id ≡ b → (y ≡ x) ⊎ Contains ys x → (Contains ys x → loop_among n id ys ≡ place x n) → (if b then place y n else loop_among n id ys) ≡ place x n

@@ -27,7 +27,7 @@ use Rattle.ca_verdicts.specs.Demands.{conditions, demanded_at}
 use Rattle.ca_verdicts.specs.Counts.{SameDemand, SameDemands}
 use Rattle.ca_verdicts.specs.clauses.Marks.{key_at, mark_if, marks_of, marks_in, same_side, marks_at, found, if_side, products_at, summed_up, condition_of, IsSame, AreSame, EachMarked}
 use Rattle.ca_verdicts.proofs.Conditions.{keys_exact}
-use Rattle.ca_order.proofs.Meant.{tied}
+use Rattle.ca_folds.proofs.Rising.{eq_true as tied}
 
 -- Sums of the same totals
 

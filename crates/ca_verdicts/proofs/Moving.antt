@@ -1,6 +1,6 @@
 -- A pair that raises one field, or lowers it, has the verdict Commutes.
-use Rattle.std.proofs.Common.{inl, inr, ◌≡◌, ◌<◌, ℕ, zero, suc, ◌+◌, ◌*◌, ◌≤◌, Bool, true, false, List, [], ◌∷◌, ◌++◌, length, map, take, drop, Option, Some, None, refl, sym, ap, ap₂, ◌∙◌, arith, subst, slice_set, append-nil}
-use Rattle.std.specs.Prelude.{slice_get, nat_eq, nat_lt, ◌||◌, flat_map}
+use Rattle.std.proofs.Common.{inl, inr, ◌≡◌, ◌<◌, ℕ, zero, suc, ◌+◌, ◌*◌, ◌≤◌, Bool, true, false, List, [], ◌∷◌, ◌++◌, length, map, take, drop, Option, Some, None, refl, sym, ap, ap₂, ◌∙◌, arith, subst, slice_set, append-nil, length-set, set-set}
+use Rattle.std.specs.Prelude.{slice_get, nat_eq, ◌||◌, flat_map}
 use Rattle.std.specs.Option.{option_or}
 use Rattle.std.specs.List.{list_any}
 use Rattle.std.proofs.lemmas.Bool.Decides.{nat_tests}
@@ -39,8 +39,7 @@ use Rattle.ca_verdicts.specs.Verdicts.{SameField, SameFields, VerdictOf}
 use Rattle.ca_verdicts.specs.MovingPairs.{IsLimit, a_number, a_parameter, IsPut, put, in_block, IsPast, IsMoving, IsLong, IsMovingPair}
 use Rattle.ca_verdicts.specs.MovingPairs as pair
 use Rattle.ca_plain_laws.proofs.Kept.{set_there}
-use Rattle.ca_symbolic_laws.proofs.Choices.{set_length}
-use Rattle.ca_sweep.proofs.Tables.{set_twice}
+use Rattle.ca_plain_laws.proofs.Weights.{not_above}
 
 -- the field is to be moved to the limit, up or down
 abbrev past : Bool → Bool → PlainTerm → PlainTerm → PlainTerm
@@ -216,9 +215,6 @@ one_target P n (suc i) x (t ∷ ts) l h =
 
 -- Weights
 
-not_above : (n : ℕ) → n ≤ 65536 → nat_lt 65536 n ≡ false
-not_above n l = grind (arith, nat_tests)
-
 pub record Measured (t : PlainTerm) (s n d : ℕ) : Type 0 where
   pub spread_is : spread t ≤ s
   pub nodes_is : nodes t ≤ n
@@ -362,13 +358,13 @@ module _ (p : PlainProgram) (f : FieldId) (ts : List PlainTerm) (inside : f.fiel
   between = slice_set ts f.field first
 
   inside_then : f.field < length between
-  inside_then = subst (λ k. f.field < k) (sym (set_length ts f.field first)) inside
+  inside_then = subst (λ k. f.field < k) (sym (length-set ts f.field first)) inside
 
   both_fields : (executed p b h (executed p a g ts).fields).fields ≡ slice_set ts f.field (moved up y.strict first (point_term (limit_point h y.is_limit)))
   both_fields =
       ap (λ z. (executed p b h z).fields) (executed_is p m g f up x ts inside a at)
       ∙ executed_is p n h f up y between inside_then b bt
-      ∙ set_twice ts f.field first (moved up y.strict (term_at between f.field) (point_term (limit_point h y.is_limit)))
+      ∙ set-set ts f.field first (moved up y.strict (term_at between f.field) (point_term (limit_point h y.is_limit)))
       ∙ ap (λ z. slice_set ts f.field (moved up y.strict z (point_term (limit_point h y.is_limit)))) (set_there ts f.field first inside)
 
   both_demands : demanded_by p a g ts ++ demanded_by p b h (executed p a g ts).fields ≡ []

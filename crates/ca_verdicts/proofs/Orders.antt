@@ -1,7 +1,6 @@
 -- Two operations whose orders look the same commute, where their sections are what symbolic execution says of them.
-use Rattle.std.proofs.Common.{◌≡◌, ℕ, ◌+◌, ◌≤◌, Bool, true, false, List, ◌++◌, Option, Some, None, refl, sym, ap, ap₂, ◌∙◌, arith, subst}
+use Rattle.std.proofs.Common.{◌≡◌, ℕ, ◌+◌, ◌≤◌, Bool, true, false, List, ◌++◌, Option, Some, None, refl, sym, ap, ap₂, ◌∙◌, arith, subst, leb-true, le-leb}
 use Rattle.std.specs.Prelude.{nat_le}
-use Rattle.std.proofs.lemmas.Bool.Decides.{nat_tests}
 use Rattle.ca_program.specs.declared.program.ClassId.{ClassId}
 use Rattle.ca_program.specs.declared.program.OpId.{OpId}
 use Rattle.ca_program.specs.Plain.{PlainProgram}
@@ -22,6 +21,8 @@ use Rattle.ca_symbolic_laws.proofs.Demands.{cost_append, lists_append}
 use Rattle.ca_symbolic.specs.Runs.{executed, demanded_by}
 use Rattle.ca_verdicts.proofs.Looks.{met}
 use Rattle.ca_verdicts.proofs.Multisets.{cost_same, lists_same}
+use Rattle.ca_symbolic_laws.proofs.Bounded.{le_of}
+use Rattle.ca_symbolic_laws.proofs.SweepMeans.{le_of as le_to}
 
 -- Outcomes within budgets
 
@@ -29,12 +30,6 @@ done_of : (s : Sectioned) (m : Outcome) → outcome_of s ≡ Some m → s ≡ do
 done_of (done n) m e = let z : n ≡ m = cc in ap done z
 done_of (stopped t) m e = cc
 done_of over m e = cc
-
-le_of : (n k : ℕ) → nat_le n k ≡ true → n ≤ k
-le_of n k e = grind (arith, nat_tests)
-
-le_to : (n k : ℕ) → n ≤ k → nat_le n k ≡ true
-le_to n k e = grind (arith, nat_tests)
 
 -- a cost within a budget, and the outcome
 record Paid (cs : Option ℕ) (k : ℕ) (f : ℕ → Outcome) (m : Outcome) : Type 0 where
@@ -48,11 +43,11 @@ paid_of None k f m e = cc
 paid_of (Some n) k f m e = at (nat_le (1 + n) k) refl e
   where
     at : (b : Bool) → nat_le (1 + n) k ≡ b → if_within b (Some (f (1 + n))) ≡ Some m → Paid (Some n) k f m
-    at true d e = record { n = n; is = refl; fits = le_of (1 + n) k d; left = let z : f (1 + n) ≡ m = cc in sym z }
+    at true d e = record { n = n; is = refl; fits = leb-true (1 + n) k d; left = let z : f (1 + n) ≡ m = cc in sym z }
     at false d e = cc
 
 pay : (cs : Option ℕ) (n k : ℕ) (f : ℕ → Outcome) → cs ≡ Some n → 1 + n ≤ k → within (plus (Some 1) cs) k f ≡ Some (f (1 + n))
-pay cs n k f e l = ap (λ z. within (plus (Some 1) z) k f) e ∙ ap (λ b. if_within b (Some (f (1 + n)))) (le_to (1 + n) k l)
+pay cs n k f e l = ap (λ z. within (plus (Some 1) z) k f) e ∙ ap (λ b. if_within b (Some (f (1 + n)))) (le-leb (1 + n) k l)
 
 sums : (c d : Option ℕ) (i j : ℕ) → plus c d ≡ Some (i + j) → (x : ℕ) × (y : ℕ) × (c ≡ Some x) × (d ≡ Some y) × (x + y ≡ i + j)
 sums None d i j e = cc

@@ -1,5 +1,5 @@
 -- The verdict on a plain pair is that it commutes.
-use Rattle.std.proofs.Common.{◌≡◌, ℕ, ◌+◌, List, ◌++◌, false, Result, Ok, Err, IfOk, sym, ap, ap₂, ◌∙◌, arith}
+use Rattle.std.proofs.Common.{◌≡◌, ◌+◌, List, ◌++◌, false, Result, Ok, Err, IfOk, sym, ap, ap₂, ◌∙◌}
 use Rattle.std.specs.Prelude.{◌||◌, slice_get}
 use Rattle.std.specs.Option.{option_or}
 use Rattle.ca_program.specs.declared.program.FieldId.{FieldId}
@@ -8,7 +8,7 @@ use Rattle.ca_program.specs.Plain.{PlainProgram}
 use Rattle.ca_sums.specs.Sums.{total}
 use Rattle.ca_sums.proofs.Algebra.{alike_eq, total_append}
 use Rattle.ca_forms.specs.Rules.{gathered}
-use Rattle.ca_forms.proofs.Gathered.{gathered_same}
+use Rattle.ca_forms.proofs.Gathered.{gathered_same, add_flip as flip}
 use Rattle.ca_symbolic.specs.States.{PlainDemand}
 use Rattle.ca_symbolic.specs.Runs.{demanded_by}
 use Rattle.ca_plain_laws.specs.PlainPairs.{IsPlainPair}
@@ -26,9 +26,6 @@ use Rattle.ca_verdicts.specs.Laws.{SameVerdict}
 use Rattle.ca_verdicts.proofs.FormsSame.{none_lost}
 use Rattle.ca_verdicts.proofs.MarkSums.{conditions_append}
 use Rattle.ca_verdicts.proofs.Unique.{same_verdict}
-
-flip : (m n : ℕ) → m + n ≡ n + m
-flip m n = omega arith
 
 -- demands of two operations, in either order
 demands_flip : (k : Key) (ds es : List PlainDemand) → demanded_at k (ds ++ es) ≡ demanded_at k (es ++ ds)

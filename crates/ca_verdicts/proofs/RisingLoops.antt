@@ -2,12 +2,12 @@
 use Rattle.std.proofs.Common.{◌≡◌, ℕ, zero, suc, ◌<◌, ◌⊎◌, inl, inr, List, [], ◌∷◌, ◌++◌, Some, refl, sym, ap, ◌∙◌, arith, subst}
 use Rattle.std.specs.Prelude.{slice_get, flat_map, Contains}
 use Rattle.std.proofs.lemmas.List.Elements.{Contains-append_left, Contains-append_right, Contains-append_cases}
+use Rattle.ca_lists.proofs.Members.{has_nothing}
 use Rattle.ca_program.specs.declared.program.LoopId.{LoopId}
 use Rattle.ca_program.specs.Plain.{PlainProgram, PlainMethod, Statement, Statements, block, put_local, put_field, put_item, new_local, new_field, new_item, invoke, if_else, while_loop, for_loop, return_value, print_value, no_statements, statement_and}
 use Rattle.ca_parallel.specs.Bodies.{fors_in, fors_in_all}
 use Rattle.ca_parallel.specs.ExtentsOf.{Rises}
 use Rattle.ca_parallel.specs.Marks.{HasSite, loops_of_method, loops_of_program}
-use Rattle.ca_section.proofs.Members.{none}
 use Rattle.ca_parallel.specs.Numbered.{LoopBefore}
 use Rattle.ca_verdicts.proofs.FoundLoops.{Apart, at_head, here}
 
@@ -20,7 +20,7 @@ abbrev AllSited : List Statement → Type 0
 AllSited xs = (x : Statement) → Contains xs x → Sited x
 
 none_sited : AllSited []
-none_sited x c = absurd (none x c)
+none_sited x c = absurd (has_nothing x c)
 
 both_sited : (xs ys : List Statement) → AllSited xs → AllSited ys → AllSited (xs ++ ys)
 both_sited xs ys h k x c = at (Contains-append_cases xs ys x c)
@@ -67,7 +67,7 @@ rest_rises x xs r = record { rises = λ n y z e f. r.rises (suc n) y z e f }
 
 -- the first of rising loops is before all others
 first_least : (x : Statement) (xs : List Statement) → Rises LoopBefore (x ∷ xs) → AllSited xs → (y : Statement) → Contains xs y → LoopBefore x y
-first_least x [] r s y c = absurd (none y c)
+first_least x [] r s y c = absurd (has_nothing y c)
 first_least x (z ∷ zs) r s y c = at (at_head z y zs c) (λ d. first_least z zs (rest_rises x (z ∷ zs) r) (λ w e. s w (Contains-append_right (z ∷ []) zs w e)) y d)
   where
     next : LoopBefore x z
@@ -83,7 +83,7 @@ first_least x (z ∷ zs) r s y c = at (at_head z y zs c) (λ d. first_least z zs
 
 -- loops in front are before those behind
 front_before : (xs ys : List Statement) → Rises LoopBefore (xs ++ ys) → AllSited (xs ++ ys) → (x y : Statement) → Contains xs x → Contains ys y → LoopBefore x y
-front_before [] ys r s x y c d = absurd (none x c)
+front_before [] ys r s x y c d = absurd (has_nothing x c)
 front_before (z ∷ xs) ys r s x y c d = at (at_head z x xs c) (λ e. front_before xs ys (rest_rises z (xs ++ ys) r) tail x y e d)
   where
     tail : AllSited (xs ++ ys)
@@ -97,7 +97,7 @@ front_before (z ∷ xs) ys r s x y c d = at (at_head z x xs c) (λ e. front_befo
     at (inr e) f = f e
 
 front_rises : (xs ys : List Statement) → Rises LoopBefore (xs ++ ys) → AllSited (xs ++ ys) → (x y : Statement) (id : LoopId) → Contains xs x → Contains xs y → HasSite x id → HasSite y id → x ≡ y
-front_rises [] ys r s x y id c d h k = absurd (none x c)
+front_rises [] ys r s x y id c d h k = absurd (has_nothing x c)
 front_rises (z ∷ xs) ys r s x y id c d h k = at (at_head z x xs c) (at_head z y xs d) (λ e f. front_rises xs ys (rest_rises z (xs ++ ys) r) tail x y id e f h k)
   where
     tail : AllSited (xs ++ ys)

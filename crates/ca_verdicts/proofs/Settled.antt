@@ -10,6 +10,7 @@ use Rattle.ca_forms.specs.Plain.{PlainPolynomial}
 use Rattle.ca_forms.specs.Rules.{gathered}
 use Rattle.ca_verdicts.specs.declared.marks.Marks.{Marks}
 use Rattle.ca_verdicts.specs.clauses.Marks.{summed_up, IsSettled, AllSettled}
+use Rattle.ca_sums.proofs.Rows.{then_equal as then_tied}
 
 abbrev pub mark_cmp : ℕ × ℕ → ℕ × ℕ → Ordering
 mark_cmp a b = ordering_then (nat_cmp a.0 b.0) (nat_cmp a.1 b.1)
@@ -23,11 +24,6 @@ both_tied Equal Less e = cc
 both_tied Equal Equal e = (refl, refl)
 both_tied Equal Greater e = cc
 both_tied Greater p e = cc
-
-then_tied : (o p : Ordering) → ordering_then o p ≡ Equal → (o ≡ Equal) × (p ≡ Equal)
-then_tied Less p e = cc
-then_tied Equal p e = (refl, e)
-then_tied Greater p e = cc
 
 marks_exact : (xs ys : List (ℕ × ℕ)) → slice_cmp mark_cmp xs ys ≡ Equal → xs ≡ ys
 marks_exact [] [] e = refl

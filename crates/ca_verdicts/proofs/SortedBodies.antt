@@ -28,8 +28,9 @@ use Rattle.ca_symbolic.specs.Execution.{sort_in, sort_of_result, divisor, term_o
 use Rattle.ca_symbolic.specs.Execution as execution
 use Rattle.ca_symbolic.specs.Demands.{terms_in, right_guard, demands_in, demands_in_all, picked, loop_reads, demanded_loop, demanded, demanded_all}
 use Rattle.ca_verdicts.proofs.MetDemands.{DemandsSorted}
-use Rattle.ca_verdicts.proofs.Sorts.{IsGood, own_sort, ArraysSorted, AllGood, at_place, set_good, mapped, slot_sort, scalar_at, InfoAt, scalar_info, array_info, read_sort, result_sort, same_class, divisor_fits, good, operation_good, signed_good, guard_good, put_good, both_sorted}
-use Rattle.ca_symbolic_laws.proofs.Runs.{sort_array}
+use Rattle.ca_verdicts.proofs.Sorts.{IsGood, own_sort, ArraysSorted, AllGood, at_place, set_good, mapped, slot_sort, scalar_at, InfoAt, scalar_info, array_info, read_sort, divisor_fits, good, operation_good, signed_good, guard_good, put_good, both_sorted}
+use Rattle.ca_symbolic_laws.proofs.Runs.{sort_array, sort_function as result_sort}
+use Rattle.ca_symbolic_laws.proofs.Terms.{class_same as same_class}
 
 -- a state of the class whose fields have these sorts, where the locals have these types
 pub record StateGood (fields : List Sort) (locals : List ValueType) (st : State) : Type 0 where

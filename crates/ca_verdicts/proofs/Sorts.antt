@@ -1,21 +1,20 @@
 -- The terms that a typed operation makes are well sorted, and each has the sort of its field or local.
-use Rattle.std.proofs.Common.{◌≡◌, ◌≢◌, ℕ, zero, suc, ◌+◌, ℤ, pos, neg_ℤ, ◌-ℤ◌, true, false, List, [], ◌∷◌, ◌++◌, map, take, drop, Option, Some, None, refl, sym, ap, ◌∙◌, arith, subst, slice_set, w64}
+use Rattle.std.proofs.Common.{◌≡◌, ◌≢◌, ℕ, zero, suc, ◌+◌, ℤ, pos, neg_ℤ, true, false, List, [], ◌∷◌, ◌++◌, map, take, drop, Option, Some, None, refl, sym, ap, ◌∙◌, arith, subst, slice_set, w64}
 use Rattle.std.specs.Prelude.{slice_get, FitsSigned, IsSome}
 use Rattle.std.specs.Int.{int_wrap}
-use Rattle.std.proofs.lemmas.Int.{int_wrap_fits, int_wrap-sub_right, ints, SFits-int_wrap}
+use Rattle.std.proofs.lemmas.Int.{SFits-int_wrap}
 use Rattle.ca_tree.specs.declared.tree.AssignOp.{AssignOp}
 use Rattle.ca_tree.specs.declared.tree.AssignOp.TheVariants as assign
 use Rattle.ca_tree.specs.declared.tree.BinaryOp.{BinaryOp}
 use Rattle.ca_tree.specs.declared.tree.BinaryOp.TheVariants.{Or, And, Equal, NotEqual, Less, Greater, LessEqual, GreaterEqual, Plus, Minus, Times, Divide, Remainder, BitAnd, BitOr, BitXor, Max, Min}
 use Rattle.ca_tree.specs.declared.tree.UnaryOp.{UnaryOp}
 use Rattle.ca_tree.specs.declared.tree.UnaryOp.TheVariants as sign
-use Rattle.ca_program.specs.declared.program.ClassId.{ClassId}
 use Rattle.ca_program.specs.declared.program.FieldInfo.{FieldInfo}
 use Rattle.ca_program.specs.declared.program.ValueType.{ValueType}
 use Rattle.ca_program.specs.declared.program.ValueType.TheVariants as type
-use Rattle.ca_program.specs.Plain.{PlainProgram, PlainMethod, Expression, unary}
+use Rattle.ca_program.specs.Plain.{PlainProgram, Expression, unary}
 use Rattle.ca_program.specs.Plain as plain
-use Rattle.ca_meaning.specs.ProgramTyped.{Scope, IsArray, SidesTyped, signed_type, IsFunction, ExpressionTyped, AssignTyped}
+use Rattle.ca_meaning.specs.ProgramTyped.{Scope, IsArray, SidesTyped, signed_type, ExpressionTyped, AssignTyped}
 use Rattle.ca_meaning.specs.ProgramTyped as typing
 use Rattle.ca_parallel.specs.Separable.{IsNonzeroLiteral, MayStandRight}
 use Rattle.ca_forms.specs.declared.sort.Sort.{Sort}
@@ -23,10 +22,10 @@ use Rattle.ca_forms.specs.declared.sort.Sort.TheVariants.{Long, Bool as Truth, L
 use Rattle.ca_norm.specs.Terms.{PlainTerm, choose, select, put, add_at, sweep, sort_of, IsScalar, IsOf}
 use Rattle.ca_shared_terms.specs.Starts.{sort_of_type, sort_of_array, sort_of_slot, starts}
 use Rattle.ca_symbolic.specs.States.{PlainDemand, term_at, start_term, parameters}
-use Rattle.ca_symbolic.specs.Execution.{sort_in, sort_of_result, divisor, operation, signed_term, put_term}
-use Rattle.ca_symbolic.specs.Execution as execution
+use Rattle.ca_symbolic.specs.Execution.{sort_in, divisor, operation, signed_term, put_term}
 use Rattle.ca_symbolic.specs.Demands.{right_guard}
 use Rattle.ca_verdicts.proofs.MetDemands.{DemandsSorted}
+use Rattle.ca_symbolic_laws.proofs.Operators.{negated_zero}
 
 -- a well sorted term of the sort
 pub record IsGood (s : Sort) (t : PlainTerm) : Type 0 where
@@ -128,22 +127,7 @@ pub read_sort : (o : Option FieldInfo) (ty : ValueType) → typing.IsScalar o ty
 read_sort None ty i = absurd i
 read_sort (Some f) ty i = ap sort_of_type i.0
 
-pub result_sort : (o : Option PlainMethod) (c : ClassId) (tys : List ValueType) (ty : ValueType) → IsFunction o c tys ty → sort_of_result o ≡ sort_of_type ty
-result_sort None c tys ty i = absurd i
-result_sort (Some m) c tys ty i = ap execution.sort_of_given i.2
-
-pub same_class : (c d : ClassId) → Some c ≡ Some d → c ≡ d
-same_class c d e = cc
-
 -- Divisors
-
-twice_negated : (n : ℤ) → n ≡ pos 0 -ℤ neg_ℤ n
-twice_negated n = omega (arith, ints)
-
-negated_zero : (n : ℤ) → FitsSigned w64 n → int_wrap w64 (neg_ℤ n) ≡ pos 0 → n ≡ pos 0
-negated_zero n f e =
-    sym (int_wrap_fits w64 n f) ∙ ap (int_wrap w64) (twice_negated n) ∙ sym (int_wrap-sub_right w64 (pos 0) (neg_ℤ n))
-    ∙ ap (λ z. int_wrap w64 (pos 0 -ℤ z)) e ∙ int_wrap_fits w64 (pos 0) (record { sfits = omega arith })
 
 -- a number other than 0
 pub record Divisor (o : Option ℤ) : Type 0 where

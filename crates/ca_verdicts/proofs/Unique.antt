@@ -1,7 +1,7 @@
 -- A pair has one verdict, but for which of the demands that differ is told.
-use Rattle.std.proofs.Common.{◌≡◌, ℕ, zero, suc, ◌<◌, ◌⊎◌, inl, inr, Bool, true, false, List, [], ◌∷◌, take, Option, Some, None, refl, ap, ap₂, sym, ◌∙◌, arith, subst}
+use Rattle.std.proofs.Common.{◌≡◌, ℕ, zero, suc, ◌<◌, ◌⊎◌, inl, inr, List, [], ◌∷◌, take, Option, Some, None, refl, ap, ap₂, sym, ◌∙◌, arith, subst}
 use Rattle.std.specs.Prelude.{slice_get}
-use Rattle.std.proofs.lemmas.Bool.{cases_order}
+use Rattle.std.proofs.lemmas.Bool.{cases_order, both_ways}
 use Rattle.std.proofs.lemmas.Option.{same_Some}
 use Rattle.ca_program.specs.declared.program.ClassId.{ClassId}
 use Rattle.ca_program.specs.declared.program.FieldId.{FieldId}
@@ -62,9 +62,6 @@ one_class (Some m) c d i j = sym i ∙ j
 no_line : {o : Option ℕ} (n : ℕ) → o ≡ Some n → o ≡ None → ⊥
 no_line n e f = absurd cc
 
-not_both : {b : Bool} → b ≡ true → b ≡ false → ⊥
-not_both e f = absurd cc
-
 module _ (p : PlainProgram) (written : List FieldId) (a b : OpId) where
   -- an offence of one of them
   refused : (op : OpId) (first : Offence) → Offends p written a b op first → BothSeparable p written a b → ⊥
@@ -87,7 +84,7 @@ module _ (p : PlainProgram) (written : List FieldId) (a b : OpId) where
   same_verdict Commutes Commutes s t = refl
   same_verdict Commutes (Unproved (NotSeparable y0 y1 y2)) s t = absurd (refused y0 (record { line = y1; why = y2 }) t s.0.can.separable)
   same_verdict Commutes (Unproved (LoopForm y0)) s t = absurd (no_line y0 t.1 s.0.can.loops)
-  same_verdict Commutes (Unproved Large) s t = absurd (not_both t.1 s.0.light)
+  same_verdict Commutes (Unproved Large) s t = absurd (both_ways _ s.0.light t.1)
   same_verdict Commutes (Unproved (FieldDiffers y0 y1 y2)) s t = absurd (no_difference _ _ y0.field y1 y2 s.1 t.2)
   same_verdict Commutes (Unproved (DemandsDiffer y0 y1 y2 y3)) s t = absurd (t.4 (s.2 _))
   same_verdict (Unproved (NotSeparable x0 x1 x2)) Commutes s t = absurd (refused x0 (record { line = x1; why = x2 }) s t.0.can.separable)
@@ -102,21 +99,21 @@ module _ (p : PlainProgram) (written : List FieldId) (a b : OpId) where
   same_verdict (Unproved (LoopForm x0)) (Unproved Large) s t = absurd (no_line x0 s.1 t.0.loops)
   same_verdict (Unproved (LoopForm x0)) (Unproved (FieldDiffers y0 y1 y2)) s t = absurd (no_line x0 s.1 t.0.can.loops)
   same_verdict (Unproved (LoopForm x0)) (Unproved (DemandsDiffer y0 y1 y2 y3)) s t = absurd (no_line x0 s.1 t.0.can.loops)
-  same_verdict (Unproved Large) Commutes s t = absurd (not_both s.1 t.0.light)
+  same_verdict (Unproved Large) Commutes s t = absurd (both_ways _ t.0.light s.1)
   same_verdict (Unproved Large) (Unproved (NotSeparable y0 y1 y2)) s t = absurd (refused y0 (record { line = y1; why = y2 }) t s.0.separable)
   same_verdict (Unproved Large) (Unproved (LoopForm y0)) s t = absurd (no_line y0 t.1 s.0.loops)
   same_verdict (Unproved Large) (Unproved Large) s t = refl
-  same_verdict (Unproved Large) (Unproved (FieldDiffers y0 y1 y2)) s t = absurd (not_both s.1 t.0.light)
-  same_verdict (Unproved Large) (Unproved (DemandsDiffer y0 y1 y2 y3)) s t = absurd (not_both s.1 t.0.light)
+  same_verdict (Unproved Large) (Unproved (FieldDiffers y0 y1 y2)) s t = absurd (both_ways _ t.0.light s.1)
+  same_verdict (Unproved Large) (Unproved (DemandsDiffer y0 y1 y2 y3)) s t = absurd (both_ways _ t.0.light s.1)
   same_verdict (Unproved (FieldDiffers x0 x1 x2)) Commutes s t = absurd (no_difference _ _ x0.field x1 x2 t.1 s.2)
   same_verdict (Unproved (FieldDiffers x0 x1 x2)) (Unproved (NotSeparable y0 y1 y2)) s t = absurd (refused y0 (record { line = y1; why = y2 }) t s.0.can.separable)
   same_verdict (Unproved (FieldDiffers x0 x1 x2)) (Unproved (LoopForm y0)) s t = absurd (no_line y0 t.1 s.0.can.loops)
-  same_verdict (Unproved (FieldDiffers x0 x1 x2)) (Unproved Large) s t = absurd (not_both t.1 s.0.light)
+  same_verdict (Unproved (FieldDiffers x0 x1 x2)) (Unproved Large) s t = absurd (both_ways _ s.0.light t.1)
   same_verdict (Unproved (FieldDiffers x0 x1 x2)) (Unproved (FieldDiffers y0 y1 y2)) s t = same_field _ _ x0 y0 x1 x2 y1 y2 (one_class (slice_get p.ops a.0) x0.class y0.class s.1 t.1) s.2 t.2
   same_verdict (Unproved (FieldDiffers x0 x1 x2)) (Unproved (DemandsDiffer y0 y1 y2 y3)) s t = absurd (no_difference _ _ x0.field x1 x2 t.1 s.2)
   same_verdict (Unproved (DemandsDiffer x0 x1 x2 x3)) Commutes s t = absurd (s.4 (t.2 _))
   same_verdict (Unproved (DemandsDiffer x0 x1 x2 x3)) (Unproved (NotSeparable y0 y1 y2)) s t = absurd (refused y0 (record { line = y1; why = y2 }) t s.0.can.separable)
   same_verdict (Unproved (DemandsDiffer x0 x1 x2 x3)) (Unproved (LoopForm y0)) s t = absurd (no_line y0 t.1 s.0.can.loops)
-  same_verdict (Unproved (DemandsDiffer x0 x1 x2 x3)) (Unproved Large) s t = absurd (not_both t.1 s.0.light)
+  same_verdict (Unproved (DemandsDiffer x0 x1 x2 x3)) (Unproved Large) s t = absurd (both_ways _ s.0.light t.1)
   same_verdict (Unproved (DemandsDiffer x0 x1 x2 x3)) (Unproved (FieldDiffers y0 y1 y2)) s t = absurd (no_difference _ _ y0.field y1 y2 s.1 t.2)
   same_verdict (Unproved (DemandsDiffer x0 x1 x2 x3)) (Unproved (DemandsDiffer y0 y1 y2 y3)) s t = tt

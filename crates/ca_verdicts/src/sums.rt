@@ -1,6 +1,6 @@
 //! Sums of the conditions that marks name.
 
-ghost use Rattle.std.specs.Prelude.{◌≡◌, ◌≢◌, false, map, IfOk, IfSome, IfNone, IsTrue, OnOk};
+ghost use Rattle.std.specs.Prelude.{◌≡◌, ◌≢◌, map, IfOk, IfSome, IfNone, OnOk};
 ghost use Rattle.ca_sums.specs.Sums.{NoZero, AddsSum};
 ghost use Rattle.ca_forms.specs.Plain.{number_form};
 ghost use Rattle.ca_forms.specs.Rules.{gathered};
@@ -9,7 +9,7 @@ ghost use Rattle.ca_verdicts.specs.clauses.Marks.{products_at, summed_up, condit
 use crate::marks::Marks;
 use crate::sums::forms::LastForms;
 use crate::sums::seen::is_seen;
-use ca_forms::parts::both;
+use ca_forms::parts::{both, unless};
 use ca_forms::polynomial::{Monomial, Scalar};
 use ca_forms::sums::{add_polynomial, finish};
 use ca_symbolic::Group;
@@ -55,17 +55,6 @@ fn sum_of(
         add_condition(alloc, &mut form, groups, forms, mark.0, mark.1)?;
     }
     Ok(Scalar::number(finish(alloc, form)?))
-}
-
-/// Two values, unless they are alike. It has a function of its own, so that no drop of a form is written out.
-#[inline(never)]
-pub(crate) fn unless<T: Drop>(alike: bool, one: T, other: T) -> Option<(T, T)>
-    ensures first { IfSome result (λ p. p.0 ≡ one) }
-    ensures second { IfSome result (λ p. p.1 ≡ other) }
-    ensures differ { IfSome result (λ _. alike ≡ false) }
-    ensures same { IfNone result (IsTrue alike) }
-{
-    if alike { None } else { Some((one, other)) }
 }
 
 /// The two sums of the conditions that the marks of the two orders name, where they differ.

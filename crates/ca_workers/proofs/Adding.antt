@@ -30,7 +30,7 @@ use Rattle.ca_logs.specs.LogOrder.{ordered}
 use Rattle.ca_logs.specs.Laws.{steps_of}
 use Rattle.ca_logs.proofs.Orders.{weight_ordered}
 use Rattle.ca_pool.proofs.OneMore.{counted}
-use Rattle.ca_run.specs.Rounds.{RanTo}
+use Rattle.ca_run.specs.Turns.{RanTo}
 use Rattle.ca_sum_laws.specs.Summed.{HasOnlySums}
 use Rattle.ca_sum_laws.specs.Moves.{EndsAlike, both_done, both_stopped, both_over}
 use Rattle.ca_sum_laws.specs.Replicas.{MayRun}

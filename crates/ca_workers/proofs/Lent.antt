@@ -10,7 +10,7 @@ use Rattle.ca_model.specs.declared.value.Object.{Object}
 use Rattle.ca_logs.specs.declared.log.Task.{Task}
 use Rattle.ca_logs.specs.Entries.{task_after, call_of, task_calls}
 use Rattle.ca_parallel.specs.Extents.{Extent}
-use Rattle.ca_run.specs.Rounds.{RanTo}
+use Rattle.ca_run.specs.Turns.{RanTo}
 use Rattle.ca_sum_laws.specs.Replicas.{MayRun}
 use Rattle.ca_workers.specs.clauses.Runs.{with_lent}
 use Rattle.ca_workers.proofs.Beginning.{calls_of_tasks, task_calls_are, tasks_begin}

@@ -1,7 +1,8 @@
 -- A call that takes no lock lists others and changes nothing: these wait in its place.
-use Rattle.std.proofs.Common.{◌≡◌, ◌≤◌, ◌+◌, ◌-◌, ◌∙◌, ℕ, zero, suc, List, [], ◌∷◌, ◌<◌, length, get_or, Option, Some, None, append-nil, refl, ap, sym, subst, arith}
+use Rattle.std.proofs.Common.{◌≡◌, ◌≤◌, ◌+◌, ◌-◌, ◌∙◌, ℕ, List, [], ◌∷◌, length, get_or, Option, Some, None, append-nil, refl, ap, sym, subst, arith}
 use Rattle.std.specs.Prelude.{Contains, slice_get, slice_set}
-use Rattle.std.proofs.lemmas.List.Elements.{Contains-push, Contains-append_left}
+use Rattle.ca_lists.proofs.Members.{has_first}
+use Rattle.ca_lists.proofs.Places.{item_there}
 use Rattle.ca_program.specs.declared.program.OpId.{OpId}
 use Rattle.ca_program.specs.Plain.{PlainProgram}
 use Rattle.ca_model.specs.declared.value.Object.{Object}
@@ -22,7 +23,7 @@ use Rattle.ca_sections.specs.Answers.{FrozenIs}
 use Rattle.ca_sections.specs.declared.operations.SectionAnswer.{SectionAnswer}
 use Rattle.ca_sections.specs.declared.operations.SectionAnswer.TheVariants as answer
 use Rattle.ca_cells.proofs.Applies.{receiver_in}
-use Rattle.ca_run.specs.Rounds.{RanThis, RanTo}
+use Rattle.ca_run.specs.Turns.{RanThis, RanTo}
 use Rattle.ca_run.proofs.Going.{one_run, ran_within}
 use Rattle.ca_workers.specs.clauses.Ahead.{WaitFrom, with_steps}
 use Rattle.ca_workers.specs.clauses.Runs.{DoneWithin, IsSetting, MayWait, Placed}
@@ -33,15 +34,6 @@ pub only_one : (ops : List Op) (op : Op) → length ops ≡ 1 → op ≡ get_or 
 only_one [] op e is = absurd (omega (arith, e))
 only_one (o ∷ []) op e is = ap (λ (z : Op). invocation_of z ∷ []) (sym is)
 only_one (o ∷ q ∷ os) op e is = absurd (omega (arith, e))
-
-front : {A : Type 0} (x : A) (xs : List A) → Contains (x ∷ xs) x
-front x xs = Contains-append_left (x ∷ []) xs x (Contains-push [] x)
-
--- the object of a number that is there
-object_there : (h : List Object) (n : ℕ) → n < length h → (o : Object) × (slice_get h n ≡ Some o)
-object_there [] n l = absurd (omega (arith, l))
-object_there (o ∷ h) zero l = (o, refl)
-object_there (o ∷ h) (suc n) l = object_there h n (omega (arith, l))
 
 abbrev object_in : Object → Sectioned → Object
 object_in o (done m) = m.object
@@ -55,7 +47,7 @@ module _ (p : PlainProgram) (x : Extent) (h : List Object) (set : IsSetting p x 
   -- the section leaves its object as it is
   same_object : (o : Object) → slice_get h op.receiver ≡ Some o → (m : Outcome) → section p h op.receiver o op.op op.args left ≡ done m → m.object ≡ o
   same_object o found m e =
-      let inside : Contains x.ops op.op = w.inside i (front i []) in
+      let inside : Contains x.ops op.op = w.inside i (has_first i []) in
       let itself : Agree x.written o o = record { class = refl; constants = λ f c free. refl } in
       let same : section p h op.receiver o op.op op.args left ≡ leaving o (section p h op.receiver o op.op op.args left) =
       free_sections p set.program set.roots x set.extent h i inside (set.parallel.separable op.op inside) free o o (method_at p h i o found w.typed.0) itself left in
@@ -83,7 +75,7 @@ module _ (p : PlainProgram) (x : Extent) (h : List Object) (set : IsSetting p x 
   pub opened : (before : List Op) → before ≡ [] → (a : SectionAnswer) → a ≡ answer.Done steps
       → (targets_of_all (operation_body p op.op) ≡ [] → (o : Object) → slice_get h op.receiver ≡ Some o → FrozenIs a (section p h op.receiver o op.op op.args left) before listed) → RanTo p h h (i ∷ []) left h (invocations_of listed) steps
   opened before none a is told =
-      let there = object_there h op.receiver (receiver_in p h i w.typed.0) in
+      let there = item_there h op.receiver (receiver_in p h i w.typed.0) in
       ran there.0 there.1 (section p h op.receiver there.0 op.op op.args left) refl
       (subst (λ (os : List Op). FrozenIs (answer.Done steps) (section p h op.receiver there.0 op.op op.args left) os listed) none
       (subst (λ (b : SectionAnswer). FrozenIs b (section p h op.receiver there.0 op.op op.args left) before listed) is (told nothing there.0 there.1)))

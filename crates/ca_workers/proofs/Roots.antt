@@ -2,12 +2,12 @@
 use Rattle.std.proofs.Common.{◌≡◌, ◌<◌, ℕ, List, length, get_or, [], ◌∷◌, ◌++◌, Result, Ok, Err, IfOk, ⊎_elim, ap, subst}
 use Rattle.std.specs.Prelude.{◌↔◌, Contains}
 use Rattle.std.proofs.lemmas.List.Elements.{Contains-get_or, Contains-append_left, Contains-append_right, Contains-append_cases}
+use Rattle.ca_lists.proofs.Members.{has_only}
 use Rattle.ca_program.specs.declared.program.FunctionId.{FunctionId}
 use Rattle.ca_program.specs.declared.program.OpId.{OpId}
 use Rattle.ca_program.specs.Plain.{PlainProgram}
 use Rattle.ca_parallel.specs.Extents.{Invokes, root, called, Evaluates, by_operation, by_function, Extent}
 use Rattle.ca_parallel.specs.ExtentsOf.{ExtentOf}
-use Rattle.ca_order_laws.proofs.Grown.{single_is}
 use Rattle.ca_extent.specs.clauses.Ids.{op_of}
 
 -- both hold the same operations
@@ -53,7 +53,7 @@ pushed_alike xs more ys id m a op = (λ c. behind xs ys id (λ o d. (a o).0 d) o
 pub there_alike : (xs : List OpId) (id : OpId) → Contains xs id → AreAlike xs (xs ++ id ∷ [])
 there_alike xs id there op = (
   λ c. Contains-append_left xs (id ∷ []) op c,
-  λ c. ⊎_elim (λ a. a) (λ a. subst (λ (o : OpId). Contains xs o) (single_is id op a) there) (Contains-append_cases xs (id ∷ []) op c),
+  λ c. ⊎_elim (λ a. a) (λ a. subst (λ (o : OpId). Contains xs o) (has_only id op a) there) (Contains-append_cases xs (id ∷ []) op c),
 )
 
 -- as the item at a place is

@@ -30,7 +30,7 @@ use Rattle.ca_trace.specs.declared.line.Line.TheVariants as line
 use Rattle.ca_trace.specs.Lines.{step_of, steps_of, not_done}
 use Rattle.ca_trace.proofs.OfProgram.{lines_are_of_the_program}
 use Rattle.ca_run.specs.Traced.{LinesBehind, Told, Traces}
-use Rattle.ca_run.specs.Rounds.{RanTo}
+use Rattle.ca_run.specs.Turns.{RanTo}
 use Rattle.ca_run.proofs.Going.{Going}
 use Rattle.ca_workers.specs.clauses.Runs.{RanBy, order_in}
 use Rattle.ca_workers.specs.clauses.Told.{Adds, RanTold}

@@ -14,7 +14,7 @@ use crate::neighbours::Neighbours;
 use crate::parallel::Parallel;
 use crate::patience::Patience;
 use crate::tasks::{behind, split_behind};
-use crate::weights::{Known, calls_none, weight_of};
+use crate::weights::{Known, calls_none, turn_of, weight_of};
 use ca_base::{Gate, Memory};
 use ca_model::Heap;
 use ca_parallel::Op;
@@ -36,7 +36,7 @@ fn stays(known: &Vec<Known>, patience: &mut Patience<'_>, op: &Op, waits: usize)
     if !calls_none(known, op) {
         return true;
     }
-    patience.is_over(weight_of(known, op), 0, waits as u64)
+    patience.is_over(weight_of(known, op), turn_of(known, op), 0, waits as u64)
 }
 
 /// Runs calls in the heap itself, in their order and within a budget of steps, until what ran is enough, or the next one calls others.

@@ -12,10 +12,24 @@ use std::alloc::Global;
 /// worker take as long as a run of it in the heap itself.
 const LIGHT: u32 = 120;
 
-/// Whether what reaches so far is light. Calls that lead to many, where all only sum, aren't: a worker runs each whole, on copies of its
-/// own, so the way to it is paid once.
-pub fn is_light(reach: Reach) -> bool {
-    reach.parts <= LIGHT && !reach.sums
+/// Where all only sum, and calls lead to others in a loop, those of more parts do: a worker runs each whole, on copies of its own, so
+/// the way to it is paid once.
+const LIGHT_OF_SUMS: u32 = 32;
+
+/// Whether calls of what reaches so far are light, several of them, or a single one, which stands for those that it lists.
+pub fn is_light(reach: Reach, several: bool) -> bool {
+    let sums = if several {
+        reach.sums
+    } else {
+        reach.sums_below
+    };
+    let most = if sums { LIGHT_OF_SUMS } else { LIGHT };
+    reach.parts <= most
+}
+
+/// Whether they would be light if they did more than sum.
+pub fn is_small(reach: Reach) -> bool {
+    reach.parts <= LIGHT
 }
 
 /// The most parts of one of these.
@@ -31,34 +45,55 @@ fn most_parts(known: &Vec<Known>, ops: &[OpId]) -> u32 {
     most
 }
 
-/// Whether one of these calls others in a loop.
-fn call_many(known: &Vec<Known>, ops: &[OpId]) -> bool {
-    let mut many = false;
-    for op in ops {
-        let number = op.0 as usize;
-        if number < known.len() {
-            many = many || known[number].loops;
-        }
+/// Whether an operation calls others in a loop.
+fn loops(known: &Vec<Known>, op: OpId) -> bool {
+    let number = op.0 as usize;
+    if number < known.len() {
+        return known[number].loops;
     }
-    many
+    false
 }
 
-/// What the operations of this extent are.
-fn reached(program: &Program, known: &Vec<Known>, extent: &Extent) -> Reach {
+/// Whether one of these does that isn't this one.
+fn others_loop(known: &Vec<Known>, ops: &[OpId], one: OpId) -> bool {
+    for op in ops {
+        if op.0 != one.0 && loops(known, *op) {
+            return true;
+        }
+    }
+    false
+}
+
+/// What the operations of the extent of some are, of which this is the first.
+fn reached(program: &Program, known: &Vec<Known>, extent: &Extent, one: OpId) -> Reach {
     let parts = most_parts(known, extent.ops());
-    let sums = call_many(known, extent.ops()) && summed(program, extent);
-    Reach { parts, sums }
+    let only = summed(program, extent);
+    let below = only && others_loop(known, extent.ops(), one);
+    Reach {
+        parts,
+        sums: below || (only && loops(known, one)),
+        sums_below: below,
+    }
+}
+
+/// What operations reach of which nothing is known.
+pub fn unknown_reach() -> Reach {
+    Reach {
+        parts: u32::MAX,
+        sums: false,
+        sums_below: false,
+    }
 }
 
 /// What these operations reach.
 #[inline(never)]
 pub fn reach_of_all(alloc: Global, program: &Program, known: &Vec<Known>, roots: &[OpId]) -> Reach {
+    if roots.len() == 0 {
+        return unknown_reach();
+    }
     match extent_of(alloc, program, roots) {
-        Ok(extent) => reached(program, known, &extent),
-        Err(_) => Reach {
-            parts: u32::MAX,
-            sums: false,
-        },
+        Ok(extent) => reached(program, known, &extent, roots[0]),
+        Err(_) => unknown_reach(),
     }
 }
 
@@ -66,10 +101,7 @@ pub fn reach_of_all(alloc: Global, program: &Program, known: &Vec<Known>, roots:
 pub fn reach_of(alloc: Global, program: &Program, known: &mut Vec<Known>, op: OpId) -> Reach {
     let number = op.0 as usize;
     if number >= known.len() {
-        return Reach {
-            parts: u32::MAX,
-            sums: false,
-        };
+        return unknown_reach();
     }
     match known[number].reach {
         Some(answer) => answer,
@@ -83,10 +115,21 @@ pub fn reach_of(alloc: Global, program: &Program, known: &mut Vec<Known>, op: Op
     }
 }
 
+/// Whether all calls of a list would be light if they did more than sum.
+pub fn all_small(alloc: Global, program: &Program, known: &mut Vec<Known>, first: &[Op]) -> bool {
+    for op in first {
+        if !is_small(reach_of(alloc, program, known, op.op)) {
+            return false;
+        }
+    }
+    true
+}
+
 /// Whether all calls of a list are light.
 pub fn all_light(alloc: Global, program: &Program, known: &mut Vec<Known>, first: &[Op]) -> bool {
+    let several = first.len() != 1;
     for op in first {
-        if !is_light(reach_of(alloc, program, known, op.op)) {
+        if !is_light(reach_of(alloc, program, known, op.op), several) {
             return false;
         }
     }

@@ -7,7 +7,7 @@ ghost use Rattle.ca_meaning.specs.ProgramTyped.{ProgramTyped};
 ghost use Rattle.ca_meaning.specs.WellTyped.{AllWellTyped};
 ghost use Rattle.ca_parallel.specs.Calls.{invocation_of, invocations_of, operation_of};
 ghost use Rattle.ca_parallel.specs.Parallel.{ParallelFrom};
-ghost use Rattle.ca_run.specs.Rounds.{RanTo};
+ghost use Rattle.ca_run.specs.Turns.{RanTo};
 ghost use Rattle.ca_workers.specs.clauses.Ahead.{with_steps};
 ghost use Rattle.ca_workers.specs.clauses.Runs.{IsSetting, MayWait, Placed};
 

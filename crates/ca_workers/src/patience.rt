@@ -27,6 +27,10 @@ const MANY_OBJECTS: u32 = 32_768;
 /// its history costs more, by the clock.
 const LIGHT: u64 = 120;
 
+/// By the clock a round's start takes about as long as one worker takes for half of this: where nothing waits that was listed, so much
+/// has to be left, by the steps of those that ran.
+const REST: u64 = 272_000;
+
 /// What the calling thread ran ahead of the first round, and when that is enough. Whether the operations only sum is asked once, when
 /// that makes a difference.
 #[derive(Drop)]
@@ -90,9 +94,9 @@ impl<'s> Patience<'s> {
         self.steps
     }
 
-    /// Whether it is enough where the next operation weighs so much, and so many wait that were listed, and so many in all. While a
-    /// single one waits it isn't.
-    pub fn is_over(&mut self, weight: u64, listed: u64, waits: u64) -> bool {
+    /// Whether it is enough where the next operation weighs so much, and each further step of it, and so many wait that were listed, and
+    /// so many in all. While a single one waits it isn't.
+    pub fn is_over(&mut self, weight: u64, turn: u64, listed: u64, waits: u64) -> bool {
         if waits < 2 {
             return false;
         }
@@ -103,7 +107,10 @@ impl<'s> Patience<'s> {
             self.asks = false;
             self.decide();
         }
-        let wait = weight.saturating_mul(waits);
+        if listed == 0 && self.rest(weight, turn, waits) < REST {
+            return false;
+        }
+        let wait = self.mean(weight).saturating_mul(waits);
         if self.ran.saturating_add(wait).saturating_add(wait) < self.enough {
             return false;
         }
@@ -118,6 +125,19 @@ impl<'s> Patience<'s> {
         let for_one = self.count as usize / done.max(1);
         let each = calls.saturating_mul(for_one) / self.workers as usize;
         each.saturating_add(each / 4)
+    }
+
+    /// About what the next operation weighs, of which a step weighs so much: as those that ran on the mean, if that is more.
+    fn mean(&self, weight: u64) -> u64 {
+        weight.max(self.ran / self.count.max(1))
+    }
+
+    /// About what so many operations weigh, each as this one with as many further steps as those took that ran, on the mean.
+    fn rest(&self, weight: u64, turn: u64, waits: u64) -> u64 {
+        let further = self.steps / self.count.max(1);
+        weight
+            .saturating_add(turn.saturating_mul(further))
+            .saturating_mul(waits)
     }
 
     /// How much is enough, by what the operations do.

@@ -58,7 +58,7 @@ pub fn record_by_many<R: Threads + Wait + Sync, G: Gate>(
             ensures traced { IfOk result (λ answer. Traces (program_view code.entry.now) heap.entry.now (invocations_of calls.entry.now) left heap.exit.now lines.entry.now.items lines.exit.now.items answer) }
             ensures heap_kept { OnErr result (heap.exit.now ≡ heap.entry.now) }
             ensures lines_kept { OnErr result (lines.exit.now.items ≡ lines.entry.now.items) }
-        { lent.traced(rt, code, heap, calls, left, lines) },
+        { lent.trace(rt, code, heap, calls, left, lines) },
     };
     record(rt, alloc, program, marks, budget, engine)
 }

@@ -2,7 +2,7 @@
 //! round. It tells which of what is marked would run in order in the heap itself. No clause speaks of it.
 
 use crate::habits::Habit;
-use crate::light::{is_light, reach_of, reach_of_all};
+use crate::light::{is_light, is_small, reach_of, reach_of_all, unknown_reach};
 use crate::loops::{add_calls, calls_told, marked_loops, site_of};
 use crate::weights::{Known, Reach, UNTOLD, weights_of};
 use ca_parallel::{Marks, Op};
@@ -78,12 +78,8 @@ impl Tables {
     fn keep(&mut self, site: LoopId, of: KnownLoop) {
         let number = site.0 as usize;
         'loops: for _ in self.loops.len()..number.saturating_add(1) {
-            let reach = Reach {
-                parts: u32::MAX,
-                sums: false,
-            };
             let none = KnownLoop {
-                reach,
+                reach: unknown_reach(),
                 op: OpId(u32::MAX),
                 count: UNTOLD,
             };
@@ -109,9 +105,19 @@ impl Tables {
             return false;
         }
         match self.known[number].reach {
-            Some(reach) => is_light(reach),
+            Some(reach) => is_light(reach, false) || self.stays(reach, op),
             None => false,
         }
+    }
+
+    /// Whether calls that begin with one of this operation run in order since they only sum, and came to other objects each time.
+    fn stays(&self, reach: Reach, op: OpId) -> bool {
+        let number = op.0 as usize;
+        if number < self.known.len() {
+            let again = self.known[number].again.unwrap_or(true);
+            return is_small(reach) && !again;
+        }
+        false
     }
 
     /// Of a loop. Where the habit decides it is taken to list as many calls as its text tells, or as the last list had that began with such
@@ -122,7 +128,7 @@ impl Tables {
             return false;
         }
         let own = self.loops[number];
-        if !is_light(own.reach) {
+        if !is_light(own.reach, true) && !self.stays(own.reach, own.op) {
             return false;
         }
         if objects >= FEW_OBJECTS {
@@ -143,6 +149,31 @@ impl Tables {
             self.known[number].count
         } else {
             UNTOLD
+        }
+    }
+
+    /// Whether a list comes to the same objects again and again, as one did that began with the same operation.
+    pub fn again(&self, first: &[Op]) -> Option<bool> {
+        if first.len() == 0 {
+            return Some(false);
+        }
+        let number = first[0].op.0 as usize;
+        if number < self.known.len() {
+            self.known[number].again
+        } else {
+            Some(true)
+        }
+    }
+
+    /// Notes whether a list does.
+    pub fn note_again(&mut self, first: &[Op], again: bool) {
+        if first.len() == 0 {
+            return;
+        }
+        let number = first[0].op.0 as usize;
+        if number < self.known.len() {
+            let item = &mut self.known[number];
+            item.again = Some(again);
         }
     }
 

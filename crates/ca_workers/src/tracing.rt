@@ -72,7 +72,7 @@ impl<'g, G: Gate> Parallel<'g, G> {
 
     /// As `complete`, and adds the lines of the list: a block of a complete run where the answer is `Done`, and that the list
     /// is declined else. After an error the heap and the lines are as they were. A round begins at once.
-    pub fn traced<R: Threads + Wait + Sync>(
+    pub fn trace<R: Threads + Wait + Sync>(
         &mut self,
         rt: &R,
         program: &Coded<'_>,

@@ -12,6 +12,9 @@ const STEP: u32 = 6;
 /// What a call of a value method takes by itself.
 const VALUE: u32 = 5;
 
+/// What a step of a value method takes: it works on locals, and reads.
+const FAR: u32 = 3;
+
 /// What an operation weighs that none was told of.
 const UNKNOWN: u32 = 24;
 
@@ -26,6 +29,8 @@ pub const UNTOLD: usize = usize::MAX;
 #[derive(Clone, Copy)]
 pub struct Known {
     pub weight: u32,
+    /// What a further step takes: as much where it has a loop, and else it is one of a value method.
+    pub turn: u32,
     /// How many parts its text tells of, with those of the value methods that it calls: `HEAVY` and more where it doesn't tell.
     pub text: u32,
     /// Whether it calls others, and whether it does so in a loop.
@@ -35,6 +40,8 @@ pub struct Known {
     pub locks: Option<bool>,
     /// What it and all that it leads to are, where it was asked.
     pub reach: Option<Reach>,
+    /// Whether lists that begin with one of it come to the same objects again and again, where that was tried.
+    pub again: Option<bool>,
     /// How many calls the last list of two or more had that began with one of it.
     pub count: usize,
 }
@@ -44,8 +51,10 @@ pub struct Known {
 pub struct Reach {
     /// The most parts of one of them.
     pub parts: u32,
-    /// Whether one of them calls others in a loop, and all only sum.
+    /// Whether all only sum, and one of them calls others in a loop,
     pub sums: bool,
+    /// one that isn't the first.
+    pub sums_below: bool,
 }
 
 /// What is counted for a call of a value method, by its number as far as they are known, and for a loop whose turns list nothing.
@@ -120,7 +129,7 @@ fn one_more(parts: u32) -> Count {
 }
 
 /// A turn of a loop with this head.
-fn turn_of(head: u32, body: Count, costs: Costs<'_>) -> Count {
+fn turn_with(head: u32, body: Count, costs: Costs<'_>) -> Count {
     let parts = body.parts.saturating_add(head);
     if body.lists {
         return Count {
@@ -164,11 +173,11 @@ fn count_in(s: &Stmt, costs: Costs<'_>) -> Count {
             }
         }
         StmtForm::While(test, body) => {
-            turn_of(parts_in(test, costs), count_in(body, costs), costs)
+            turn_with(parts_in(test, costs), count_in(body, costs), costs)
         }
         StmtForm::For(_, _, _, test, next, body) => {
             let head = parts_in(test, costs).saturating_add(count_in(next, costs).parts);
-            turn_of(head, count_in(body, costs), costs)
+            turn_with(head, count_in(body, costs), costs)
         }
         StmtForm::Return(value) => one_more(parts_in(value, costs)),
         _ => one_more(0),
@@ -216,6 +225,11 @@ pub fn weights_of(alloc: Global, program: &Program) -> Result<Vec<Known>, AllocE
         other: VALUE,
         turns: 0,
     };
+    let own = Costs {
+        values: &[],
+        other: VALUE,
+        turns: HEAVY,
+    };
     let text = Costs {
         values: values.as_slice(),
         other: HEAVY,
@@ -225,13 +239,18 @@ pub fn weights_of(alloc: Global, program: &Program) -> Result<Vec<Known>, AllocE
     for op in &program.ops {
         let stmts = op.body.stmts.as_slice();
         let told = count_all(stmts, text);
+        let weight = count_all(stmts, turns).parts.saturating_add(STEP);
+        let looped = told.loops || count_all(stmts, own).parts >= HEAVY;
+        let turn = if looped { weight } else { FAR };
         known.push(Known {
-            weight: count_all(stmts, turns).parts.saturating_add(STEP),
+            weight,
+            turn,
             text: told.parts,
             calls: told.lists,
             loops: told.loops,
             locks: None,
             reach: None,
+            again: None,
             count: UNTOLD,
         })?;
     }
@@ -261,6 +280,16 @@ pub fn weight_of(known: &Vec<Known>, op: &Op) -> u64 {
     let number = op.op.0 as usize;
     if number < known.len() {
         u64::from(known[number].weight)
+    } else {
+        u64::from(UNKNOWN)
+    }
+}
+
+/// What a further step of it takes.
+pub fn turn_of(known: &Vec<Known>, op: &Op) -> u64 {
+    let number = op.op.0 as usize;
+    if number < known.len() {
+        u64::from(known[number].turn)
     } else {
         u64::from(UNKNOWN)
     }

@@ -1,13 +1,15 @@
--- What is told of a program that is laid out with marks, and of its run with an engine.
-use Rattle.std.specs.Prelude.{◌≡◌, ◌≤◌, ℕ, List, Option, Result, IfOk}
+-- What is asked of a run with an engine, and what is told of its program, laid out with marks, and of the run.
+use Rattle.std.specs.Prelude.{◌≡◌, ◌≤◌, ℕ, Bool, false, List, Option, Result, IfOk}
 use Rattle.ca_base.specs.Devices.{Rose, Writes}
 use Rattle.ca_program.specs.Plain.{PlainProgram}
 use Rattle.ca_model.specs.declared.value.Object.{Object}
 use Rattle.ca_meaning.specs.Expressions.{Invocation}
+use Rattle.ca_meaning.specs.ProgramTyped.{ProgramTyped}
 use Rattle.ca_meaning.specs.Serial.{serial}
 use Rattle.ca_meaning.specs.Output.{prints_text}
 use Rattle.ca_parallel.specs.Accounts.{HandedOn}
-use Rattle.ca_parallel.specs.Lists.{PlainMarks, lists}
+use Rattle.ca_parallel.specs.Lists.{PlainMarks, lists, no_marks}
+use Rattle.ca_parallel.specs.Marks.{SoundMarks}
 use Rattle.ca_code.specs.Codes.{code_seen}
 use Rattle.ca_sections.specs.declared.loop_code.LoopPlace.{LoopPlace}
 use Rattle.ca_sections.specs.Extending.{AllStand}
@@ -17,6 +19,13 @@ use Rattle.ca_serial.specs.declared.running.Outcome.{Outcome}
 use Rattle.ca_serial.specs.declared.running.RunError.{RunError}
 use Rattle.ca_serial.specs.Codes.{IsRun}
 use Rattle.ca_serial.specs.Runs.{run_with, prints_of, OnWrite}
+
+-- What the engine rests on holds, the program is typed, the marks are sound, and there are none where the engine doesn't serve.
+pub record MayDrive (Ready : Type 0) (serves : Bool) (p : PlainProgram) (marks : PlainMarks) : Type 0 where
+  pub ready : Ready
+  pub program : ProgramTyped p
+  pub sound : SoundMarks p marks
+  pub served : serves ≡ false → marks ≡ no_marks
 
 -- The code is that of the program with its marks, what is run of it does what its rows do, and each loop that is handed on stands once
 -- more at one of these places.

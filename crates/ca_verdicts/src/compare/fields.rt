@@ -6,9 +6,8 @@ ghost use Rattle.ca_order.specs.OrderSame.{OrderSame};
 ghost use Rattle.ca_verdicts.specs.Verdicts.{OrderedScalar, SameField, SameFields};
 ghost use Rattle.ca_verdicts.specs.clauses.Comparisons.{FieldsDiffer, Not};
 
-use crate::sums::unless;
 use crate::verdicts::Reason;
-use ca_forms::parts::both;
+use ca_forms::parts::{both, unless};
 use ca_norm::{Normal, Sort, same};
 use ca_order::are_order_same;
 use ca_program::{ClassId, FieldId};

@@ -2,7 +2,7 @@ use Rattle.std.proofs.Common.{◌+◌, length, map, subst}
 use Rattle.ca_program.specs.Kinds.{kind_type, kinds_in}
 use Rattle.ca_program.specs.Layout.{starts_code, statements_code}
 use Rattle.ca_program.specs.View.{program_view, statements_view}
-use Rattle.ca_code.specs.clauses.Laying.{Adds}
+use Rattle.ca_code.specs.Laying.{Adds}
 use Rattle.ca_code.proofs.Laying.{then, stopped}
 use Rattle.ca_code.proofs.layout.add_body.Goals as goal
 

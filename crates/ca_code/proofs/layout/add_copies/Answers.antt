@@ -1,5 +1,5 @@
 use Rattle.std.proofs.Common.{drop, map, arith}
-use Rattle.ca_code.specs.clauses.Laying.{laid}
+use Rattle.ca_code.specs.Laying.{laid}
 use Rattle.ca_code.proofs.Laying.{all_left, none_left, stopped}
 use Rattle.ca_code.proofs.Copying.{placed_there, one_copied, no_row_left}
 use Rattle.ca_code.proofs.Operands.{row_is}

@@ -1,5 +1,5 @@
 use Rattle.std.proofs.Common.{drop, map}
-use Rattle.ca_code.specs.clauses.Laying.{laid}
+use Rattle.ca_code.specs.Laying.{laid}
 use Rattle.ca_code.proofs.Laying.{Leaves}
 use Rattle.ca_code.proofs.layout.add_copies.Given as goal
 

@@ -5,7 +5,7 @@ use Rattle.ca_program.specs.View.{program_view, method_view}
 use Rattle.ca_program.specs.declared.program.Method.{Method}
 use Rattle.ca_code.specs.Codes.{kinds_seen}
 use Rattle.ca_code.specs.Texts.{main_body}
-use Rattle.ca_code.specs.clauses.Laying.{Adds}
+use Rattle.ca_code.specs.Laying.{Adds}
 use Rattle.ca_code.specs.clauses.Places.{Lays}
 use Rattle.ca_code.proofs.LaidOut.{laid_out_once, main_is, maps_twice}
 use Rattle.ca_code.proofs.layout.lay_out_once.Goals as goal

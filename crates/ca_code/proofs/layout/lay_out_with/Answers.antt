@@ -6,7 +6,7 @@ use Rattle.ca_program.specs.View.{program_view, method_view}
 use Rattle.ca_program.specs.declared.program.Method.{Method}
 use Rattle.ca_code.specs.Codes.{kinds_seen}
 use Rattle.ca_code.specs.Texts.{method_code, main_body}
-use Rattle.ca_code.specs.clauses.Laying.{Adds}
+use Rattle.ca_code.specs.Laying.{Adds}
 use Rattle.ca_code.specs.clauses.Places.{Lays}
 use Rattle.ca_code.proofs.LaidOut.{laid_out, maps_twice}
 use Rattle.ca_code.proofs.layout.lay_out_with.Goals as goal

@@ -1,10 +1,10 @@
 use Rattle.std.proofs.Common.{◌≡◌, ◌+◌, ◌&&◌, true, List, drop, sym, ap, ap₂, ◌∙◌, arith}
 use Rattle.std.proofs.lemmas.List.{drop_all}
+use Rattle.ca_lists.proofs.Places.{item_and_rest}
 use Rattle.ca_tree.specs.declared.tree.ExprNode.{ExprNode}
 use Rattle.ca_tree.specs.Plain.{call, method, field, index, unary, binary, expression_and}
 use Rattle.ca_tree.specs.View.{kind_view, expression_view, expressions_view}
 use Rattle.ca_tree.proofs.Rows.{call_is}
-use Rattle.ca_canonical.proofs.Lists.{item_and_rest}
 use Rattle.ca_canonical.proofs.Rows.{method_is}
 use Rattle.ca_emit.specs.Receivers.{same_expression, same_expressions}
 use Rattle.ca_emit.proofs.Equal.{unequal, equal_so_far, not_equal}

@@ -1,4 +1,4 @@
-use Rattle.std.proofs.Common.{◌≡◌, [], ◌∷◌, ◌++◌, refl, sym, ap, ◌∙◌, subst, arith}
+use Rattle.std.proofs.Common.{◌≡◌, [], ◌∷◌, ◌++◌, refl, ap, ◌∙◌, arith}
 use Rattle.ca_program.specs.Plain.{value_call}
 use Rattle.ca_program.specs.View.{expression_view, expressions_view}
 use Rattle.ca_program.proofs.Rows.{row_is_list}

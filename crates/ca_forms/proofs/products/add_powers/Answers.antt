@@ -1,7 +1,8 @@
 use Rattle.std.proofs.Common.{◌≡◌, ℕ, ◌+◌, List, [], ◌∷◌, ◌++◌, drop}
+use Rattle.ca_lists.proofs.Places.{item_and_rest}
 use Rattle.ca_forms.specs.Plain.{PlainPart}
 use Rattle.ca_forms.proofs.Told.{put_behind}
-use Rattle.ca_forms.proofs.Merging.{item_and_rest, took, nothing_left}
+use Rattle.ca_forms.proofs.Merging.{took, nothing_left}
 use Rattle.ca_forms.proofs.products.add_powers.Goals as goal
 
 pub loop-i-preserved : goal.loop-i-preserved

@@ -1,8 +1,9 @@
 use Rattle.std.proofs.Common.{arith, ◌≡◌, ℕ, ◌+◌, List, ◌∷◌, drop, sym, ◌∙◌, Less, Equal, Greater}
+use Rattle.ca_lists.proofs.Places.{item_and_rest}
 use Rattle.ca_forms.specs.Plain.{PlainPart}
 use Rattle.ca_forms.specs.Compare.{part_cmp}
 use Rattle.ca_forms.specs.Products.{joined, merge}
-use Rattle.ca_forms.proofs.Merging.{item_and_rest, next_is, left_first, both_first, right_first}
+use Rattle.ca_forms.proofs.Merging.{next_is, left_first, both_first, right_first}
 use Rattle.ca_forms.proofs.products.next.Goals as goal
 
 pub returns-in-Less : goal.returns-in-Less

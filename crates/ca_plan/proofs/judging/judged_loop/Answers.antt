@@ -1,15 +1,15 @@
 use Rattle.std.proofs.Common.{◌≡◌, ◌++◌, List, sym, ap, ◌∙◌, subst}
+use Rattle.std.proofs.lemmas.Bool.{both_ways}
 use Rattle.ca_program.specs.declared.program.OpId.{OpId}
 use Rattle.ca_program.specs.View.{program_view, statement_view}
 use Rattle.ca_parallel.specs.Bodies.{calls_of}
 use Rattle.ca_parallel.specs.ExtentsOf.{ExtentOf}
 use Rattle.ca_section.proofs.HeldCalls.{line_is}
 use Rattle.ca_plan.proofs.Made.{judged}
-use Rattle.ca_plan.proofs.Tested.{not_both}
 use Rattle.ca_plan.proofs.judging.judged_loop.Goals as goal
 
 pub unreachable-unreachable : goal.unreachable-unreachable
-unreachable-unreachable c = not_both _ c.in_default.ensures.none c.requires.form
+unreachable-unreachable c = both_ways _ c.in_default.ensures.none c.requires.form
 
 pub returns-clause-judged : goal.returns-clause-judged
 returns-clause-judged c =

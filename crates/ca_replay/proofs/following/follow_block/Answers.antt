@@ -3,7 +3,7 @@ use Rattle.ca_program.specs.View.{program_view}
 use Rattle.ca_parallel.specs.Calls.{invocation_of, invocations_of}
 use Rattle.ca_beside.specs.Beside.{present}
 use Rattle.ca_trace.specs.Laws.{RunsNow}
-use Rattle.ca_run.specs.Rounds.{RanThis}
+use Rattle.ca_run.specs.Turns.{RanThis}
 use Rattle.ca_replay.proofs.Blocks.{at_start, some_lines, one_on, at_the_end, by_step, by_end, by_other, whole}
 use Rattle.ca_replay.proofs.following.follow_block.Goals as goal
 

@@ -1,4 +1,5 @@
-use Rattle.std.proofs.Common.{◌≡◌, ◌-◌, suc, refl, ap, arith}
+use Rattle.std.proofs.Common.{◌≡◌, ◌-◌, ℕ, suc, Option, Some, None, Result, Ok, refl, ap, sym, subst, arith}
+use Rattle.std.specs.Prelude.{IfOk}
 use Rattle.std.proofs.lemmas.Result.{err_from_is_err_and}
 use Rattle.ca_program.specs.View.{program_view}
 use Rattle.ca_meaning.specs.Serial.{fresh}
@@ -6,7 +7,8 @@ use Rattle.ca_parallel.specs.Calls.{invocation_of}
 use Rattle.ca_steps.specs.declared.here.Here.{Here}
 use Rattle.ca_steps.specs.Stands.{here_state}
 use Rattle.ca_run.proofs.InPlace.{call_too_many}
-use Rattle.ca_run.proofs.Called.{call_ended, call_spent, call_trapped}
+use Rattle.ca_run.specs.InPlace.{LeftBy}
+use Rattle.ca_run.proofs.Called.{call_told}
 use Rattle.ca_replica.specs.Applied.{sums}
 use Rattle.ca_replica.specs.InPlace.{Keeps}
 use Rattle.ca_replica.proofs.in_place.run_call.Goals as goal
@@ -81,8 +83,10 @@ returns-in-Ends g c =
     let kept : Keeps b.extent.now.written b.frozen.now b.marks.now b.copies.now b.olds.now = run.ensures.still.1 in
     let halted = run.ensures.halted (fresh h) in
     let there : Here = record { at = m.at; base = halted.0; left = m.left } in
+    let came : Result (Option ℕ) (Unit {0}) = Ok (Some m.left) in
+    let told : IfOk came (λ still. LeftBy run.result m.left still) = subst (λ x. LeftBy x m.left (Some m.left)) (sym c.in-Ends.is) refl in
     record {
-      ran = call_ended p c.requires.program _ _ c.in-Some-number_of.number h c.requires.heap c.args.op.now c.requires.typed c.args.left c.enter.new.frames starts (c.in_ok-enter.ensures p starts.laid) c.in-Some-number_of.ensures least a.program.now (ap program_view c.requires.same) run.result (here_state there m.number m.below m.slots.items (fresh after)) after refl halted.1 m.left refl c.in-Ends.is;
+      ran = call_told p c.requires.program _ _ c.in-Some-number_of.number h c.requires.heap c.args.op.now c.requires.typed c.args.left c.enter.new.frames starts (c.in_ok-enter.ensures p starts.laid) c.in-Some-number_of.ensures least a.program.now (ap program_view c.requires.same) run.result (here_state there m.number m.below m.slots.items (fresh after)) after refl halted.1 m.left refl came told;
       before = ap (λ l. l.before) run.ensures.fixed;
       there = kept.there;
       same_written = ap (λ l. l.written) run.ensures.fixed;
@@ -105,8 +109,10 @@ returns-in-Traps g c =
     let kept : Keeps b.extent.now.written b.frozen.now b.marks.now b.copies.now b.olds.now = run.ensures.still.1 in
     let halted = run.ensures.halted (fresh h) in
     let there : Here = record { at = m.at; base = halted.0; left = m.left } in
+    let came : Result (Option ℕ) (Unit {0}) = Ok None in
+    let told : IfOk came (λ still. LeftBy run.result m.left still) = subst (λ x. LeftBy x m.left None) (sym c.in-Traps.is) refl in
     record {
-      ran = call_trapped p c.requires.program _ _ c.in-Some-number_of.number h c.requires.heap c.args.op.now c.requires.typed c.args.left c.enter.new.frames starts (c.in_ok-enter.ensures p starts.laid) c.in-Some-number_of.ensures least a.program.now (ap program_view c.requires.same) run.result (here_state there m.number m.below m.slots.items (fresh after)) after refl halted.1 c.in-Traps.field-0 c.in-Traps.is;
+      ran = call_told p c.requires.program _ _ c.in-Some-number_of.number h c.requires.heap c.args.op.now c.requires.typed c.args.left c.enter.new.frames starts (c.in_ok-enter.ensures p starts.laid) c.in-Some-number_of.ensures least a.program.now (ap program_view c.requires.same) run.result (here_state there m.number m.below m.slots.items (fresh after)) after refl halted.1 m.left refl came told;
       before = ap (λ l. l.before) run.ensures.fixed;
       there = kept.there;
       same_written = ap (λ l. l.written) run.ensures.fixed;
@@ -129,8 +135,10 @@ returns-in-Spends g c =
     let kept : Keeps b.extent.now.written b.frozen.now b.marks.now b.copies.now b.olds.now = run.ensures.still.1 in
     let halted = run.ensures.halted (fresh h) in
     let there : Here = record { at = m.at; base = halted.0; left = m.left } in
+    let came : Result (Option ℕ) (Unit {0}) = Ok None in
+    let told : IfOk came (λ still. LeftBy run.result m.left still) = subst (λ x. LeftBy x m.left None) (sym c.in-Spends.is) refl in
     record {
-      ran = call_spent p c.requires.program _ _ c.in-Some-number_of.number h c.requires.heap c.args.op.now c.requires.typed c.args.left c.enter.new.frames starts (c.in_ok-enter.ensures p starts.laid) c.in-Some-number_of.ensures least a.program.now (ap program_view c.requires.same) run.result (here_state there m.number m.below m.slots.items (fresh after)) after refl halted.1 c.in-Spends.is;
+      ran = call_told p c.requires.program _ _ c.in-Some-number_of.number h c.requires.heap c.args.op.now c.requires.typed c.args.left c.enter.new.frames starts (c.in_ok-enter.ensures p starts.laid) c.in-Some-number_of.ensures least a.program.now (ap program_view c.requires.same) run.result (here_state there m.number m.below m.slots.items (fresh after)) after refl halted.1 m.left refl came told;
       before = ap (λ l. l.before) run.ensures.fixed;
       there = kept.there;
       same_written = ap (λ l. l.written) run.ensures.fixed;

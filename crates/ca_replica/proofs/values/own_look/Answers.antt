@@ -1,7 +1,7 @@
 use Rattle.std.proofs.Common.{subst, rules, w64}
 use mir.Val.{SFits}
 use Rattle.std.proofs.lemmas.Int.{to_z-of_z}
-use Rattle.ca_steps.specs.clauses.Telling.{Looks}
+use Rattle.ca_steps.specs.Telling.{Looks}
 use Rattle.ca_replica.specs.Applied.{sums}
 use Rattle.ca_replica.proofs.InPlace.{slot_same, sums_many}
 use Rattle.ca_replica.proofs.values.own_look.Goals as goal

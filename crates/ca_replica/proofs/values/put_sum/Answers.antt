@@ -1,8 +1,8 @@
 use Rattle.std.proofs.Common.{◌≡◌, ◌<◌, ◌∙◌, length, refl, sym, ap, true≢false, arith}
+use Rattle.ca_lists.proofs.Places.{item_there}
 use Rattle.ca_model.specs.Heaps.{stored}
 use Rattle.ca_run.specs.Puts.{restored}
 use Rattle.ca_replica.specs.Zeroed.{zeroed_heap}
-use Rattle.ca_beside.proofs.Present.{found_object as there_is}
 use Rattle.ca_replica.proofs.InPlace.{keeps_put, keeps_same}
 use Rattle.ca_replica.proofs.Sums.{zeroed_many}
 use Rattle.ca_replica.proofs.values.put_sum.Goals as goal
@@ -48,6 +48,6 @@ returns c =
       put = λ e. q.put e z ∙ ap (λ h. stored h n g c.args.item c.args.value) p.same;
       before = q.before z lt ∙ ap (restored c.args.olds.now) p.same;
       keeps = λ k.
-          let o = there_is h n (omega (arith, c.if-n-len.false, c.len.ensures.value)) in
+          let o = item_there h n (omega (arith, c.if-n-len.false, c.len.ensures.value)) in
           keeps_put ws h c.args.marks.now c.args.copies.now c.place_of.new.copies c.put_at.new.copies c.args.olds.now c.put_at.new.olds n g c.args.item c.args.value o.0 c.put_at.result o.1 (c.is_put.ensures c.if-not-is_put.false k.marked o.0 o.1) p.same p.has (λ e. q.put e z) q.same q.there k;
     }

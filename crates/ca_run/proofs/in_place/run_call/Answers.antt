@@ -5,7 +5,7 @@ use Rattle.ca_parallel.specs.Calls.{invocation_of}
 use Rattle.ca_steps.specs.declared.here.Here.{Here}
 use Rattle.ca_steps.specs.Stands.{here_state}
 use Rattle.ca_run.proofs.InPlace.{call_too_many}
-use Rattle.ca_run.proofs.Called.{call_ended, call_spent, call_trapped}
+use Rattle.ca_run.proofs.Called.{call_told}
 use Rattle.std.proofs.lemmas.Result.{err_from_is_err_and}
 use Rattle.ca_run.proofs.in_place.run_call.Goals as goal
 
@@ -36,8 +36,8 @@ run_from-halt-requires g c =
     let starts = c.in-Some.ensures in
     record { laid = starts.runs; within = starts.within; first = (c.in_ok-enter.ensures (program_view c.args.program.now) starts.laid).first; fits = tt }
 
-pub returns-in-Ends : goal.returns-in-Ends
-returns-in-Ends g c =
+pub returns : goal.returns
+returns g c =
     let p = program_view c.args.program.now in
     let h = c.args.access.now.heap.now in
     let starts = c.in-Some.ensures in
@@ -48,67 +48,7 @@ returns-in-Ends g c =
     let halted = run.ensures.halted (fresh h) in
     let there : Here = record { at = m.at; base = halted.0; left = m.left } in
     record {
-      ran = call_ended p c.requires.program _ _ c.in-Some-number_of.number h c.requires.heap c.args.op.now c.requires.typed c.args.left c.enter.new.frames starts (c.in_ok-enter.ensures p starts.laid) c.in-Some-number_of.ensures least c.args.access.now.program.now (ap program_view c.requires.same) run.result (here_state there m.number m.below m.slots.items (fresh after)) after refl halted.1 m.left refl c.in-Ends.is;
-      before = ap (λ l. l.before) run.ensures.fixed;
-      same_heap = ap (λ l. l.heap) run.ensures.fixed;
-      same_kept = ap (λ l. l.kept) run.ensures.fixed;
-      same_program = ap (λ l. l.program) run.ensures.fixed;
-    }
-
-pub returns-in-Traps : goal.returns-in-Traps
-returns-in-Traps g c =
-    let p = program_view c.args.program.now in
-    let h = c.args.access.now.heap.now in
-    let starts = c.in-Some.ensures in
-    let least : c.args.left ≡ suc (c.args.left - 1) = omega arith in
-    let run = c.run_from-halt in
-    let m = run.new.frames in
-    let after = run.new.access.heap.now in
-    let halted = run.ensures.halted (fresh h) in
-    let there : Here = record { at = m.at; base = halted.0; left = m.left } in
-    record {
-      ran = call_trapped p c.requires.program _ _ c.in-Some-number_of.number h c.requires.heap c.args.op.now c.requires.typed c.args.left c.enter.new.frames starts (c.in_ok-enter.ensures p starts.laid) c.in-Some-number_of.ensures least c.args.access.now.program.now (ap program_view c.requires.same) run.result (here_state there m.number m.below m.slots.items (fresh after)) after refl halted.1 c.in-Traps.field-0 c.in-Traps.is;
-      before = ap (λ l. l.before) run.ensures.fixed;
-      same_heap = ap (λ l. l.heap) run.ensures.fixed;
-      same_kept = ap (λ l. l.kept) run.ensures.fixed;
-      same_program = ap (λ l. l.program) run.ensures.fixed;
-    }
-
-pub returns-in-Spends : goal.returns-in-Spends
-returns-in-Spends g c =
-    let p = program_view c.args.program.now in
-    let h = c.args.access.now.heap.now in
-    let starts = c.in-Some.ensures in
-    let least : c.args.left ≡ suc (c.args.left - 1) = omega arith in
-    let run = c.run_from-halt in
-    let m = run.new.frames in
-    let after = run.new.access.heap.now in
-    let halted = run.ensures.halted (fresh h) in
-    let there : Here = record { at = m.at; base = halted.0; left = m.left } in
-    record {
-      ran = call_spent p c.requires.program _ _ c.in-Some-number_of.number h c.requires.heap c.args.op.now c.requires.typed c.args.left c.enter.new.frames starts (c.in_ok-enter.ensures p starts.laid) c.in-Some-number_of.ensures least c.args.access.now.program.now (ap program_view c.requires.same) run.result (here_state there m.number m.below m.slots.items (fresh after)) after refl halted.1 c.in-Spends.is;
-      before = ap (λ l. l.before) run.ensures.fixed;
-      same_heap = ap (λ l. l.heap) run.ensures.fixed;
-      same_kept = ap (λ l. l.kept) run.ensures.fixed;
-      same_program = ap (λ l. l.program) run.ensures.fixed;
-    }
-
-pub returns-in-Leaves : goal.returns-in-Leaves
-returns-in-Leaves g c =
-    let run = c.run_from-halt in
-    record {
-      ran = tt;
-      before = ap (λ l. l.before) run.ensures.fixed;
-      same_heap = ap (λ l. l.heap) run.ensures.fixed;
-      same_kept = ap (λ l. l.kept) run.ensures.fixed;
-      same_program = ap (λ l. l.program) run.ensures.fixed;
-    }
-
-pub returns-in-Fails : goal.returns-in-Fails
-returns-in-Fails g c =
-    let run = c.run_from-halt in
-    record {
-      ran = tt;
+      ran = call_told p c.requires.program _ _ c.in-Some-number_of.number h c.requires.heap c.args.op.now c.requires.typed c.args.left c.enter.new.frames starts (c.in_ok-enter.ensures p starts.laid) c.in-Some-number_of.ensures least c.args.access.now.program.now (ap program_view c.requires.same) run.result (here_state there m.number m.below m.slots.items (fresh after)) after refl halted.1 m.left refl c.left_of.result c.left_of.ensures;
       before = ap (λ l. l.before) run.ensures.fixed;
       same_heap = ap (λ l. l.heap) run.ensures.fixed;
       same_kept = ap (λ l. l.kept) run.ensures.fixed;

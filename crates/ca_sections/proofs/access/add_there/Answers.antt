@@ -4,7 +4,7 @@ use Rattle.std.specs.Prelude.{slice_get}
 use Rattle.std.proofs.lemmas.Int.{to_z-of_z}
 use Rattle.ca_model.specs.declared.value.Value.TheVariants.{Long}
 use Rattle.ca_meaning.specs.Expressions.{one_in}
-use Rattle.ca_steps.specs.clauses.Telling.{Adds}
+use Rattle.ca_steps.specs.Telling.{Adds}
 use Rattle.ca_steps.proofs.Loading.{some_by}
 use Rattle.ca_sections.proofs.Worlds.{one_long}
 use Rattle.ca_sections.proofs.access.add_there.Goals as goal

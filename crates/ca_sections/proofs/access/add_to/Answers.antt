@@ -3,7 +3,7 @@ use mir.Val.{SFits}
 use Rattle.std.proofs.lemmas.Int.{to_z-of_z}
 use Rattle.ca_model.specs.declared.value.Value.TheVariants.{Long}
 use Rattle.ca_model.specs.Slots.{put_slot}
-use Rattle.ca_steps.specs.clauses.Telling.{Adds}
+use Rattle.ca_steps.specs.Telling.{Adds}
 use Rattle.ca_steps.proofs.Loading.{some_by}
 use Rattle.ca_sections.proofs.access.add_to.Goals as goal
 

@@ -4,15 +4,15 @@ use Rattle.ca_steps.specs.Stands.{seen}
 use Rattle.ca_sections.proofs.Few.{row_of_one}
 use Rattle.ca_sections.proofs.listing.list_one.Goals as goal
 
-pub kind_in-kind-requires : goal.kind_in-kind-requires
-kind_in-kind-requires c = omega (arith, c.requires.many)
+pub argument-requires : goal.argument-requires
+argument-requires c = omega (arith, c.requires.many)
 
 pub push_reserved-requires : goal.push_reserved-requires
 push_reserved-requires c = c.requires.room
 
 pub returns : goal.returns
 returns c =
-    let args = row_of_one (seen c.args.slots.now) c.args.first c.args.kinds.now c.kind_in-kind.result c.in-Some.value c.requires.many c.kind_in-kind.ensures c.in-Some.ensures in
+    let args = row_of_one (seen c.args.slots.now) c.args.first c.args.kinds.now c.in-Some.value c.requires.many c.in-Some.ensures in
     record {
       listed = c.push_reserved.ensures.items
           ∙ ap (λ args. c.args.listed.now.items ++ record { receiver = c.args.receiver; op = c.args.op; args = args } ∷ []) (c.in_ok-args.ensures ∙ args);

@@ -4,18 +4,15 @@ use Rattle.ca_steps.specs.Stands.{seen}
 use Rattle.ca_sections.proofs.Few.{row_of_two}
 use Rattle.ca_sections.proofs.listing.list_two.Goals as goal
 
-pub kind_in-kind-requires : goal.kind_in-kind-requires
-kind_in-kind-requires c = omega (arith, c.requires.many)
-
-pub kind_in-next-requires : goal.kind_in-next-requires
-kind_in-next-requires c = omega (arith, c.requires.many)
+pub argument-requires : goal.argument-requires
+argument-requires c = omega (arith, c.requires.many)
 
 pub push_reserved-requires : goal.push_reserved-requires
 push_reserved-requires c = c.requires.room
 
 pub returns : goal.returns
 returns c =
-    let args = row_of_two (seen c.args.slots.now) c.args.first c.args.kinds.now c.kind_in-kind.result c.kind_in-next.result c.in-Some.value c.in-Some-value_at.other c.requires.many c.kind_in-kind.ensures c.kind_in-next.ensures c.in-Some.ensures c.in-Some-value_at.ensures in
+    let args = row_of_two (seen c.args.slots.now) c.args.first c.args.kinds.now c.in-Some.value c.in-Some-argument.other c.requires.many c.in-Some.ensures c.in-Some-argument.ensures in
     record {
       listed = c.push_reserved.ensures.items
           ∙ ap (λ args. c.args.listed.now.items ++ record { receiver = c.args.receiver; op = c.args.op; args = args } ∷ []) (c.in_ok-args.ensures ∙ args);
@@ -25,8 +22,8 @@ returns c =
 pub returns-in_default : goal.returns-in_default
 returns-in_default c = record { listed = tt; kept = refl }
 
-pub returns-in_default-value_at : goal.returns-in_default-value_at
-returns-in_default-value_at c = record { listed = tt; kept = refl }
+pub returns-in_default-argument : goal.returns-in_default-argument
+returns-in_default-argument c = record { listed = tt; kept = refl }
 
 pub returns-in_err-args : goal.returns-in_err-args
 returns-in_err-args c =

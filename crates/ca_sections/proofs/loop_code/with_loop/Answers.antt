@@ -5,7 +5,7 @@ use Rattle.ca_program.specs.Instructions.{HasAt}
 use Rattle.ca_code.specs.declared.ins.Row.{Row}
 use Rattle.ca_code.specs.Codes.{code_seen}
 use Rattle.ca_code.specs.Seen.{placed}
-use Rattle.ca_code.specs.clauses.Laying.{laid}
+use Rattle.ca_code.specs.Laying.{laid}
 use Rattle.ca_code_laws.specs.Known.{loop_alone}
 use Rattle.ca_sections.proofs.Extending.{last_there}
 use Rattle.ca_sections.proofs.loop_code.with_loop.Goals as goal

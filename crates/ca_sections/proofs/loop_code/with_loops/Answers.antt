@@ -4,7 +4,7 @@ use Rattle.std.proofs.lemmas.List.{length-map, drop_all}
 use Rattle.ca_program.specs.View.{program_view}
 use Rattle.ca_code.specs.declared.ins.Row.{Row}
 use Rattle.ca_code.specs.Seen.{placed}
-use Rattle.ca_code.specs.clauses.Laying.{laid}
+use Rattle.ca_code.specs.Laying.{laid}
 use Rattle.ca_sections.specs.Extending.{ats, begins_from, instructions_of}
 use Rattle.ca_sections.proofs.Extending.{all_stand, none_looked}
 use Rattle.ca_sections.proofs.loop_code.with_loops.Goals as goal

@@ -1,20 +1,14 @@
-use Rattle.std.proofs.Common.{◌≡◌, ◌∙◌, refl, ap, sym, subst, [], length, List}
-use Rattle.std.specs.Prelude.{true, false, Contains, IfOk}
+use Rattle.std.proofs.Common.{◌≡◌, ◌∙◌, refl, ap, sym, subst, [], List}
+use Rattle.std.specs.Prelude.{true, false, Contains}
 use Rattle.std.proofs.lemmas.Result.{err_from_is_err_and}
 use Rattle.ca_program.specs.View.{program_view, statement_view}
-use Rattle.ca_program.specs.Instructions.{Code}
-use Rattle.ca_meaning.specs.Serial.{Note, World, in_heap}
+use Rattle.ca_meaning.specs.Serial.{Note}
 use Rattle.ca_parallel.specs.Lists.{either}
 use Rattle.ca_note_laws.specs.Listing.{puts_nothing}
 use Rattle.ca_sections.specs.declared.operations.SectionAnswer.{SectionAnswer}
 use Rattle.ca_sections.specs.Answers.{LoopIs}
-use Rattle.ca_code_laws.specs.Machine.{Comes}
-use Rattle.ca_code_laws.specs.Runs.{Into, run_into}
-use Rattle.ca_steps.specs.Stands.{state_of}
-use Rattle.ca_steps.specs.Ways.{BeginsAt}
-use Rattle.ca_serial.specs.clauses.Handing.{Chose, with_notes}
-use Rattle.ca_serial.specs.clauses.Loops.{section_at, notes_of, begun_notes}
-use Rattle.ca_serial.proofs.Listed.{Stopped, trapped, spent, none_noted, unaccounted, none_yet, handed_all, handed_same, part_told, so_told, putting_enters, stopped_enters}
+use Rattle.ca_serial.specs.clauses.Loops.{GoesPast, section_at, notes_of, begun_notes}
+use Rattle.ca_serial.proofs.Listed.{Stopped, trapped, spent, none_yet, part_told, past_putting, past_stopped}
 use Rattle.ca_serial.proofs.Told.{none_told}
 use Rattle.ca_serial.proofs.listing.list_on.Goals as goal
 
@@ -25,22 +19,15 @@ returns-then-not-puts_nothing g c =
     let m = c.args.frames.now in
     let h = c.args.run.now.heap in
     let loop = statement_view c.args.s.now in
-    let tys = c.args.types.now in
     let put : puts_nothing loop ≡ false = sym c.puts_nothing.ensures ∙ c.if-not-puts_nothing.true in
-    let ns = begun_notes p h m tys c.args.line loop in
-    let none : ns ≡ [] = ap (λ b. either b (notes_of h m.left (section_at p h m tys c.args.line loop)) []) put in
-    record {
-      means = so_told c.go_in.result _ _ c.go_in.ensures (λ is c2 w into chose b. putting_enters p c2 m c.args.count c.args.line loop tys b h w into c.go_in.new.frames is put);
-      account = handed_all p _ _ c.go_in.result ns (unaccounted p _ ns none);
-      program = refl;
-    }
+    record { past = past_putting p m h c.args.count c.args.line loop c.args.types.now c.go_in.result c.go_in.new.frames c.go_in.ensures put; program = refl }
 
 pub returns-in_err-answer : goal.returns-in_err-answer
 returns-in_err-answer g c =
     let p = program_view c.args.coded.now in
     let e = err_from_is_err_and c.from_residual.result c.from_residual.ensures.1 in
     let ns = begun_notes p c.args.run.now.heap c.args.frames.now c.args.types.now c.args.line (statement_view c.args.s.now) in
-    record { means = none_told _ c.from_residual.result e.0 e.1; account = part_told p _ _ c.from_residual.result e.0 ns e.1 (none_yet p _ ns); program = refl }
+    record { past = record { means = none_told _ c.from_residual.result e.0 e.1; account = part_told p _ _ c.from_residual.result e.0 ns e.1 (none_yet p _ ns) }; program = refl }
 
 pub fill-requires : goal.fill-requires
 fill-requires g c = record { loops = c.requires.loops }
@@ -82,8 +69,7 @@ returns-in-Done g c =
     let put : puts_nothing loop ≡ true = sym c.puts_nothing.ensures ∙ c.if-not-puts_nothing.false in
     let same : begun_notes p h m tys c.args.line loop ≡ notes_of h m.left (section_at p h m tys c.args.line loop) = ap (λ b. either b (notes_of h m.left (section_at p h m tys c.args.line loop)) []) put in
     record {
-      means = subst (λ (ns : List Note). IfOk c.run_listed.result (λ _. (c2 : Code) (w : World) (into : Into) → Chose into (length w.notes) false ns → BeginsAt c2 m c.args.count c.args.line loop tys → Comes (run_into into p) c2 (state_of m (in_heap w h)) (state_of c.run_listed.new.frames (in_heap (with_notes w ns) c.run_listed.new.run.heap)))) (sym same) c.run_listed.ensures.means;
-      account = handed_same p _ _ c.run_listed.result _ _ same c.run_listed.ensures.account;
+      past = subst (λ (ns : List Note). GoesPast g.E.Extents.Accounts p ns m h c.args.count c.args.line loop tys c.run_listed.result (g.E.Extents.account c.args.engine.now) (g.E.Extents.account c.run_listed.new.engine) c.run_listed.new.frames c.run_listed.new.run.heap) (sym same) c.run_listed.ensures.past;
       program = c.run_listed.ensures.program;
     }
 
@@ -97,13 +83,7 @@ returns-in-Trapped g c =
     let put : puts_nothing loop ≡ true = sym c.puts_nothing.ensures ∙ c.if-not-puts_nothing.false in
     let o = section_at p h m tys c.args.line loop in
     let stop : Stopped o = trapped o c.in-Trapped.field-0 c.in_ok-answer.answer c.fill.new.self.listed.items c.in-Trapped.is (c.in_ok-answer.ensures.listed c.args.count c.args.line loop tys c.requires.begins put) in
-    let ns = begun_notes p h m tys c.args.line loop in
-    let none : ns ≡ [] = ap (λ b. either b (notes_of h m.left o) []) put ∙ none_noted h m.left o stop in
-    record {
-      means = so_told c.go_in-in-Trapped.result _ _ c.go_in-in-Trapped.ensures (λ is c2 w into chose b. stopped_enters p c2 m c.args.count c.args.line loop tys b h w into c.go_in-in-Trapped.new.frames is put stop);
-      account = handed_all p _ _ c.go_in-in-Trapped.result ns (unaccounted p _ ns none);
-      program = refl;
-    }
+    record { past = past_stopped p m h c.args.count c.args.line loop tys c.go_in-in-Trapped.result c.go_in-in-Trapped.new.frames c.go_in-in-Trapped.ensures put stop; program = refl }
 
 pub returns-in-Spent : goal.returns-in-Spent
 returns-in-Spent g c =
@@ -115,10 +95,4 @@ returns-in-Spent g c =
     let put : puts_nothing loop ≡ true = sym c.puts_nothing.ensures ∙ c.if-not-puts_nothing.false in
     let o = section_at p h m tys c.args.line loop in
     let stop : Stopped o = spent o c.in_ok-answer.answer c.fill.new.self.listed.items c.in-Spent.is (c.in_ok-answer.ensures.listed c.args.count c.args.line loop tys c.requires.begins put) in
-    let ns = begun_notes p h m tys c.args.line loop in
-    let none : ns ≡ [] = ap (λ b. either b (notes_of h m.left o) []) put ∙ none_noted h m.left o stop in
-    record {
-      means = so_told c.go_in-in-Spent.result _ _ c.go_in-in-Spent.ensures (λ is c2 w into chose b. stopped_enters p c2 m c.args.count c.args.line loop tys b h w into c.go_in-in-Spent.new.frames is put stop);
-      account = handed_all p _ _ c.go_in-in-Spent.result ns (unaccounted p _ ns none);
-      program = refl;
-    }
+    record { past = past_stopped p m h c.args.count c.args.line loop tys c.go_in-in-Spent.result c.go_in-in-Spent.new.frames c.go_in-in-Spent.ensures put stop; program = refl }

@@ -4,22 +4,24 @@ use Rattle.ca_serial.proofs.Driving.{gave_up}
 use Rattle.ca_serial.proofs.running.run_coded.Goals as goal
 
 pub returns-in_default : goal.returns-in_default
-returns-in_default g c = gave_up g.E.Extents.Accounts (program_view c.args.program.now) c.args.marks.now c.args.budget (g.E.Extents.account c.args.engine.now) (g.K.Sink.written c.args.sink.now) (g.K.Sink.faults c.args.sink.now)
+returns-in_default g c = gave_up
 
 pub returns-in_default-new : goal.returns-in_default-new
-returns-in_default-new g c = gave_up g.E.Extents.Accounts (program_view c.args.program.now) c.args.marks.now c.args.budget (g.E.Extents.account c.args.engine.now) (g.K.Sink.written c.args.sink.now) (g.K.Sink.faults c.args.sink.now)
+returns-in_default-new g c = gave_up
 
 pub run_all-requires-clause-ready : goal.run_all-requires-clause-ready
-run_all-requires-clause-ready g c = λ κs o. c.requires.ready
+run_all-requires-clause-ready g c = λ κs o. c.requires.may.ready
 
 pub run_all-requires-clause-program : goal.run_all-requires-clause-program
-run_all-requires-clause-program g c = λ κs o. c.requires.program
+run_all-requires-clause-program g c = λ κs o. c.requires.may.program
 
 pub run_all-requires-clause-sound : goal.run_all-requires-clause-sound
-run_all-requires-clause-sound g c = λ κs o. c.requires.sound
+run_all-requires-clause-sound g c = λ κs o. c.requires.may.sound
 
 pub run_all-requires-clause-good : goal.run_all-requires-clause-good
-run_all-requires-clause-good g c = λ κs o. all_good (program_view c.args.program.now) c.requires.program c.args.marks.now c.requires.sound c.args.budget g.E.Extents.serves c.requires.served
+run_all-requires-clause-good g c = λ κs o.
+    let may = c.requires.may in
+    all_good (program_view c.args.program.now) may.program c.args.marks.now may.sound c.args.budget g.E.Extents.serves may.served
 
 pub run_all-requires-clause-made : goal.run_all-requires-clause-made
 run_all-requires-clause-made g c = λ κs o. c.requires.made

@@ -6,9 +6,9 @@ use Rattle.ca_code_laws.specs.Runs.{run_access}
 use Rattle.ca_steps.specs.declared.running.Event.TheVariants as event
 use Rattle.ca_steps.specs.Stands.{state_of}
 use Rattle.ca_steps.specs.Ways.{stays, comes}
-use Rattle.ca_steps.specs.clauses.Events.{Happens, Turned}
+use Rattle.ca_steps.specs.Events.{Happens, Turned}
 use Rattle.ca_steps.proofs.Turning.{ends_there, happens_after, traps_so, turned_after}
-use Rattle.ca_steps.proofs.Ways.{way_then}
+use Rattle.ca_steps.proofs.Ways.{arrives, way_then}
 use Rattle.ca_steps.proofs.inside.run_past.Goals as goal
 
 pub loop-init : goal.loop-init
@@ -22,12 +22,7 @@ returns-in-Traps g c =
     let m = c.run_inside.new.frames in
     let h = rw inv.0 at c.in-Traps.ensures.halted in
     record {
-      event = record {
-        frames = h.frames;
-        heap = h.heap;
-        way = way_then p (code_seen code) c.args.frames.now c.args.run.now.run.heap inv.1 h.frames h.heap h.way;
-        happens = λ w. traps_so (run_access p) code (state_of h.frames (in_heap w h.heap)) m.at c.in-Traps.kind m (in_heap w c.run_inside.new.run.run.heap) c.trapped.result (rw c.as_slice.ensures.value at c.trapped.ensures) (h.halted w);
-      };
+      event = arrives p (code_seen code) c.args.frames.now c.args.run.now.run.heap _ _ inv.1 h _ _ (λ w. traps_so (run_access p) code (state_of h.frames (in_heap w h.heap)) m.at c.in-Traps.kind m (in_heap w c.run_inside.new.run.run.heap) c.trapped.result (rw c.as_slice.ensures.value at c.trapped.ensures) (h.halted w));
     }
 
 pub returns-in-Spends : goal.returns-in-Spends
@@ -37,12 +32,7 @@ returns-in-Spends g c =
     let inv = c.loop.invariant in
     let h = rw inv.0 at c.in-Spends.ensures.halted in
     record {
-      event = record {
-        frames = h.frames;
-        heap = h.heap;
-        way = way_then p (code_seen code) c.args.frames.now c.args.run.now.run.heap inv.1 h.frames h.heap h.way;
-        happens = h.halted;
-      };
+      event = arrives p (code_seen code) c.args.frames.now c.args.run.now.run.heap _ _ inv.1 h _ _ h.halted;
     }
 
 pub returns-in-Ends : goal.returns-in-Ends
@@ -53,12 +43,7 @@ returns-in-Ends g c =
     let m = c.run_inside.new.frames in
     let h = rw inv.0 at c.in-Ends.ensures.halted in
     record {
-      event = record {
-        frames = h.frames;
-        heap = h.heap;
-        way = way_then p (code_seen code) c.args.frames.now c.args.run.now.run.heap inv.1 h.frames h.heap h.way;
-        happens = λ w. ends_there (run_access p) (code_seen code) (state_of h.frames (in_heap w h.heap)) m (in_heap w c.run_inside.new.run.run.heap) (h.halted w);
-      };
+      event = arrives p (code_seen code) c.args.frames.now c.args.run.now.run.heap _ _ inv.1 h _ _ (λ w. ends_there (run_access p) (code_seen code) (state_of h.frames (in_heap w h.heap)) m (in_heap w c.run_inside.new.run.run.heap) (h.halted w));
     }
 
 pub returns-in-Fails : goal.returns-in-Fails
@@ -94,14 +79,9 @@ returns-in-Some-act_slowly g c =
     let same = c.in-Leaves.ensures.program ∙ inv.0 in
     let m = c.act_slowly.new.frames in
     record {
-      event = record {
-        frames = h.frames;
-        heap = h.heap;
-        way = way_then p (code_seen code) c.args.frames.now c.args.run.now.run.heap inv.1 h.frames h.heap h.way;
-        happens = λ w.
-            happens_after (run_access p) code (state_of h.frames (in_heap w h.heap)) (state_of mid (in_heap w c.run_inside.new.run.run.heap)) m (in_heap w c.act_slowly.new.run.heap) c.in-Some-act_slowly.event (h.halted w)
-            (rw same at (t.turned w));
-      };
+      event = arrives p (code_seen code) c.args.frames.now c.args.run.now.run.heap _ _ inv.1 h _ _ (λ w.
+          happens_after (run_access p) code (state_of h.frames (in_heap w h.heap)) (state_of mid (in_heap w c.run_inside.new.run.run.heap)) m (in_heap w c.act_slowly.new.run.heap) c.in-Some-act_slowly.event (h.halted w)
+          (rw same at (t.turned w)));
     }
 
 pub returns : goal.returns

@@ -2,6 +2,7 @@ use Rattle.std.proofs.Common.{rules, w64, SFits, ◌≡◌, ◌+◌, false, Err,
 use Rattle.std.proofs.lemmas.Int.{to_z-of_z}
 use Rattle.std.proofs.lemmas.List.{drop_all}
 use Rattle.std.proofs.lemmas.Result.{err_from_is_err_and}
+use Rattle.ca_lists.proofs.Places.{item_and_rest}
 use Rattle.ca_program.specs.Plain.{number, truth, null, this, local, own, expression_and}
 use Rattle.ca_program.specs.View.{expression_view, expressions_view, program_view}
 use Rattle.ca_norm.specs.Terms as term
@@ -10,7 +11,6 @@ use Rattle.ca_symbolic.specs.declared.evaluate.Begun.{Begun}
 use Rattle.ca_symbolic.specs.States.{term_at, receiver}
 use Rattle.ca_symbolic.specs.Execution.{divisor}
 use Rattle.ca_symbolic.proofs.Flags.{always, again, made_is_light}
-use Rattle.ca_forms.proofs.Merging.{item_and_rest}
 use Rattle.ca_symbolic.proofs.Making.{memory_is_light}
 use Rattle.ca_symbolic.proofs.Rows.{values_heavy, values_step, values_made, values_demand, values_light}
 use Rattle.ca_symbolic.proofs.Valued.{leaf_told, stopped, own_item_first, own_item_told, read_first, read_told, read_item_first, read_item_second, read_item_told, call_first, call_second, call_told, unary_first, unary_told, binary_first, binary_guard, binary_second, binary_told}

@@ -1,9 +1,9 @@
 use Rattle.std.proofs.Common.{◌≡◌, sym, ap, subst, ◌∙◌}
 use Rattle.ca_program.specs.View.{form_view}
 use Rattle.ca_symbolic.specs.OtherLoops.{other_loop}
-use Rattle.ca_symbolic.proofs.Blocks.{block_view}
 use Rattle.ca_symbolic.proofs.Told.{other_for}
 use Rattle.ca_symbolic.proofs.loops.+other.Goals as goal
+use Rattle.ca_sweep.proofs.Blocks.{block_view}
 
 pub other_loop-returns-in-Block : goal.other_loop-returns-in-Block
 other_loop-returns-in-Block t c =

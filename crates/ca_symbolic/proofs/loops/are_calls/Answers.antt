@@ -1,11 +1,11 @@
 use Rattle.std.proofs.Common.{◌≡◌, ◌+◌, List, drop, sym, ap, ◌∙◌}
 use Rattle.std.proofs.lemmas.List.{drop_all}
+use Rattle.ca_lists.proofs.Places.{item_and_rest}
 use Rattle.ca_program.specs.declared.program.Stmt.{Stmt}
 use Rattle.ca_program.specs.Plain.{statement_and}
 use Rattle.ca_program.specs.View.{statement_view, statements_view}
 use Rattle.ca_symbolic.specs.OtherLoops.{are_calls}
 use Rattle.ca_symbolic.proofs.Blocks.{calls_so_far, no_call}
-use Rattle.ca_forms.proofs.Merging.{item_and_rest}
 use Rattle.ca_symbolic.proofs.loops.are_calls.Goals as goal
 
 pub statements-preserved : goal.statements-preserved

@@ -1,7 +1,7 @@
 use Rattle.std.proofs.Common.{◌≡◌, sym, subst}
 use Rattle.ca_symbolic.specs.OtherLoops.{calls_alone}
-use Rattle.ca_symbolic.proofs.Blocks.{block_view}
 use Rattle.ca_symbolic.proofs.loops.calls_alone.Goals as goal
+use Rattle.ca_sweep.proofs.Blocks.{block_view}
 
 pub returns-in-Block : goal.returns-in-Block
 returns-in-Block c =

@@ -1,14 +1,14 @@
 use Rattle.std.proofs.Common.{◌≡◌, ◌+◌, ◌∷◌, ◌++◌, drop, List, sym, ap, ◌∙◌}
 use Rattle.std.proofs.lemmas.List.{drop_all, map-append}
+use Rattle.ca_lists.proofs.Places.{item_and_rest}
 use Rattle.ca_program.specs.declared.program.FieldId.{FieldId}
 use Rattle.ca_program.specs.declared.program.Stmt.{Stmt}
 use Rattle.ca_program.specs.View.{form_view, statement_view, statements_view}
 use Rattle.ca_parallel.specs.Bodies.{targets_of, targets_of_all}
 use Rattle.ca_symbolic.specs.clauses.Places.{marked, fields_put, fields_put_all}
-use Rattle.ca_symbolic.proofs.Blocks.{block_view}
-use Rattle.ca_forms.proofs.Merging.{item_and_rest}
 use Rattle.ca_symbolic.proofs.Marks.{marked_step, fields_two}
 use Rattle.ca_symbolic.proofs.places.+fields.Goals as goal
+use Rattle.ca_sweep.proofs.Blocks.{block_view}
 
 pub mark_fields-returns-in-Block : goal.mark_fields-returns-in-Block
 mark_fields-returns-in-Block t c =

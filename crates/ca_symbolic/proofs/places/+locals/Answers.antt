@@ -1,12 +1,12 @@
 use Rattle.std.proofs.Common.{◌≡◌, ◌+◌, ◌∷◌, drop, List, sym, ap, ◌∙◌}
 use Rattle.std.proofs.lemmas.List.{drop_all}
+use Rattle.ca_lists.proofs.Places.{item_and_rest}
 use Rattle.ca_program.specs.declared.program.Stmt.{Stmt}
 use Rattle.ca_program.specs.View.{form_view, statement_view, statements_view}
 use Rattle.ca_symbolic.specs.clauses.Places.{marked, locals_put, locals_put_all}
-use Rattle.ca_symbolic.proofs.Blocks.{block_view}
-use Rattle.ca_forms.proofs.Merging.{item_and_rest}
 use Rattle.ca_symbolic.proofs.Marks.{marked_two, marked_step}
 use Rattle.ca_symbolic.proofs.places.+locals.Goals as goal
+use Rattle.ca_sweep.proofs.Blocks.{block_view}
 
 pub mark_locals-returns-in-Block : goal.mark_locals-returns-in-Block
 mark_locals-returns-in-Block t c =

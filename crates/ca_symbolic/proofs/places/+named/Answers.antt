@@ -1,12 +1,12 @@
 use Rattle.std.proofs.Common.{◌≡◌, ◌+◌, ◌∷◌, ◌++◌, drop, List, sym, ap, ◌∙◌}
 use Rattle.std.proofs.lemmas.List.{drop_all}
+use Rattle.ca_lists.proofs.Places.{item_and_rest}
 use Rattle.ca_program.specs.declared.program.Stmt.{Stmt}
 use Rattle.ca_program.specs.View.{form_view, expression_view, expressions_view, statement_view, statements_view}
 use Rattle.ca_symbolic.specs.clauses.Places.{marked, locals_in, locals_in_all, locals_named, locals_named_all}
-use Rattle.ca_symbolic.proofs.Blocks.{block_view}
-use Rattle.ca_forms.proofs.Merging.{item_and_rest}
 use Rattle.ca_symbolic.proofs.Marks.{marked_two, marked_step}
 use Rattle.ca_symbolic.proofs.places.+named.Goals as goal
+use Rattle.ca_sweep.proofs.Blocks.{block_view}
 
 pub mark_named-returns-in-Block : goal.mark_named-returns-in-Block
 mark_named-returns-in-Block t c =

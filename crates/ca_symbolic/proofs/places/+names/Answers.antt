@@ -1,10 +1,10 @@
 use Rattle.std.proofs.Common.{◌≡◌, ◌+◌, ◌∷◌, drop, List, sym, ap, ◌∙◌}
 use Rattle.std.proofs.lemmas.List.{drop_all}
+use Rattle.ca_lists.proofs.Places.{item_and_rest}
 use Rattle.ca_program.specs.declared.program.Expr.{Expr}
 use Rattle.ca_program.specs.View.{expression_view, expressions_view}
 use Rattle.ca_symbolic.specs.clauses.Places.{marked, locals_in, locals_in_all}
 use Rattle.ca_symbolic.proofs.Blocks.{call_view}
-use Rattle.ca_forms.proofs.Merging.{item_and_rest}
 use Rattle.ca_symbolic.proofs.Marks.{marked_append, marked_two, marked_step}
 use Rattle.ca_symbolic.proofs.places.+names.Goals as goal
 

@@ -1,5 +1,6 @@
 use Rattle.std.proofs.Common.{◌≡◌, [], ◌∷◌, Err, List, sym, ap, ap₂, ◌∙◌}
 use Rattle.std.proofs.lemmas.Result.{err_from_is_err_and}
+use Rattle.std.proofs.lemmas.Bool.{or_right, or_left, or_from}
 use Rattle.ca_program.specs.View.{expression_view, program_view}
 use Rattle.ca_shared_terms.specs.declared.errors.ExecutionError.TheVariants.{Large, Memory}
 use Rattle.ca_norm.specs.Terms.{PlainTerm}
@@ -8,7 +9,7 @@ use Rattle.ca_symbolic.specs.Execution.{term_of, with_field}
 use Rattle.ca_symbolic.specs.Demands.{demands_in}
 use Rattle.ca_symbolic.specs.Demanded.{with_demands}
 use Rattle.ca_symbolic.specs.clauses.Refusals.{refused, refused_array}
-use Rattle.ca_symbolic.proofs.Flags.{neither, first_of, second_of, again, made_is_light}
+use Rattle.ca_symbolic.proofs.Flags.{again, made_is_light}
 use Rattle.ca_symbolic.proofs.Making.{memory_is_light}
 use Rattle.ca_symbolic.proofs.Valued.{behind, guard_of}
 use Rattle.ca_symbolic.proofs.puts.put_item.Goals as goal
@@ -24,7 +25,7 @@ returns-in_err-index c =
       after = rw q.1 tt;
       demands = rw q.1 tt;
       light = rw q.1 tt;
-      large = λ told. first_of (refused (program_view a.program.now) a.state.now a.out.now.guard (expression_view a.i.now)) (refused_array (program_view a.program.now) a.state.now a.out.now.guard a.field (expression_view a.i.now) a.op (expression_view a.e.now)) (c.in_err-index.ensures.large (ap (λ e. Err e) (again c.from_residual.result q.0 c.in_err-index.field-0.0 Large q.1 q.2 told)));
+      large = λ told. or_left (refused (program_view a.program.now) a.state.now a.out.now.guard (expression_view a.i.now)) (refused_array (program_view a.program.now) a.state.now a.out.now.guard a.field (expression_view a.i.now) a.op (expression_view a.e.now)) (c.in_err-index.ensures.large (ap (λ e. Err e) (again c.from_residual.result q.0 c.in_err-index.field-0.0 Large q.1 q.2 told)));
     }
 
 pub returns-in_err-ask_in_range : goal.returns-in_err-ask_in_range
@@ -49,7 +50,7 @@ returns-in_err-term c =
       after = rw q.1 tt;
       demands = rw q.1 tt;
       light = rw q.1 tt;
-      large = λ told. second_of (refused (program_view a.program.now) a.state.now a.out.now.guard (expression_view a.i.now)) (refused_array (program_view a.program.now) a.state.now a.out.now.guard a.field (expression_view a.i.now) a.op (expression_view a.e.now))
+      large = λ told. or_right (refused (program_view a.program.now) a.state.now a.out.now.guard (expression_view a.i.now)) (refused_array (program_view a.program.now) a.state.now a.out.now.guard a.field (expression_view a.i.now) a.op (expression_view a.e.now))
           (ap (λ (k : PlainTerm). refused_array (program_view a.program.now) a.state.now k a.field (expression_view a.i.now) a.op (expression_view a.e.now)) (sym (next ∙ first)) ∙ c.in_err-term.ensures.large (ap (λ e. Err e) (again r.result q.0 c.in_err-term.field-0.0 Large q.1 q.2 told)));
     }
 
@@ -69,6 +70,6 @@ returns c =
       after = c.put_field.ensures ∙ ap (with_field a.state.now a.field.field) c.in_ok-term.ensures.made;
       demands = behind a.out.now d1 c.array_term.new.out (demands_in (program_view a.program.now) a.state.now a.out.now.guard (expression_view a.i.now)) (demand a.out.now.guard (in_range a.field) (term_of (program_view a.program.now) a.state.now (expression_view a.i.now) ∷ []) ∷ demands_in (program_view a.program.now) a.state.now a.out.now.guard (expression_view a.e.now)) i.ensures.demands
           (behind d1 d2 c.array_term.new.out asked (demands_in (program_view a.program.now) a.state.now a.out.now.guard (expression_view a.e.now)) next (c.in_ok-term.ensures.demands ∙ ap (λ (k : PlainTerm). with_demands d2 (demands_in (program_view a.program.now) a.state.now k (expression_view a.e.now))) guard));
-      light = neither (refused (program_view a.program.now) a.state.now a.out.now.guard (expression_view a.i.now)) (refused_array (program_view a.program.now) a.state.now a.out.now.guard a.field (expression_view a.i.now) a.op (expression_view a.e.now)) i.ensures.light (ap (λ (k : PlainTerm). refused_array (program_view a.program.now) a.state.now k a.field (expression_view a.i.now) a.op (expression_view a.e.now)) (sym guard) ∙ c.in_ok-term.ensures.light);
+      light = or_from (refused (program_view a.program.now) a.state.now a.out.now.guard (expression_view a.i.now)) (refused_array (program_view a.program.now) a.state.now a.out.now.guard a.field (expression_view a.i.now) a.op (expression_view a.e.now)) i.ensures.light (ap (λ (k : PlainTerm). refused_array (program_view a.program.now) a.state.now k a.field (expression_view a.i.now) a.op (expression_view a.e.now)) (sym guard) ∙ c.in_ok-term.ensures.light);
       large = λ told. absurd (made_is_light told);
     }

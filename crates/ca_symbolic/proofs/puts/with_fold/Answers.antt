@@ -1,10 +1,10 @@
 use Rattle.std.proofs.Common.{◌≡◌, Err, ◌||◌, sym, ap, ap₂, ◌∙◌}
 use Rattle.std.proofs.lemmas.Result.{err_from_is_err_and}
+use Rattle.std.proofs.lemmas.Bool.{or_right, or_left}
 use Rattle.ca_norm.specs.Terms.{PlainTerm, put, select, fold}
 use Rattle.ca_shared_terms.specs.declared.errors.ExecutionError.TheVariants.{Memory}
 use Rattle.ca_shared_terms.specs.Heavy.{is_heavy}
 use Rattle.ca_symbolic.specs.clauses.Refusals.{refused_fold}
-use Rattle.ca_symbolic.proofs.Flags.{first_of, second_of}
 use Rattle.ca_symbolic.proofs.Making.{makes_as, fails, memory_is_light}
 use Rattle.ca_symbolic.proofs.puts.with_fold.Goals as goal
 
@@ -22,7 +22,7 @@ returns-in_err-item c =
     let old : c.in_ok-old.old ≡ a.array = rw c.in_ok-old.ensures.first at c.share.ensures.same in
     let place : c.in_ok-old.place ≡ a.index = rw c.in_ok-old.ensures.second at c.share-2.ensures.same in
     let w = fails c.from_residual-in_err-item.result (put a.array a.index (fold a.operator (select a.array a.index) a.value)) (refused_fold a.operator a.array a.index a.value) q.0 c.in_err-item.field-0.0 q.1 q.2
-    (λ told. first_of (is_heavy (select a.array a.index)) (is_heavy (fold a.operator (select a.array a.index) a.value) || is_heavy (put a.array a.index (fold a.operator (select a.array a.index) a.value)))
+    (λ told. or_left (is_heavy (select a.array a.index)) (is_heavy (fold a.operator (select a.array a.index) a.value) || is_heavy (put a.array a.index (fold a.operator (select a.array a.index) a.value)))
     (ap₂ (λ (u v : PlainTerm). is_heavy (select u v)) (sym old) (sym place) ∙ c.in_err-item.ensures.large (ap (λ e. Err e) told))) in
     record { made = w.made; light = w.light; large = w.large }
 
@@ -34,8 +34,8 @@ returns-in_err-joined c =
     let place : c.in_ok-old.place ≡ a.index = rw c.in_ok-old.ensures.second at c.share-2.ensures.same in
     let item : c.in_ok-item.item ≡ select a.array a.index = c.in_ok-item.ensures.made ∙ ap₂ select old place in
     let w = fails c.from_residual-in_err-joined.result (put a.array a.index (fold a.operator (select a.array a.index) a.value)) (refused_fold a.operator a.array a.index a.value) q.0 c.in_err-joined.field-0.0 q.1 q.2
-    (λ told. second_of (is_heavy (select a.array a.index)) (is_heavy (fold a.operator (select a.array a.index) a.value) || is_heavy (put a.array a.index (fold a.operator (select a.array a.index) a.value)))
-    (first_of (is_heavy (fold a.operator (select a.array a.index) a.value)) (is_heavy (put a.array a.index (fold a.operator (select a.array a.index) a.value)))
+    (λ told. or_right (is_heavy (select a.array a.index)) (is_heavy (fold a.operator (select a.array a.index) a.value) || is_heavy (put a.array a.index (fold a.operator (select a.array a.index) a.value)))
+    (or_left (is_heavy (fold a.operator (select a.array a.index) a.value)) (is_heavy (put a.array a.index (fold a.operator (select a.array a.index) a.value)))
     (ap (λ (u : PlainTerm). is_heavy (fold a.operator u a.value)) (sym item) ∙ c.in_err-joined.ensures.large (ap (λ e. Err e) told)))) in
     record { made = w.made; light = w.light; large = w.large }
 

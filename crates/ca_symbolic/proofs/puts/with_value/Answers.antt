@@ -1,5 +1,6 @@
 use Rattle.std.proofs.Common.{◌≡◌, false, Ok, Err, ◌||◌, sym, ap, ap₂, ◌∙◌}
 use Rattle.std.proofs.lemmas.Result.{err_from_is_err_and}
+use Rattle.std.proofs.lemmas.Bool.{or_left}
 use Rattle.ca_program.specs.View.{expression_view, program_view}
 use Rattle.ca_norm.specs.Terms.{PlainTerm}
 use Rattle.ca_symbolic.specs.States.{term_at}
@@ -7,7 +8,7 @@ use Rattle.ca_symbolic.specs.Execution.{term_of}
 use Rattle.ca_symbolic.specs.Demands.{demands_in}
 use Rattle.ca_symbolic.specs.Demanded.{with_demands}
 use Rattle.ca_symbolic.specs.clauses.Refusals.{refused, with_put, refused_put, refused_value}
-use Rattle.ca_symbolic.proofs.Flags.{first_of, always}
+use Rattle.ca_symbolic.proofs.Flags.{always}
 use Rattle.ca_symbolic.proofs.Making.{makes_as, fails}
 use Rattle.ca_symbolic.proofs.puts.with_value.Goals as goal
 
@@ -24,7 +25,7 @@ returns-in_err-parts c =
     let a = c.args in
     let q = err_from_is_err_and c.from_residual-in_err-parts.result c.from_residual-in_err-parts.ensures.1 in
     let w = fails c.from_residual-in_err-parts.result (with_put a.op (term_at a.state.now.fields a.field.field) a.index (term_of (program_view a.program.now) a.state.now (expression_view a.e.now))) (refused_value (program_view a.program.now) a.state.now a.out.now.guard a.field a.op a.index (expression_view a.e.now)) q.0 c.in_err-parts.field-0.0 q.1 q.2
-    (λ told. first_of (refused (program_view a.program.now) a.state.now a.out.now.guard (expression_view a.e.now)) (refused_put a.op (term_at a.state.now.fields a.field.field) a.index (term_of (program_view a.program.now) a.state.now (expression_view a.e.now))) (c.value_of.ensures.large (c.in_err-parts.ensures.large (ap (λ e. Err e) told)))) in
+    (λ told. or_left (refused (program_view a.program.now) a.state.now a.out.now.guard (expression_view a.e.now)) (refused_put a.op (term_at a.state.now.fields a.field.field) a.index (term_of (program_view a.program.now) a.state.now (expression_view a.e.now))) (c.value_of.ensures.large (c.in_err-parts.ensures.large (ap (λ e. Err e) told)))) in
     record { made = w.made; demands = rw q.1 tt; light = w.light; large = w.large }
 
 pub returns : goal.returns

@@ -1,12 +1,12 @@
 use Rattle.std.proofs.Common.{◌≡◌, ◌+◌, ◌&&◌, true, List, drop, sym, ap, ap₂, ◌∙◌, arith}
 use Rattle.std.proofs.lemmas.List.{drop_all}
 use Rattle.std.specs.Prelude.{nat_eq}
+use Rattle.ca_lists.proofs.Places.{item_and_rest}
 use Rattle.ca_program.specs.declared.program.Expr.{Expr}
 use Rattle.ca_program.specs.Plain.{expression_and}
 use Rattle.ca_program.specs.View.{expression_view, expressions_view}
 use Rattle.ca_symbolic.specs.Same.{same_expression, same_expressions}
 use Rattle.ca_symbolic.proofs.Blocks.{call_view, unequal, alike_so_far, not_alike}
-use Rattle.ca_forms.proofs.Merging.{item_and_rest}
 use Rattle.ca_symbolic.proofs.same.+same.Goals as goal
 
 pub same_expression-returns-in-Value-Value : goal.same_expression-returns-in-Value-Value

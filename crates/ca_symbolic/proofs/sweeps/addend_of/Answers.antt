@@ -1,11 +1,12 @@
 use Rattle.std.proofs.Common.{◌&&◌, ◌||◌, Err, sym, ap, ◌∙◌}
 use Rattle.std.proofs.lemmas.Result.{err_from_is_err_and}
+use Rattle.std.proofs.lemmas.Bool.{or_left}
 use Rattle.ca_program.specs.View.{expression_view, program_view}
 use Rattle.ca_norm.specs.Terms.{PlainTerm, neg}
 use Rattle.ca_shared_terms.specs.Heavy.{is_heavy}
 use Rattle.ca_symbolic.specs.Execution.{term_of, addend_term}
 use Rattle.ca_symbolic.specs.clauses.Refusals.{refused, refused_addend}
-use Rattle.ca_symbolic.proofs.Flags.{first_of, always}
+use Rattle.ca_symbolic.proofs.Flags.{always}
 use Rattle.ca_symbolic.proofs.Making.{makes_as, fails}
 use Rattle.ca_symbolic.proofs.sweeps.addend_of.Goals as goal
 
@@ -19,7 +20,7 @@ returns-in_err-term c =
     let t : PlainTerm = term_of p a.state.now (expression_view a.e.now) in
     let q = err_from_is_err_and c.from_residual.result c.from_residual.ensures.1 in
     let w = fails c.from_residual.result (addend_term a.minus t) (refused_addend p a.state.now a.out.now.guard a.minus (expression_view a.e.now)) q.0 c.in_err-term.field-0.0 q.1 q.2
-    (λ told. first_of (refused p a.state.now a.out.now.guard (expression_view a.e.now)) (a.minus && is_heavy (neg t)) (c.in_err-term.ensures.large (ap (λ e. Err e) told))) in
+    (λ told. or_left (refused p a.state.now a.out.now.guard (expression_view a.e.now)) (a.minus && is_heavy (neg t)) (c.in_err-term.ensures.large (ap (λ e. Err e) told))) in
     record { made = w.made; demands = rw q.1 tt; light = w.light; large = w.large }
 
 pub returns : goal.returns

@@ -1,6 +1,7 @@
 use Rattle.std.proofs.Common.{◌≡◌, ◌+◌, false, true, Err, OnOk, drop, refl, sym, ap, subst, ◌∙◌}
 use Rattle.std.proofs.lemmas.List.{drop_all}
 use Rattle.std.proofs.lemmas.Result.{err_from_is_err_and}
+use Rattle.ca_lists.proofs.Places.{item_and_rest}
 use Rattle.ca_program.specs.Plain.{put_local, put_field, put_item, invoke, statement_and}
 use Rattle.ca_program.specs.View.{program_view, expression_view, expressions_view, form_view, statement_view, statements_view}
 use Rattle.ca_shared_terms.specs.declared.errors.ExecutionError.TheVariants.{Large}
@@ -8,14 +9,13 @@ use Rattle.ca_symbolic.specs.Execution.{after}
 use Rattle.ca_symbolic.specs.Demands.{demanded}
 use Rattle.ca_symbolic.specs.Demanded.{with_demands}
 use Rattle.ca_symbolic.specs.clauses.Refusals.{refused_by}
-use Rattle.ca_symbolic.proofs.Blocks.{block_view}
 use Rattle.ca_symbolic.proofs.Flags.{always, again, made_is_light}
-use Rattle.ca_forms.proofs.Merging.{item_and_rest}
 use Rattle.ca_symbolic.proofs.Ran.{ran_as, cut_short, if_condition, if_then, if_first, if_else_heavy, if_second, if_told}
 use Rattle.ca_symbolic.proofs.Rows.{runs_heavy, runs_step, runs_after, runs_demand, runs_light}
 use Rattle.ca_symbolic.proofs.Told.{loop_after, loop_told, loop_refused, loop_read}
 use Rattle.ca_symbolic.proofs.Views.{if_is}
 use Rattle.ca_symbolic.proofs.walk.+run.Goals as goal
+use Rattle.ca_sweep.proofs.Blocks.{block_view}
 
 pub run-returns-in-Block-clause-after : goal.run-returns-in-Block-clause-after
 run-returns-in-Block-clause-after t c =

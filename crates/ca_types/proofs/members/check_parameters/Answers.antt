@@ -1,7 +1,7 @@
 use Rattle.std.proofs.Common.{◌∙◌, ap, refl, sym, subst}
 use Rattle.std.proofs.lemmas.List.{drop_all}
+use Rattle.ca_lists.proofs.Places.{item_and_rest}
 use Rattle.ca_resolve.specs.Judged.{Answers, fine}
-use Rattle.ca_resolve.proofs.Tables.{next_read}
 use Rattle.ca_types.specs.Statements.{declare}
 use Rattle.ca_types.specs.Classes.{behind_parameter, judge_parameter}
 use Rattle.ca_types.specs.clauses.Adding.{add_parameter}
@@ -21,7 +21,7 @@ loop-param-preserved c =
       add_parameter s front p,
       c.and_also-answers.ensures front (judge_parameter s p) c.loop-param.invariant.1 c.check_parameter-answer.ensures,
       rest_step behind_parameter add_parameter (env_view c.args.walk.now) s (env_view c.declare.new.self) (fine tt) front c.args.params.now p _ _
-          (next_read c.args.params.now c.loop-param.param-index p c.loop-param-test.true c.param-item.is)
+          (item_and_rest c.args.params.now c.loop-param.param-index p c.loop-param-test.true c.param-item.is)
           (c.in_ok-declare.ensures ∙ ap (λ z. declare s z p.name) c.ty_of-ty.ensures) c.loop-param.invariant.2,
     )
 

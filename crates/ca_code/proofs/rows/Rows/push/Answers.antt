@@ -1,6 +1,6 @@
 use Rattle.std.proofs.Common.{◌≡◌, ◌∷◌, ◌++◌, [], false, is_err, sym, ◌∙◌}
 use Rattle.ca_code.specs.Seen.{row_of}
-use Rattle.ca_code.specs.clauses.Laying.{laid}
+use Rattle.ca_code.specs.Laying.{laid}
 use Rattle.ca_code.proofs.Laying.{no_error}
 use Rattle.ca_code.proofs.rows.Rows.push.Goals as goal
 

@@ -1,7 +1,7 @@
 use Rattle.std.proofs.Common.{sym, ap, ◌∙◌}
 use Rattle.std.specs.Prelude.{slice_set}
 use Rattle.ca_code.specs.Seen.{placed}
-use Rattle.ca_code.specs.clauses.Laying.{Laying, laid}
+use Rattle.ca_code.specs.Laying.{Laying, laid}
 use Rattle.ca_code.proofs.Laying.{map_put}
 use Rattle.ca_code.proofs.rows.Rows.put.Goals as goal
 

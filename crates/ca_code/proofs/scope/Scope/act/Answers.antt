@@ -3,7 +3,7 @@ use Rattle.ca_program.specs.View.{program_view, form_view}
 use Rattle.ca_program.specs.Kinds.{kinds_in}
 use Rattle.ca_program.specs.Instructions.{on, PutField, PutItem, CheckItem, NewItem, Print}
 use Rattle.ca_program.specs.Layout.{all_acts}
-use Rattle.ca_code.specs.clauses.Laying.{Adds}
+use Rattle.ca_code.specs.Laying.{Adds}
 use Rattle.ca_code.proofs.Laying.{then, stopped}
 use Rattle.ca_code.proofs.Operands.{row_is}
 use Rattle.ca_code.proofs.scope.Scope.act.Goals as goal

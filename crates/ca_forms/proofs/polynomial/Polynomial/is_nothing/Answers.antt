@@ -1,6 +1,6 @@
 use Rattle.std.proofs.Common.{◌≡◌, ap, ◌∙◌, ◌==◌, length, rules}
 use Rattle.ca_forms.specs.clauses.Places.{is_nothing}
-use Rattle.ca_forms.proofs.Places.{is_none}
+use Rattle.ca_forms.proofs.Constants.{is_none}
 use Rattle.ca_forms.proofs.polynomial.Polynomial.is_nothing.Goals as goal
 
 pub returns : goal.returns

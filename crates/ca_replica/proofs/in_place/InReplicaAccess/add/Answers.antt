@@ -1,42 +1,30 @@
-use Rattle.std.proofs.Common.{◌≡◌, sym, ap, ◌∙◌, subst, rules, w64}
+use Rattle.std.proofs.Common.{◌≡◌, sym, ap, ◌∙◌, subst, rules, w64, refl}
 use Rattle.std.specs.Prelude.{pos, slice_get}
 use Rattle.std.proofs.lemmas.Int.{to_z-of_z}
-use mir.Val.{SFits, of_z, to_z}
+use mir.Val.{SFits}
 use Rattle.ca_model.specs.declared.value.Value.TheVariants.{Long, Ref}
 use Rattle.ca_meaning.specs.Expressions.{one_in}
 use Rattle.ca_meaning.specs.Functions.{own_of}
 use Rattle.ca_meaning.specs.Serial.{in_heap, put_own}
 use Rattle.ca_code_laws.specs.Words.{pointer_of}
-use Rattle.ca_steps.specs.clauses.Telling.{Adds}
+use Rattle.ca_steps.proofs.Loading.{some_by}
+use Rattle.ca_steps.specs.Telling.{Adds}
 use Rattle.ca_replica.specs.Applied.{sums}
 use Rattle.ca_replica.proofs.in_place.InReplicaAccess.add.Goals as goal
 
-pub returns-then-is_put : goal.returns-then-is_put
-returns-then-is_put g c =
+pub returns : goal.returns
+returns g c =
     let s = c.args.self.now in
     let h = sums s.extent.now.written s.frozen.now s.copies.now in
     let me : pointer_of (pos c.args.this) ≡ Ref c.in-Ref.o = sym c.receiver_of.ensures ∙ c.in-Ref.is in
-    let had : SFits w64 c.in-Long.a = search rules in
     let more : SFits w64 c.args.n = search rules in
-    let small : SFits w64 c.sum_of-sum.result = search rules in
-    let total : Adds (Long c.in-Long.a) c.args.n c.sum_of-sum.result = rw (to_z-of_z w64 c.in-Long.a had, to_z-of_z w64 c.args.n more) at c.sum_of-sum.ensures in
-    let m = to_z w64 (of_z w64 c.sum_of-sum.result) in
     record {
-      adds = λ past bs fits.
-          let own : one_in (slice_get (own_of h (pointer_of (pos c.args.this))) c.args.f.field) ≡ Long c.in-Long.a =
-          ap (λ v. one_in (slice_get (own_of h v) c.args.f.field)) me ∙ (sym (c.own_value-own.ensures s.olds.now fits) ∙ c.in-Long.is) in
-          subst (λ v. Adds v c.args.n m) (sym own) (subst (Adds (Long c.in-Long.a) c.args.n) (sym (to_z-of_z w64 c.sum_of-sum.result small)) total);
-      put = λ past bs fits. ap (in_heap past) (c.put_sum-is_put.ensures.put c.if-is_put.true ∙ ap (λ v. put_own h v c.args.f 0 (Long m)) (sym me));
-      fixed = λ i. record { program = s.program.now; written = s.extent.now.written; frozen = s.frozen.now; marks = s.marks.now; before = c.put_sum-is_put.ensures.before i; copies = s.copies.ghost_name; olds = s.olds.ghost_name };
-      fits = λ bs k. c.put_sum-is_put.ensures.keeps k;
-    }
-
-pub returns-else-is_put : goal.returns-else-is_put
-returns-else-is_put g c =
-    let s = c.args.self.now in
-    record {
-      adds = tt;
-      put = tt;
-      fixed = λ i. record { program = s.program.now; written = s.extent.now.written; frozen = s.frozen.now; marks = s.marks.now; before = c.put_sum-is_put.ensures.before i; copies = s.copies.ghost_name; olds = s.olds.ghost_name };
-      fits = λ bs k. c.put_sum-is_put.ensures.keeps k;
+      adds = some_by _ _ c.add_sum.result
+          (λ m e past bs fits. subst (λ v. Adds (one_in (slice_get (own_of h v) c.args.f.field)) c.args.n m) (sym me) e)
+          (rw (to_z-of_z w64 c.args.n more) at c.add_sum.ensures.adds);
+      put = some_by _ _ c.add_sum.result
+          (λ m e past bs fits. ap (in_heap past) (e ∙ ap (λ v. put_own h v c.args.f 0 (Long m)) (sym me)))
+          c.add_sum.ensures.put;
+      fixed = λ i. record { program = s.program.now; written = s.extent.now.written; frozen = s.frozen.now; marks = s.marks.now; before = c.add_sum.ensures.before i; copies = s.copies.ghost_name; olds = s.olds.ghost_name };
+      fits = λ bs k. c.add_sum.ensures.keeps k;
     }

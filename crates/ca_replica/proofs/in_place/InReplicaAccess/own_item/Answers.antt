@@ -5,7 +5,7 @@ use Rattle.std.specs.Prelude.{slice_get}
 use Rattle.ca_model.specs.declared.value.Value.TheVariants.{Long}
 use Rattle.ca_meaning.specs.Expressions.{indexed, items_in}
 use Rattle.ca_meaning.specs.Functions.{own_of}
-use Rattle.ca_steps.specs.clauses.Telling.{Looks}
+use Rattle.ca_steps.specs.Telling.{Looks}
 use Rattle.ca_steps.proofs.Loading.{none_indexed}
 use Rattle.ca_replica.specs.Applied.{sums}
 use Rattle.ca_replica.proofs.in_place.InReplicaAccess.own_item.Goals as goal

@@ -7,7 +7,7 @@ use Rattle.ca_meaning.specs.Expressions.{one_in}
 use Rattle.ca_meaning.specs.Functions.{own_of}
 use Rattle.ca_meaning.specs.Serial.{in_heap, put_own}
 use Rattle.ca_code_laws.specs.Words.{pointer_of}
-use Rattle.ca_steps.specs.clauses.Telling.{Adds}
+use Rattle.ca_steps.specs.Telling.{Adds}
 use Rattle.ca_run.proofs.in_place.InPlaceAccess.add.Goals as goal
 
 pub returns-then-put : goal.returns-then-put

@@ -1,21 +1,5 @@
-use Rattle.std.proofs.Common.{sym, ap, ◌∙◌}
-use Rattle.std.specs.Prelude.{slice_get}
-use Rattle.ca_meaning.specs.Expressions.{one_in}
-use Rattle.ca_meaning.specs.Functions.{own_of}
+use Rattle.std.proofs.Common.{sym}
 use Rattle.ca_run.proofs.in_place.InPlaceAccess.own.Goals as goal
 
-pub returns-in-Ref : goal.returns-in-Ref
-returns-in-Ref g c =
-    λ past bs fits. ap (λ v. one_in (slice_get (own_of c.args.self.now.heap.now v) c.args.f.field)) c.in-Ref.is ∙ sym c.field_of.ensures
-
-pub returns-in-Null : goal.returns-in-Null
-returns-in-Null g c =
-    λ past bs fits. ap (λ v. one_in (slice_get (own_of c.args.self.now.heap.now v) c.args.f.field)) c.in-Null.is
-
-pub returns-in-Long : goal.returns-in-Long
-returns-in-Long g c =
-    λ past bs fits. ap (λ v. one_in (slice_get (own_of c.args.self.now.heap.now v) c.args.f.field)) c.in-Long.is
-
-pub returns-in-Bool : goal.returns-in-Bool
-returns-in-Bool g c =
-    λ past bs fits. ap (λ v. one_in (slice_get (own_of c.args.self.now.heap.now v) c.args.f.field)) c.in-Bool.is
+pub returns : goal.returns
+returns g c = λ past bs fits. sym c.own_field.ensures

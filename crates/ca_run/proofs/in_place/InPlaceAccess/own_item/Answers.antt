@@ -1,27 +1,9 @@
-use Rattle.std.proofs.Common.{sym, ap, ◌∙◌, subst, rules, w64}
+use Rattle.std.proofs.Common.{rules, w64}
 use mir.Val.{SFits}
 use Rattle.std.proofs.lemmas.Int.{to_z-of_z}
-use Rattle.std.specs.Prelude.{slice_get}
-use Rattle.ca_model.specs.declared.value.Value.TheVariants.{Long}
-use Rattle.ca_meaning.specs.Expressions.{indexed, items_in}
-use Rattle.ca_meaning.specs.Functions.{own_of}
-use Rattle.ca_steps.specs.clauses.Telling.{Looks}
-use Rattle.ca_steps.proofs.Loading.{none_indexed}
 use Rattle.ca_run.proofs.in_place.InPlaceAccess.own_item.Goals as goal
 
-pub returns-in-Ref : goal.returns-in-Ref
-returns-in-Ref g c =
+pub returns : goal.returns
+returns g c =
     let small : SFits w64 c.args.index = search rules in
-    λ past bs line k fits. subst (λ v. Looks line (slice_get (own_of c.args.self.now.heap.now v) c.args.f.field) c.args.index k c.look_at.result) (sym c.in-Ref.is) (rw (to_z-of_z w64 c.args.index small) at (c.look_at.ensures line k))
-
-pub returns-in-Null : goal.returns-in-Null
-returns-in-Null g c =
-    λ past bs line k fits. ap (λ v. indexed line (items_in (slice_get (own_of c.args.self.now.heap.now v) c.args.f.field)) (Long c.args.index) k) c.in-Null.is ∙ none_indexed line k c.args.index
-
-pub returns-in-Long : goal.returns-in-Long
-returns-in-Long g c =
-    λ past bs line k fits. ap (λ v. indexed line (items_in (slice_get (own_of c.args.self.now.heap.now v) c.args.f.field)) (Long c.args.index) k) c.in-Long.is ∙ none_indexed line k c.args.index
-
-pub returns-in-Bool : goal.returns-in-Bool
-returns-in-Bool g c =
-    λ past bs line k fits. ap (λ v. indexed line (items_in (slice_get (own_of c.args.self.now.heap.now v) c.args.f.field)) (Long c.args.index) k) c.in-Bool.is ∙ none_indexed line k c.args.index
+    λ past bs line k fits. rw (to_z-of_z w64 c.args.index small) at (c.own_look.ensures line k)

@@ -13,7 +13,9 @@ returns-then-keep_at_hand c =
       put = λ e. c.put.ensures;
       back = ap (λ os. put_back os after) kept ∙ (ap (put_back (olds_after olds slots c.args.field c.args.item)) c.put.ensures ∙ back_kept olds slots c.args.field c.args.item c.args.value c.requires);
       there = λ t. subst (λ os. AllThere os after) (sym kept) (subst (AllThere (olds_after olds slots c.args.field c.args.item)) (sym c.put.ensures) (there_kept olds slots c.args.field c.args.item c.args.value c.requires t));
+      keeps = λ e. kept;
       kept = λ e. cc;
+      olds = λ e. cc;
     }
 
 pub returns : goal.returns
@@ -24,5 +26,7 @@ returns c =
       put = λ e. cc;
       back = ap (λ os. put_back os slots) kept;
       there = λ t. subst (λ os. AllThere os slots) (sym kept) t;
+      keeps = λ e. cc;
       kept = λ e. refl;
+      olds = λ e. kept;
     }

@@ -27,7 +27,9 @@ returns-then-keep_number c =
       put = λ e. put;
       back = ap (λ os. put_back os after) kept ∙ (ap (put_back (olds_after olds slots f 0)) put ∙ back_kept olds slots f 0 (Long c.args.n) there);
       there = λ t. subst (λ os. AllThere os after) (sym kept) (subst (AllThere (olds_after olds slots f 0)) (sym put) (there_kept olds slots f 0 (Long c.args.n) there t));
+      keeps = λ e. kept;
       kept = λ e. cc;
+      olds = λ e. cc;
     }
 
 pub returns : goal.returns
@@ -38,5 +40,7 @@ returns c =
       put = λ e. cc;
       back = ap (λ os. put_back os slots) kept;
       there = λ t. subst (λ os. AllThere os slots) (sym kept) t;
+      keeps = λ e. cc;
       kept = λ e. refl;
+      olds = λ e. kept;
     }

@@ -1,6 +1,6 @@
 use Rattle.std.proofs.Common.{◌<◌, length, map, subst, arith}
 use Rattle.ca_code.specs.Seen.{kind_seen}
-use Rattle.ca_steps.specs.clauses.Handed.{PutLocals}
+use Rattle.ca_steps.specs.Handed.{PutLocals}
 use Rattle.ca_sections.proofs.Entering.{entered_so, kinds_known}
 use Rattle.ca_sections.proofs.coded.Start.enter.Goals as goal
 

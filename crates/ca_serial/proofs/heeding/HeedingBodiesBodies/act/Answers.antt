@@ -3,7 +3,7 @@ use Rattle.ca_program.specs.View.{form_view, program_view}
 use Rattle.ca_program.specs.Kinds.{kinds_in}
 use Rattle.ca_program.specs.Instructions.{on, Hand, Heed}
 use Rattle.ca_parallel.specs.Lists.{either}
-use Rattle.ca_code.specs.clauses.Laying.{Adds}
+use Rattle.ca_code.specs.Laying.{Adds}
 use Rattle.ca_code.proofs.Laying.{then, stopped}
 use Rattle.ca_code.proofs.Operands.{row_is}
 use Rattle.ca_code_laws.specs.Heeding.{heed_acts}

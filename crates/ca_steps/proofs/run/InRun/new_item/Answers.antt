@@ -1,6 +1,7 @@
 use Rattle.std.proofs.Common.{◌+◌, [], Some, refl, sym, ap, ◌∙◌, rules, w64}
 use mir.Val.{SFits}
 use Rattle.std.proofs.lemmas.Int.{to_z-of_z}
+use Rattle.std.proofs.lemmas.Option.{get_or_from_slice_get}
 use Rattle.std.specs.Prelude.{pos, slice_get}
 use Rattle.ca_program.specs.Instructions.{NewItem}
 use Rattle.ca_program.specs.View.{program_view}
@@ -11,8 +12,7 @@ use Rattle.ca_meaning.specs.Serial.{in_heap}
 use Rattle.ca_code_laws.specs.Machine.{act}
 use Rattle.ca_code_laws.specs.Runs.{run_access}
 use Rattle.ca_steps.specs.Stands.{state_of}
-use Rattle.ca_steps.specs.clauses.Leaving.{made_in}
-use Rattle.ca_steps.proofs.Loading.{there_is}
+use Rattle.ca_steps.specs.Leaving.{made_in}
 use Rattle.ca_steps.proofs.Calling.{acts_by}
 use Rattle.ca_steps.proofs.Creating.{index_found, index_not_found}
 use Rattle.ca_steps.proofs.run.InRun.new_item.Goals as goal
@@ -23,7 +23,7 @@ returns-in-Holds c =
     let old = c.args.frames.now in
     let h = c.args.self.now.heap in
     let small : SFits w64 c.in-Some.index = search rules in
-    let index = there_is old.slots.items (old.base + c.args.i) c.in-Some.index (pos 0) (sym c.number.ensures ∙ c.in-Some.is) in
+    let index = get_or_from_slice_get old.slots.items (old.base + c.args.i) c.in-Some.index (pos 0) (sym c.number.ensures ∙ c.in-Some.is) in
     record {
       acts = λ code line w.
           let found = ap (λ x. indexed line (items_in (slice_get (own_of h old.this) c.args.f.field)) (Long x) old.left) index ∙ rw (to_z-of_z w64 c.in-Some.index small) at (c.in-Holds.ensures w [] line old.left tt) in
@@ -38,7 +38,7 @@ returns-in-Outside c =
     let old = c.args.frames.now in
     let h = c.args.self.now.heap in
     let small : SFits w64 c.in-Some.index = search rules in
-    let index = there_is old.slots.items (old.base + c.args.i) c.in-Some.index (pos 0) (sym c.number.ensures ∙ c.in-Some.is) in
+    let index = get_or_from_slice_get old.slots.items (old.base + c.args.i) c.in-Some.index (pos 0) (sym c.number.ensures ∙ c.in-Some.is) in
     record {
       acts = λ code line w.
           let found = ap (λ x. indexed line (items_in (slice_get (own_of h old.this) c.args.f.field)) (Long x) old.left) index ∙ rw (to_z-of_z w64 c.in-Some.index small) at (c.in-Outside.ensures w [] line old.left tt) in

@@ -1,9 +1,9 @@
 use Rattle.std.proofs.Common.{◌≡◌, ℕ, ◌+◌, [], ◌∷◌, List, length, drop, sym, subst, arith, true≢false}
 use Rattle.std.proofs.lemmas.List.{drop_all}
+use Rattle.ca_lists.proofs.Places.{item_and_rest}
 use Rattle.ca_symbolic.specs.declared.demand.Group.{Group}
 use Rattle.ca_symbolic.specs.Demanded.{demands_of}
 use Rattle.ca_verdicts.proofs.JoinedGroups.{counted}
-use Rattle.ca_forms.proofs.Merging.{item_and_rest}
 use Rattle.ca_verdicts.proofs.compare.orders.are_few.Goals as goal
 
 pub loop-group-init : goal.loop-group-init

@@ -3,7 +3,7 @@ use Rattle.std.specs.Prelude.{IfSome}
 use Rattle.ca_program.specs.View.{program_view}
 use Rattle.ca_meaning.specs.Expressions.{Invocation}
 use Rattle.ca_parallel.specs.Calls.{invocation_of, invocations_of}
-use Rattle.ca_run.specs.Rounds.{RanTo}
+use Rattle.ca_run.specs.Turns.{RanTo}
 use Rattle.ca_workers.specs.clauses.Runs.{MayWait}
 use Rattle.ca_workers.proofs.Beginning.{own_setting, own_waits}
 use Rattle.ca_workers.proofs.Opened.{only_one}

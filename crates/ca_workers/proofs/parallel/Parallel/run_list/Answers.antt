@@ -2,7 +2,7 @@ use Rattle.std.proofs.Common.{◌≡◌, ◌-◌, ℕ, Option, map, sym, subst}
 use Rattle.std.specs.Prelude.{IfSome}
 use Rattle.ca_program.specs.View.{program_view}
 use Rattle.ca_parallel.specs.Calls.{invocations_of, operation_of}
-use Rattle.ca_run.specs.Rounds.{RanTo}
+use Rattle.ca_run.specs.Turns.{RanTo}
 use Rattle.ca_workers.specs.clauses.Ahead.{with_steps}
 use Rattle.ca_workers.specs.clauses.Runs.{Placed}
 use Rattle.ca_workers.proofs.InHeap.{from_handed}

@@ -1,4 +1,5 @@
 use Rattle.std.proofs.Common.{List, Option, Some, None, length, sym, ap, subst, ◌∙◌, arith}
+use Rattle.std.proofs.lemmas.List.{nil_from_length}
 use Rattle.ca_program.specs.View.{program_view}
 use Rattle.ca_model.specs.declared.value.Object.{Object}
 use Rattle.ca_beside.specs.Beside.{present}
@@ -8,7 +9,6 @@ use Rattle.ca_workers.specs.declared.turning.Turn.{Turn}
 use Rattle.ca_workers.specs.clauses.Runs.{MayWait, BeginsAnew}
 use Rattle.ca_workers.specs.clauses.Told.{RoundTold}
 use Rattle.ca_workers.proofs.Going.{waits_on, goes_nowhere}
-use Rattle.ca_workers.proofs.Places.{nothing_in}
 use Rattle.ca_workers.proofs.ToldOn.{behind_both, nothing_told, round_runs, told_behind, told_on, told_to_its_end, untold}
 use Rattle.ca_workers.proofs.rounds.Rounds.tell_rounds.Goals as goal
 
@@ -86,7 +86,7 @@ pub returns-clause-told : goal.returns-clause-told
 returns-clause-told g c =
     let frozen = c.args.frozen.now in
     let count = c.len.ensures ∙ c.rounds.waiting.ok.0 in
-    let none = nothing_in c.rounds.waiting.items (omega (arith, count, c.rounds-test.false)) in
+    let none = nil_from_length c.rounds.waiting.items (omega (arith, count, c.rounds-test.false)) in
     told_to_its_end (program_view c.args.self.now.program.now) frozen (present frozen c.args.beside.now) (task_calls c.args.first.items) c.args.left c.args.lines.now.items (present frozen c.rounds.beside) (task_calls c.rounds.waiting.items) c.rounds.still c.rounds.lines.items c.rounds.invariant.going
     (ap task_calls none)
 

@@ -8,7 +8,7 @@ use Rattle.ca_logs.specs.declared.log.Task.{Task}
 use Rattle.ca_logs.specs.Entries.{task_after, task_calls}
 use Rattle.ca_sum_laws.specs.Replicas.{MayRun}
 use Rattle.ca_replica.specs.Together.{added_one_by_one}
-use Rattle.ca_run.specs.Rounds.{RanTo}
+use Rattle.ca_run.specs.Turns.{RanTo}
 use Rattle.ca_sum_pool.specs.Rounded.{Rounded, copies_in}
 use Rattle.ca_workers.specs.clauses.Runs.{MayWait, NoneWithin, with_lent}
 use Rattle.ca_workers.proofs.Adding.{is_round, sums_may_run, sums_passed, sums_went, sums_stopped}

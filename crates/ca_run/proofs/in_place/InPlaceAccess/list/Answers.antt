@@ -1,5 +1,0 @@
-use Rattle.std.proofs.Common.{sym, refl, true≢false}
-use Rattle.ca_run.proofs.in_place.InPlaceAccess.list.Goals as goal
-
-pub returns : goal.returns
-returns g c = record { listed = λ e. absurd (true≢false (sym e)); fixed = refl; fits = λ bs h. h }

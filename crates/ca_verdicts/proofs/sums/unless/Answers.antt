@@ -1,4 +1,0 @@
-use Rattle.ca_verdicts.proofs.sums.unless.Goals as goal
-
-pub returns-else-alike-clause-same : goal.returns-else-alike-clause-same
-returns-else-alike-clause-same g c = tt
