@@ -62,7 +62,7 @@ impl<'a> Call<'a> {
         Call {
             line,
             text,
-            room: 1000,
+            room: 2000,
             failing: (0, 0),
         }
     }

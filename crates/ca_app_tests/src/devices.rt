@@ -27,6 +27,13 @@ load 0 1 0
 load 0 1 65
 load 0 20001 1
 load 18446744073709551616 1 1
+plans
+gen 07 3
+gen 7
+run 1 05
+load 7 0 4
+verify 01
+trace 04 100
 pairs x
 verify
 verify 0

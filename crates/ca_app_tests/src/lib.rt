@@ -10,8 +10,6 @@ mod devices;
 #[cfg(test)]
 mod ends;
 #[cfg(test)]
-mod faults;
-#[cfg(test)]
 mod gates;
 #[cfg(test)]
 mod generated;
@@ -29,6 +27,8 @@ mod refused;
 mod replies;
 #[cfg(test)]
 mod runs;
+#[cfg(test)]
+mod samples;
 #[cfg(test)]
 mod sources;
 #[cfg(test)]

@@ -1,6 +1,9 @@
 //! Plans that are told: `pairs`, `plan` and `emit`.
 
 use crate::calls::{Call, add, add_lines};
+use crate::samples::{
+    GRAPH_SHARES, OF_GRAPH_SHARES, OF_SEARCH_TREE, OF_TABLE_OF_SUMS, SEARCH_TREE, TABLE_OF_SUMS,
+};
 use crate::sources::{
     ACCUMULATOR, BINS, BOUND, CELLS, FIRST, GRAPH_VISIT, STACK, TWO_BINS, TWO_SUMS,
 };
@@ -9,9 +12,16 @@ use std::process::Abort;
 use std::sync::Wait;
 use std::thread::Threads;
 
-/// A text without classes, texts that have one tree but for places, and marks of statements of each kind. A line with a text stands
+/// Texts without classes, texts that have one tree but for places, and marks of statements of each kind. In the last four the condition
+/// of loops reads what their calls write; a call of a marked operation in a marked loop has no mark of its own, and one elsewhere has it;
+/// a follower stands directly behind a call of its list on an equal receiver, where a bare call has the receiver `this`; and an operation
+/// that is free in one extent of a marked call or loop and not in another takes its lock. A line with a text stands
 /// before the lines of what is told of it: the command, `:` and what is written, with `$` for the end of a line.
-const TOLD_OF_SMALL_TEXTS: &str = "of int main() { print(1); }
+const TOLD_OF_SMALL_TEXTS: &str = "of int main() { }
+pairs:
+plan:
+emit:int main ( ) {$}$
+of int main() { print(1); }
 pairs:
 plan:
 emit:int main ( ) {$print ( 1 ) ;$}$
@@ -34,6 +44,18 @@ of class V { public: long a[10]; void add(long f, long t, long v) { for (long i 
 pairs:extent V::add$V::add V::add commutes$extent V::one$V::one V::one commutes$extent V::two$V::add V::add commutes$V::add V::one commutes$V::add V::two commutes$V::one V::one commutes$V::one V::two commutes$V::two V::two commutes$
 plan:op V::add serial$op V::one serial$op V::two parallel$
 emit:class V {$public :$long a [ 10 ] ;$void add ( long f , long t , long v ) {$/*@lock*/ for ( long i = f ; i < t ; i += 1 ) a [ i ] += v ;$/*@unlock*/ }$void one ( long j ) {$/*@lock*/ a [ j ] = a [ j ] + 1 ;$/*@unlock*/ }$void two ( ) {$/*@spawn*/ add ( 0 , 10 , 3 ) ;$one ( 4 ) ;$add ( 2 , 5 , 1 ) ;$}$} ;$int main ( ) {$V * x = new V ( ) ;$/*@parallel*/ x -> two ( ) ;$}$
+of class A { public: long n; A *o; void m() { n = o->n; } };$int main() { }
+pairs:extent A::m$A::m A::m unproved NotSeparable A::m 1 ForeignRead$
+of class A { public: long n; long f() { return n; } void m() { n = f(); } };$int main() { }
+pairs:extent A::m$A::m A::m unproved NotSeparable A::m 1 FunctionRead$
+of class A { public: long n; void m() { print(n); } };$int main() { }
+pairs:extent A::m$A::m A::m unproved NotSeparable A::m 1 Prints$
+of class A { public: long n; void m(long p) { n = n / p; } };$int main() { }
+pairs:extent A::m$A::m A::m unproved NotSeparable A::m 1 DividesByVariable$
+of class A { public: long n; void m(long p) { n = n / -2; } };$int main() { }
+pairs:extent A::m$A::m A::m commutes$
+of class A { public: long n; void m(long p) { n = n / 0; } };$int main() { }
+pairs:extent A::m$A::m A::m unproved NotSeparable A::m 1 DividesByVariable$
 of class V { public: long a[10]; void add(long f, long t, long v) { for (long i = f; i < t; i++) a[i] = v; } }; int main() { }
 pairs:extent V::add$V::add V::add unproved LoopForm 1$
 of class A { public: long a[9]; long c; void k(long v) {$for (long i; i < c; i++) a[i] += v; } void s() { c += 1; } void w() { k(1); s(); } }; int main() { }
@@ -42,7 +64,15 @@ plan:op A::k serial$op A::s serial$op A::w serial$
 of $ /* of visits */ class A { public: void m() { ; } }; int main() { }
 plan:op A::m serial$
 of class A { public: void m() { ; } void n() { m(); } void e() { } }; int main() { A *a = new A(); { a->n(); } ; while (a == nullptr) a->n(); }
-emit:class A {$public :$void m ( ) {$;$}$void n ( ) {$/*@spawn*/ m ( ) ;$}$void e ( ) {$}$} ;$int main ( ) {$A * a = new A ( ) ;${$/*@parallel*/ a -> n ( ) ;$} ;$while ( a == nullptr ) /*@parallel*/ a -> n ( ) ;$}$";
+emit:class A {$public :$void m ( ) {$;$}$void n ( ) {$/*@spawn*/ m ( ) ;$}$void e ( ) {$}$} ;$int main ( ) {$A * a = new A ( ) ;${$/*@parallel*/ a -> n ( ) ;$} ;$while ( a == nullptr ) /*@parallel*/ a -> n ( ) ;$}$
+of class B { public: long n; B *q; void add(long v) { n = n + v; }$ void all() { for (long i = 0; i < n; i++) add(i); } };$ int main() { B *b = new B(); for (long i = 0; i < b->n; i++) b->add(i); }
+plan:op B::add serial$op B::all serial$loop 2 serial$loop 3 serial$
+of class A { public: long n; void add(long v) { n += v; } void both(long v) { add(v); add(v); } void none() { } };$int main() { A *a = new A(); for (long i = 0; i < 2; i++) a->both(i); while (a->n < 9) a->both(1); { a->none(); } }
+emit:class A {$public :$long n ;$void add ( long v ) {$/*@lock*/ n += v ;$/*@unlock*/ }$void both ( long v ) {$/*@spawn*/ add ( v ) ;$add ( v ) ;$}$void none ( ) {$}$} ;$int main ( ) {$A * a = new A ( ) ;$/*@parallel*/ for ( long i = 0 ; i < 2 ; i += 1 ) a -> both ( i ) ;$while ( a -> n < 9 ) /*@parallel*/ a -> both ( 1 ) ;${$a -> none ( ) ;$}$}$
+of class A { public: long n; A *q; A *b[2]; void add(long v) { n += v; }$ void go(long v) { n += v; add(v); this->add(1); q->add(v); this->q->add(v); this->q->add(1);$ b[v]->add(v); b[v]->add(1); b[1]->add(v); { b[1]->add(2); add(3); } add(4); if (v < 3) add(5); add(6);$ for (long i = 0; i < v; i++) { add(i); add(7); } } };$ int main() { A *a = new A(); a->go(1); }
+emit:class A {$public :$long n ;$A * q ;$A * b [ 2 ] ;$void add ( long v ) {$/*@lock*/ n += v ;$/*@unlock*/ }$void go ( long v ) {$/*@lock*/ n += v ;$/*@unlock*/ /*@spawn*/ add ( v ) ;$this -> add ( 1 ) ;$/*@unlock*/ /*@spawn*/ q -> add ( v ) ;$/*@unlock*/ /*@spawn*/ this -> q -> add ( v ) ;$this -> q -> add ( 1 ) ;$/*@unlock*/ /*@spawn*/ b [ v ] -> add ( v ) ;$b [ v ] -> add ( 1 ) ;$/*@unlock*/ /*@spawn*/ b [ 1 ] -> add ( v ) ;${$/*@unlock*/ /*@spawn*/ b [ 1 ] -> add ( 2 ) ;$/*@unlock*/ /*@spawn*/ add ( 3 ) ;$}$/*@unlock*/ /*@spawn*/ add ( 4 ) ;$if ( v < 3 ) /*@unlock*/ /*@spawn*/ add ( 5 ) ;$/*@unlock*/ /*@spawn*/ add ( 6 ) ;$for ( long i = 0 ; i < v ; i += 1 ) {$/*@unlock*/ /*@spawn*/ add ( i ) ;$add ( 7 ) ;$}$/*@unlock*/ }$} ;$int main ( ) {$A * a = new A ( ) ;$/*@parallel*/ a -> go ( 1 ) ;$}$
+of class A { public: long n; long k; A *q; void add(long v) { n += v; } void up(long v) { k += v; }$ void ask(long v) { long t = k; q->add(v); } };$ int main() { A *a = new A(); for (long i = 0; i < 2; i++) { a->ask(i); a->up(i); } a->ask(1); }
+emit:class A {$public :$long n ;$long k ;$A * q ;$void add ( long v ) {$/*@lock*/ n += v ;$/*@unlock*/ }$void up ( long v ) {$/*@lock*/ k += v ;$/*@unlock*/ }$void ask ( long v ) {$/*@lock*/ long t = k ;$/*@unlock*/ /*@spawn*/ q -> add ( v ) ;$/*@unlock*/ }$} ;$int main ( ) {$A * a = new A ( ) ;$/*@parallel*/ for ( long i = 0 ; i < 2 ; i += 1 ) {$a -> ask ( i ) ;$a -> up ( i ) ;$}$/*@parallel*/ a -> ask ( 1 ) ;$}$";
 
 const OF_FIRST: &str =
     "pairs:extent Acc::add$Acc::add Acc::add commutes$extent Acc::tie$Acc::tie Acc::tie unproved FieldDiffers peer$";
@@ -118,6 +148,9 @@ fn tells_plans(rt: HostRuntime) {
     are_told(&rt, TWO_BINS, OF_TWO_BINS);
     are_told(&rt, BOUND, OF_BOUND);
     are_told(&rt, TWO_SUMS, OF_TWO_SUMS);
+    are_told(&rt, GRAPH_SHARES, OF_GRAPH_SHARES);
+    are_told(&rt, SEARCH_TREE, OF_SEARCH_TREE);
+    are_told(&rt, TABLE_OF_SUMS, OF_TABLE_OF_SUMS);
 }
 
 /// A class with two operations, one of which doubles so many times.

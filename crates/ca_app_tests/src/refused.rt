@@ -84,4 +84,6 @@ int main() { 1 = 2; } => error 1:14 E10
 int main() { long x; x->m(1) = 2; } => error 1:30 E10
 class A { public: }; int main() { A *a; if (true) A * b; } => error 1:53 E10
 int main() { return (0); } => error 1:14 E30
-int main() { return 0; return 0; } => error 1:14 E30";
+int main() { return 0; return 0; } => error 1:14 E30
+int main() { if (a) f(); else else => error 1:31 E10
+class A { public: long n; }; int main() { A *a = new B(); } => error 1:54 E21";

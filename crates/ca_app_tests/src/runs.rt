@@ -89,7 +89,11 @@ of class B { public: long any; long odd; long top; long low; void add(long v) { 
 65 0:#0 R b=[#1,#2,#3]$#1 B any=31 odd=11 top=27 low=-27$#2 B any=31 odd=21 top=28 low=-28$#3 B any=31 odd=31 top=29 low=-29$
 // an inner block declares a name again, both branches return, and a local hides no method
 of class A { public: void m() { print(2); } void n(long m) { m(); } long f(bool b) { if (b) return 3; else { return 4; } } }; int main() { long x; { bool x; print(x); } A *a = new A(); a->n(x); print(a->f(true)); print(a->f(x == 1)); }
-9 0:false$2$3$4$#0 A$";
+9 0:false$2$3$4$#0 A$
+// a call among numbers, one of two values, a local, an item, and an operation
+of class A { public: long n, a[3]; long f(long p, long q) { return p - q; } long g(long x) { return x; } void o(long p) { n = p; } void m(long x) { print(n + f(x, 5)); a[x] = 1; o(x); } }; int main() { A *a = new A(); a->m(2); print(a->g(7)); }
+4 0:-3$7$#0 A n=2 a=[0,0,1]$
+3 4:-3$spent 3$";
 
 /// The line of a run by so many workers within a budget.
 fn line_of<R: Abort>(rt: &R, alloc: Global, workers: u32, budget: u32) -> String {

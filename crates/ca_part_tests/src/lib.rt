@@ -1,6 +1,7 @@
 //! Tests of the parts of the program: each call that takes memory, or that a device serves, and an answer of each other, where there
-//! is ample memory. What the calls answer is proved where they stand. The tests have a crate of their own so that those crates are
-//! proved once, and one for them all, since each crate of tests reads all libraries below it twice.
+//! is ample memory, but for what the tests of the pool and of the whole program call. What the calls answer is proved where they
+//! stand. The tests have a crate of their own so that those crates are proved once, and one for them all, since each crate of tests
+//! reads all libraries below it twice.
 #![tactic(auto)]
 
 #[cfg(test)]
@@ -8,23 +9,21 @@ mod arrays;
 #[cfg(test)]
 mod canonical;
 #[cfg(test)]
-mod checker;
-#[cfg(test)]
 mod copies;
 #[cfg(test)]
 mod devices;
 #[cfg(test)]
-mod emitted;
+mod erased;
 #[cfg(test)]
 mod expressions;
 #[cfg(test)]
 mod extents;
 #[cfg(test)]
+mod faults;
+#[cfg(test)]
 mod folds;
 #[cfg(test)]
 mod forms;
-#[cfg(test)]
-mod generated;
 #[cfg(test)]
 mod heaps;
 #[cfg(test)]
@@ -38,19 +37,15 @@ mod limits;
 #[cfg(test)]
 mod marked;
 #[cfg(test)]
+mod olds;
+#[cfg(test)]
 mod operators;
 #[cfg(test)]
 mod orders;
 #[cfg(test)]
-mod resolve;
-#[cfg(test)]
 mod runs;
 #[cfg(test)]
-mod samples;
-#[cfg(test)]
 mod sections;
-#[cfg(test)]
-mod separable;
 #[cfg(test)]
 mod shut;
 #[cfg(test)]
@@ -59,8 +54,6 @@ mod sources;
 mod sums;
 #[cfg(test)]
 mod terms;
-#[cfg(test)]
-mod texts;
 #[cfg(test)]
 mod values;
 #[cfg(test)]

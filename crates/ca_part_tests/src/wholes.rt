@@ -1,7 +1,6 @@
 //! Trees of whole texts.
 
-use crate::sources::{let_go, tokens, tree};
-use ca_parse::{ParseError, parse};
+use crate::sources::tree;
 use ca_tree::{AssignOp, ClassNode, Member, StmtKind, StmtNode};
 
 /// Whether the branches of the `if` have the places of the text below.
@@ -56,17 +55,4 @@ fn gives_each_part_its_place(rt: HostRuntime) {
         _ => false,
     };
     assert!(rt; is_placed);
-}
-
-#[test]
-fn names_the_first_wrong_token(rt: HostRuntime) {
-    let alloc = rt.alloc();
-    let tokens = tokens(&rt, "int main() { if (a) f(); else else");
-    let parsed = parse(alloc, tokens);
-    let is_wrong = match &parsed {
-        Err(ParseError::Syntax(number)) => *number == 14,
-        _ => false,
-    };
-    let_go(parsed);
-    assert!(rt; is_wrong);
 }

@@ -1,4 +1,4 @@
-//! The samples of `samples/`: programs, and behind `pairs:` and `plan:` what these write of them.
+//! Three of the programs of `samples/`, and what `pairs` and `plan` are to write of them, as people read it from the programs.
 
 pub const GRAPH_SHARES: &str =
     "// Nodes hand shares of what they have to their neighbours, and a walk goes over all that can be reached.
@@ -66,65 +66,11 @@ int main() {
   print(g->at[5]->gained);
   return 0;
 }
-pairs:
-extent Node::start
-Node::start Node::start unproved FieldDiffers value
-extent Node::link
-Node::link Node::link unproved FieldDiffers next
-extent Node::gain
-Node::gain Node::gain commutes
-extent Node::share
-Node::gain Node::gain commutes
-Node::gain Node::share commutes
-Node::share Node::share commutes
-extent Node::visit
-Node::visit Node::visit commutes
-extent Node::pass
-Node::gain Node::gain commutes
-Node::gain Node::pass unproved DemandsDiffer
-Node::pass Node::pass commutes
-extent Graph::make
-Node::start Node::start unproved FieldDiffers value
-Graph::make Graph::make unproved NotSeparable Graph::make 43 AccessAfterCall
-extent Graph::connect
-Node::link Node::link unproved FieldDiffers next
-Graph::connect Graph::connect commutes
-extent Graph::share
-Node::gain Node::gain commutes
-Node::gain Node::share commutes
-Node::share Node::share commutes
-Graph::share Graph::share commutes
-loop 22
-Node::gain Node::gain commutes
-loop 30
-Node::visit Node::visit commutes
-loop 53
-Node::gain Node::gain commutes
-Node::gain Node::share commutes
-Node::share Node::share commutes
-loop 59
-Node::link Node::link unproved FieldDiffers next
-Graph::connect Graph::connect commutes
-loop 62
-Node::gain Node::gain commutes
-Node::gain Node::pass unproved DemandsDiffer
-Node::pass Node::pass commutes
-plan:
-op Node::start serial
-op Node::link serial
-op Node::gain serial
-op Node::share parallel
-op Node::visit parallel
-op Node::pass serial
-op Graph::make serial
-op Graph::connect serial
-op Graph::share parallel
-loop 22 parallel
-loop 30 parallel
-loop 53 parallel
-loop 59 serial
-loop 62 serial
 ";
+
+pub const OF_GRAPH_SHARES: &str =
+    "pairs:extent Node::start$Node::start Node::start unproved FieldDiffers value$extent Node::link$Node::link Node::link unproved FieldDiffers next$extent Node::gain$Node::gain Node::gain commutes$extent Node::share$Node::gain Node::gain commutes$Node::gain Node::share commutes$Node::share Node::share commutes$extent Node::visit$Node::visit Node::visit commutes$extent Node::pass$Node::gain Node::gain commutes$Node::gain Node::pass unproved DemandsDiffer$Node::pass Node::pass commutes$extent Graph::make$Node::start Node::start unproved FieldDiffers value$Graph::make Graph::make unproved NotSeparable Graph::make 43 AccessAfterCall$extent Graph::connect$Node::link Node::link unproved FieldDiffers next$Graph::connect Graph::connect commutes$extent Graph::share$Node::gain Node::gain commutes$Node::gain Node::share commutes$Node::share Node::share commutes$Graph::share Graph::share commutes$loop 22$Node::gain Node::gain commutes$loop 30$Node::visit Node::visit commutes$loop 53$Node::gain Node::gain commutes$Node::gain Node::share commutes$Node::share Node::share commutes$loop 59$Node::link Node::link unproved FieldDiffers next$Graph::connect Graph::connect commutes$loop 62$Node::gain Node::gain commutes$Node::gain Node::pass unproved DemandsDiffer$Node::pass Node::pass commutes$
+plan:op Node::start serial$op Node::link serial$op Node::gain serial$op Node::share parallel$op Node::visit parallel$op Node::pass serial$op Graph::make serial$op Graph::connect serial$op Graph::share parallel$loop 22 parallel$loop 30 parallel$loop 53 parallel$loop 59 serial$loop 62 serial$";
 
 pub const SEARCH_TREE: &str =
     "// A search tree is grown key by key, and then takes many amounts at once.
@@ -189,36 +135,11 @@ int main() {
   print(root->below);
   return 0;
 }
-pairs:
-extent Tree::start
-Tree::start Tree::start unproved FieldDiffers key
-extent Tree::grow
-Tree::start Tree::start unproved FieldDiffers key
-Tree::start Tree::grow unproved NotSeparable Tree::grow 18 Creates
-Tree::grow Tree::grow unproved NotSeparable Tree::grow 18 Creates
-extent Tree::add
-Tree::add Tree::add commutes
-extent Tree::scale
-Tree::scale Tree::scale commutes
-extent Tree::mix
-Tree::add Tree::add commutes
-Tree::add Tree::mix unproved FieldDiffers below
-Tree::mix Tree::mix commutes
-loop 55
-Tree::start Tree::start unproved FieldDiffers key
-Tree::start Tree::grow unproved NotSeparable Tree::grow 18 Creates
-Tree::grow Tree::grow unproved NotSeparable Tree::grow 18 Creates
-loop 56
-Tree::add Tree::add commutes
-plan:
-op Tree::start serial
-op Tree::grow serial
-op Tree::add parallel
-op Tree::scale parallel
-op Tree::mix serial
-loop 55 serial
-loop 56 parallel
 ";
+
+pub const OF_SEARCH_TREE: &str =
+    "pairs:extent Tree::start$Tree::start Tree::start unproved FieldDiffers key$extent Tree::grow$Tree::start Tree::start unproved FieldDiffers key$Tree::start Tree::grow unproved NotSeparable Tree::grow 18 Creates$Tree::grow Tree::grow unproved NotSeparable Tree::grow 18 Creates$extent Tree::add$Tree::add Tree::add commutes$extent Tree::scale$Tree::scale Tree::scale commutes$extent Tree::mix$Tree::add Tree::add commutes$Tree::add Tree::mix unproved FieldDiffers below$Tree::mix Tree::mix commutes$loop 55$Tree::start Tree::start unproved FieldDiffers key$Tree::start Tree::grow unproved NotSeparable Tree::grow 18 Creates$Tree::grow Tree::grow unproved NotSeparable Tree::grow 18 Creates$loop 56$Tree::add Tree::add commutes$
+plan:op Tree::start serial$op Tree::grow serial$op Tree::add parallel$op Tree::scale parallel$op Tree::mix serial$loop 55 serial$loop 56 parallel$";
 
 pub const TABLE_OF_SUMS: &str =
     "// Rows file their amounts in a table, at keys that may be the same for many rows.
@@ -285,50 +206,8 @@ int main() {
   print(t->greatest);
   return 0;
 }
-pairs:
-extent Table::add
-Table::add Table::add commutes
-extent Table::offer
-Table::offer Table::offer commutes
-extent Row::set
-Row::set Row::set unproved FieldDiffers key
-extent Row::file
-Table::add Table::add commutes
-Row::file Row::file commutes
-extent Row::compare
-Table::offer Table::offer commutes
-Row::compare Row::compare commutes
-extent Sheet::make
-Sheet::make Sheet::make unproved NotSeparable Sheet::make 44 Creates
-extent Sheet::fill
-Row::set Row::set unproved FieldDiffers key
-Sheet::fill Sheet::fill commutes
-extent Sheet::file
-Table::add Table::add commutes
-Row::file Row::file commutes
-Sheet::file Sheet::file commutes
-loop 47
-Row::set Row::set unproved FieldDiffers key
-loop 50
-Table::add Table::add commutes
-Row::file Row::file commutes
-loop 59
-Table::offer Table::offer commutes
-Row::compare Row::compare commutes
-loop 60
-Table::add Table::add commutes
-Row::file Row::file commutes
-plan:
-op Table::add serial
-op Table::offer serial
-op Row::set serial
-op Row::file parallel
-op Row::compare parallel
-op Sheet::make serial
-op Sheet::fill serial
-op Sheet::file parallel
-loop 47 serial
-loop 50 parallel
-loop 59 parallel
-loop 60 parallel
 ";
+
+pub const OF_TABLE_OF_SUMS: &str =
+    "pairs:extent Table::add$Table::add Table::add commutes$extent Table::offer$Table::offer Table::offer commutes$extent Row::set$Row::set Row::set unproved FieldDiffers key$extent Row::file$Table::add Table::add commutes$Row::file Row::file commutes$extent Row::compare$Table::offer Table::offer commutes$Row::compare Row::compare commutes$extent Sheet::make$Sheet::make Sheet::make unproved NotSeparable Sheet::make 44 Creates$extent Sheet::fill$Row::set Row::set unproved FieldDiffers key$Sheet::fill Sheet::fill commutes$extent Sheet::file$Table::add Table::add commutes$Row::file Row::file commutes$Sheet::file Sheet::file commutes$loop 47$Row::set Row::set unproved FieldDiffers key$loop 50$Table::add Table::add commutes$Row::file Row::file commutes$loop 59$Table::offer Table::offer commutes$Row::compare Row::compare commutes$loop 60$Table::add Table::add commutes$Row::file Row::file commutes$
+plan:op Table::add serial$op Table::offer serial$op Row::set serial$op Row::file parallel$op Row::compare parallel$op Sheet::make serial$op Sheet::fill serial$op Sheet::file parallel$loop 47 serial$loop 50 parallel$loop 59 parallel$loop 60 parallel$";

@@ -1,49 +1,23 @@
-//! Annotated texts, and texts without their marks.
+//! Texts without their marks.
 
-use crate::sources::{checked, let_go, tree, with_lines};
+use crate::sources::{let_go, tree, with_lines};
 use ca_canonical::unparse;
-use ca_emit::emit;
 use ca_erase::{EraseError, erase};
 use ca_lex::LONGEST_TEXT;
-use ca_plan::plan;
-use ca_program::Program;
-use ca_tree::Tree;
 use std::alloc::Global;
 use std::process::Abort;
 
-/// The worked example of `docs/LANGUAGE.md`, and behind `=>` its annotated text, with `$` for the end of a line.
-const TWO: &str =
-    "class A { public: long n; void add(long v) { n += v; } void two(long v) { add(v); add(v + 1); } }; int main() { A *a = new A(); a->two(3); } => class A {$public :$long n ;$void add ( long v ) {$/*@lock*/ n += v ;$/*@unlock*/ }$void two ( long v ) {$/*@spawn*/ add ( v ) ;$add ( v + 1 ) ;$}$} ;$int main ( ) {$A * a = new A ( ) ;$/*@parallel*/ a -> two ( 3 ) ;$}$";
-
-/// Sources, and behind `=>` their annotated texts, with `$` for the end of a line. A line with `//` tells what the source behind it
-/// is for.
+/// Sources, and behind `=>` their annotated texts, with `$` for the end of a line.
 const EMITTED: &str = "int main() { } => int main ( ) {$}$
+class A { public: long n; void add(long v) { n += v; } void two(long v) { add(v); add(v + 1); } }; int main() { A *a = new A(); a->two(3); } => class A {$public :$long n ;$void add ( long v ) {$/*@lock*/ n += v ;$/*@unlock*/ }$void two ( long v ) {$/*@spawn*/ add ( v ) ;$add ( v + 1 ) ;$}$} ;$int main ( ) {$A * a = new A ( ) ;$/*@parallel*/ a -> two ( 3 ) ;$}$
 class Graph { public: bool mark; long value; long sum; Graph *left; Graph *right;$ void init(long v, Graph *l, Graph *r) { value = v; left = l; right = r; }$ void visit(long p) { sum = sum + p; if (!mark) { mark = true;$ if (left != nullptr) left->visit(value); if (right != nullptr) right->visit(value); } } };$ int main() { Graph *a = new Graph(); a->init(3, a, nullptr); a->visit(1); return 0; } => class Graph {$public :$bool mark ;$long value ;$long sum ;$Graph * left ;$Graph * right ;$void init ( long v , Graph * l , Graph * r ) {$value = v ;$left = l ;$right = r ;$}$void visit ( long p ) {$/*@lock*/ sum = sum + p ;$if ( ! mark ) {$mark = true ;$if ( left != nullptr ) /*@unlock*/ /*@spawn*/ left -> visit ( value ) ;$if ( right != nullptr ) /*@unlock*/ /*@spawn*/ right -> visit ( value ) ;$}$/*@unlock*/ }$} ;$int main ( ) {$Graph * a = new Graph ( ) ;$a -> init ( 3 , a , nullptr ) ;$/*@parallel*/ a -> visit ( 1 ) ;$}$
 class Acc { public: long sum; void add(long p) { sum = sum + p; } void sub(long p) { sum = sum - p; }$ void mul(long p) { sum = sum * p; } void mix(long p) { add(p); mul(p); } void par(long p) { add(p); sub(p); } };$ int main() { Acc *a = new Acc(); a->mix(2); a->par(3); } => class Acc {$public :$long sum ;$void add ( long p ) {$/*@lock*/ sum = sum + p ;$/*@unlock*/ }$void sub ( long p ) {$/*@lock*/ sum = sum - p ;$/*@unlock*/ }$void mul ( long p ) {$sum = sum * p ;$}$void mix ( long p ) {$add ( p ) ;$mul ( p ) ;$}$void par ( long p ) {$/*@spawn*/ add ( p ) ;$sub ( p ) ;$}$} ;$int main ( ) {$Acc * a = new Acc ( ) ;$a -> mix ( 2 ) ;$/*@parallel*/ a -> par ( 3 ) ;$}$
 class Cell { public: long sum; long base; long last; Cell *next;$ void late(long p) { sum = sum + p; if (next != nullptr) next->late(p); last = sum; }$ void early(long p) { sum = sum + p; if (next != nullptr) next->early(base); } };$ int main() { } => class Cell {$public :$long sum ;$long base ;$long last ;$Cell * next ;$void late ( long p ) {$sum = sum + p ;$if ( next != nullptr ) next -> late ( p ) ;$last = sum ;$}$void early ( long p ) {$/*@lock*/ sum = sum + p ;$if ( next != nullptr ) /*@unlock*/ /*@spawn*/ next -> early ( base ) ;$/*@unlock*/ }$} ;$int main ( ) {$}$
 class Bin { public: long n; void add(long v) { n = n + v; } };$ class Pair { public: Bin *b[2];$ void fill() { b[0] = new Bin(); b[1] = new Bin(); } };$ int main() { Pair *s = new Pair(); s->fill();$ for (long i = 0; i < 2; i++) s->b[i]->add(i + 1);$ } => class Bin {$public :$long n ;$void add ( long v ) {$/*@lock*/ n = n + v ;$/*@unlock*/ }$} ;$class Pair {$public :$Bin * b [ 2 ] ;$void fill ( ) {$b [ 0 ] = new Bin ( ) ;$b [ 1 ] = new Bin ( ) ;$}$} ;$int main ( ) {$Pair * s = new Pair ( ) ;$s -> fill ( ) ;$/*@parallel*/ for ( long i = 0 ; i < 2 ; i += 1 ) s -> b [ i ] -> add ( i + 1 ) ;$}$
 class Bins { public: long a[3]; void add(long i, long v) { a[i] = a[i] + v; } };$class Set { public: Bins *b[1000]; void fill() { for (long i = 0; i < 1000; i++) b[i] = new Bins(); }$void all(long v) { for (long i = 0; i < 1000; i++) b[i]->add(i % 3, v); } };$int main() { Set *s = new Set(); s->fill(); s->all(7); s->all(8); } => class Bins {$public :$long a [ 3 ] ;$void add ( long i , long v ) {$/*@lock*/ a [ i ] = a [ i ] + v ;$/*@unlock*/ }$} ;$class Set {$public :$Bins * b [ 1000 ] ;$void fill ( ) {$for ( long i = 0 ; i < 1000 ; i += 1 ) b [ i ] = new Bins ( ) ;$}$void all ( long v ) {$for ( long i = 0 ; i < 1000 ; i += 1 ) /*@spawn*/ b [ i ] -> add ( i % 3 , v ) ;$}$} ;$int main ( ) {$Set * s = new Set ( ) ;$s -> fill ( ) ;$/*@parallel*/ s -> all ( 7 ) ;$/*@parallel*/ s -> all ( 8 ) ;$}$
-// A call of a marked operation in a marked loop has no mark of its own, one elsewhere has it.
 class A { public: long n; void add(long v) { n += v; } void both(long v) { add(v); add(v); } void none() { } };$int main() { A *a = new A(); for (long i = 0; i < 2; i++) a->both(i); while (a->n < 9) a->both(1); { a->none(); } } => class A {$public :$long n ;$void add ( long v ) {$/*@lock*/ n += v ;$/*@unlock*/ }$void both ( long v ) {$/*@spawn*/ add ( v ) ;$add ( v ) ;$}$void none ( ) {$}$} ;$int main ( ) {$A * a = new A ( ) ;$/*@parallel*/ for ( long i = 0 ; i < 2 ; i += 1 ) a -> both ( i ) ;$while ( a -> n < 9 ) /*@parallel*/ a -> both ( 1 ) ;${$a -> none ( ) ;$}$}$
-// A follower stands directly behind a call of its list on an equal receiver; a bare call has the receiver `this`.
 class A { public: long n; A *q; A *b[2]; void add(long v) { n += v; }$ void go(long v) { n += v; add(v); this->add(1); q->add(v); this->q->add(v); this->q->add(1);$ b[v]->add(v); b[v]->add(1); b[1]->add(v); { b[1]->add(2); add(3); } add(4); if (v < 3) add(5); add(6);$ for (long i = 0; i < v; i++) { add(i); add(7); } } };$ int main() { A *a = new A(); a->go(1); } => class A {$public :$long n ;$A * q ;$A * b [ 2 ] ;$void add ( long v ) {$/*@lock*/ n += v ;$/*@unlock*/ }$void go ( long v ) {$/*@lock*/ n += v ;$/*@unlock*/ /*@spawn*/ add ( v ) ;$this -> add ( 1 ) ;$/*@unlock*/ /*@spawn*/ q -> add ( v ) ;$/*@unlock*/ /*@spawn*/ this -> q -> add ( v ) ;$this -> q -> add ( 1 ) ;$/*@unlock*/ /*@spawn*/ b [ v ] -> add ( v ) ;$b [ v ] -> add ( 1 ) ;$/*@unlock*/ /*@spawn*/ b [ 1 ] -> add ( v ) ;${$/*@unlock*/ /*@spawn*/ b [ 1 ] -> add ( 2 ) ;$/*@unlock*/ /*@spawn*/ add ( 3 ) ;$}$/*@unlock*/ /*@spawn*/ add ( 4 ) ;$if ( v < 3 ) /*@unlock*/ /*@spawn*/ add ( 5 ) ;$/*@unlock*/ /*@spawn*/ add ( 6 ) ;$for ( long i = 0 ; i < v ; i += 1 ) {$/*@unlock*/ /*@spawn*/ add ( i ) ;$add ( 7 ) ;$}$/*@unlock*/ }$} ;$int main ( ) {$A * a = new A ( ) ;$/*@parallel*/ a -> go ( 1 ) ;$}$
-// An operation that is free in one extent of a marked call or loop and not in another takes its lock.
 class A { public: long n; long k; A *q; void add(long v) { n += v; } void up(long v) { k += v; }$ void ask(long v) { long t = k; q->add(v); } };$ int main() { A *a = new A(); for (long i = 0; i < 2; i++) { a->ask(i); a->up(i); } a->ask(1); } => class A {$public :$long n ;$long k ;$A * q ;$void add ( long v ) {$/*@lock*/ n += v ;$/*@unlock*/ }$void up ( long v ) {$/*@lock*/ k += v ;$/*@unlock*/ }$void ask ( long v ) {$/*@lock*/ long t = k ;$/*@unlock*/ /*@spawn*/ q -> add ( v ) ;$/*@unlock*/ }$} ;$int main ( ) {$A * a = new A ( ) ;$/*@parallel*/ for ( long i = 0 ; i < 2 ; i += 1 ) {$a -> ask ( i ) ;$a -> up ( i ) ;$}$/*@parallel*/ a -> ask ( 1 ) ;$}$";
-
-/// The annotated text of a tree and its program.
-fn emitted_of<R: AllocGlobal + Abort>(rt: &R, tree: &Tree, program: &Program) -> Vec<u8> {
-    let plan = plan(rt.alloc(), program).expect(rt, "a plan");
-    let text = emit(rt.alloc(), program, tree, &plan).expect(rt, "a text");
-    let_go(plan);
-    text
-}
-
-/// Whether a source has this annotated text.
-fn is_emitted<R: AllocGlobal + Abort>(rt: &R, text: &str, wanted: &str) -> bool {
-    let tree = tree(rt, text);
-    let found = emitted_of(rt, tree, checked(rt, tree));
-    found.as_slice() == wanted.as_bytes()
-}
 
 /// A text without its marks.
 fn erased<R: Abort>(rt: &R, alloc: Global, text: &str) -> Vec<u8> {
@@ -51,47 +25,21 @@ fn erased<R: Abort>(rt: &R, alloc: Global, text: &str) -> Vec<u8> {
     erase(alloc, text.as_bytes()).expect(rt, "no bad mark")
 }
 
-/// Whether the second text without its marks is the canonical text of the first.
-fn is_canonical<R: AllocGlobal + Abort>(rt: &R, text: &str, marked: &str) -> bool {
-    let tree = tree(rt, text);
-    let canonical = unparse(rt.alloc(), tree).expect(rt, "a text");
-    let found = erased(rt, rt.alloc(), marked);
-    found.as_slice() == canonical.as_slice()
-}
-
-/// Whether a source has its annotated text, or without its marks this is canonical.
-fn is_right<R: AllocGlobal + Abort>(rt: &R, text: &str, marked: &str, erases: bool) -> bool {
+/// Whether the annotated text of a row without its marks is the canonical text of its source.
+fn is_canonical<R: AllocGlobal + Abort>(rt: &R, row: &str) -> bool {
+    let (text, marked) = row.split_once(" => ").expect(rt, "a row");
     let text = with_lines(rt, text);
     let marked = with_lines(rt, marked);
-    if erases {
-        is_canonical(rt, &text, &marked)
-    } else {
-        is_emitted(rt, &text, &marked)
-    }
-}
-
-/// Ends the test unless the rows are right, and counts them.
-fn right_rows<R: AllocGlobal + Abort>(rt: &R, erases: bool) -> u32 {
-    let mut count: u32 = 0;
-    for row in EMITTED.lines() {
-        if let Some((text, marked)) = row.split_once(" => ") {
-            assert!(rt; is_right(rt, text, marked, erases), "of {text}");
-            count = count.wrapping_add(1);
-        }
-    }
-    count
-}
-
-#[test]
-fn texts_are_annotated(rt: HostRuntime) {
-    let (text, marked) = TWO.split_once(" => ").expect(&rt, "a row");
-    assert!(rt; is_right(&rt, text, marked, false));
-    assert!(rt; right_rows(&rt, false) == 9);
+    let canonical = unparse(rt.alloc(), tree(rt, &text)).expect(rt, "a text");
+    let found = erased(rt, rt.alloc(), &marked);
+    found.as_slice() == canonical.as_slice()
 }
 
 #[test]
 fn annotated_texts_are_erased(rt: HostRuntime) {
-    assert!(rt; right_rows(&rt, true) == 9);
+    for row in EMITTED.lines() {
+        assert!(rt; is_canonical(&rt, row), "{row}");
+    }
 }
 
 /// Texts with marks, and behind `=>` texts without them, with `$` for the end of a line.
