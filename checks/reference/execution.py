@@ -71,7 +71,7 @@ def is_product(e, may_name):
     return e[0] == "number" or e[0] in ("local", "own") and may_name(e)
 
 
-def sweep_of(s, may_name=lambda e: True):
+def sweep_in(s, may_name=lambda e: True):
     """What a `for` sweeps, where its bounds and what it adds are such sums, none of which names its counter."""
     found = sweep_form(s)
     parts = found[1:4] if found else ()
@@ -132,7 +132,7 @@ def first_other_loop(method, written):
         return e[1] < method.params if e[0] == "local" else e[1] not in written
 
     loops = (s for top in method.body for s in statements_in(top) if s[0] in ("while", "for"))
-    others = (s for s in loops if s[0] == "while" or not is_call_loop(s) and sweep_of(s, may_name) is None)
+    others = (s for s in loops if s[0] == "while" or not is_call_loop(s) and sweep_in(s, may_name) is None)
     return next((s[1] for s in others), None)
 
 
@@ -220,7 +220,7 @@ class Order:
 
     def for_statement(self, guard, s):
         """A sweep, or a call loop: one demand, with the locals that it reads beside its counter."""
-        found = sweep_of(s)
+        found = sweep_in(s)
         if found:
             return self.sweep(guard, *found)
         read = {e[1] for e in expressions_of(s) if e[0] == "local"} - {s[6]}
