@@ -1,5 +1,5 @@
 -- Histories that are taken off the shelves and put in order.
-use Rattle.std.proofs.Common.{◌≡◌, ◌≢◌, ◌<◌, ◌≤◌, ◌+◌, ◌-◌, ◌%◌, ◌⊎◌, inl, inr, ⊎_elim, ℕ, zero, suc, eqb, cond, List, [], ◌∷◌, ◌++◌, All, length, length-append, map, reverse, take, get_or, Option, Some, None, refl, ap, sym, subst, ◌∙◌, arith, append-nil, append_assoc, eq-eqb, ne_eqb, length-set}
+use Rattle.std.proofs.Common.{◌≡◌, ◌≢◌, ◌<◌, ◌≤◌, ◌+◌, ◌-◌, ◌%◌, ◌⊎◌, inl, inr, ⊎_elim, ℕ, zero, suc, eqb, cond, List, [], ◌∷◌, ◌++◌, All, length, length-append, map, reverse, take, get_or, Option, Some, None, refl, ap, sym, subst, ◌∙◌, arith, append-nil, append_assoc, eq-eqb, ne_eqb, length-set, option_to_list}
 use Rattle.std.specs.Prelude.{slice_get, slice_set}
 use Rattle.std.specs.List.{Contains, sum_by}
 use Rattle.std.specs.List.Sorted.{IsPermutation, IsNonDecreasingBy}
@@ -351,6 +351,11 @@ pub pour_one : (all done more left rest : List Held) (h : Held) → more ≡ don
 pour_one all done more left rest h a b p =
     let q : IsPermutation (done ++ left) (done ++ (h ∷ rest)) = IsPermutation-append done done left (h ∷ rest) (IsPermutation-refl done) (subst (λ (l : List Held). IsPermutation l (h ∷ rest)) (sym b) (IsPermutation-to_front rest h)) in
     subst (IsPermutation all) (sym (append_assoc done (h ∷ []) rest) ∙ ap (λ (l : List Held). l ++ rest) (sym a)) (IsPermutation-trans all (done ++ left) (done ++ (h ∷ rest)) p q)
+
+-- the last history of a shelf is moved first
+pub pour_last : (all items : List Held) (last : Option Held) → IsPermutation (all ++ (items ++ option_to_list last)) ((all ++ option_to_list last) ++ items)
+pour_last all items None = subst (λ (l : List Held). IsPermutation (all ++ (items ++ [])) (l ++ items)) (sym (append-nil all)) (subst (λ (l : List Held). IsPermutation (all ++ l) (all ++ items)) (sym (append-nil items)) (IsPermutation-refl (all ++ items)))
+pour_last all items (Some h) = pour_one (all ++ (items ++ h ∷ [])) all (all ++ h ∷ []) (items ++ h ∷ []) items h refl refl (IsPermutation-refl (all ++ (items ++ h ∷ [])))
 
 pub part_none : (ns : List ℕ) (ls : List CellLog) (ts : List Touched) → length ns ≡ 0 → pairs ns ls ++ ts ≡ ts
 part_none [] ls ts e = refl

@@ -1,5 +1,5 @@
 -- Histories on shelves.
-use Rattle.std.proofs.Common.{◌≡◌, ◌≢◌, ℕ, zero, suc, ◌+◌, ◌<◌, cond, List, [], ◌∷◌, ◌++◌, All, length, take, drop, get_or, Some, None, sym, refl, ap, ◌∙◌, subst, arith, eq-eqb, ne_eqb}
+use Rattle.std.proofs.Common.{◌≡◌, ◌≢◌, ℕ, zero, suc, ◌+◌, ◌<◌, cond, List, [], ◌∷◌, ◌++◌, All, length, take, drop, get_or, Some, None, sym, refl, ap, ◌∙◌, subst, arith, append-nil, eq-eqb, ne_eqb}
 use Rattle.std.specs.Prelude.{Contains, slice_get}
 use mathlib.Core.Logic.{dite}
 use native.Mathlib.Decide.{ℕ_discrete}
@@ -74,6 +74,10 @@ taken_out shelf others xs h ys n a b e o =
       of = subst (All (λ (x : Held). Contains shelf x)) (sym b) (all_without (λ (x : Held). Contains shelf x) xs h ys (subst (All (λ (x : Held). Contains shelf x)) a (All-contains_itself shelf)));
     }
 
+-- the last one is taken out
+pub last_out : (others : List Held) (h : Held) (n : ℕ) → h.number ≡ n → AreOnce (others ++ h ∷ []) → Without (others ++ h ∷ []) n others
+last_out others h n e o = taken_out (others ++ h ∷ []) others others h [] n refl (sym (append-nil others)) e o
+
 -- one that lacks the history is so already
 pub none_out : (shelf others : List Held) (n : ℕ) → others ≡ shelf → found shelf n ≡ None → AreOnce shelf → Without shelf n others
 none_out shelf others n e none o = record {
@@ -140,6 +144,9 @@ split_at xs k h e = go xs k e ∙ ap (λ (n : ℕ). take k xs ++ h ∷ drop n xs
 
 pub found_mid : (xs : List Held) (h : Held) (ys : List Held) → AreOnce (xs ++ h ∷ ys) → found (xs ++ h ∷ ys) h.number ≡ Some h.log
 found_mid xs h ys o = let w = once_without xs h ys o in found_behind xs (h ∷ ys) h.number (none_first xs ys h.number w.1) ∙ found_here h ys h.number refl
+
+pub last_found : (others : List Held) (h : Held) (n : ℕ) → h.number ≡ n → AreOnce (others ++ h ∷ []) → found (others ++ h ∷ []) n ≡ Some h.log
+last_found others h n e o = ap (found (others ++ h ∷ [])) (sym e) ∙ found_mid others h [] o
 
 -- what stands at the place of a number
 pub found_place : (xs : List Held) (k n : ℕ) (h : Held) → AreOnce xs → slice_get xs k ≡ Some h → h.number ≡ n → found xs n ≡ Some h.log

@@ -1,7 +1,6 @@
 //! What stands in a slot: a shelf, which has the histories of a class of objects that have begun, each in memory of its own.
 
-ghost use Rattle.std.specs.Prelude.{◌≡◌, ℕ, ◌<◌, true, false, List, [], ◌∷◌, ◌++◌, length, slice_get, Some, None, IfOk, IfErr, MatchOption, OnErr};
-ghost use Rattle.std.specs.Vec.{vec_capacity};
+ghost use Rattle.std.specs.Prelude.{◌≡◌, ℕ, ◌<◌, true, false, List, [], ◌∷◌, ◌++◌, length, slice_get, Some, None, IfOk, IfErr, MatchOption, OnErr, option_to_list};
 ghost use Rattle.ca_program.specs.View.{program_view};
 ghost use Rattle.ca_model.specs.Typed.{TypedHeap};
 ghost use Rattle.ca_meaning.specs.Agree.{AgreesAt};
@@ -80,27 +79,28 @@ pub struct Held {
     pub log: SlotLog,
 }
 
-/// The histories of a class of objects that have begun. Contracts see it as their list.
+/// The histories of a class of objects that have begun, and by itself that of the one that was worked on last, which takes no
+/// memory for its place. Contracts see it as their list, with that one at the end.
 #[derive(Drop)]
 pub struct Shelf {
-    items: Vec<Held>,
+    others: Vec<Held>,
+    last: Option<Held>,
 }
 
 impl Model for Shelf {
-    ghost use Rattle.std.specs.Prelude.{List};
+    ghost use Rattle.std.specs.Prelude.{List, ◌++◌, option_to_list};
     ghost use Rattle.ca_cells.specs.declared.slot.Held.{Held};
 
     ghost Value = { List Held };
 
-    ghost view = { λ s. s.items.items };
+    ghost view = { λ s. s.others.items ++ option_to_list s.last };
 }
 
-/// A shelf without the history of one object, which has room for it.
+/// A shelf without the history of one object.
 #[derive(Drop)]
 pub struct Out {
     pub class: usize,
     pub others: Vec<Held>,
-    ghost room: { length others.items < vec_capacity others },
 }
 
 impl Shelf {
@@ -109,16 +109,18 @@ impl Shelf {
         ensures { result ≡ [] }
     {
         Shelf {
-            items: Vec::new(alloc),
+            others: Vec::new(alloc),
+            last: None,
         }
     }
 
-    /// Its histories.
-    pub(crate) fn into_items(self) -> Vec<Held>
-        ensures { result.items ≡ self }
+    /// Its histories: the last one by itself.
+    #[inline(always)]
+    pub(crate) fn into_parts(self) -> (Vec<Held>, Option<Held>)
+        ensures { result.0.items ++ option_to_list result.1 ≡ self }
     {
-        let Shelf { items } = self;
-        items
+        let Shelf { others, last } = self;
+        (others, last)
     }
 }
 
@@ -126,12 +128,11 @@ impl Shelf {
 pub(crate) fn put_back(out: Out, number: u32, log: SlotLog) -> Shelf
     ensures { result ≡ out.others.items ++ record { number = number; log = log } ∷ [] }
 {
-    let Out {
-        class: _,
-        mut others,
-    } = out;
-    others.push_reserved(Held { number, log });
-    Shelf { items: others }
+    let Out { class: _, others } = out;
+    Shelf {
+        others,
+        last: Some(Held { number, log }),
+    }
 }
 
 /// The shelf with a history back that is as it was. One without entries is left out, so that an object that had none has
@@ -144,7 +145,7 @@ pub(crate) fn put_back_same(out: Out, number: u32, log: SlotLog) -> Shelf
         return put_back(out, number, log);
     }
     let Out { class: _, others } = out;
-    Shelf { items: others }
+    Shelf { others, last: None }
 }
 
 /// Where the history of an object stands. Those that came last are looked at first.
@@ -180,7 +181,7 @@ fn opened(alloc: Global, object: &Object, keeps: bool) -> Result<SlotLog, Memory
     Ok(SlotLog::of(alloc, log)?)
 }
 
-/// The history of an object that has not begun begins, and these have room for it. Without memory they come back.
+/// The history of an object that has not begun begins. Without memory the others come back.
 #[inline(never)]
 fn begin(
     alloc: Global,
@@ -189,7 +190,7 @@ fn begin(
     class: usize,
     number: u32,
     keeps: bool,
-    mut items: Vec<Held>,
+    items: Vec<Held>,
 ) -> Result<(SlotLog, Out), Shelf>
     requires inside { number < length heap.now }
     requires none { found items.items number ≡ None }
@@ -199,9 +200,6 @@ fn begin(
     ensures log { IfOk result (λ taken. (given : Given) (history : CellLog) → now_of given ≡ present heap.now beside.now → Stands given number None history → taken.0 ≡ history) }
     ensures back { IfErr result (λ back. back ≡ items.items) }
 {
-    if items.reserve(1).is_err() {
-        return Err(Shelf { items });
-    }
     match opened(alloc, beside.get(heap, number), keeps) {
         Ok(log) => Ok((
             log,
@@ -210,7 +208,59 @@ fn begin(
                 others: items,
             },
         )),
-        Err(_) => Err(Shelf { items }),
+        Err(_) => Err(Shelf {
+            others: items,
+            last: None,
+        }),
+    }
+}
+
+/// All histories of a shelf, where one stands by itself. Without memory for that the shelf comes back.
+fn joined(mut others: Vec<Held>, last: Held) -> Result<Vec<Held>, Shelf>
+    ensures all { IfOk result (λ all. all.items ≡ others.items ++ last ∷ []) }
+    ensures back { IfErr result (λ back. back ≡ others.items ++ last ∷ []) }
+{
+    if others.reserve(1).is_err() {
+        return Err(Shelf {
+            others,
+            last: Some(last),
+        });
+    }
+    others.push_reserved(last);
+    Ok(others)
+}
+
+/// Takes the history of an object out of those of its class. One that has not begun begins. Without memory for that they come
+/// back.
+#[inline(never)]
+fn search(
+    alloc: Global,
+    heap: &Heap,
+    beside: &Beside,
+    class: usize,
+    number: u32,
+    keeps: bool,
+    mut items: Vec<Held>,
+) -> Result<(SlotLog, Out), Shelf>
+    requires inside { number < length heap.now }
+    requires once { AreOnce items.items }
+    ensures class { IfOk result (λ taken. taken.1.class ≡ class) }
+    ensures out { IfOk result (λ taken. Without items.items number taken.1.others.items) }
+    ensures log { IfOk result (λ taken. (given : Given) (history : CellLog) → now_of given ≡ present heap.now beside.now → Stands given number (found items.items number) history → taken.0 ≡ history) }
+    ensures back { IfErr result (λ back. back ≡ items.items) }
+{
+    match place(&items, number) {
+        Some(at) => {
+            let Held { number: _, log } = items.remove(at);
+            Ok((
+                log,
+                Out {
+                    class,
+                    others: items,
+                },
+            ))
+        }
+        None => begin(alloc, heap, beside, class, number, keeps, items),
     }
 }
 
@@ -233,19 +283,20 @@ pub(crate) fn take_out(
     ensures log { IfOk result (λ taken. (given : Given) (history : CellLog) → now_of given ≡ present heap.now beside.now → Stands given number (found shelf number) history → taken.0 ≡ history) }
     ensures back { IfErr result (λ back. back ≡ shelf) }
 {
-    let mut items = shelf.into_items();
-    match place(&items, number) {
-        Some(at) => {
-            let Held { number: _, log } = items.remove(at);
-            Ok((
-                log,
-                Out {
-                    class,
-                    others: items,
-                },
-            ))
+    let (others, last) = shelf.into_parts();
+    match last {
+        Some(held) => {
+            let mine = held.number == number;
+            if mine {
+                let Held { number: _, log } = held;
+                return Ok((log, Out { class, others }));
+            }
+            match joined(others, held) {
+                Ok(all) => search(alloc, heap, beside, class, number, keeps, all),
+                Err(back) => Err(back),
+            }
         }
-        None => begin(alloc, heap, beside, class, number, keeps, items),
+        None => search(alloc, heap, beside, class, number, keeps, others),
     }
 }
 

@@ -8,26 +8,13 @@ use Rattle.std.specs.contracts.alloc.Global as global
 use Rattle.std.specs.contracts.impls.GlobalAllocator.TheImpl as heap
 use Rattle.std.specs.contracts.vec.Vec as vec
 use Rattle.std.specs.contracts.option.Option as option
+use Rattle.std.specs.contracts.boxed.Box as boxed
 use Rattle.ca_model.proofs.value.Object.TheSendSync as object
 use Rattle.ca_logs.proofs.log.Entry.TheSendSync as entry_sent
 use Rattle.ca_logs.specs.contracts.log.Entry as entry
 use Rattle.ca_logs.specs.contracts.log.CellLog as log
-use Rattle.ca_logs.specs.contracts.entries.Told as told
 use Rattle.ca_logs.specs.contracts.entries.Entries as entries
 use Rattle.ca_logs.specs.contracts.entries.Entries.TheInside as entries_inside
-
--- what is told of an entry has no bytes
-told_send : IsSend told.the_row
-told_send = declared_send told.the_type (search (sendable, crosses), (search (sendable, crosses), (search (sendable, crosses), (search (sendable, crosses), (search (sendable, crosses), tt)))))
-
-told_sync : IsSync told.the_row
-told_sync = declared_sync told.the_type (search (sendable, crosses), (search (sendable, crosses), (search (sendable, crosses), (search (sendable, crosses), (search (sendable, crosses), tt)))))
-
-tolds_send : IsSend (vec.the_row told.the_row global.the_row heap.ghosts)
-tolds_send = search (crosses, told_send) depth 20
-
-tolds_sync : IsSync (vec.the_row told.the_row global.the_row heap.ghosts)
-tolds_sync = search (crosses, told_sync) depth 20
 
 list_send : IsSend (vec.the_row entry.the_row global.the_row heap.ghosts)
 list_send = search (crosses, entry_sent.the_send) depth 20
@@ -47,17 +34,23 @@ steps_send = as_row_send (option.the_field u64) (search sendable depth 20)
 steps_sync : IsSync (as_row (option.the_field u64))
 steps_sync = as_row_sync (option.the_field u64) (search sendable depth 20)
 
-stuck_send : IsSend (as_row (option.the_field entry.the_row))
-stuck_send = as_row_send (option.the_field entry.the_row) (search (sendable, entry_sent.the_send) depth 20)
+boxed_send : IsSend (boxed.the_row entry.the_row global.the_row heap.ghosts)
+boxed_send = search (crosses, entry_sent.the_send) depth 20
 
-stuck_sync : IsSync (as_row (option.the_field entry.the_row))
-stuck_sync = as_row_sync (option.the_field entry.the_row) (search (sendable, entry_sent.the_sync) depth 20)
+boxed_sync : IsSync (boxed.the_row entry.the_row global.the_row heap.ghosts)
+boxed_sync = search (crosses, entry_sent.the_sync) depth 20
+
+stuck_send : IsSend (as_row (option.the_field (boxed.the_row entry.the_row global.the_row heap.ghosts)))
+stuck_send = as_row_send (option.the_field (boxed.the_row entry.the_row global.the_row heap.ghosts)) (search (sendable, boxed_send) depth 20)
+
+stuck_sync : IsSync (as_row (option.the_field (boxed.the_row entry.the_row global.the_row heap.ghosts)))
+stuck_sync = as_row_sync (option.the_field (boxed.the_row entry.the_row global.the_row heap.ghosts)) (search (sendable, boxed_sync) depth 20)
 
 pub entries_send : IsSend entries.the_row
-entries_send = view_send _ _ _ _ _ (declared_send entries_inside.the_type (kept_send, (tolds_send, (search sendable, (steps_send, (stuck_send, tt))))))
+entries_send = view_send _ _ _ _ _ (declared_send entries_inside.the_type (search (sendable, crosses), (search sendable, (search sendable, (steps_send, (stuck_send, (kept_send, tt)))))))
 
 entries_sync : IsSync entries.the_row
-entries_sync = view_sync _ _ _ _ _ (declared_sync entries_inside.the_type (kept_sync, (tolds_sync, (search sendable, (steps_sync, (stuck_sync, tt))))))
+entries_sync = view_sync _ _ _ _ _ (declared_sync entries_inside.the_type (search (sendable, crosses), (search sendable, (search sendable, (steps_sync, (stuck_sync, (kept_sync, tt)))))))
 
 pub log_send : IsSend log.the_row
 log_send = declared_send log.the_type (search (sendable, crosses), (object.the_send, (entries_send, tt)))

@@ -1,13 +1,14 @@
 //! Lists of entries, which contracts see, and which stand in memory only where they are kept.
 
-ghost use Rattle.std.specs.Prelude.{◌≡◌, ℕ, ◌+◌, ◌*◌, List, [], ◌∷◌, ◌++◌, length, map, take, Some, None, IfOk, IfSome, OnErr, option_copied};
+ghost use Rattle.std.specs.Prelude.{◌≡◌, ℕ, ◌+◌, List, [], ◌∷◌, ◌++◌, length, map, take, Some, None, IfOk, IfSome, OnErr, option_copied};
 ghost use Rattle.ca_logs.specs.Lasts.{last_of};
-ghost use Rattle.ca_logs.specs.Telling.{IsMark, StepsAre, clock_of, entries_by, entry_with, operation_in, ran_entry, steps_of, stopped_in, stuck_entry, told_entry};
+ghost use Rattle.ca_logs.specs.Telling.{AreKept, IsMark, StepsAre, clock_of, entry_with, operation_in, ran_entry, steps_of, stopped_in, stuck_entry, told_entry, told_in};
 
 use crate::log::{Entry, Ops, Stop, Task};
 use ca_parallel::Op;
 use std::alloc::{AllocError, Global};
 use std::marker::Model;
+use std::mem;
 use std::snapshot::Snapshot;
 
 /// An entry as contracts see it, with what its section listed as tasks. It has no bytes.
@@ -20,33 +21,45 @@ pub struct Told {
     pub stop: Snapshot<Option<Stop>>,
 }
 
-/// A list of entries. They stand in memory where they are kept, and else are told to contracts alone. Beside them are the
-/// clock of the last one, the steps of all, unless they are more than a number tells, and the last one where it has a stop.
+/// Entries as contracts see them: none, one more behind others, or those that stood at a mark. It takes no memory, since all
+/// that it is made of are snapshots.
+#[derive(Drop)]
+pub enum Past {
+    Nothing,
+    More(Snapshot<Past>, Told),
+    Same(Snapshot<Snapshot<Past>>),
+}
+
+/// A list of entries. They are told to contracts alone, and stand in memory too where they are kept. Beside them are how many
+/// there are, the clock of the last one, the steps of all, unless they are more than a number tells, and the last one where it
+/// has a stop.
 #[derive(Drop)]
 pub struct Entries {
-    kept: Option<Vec<Entry>>,
-    told: Vec<Told>,
+    told: Snapshot<Past>,
+    count: usize,
     clock: u64,
     steps: Option<u64>,
-    stuck: Option<Entry>,
+    stuck: Option<Box<Entry>>,
+    kept: Option<Vec<Entry>>,
 }
 
 impl Model for Entries {
     ghost use Rattle.std.specs.Prelude.{List};
     ghost use Rattle.ca_logs.specs.declared.log.Entry.{Entry};
-    ghost use Rattle.ca_logs.specs.Telling.{Tallies, entries_by};
+    ghost use Rattle.ca_logs.specs.Telling.{Tallies, told_in, unboxed};
 
     ghost Value = { List Entry };
 
-    ghost view = { λ s. entries_by s.kept s.told.items };
+    ghost view = { λ s. told_in s.told.value };
 
-    ghost invariant = { λ s. Tallies (entries_by s.kept s.told.items) s.clock s.steps s.stuck };
+    ghost invariant = { λ s. Tallies (told_in s.told.value) s.kept s.count s.clock s.steps (unboxed s.stuck) };
 }
 
-/// Where a list of entries stood: how many there were, the clock of the last one, and the steps of all.
-#[derive(Clone, Copy)]
+/// Where a list of entries stood: how many there were, as contracts see them, the clock of the last one, and the steps of all.
+#[derive(Drop)]
 pub struct Mark {
     pub count: usize,
+    pub told: Snapshot<Snapshot<Past>>,
     pub clock: u64,
     pub steps: Option<u64>,
 }
@@ -124,12 +137,56 @@ fn keep(
     Ok(())
 }
 
-/// Adds an entry at the end, to those that are kept, or else to those that are told. Without memory for it they are as
-/// before.
+/// Adds what is told of an entry at the end.
 #[inline(always)]
-fn enter(
+fn add_told(past: &mut Snapshot<Past>, told: Told)
+    ensures { told_in past.new.value ≡ told_in past.old.value ++ told_entry told ∷ [] }
+{
+    let before = mem::replace(past, Snapshot::of(&Past::Nothing));
+    let more = Past::More(before, told);
+    *past = Snapshot::of(&more);
+}
+
+/// Keeps the first entries, where they are kept.
+fn cut(kept: &mut Option<Vec<Entry>>, count: usize)
+    ensures { (es : List Entry) → AreKept kept.old es → AreKept kept.new (take count es) }
+{
+    match kept {
+        Some(entries) => entries.truncate(count),
+        None => {}
+    }
+}
+
+/// An entry in memory of its own.
+fn boxed(alloc: Global, entry: Entry) -> Result<Box<Entry>, AllocError>
+    ensures { IfOk result (λ b. b.value ≡ entry) }
+{
+    Ok(Box::new(alloc, entry)?)
+}
+
+/// Lets go of an entry.
+#[cold]
+#[inline(never)]
+fn let_go(stuck: &mut Option<Box<Entry>>)
+    ensures { stuck.new ≡ None }
+{
+    *stuck = None;
+}
+
+/// No entries, which are kept or not.
+fn room_for(alloc: Global, keeps: bool) -> Option<Vec<Entry>>
+    ensures { AreKept result [] }
+{
+    if keeps {
+        return Some(Vec::new(alloc));
+    }
+    None
+}
+
+/// Adds an entry at the end of those that are kept. Without memory for it they are as before.
+#[inline(always)]
+fn keep_one(
     kept: &mut Option<Vec<Entry>>,
-    told: &mut Vec<Told>,
     alloc: Global,
     task: &Task,
     clock: u64,
@@ -137,25 +194,12 @@ fn enter(
     listed: &Vec<Task>,
     stop: Option<Stop>,
 ) -> Result<(), AllocError>
-    ensures added { IfOk result (λ _. entries_by kept.new told.new.items ≡ entries_by kept.old told.old.items ++ entry_with task.now clock steps (map operation_in listed.now.items) stop ∷ []) }
-    ensures as_before { OnErr result (entries_by kept.new told.new.items ≡ entries_by kept.old told.old.items) }
+    ensures added { IfOk result (λ _. (es : List Entry) → AreKept kept.old es → AreKept kept.new (es ++ entry_with task.now clock steps (map operation_in listed.now.items) stop ∷ [])) }
+    ensures as_before { OnErr result ((es : List Entry) → AreKept kept.old es → AreKept kept.new es) }
 {
     match kept {
         Some(entries) => keep(entries, alloc, task, clock, steps, listed, stop),
-        None => {
-            told.push(tell(task, clock, steps, listed, stop))?;
-            Ok(())
-        }
-    }
-}
-
-/// Keeps the first entries, of those that are kept, or else of those that are told.
-fn cut(kept: &mut Option<Vec<Entry>>, told: &mut Vec<Told>, count: usize)
-    ensures { entries_by kept.new told.new.items ≡ take count (entries_by kept.old told.old.items) }
-{
-    match kept {
-        Some(entries) => entries.truncate(count),
-        None => told.truncate(count),
+        None => Ok(()),
     }
 }
 
@@ -164,13 +208,13 @@ impl Entries {
     pub fn none(alloc: Global, keeps: bool) -> Entries
         ensures { result ≡ [] }
     {
-        let kept = if keeps { Some(Vec::new(alloc)) } else { None };
         Entries {
-            kept,
-            told: Vec::new(alloc),
+            told: Snapshot::of(&Past::Nothing),
+            count: 0,
             clock: 0,
             steps: Some(0),
             stuck: None,
+            kept: room_for(alloc, keeps),
         }
     }
 
@@ -188,20 +232,17 @@ impl Entries {
         ensures added { IfOk result (λ _. self.new ≡ self.old ++ ran_entry task.now clock steps (map operation_in listed.now.items) ∷ []) }
         ensures kept { OnErr result (self.new ≡ self.old) }
     {
-        enter(
-            &mut self.kept,
-            &mut self.told,
-            alloc,
-            task,
-            clock,
-            steps,
-            listed,
-            None,
-        )?;
+        let full = self.count == usize::MAX;
+        if full {
+            return Err(AllocError);
+        }
+        keep_one(&mut self.kept, alloc, task, clock, steps, listed, None)?;
+        add_told(&mut self.told, tell(task, clock, steps, listed, None));
+        self.count += 1;
         self.clock = clock;
         self.steps = more_steps(self.steps, steps);
         if self.stuck.is_some() {
-            self.stuck = None;
+            let_go(&mut self.stuck);
         }
         Ok(())
     }
@@ -218,17 +259,15 @@ impl Entries {
         ensures kept { OnErr result (self.new ≡ self.old) }
     {
         let none = Vec::new(alloc);
-        let entry = entry_of(alloc, task, clock, 0, &none, Some(stop))?;
-        enter(
-            &mut self.kept,
-            &mut self.told,
-            alloc,
-            task,
-            clock,
-            0,
-            &none,
-            Some(stop),
-        )?;
+        let made = entry_of(alloc, task, clock, 0, &none, Some(stop))?;
+        let entry = boxed(alloc, made)?;
+        let full = self.count == usize::MAX;
+        if full {
+            return Err(AllocError);
+        }
+        keep_one(&mut self.kept, alloc, task, clock, 0, &none, Some(stop))?;
+        add_told(&mut self.told, tell(task, clock, 0, &none, Some(stop)));
+        self.count += 1;
         self.clock = clock;
         self.stuck = Some(entry);
         Ok(())
@@ -240,7 +279,8 @@ impl Entries {
         ensures { stopped_in (last_of self.now) ≡ None → IsMark self.now result }
     {
         Mark {
-            count: self.len(),
+            count: self.count,
+            told: Snapshot::of(&self.told),
             clock: self.clock,
             steps: self.steps,
         }
@@ -251,7 +291,10 @@ impl Entries {
         requires { IsMark (take mark.count self.old) mark }
         ensures { self.new ≡ take mark.count self.old }
     {
-        cut(&mut self.kept, &mut self.told, mark.count);
+        cut(&mut self.kept, mark.count);
+        let past = Past::Same(mark.told);
+        self.told = Snapshot::of(&past);
+        self.count = mark.count;
         self.clock = mark.clock;
         self.steps = mark.steps;
         self.stuck = None;
@@ -261,20 +304,7 @@ impl Entries {
     pub fn len(&self) -> usize
         ensures { result ≡ length self.now }
     {
-        match &self.kept {
-            Some(entries) => entries.len(),
-            None => self.told.len(),
-        }
-    }
-
-    /// Twice how many there are, which is always a number.
-    pub fn twice(&self) -> u64
-        ensures { result ≡ 2 * length self.now }
-    {
-        match &self.kept {
-            Some(entries) => 2 * entries.len() as u64,
-            None => 2 * self.told.len() as u64,
-        }
+        self.count
     }
 
     /// The entries, where they are kept.
@@ -305,6 +335,9 @@ impl Entries {
     pub fn stuck(&self) -> Option<&Entry>
         ensures { option_copied result ≡ stopped_in (last_of self.now) }
     {
-        self.stuck.as_ref()
+        match &self.stuck {
+            Some(entry) => Some(&**entry),
+            None => None,
+        }
     }
 }

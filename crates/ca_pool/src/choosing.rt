@@ -60,9 +60,57 @@ fn pass_held<N: Round>(
     next
 }
 
+/// As `take_free` says, where the newest task of the share has to wait, or there is none.
+#[inline(never)]
+fn take_slowly<N: Round>(
+    cells: &Cells,
+    locks: &[bool],
+    owner: &mut Owner<N>,
+    thieves: &mut Thieves<N>,
+    share: &mut Vec<Task>,
+) -> Option<Task>
+    requires setting { N.setting ≡ setting_of (cells_key cells.now) }
+    requires share { AllFit N.setting share.old.items }
+    ensures same { owner_key owner.new ≡ owner_key owner.old }
+    ensures keys { map key_of thieves.new ≡ map key_of thieves.old }
+    ensures share { AllFit N.setting share.new.items }
+    ensures fits { AllFit N.setting (option_to_list result) }
+    ensures taken { (h : Task → ℕ) → weight h owner.new.hand.taken + weight (taken_by_thief h) thieves.new + weight h share.old.items + weight h owner.old.hand.pushed ≡ weight h owner.old.hand.taken + weight (taken_by_thief h) thieves.old + weight h share.new.items + weight h (option_to_list result) + weight h owner.new.hand.pushed }
+{
+    match take_any::<N>(owner, thieves, share) {
+        Some(task) => Some(pass_held::<N>(cells, locks, owner, thieves, share, task)),
+        None => None,
+    }
+}
+
+/// The newest task of a share.
+#[inline(always)]
+fn newest<N: Round>(share: &mut Vec<Task>) -> Option<Task>
+    requires { AllFit N.setting share.old.items }
+    ensures share { AllFit N.setting share.new.items }
+    ensures fits { AllFit N.setting (option_to_list result) }
+    ensures taken { (h : Task → ℕ) → weight h share.old.items ≡ weight h share.new.items + weight h (option_to_list result) }
+{
+    share.pop()
+}
+
+/// Whether the newest task of a share waits for nobody just now. Nothing rests on it.
+#[inline(always)]
+fn is_ready<N: Round>(cells: &Cells, locks: &[bool], share: &Vec<Task>) -> bool
+    requires setting { N.setting ≡ setting_of (cells_key cells.now) }
+    requires share { AllFit N.setting share.now.items }
+{
+    let count = share.len();
+    if count == 0 {
+        return false;
+    }
+    !would_wait(cells, locks, &share[count - 1])
+}
+
 /// The newest task of the own share that waits for nobody, as far as a few tries find one; where the share has none, of
 /// the own deque; and where that has none, one of another's. Before it gives one that has to wait, where it has no other, it
 /// tries to steal. Before that it opens tasks of the share to others.
+#[inline(always)]
 pub fn take_free<N: Round>(
     cells: &Cells,
     locks: &[bool],
@@ -79,8 +127,8 @@ pub fn take_free<N: Round>(
     ensures taken { (h : Task → ℕ) → weight h owner.new.hand.taken + weight (taken_by_thief h) thieves.new + weight h share.old.items + weight h owner.old.hand.pushed ≡ weight h owner.old.hand.taken + weight (taken_by_thief h) thieves.old + weight h share.new.items + weight h (option_to_list result) + weight h owner.new.hand.pushed }
 {
     open_some::<N>(owner, share, locks);
-    match take_any::<N>(owner, thieves, share) {
-        Some(task) => Some(pass_held::<N>(cells, locks, owner, thieves, share, task)),
-        None => None,
+    if is_ready::<N>(cells, locks, share) {
+        return newest::<N>(share);
     }
+    take_slowly::<N>(cells, locks, owner, thieves, share)
 }

@@ -1,6 +1,6 @@
 -- What a run on copies reads and puts is what it reads and puts in the heap of sums.
-use Rattle.std.proofs.Common.{◌≡◌, ◌≢◌, ◌<◌, ◌≤◌, ◌⊎◌, inl, inr, ⊎_elim, ℕ, zero, suc, ◌+◌, List, [], ◌∷◌, ◌++◌, length, drop, get_or, Option, Some, None, Result, Ok, Err, IfOk, refl, ap, sym, subst, ◌∙◌, arith, Bool, true, false, true≢false}
-use Rattle.std.specs.Prelude.{slice_get, slice_set, Contains, OnErr, is_some}
+use Rattle.std.proofs.Common.{◌≡◌, ◌≢◌, ◌<◌, ◌≤◌, ◌⊎◌, inl, inr, ⊎_elim, ℕ, ℤ, zero, suc, ◌+◌, List, [], ◌∷◌, ◌++◌, length, drop, get_or, Option, Some, None, Result, Ok, Err, IfOk, refl, ap, sym, subst, ◌∙◌, arith, Bool, true, false, true≢false}
+use Rattle.std.specs.Prelude.{slice_get, slice_set, Contains, OnErr}
 use Rattle.std.proofs.lemmas.Bool.{cases_lt}
 use Rattle.std.proofs.lemmas.List.{get_or_default, drop_more, drop_all}
 use Rattle.std.proofs.lemmas.List.Elements.{Contains-append_cases}
@@ -16,7 +16,7 @@ use Rattle.ca_model.specs.declared.value.Slot.{Slot}
 use Rattle.ca_model.specs.declared.value.Slot.TheVariants.{One, Many}
 use Rattle.ca_model.specs.declared.value.Object.{Object}
 use Rattle.ca_model.specs.Heaps.{HasSlot, stored}
-use Rattle.ca_model.specs.Slots.{HasItem}
+use Rattle.ca_model.specs.Slots.{HasItem, put_slot}
 use Rattle.ca_model.proofs.Stores.{stored_is}
 use Rattle.ca_meaning.specs.Agree.{AgreesAt}
 use Rattle.ca_meaning.specs.Expressions.{one_in, slot_of, slots_in}
@@ -35,11 +35,13 @@ use Rattle.ca_beside.specs.Beside.{present, AreDistinct, IsAbsent, IsPlace, with
 use Rattle.ca_beside.proofs.Present.{changed, past_none, present_absent, present_at, present_length, present_set, set_at, set_past}
 use Rattle.ca_run.specs.declared.puts.Put.{Put}
 use Rattle.ca_run.specs.Puts.{put_back, restored}
-use Rattle.ca_run.proofs.Restoring.{put_back_there, put_back_nowhere, put_undone_by}
+use Rattle.ca_run.proofs.Restoring.{put_back_there, put_back_nowhere, put_undone_by, still_has}
 use Rattle.ca_replica.specs.Zeroed.{zeroed, zeroed_field, zeroed_slot, zeroed_heap}
 use Rattle.ca_replica.specs.Applied.{sums}
-use Rattle.ca_replica.specs.Calls.{Marks}
-use Rattle.ca_replica.specs.InPlace.{mark_in, zero_value, KeepsConstants, HasCopy, AllHave, Keeps}
+use Rattle.ca_replica.specs.declared.marks.Mark.{Mark}
+use Rattle.ca_replica.specs.declared.marks.Mark.TheVariants.{Free, Of, Several}
+use Rattle.ca_replica.specs.Calls.{IsMarked, Marks}
+use Rattle.ca_replica.specs.InPlace.{mark_in, zero_value, KeepsConstants, HasCopy, AllHave, IsWritten, AllWritten, Keeps, IsTop}
 use Rattle.ca_replica.proofs.Beginning.{free_absent}
 use Rattle.ca_replica.proofs.Copying.{zeroed_at}
 use Rattle.ca_replica.proofs.Sums.{zero_absent, zero_one, zero_here, zero_else, chosen_here, chosen_else, zeroed_many}
@@ -49,24 +51,46 @@ field_at c g = record { class = c; field = g }
 
 -- ---- marks
 
+-- where the mark is free no class has a field that is written
+free_is : (c : ClassId) (z : Option Mark) → mark_in z ≡ Free → IsMarked c z → ⊥
+free_is c None e is = is
+free_is c (Some Free) e is = is
+free_is c (Some (Of d)) e is = absurd (cc)
+free_is c (Some Several) e is = absurd (cc)
+
+-- where it is of a class only that one has
+of_is : (c d : ClassId) (z : Option Mark) → mark_in z ≡ Of d → IsMarked c z → c ≡ d
+of_is c d None e is = absurd is
+of_is c d (Some Free) e is = absurd is
+of_is c d (Some (Of b)) e is = let same : b ≡ d = cc in is ∙ same
+of_is c d (Some Several) e is = absurd (cc)
+
 -- a number that isn't marked is that of no field that is written
-pub unmarked : (written : List FieldId) (marks : List (Option ClassId)) (g : ℕ) → Marks written marks → is_some (mark_in (slice_get marks g)) ≡ false → (c : ClassId) → ¬ Contains written (field_at c g)
-unmarked written marks g m e c k = let at = m.all (field_at c g) k in true≢false (sym (ap (λ z. is_some (mark_in z)) at.1) ∙ e)
+pub unmarked : (written : List FieldId) (marks : List Mark) (g : ℕ) → Marks written marks → mark_in (slice_get marks g) ≡ Free → (c : ClassId) → ¬ Contains written (field_at c g)
+unmarked written marks g m e c k = free_is c (slice_get marks g) e (m.all (field_at c g) k)
+
+-- where the mark is of a class no other one has such a field
+pub else_class : (written : List FieldId) (marks : List Mark) (g : ℕ) (d : ClassId) → Marks written marks → mark_in (slice_get marks g) ≡ Of d → (c : ClassId) → c.0 ≢ d.0 → ¬ Contains written (field_at c g)
+else_class written marks g d m e c ne k = ne (ap (λ (z : ClassId). z.0) (of_is c d (slice_get marks g) e (m.all (field_at c g) k)))
 
 -- a mark is the class of a field that is written
-pub marked_so : (written : List FieldId) (marks : List (Option ClassId)) (g : ℕ) (c : ClassId) → Marks written marks → mark_in (slice_get marks g) ≡ Some c → Contains written (field_at c g)
+pub marked_so : (written : List FieldId) (marks : List Mark) (g : ℕ) (c : ClassId) → Marks written marks → mark_in (slice_get marks g) ≡ Of c → Contains written (field_at c g)
 marked_so written marks g c m e = m.only g c (from (slice_get marks g) e)
   where
-    from : (z : Option (Option ClassId)) → mark_in z ≡ Some c → z ≡ Some (Some c)
-    from None e = cc
+    from : (z : Option Mark) → mark_in z ≡ Of c → z ≡ Some (Of c)
+    from None e = absurd (cc)
     from (Some k) e = ap Some e
 
--- so is the field of each class with the same number
-pub same_class : (written : List FieldId) (g : ℕ) (c d : ClassId) → c.0 ≡ d.0 → Contains written (field_at c g) → Contains written (field_at d g)
-same_class written g c d same at = subst (λ k. Contains written (field_at k g)) (ap class_of same) at
+-- classes with one number are one
+pub one_class : (c d : ClassId) → c.0 ≡ d.0 → c ≡ d
+one_class c d same = ap class_of same
   where
     class_of : ℕ → ClassId
     class_of n = record { 0 = n }
+
+-- so is the field of each class with the same number
+pub same_class : (written : List FieldId) (g : ℕ) (c d : ClassId) → c.0 ≡ d.0 → Contains written (field_at c g) → Contains written (field_at d g)
+same_class written g c d same at = subst (λ k. Contains written (field_at k g)) (one_class c d same) at
 
 -- the test tells whether a field is written
 pub not_written : (written : List FieldId) (f : FieldId) → is_written written f ≡ false → ¬ Contains written f
@@ -276,6 +300,69 @@ back_nowhere h cs d i o old e hasnt = put_back_nowhere (present h cs) old (λ s.
         let many : length (present h cs) ≡ length h = present_length h cs in
         subst (λ z. HasSlot z old.field old.item) (slice_get_past (present h cs) old.object (omega (arith, le, many))) s
 
+-- ---- the number at hand
+
+set_over : (vs : List Datum) (i : ℕ) (v w : Datum) → slice_set (slice_set vs i v) i w ≡ slice_set vs i w
+set_over [] i v w = refl
+set_over (x ∷ vs) zero v w = refl
+set_over (x ∷ vs) (suc i) v w = ap (λ r. x ∷ r) (set_over vs i v w)
+
+of_two : (ss : List Slot) (f i : ℕ) (v w : Datum) → HasItem (slice_get ss f) i → put_slot (put_slot ss f i v) f i w ≡ put_slot ss f i w
+of_two [] f i v w has = refl
+of_two (One x ∷ ss) zero i v w has = refl
+of_two (Many vs ∷ ss) zero i v w has = ap (λ r. Many r ∷ ss) (set_over vs i v w)
+of_two (s ∷ ss) (suc f) i v w has = ap (λ r. s ∷ r) (of_two ss f i v w has)
+
+-- of two puts to a place the second one counts
+stored_twice : (h : List Object) (n f i : ℕ) (v w : Datum) → HasSlot (slice_get h n) f i → stored (stored h n f i v) n f i w ≡ stored h n f i w
+stored_twice [] n f i v w has = refl
+stored_twice (o ∷ os) zero f i v w has = ap (λ ss. record { class = o.class; slots = ss } ∷ os) (of_two o.slots f i v w has)
+stored_twice (o ∷ os) (suc n) f i v w has = ap (λ xs. o ∷ xs) (stored_twice os n f i v w has)
+
+put_back_over : (h : List Object) (o : Put) (v : Datum) → HasSlot (slice_get h o.object) o.field o.item → put_back o (stored h o.object o.field o.item v) ≡ put_back o h
+put_back_over h o v has =
+    put_back_there (stored h o.object o.field o.item v) o.object o.field o.item o.value (still_has h o.object o.field o.item v has)
+    ∙ (stored_twice h o.object o.field o.item v o.value has ∙ sym (put_back_there h o.object o.field o.item o.value has))
+
+-- where the old value of an item was kept last, a put to it changes nothing of what putting back gives
+pub restored_over : (olds : List Put) (h : List Object) (n f i : ℕ) (v : Datum) → IsTop olds n f i → HasSlot (slice_get h n) f i → restored olds (stored h n f i v) ≡ restored olds h
+restored_over [] h n f i v top has = absurd top
+restored_over (o ∷ os) h n f i v top has =
+    let there : HasSlot (slice_get h o.object) o.field o.item = subst (λ k. HasSlot (slice_get h o.object) o.field k) (sym top.2) (subst (λ k. HasSlot (slice_get h o.object) k i) (sym top.1) (subst (λ k. HasSlot (slice_get h k) f i) (sym top.0) has)) in
+    let same : stored h n f i v ≡ stored h o.object o.field o.item v = ap (λ k. stored h k f i v) (sym top.0) ∙ (ap (λ k. stored h o.object k i v) (sym top.1) ∙ ap (λ k. stored h o.object o.field k v) (sym top.2)) in
+    ap (restored os) (ap (put_back o) same ∙ put_back_over h o v there)
+
+-- past the end of a heap nothing is put
+pub restored_past : (olds : List Put) (h : List Object) (n f i : ℕ) (v : Datum) → length h ≤ n → restored olds (stored h n f i v) ≡ restored olds h
+restored_past olds h n f i v le = ap (restored olds) (stored_past h n f i v le)
+
+-- what is at hand is written
+pub written_top : (written : List FieldId) (frozen : List Object) (olds : List Put) (n f i : ℕ) → AllWritten written frozen olds → IsTop olds n f i → IsWritten written frozen n f
+written_top written frozen [] n f i all top = absurd top
+written_top written frozen (o ∷ os) n f i all top = subst (λ k. IsWritten written frozen k f) top.0 (subst (λ k. IsWritten written frozen o.object k) top.1 all.0)
+
+-- so its object is within
+pub within_all : (written : List FieldId) (frozen : List Object) (n f : ℕ) → IsWritten written frozen n f → n < length (zeroed_heap written frozen)
+within_all written frozen n f w =
+    let lt : n < length frozen = ⊎_elim (λ lt. lt) (λ le. absurd (past_none frozen n w.object le w.there)) (cases_lt n (length frozen)) in
+    let many : length (zeroed_heap written frozen) ≡ length frozen = zeroed_many written frozen in
+    omega (arith, lt, many)
+
+-- with one old value more
+pub all_written_more : (written : List FieldId) (frozen : List Object) (os all : List Put) (o : Put) → all ≡ o ∷ os → IsWritten written frozen o.object o.field → AllWritten written frozen os → AllWritten written frozen all
+all_written_more written frozen os all o is w a = subst (AllWritten written frozen) (sym is) (w, a)
+
+-- a number is an item
+pub long_has : (s : Option Slot) (a : ℤ) → one_in s ≡ Long a → HasItem s 0
+long_has None a e = absurd (cc)
+long_has (Some (One v)) a e = omega arith
+long_has (Some (Many vs)) a e = absurd (cc)
+
+pub long_item : (s : Option Slot) (a : ℤ) → one_in s ≡ Long a → item_in s 0 ≡ Long a
+long_item None a e = absurd (cc)
+long_item (Some (One v)) a e = e
+long_item (Some (Many vs)) a e = absurd (cc)
+
 -- ---- copies stay
 
 pub copy_is : (cs : List Changed) (n : ℕ) → IsAbsent cs n → HasCopy cs n → ⊥
@@ -309,26 +396,39 @@ pub all_have_more : (cs ds : List Changed) (os all : List Put) (o : Put) → ((m
 all_have_more cs ds os all o f is has a = subst (λ z. AllHave z ds) (sym is) (f o.object has, all_have_on cs ds f os a)
 
 -- what is known stays where the sums do
-pub keeps_same : (written : List FieldId) (frozen : List Object) (marks : List (Option ClassId)) (cs ds : List Changed) (os : List Put) → sums written frozen ds ≡ sums written frozen cs → ((m : ℕ) → HasCopy cs m → HasCopy ds m) → Keeps written frozen marks cs os → Keeps written frozen marks ds os
+pub keeps_same : (written : List FieldId) (frozen : List Object) (marks : List Mark) (cs ds : List Changed) (os : List Put) → sums written frozen ds ≡ sums written frozen cs → ((m : ℕ) → HasCopy cs m → HasCopy ds m) → Keeps written frozen marks cs os → Keeps written frozen marks ds os
 keeps_same written frozen marks cs ds os same has k = record {
   marked = k.marked;
   constants = subst (KeepsConstants written frozen) (sym same) k.constants;
   there = all_have_on cs ds has os k.there;
+  puts = k.puts;
 }
 
 -- and behind a put to what is written
-pub keeps_put : (written : List FieldId) (frozen : List Object) (marks : List (Option ClassId)) (cs mid ds : List Changed) (os all : List Put) (n g i : ℕ) (v : Datum) (o : Object) (b : Bool) → slice_get frozen n ≡ Some o → Contains written (field_at o.class g)
-    → sums written frozen mid ≡ sums written frozen cs → ((m : ℕ) → HasCopy cs m → HasCopy mid m) → (b ≡ true → sums written frozen ds ≡ stored (sums written frozen mid) n g i v) → (b ≡ false → ds ≡ mid) → (AllHave os mid → AllHave all ds)
+pub keeps_put : (written : List FieldId) (frozen : List Object) (marks : List Mark) (cs mid ds : List Changed) (os all : List Put) (n g i : ℕ) (v : Datum) (b : Bool) → IsWritten written frozen n g
+    → sums written frozen mid ≡ sums written frozen cs → ((m : ℕ) → HasCopy cs m → HasCopy mid m) → (b ≡ true → sums written frozen ds ≡ stored (sums written frozen mid) n g i v) → (b ≡ false → ds ≡ mid) → (AllHave os mid → AllHave all ds) → (AllWritten written frozen os → AllWritten written frozen all)
     → Keeps written frozen marks cs os → Keeps written frozen marks ds all
-keeps_put written frozen marks cs mid ds os all n g i v o true there at same has put not all_there k = record {
+keeps_put written frozen marks cs mid ds os all n g i v true w same has put not all_there puts k = record {
   marked = k.marked;
-  constants = subst (KeepsConstants written frozen) (sym (put refl ∙ ap (λ h. stored h n g i v) same)) (constants_put written frozen (sums written frozen cs) n g i v o there at k.constants);
+  constants = subst (KeepsConstants written frozen) (sym (put refl ∙ ap (λ h. stored h n g i v) same)) (constants_put written frozen (sums written frozen cs) n g i v w.object w.there w.put k.constants);
   there = all_there (all_have_on cs mid has os k.there);
+  puts = puts k.puts;
 }
-keeps_put written frozen marks cs mid ds os all n g i v o false there at same has put not all_there k = record {
+keeps_put written frozen marks cs mid ds os all n g i v false w same has put not all_there puts k = record {
   marked = k.marked;
   constants = subst (KeepsConstants written frozen) (sym (ap (sums written frozen) (not refl) ∙ same)) k.constants;
   there = all_there (all_have_on cs mid has os k.there);
+  puts = puts k.puts;
+}
+
+-- where a put to a copy is one to what is written, all stays known
+pub keeps_over : (written : List FieldId) (frozen : List Object) (marks : List Mark) (cs ds : List Changed) (os : List Put) (n g i : ℕ) (v : Datum) → sums written frozen ds ≡ stored (sums written frozen cs) n g i v → ((m : ℕ) → HasCopy cs m → HasCopy ds m) → IsWritten written frozen n g
+    → Keeps written frozen marks cs os → Keeps written frozen marks ds os
+keeps_over written frozen marks cs ds os n g i v put has w k = record {
+  marked = k.marked;
+  constants = subst (KeepsConstants written frozen) (sym put) (constants_put written frozen (sums written frozen cs) n g i v w.object w.there w.put k.constants);
+  there = all_have_on cs ds has os k.there;
+  puts = k.puts;
 }
 
 -- a copy that is added takes none away
@@ -339,62 +439,83 @@ has_added (Err e) cs mid new n o same is kept m has = subst (λ ds. HasCopy ds m
 -- ---- marks of a list
 
 -- one place more, without a mark
-pub none_more : (xs : List (Option ClassId)) (n : ℕ) (c : ClassId) → slice_get (xs ++ None ∷ []) n ≡ Some (Some c) → slice_get xs n ≡ Some (Some c)
+pub none_more : (xs : List Mark) (n : ℕ) (c : ClassId) → slice_get (xs ++ Free ∷ []) n ≡ Some (Of c) → slice_get xs n ≡ Some (Of c)
 none_more [] zero c e = cc
 none_more [] (suc n) c e = cc
 none_more (x ∷ xs) zero c e = e
 none_more (x ∷ xs) (suc n) c e = none_more xs n c e
 
--- a mark where there was none
-pub set_kept : (xs : List (Option ClassId)) (k n : ℕ) (d c : ClassId) → slice_get xs k ≡ Some None → slice_get xs n ≡ Some (Some c) → slice_get (slice_set xs k (Some d)) n ≡ Some (Some c)
-set_kept [] k n d c none e = cc
-set_kept (x ∷ xs) zero zero d c none e = cc
-set_kept (x ∷ xs) zero (suc n) d c none e = e
-set_kept (x ∷ xs) (suc k) zero d c none e = e
-set_kept (x ∷ xs) (suc k) (suc n) d c none e = set_kept xs k n d c none e
+pub marked_on : (xs : List Mark) (m : Mark) (n : ℕ) (c : ClassId) → IsMarked c (slice_get xs n) → IsMarked c (slice_get (xs ++ m ∷ []) n)
+marked_on [] m zero c is = absurd is
+marked_on [] m (suc n) c is = is
+marked_on (x ∷ xs) m zero c is = is
+marked_on (x ∷ xs) m (suc n) c is = marked_on xs m n c is
 
-pub set_only : (xs : List (Option ClassId)) (k n : ℕ) (d c : ClassId) → slice_get (slice_set xs k (Some d)) n ≡ Some (Some c) → (slice_get xs n ≡ Some (Some c)) ⊎ ((n ≡ k) × (c ≡ d))
+-- a mark where there was none
+pub set_kept : (xs : List Mark) (k n : ℕ) (d c : ClassId) → slice_get xs k ≡ Some Free → IsMarked c (slice_get xs n) → IsMarked c (slice_get (slice_set xs k (Of d)) n)
+set_kept [] k n d c none is = is
+set_kept (x ∷ xs) zero zero d c none is = absurd (free_is c (Some x) (ap mark_in none) is)
+set_kept (x ∷ xs) zero (suc n) d c none is = is
+set_kept (x ∷ xs) (suc k) zero d c none is = is
+set_kept (x ∷ xs) (suc k) (suc n) d c none is = set_kept xs k n d c none is
+
+pub set_only : (xs : List Mark) (k n : ℕ) (d c : ClassId) → slice_get (slice_set xs k (Of d)) n ≡ Some (Of c) → (slice_get xs n ≡ Some (Of c)) ⊎ ((n ≡ k) × (c ≡ d))
 set_only [] k n d c e = inl e
 set_only (x ∷ xs) zero zero d c e = inr (refl, let same : d ≡ c = cc in sym same)
 set_only (x ∷ xs) zero (suc n) d c e = inl e
 set_only (x ∷ xs) (suc k) zero d c e = inl e
 set_only (x ∷ xs) (suc k) (suc n) d c e = from (set_only xs k n d c e)
   where
-    from : (slice_get xs n ≡ Some (Some c)) ⊎ ((n ≡ k) × (c ≡ d)) → (slice_get xs n ≡ Some (Some c)) ⊎ ((suc n ≡ suc k) × (c ≡ d))
+    from : (slice_get xs n ≡ Some (Of c)) ⊎ ((n ≡ k) × (c ≡ d)) → (slice_get xs n ≡ Some (Of c)) ⊎ ((suc n ≡ suc k) × (c ≡ d))
     from (inl e) = inl e
     from (inr e) = inr (ap suc e.0, e.1)
 
+-- a mark of several classes
+pub several_kept : (xs : List Mark) (k n : ℕ) (c : ClassId) → IsMarked c (slice_get xs n) → IsMarked c (slice_get (slice_set xs k Several) n)
+several_kept [] k n c is = is
+several_kept (x ∷ xs) zero zero c is = tt
+several_kept (x ∷ xs) zero (suc n) c is = is
+several_kept (x ∷ xs) (suc k) zero c is = is
+several_kept (x ∷ xs) (suc k) (suc n) c is = several_kept xs k n c is
+
+pub several_only : (xs : List Mark) (k n : ℕ) (c : ClassId) → slice_get (slice_set xs k Several) n ≡ Some (Of c) → slice_get xs n ≡ Some (Of c)
+several_only [] k n c e = e
+several_only (x ∷ xs) zero zero c e = absurd (cc)
+several_only (x ∷ xs) zero (suc n) c e = e
+several_only (x ∷ xs) (suc k) zero c e = e
+several_only (x ∷ xs) (suc k) (suc n) c e = several_only xs k n c e
+
 -- what is marked so far: each field, or it is still to come, and no others
-pub record MarkedSoFar (fs : List FieldId) (i : ℕ) (marks : List (Option ClassId)) : Type 0 where
-  pub all : (f : FieldId) → Contains fs f → ((c : ClassId) × (slice_get marks f.field ≡ Some (Some c))) ⊎ Contains (drop i fs) f
-  pub only : (g : ℕ) (c : ClassId) → slice_get marks g ≡ Some (Some c) → Contains fs (field_at c g)
+pub record MarkedSoFar (fs : List FieldId) (i : ℕ) (marks : List Mark) : Type 0 where
+  pub all : (f : FieldId) → Contains fs f → IsMarked f.class (slice_get marks f.field) ⊎ Contains (drop i fs) f
+  pub only : (g : ℕ) (c : ClassId) → slice_get marks g ≡ Some (Of c) → Contains fs (field_at c g)
 
 pub none_marked : (fs : List FieldId) → MarkedSoFar fs 0 []
 none_marked fs = record { all = λ f k. inr k; only = λ g c e. cc }
 
-pub marked_more : (fs : List FieldId) (i : ℕ) (d : FieldId) (old new : List (Option ClassId)) → i < length fs → d ≡ get_or fs i d → ((n : ℕ) (c : ClassId) → slice_get old n ≡ Some (Some c) → slice_get new n ≡ Some (Some c))
-    → ((n : ℕ) (c : ClassId) → slice_get new n ≡ Some (Some c) → (slice_get old n ≡ Some (Some c)) ⊎ ((n ≡ d.field) × (c ≡ d.class))) → (c : ClassId) × (slice_get new d.field ≡ Some (Some c)) → MarkedSoFar fs i old → MarkedSoFar fs (i + 1) new
+pub marked_more : (fs : List FieldId) (i : ℕ) (d : FieldId) (old new : List Mark) → i < length fs → d ≡ get_or fs i d → ((n : ℕ) (c : ClassId) → IsMarked c (slice_get old n) → IsMarked c (slice_get new n))
+    → ((n : ℕ) (c : ClassId) → slice_get new n ≡ Some (Of c) → (slice_get old n ≡ Some (Of c)) ⊎ ((n ≡ d.field) × (c ≡ d.class))) → IsMarked d.class (slice_get new d.field) → MarkedSoFar fs i old → MarkedSoFar fs (i + 1) new
 marked_more fs i d old new lt is kept only marked m = record { all = λ f k. from f (m.all f k); only = λ g c e. back g c (only g c e) }
   where
-    from : (f : FieldId) → ((c : ClassId) × (slice_get old f.field ≡ Some (Some c))) ⊎ Contains (drop i fs) f → ((c : ClassId) × (slice_get new f.field ≡ Some (Some c))) ⊎ Contains (drop (i + 1) fs) f
-    from f (inl e) = inl (e.0, kept f.field e.0 e.1)
+    from : (f : FieldId) → IsMarked f.class (slice_get old f.field) ⊎ Contains (drop i fs) f → IsMarked f.class (slice_get new f.field) ⊎ Contains (drop (i + 1) fs) f
+    from f (inl e) = inl (kept f.field f.class e)
     from f (inr k) = ⊎_elim
-        (λ b. inl (subst (λ (z : FieldId). (c : ClassId) × (slice_get new z.field ≡ Some (Some c))) (is ∙ has_only (get_or fs i d) f b) marked))
+        (λ b. inl (subst (λ (z : FieldId). IsMarked z.class (slice_get new z.field)) (is ∙ has_only (get_or fs i d) f b) marked))
         (λ b. inr b) (Contains-append_cases (get_or fs i d ∷ []) (drop (i + 1) fs) f (subst (λ z. Contains z f) (drop_more fs i d lt) k))
 
     here : Contains fs d
     here = (i, lt, sym is)
 
-    back : (g : ℕ) (c : ClassId) → (slice_get old g ≡ Some (Some c)) ⊎ ((g ≡ d.field) × (c ≡ d.class)) → Contains fs (field_at c g)
+    back : (g : ℕ) (c : ClassId) → (slice_get old g ≡ Some (Of c)) ⊎ ((g ≡ d.field) × (c ≡ d.class)) → Contains fs (field_at c g)
     back g c (inl e) = m.only g c e
     back g c (inr e) = subst (λ z. Contains fs z) (sym (ap (λ k. field_at k g) e.1 ∙ ap (λ k. field_at d.class k) e.0)) here
 
 -- the same, where the field is read by its index
-pub marked_more_at : (fs : List FieldId) (i : ℕ) (d : FieldId) (old new : List (Option ClassId)) → i < length fs → ((n : ℕ) (c : ClassId) → slice_get old n ≡ Some (Some c) → slice_get new n ≡ Some (Some c))
-    → ((n : ℕ) (c : ClassId) → slice_get new n ≡ Some (Some c) → (slice_get old n ≡ Some (Some c)) ⊎ ((n ≡ (let z : FieldId = get_or fs i d in z.field)) × (c ≡ (let z : FieldId = get_or fs i d in z.class))))
-    → (c : ClassId) × (slice_get new (let z : FieldId = get_or fs i d in z.field) ≡ Some (Some c)) → MarkedSoFar fs i old → MarkedSoFar fs (i + 1) new
+pub marked_more_at : (fs : List FieldId) (i : ℕ) (d : FieldId) (old new : List Mark) → i < length fs → ((n : ℕ) (c : ClassId) → IsMarked c (slice_get old n) → IsMarked c (slice_get new n))
+    → ((n : ℕ) (c : ClassId) → slice_get new n ≡ Some (Of c) → (slice_get old n ≡ Some (Of c)) ⊎ ((n ≡ (let z : FieldId = get_or fs i d in z.field)) × (c ≡ (let z : FieldId = get_or fs i d in z.class))))
+    → IsMarked (let z : FieldId = get_or fs i d in z.class) (slice_get new (let z : FieldId = get_or fs i d in z.field)) → MarkedSoFar fs i old → MarkedSoFar fs (i + 1) new
 marked_more_at fs i d old new lt = marked_more fs i (get_or fs i d) old new lt (get_or_default fs i d (get_or fs i d) lt)
 
 -- none is to come any more
-pub all_marked : (fs : List FieldId) (i : ℕ) (marks : List (Option ClassId)) → length fs ≤ i → MarkedSoFar fs i marks → Marks fs marks
+pub all_marked : (fs : List FieldId) (i : ℕ) (marks : List Mark) → length fs ≤ i → MarkedSoFar fs i marks → Marks fs marks
 all_marked fs i marks le m = record { all = λ f k. ⊎_elim (λ e. e) (λ b. absurd (has_nothing f (subst (λ z. Contains z f) (drop_all i fs le) b))) (m.all f k); only = m.only }

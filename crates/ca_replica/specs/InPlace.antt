@@ -1,7 +1,6 @@
 -- A run on a replica: what stays while its bodies run, and what is known of the heap of sums then.
 use base.Fml.{GName}
 use Rattle.std.specs.Prelude.{ℕ, ◌≡◌, pos, List, [], ◌∷◌, Contains, Option, Some, None, slice_get}
-use Rattle.ca_program.specs.declared.program.ClassId.{ClassId}
 use Rattle.ca_program.specs.declared.program.FieldId.{FieldId}
 use Rattle.ca_program.specs.declared.program.Program.{Program}
 use Rattle.ca_model.specs.declared.value.Value.{Value as Datum}
@@ -11,6 +10,10 @@ use Rattle.ca_meaning.specs.Expressions.{slots_in}
 use Rattle.ca_beside.specs.declared.beside.Changed.{Changed}
 use Rattle.ca_beside.specs.Beside.{IsPlace}
 use Rattle.ca_run.specs.declared.puts.Put.{Put}
+use Rattle.ca_run.specs.Puts.{restored}
+use Rattle.ca_replica.specs.declared.marks.Mark.{Mark}
+use Rattle.ca_replica.specs.declared.marks.Mark.TheVariants.{Free}
+use Rattle.ca_replica.specs.declared.olds.Hand.{Hand}
 use Rattle.ca_replica.specs.Applied.{sums}
 use Rattle.ca_replica.specs.Calls.{Marks}
 
@@ -20,14 +23,18 @@ pub record Lasting : Type 0 where
   pub program : Program
   pub written : List FieldId
   pub frozen : List Object
-  pub marks : List (Option ClassId)
+  pub marks : List Mark
   pub before : List Object
   pub copies : GName
   pub olds : GName
 
--- the mark that is there, if there is one
-abbrev pub mark_in : Option (Option ClassId) → Option ClassId
-mark_in None = None
+-- of these
+abbrev pub lasting : Program → List FieldId → List Object → List Mark → List Changed → List Put → GName → GName → Lasting
+lasting p ws frozen marks cs os copies olds = record { program = p; written = ws; frozen = frozen; marks = marks; before = restored os (sums ws frozen cs); copies = copies; olds = olds }
+
+-- the mark that is there
+abbrev pub mark_in : Option Mark → Mark
+mark_in None = Free
 mark_in (Some m) = m
 
 -- 0 in the place of a number
@@ -49,8 +56,30 @@ abbrev pub AllHave : List Put → List Changed → Type 0
 AllHave [] cs = Unit {0}
 AllHave (o ∷ os) cs = HasCopy cs o.object × AllHave os cs
 
+-- a field of an object is one that is written
+pub record IsWritten (written : List FieldId) (frozen : List Object) (n g : ℕ) : Type 0 where
+  pub object : Object
+  pub there : slice_get frozen n ≡ Some object
+  pub put : Contains written (record { class = object.class; field = g })
+
+-- each old value is that of one
+abbrev pub AllWritten : List FieldId → List Object → List Put → Type 0
+AllWritten written frozen [] = Unit {0}
+AllWritten written frozen (o ∷ os) = IsWritten written frozen o.object o.field × AllWritten written frozen os
+
 -- what is known while bodies run
-pub record Keeps (written : List FieldId) (frozen : List Object) (marks : List (Option ClassId)) (copies : List Changed) (olds : List Put) : Type 0 where
+pub record Keeps (written : List FieldId) (frozen : List Object) (marks : List Mark) (copies : List Changed) (olds : List Put) : Type 0 where
   pub marked : Marks written marks
   pub constants : KeepsConstants written frozen (sums written frozen copies)
   pub there : AllHave olds copies
+  pub puts : AllWritten written frozen olds
+
+-- the old value that was kept last is of this item
+abbrev pub IsTop : List Put → ℕ → ℕ → ℕ → Type 0
+IsTop [] n f i = ⊥
+IsTop (o ∷ os) n f i = (o.object ≡ n) × (o.field ≡ f) × (o.item ≡ i)
+
+-- what is at hand is the old value that was kept last, and one of a single value
+abbrev pub IsHand : Option Hand → List Put → Type 0
+IsHand None os = Unit {0}
+IsHand (Some d) os = IsTop os d.object d.field 0

@@ -11,15 +11,15 @@ ghost use Rattle.ca_run.specs.Puts.{restored};
 ghost use Rattle.ca_replica.specs.Applied.{sums};
 ghost use Rattle.ca_replica.specs.InPlace.{AllHave, Keeps};
 
-use crate::marks::stays;
-use crate::values::{add_sum, own_look, own_value, put_sum};
+use crate::marks::{Mark, stays};
+use crate::olds::{Olds, add_at, place_at_hand};
+use crate::values::{add_any, own_look, own_value, put_sum};
 use ca_base::{Gate, Memory};
 use ca_beside::Beside;
 use ca_extent::Extent;
 use ca_model::{Heap, Value};
 use ca_parallel::Op;
-use ca_program::{ClassId, FieldId, Program};
-use ca_run::Puts;
+use ca_program::{FieldId, Program};
 use ca_sections::Coded;
 use ca_steps::{Access, Frames, Halt, Look, number_of, receiver_of, run_from};
 use std::alloc::Global;
@@ -33,18 +33,17 @@ pub struct InReplica<'s, G: Gate> {
     pub worker: u32,
     pub extent: &'s Extent,
     pub frozen: &'s Heap,
-    pub marks: &'s [Option<ClassId>],
+    pub marks: &'s [Mark],
     pub copies: &'s mut Beside,
-    pub olds: &'s mut Puts,
+    pub olds: &'s mut Olds,
 }
 
 impl<'s, G: Gate> Access for InReplica<'s, G> {
     ghost use Rattle.ca_program.specs.View.{program_view};
     ghost use Rattle.ca_meaning.specs.Serial.{World as RunWorld, in_heap};
     ghost use Rattle.ca_code_laws.specs.Runs.{run_access};
-    ghost use Rattle.ca_run.specs.Puts.{restored};
     ghost use Rattle.ca_replica.specs.Applied.{sums};
-    ghost use Rattle.ca_replica.specs.InPlace.{Keeps, Lasting};
+    ghost use Rattle.ca_replica.specs.InPlace.{Keeps, Lasting, lasting};
 
     ghost World = { RunWorld };
 
@@ -54,7 +53,7 @@ impl<'s, G: Gate> Access for InReplica<'s, G> {
 
     ghost Fixed = { Lasting };
 
-    ghost fixed = { λ s. record { program = s.program.now; written = s.extent.now.written; frozen = s.frozen.now; marks = s.marks.now; before = restored s.olds.now (sums s.extent.now.written s.frozen.now s.copies.now); copies = s.copies.ghost_name; olds = s.olds.ghost_name } };
+    ghost fixed = { λ s. lasting s.program.now s.extent.now.written s.frozen.now s.marks.now s.copies.now s.olds.now s.copies.ghost_name s.olds.ghost_name };
 
     ghost accesses = { λ l. run_access (program_view l.program) };
 
@@ -139,16 +138,19 @@ impl<'s, G: Gate> Access for InReplica<'s, G> {
         let Value::Ref(o) = receiver_of(this) else {
             return None;
         };
-        add_sum(
-            self.marks,
-            self.copies,
-            self.olds,
-            self.extent,
-            self.frozen,
-            o,
-            f,
-            n,
-        )
+        match place_at_hand(self.olds, self.copies, o, f.field) {
+            Some(place) => add_at(self.copies, place, o, f, n),
+            None => add_any(
+                self.marks,
+                self.copies,
+                self.olds,
+                self.extent,
+                self.frozen,
+                o,
+                f,
+                n,
+            ),
+        }
     }
 }
 
@@ -161,9 +163,9 @@ impl<'s, G: Gate> InReplica<'s, G> {
         worker: u32,
         extent: &'s Extent,
         frozen: &'s Heap,
-        marks: &'s [Option<ClassId>],
+        marks: &'s [Mark],
         copies: &'s mut Beside,
-        olds: &'s mut Puts,
+        olds: &'s mut Olds,
     ) -> InReplica<'s, G>
         ensures program { result.program.now ≡ program.now }
         ensures extent { result.extent.now ≡ extent.now }
@@ -239,9 +241,9 @@ pub(crate) fn run_whole<G: Gate>(
     worker: u32,
     extent: &Extent,
     frozen: &Heap,
-    marks: &[Option<ClassId>],
+    marks: &[Mark],
     copies: &mut Beside,
-    olds: &mut Puts,
+    olds: &mut Olds,
     frames: &mut Frames,
     op: &Op,
     left: u64,

@@ -14,6 +14,8 @@ ghost use Rattle.ca_replica.specs.Zeroed.{zeroed_heap};
 
 use crate::adding::{add_copies, take_copies};
 use crate::in_place::run_whole;
+use crate::marks::Mark;
+use crate::olds::Olds;
 use crate::values::put_all_back;
 use crate::zeroing::zero;
 use ca_base::{Gate, Memory};
@@ -21,8 +23,6 @@ use ca_beside::Beside;
 use ca_extent::Extent;
 use ca_model::Heap;
 use ca_parallel::Op;
-use ca_program::ClassId;
-use ca_run::Puts;
 use ca_sections::{Coded, Desk, SectionAnswer};
 use ca_steps::Frames;
 use std::alloc::{AllocError, Global};
@@ -37,7 +37,7 @@ pub struct Replica {
 #[derive(Drop)]
 pub struct Bench {
     pub(crate) frames: Frames,
-    pub(crate) olds: Puts,
+    pub(crate) olds: Olds,
 }
 
 impl Bench {
@@ -45,7 +45,7 @@ impl Bench {
     pub fn new(alloc: Global) -> Bench {
         Bench {
             frames: Frames::none(alloc),
-            olds: Puts::new(alloc),
+            olds: Olds::new(alloc),
         }
     }
 }
@@ -180,7 +180,7 @@ impl Replica {
     pub fn complete<G: Gate>(
         &mut self,
         bench: &mut Bench,
-        marks: &[Option<ClassId>],
+        marks: &[Mark],
         alloc: Global,
         program: &Coded<'_>,
         extent: &Extent,

@@ -1,6 +1,7 @@
 //! The numbers of objects as the sums have them, read, put and put back.
 
-ghost use Rattle.std.specs.Prelude.{◌≡◌, ◌<◌, ◌∷◌, ℕ, List, Some, IfSome, length, slice_get, true, false};
+ghost use Rattle.std.specs.Prelude.{◌≡◌, ◌<◌, ◌∷◌, ℕ, List, Some, IfNone, IfSome, length, slice_get, true, false};
+ghost use Rattle.ca_program.specs.declared.program.FieldId.{FieldId};
 ghost use Rattle.ca_model.specs.declared.value.Object.{Object};
 ghost use Rattle.ca_model.specs.declared.value.Value.TheVariants.{Long};
 ghost use Rattle.ca_model.specs.Heaps.{stored};
@@ -11,22 +12,23 @@ ghost use Rattle.ca_run.specs.Puts.{put_back, restored};
 ghost use Rattle.ca_run.specs.declared.puts.Put.{Put};
 ghost use Rattle.ca_steps.specs.Telling.{Adds, Looks};
 ghost use Rattle.ca_replica.specs.Applied.{sums};
-ghost use Rattle.ca_replica.specs.InPlace.{AllHave, HasCopy, Keeps, zero_value};
+ghost use Rattle.ca_replica.specs.InPlace.{AllHave, AllWritten, HasCopy, IsWritten, Keeps, zero_value};
 ghost use Rattle.ca_replica.specs.Zeroed.{zeroed};
 
 use crate::deciding::is_written;
-use crate::marks::{is_put, stays};
+use crate::marks::{Mark, is_put, is_put_at_once, stays, stays_at_once};
+use crate::olds::Olds;
 use crate::replica::place_of;
 use ca_beside::Beside;
 use ca_extent::Extent;
 use ca_model::{Heap, Object, Slot, Slots, Value};
-use ca_program::{ClassId, FieldId};
-use ca_run::{Put, Puts, value_of};
+use ca_program::FieldId;
+use ca_run::{Put, value_of};
 use ca_steps::{Look, field_of, look_at, sum_of};
 
 /// The single value of a field, and null where there is none.
 #[inline(always)]
-fn one_of(slots: &Slots, field: u32) -> Value
+pub(crate) fn one_of(slots: &Slots, field: u32) -> Value
     ensures { result ≡ one_in (slice_get slots.now field) }
 {
     match slots.get(field) {
@@ -77,9 +79,9 @@ fn value_in(copies: &Beside, written: &[FieldId], frozen: &Heap, n: u32, f: Fiel
 }
 
 /// The single value of a field of object n, as the sums have it, read in the frozen heap where it surely isn't written.
-#[inline(always)]
-pub(crate) fn own_value(
-    marks: &[Option<ClassId>],
+#[inline(never)]
+fn any_value(
+    marks: &[Mark],
     extent: &Extent,
     copies: &Beside,
     frozen: &Heap,
@@ -94,10 +96,28 @@ pub(crate) fn own_value(
     value_in(copies, extent.written(), frozen, n, f)
 }
 
+/// The same, told at once where it can be.
+#[inline(always)]
+pub(crate) fn own_value(
+    marks: &[Mark],
+    extent: &Extent,
+    copies: &Beside,
+    frozen: &Heap,
+    n: u32,
+    f: FieldId,
+) -> Value
+    ensures { (olds : List Put) → Keeps extent.now.written frozen.now marks.now copies.now olds → result ≡ one_in (slot_of (sums extent.now.written frozen.now copies.now) n f) }
+{
+    if stays_at_once(marks, frozen, n as usize, f.field) {
+        return field_of(frozen, n, f);
+    }
+    any_value(marks, extent, copies, frozen, n, f)
+}
+
 /// What an index finds in a field of object n, if the extent surely doesn't write it.
 #[inline(always)]
 pub(crate) fn own_look(
-    marks: &[Option<ClassId>],
+    marks: &[Mark],
     extent: &Extent,
     frozen: &Heap,
     n: u32,
@@ -112,24 +132,12 @@ pub(crate) fn own_look(
     Look::Unknown
 }
 
-/// Keeps an old value, if there is memory.
-#[inline(always)]
-fn keep(olds: &mut Puts, old: Put) -> bool
-    ensures added { result ≡ true → olds.new ≡ old ∷ olds.old }
-    ensures same { result ≡ false → olds.new ≡ olds.old }
-{
-    if olds.add(old) {
-        return true;
-    }
-    olds.push(old)
-}
-
 /// Puts a value into an item of a field of the copy at a place, if there is one, and keeps the old value. Whatever comes of it,
 /// putting back gives what it gave before.
 #[inline(always)]
 fn put_at(
     copies: &mut Beside,
-    olds: &mut Puts,
+    olds: &mut Olds,
     place: usize,
     n: u32,
     field: u32,
@@ -141,6 +149,7 @@ fn put_at(
     ensures same { result ≡ false → copies.new ≡ copies.old }
     ensures before { (h : List Object) → n < length h → restored olds.new (present h copies.new) ≡ restored olds.old (present h copies.old) }
     ensures there { AllHave olds.old copies.old → AllHave olds.new copies.new }
+    ensures puts { (written : List FieldId) (frozen : List Object) → IsWritten written frozen n field → AllWritten written frozen olds.old → AllWritten written frozen olds.new }
 {
     copies.know_apart();
     let object = copies.object_at(place);
@@ -154,7 +163,7 @@ fn put_at(
         item,
         value: there,
     };
-    if !keep(olds, old) {
+    if !olds.keep(old, place) {
         return false;
     }
     copies.store_at(place, field, item, value);
@@ -165,9 +174,9 @@ fn put_at(
 /// old value. Whatever comes of it, putting back gives what it gave before.
 #[inline(never)]
 pub(crate) fn put_sum(
-    marks: &[Option<ClassId>],
+    marks: &[Mark],
     copies: &mut Beside,
-    olds: &mut Puts,
+    olds: &mut Olds,
     extent: &Extent,
     frozen: &Heap,
     n: u32,
@@ -194,10 +203,10 @@ pub(crate) fn put_sum(
 /// Adds a number to that of a field of object n that is written, in its copy, which is made where there is none, tells the sum, and
 /// keeps the old number. Whatever comes of it, putting back gives what it gave before.
 #[inline(never)]
-pub(crate) fn add_sum(
-    marks: &[Option<ClassId>],
+fn add_sum(
+    marks: &[Mark],
     copies: &mut Beside,
-    olds: &mut Puts,
+    olds: &mut Olds,
     extent: &Extent,
     frozen: &Heap,
     n: u32,
@@ -232,6 +241,76 @@ pub(crate) fn add_sum(
     }
 }
 
+/// The same where nothing has to be made or sought: there is a copy, and room for the old number. Else all stays as it is.
+#[inline(always)]
+fn add_at_once(
+    marks: &[Mark],
+    copies: &mut Beside,
+    olds: &mut Olds,
+    frozen: &Heap,
+    n: u32,
+    f: FieldId,
+    more: i64,
+) -> Option<i64>
+    ensures adds { (written : List FieldId) → IfSome result (λ m. Adds (one_in (slot_of (sums written frozen.now copies.old) n f)) more m) }
+    ensures put { (written : List FieldId) → IfSome result (λ m. sums written frozen.now copies.new ≡ stored (sums written frozen.now copies.old) n f.field 0 (Long m)) }
+    ensures before { (written : List FieldId) → restored olds.new (sums written frozen.now copies.new) ≡ restored olds.old (sums written frozen.now copies.old) }
+    ensures keeps { (written : List FieldId) → Keeps written frozen.now marks.now copies.old olds.old → Keeps written frozen.now marks.now copies.new olds.new }
+    ensures same { IfNone result ((copies.new ≡ copies.old) × (olds.new ≡ olds.old)) }
+{
+    if n >= frozen.len() {
+        return None;
+    }
+    if !is_put_at_once(marks, frozen, n, f.field) {
+        return None;
+    }
+    let Some(place) = copies.find(n) else {
+        return None;
+    };
+    copies.know_apart();
+    let object = copies.object_at(place);
+    let own = one_of(&object.slots, f.field);
+    let Value::Long(a) = own else {
+        return None;
+    };
+    let old = Put {
+        object: n,
+        field: f.field,
+        item: 0,
+        value: Value::Long(a),
+    };
+    if !olds.keep_at_once(old, place) {
+        return None;
+    }
+    let sum = sum_of(a, more);
+    copies.store_at(place, f.field, 0, Value::Long(sum));
+    Some(sum)
+}
+
+/// The same in any case.
+#[inline(never)]
+pub(crate) fn add_any(
+    marks: &[Mark],
+    copies: &mut Beside,
+    olds: &mut Olds,
+    extent: &Extent,
+    frozen: &Heap,
+    n: u32,
+    f: FieldId,
+    more: i64,
+) -> Option<i64>
+    ensures adds { IfSome result (λ m. Adds (one_in (slot_of (sums extent.now.written frozen.now copies.old) n f)) more m) }
+    ensures put { IfSome result (λ m. sums extent.now.written frozen.now copies.new ≡ stored (sums extent.now.written frozen.now copies.old) n f.field 0 (Long m)) }
+    ensures before { restored olds.new (sums extent.now.written frozen.now copies.new) ≡ restored olds.old (sums extent.now.written frozen.now copies.old) }
+    ensures keeps { Keeps extent.now.written frozen.now marks.now copies.old olds.old → Keeps extent.now.written frozen.now marks.now copies.new olds.new }
+{
+    let sum = add_at_once(marks, copies, olds, frozen, n, f, more);
+    match sum {
+        Some(_) => sum,
+        None => add_sum(marks, copies, olds, extent, frozen, n, f, more),
+    }
+}
+
 /// Puts an old value back into the copy at a place, where it has such an item.
 fn put_back_at(copies: &mut Beside, place: usize, old: Put)
     requires { IsPlace copies.old place old.object }
@@ -258,7 +337,7 @@ fn put_back(copies: &mut Beside, old: Put)
 }
 
 /// Puts all old values back into copies, the last one first, and forgets them. It takes no memory.
-pub(crate) fn put_all_back(copies: &mut Beside, olds: &mut Puts)
+pub(crate) fn put_all_back(copies: &mut Beside, olds: &mut Olds)
     requires { AllHave olds.old copies.old }
     ensures { (h : List Object) → present h copies.new ≡ restored olds.old (present h copies.old) }
 {

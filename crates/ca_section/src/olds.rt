@@ -1,11 +1,12 @@
 //! The values that an object had before puts.
 
-ghost use Rattle.std.specs.Prelude.{◌≡◌, ◌∷◌, ◌++◌, [], false, true, List, IfOk, OnErr, MatchOption, Some, slice_get};
+ghost use Rattle.std.specs.Prelude.{◌≡◌, ◌<◌, ◌∷◌, ◌++◌, [], false, true, List, IfOk, OnErr, MatchOption, Some, reverse, slice_get};
 ghost use Rattle.ca_model.specs.declared.value.Slot.{Slot};
 ghost use Rattle.ca_model.specs.declared.value.Slot.TheVariants.{One};
 ghost use Rattle.ca_model.specs.declared.value.Value.TheVariants.{Long};
 ghost use Rattle.ca_model.specs.Slots.{put_slot, HasItem};
-ghost use Rattle.ca_section.specs.Olds.{put_back, AllThere, item_in, is_of, olds_after};
+ghost use Rattle.ca_section.specs.declared.olds.Old.{Old};
+ghost use Rattle.ca_section.specs.Olds.{put_back, AllThere, Marks, has_old, item_in, is_found, is_of, olds_after};
 
 use ca_model::{Slot, Slots, Value};
 use std::alloc::{AllocError, Global};
@@ -19,10 +20,11 @@ pub struct Old {
     pub value: Value,
 }
 
-/// The old values, the last one first.
+/// The old values, the last one first, and of which of the first 64 fields there is one of item 0: bit f tells it of field f.
 #[derive(Drop)]
 pub struct Olds {
     items: Vec<Old>,
+    marks: u64,
 }
 
 impl Model for Olds {
@@ -32,6 +34,49 @@ impl Model for Olds {
     ghost Value = { List Old };
 
     ghost view = { λ s. reverse s.items.items };
+
+    ghost use Rattle.ca_section.specs.Olds.{Marks};
+
+    ghost invariant = { λ s. Marks s.marks (reverse s.items.items) };
+}
+
+/// Whether the marks tell that there is an old value of item 0 of a field.
+#[inline(always)]
+fn is_marked(marks: u64, field: u32) -> bool
+    requires { field < 64 }
+    ensures { (olds : List Old) → Marks marks olds → result ≡ has_old olds field 0 }
+{
+    marks & (1 << field) != 0
+}
+
+/// The marks with one old value more.
+#[inline(always)]
+fn marks_with(marks: u64, old: Old) -> u64
+    ensures { (olds : List Old) → Marks marks olds → Marks result (old ∷ olds) }
+{
+    if old.field < 64 && old.item == 0 {
+        return marks | (1 << old.field);
+    }
+    marks
+}
+
+/// The last one, taken away.
+#[inline(always)]
+fn last_of(items: &mut Vec<Old>) -> Option<Old>
+    ensures { MatchOption result ((reverse items.old.items ≡ []) × (reverse items.new.items ≡ [])) (λ x. reverse items.old.items ≡ x ∷ reverse items.new.items) }
+{
+    items.pop()
+}
+
+/// Puts old values back, the last one first, and forgets them.
+fn put_all_back(items: &mut Vec<Old>, slots: &mut Slots)
+    requires { AllThere (reverse items.old.items) slots.old }
+    ensures slots { slots.new ≡ put_back (reverse items.old.items) slots.old }
+    ensures none { reverse items.new.items ≡ [] }
+{
+    'olds: while let Some(old) = last_of(items) {
+        slots.put(old.field, old.item, old.value);
+    }
 }
 
 impl Olds {
@@ -41,6 +86,7 @@ impl Olds {
     {
         Olds {
             items: Vec::new(alloc),
+            marks: 0,
         }
     }
 
@@ -54,6 +100,7 @@ impl Olds {
             self.items.reserve(1)?;
         }
         self.items.push_reserved(old);
+        self.marks = marks_with(self.marks, old);
         Ok(())
     }
 
@@ -67,13 +114,24 @@ impl Olds {
             return false;
         }
         self.items.push_reserved(old);
+        self.marks = marks_with(self.marks, old);
         true
     }
 
-    fn last(&mut self) -> Option<Old>
-        ensures { MatchOption result ((self.old ≡ []) × (self.new ≡ [])) (λ x. self.old ≡ x ∷ self.new) }
+    /// The same of item 0 of one of the first 64 fields.
+    #[inline(always)]
+    fn add_first(&mut self, old: Old) -> bool
+        requires field { old.field < 64 }
+        requires first { old.item ≡ 0 }
+        ensures added { result ≡ true → self.new ≡ old ∷ self.old }
+        ensures kept { result ≡ false → self.new ≡ self.old }
     {
-        self.items.pop()
+        if self.items.len() == self.items.capacity() {
+            return false;
+        }
+        self.items.push_reserved(old);
+        self.marks |= 1 << old.field;
+        true
     }
 
     /// Whether the last old value is of this place.
@@ -88,14 +146,34 @@ impl Olds {
         }
     }
 
-    /// Keeps the value of an item, but where the last old value is of the same place.
+    /// Whether there is an old value of item 0 of one of the first 64 fields.
+    #[inline(always)]
+    fn has_first(&self, field: u32) -> bool
+        requires { field < 64 }
+        ensures { result ≡ has_old self.now field 0 }
+    {
+        is_marked(self.marks, field)
+    }
+
+    /// Whether an old value of this place is found.
+    #[inline(always)]
+    fn finds(&self, field: u32, item: u32) -> bool
+        ensures { result ≡ is_found self.now field item }
+    {
+        if field < 64 && item == 0 {
+            return self.has_first(field);
+        }
+        self.is_last(field, item)
+    }
+
+    /// Keeps the value of an item, but where an old one of the same place is found.
     #[inline(always)]
     fn keep(&mut self, slots: &Slots, field: u32, item: u32) -> Result<(), AllocError>
         requires { HasItem (slice_get slots.now field) item }
         ensures keeps { IfOk result (λ _. self.new ≡ olds_after self.old slots.now field item) }
         ensures kept { OnErr result (self.new ≡ self.old) }
     {
-        if self.is_last(field, item) {
+        if self.finds(field, item) {
             return Ok(());
         }
         let value = item_of(slots, field, item);
@@ -109,7 +187,7 @@ impl Olds {
         ensures keeps { result ≡ true → self.new ≡ olds_after self.old slots.now field item }
         ensures kept { result ≡ false → self.new ≡ self.old }
     {
-        let again = self.is_last(field, item);
+        let again = self.finds(field, item);
         if again {
             return true;
         }
@@ -117,8 +195,8 @@ impl Olds {
         self.add_at_hand(Old { field, item, value })
     }
 
-    /// Puts a value into an item, and keeps the one that was there, but where the last old value is of the
-    /// same place: then that one is what is put back. Whatever comes of it, putting back gives what it gave before.
+    /// Puts a value into an item, and keeps the one that was there, but where an old value of the same place is
+    /// found: then that one is what is put back. Whatever comes of it, putting back gives what it gave before.
     #[inline(always)]
     #[tactic(auto, using(crate::proofs::Back::back_kept, crate::proofs::Back::there_kept))]
     pub fn put(
@@ -158,25 +236,28 @@ impl Olds {
         false
     }
 
-    /// Keeps a number that stands in a single value, without asking for memory, where there is room, but where the last old value is of the
-    /// same place.
+    /// Keeps a number that stands in a single value of one of the first 64 fields, without asking for memory, where there is room, but
+    /// where an old value of the same place is there.
     #[inline(always)]
     fn keep_number(&mut self, field: u32, old: i64) -> bool
         ensures keeps { result ≡ true → (slots : List Slot) → slice_get slots field ≡ Some (One (Long old)) → self.new ≡ olds_after self.old slots field 0 }
         ensures kept { result ≡ false → self.new ≡ self.old }
     {
-        let again = self.is_last(field, 0);
+        if field >= 64 {
+            return false;
+        }
+        let again = self.has_first(field);
         if again {
             return true;
         }
-        self.add_at_hand(Old {
+        self.add_first(Old {
             field,
             item: 0,
             value: Value::Long(old),
         })
     }
 
-    /// Puts a number in the place of one, as `put_at_hand` does.
+    /// Puts a number in the place of one, as `put_at_hand` does, where the field is one of the first 64. Else nothing is done.
     #[inline(always)]
     pub fn put_number(&mut self, slots: &mut Slots, field: u32, old: i64, n: i64) -> bool
         requires { slice_get slots.old field ≡ Some (One (Long old)) }
@@ -187,8 +268,28 @@ impl Olds {
         ensures kept { result ≡ false → slots.new ≡ slots.old }
         ensures olds { result ≡ false → self.new ≡ self.old }
     {
+        slots.put(field, 0, Value::Long(n));
         if self.keep_number(field, old) {
-            slots.put(field, 0, Value::Long(n));
+            return true;
+        }
+        slots.put(field, 0, Value::Long(old));
+        false
+    }
+
+    /// Puts a value into a single value of one of the first 64 fields of which an old one is there, if it is such a one. Nothing is kept
+    /// then, and no memory is asked for.
+    #[inline(always)]
+    pub fn put_again(&self, slots: &mut Slots, field: u32, value: Value) -> bool
+        ensures put { result ≡ true → slots.new ≡ put_slot slots.old field 0 value }
+        ensures back { put_back self.now slots.new ≡ put_back self.now slots.old }
+        ensures there { AllThere self.now slots.old → AllThere self.now slots.new }
+        ensures kept { result ≡ false → slots.new ≡ slots.old }
+    {
+        if field >= 64 {
+            return false;
+        }
+        if self.has_first(field) && holds_one(slots, field) {
+            slots.put(field, 0, value);
             return true;
         }
         false
@@ -202,7 +303,10 @@ impl Olds {
         ensures none { IfOk result (λ _. later.new ≡ []) }
         ensures kept { OnErr result ((self.new ≡ self.old) × (later.new ≡ later.old)) }
     {
-        self.items.append(&mut later.items)
+        self.items.append(&mut later.items)?;
+        self.marks |= later.marks;
+        later.marks = 0;
+        Ok(())
     }
 
     /// Forgets all, and keeps the memory.
@@ -210,6 +314,7 @@ impl Olds {
         ensures { self.new ≡ [] }
     {
         self.items.clear();
+        self.marks = 0;
     }
 
     /// Puts all old values back, and forgets them.
@@ -218,9 +323,19 @@ impl Olds {
         ensures slots { slots.new ≡ put_back self.old slots.old }
         ensures none { self.new ≡ [] }
     {
-        'olds: while let Some(old) = self.last() {
-            slots.put(old.field, old.item, old.value);
-        }
+        put_all_back(&mut self.items, slots);
+        self.marks = 0;
+    }
+}
+
+/// Whether a field holds a single value.
+#[inline(always)]
+fn holds_one(slots: &Slots, field: u32) -> bool
+    ensures { result ≡ true → HasItem (slice_get slots.now field) 0 }
+{
+    match slots.get(field) {
+        Some(Slot::One(_)) => true,
+        _ => false,
     }
 }
 

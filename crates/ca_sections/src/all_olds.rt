@@ -36,6 +36,7 @@ impl AllOlds {
     /// Moves those of a later section in, which has none then. Without memory for it both are as before.
     pub(crate) fn add(&mut self, later: &mut Olds) -> Result<(), AllocError>
         ensures added { IfOk result (λ _. self.new ≡ later.old ++ self.old) }
+        ensures none { IfOk result (λ _. later.new ≡ []) }
         ensures kept { OnErr result ((self.new ≡ self.old) × (later.new ≡ later.old)) }
     {
         self.olds.add_later(later)

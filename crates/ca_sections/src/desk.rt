@@ -95,6 +95,7 @@ impl Desk {
     /// Without memory for it both are as before.
     pub fn keep_olds(&mut self, all: &mut AllOlds) -> Result<(), AllocError>
         ensures added { IfOk result (λ _. all.new ≡ self.old.state.olds ++ all.old) }
+        ensures none { IfOk result (λ _. self.new.state.olds ≡ []) }
         ensures kept { OnErr result ((all.new ≡ all.old) × (self.new.state.olds ≡ self.old.state.olds)) }
     {
         all.add(&mut self.state.olds)

@@ -1,9 +1,10 @@
 //! Values in slots.
 
-ghost use Rattle.std.specs.Prelude.{◌≡◌, IfSome};
+ghost use Rattle.std.specs.Prelude.{◌≡◌, IfNone, IfSome};
 ghost use Rattle.ca_model.specs.declared.value.Value.TheVariants.{Ref};
 ghost use Rattle.ca_code.specs.Seen.{kind_seen};
 ghost use Rattle.ca_code_laws.specs.Words.{has_kind, read_as, word};
+ghost use Rattle.ca_steps.specs.Stands.{IsUntold};
 
 use ca_code::Kind;
 use ca_model::Value;
@@ -33,7 +34,8 @@ pub fn word(v: Value) -> i64
 /// What a number is read as. A pointer to an object that no heap has isn't told.
 #[inline(always)]
 pub fn read_as(kind: Kind, n: i64) -> Option<Value>
-    ensures { IfSome result (λ v. v ≡ read_as (kind_seen kind) n) }
+    ensures some { IfSome result (λ v. v ≡ read_as (kind_seen kind) n) }
+    ensures none { IfNone result (IsUntold (kind_seen kind) n) }
 {
     match kind {
         Kind::Long => Some(Value::Long(n)),

@@ -9,6 +9,7 @@ ghost use Rattle.ca_deques.specs.Thieves.{owner_key, key_of, taken_by_thief};
 ghost use Rattle.ca_sum_pool.specs.Parts.{begun, next_task, taken_of, Took};
 
 use crate::callers::is_one;
+use crate::performing::Patience;
 use ca_deques::taking::{keep, open_some, take_any};
 use ca_deques::{Owner, Round, Thieves};
 use ca_logs::Task;
@@ -220,21 +221,24 @@ fn open_now_and_then<N: Round>(owner: &mut Owner<N>, share: &mut Vec<Task>)
 }
 
 /// Whether a worker runs an operation with all that this leads to, as long as it has patience: one that calls others, where its share
-/// or its list has more to run, so that nobody waits for these.
+/// or its list has more to run, so that nobody waits for these, or where one was done so: the next one is soon done, too.
 #[inline]
 pub fn runs_whole(
-    patience: u64,
+    patience: Patience,
     share: &Vec<Task>,
     at: usize,
     end: usize,
     callers: &[OpId],
     op: OpId,
 ) -> bool {
-    if patience == 0 {
+    if patience.steps == 0 {
         return false;
     }
     if !is_one(callers, op) {
         return false;
+    }
+    if patience.went {
+        return true;
     }
     if share.len() > 0 {
         return true;

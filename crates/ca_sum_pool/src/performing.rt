@@ -23,8 +23,7 @@ use ca_extent::Extent;
 use ca_logs::{Stop, Task};
 use ca_model::Heap;
 use ca_parallel::Op;
-use ca_program::ClassId;
-use ca_replica::{Bench, Replica};
+use ca_replica::{Bench, Mark, Replica};
 use ca_sections::{Coded, Desk, SectionAnswer};
 use std::alloc::Global;
 use std::marker::Brand;
@@ -111,15 +110,25 @@ pub enum Turn {
     Short,
 }
 
-/// So many steps a call may take that is run with all that it leads to.
-pub const PATIENCE: u64 = 16_384;
+/// How a worker runs calls with all that they lead to in a round: within so many steps each, and whether one was done so.
+#[derive(Clone, Copy)]
+pub struct Patience {
+    pub steps: u64,
+    pub went: bool,
+}
+
+/// What a worker begins with.
+pub const PATIENCE: Patience = Patience {
+    steps: 16_384,
+    went: false,
+};
 
 /// Runs a call with all that it leads to, if that is asked for, within so many steps as are left, and within a patience, of which
 /// nothing is left where it isn't done: long calls are worth more where others take parts of them. `None`: then all sums are as before.
 fn run_whole<G: Gate>(
     whole: bool,
     bench: &mut Bench,
-    marks: &[Option<ClassId>],
+    marks: &[Mark],
     alloc: Global,
     program: &Coded<'_>,
     extent: &Extent,
@@ -127,7 +136,7 @@ fn run_whole<G: Gate>(
     gate: &G,
     worker: u32,
     replica: &mut Replica,
-    patience: &mut u64,
+    patience: &mut Patience,
     left: u64,
     op: &Op,
     after: u64,
@@ -141,13 +150,16 @@ fn run_whole<G: Gate>(
     if !whole {
         return None;
     }
-    let most = left.min(*patience);
+    let most = left.min(patience.steps);
     match replica.complete(
         bench, marks, alloc, program, extent, frozen, gate, worker, op, most,
     ) {
-        Ok(Some(steps)) => Some(steps),
+        Ok(Some(steps)) => {
+            patience.went = true;
+            Some(steps)
+        }
         Ok(None) => {
-            *patience = 0;
+            patience.steps = 0;
             None
         }
         Err(_) => None,
@@ -161,7 +173,7 @@ pub fn perform<'f, N: Round, G: Gate>(
     alloc: Global,
     desk: &mut Desk,
     bench: &mut Bench,
-    marks: &[Option<ClassId>],
+    marks: &[Mark],
     program: &Coded<'_>,
     extent: &Extent,
     frozen: &Heap,
@@ -171,7 +183,7 @@ pub fn perform<'f, N: Round, G: Gate>(
     replica: &mut Replica,
     share: &mut Vec<Task>,
     whole: bool,
-    patience: &mut u64,
+    patience: &mut Patience,
     left: u64,
     room: &mut Vec<Op>,
     next: Next<'f>,

@@ -13,4 +13,5 @@ pub mod Adding
 pub mod Lent
 pub mod InHeap
 pub mod Opened
+pub mod Splits
 mod Examples

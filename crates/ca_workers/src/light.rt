@@ -14,7 +14,7 @@ const LIGHT: u32 = 120;
 
 /// Where all only sum, and calls lead to others in a loop, those of more parts do: a worker runs each whole, on copies of its own, so
 /// the way to it is paid once.
-const LIGHT_OF_SUMS: u32 = 32;
+const LIGHT_OF_SUMS: u32 = 0;
 
 /// Whether calls of what reaches so far are light, several of them, or a single one, which stands for those that it lists.
 pub fn is_light(reach: Reach, several: bool) -> bool {

@@ -1,6 +1,7 @@
 //! What is known of a program and of its lists: of each operation and each marked loop, learned once, and which lists begin with a
 //! round. It tells which of what is marked would run in order in the heap itself. No clause speaks of it.
 
+use crate::again::is_worth;
 use crate::habits::Habit;
 use crate::light::{is_light, is_small, reach_of, reach_of_all, unknown_reach};
 use crate::loops::{add_calls, calls_told, marked_loops, site_of};
@@ -105,17 +106,18 @@ impl Tables {
             return false;
         }
         match self.known[number].reach {
-            Some(reach) => is_light(reach, false) || self.stays(reach, op),
+            Some(reach) => is_light(reach, false) || self.stays(reach, op, 1),
             None => false,
         }
     }
 
-    /// Whether calls that begin with one of this operation run in order since they only sum, and came to other objects each time.
-    fn stays(&self, reach: Reach, op: OpId) -> bool {
+    /// Whether so many calls that begin with one of this operation run in order since they only sum, and came to other objects each
+    /// time, or are soon done.
+    fn stays(&self, reach: Reach, op: OpId, calls: usize) -> bool {
         let number = op.0 as usize;
         if number < self.known.len() {
-            let again = self.known[number].again.unwrap_or(true);
-            return is_small(reach) && !again;
+            let again = self.known[number].again.unwrap_or(u32::MAX);
+            return is_small(reach) && !is_worth(calls, again);
         }
         false
     }
@@ -128,17 +130,17 @@ impl Tables {
             return false;
         }
         let own = self.loops[number];
-        if !is_light(own.reach, true) && !self.stays(own.reach, own.op) {
-            return false;
-        }
-        if objects >= FEW_OBJECTS {
-            return true;
-        }
         let count = if own.count == UNTOLD {
             self.last_count(own.op)
         } else {
             own.count
         };
+        if !is_light(own.reach, true) && !self.stays(own.reach, own.op, count) {
+            return false;
+        }
+        if objects >= FEW_OBJECTS {
+            return true;
+        }
         self.habit.would_go_alone(count)
     }
 
@@ -152,21 +154,22 @@ impl Tables {
         }
     }
 
-    /// Whether a list comes to the same objects again and again, as one did that began with the same operation.
-    pub fn again(&self, first: &[Op]) -> Option<bool> {
+    /// About how many steps a call of a list takes that comes to the same objects again and again, as one did that began with the same
+    /// operation; 0 where that one didn't.
+    pub fn again(&self, first: &[Op]) -> Option<u32> {
         if first.len() == 0 {
-            return Some(false);
+            return Some(0);
         }
         let number = first[0].op.0 as usize;
         if number < self.known.len() {
             self.known[number].again
         } else {
-            Some(true)
+            Some(u32::MAX)
         }
     }
 
-    /// Notes whether a list does.
-    pub fn note_again(&mut self, first: &[Op], again: bool) {
+    /// Notes that of a list.
+    pub fn note_again(&mut self, first: &[Op], again: u32) {
         if first.len() == 0 {
             return;
         }

@@ -40,8 +40,9 @@ pub struct Known {
     pub locks: Option<bool>,
     /// What it and all that it leads to are, where it was asked.
     pub reach: Option<Reach>,
-    /// Whether lists that begin with one of it come to the same objects again and again, where that was tried.
-    pub again: Option<bool>,
+    /// About how many steps each call of a list took that began with one of it, where that was tried, and they came to the same objects
+    /// again and again; else 0.
+    pub again: Option<u32>,
     /// How many calls the last list of two or more had that began with one of it.
     pub count: usize,
 }

@@ -1,5 +1,6 @@
-use Rattle.ca_logs.proofs.Tallying.{told_less}
+use Rattle.std.proofs.Common.{take, ap, subst, ◌∙◌}
+use Rattle.ca_logs.specs.Telling.{AreKept}
 use Rattle.ca_logs.proofs.entries.cut.Goals as goal
 
-pub returns-in-None : goal.returns-in-None
-returns-in-None c = rw c.in-None.is (told_less c.args.told.now.items c.truncate-in-None.new.self.items c.args.count c.truncate-in-None.ensures.items)
+pub returns-in-Some : goal.returns-in-Some
+returns-in-Some c = λ es there. c.truncate.ensures.items ∙ ap (take c.args.count) (subst (λ k. AreKept k es) c.in-Some.is there)

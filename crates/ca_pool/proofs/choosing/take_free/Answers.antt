@@ -1,27 +1,15 @@
-use Rattle.std.proofs.Common.{option_to_list, Option, ◌∙◌, ap, subst, arith}
+use Rattle.std.proofs.Common.{◌∙◌, ap, arith}
 use Rattle.ca_meaning.specs.Multisets.{weight}
-use Rattle.ca_logs.specs.declared.log.Task.{Task}
-use Rattle.ca_deques.specs.Settings.{AllFit}
-use Rattle.ca_deques.proofs.Grown.{one_fits}
 use Rattle.ca_pool.proofs.choosing.take_free.Goals as goal
 
-pub pass_held-requires-clause-fits : goal.pass_held-requires-clause-fits
-pass_held-requires-clause-fits g c = subst (λ (o : Option Task). AllFit g.N.Round.setting (option_to_list o)) c.in-Some.is c.take_any.ensures.fits 0 c.in-Some.task (omega arith)
+pub returns-then-is_ready-clause-same : goal.returns-then-is_ready-clause-same
+returns-then-is_ready-clause-same g c = c.open_some.ensures.same
 
-pub returns-in-Some-clause-same : goal.returns-in-Some-clause-same
-returns-in-Some-clause-same g c = c.pass_held.ensures.same ∙ (c.take_any.ensures.same ∙ c.open_some.ensures.same)
+pub returns-then-is_ready-clause-taken : goal.returns-then-is_ready-clause-taken
+returns-then-is_ready-clause-taken g c = let o = c.open_some.ensures in λ h. omega (arith, o.pushed h, ap (weight h) o.taken, c.newest.ensures.taken h)
 
-pub returns-in-Some-clause-keys : goal.returns-in-Some-clause-keys
-returns-in-Some-clause-keys g c = c.pass_held.ensures.keys ∙ c.take_any.ensures.keys
+pub returns-clause-same : goal.returns-clause-same
+returns-clause-same g c = c.take_slowly.ensures.same ∙ c.open_some.ensures.same
 
-pub returns-in-Some-clause-fits : goal.returns-in-Some-clause-fits
-returns-in-Some-clause-fits g c = one_fits _ _ c.pass_held.ensures.fits
-
-pub returns-in-Some-clause-taken : goal.returns-in-Some-clause-taken
-returns-in-Some-clause-taken g c = let t = c.take_any.ensures in let o = c.open_some.ensures in λ h. omega (arith, o.pushed h, ap (weight h) o.taken, t.taken h, ap (weight h) t.pushed, ap (λ (o : Option Task). weight h (option_to_list o)) c.in-Some.is, c.pass_held.ensures.moved h)
-
-pub returns-in-None-clause-same : goal.returns-in-None-clause-same
-returns-in-None-clause-same g c = c.take_any.ensures.same ∙ c.open_some.ensures.same
-
-pub returns-in-None-clause-taken : goal.returns-in-None-clause-taken
-returns-in-None-clause-taken g c = let t = c.take_any.ensures in let o = c.open_some.ensures in λ h. omega (arith, o.pushed h, ap (weight h) o.taken, t.taken h, ap (weight h) t.pushed, ap (λ (o : Option Task). weight h (option_to_list o)) c.in-None.is)
+pub returns-clause-taken : goal.returns-clause-taken
+returns-clause-taken g c = let o = c.open_some.ensures in λ h. omega (arith, o.pushed h, ap (weight h) o.taken, c.take_slowly.ensures.taken h)

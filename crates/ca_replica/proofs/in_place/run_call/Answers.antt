@@ -86,7 +86,7 @@ returns-in-Ends g c =
     let came : Result (Option ℕ) (Unit {0}) = Ok (Some m.left) in
     let told : IfOk came (λ still. LeftBy run.result m.left still) = subst (λ x. LeftBy x m.left (Some m.left)) (sym c.in-Ends.is) refl in
     record {
-      ran = call_told p c.requires.program _ _ c.in-Some-number_of.number h c.requires.heap c.args.op.now c.requires.typed c.args.left c.enter.new.frames starts (c.in_ok-enter.ensures p starts.laid) c.in-Some-number_of.ensures least a.program.now (ap program_view c.requires.same) run.result (here_state there m.number m.below m.slots.items (fresh after)) after refl halted.1 m.left refl came told;
+      ran = call_told p c.requires.program _ _ c.in-Some-number_of.number h c.requires.heap c.args.op.now c.requires.typed c.args.left c.enter.new.frames starts (c.in_ok-enter.ensures p starts.laid) c.in-Some-number_of.ensures.some least a.program.now (ap program_view c.requires.same) run.result (here_state there m.number m.below m.slots.items (fresh after)) after refl halted.1 m.left refl came told;
       before = ap (λ l. l.before) run.ensures.fixed;
       there = kept.there;
       same_written = ap (λ l. l.written) run.ensures.fixed;
@@ -112,7 +112,7 @@ returns-in-Traps g c =
     let came : Result (Option ℕ) (Unit {0}) = Ok None in
     let told : IfOk came (λ still. LeftBy run.result m.left still) = subst (λ x. LeftBy x m.left None) (sym c.in-Traps.is) refl in
     record {
-      ran = call_told p c.requires.program _ _ c.in-Some-number_of.number h c.requires.heap c.args.op.now c.requires.typed c.args.left c.enter.new.frames starts (c.in_ok-enter.ensures p starts.laid) c.in-Some-number_of.ensures least a.program.now (ap program_view c.requires.same) run.result (here_state there m.number m.below m.slots.items (fresh after)) after refl halted.1 m.left refl came told;
+      ran = call_told p c.requires.program _ _ c.in-Some-number_of.number h c.requires.heap c.args.op.now c.requires.typed c.args.left c.enter.new.frames starts (c.in_ok-enter.ensures p starts.laid) c.in-Some-number_of.ensures.some least a.program.now (ap program_view c.requires.same) run.result (here_state there m.number m.below m.slots.items (fresh after)) after refl halted.1 m.left refl came told;
       before = ap (λ l. l.before) run.ensures.fixed;
       there = kept.there;
       same_written = ap (λ l. l.written) run.ensures.fixed;
@@ -138,7 +138,7 @@ returns-in-Spends g c =
     let came : Result (Option ℕ) (Unit {0}) = Ok None in
     let told : IfOk came (λ still. LeftBy run.result m.left still) = subst (λ x. LeftBy x m.left None) (sym c.in-Spends.is) refl in
     record {
-      ran = call_told p c.requires.program _ _ c.in-Some-number_of.number h c.requires.heap c.args.op.now c.requires.typed c.args.left c.enter.new.frames starts (c.in_ok-enter.ensures p starts.laid) c.in-Some-number_of.ensures least a.program.now (ap program_view c.requires.same) run.result (here_state there m.number m.below m.slots.items (fresh after)) after refl halted.1 m.left refl came told;
+      ran = call_told p c.requires.program _ _ c.in-Some-number_of.number h c.requires.heap c.args.op.now c.requires.typed c.args.left c.enter.new.frames starts (c.in_ok-enter.ensures p starts.laid) c.in-Some-number_of.ensures.some least a.program.now (ap program_view c.requires.same) run.result (here_state there m.number m.below m.slots.items (fresh after)) after refl halted.1 m.left refl came told;
       before = ap (λ l. l.before) run.ensures.fixed;
       there = kept.there;
       same_written = ap (λ l. l.written) run.ensures.fixed;

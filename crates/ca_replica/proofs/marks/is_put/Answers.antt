@@ -1,9 +1,15 @@
 use Rattle.std.proofs.Common.{true≢false, sym, ◌∙◌}
-use Rattle.ca_replica.proofs.InPlace.{marked_so}
+use Rattle.ca_replica.proofs.InPlace.{field_at, marked_so, same_class, yes_written}
 use Rattle.ca_replica.proofs.marks.is_put.Goals as goal
 
-pub returns-in-Some : goal.returns-in-Some
-returns-in-Some c = λ e m o there. c.is_put_by.ensures e (marked_so c.args.extent.now.written c.args.marks.now c.args.field c.in-Some.mark m (sym c.mark_of.ensures ∙ c.in-Some.is)) o there
+pub returns-in-Free : goal.returns-in-Free
+returns-in-Free c = λ e. absurd (true≢false (sym e))
 
-pub returns-in-None : goal.returns-in-None
-returns-in-None c = λ e. absurd (true≢false (sym e))
+pub returns-in-Of : goal.returns-in-Of
+returns-in-Of c = λ e m o there.
+    let ws = c.args.extent.now.written in
+    let g = c.args.field in
+    same_class ws g c.in-Of.class o.class (c.is_class.ensures.is e o there) (marked_so ws c.args.marks.now g c.in-Of.class m (sym c.mark_of.ensures ∙ c.in-Of.is))
+
+pub returns-in-Several : goal.returns-in-Several
+returns-in-Several c = λ e m o there. yes_written c.args.extent.now.written (field_at o.class c.args.field) (sym (c.is_of.ensures o there) ∙ e)

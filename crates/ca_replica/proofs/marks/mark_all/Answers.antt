@@ -11,11 +11,11 @@ fields-preserved c =
     let fs = c.args.fields.now in
     let i = c.fields.field-index in
     let lt : i < length fs = omega arith in
-    let m = c.in_ok-mark.ensures in
-    marked_more_at fs i _ c.fields.marks.items c.mark.new.marks.items lt m.kept m.only m.marked c.fields.invariant
+    let m = c.in_ok-mark_field.ensures in
+    marked_more_at fs i _ c.fields.marks.items c.mark_field.new.marks.items lt m.kept m.only m.marked c.fields.invariant
 
-pub returns-in_err-mark : goal.returns-in_err-mark
-returns-in_err-mark c = let p = err_from_is_err_and c.from_residual.result c.from_residual.ensures.1 in rw p.1 tt
+pub returns-in_err-mark_field : goal.returns-in_err-mark_field
+returns-in_err-mark_field c = let p = err_from_is_err_and c.from_residual.result c.from_residual.ensures.1 in rw p.1 tt
 
 pub returns : goal.returns
 returns c =

@@ -12,6 +12,7 @@ use Rattle.ca_beside.proofs.Present.{changed}
 use Rattle.ca_run.specs.Puts.{restored}
 use Rattle.ca_steps.specs.Telling.{Adds}
 use Rattle.ca_replica.specs.Applied.{sums}
+use Rattle.ca_replica.specs.InPlace.{IsWritten}
 use Rattle.ca_replica.specs.Zeroed.{zeroed_heap}
 use Rattle.ca_replica.proofs.InPlace.{copy_there, keeps_put, keeps_same}
 use Rattle.ca_replica.proofs.Sums.{zeroed_many}
@@ -85,7 +86,8 @@ returns-then-put_at c =
       before = q.before z lt ∙ ap (restored c.args.olds.now) p.same;
       keeps = λ k.
           let o = there_is h n here in
-          keeps_put ws h c.args.marks.now cs mid c.put_at.new.copies c.args.olds.now c.put_at.new.olds n g 0 (Long m) o.0 c.put_at.result o.1 (c.is_put.ensures c.if-not-is_put.false k.marked o.0 o.1) p.same p.has (λ e. q.put e z) q.same q.there k;
+          let w : IsWritten ws h n g = record { object = o.0; there = o.1; put = c.is_put.ensures c.if-not-is_put.false k.marked o.0 o.1 } in
+          keeps_put ws h c.args.marks.now cs mid c.put_at.new.copies c.args.olds.now c.put_at.new.olds n g 0 (Long m) c.put_at.result w p.same p.has (λ e. q.put e z) q.same q.there (q.puts ws h w) k;
     }
 
 pub returns-else-put_at : goal.returns-else-put_at
@@ -106,5 +108,6 @@ returns-else-put_at c =
       before = q.before z lt ∙ ap (restored c.args.olds.now) p.same;
       keeps = λ k.
           let o = there_is h n here in
-          keeps_put ws h c.args.marks.now c.args.copies.now c.place_of.new.copies c.put_at.new.copies c.args.olds.now c.put_at.new.olds n c.args.f.field 0 (Long m) o.0 c.put_at.result o.1 (c.is_put.ensures c.if-not-is_put.false k.marked o.0 o.1) p.same p.has (λ e. q.put e z) q.same q.there k;
+          let w : IsWritten ws h n c.args.f.field = record { object = o.0; there = o.1; put = c.is_put.ensures c.if-not-is_put.false k.marked o.0 o.1 } in
+          keeps_put ws h c.args.marks.now c.args.copies.now c.place_of.new.copies c.put_at.new.copies c.args.olds.now c.put_at.new.olds n c.args.f.field 0 (Long m) c.put_at.result w p.same p.has (λ e. q.put e z) q.same q.there (q.puts ws h w) k;
     }

@@ -10,15 +10,15 @@ use Rattle.ca_beside.specs.Beside.{present, with_value}
 use Rattle.ca_beside.proofs.Present.{changed}
 use Rattle.ca_run.specs.declared.puts.Put.{Put}
 use Rattle.ca_run.specs.Puts.{restored}
-use Rattle.ca_replica.specs.InPlace.{AllHave, HasCopy}
-use Rattle.ca_replica.proofs.InPlace.{all_have_more, has_after_put, present_stored, put_kept}
+use Rattle.ca_replica.specs.InPlace.{AllHave, AllWritten, HasCopy}
+use Rattle.ca_replica.proofs.InPlace.{all_have_more, all_written_more, has_after_put, present_stored, put_kept}
 use Rattle.ca_replica.proofs.values.put_at.Goals as goal
 
 pub object_at-object-requires : goal.object_at-object-requires
 object_at-object-requires c = slice_get_within c.args.copies.now c.args.place _ c.requires.there
 
 pub returns-then-not-has : goal.returns-then-not-has
-returns-then-not-has c = record { put = λ e. absurd (true≢false (sym e)); same = λ e. refl; before = λ h lt. refl; there = λ a. a }
+returns-then-not-has c = record { put = λ e. absurd (true≢false (sym e)); same = λ e. refl; before = λ h lt. refl; there = λ a. a; puts = λ ws h w a. a }
 
 pub returns-then-not-keep : goal.returns-then-not-keep
 returns-then-not-keep c =
@@ -29,6 +29,7 @@ returns-then-not-keep c =
       same = λ e. refl;
       before = λ h lt. ap (λ os. restored os (present h cs)) same;
       there = λ a. subst (λ os. AllHave os cs) (sym same) a;
+      puts = λ ws h w a. subst (AllWritten ws h) (sym same) a;
     }
 
 pub store_at-requires : goal.store_at-requires
@@ -64,6 +65,7 @@ returns c =
     record {
       put = λ e h. ap (present h) is ∙ present_stored h cs apart place n o f i v there;
       same = λ e. absurd (true≢false e);
-      before = λ h lt. put_kept h cs new apart place n o f i v w c.args.olds.now c.keep.new.olds lt there is has was kept;
-      there = λ a. all_have_more cs new c.args.olds.now c.keep.new.olds old (λ m h. subst (λ ds. HasCopy ds m) (sym is) (has_after_put cs place n o (with_value o f i v) there m h)) kept (place, c.requires) a;
+      before = λ h lt. put_kept h cs new apart place n o f i v w c.args.olds.now c.keep.new.self lt there is has was kept;
+      there = λ a. all_have_more cs new c.args.olds.now c.keep.new.self old (λ m h. subst (λ ds. HasCopy ds m) (sym is) (has_after_put cs place n o (with_value o f i v) there m h)) kept (place, c.requires) a;
+      puts = λ ws h w a. all_written_more ws h c.args.olds.now c.keep.new.self old kept w a;
     }

@@ -2,6 +2,7 @@ use Rattle.std.proofs.Common.{◌≡◌, ◌<◌, ◌∙◌, length, refl, sym, 
 use Rattle.ca_lists.proofs.Places.{item_there}
 use Rattle.ca_model.specs.Heaps.{stored}
 use Rattle.ca_run.specs.Puts.{restored}
+use Rattle.ca_replica.specs.InPlace.{IsWritten}
 use Rattle.ca_replica.specs.Zeroed.{zeroed_heap}
 use Rattle.ca_replica.proofs.InPlace.{keeps_put, keeps_same}
 use Rattle.ca_replica.proofs.Sums.{zeroed_many}
@@ -49,5 +50,6 @@ returns c =
       before = q.before z lt ∙ ap (restored c.args.olds.now) p.same;
       keeps = λ k.
           let o = item_there h n (omega (arith, c.if-n-len.false, c.len.ensures.value)) in
-          keeps_put ws h c.args.marks.now c.args.copies.now c.place_of.new.copies c.put_at.new.copies c.args.olds.now c.put_at.new.olds n g c.args.item c.args.value o.0 c.put_at.result o.1 (c.is_put.ensures c.if-not-is_put.false k.marked o.0 o.1) p.same p.has (λ e. q.put e z) q.same q.there k;
+          let w : IsWritten ws h n g = record { object = o.0; there = o.1; put = c.is_put.ensures c.if-not-is_put.false k.marked o.0 o.1 } in
+          keeps_put ws h c.args.marks.now c.args.copies.now c.place_of.new.copies c.put_at.new.copies c.args.olds.now c.put_at.new.olds n g c.args.item c.args.value c.put_at.result w p.same p.has (λ e. q.put e z) q.same q.there (q.puts ws h w) k;
     }

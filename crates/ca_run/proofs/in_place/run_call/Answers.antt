@@ -48,7 +48,7 @@ returns g c =
     let halted = run.ensures.halted (fresh h) in
     let there : Here = record { at = m.at; base = halted.0; left = m.left } in
     record {
-      ran = call_told p c.requires.program _ _ c.in-Some-number_of.number h c.requires.heap c.args.op.now c.requires.typed c.args.left c.enter.new.frames starts (c.in_ok-enter.ensures p starts.laid) c.in-Some-number_of.ensures least c.args.access.now.program.now (ap program_view c.requires.same) run.result (here_state there m.number m.below m.slots.items (fresh after)) after refl halted.1 m.left refl c.left_of.result c.left_of.ensures;
+      ran = call_told p c.requires.program _ _ c.in-Some-number_of.number h c.requires.heap c.args.op.now c.requires.typed c.args.left c.enter.new.frames starts (c.in_ok-enter.ensures p starts.laid) c.in-Some-number_of.ensures.some least c.args.access.now.program.now (ap program_view c.requires.same) run.result (here_state there m.number m.below m.slots.items (fresh after)) after refl halted.1 m.left refl c.left_of.result c.left_of.ensures;
       before = ap (λ l. l.before) run.ensures.fixed;
       same_heap = ap (λ l. l.heap) run.ensures.fixed;
       same_kept = ap (λ l. l.kept) run.ensures.fixed;

@@ -12,9 +12,9 @@ returns-then-item-eq0 c =
     let same : put_slot slots c.args.field 0 (Long c.in-Long.n) ≡ put_slot slots c.args.field c.args.item c.args.value =
     ap (λ v. put_slot slots c.args.field 0 v) (sym c.in-Long.is) ∙ ap (λ i. put_slot slots c.args.field i c.args.value) (sym c.if-item-eq0.true) in
     record {
-      put = λ e. rw (to_z-of_z w64 c.in-Long.n small) at (c.put_number.ensures.put e) ∙ same;
-      back = c.put_number.ensures.back;
-      there = c.put_number.ensures.there;
+      put = λ e. rw (to_z-of_z w64 c.in-Long.n small) at (c.put_first.ensures.put e) ∙ same;
+      back = c.put_first.ensures.back;
+      there = c.put_first.ensures.there;
     }
 
 pub returns-else-item-eq0 : goal.returns-else-item-eq0

@@ -17,4 +17,4 @@ returns c =
     let place = c.args.first + c.args.a in
     let n = c.number_at-n.result in
     let fits : SFits w64 n = search rules in
-    some_by (λ v. v ≡ read_as κ n) (λ v. v ≡ read_as κ (seen xs place)) c.read_as.result (λ v e. e ∙ ap (read_as κ) c.number_at-n.ensures) (rw (to_z-of_z w64 n fits) at c.read_as.ensures)
+    some_by (λ v. v ≡ read_as κ n) (λ v. v ≡ read_as κ (seen xs place)) c.read_as.result (λ v e. e ∙ ap (read_as κ) c.number_at-n.ensures) (rw (to_z-of_z w64 n fits) at c.read_as.ensures.some)

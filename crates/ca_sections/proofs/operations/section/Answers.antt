@@ -75,7 +75,7 @@ returns c =
     let settled = subst (λ ns. IfOk c.settle.result (λ answer. Settled c.run-ran.result.ended answer c.args.left c.run-ran.result.left a1 after out ns)) told (subst (λ os. IfOk c.settle.result (λ answer. Settled c.run-ran.result.ended answer c.args.left c.run-ran.result.left a1 after os c.settle.new.self.listed.now.items)) fore c.settle.ensures.settled) in
     let kept = subst (λ ns. OnErr c.settle.result ((after ≡ put_back a1.olds.now a1.slots.now) × (ns ≡ out))) told (subst (λ os. OnErr c.settle.result ((after ≡ put_back a1.olds.now a1.slots.now) × (c.settle.new.self.listed.now.items ≡ os))) fore c.settle.ensures.kept) in
     record {
-      answer = handed_is p _ _ c.in-Some-number_of.number c.args.frozen.now op c.args.left o m c.run-ran.new.frames _ _ a1 starts entered c.in-Some-number_of.ensures least c.run-ran.result run.came run.lasts (λ i. record { own = o.slots; listed = invocations_of (none i) }) _ after out now settled refl before;
+      answer = handed_is p _ _ c.in-Some-number_of.number c.args.frozen.now op c.args.left o m c.run-ran.new.frames _ _ a1 starts entered c.in-Some-number_of.ensures.some least c.run-ran.result run.came run.lasts (λ i. record { own = o.slots; listed = invocations_of (none i) }) _ after out now settled refl before;
       kept = kept_so a1 _ o _ after (now ≡ out) run.lasts before kept;
       undo = undo_so _ c.args.left _ a1 _ o _ after out now _ c.settle.new.self.olds.now run.lasts before run.there refl settled c.settle.ensures.olds;
     }

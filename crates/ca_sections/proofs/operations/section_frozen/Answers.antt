@@ -68,6 +68,6 @@ returns c =
     let settled = subst (λ ns. IfOk c.settle.result (λ answer. Settled c.run-ran.result.ended answer c.args.left c.run-ran.result.left a1 after out ns)) told (subst (λ os. IfOk c.settle.result (λ answer. Settled c.run-ran.result.ended answer c.args.left c.run-ran.result.left a1 after os c.settle.new.self.listed.now.items)) fore c.settle.ensures.settled) in
     let kept = subst (λ ns. OnErr c.settle.result ((after ≡ put_back a1.olds.now a1.slots.now) × (ns ≡ out))) told (subst (λ os. OnErr c.settle.result ((after ≡ put_back a1.olds.now a1.slots.now) × (c.settle.new.self.listed.now.items ≡ os))) fore c.settle.ensures.kept) in
     record {
-      answer = λ free o found. frozen_so p _ _ c.in-Some-number_of.number c.args.frozen.now op c.args.left o c.enter.new.self.frames c.run-ran.new.frames _ _ a1 starts entered c.in-Some-number_of.ensures least c.run-ran.result run.came run.lasts (λ i. record { own = slots_in (found i); listed = invocations_of (none i) }) _ after out now settled;
+      answer = λ free o found. frozen_so p _ _ c.in-Some-number_of.number c.args.frozen.now op c.args.left o c.enter.new.self.frames c.run-ran.new.frames _ _ a1 starts entered c.in-Some-number_of.ensures.some least c.run-ran.result run.came run.lasts (λ i. record { own = slots_in (found i); listed = invocations_of (none i) }) _ after out now settled;
       kept = err_told _ (now ≡ out) _ (λ k. k.1) kept;
     }

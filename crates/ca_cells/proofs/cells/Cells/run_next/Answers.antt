@@ -33,8 +33,8 @@ returns-then-not-join-clause-kept c =
     ap (λ l. record { opened = c.add.new.log.opened; object = c.undo.new.object; entries = l }) c.back_to.ensures ∙ undone_next c.args.log.now c.add.new.log c.undo.new.object c.mark-mark.result entry (ap (λ (l : CellLog). l.opened) r.new_is) (ap (λ (l : CellLog). l.entries) r.new_is)
     (c.undo.ensures c.args.log.now.object (e.undo c.in-Ran.tasks.items c.in-Ran.steps ran)) mark
 
-pub returns-else-not-join-clause-next : goal.returns-else-not-join-clause-next
-returns-else-not-join-clause-next c =
+pub returns-in-Ran-clause-next : goal.returns-in-Ran-clause-next
+returns-in-Ran-clause-next c =
     let key = cells_key c.args.self.now in let q = c.requires.given in let l = c.requires.legal in let t = c.requires.task in let e = c.in_ok-added.ensures in
     let p = program_view c.args.program.now in
     let s : Setting key p c.args.frozen.now c.args._number c.args.task.now c.args.log.now = record { program = q.0; heap = q.1; round = l.0; legal = l.1; may_run = t.0; receiver = t.1 } in
@@ -42,8 +42,8 @@ returns-else-not-join-clause-next c =
     ran_next key p c.args.frozen.now c.args._number c.args.left c.args.task.now c.args.log.now c.add.new.log s c.in_ok-added.added c.args.made.now.items c.join.new.list.items c.in-Ran.tasks.items c.in-Ran.steps e.exact ran e.legal e.agrees
     (e.typed c.in-Ran.tasks.items c.in-Ran.steps ran) (λ x z. e.inside x z c.in-Ran.tasks.items c.in-Ran.steps ran) (c.join.ensures c.if-not-join.false)
 
-pub returns-in-Kept-clause-next : goal.returns-in-Kept-clause-next
-returns-in-Kept-clause-next c =
+pub returns-clause-next : goal.returns-clause-next
+returns-clause-next c =
     let key = cells_key c.args.self.now in let q = c.requires.given in let l = c.requires.legal in let t = c.requires.task in let e = c.in_ok-added.ensures in
     let p = program_view c.args.program.now in
     let s : Setting key p c.args.frozen.now c.args._number c.args.task.now c.args.log.now = record { program = q.0; heap = q.1; round = l.0; legal = l.1; may_run = t.0; receiver = t.1 } in

@@ -5,7 +5,7 @@ use Rattle.ca_cells.proofs.cells.gathering.pour.Given as goal
 
 abbrev pub invariant-loop-held : goal.invariant-loop-held
 invariant-loop-held l = record {
-  poured : IsPermutation (l.fn.all.items ++ l.initial.items.items) (l.all.items ++ l.items.items);
+  poured : IsPermutation (l.fn.all.items ++ l.fn.shelf) (l.all.items ++ l.items.items);
   room : (length l.all.items + length l.items.items ≤ vec_capacity l.all) × (vec_capacity l.all ≡ vec_capacity l.fn.all);
 }
 

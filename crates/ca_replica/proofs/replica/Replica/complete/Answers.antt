@@ -6,7 +6,7 @@ use Rattle.ca_run.specs.InPlace.{CallEnds}
 use Rattle.ca_run.specs.Puts.{restored}
 use Rattle.ca_run.proofs.InPlace.{never_runs, none_ran, one_alone, one_stopped, runs_to}
 use Rattle.ca_replica.specs.Applied.{sums}
-use Rattle.ca_replica.specs.InPlace.{AllHave}
+use Rattle.ca_replica.specs.InPlace.{AllHave, AllWritten}
 use Rattle.ca_replica.specs.Zeroed.{zeroed_heap}
 use Rattle.ca_replica.proofs.InPlace.{constants_first}
 use Rattle.ca_replica.proofs.replica.Replica.complete.Goals as goal
@@ -28,6 +28,7 @@ run_whole-requires-clause-keeps g c κs within =
       marked = c.requires.marks;
       constants = constants_first (program_view c.args.program.now) x c.args.frozen.now (sums x.written c.args.frozen.now c.args.self.now.copies) c.requires.sums;
       there = subst (λ os. AllHave os c.args.self.now.copies) (sym c.forget.ensures) tt;
+      puts = subst (AllWritten x.written c.args.frozen.now) (sym c.forget.ensures) tt;
     }
 
 pub put_all_back-requires : goal.put_all_back-requires

@@ -17,7 +17,7 @@ locals-preserved c =
     let types = c.args.types.now in
     let i = c.locals.ty-index in
     let lt : i < length types = omega arith in
-    value_added kind_type (seen m.slots.items) m.base types i c.locals.a _ c.in-Some.value c.locals.into.items c.push.new.self.items _ lt (here_is types i _ lt) (rw c.kind_type.ensures at c.in-Some.ensures) c.in_ok-push.ensures.items c.locals.invariant
+    value_added kind_type (seen m.slots.items) m.base types i c.locals.a _ c.in-Some.value c.locals.into.items c.push.new.self.items _ lt (here_is types i _ lt) (rw c.kind_type.ensures at c.in-Some.ensures.some) c.in_ok-push.ensures.items c.locals.invariant
 
 pub returns : goal.returns
 returns c =

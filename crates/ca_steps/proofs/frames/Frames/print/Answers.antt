@@ -9,4 +9,4 @@ returns-in-Some c =
     λ p code line w next.
     let m = c.args.self.now in
     let now : Frames = record m { at = m.at + 1 } in
-    printed_so p code line c.args.a (kind_seen c.args.kind) c.in-Some.value m now w next c.in-Some.ensures refl
+    printed_so p code line c.args.a (kind_seen c.args.kind) c.in-Some.value m now w next c.in-Some.ensures.some refl

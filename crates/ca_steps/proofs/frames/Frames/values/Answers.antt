@@ -11,7 +11,7 @@ values-preserved c =
     let kinds = c.args.kinds.now in
     let i = c.values.kind-index in
     let lt : i < length kinds = omega arith in
-    value_added kind_seen (seen m.slots.items) m.base kinds i c.values.a _ c.in-Some.value c.values.into.items c.push.new.self.items _ lt (here_is kinds i _ lt) c.in-Some.ensures c.in_ok-push.ensures.items c.values.invariant
+    value_added kind_seen (seen m.slots.items) m.base kinds i c.values.a _ c.in-Some.value c.values.into.items c.push.new.self.items _ lt (here_is kinds i _ lt) c.in-Some.ensures.some c.in_ok-push.ensures.items c.values.invariant
 
 pub returns : goal.returns
 returns c =

@@ -24,7 +24,7 @@ invariant_of-self-in-Ran g c = let t = c.take_next.ensures in let z = c.self.ins
   c.self.invariant.0,
   sound_ran g.N.Round.setting g.K.Sums.extent g.K.Sums.left z.owner c.take_next.new.owner z.thieves c.take_next.new.thieves z.replica.copies z.share.items c.take_next.new.share.items (begun g.K.Sums.listed z.from z.to) g.K.Sums.listed c.args.listed.now c.requires.listed z.at z.end c.take_next.new.at c.take_next.new.end z.stuck z.count z.steps z.short (taken_of c.take_next.result) c.self.invariant.1 t.same t.taken (next_task c.in-Some.next) (ap taken_of c.in-Some.is) c.perform-turn.new.owner c.perform-turn.new.replica.copies c.perform-turn.new.share.items c.in-Ran.steps c.one_more-self-inside.result c.add_steps-self-inside.result
       (performed_there g.N.Round.setting g.K.Sums.extent c.args.extent.now g.K.Sums.left z.left (next_task c.in-Some.next) c.take_next.new.owner c.perform-turn.new.owner z.replica.copies c.perform-turn.new.replica.copies c.take_next.new.share.items c.perform-turn.new.share.items c.perform-turn.result (turns.Ran c.in-Ran.steps) c.requires.picked c.self.invariant.0 c.in-Ran.is c.perform-turn.ensures)
-      c.one_more-self-inside.ensures (c.add_steps-self-inside.ensures ∙ ap (λ n. sum_within n z.steps c.in-Ran.steps) c.self.invariant.0),
+      c.one_more-self-inside.ensures.few (c.add_steps-self-inside.ensures ∙ ap (λ n. sum_within n z.steps c.in-Ran.steps) c.self.invariant.0),
 )
 
 pub invariant_of-self-in-Kept : goal.invariant_of-self-in-Kept

@@ -8,14 +8,14 @@ use Rattle.ca_workers.proofs.parallel.Parallel.run_rest.Goals as goal
 
 pub run_alone_first-requires-clause-waits : goal.run_alone_first-requires-clause-waits
 run_alone_first-requires-clause-waits g c κs o =
-    subst (λ (os : List Op). WaitFrom (program_view c.args.program.now) c.args.heap.now (map operation_of c.args.roots.now) (invocations_of os)) (sym c.in_ok-rest.ensures) c.requires.waits
+    subst (λ (os : List Op). WaitFrom (program_view c.args.program.now) c.args.heap.now (map operation_of c.args.roots.now) (invocations_of os)) (sym c.in_ok-rest.ensures.rest) c.requires.waits
 
 pub returns : goal.returns
 returns g c =
     let h = c.args.heap.now in
     let ran = c.run_alone_first in
     record {
-      placed = subst (λ (os : List Op). IfOk ran.result (Placed (program_view c.args.program.now) h h (invocations_of os) c.args.front.left ran.new.heap)) c.in_ok-rest.ensures ran.ensures.placed;
+      placed = subst (λ (os : List Op). IfOk ran.result (Placed (program_view c.args.program.now) h h (invocations_of os) c.args.front.left ran.new.heap)) c.in_ok-rest.ensures.rest ran.ensures.placed;
       kept = ran.ensures.kept;
       one = ran.ensures.one;
     }

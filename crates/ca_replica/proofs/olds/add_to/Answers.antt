@@ -1,5 +1,5 @@
 use Rattle.std.proofs.Common.{◌∷◌, true≢false, ap, ◌∙◌}
-use Rattle.ca_replica.proofs.values.keep.Goals as goal
+use Rattle.ca_replica.proofs.olds.add_to.Goals as goal
 
 pub returns-then-add : goal.returns-then-add
 returns-then-add c = record { added = λ e. c.add.ensures.added c.if-add.true; same = λ e. absurd (true≢false e) }

@@ -1,6 +1,6 @@
 use Rattle.std.proofs.Common.{⊎_elim, inl, inr, arith}
 use Rattle.std.proofs.lemmas.Result.{err_from_is_err_and}
-use Rattle.ca_replica.proofs.marks.mark.Goals as goal
+use Rattle.ca_replica.proofs.marks.mark_field.Goals as goal
 
 pub returns-in_err-widen : goal.returns-in_err-widen
 returns-in_err-widen c =

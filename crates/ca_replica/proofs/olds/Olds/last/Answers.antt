@@ -1,0 +1,9 @@
+use Rattle.std.proofs.Common.{◌≡◌, [], ◌∷◌, subst}
+use Rattle.std.specs.Prelude.{MatchOption}
+use Rattle.ca_run.specs.declared.puts.Put.{Put}
+use Rattle.ca_replica.proofs.olds.Olds.last.Goals as goal
+
+pub returns : goal.returns
+returns c =
+    let rest = c.last.new.self in
+    subst (λ os. MatchOption c.last.result ((os ≡ []) × (rest ≡ [])) (λ (x : Put). os ≡ x ∷ rest)) c.self.view_is c.last.ensures

@@ -1,0 +1,8 @@
+use Rattle.std.proofs.Common.{refl}
+use Rattle.ca_replica.proofs.olds.hand_of.Goals as goal
+
+pub returns-then-old-eq0 : goal.returns-then-old-eq0
+returns-then-old-eq0 c = λ os. (refl, refl, c.if-old-eq0.true)
+
+pub returns : goal.returns
+returns c = λ os. tt
