@@ -85,7 +85,7 @@ pub fn set<R: AllocGlobal + Abort>(
     };
     let heap = objects(rt, program, count);
     let beside = Beside::new(alloc);
-    let Ok((cells, seats)) = Cells::make(alloc, plain, &extent, &heap, &beside, workers, keeps)
+    let Ok((cells, seats)) = Cells::make(alloc, plain, &extent, &heap, &beside, workers, keeps, 0)
     else {
         panic!(rt; "no cells");
     };
