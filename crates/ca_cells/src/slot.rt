@@ -114,6 +114,14 @@ impl Shelf {
         }
     }
 
+    /// These, and one that stands by itself.
+    #[inline(always)]
+    pub(crate) fn of(others: Vec<Held>, last: Option<Held>) -> Shelf
+        ensures { result ≡ others.items ++ option_to_list last }
+    {
+        Shelf { others, last }
+    }
+
     /// Its histories: the last one by itself.
     #[inline(always)]
     pub(crate) fn into_parts(self) -> (Vec<Held>, Option<Held>)
@@ -173,18 +181,41 @@ pub fn open(alloc: Global, object: &Object, keeps: bool) -> Result<CellLog, Memo
     })
 }
 
-/// The same, in memory of its own.
-fn opened(alloc: Global, object: &Object, keeps: bool) -> Result<SlotLog, Memory>
+/// The same, with the object in the memory of a spare one where that fits.
+fn open_in(
+    alloc: Global,
+    memory: &mut Beside,
+    object: &Object,
+    keeps: bool,
+) -> Result<CellLog, Memory>
     ensures { IfOk result (λ log. (log.entries ≡ []) × (log.object ≡ object.now) × (log.opened.value ≡ object.now)) }
 {
-    let log = open(alloc, object, keeps)?;
+    Ok(CellLog {
+        opened: Snapshot::of(object),
+        object: memory.copied(object)?,
+        entries: Entries::none(alloc, keeps),
+    })
+}
+
+/// The same, in memory of its own.
+fn opened(
+    alloc: Global,
+    memory: &mut Beside,
+    object: &Object,
+    keeps: bool,
+) -> Result<SlotLog, Memory>
+    ensures { IfOk result (λ log. (log.entries ≡ []) × (log.object ≡ object.now) × (log.opened.value ≡ object.now)) }
+{
+    let log = open_in(alloc, memory, object, keeps)?;
     Ok(SlotLog::of(alloc, log)?)
 }
 
-/// The history of an object that has not begun begins. Without memory the others come back.
+/// The history of an object that has not begun begins, with a copy in spare memory where there is some that fits. Without memory
+/// the others come back.
 #[inline(never)]
 fn begin(
     alloc: Global,
+    memory: &mut Beside,
     heap: &Heap,
     beside: &Beside,
     class: usize,
@@ -200,7 +231,7 @@ fn begin(
     ensures log { IfOk result (λ taken. (given : Given) (history : CellLog) → now_of given ≡ present heap.now beside.now → Stands given number None history → taken.0 ≡ history) }
     ensures back { IfErr result (λ back. back ≡ items.items) }
 {
-    match opened(alloc, beside.get(heap, number), keeps) {
+    match opened(alloc, memory, beside.get(heap, number), keeps) {
         Ok(log) => Ok((
             log,
             Out {
@@ -235,6 +266,7 @@ fn joined(mut others: Vec<Held>, last: Held) -> Result<Vec<Held>, Shelf>
 #[inline(never)]
 fn search(
     alloc: Global,
+    memory: &mut Beside,
     heap: &Heap,
     beside: &Beside,
     class: usize,
@@ -260,15 +292,28 @@ fn search(
                 },
             ))
         }
-        None => begin(alloc, heap, beside, class, number, keeps, items),
+        None => begin(alloc, memory, heap, beside, class, number, keeps, items),
     }
+}
+
+/// Takes out the history that stands by itself.
+#[inline(always)]
+pub(crate) fn take_last(class: usize, _number: u32, others: Vec<Held>, last: Held) -> (SlotLog, Out)
+    requires mine { last.number ≡ _number }
+    requires once { AreOnce (others.items ++ last ∷ []) }
+    ensures class { result.1.class ≡ class }
+    ensures out { Without (others.items ++ last ∷ []) _number result.1.others.items }
+    ensures log { (given : Given) (history : CellLog) → Stands given _number (found (others.items ++ last ∷ []) _number) history → result.0 ≡ history }
+{
+    let Held { number: _, log } = last;
+    (log, Out { class, others })
 }
 
 /// Takes the history of an object out of its shelf. One that has not begun begins. Without memory for that the shelf
 /// comes back.
-#[inline(always)]
 pub(crate) fn take_out(
     alloc: Global,
+    memory: &mut Beside,
     heap: &Heap,
     beside: &Beside,
     class: usize,
@@ -292,11 +337,11 @@ pub(crate) fn take_out(
                 return Ok((log, Out { class, others }));
             }
             match joined(others, held) {
-                Ok(all) => search(alloc, heap, beside, class, number, keeps, all),
+                Ok(all) => search(alloc, memory, heap, beside, class, number, keeps, all),
                 Err(back) => Err(back),
             }
         }
-        None => search(alloc, heap, beside, class, number, keeps, others),
+        None => search(alloc, memory, heap, beside, class, number, keeps, others),
     }
 }
 

@@ -38,8 +38,8 @@ use Rattle.ca_run.specs.Puts.{put_back, restored}
 use Rattle.ca_run.proofs.Restoring.{put_back_there, put_back_nowhere, put_undone_by, still_has}
 use Rattle.ca_replica.specs.Zeroed.{zeroed, zeroed_field, zeroed_slot, zeroed_heap}
 use Rattle.ca_replica.specs.Applied.{sums}
-use Rattle.ca_replica.specs.declared.marks.Mark.{Mark}
-use Rattle.ca_replica.specs.declared.marks.Mark.TheVariants.{Free, Of, Several}
+use Rattle.ca_replica.specs.declared.marks.FieldMark.{FieldMark}
+use Rattle.ca_replica.specs.declared.marks.FieldMark.TheVariants.{Free, Of, Several}
 use Rattle.ca_replica.specs.Calls.{IsMarked, Marks}
 use Rattle.ca_replica.specs.InPlace.{mark_in, zero_value, KeepsConstants, HasCopy, AllHave, IsWritten, AllWritten, Keeps, IsTop}
 use Rattle.ca_replica.proofs.Beginning.{free_absent}
@@ -52,32 +52,32 @@ field_at c g = record { class = c; field = g }
 -- ---- marks
 
 -- where the mark is free no class has a field that is written
-free_is : (c : ClassId) (z : Option Mark) → mark_in z ≡ Free → IsMarked c z → ⊥
+free_is : (c : ClassId) (z : Option FieldMark) → mark_in z ≡ Free → IsMarked c z → ⊥
 free_is c None e is = is
 free_is c (Some Free) e is = is
 free_is c (Some (Of d)) e is = absurd (cc)
 free_is c (Some Several) e is = absurd (cc)
 
 -- where it is of a class only that one has
-of_is : (c d : ClassId) (z : Option Mark) → mark_in z ≡ Of d → IsMarked c z → c ≡ d
+of_is : (c d : ClassId) (z : Option FieldMark) → mark_in z ≡ Of d → IsMarked c z → c ≡ d
 of_is c d None e is = absurd is
 of_is c d (Some Free) e is = absurd is
 of_is c d (Some (Of b)) e is = let same : b ≡ d = cc in is ∙ same
 of_is c d (Some Several) e is = absurd (cc)
 
 -- a number that isn't marked is that of no field that is written
-pub unmarked : (written : List FieldId) (marks : List Mark) (g : ℕ) → Marks written marks → mark_in (slice_get marks g) ≡ Free → (c : ClassId) → ¬ Contains written (field_at c g)
+pub unmarked : (written : List FieldId) (marks : List FieldMark) (g : ℕ) → Marks written marks → mark_in (slice_get marks g) ≡ Free → (c : ClassId) → ¬ Contains written (field_at c g)
 unmarked written marks g m e c k = free_is c (slice_get marks g) e (m.all (field_at c g) k)
 
 -- where the mark is of a class no other one has such a field
-pub else_class : (written : List FieldId) (marks : List Mark) (g : ℕ) (d : ClassId) → Marks written marks → mark_in (slice_get marks g) ≡ Of d → (c : ClassId) → c.0 ≢ d.0 → ¬ Contains written (field_at c g)
+pub else_class : (written : List FieldId) (marks : List FieldMark) (g : ℕ) (d : ClassId) → Marks written marks → mark_in (slice_get marks g) ≡ Of d → (c : ClassId) → c.0 ≢ d.0 → ¬ Contains written (field_at c g)
 else_class written marks g d m e c ne k = ne (ap (λ (z : ClassId). z.0) (of_is c d (slice_get marks g) e (m.all (field_at c g) k)))
 
 -- a mark is the class of a field that is written
-pub marked_so : (written : List FieldId) (marks : List Mark) (g : ℕ) (c : ClassId) → Marks written marks → mark_in (slice_get marks g) ≡ Of c → Contains written (field_at c g)
+pub marked_so : (written : List FieldId) (marks : List FieldMark) (g : ℕ) (c : ClassId) → Marks written marks → mark_in (slice_get marks g) ≡ Of c → Contains written (field_at c g)
 marked_so written marks g c m e = m.only g c (from (slice_get marks g) e)
   where
-    from : (z : Option Mark) → mark_in z ≡ Of c → z ≡ Some (Of c)
+    from : (z : Option FieldMark) → mark_in z ≡ Of c → z ≡ Some (Of c)
     from None e = absurd (cc)
     from (Some k) e = ap Some e
 
@@ -396,7 +396,7 @@ pub all_have_more : (cs ds : List Changed) (os all : List Put) (o : Put) → ((m
 all_have_more cs ds os all o f is has a = subst (λ z. AllHave z ds) (sym is) (f o.object has, all_have_on cs ds f os a)
 
 -- what is known stays where the sums do
-pub keeps_same : (written : List FieldId) (frozen : List Object) (marks : List Mark) (cs ds : List Changed) (os : List Put) → sums written frozen ds ≡ sums written frozen cs → ((m : ℕ) → HasCopy cs m → HasCopy ds m) → Keeps written frozen marks cs os → Keeps written frozen marks ds os
+pub keeps_same : (written : List FieldId) (frozen : List Object) (marks : List FieldMark) (cs ds : List Changed) (os : List Put) → sums written frozen ds ≡ sums written frozen cs → ((m : ℕ) → HasCopy cs m → HasCopy ds m) → Keeps written frozen marks cs os → Keeps written frozen marks ds os
 keeps_same written frozen marks cs ds os same has k = record {
   marked = k.marked;
   constants = subst (KeepsConstants written frozen) (sym same) k.constants;
@@ -405,7 +405,7 @@ keeps_same written frozen marks cs ds os same has k = record {
 }
 
 -- and behind a put to what is written
-pub keeps_put : (written : List FieldId) (frozen : List Object) (marks : List Mark) (cs mid ds : List Changed) (os all : List Put) (n g i : ℕ) (v : Datum) (b : Bool) → IsWritten written frozen n g
+pub keeps_put : (written : List FieldId) (frozen : List Object) (marks : List FieldMark) (cs mid ds : List Changed) (os all : List Put) (n g i : ℕ) (v : Datum) (b : Bool) → IsWritten written frozen n g
     → sums written frozen mid ≡ sums written frozen cs → ((m : ℕ) → HasCopy cs m → HasCopy mid m) → (b ≡ true → sums written frozen ds ≡ stored (sums written frozen mid) n g i v) → (b ≡ false → ds ≡ mid) → (AllHave os mid → AllHave all ds) → (AllWritten written frozen os → AllWritten written frozen all)
     → Keeps written frozen marks cs os → Keeps written frozen marks ds all
 keeps_put written frozen marks cs mid ds os all n g i v true w same has put not all_there puts k = record {
@@ -422,7 +422,7 @@ keeps_put written frozen marks cs mid ds os all n g i v false w same has put not
 }
 
 -- where a put to a copy is one to what is written, all stays known
-pub keeps_over : (written : List FieldId) (frozen : List Object) (marks : List Mark) (cs ds : List Changed) (os : List Put) (n g i : ℕ) (v : Datum) → sums written frozen ds ≡ stored (sums written frozen cs) n g i v → ((m : ℕ) → HasCopy cs m → HasCopy ds m) → IsWritten written frozen n g
+pub keeps_over : (written : List FieldId) (frozen : List Object) (marks : List FieldMark) (cs ds : List Changed) (os : List Put) (n g i : ℕ) (v : Datum) → sums written frozen ds ≡ stored (sums written frozen cs) n g i v → ((m : ℕ) → HasCopy cs m → HasCopy ds m) → IsWritten written frozen n g
     → Keeps written frozen marks cs os → Keeps written frozen marks ds os
 keeps_over written frozen marks cs ds os n g i v put has w k = record {
   marked = k.marked;
@@ -439,27 +439,27 @@ has_added (Err e) cs mid new n o same is kept m has = subst (λ ds. HasCopy ds m
 -- ---- marks of a list
 
 -- one place more, without a mark
-pub none_more : (xs : List Mark) (n : ℕ) (c : ClassId) → slice_get (xs ++ Free ∷ []) n ≡ Some (Of c) → slice_get xs n ≡ Some (Of c)
+pub none_more : (xs : List FieldMark) (n : ℕ) (c : ClassId) → slice_get (xs ++ Free ∷ []) n ≡ Some (Of c) → slice_get xs n ≡ Some (Of c)
 none_more [] zero c e = cc
 none_more [] (suc n) c e = cc
 none_more (x ∷ xs) zero c e = e
 none_more (x ∷ xs) (suc n) c e = none_more xs n c e
 
-pub marked_on : (xs : List Mark) (m : Mark) (n : ℕ) (c : ClassId) → IsMarked c (slice_get xs n) → IsMarked c (slice_get (xs ++ m ∷ []) n)
+pub marked_on : (xs : List FieldMark) (m : FieldMark) (n : ℕ) (c : ClassId) → IsMarked c (slice_get xs n) → IsMarked c (slice_get (xs ++ m ∷ []) n)
 marked_on [] m zero c is = absurd is
 marked_on [] m (suc n) c is = is
 marked_on (x ∷ xs) m zero c is = is
 marked_on (x ∷ xs) m (suc n) c is = marked_on xs m n c is
 
 -- a mark where there was none
-pub set_kept : (xs : List Mark) (k n : ℕ) (d c : ClassId) → slice_get xs k ≡ Some Free → IsMarked c (slice_get xs n) → IsMarked c (slice_get (slice_set xs k (Of d)) n)
+pub set_kept : (xs : List FieldMark) (k n : ℕ) (d c : ClassId) → slice_get xs k ≡ Some Free → IsMarked c (slice_get xs n) → IsMarked c (slice_get (slice_set xs k (Of d)) n)
 set_kept [] k n d c none is = is
 set_kept (x ∷ xs) zero zero d c none is = absurd (free_is c (Some x) (ap mark_in none) is)
 set_kept (x ∷ xs) zero (suc n) d c none is = is
 set_kept (x ∷ xs) (suc k) zero d c none is = is
 set_kept (x ∷ xs) (suc k) (suc n) d c none is = set_kept xs k n d c none is
 
-pub set_only : (xs : List Mark) (k n : ℕ) (d c : ClassId) → slice_get (slice_set xs k (Of d)) n ≡ Some (Of c) → (slice_get xs n ≡ Some (Of c)) ⊎ ((n ≡ k) × (c ≡ d))
+pub set_only : (xs : List FieldMark) (k n : ℕ) (d c : ClassId) → slice_get (slice_set xs k (Of d)) n ≡ Some (Of c) → (slice_get xs n ≡ Some (Of c)) ⊎ ((n ≡ k) × (c ≡ d))
 set_only [] k n d c e = inl e
 set_only (x ∷ xs) zero zero d c e = inr (refl, let same : d ≡ c = cc in sym same)
 set_only (x ∷ xs) zero (suc n) d c e = inl e
@@ -471,14 +471,14 @@ set_only (x ∷ xs) (suc k) (suc n) d c e = from (set_only xs k n d c e)
     from (inr e) = inr (ap suc e.0, e.1)
 
 -- a mark of several classes
-pub several_kept : (xs : List Mark) (k n : ℕ) (c : ClassId) → IsMarked c (slice_get xs n) → IsMarked c (slice_get (slice_set xs k Several) n)
+pub several_kept : (xs : List FieldMark) (k n : ℕ) (c : ClassId) → IsMarked c (slice_get xs n) → IsMarked c (slice_get (slice_set xs k Several) n)
 several_kept [] k n c is = is
 several_kept (x ∷ xs) zero zero c is = tt
 several_kept (x ∷ xs) zero (suc n) c is = is
 several_kept (x ∷ xs) (suc k) zero c is = is
 several_kept (x ∷ xs) (suc k) (suc n) c is = several_kept xs k n c is
 
-pub several_only : (xs : List Mark) (k n : ℕ) (c : ClassId) → slice_get (slice_set xs k Several) n ≡ Some (Of c) → slice_get xs n ≡ Some (Of c)
+pub several_only : (xs : List FieldMark) (k n : ℕ) (c : ClassId) → slice_get (slice_set xs k Several) n ≡ Some (Of c) → slice_get xs n ≡ Some (Of c)
 several_only [] k n c e = e
 several_only (x ∷ xs) zero zero c e = absurd (cc)
 several_only (x ∷ xs) zero (suc n) c e = e
@@ -486,14 +486,14 @@ several_only (x ∷ xs) (suc k) zero c e = e
 several_only (x ∷ xs) (suc k) (suc n) c e = several_only xs k n c e
 
 -- what is marked so far: each field, or it is still to come, and no others
-pub record MarkedSoFar (fs : List FieldId) (i : ℕ) (marks : List Mark) : Type 0 where
+pub record MarkedSoFar (fs : List FieldId) (i : ℕ) (marks : List FieldMark) : Type 0 where
   pub all : (f : FieldId) → Contains fs f → IsMarked f.class (slice_get marks f.field) ⊎ Contains (drop i fs) f
   pub only : (g : ℕ) (c : ClassId) → slice_get marks g ≡ Some (Of c) → Contains fs (field_at c g)
 
 pub none_marked : (fs : List FieldId) → MarkedSoFar fs 0 []
 none_marked fs = record { all = λ f k. inr k; only = λ g c e. cc }
 
-pub marked_more : (fs : List FieldId) (i : ℕ) (d : FieldId) (old new : List Mark) → i < length fs → d ≡ get_or fs i d → ((n : ℕ) (c : ClassId) → IsMarked c (slice_get old n) → IsMarked c (slice_get new n))
+pub marked_more : (fs : List FieldId) (i : ℕ) (d : FieldId) (old new : List FieldMark) → i < length fs → d ≡ get_or fs i d → ((n : ℕ) (c : ClassId) → IsMarked c (slice_get old n) → IsMarked c (slice_get new n))
     → ((n : ℕ) (c : ClassId) → slice_get new n ≡ Some (Of c) → (slice_get old n ≡ Some (Of c)) ⊎ ((n ≡ d.field) × (c ≡ d.class))) → IsMarked d.class (slice_get new d.field) → MarkedSoFar fs i old → MarkedSoFar fs (i + 1) new
 marked_more fs i d old new lt is kept only marked m = record { all = λ f k. from f (m.all f k); only = λ g c e. back g c (only g c e) }
   where
@@ -511,11 +511,11 @@ marked_more fs i d old new lt is kept only marked m = record { all = λ f k. fro
     back g c (inr e) = subst (λ z. Contains fs z) (sym (ap (λ k. field_at k g) e.1 ∙ ap (λ k. field_at d.class k) e.0)) here
 
 -- the same, where the field is read by its index
-pub marked_more_at : (fs : List FieldId) (i : ℕ) (d : FieldId) (old new : List Mark) → i < length fs → ((n : ℕ) (c : ClassId) → IsMarked c (slice_get old n) → IsMarked c (slice_get new n))
+pub marked_more_at : (fs : List FieldId) (i : ℕ) (d : FieldId) (old new : List FieldMark) → i < length fs → ((n : ℕ) (c : ClassId) → IsMarked c (slice_get old n) → IsMarked c (slice_get new n))
     → ((n : ℕ) (c : ClassId) → slice_get new n ≡ Some (Of c) → (slice_get old n ≡ Some (Of c)) ⊎ ((n ≡ (let z : FieldId = get_or fs i d in z.field)) × (c ≡ (let z : FieldId = get_or fs i d in z.class))))
     → IsMarked (let z : FieldId = get_or fs i d in z.class) (slice_get new (let z : FieldId = get_or fs i d in z.field)) → MarkedSoFar fs i old → MarkedSoFar fs (i + 1) new
 marked_more_at fs i d old new lt = marked_more fs i (get_or fs i d) old new lt (get_or_default fs i d (get_or fs i d) lt)
 
 -- none is to come any more
-pub all_marked : (fs : List FieldId) (i : ℕ) (marks : List Mark) → length fs ≤ i → MarkedSoFar fs i marks → Marks fs marks
+pub all_marked : (fs : List FieldId) (i : ℕ) (marks : List FieldMark) → length fs ≤ i → MarkedSoFar fs i marks → Marks fs marks
 all_marked fs i marks le m = record { all = λ f k. ⊎_elim (λ e. e) (λ b. absurd (has_nothing f (subst (λ z. Contains z f) (drop_all i fs le) b))) (m.all f k); only = m.only }

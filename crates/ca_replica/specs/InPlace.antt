@@ -11,9 +11,9 @@ use Rattle.ca_beside.specs.declared.beside.Changed.{Changed}
 use Rattle.ca_beside.specs.Beside.{IsPlace}
 use Rattle.ca_run.specs.declared.puts.Put.{Put}
 use Rattle.ca_run.specs.Puts.{restored}
-use Rattle.ca_replica.specs.declared.marks.Mark.{Mark}
-use Rattle.ca_replica.specs.declared.marks.Mark.TheVariants.{Free}
-use Rattle.ca_replica.specs.declared.olds.Hand.{Hand}
+use Rattle.ca_replica.specs.declared.marks.FieldMark.{FieldMark}
+use Rattle.ca_replica.specs.declared.marks.FieldMark.TheVariants.{Free}
+use Rattle.ca_replica.specs.declared.olds.LastOld.{LastOld}
 use Rattle.ca_replica.specs.Applied.{sums}
 use Rattle.ca_replica.specs.Calls.{Marks}
 
@@ -23,17 +23,17 @@ pub record Lasting : Type 0 where
   pub program : Program
   pub written : List FieldId
   pub frozen : List Object
-  pub marks : List Mark
+  pub marks : List FieldMark
   pub before : List Object
   pub copies : GName
   pub olds : GName
 
 -- of these
-abbrev pub lasting : Program → List FieldId → List Object → List Mark → List Changed → List Put → GName → GName → Lasting
+abbrev pub lasting : Program → List FieldId → List Object → List FieldMark → List Changed → List Put → GName → GName → Lasting
 lasting p ws frozen marks cs os copies olds = record { program = p; written = ws; frozen = frozen; marks = marks; before = restored os (sums ws frozen cs); copies = copies; olds = olds }
 
 -- the mark that is there
-abbrev pub mark_in : Option Mark → Mark
+abbrev pub mark_in : Option FieldMark → FieldMark
 mark_in None = Free
 mark_in (Some m) = m
 
@@ -68,7 +68,7 @@ AllWritten written frozen [] = Unit {0}
 AllWritten written frozen (o ∷ os) = IsWritten written frozen o.object o.field × AllWritten written frozen os
 
 -- what is known while bodies run
-pub record Keeps (written : List FieldId) (frozen : List Object) (marks : List Mark) (copies : List Changed) (olds : List Put) : Type 0 where
+pub record Keeps (written : List FieldId) (frozen : List Object) (marks : List FieldMark) (copies : List Changed) (olds : List Put) : Type 0 where
   pub marked : Marks written marks
   pub constants : KeepsConstants written frozen (sums written frozen copies)
   pub there : AllHave olds copies
@@ -80,6 +80,6 @@ IsTop [] n f i = ⊥
 IsTop (o ∷ os) n f i = (o.object ≡ n) × (o.field ≡ f) × (o.item ≡ i)
 
 -- what is at hand is the old value that was kept last, and one of a single value
-abbrev pub IsHand : Option Hand → List Put → Type 0
+abbrev pub IsHand : Option LastOld → List Put → Type 0
 IsHand None os = Unit {0}
 IsHand (Some d) os = IsTop os d.object d.field 0

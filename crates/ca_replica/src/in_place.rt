@@ -11,8 +11,9 @@ ghost use Rattle.ca_run.specs.Puts.{restored};
 ghost use Rattle.ca_replica.specs.Applied.{sums};
 ghost use Rattle.ca_replica.specs.InPlace.{AllHave, Keeps};
 
-use crate::marks::{Mark, stays};
-use crate::olds::{Olds, add_at, place_at_hand};
+use crate::ground::Ground;
+use crate::marks::{FieldMark, stays};
+use crate::olds::{OldSums, add_at, place_at_hand};
 use crate::values::{add_any, own_look, own_value, put_sum};
 use ca_base::{Gate, Memory};
 use ca_beside::Beside;
@@ -31,11 +32,9 @@ pub struct InReplica<'s, G: Gate> {
     pub program: &'s Program,
     pub gate: &'s G,
     pub worker: u32,
-    pub extent: &'s Extent,
-    pub frozen: &'s Heap,
-    pub marks: &'s [Mark],
+    pub ground: Ground<'s>,
     pub copies: &'s mut Beside,
-    pub olds: &'s mut Olds,
+    pub olds: &'s mut OldSums,
 }
 
 impl<'s, G: Gate> Access for InReplica<'s, G> {
@@ -49,17 +48,17 @@ impl<'s, G: Gate> Access for InReplica<'s, G> {
 
     ghost Past = { RunWorld };
 
-    ghost world = { λ s past. in_heap past (sums s.extent.now.written s.frozen.now s.copies.now) };
+    ghost world = { λ s past. in_heap past (sums s.ground.extent.now.written s.ground.frozen.now s.copies.now) };
 
     ghost Fixed = { Lasting };
 
-    ghost fixed = { λ s. lasting s.program.now s.extent.now.written s.frozen.now s.marks.now s.copies.now s.olds.now s.copies.ghost_name s.olds.ghost_name };
+    ghost fixed = { λ s. lasting s.program.now s.ground.extent.now.written s.ground.frozen.now s.ground.marks.now s.copies.now s.olds.now s.copies.ghost_name s.olds.ghost_name };
 
     ghost accesses = { λ l. run_access (program_view l.program) };
 
-    ghost Fits = { λ s bs. Keeps s.extent.now.written s.frozen.now s.marks.now s.copies.now s.olds.now };
+    ghost Fits = { λ s bs. Keeps s.ground.extent.now.written s.ground.frozen.now s.ground.marks.now s.copies.now s.olds.now };
 
-    ghost at_hand = { λ s. s.frozen.now };
+    ghost at_hand = { λ s. s.ground.frozen.now };
 
     #[inline(always)]
     fn enters(&self) -> bool {
@@ -79,14 +78,7 @@ impl<'s, G: Gate> Access for InReplica<'s, G> {
     #[inline(always)]
     fn own(&self, this: Value, f: FieldId) -> Option<Value> {
         match this {
-            Value::Ref(n) => Some(own_value(
-                self.marks,
-                self.extent,
-                self.copies,
-                self.frozen,
-                n,
-                f,
-            )),
+            Value::Ref(n) => Some(own_value(&self.ground, self.copies, n, f)),
             Value::Null => Some(Value::Null),
             Value::Long(_) => Some(Value::Null),
             Value::Bool(_) => Some(Value::Null),
@@ -96,7 +88,14 @@ impl<'s, G: Gate> Access for InReplica<'s, G> {
     #[inline(always)]
     fn own_item(&self, this: Value, f: FieldId, index: i64) -> Look {
         match this {
-            Value::Ref(n) => own_look(self.marks, self.extent, self.frozen, n, f, index),
+            Value::Ref(n) => own_look(
+                self.ground.marks,
+                self.ground.extent,
+                self.ground.frozen,
+                n,
+                f,
+                index,
+            ),
             Value::Null => Look::Outside,
             Value::Long(_) => Look::Outside,
             Value::Bool(_) => Look::Outside,
@@ -105,23 +104,27 @@ impl<'s, G: Gate> Access for InReplica<'s, G> {
 
     #[inline(always)]
     fn heap(&self) -> &Heap {
-        self.frozen
+        self.ground.frozen
     }
 
     #[inline(always)]
     fn reads(&self, n: usize, f: FieldId) -> bool {
-        stays(self.marks, self.extent, self.frozen, n, f.field)
+        stays(
+            self.ground.marks,
+            self.ground.extent,
+            self.ground.frozen,
+            n,
+            f.field,
+        )
     }
 
     #[inline(always)]
     fn put(&mut self, this: Value, f: FieldId, item: u32, value: Value) -> bool {
         match this {
             Value::Ref(n) => put_sum(
-                self.marks,
+                &self.ground,
                 self.copies,
                 self.olds,
-                self.extent,
-                self.frozen,
                 n,
                 f.field,
                 item,
@@ -140,16 +143,7 @@ impl<'s, G: Gate> Access for InReplica<'s, G> {
         };
         match place_at_hand(self.olds, self.copies, o, f.field) {
             Some(place) => add_at(self.copies, place, o, f, n),
-            None => add_any(
-                self.marks,
-                self.copies,
-                self.olds,
-                self.extent,
-                self.frozen,
-                o,
-                f,
-                n,
-            ),
+            None => add_any(&self.ground, self.copies, self.olds, o, f, n),
         }
     }
 }
@@ -163,14 +157,14 @@ impl<'s, G: Gate> InReplica<'s, G> {
         worker: u32,
         extent: &'s Extent,
         frozen: &'s Heap,
-        marks: &'s [Mark],
+        marks: &'s [FieldMark],
         copies: &'s mut Beside,
-        olds: &'s mut Olds,
+        olds: &'s mut OldSums,
     ) -> InReplica<'s, G>
         ensures program { result.program.now ≡ program.now }
-        ensures extent { result.extent.now ≡ extent.now }
-        ensures frozen { result.frozen.now ≡ frozen.now }
-        ensures marks { result.marks.now ≡ marks.now }
+        ensures extent { result.ground.extent.now ≡ extent.now }
+        ensures frozen { result.ground.frozen.now ≡ frozen.now }
+        ensures marks { result.ground.marks.now ≡ marks.now }
         ensures copies { result.copies.now ≡ copies.old }
         ensures olds { result.olds.now ≡ olds.old }
         ensures same_copies { result.copies.ghost_name ≡ copies.entry.ghost_name }
@@ -180,9 +174,11 @@ impl<'s, G: Gate> InReplica<'s, G> {
             program,
             gate,
             worker,
-            extent,
-            frozen,
-            marks,
+            ground: Ground {
+                extent,
+                frozen,
+                marks,
+            },
             copies,
             olds,
         }
@@ -201,14 +197,14 @@ fn run_call<G: Gate>(
 ) -> Result<Option<u64>, Memory>
     requires program { ProgramTyped (program_view program.now) }
     requires same { access.old.program.now ≡ program.now }
-    requires heap { TypedHeap (program_view program.now) (sums access.old.extent.now.written access.old.frozen.now access.old.copies.now) }
-    requires typed { WellTyped (program_view program.now) (sums access.old.extent.now.written access.old.frozen.now access.old.copies.now) (invocation_of op.now) }
-    requires keeps { Keeps access.old.extent.now.written access.old.frozen.now access.old.marks.now access.old.copies.now access.old.olds.now }
-    ensures ran { IfOk result (λ still. CallEnds (program_view program.now) (sums access.old.extent.now.written access.old.frozen.now access.old.copies.now) (invocation_of op.now) left (sums access.new.extent.now.written access.new.frozen.now access.new.copies.now) still) }
-    ensures before { restored access.new.olds.now (sums access.new.extent.now.written access.new.frozen.now access.new.copies.now) ≡ restored access.old.olds.now (sums access.old.extent.now.written access.old.frozen.now access.old.copies.now) }
+    requires heap { TypedHeap (program_view program.now) (sums access.old.ground.extent.now.written access.old.ground.frozen.now access.old.copies.now) }
+    requires typed { WellTyped (program_view program.now) (sums access.old.ground.extent.now.written access.old.ground.frozen.now access.old.copies.now) (invocation_of op.now) }
+    requires keeps { Keeps access.old.ground.extent.now.written access.old.ground.frozen.now access.old.ground.marks.now access.old.copies.now access.old.olds.now }
+    ensures ran { IfOk result (λ still. CallEnds (program_view program.now) (sums access.old.ground.extent.now.written access.old.ground.frozen.now access.old.copies.now) (invocation_of op.now) left (sums access.new.ground.extent.now.written access.new.ground.frozen.now access.new.copies.now) still) }
+    ensures before { restored access.new.olds.now (sums access.new.ground.extent.now.written access.new.ground.frozen.now access.new.copies.now) ≡ restored access.old.olds.now (sums access.old.ground.extent.now.written access.old.ground.frozen.now access.old.copies.now) }
     ensures there { AllHave access.new.olds.now access.new.copies.now }
-    ensures same_written { access.new.extent.now.written ≡ access.old.extent.now.written }
-    ensures same_frozen { access.new.frozen.now ≡ access.old.frozen.now }
+    ensures same_written { access.new.ground.extent.now.written ≡ access.old.ground.extent.now.written }
+    ensures same_frozen { access.new.ground.frozen.now ≡ access.old.ground.frozen.now }
     ensures same_copies { access.new.copies.ghost_name ≡ access.old.copies.ghost_name }
     ensures same_olds { access.new.olds.ghost_name ≡ access.old.olds.ghost_name }
 {
@@ -241,9 +237,9 @@ pub(crate) fn run_whole<G: Gate>(
     worker: u32,
     extent: &Extent,
     frozen: &Heap,
-    marks: &[Mark],
+    marks: &[FieldMark],
     copies: &mut Beside,
-    olds: &mut Olds,
+    olds: &mut OldSums,
     frames: &mut Frames,
     op: &Op,
     left: u64,

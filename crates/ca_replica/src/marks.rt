@@ -5,7 +5,7 @@ ghost use Rattle.ca_program.specs.declared.program.ClassId.{ClassId};
 ghost use Rattle.ca_program.specs.declared.program.FieldId.{FieldId};
 ghost use Rattle.ca_model.specs.declared.value.Object.{Object};
 ghost use Rattle.ca_section.specs.Offences.{is_written};
-ghost use Rattle.ca_replica.specs.declared.marks.Mark.TheVariants.{Of};
+ghost use Rattle.ca_replica.specs.declared.marks.FieldMark.TheVariants.{Of};
 ghost use Rattle.ca_replica.specs.Calls.{IsMarked, Marks};
 ghost use Rattle.ca_replica.specs.InPlace.{mark_in};
 
@@ -17,26 +17,26 @@ use std::alloc::{AllocError, Global};
 
 /// Which fields with a number are written: none, those of one class, or of several.
 #[derive(Clone, Copy)]
-pub enum Mark {
+pub enum FieldMark {
     Free,
     Of(ClassId),
     Several,
 }
 
 /// Makes room for so many marks. Those that are there stay, and no others come.
-fn widen(marks: &mut Vec<Mark>, room: usize) -> Result<(), AllocError>
+fn widen(marks: &mut Vec<FieldMark>, room: usize) -> Result<(), AllocError>
     ensures kept { (n : ℕ) (c : ClassId) → IsMarked c (slice_get marks.old.items n) → IsMarked c (slice_get marks.new.items n) }
     ensures only { (n : ℕ) (c : ClassId) → slice_get marks.new.items n ≡ Some (Of c) → slice_get marks.old.items n ≡ Some (Of c) }
     ensures room { IfOk result (λ _. room ≤ length marks.new.items) }
 {
     'places: while marks.len() < room {
-        marks.push(Mark::Free)?;
+        marks.push(FieldMark::Free)?;
     }
     Ok(())
 }
 
 /// Marks a place that has one class with another.
-fn mark_more(marks: &mut Vec<Mark>, place: usize, one: ClassId, class: ClassId)
+fn mark_more(marks: &mut Vec<FieldMark>, place: usize, one: ClassId, class: ClassId)
     requires within { place < length marks.old.items }
     requires there { slice_get marks.old.items place ≡ Some (Of one) }
     ensures kept { (n : ℕ) (c : ClassId) → IsMarked c (slice_get marks.old.items n) → IsMarked c (slice_get marks.new.items n) }
@@ -44,12 +44,12 @@ fn mark_more(marks: &mut Vec<Mark>, place: usize, one: ClassId, class: ClassId)
     ensures marked { IsMarked class (slice_get marks.new.items place) }
 {
     if one.0 != class.0 {
-        marks[place] = Mark::Several;
+        marks[place] = FieldMark::Several;
     }
 }
 
 /// Marks a place with one class more.
-fn mark_at(marks: &mut Vec<Mark>, place: usize, class: ClassId)
+fn mark_at(marks: &mut Vec<FieldMark>, place: usize, class: ClassId)
     requires { place < length marks.old.items }
     ensures kept { (n : ℕ) (c : ClassId) → IsMarked c (slice_get marks.old.items n) → IsMarked c (slice_get marks.new.items n) }
     ensures only { (n : ℕ) (c : ClassId) → slice_get marks.new.items n ≡ Some (Of c) → (slice_get marks.old.items n ≡ Some (Of c)) ⊎ ((n ≡ place) × (c ≡ class)) }
@@ -57,14 +57,14 @@ fn mark_at(marks: &mut Vec<Mark>, place: usize, class: ClassId)
 {
     let there = marks[place];
     match there {
-        Mark::Free => marks[place] = Mark::Of(class),
-        Mark::Of(one) => mark_more(marks, place, one, class),
-        Mark::Several => {}
+        FieldMark::Free => marks[place] = FieldMark::Of(class),
+        FieldMark::Of(one) => mark_more(marks, place, one, class),
+        FieldMark::Several => {}
     }
 }
 
 /// Marks the number of a field.
-fn mark_field(marks: &mut Vec<Mark>, field: FieldId) -> Result<(), AllocError>
+fn mark_field(marks: &mut Vec<FieldMark>, field: FieldId) -> Result<(), AllocError>
     ensures kept { IfOk result (λ _. (n : ℕ) (c : ClassId) → IsMarked c (slice_get marks.old.items n) → IsMarked c (slice_get marks.new.items n)) }
     ensures only { IfOk result (λ _. (n : ℕ) (c : ClassId) → slice_get marks.new.items n ≡ Some (Of c) → (slice_get marks.old.items n ≡ Some (Of c)) ⊎ ((n ≡ field.field) × (c ≡ field.class))) }
     ensures marked { IfOk result (λ _. IsMarked field.class (slice_get marks.new.items field.field)) }
@@ -76,7 +76,7 @@ fn mark_field(marks: &mut Vec<Mark>, field: FieldId) -> Result<(), AllocError>
 }
 
 /// Marks the number of each field of a list.
-fn mark_all(alloc: Global, fields: &[FieldId]) -> Result<Vec<Mark>, AllocError>
+fn mark_all(alloc: Global, fields: &[FieldId]) -> Result<Vec<FieldMark>, AllocError>
     ensures { IfOk result (λ marks. Marks fields.now marks.items) }
 {
     let mut marks = Vec::new(alloc);
@@ -87,7 +87,7 @@ fn mark_all(alloc: Global, fields: &[FieldId]) -> Result<Vec<Mark>, AllocError>
 }
 
 /// Marks the number of each field that an extent writes.
-pub fn marks_of(alloc: Global, extent: &Extent) -> Result<Vec<Mark>, AllocError>
+pub fn marks_of(alloc: Global, extent: &Extent) -> Result<Vec<FieldMark>, AllocError>
     ensures { IfOk result (λ marks. Marks extent.now.written marks.items) }
 {
     mark_all(alloc, extent.written())
@@ -95,7 +95,7 @@ pub fn marks_of(alloc: Global, extent: &Extent) -> Result<Vec<Mark>, AllocError>
 
 /// What stands at a number.
 #[inline(always)]
-fn mark_there(marks: &[Mark], number: u32) -> Option<Mark>
+fn mark_there(marks: &[FieldMark], number: u32) -> Option<FieldMark>
     ensures { result ≡ slice_get marks.now number }
 {
     marks.get(number as usize).copied()
@@ -103,12 +103,12 @@ fn mark_there(marks: &[Mark], number: u32) -> Option<Mark>
 
 /// The mark at a number.
 #[inline(always)]
-fn mark_of(marks: &[Mark], number: u32) -> Mark
+fn mark_of(marks: &[FieldMark], number: u32) -> FieldMark
     ensures { result ≡ mark_in (slice_get marks.now number) }
 {
     match mark_there(marks, number) {
         Some(mark) => mark,
-        None => Mark::Free,
+        None => FieldMark::Free,
     }
 }
 
@@ -147,6 +147,7 @@ fn is_else(frozen: &Heap, n: usize, class: ClassId) -> bool
 }
 
 /// Whether no field with this number is written, of the class of object n, if there is one.
+#[cold]
 #[inline(never)]
 fn is_of_none(extent: &Extent, frozen: &Heap, n: usize, field: u32) -> bool
     ensures { result ≡ true → (o : Object) → slice_get frozen.now n ≡ Some o → ¬ Contains extent.now.written (record { class = o.class; field = field }) }
@@ -160,51 +161,113 @@ fn is_of_none(extent: &Extent, frozen: &Heap, n: usize, field: u32) -> bool
 /// Whether the field of object n is surely none that is written, where there is such an object. It is told at once where the fields
 /// with its number that are written are of one class.
 #[inline(always)]
-pub(crate) fn stays(marks: &[Mark], extent: &Extent, frozen: &Heap, n: usize, field: u32) -> bool
+pub(crate) fn stays(
+    marks: &[FieldMark],
+    extent: &Extent,
+    frozen: &Heap,
+    n: usize,
+    field: u32,
+) -> bool
     ensures { result ≡ true → Marks extent.now.written marks.now → (o : Object) → slice_get frozen.now n ≡ Some o → ¬ Contains extent.now.written (record { class = o.class; field = field }) }
 {
     match mark_of(marks, field) {
-        Mark::Free => true,
-        Mark::Of(class) => is_else(frozen, n, class),
-        Mark::Several => is_of_none(extent, frozen, n, field),
+        FieldMark::Free => true,
+        FieldMark::Of(class) => is_else(frozen, n, class),
+        FieldMark::Several => is_of_none(extent, frozen, n, field),
     }
 }
 
-/// The same, where the fields with its number that are written are of one class, or there are none.
+/// Whether a class is another one.
 #[inline(always)]
-pub(crate) fn stays_at_once(marks: &[Mark], frozen: &Heap, n: usize, field: u32) -> bool
-    ensures { result ≡ true → (written : List FieldId) → Marks written marks.now → (o : Object) → slice_get frozen.now n ≡ Some o → ¬ Contains written (record { class = o.class; field = field }) }
+fn is_other(one: ClassId, class: ClassId) -> bool
+    ensures { result ≡ true → class.0 ≢ one.0 }
+{
+    if one.0 == class.0 {
+        return false;
+    }
+    true
+}
+
+/// Whether a field is surely none that is written, where those with its number that are written are of one class, or there are none.
+#[inline(always)]
+fn is_free(marks: &[FieldMark], class: ClassId, field: u32) -> bool
+    ensures { result ≡ true → (written : List FieldId) → Marks written marks.now → ¬ Contains written (record { class = class; field = field }) }
 {
     match mark_of(marks, field) {
-        Mark::Free => true,
-        Mark::Of(class) => is_else(frozen, n, class),
-        Mark::Several => false,
+        FieldMark::Free => true,
+        FieldMark::Of(one) => is_other(one, class),
+        FieldMark::Several => false,
     }
+}
+
+// Whether there is such an object is asked first, as those ask who read it then: so it is asked once.
+/// The same of object n, where there is such an object.
+#[inline(always)]
+pub(crate) fn stays_at_once(marks: &[FieldMark], frozen: &Heap, n: u32, field: u32) -> bool
+    ensures { result ≡ true → (written : List FieldId) → Marks written marks.now → (o : Object) → slice_get frozen.now n ≡ Some o → ¬ Contains written (record { class = o.class; field = field }) }
+{
+    if n >= frozen.len() {
+        return true;
+    }
+    let class = frozen.get(n).class;
+    is_free(marks, class, field)
+}
+
+/// Whether the field of object n is surely none that is written, where there is such an object, told out of line.
+#[cold]
+#[inline(never)]
+fn stays_slowly(marks: &[FieldMark], extent: &Extent, frozen: &Heap, n: u32, field: u32) -> bool
+    ensures { result ≡ true → Marks extent.now.written marks.now → (o : Object) → slice_get frozen.now n ≡ Some o → ¬ Contains extent.now.written (record { class = o.class; field = field }) }
+{
+    stays(marks, extent, frozen, n as usize, field)
+}
+
+/// The same, at once where it can be.
+#[inline(always)]
+pub(crate) fn stays_first(
+    marks: &[FieldMark],
+    extent: &Extent,
+    frozen: &Heap,
+    n: u32,
+    field: u32,
+) -> bool
+    ensures { result ≡ true → Marks extent.now.written marks.now → (o : Object) → slice_get frozen.now n ≡ Some o → ¬ Contains extent.now.written (record { class = o.class; field = field }) }
+{
+    if stays_at_once(marks, frozen, n, field) {
+        return true;
+    }
+    stays_slowly(marks, extent, frozen, n, field)
 }
 
 /// Whether the field of object n is surely one that is written. It is told at once where the fields with its number that are written
 /// are of one class.
 #[inline(always)]
-pub(crate) fn is_put(marks: &[Mark], extent: &Extent, frozen: &Heap, n: u32, field: u32) -> bool
+pub(crate) fn is_put(
+    marks: &[FieldMark],
+    extent: &Extent,
+    frozen: &Heap,
+    n: u32,
+    field: u32,
+) -> bool
     requires { n < length frozen.now }
     ensures { result ≡ true → Marks extent.now.written marks.now → (o : Object) → slice_get frozen.now n ≡ Some o → Contains extent.now.written (record { class = o.class; field = field }) }
 {
     match mark_of(marks, field) {
-        Mark::Free => false,
-        Mark::Of(class) => is_class(frozen, n as usize, class),
-        Mark::Several => is_of(extent, frozen, n as usize, field),
+        FieldMark::Free => false,
+        FieldMark::Of(class) => is_class(frozen, n as usize, class),
+        FieldMark::Several => is_of(extent, frozen, n as usize, field),
     }
 }
 
 /// The same, where the fields with its number that are written are of one class.
 #[inline(always)]
-pub(crate) fn is_put_at_once(marks: &[Mark], frozen: &Heap, n: u32, field: u32) -> bool
+pub(crate) fn is_put_at_once(marks: &[FieldMark], frozen: &Heap, n: u32, field: u32) -> bool
     requires { n < length frozen.now }
     ensures { result ≡ true → (written : List FieldId) → Marks written marks.now → (o : Object) → slice_get frozen.now n ≡ Some o → Contains written (record { class = o.class; field = field }) }
 {
     match mark_of(marks, field) {
-        Mark::Free => false,
-        Mark::Of(class) => is_class(frozen, n as usize, class),
-        Mark::Several => false,
+        FieldMark::Free => false,
+        FieldMark::Of(class) => is_class(frozen, n as usize, class),
+        FieldMark::Several => false,
     }
 }

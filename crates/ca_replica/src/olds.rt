@@ -11,7 +11,7 @@ ghost use Rattle.ca_beside.specs.Beside.{present, IsPlace};
 ghost use Rattle.ca_run.specs.declared.puts.Put.{Put};
 ghost use Rattle.ca_run.specs.Puts.{restored};
 ghost use Rattle.ca_steps.specs.Telling.{Adds};
-ghost use Rattle.ca_replica.specs.declared.marks.Mark.{Mark};
+ghost use Rattle.ca_replica.specs.declared.marks.FieldMark.{FieldMark};
 ghost use Rattle.ca_replica.specs.InPlace.{IsHand, IsTop, IsWritten, Keeps};
 
 use crate::values::one_of;
@@ -25,7 +25,7 @@ use std::marker::Model;
 
 /// The field of an object whose old value was kept last, and where its copy stood.
 #[derive(Clone, Copy)]
-pub struct Hand {
+pub struct LastOld {
     pub object: u32,
     pub field: u32,
     pub place: usize,
@@ -33,12 +33,12 @@ pub struct Hand {
 
 /// Old values, the last one first.
 #[derive(Drop)]
-pub struct Olds {
+pub struct OldSums {
     puts: Puts,
-    hand: Option<Hand>,
+    hand: Option<LastOld>,
 }
 
-impl Model for Olds {
+impl Model for OldSums {
     ghost use Rattle.std.specs.Prelude.{List};
     ghost use Rattle.ca_run.specs.declared.puts.Put.{Put};
     ghost use Rattle.ca_replica.specs.InPlace.{IsHand};
@@ -52,11 +52,11 @@ impl Model for Olds {
 
 /// An old value, if it is of a single value, and the place of its copy.
 #[inline(always)]
-fn hand_of(old: Put, place: usize) -> Option<Hand>
+fn hand_of(old: Put, place: usize) -> Option<LastOld>
     ensures { (os : List Put) → IsHand result (old ∷ os) }
 {
     if old.item == 0 {
-        return Some(Hand {
+        return Some(LastOld {
             object: old.object,
             field: old.field,
             place,
@@ -83,12 +83,12 @@ fn add_to(puts: &mut Puts, old: Put) -> bool
     puts.push(again)
 }
 
-impl Olds {
+impl OldSums {
     /// None. It takes no memory.
-    pub fn new(alloc: Global) -> Olds
+    pub fn new(alloc: Global) -> OldSums
         ensures { result ≡ [] }
     {
-        Olds {
+        OldSums {
             puts: Puts::new(alloc),
             hand: None,
         }
@@ -173,7 +173,7 @@ fn holds(copies: &Beside, place: usize, n: u32) -> bool
 
 /// The place of the copy of object n, if the old value that was kept last is that of this field.
 #[inline(always)]
-pub(crate) fn place_at_hand(olds: &Olds, copies: &Beside, n: u32, field: u32) -> Option<usize>
+pub(crate) fn place_at_hand(olds: &OldSums, copies: &Beside, n: u32, field: u32) -> Option<usize>
     ensures { IfSome result (λ place. IsTop olds.now n field 0 × IsPlace copies.now place n) }
 {
     let Some(place) = olds.at_hand(n, field) else {
@@ -199,7 +199,7 @@ pub(crate) fn add_at(
     ensures put { IfSome result (λ m. (h : List Object) → present h copies.new ≡ stored (present h copies.old) n f.field 0 (Long m)) }
     // Where an old value of it was kept last, putting back gives what it gave before.
     ensures over { (olds : List Put) (h : List Object) → IsTop olds n f.field 0 → restored olds (present h copies.new) ≡ restored olds (present h copies.old) }
-    ensures keeps { (written : List FieldId) (frozen : List Object) (marks : List Mark) (olds : List Put) → IsWritten written frozen n f.field → Keeps written frozen marks copies.old olds → Keeps written frozen marks copies.new olds }
+    ensures keeps { (written : List FieldId) (frozen : List Object) (marks : List FieldMark) (olds : List Put) → IsWritten written frozen n f.field → Keeps written frozen marks copies.old olds → Keeps written frozen marks copies.new olds }
 {
     copies.know_apart();
     let object = copies.object_at(place);

@@ -14,8 +14,8 @@ ghost use Rattle.ca_replica.specs.Zeroed.{zeroed_heap};
 
 use crate::adding::{add_copies, take_copies};
 use crate::in_place::run_whole;
-use crate::marks::Mark;
-use crate::olds::Olds;
+use crate::marks::FieldMark;
+use crate::olds::OldSums;
 use crate::values::put_all_back;
 use crate::zeroing::zero;
 use ca_base::{Gate, Memory};
@@ -37,7 +37,7 @@ pub struct Replica {
 #[derive(Drop)]
 pub struct Bench {
     pub(crate) frames: Frames,
-    pub(crate) olds: Olds,
+    pub(crate) olds: OldSums,
 }
 
 impl Bench {
@@ -45,7 +45,7 @@ impl Bench {
     pub fn new(alloc: Global) -> Bench {
         Bench {
             frames: Frames::none(alloc),
-            olds: Olds::new(alloc),
+            olds: OldSums::new(alloc),
         }
     }
 }
@@ -180,7 +180,7 @@ impl Replica {
     pub fn complete<G: Gate>(
         &mut self,
         bench: &mut Bench,
-        marks: &[Mark],
+        marks: &[FieldMark],
         alloc: Global,
         program: &Coded<'_>,
         extent: &Extent,

@@ -16,8 +16,9 @@ ghost use Rattle.ca_replica.specs.InPlace.{AllHave, AllWritten, HasCopy, IsWritt
 ghost use Rattle.ca_replica.specs.Zeroed.{zeroed};
 
 use crate::deciding::is_written;
-use crate::marks::{Mark, is_put, is_put_at_once, stays, stays_at_once};
-use crate::olds::Olds;
+use crate::ground::Ground;
+use crate::marks::{FieldMark, is_put, is_put_at_once, stays, stays_at_once, stays_first};
+use crate::olds::OldSums;
 use crate::replica::place_of;
 use ca_beside::Beside;
 use ca_extent::Extent;
@@ -79,45 +80,42 @@ fn value_in(copies: &Beside, written: &[FieldId], frozen: &Heap, n: u32, f: Fiel
 }
 
 /// The single value of a field of object n, as the sums have it, read in the frozen heap where it surely isn't written.
+#[cold]
 #[inline(never)]
-fn any_value(
-    marks: &[Mark],
-    extent: &Extent,
-    copies: &Beside,
-    frozen: &Heap,
-    n: u32,
-    f: FieldId,
-) -> Value
-    ensures { (olds : List Put) → Keeps extent.now.written frozen.now marks.now copies.now olds → result ≡ one_in (slot_of (sums extent.now.written frozen.now copies.now) n f) }
+fn any_value(ground: &Ground<'_>, copies: &Beside, n: u32, f: FieldId) -> Value
+    ensures { (olds : List Put) → Keeps ground.now.extent.now.written ground.now.frozen.now ground.now.marks.now copies.now olds → result ≡ one_in (slot_of (sums ground.now.extent.now.written ground.now.frozen.now copies.now) n f) }
 {
-    if stays(marks, extent, frozen, n as usize, f.field) {
+    let frozen = ground.frozen;
+    if stays(ground.marks, ground.extent, frozen, n as usize, f.field) {
         return field_of(frozen, n, f);
     }
-    value_in(copies, extent.written(), frozen, n, f)
+    value_in(copies, ground.extent.written(), frozen, n, f)
+}
+
+/// The same. Room for the value is made here, so none is made where it is told at once.
+#[inline(always)]
+fn own_slowly(ground: &Ground<'_>, copies: &Beside, n: u32, f: FieldId) -> Value
+    ensures { (olds : List Put) → Keeps ground.now.extent.now.written ground.now.frozen.now ground.now.marks.now copies.now olds → result ≡ one_in (slot_of (sums ground.now.extent.now.written ground.now.frozen.now copies.now) n f) }
+{
+    any_value(ground, copies, n, f)
 }
 
 /// The same, told at once where it can be.
 #[inline(always)]
-pub(crate) fn own_value(
-    marks: &[Mark],
-    extent: &Extent,
-    copies: &Beside,
-    frozen: &Heap,
-    n: u32,
-    f: FieldId,
-) -> Value
-    ensures { (olds : List Put) → Keeps extent.now.written frozen.now marks.now copies.now olds → result ≡ one_in (slot_of (sums extent.now.written frozen.now copies.now) n f) }
+pub(crate) fn own_value(ground: &Ground<'_>, copies: &Beside, n: u32, f: FieldId) -> Value
+    ensures { (olds : List Put) → Keeps ground.now.extent.now.written ground.now.frozen.now ground.now.marks.now copies.now olds → result ≡ one_in (slot_of (sums ground.now.extent.now.written ground.now.frozen.now copies.now) n f) }
 {
-    if stays_at_once(marks, frozen, n as usize, f.field) {
+    let frozen = ground.frozen;
+    if stays_at_once(ground.marks, frozen, n, f.field) {
         return field_of(frozen, n, f);
     }
-    any_value(marks, extent, copies, frozen, n, f)
+    own_slowly(ground, copies, n, f)
 }
 
 /// What an index finds in a field of object n, if the extent surely doesn't write it.
 #[inline(always)]
 pub(crate) fn own_look(
-    marks: &[Mark],
+    marks: &[FieldMark],
     extent: &Extent,
     frozen: &Heap,
     n: u32,
@@ -126,7 +124,7 @@ pub(crate) fn own_look(
 ) -> Look
     ensures { (copies : List Changed) (olds : List Put) → Keeps extent.now.written frozen.now marks.now copies olds → (line k : ℕ) → Looks line (slot_of (sums extent.now.written frozen.now copies) n f) index k result }
 {
-    if stays(marks, extent, frozen, n as usize, f.field) {
+    if stays_first(marks, extent, frozen, n, f.field) {
         return look_at(frozen, n, f, index);
     }
     Look::Unknown
@@ -137,7 +135,7 @@ pub(crate) fn own_look(
 #[inline(always)]
 fn put_at(
     copies: &mut Beside,
-    olds: &mut Olds,
+    olds: &mut OldSums,
     place: usize,
     n: u32,
     field: u32,
@@ -172,29 +170,28 @@ fn put_at(
 
 /// Puts a value into an item of a field of object n that is written, in its copy, which is made where there is none, and keeps the
 /// old value. Whatever comes of it, putting back gives what it gave before.
+#[cold]
 #[inline(never)]
 pub(crate) fn put_sum(
-    marks: &[Mark],
+    ground: &Ground<'_>,
     copies: &mut Beside,
-    olds: &mut Olds,
-    extent: &Extent,
-    frozen: &Heap,
+    olds: &mut OldSums,
     n: u32,
     field: u32,
     item: u32,
     value: Value,
 ) -> bool
-    ensures put { result ≡ true → sums extent.now.written frozen.now copies.new ≡ stored (sums extent.now.written frozen.now copies.old) n field item value }
-    ensures before { restored olds.new (sums extent.now.written frozen.now copies.new) ≡ restored olds.old (sums extent.now.written frozen.now copies.old) }
-    ensures keeps { Keeps extent.now.written frozen.now marks.now copies.old olds.old → Keeps extent.now.written frozen.now marks.now copies.new olds.new }
+    ensures put { result ≡ true → sums ground.now.extent.now.written ground.now.frozen.now copies.new ≡ stored (sums ground.now.extent.now.written ground.now.frozen.now copies.old) n field item value }
+    ensures before { restored olds.new (sums ground.now.extent.now.written ground.now.frozen.now copies.new) ≡ restored olds.old (sums ground.now.extent.now.written ground.now.frozen.now copies.old) }
+    ensures keeps { Keeps ground.now.extent.now.written ground.now.frozen.now ground.now.marks.now copies.old olds.old → Keeps ground.now.extent.now.written ground.now.frozen.now ground.now.marks.now copies.new olds.new }
 {
-    if n >= frozen.len() {
+    if n >= ground.frozen.len() {
         return false;
     }
-    if !is_put(marks, extent, frozen, n, field) {
+    if !is_put(ground.marks, ground.extent, ground.frozen, n, field) {
         return false;
     }
-    let Ok(place) = place_of(copies, extent, frozen, n) else {
+    let Ok(place) = place_of(copies, ground.extent, ground.frozen, n) else {
         return false;
     };
     put_at(copies, olds, place, n, field, item, value)
@@ -202,29 +199,28 @@ pub(crate) fn put_sum(
 
 /// Adds a number to that of a field of object n that is written, in its copy, which is made where there is none, tells the sum, and
 /// keeps the old number. Whatever comes of it, putting back gives what it gave before.
+#[cold]
 #[inline(never)]
 fn add_sum(
-    marks: &[Mark],
+    ground: &Ground<'_>,
     copies: &mut Beside,
-    olds: &mut Olds,
-    extent: &Extent,
-    frozen: &Heap,
+    olds: &mut OldSums,
     n: u32,
     f: FieldId,
     more: i64,
 ) -> Option<i64>
-    ensures adds { IfSome result (λ m. Adds (one_in (slot_of (sums extent.now.written frozen.now copies.old) n f)) more m) }
-    ensures put { IfSome result (λ m. sums extent.now.written frozen.now copies.new ≡ stored (sums extent.now.written frozen.now copies.old) n f.field 0 (Long m)) }
-    ensures before { restored olds.new (sums extent.now.written frozen.now copies.new) ≡ restored olds.old (sums extent.now.written frozen.now copies.old) }
-    ensures keeps { Keeps extent.now.written frozen.now marks.now copies.old olds.old → Keeps extent.now.written frozen.now marks.now copies.new olds.new }
+    ensures adds { IfSome result (λ m. Adds (one_in (slot_of (sums ground.now.extent.now.written ground.now.frozen.now copies.old) n f)) more m) }
+    ensures put { IfSome result (λ m. sums ground.now.extent.now.written ground.now.frozen.now copies.new ≡ stored (sums ground.now.extent.now.written ground.now.frozen.now copies.old) n f.field 0 (Long m)) }
+    ensures before { restored olds.new (sums ground.now.extent.now.written ground.now.frozen.now copies.new) ≡ restored olds.old (sums ground.now.extent.now.written ground.now.frozen.now copies.old) }
+    ensures keeps { Keeps ground.now.extent.now.written ground.now.frozen.now ground.now.marks.now copies.old olds.old → Keeps ground.now.extent.now.written ground.now.frozen.now ground.now.marks.now copies.new olds.new }
 {
-    if n >= frozen.len() {
+    if n >= ground.frozen.len() {
         return None;
     }
-    if !is_put(marks, extent, frozen, n, f.field) {
+    if !is_put(ground.marks, ground.extent, ground.frozen, n, f.field) {
         return None;
     }
-    let Ok(place) = place_of(copies, extent, frozen, n) else {
+    let Ok(place) = place_of(copies, ground.extent, ground.frozen, n) else {
         return None;
     };
     copies.know_apart();
@@ -244,9 +240,9 @@ fn add_sum(
 /// The same where nothing has to be made or sought: there is a copy, and room for the old number. Else all stays as it is.
 #[inline(always)]
 fn add_at_once(
-    marks: &[Mark],
+    marks: &[FieldMark],
     copies: &mut Beside,
-    olds: &mut Olds,
+    olds: &mut OldSums,
     frozen: &Heap,
     n: u32,
     f: FieldId,
@@ -287,27 +283,27 @@ fn add_at_once(
     Some(sum)
 }
 
+// Whatever the loop that runs instructions calls is cold to it, as in the heap itself: so its registers aren't chosen for a call.
 /// The same in any case.
+#[cold]
 #[inline(never)]
 pub(crate) fn add_any(
-    marks: &[Mark],
+    ground: &Ground<'_>,
     copies: &mut Beside,
-    olds: &mut Olds,
-    extent: &Extent,
-    frozen: &Heap,
+    olds: &mut OldSums,
     n: u32,
     f: FieldId,
     more: i64,
 ) -> Option<i64>
-    ensures adds { IfSome result (λ m. Adds (one_in (slot_of (sums extent.now.written frozen.now copies.old) n f)) more m) }
-    ensures put { IfSome result (λ m. sums extent.now.written frozen.now copies.new ≡ stored (sums extent.now.written frozen.now copies.old) n f.field 0 (Long m)) }
-    ensures before { restored olds.new (sums extent.now.written frozen.now copies.new) ≡ restored olds.old (sums extent.now.written frozen.now copies.old) }
-    ensures keeps { Keeps extent.now.written frozen.now marks.now copies.old olds.old → Keeps extent.now.written frozen.now marks.now copies.new olds.new }
+    ensures adds { IfSome result (λ m. Adds (one_in (slot_of (sums ground.now.extent.now.written ground.now.frozen.now copies.old) n f)) more m) }
+    ensures put { IfSome result (λ m. sums ground.now.extent.now.written ground.now.frozen.now copies.new ≡ stored (sums ground.now.extent.now.written ground.now.frozen.now copies.old) n f.field 0 (Long m)) }
+    ensures before { restored olds.new (sums ground.now.extent.now.written ground.now.frozen.now copies.new) ≡ restored olds.old (sums ground.now.extent.now.written ground.now.frozen.now copies.old) }
+    ensures keeps { Keeps ground.now.extent.now.written ground.now.frozen.now ground.now.marks.now copies.old olds.old → Keeps ground.now.extent.now.written ground.now.frozen.now ground.now.marks.now copies.new olds.new }
 {
-    let sum = add_at_once(marks, copies, olds, frozen, n, f, more);
+    let sum = add_at_once(ground.marks, copies, olds, ground.frozen, n, f, more);
     match sum {
         Some(_) => sum,
-        None => add_sum(marks, copies, olds, extent, frozen, n, f, more),
+        None => add_sum(ground, copies, olds, n, f, more),
     }
 }
 
@@ -337,7 +333,7 @@ fn put_back(copies: &mut Beside, old: Put)
 }
 
 /// Puts all old values back into copies, the last one first, and forgets them. It takes no memory.
-pub(crate) fn put_all_back(copies: &mut Beside, olds: &mut Olds)
+pub(crate) fn put_all_back(copies: &mut Beside, olds: &mut OldSums)
     requires { AllHave olds.old copies.old }
     ensures { (h : List Object) → present h copies.new ≡ restored olds.old (present h copies.old) }
 {

@@ -9,7 +9,7 @@ ghost use Rattle.ca_deques.specs.Thieves.{owner_key, key_of, taken_by_thief};
 ghost use Rattle.ca_sum_pool.specs.Parts.{begun, next_task, taken_of, Took};
 
 use crate::callers::is_one;
-use crate::performing::Patience;
+use crate::performing::WholeCalls;
 use ca_deques::taking::{keep, open_some, take_any};
 use ca_deques::{Owner, Round, Thieves};
 use ca_logs::Task;
@@ -224,7 +224,7 @@ fn open_now_and_then<N: Round>(owner: &mut Owner<N>, share: &mut Vec<Task>)
 /// or its list has more to run, so that nobody waits for these, or where one was done so: the next one is soon done, too.
 #[inline]
 pub fn runs_whole(
-    patience: Patience,
+    patience: WholeCalls,
     share: &Vec<Task>,
     at: usize,
     end: usize,

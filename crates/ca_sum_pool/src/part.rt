@@ -15,7 +15,7 @@ ghost use Rattle.ca_sum_pool.specs.Parts.{Sound, begun, setting_of};
 use crate::callers::callers_of;
 use crate::counting::{add_steps, one_more};
 use crate::next::{runs_whole, take_next};
-use crate::performing::{PATIENCE, Patience, Stuck, Sums, Turn, perform};
+use crate::performing::{PATIENCE, Stuck, Sums, Turn, WholeCalls, perform};
 use ca_base::Gate;
 use ca_deques::{Owner, Round, Thieves};
 use ca_extent::Extent;
@@ -23,7 +23,7 @@ use ca_logs::Task;
 use ca_model::Heap;
 use ca_parallel::Op;
 use ca_program::OpId;
-use ca_replica::{Bench, Mark, Replica, marks_of};
+use ca_replica::{Bench, FieldMark, Replica, marks_of};
 use ca_sections::{Coded, Desk};
 use std::alloc::Global;
 use std::marker::{Model, PhantomData};
@@ -172,14 +172,14 @@ impl<N: Round, K: Sums> Part<N, K> {
         &mut self,
         desk: &mut Desk,
         bench: &mut Bench,
-        marks: &[Mark],
+        marks: &[FieldMark],
         callers: &[OpId],
         program: &Coded<'_>,
         extent: &Extent,
         frozen: &Heap,
         gate: &G,
         listed: &[Op],
-        patience: &mut Patience,
+        patience: &mut WholeCalls,
         room: &mut Vec<Op>,
     ) -> bool
         requires marks { Marks extent.now.written marks.now }
@@ -252,7 +252,7 @@ impl<N: Round, K: Sums> Part<N, K> {
     fn run_quota<G: Gate>(
         &mut self,
         desk: &mut Desk,
-        marks: &[Mark],
+        marks: &[FieldMark],
         callers: &[OpId],
         program: &Coded<'_>,
         extent: &Extent,

@@ -23,7 +23,7 @@ use ca_extent::Extent;
 use ca_logs::{Stop, Task};
 use ca_model::Heap;
 use ca_parallel::Op;
-use ca_replica::{Bench, Mark, Replica};
+use ca_replica::{Bench, FieldMark, Replica};
 use ca_sections::{Coded, Desk, SectionAnswer};
 use std::alloc::Global;
 use std::marker::Brand;
@@ -112,13 +112,13 @@ pub enum Turn {
 
 /// How a worker runs calls with all that they lead to in a round: within so many steps each, and whether one was done so.
 #[derive(Clone, Copy)]
-pub struct Patience {
+pub struct WholeCalls {
     pub steps: u64,
     pub went: bool,
 }
 
 /// What a worker begins with.
-pub const PATIENCE: Patience = Patience {
+pub const PATIENCE: WholeCalls = WholeCalls {
     steps: 16_384,
     went: false,
 };
@@ -128,7 +128,7 @@ pub const PATIENCE: Patience = Patience {
 fn run_whole<G: Gate>(
     whole: bool,
     bench: &mut Bench,
-    marks: &[Mark],
+    marks: &[FieldMark],
     alloc: Global,
     program: &Coded<'_>,
     extent: &Extent,
@@ -136,7 +136,7 @@ fn run_whole<G: Gate>(
     gate: &G,
     worker: u32,
     replica: &mut Replica,
-    patience: &mut Patience,
+    patience: &mut WholeCalls,
     left: u64,
     op: &Op,
     after: u64,
@@ -173,7 +173,7 @@ pub fn perform<'f, N: Round, G: Gate>(
     alloc: Global,
     desk: &mut Desk,
     bench: &mut Bench,
-    marks: &[Mark],
+    marks: &[FieldMark],
     program: &Coded<'_>,
     extent: &Extent,
     frozen: &Heap,
@@ -183,7 +183,7 @@ pub fn perform<'f, N: Round, G: Gate>(
     replica: &mut Replica,
     share: &mut Vec<Task>,
     whole: bool,
-    patience: &mut Patience,
+    patience: &mut WholeCalls,
     left: u64,
     room: &mut Vec<Op>,
     next: Next<'f>,

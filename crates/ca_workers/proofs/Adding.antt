@@ -1,6 +1,6 @@
 -- A round of replicas, as a run of the pending machine.
 use Rattle.std.proofs.Common.{◌≡◌, ◌≢◌, ◌≤◌, ◌<◌, ◌-◌, ℕ, zero, suc, true, List, [], ◌∷◌, ◌++◌, All, Option, Some, None, length, refl, ap, sym, subst, ◌∙◌, arith}
-use Rattle.std.specs.Prelude.{slice_get, Contains, cond, is_some, is_none}
+use Rattle.std.specs.Prelude.{slice_get, Contains, is_some}
 use Rattle.std.proofs.lemmas.List.{map-append, length-map}
 use Rattle.std.proofs.lemmas.List.Elements.{Contains-append_left, Contains-append_right, Contains-push}
 use mathlib.Core.Logic.{dite}
@@ -29,6 +29,7 @@ use Rattle.ca_logs.specs.Entries.{ran_in, stuck_in, tasks_in, call_of, task_call
 use Rattle.ca_logs.specs.LogOrder.{ordered}
 use Rattle.ca_logs.specs.Laws.{steps_of}
 use Rattle.ca_logs.proofs.Orders.{weight_ordered}
+use Rattle.ca_logs.proofs.Paths.{keeps_ran}
 use Rattle.ca_pool.proofs.OneMore.{counted}
 use Rattle.ca_run.specs.Turns.{RanTo}
 use Rattle.ca_sum_laws.specs.Summed.{HasOnlySums}
@@ -45,7 +46,7 @@ use Rattle.ca_sum_pool.specs.declared.round.SummedRound.{SummedRound}
 use Rattle.ca_sum_pool.specs.Rounded.{IsStop, IsSum, first_stop, copies_in, StopsThere, Rounded}
 use Rattle.ca_workers.specs.clauses.Runs.{IsSetting, MayWait, NoneWithin}
 use Rattle.ca_workers.proofs.Behind.{overrun, stuck, still_waits}
-use Rattle.ca_workers.proofs.Logs.{TakenOut, taken_out, steps_for_each}
+use Rattle.ca_workers.proofs.Logs.{TakenOut, keeps_stuck, some_stop, steps_for_each, taken_out}
 
 -- ---- a run beside which others wait
 
@@ -80,13 +81,7 @@ all_ran (x ∷ es) e ne none = from x.stop refl
   where
     from : (s : Option Stop) → x.stop ≡ s → ⊥
     from None q = let z : x ∷ ran_in es ≡ [] = sym (keeps_ran x es q) ∙ none in cc
-      where
-        keeps_ran : (x : Entry) (es : List Entry) → x.stop ≡ None → ran_in (x ∷ es) ≡ x ∷ ran_in es
-        keeps_ran x es q = ap (λ s. cond (is_none s) (x ∷ ran_in es) (ran_in es)) q
     from (Some w) q = let z : x ∷ stuck_in es ≡ [] = sym (keeps_stuck x es w q) ∙ e in cc
-      where
-        keeps_stuck : (x : Entry) (es : List Entry) (w : Stop) → x.stop ≡ Some w → stuck_in (x ∷ es) ≡ x ∷ stuck_in es
-        keeps_stuck x es w q = ap (λ s. cond (is_some s) (x ∷ stuck_in es) (stuck_in es)) q
 
 record HasFirst (es : List Entry) (why : Stop) : Type 0 where
   entry : Entry
@@ -96,10 +91,6 @@ record HasFirst (es : List Entry) (why : Stop) : Type 0 where
 has_first : (es : List Entry) (why : Stop) → first_stop es ≡ Some why → HasFirst es why
 has_first [] why e = cc
 has_first (x ∷ es) why e = record { entry = x; there = Contains-append_left (x ∷ []) es x (Contains-push [] x); stop = e }
-
-some_of : (s : Option Stop) → is_some s ≡ true → (why : Stop) × (s ≡ Some why)
-some_of None e = absurd (cc)
-some_of (Some why) e = (why, refl)
 
 some_length : (es : List Entry) → es ≢ [] → 0 < length es
 some_length [] ne = absurd (ne refl)
@@ -177,7 +168,7 @@ module _ (p : PlainProgram) (x : Extent) (frozen : List Object) (set : IsSetting
     sums_stopped some = dite (dec_le steps left) within (λ gt. overrun p x frozen set now (task_calls (others ++ first)) w after (task_calls (others ++ rest)) order steps all left (omega (arith, gt)))
       where
         cause : (why : Stop) × (r.stop ≡ Some why)
-        cause = some_of r.stop some
+        cause = some_stop r.stop some
 
         one : HasFirst (stuck_in d.entries) cause.0
         one = has_first (stuck_in d.entries) cause.0 (sym d.stop_is ∙ cause.1)

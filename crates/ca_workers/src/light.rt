@@ -12,19 +12,16 @@ use std::alloc::Global;
 /// worker take as long as a run of it in the heap itself.
 const LIGHT: u32 = 120;
 
-/// Where all only sum, and calls lead to others in a loop, those of more parts do: a worker runs each whole, on copies of its own, so
-/// the way to it is paid once.
-const LIGHT_OF_SUMS: u32 = 0;
-
-/// Whether calls of what reaches so far are light, several of them, or a single one, which stands for those that it lists.
+/// Whether calls of what reaches so far are light, several of them, or a single one, which stands for those that it lists. Where all
+/// only sum, and calls lead to others in a loop, none is: a worker runs each whole, on copies of its own, so the way to it is paid
+/// once.
 pub fn is_light(reach: Reach, several: bool) -> bool {
     let sums = if several {
         reach.sums
     } else {
         reach.sums_below
     };
-    let most = if sums { LIGHT_OF_SUMS } else { LIGHT };
-    reach.parts <= most
+    !sums && is_small(reach)
 }
 
 /// Whether they would be light if they did more than sum.

@@ -30,6 +30,7 @@ pub fn add_calls(s: &Stmt, out: &mut Vec<OpId>) {
     }
 }
 
+/// The same of all statements of a list.
 #[cycle(calls)]
 pub fn add_all_calls(stmts: &[Stmt], out: &mut Vec<OpId>) {
     'statements: for s in stmts {

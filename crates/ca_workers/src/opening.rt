@@ -110,7 +110,8 @@ impl<'g, G: Gate> Parallel<'g, G> {
         Ok(opened)
     }
 
-    /// Runs a list; where it is one call that only calls others in a loop, and takes no lock, these in its place.
+    /// Runs a list; where it is one call that only calls others in a loop, and takes no lock, these in its place. Calls that only sum,
+    /// and come to the same objects again and again, begin with a round.
     pub(crate) fn run_list<R: Threads + Wait + Sync>(
         &mut self,
         rt: &R,
@@ -126,6 +127,9 @@ impl<'g, G: Gate> Parallel<'g, G> {
         ensures placed { IfOk result (Placed (program_view program.now) heap.old heap.old (invocations_of first.now) left heap.new) }
         ensures kept { OnErr result (heap.new ≡ heap.old) }
     {
+        if self.begins(first, heap.values()) {
+            return self.run_together(rt, program, heap, first, left);
+        }
         let mut listed = Vec::new(self.alloc);
         let opened = self.open_first(program, heap, first, left, &mut listed)?;
         let steps = match opened {

@@ -66,7 +66,8 @@ impl<'s, R: Threads + Wait + Sync, G: Gate> Rounds<'s, R, G> {
         ensures begins { IfOk result BeginsAnew }
         ensures behind { LinesBehind lines.old.items lines.new.items }
     {
-        let went = self.run_round(frozen, beside, waiting, quota, left, true)?;
+        let mut memory = Beside::new(self.alloc);
+        let went = self.run_round(frozen, beside, waiting, quota, left, true, &mut memory)?;
         let round = match went {
             Some(round) => round,
             None => return Ok(None),

@@ -72,6 +72,13 @@ pub(crate) fn turn_behind(left: Left, beside: &mut Beside) -> Result<Turn, Alloc
     })
 }
 
+/// Puts spare memory back beside the heap.
+fn give_back(memory: Beside, beside: &mut Beside)
+    ensures { beside.new ≡ beside.old }
+{
+    let _none = memory.into_items(beside);
+}
+
 impl<'s, R: Threads + Wait + Sync, G: Gate> Rounds<'s, R, G> {
     /// Whether each worker keeps sums of its own: where the extent only sums, and copies for each aren't too much.
     pub fn keeps_sums(&self, frozen: &Heap) -> bool
@@ -83,7 +90,8 @@ impl<'s, R: Threads + Wait + Sync, G: Gate> Rounds<'s, R, G> {
         summed(self.program.program(), self.extent)
     }
 
-    /// Runs a round in cells, and takes the objects that it touched beside the heap.
+    /// Runs a round in cells, and takes the objects that it touched beside the heap. Copies are made in the memory of spare objects
+    /// that stand there.
     fn turn_in_cells(
         &self,
         frozen: &Heap,
@@ -102,12 +110,15 @@ impl<'s, R: Threads + Wait + Sync, G: Gate> Rounds<'s, R, G> {
         ensures begins { IfOk result BeginsAnew }
     {
         let tasks = all_tasks(self.alloc, listed, waiting)?;
-        let went = self.run_round(frozen, beside, tasks, quota, left, false)?;
+        let most = most_of(self.workers, quota);
+        let mut memory = beside.lend(self.alloc, 0, most);
+        let went = self.run_round(frozen, beside, tasks, quota, left, false, &mut memory)?;
         let round = match went {
             Some(round) => round,
             None => return Ok(None),
         };
         let turn = turn_behind(round, beside)?;
+        give_back(memory, beside);
         Ok(Some(turn))
     }
 

@@ -131,6 +131,7 @@ impl Cells {
         rt: &R,
         alloc: Global,
         desk: &mut Desk,
+        memory: &mut Beside,
         worker: &mut Seat,
         program: &Coded<'_>,
         frozen: &Heap,
@@ -152,7 +153,7 @@ impl Cells {
     {
         let inner = &mut worker.inner;
         let number = receiver_of(tasks.as_slice());
-        let (mut log, out) = match self.take(rt, alloc, frozen, beside, inner, number) {
+        let (mut log, out) = match self.take(rt, alloc, memory, frozen, beside, inner, number) {
             Ok(taken) => taken,
             Err(cause) => return Err(RefusedAll { tasks, cause }),
         };

@@ -16,7 +16,7 @@ use Rattle.ca_replica.proofs.in_place.run_call.Goals as goal
 pub returns-then-left-eq0 : goal.returns-then-left-eq0
 returns-then-left-eq0 g c =
     let a = c.args.access.now in
-    let h = sums a.extent.now.written a.frozen.now a.copies.now in
+    let h = sums a.ground.extent.now.written a.ground.frozen.now a.copies.now in
     record {
       ran = call_too_many (program_view c.args.program.now) h h (invocation_of c.args.op.now) c.args.left (omega arith);
       before = refl;
@@ -73,14 +73,14 @@ pub returns-in-Ends : goal.returns-in-Ends
 returns-in-Ends g c =
     let p = program_view c.args.program.now in
     let a = c.args.access.now in
-    let h = sums a.extent.now.written a.frozen.now a.copies.now in
+    let h = sums a.ground.extent.now.written a.ground.frozen.now a.copies.now in
     let starts = c.in-Some.ensures in
     let least : c.args.left ≡ suc (c.args.left - 1) = omega arith in
     let run = c.run_from-halt in
     let m = run.new.frames in
     let b = run.new.access in
-    let after = sums b.extent.now.written b.frozen.now b.copies.now in
-    let kept : Keeps b.extent.now.written b.frozen.now b.marks.now b.copies.now b.olds.now = run.ensures.still.1 in
+    let after = sums b.ground.extent.now.written b.ground.frozen.now b.copies.now in
+    let kept : Keeps b.ground.extent.now.written b.ground.frozen.now b.ground.marks.now b.copies.now b.olds.now = run.ensures.still.1 in
     let halted = run.ensures.halted (fresh h) in
     let there : Here = record { at = m.at; base = halted.0; left = m.left } in
     let came : Result (Option ℕ) (Unit {0}) = Ok (Some m.left) in
@@ -99,14 +99,14 @@ pub returns-in-Traps : goal.returns-in-Traps
 returns-in-Traps g c =
     let p = program_view c.args.program.now in
     let a = c.args.access.now in
-    let h = sums a.extent.now.written a.frozen.now a.copies.now in
+    let h = sums a.ground.extent.now.written a.ground.frozen.now a.copies.now in
     let starts = c.in-Some.ensures in
     let least : c.args.left ≡ suc (c.args.left - 1) = omega arith in
     let run = c.run_from-halt in
     let m = run.new.frames in
     let b = run.new.access in
-    let after = sums b.extent.now.written b.frozen.now b.copies.now in
-    let kept : Keeps b.extent.now.written b.frozen.now b.marks.now b.copies.now b.olds.now = run.ensures.still.1 in
+    let after = sums b.ground.extent.now.written b.ground.frozen.now b.copies.now in
+    let kept : Keeps b.ground.extent.now.written b.ground.frozen.now b.ground.marks.now b.copies.now b.olds.now = run.ensures.still.1 in
     let halted = run.ensures.halted (fresh h) in
     let there : Here = record { at = m.at; base = halted.0; left = m.left } in
     let came : Result (Option ℕ) (Unit {0}) = Ok None in
@@ -125,14 +125,14 @@ pub returns-in-Spends : goal.returns-in-Spends
 returns-in-Spends g c =
     let p = program_view c.args.program.now in
     let a = c.args.access.now in
-    let h = sums a.extent.now.written a.frozen.now a.copies.now in
+    let h = sums a.ground.extent.now.written a.ground.frozen.now a.copies.now in
     let starts = c.in-Some.ensures in
     let least : c.args.left ≡ suc (c.args.left - 1) = omega arith in
     let run = c.run_from-halt in
     let m = run.new.frames in
     let b = run.new.access in
-    let after = sums b.extent.now.written b.frozen.now b.copies.now in
-    let kept : Keeps b.extent.now.written b.frozen.now b.marks.now b.copies.now b.olds.now = run.ensures.still.1 in
+    let after = sums b.ground.extent.now.written b.ground.frozen.now b.copies.now in
+    let kept : Keeps b.ground.extent.now.written b.ground.frozen.now b.ground.marks.now b.copies.now b.olds.now = run.ensures.still.1 in
     let halted = run.ensures.halted (fresh h) in
     let there : Here = record { at = m.at; base = halted.0; left = m.left } in
     let came : Result (Option ℕ) (Unit {0}) = Ok None in
@@ -151,7 +151,7 @@ pub returns-in-Leaves : goal.returns-in-Leaves
 returns-in-Leaves g c =
     let run = c.run_from-halt in
     let b = run.new.access in
-    let kept : Keeps b.extent.now.written b.frozen.now b.marks.now b.copies.now b.olds.now = run.ensures.still.1 in
+    let kept : Keeps b.ground.extent.now.written b.ground.frozen.now b.ground.marks.now b.copies.now b.olds.now = run.ensures.still.1 in
     record {
       ran = tt;
       before = ap (λ l. l.before) run.ensures.fixed;
@@ -166,7 +166,7 @@ pub returns-in-Fails : goal.returns-in-Fails
 returns-in-Fails g c =
     let run = c.run_from-halt in
     let b = run.new.access in
-    let kept : Keeps b.extent.now.written b.frozen.now b.marks.now b.copies.now b.olds.now = run.ensures.still.1 in
+    let kept : Keeps b.ground.extent.now.written b.ground.frozen.now b.ground.marks.now b.copies.now b.olds.now = run.ensures.still.1 in
     record {
       ran = tt;
       before = ap (λ l. l.before) run.ensures.fixed;

@@ -2,7 +2,7 @@ use Rattle.std.proofs.Common.{◌≡◌, Some, inl, sym, ap, subst, refl, ◌∙
 use Rattle.std.specs.Prelude.{slice_get}
 use Rattle.ca_model.proofs.Stores.{found}
 use Rattle.ca_beside.proofs.Present.{set_at}
-use Rattle.ca_replica.specs.declared.marks.Mark.TheVariants.{Free, Of, Several}
+use Rattle.ca_replica.specs.declared.marks.FieldMark.TheVariants.{Free, Of, Several}
 use Rattle.ca_replica.specs.Calls.{IsMarked}
 use Rattle.ca_replica.proofs.InPlace.{set_kept, set_only}
 use Rattle.ca_replica.proofs.marks.mark_at.Goals as goal

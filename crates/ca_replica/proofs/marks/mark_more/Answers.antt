@@ -1,6 +1,6 @@
 use Rattle.std.proofs.Common.{sym, subst}
 use Rattle.ca_beside.proofs.Present.{set_at}
-use Rattle.ca_replica.specs.declared.marks.Mark.TheVariants.{Several}
+use Rattle.ca_replica.specs.declared.marks.FieldMark.TheVariants.{Several}
 use Rattle.ca_replica.specs.Calls.{IsMarked}
 use Rattle.ca_replica.proofs.InPlace.{one_class, several_kept, several_only}
 use Rattle.ca_replica.proofs.marks.mark_more.Goals as goal

@@ -1,6 +1,6 @@
 use Rattle.std.proofs.Common.{ap, subst, sym, ◌∙◌, arith}
 use Rattle.std.specs.Prelude.{slice_get}
-use Rattle.ca_replica.specs.declared.marks.Mark.TheVariants.{Free}
+use Rattle.ca_replica.specs.declared.marks.FieldMark.TheVariants.{Free}
 use Rattle.ca_replica.specs.Calls.{IsMarked}
 use Rattle.ca_replica.proofs.InPlace.{marked_on, none_more}
 use Rattle.ca_replica.proofs.marks.widen.Goals as goal

@@ -1,6 +1,6 @@
 use Rattle.std.proofs.Common.{◌≡◌, ◌-◌, ℕ, length, slice_get, Some}
 use Rattle.ca_program.specs.declared.program.ClassId.{ClassId}
-use Rattle.ca_replica.specs.declared.marks.Mark.TheVariants.{Of}
+use Rattle.ca_replica.specs.declared.marks.FieldMark.TheVariants.{Of}
 use Rattle.ca_replica.specs.Calls.{IsMarked}
 use Rattle.ca_replica.proofs.marks.widen.Given as goal
 

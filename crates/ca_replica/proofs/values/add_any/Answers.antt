@@ -12,15 +12,15 @@ use Rattle.ca_replica.proofs.values.add_any.Goals as goal
 
 pub returns-in-Some : goal.returns-in-Some
 returns-in-Some c =
-    let ws = c.args.extent.now.written in
+    let ws = c.args.ground.now.extent.now.written in
     let e = c.add_at_once-sum.ensures in
     let more : SFits w64 c.args.more = search rules in
     record { adds = rw (to_z-of_z w64 c.args.more more) at (e.adds ws); put = e.put ws; before = e.before ws; keeps = e.keeps ws }
 
 pub returns-in-None : goal.returns-in-None
 returns-in-None c =
-    let ws = c.args.extent.now.written in
-    let h = c.args.frozen.now in
+    let ws = c.args.ground.now.extent.now.written in
+    let h = c.args.ground.now.frozen.now in
     let n = c.args.n in
     let f = c.args.f in
     let e = c.add_at_once-sum.ensures in

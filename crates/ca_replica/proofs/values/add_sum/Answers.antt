@@ -37,7 +37,7 @@ returns-in_default c =
       adds = tt;
       put = tt;
       before = ap (restored c.args.olds.now) p.same;
-      keeps = λ k. keeps_same c.args.extent.now.written c.args.frozen.now c.args.marks.now c.args.copies.now c.place_of.new.copies c.args.olds.now p.same p.has k;
+      keeps = λ k. keeps_same c.args.ground.now.extent.now.written c.args.ground.now.frozen.now c.args.ground.now.marks.now c.args.copies.now c.place_of.new.copies c.args.olds.now p.same p.has k;
     }
 
 pub object_at-object-requires : goal.object_at-object-requires
@@ -50,7 +50,7 @@ returns-in_default-own c =
       adds = tt;
       put = tt;
       before = ap (restored c.args.olds.now) p.same;
-      keeps = λ k. keeps_same c.args.extent.now.written c.args.frozen.now c.args.marks.now c.args.copies.now c.place_of.new.copies c.args.olds.now p.same p.has k;
+      keeps = λ k. keeps_same c.args.ground.now.extent.now.written c.args.ground.now.frozen.now c.args.ground.now.marks.now c.args.copies.now c.place_of.new.copies c.args.olds.now p.same p.has k;
     }
 
 pub put_at-requires : goal.put_at-requires
@@ -58,8 +58,8 @@ put_at-requires c = c.in-Ok.ensures.place
 
 pub returns-then-put_at : goal.returns-then-put_at
 returns-then-put_at c =
-    let ws = c.args.extent.now.written in
-    let h = c.args.frozen.now in
+    let ws = c.args.ground.now.extent.now.written in
+    let h = c.args.ground.now.frozen.now in
     let z = zeroed_heap ws h in
     let cs = c.args.copies.now in
     let mid = c.place_of.new.copies in
@@ -87,13 +87,13 @@ returns-then-put_at c =
       keeps = λ k.
           let o = there_is h n here in
           let w : IsWritten ws h n g = record { object = o.0; there = o.1; put = c.is_put.ensures c.if-not-is_put.false k.marked o.0 o.1 } in
-          keeps_put ws h c.args.marks.now cs mid c.put_at.new.copies c.args.olds.now c.put_at.new.olds n g 0 (Long m) c.put_at.result w p.same p.has (λ e. q.put e z) q.same q.there (q.puts ws h w) k;
+          keeps_put ws h c.args.ground.now.marks.now cs mid c.put_at.new.copies c.args.olds.now c.put_at.new.olds n g 0 (Long m) c.put_at.result w p.same p.has (λ e. q.put e z) q.same q.there (q.puts ws h w) k;
     }
 
 pub returns-else-put_at : goal.returns-else-put_at
 returns-else-put_at c =
-    let ws = c.args.extent.now.written in
-    let h = c.args.frozen.now in
+    let ws = c.args.ground.now.extent.now.written in
+    let h = c.args.ground.now.frozen.now in
     let z = zeroed_heap ws h in
     let n = c.args.n in
     let p = c.place_of.ensures in
@@ -109,5 +109,5 @@ returns-else-put_at c =
       keeps = λ k.
           let o = there_is h n here in
           let w : IsWritten ws h n c.args.f.field = record { object = o.0; there = o.1; put = c.is_put.ensures c.if-not-is_put.false k.marked o.0 o.1 } in
-          keeps_put ws h c.args.marks.now c.args.copies.now c.place_of.new.copies c.put_at.new.copies c.args.olds.now c.put_at.new.olds n c.args.f.field 0 (Long m) c.put_at.result w p.same p.has (λ e. q.put e z) q.same q.there (q.puts ws h w) k;
+          keeps_put ws h c.args.ground.now.marks.now c.args.copies.now c.place_of.new.copies c.put_at.new.copies c.args.olds.now c.put_at.new.olds n c.args.f.field 0 (Long m) c.put_at.result w p.same p.has (λ e. q.put e z) q.same q.there (q.puts ws h w) k;
     }

@@ -6,8 +6,8 @@ use Rattle.ca_replica.proofs.values.own_value.Goals as goal
 
 pub returns-then-stays_at_once : goal.returns-then-stays_at_once
 returns-then-stays_at_once c = λ olds k.
-    let ws = c.args.extent.now.written in
-    let h = c.args.frozen.now in
+    let ws = c.args.ground.now.extent.now.written in
+    let h = c.args.ground.now.frozen.now in
     let cs = c.args.copies.now in
     c.field_of.ensures
     ∙ ap one_in (slot_same ws h (sums ws h cs) (sums_many ws h cs) k.constants c.args.n c.args.f (λ o there. c.stays_at_once.ensures c.if-stays_at_once.true ws k.marked o there))

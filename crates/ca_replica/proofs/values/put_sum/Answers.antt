@@ -22,13 +22,13 @@ place_of-requires c = omega (arith, c.if-n-len.false, c.len.ensures.value)
 
 pub returns-in_default : goal.returns-in_default
 returns-in_default c =
-    let ws = c.args.extent.now.written in
-    let h = c.args.frozen.now in
+    let ws = c.args.ground.now.extent.now.written in
+    let h = c.args.ground.now.frozen.now in
     let p = c.place_of.ensures in
     record {
       put = λ e. absurd (true≢false (sym e));
       before = ap (restored c.args.olds.now) p.same;
-      keeps = λ k. keeps_same ws h c.args.marks.now c.args.copies.now c.place_of.new.copies c.args.olds.now p.same p.has k;
+      keeps = λ k. keeps_same ws h c.args.ground.now.marks.now c.args.copies.now c.place_of.new.copies c.args.olds.now p.same p.has k;
     }
 
 pub put_at-requires : goal.put_at-requires
@@ -36,8 +36,8 @@ put_at-requires c = c.in-Ok.ensures.place
 
 pub returns : goal.returns
 returns c =
-    let ws = c.args.extent.now.written in
-    let h = c.args.frozen.now in
+    let ws = c.args.ground.now.extent.now.written in
+    let h = c.args.ground.now.frozen.now in
     let z = zeroed_heap ws h in
     let n = c.args.n in
     let g = c.args.field in
@@ -51,5 +51,5 @@ returns c =
       keeps = λ k.
           let o = item_there h n (omega (arith, c.if-n-len.false, c.len.ensures.value)) in
           let w : IsWritten ws h n g = record { object = o.0; there = o.1; put = c.is_put.ensures c.if-not-is_put.false k.marked o.0 o.1 } in
-          keeps_put ws h c.args.marks.now c.args.copies.now c.place_of.new.copies c.put_at.new.copies c.args.olds.now c.put_at.new.olds n g c.args.item c.args.value c.put_at.result w p.same p.has (λ e. q.put e z) q.same q.there (q.puts ws h w) k;
+          keeps_put ws h c.args.ground.now.marks.now c.args.copies.now c.place_of.new.copies c.put_at.new.copies c.args.olds.now c.put_at.new.olds n g c.args.item c.args.value c.put_at.result w p.same p.has (λ e. q.put e z) q.same q.there (q.puts ws h w) k;
     }

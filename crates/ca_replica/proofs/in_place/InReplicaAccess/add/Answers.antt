@@ -20,8 +20,8 @@ add_at-requires g c = c.in-Some.ensures.1
 pub returns-in-Some : goal.returns-in-Some
 returns-in-Some g c =
     let s = c.args.self.now in
-    let ws = s.extent.now.written in
-    let h = s.frozen.now in
+    let ws = s.ground.extent.now.written in
+    let h = s.ground.frozen.now in
     let z = zeroed_heap ws h in
     let world = sums ws h s.copies.now in
     let o = c.in-Ref.o in
@@ -35,14 +35,14 @@ returns-in-Some g c =
       put = some_by _ _ c.add_at.result
           (λ m e past bs fits. ap (in_heap past) (e z ∙ ap (λ v. put_own world v c.args.f 0 (Long m)) (sym me)))
           c.add_at.ensures.put;
-      fixed = λ i. record { program = s.program.now; written = ws; frozen = h; marks = s.marks.now; before = c.add_at.ensures.over s.olds.now z top i; copies = s.copies.ghost_name; olds = s.olds.ghost_name };
-      fits = λ bs k. c.add_at.ensures.keeps ws h s.marks.now s.olds.now (written_top ws h s.olds.now o c.args.f.field 0 k.puts top) k;
+      fixed = λ i. record { program = s.program.now; written = ws; frozen = h; marks = s.ground.marks.now; before = c.add_at.ensures.over s.olds.now z top i; copies = s.copies.ghost_name; olds = s.olds.ghost_name };
+      fits = λ bs k. c.add_at.ensures.keeps ws h s.ground.marks.now s.olds.now (written_top ws h s.olds.now o c.args.f.field 0 k.puts top) k;
     }
 
 pub returns-in-None : goal.returns-in-None
 returns-in-None g c =
     let s = c.args.self.now in
-    let world = sums s.extent.now.written s.frozen.now s.copies.now in
+    let world = sums s.ground.extent.now.written s.ground.frozen.now s.copies.now in
     let me : pointer_of (pos c.args.this) ≡ Ref c.in-Ref.o = sym c.receiver_of.ensures ∙ c.in-Ref.is in
     let more : SFits w64 c.args.n = search rules in
     record {
@@ -52,6 +52,6 @@ returns-in-None g c =
       put = some_by _ _ c.add_any.result
           (λ m e past bs fits. ap (in_heap past) (e ∙ ap (λ v. put_own world v c.args.f 0 (Long m)) (sym me)))
           c.add_any.ensures.put;
-      fixed = λ i. record { program = s.program.now; written = s.extent.now.written; frozen = s.frozen.now; marks = s.marks.now; before = c.add_any.ensures.before i; copies = s.copies.ghost_name; olds = s.olds.ghost_name };
+      fixed = λ i. record { program = s.program.now; written = s.ground.extent.now.written; frozen = s.ground.frozen.now; marks = s.ground.marks.now; before = c.add_any.ensures.before i; copies = s.copies.ghost_name; olds = s.olds.ghost_name };
       fits = λ bs k. c.add_any.ensures.keeps k;
     }

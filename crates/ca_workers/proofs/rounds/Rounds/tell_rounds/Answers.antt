@@ -79,7 +79,7 @@ rounds-preserved g c =
       going = told_on p frozen start first c.args.left before now ws c.rounds.still c.rounds.lines.items c.rounds.invariant.going after more longer turn.steps ran;
       waits = waits_on p c.args.self.now.extent.now frozen c.requires.setting now ws c.rounds.invariant.waits c.rounds.still after more turn.steps (round_runs p frozen now ws c.rounds.still c.rounds.lines.items after more longer turn.steps ran);
       begins = subst BeginsAnew c.in-Some.is c.in_ok-told.ensures.begins;
-      quota = c.next_quota-quota.ensures;
+      quota = c.next_quota-quota.ensures.some;
     }
 
 pub returns-clause-told : goal.returns-clause-told

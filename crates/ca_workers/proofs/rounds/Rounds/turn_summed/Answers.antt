@@ -20,7 +20,7 @@ use Rattle.ca_workers.proofs.rounds.Rounds.turn_summed.Goals as goal
 pub at_work-count-requires-clause-tasks : goal.at_work-count-requires-clause-tasks
 at_work-count-requires-clause-tasks g c =
     let from = c.lent_from-from.result in
-    let some = some_lent c.args.listed.now from c.most_of-most.result c.newest_of.new.waiting.items c.in_ok-first.first.items c.args.waiting.items c.in_ok-first.ensures.all c.in_ok-first.ensures.some c.lent_from-from.ensures.within c.lent_from-from.ensures.some c.most_of-most.ensures c.requires.some in
+    let some = some_lent c.args.listed.now from c.most_of-most.result c.newest_of.new.waiting.items c.in_ok-first.first.items c.args.waiting.items c.in_ok-first.ensures.all c.in_ok-first.ensures.some c.lent_from-from.ensures.within c.lent_from-from.ensures.some c.most_of-most.ensures.some c.requires.some in
     c.as_many.ensures.some (subst (λ (os : List Op). 0 < length os + length c.in_ok-first.first.items) (sym (all_behind c.args.listed.now from)) some)
 
 pub round_summed-requires-clause-round : goal.round_summed-requires-clause-round
@@ -88,7 +88,7 @@ returns-in_ok-waits-in-Some-clause-turned g c =
     let first = with_lent (drop from c.args.listed.now) c.in_ok-first.first.items in
     let all = parted_lent c.args.listed.now from c.newest_of.new.waiting.items c.in_ok-first.first.items c.args.waiting.items c.in_ok-first.ensures.all c.lent_from-from.ensures.none in
     let w = subst (λ (ts : List Task). MayWait p x frozen now (task_calls ts)) all c.requires.waiting in
-    let some = some_lent c.args.listed.now from c.most_of-most.result c.newest_of.new.waiting.items c.in_ok-first.first.items c.args.waiting.items c.in_ok-first.ensures.all c.in_ok-first.ensures.some c.lent_from-from.ensures.within c.lent_from-from.ensures.some c.most_of-most.ensures c.requires.some in
+    let some = some_lent c.args.listed.now from c.most_of-most.result c.newest_of.new.waiting.items c.in_ok-first.first.items c.args.waiting.items c.in_ok-first.ensures.all c.in_ok-first.ensures.some c.lent_from-from.ensures.within c.lent_from-from.ensures.some c.most_of-most.ensures.some c.requires.some in
     let r = c.in_ok-replicas.field-0 in
     let told = subst (λ (os : List Op). Rounded p x frozen c.args.left c.args.quota (with_lent os c.in_ok-first.first.items) c.in_ok-replicas.field-0) (all_behind c.args.listed.now from) c.in_ok-replicas.ensures.rounded in
     let after : List Object = added_one_by_one x.written (copies_in r.replicas.items) now in

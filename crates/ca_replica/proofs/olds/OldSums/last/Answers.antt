@@ -1,7 +1,7 @@
 use Rattle.std.proofs.Common.{◌≡◌, [], ◌∷◌, subst}
 use Rattle.std.specs.Prelude.{MatchOption}
 use Rattle.ca_run.specs.declared.puts.Put.{Put}
-use Rattle.ca_replica.proofs.olds.Olds.last.Goals as goal
+use Rattle.ca_replica.proofs.olds.OldSums.last.Goals as goal
 
 pub returns : goal.returns
 returns c =

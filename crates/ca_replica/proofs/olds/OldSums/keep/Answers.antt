@@ -1,6 +1,6 @@
 use Rattle.std.proofs.Common.{◌∷◌, true≢false, sym, ap, subst, ◌∙◌}
 use Rattle.ca_replica.specs.InPlace.{IsHand}
-use Rattle.ca_replica.proofs.olds.Olds.keep.Goals as goal
+use Rattle.ca_replica.proofs.olds.OldSums.keep.Goals as goal
 
 pub returns-then-not-add_to : goal.returns-then-not-add_to
 returns-then-not-add_to c = record { added = λ e. absurd (true≢false (sym e)); same = λ e. c.add_to.ensures.same c.if-not-add_to.true ∙ c.self.view_is }

@@ -1,6 +1,6 @@
 use Rattle.std.proofs.Common.{◌∷◌, true≢false, sym, ap, subst, ◌∙◌}
 use Rattle.ca_replica.specs.InPlace.{IsHand}
-use Rattle.ca_replica.proofs.olds.Olds.keep_at_once.Goals as goal
+use Rattle.ca_replica.proofs.olds.OldSums.keep_at_once.Goals as goal
 
 pub invariant_of-self : goal.invariant_of-self
 invariant_of-self c = subst (IsHand c.self.inside.hand) (sym (c.add.ensures.same c.if-not-add.true)) c.self.invariant

@@ -1,6 +1,6 @@
 use Rattle.std.proofs.Common.{subst}
 use Rattle.ca_replica.specs.InPlace.{IsHand, IsTop}
-use Rattle.ca_replica.proofs.olds.Olds.at_hand.Goals as goal
+use Rattle.ca_replica.proofs.olds.OldSums.at_hand.Goals as goal
 
 pub returns : goal.returns
 returns c =
