@@ -9,6 +9,7 @@ ghost use Rattle.ca_counters.specs.Counters.{IsSetFor, counters, twice};
 
 use crate::neighbours::CountingGate;
 use crate::setting::{coded, set};
+use ca_beside::Beside;
 use ca_cells::RoundLog;
 use ca_counters::{let_go, twice};
 use ca_logs::Task;
@@ -85,9 +86,23 @@ fn collects<R: Threads + Wait + Sync + AllocGlobal + Abort>(
     };
     let mut pool = Pool::make(workers);
     let gate = CountingGate::new();
+    let mut memory = Beside::new(alloc);
     let ran = pool.round(
-        rt, alloc, program, &extent, &heap, &beside, cells, seats, first, quota, 100, &gate,
+        rt,
+        alloc,
+        program,
+        &extent,
+        &heap,
+        &beside,
+        cells,
+        seats,
+        first,
+        quota,
+        100,
+        &mut memory,
+        &gate,
     );
+    let_go(memory);
     let_go(extent);
     let_go(heap);
     let_go(beside);

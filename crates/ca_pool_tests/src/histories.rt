@@ -123,8 +123,19 @@ fn apply_twice<'a, R: Wait>(
 {
     let task = twice(alloc, 0);
     let gate = &OpenGate;
+    let mut memory = Beside::new(alloc);
     match cells.apply(
-        rt, alloc, desk, seat, program, frozen, beside, task, left, gate,
+        rt,
+        alloc,
+        desk,
+        &mut memory,
+        seat,
+        program,
+        frozen,
+        beside,
+        task,
+        left,
+        gate,
     ) {
         Ok(Applied::Stuck(Stop::Spent)) => (true, false),
         Ok(Applied::Kept(task)) => (false, task.after == 0),

@@ -10,6 +10,7 @@ ghost use Rattle.ca_counters.specs.Counters.{IsSetFor, counters, operation};
 
 use crate::setting::{coded, set};
 use ca_base::Gate;
+use ca_beside::Beside;
 use ca_cells::RoundLog;
 use ca_counters::{OPERATIONS, let_go, task_of};
 use ca_logs::Task;
@@ -119,9 +120,23 @@ fn passes<R: Threads + Wait + Sync + AllocGlobal + Abort>(
     };
     let mut pool = Pool::make(workers);
     let gate = CountingGate::new();
+    let mut memory = Beside::new(alloc);
     let ran = pool.round(
-        rt, alloc, program, &extent, &heap, &beside, cells, seats, first, 16_384, 100, &gate,
+        rt,
+        alloc,
+        program,
+        &extent,
+        &heap,
+        &beside,
+        cells,
+        seats,
+        first,
+        16_384,
+        100,
+        &mut memory,
+        &gate,
     );
+    let_go(memory);
     let_go(extent);
     let_go(heap);
     let_go(beside);

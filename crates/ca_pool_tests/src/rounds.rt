@@ -10,6 +10,7 @@ ghost use Rattle.ca_counters.specs.Counters.{IsSetFor, counters, starts, twice};
 
 use crate::setting::{coded, set};
 use ca_base::OpenGate;
+use ca_beside::Beside;
 use ca_cells::{Applied, Cells, RoundLog, Seat};
 use ca_counters::{let_go, twice};
 use ca_model::{Object, Slot, Value};
@@ -44,13 +45,34 @@ fn count_twice<'a, R: Wait>(
     let gate = &OpenGate;
     let frozen = reads.frozen;
     let beside = reads.beside;
+    let mut memory = Beside::new(alloc);
     match cells.apply(
-        rt, alloc, desk, seat, program, frozen, beside, task, 100, gate,
+        rt,
+        alloc,
+        desk,
+        &mut memory,
+        seat,
+        program,
+        frozen,
+        beside,
+        task,
+        100,
+        gate,
     ) {
         Ok(Applied::Ran { mut tasks, .. }) => match tasks.pop() {
             Some(next) => {
                 let again = cells.apply(
-                    rt, alloc, desk, seat, program, frozen, beside, next, 100, gate,
+                    rt,
+                    alloc,
+                    desk,
+                    &mut memory,
+                    seat,
+                    program,
+                    frozen,
+                    beside,
+                    next,
+                    100,
+                    gate,
                 );
                 has_run(again)
             }
