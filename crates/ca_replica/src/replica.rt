@@ -173,7 +173,7 @@ impl Replica {
     }
 
     /// Runs a call with all that it leads to within a budget, on the worker's copies. All that the extent doesn't write is read in the
-    /// frozen heap. The gate is passed before each section.
+    /// frozen heap. The gate is passed before each call.
     ///
     /// It is done, with its steps, exactly where its serial run from the heap of sums is, and leaves what that leaves. Else, and
     /// where memory is wanting, all sums are as before. No object has two copies.
