@@ -15,7 +15,7 @@ ghost use Rattle.ca_logs.specs.Legal.{LegalCell};
 ghost use Rattle.ca_beside.specs.Beside.{present};
 ghost use Rattle.ca_cells.specs.Rounds.{SeparableIn, now_of};
 ghost use Rattle.ca_cells.specs.Adds.{Adds, IsRan};
-ghost use Rattle.ca_cells.specs.clauses.Shelves.{found, AreOnce, Without};
+ghost use Rattle.ca_cells.specs.clauses.Shelves.{found, AreOnce, IsNumbered, Without};
 ghost use Rattle.ca_cells.specs.clauses.Rule.{Stands};
 ghost use Rattle.ca_cells.specs.declared.rule.Given.{Given};
 ghost use Rattle.ca_cells.specs.declared.slot.Held.{Held};
@@ -296,17 +296,38 @@ fn search(
     }
 }
 
+/// Whether a history stands by itself, and is of this object.
+#[inline(always)]
+pub(crate) fn is_numbered(last: &Option<Held>, number: u32) -> bool
+    ensures { result ≡ true → IsNumbered number last.now }
+{
+    match last {
+        Some(held) => held.number == number,
+        None => false,
+    }
+}
+
 /// Takes out the history that stands by itself.
 #[inline(always)]
-pub(crate) fn take_last(class: usize, _number: u32, others: Vec<Held>, last: Held) -> (SlotLog, Out)
-    requires mine { last.number ≡ _number }
-    requires once { AreOnce (others.items ++ last ∷ []) }
+pub(crate) fn take_last(
+    class: usize,
+    _number: u32,
+    others: Vec<Held>,
+    last: Option<Held>,
+) -> (SlotLog, Out)
+    requires mine { IsNumbered _number last }
+    requires once { AreOnce (others.items ++ option_to_list last) }
     ensures class { result.1.class ≡ class }
-    ensures out { Without (others.items ++ last ∷ []) _number result.1.others.items }
-    ensures log { (given : Given) (history : CellLog) → Stands given _number (found (others.items ++ last ∷ []) _number) history → result.0 ≡ history }
+    ensures out { Without (others.items ++ option_to_list last) _number result.1.others.items }
+    ensures log { (given : Given) (history : CellLog) → Stands given _number (found (others.items ++ option_to_list last) _number) history → result.0 ≡ history }
 {
-    let Held { number: _, log } = last;
-    (log, Out { class, others })
+    match last {
+        Some(held) => {
+            let Held { number: _, log } = held;
+            (log, Out { class, others })
+        }
+        None => unreachable!(),
+    }
 }
 
 /// Takes the history of an object out of its shelf. One that has not begun begins. Without memory for that the shelf
@@ -346,7 +367,7 @@ pub(crate) fn take_out(
 }
 
 /// Runs the section of a task on the object of a history in a slot and adds its entry, as `add` of `adding` does.
-#[inline]
+#[inline(always)]
 pub(crate) fn add(
     desk: &mut Desk,
     log: &mut SlotLog,

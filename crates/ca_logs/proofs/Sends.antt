@@ -47,10 +47,10 @@ stuck_sync : IsSync (as_row (option.the_field (boxed.the_row entry.the_row globa
 stuck_sync = as_row_sync (option.the_field (boxed.the_row entry.the_row global.the_row heap.ghosts)) (search (sendable, boxed_sync) depth 20)
 
 pub entries_send : IsSend entries.the_row
-entries_send = view_send _ _ _ _ _ (declared_send entries_inside.the_type (search (sendable, crosses), (search sendable, (search sendable, (steps_send, (stuck_send, (kept_send, tt)))))))
+entries_send = view_send _ _ _ _ _ (declared_send entries_inside.the_type (search (sendable, crosses), (stuck_send, (search sendable, (search sendable, (steps_send, (kept_send, tt)))))))
 
 entries_sync : IsSync entries.the_row
-entries_sync = view_sync _ _ _ _ _ (declared_sync entries_inside.the_type (search (sendable, crosses), (search sendable, (search sendable, (steps_sync, (stuck_sync, (kept_sync, tt)))))))
+entries_sync = view_sync _ _ _ _ _ (declared_sync entries_inside.the_type (search (sendable, crosses), (stuck_sync, (search sendable, (search sendable, (steps_sync, (kept_sync, tt)))))))
 
 pub log_send : IsSend log.the_row
 log_send = declared_send log.the_type (search (sendable, crosses), (object.the_send, (entries_send, tt)))

@@ -32,14 +32,14 @@ pub enum Past {
 
 /// A list of entries. They are told to contracts alone, and stand in memory too where they are kept. Beside them are how many
 /// there are, the clock of the last one, the steps of all, unless they are more than a number tells, and the last one where it
-/// has a stop.
+/// has a stop. What whoever adds one reads first stands in front, beside the object's own fields.
 #[derive(Drop)]
 pub struct Entries {
     told: Snapshot<Past>,
-    count: usize,
-    clock: u64,
-    steps: Option<u64>,
     stuck: Option<Box<Entry>>,
+    clock: u64,
+    count: usize,
+    steps: Option<u64>,
     kept: Option<Vec<Entry>>,
 }
 
@@ -210,10 +210,10 @@ impl Entries {
     {
         Entries {
             told: Snapshot::of(&Past::Nothing),
-            count: 0,
-            clock: 0,
-            steps: Some(0),
             stuck: None,
+            clock: 0,
+            count: 0,
+            steps: Some(0),
             kept: room_for(alloc, keeps),
         }
     }
@@ -248,6 +248,8 @@ impl Entries {
     }
 
     /// Adds that of a section that stopped. Without memory for it the entries are as before.
+    #[cold]
+    #[inline(never)]
     pub fn stick(
         &mut self,
         alloc: Global,

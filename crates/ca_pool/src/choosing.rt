@@ -1,11 +1,12 @@
 //! Which task a worker runs next.
 
-ghost use Rattle.std.specs.Prelude.{◌≡◌, ◌<◌, ℕ, ◌+◌, length, map, option_to_list};
+ghost use Rattle.std.specs.Prelude.{◌≡◌, ◌<◌, ℕ, ◌+◌, [], true, None, length, map, option_to_list};
 ghost use Rattle.ca_meaning.specs.Multisets.{weight};
 ghost use Rattle.ca_logs.specs.declared.log.Task.{Task};
 ghost use Rattle.ca_cells.specs.Rounds.{frozen_of};
 ghost use Rattle.ca_cells.specs.Seats.{cells_key};
 ghost use Rattle.ca_deques.specs.Settings.{Fits, AllFit};
+ghost use Rattle.ca_deques.specs.Hands.{Drains};
 ghost use Rattle.ca_deques.specs.Thieves.{owner_key, key_of, taken_by_thief};
 ghost use Rattle.ca_pool.specs.Work.{setting_of};
 
@@ -76,6 +77,7 @@ fn take_slowly<N: Round>(
     ensures share { AllFit N.setting share.new.items }
     ensures fits { AllFit N.setting (option_to_list result) }
     ensures taken { (h : Task → ℕ) → weight h owner.new.hand.taken + weight (taken_by_thief h) thieves.new + weight h share.old.items + weight h owner.old.hand.pushed ≡ weight h owner.old.hand.taken + weight (taken_by_thief h) thieves.old + weight h share.new.items + weight h (option_to_list result) + weight h owner.new.hand.pushed }
+    ensures none { result ≡ None → (share.new.items ≡ []) × Drains owner.new.hand }
 {
     match take_any::<N>(owner, thieves, share) {
         Some(task) => Some(pass_held::<N>(cells, locks, owner, thieves, share, task)),
@@ -90,15 +92,17 @@ fn newest<N: Round>(share: &mut Vec<Task>) -> Option<Task>
     ensures share { AllFit N.setting share.new.items }
     ensures fits { AllFit N.setting (option_to_list result) }
     ensures taken { (h : Task → ℕ) → weight h share.old.items ≡ weight h share.new.items + weight h (option_to_list result) }
+    ensures none { result ≡ None → share.old.items ≡ [] }
 {
     share.pop()
 }
 
-/// Whether the newest task of a share waits for nobody just now. Nothing rests on it.
+/// Whether a share has a newest task and this waits for nobody just now; the latter nothing rests on.
 #[inline(always)]
 fn is_ready<N: Round>(cells: &Cells, locks: &[bool], share: &Vec<Task>) -> bool
     requires setting { N.setting ≡ setting_of (cells_key cells.now) }
     requires share { AllFit N.setting share.now.items }
+    ensures { result ≡ true → 0 < length share.now.items }
 {
     let count = share.len();
     if count == 0 {
@@ -109,7 +113,8 @@ fn is_ready<N: Round>(cells: &Cells, locks: &[bool], share: &Vec<Task>) -> bool
 
 /// The newest task of the own share that waits for nobody, as far as a few tries find one; where the share has none, of
 /// the own deque; and where that has none, one of another's. Before it gives one that has to wait, where it has no other, it
-/// tries to steal. Before that it opens tasks of the share to others.
+/// tries to steal. Before that it opens tasks of the share to others. `None` only where the share has none
+/// then and the deque gave none.
 #[inline(always)]
 pub fn take_free<N: Round>(
     cells: &Cells,
@@ -125,6 +130,7 @@ pub fn take_free<N: Round>(
     ensures share { AllFit N.setting share.new.items }
     ensures fits { AllFit N.setting (option_to_list result) }
     ensures taken { (h : Task → ℕ) → weight h owner.new.hand.taken + weight (taken_by_thief h) thieves.new + weight h share.old.items + weight h owner.old.hand.pushed ≡ weight h owner.old.hand.taken + weight (taken_by_thief h) thieves.old + weight h share.new.items + weight h (option_to_list result) + weight h owner.new.hand.pushed }
+    ensures none { result ≡ None → (share.new.items ≡ []) × Drains owner.new.hand }
 {
     open_some::<N>(owner, share, locks);
     if is_ready::<N>(cells, locks, share) {

@@ -41,7 +41,7 @@ use Rattle.ca_replica.specs.Applied.{sums}
 use Rattle.ca_replica.specs.declared.marks.FieldMark.{FieldMark}
 use Rattle.ca_replica.specs.declared.marks.FieldMark.TheVariants.{Free, Of, Several}
 use Rattle.ca_replica.specs.Calls.{IsMarked, Marks}
-use Rattle.ca_replica.specs.InPlace.{mark_in, zero_value, KeepsConstants, HasCopy, AllHave, IsWritten, AllWritten, Keeps, IsTop}
+use Rattle.ca_replica.specs.InPlace.{mark_in, zero_value, KeepsClasses, KeepsConstants, HasCopy, AllHave, IsWritten, AllWritten, Keeps, IsTop}
 use Rattle.ca_replica.proofs.Beginning.{free_absent}
 use Rattle.ca_replica.proofs.Copying.{zeroed_at}
 use Rattle.ca_replica.proofs.Sums.{zero_absent, zero_one, zero_here, zero_else, chosen_here, chosen_else, zeroed_many}
@@ -214,6 +214,11 @@ constants_first p x frozen h s n o g there free =
     let class : o.class ≡ (let z : Object = q.0 in z.class) = sym (a.agree.class ∙ ap (λ (z : Object). z.class) same) in
     ap (λ z. slice_get (slots_in z) g) q.1 ∙ (a.agree.constants (field_at o.class g) class free ∙ ap (λ (z : Object). slice_get z.slots g) same)
 
+pub classes_first : (p : PlainProgram) (x : Extent) (frozen h : List Object) → StandsFor p x frozen h → KeepsClasses frozen h
+classes_first p x frozen h s n o q there found =
+    let a : AgreesAt x.written q frozen n = s.agree.each n q found in
+    a.agree.class ∙ ap (λ (z : Object). z.class) (one_some _ a.other o a.there there)
+
 stored_other : (h : List Object) (n m f i : ℕ) (v : Datum) → n ≢ m → slice_get (stored h n f i v) m ≡ slice_get h m
 stored_other [] n m f i v ne = refl
 stored_other (x ∷ h) zero zero f i v ne = absurd (ne refl)
@@ -226,7 +231,7 @@ stored_else [] n f i v g ne = refl
 stored_else (x ∷ h) zero f i v g ne = slot_else x.slots f i v g ne
 stored_else (x ∷ h) (suc n) f i v g ne = stored_else h n f i v g ne
 
-stored_past : (h : List Object) (n f i : ℕ) (v : Datum) → length h ≤ n → stored h n f i v ≡ h
+pub stored_past : (h : List Object) (n f i : ℕ) (v : Datum) → length h ≤ n → stored h n f i v ≡ h
 stored_past [] n f i v le = refl
 stored_past (x ∷ h) zero f i v le = absurd (omega (arith, le))
 stored_past (x ∷ h) (suc n) f i v le = ap (λ l. x ∷ l) (stored_past h n f i v (omega (arith, le)))
@@ -242,6 +247,19 @@ constants_put written frozen h n g i v o there at k m q f found free = from (dec
     from (equal e) (equal d) =
         let same : o ≡ q = one_some (slice_get frozen m) o q (subst (λ j. slice_get frozen j ≡ Some o) e there) found in
         absurd (free (subst (λ j. Contains written (field_at q.class j)) d (subst (λ (z : Object). Contains written (field_at z.class g)) same at)))
+
+-- and no class
+class_stored : (h : List Object) (n f i : ℕ) (v : Datum) (m : ℕ) (q : Object) → slice_get (stored h n f i v) m ≡ Some q → (o : Object) × (slice_get h m ≡ Some o) × (q.class ≡ o.class)
+class_stored [] n f i v m q e = absurd (cc)
+class_stored (x ∷ h) zero f i v zero q e = let same : record { class = x.class; slots = put_slot x.slots f i v } ≡ q = cc in (x, refl, ap (λ (z : Object). z.class) (sym same))
+class_stored (x ∷ h) zero f i v (suc m) q e = (q, e, refl)
+class_stored (x ∷ h) (suc n) f i v zero q e = (q, e, refl)
+class_stored (x ∷ h) (suc n) f i v (suc m) q e = class_stored h n f i v m q e
+
+pub classes_put : (frozen h : List Object) (n f i : ℕ) (v : Datum) → KeepsClasses frozen h → KeepsClasses frozen (stored h n f i v)
+classes_put frozen h n f i v k m o q there found =
+    let was = class_stored h n f i v m q found in
+    was.2 ∙ k m o was.0 there was.1
 
 -- ---- puts to copies
 
@@ -400,6 +418,8 @@ pub keeps_same : (written : List FieldId) (frozen : List Object) (marks : List F
 keeps_same written frozen marks cs ds os same has k = record {
   marked = k.marked;
   constants = subst (KeepsConstants written frozen) (sym same) k.constants;
+  classes = subst (KeepsClasses frozen) (sym same) k.classes;
+  arrays = k.arrays;
   there = all_have_on cs ds has os k.there;
   puts = k.puts;
 }
@@ -411,12 +431,16 @@ pub keeps_put : (written : List FieldId) (frozen : List Object) (marks : List Fi
 keeps_put written frozen marks cs mid ds os all n g i v true w same has put not all_there puts k = record {
   marked = k.marked;
   constants = subst (KeepsConstants written frozen) (sym (put refl ∙ ap (λ h. stored h n g i v) same)) (constants_put written frozen (sums written frozen cs) n g i v w.object w.there w.put k.constants);
+  classes = subst (KeepsClasses frozen) (sym (put refl ∙ ap (λ h. stored h n g i v) same)) (classes_put frozen (sums written frozen cs) n g i v k.classes);
+  arrays = k.arrays;
   there = all_there (all_have_on cs mid has os k.there);
   puts = puts k.puts;
 }
 keeps_put written frozen marks cs mid ds os all n g i v false w same has put not all_there puts k = record {
   marked = k.marked;
   constants = subst (KeepsConstants written frozen) (sym (ap (sums written frozen) (not refl) ∙ same)) k.constants;
+  classes = subst (KeepsClasses frozen) (sym (ap (sums written frozen) (not refl) ∙ same)) k.classes;
+  arrays = k.arrays;
   there = all_there (all_have_on cs mid has os k.there);
   puts = puts k.puts;
 }
@@ -427,6 +451,8 @@ pub keeps_over : (written : List FieldId) (frozen : List Object) (marks : List F
 keeps_over written frozen marks cs ds os n g i v put has w k = record {
   marked = k.marked;
   constants = subst (KeepsConstants written frozen) (sym put) (constants_put written frozen (sums written frozen cs) n g i v w.object w.there w.put k.constants);
+  classes = subst (KeepsClasses frozen) (sym put) (classes_put frozen (sums written frozen cs) n g i v k.classes);
+  arrays = k.arrays;
   there = all_have_on cs ds has os k.there;
   puts = k.puts;
 }

@@ -7,6 +7,8 @@ pub mod Taking
 pub mod Beginning
 pub mod Applying
 pub mod InPlace
+pub mod Numbers
+pub mod Arrays
 pub mod Together
 pub mod Putting
 mod Examples

@@ -1,14 +1,15 @@
 -- A run on a replica: what stays while its bodies run, and what is known of the heap of sums then.
 use base.Fml.{GName}
-use Rattle.std.specs.Prelude.{ℕ, ◌≡◌, pos, List, [], ◌∷◌, Contains, Option, Some, None, slice_get}
+use Rattle.std.specs.Prelude.{ℕ, ℤ, ◌≡◌, ◌<◌, ◌^◌, pos, List, [], ◌∷◌, Contains, Option, Some, None, slice_get}
 use Rattle.ca_program.specs.declared.program.FieldId.{FieldId}
 use Rattle.ca_program.specs.declared.program.Program.{Program}
 use Rattle.ca_model.specs.declared.value.Value.{Value as Datum}
 use Rattle.ca_model.specs.declared.value.Value.TheVariants.{Long}
+use Rattle.ca_model.specs.declared.value.Slot.TheVariants.{Many}
 use Rattle.ca_model.specs.declared.value.Object.{Object}
-use Rattle.ca_meaning.specs.Expressions.{slots_in}
+use Rattle.ca_meaning.specs.Expressions.{one_in, slots_in}
 use Rattle.ca_beside.specs.declared.beside.Changed.{Changed}
-use Rattle.ca_beside.specs.Beside.{IsPlace}
+use Rattle.ca_beside.specs.Beside.{AreDistinct, IsPlace}
 use Rattle.ca_run.specs.declared.puts.Put.{Put}
 use Rattle.ca_run.specs.Puts.{restored}
 use Rattle.ca_replica.specs.declared.marks.FieldMark.{FieldMark}
@@ -47,9 +48,25 @@ abbrev pub KeepsConstants : List FieldId → List Object → List Object → Typ
 KeepsConstants written frozen h =
     (n : ℕ) (o : Object) (g : ℕ) → slice_get frozen n ≡ Some o → ¬ Contains written (record { class = o.class; field = g }) → slice_get (slots_in (slice_get h n)) g ≡ slice_get o.slots g
 
+-- objects are of the classes that they have in the frozen one
+abbrev pub KeepsClasses : List Object → List Object → Type 0
+KeepsClasses frozen h = (n : ℕ) (o q : Object) → slice_get frozen n ≡ Some o → slice_get h n ≡ Some q → q.class ≡ o.class
+
+-- no array is written
+abbrev pub KeepsArrays : List FieldId → List Object → Type 0
+KeepsArrays written frozen =
+    (n : ℕ) (o : Object) (g : ℕ) (vs : List Datum) → slice_get frozen n ≡ Some o → slice_get o.slots g ≡ Some (Many vs) → ¬ Contains written (record { class = o.class; field = g })
+
 -- an object has a copy
 abbrev pub HasCopy : List Changed → ℕ → Type 0
 HasCopy cs n = (i : ℕ) × IsPlace cs i n
+
+-- the copy of object n stands at a place, no other one has its number, and its field g is a number, which is this
+pub record HasNumber (cs : List Changed) (place n g : ℕ) (a : ℤ) : Type 0 where
+  pub object : Object
+  pub there : slice_get cs place ≡ Some (record { number = n; object = object })
+  pub apart : AreDistinct cs
+  pub number : one_in (slice_get object.slots g) ≡ Long a
 
 -- each old value is one of a copy
 abbrev pub AllHave : List Put → List Changed → Type 0
@@ -71,6 +88,8 @@ AllWritten written frozen (o ∷ os) = IsWritten written frozen o.object o.field
 pub record Keeps (written : List FieldId) (frozen : List Object) (marks : List FieldMark) (copies : List Changed) (olds : List Put) : Type 0 where
   pub marked : Marks written marks
   pub constants : KeepsConstants written frozen (sums written frozen copies)
+  pub classes : KeepsClasses frozen (sums written frozen copies)
+  pub arrays : KeepsArrays written frozen
   pub there : AllHave olds copies
   pub puts : AllWritten written frozen olds
 
@@ -79,7 +98,6 @@ abbrev pub IsTop : List Put → ℕ → ℕ → ℕ → Type 0
 IsTop [] n f i = ⊥
 IsTop (o ∷ os) n f i = (o.object ≡ n) × (o.field ≡ f) × (o.item ≡ i)
 
--- what is at hand is the old value that was kept last, and one of a single value
-abbrev pub IsHand : Option LastOld → List Put → Type 0
-IsHand None os = Unit {0}
-IsHand (Some d) os = IsTop os d.object d.field 0
+-- what is at hand, if it tells an object, is the old value that was kept last, and one of a single value
+abbrev pub IsHand : LastOld → List Put → Type 0
+IsHand d os = d.object < 2 ^ 32 → IsTop os d.object d.field 0

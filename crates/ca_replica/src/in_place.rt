@@ -13,8 +13,8 @@ ghost use Rattle.ca_replica.specs.InPlace.{AllHave, Keeps};
 
 use crate::ground::Ground;
 use crate::marks::{FieldMark, stays};
-use crate::olds::{OldSums, add_at, place_at_hand};
-use crate::values::{add_any, own_look, own_value, put_sum};
+use crate::olds::OldSums;
+use crate::values::{add_any, own_look, own_slowly, put_sum, told_at_once};
 use ca_base::{Gate, Memory};
 use ca_beside::Beside;
 use ca_extent::Extent;
@@ -78,7 +78,13 @@ impl<'s, G: Gate> Access for InReplica<'s, G> {
     #[inline(always)]
     fn own(&self, this: Value, f: FieldId) -> Option<Value> {
         match this {
-            Value::Ref(n) => Some(own_value(&self.ground, self.copies, n, f)),
+            Value::Ref(n) => {
+                let told = told_at_once(&self.ground, n, f);
+                match told {
+                    Some(_) => told,
+                    None => Some(own_slowly(&self.ground, self.copies, n, f)),
+                }
+            }
             Value::Null => Some(Value::Null),
             Value::Long(_) => Some(Value::Null),
             Value::Bool(_) => Some(Value::Null),
@@ -88,14 +94,7 @@ impl<'s, G: Gate> Access for InReplica<'s, G> {
     #[inline(always)]
     fn own_item(&self, this: Value, f: FieldId, index: i64) -> Look {
         match this {
-            Value::Ref(n) => own_look(
-                self.ground.marks,
-                self.ground.extent,
-                self.ground.frozen,
-                n,
-                f,
-                index,
-            ),
+            Value::Ref(n) => own_look(&self.ground, n, f, index),
             Value::Null => Look::Outside,
             Value::Long(_) => Look::Outside,
             Value::Bool(_) => Look::Outside,
@@ -141,10 +140,7 @@ impl<'s, G: Gate> Access for InReplica<'s, G> {
         let Value::Ref(o) = receiver_of(this) else {
             return None;
         };
-        match place_at_hand(self.olds, self.copies, o, f.field) {
-            Some(place) => add_at(self.copies, place, o, f, n),
-            None => add_any(&self.ground, self.copies, self.olds, o, f, n),
-        }
+        add_any(&self.ground, self.copies, self.olds, o, f, n)
     }
 }
 

@@ -216,15 +216,7 @@ pub(crate) fn stays_at_once(marks: &[FieldMark], frozen: &Heap, n: u32, field: u
 /// Whether the field of object n is surely none that is written, where there is such an object, told out of line.
 #[cold]
 #[inline(never)]
-fn stays_slowly(marks: &[FieldMark], extent: &Extent, frozen: &Heap, n: u32, field: u32) -> bool
-    ensures { result ≡ true → Marks extent.now.written marks.now → (o : Object) → slice_get frozen.now n ≡ Some o → ¬ Contains extent.now.written (record { class = o.class; field = field }) }
-{
-    stays(marks, extent, frozen, n as usize, field)
-}
-
-/// The same, at once where it can be.
-#[inline(always)]
-pub(crate) fn stays_first(
+pub(crate) fn stays_slowly(
     marks: &[FieldMark],
     extent: &Extent,
     frozen: &Heap,
@@ -233,10 +225,7 @@ pub(crate) fn stays_first(
 ) -> bool
     ensures { result ≡ true → Marks extent.now.written marks.now → (o : Object) → slice_get frozen.now n ≡ Some o → ¬ Contains extent.now.written (record { class = o.class; field = field }) }
 {
-    if stays_at_once(marks, frozen, n, field) {
-        return true;
-    }
-    stays_slowly(marks, extent, frozen, n, field)
+    stays(marks, extent, frozen, n as usize, field)
 }
 
 /// Whether the field of object n is surely one that is written. It is told at once where the fields with its number that are written
@@ -259,15 +248,25 @@ pub(crate) fn is_put(
     }
 }
 
-/// The same, where the fields with its number that are written are of one class.
+/// Whether two classes are one.
 #[inline(always)]
-pub(crate) fn is_put_at_once(marks: &[FieldMark], frozen: &Heap, n: u32, field: u32) -> bool
-    requires { n < length frozen.now }
-    ensures { result ≡ true → (written : List FieldId) → Marks written marks.now → (o : Object) → slice_get frozen.now n ≡ Some o → Contains written (record { class = o.class; field = field }) }
+fn is_same(one: ClassId, class: ClassId) -> bool
+    ensures { result ≡ true → one.0 ≡ class.0 }
+{
+    if one.0 == class.0 {
+        return true;
+    }
+    false
+}
+
+/// Whether a field is surely one that is written, where those with its number that are written are of one class.
+#[inline(always)]
+pub(crate) fn is_put_at_once(marks: &[FieldMark], class: ClassId, field: u32) -> bool
+    ensures { result ≡ true → (written : List FieldId) → Marks written marks.now → Contains written (record { class = class; field = field }) }
 {
     match mark_of(marks, field) {
         FieldMark::Free => false,
-        FieldMark::Of(class) => is_class(frozen, n as usize, class),
+        FieldMark::Of(one) => is_same(one, class),
         FieldMark::Several => false,
     }
 }

@@ -1,41 +1,27 @@
-//! Old values of a call that runs on copies, and what of them is at hand: a call that adds again and again to one number looks up
-//! nothing, and keeps its old value once.
+//! Old values of a call that runs on copies, and what of them is at hand: a call that adds again and again to one number keeps its old
+//! value once.
 
-ghost use Rattle.std.specs.Prelude.{◌≡◌, ◌<◌, ◌∷◌, [], ℕ, List, true, false, IfSome, MatchOption, length};
-ghost use Rattle.ca_program.specs.declared.program.FieldId.{FieldId};
-ghost use Rattle.ca_model.specs.declared.value.Object.{Object};
-ghost use Rattle.ca_model.specs.declared.value.Value.TheVariants.{Long};
-ghost use Rattle.ca_model.specs.Heaps.{stored};
-ghost use Rattle.ca_meaning.specs.Expressions.{one_in, slot_of};
-ghost use Rattle.ca_beside.specs.Beside.{present, IsPlace};
+ghost use Rattle.std.specs.Prelude.{◌≡◌, ◌∷◌, [], List, true, false, MatchOption};
 ghost use Rattle.ca_run.specs.declared.puts.Put.{Put};
-ghost use Rattle.ca_run.specs.Puts.{restored};
-ghost use Rattle.ca_steps.specs.Telling.{Adds};
-ghost use Rattle.ca_replica.specs.declared.marks.FieldMark.{FieldMark};
-ghost use Rattle.ca_replica.specs.InPlace.{IsHand, IsTop, IsWritten, Keeps};
+ghost use Rattle.ca_replica.specs.InPlace.{IsHand, IsTop};
 
-use crate::values::one_of;
-use ca_beside::Beside;
-use ca_model::Value;
-use ca_program::FieldId;
 use ca_run::{Put, Puts};
-use ca_steps::sum_of;
 use std::alloc::Global;
 use std::marker::Model;
 
-/// The field of an object whose old value was kept last, and where its copy stood.
+// Two words: what would be left of one behind a shorter number would be filled too.
+/// The field of an object whose old value was kept last. Where none is told, the object's number is one of more than 32 bits.
 #[derive(Clone, Copy)]
 pub struct LastOld {
-    pub object: u32,
-    pub field: u32,
-    pub place: usize,
+    pub object: u64,
+    pub field: u64,
 }
 
 /// Old values, the last one first.
 #[derive(Drop)]
 pub struct OldSums {
     puts: Puts,
-    hand: Option<LastOld>,
+    hand: LastOld,
 }
 
 impl Model for OldSums {
@@ -50,19 +36,29 @@ impl Model for OldSums {
     ghost invariant = { λ s. IsHand s.hand s.puts };
 }
 
-/// An old value, if it is of a single value, and the place of its copy.
+/// None.
 #[inline(always)]
-fn hand_of(old: Put, place: usize) -> Option<LastOld>
+fn none_at_hand() -> LastOld
+    ensures { (os : List Put) → IsHand result os }
+{
+    LastOld {
+        object: u64::MAX,
+        field: 0,
+    }
+}
+
+/// An old value, if it is of a single value.
+#[inline(always)]
+fn hand_of(old: Put) -> LastOld
     ensures { (os : List Put) → IsHand result (old ∷ os) }
 {
     if old.item == 0 {
-        return Some(LastOld {
-            object: old.object,
-            field: old.field,
-            place,
-        });
+        return LastOld {
+            object: old.object as u64,
+            field: old.field as u64,
+        };
     }
-    None
+    none_at_hand()
 }
 
 /// Keeps an old value among others, if there is memory.
@@ -90,7 +86,7 @@ impl OldSums {
     {
         OldSums {
             puts: Puts::new(alloc),
-            hand: None,
+            hand: none_at_hand(),
         }
     }
 
@@ -98,34 +94,33 @@ impl OldSums {
     pub fn forget(&mut self)
         ensures { self.new ≡ [] }
     {
-        self.hand = None;
+        self.hand = none_at_hand();
         self.puts.forget();
     }
 
-    /// Keeps an old value of the copy at a place, if there is memory.
+    /// Keeps an old value, if there is memory.
     #[inline(always)]
-    pub fn keep(&mut self, old: Put, place: usize) -> bool
+    pub fn keep(&mut self, old: Put) -> bool
         ensures added { result ≡ true → self.new ≡ old ∷ self.old }
         ensures same { result ≡ false → self.new ≡ self.old }
     {
-        self.hand = None;
         if !add_to(&mut self.puts, old) {
             return false;
         }
-        self.hand = hand_of(old, place);
+        self.hand = hand_of(old);
         true
     }
 
-    /// Keeps an old value of the copy at a place, if there is room.
+    /// Keeps an old value, if there is room.
     #[inline(always)]
-    pub fn keep_at_once(&mut self, old: Put, place: usize) -> bool
+    pub fn keep_at_once(&mut self, old: Put) -> bool
         ensures added { result ≡ true → self.new ≡ old ∷ self.old }
         ensures same { result ≡ false → self.new ≡ self.old }
     {
         if !self.puts.add(old) {
             return false;
         }
-        self.hand = hand_of(old, place);
+        self.hand = hand_of(old);
         true
     }
 
@@ -133,81 +128,24 @@ impl OldSums {
     pub fn last(&mut self) -> Option<Put>
         ensures { MatchOption result ((self.old ≡ []) × (self.new ≡ [])) (λ x. self.old ≡ x ∷ self.new) }
     {
-        self.hand = None;
+        self.hand = none_at_hand();
         self.puts.last()
     }
 
-    /// Where the copy of object n stood, if the old value that was kept last is that of this field.
+    /// Whether the old value that was kept last is that of this field of object n.
     #[inline(always)]
-    fn at_hand(&self, n: u32, field: u32) -> Option<usize>
-        ensures { IfSome result (λ _. IsTop self.now n field 0) }
+    pub fn is_last(&self, n: u32, field: u32) -> bool
+        ensures { result ≡ true → IsTop self.now n field 0 }
     {
-        let Some(hand) = self.hand else {
-            return None;
-        };
-        if hand.object != n {
-            return None;
+        let hand = self.hand;
+        let number = n as u64;
+        let place = field as u64;
+        if hand.object != number {
+            return false;
         }
-        if hand.field != field {
-            return None;
+        if hand.field != place {
+            return false;
         }
-        Some(hand.place)
+        true
     }
-}
-
-/// Whether the copy of object n stands at a place.
-#[inline(always)]
-fn holds(copies: &Beside, place: usize, n: u32) -> bool
-    ensures { result ≡ true → IsPlace copies.now place n }
-{
-    let all = copies.items();
-    if place >= all.len() {
-        return false;
-    }
-    let there = &all[place];
-    if there.number != n {
-        return false;
-    }
-    true
-}
-
-/// The place of the copy of object n, if the old value that was kept last is that of this field.
-#[inline(always)]
-pub(crate) fn place_at_hand(olds: &OldSums, copies: &Beside, n: u32, field: u32) -> Option<usize>
-    ensures { IfSome result (λ place. IsTop olds.now n field 0 × IsPlace copies.now place n) }
-{
-    let Some(place) = olds.at_hand(n, field) else {
-        return None;
-    };
-    if !holds(copies, place, n) {
-        return None;
-    }
-    Some(place)
-}
-
-/// Adds a number to that of a field of the copy at a place, where there is one, and tells the sum. The old number isn't kept.
-#[inline(always)]
-pub(crate) fn add_at(
-    copies: &mut Beside,
-    place: usize,
-    n: u32,
-    f: FieldId,
-    more: i64,
-) -> Option<i64>
-    requires { IsPlace copies.old place n }
-    ensures adds { IfSome result (λ m. (h : List Object) → n < length h → Adds (one_in (slot_of (present h copies.old) n f)) more m) }
-    ensures put { IfSome result (λ m. (h : List Object) → present h copies.new ≡ stored (present h copies.old) n f.field 0 (Long m)) }
-    // Where an old value of it was kept last, putting back gives what it gave before.
-    ensures over { (olds : List Put) (h : List Object) → IsTop olds n f.field 0 → restored olds (present h copies.new) ≡ restored olds (present h copies.old) }
-    ensures keeps { (written : List FieldId) (frozen : List Object) (marks : List FieldMark) (olds : List Put) → IsWritten written frozen n f.field → Keeps written frozen marks copies.old olds → Keeps written frozen marks copies.new olds }
-{
-    copies.know_apart();
-    let object = copies.object_at(place);
-    let own = one_of(&object.slots, f.field);
-    let Value::Long(a) = own else {
-        return None;
-    };
-    let sum = sum_of(a, more);
-    copies.store_at(place, f.field, 0, Value::Long(sum));
-    Some(sum)
 }

@@ -54,7 +54,8 @@ impl<'a> Marked<'a> {
 
     /// Whether no loop is one of these.
     pub fn has_no_loop(&self) -> bool
-        ensures { result ≡ true → self.now.loops ≡ [] }
+        ensures none { result ≡ true → self.now.loops ≡ [] }
+        ensures told { self.now.loops ≡ [] → result ≡ true }
     {
         let marks = self.marks;
         marks.loops.as_slice().is_empty()

@@ -5,6 +5,7 @@ ghost use Rattle.ca_meaning.specs.Multisets.{weight};
 ghost use Rattle.ca_logs.specs.declared.log.Task.{Task};
 ghost use Rattle.ca_logs.specs.Entries.{task_after};
 ghost use Rattle.ca_deques.specs.Settings.{Setting, AllFit};
+ghost use Rattle.ca_deques.specs.Hands.{Drains};
 ghost use Rattle.ca_deques.specs.Thieves.{owner_key, key_of, taken_by_thief};
 ghost use Rattle.ca_sum_pool.specs.Parts.{begun, next_task, taken_of, Took};
 
@@ -97,7 +98,8 @@ fn take_first<'f>(listed: &'f [Op], at: &mut usize, end: usize) -> Option<&'f Op
 /// The same, where the share has no task.
 #[inline]
 fn take_call<'f>(share: &Vec<Task>, listed: &'f [Op], at: &mut usize, end: usize) -> Option<&'f Op>
-    ensures { Took listed.now at.old at.new end (option_copied result) }
+    ensures took { Took listed.now at.old at.new end (option_copied result) }
+    ensures none { result ≡ None → share.now.items ≡ [] → begun listed.now at.old end ≡ [] }
 {
     if share.len() > 0 {
         return None;
@@ -277,6 +279,7 @@ fn take_elsewhere<'f, N: Round>(
     ensures share { AllFit N.setting share.new.items }
     ensures fits { AllFit N.setting (option_to_list (taken_of result)) }
     ensures taken { (h : Task → ℕ) → weight h owner.new.hand.taken + weight (taken_by_thief h) thieves.new + weight h owner.old.hand.pushed + weight h share.old.items + weight h (begun listed.now at.old end.old) ≡ weight h owner.old.hand.taken + weight (taken_by_thief h) thieves.old + weight h owner.new.hand.pushed + weight h share.new.items + weight h (begun listed.now at.new end.new) + weight h (option_to_list (taken_of result)) }
+    ensures none { result ≡ None → (share.new.items ≡ []) × (begun listed.now at.new end.new ≡ []) × Drains owner.new.hand }
 {
     open_calls(owner, share, listed, *at, end);
     match take_call(share, listed, at, *end) {
@@ -286,7 +289,7 @@ fn take_elsewhere<'f, N: Round>(
 }
 
 /// What a worker runs next: the newest task of its share; where there is none, its next call of the list; and then a task of
-/// its deque, or of another's.
+/// its deque, or of another's. `None` only where share and list have none and its deque gave none.
 #[inline]
 pub fn take_next<'f, N: Round>(
     owner: &mut Owner<N>,
@@ -303,6 +306,7 @@ pub fn take_next<'f, N: Round>(
     ensures share { AllFit N.setting share.new.items }
     ensures fits { AllFit N.setting (option_to_list (taken_of result)) }
     ensures taken { (h : Task → ℕ) → weight h owner.new.hand.taken + weight (taken_by_thief h) thieves.new + weight h owner.old.hand.pushed + weight h share.old.items + weight h (begun listed.now at.old end.old) ≡ weight h owner.old.hand.taken + weight (taken_by_thief h) thieves.old + weight h owner.new.hand.pushed + weight h share.new.items + weight h (begun listed.now at.new end.new) + weight h (option_to_list (taken_of result)) }
+    ensures none { result ≡ None → (share.new.items ≡ []) × (begun listed.now at.new end.new ≡ []) × Drains owner.new.hand }
 {
     open_now_and_then(owner, share);
     match take_own::<N>(share) {

@@ -1,4 +1,6 @@
 pub mod Places
+pub mod Quotas
+pub mod Copies
 pub mod Steps
 pub mod Behind
 pub mod Logs

@@ -1,9 +1,10 @@
 //! A turn: a round of what waits, in cells or on replicas, and what it changed put beside the heap.
 
-ghost use Rattle.std.specs.Prelude.{◌≡◌, ◌<◌, ◌+◌, true, All, Contains, List, length, IfOk};
+ghost use Rattle.std.specs.Prelude.{◌≡◌, ◌↔◌, ◌<◌, ◌≤◌, ◌+◌, ◌*◌, true, All, Contains, IsTrue, List, length, IfOk};
 ghost use Rattle.ca_program.specs.View.{program_view};
 ghost use Rattle.ca_program.specs.declared.program.OpId.{OpId};
 ghost use Rattle.ca_model.specs.declared.value.Object.{Object};
+ghost use Rattle.ca_model.specs.Heaps.{values_in};
 ghost use Rattle.ca_beside.specs.Beside.{present};
 ghost use Rattle.ca_cells.specs.Logs.{touched_in};
 ghost use Rattle.ca_logs.specs.declared.log.Task.{Task};
@@ -45,6 +46,7 @@ pub struct Turn {
 /// Whether a copy of so many values for each worker isn't too much.
 pub fn may_copy(workers: u32, values: u32) -> bool
     requires { 0 < workers }
+    ensures { IsTrue result ↔ (values * workers ≤ 16000000) }
 {
     u64::from(values) <= MOST_COPIED / u64::from(workers)
 }
@@ -82,7 +84,7 @@ fn give_back(memory: Beside, beside: &mut Beside)
 impl<'s, R: Threads + Wait + Sync, G: Gate> Rounds<'s, R, G> {
     /// Whether each worker keeps sums of its own: where the extent only sums, and copies for each aren't too much.
     pub fn keeps_sums(&self, frozen: &Heap) -> bool
-        ensures { result ≡ true → (op : OpId) → Contains self.now.extent.now.ops op → HasOnlySums (program_view self.now.program.now) self.now.extent.now.written op }
+        ensures { IsTrue result ↔ ((values_in frozen.now * self.now.workers ≤ 16000000) × ((op : OpId) → Contains self.now.extent.now.ops op → HasOnlySums (program_view self.now.program.now) self.now.extent.now.written op)) }
     {
         if !may_copy(self.workers, frozen.values()) {
             return false;

@@ -18,6 +18,11 @@ abbrev pub AreOnce : List Held → Type 0
 AreOnce [] = Unit {0}
 AreOnce (h ∷ hs) = (found hs h.number ≡ None) × AreOnce hs
 
+-- there is one, of that object
+abbrev pub IsNumbered : ℕ → Option Held → Type 0
+IsNumbered number None = ⊥
+IsNumbered number (Some held) = held.number ≡ number
+
 -- it is an object of the class
 abbrev pub IsIn : ℕ → ℕ → ℕ → ℕ → Type 0
 IsIn objects classes class number = (number < objects) × (number % classes ≡ class)

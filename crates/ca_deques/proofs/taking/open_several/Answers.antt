@@ -3,17 +3,20 @@ use Rattle.ca_meaning.specs.Multisets.{weight}
 use Rattle.ca_order_laws.proofs.Weights.{weight_append}
 use Rattle.ca_deques.specs.declared.rule.Hand.{Hand}
 use Rattle.ca_deques.specs.Settings.{AllFit}
-use Rattle.ca_deques.proofs.Grown.{front_fit, back_fit, both_fit, both_weigh}
+use Rattle.ca_deques.proofs.Grown.{front_fit, back_fit, both_fit, both_weigh, some_behind}
 use Rattle.ca_deques.proofs.taking.open_several.Goals as goal
 
 pub returns-in_default-clause-share : goal.returns-in_default-clause-share
 returns-in_default-clause-share g c = subst (AllFit g.N.Round.setting) (sym c.in_default.ensures.kept) c.requires.fits
 
+pub of-requires : goal.of-requires
+of-requires g c = some_behind _ _ _ c.in-Ok.ensures.split (c.in-Ok.ensures.some (omega (arith, c.if-count-eq0.false)) c.requires.some)
+
 pub push-requires : goal.push-requires
 push-requires g c = subst (AllFit g.N.Round.setting) (sym c.of.ensures) (back_fit _ _ _ c.in-Ok.ensures.split g.N.Round.setting c.requires.fits)
 
 pub returns-in-Err-clause-share : goal.returns-in-Err-clause-share
-returns-in-Err-clause-share g c = let p = c.in-Ok.ensures.split in let same = sym c.into_tasks.ensures ∙ (c.in-Err.ensures.refused.0 ∙ c.of.ensures) in
+returns-in-Err-clause-share g c = let p = c.in-Ok.ensures.split in let same = sym c.into_tasks.ensures.same ∙ (c.in-Err.ensures.refused.0 ∙ c.of.ensures) in
     both_fit _ _ _ c.put_back.ensures g.N.Round.setting (front_fit _ _ _ p g.N.Round.setting c.requires.fits) (subst (AllFit g.N.Round.setting) (sym same) (back_fit _ _ _ p g.N.Round.setting c.requires.fits))
 
 pub returns-in_default-push-clause-share : goal.returns-in_default-push-clause-share

@@ -8,4 +8,4 @@ use Rattle.ca_deques.proofs.taking.put_behind_open.Goals as goal
 pub returns-in-Some-pop-clause-moved : goal.returns-in-Some-pop-clause-moved
 returns-in-Some-pop-clause-moved g c =
     let t : c.pop.new.self.hand ≡ taking c.args.owner.now.hand c.in-Some.item = c.in-Some.ensures.taken in
-    λ h. omega (arith, taking_weight _ _ c.in-Some.item t h, ap (λ (v : Hand). weight h v.pushed) t, ap (weight h) c.into_tasks.ensures, grown_weight _ _ _ c.in-Some-pop.ensures.items h, grown_weight _ _ _ c.push_reserved.ensures.items h, ap (weight h) c.requires.empty)
+    λ h. omega (arith, taking_weight _ _ c.in-Some.item t h, ap (λ (v : Hand). weight h v.pushed) t, ap (weight h) c.into_tasks.ensures.same, grown_weight _ _ _ c.in-Some-pop.ensures.items h, grown_weight _ _ _ c.push_reserved.ensures.items h, ap (weight h) c.requires.empty)

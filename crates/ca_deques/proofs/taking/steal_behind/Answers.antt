@@ -6,7 +6,7 @@ use Rattle.ca_deques.proofs.Grown.{no_weight, weight_turned, fits_turned}
 use Rattle.ca_deques.proofs.taking.steal_behind.Goals as goal
 
 pub put_behind-next-requires-clause-share : goal.put_behind-next-requires-clause-share
-put_behind-next-requires-clause-share g c = subst (λ (ts : List Task). AllFit g.N.Round.setting ts) c.into_tasks.ensures c.in-Some.ensures.fits
+put_behind-next-requires-clause-share g c = subst (λ (ts : List Task). AllFit g.N.Round.setting ts) c.into_tasks.ensures.same c.in-Some.ensures.fits
 
 pub returns-in-Some-clause-same : goal.returns-in-Some-clause-same
 returns-in-Some-clause-same g c = c.put_behind-next.ensures.same
@@ -24,7 +24,7 @@ pub returns-in-Some-clause-moved : goal.returns-in-Some-clause-moved
 returns-in-Some-clause-moved g c = λ h.
     let none = no_weight h c.args.share.now.items (omega (arith, c.if-len-gt0.false, c.len.ensures)) in
     let turned = weight_turned h c.put_behind-next.new.share.items in
-    omega (arith, c.in-Some.ensures.stole.taken h, ap (weight h) c.into_tasks.ensures, none, c.put_behind-next.ensures.moved h, ap (weight h) c.reverse.ensures.items, turned)
+    omega (arith, c.in-Some.ensures.stole.taken h, ap (weight h) c.into_tasks.ensures.same, none, c.put_behind-next.ensures.moved h, ap (weight h) c.reverse.ensures.items, turned)
 
 pub returns-in-None-clause-keys : goal.returns-in-None-clause-keys
 returns-in-None-clause-keys g c = c.in-None.ensures.stole.keys

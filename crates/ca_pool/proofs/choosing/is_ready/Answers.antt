@@ -1,4 +1,4 @@
-use Rattle.std.proofs.Common.{◌-◌, arith}
+use Rattle.std.proofs.Common.{◌-◌, true≢false, sym, arith}
 use Rattle.ca_logs.specs.Entries.{call_of}
 use Rattle.ca_cells.specs.Rounds.{frozen_of, program_of}
 use Rattle.ca_cells.specs.Seats.{cells_key}
@@ -17,3 +17,9 @@ would_wait-requires g c =
     let there = get_of_index tasks at task (omega (arith, c.if-count-eq0.false, c.len-count.ensures, c.args.share.now.ok.0)) c.index.ensures in
     let fits = fits_at g.N.Round.setting tasks at task c.requires.share there in
     receiver_in (program_of key) (frozen_of key) (call_of task) (may_run g.N.Round.setting key task c.requires.setting fits).typed
+
+pub returns-then-count-eq0 : goal.returns-then-count-eq0
+returns-then-count-eq0 g c = λ e. absurd (true≢false (sym e))
+
+pub returns : goal.returns
+returns g c = λ _. omega (arith, c.if-count-eq0.false, c.len-count.ensures, c.args.share.now.ok.0)

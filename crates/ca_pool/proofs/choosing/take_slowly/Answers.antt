@@ -22,3 +22,6 @@ returns-in-Some-clause-taken g c = let t = c.take_any.ensures in λ h. omega (ar
 
 pub returns-in-None-clause-taken : goal.returns-in-None-clause-taken
 returns-in-None-clause-taken g c = let t = c.take_any.ensures in λ h. omega (arith, t.taken h, ap (weight h) t.pushed, ap (λ (o : Option Task). weight h (option_to_list o)) c.in-None.is)
+
+pub returns-in-None-clause-none : goal.returns-in-None-clause-none
+returns-in-None-clause-none g c = λ _. let n = c.take_any.ensures.none c.in-None.is in (n.1, n.2)

@@ -18,14 +18,14 @@ returns-else-push_all-clause-pushed g c = λ e. absurd (true≢false e)
 pub returns-in-Stuck-clause-pushed : goal.returns-in-Stuck-clause-pushed
 returns-in-Stuck-clause-pushed g c = λ _ h. omega (arith, ap (λ (a : Applied). weight h (made_in a)) c.in-Stuck.is, ap (λ (a : Applied). weight h (kept_in a)) c.in-Stuck.is)
 
-pub returns-then-keep-clause-share : goal.returns-then-keep-clause-share
-returns-then-keep-clause-share g c = grown_fit g.N.Round.setting _ _ _ (c.keep.ensures.added c.if-keep.true) c.requires.share (subst (λ (a : Applied). AllFit g.N.Round.setting (kept_in a)) c.in-Kept.is c.requires.kept)
+pub returns-then-keep_back-clause-share : goal.returns-then-keep_back-clause-share
+returns-then-keep_back-clause-share g c = grown_fit g.N.Round.setting _ _ _ (c.keep_back.ensures.added c.if-keep_back.true) c.requires.share (subst (λ (a : Applied). AllFit g.N.Round.setting (kept_in a)) c.in-Kept.is c.requires.kept)
 
-pub returns-then-keep-clause-pushed : goal.returns-then-keep-clause-pushed
-returns-then-keep-clause-pushed g c = λ _ h. omega (arith, grown_weight _ _ _ (c.keep.ensures.added c.if-keep.true) h, ap (λ (a : Applied). weight h (made_in a)) c.in-Kept.is, ap (λ (a : Applied). weight h (kept_in a)) c.in-Kept.is)
+pub returns-then-keep_back-clause-pushed : goal.returns-then-keep_back-clause-pushed
+returns-then-keep_back-clause-pushed g c = λ _ h. omega (arith, grown_weight _ _ _ (c.keep_back.ensures.added c.if-keep_back.true) h, ap (λ (a : Applied). weight h (made_in a)) c.in-Kept.is, ap (λ (a : Applied). weight h (kept_in a)) c.in-Kept.is)
 
-pub returns-else-keep-clause-share : goal.returns-else-keep-clause-share
-returns-else-keep-clause-share g c = subst (AllFit g.N.Round.setting) (sym (c.keep.ensures.lost c.if-keep.false)) c.requires.share
+pub returns-else-keep_back-clause-share : goal.returns-else-keep_back-clause-share
+returns-else-keep_back-clause-share g c = subst (AllFit g.N.Round.setting) (sym (c.keep_back.ensures.lost c.if-keep_back.false)) c.requires.share
 
-pub returns-else-keep-clause-pushed : goal.returns-else-keep-clause-pushed
-returns-else-keep-clause-pushed g c = λ e. absurd (true≢false e)
+pub returns-else-keep_back-clause-pushed : goal.returns-else-keep_back-clause-pushed
+returns-else-keep_back-clause-pushed g c = λ e. absurd (true≢false e)

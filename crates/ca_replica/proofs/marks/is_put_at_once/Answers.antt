@@ -6,9 +6,9 @@ pub returns-in-Free : goal.returns-in-Free
 returns-in-Free c = λ e. absurd (true≢false (sym e))
 
 pub returns-in-Of : goal.returns-in-Of
-returns-in-Of c = λ e ws m o there.
+returns-in-Of c = λ e ws m.
     let g = c.args.field in
-    same_class ws g c.in-Of.class o.class (c.is_class.ensures.is e o there) (marked_so ws c.args.marks.now g c.in-Of.class m (sym c.mark_of.ensures ∙ c.in-Of.is))
+    same_class ws g c.in-Of.one c.args.class (c.is_same.ensures e) (marked_so ws c.args.marks.now g c.in-Of.one m (sym c.mark_of.ensures ∙ c.in-Of.is))
 
 pub returns-in-Several : goal.returns-in-Several
 returns-in-Several c = λ e. absurd (true≢false (sym e))

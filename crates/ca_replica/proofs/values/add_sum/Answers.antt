@@ -1,20 +1,16 @@
-use Rattle.std.proofs.Common.{◌≡◌, ◌<◌, ◌∙◌, length, refl, sym, ap, subst, rules, w64, arith}
-use Rattle.std.specs.Prelude.{slice_get}
-use Rattle.std.proofs.lemmas.Int.{to_z-of_z}
-use Rattle.std.proofs.lemmas.Option.{slice_get_within}
+use Rattle.std.proofs.Common.{◌≡◌, ◌<◌, ◌∙◌, length, refl, ap, subst, rules, w64, arith}
 use mir.Val.{SFits, of_z, to_z}
-use Rattle.ca_model.specs.declared.value.Object.{Object}
 use Rattle.ca_model.specs.declared.value.Value.TheVariants.{Long}
 use Rattle.ca_model.specs.Heaps.{stored}
-use Rattle.ca_meaning.specs.Expressions.{one_in, slot_of, slots_in}
+use Rattle.ca_meaning.specs.Expressions.{one_in, slot_of}
 use Rattle.ca_lists.proofs.Places.{item_there as there_is}
-use Rattle.ca_beside.proofs.Present.{changed}
 use Rattle.ca_run.specs.Puts.{restored}
 use Rattle.ca_steps.specs.Telling.{Adds}
 use Rattle.ca_replica.specs.Applied.{sums}
 use Rattle.ca_replica.specs.InPlace.{IsWritten}
 use Rattle.ca_replica.specs.Zeroed.{zeroed_heap}
-use Rattle.ca_replica.proofs.InPlace.{copy_there, keeps_put, keeps_same}
+use Rattle.ca_replica.proofs.InPlace.{keeps_put, keeps_same}
+use Rattle.ca_replica.proofs.Numbers.{number_adds, told_sum}
 use Rattle.ca_replica.proofs.Sums.{zeroed_many}
 use Rattle.ca_replica.proofs.values.add_sum.Goals as goal
 
@@ -40,11 +36,11 @@ returns-in_default c =
       keeps = λ k. keeps_same c.args.ground.now.extent.now.written c.args.ground.now.frozen.now c.args.ground.now.marks.now c.args.copies.now c.place_of.new.copies c.args.olds.now p.same p.has k;
     }
 
-pub object_at-object-requires : goal.object_at-object-requires
-object_at-object-requires c = slice_get_within c.place_of.new.copies c.in-Ok.place _ c.in-Ok.ensures.place.there
+pub number_there-requires : goal.number_there-requires
+number_there-requires c = c.in-Ok.ensures.place
 
-pub returns-in_default-own : goal.returns-in_default-own
-returns-in_default-own c =
+pub returns-in_default-number_there : goal.returns-in_default-number_there
+returns-in_default-number_there c =
     let p = c.place_of.ensures in
     record {
       adds = tt;
@@ -67,21 +63,17 @@ returns-then-put_at c =
     let g = c.args.f.field in
     let p = c.place_of.ensures in
     let q = c.put_at.ensures in
-    let at = c.in-Ok.ensures.place in
+    let a = c.in-Some.a in
     let many : length z ≡ length h = zeroed_many ws h in
     let here : n < length h = omega (arith, c.if-n-len.false, c.len.ensures.value) in
     let lt : n < length z = omega (arith, here, many) in
-    let own : one_in (slot_of (sums ws h cs) n c.args.f) ≡ Long c.in-Long.a =
-    ap (λ s. one_in (slot_of s n c.args.f)) (sym p.same)
-    ∙ (ap (λ s. one_in (slice_get (slots_in s) g)) (copy_there ws h mid c.know_apart.ensures c.in-Ok.place n at.object here at.there)
-    ∙ (sym (c.one_of-own.ensures ∙ ap (λ (o : Object). one_in (slice_get o.slots g)) (c.object_at-object.ensures (changed n at.object) at.there)) ∙ c.in-Long.is)) in
-    let had : SFits w64 c.in-Long.a = search rules in
+    let had : SFits w64 a = search rules in
     let more : SFits w64 c.args.more = search rules in
     let small : SFits w64 c.sum_of-sum.result = search rules in
-    let total : Adds (Long c.in-Long.a) c.args.more c.sum_of-sum.result = rw (to_z-of_z w64 c.in-Long.a had, to_z-of_z w64 c.args.more more) at c.sum_of-sum.ensures in
     let m = to_z w64 (of_z w64 c.sum_of-sum.result) in
+    let sum = told_sum a c.args.more c.sum_of-sum.result had more small c.sum_of-sum.ensures in
     record {
-      adds = subst (λ v. Adds v c.args.more m) (sym own) (subst (Adds (Long c.in-Long.a) c.args.more) (sym (to_z-of_z w64 c.sum_of-sum.result small)) total);
+      adds = subst (λ w. Adds (one_in (slot_of w n c.args.f)) c.args.more m) p.same (number_adds ws h mid c.in-Ok.place n c.args.f a c.args.more m c.in-Some.ensures here sum);
       put = q.put c.if-put_at.true z ∙ ap (λ s. stored s n g 0 (Long m)) p.same;
       before = q.before z lt ∙ ap (restored c.args.olds.now) p.same;
       keeps = λ k.

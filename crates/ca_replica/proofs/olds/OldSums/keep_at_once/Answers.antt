@@ -9,7 +9,7 @@ pub returns-then-not-add : goal.returns-then-not-add
 returns-then-not-add c = record { added = λ e. absurd (true≢false (sym e)); same = λ e. c.add.ensures.same c.if-not-add.true ∙ c.self.view_is }
 
 pub invariant_of-self-2 : goal.invariant_of-self-2
-invariant_of-self-2 c = subst (IsHand c.hand_of-self-inside.result) (sym (c.add.ensures.added c.if-not-add.false)) (c.hand_of-self-inside.ensures _)
+invariant_of-self-2 c = subst (IsHand c.hand_of-self-inside.result) (sym (c.add.ensures.added c.if-not-add.false)) (c.hand_of-self-inside.ensures c.self.inside.puts)
 
 pub returns : goal.returns
 returns c = record { added = λ e. c.add.ensures.added c.if-not-add.false ∙ ap (λ os. c.args.old ∷ os) c.self.view_is; same = λ e. absurd (true≢false e) }

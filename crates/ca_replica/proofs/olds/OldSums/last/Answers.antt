@@ -3,6 +3,9 @@ use Rattle.std.specs.Prelude.{MatchOption}
 use Rattle.ca_run.specs.declared.puts.Put.{Put}
 use Rattle.ca_replica.proofs.olds.OldSums.last.Goals as goal
 
+pub invariant_of-self : goal.invariant_of-self
+invariant_of-self c = c.none_at_hand-self-inside.ensures _
+
 pub returns : goal.returns
 returns c =
     let rest = c.last.new.self in

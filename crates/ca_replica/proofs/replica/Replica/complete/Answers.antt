@@ -8,7 +8,8 @@ use Rattle.ca_run.proofs.InPlace.{never_runs, none_ran, one_alone, one_stopped, 
 use Rattle.ca_replica.specs.Applied.{sums}
 use Rattle.ca_replica.specs.InPlace.{AllHave, AllWritten}
 use Rattle.ca_replica.specs.Zeroed.{zeroed_heap}
-use Rattle.ca_replica.proofs.InPlace.{constants_first}
+use Rattle.ca_replica.proofs.Arrays.{arrays_first}
+use Rattle.ca_replica.proofs.InPlace.{classes_first, constants_first}
 use Rattle.ca_replica.proofs.replica.Replica.complete.Goals as goal
 
 pub run_whole-requires-clause-program : goal.run_whole-requires-clause-program
@@ -27,6 +28,8 @@ run_whole-requires-clause-keeps g c κs within =
     record {
       marked = c.requires.marks;
       constants = constants_first (program_view c.args.program.now) x c.args.frozen.now (sums x.written c.args.frozen.now c.args.self.now.copies) c.requires.sums;
+      classes = classes_first (program_view c.args.program.now) x c.args.frozen.now (sums x.written c.args.frozen.now c.args.self.now.copies) c.requires.sums;
+      arrays = arrays_first (program_view c.args.program.now) x c.args.frozen.now c.requires.round;
       there = subst (λ os. AllHave os c.args.self.now.copies) (sym c.forget.ensures) tt;
       puts = subst (AllWritten x.written c.args.frozen.now) (sym c.forget.ensures) tt;
     }

@@ -1,7 +1,7 @@
 use Rattle.std.proofs.Common.{reverse, ap, ◌∙◌, arith}
 use Rattle.std.proofs.lemmas.List.{reverse-reverse}
 use Rattle.ca_cells.proofs.Listing.{none_made, one_made, all_made}
-use Rattle.ca_cells.proofs.adding.tasks_after.Goals as goal
+use Rattle.ca_cells.proofs.adding.made_after.Goals as goal
 
 pub loop-op-init : goal.loop-op-init
 loop-op-init c = record {
