@@ -11,6 +11,7 @@ use Rattle.ca_emit.proofs.Locked.{kept_text}
 use Rattle.ca_emit.proofs.Marked.{marked_text}
 use Rattle.ca_app.specs.Told.{Tells, annotated, CommandTold}
 use Rattle.ca_app.proofs.AcceptedTyped.{accepted_is_checked}
+use Rattle.ca_app.proofs.NamesApart.{names_apart}
 
 tells_annotated : {tree : TextTree} {p : PlainProgram} {plan : PlainPlan} {bytes : List ℕ} → Tells tree p plan Emit bytes → bytes ≡ annotated_text p plan tree
 tells_annotated annotated = refl
@@ -26,4 +27,4 @@ module _ {text : List ℕ} {old now : Option (List ℕ)} (it : CommandTold Emit 
 
   pub marked : MarkedText it.program it.told.plan it.accepted.tree it.told.bytes
   unfolding bytes
-  marked = marked_text it.program it.told.plan it.accepted.tree (program_resolves it.accepted.tree it.program it.accepted.resolved) (λ v. v) bytes (tells_annotated it.told.tells)
+  marked = marked_text it.program it.told.plan it.accepted.tree (program_resolves it.accepted.tree it.program it.accepted.resolved) it.told.is (names_apart it.accepted) (λ v. v) bytes (tells_annotated it.told.tells)

@@ -8,6 +8,7 @@ pub mod Endings
 mod Examples
 pub mod GeneratedRuns
 pub mod LoadedTexts
+mod NamesApart
 pub mod OneProgram
 pub mod OneRefusal
 pub mod OneReading

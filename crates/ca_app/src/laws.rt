@@ -30,7 +30,7 @@ pub fn traces_are_verified()
 {}
 
 /// Where `emit` tells the plan of a text, what was written keeps the lock discipline (`locks`), and has a mark for each call and
-/// each loop that runs in parallel, in `main` and in each operation that spawns nothing (`sites`).
+/// each loop that runs in parallel, in `main` and in each operation that is in no extent of a marked call or loop (`sites`).
 pub fn annotated_texts_keep_the_lock()
     ensures locks { (text : List ℕ) (old now : Option (List ℕ)) (it : CommandTold Emit text old now) → KeptText it.program it.told.plan it.accepted.tree it.told.bytes }
     ensures sites { (text : List ℕ) (old now : Option (List ℕ)) (it : CommandTold Emit text old now) → MarkedText it.program it.told.plan it.accepted.tree it.told.bytes }

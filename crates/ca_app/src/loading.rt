@@ -37,7 +37,7 @@ struct Loaded {
 
 /// Runs the text of a seed and a size by so many workers, which pass the gate as their engine does, and then writes the summary
 /// of what the run left.
-pub fn load<R: Threads + Wait + Sync, K: Sink, G: Gate>(
+pub fn load<R: Threads + Wait + Sync, K: Sink, G: Gate + Sync>(
     rt: &R,
     alloc: Global,
     seed: u64,
@@ -61,7 +61,7 @@ pub fn load<R: Threads + Wait + Sync, K: Sink, G: Gate>(
 }
 
 /// Runs the text of a seed and a size.
-fn run_generated<R: Threads + Wait + Sync, G: Gate>(
+fn run_generated<R: Threads + Wait + Sync, G: Gate + Sync>(
     rt: &R,
     alloc: Global,
     seed: u64,
@@ -82,7 +82,7 @@ fn run_generated<R: Threads + Wait + Sync, G: Gate>(
 }
 
 /// Runs a program whose serial run is done within the budget. What it prints goes nowhere.
-fn run_to_end<R: Threads + Wait + Sync, G: Gate>(
+fn run_to_end<R: Threads + Wait + Sync, G: Gate + Sync>(
     rt: &R,
     alloc: Global,
     program: &Program,

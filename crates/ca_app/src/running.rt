@@ -29,7 +29,7 @@ use std::thread::Threads;
 
 /// Runs a program by so many workers, which pass the gate as their engine does. What it prints is written as it comes. What is
 /// written doesn't depend on the workers.
-pub fn run_program<R: Threads + Wait + Sync, K: Sink, G: Gate>(
+pub fn run_program<R: Threads + Wait + Sync, K: Sink, G: Gate + Sync>(
     rt: &R,
     alloc: Global,
     program: &Program,
@@ -54,7 +54,7 @@ pub fn run_program<R: Threads + Wait + Sync, K: Sink, G: Gate>(
 
 /// Runs a program, whose marked operations and loops an engine of so many workers runs: `OneWorker` for one, and the engine of
 /// `ca_workers` for more.
-pub fn run_by_plan<R: Threads + Wait + Sync, K: Sink, G: Gate>(
+pub fn run_by_plan<R: Threads + Wait + Sync, K: Sink, G: Gate + Sync>(
     rt: &R,
     alloc: Global,
     program: &Program,

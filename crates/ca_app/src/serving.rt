@@ -78,7 +78,7 @@ pub const GOES_WRONG: u8 = 9;
 /// A command that reads its source reads the whole of it before anything is written.
 /// `NO_MEMORY` is out of memory, `READ_FAULT` a failed read, `WRITE_FAULT` a failed write; every
 /// other status is that of the reply. A run passes the gate as its engine does.
-pub fn top<R: AllocGlobal + Threads + Wait + Sync, S: Source, K: Sink, G: Gate>(
+pub fn top<R: AllocGlobal + Threads + Wait + Sync, S: Source, K: Sink, G: Gate + Sync>(
     rt: &R,
     words: &[String],
     source: &mut S,
@@ -128,7 +128,7 @@ pub fn top<R: AllocGlobal + Threads + Wait + Sync, S: Source, K: Sink, G: Gate>(
 }
 
 /// Answers a command, or words that name none.
-fn answer<R: AllocGlobal + Threads + Wait + Sync, S: Source, K: Sink, G: Gate>(
+fn answer<R: AllocGlobal + Threads + Wait + Sync, S: Source, K: Sink, G: Gate + Sync>(
     rt: &R,
     asked: Option<Command>,
     source: &mut S,
@@ -156,7 +156,7 @@ fn answer<R: AllocGlobal + Threads + Wait + Sync, S: Source, K: Sink, G: Gate>(
 }
 
 /// Serves a command that reads a source and nothing behind it, on the text that the source has.
-fn serve<R: Threads + Wait + Sync, S: Source, K: Sink, G: Gate>(
+fn serve<R: Threads + Wait + Sync, S: Source, K: Sink, G: Gate + Sync>(
     rt: &R,
     alloc: Global,
     command: TextCommand,
@@ -189,7 +189,7 @@ pub fn tell_unread<K: Sink>(error: ReadError, sink: &mut K) -> u8
 }
 
 /// Serves a command on a text.
-fn serve_text<R: Threads + Wait + Sync, K: Sink, G: Gate>(
+fn serve_text<R: Threads + Wait + Sync, K: Sink, G: Gate + Sync>(
     rt: &R,
     alloc: Global,
     command: TextCommand,
@@ -210,7 +210,7 @@ fn serve_text<R: Threads + Wait + Sync, K: Sink, G: Gate>(
 }
 
 /// Serves a command on the program that was read.
-fn serve_program<R: Threads + Wait + Sync, K: Sink, G: Gate>(
+fn serve_program<R: Threads + Wait + Sync, K: Sink, G: Gate + Sync>(
     rt: &R,
     alloc: Global,
     command: TextCommand,

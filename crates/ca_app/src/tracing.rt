@@ -35,7 +35,7 @@ use std::thread::Threads;
 
 /// Runs the source by so many workers, which pass the gate as their engine does, and writes the schedule of the run. Nothing
 /// that the run prints is written.
-pub fn trace<R: Threads + Wait + Sync, S: Source, K: Sink, G: Gate>(
+pub fn trace<R: Threads + Wait + Sync, S: Source, K: Sink, G: Gate + Sync>(
     rt: &R,
     alloc: Global,
     workers: u32,
@@ -55,7 +55,7 @@ pub fn trace<R: Threads + Wait + Sync, S: Source, K: Sink, G: Gate>(
 }
 
 /// Runs a text, and writes the schedule of the run.
-fn trace_text<R: Threads + Wait + Sync, K: Sink, G: Gate>(
+fn trace_text<R: Threads + Wait + Sync, K: Sink, G: Gate + Sync>(
     rt: &R,
     alloc: Global,
     workers: u32,
@@ -77,7 +77,7 @@ fn trace_text<R: Threads + Wait + Sync, K: Sink, G: Gate>(
 }
 
 /// Runs a program, and writes the schedule of the run.
-fn trace_program<R: Threads + Wait + Sync, K: Sink, G: Gate>(
+fn trace_program<R: Threads + Wait + Sync, K: Sink, G: Gate + Sync>(
     rt: &R,
     alloc: Global,
     program: &Program,
@@ -101,7 +101,7 @@ fn trace_program<R: Threads + Wait + Sync, K: Sink, G: Gate>(
 }
 
 /// Runs a program, whose marked operations and loops an engine of so many workers runs, and tells the lines of its schedule.
-fn record_by_plan<R: Threads + Wait + Sync, G: Gate>(
+fn record_by_plan<R: Threads + Wait + Sync, G: Gate + Sync>(
     rt: &R,
     alloc: Global,
     program: &Program,

@@ -17,7 +17,7 @@ use std::thread::Threads;
 
 /// Serves a command that reads nothing. The text of `gen` is made whole before it is written, and `load` writes nothing before
 /// its run has ended.
-pub fn serve_unread<R: Threads + Wait + Sync, K: Sink, G: Gate>(
+pub fn serve_unread<R: Threads + Wait + Sync, K: Sink, G: Gate + Sync>(
     rt: &R,
     alloc: Global,
     command: LoneCommand,

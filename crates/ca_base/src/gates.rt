@@ -4,7 +4,7 @@
 ///
 /// A gate changes nothing that a contract sees. Its call returns: a gate that waits for another
 /// worker looks at most a limited number of times.
-pub trait Gate: Sync {
+pub trait Gate {
     /// The worker has taken the object and is about to work on it: to run sections on it, or to enter a call.
     fn inside(&self, worker: u32, object: u32);
 }

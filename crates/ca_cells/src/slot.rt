@@ -188,7 +188,8 @@ fn open_in(
     object: &Object,
     keeps: bool,
 ) -> Result<CellLog, Memory>
-    ensures { IfOk result (λ log. (log.entries ≡ []) × (log.object ≡ object.now) × (log.opened.value ≡ object.now)) }
+    ensures log { IfOk result (λ log. (log.entries ≡ []) × (log.object ≡ object.now) × (log.opened.value ≡ object.now)) }
+    ensures memory { memory.new ≡ memory.old }
 {
     Ok(CellLog {
         opened: Snapshot::of(object),
@@ -204,7 +205,8 @@ fn opened(
     object: &Object,
     keeps: bool,
 ) -> Result<SlotLog, Memory>
-    ensures { IfOk result (λ log. (log.entries ≡ []) × (log.object ≡ object.now) × (log.opened.value ≡ object.now)) }
+    ensures log { IfOk result (λ log. (log.entries ≡ []) × (log.object ≡ object.now) × (log.opened.value ≡ object.now)) }
+    ensures memory { memory.new ≡ memory.old }
 {
     let log = open_in(alloc, memory, object, keeps)?;
     Ok(SlotLog::of(alloc, log)?)
@@ -230,6 +232,7 @@ fn begin(
     ensures out { IfOk result (λ taken. Without items.items number taken.1.others.items) }
     ensures log { IfOk result (λ taken. (given : Given) (history : CellLog) → now_of given ≡ present heap.now beside.now → Stands given number None history → taken.0 ≡ history) }
     ensures back { IfErr result (λ back. back ≡ items.items) }
+    ensures memory { memory.new ≡ memory.old }
 {
     match opened(alloc, memory, beside.get(heap, number), keeps) {
         Ok(log) => Ok((
@@ -280,6 +283,7 @@ fn search(
     ensures out { IfOk result (λ taken. Without items.items number taken.1.others.items) }
     ensures log { IfOk result (λ taken. (given : Given) (history : CellLog) → now_of given ≡ present heap.now beside.now → Stands given number (found items.items number) history → taken.0 ≡ history) }
     ensures back { IfErr result (λ back. back ≡ items.items) }
+    ensures memory { memory.new ≡ memory.old }
 {
     match place(&items, number) {
         Some(at) => {
@@ -348,6 +352,7 @@ pub(crate) fn take_out(
     ensures out { IfOk result (λ taken. Without shelf number taken.1.others.items) }
     ensures log { IfOk result (λ taken. (given : Given) (history : CellLog) → now_of given ≡ present heap.now beside.now → Stands given number (found shelf number) history → taken.0 ≡ history) }
     ensures back { IfErr result (λ back. back ≡ shelf) }
+    ensures memory { memory.new ≡ memory.old }
 {
     let (others, last) = shelf.into_parts();
     match last {

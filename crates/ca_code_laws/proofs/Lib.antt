@@ -16,6 +16,7 @@ pub mod Sections
 pub mod Listed
 pub mod Heeding
 pub mod OneEnd
+pub mod NotWrong
 pub mod Grown
 pub mod Unnoted
 pub mod Examples

@@ -1,5 +1,5 @@
 -- A state has one end, and that of `main` is the serial run's.
-use Rattle.std.proofs.Common.{◌≡◌, ℕ, suc, ◌+◌, refl, sym, ap, ◌∙◌, arith, List, [], Some}
+use Rattle.std.proofs.Common.{◌≡◌, ℕ, suc, ◌+◌, refl, sym, ap, ◌∙◌, subst, arith, List, [], Some}
 use Rattle.std.specs.Prelude.{slice_get}
 use Rattle.ca_program.specs.declared.program.ClassId.{ClassId}
 use Rattle.ca_program.specs.declared.program.FieldId.{FieldId}
@@ -22,6 +22,7 @@ use Rattle.ca_parallel.specs.Separable.{Separable}
 use Rattle.ca_code_laws.specs.Machine.{Store, Accesses, State, Outcome, runs, Comes, Ends}
 use Rattle.ca_code_laws.specs.Runs.{never, section_access, section_outcome, sectioned_as, run_access, beginning, outcome_of, ended_as}
 use Rattle.ca_code_laws.specs.Told.{Holds, IsLaidOut}
+use Rattle.ca_code_laws.specs.Known.{IsKnown}
 use Rattle.ca_code_laws.proofs.Sections.{section_runs}
 use Rattle.ca_code_laws.proofs.Steps.{joins_end}
 use Rattle.ca_code_laws.proofs.Operations.{calls_end, main_runs}
@@ -61,3 +62,26 @@ section_ends p typed code is frozen heap written op separable r vs well c of_cla
     let run = section_run p frozen (invocation r op vs) object.slots (suc k) in
     let same = one_end (section_access frozen) code here (section_outcome run) o (section_runs p code typed is.functions is.ops frozen heap written op separable r vs well c of_class object typed_object start base k f place holds) ends in
     sym (sectioned_is object.class (suc k) run) ∙ ap (sectioned_as object.class (suc k)) same
+
+-- what means something is an end at which no memory is wanted
+pub known : (f : Flow World) → IsKnown (outcome_of f)
+known (goes_on ls w k) = tt
+known (gives_back v w k) = tt
+known (stops t w) = tt
+known (runs_out w) = tt
+
+section_known : (f : Flow Section) → IsKnown (section_outcome f)
+section_known (goes_on ls s k) = tt
+section_known (gives_back v s k) = tt
+section_known (stops t s) = tt
+section_known (runs_out s) = tt
+
+pub run_known : (p : PlainProgram) → ProgramTyped p → (code : Code) → IsLaidOut p code → (at budget : ℕ) → MainLaidOut p code at → (s : State World) (o : Outcome World) → Comes (run_access p) code (beginning at budget) s → Ends (run_access p) code s o → IsKnown o
+run_known p typed code is at budget main s o comes ends =
+    subst IsKnown (one_end (run_access p) code (beginning at budget) (outcome_of (main_run p budget)) o (main_runs never p code typed is.functions is.ops at budget main) (joins_end (run_access p) code comes ends)) (known (main_run p budget))
+
+pub section_is_known : (p : PlainProgram) → ProgramTyped p → (code : Code) → IsLaidOut p code → (frozen : List Object) → TypedHeap p frozen → (written : List FieldId) (op : OpId) → Separable p written op → (r : ℕ) (vs : List Datum) → WellTyped p frozen (invocation r op vs) → (c : ClassId) → IsMethodOf (slice_get p.ops op.0) c → (object : Object) → IsTypedObject p frozen c object → (start base k : ℕ) (f : Store) → slice_get code.ops op.0 ≡ Some start → Holds (λ i. param_kind (slice_get p.ops op.0) i) f base vs → (o : Outcome Section) → Ends (section_access frozen) code (record { at = start; base = base; left = k; this = Ref r; below = []; slots = f; world = section_start object.slots }) o → IsKnown o
+section_is_known p typed code is frozen heap written op separable r vs well c of_class object typed_object start base k f place holds o ends =
+    let here : State Section = record { at = start; base = base; left = k; this = Ref r; below = []; slots = f; world = section_start object.slots } in
+    let run = section_run p frozen (invocation r op vs) object.slots (suc k) in
+    subst IsKnown (one_end (section_access frozen) code here (section_outcome run) o (section_runs p code typed is.functions is.ops frozen heap written op separable r vs well c of_class object typed_object start base k f place holds) ends) (section_known run)

@@ -1,15 +1,15 @@
 -- What is known of the section of a body or a loop that fits, by whoever runs it.
-use Rattle.std.specs.Prelude.{◌≡◌, ◌-◌, ◌∷◌, ◌++◌, ℕ, List, [], length, Some, slice_get}
+use Rattle.std.specs.Prelude.{◌≡◌, ◌⊎◌, Option, ◌-◌, ◌∷◌, ◌++◌, ℕ, List, [], length, Some, slice_get}
 use Rattle.ca_program.specs.declared.program.ValueType.{ValueType}
 use Rattle.ca_program.specs.Plain.{PlainProgram, Statement}
 use Rattle.ca_program.specs.Kinds.{kinds_in}
-use Rattle.ca_program.specs.Instructions.{Leave, Placed, on, Code}
+use Rattle.ca_program.specs.Instructions.{Leave, Placed, on, Code, Instruction, Hand, Begin}
 use Rattle.ca_program.specs.Layout.{all_acts, no_hands, statement_code}
 use Rattle.ca_model.specs.declared.value.Value.{Value as Datum}
 use Rattle.ca_model.specs.declared.value.Object.{Object}
 use Rattle.ca_meaning.specs.Functions.{own_of}
 use Rattle.ca_meaning.specs.Sections.{Section, LoopSectioned, loop_stopped, loop_over, LoopOutcome, loop_done, loop_section, section_start}
-use Rattle.ca_code_laws.specs.Machine.{Store, State, Outcome, Finished, Trapped, Spent, Comes, Ends}
+use Rattle.ca_code_laws.specs.Machine.{Store, State, Outcome, Finished, Trapped, Spent, Wanting, Stuck, Accesses, Next, act, Comes, Ends}
 use Rattle.ca_code_laws.specs.Runs.{section_access}
 use Rattle.ca_code_laws.specs.Told.{Holds}
 
@@ -19,6 +19,17 @@ IsKnown (Finished w k) = Unit {0}
 IsKnown (Trapped t w) = Unit {0}
 IsKnown (Spent w) = Unit {0}
 IsKnown _ = ⊥
+
+-- whatever is next, the instruction where the machine stands wants memory, or none stands there
+abbrev pub Wrong : {S : Type 0} → Accesses S → Code → State S → Type 0
+Wrong {S} acc c u =
+    ((line : ℕ) (next : Next S) → act acc c line (slice_get c.items u.at) next u ≡ Wanting) ⊎ ((line : ℕ) (next : Next S) → act acc c line (slice_get c.items u.at) next u ≡ Stuck)
+
+-- it hands nothing on
+abbrev pub HandsNothing : Option Instruction → Type 0
+HandsNothing (Some (Hand op first)) = ⊥
+HandsNothing (Some (Begin n)) = ⊥
+HandsNothing _ = Unit {0}
 
 -- the code of a loop on its own
 abbrev pub loop_alone : PlainProgram → List ValueType → ℕ → Statement → List Placed

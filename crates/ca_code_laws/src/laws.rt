@@ -29,7 +29,7 @@ ghost use Rattle.ca_parallel.specs.Separable.{IsSeparated, Separable};
 ghost use Rattle.ca_note_laws.specs.Listing.{CallLoopsPutNothing, listing_run, puts_nothing};
 ghost use Rattle.ca_code_laws.specs.Fitting.{FitsMethod, FitsStatement, FunctionsFit};
 ghost use Rattle.ca_code_laws.specs.Heeding.{HeedingLaidOut, MainHeeds};
-ghost use Rattle.ca_code_laws.specs.Known.{IsKnown, KnowsLoop, loop_alone};
+ghost use Rattle.ca_code_laws.specs.Known.{HandsNothing, IsKnown, KnowsLoop, Wrong, loop_alone};
 ghost use Rattle.ca_code_laws.specs.Machine.{Store, Back, Accesses, State, Outcome, Comes, Ends, call_of, row, slot};
 ghost use Rattle.ca_code_laws.specs.Noted.{EndsNoted};
 ghost use Rattle.ca_code_laws.specs.Runs.{Into, run_access, run_into, section_access, section_outcome, sectioned_as, beginning, outcome_of, ended_as};
@@ -150,4 +150,18 @@ pub fn typed_texts_fit()
 /// So does a loop whose code stands on its own, with an end: who comes to its end has the loop's locals in the first slots.
 pub fn fitting_loops_know_their_sections()
     ensures { (p : PlainProgram) → FunctionsFit p → (code : Code) → IsLaidOut p code → (frozen : List Object) (tys : List ValueType) (loop : Statement) → FitsStatement p tys true as_pointer loop → (me : Datum) (line : ℕ) (ls : List Datum) → length ls ≡ length tys → (at base k : ℕ) (f : Store) → HasAt code at (loop_alone p tys line loop) → Holds (kinds_in p tys).locals f base ls → KnowsLoop p frozen code tys me line loop ls at base k f }
+{}
+
+/// A machine of a typed program wants no memory and is never stuck, wherever it has come to: a run of `main`, one that hands marked calls
+/// on, a well typed call, and the section of a separable operation.
+pub fn typed_machines_want_nothing()
+    ensures runs { (p : PlainProgram) → ProgramTyped p → (code : Code) → IsLaidOut p code → (at budget : ℕ) → MainLaidOut p code at → (s : State World) (o : Outcome World) → Comes (run_access p) code (beginning at budget) s → Ends (run_access p) code s o → IsKnown o }
+    ensures marked { (p : PlainProgram) (marks : PlainMarks) (code : Code) (at budget : ℕ) → EndsNoted p marks code at → (into : Into) (s : State World) (o : Outcome World) → Comes (run_into into p) code (beginning at budget) s → Ends (run_into into p) code s o → IsKnown o }
+    ensures calls { (p : PlainProgram) → ProgramTyped p → (code : Code) → IsLaidOut p code → (i : Invocation) (x : World) → TypedHeap p x.heap → WellTyped p x.heap i → (start base k : ℕ) (f : Store) → slice_get code.ops i.op.0 ≡ Some start → Holds (λ j. param_kind (slice_get p.ops i.op.0) j) f base i.arguments → (o : Outcome World) → Ends (run_access p) code (record { at = start; base = base; left = k; this = Ref i.receiver; below = []; slots = f; world = x }) o → IsKnown o }
+    ensures sections { (p : PlainProgram) → ProgramTyped p → (code : Code) → IsLaidOut p code → (frozen : List Object) → TypedHeap p frozen → (written : List FieldId) (op : OpId) → Separable p written op → (r : ℕ) (vs : List Datum) → WellTyped p frozen (invocation r op vs) → (c : ClassId) → IsMethodOf (slice_get p.ops op.0) c → (object : Object) → IsTypedObject p frozen c object → (start base k : ℕ) (f : Store) → slice_get code.ops op.0 ≡ Some start → Holds (λ i. param_kind (slice_get p.ops op.0) i) f base vs → (o : Outcome Section) → Ends (section_access frozen) code (record { at = start; base = base; left = k; this = Ref r; below = []; slots = f; world = section_start object.slots }) o → IsKnown o }
+{}
+
+/// So where it hands marked calls on, it never comes to a state, by what notes nothing, in which an instruction wants memory or none stands.
+pub fn typed_runs_are_never_wrong()
+    ensures { (p : PlainProgram) (marks : PlainMarks) (code : Code) (at budget : ℕ) → EndsNoted p marks code at → (into : Into) (s u : State World) → Comes (run_into into p) code (beginning at budget) s → Comes (run_access p) code s u → u.world.notes ≡ s.world.notes → HandsNothing (slice_get code.items u.at) → Wrong (run_access p) code u → ⊥ }
 {}

@@ -6,4 +6,5 @@ pub mod OneText
 mod Equal
 mod Alike
 pub mod Locked
+mod Led
 pub mod Marked

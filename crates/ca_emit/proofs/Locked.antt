@@ -129,7 +129,7 @@ if_there true x y xs ys zero e later = let same : x ≡ y = cc in (0, omega arit
 if_there true x y xs ys (suc n) e later = Contains-append_right (x ∷ []) xs y (later n e)
 if_there false x y xs ys n e later = Contains-append_right (x ∷ []) xs y (later n e)
 
-loop_there : (xs : List Statement) (n : ℕ) (y : Statement) → slice_get (call_loops_of xs) n ≡ Some y → Contains xs y
+pub loop_there : (xs : List Statement) (n : ℕ) (y : Statement) → slice_get (call_loops_of xs) n ≡ Some y → Contains xs y
 loop_there [] n y e = absurd cc
 loop_there (x ∷ xs) n y e = if_there (is_call_loop x) x y xs (call_loops_of xs) n e (λ m h. loop_there xs m y h)
 

@@ -1,7 +1,7 @@
 -- No mark of a call or a loop that runs in parallel is lost.
-use Rattle.std.proofs.Common.{◌≡◌, ℕ, zero, suc, ◌+◌, Bool, true, false, ◌||◌, List, [], ◌∷◌, ◌++◌, map, length, Option, Some, None, Result, Ok, Err, IfOk, refl, sym, ap, ap₂, subst, ◌∙◌, arith}
-use Rattle.std.specs.Prelude.{slice_get, nat_eq, Contains}
-use Rattle.std.proofs.lemmas.Bool.{or_right, false_from_ne_true, both_ways}
+use Rattle.std.proofs.Common.{inl, inr, ◌⊎◌, ◌≡◌, ℕ, zero, suc, ◌+◌, Bool, true, false, ◌||◌, List, [], ◌∷◌, ◌++◌, map, length, Option, Some, None, Result, Ok, Err, IfOk, refl, sym, ap, ap₂, subst, ◌∙◌, arith}
+use Rattle.std.specs.Prelude.{slice_get, nat_eq}
+use Rattle.std.proofs.lemmas.Bool.{eqb-true, or_right, false_from_ne_true}
 use Rattle.std.proofs.lemmas.List.{length-map, length-append}
 use Rattle.ca_tree.specs.declared.name.Place.{Place}
 use Rattle.ca_tree.specs.Plain as tree
@@ -15,12 +15,13 @@ use Rattle.ca_parallel.specs.Lists.{PlainMarks, op_in}
 use Rattle.ca_lock_laws.specs.Resolves.{AllBodies, ProgramResolves}
 use Rattle.ca_lock_laws.specs.Sites.{lines_of, lines_of_all, SameSites}
 use Rattle.ca_lock_laws.proofs.Paired.{sites_paired}
-use Rattle.ca_canonical.specs.declared.marks.Mark.TheVariants.{Spawn, Parallel}
-use Rattle.ca_plan.specs.Plans.{PlainPlan, op_at}
+use Rattle.ca_canonical.specs.declared.marks.Mark.TheVariants.{Parallel}
+use Rattle.ca_plan.specs.Plans.{PlainPlan, PlanOf, op_at}
 use Rattle.ca_plan.specs.Texts.{loop_in}
-use Rattle.ca_emit.specs.Annotations.{annotated_text, before_statement, is_among, locked_bodies, marking_by, marking_of, marks_if, number_in, operations_of, parallel_bodies, parallel_ops, parallel_sites, picked, place_in, place_number, run_parallel, runs_parallel, sites_from, sites_in, sites_of_all, sites_of_method}
-use Rattle.ca_emit.specs.Locks.{Marks, MarksEach, MarkedText, SpawnsNothing}
-use Rattle.ca_emit.proofs.Locked.{behind, in_front, body_there}
+use Rattle.ca_emit.specs.Annotations.{annotated_text, before_statement, bodies_from, is_among, locked_bodies, locked_ops, marking_by, marking_of, marks_if, number_in, operations_of, parallel_bodies, parallel_ops, parallel_sites, picked, place_if, place_in, place_number, run_parallel, runs_parallel, sites_from, sites_in, sites_of_all, sites_of_method}
+use Rattle.ca_emit.specs.Locks.{IsLedTo, Marks, MarksEach, MarkedText, NamesApart}
+use Rattle.ca_emit.proofs.Led.{beside, locked_led, parallel_led}
+use Rattle.ca_emit.proofs.Locked.{behind, in_front}
 
 -- ---- as many flags as lines
 
@@ -52,12 +53,6 @@ as_many : (ms : PlainMarks) (ss : tree.Statements) (xs : program.Statements) →
 as_many ms ss xs h = sym (length-map (sites_of_all ss) (λ (at : Place). at.line)) ∙ (ap length h ∙ sym (all_flags ms false xs))
 
 -- ---- what is picked
-
-beside : (ats : List Place) (bs : List Bool) (n : ℕ) (b : Bool) → length ats ≡ length bs → slice_get bs n ≡ Some b → (at : Place) × (slice_get ats n ≡ Some at)
-beside ats [] n b e h = absurd cc
-beside [] (c ∷ bs) n b e h = absurd (omega (arith, e))
-beside (a ∷ ats) (c ∷ bs) zero b e h = (a, refl)
-beside (a ∷ ats) (c ∷ bs) (suc n) b e h = beside ats bs n b (omega (arith, e)) h
 
 abbrev Has : List Place → Place → Type 0
 Has ats at = number_in (map place_number ats) (place_number at) ≡ true
@@ -104,15 +99,6 @@ module _ (ms : PlainMarks) (locked parallel sites : Place → Bool) where
       let a = beside (sites_of_all ss) (run_parallel ms false xs) n true (as_many ms ss xs same) h in
       (a.0, a.1, marks_at locked parallel sites body a.0 none (all a.0 (is_picked (sites_of_all ss) (run_parallel ms false xs) n a.0 a.1 h)))
 
--- a call of a parallel operation with no statement in front of it is spawned
-spawned : (a b : Bool) (sites : Place → Bool) (e : tree.Expression) (at : Place) → (Contains (before_statement a b sites None (tree.call_statement at e)) Spawn → ⊥) → (a ≡ false) × (b ≡ false)
-spawned true b sites e at h = absurd (h (1, omega arith, refl))
-spawned false true sites e at h = absurd (h (0, omega arith, refl))
-spawned false false sites e at h = (refl, refl)
-
-is_plain : (locked parallel sites : Place → Bool) (at : Place) → SpawnsNothing (marking_by locked parallel sites) at → IsPlain locked parallel (Some at)
-is_plain locked parallel sites at h = spawned (locked at) (parallel at) sites (tree.this at) at (h None (tree.call_statement at (tree.this at)))
-
 same_body : (ms : List MethodTree) (xs : List PlainMethod) (n : ℕ) (x : MethodTree) → AllBodies SameSites ms xs → slice_get ms n ≡ Some x → SameSites x.body (body_of (slice_get xs n))
 same_body [] xs n x h e = absurd cc
 same_body (m ∷ ms) [] n x h e = absurd h
@@ -139,22 +125,66 @@ module _ (p : PlainProgram) (ms : PlainMarks) (parallel : List OpId) where
       has_right (sites_of_method p ms parallel n m) (sites_from p ms parallel (n + 1) rest) at
       (from_body (n + 1) k rest x at e (subst (λ z. op_in parallel (op_at z) ≡ false) further none) (subst (λ z. Has (picked (sites_of_all x.body) (run_parallel ms false (operation_body p (op_at z)))) at) further h))
 
-module _ (p : PlainProgram) (plan : PlainPlan) (t : TextTree) (resolves : ProgramResolves t p) where
+-- ---- which bodies are named
+
+-- a name at this place is that of one of these operations
+record Named (ops : List OpId) (n : ℕ) (ms : List MethodTree) (number : ℕ) : Type 0 where
+  place : ℕ
+  tree : MethodTree
+  found : slice_get ms place ≡ Some tree
+  among : op_in ops (op_at (n + place)) ≡ true
+  same : place_number tree.at ≡ number
+
+named_if : (b : Bool) (at : Place) (rest : List Place) (number : ℕ) → number_in (map place_number (place_if b at ++ rest)) number ≡ true
+    → ((b ≡ true) × (place_number at ≡ number)) ⊎ (number_in (map place_number rest) number ≡ true)
+named_if false at rest number h = inr h
+named_if true at rest number h = from (nat_eq (place_number at) number) refl h
+  where
+    from : (b : Bool) → nat_eq (place_number at) number ≡ b → b || number_in (map place_number rest) number ≡ true
+        → ((true ≡ true) × (place_number at ≡ number)) ⊎ (number_in (map place_number rest) number ≡ true)
+    from true d e = inl (refl, eqb-true (place_number at) number d)
+    from false d e = inr e
+
+named_by : (ops : List OpId) (n : ℕ) (ms : List MethodTree) (number : ℕ) → number_in (map place_number (bodies_from ops n ms)) number ≡ true → Named ops n ms number
+named_by ops n [] number h = absurd cc
+named_by ops n (m ∷ ms) number h = from (named_if (op_in ops (op_at n)) m.at (bodies_from ops (n + 1) ms) number h) (λ d. named_by ops (n + 1) ms number d)
+  where
+    at_n : n ≡ n + 0
+    at_n = omega arith
+
+    further : (k : ℕ) → (n + 1) + k ≡ n + suc k
+    further k = omega arith
+
+    from : ((op_in ops (op_at n) ≡ true) × (place_number m.at ≡ number)) ⊎ (number_in (map place_number (bodies_from ops (n + 1) ms)) number ≡ true)
+        → (number_in (map place_number (bodies_from ops (n + 1) ms)) number ≡ true → Named ops (n + 1) ms number) → Named ops n (m ∷ ms) number
+    from (inl here) more = record { place = 0; tree = m; found = refl; among = subst (λ z. op_in ops (op_at z) ≡ true) at_n here.0; same = here.1 }
+    from (inr behind) more = let r = more behind in
+        record { place = suc r.place; tree = r.tree; found = r.found; among = subst (λ z. op_in ops (op_at z) ≡ true) (further r.place) r.among; same = r.same }
+
+-- the name of an operation that isn't among these isn't among theirs
+not_named : (t : TextTree) → NamesApart t → (ops : List OpId) (n : ℕ) (x : MethodTree) → slice_get (operations_of t.classes) n ≡ Some x
+    → (op_in ops (op_at n) ≡ true → ⊥) → place_in (bodies_from ops 0 (operations_of t.classes)) x.at ≡ false
+not_named t apart ops n x found none = false_from_ne_true (place_in (bodies_from ops 0 (operations_of t.classes)) x.at) (λ h.
+    let r = named_by ops 0 (operations_of t.classes) (place_number x.at) h in
+    let mine : 0 + r.place ≡ n = (let z : 0 + r.place ≡ r.place = omega arith in z) ∙ apart r.place n r.tree x r.found found r.same in
+    none (subst (λ z. op_in ops (op_at z) ≡ true) mine r.among))
+
+module _ (p : PlainProgram) (plan : PlainPlan) (t : TextTree) (resolves : ProgramResolves t p) (is : PlanOf p plan) (apart : NamesApart t) where
   main_marked : MarksEach plan.marks (marking_of p plan t) None t.main p.main.statements
   main_marked =
       let ops = parallel_ops plan in
       marks_each plan.marks (place_in (locked_bodies p plan t)) (place_in (parallel_bodies plan t)) (place_in (parallel_sites p plan t)) None t.main p.main.statements (sites_paired t p resolves).main (refl, refl)
       (λ at h. has_right (sites_from p plan.marks ops 0 (operations_of t.classes)) (sites_in plan.marks false t.main p.main.statements) at h)
 
-  operation_marked : (n : ℕ) (x : MethodTree) → slice_get (operations_of t.classes) n ≡ Some x → SpawnsNothing (marking_of p plan t) x.at → MarksEach plan.marks (marking_of p plan t) (Some x.at) x.body (operation_body p (op_at n))
-  operation_marked n x found quiet =
+  operation_marked : (n : ℕ) (x : MethodTree) → slice_get (operations_of t.classes) n ≡ Some x → (IsLedTo p plan.marks (op_at n) → ⊥) → MarksEach plan.marks (marking_of p plan t) (Some x.at) x.body (operation_body p (op_at n))
+  operation_marked n x found free =
       let ops = parallel_ops plan in
-      let bodies = place_in (parallel_bodies plan t) in
-      let plain = is_plain (place_in (locked_bodies p plan t)) bodies (place_in (parallel_sites p plan t)) x.at quiet in
+      let no_lock = not_named t apart (locked_ops p plan) n x found (λ h. free (locked_led p plan is (op_at n) h)) in
+      let not_parallel = not_named t apart ops n x found (λ h. free (parallel_led p plan is (op_at n) h)) in
       let at_zero : n ≡ 0 + n = omega arith in
-      let none : op_in ops (op_at (0 + n)) ≡ false = false_from_ne_true (op_in ops (op_at (0 + n))) (λ h. let there : bodies x.at ≡ true = body_there ops 0 n (operations_of t.classes) x found h in absurd (both_ways (bodies x.at) plain.1 there)) in
+      let none : op_in ops (op_at (0 + n)) ≡ false = subst (λ z. op_in ops (op_at z) ≡ false) at_zero (false_from_ne_true (op_in ops (op_at n)) (λ h. free (parallel_led p plan is (op_at n) h))) in
       let same = same_body (operations_of t.classes) p.ops n x (sites_paired t p resolves).operations found in
-      marks_each plan.marks (place_in (locked_bodies p plan t)) bodies (place_in (parallel_sites p plan t)) (Some x.at) x.body (operation_body p (op_at n)) same plain
+      marks_each plan.marks (place_in (locked_bodies p plan t)) (place_in (parallel_bodies plan t)) (place_in (parallel_sites p plan t)) (Some x.at) x.body (operation_body p (op_at n)) same (no_lock, not_parallel)
       (λ at h. has_left (sites_from p plan.marks ops 0 (operations_of t.classes)) (sites_in plan.marks false t.main p.main.statements) at
       (from_body p plan.marks ops 0 n (operations_of t.classes) x at found none (subst (λ z. Has (picked (sites_of_all x.body) (run_parallel plan.marks false (operation_body p (op_at z)))) at) at_zero h)))
 

@@ -4,13 +4,14 @@ use Rattle.std.specs.Prelude.{ℕ, ◌≡◌, true, false, List, [], ◌∷◌, 
 use Rattle.ca_tree.specs.declared.name.Place.{Place}
 use Rattle.ca_tree.specs.Plain as tree
 use Rattle.ca_tree.specs.Plain.{MethodTree, TextTree}
+use Rattle.ca_program.specs.declared.program.OpId.{OpId}
 use Rattle.ca_program.specs.Plain.{PlainProgram}
 use Rattle.ca_program.specs.Plain as program
-use Rattle.ca_parallel.specs.Extents.{operation_body}
+use Rattle.ca_parallel.specs.Extents.{Extent, IsExtentOf, operation_body}
 use Rattle.ca_parallel.specs.Lists.{PlainMarks}
 use Rattle.ca_lock_laws.specs.Events.{Event, locks, unlocks, spawns}
 use Rattle.ca_lock_laws.specs.Paths.{Guards}
-use Rattle.ca_lock_laws.specs.Guarded.{KeepsLock}
+use Rattle.ca_lock_laws.specs.Guarded.{Begins, KeepsLock}
 use Rattle.ca_canonical.specs.declared.marks.Mark.{Mark}
 use Rattle.ca_canonical.specs.declared.marks.Mark.TheVariants.{Lock, Unlock, Spawn, Parallel}
 use Rattle.ca_canonical.specs.Marks.{Marking}
@@ -18,7 +19,7 @@ use Rattle.ca_canonical.specs.Annotated.{annotated}
 use Rattle.ca_canonical.specs.Texts.{text_of_pieces}
 use Rattle.ca_plan.specs.Plans.{PlainPlan, op_at}
 use Rattle.ca_lock_laws.specs.Sites.{sites_of_all}
-use Rattle.ca_emit.specs.Annotations.{operations_of, run_parallel}
+use Rattle.ca_emit.specs.Annotations.{operations_of, place_number, run_parallel}
 
 abbrev pub event_of : Mark → List Event
 event_of Lock = locks ∷ []
@@ -53,14 +54,24 @@ pub record Marks (m : Marking) (body : Option Place) (at : Place) : Type 0 where
 abbrev pub MarksEach : PlainMarks → Marking → Option Place → tree.Statements → program.Statements → Type 0
 MarksEach marks m body ss xs = (n : ℕ) → slice_get (run_parallel marks false xs) n ≡ Some true → (at : Place) × (slice_get (sites_of_all ss) n ≡ Some at) × Marks m body at
 
--- no call is spawned in the body of the method whose name stands at this place
-abbrev pub SpawnsNothing : Marking → Place → Type 0
-SpawnsNothing m at = (front : Option tree.Statement) (s : tree.Statement) → ¬ Contains (m.before (Some at) front s) Spawn
+-- a marked call or a marked loop may lead to the operation: it is in the extent of one
+pub record IsLedTo (p : PlainProgram) (marks : PlainMarks) (op : OpId) : Type 0 where
+  pub roots : List OpId
+  pub begins : Begins p marks roots
+  pub extent : Extent
+  pub is : IsExtentOf p roots extent
+  pub holds : Contains extent.ops op
+
+-- no two operations have their names at one place, as in each text
+abbrev pub NamesApart : TextTree → Type 0
+NamesApart t =
+    (k n : ℕ) (x y : MethodTree) → slice_get (operations_of t.classes) k ≡ Some x → slice_get (operations_of t.classes) n ≡ Some y
+    → place_number x.at ≡ place_number y.at → k ≡ n
 
 -- The text is that of a tree with a mark for each call and each loop that runs in parallel, in `main` and in each operation
--- that spawns nothing.
+-- to which no marked call or loop may lead.
 pub record MarkedText (p : PlainProgram) (plan : PlainPlan) (t : TextTree) (text : List ℕ) : Type 0 where
   pub marking : Marking
   pub is : text ≡ text_of_pieces (annotated marking t)
   pub main : MarksEach plan.marks marking None t.main p.main.statements
-  pub operations : (n : ℕ) (x : MethodTree) → slice_get (operations_of t.classes) n ≡ Some x → SpawnsNothing marking x.at → MarksEach plan.marks marking (Some x.at) x.body (operation_body p (op_at n))
+  pub operations : (n : ℕ) (x : MethodTree) → slice_get (operations_of t.classes) n ≡ Some x → (IsLedTo p plan.marks (op_at n) → ⊥) → MarksEach plan.marks marking (Some x.at) x.body (operation_body p (op_at n))

@@ -16,7 +16,7 @@ ghost use Rattle.ca_canonical.specs.Spell.{spell};
 ghost use Rattle.ca_canonical.specs.Texts.{text_of};
 ghost use Rattle.ca_emit.specs.Annotations.{all_sites, annotated_text, bodies_from, has_place, locked_bodies, operations_of, parallel_bodies, parallel_sites, place_if, place_in, sites_of_method};
 ghost use Rattle.ca_lock_laws.specs.Resolves.{ProgramResolves};
-ghost use Rattle.ca_emit.specs.Locks.{KeptText, MarkedText};
+ghost use Rattle.ca_emit.specs.Locks.{KeptText, MarkedText, NamesApart};
 ghost use Rattle.ca_emit.specs.clauses.Seen.{methods_seen};
 
 use crate::marking::Marked;
@@ -125,12 +125,13 @@ fn marked(alloc: Global, program: &Program, tree: &Tree, plan: &Plan) -> Result<
 
 /// The annotated text of a tree, of its program and of the program's plan. Without its marks it is the canonical text. Where
 /// the plan is the program's, with sound marks, the bodies of its operations keep the lock discipline; where the program stands
-/// for the tree, each call and each loop that runs in parallel has its mark.
+/// for the tree, each call and each loop that runs in parallel has its mark, in `main` and in each operation to which no marked
+/// call or loop may lead.
 pub fn emit(alloc: Global, program: &Program, tree: &Tree, plan: &Plan) -> Result<Vec<u8>, Memory>
     ensures text { IfOk result (λ out. out.items ≡ annotated_text (program_view program.now) plan.now (tree_view tree.now)) }
     ensures erased { (text : List ℕ) (tokens : List Token) → Tokens text tokens → Derives tokens (tree_view tree.now) → IfOk result (λ out. Erased out.items (text_of (spell (tree_view tree.now)))) }
     ensures locks { PlanOf (program_view program.now) plan.now → Checked (program_view program.now) → SoundMarks (program_view program.now) plan.now.marks → IfOk result (λ out. KeptText (program_view program.now) plan.now (tree_view tree.now) out.items) }
-    ensures sites { ProgramResolves (tree_view tree.now) (program_view program.now) → IfOk result (λ out. MarkedText (program_view program.now) plan.now (tree_view tree.now) out.items) }
+    ensures sites { ProgramResolves (tree_view tree.now) (program_view program.now) → PlanOf (program_view program.now) plan.now → NamesApart (tree_view tree.now) → IfOk result (λ out. MarkedText (program_view program.now) plan.now (tree_view tree.now) out.items) }
 {
     let marked = marked(alloc, program, tree, plan)?;
     annotate(alloc, tree, &marked)

@@ -1,6 +1,6 @@
 //! Writes values and the heap as text: `value_text` and `heap_text` of `specs/Texts.antt`.
 
-ghost use Rattle.std.specs.Prelude.{◌≡◌, ◌++◌, codes, option_copied, slice_get};
+ghost use Rattle.std.specs.Prelude.{◌≡◌, ◌++◌, ◌∷◌, [], codes, option_copied, slice_get};
 ghost use Rattle.ca_base.specs.Devices.{HasCause, Writes};
 ghost use Rattle.ca_program.specs.View.{program_view};
 ghost use Rattle.ca_model.specs.Lines.{Adds};
@@ -9,9 +9,12 @@ ghost use Rattle.ca_model.specs.Texts.{value_text, values_text, further_values_t
 use crate::heap::Heap;
 use crate::line::Line;
 use crate::value::{Object, Slot, Value};
-use ca_base::{Failed, Sink};
+use ca_base::{Failed, Sink, write_all};
 use ca_program::{Class, ClassId, FieldInfo, Program};
 use itoa::Buffer;
+
+/// Heaps of at most so many objects go out in three writes a line. The lines of larger ones go out together.
+const FEW_OBJECTS: u32 = 64;
 
 /// Adds the text of a value to a line: a number in decimal, `true` or `false`, `null`, or `#` and the number
 /// of an object. It goes out when the line is flushed, or before, with what was pending, where the line's
@@ -207,10 +210,8 @@ fn add_objects<K: Sink>(
     Ok(())
 }
 
-/// Writes the heap's text: a line for each object, in their order. It takes no memory.
-///
-/// After `Failed` a beginning of the text was written.
-pub fn print_heap<K: Sink>(program: &Program, heap: &Heap, sink: &mut K) -> Result<(), Failed>
+/// Adds the lines of all objects to an empty buffer, and writes it whenever it is full and at the end.
+fn write_together<K: Sink>(program: &Program, heap: &Heap, sink: &mut K) -> Result<(), Failed>
     ensures bytes { Writes (K.written sink.old) (K.written sink.new) result (heap_text (program_view program.now) heap.now) }
     ensures cause { HasCause (K.faults sink.old) (K.faults sink.new) result }
 {
@@ -219,4 +220,67 @@ pub fn print_heap<K: Sink>(program: &Program, heap: &Heap, sink: &mut K) -> Resu
         return Err(failed);
     }
     line.flush(sink)
+}
+
+/// Writes what stands behind the number in the line of an object: in one write where it fits the buffer.
+fn write_rest<K: Sink>(program: &Program, object: &Object, sink: &mut K) -> Result<(), Failed>
+    ensures bytes { Writes (K.written sink.old) (K.written sink.new) result (class_text (slice_get (program_view program.now).classes object.now.class.0) object.now.slots ++ 10 ∷ []) }
+    ensures cause { HasCause (K.faults sink.old) (K.faults sink.new) result }
+{
+    let mut line = Line::new();
+    if let Err(failed) = add_class(program, object, &mut line, sink) {
+        return Err(failed);
+    }
+    if let Err(failed) = line.add(sink, b"\n") {
+        return Err(failed);
+    }
+    line.flush(sink)
+}
+
+/// Writes the line of an object: the `#`, the number and the rest in writes of their own.
+fn write_object<K: Sink>(
+    program: &Program,
+    id: u32,
+    object: &Object,
+    sink: &mut K,
+) -> Result<(), Failed>
+    ensures bytes { Writes (K.written sink.old) (K.written sink.new) result (object_text (program_view program.now) id object.now) }
+    ensures cause { HasCause (K.faults sink.old) (K.faults sink.new) result }
+{
+    if let Err(failed) = write_all(sink, b"#") {
+        return Err(failed);
+    }
+    if let Err(failed) = write_all(sink, Buffer::new().format(id).as_bytes()) {
+        return Err(failed);
+    }
+    write_rest(program, object, sink)
+}
+
+/// Writes the lines of all objects, in their order, each in writes of its own.
+fn write_apart<K: Sink>(program: &Program, heap: &Heap, sink: &mut K) -> Result<(), Failed>
+    ensures bytes { Writes (K.written sink.old) (K.written sink.new) result (heap_text (program_view program.now) heap.now) }
+    ensures cause { HasCause (K.faults sink.old) (K.faults sink.new) result }
+{
+    for id in 0..heap.len() {
+        if let Err(failed) = write_object(program, id, heap.get(id), sink) {
+            return Err(failed);
+        }
+    }
+    Ok(())
+}
+
+/// Writes the heap's text: a line for each object, in their order. It takes no memory.
+///
+/// Of a heap of at most 64 objects the `#`, the number and the rest of each line go out in writes of their
+/// own, so a line makes at least three writes. The lines of a larger heap go out together.
+///
+/// After `Failed` a beginning of the text was written.
+pub fn print_heap<K: Sink>(program: &Program, heap: &Heap, sink: &mut K) -> Result<(), Failed>
+    ensures bytes { Writes (K.written sink.old) (K.written sink.new) result (heap_text (program_view program.now) heap.now) }
+    ensures cause { HasCause (K.faults sink.old) (K.faults sink.new) result }
+{
+    if heap.len() <= FEW_OBJECTS {
+        return write_apart(program, heap, sink);
+    }
+    write_together(program, heap, sink)
 }

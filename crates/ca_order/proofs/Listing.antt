@@ -6,8 +6,7 @@ use Rattle.std.proofs.lemmas.List.{map-append, append_assoc, drop_all}
 use Rattle.ca_order.specs.declared.point.Point.{Point}
 use Rattle.ca_order.specs.declared.point.Point.TheVariants as point
 use Rattle.ca_order.specs.declared.rankings.Ranking.{Ranking}
-use Rattle.ca_order.specs.Points.{Ranked}
-use Rattle.ca_order.specs.Rankings.{ranked, order_in, numbers_rise, each_behind}
+use Rattle.ca_order.specs.Rankings.{numbers_rise, each_behind, points_and_ranks}
 
 abbrev pub items : Vec ℕ Global → List ℕ
 items v = v.items
@@ -72,11 +71,15 @@ pub kept_more : {E : Type 0} (r : Result (Vec ℕ Global) E) (p : List ℕ → B
 kept_more r p i x xs old new l e t h f g =
     put_items r x.items old new h f ∙ ap (λ z. z ++ x.items ∷ []) g ∙ sym (one_kept p i x xs l e ∙ ap (λ b. filter p (map items (take i xs)) ++ cond b (x.items ∷ []) []) t)
 
--- one order more, as a list of points with their ranks
-pub one_ranked : {E : Type 0} (r : Result Ranking E) (ps : List Point) (i : ℕ) (x : Vec ℕ Global) (xs : List (Vec ℕ Global)) (old new : List Ranking) → i < length xs → x ≡ slice_index_or xs i x →
-    IsOkAnd r (λ y. new ≡ old ++ y ∷ []) → IfOk r (λ y. order_in y ≡ ranked ps x.items) → map order_in old ≡ map (ranked ps) (map items (take i xs)) →
-    map order_in new ≡ map (ranked ps) (map items (take (i + 1) xs))
-one_ranked (Ok y) ps i x xs old new l e h f g =
-    ap (map order_in) h ∙ map-append order_in old (y ∷ []) ∙ ap₂ (λ (a b : List Ranked). a ++ b) g (ap (λ z. z ∷ []) f)
-    ∙ sym (map-append (ranked ps) (map items (take i xs)) (x.items ∷ [])) ∙ ap (map (ranked ps)) (sym (take_more xs i x l e))
-one_ranked (Err y) ps i x xs old new l e h f g = absurd h
+-- points with each of some lists of ranks
+abbrev pub with_ranks : List Point → List ℕ → List Point × List ℕ
+with_ranks ps ks = (ps, ks)
+
+-- one order more
+pub one_ranking : {E : Type 0} (r : Result Ranking E) (ps : List Point) (i : ℕ) (x : Vec ℕ Global) (xs : List (Vec ℕ Global)) (old new : List Ranking) → i < length xs → x ≡ slice_index_or xs i x →
+    IsOkAnd r (λ y. new ≡ old ++ y ∷ []) → IfOk r (λ y. y.points.items ≡ ps) → IfOk r (λ y. y.ranks.items ≡ x.items) → map points_and_ranks old ≡ map (with_ranks ps) (map items (take i xs)) →
+    map points_and_ranks new ≡ map (with_ranks ps) (map items (take (i + 1) xs))
+one_ranking (Ok y) ps i x xs old new l e h f k g =
+    ap (map points_and_ranks) h ∙ map-append points_and_ranks old (y ∷ []) ∙ ap₂ (λ (a b : List (List Point × List ℕ)). a ++ b) g (ap₂ (λ (a : List Point) (b : List ℕ). (a, b) ∷ []) f k)
+    ∙ sym (map-append (with_ranks ps) (map items (take i xs)) (x.items ∷ [])) ∙ ap (map (with_ranks ps)) (sym (take_more xs i x l e))
+one_ranking (Err y) ps i x xs old new l e h f k g = absurd h

@@ -81,6 +81,10 @@ all_ranks (suc m) n = all_before n (all_ranks m n)
 abbrev pub rankings_of : List Point → List (List ℕ)
 rankings_of ps = filter (is_ranking ps) (all_ranks (length ps) (length ps))
 
+-- the points of a ranking, and the rank of each in their order
+abbrev pub points_and_ranks : Ranking → List Point × List ℕ
+points_and_ranks r = (r.points.items, r.ranks.items)
+
 -- none of a list stands in it twice
 abbrev pub EachOnce : List (List ℕ) → Type 0
 EachOnce [] = Unit {0}

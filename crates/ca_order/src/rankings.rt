@@ -2,7 +2,7 @@
 
 ghost use Rattle.std.specs.Prelude.{◌≡◌, ◌≤◌, [], ◌∷◌, ◌++◌, length, map, drop, IfOk, OnOk};
 ghost use Rattle.std.specs.List.{filter};
-ghost use Rattle.ca_order.specs.Rankings.{stands, before_used, below_next, numbers_rise, is_ranking, each_behind, all_before, all_ranks, rankings_of, ranked, order_in};
+ghost use Rattle.ca_order.specs.Rankings.{stands, before_used, below_next, numbers_rise, is_ranking, each_behind, all_before, all_ranks, rankings_of, points_and_ranks};
 
 use crate::point::Point;
 use ca_forms::parts::add;
@@ -177,7 +177,8 @@ pub(crate) fn orders(alloc: Global, points: &[Point]) -> Result<Vec<Vec<u32>>, A
 
 /// Points with ranks.
 fn ranking_of(alloc: Global, points: &[Point], ranks: &[u32]) -> Result<Ranking, AllocError>
-    ensures { IfOk result (λ r. order_in r ≡ ranked points.now ranks.now) }
+    ensures points { IfOk result (λ r. r.points.items ≡ points.now) }
+    ensures ranks { IfOk result (λ r. r.ranks.items ≡ ranks.now) }
 {
     let mut own = Vec::new(alloc);
     own.extend_from_slice(points)?;
@@ -185,10 +186,10 @@ fn ranking_of(alloc: Global, points: &[Point], ranks: &[u32]) -> Result<Ranking,
     Ok(Ranking { points: own, ranks })
 }
 
-/// The same as orders of points.
+/// The orders of points, those of smaller ranks first: each with all of the points and a rank for each.
 pub fn rankings(alloc: Global, points: &[Point]) -> Result<Vec<Ranking>, AllocError>
     requires { length points.now ≤ 5 }
-    ensures { IfOk result (λ v. map order_in v.items ≡ map (ranked points.now) (rankings_of points.now)) }
+    ensures { IfOk result (λ v. map points_and_ranks v.items ≡ map (λ ks. (points.now, ks)) (rankings_of points.now)) }
 {
     let lists = orders(alloc, points)?;
     let mut out = Vec::new(alloc);

@@ -4,6 +4,7 @@ use Rattle.std.proofs.Common.{◌≡◌, ◌≤◌, ℕ, zero, suc, ◌+◌, ◌
 use Rattle.std.specs.Prelude.{slice_get, nat_lt, ◌||◌, flat_map, Option, Some}
 use Rattle.std.specs.List.{list_any}
 use Rattle.std.proofs.lemmas.Bool.Decides.{nat_tests}
+use Rattle.std.proofs.lemmas.List.Folds.{list_any-append}
 use Rattle.ca_program.specs.declared.program.FieldId.{FieldId}
 use Rattle.ca_program.specs.declared.program.FieldInfo.{FieldInfo}
 use Rattle.ca_program.specs.declared.program.OpId.{OpId}
@@ -59,6 +60,10 @@ low_light t h = not_above (weight_of t) (omega (arith, h.nodes_few, h.spread_few
 
 bounded_light : (k : ℕ) (t : PlainTerm) → IsBounded k t → k ≤ 64 → is_heavy t ≡ false
 bounded_light k t h l = not_above (weight_of t) (omega (arith, h.nodes_few, h.spread_few, h.depth_few, l))
+
+fields_light : (k : ℕ) (ts : List PlainTerm) → k ≤ 64 → ((n : ℕ) → IsBounded k (term_at ts n)) → list_any is_heavy ts ≡ false
+fields_light k [] l h = refl
+fields_light k (t ∷ ts) l h = ap₂ (λ a b. a || b) (bounded_light k t (h 0) l) (fields_light k ts l (λ n. h (suc n)))
 
 simple_bounded : (k : ℕ) (t : PlainTerm) → IsSimple t → IsBounded k t
 simple_bounded k t h = record {
@@ -306,7 +311,12 @@ module _ (p : PlainProgram) (written : List FieldId) (kinds : ℕ → Kind) (m :
 
   operation_light : (k : ℕ) → IsBegun written m (begins p op g fields) → AreBounded k (begins p op g fields) → k ≤ 32 → is_heavy_by p op g fields ≡ false
   operation_light k h b l =
-      subst (λ xs. list_any is_heavy (made_by p (begins p op g fields) (truth true) xs) ≡ false) (sym body_found) (all_light p written m kinds k (begins p op g fields) (truth true) h b (omega (arith, l, plain.few)) plain.body)
+      let made : list_any is_heavy (made_by p (begins p op g fields) (truth true) (operation_body p op)) ≡ false =
+      subst (λ xs. list_any is_heavy (made_by p (begins p op g fields) (truth true) xs) ≡ false) (sym body_found) (all_light p written m kinds k (begins p op g fields) (truth true) h b (omega (arith, l, plain.few)) plain.body) in
+      let behind : AreBounded (k + count_of m.body.statements) (executed p op g fields) =
+      subst (λ xs. AreBounded (k + count_of m.body.statements) (after_all p (begins p op g fields) xs)) (sym body_found) (body_bounded p written m kinds k (begins p op g fields) h b plain.body) in
+      list_any-append is_heavy (made_by p (begins p op g fields) (truth true) (operation_body p op)) (executed p op g fields).fields
+      ∙ ap₂ (λ x y. x || y) made (fields_light (k + count_of m.body.statements) (executed p op g fields).fields (omega (arith, l, plain.few)) behind.bounded)
 
   operation_bounded : IsBegun written m (begins p op g fields) → AreBounded 0 (begins p op g fields) → AreBounded 32 (executed p op g fields)
   operation_bounded h b =

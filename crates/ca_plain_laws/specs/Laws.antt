@@ -12,7 +12,7 @@ use Rattle.ca_symbolic.specs.Runs.{executed, demanded_by, is_heavy_by, first_oth
 use Rattle.ca_plain_laws.specs.PlainPairs.{IsPlainPair}
 
 -- One operation and then another, whose parameters are the atoms of these groups, from what the fields hold at the start:
--- no term that is made is too heavy.
+-- no term of a result is too heavy.
 pub record IsLight (p : PlainProgram) (a : OpId) (g : ℕ) (b : OpId) (h : ℕ) (fields : List PlainTerm) : Type 0 where
   pub first : is_heavy_by p a g fields ≡ false
   pub second : is_heavy_by p b h (executed p a g fields).fields ≡ false

@@ -13,7 +13,7 @@ use ca_base::{Gate, Memory};
 use ca_model::Heap;
 use ca_parallel::{Marks, Op};
 use ca_program::Program;
-use ca_run::{OneTracer, Passes};
+use ca_run::OneTracer;
 use ca_sections::Coded;
 use ca_serial::ExtentAnswer;
 use ca_trace::Line;
@@ -21,7 +21,7 @@ use std::alloc::Global;
 use std::sync::Wait;
 use std::thread::Threads;
 
-impl<'g, G: Passes> Tracer for OneTracer<'g, G> {
+impl<'g, G: Gate> Tracer for OneTracer<'g, G> {
     ghost ready = { Unit {0} };
 
     fn trace<R: Threads + Wait + Sync>(

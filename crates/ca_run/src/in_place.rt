@@ -9,9 +9,8 @@ ghost use Rattle.ca_parallel.specs.Calls.{invocation_of, invocations_of};
 ghost use Rattle.ca_run.specs.InPlace.{CallEnds, CallsEnd, LeftBy};
 ghost use Rattle.ca_run.specs.Puts.{before};
 
-use crate::passing::Passes;
 use crate::puts::Kept;
-use ca_base::Memory;
+use ca_base::{Gate, Memory};
 use ca_model::{Heap, Value};
 use ca_parallel::Op;
 use ca_program::{FieldId, Program};
@@ -24,14 +23,14 @@ use std::alloc::Global;
 
 /// The world of a run in a heap that is lent, with what undoes its puts, and the gate that each call passes.
 #[derive(Drop)]
-pub struct InPlace<'s, G: Passes> {
+pub struct InPlace<'s, G: Gate> {
     pub program: &'s Program,
     pub gate: &'s G,
     pub heap: &'s mut Heap,
     pub kept: &'s mut Kept,
 }
 
-impl<'s, G: Passes> Access for InPlace<'s, G> {
+impl<'s, G: Gate> Access for InPlace<'s, G> {
     ghost use Rattle.ca_program.specs.View.{program_view};
     ghost use Rattle.ca_meaning.specs.Serial.{World as RunWorld, in_heap};
     ghost use Rattle.ca_code_laws.specs.Runs.{run_access};
@@ -62,7 +61,7 @@ impl<'s, G: Passes> Access for InPlace<'s, G> {
     #[inline(always)]
     fn reach(&self, receiver: i64, _start: u32) {
         if receiver > 0 && receiver <= u32::MAX as i64 {
-            self.gate.pass((receiver - 1) as u32);
+            self.gate.inside(0, (receiver - 1) as u32);
         }
     }
 
@@ -116,7 +115,7 @@ impl<'s, G: Passes> Access for InPlace<'s, G> {
     }
 }
 
-impl<'s, G: Passes> InPlace<'s, G> {
+impl<'s, G: Gate> InPlace<'s, G> {
     /// The world of a run in this heap.
     #[inline(always)]
     fn lent(
@@ -142,9 +141,9 @@ impl<'s, G: Passes> InPlace<'s, G> {
 
 /// Passes the gate into an object, or goes by it.
 #[inline(always)]
-fn pass_where<G: Passes>(gate: &G, passes: bool, object: u32) {
+fn pass_where<G: Gate>(gate: &G, passes: bool, object: u32) {
     if passes {
-        gate.pass(object);
+        gate.inside(0, object);
     }
 }
 
@@ -167,7 +166,7 @@ fn left_of(halt: Halt, left: u64) -> Result<Option<u64>, Memory>
 /// memory. A call of a parallel extent creates and prints nothing: where one stands at such an instruction, memory is wanting. It passes
 /// the gate, or goes by it; the calls within pass it.
 #[inline(always)]
-fn run_call<G: Passes>(
+fn run_call<G: Gate>(
     alloc: Global,
     program: &Coded<'_>,
     access: &mut InPlace<'_, G>,
@@ -202,7 +201,7 @@ fn run_call<G: Passes>(
 }
 
 /// Runs calls in their order within a budget of steps: they leave so many, or one of them isn't done.
-fn run_calls<G: Passes>(
+fn run_calls<G: Gate>(
     alloc: Global,
     program: &Coded<'_>,
     access: &mut InPlace<'_, G>,
@@ -232,7 +231,7 @@ fn run_calls<G: Passes>(
 }
 
 /// The same in a heap that is lent, with what undoes it.
-pub(crate) fn run_all<G: Passes>(
+pub(crate) fn run_all<G: Gate>(
     alloc: Global,
     gate: &G,
     program: &Coded<'_>,
@@ -254,7 +253,7 @@ pub(crate) fn run_all<G: Passes>(
 }
 
 /// The same of one call.
-pub(crate) fn run_one<G: Passes>(
+pub(crate) fn run_one<G: Gate>(
     alloc: Global,
     gate: &G,
     program: &Coded<'_>,

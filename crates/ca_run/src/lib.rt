@@ -18,13 +18,11 @@
 
 mod in_place;
 mod one_worker;
-mod passing;
 mod puts;
 mod tracing;
 mod turns;
 
 pub use one_worker::{OneWorker, copies};
-pub use passing::Passes;
 pub use puts::{Put, Puts, value_of};
 pub use tracing::{OneTracer, line_of};
 pub use turns::{Progress, run_some};

@@ -19,9 +19,8 @@ ghost use Rattle.ca_trace.specs.Texts.{IsLineOf};
 ghost use Rattle.ca_trace.specs.declared.line.Line.TheVariants.{Block};
 
 use crate::one_worker::copies;
-use crate::passing::Passes;
 use crate::turns::run_given;
-use ca_base::Memory;
+use ca_base::{Gate, Memory};
 use ca_beside::Beside;
 use ca_model::Heap;
 use ca_parallel::Op;
@@ -43,7 +42,7 @@ pub fn line_of(outcome: Outcome, budget: u64) -> Line
 }
 
 /// Runs waiting operations and all that they list, and adds a line for each, and that the block ends.
-fn run_lines<G: Passes>(
+fn run_lines<G: Gate>(
     gate: &G,
     desk: &mut Desk,
     alloc: Global,
@@ -75,13 +74,13 @@ fn run_lines<G: Passes>(
 
 /// One worker that tells lines, without threads. It passes its gate as worker 0, before each section.
 #[derive(Drop)]
-pub struct OneTracer<'g, G: Passes> {
+pub struct OneTracer<'g, G: Gate> {
     alloc: Global,
     gate: &'g G,
     beside: Beside,
 }
 
-impl<'g, G: Passes> OneTracer<'g, G> {
+impl<'g, G: Gate> OneTracer<'g, G> {
     /// One that passes this gate. It takes no memory before its first run.
     pub fn new(alloc: Global, gate: &'g G) -> OneTracer<'g, G> {
         OneTracer {

@@ -6,8 +6,7 @@ ghost use Rattle.ca_parallel.specs.Calls.{invocation_of, invocations_of};
 ghost use Rattle.ca_beside.specs.Beside.{present};
 ghost use Rattle.ca_run.specs.Turns.{GivenTurn, Turned, Progressed, turn_by};
 
-use crate::passing::Passes;
-use ca_base::Memory;
+use ca_base::{Gate, Memory};
 use ca_beside::Beside;
 use ca_model::Heap;
 use ca_parallel::Op;
@@ -32,7 +31,7 @@ pub enum Turn {
 /// Runs an operation that was taken from what waits, within a budget, and what it lists goes behind what waits: in so many
 /// steps, or it is stuck.
 #[inline(always)]
-pub(crate) fn run_given<G: Passes>(
+pub(crate) fn run_given<G: Gate>(
     gate: &G,
     desk: &mut Desk,
     alloc: Global,
@@ -48,7 +47,7 @@ pub(crate) fn run_given<G: Passes>(
     if op.receiver >= heap.len() {
         return Ok(None);
     }
-    gate.pass(op.receiver);
+    gate.inside(0, op.receiver);
     match beside.run(desk, alloc, program, heap, op, left, waiting)? {
         SectionAnswer::Done { steps } => Ok(Some(steps)),
         SectionAnswer::Trapped(_) => Ok(None),
@@ -68,7 +67,7 @@ fn turn_of(ran: Option<u64>) -> Turn
 }
 
 /// Runs one waiting operation, if there is one, within a budget.
-fn run_one<G: Passes>(
+fn run_one<G: Gate>(
     gate: &G,
     desk: &mut Desk,
     alloc: Global,
@@ -90,7 +89,7 @@ fn run_one<G: Passes>(
 
 /// Runs one operation within a budget, if there is one: the last one that waits, and where none waits the next one of those
 /// that were handed in. None is copied.
-fn run_next<G: Passes>(
+fn run_next<G: Gate>(
     gate: &G,
     desk: &mut Desk,
     alloc: Global,
@@ -123,7 +122,7 @@ fn run_next<G: Passes>(
 /// handed in. The heap stays as it is; what changes is kept beside it.
 ///
 /// Before each section the gate is passed, by worker 0.
-pub fn run_some<G: Passes>(
+pub fn run_some<G: Gate>(
     gate: &G,
     desk: &mut Desk,
     alloc: Global,

@@ -13,7 +13,7 @@ use Rattle.ca_code.specs.Seen.{placed}
 use Rattle.ca_code_laws.specs.Told.{IsLaidOut}
 use Rattle.ca_code_laws.proofs.Steps.{length_mapped}
 use Rattle.ca_steps.specs.declared.running.Laid.{Laid}
-use Rattle.ca_steps.specs.Ops.{Runs}
+use Rattle.ca_selection.specs.Ops.{Runs}
 use Rattle.ca_sections.specs.Fitting.{IsCoded, Starts}
 
 some_there : (xs : List ℕ) (i n : ℕ) → slice_get xs i ≡ Some n → 0 < length xs

@@ -32,8 +32,8 @@ use Rattle.ca_program.proofs.program.ClassId.TheSendSync as class_id_sent
 use Rattle.ca_program.proofs.program.ValueType.TheSendSync as value_type_sent
 use Rattle.ca_program.proofs.program.Class.TheSendSync as class_sent
 use Rattle.ca_code.proofs.ins.Kind.TheSendSync as kind_sent
-use Rattle.ca_steps.proofs.ops.Op.TheSendSync as op_sent
-use Rattle.ca_steps.specs.contracts.ops.Op as fast_op
+use Rattle.ca_selection.proofs.ops.Op.TheSendSync as op_sent
+use Rattle.ca_selection.specs.contracts.ops.Op as fast_op
 use Rattle.ca_steps.specs.contracts.running.Laid as laid
 use Rattle.ca_code.specs.contracts.ins.Row as row
 use Rattle.ca_code.specs.contracts.ins.Kind as kind

@@ -17,7 +17,7 @@ use Rattle.ca_code_laws.specs.Known.{loop_alone}
 use Rattle.ca_code_laws.specs.Told.{Holds, IsLaidOut}
 use Rattle.ca_steps.specs.declared.frames.Frames.{Frames}
 use Rattle.ca_steps.specs.declared.running.Laid.{Laid}
-use Rattle.ca_steps.specs.Ops.{Runs}
+use Rattle.ca_selection.specs.Ops.{Runs}
 use Rattle.ca_steps.specs.Stands.{seen}
 use Rattle.ca_steps.specs.Handed.{IsFirst}
 

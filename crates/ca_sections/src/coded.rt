@@ -6,7 +6,7 @@ ghost use Rattle.ca_code.specs.Codes.{code_seen};
 ghost use Rattle.ca_code_laws.specs.Fitting.{FunctionsFit};
 ghost use Rattle.ca_code_laws.specs.Told.{IsLaidOut};
 ghost use Rattle.ca_sections.specs.Fitting.{Starts};
-ghost use Rattle.ca_steps.specs.Ops.{Runs};
+ghost use Rattle.ca_selection.specs.Ops.{Runs};
 
 use crate::fits::{NONE, all_fit, places_of};
 use ca_program::{OpId, Program};

@@ -3,7 +3,7 @@
 ghost use Rattle.std.specs.Prelude.{◌≡◌, ◌<◌, IfSome, length, map, slice_get};
 ghost use Rattle.ca_code.specs.Codes.{code_seen};
 ghost use Rattle.ca_section.specs.Olds.{AllThere};
-ghost use Rattle.ca_steps.specs.Ops.{Runs};
+ghost use Rattle.ca_selection.specs.Ops.{Runs};
 ghost use Rattle.ca_steps.specs.Stands.{back_seen, here_state};
 ghost use Rattle.ca_steps.specs.Handed.{IsFirst};
 ghost use Rattle.ca_sections.specs.Running.{Came, IsEnd, StandsWith, lasting, line_of_row, section_at};

@@ -73,7 +73,7 @@ pub trait Extents {
     fn in_order(&self, heap: &Heap, mark: Mark) -> bool
         ensures any { result ≡ true → (p : PlainProgram) (h : List Object) (is : List Invocation) (budget : ℕ) → Accounts (account self.now) p h is budget (account self.now) };
 
-    /// A call on this object is about to run within what the run goes on into.
+    /// A call on this object is about to run within a marked call or loop: the run went on into that, or its list was declined.
     fn pass(&self, object: u32);
 }
 

@@ -6,7 +6,7 @@ ghost use Rattle.ca_program.specs.View.{program_view};
 ghost use Rattle.ca_model.specs.declared.value.Object.{Object};
 ghost use Rattle.ca_meaning.specs.Expressions.{Invocation};
 ghost use Rattle.ca_code.specs.Codes.{code_seen};
-ghost use Rattle.ca_steps.specs.Ops.{Runs};
+ghost use Rattle.ca_selection.specs.Ops.{Runs};
 ghost use Rattle.ca_steps.specs.Passing.{Arrives};
 
 use crate::extents::Extents;

@@ -15,7 +15,7 @@ ghost use Rattle.ca_code.specs.Codes.{code_seen};
 ghost use Rattle.ca_code_laws.specs.Told.{IsLaidOut};
 ghost use Rattle.ca_sections.specs.Extending.{AllStand, Extended};
 ghost use Rattle.ca_code_laws.specs.Runs.{beginning};
-ghost use Rattle.ca_steps.specs.Ops.{Runs};
+ghost use Rattle.ca_selection.specs.Ops.{Runs};
 ghost use Rattle.ca_steps.specs.Stands.{state_of};
 ghost use Rattle.ca_serial.specs.Runs.{run_with, prints_of, OnWrite};
 ghost use Rattle.ca_serial.specs.clauses.Driving.{Drives, IsMade, MayDrive};

@@ -13,11 +13,11 @@ pub mod Entering
 pub mod Halting
 pub mod Listing
 pub mod Creating
-pub mod Opping
 pub mod Opped
 pub mod Adding
 pub mod Arms
 pub mod Forms
+pub mod Lacked
 pub mod Reaching
 pub mod Turning
 pub mod Handing

@@ -2,9 +2,9 @@ pub mod Doing
 pub mod Events
 pub mod Handed
 pub mod Here
+pub mod Lacking
 pub mod Leaving
 pub mod Lists
-pub mod Ops
 pub mod Passing
 pub mod Running
 pub mod Stands

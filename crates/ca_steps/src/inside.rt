@@ -6,7 +6,7 @@ ghost use Rattle.ca_program.specs.Instructions.{Code as PlainCode};
 ghost use Rattle.ca_program.specs.Plain.{Statement};
 ghost use Rattle.ca_program.specs.View.{program_view};
 ghost use Rattle.ca_code.specs.Codes.{code_seen};
-ghost use Rattle.ca_steps.specs.Ops.{Runs};
+ghost use Rattle.ca_selection.specs.Ops.{Runs};
 ghost use Rattle.ca_steps.specs.Ways.{BeginsAt, HandsAt};
 ghost use Rattle.ca_steps.specs.Passing.{Arrives, HaltsPast, WentIn};
 

@@ -38,7 +38,12 @@ pub struct SummedRound {
 }
 
 /// A round, in its setting.
-fn run_round<N: Setting + Send + Sync, K: Sums + Send + Sync, R: Threads + Wait + Sync, G: Gate>(
+fn run_round<
+    N: Setting + Send + Sync,
+    K: Sums + Send + Sync,
+    R: Threads + Wait + Sync,
+    G: Gate + Sync,
+>(
     rt: &R,
     alloc: Global,
     program: &Coded<'_>,
@@ -98,7 +103,7 @@ fn run_round<N: Setting + Send + Sync, K: Sums + Send + Sync, R: Threads + Wait 
 /// there are as many entries as the quota. Each entry without a stop is the complete section of its task on the frozen
 /// object, and one with a stop stops so there. With all replicas added, any heap that stands for the frozen one becomes
 /// what a run of the pending machine leaves, by clock and object.
-pub fn round_summed<R: Threads + Wait + Sync, G: Gate>(
+pub fn round_summed<R: Threads + Wait + Sync, G: Gate + Sync>(
     rt: &R,
     alloc: Global,
     program: &Coded<'_>,

@@ -1,7 +1,6 @@
 //! Runs all workers side by side, each its part of the round (`specs/Parts.antt`).
 
 ghost use Rattle.std.specs.Prelude.{◌≡◌, map};
-ghost use Rattle.std.specs.Thread.{IsSync};
 ghost use Rattle.ca_program.specs.View.{program_view};
 ghost use Rattle.ca_logs.specs.Entries.{task_after};
 ghost use Rattle.ca_deques.specs.Settings.{AllFit};
@@ -19,7 +18,7 @@ use ca_sections::Coded;
 use std::thread::{self, Threads};
 
 /// Runs the workers side by side, where threads can be made: their list is halved until each has one thread.
-pub fn run_all<N: Round + Send + Sync, K: Sums + Send + Sync, R: Threads + Sync, G: Gate>(
+pub fn run_all<N: Round + Send + Sync, K: Sums + Send + Sync, R: Threads + Sync, G: Gate + Sync>(
     rt: &R,
     program: &Coded<'_>,
     extent: &Extent,
@@ -40,7 +39,6 @@ pub fn run_all<N: Round + Send + Sync, K: Sums + Send + Sync, R: Threads + Sync,
         return;
     }
     let run = |_: usize, part: &mut Part<N, K>|
-        requires sync { IsSync G.row }
         requires picked { K.extent ≡ extent.now }
         requires listed { K.listed ≡ listed.now }
         requires calls { AllFit N.setting (map (task_after 0) listed.now) }

@@ -36,7 +36,12 @@ pub struct Left {
 
 /// Deals the first tasks to the workers, lends each its calls of the list and memory for copies, lets them run, and takes back
 /// their passes and what their deques and shares hold.
-pub fn work<N: Round + Send + Sync, K: Sums + Send + Sync, R: Threads + Wait + Sync, G: Gate>(
+pub fn work<
+    N: Round + Send + Sync,
+    K: Sums + Send + Sync,
+    R: Threads + Wait + Sync,
+    G: Gate + Sync,
+>(
     rt: &R,
     alloc: Global,
     program: &Coded<'_>,

@@ -1,5 +1,5 @@
 -- What the run of an operation leaves, demands and makes, from terms that its fields hold before.
-use Rattle.std.specs.Prelude.{ℕ, Bool, true, List, [], Option, Some, None, slice_get}
+use Rattle.std.specs.Prelude.{ℕ, Bool, true, List, [], ◌++◌, Option, Some, None, slice_get}
 use Rattle.std.specs.List.{list_any}
 use Rattle.ca_program.specs.declared.program.OpId.{OpId}
 use Rattle.ca_program.specs.declared.program.FieldId.{FieldId}
@@ -37,8 +37,13 @@ executed p op g fields = after_all p (begins p op g fields) (operation_body p op
 abbrev pub demanded_by : PlainProgram → OpId → ℕ → List PlainTerm → List PlainDemand
 demanded_by p op g fields = demanded_all p (begins p op g fields) (truth true) (operation_body p op)
 
+-- The terms of a run's result: those that are made on the way, and those that its fields hold behind it, put or not. A local
+-- that isn't put holds a number, a truth value, null or an atom.
+abbrev pub terms_by : PlainProgram → OpId → ℕ → List PlainTerm → List PlainTerm
+terms_by p op g fields = made_by p (begins p op g fields) (truth true) (operation_body p op) ++ (executed p op g fields).fields
+
 abbrev pub is_heavy_by : PlainProgram → OpId → ℕ → List PlainTerm → Bool
-is_heavy_by p op g fields = list_any is_heavy (made_by p (begins p op g fields) (truth true) (operation_body p op))
+is_heavy_by p op g fields = list_any is_heavy (terms_by p op g fields)
 
 abbrev pub params_of : Option PlainMethod → ℕ
 params_of None = 0

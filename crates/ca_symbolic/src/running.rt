@@ -1,9 +1,11 @@
 //! From an operation and terms to what it leaves and demands: `executed` and `demanded_by` of `specs/Runs.antt`.
 
 ghost use Rattle.std.specs.Prelude.{◌≡◌, ◌<◌, ℕ, true, false, length, slice_get, Some, None, Err, OnOk};
+ghost use Rattle.std.specs.List.{list_any};
 ghost use Rattle.ca_program.specs.View.{program_view};
 ghost use Rattle.ca_norm.specs.Terms.{truth};
 ghost use Rattle.ca_symbolic.specs.declared.running.SymbolicError.TheVariants.{LoopForm, Large};
+ghost use Rattle.ca_shared_terms.specs.Heavy.{is_heavy};
 ghost use Rattle.ca_symbolic.specs.Demanded.{with_demands};
 ghost use Rattle.ca_symbolic.specs.Runs.{group_of, executed, demanded_by, is_heavy_by, first_other_loop};
 
@@ -12,7 +14,7 @@ use crate::loops::other_loop_in;
 use crate::state::SymState;
 use crate::walk::run_all;
 use ca_program::{FieldId, OpId, Program};
-use ca_shared_terms::ExecutionError;
+use ca_shared_terms::{ExecutionError, LightTerm};
 use std::alloc::{AllocError, Global};
 
 /// Which operation of a pair.
@@ -64,6 +66,15 @@ pub fn other_loop(program: &Program, written: &[FieldId], op: OpId) -> Option<u3
     other_loop_in(method.params, written, &method.body.stmts)
 }
 
+/// No term that is kept is too heavy, so no field holds such a one, whether it was put or not.
+fn are_light(terms: &[LightTerm])
+    ensures { list_any is_heavy terms.now ≡ false }
+{
+    for term in terms {
+        let _kept = term.share();
+    }
+}
+
 /// Runs an operation, of an extent that writes these fields, on a state: it finds the fields as they are, its locals begin
 /// anew, and its parameters are the atoms of its side. What it demands comes behind what was demanded before. After an error
 /// nothing is said of the state and of what was demanded.
@@ -91,7 +102,10 @@ pub fn symbolic(
     let method = program.op(op);
     state.begin(alloc, side.group(), method)?;
     match run_all(alloc, program, &method.body.stmts, state, demands) {
-        Ok(()) => Ok(()),
+        Ok(()) => {
+            are_light(state.fields());
+            Ok(())
+        }
         Err(ExecutionError::Large) => Err(SymbolicError::Large),
         Err(ExecutionError::Memory) => Err(SymbolicError::Memory),
     }

@@ -4,6 +4,7 @@ use Rattle.std.specs.Prelude.{slice_get, nat_eq, ◌||◌, flat_map}
 use Rattle.std.specs.Option.{option_or}
 use Rattle.std.specs.List.{list_any}
 use Rattle.std.proofs.lemmas.Bool.Decides.{nat_tests}
+use Rattle.std.proofs.lemmas.List.Folds.{list_any-append}
 use Rattle.std.proofs.lemmas.Nat.{mul-le}
 use Rattle.ca_program.specs.declared.program.FieldId.{FieldId}
 use Rattle.ca_program.specs.declared.program.FieldInfo.{FieldInfo}
@@ -14,6 +15,7 @@ use Rattle.ca_program.specs.Plain.{PlainProgram, PlainMethod, Expression, Statem
 use Rattle.ca_model.specs.Heaps.{fields_of}
 use Rattle.ca_meaning.specs.Functions.{body_of}
 use Rattle.ca_parallel.specs.Bodies.{targets_of}
+use Rattle.ca_parallel.specs.Extents.{operation_body}
 use Rattle.ca_parallel.specs.Separable.{IsClean, IsSeparated, AreSeparated, Separable}
 use Rattle.ca_forms.specs.declared.sort.Sort.TheVariants.{Long}
 use Rattle.ca_norm.specs.Terms.{PlainTerm, truth, atom, and, not, choose, less, less_equal, sort_of, IsScalar}
@@ -25,7 +27,7 @@ use Rattle.ca_symbolic.specs.Execution.{term_of, puts_local, puts_field, choose_
 use Rattle.ca_symbolic.specs.Demands.{demands_in, demanded, demanded_all, then_guard}
 use Rattle.ca_symbolic.specs.Made.{guards_in, targets, joined_terms, steps_made, made_by}
 use Rattle.ca_symbolic.specs.OtherLoops.{other_loop, other_loop_in}
-use Rattle.ca_symbolic.specs.Runs.{executed, demanded_by, is_heavy_by, params_of, first_other_loop}
+use Rattle.ca_symbolic.specs.Runs.{begins, executed, demanded_by, is_heavy_by, params_of, first_other_loop}
 use Rattle.ca_verdicts.specs.declared.verdicts.Verdict.TheVariants.{Commutes}
 use Rattle.ca_verdicts.specs.Demands.{demanded_at}
 use Rattle.ca_verdicts.specs.Orders.{fields_at, start_of, first_order, second_order}
@@ -224,6 +226,15 @@ pub point_measured : (q : Point) → Measured (point_term q) 1 1 1
 point_measured (point.Number n) = record { spread_is = omega arith; nodes_is = omega arith; depth_is = omega arith }
 point_measured (point.Atom h n) = record { spread_is = omega arith; nodes_is = omega arith; depth_is = omega arith }
 
+neither_heavy : (a b : Bool) → a || b ≡ false → (a ≡ false) × (b ≡ false)
+neither_heavy true b h = absurd cc
+neither_heavy false b h = (refl, h)
+
+set_light : (ts : List PlainTerm) (i : ℕ) (t : PlainTerm) → is_heavy t ≡ false → list_any is_heavy ts ≡ false → list_any is_heavy (slice_set ts i t) ≡ false
+set_light [] i t h none = refl
+set_light (u ∷ us) zero t h none = ap₂ (λ a b. a || b) h (neither_heavy (is_heavy u) (list_any is_heavy us) none).1
+set_light (u ∷ us) (suc i) t h none = let rest = neither_heavy (is_heavy u) (list_any is_heavy us) none in ap₂ (λ a b. a || b) rest.0 (set_light us i t h rest.1)
+
 light_of : (t : PlainTerm) (s n d : ℕ) → Measured t s n d → s ≤ 1000 → n ≤ 1000 → d ≤ 1000 → is_heavy t ≡ false
 light_of t s n d w a b c = not_above (weight_of t) (omega (arith, w.spread_is, w.nodes_is, w.depth_is, a, b, c))
 
@@ -301,18 +312,30 @@ module _ (p : PlainProgram) (m : PlainMethod) (g : ℕ) (f : FieldId) (up : Bool
     made_is : made_by p s (truth true) (statement_and branch no_statements) ≡ and (truth true) condition ∷ point_term limit ∷ and (truth true) (not condition) ∷ behind ∷ []
     made_is = ap₂ (λ xs ds. (xs ++ []) ++ flat_map (λ (d : PlainDemand). d.parts) (ds ++ [])) (branch_made (truth true)) (branch_demands (truth true))
 
-    pub heavy_is : Measured (term_at ts f.field) 5 6 3 → is_heavy_by p op g ts ≡ false
-    heavy_is w =
-        let c = past_measured up r.strict (term_at ts f.field) (point_term limit) 5 6 3 w (point_measured limit) (omega arith) in
+    -- what the field holds behind it is light, and so is what stays
+    pub behind_light : Measured (term_at ts f.field) 5 6 3 → is_heavy behind ≡ false
+    behind_light w =
         let b = moved_measured up r.strict (term_at ts f.field) (point_term limit) 5 6 3 w (point_measured limit) (omega arith) in
+        light_of behind 41 16 5 (record { spread_is = omega (arith, b.spread_is); nodes_is = b.nodes_is; depth_is = b.depth_is }) (omega arith) (omega arith) (omega arith)
+
+    made_light : Measured (term_at ts f.field) 5 6 3 → list_any is_heavy (made_by p (begins p op g ts) (truth true) (operation_body p op)) ≡ false
+    made_light w =
+        let c = past_measured up r.strict (term_at ts f.field) (point_term limit) 5 6 3 w (point_measured limit) (omega arith) in
         let then_light : is_heavy (and (truth true) condition) ≡ false = light_of (and (truth true) condition) 10 20 10 (record { spread_is = omega (arith, c.spread_is); nodes_is = omega (arith, c.nodes_is); depth_is = omega (arith, c.depth_is) }) (omega arith) (omega arith) (omega arith) in
         let limit_light : is_heavy (point_term limit) ≡ false = light_of (point_term limit) 1 1 1 (point_measured limit) (omega arith) (omega arith) (omega arith) in
         let else_light : is_heavy (and (truth true) (not condition)) ≡ false = light_of (and (truth true) (not condition)) 10 20 10 (record { spread_is = omega (arith, c.spread_is); nodes_is = omega (arith, c.nodes_is); depth_is = omega (arith, c.depth_is) }) (omega arith) (omega arith) (omega arith) in
-        let behind_light : is_heavy behind ≡ false = light_of behind 41 16 5 (record { spread_is = omega (arith, b.spread_is); nodes_is = b.nodes_is; depth_is = b.depth_is }) (omega arith) (omega arith) (omega arith) in
         ap (λ z. list_any is_heavy (made_by p (record { fields = ts; locals = first_locals g z }) (truth true) (body_of z))) at
         ∙ ap (λ z. list_any is_heavy (made_by p s (truth true) z)) r.body
         ∙ ap (list_any is_heavy) made_is
-        ∙ rw (then_light, limit_light, else_light, behind_light) refl
+        ∙ rw (then_light, limit_light, else_light, behind_light w) refl
+
+    pub fields_light : Measured (term_at ts f.field) 5 6 3 → list_any is_heavy ts ≡ false → list_any is_heavy (slice_set ts f.field behind) ≡ false
+    fields_light w none = set_light ts f.field behind (behind_light w) none
+
+    pub heavy_is : Measured (term_at ts f.field) 5 6 3 → list_any is_heavy ts ≡ false → is_heavy_by p op g ts ≡ false
+    heavy_is w none =
+        list_any-append is_heavy (made_by p (begins p op g ts) (truth true) (operation_body p op)) (executed p op g ts).fields
+        ∙ ap₂ (λ x y. x || y) (made_light w) (ap (list_any is_heavy) executed_is ∙ fields_light w none)
 
     pub separable : (written : List FieldId) → Separable p written op
     separable written =
@@ -344,6 +367,11 @@ long_inside n [] i h = absurd h
 long_inside n (f ∷ fs) zero h = omega arith
 long_inside n (f ∷ fs) (suc i) h = omega (arith, long_inside (n + 1) fs i h)
 
+-- what fields hold at the start is light, and stays so where something light is put
+starts_light : (n : ℕ) (fs : List FieldInfo) → list_any is_heavy (starts n fs) ≡ false
+starts_light n [] = refl
+starts_light n (f ∷ fs) = starts_light (n + 1) fs
+
 point_scalar : (q : Point) → IsScalar (sort_of (point_term q))
 point_scalar (point.Number n) = tt
 point_scalar (point.Atom h n) = tt
@@ -370,12 +398,12 @@ module _ (p : PlainProgram) (f : FieldId) (ts : List PlainTerm) (inside : f.fiel
   both_demands : demanded_by p a g ts ++ demanded_by p b h (executed p a g ts).fields ≡ []
   both_demands = ap₂ (λ ds es. ds ++ es) (demanded_is p m g f up x ts inside a at) (ap (demanded_by p b h) (executed_is p m g f up x ts inside a at) ∙ demanded_is p n h f up y between inside_then b bt)
 
-  both_light : Measured (term_at ts f.field) 1 1 1 → is_heavy_by p a g ts || is_heavy_by p b h (executed p a g ts).fields ≡ false
-  both_light w =
+  both_light : Measured (term_at ts f.field) 1 1 1 → list_any is_heavy ts ≡ false → is_heavy_by p a g ts || is_heavy_by p b h (executed p a g ts).fields ≡ false
+  both_light w none =
       let z = moved_measured up x.strict (term_at ts f.field) (point_term (limit_point g x.is_limit)) 1 1 1 w (point_measured (limit_point g x.is_limit)) (omega arith) in
       let start : Measured (term_at ts f.field) 5 6 3 = record { spread_is = omega (arith, w.spread_is); nodes_is = omega (arith, w.nodes_is); depth_is = omega (arith, w.depth_is) } in
       let later : Measured (term_at between f.field) 5 6 3 = subst (λ t. Measured t 5 6 3) (sym (set_there ts f.field first inside)) (record { spread_is = omega (arith, z.spread_is); nodes_is = z.nodes_is; depth_is = z.depth_is }) in
-      ap₂ (λ u v. u || v) (heavy_is p m g f up x ts inside a at start) (ap (is_heavy_by p b h) (executed_is p m g f up x ts inside a at) ∙ heavy_is p n h f up y between inside_then b bt later)
+      ap₂ (λ u v. u || v) (heavy_is p m g f up x ts inside a at start none) (ap (is_heavy_by p b h) (executed_is p m g f up x ts inside a at) ∙ heavy_is p n h f up y between inside_then b bt later (fields_light p m g f up x ts inside a at start none))
 
 pub moving_commutes : (p : PlainProgram) (written : List FieldId) (a b : OpId) → IsMovingPair p a b → VerdictOf p written a b Commutes
 moving_commutes p written a b q =
@@ -385,6 +413,7 @@ moving_commutes p written a b q =
     let own : term_at (start_of p a) k ≡ atom Long 3 k = ap (λ z. term_at z k) start_is ∙ start_at 0 fs k q.is_long ∙ ap (atom Long 3) (let z : 0 + k ≡ k = omega arith in z) in
     let inside : k < length (start_of p a) = subst (λ z. k < length z) (sym start_is) (long_inside 0 fs k q.is_long) in
     let small : Measured (term_at (start_of p a) k) 1 1 1 = subst (λ t. Measured t 1 1 1) (sym own) (point_measured (point.Atom 3 k)) in
+    let light : list_any is_heavy (start_of p a) ≡ false = starts_light 0 (fields_at p (slice_get p.ops a.0)) in
     let ea : Point = limit_point 1 q.first_moves.is_limit in
     let eb : Point = limit_point 2 q.second_moves.is_limit in
     let sa : Bool = q.first_moves.strict in
@@ -399,8 +428,8 @@ moving_commutes p written a b q =
     (same_set (start_of p a) k _ _ same)) in
     let first_asked = both_demands p q.field (start_of p a) inside q.first q.second a b 1 2 q.up q.first_moves q.second_moves q.first_is q.second_is in
     let second_asked = both_demands p q.field (start_of p a) inside q.second q.first b a 2 1 q.up q.second_moves q.first_moves q.second_is q.first_is in
-    let first_light = both_light p q.field (start_of p a) inside q.first q.second a b 1 2 q.up q.first_moves q.second_moves q.first_is q.second_is small in
-    let second_light = both_light p q.field (start_of p a) inside q.second q.first b a 2 1 q.up q.second_moves q.first_moves q.second_is q.first_is small in (
+    let first_light = both_light p q.field (start_of p a) inside q.first q.second a b 1 2 q.up q.first_moves q.second_moves q.first_is q.second_is small light in
+    let second_light = both_light p q.field (start_of p a) inside q.second q.first b a 2 1 q.up q.second_moves q.first_moves q.second_is q.first_is small light in (
       record {
         can = record {
           separable = (separable p q.first 1 q.field q.up q.first_moves (start_of p a) inside a q.first_is written, separable p q.second 2 q.field q.up q.second_moves (start_of p a) inside b q.second_is written);

@@ -9,7 +9,7 @@ use Rattle.ca_shared_terms.specs.Starts.{starts}
 use Rattle.ca_symbolic.specs.States.{PlainDemand}
 use Rattle.ca_symbolic.specs.Runs.{executed, demanded_by, is_heavy_by}
 
--- the terms of the fields in the end, what is demanded, and whether a term that is made on the way weighs too much
+-- the terms of the fields in the end, what is demanded, and whether one of these or of those made on the way weighs too much
 pub record Effect : Type 0 where
   pub fields : List PlainTerm
   pub demands : List PlainDemand

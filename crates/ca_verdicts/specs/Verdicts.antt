@@ -49,11 +49,11 @@ pub record CanExecute (p : PlainProgram) (written : List FieldId) (a b : OpId) :
   pub separable : BothSeparable p written a b
   pub loops : loop_of_both p written a b ≡ None
 
--- a term that is made in one of the orders weighs too much
+-- a term of one of the orders weighs too much
 abbrev pub is_large : PlainProgram → OpId → OpId → Bool
 is_large p a b = (first_order p a b).heavy || (second_order p a b).heavy
 
--- no term that is made is too heavy
+-- no term of the orders is too heavy
 pub record Light (p : PlainProgram) (written : List FieldId) (a b : OpId) : Type 0 where
   pub can : CanExecute p written a b
   pub light : is_large p a b ≡ false

@@ -78,7 +78,7 @@ fn steps_of_each(steps: u64, calls: usize, told: bool) -> u32 {
     (each as u32).max(1)
 }
 
-impl<'g, G: Gate> Parallel<'g, G> {
+impl<'g, G: Gate + Sync> Parallel<'g, G> {
     /// Tries so many operations more of a list, beside the heap and past no gate. `false`: one is stuck.
     fn try_more(
         &mut self,

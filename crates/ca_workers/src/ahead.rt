@@ -82,7 +82,7 @@ fn run_front<G: Gate>(
     Ok(Some(Front { count, left: still }))
 }
 
-impl<'g, G: Gate> Parallel<'g, G> {
+impl<'g, G: Gate + Sync> Parallel<'g, G> {
     /// Runs the first ones of some calls in the heap itself, as long as they are to. Where one isn't done, the heap is as it was.
     fn begin_ahead(
         &mut self,

@@ -1,5 +1,5 @@
-//! Before which operations the calling thread passes the gate, where it runs them alone: neighbours of one receiver pass one gate,
-//! and an operation that takes no lock passes none. No clause speaks of it.
+//! Before which operations the calling thread passes the gate, where it runs them alone, and where a run goes on into their calls:
+//! neighbours of one receiver pass one gate. Where it runs them alone, an operation that takes no lock passes none. No clause speaks of it.
 
 use crate::weights::Known;
 use ca_base::Gate;
@@ -8,6 +8,7 @@ use ca_parallel::Op;
 use ca_program::{OpId, Program};
 use ca_section::locks;
 use std::alloc::Global;
+use std::cell::Cell;
 
 /// The most neighbours that pass one gate, as many as a worker of a round claims an object for at once.
 const MOST_NEIGHBOURS: u32 = 16;
@@ -92,5 +93,40 @@ impl Neighbours {
         op: &Op,
     ) -> bool {
         takes_lock(alloc, program, known, op.op) && self.begins(op.receiver)
+    }
+}
+
+/// The calls of what a run goes on into, as they come: neighbours of one receiver pass one gate. The calls of a list that was handed to
+/// an engine, and comes to be run in order since that declined, pass none.
+#[derive(Drop)]
+pub struct Entered {
+    passes: Cell<bool>,
+    last: Cell<Neighbours>,
+}
+
+impl Entered {
+    /// No call came yet.
+    pub fn none() -> Entered {
+        Entered {
+            passes: Cell::new(false),
+            last: Cell::new(Neighbours::none()),
+        }
+    }
+
+    /// A marked call comes, or a marked loop: the run goes on into it, or hands it on.
+    pub fn begin(&self, goes_on: bool) {
+        self.passes.set(goes_on);
+        self.last.set(Neighbours::none());
+    }
+
+    /// Whether a call on this object, which runs now, passes the gate.
+    pub fn passes(&self, object: u32) -> bool {
+        if !self.passes.get() {
+            return false;
+        }
+        let mut last = self.last.get();
+        let begins = last.begins(object);
+        self.last.set(last);
+        begins
     }
 }

@@ -76,7 +76,7 @@ fn open(
     }
 }
 
-impl<'g, G: Gate> Parallel<'g, G> {
+impl<'g, G: Gate + Sync> Parallel<'g, G> {
     /// What the only one of some calls lists, as `open` tells it, where it calls others in a loop.
     fn open_first(
         &mut self,

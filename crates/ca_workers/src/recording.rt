@@ -28,7 +28,7 @@ use std::thread::Threads;
 ///
 /// The program is typed and the marks are sound. Each list begins with a round, in cells, however small the heap is. The gate is
 /// passed by the worker that runs a section, as `Parallel` says.
-pub fn record_by_many<R: Threads + Wait + Sync, G: Gate>(
+pub fn record_by_many<R: Threads + Wait + Sync, G: Gate + Sync>(
     rt: &R,
     alloc: Global,
     program: &Program,

@@ -45,7 +45,7 @@ fn add_lines(alloc: Global, log: &RoundLog, lines: &mut Vec<Line>) -> Result<(),
     Ok(())
 }
 
-impl<'s, R: Threads + Wait + Sync, G: Gate> Rounds<'s, R, G> {
+impl<'s, R: Threads + Wait + Sync, G: Gate + Sync> Rounds<'s, R, G> {
     /// Runs a round in cells, adds a line for each operation that ran, and takes the objects that it touched beside the heap.
     /// `None`: what waits has no complete run within the budget.
     fn tell_round(

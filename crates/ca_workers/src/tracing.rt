@@ -37,7 +37,7 @@ fn decline(lines: &mut Vec<Line>, count: usize) -> Result<(), AllocError>
     Ok(())
 }
 
-impl<'g, G: Gate> Parallel<'g, G> {
+impl<'g, G: Gate + Sync> Parallel<'g, G> {
     /// Runs the operations in rounds beside the heap, and adds the lines of a block.
     fn run_block<R: Threads + Wait + Sync>(
         &mut self,

@@ -81,7 +81,7 @@ fn give_back(memory: Beside, beside: &mut Beside)
     let _none = memory.into_items(beside);
 }
 
-impl<'s, R: Threads + Wait + Sync, G: Gate> Rounds<'s, R, G> {
+impl<'s, R: Threads + Wait + Sync, G: Gate + Sync> Rounds<'s, R, G> {
     /// Whether each worker keeps sums of its own: where the extent only sums, and copies for each aren't too much.
     pub fn keeps_sums(&self, frozen: &Heap) -> bool
         ensures { IsTrue result ↔ ((values_in frozen.now * self.now.workers ≤ 16000000) × ((op : OpId) → Contains self.now.extent.now.ops op → HasOnlySums (program_view self.now.program.now) self.now.extent.now.written op)) }

@@ -150,6 +150,7 @@ impl Cells {
         ensures loose { loose_of worker.new ≡ loose_of worker.old }
         ensures applied { IfOk result (λ a. AppliesAll (cells_key self.now) tasks.items left worker.old worker.new a.made.items a.stop a.kept.items) }
         ensures refused { IfErr result (λ refused. (refused.tasks ≡ tasks) × (notes_of worker.new ≡ notes_of worker.old) × (kept_of worker.new ≡ kept_of worker.old)) }
+        ensures memory { memory.new ≡ memory.old }
     {
         let inner = &mut worker.inner;
         let number = receiver_of(tasks.as_slice());

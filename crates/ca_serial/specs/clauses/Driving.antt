@@ -14,7 +14,7 @@ use Rattle.ca_code.specs.Codes.{code_seen}
 use Rattle.ca_sections.specs.declared.loop_code.LoopPlace.{LoopPlace}
 use Rattle.ca_sections.specs.Extending.{AllStand}
 use Rattle.ca_steps.specs.declared.running.Laid.{Laid}
-use Rattle.ca_steps.specs.Ops.{Runs}
+use Rattle.ca_selection.specs.Ops.{Runs}
 use Rattle.ca_serial.specs.declared.running.Outcome.{Outcome}
 use Rattle.ca_serial.specs.declared.running.RunError.{RunError}
 use Rattle.ca_serial.specs.Codes.{IsRun}

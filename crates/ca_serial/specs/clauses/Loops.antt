@@ -20,7 +20,7 @@ use Rattle.ca_code_laws.specs.Runs.{Into, run_into}
 use Rattle.ca_code_laws.specs.Told.{IsLaidOut}
 use Rattle.ca_steps.specs.declared.frames.Frames.{Frames}
 use Rattle.ca_steps.specs.declared.running.Laid.{Laid}
-use Rattle.ca_steps.specs.Ops.{Runs}
+use Rattle.ca_selection.specs.Ops.{Runs}
 use Rattle.ca_steps.specs.Stands.{state_of}
 use Rattle.ca_steps.specs.Ways.{BeginsAt}
 use Rattle.ca_serial.specs.clauses.Handing.{Chose, with_notes}

@@ -31,5 +31,5 @@ returns-clause-locks c = λ is checked sound.
     kept_text (program_view c.args.program.now) c.args.plan.now is checked (λ v. v.items) c.annotate.result (tree_view c.args.tree.now) sound (returns-clause-text c)
 
 pub returns-clause-sites : goal.returns-clause-sites
-returns-clause-sites c = λ resolves.
-    marked_text (program_view c.args.program.now) c.args.plan.now (tree_view c.args.tree.now) resolves (λ v. v.items) c.annotate.result (returns-clause-text c)
+returns-clause-sites c = λ resolves is apart.
+    marked_text (program_view c.args.program.now) c.args.plan.now (tree_view c.args.tree.now) resolves is apart (λ v. v.items) c.annotate.result (returns-clause-text c)

@@ -15,13 +15,13 @@ pub returns-then-not-take_run-clause-performed : goal.returns-then-not-take_run-
 returns-then-not-take_run-clause-performed g c = performed_short g.N.Round.setting c.args.cells.now c.args.left c.args.most c.args.task _ _ c.args.seat.now _ _ _ _ c.requires.place (same_self c.args.seat.now) refl refl refl c.take_run.ensures.share refl
 
 pub apply_all-requires-clause-tasks : goal.apply_all-requires-clause-tasks
-apply_all-requires-clause-tasks g c κs within = let e = ap (λ v. length v.items) c.replace-tasks.ensures.value in let some = c.take_run.ensures.some c.if-not-take_run.false in let few = c.take_run.ensures.few.0 in (omega (arith, e, some), omega (arith, e, few))
+apply_all-requires-clause-tasks g c = let e = ap (λ v. length v.items) c.replace-tasks.ensures.value in let some = c.take_run.ensures.some c.if-not-take_run.false in let few = c.take_run.ensures.few.0 in (omega (arith, e, some), omega (arith, e, few))
 
 pub apply_all-requires-clause-one : goal.apply_all-requires-clause-one
-apply_all-requires-clause-one g c κs within = (c.args.task.op.receiver, subst (λ v. All (HasReceiver c.args.task.op.receiver) v.items) (sym c.replace-tasks.ensures.value) c.take_run.ensures.one)
+apply_all-requires-clause-one g c = (c.args.task.op.receiver, subst (λ v. All (HasReceiver c.args.task.op.receiver) v.items) (sym c.replace-tasks.ensures.value) c.take_run.ensures.one)
 
 pub apply_all-requires-clause-may_run : goal.apply_all-requires-clause-may_run
-apply_all-requires-clause-may_run g c κs within = fits_may_run g.N.Round.setting (cells_key c.args.cells.now) c.replace-tasks.result.items c.requires.work.setting (subst (λ v. AllFit g.N.Round.setting v.items) (sym c.replace-tasks.ensures.value) c.take_run.ensures.fits)
+apply_all-requires-clause-may_run g c = fits_may_run g.N.Round.setting (cells_key c.args.cells.now) c.replace-tasks.result.items c.requires.work.setting (subst (λ v. AllFit g.N.Round.setting v.items) (sym c.replace-tasks.ensures.value) c.take_run.ensures.fits)
 
 pub hand_all-requires-clause-room : goal.hand_all-requires-clause-room
 hand_all-requires-clause-room g c = ap (λ v. v.items) c.replace-tasks.ensures.after ∙ c.new.ensures.items

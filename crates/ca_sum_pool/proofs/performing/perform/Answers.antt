@@ -10,7 +10,7 @@ use Rattle.ca_sum_pool.proofs.Did.{same_task, whole_performed, performed_on}
 use Rattle.ca_sum_pool.proofs.performing.perform.Goals as goal
 
 pub run_whole-requires-clause-fits : goal.run_whole-requires-clause-fits
-run_whole-requires-clause-fits g c κs within =
+run_whole-requires-clause-fits g c =
     let same : task_after c.behind-after.result c.call-op.result.now ≡ next_task c.args.next = same_task (next_task c.args.next) c.behind-after.result c.call-op.result.now c.behind-after.ensures c.call-op.ensures in
     subst (λ (s : Setting). Fits s (task_after c.behind-after.result c.call-op.result.now)) c.requires.setting (subst (Fits g.N.Round.setting) (sym same) c.requires.fits)
 
@@ -31,7 +31,7 @@ returns-in-Some g c =
     (whole_performed s x c.args.left task c.args.owner.now before after share c.in-Some.steps ran (subst (λ (z : Setting). AllFit z share) c.requires.setting c.requires.share)))
 
 pub perform_section-requires-clause-stands : goal.perform_section-requires-clause-stands
-perform_section-requires-clause-stands g c κs within =
+perform_section-requires-clause-stands g c =
     let p = program_view c.args.program.now in
     let x = c.args.extent.now in
     let frozen = c.args.frozen.now in

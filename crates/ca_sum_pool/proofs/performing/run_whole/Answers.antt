@@ -11,7 +11,7 @@ pub returns-then-not-whole : goal.returns-then-not-whole
 returns-then-not-whole g c = record { once = λ d. d; same = refl }
 
 pub complete-requires-clause-typed : goal.complete-requires-clause-typed
-complete-requires-clause-typed g c κs within = c.requires.fits.typed
+complete-requires-clause-typed g c = c.requires.fits.typed
 
 pub returns-in-Ok-Some : goal.returns-in-Ok-Some
 returns-in-Ok-Some g c =

@@ -13,17 +13,17 @@ use Rattle.ca_replica.proofs.InPlace.{classes_first, constants_first}
 use Rattle.ca_replica.proofs.replica.Replica.complete.Goals as goal
 
 pub run_whole-requires-clause-program : goal.run_whole-requires-clause-program
-run_whole-requires-clause-program g c κs within = c.requires.round.program
+run_whole-requires-clause-program g c = c.requires.round.program
 
 pub run_whole-requires-clause-heap : goal.run_whole-requires-clause-heap
-run_whole-requires-clause-heap g c κs within = let stands = c.requires.sums in stands.heap
+run_whole-requires-clause-heap g c = let stands = c.requires.sums in stands.heap
 
 pub run_whole-requires-clause-typed : goal.run_whole-requires-clause-typed
-run_whole-requires-clause-typed g c κs within =
+run_whole-requires-clause-typed g c =
     (well_typed_there (program_view c.args.program.now) c.args.extent.now c.args.frozen.now (sums c.args.extent.now.written c.args.frozen.now c.args.self.now.copies) c.requires.sums (invocation_of c.args.op.now ∷ []) (c.requires.typed, tt)).0
 
 pub run_whole-requires-clause-keeps : goal.run_whole-requires-clause-keeps
-run_whole-requires-clause-keeps g c κs within =
+run_whole-requires-clause-keeps g c =
     let x = c.args.extent.now in
     record {
       marked = c.requires.marks;

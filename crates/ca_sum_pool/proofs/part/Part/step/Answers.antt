@@ -13,10 +13,10 @@ invariant_of-self g c = let t = c.take_next.ensures in let z = c.self.inside in
     (c.self.invariant.0, sound_still g.N.Round.setting g.K.Sums.extent g.K.Sums.left z.owner c.take_next.new.owner z.thieves c.take_next.new.thieves z.replica.copies z.share.items c.take_next.new.share.items (begun g.K.Sums.listed z.from z.to) g.K.Sums.listed c.args.listed.now c.requires.listed z.at z.end c.take_next.new.at c.take_next.new.end z.stuck z.count z.steps z.short (taken_of c.take_next.result) c.self.invariant.1 t.same t.taken t.share (ap taken_of (nothing_found c.take_next.result c.in_default.not-Some)))
 
 pub perform-turn-requires-clause-fits : goal.perform-turn-requires-clause-fits
-perform-turn-requires-clause-fits g c κs within = subst (λ o. AllFit g.N.Round.setting (option_to_list (taken_of o))) c.in-Some.is c.take_next.ensures.fits 0 (next_task c.in-Some.next) (omega arith)
+perform-turn-requires-clause-fits g c = subst (λ o. AllFit g.N.Round.setting (option_to_list (taken_of o))) c.in-Some.is c.take_next.ensures.fits 0 (next_task c.in-Some.next) (omega arith)
 
 pub perform-turn-requires-clause-stands : goal.perform-turn-requires-clause-stands
-perform-turn-requires-clause-stands g c κs within = let z = c.self.inside in
+perform-turn-requires-clause-stands g c = let z = c.self.inside in
     stands_there g.N.Round.setting (program_view c.args.program.now) g.K.Sums.extent c.args.extent.now c.args.frozen.now g.K.Sums.left z.owner.hand z.thieves z.replica.copies z.share.items (begun g.K.Sums.listed z.from z.to) (begun g.K.Sums.listed z.at z.end) z.stuck z.count z.steps z.short c.requires.picked c.requires.setting c.requires.round c.if-self.false c.self.invariant.1
 
 pub invariant_of-self-in-Ran : goal.invariant_of-self-in-Ran

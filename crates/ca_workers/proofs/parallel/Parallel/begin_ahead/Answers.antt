@@ -4,13 +4,13 @@ use Rattle.ca_workers.specs.clauses.Ahead.{RanFront}
 use Rattle.ca_workers.proofs.parallel.Parallel.begin_ahead.Goals as goal
 
 pub run_front-requires-clause-program : goal.run_front-requires-clause-program
-run_front-requires-clause-program g c κs o = c.requires.program
+run_front-requires-clause-program g c = c.requires.program
 
 pub run_front-requires-clause-heap : goal.run_front-requires-clause-heap
-run_front-requires-clause-heap g c κs o = c.requires.heap
+run_front-requires-clause-heap g c = c.requires.heap
 
 pub run_front-requires-clause-typed : goal.run_front-requires-clause-typed
-run_front-requires-clause-typed g c κs o = c.requires.typed
+run_front-requires-clause-typed g c = c.requires.typed
 
 pub returns-in-Ok-Some : goal.returns-in-Ok-Some
 returns-in-Ok-Some g c = record {
