@@ -1,9 +1,9 @@
 //! Faulty words, and devices that fail.
 
 use crate::calls::{Call, serve};
-use crate::sources::{FIRST, GRAPH_HEAP, GRAPH_VISIT, PRINTED, PRINTS};
+use crate::sources::{FIRST, FIRST_HEAP, GRAPH_HEAP, GRAPH_VISIT, PRINTED, PRINTS};
 use crate::watch::Watch;
-use ca_base::{SureSink, SureSource};
+use ca_base::{MemSink, MemSource, SureSink, SureSource};
 use std::process::Abort;
 use std::sync::Wait;
 use std::thread::Threads;
@@ -76,7 +76,6 @@ fn gives_way<R: AllocGlobal + Threads + Wait + Sync + Abort>(rt: &R, line: &'sta
         && visit(line, 2, 0).ends(rt, 6, b"")
         && visit(line, 3, 0).ends(rt, 0, GRAPH_HEAP.as_bytes())
         && visit(line, 0, 1).ends(rt, 7, b"")
-        && visit(line, 0, 2).ends(rt, 0, GRAPH_HEAP.as_bytes())
 }
 
 /// Reads and writes of a visit failing in turn.
@@ -90,6 +89,68 @@ fn gives_way_to_faults(rt: HostRuntime) {
         ..Call::new("run 1 9", "")
     };
     assert!(rt; refused.ends(&rt, 7, b""));
+}
+
+/// The status of a line on a text from a source and to a sink in memory, of whose reads and writes the one of this number fails,
+/// where it is not 0, and what was written.
+fn in_memory<R: AllocGlobal + Threads + Wait + Sync + Abort>(
+    rt: &R,
+    line: &str,
+    text: &str,
+    read: u64,
+    write: u64,
+) -> (u8, Vec<u8>) {
+    let alloc = rt.alloc();
+    let text = Vec::from_slice(alloc, text.as_bytes()).expect(rt, "a text");
+    let failing_reads = vec![in alloc; read; 1].expect(rt, "a number");
+    let failing_writes = vec![in alloc; write; 1].expect(rt, "a number");
+    let mut source = MemSource::new(text, failing_reads);
+    let mut sink = MemSink::new(alloc, 2000, failing_writes).expect(rt, "a sink");
+    let status = serve(rt, line, &mut source, &mut sink, &Watch::open());
+    let written = Vec::from_slice(alloc, sink.bytes()).expect(rt, "what was written");
+    (status, written)
+}
+
+/// Ends the test unless a second read that fails leaves nothing, and each of the six writes of a heap of two lines that fails what
+/// went before it: a line goes out as a `#`, a number and the rest, so the third one leaves the first two.
+fn gives_way_in_memory<R: AllocGlobal + Threads + Wait + Sync + Abort>(
+    rt: &R,
+    line: &str,
+    text: &str,
+    heap: &str,
+) {
+    let (status, written) = in_memory(rt, line, text, 2, 0);
+    assert!(rt; status == 6 && written.is_empty(), "of {line}");
+    let mut before: usize = 0;
+    for number in 1..7u64 {
+        let (status, written) = in_memory(rt, line, text, 0, number);
+        let is_begun = heap.as_bytes().starts_with(&written) && written.len() < heap.len();
+        let is_more = number == 1 || before < written.len();
+        assert!(rt;
+            status == 7 && is_begun && is_more,
+            "of {line} by write {number}"
+        );
+        before = written.len();
+    }
+    let (status, written) = in_memory(rt, line, text, 0, 3);
+    assert!(rt;
+        status == 7 && written.as_slice() == "#0".as_bytes(),
+        "of {line}"
+    );
+    let (status, written) = in_memory(rt, line, text, 0, 7);
+    assert!(rt;
+        status == 0 && written.as_slice() == heap.as_bytes(),
+        "of {line}"
+    );
+}
+
+/// Reads and writes of devices in memory failing in turn: the third write leaves a beginning of the heap's first line.
+#[test]
+fn writes_a_line_in_three(rt: HostRuntime) {
+    gives_way_in_memory(&rt, "run 1 100", FIRST, FIRST_HEAP);
+    gives_way_in_memory(&rt, "run 1 100", GRAPH_VISIT, GRAPH_HEAP);
+    gives_way_in_memory(&rt, "run 2 100", GRAPH_VISIT, GRAPH_HEAP);
+    gives_way_in_memory(&rt, "run 64 100", GRAPH_VISIT, GRAPH_HEAP);
 }
 
 /// The status of a run that prints, of whose reads and writes one fails, how much it wrote, and whether that is a
@@ -108,7 +169,7 @@ fn prints<R: AllocGlobal + Threads + Wait + Sync + Abort>(
     (status, written.len(), begun)
 }
 
-/// Each read and each write failing in turn, over a program with prints.
+/// Each read and each write failing in turn, over a program with four prints, of a write each, and a heap of one line, of three.
 #[test]
 fn gives_way_to_each_fault(rt: HostRuntime) {
     let whole = PRINTED.len();
@@ -117,7 +178,7 @@ fn gives_way_to_each_fault(rt: HostRuntime) {
         let fails = status == 7 && len != whole;
         let writes = status == 0 && len == whole;
         assert!(rt;
-            begun && if number < 6 { fails } else { writes },
+            begun && if number < 8 { fails } else { writes },
             "of {number}"
         );
         let (status, len, _) = prints(&rt, number, 0);

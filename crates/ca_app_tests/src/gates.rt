@@ -9,10 +9,10 @@ use std::thread::Threads;
 
 /// Runs of small texts past a gate: the words, how often worker 0 passes it with the objects 0, 1 and 2 and how often it is passed
 /// otherwise, and what is written, with `$` for the end of a line. A line with a text stands before its runs.
-const ALONE: &str = "// light operations: the calling thread runs them as one worker does
+const ALONE: &str = "// light operations: the calling thread runs them in the heap itself
 of class A { public: long n; void set(long v) { n = v; } void mul(long v) { n *= v; } void two(long v) { mul(v); mul(v + 1); } }; int main() { A *a = new A(); a->set(2); a->two(3); }
-run 2 4 | 3 0 0 0 | #0 A n=24$
-run 64 4 | 3 0 0 0 | #0 A n=24$
+run 2 4 | 1 0 0 0 | #0 A n=24$
+run 64 4 | 1 0 0 0 | #0 A n=24$
 run 1 4 | 3 0 0 0 | #0 A n=24$
 // operations that call a value method with a loop: two neighbours, and the one that lists them, which takes no lock
 of class A { public: long n; long same(long v) { long k = v; for (long i = 0; i < 1; i++) k = v; return k; } void set(long v) { n = v; } void mul(long v) { n *= v; } void two(long v) { mul(same(v)); mul(v + 1); } }; int main() { A *a = new A(); a->set(2); a->two(3); }
@@ -130,7 +130,7 @@ fn all_pass<R: AllocGlobal + Threads + Wait + Sync + Abort>(rt: &R, rows: &str, 
 }
 
 /// The calling thread runs a marked call alone: neighbours of one receiver pass the gate once, 16 at most, and operations that take
-/// no lock don't. By one worker each operation does, and so does each of a list of light ones.
+/// no lock don't. By one worker each operation does.
 #[test]
 fn neighbours_alone_pass_once(rt: HostRuntime) {
     all_pass(&rt, ALONE, true);

@@ -35,6 +35,8 @@ pairs:extent A::put$A::put A::put unproved FieldDiffers f$extent A::add$A::add A
 of class M { public: long x; void up(long v) { x = max(x, v); } void lo(long v) { x = min(x, v); } void both(long v) { up(v); lo(v); } }; int main() { }
 pairs:extent M::up$M::up M::up commutes$extent M::lo$M::lo M::lo commutes$extent M::both$M::up M::up commutes$M::up M::lo unproved FieldDiffers x$M::up M::both commutes$M::lo M::lo commutes$M::lo M::both commutes$M::both M::both commutes$
 plan:op M::up serial$op M::lo serial$op M::both serial$
+of class M { public: long x; void up(long v) { if (x < v) x = v; } void lo(long v) { if (v < x) x = v; } void both(long v) { up(v); lo(v); } }; int main() { }
+pairs:extent M::up$M::up M::up commutes$extent M::lo$M::lo M::lo commutes$extent M::both$M::up M::up commutes$M::up M::lo unproved FieldDiffers x$M::up M::both commutes$M::lo M::lo commutes$M::lo M::both commutes$M::both M::both commutes$
 of class X { public: long x; void f(long v) { x ^= v; } void g() { f(5); f((x | 3) & 6); } }; int main() { X *a = new X(); a->g(); }
 pairs:extent X::f$X::f X::f commutes$extent X::g$X::f X::f commutes$X::f X::g unproved NotSeparable X::g 1 AccessAfterCall$X::g X::g unproved NotSeparable X::g 1 AccessAfterCall$
 emit:class X {$public :$long x ;$void f ( long v ) {$x ^= v ;$}$void g ( ) {$f ( 5 ) ;$f ( ( x | 3 ) & 6 ) ;$}$} ;$int main ( ) {$X * a = new X ( ) ;$a -> g ( ) ;$}$

@@ -34,6 +34,9 @@ of class F { public: long f(long n) { return f(n); } }; int main() { F *a = new 
 10 4:spent 10$
 of class T { public: }; int main() { for (long i = 0; i < 2000000; i++) { T *t = new T(); } }
 1000000000 3:trap 1 HeapFull$
+of class Acc {$public:$  long sum;$  Acc *peer;$  void add(long p) { sum = sum + p; }$  void tie(Acc *q) { peer = q; }$};$int main() {$  Acc *a = new Acc();$  Acc *b = nullptr;$  a->add(3);$  b->add(4);$  a->tie(b);$  a->add(5);$  return 0;$}$
+100 3:trap 12 NullPointer$
+1 3:trap 12 NullPointer$
 // arguments come before the null check
 of class F { public: long f(long n) { return n; } }; int main() { F *a = nullptr; long z = 0; print(a->f(1 / z)); }
 9 3:trap 1 ZeroDivisor$

@@ -4,6 +4,8 @@
 pub const FIRST: &str =
     "class Acc {\npublic:\n  long sum;\n  Acc *peer;\n  void add(long p) { sum = sum + p; }\n  void tie(Acc *q) { peer = q; }\n};\nint main() {\n  Acc *a = new Acc();\n  Acc *b = new Acc();\n  a->add(3);\n  b->add(4);\n  a->tie(b);\n  a->add(5);\n  return 0;\n}\n";
 
+pub const FIRST_HEAP: &str = "#0 Acc sum=8 peer=#1\n#1 Acc sum=4 peer=null\n";
+
 /// A visit of two objects that point at each other.
 pub const GRAPH_VISIT: &str =
     "class Graph {\npublic:\n  bool mark;\n  long value;\n  long sum;\n  Graph *left;\n  Graph *right;\n  void init(long v, Graph *l, Graph *r) {\n    value = v;\n    left = l;\n    right = r;\n  }\n  void visit(long p) {\n    sum = sum + p;\n    if (!mark) {\n      mark = true;\n      if (left != nullptr) left->visit(value);\n      if (right != nullptr) right->visit(value);\n    }\n  }\n};\nint main() {\n  Graph *a = new Graph();\n  Graph *b = new Graph();\n  a->init(3, b, b);\n  b->init(5, a, nullptr);\n  a->visit(1);\n  return 0;\n}\n";
@@ -54,6 +56,10 @@ pub const THREE_PRODUCTS: &str =
     "class Bin {\npublic:\n  long n;\n  void begin() { n = 1; }\n  void add(long v) { n *= v; }\n};\nclass Pair {\npublic:\n  Bin *b[3];\n  void fill() { b[0] = new Bin(); b[1] = new Bin(); b[2] = new Bin(); b[0]->begin(); b[1]->begin(); b[2]->begin(); }\n};\nint main() {\n  Pair *s = new Pair();\n  s->fill();\n  for (long i = 0; i < 3; i++) s->b[i]->add(i + 2);\n}\n";
 
 pub const THREE_PRODUCTS_HEAP: &str = "#0 Pair b=[#1,#2,#3]\n#1 Bin n=2\n#2 Bin n=3\n#3 Bin n=4\n";
+
+/// Sixty-four objects, begun at 1, each multiplied by what a loop of 2,000 turns gives.
+pub const MANY_PRODUCTS: &str =
+    "class Bin {\npublic:\n  long n;\n  void begin() { n = 1; }\n  long count(long v) { long k = v; for (long i = 0; i < 2000; i++) k = k + 1; return k; }\n  void mul(long v) { n *= count(v); }\n};\nclass Set {\npublic:\n  Bin *b[64];\n  void fill() { for (long i = 0; i < 64; i++) { b[i] = new Bin(); b[i]->begin(); } }\n};\nint main() {\n  Set *s = new Set();\n  s->fill();\n  for (long i = 0; i < 64; i++) s->b[i]->mul(i);\n}\n";
 
 /// Two calls that add to one object.
 pub const ONE_BIN: &str =

@@ -15,9 +15,13 @@ enum Watching {
     Each,
     /// It holds the section on each of two objects until the one on the other is inside.
     Pair(u32, u32),
+    /// The same, and any third section until one of the two is inside.
+    Stolen(u32, u32),
     /// It holds the first section on an object until another one on it is inside, which another worker runs, for so many turns of
     /// looking.
     Shared(u32, u32),
+    /// It holds the first section of worker 0 on an object behind this one, and the first of any other worker, until both are inside.
+    Workers(u32),
 }
 
 /// A gate, and four counts of who came to it.
@@ -57,10 +61,24 @@ impl Watch {
         Watch::new(Watching::Pair(one, other))
     }
 
+    /// The same where a worker has both objects and another one comes to a third: that one is held until one of the two sections is
+    /// inside, so that the other can be stolen.
+    pub fn stealing(one: u32, other: u32) -> Watch {
+        Watch::new(Watching::Stolen(one, other))
+    }
+
     /// One that holds the first section on an object until another one on it is inside, for so many turns of looking. It counts
-    /// the sections on it that were inside, and last those that waited in vain.
+    /// the sections on it that were inside, of these those of workers other than 0, the sections on other objects, and those that
+    /// waited in vain.
     pub fn sharing(object: u32, turns: u32) -> Watch {
         Watch::new(Watching::Shared(object, turns))
+    }
+
+    /// One that holds the first section of worker 0 on an object behind this one, and the first of any other worker, until both are
+    /// inside. It counts the sections of worker 0 on objects behind it, those of other workers, those of worker 0 before, which the
+    /// calling thread may run ahead of a round, and those that waited in vain.
+    pub fn working(last: u32) -> Watch {
+        Watch::new(Watching::Workers(last))
     }
 
     pub fn counts(&self) -> (u64, u64, u64, u64) {
@@ -103,6 +121,43 @@ impl Watch {
             self.third.fetch_add(1, Ordering::SeqCst);
         }
     }
+
+    /// Waits until a section on one of two objects is inside.
+    fn wait_for_either(&self) {
+        for _ in 0..MOST_TURNS {
+            if self.first.load(Ordering::SeqCst) > 0 || self.second.load(Ordering::SeqCst) > 0 {
+                return;
+            }
+        }
+        self.fourth.fetch_add(1, Ordering::SeqCst);
+    }
+
+    fn share(&self, shared: u32, turns: u32, worker: u32, object: u32) {
+        if object != shared {
+            self.third.fetch_add(1, Ordering::SeqCst);
+            return;
+        }
+        if worker > 0 {
+            self.second.fetch_add(1, Ordering::SeqCst);
+        }
+        if self.first.fetch_add(1, Ordering::SeqCst) == 0 {
+            self.wait(&self.first, 1, turns);
+        }
+    }
+
+    fn work(&self, last: u32, worker: u32, object: u32) {
+        if worker > 0 {
+            if self.second.fetch_add(1, Ordering::SeqCst) == 0 {
+                self.wait(&self.first, 0, MOST_TURNS);
+            }
+        } else if object > last {
+            if self.first.fetch_add(1, Ordering::SeqCst) == 0 {
+                self.wait(&self.second, 0, MOST_TURNS);
+            }
+        } else {
+            self.third.fetch_add(1, Ordering::SeqCst);
+        }
+    }
 }
 
 impl Gate for Watch {
@@ -111,11 +166,14 @@ impl Gate for Watch {
             Watching::Nobody => {}
             Watching::Each => self.count(worker, object),
             Watching::Pair(one, other) => self.meet(one, other, object),
-            Watching::Shared(shared, turns) => {
-                if object == shared && self.first.fetch_add(1, Ordering::SeqCst) == 0 {
-                    self.wait(&self.first, 1, turns);
+            Watching::Stolen(one, other) => {
+                if object != one && object != other {
+                    self.wait_for_either();
                 }
+                self.meet(one, other, object);
             }
+            Watching::Shared(shared, turns) => self.share(shared, turns, worker, object),
+            Watching::Workers(last) => self.work(last, worker, object),
         }
     }
 }

@@ -7,7 +7,8 @@ use crate::shut::Shut;
 use crate::sources::{let_go, program};
 use ca_code::{PlainBodies, lay_out_once, lay_out_with};
 use ca_model::{Heap, TrapKind, Value};
-use ca_steps::{Event, Frames, InRun, Laid, Op, run_on};
+use ca_selection::Op;
+use ca_steps::{Event, Frames, InRun, Laid, run_on};
 use std::process::Abort;
 use std::sync::Wait;
 

@@ -47,6 +47,8 @@ mod runs;
 #[cfg(test)]
 mod sections;
 #[cfg(test)]
+mod separated;
+#[cfg(test)]
 mod shut;
 #[cfg(test)]
 mod sources;

@@ -18,6 +18,8 @@ const ROWS: &str = "0 true => class A { public: long n; void m(long v) { n += v;
 0 false => class A { public: long n; long k; void m(long v) { n += v; k = n + v; } };$int main() { }
 0 false => class A { public: long n; A *o; void m() { n += o->n; } };$int main() { }
 0 false => class A { public: long a[2]; void m(long v) { a[0] += v; } };$int main() { }
+1 false => class Graph {$public:$  bool mark;$  long value;$  long sum;$  Graph *left;$  Graph *right;$  void init(long v, Graph *l, Graph *r) {$    value = v;$    left = l;$    right = r;$  }$  void visit(long p) {$    sum = sum + p;$    if (!mark) {$      mark = true;$      if (left != nullptr) left->visit(value);$      if (right != nullptr) right->visit(value);$    }$  }$};$int main() {$  Graph *a = new Graph();$  Graph *b = new Graph();$  a->init(3, b, b);$  b->init(5, a, nullptr);$  a->visit(1);$  return 0;$}$
+2 false => class A { public: long n; void set(long v) { n = v; } void mul(long v) { n *= v; } void two(long v) { mul(v); mul(v + 1); } }; int main() { A *a = new A(); a->set(2); a->two(3); }
 0 false => class N { public: long sum; bool mark; N *next; void visit(long p) { sum = sum + p; if (!mark) { mark = true; if (next != nullptr) next->visit(p); } } };$int main() { }
 2 false => class A { public: long n; void set(long v) { n = v; } void mul(long v) { n *= v; } void two(long v) { mul(v); mul(v + 1); } };$int main() { }";
 

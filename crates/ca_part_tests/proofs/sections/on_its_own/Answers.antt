@@ -10,7 +10,7 @@ use Rattle.ca_sections.specs.Extending.{AllStand, StandsAlone}
 use Rattle.ca_sections.specs.Fitting.{LoopStands}
 use Rattle.ca_sections.proofs.Extending.{still_laid}
 use Rattle.ca_steps.specs.declared.running.Laid.{Laid}
-use Rattle.ca_steps.specs.Ops.{Runs}
+use Rattle.ca_selection.specs.Ops.{Runs}
 use Rattle.ca_part_tests.proofs.sections.on_its_own.Goals as goal
 
 pub of-requires-2 : goal.of-requires-2

@@ -4,7 +4,7 @@ use Rattle.ca_code.specs.declared.layout.Code.{Code}
 use Rattle.ca_code.specs.Codes.{code_seen}
 use Rattle.ca_code_laws.specs.Told.{IsLaidOut}
 use Rattle.ca_steps.specs.declared.running.Laid.{Laid}
-use Rattle.ca_steps.specs.Ops.{Runs}
+use Rattle.ca_selection.specs.Ops.{Runs}
 use Rattle.ca_part_tests.proofs.sources.coded.Goals as goal
 
 pub of-requires-2 : goal.of-requires-2
