@@ -1,4 +1,4 @@
-"""The pages of the crates: the calls, clauses and edits that they name are those that the crates have."""
+"""The pages of the crates, with those of their wrong bodies: the calls, clauses and edits that they name are those that the crates have."""
 
 import re
 from functools import cache
@@ -19,9 +19,13 @@ OTHERS = set("""
 """.split())
 
 
+REFERENCE = "language", "commands", "analysis", "schedules"
+
+
 @cache
 def words_of_the_language():
-    return {word for text in quoted(without_blocks((ROOT / "docs" / "LANGUAGE.md").read_text())) for word in re.findall(r"\w+", text)}
+    pages = [ROOT / "docs" / "reference" / f"{name}.md" for name in REFERENCE]
+    return {word for page in pages for text in quoted(without_blocks(page.read_text())) for word in re.findall(r"\w+", text)}
 
 
 def below(crates):
@@ -33,12 +37,14 @@ def below(crates):
 
 
 class Page:
-    """A crate's page. Each `check` gives pairs: what was looked at, and whether it holds."""
+    """A crate's page, with that of its wrong bodies behind it. Each `check` gives pairs: what was looked at, and whether it holds."""
 
     def __init__(self, name):
         self.path = ROOT / "crates" / name / "README.md"
+        self.bodies = ROOT / "checks" / "edits" / name / "README.md"
         self.crate = crate_of(name)
-        self.text = without_blocks(self.path.read_text())
+        texts = [path.read_text() for path in (self.path, self.bodies) if path.exists()]
+        self.text = "\n\n".join(without_blocks(text) for text in texts)
         self.words = quoted(self.text)
         self.near = [crate_of(each) for each in below([name, *(word for word in self.words if word in stands_on())])]
 

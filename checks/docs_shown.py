@@ -3,6 +3,7 @@
 import re
 import shlex
 import subprocess
+from collections.abc import Iterator
 from functools import cache
 
 from docs_crates import ROOT
@@ -25,9 +26,11 @@ def run(program, *words, source=""):
     return done.stdout.decode(), None if done.stderr else done.returncode
 
 
-def parts(text):
+def parts(text: str) -> Iterator[tuple[str, int, str]]:
     """The parts of a page in order: its headings, its paragraphs, and its blocks with the line where each begins."""
-    lines, kept, begun = text.splitlines(), [], None
+    lines = text.splitlines()
+    kept: list[str] = []
+    begun: int | None = None
     for number, line in enumerate(lines, 1):
         if line.lstrip().startswith("```"):
             if begun is None:
@@ -61,7 +64,7 @@ def commands(page, program):
 
 
 def programs(page, program):
-    """Each whole program of a page is that of a file of samples/, or the text of `gen` but for its links."""
+    """Each whole program of a page is that of a file of samples/, or the text of `gen` but for its links; the README shows a part of one."""
     samples = {path.read_text() for path in (ROOT / "samples").glob("*.cc")}
     generated, _ = run(program, "gen", "7", "3")
     links = "".join(re.findall(r"  t->link.*\n", generated))
@@ -69,6 +72,8 @@ def programs(page, program):
         if text.startswith("class ") and "\nint main() {\n" in text:
             filled = text.replace("[N]", "[3]").replace("i < N;", "i < 3;").replace("LINKS\n", links)
             yield f"{page.name}:{line} a program", text in samples or filled == generated
+        elif page.parent == ROOT and METHOD.match(text):
+            yield f"{page.name}:{line} a part of a sample", any(text in sample for sample in samples)
 
 
 def told_before(page, program):
@@ -91,7 +96,7 @@ SOURCES = {"the empty text": "", "a line feed alone": "\n", "whatever is there":
 def written(cell):
     """The bytes that a cell tells."""
     if cell == "the usage line":
-        return next(text for _, text in blocks(ROOT / "docs" / "LANGUAGE.md") if text.startswith("usage: "))
+        return next(text for _, text in blocks(ROOT / "docs" / "reference" / "commands.md") if text.startswith("usage: "))
     return "".join(line + "\n" for line in QUOTED.findall(cell))
 
 
@@ -191,7 +196,7 @@ def samples(program):
         for ending, due in (".schedule", ("yes\n", 0)), (".trace", ("yes\n", 0)), (".strays", (path.with_suffix(".verify").read_text(), 9)):
             text = path.with_suffix(".cc").read_text() + path.with_suffix(ending).read_text()
             yield f"samples/{path.stem}{ending} by verify", run(program, "verify", BUDGET, source=text) == due
-    for path in sorted([*top.glob("*.*"), *top.glob("applications/*.*")]):
+    for path in sorted({*top.glob("*.*"), *top.glob("applications/*.*")} - {top / "README.md"}):
         yield f"{path.relative_to(ROOT)} has a source", path.with_suffix(".cc").exists()
 
 

@@ -1,4 +1,4 @@
-"""The analysis by docs/LANGUAGE.md: extents, separability, verdicts, marks, and the texts of `pairs` and `plan`."""
+"""The analysis by docs/reference/analysis.md: extents, separability, verdicts, marks, and the texts of `pairs` and `plan`."""
 
 from reference.execution import compared, expressions_of, first_other_loop, is_call_loop, statements_in
 from reference.resolved import Program

@@ -1,4 +1,4 @@
-"""Schedules of a program: those that a run can have, and what `verify` says of any, from docs/LANGUAGE.md."""
+"""Schedules of a program: those that a run can have, and what `verify` says of any, from docs/reference/schedules.md."""
 
 import re
 from contextlib import suppress

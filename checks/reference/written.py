@@ -1,4 +1,4 @@
-"""What `run` writes of a text whose run is done: the prints of its serial run and its heap, from docs/LANGUAGE.md."""
+"""What `run` writes of a text whose run is done: the prints of its serial run and its heap, from docs/reference/language.md."""
 
 from reference.programs import BOOL, LONG
 from reference.reference import text_of
