@@ -1,0 +1,185 @@
+// Not proved: regions: the marked calls and loops, of which each place in the text learns whether others make it
+// faster.
+#pragma once
+#include "apart.h"
+#include "values.h"
+#include "walks.h"
+
+// A place in the text where a region begins, and what is known of it.
+struct Site {
+  const bool begins_with_loop;
+  unsigned skip = 0, lights = 0, runs = 0;
+  long most = 0; // the turns that were light
+  bool is_alone = false;
+  double alone = 0, many = 0; // what it took
+  constexpr explicit Site(bool loop) : begins_with_loop(loop) {}
+};
+
+static bool is_within = false;
+static Time region_begun;
+static unsigned looks;
+static unsigned long regions_shared = 0;
+
+// Of a recursion or a walk, whose length nobody knows: it has taken so long.
+static bool is_worth_others() {
+  if (IS_FORCED) return true;
+  looks++;
+  if (looks < 16 ? (looks & (looks - 1)) != 0 : looks % 16 != 0) return false;
+  return now() - region_begun >= (has_begun || missed >= THREADS ? LIGHT : THREADS / 2);
+}
+
+// The others end what they are about and give back what is left; then it is done alone.
+static void give_up(Worker &w) {
+  gave_up = true;
+  is_closed.store(true);
+  for (int i = 0; i < workers; i++) {
+    int none = NOBODY;
+    all[i].asking.compare_exchange_strong(none, IS_CLOSED);
+  }
+  while (active.load(std::memory_order_acquire) != 1) pause_briefly();
+  for (Returned *it = returned.exchange(nullptr, std::memory_order_acquire); it != nullptr;) {
+    Returned *next = it->next;
+    it->task.run(w, it->task);
+    std::free(it);
+    it = next;
+  }
+}
+
+static void help_to_end(Worker &w) {
+  w.is_busy.store(false, std::memory_order_relaxed);
+  active.fetch_sub(1, std::memory_order_release);
+  while (active.load(std::memory_order_acquire) != 0)
+    if (!helped(w)) pause_briefly();
+}
+
+// Copies go into the objects; many pages are folded by many workers. Who has copies is settled before, since who folds
+// takes tasks, too.
+static void fold_all(Worker &w) {
+  if (COPIES == 0) return;
+  const long PIECE = 8, end = long(pages());
+  for (int i = 1; i < workers; i++) all[i].has_copies = all[i].taken != 0;
+  const auto piece = [end](Worker &, long k) {
+    for (long page = k * PIECE; page < (k + 1) * PIECE && page < end; page++) fold(std::size_t(page));
+  };
+  const long pieces = (end + PIECE - 1) / PIECE;
+  if (pieces < 16 || is_closed.load(std::memory_order_relaxed)) {
+    for (long k = 0; k < pieces; k++) piece(w, k);
+    return;
+  }
+  active.store(1, std::memory_order_relaxed);
+  w.is_busy.store(true, std::memory_order_relaxed);
+  loop<1>(w, 0, pieces, piece, [](long, long) {});
+  help_to_end(w);
+}
+
+enum class Way { ALONE, MANY, GAVE_UP };
+
+static inline void begin_region(Worker &w, bool tries) {
+  w.top = &w.root;
+  w.root.down = nullptr;
+  w.oldest = nullptr;
+  w.noticed = 0;
+  w.tries = tries;
+  for (int i = 0; i < workers; i++) all[i].taken = 0;
+  active.store(1, std::memory_order_relaxed);
+  is_open = gave_up = false;
+  looks = 0;
+  region_begun = now();
+  // Who asked in the region before, and didn't see its end, goes away by itself.
+  for (int none = NOBODY; !w.asking.compare_exchange_weak(none, IS_TRIED); none = NOBODY) pause_briefly();
+  w.is_busy.store(true, std::memory_order_relaxed);
+}
+
+static inline Way end_region(Worker &w) {
+  w.tries = false;
+  if (!is_open) {
+    missed += now() - region_begun;
+    w.is_busy.store(false, std::memory_order_relaxed);
+    w.asking.store(NOBODY, std::memory_order_relaxed);
+    return gave_up ? Way::GAVE_UP : Way::ALONE;
+  }
+  regions_shared++;
+  help_to_end(w);
+  if (is_shared) fold_all(w);
+  opened.fetch_add(1);
+  is_shared = false;
+  if (!gave_up) return Way::MANY;
+  for (int i = 0; i < workers; i++) {
+    int it = IS_CLOSED;
+    all[i].asking.compare_exchange_strong(it, NOBODY);
+  }
+  is_closed.store(false);
+  return Way::GAVE_UP;
+}
+
+template <class Many> static Way by_many(const Many &many, bool tries) {
+  begin_region(all[0], tries);
+  many(all[0]);
+  return end_region(all[0]);
+}
+
+static inline void is_light(Site &site, long units) {
+  site.lights = site.lights < 512 ? site.lights * 2 + 1 : 1023;
+  site.skip = site.lights;
+  site.most = units;
+}
+
+// A loop finds out itself whether it is worth others, and goes back where it isn't; then it is tried each 64th time.
+template <class Alone, class Many>
+static void loop_judged(Site &site, long units, const Alone &alone, const Many &many) {
+  const unsigned run = site.runs++;
+  if (site.is_alone && run % 64 != 0) return alone();
+  const Time begun = now();
+  const Way way = by_many(many, true);
+  site.is_alone = way == Way::GAVE_UP;
+  if (way == Way::ALONE && now() - begun < LIGHT)
+    is_light(site, units);
+  else
+    site.lights = 0;
+}
+
+// How a recursion or a walk is alone is tried at the second time, unless it takes long, and each 64th.
+template <class Alone, class Many>
+static void recursion_judged(Site &site, long units, const Alone &alone, const Many &many) {
+  const unsigned run = site.runs++;
+  const bool goes_alone = run == 0   ? false
+                          : run == 1 ? site.many < 5000 * MICROSECOND
+                                     : (run % 64 == 63) != site.is_alone;
+  const Time begun = now();
+  double &known = goes_alone ? site.alone : site.many;
+  Way way = Way::ALONE;
+  if (goes_alone)
+    alone();
+  else
+    way = by_many(many, false);
+  const Time took = now() - begun;
+  known = known == 0 ? double(took) : (known + double(took)) / 2;
+  if (way == Way::ALONE && took < LIGHT)
+    is_light(site, units);
+  else
+    site.lights = 0;
+  site.is_alone = site.alone != 0 && site.alone < site.many;
+}
+
+template <class Alone, class Many>
+__attribute__((noinline)) static void region_judged(Site &site, long units, const Alone &alone, const Many &many) {
+  is_within = true;
+  if (IS_FORCED)
+    by_many(many, site.begins_with_loop);
+  else if (site.begins_with_loop)
+    loop_judged(site, units, alone, many);
+  else
+    recursion_judged(site, units, alone, many);
+  is_within = false;
+}
+
+// `alone` is as the unmarked text has it, `many` shares; `units` says how much it is, in the same unit each time.
+template <class Alone, class Many>
+static inline void region(Site &site, long units, const Alone &alone, const Many &many) {
+  if (workers == 1 || is_within || is_outgrown) return alone();
+  if (site.skip > 0 && units <= site.most) {
+    site.skip--;
+    return alone();
+  }
+  region_judged(site, units, alone, many);
+}

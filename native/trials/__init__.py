@@ -1,0 +1,1 @@
+"""Not proved: what the tests of native/ share."""
