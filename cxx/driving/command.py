@@ -1,0 +1,210 @@
+"""Not proved (../README.md). The whole way of a command, and its statuses."""
+
+import os
+import shutil
+import subprocess
+import sys
+import tempfile
+from dataclasses import dataclass, field
+
+from porting.port import Porter
+from porting.refusals import FAULTS, Unported
+
+from translator import Options
+
+from . import building, findings, judging, lengths, lines, page, remarks, runs, shares, words
+from .building import Unbuilt
+from .findings import Findings
+from .judging import Differs, Judgement, Useless
+from .remarks import Progress
+from .shaping import Shaped, plain, shaped
+from .words import Words
+
+DONE, REFUSED = 0, 1
+NOTHING = "nothing is shown to run in any order"
+
+
+class Kept(Exception):
+    """The user's own binary stays: why, as `PLACE: what` or what alone."""
+
+
+@dataclass
+class Outcome:
+    """What became of a program."""
+
+    is_parallel: bool = False
+    why: str = ""
+    # Each thing that isn't understood, with its place.
+    refused: list[str] = field(default_factory=list)
+    shaped: Shaped | None = None
+    found: Findings = field(default_factory=lambda: Findings(is_known=False))
+    judgement: Judgement | None = None
+    threads: int = 1
+
+
+def main(given: list[str]) -> int:
+    building.deep()
+    try:
+        return whole(words.read(given))
+    except KeyboardInterrupt:
+        return 130
+    except BrokenPipeError:
+        return DONE
+
+
+def whole(said: Words) -> int:
+    if shutil.which("g++") is None:
+        print(f"{remarks.NAME}: g++ isn't there: install Debian's package g++", file=sys.stderr)
+        return REFUSED
+    status = subprocess.run(["g++", *said.gxx], check=False).returncode
+    if status != 0 or said.is_left_to_gxx():
+        return status
+    outcome = Outcome(threads=len(os.sched_getaffinity(0)))
+    progress = Progress()
+    with tempfile.TemporaryDirectory(prefix="commute++.") as folder:
+        attempted(said, outcome, folder, progress)
+        progress.end()
+        tell(said, outcome)
+    return REFUSED if said.must and not outcome.is_parallel else DONE
+
+
+def attempted(said: Words, outcome: Outcome, folder: str, progress: Progress) -> None:
+    """Puts the built program in the place of g++'s, or says in the outcome why not."""
+    try:
+        built = os.path.join(folder, "built")
+        make(said, outcome, folder, built, progress)
+        shutil.copyfile(built, said.out + ".new")
+        shutil.copymode(said.out, said.out + ".new")
+        os.replace(said.out + ".new", said.out)
+        outcome.is_parallel = True
+    except Unported as unported:
+        outcome.refused = unported.lines
+        place, what = remarks.placed("", unported.lines[0])
+        outcome.why = (
+            f"{place}: " if place else ""
+        ) + f"not understood: {what.removeprefix('fatal ').removeprefix('error: ')}"
+    except (Kept, Useless, Unbuilt, runs.Endless) as kept:
+        outcome.why = str(kept)
+    except Differs as differs:
+        outcome.why = f"a fault of commute++, please report it: {differs}"
+    except OSError as error:
+        outcome.why = f"{error.filename or ''}: {error.strerror}"
+    except (*FAULTS, NotImplementedError, RecursionError) as fault:
+        outcome.why = f"a fault of commute++, please report it: {type(fault).__name__}: {fault}"
+
+
+def make(said: Words, outcome: Outcome, folder: str, built: str, progress: Progress) -> None:
+    """The way of a program, as far as it goes."""
+    progress.say("reading")
+    porter = Porter(said.sources, said.reading)
+    progress.say("looking for what may run in parallel")
+    outcome.shaped = shaped(porter)
+    it = building.marked(outcome.shaped.ported)
+    outcome.found = findings.found(outcome.shaped, building.apart_lines(it))
+    has_shares = building.shares(building.unit(it, it.program(), Options()))
+    if not has_shares and not said.report:
+        raise Kept(NOTHING)
+    wanted = own_run(said, progress)
+    progress.say("finding lengths")
+    it = sized(said, outcome, porter, wanted, folder)
+    outcome.found = findings.found(outcome.shaped, building.apart_lines(it))
+    if said.report:
+        shares.measured(it, outcome.found, folder, said.seconds)
+    text = building.unit(it, it.program(), Options())
+    if not building.shares(text):
+        raise Kept(NOTHING)
+    progress.say("compiling")
+    building.made(text, built, said.code)
+    if wanted is not None:
+        judge(said, outcome, it, wanted, folder, built, progress)
+
+
+def sized(said: Words, outcome: Outcome, porter: Porter, wanted: runs.Run | None, folder: str) -> building.Marked:
+    """The port with arrays as long as its run has them; the plain one where the rewritten one writes something else."""
+    assert outcome.shaped is not None
+    it = building.marked(outcome.shaped.ported)
+    try:
+        long, seen = lengths.found(it, folder, said.seconds)
+        if wanted is not None:
+            judging.compare(wanted, seen, "ported")
+    except (Differs, Unbuilt, runs.Endless) as differs:
+        if not outcome.shaped.rewrites:
+            raise
+        remarks.remark(said.sources[0], f"rewrites for the analysis are left out, please report it: {differs}")
+        outcome.shaped = plain(porter)
+        return sized(said, outcome, porter, wanted, folder)
+    outcome.shaped = outcome.shaped.sized(long)
+    return building.marked(outcome.shaped.ported)
+
+
+def own_run(said: Words, progress: Progress) -> runs.Run | None:
+    """The run of g++'s program, which is wanted unless there is to be no check."""
+    if not said.check:
+        return None
+    progress.say("running the program of g++")
+    wanted = runs.run(os.path.abspath(said.out), said.seconds)
+    if wanted.code >= 128:
+        raise Kept(f"the program ends by signal {wanted.code - 128}")
+    return wanted
+
+
+def judge(
+    said: Words, outcome: Outcome, it: building.Marked, wanted: runs.Run, folder: str, built: str, progress: Progress
+) -> None:
+    """Looks at the built program; ends by an exception where it isn't worth giving."""
+    progress.say("compiling with all shared")
+    forced = os.path.join(folder, "forced")
+    building.made(building.unit(it, it.program(), Options(is_forced=True)), forced, said.code, True)
+    progress.say("comparing")
+    outcome.judgement = judging.checked(wanted, built, forced, max(2, outcome.threads), said.seconds)
+    progress.say("timing")
+    counts = sorted({outcome.threads} | ({1, 2, 4} if said.report else set()))
+    judging.timed(outcome.judgement, os.path.abspath(said.out), built, counts, said.seconds)
+    times = outcome.judgement.times(outcome.threads)
+    if times < judging.LEAST:
+        raise Kept(f"by {outcome.threads} threads the built program is {times:.2f} times as fast as that of g++")
+
+
+def tell(said: Words, outcome: Outcome) -> None:
+    """What is said on standard error and output, and the report."""
+    file = said.sources[0]
+    if outcome.is_parallel:
+        judgement = outcome.judgement
+        speed = (
+            "not checked"
+            if judgement is None
+            else f"{judgement.times(outcome.threads):.2f} times as fast by {outcome.threads} threads"
+        )
+        what = outcome.found.summary() if outcome.found.parallel() else "calls of functions that only compute"
+        remarks.remark(file, f"built to run in parallel: {what}; {speed}")
+    else:
+        place, what = remarks.placed(file, outcome.why)
+        more = (
+            f" (and {len(outcome.refused) - 1} more: --remarks)"
+            if len(outcome.refused) > 1 and not said.remarks
+            else ""
+        )
+        remarks.remark(place, f"compiled as it is: {what}{more}")
+    if said.remarks:
+        for line in outcome.refused[1:]:
+            remarks.remark(*remarks.placed(file, line))
+        for one in outcome.found.all:
+            remarks.remark(str(one.place), one.sentence())
+    if said.why:
+        print("\n".join(lines.why(outcome.found, said.why, outcome.why)))
+    if said.report:
+        report(said, outcome)
+
+
+def report(said: Words, outcome: Outcome) -> None:
+    is_page = said.report.endswith((".html", ".htm"))
+    about = lines.About(
+        said.sources, outcome.is_parallel, outcome.why, outcome.found, outcome.judgement, outcome.threads
+    )
+    about.rewrites = outcome.shaped.rewrites if outcome.shaped is not None else []
+    text = page.page(about) if is_page else "\n".join(lines.report(about)) + "\n"
+    try:
+        with open(said.report, "w", encoding="utf-8") as out:
+            out.write(text)
+    except OSError as error:
+        print(f"{remarks.NAME}: {said.report}: {error.strerror}", file=sys.stderr)

@@ -1,0 +1,196 @@
+"""Not proved (../README.md). The user's loops and recursions: which run in parallel, and what stands in the way of
+the others."""
+
+import re
+from dataclasses import dataclass, field
+
+from porting import form, told
+from porting.clang import INCLUDE
+from porting.places import Place
+from porting.port import Ported
+from porting.reasons import Namer, Reason, unlisted
+
+from .shaping import Shaped
+
+PARALLEL, MIXED, SERIAL = "may run in parallel", "serial, with parallel parts", "serial"
+APART = "may run in parallel where its objects are all different"
+SHARED = (PARALLEL, APART)
+AT = re.compile(r" \((?P<file>[^()\s]+):(?P<line>\d+)\)$")
+
+
+@dataclass
+class Pair:
+    """Two functions in the user's names, and why their calls may not change places, if they may not."""
+
+    one: str
+    other: str
+    reason: Reason | None
+
+
+@dataclass
+class Finding:
+    """A loop or recursion of the user. `heads` are its names in what the program says: `loop LINE`, `op
+    CLASS::NAME`."""
+
+    place: Place
+    what: str
+    state: str
+    reasons: list[Reason]
+    pairs: list[Pair]
+    heads: list[str]
+    share: float | None = None
+    runs: int = 0
+
+    def conflict(self) -> tuple[str, int] | None:
+        """The file and line that the first reason names."""
+        found = AT.search(self.reasons[0].said) if self.reasons else None
+        return (found["file"], int(found["line"])) if found else None
+
+    def sentence(self) -> str:
+        if self.state in SHARED:
+            return f"{self.what} {self.state}"
+        if self.state == MIXED:
+            return f"{self.what}: {MIXED}"
+        return f"{self.what} is serial" + (f": {self.reasons[0]}" if self.reasons else "")
+
+
+@dataclass
+class Findings:
+    """All of a program, by their places; or that it wasn't looked at."""
+
+    all: list[Finding] = field(default_factory=list)
+    is_known: bool = True
+
+    def parallel(self) -> list[Finding]:
+        return [one for one in self.all if one.state in SHARED]
+
+    def summary(self) -> str:
+        if not self.is_known:
+            return "its loops weren't looked at"
+        if not self.all:
+            return "no loop and no recursion"
+        return f"{len(self.parallel())} of {len(self.all)} loops and recursions may run in parallel"
+
+
+def found(shaped: Shaped, apart: set[int]) -> Findings:
+    """`apart` are the lines of the text with loops that are shared where their objects are different."""
+    ported = shaped.ported
+    blocks, namer = told.Blocks(ported), Namer(ported)
+    heads = {f"loop {line}" for line in apart}
+    ones = [*_loops(ported, blocks, namer, heads), *_methods(shaped, blocks, namer, heads)]
+    return Findings(_merged(ones))
+
+
+def _loops(ported: Ported, blocks: told.Blocks, namer: Namer, apart: set[str]) -> list[Finding]:
+    made = []
+    for at, statement in enumerate(ported.text.statements):
+        if not isinstance(statement, (form.Loop, form.Count)) or not statement.user or not is_users(statement.place):
+            continue
+        head = f"loop {at + 1}"
+        if blocks.marks.get(head) or head in apart:
+            state = PARALLEL if blocks.marks.get(head) else APART
+            made.append(Finding(statement.place, "loop", state, [], _pairs(blocks, head, namer), [head]))
+            continue
+        reasons = ranked(blocks, head, namer) if head in blocks.marks else [unlisted(statement)]
+        state = MIXED if _has_marked(statement.body, blocks, ported, apart) else SERIAL
+        made.append(Finding(statement.place, "loop", state, reasons, _pairs(blocks, head, namer), [head]))
+    return made
+
+
+def _methods(shaped: Shaped, blocks: told.Blocks, namer: Namer, apart: set[str]) -> list[Finding]:
+    """The recursions of the user, and his loops that became methods."""
+    made = []
+    for method in shaped.ported.program.methods():
+        loop = shaped.turned.get(method)
+        place = loop or method.place
+        if not is_users(place) or method.origin.startswith(("stop ", "a ")) or not (loop or calls_itself(method)):
+            continue
+        head, what = f"op {method!r}", "loop" if loop else f"recursion {method.origin}"
+        if blocks.marks.get(head):
+            made.append(Finding(place, what, PARALLEL, [], _pairs(blocks, head, namer), [head]))
+            continue
+        reasons = [GIVES_BACK] if method.pure else ranked(blocks, head, namer)
+        state = MIXED if _has_marked(method.body, blocks, shaped.ported, apart) else SERIAL
+        made.append(Finding(place, what, state, reasons, _pairs(blocks, head, namer), [head]))
+    return made
+
+
+GIVES_BACK = Reason(
+    "it gives a value back to each caller, who waits for it", "let each call add to a sum that is passed along"
+)
+UNKNOWN = Reason("it reads what its own calls change, or calls nothing", "read it before")
+
+
+def ranked(blocks: told.Blocks, head: str, namer: Namer) -> list[Reason]:
+    """The reasons of a loop or recursion, the most useful one first, each once."""
+    lines = sorted(blocks.lines.get(head, []), key=namer.weight)
+    reasons = [reason for reason in map(namer.reason, lines) if reason is not None]
+    placed = sorted(reasons, key=lambda one: AT.search(one.said) is None)
+    return list({str(one): one for one in placed}.values()) or [UNKNOWN]
+
+
+def _pairs(blocks: told.Blocks, head: str, namer: Namer) -> list[Pair]:
+    made: dict[tuple[str, str], Pair] = {}
+    for line in blocks.lines.get(head, []):
+        one, other = (namer.operation(name) for name in line.split()[:2])
+        reason = namer.reason(line)
+        known = made.get((one, other))
+        if known is None or known.reason is None:
+            made[one, other] = Pair(one, other, reason)
+    return list(made.values())
+
+
+def _has_marked(body: list[form.Statement], blocks: told.Blocks, ported: Ported, apart: set[str]) -> bool:
+    """Whether something that is marked stands in the statements, or in what they call."""
+    numbers = {id(one): at + 1 for at, one in enumerate(ported.text.statements) if one is not None}
+    seen: set[form.Method] = set()
+    waiting = [body]
+    while waiting:
+        for one in form.statements(waiting.pop()):
+            head = f"loop {numbers.get(id(one), 0)}"
+            if blocks.marks.get(head) or head in apart:
+                return True
+            if isinstance(one, form.Do) and one.method not in seen:
+                seen.add(one.method)
+                if calls_itself(one.method) and blocks.marks.get(f"op {one.method!r}"):
+                    return True
+                waiting.append(one.method.body)
+    return False
+
+
+def calls_itself(method: form.Method) -> bool:
+    """Whether a function comes back to itself through others."""
+    seen: set[form.Method] = set()
+    waiting = _called(method)
+    while waiting:
+        one = waiting.pop()
+        if one is method:
+            return True
+        if one not in seen:
+            seen.add(one)
+            waiting += _called(one)
+    return False
+
+
+def _called(method: form.Method) -> list[form.Method]:
+    called = [one.method for one in form.statements(method.body) if isinstance(one, form.Do)]
+    return called + [one.method for one in form.expressions(method.body) if isinstance(one, form.Apply)]
+
+
+def is_users(place: Place) -> bool:
+    return bool(place.line) and not place.file.startswith(INCLUDE)
+
+
+def _merged(ones: list[Finding]) -> list[Finding]:
+    """One for each place: several instances of one text are parallel where all are."""
+    made: dict[tuple[str, int, int, str], Finding] = {}
+    for one in ones:
+        key = (one.place.file, one.place.line, one.place.column, one.what.split()[0])
+        known = made.get(key)
+        if known is None:
+            made[key] = one
+            continue
+        kept, other = (known, one) if known.state not in SHARED else (one, known)
+        kept.heads = [*kept.heads, *other.heads]
+        made[key] = kept
+    return [made[key] for key in sorted(made)]

@@ -1,0 +1,13 @@
+"""Not proved (README.md). From the typed tree to the middle form.
+
+    shapes       which class, field or array each type and variable of C++ becomes
+    context      what a body that is being lowered knows: its method, its names, its effects so far
+    numbers      arithmetic with C++'s widths
+    values       expressions: a value without effects, and before it the statements that do what the expression does
+    places       what can be assigned to; references
+    calls        calls, arguments, results
+    objects      making and copying objects, arrays and vectors
+    vectors      what vectors can do
+    steps        statements
+    program      functions, virtual calls, the whole
+"""

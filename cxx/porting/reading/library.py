@@ -1,0 +1,190 @@
+"""Not proved (README.md). What is known of the standard library beside what the stub headers define in C++."""
+
+from typing import TYPE_CHECKING
+
+from .. import tree as t
+from ..clang import Node, children
+from ..folding import COMPARED
+from ..places import Place
+from ..refusals import Refused
+
+from ..types import (
+    BOOL, INT, STREAM, STRING, UNSIGNED_LONG, VOID, Array, Int, Object, Pointer, Reference, Type, Unknown, Vector, bare,
+)  # fmt: skip
+from . import output
+
+if TYPE_CHECKING:
+    from .expressions import ExpressionReader
+
+# Functions of the stub headers that have a body only because clang wants one.
+BY_NAME = {"max", "min", "swap", "move", "forward"}
+VECTOR_METHODS = {
+    "size", "empty", "push_back", "emplace_back", "pop_back", "clear", "reserve", "resize", "back", "front", "at",
+    "erase", "insert", "assign", "begin", "end",
+}  # fmt: skip
+
+
+def unknown_type(type_: Type) -> tuple[str, str]:
+    """What is said of a type that isn't known, and what to write instead."""
+    while isinstance(type_, (Pointer, Reference)):
+        type_ = type_.to
+    while isinstance(type_, (Array, Vector)):
+        type_ = type_.of
+    name = type_.name if isinstance(type_, Unknown) else str(type_)
+    if name in ("double", "float", "long double"):
+        return f"the type {name}", "write whole numbers, scaled (fixed point)"
+    if "lambda" in name or "(" in name:
+        return f"the type {name}", "call functions by their names"
+    return f"the type {name}, which isn't known", "write a class of your own, or a vector"
+
+
+def call(reader: "ExpressionReader", name: str, given: list[Node], node: Node, function: t.Function | None) -> t.Expr:
+    """A call of a function that has no body here."""
+    place = reader.place(node)
+    if name in ("printf", "puts", "putchar"):
+        return output.printed(reader, name, given, node)
+    if name in ("max", "min"):
+        if len(given) != 2:
+            raise Refused(place, f"{name} of a list or with a comparison", f"write {name} of two numbers, or a loop")
+        type_ = bare(reader.type(node))
+        if not isinstance(type_, Int):
+            raise Refused(place, f"{name} of what isn't a number", "write a condition")
+        return t.Built(type_, place, name, [reader.read(one) for one in given])
+    if name in ("abs", "labs", "llabs") and len(given) == 1:
+        return t.Built(reader.type(node), place, "abs", [reader.read(given[0])])
+    if name == "swap" and len(given) == 2:
+        return t.Swap(VOID, place, reader.read(given[0]), reader.read(given[1]))
+    if name in ("move", "forward", "as_const"):
+        moved = reader.read(given[0])
+        if name == "move" and "_ptr<" in given[0]["type"].get("desugaredQualType", given[0]["type"]["qualType"]):
+            return _released(moved, place)
+        return moved
+    if name in ("exit", "abort", "_Exit", "quick_exit"):
+        code = reader.read(given[0]) if given else t.Number(INT, place, 134)
+        return t.Stop(VOID, place, code, "")
+    if name == "assertion_":
+        text = reader.read(given[0])
+        assert isinstance(text, t.Text)
+        return t.Stop(VOID, place, None, text.value)
+    if name == "to_string":
+        raise Refused(place, "a number as a string", "print the number itself")
+    if name == "free":
+        return t.Ignored(VOID, place, [reader.read(given[0])])
+    raise Refused(place, f"a call of {name}, whose body isn't here", "write the function, or name the file that has it")
+
+
+def method(reader: "ExpressionReader", receiver: t.Expr, name: str, given: list[Node], node: Node) -> t.Expr:
+    """A call of a method that the library has, or of an operator that the compiler makes."""
+    place, of = reader.place(node), bare(receiver.type)
+    if of == STREAM:
+        return output.on_stream(reader, name, given, place)
+    if name == "operator=":
+        value = reader.read(given[0])
+        return t.Assign(of, place, receiver, "", value, of)
+    if isinstance(of, Pointer):
+        return _of_pointer(reader, receiver, of, name, given, node)
+    if of == STRING:
+        return _of_string(reader, receiver, name, given, node)
+    if not isinstance(of, Vector):
+        raise Refused(
+            place, f"a call of {name.replace('operator', 'operator ')}", "write a method or a function of your own"
+        )
+    if name in ("operator[]", "at"):
+        return t.Item(of.of, place, receiver, reader.read(given[0]))
+    if name == "front":
+        return t.Item(of.of, place, receiver, t.Number(UNSIGNED_LONG, place, 0))
+    if name in ("erase", "insert"):
+        return _at_iterator(reader, receiver, of, name, given, node)
+    if name not in VECTOR_METHODS:
+        raise Refused(place, f"vector's {name}", "write a loop with an index")
+    arguments = [reader.read(one) for one in given if one["kind"] != "CXXDefaultArgExpr"]
+    results: dict[str, Type] = {"size": UNSIGNED_LONG, "empty": BOOL, "back": of.of}
+    result = Pointer(of.of) if name in ("begin", "end") else results.get(name, VOID)
+    if name == "emplace_back":
+        arguments = [_emplaced(reader, of.of, arguments, node)]
+        name = "push_back"
+    return t.VectorCall(result, place, name, receiver, arguments)
+
+
+def _released(pointer: t.Expr, place: Place) -> t.Expr:
+    """The value of a pointer that is null from then on."""
+    return t.Assign(pointer.type, place, pointer, "", t.Null(pointer.type, place), pointer.type, after=True)
+
+
+def _of_pointer(
+    reader: "ExpressionReader", receiver: t.Expr, of: Pointer, name: str, given: list[Node], node: Node
+) -> t.Expr:
+    """A method of a pointer that owns, which is a plain pointer here."""
+    place, operator = reader.place(node), name.replace("operator", "").strip()
+    if name in ("get", "operator->"):
+        return receiver
+    if operator == "*":
+        return t.Deref(of.to, place, receiver)
+    if operator == "bool":
+        return t.Convert(BOOL, place, receiver)
+    if name == "release":
+        return _released(receiver, place)
+    if name == "reset":
+        values = [reader.read(one) for one in given if one["kind"] != "CXXDefaultArgExpr"]
+        value = values[0] if values else t.Null(of, place)
+        return t.Assign(of, place, receiver, "", value, of)
+    if operator in ("==", "!="):
+        return t.Binary(BOOL, place, operator, receiver, reader.read(given[0]))
+    raise Refused(place, f"{name} of a pointer that owns", "write a plain pointer")
+
+
+def _of_string(reader: "ExpressionReader", receiver: t.Expr, name: str, given: list[Node], node: Node) -> t.Expr:
+    """A method or comparison of strings, which are literals."""
+    place, operator = reader.place(node), name.replace("operator", "")
+    if name == "c_str":
+        return receiver
+    if name == "empty":
+        return t.Binary(BOOL, place, "==", receiver, t.Text(STRING, place, ""))
+    if operator in COMPARED:
+        return t.Binary(BOOL, place, operator, receiver, reader.read(given[0]))
+    raise Refused(place, f"string's {operator}", "write literal strings, which are kept, compared and printed")
+
+
+def items_of(items: t.Expr) -> t.Expr:
+    """What a loop over the items goes over: of the library's array the array in it."""
+    type_ = bare(items.type)
+    if isinstance(type_, Object) and type_.record.library and type_.record.name.startswith("array_"):
+        member = type_.record.members[0]
+        return t.Dot(member.type, items.place, items, member)
+    return items
+
+
+def _emplaced(reader: "ExpressionReader", item: Type, arguments: list[t.Expr], node: Node) -> t.Expr:
+    if len(arguments) == 1 and bare(arguments[0].type) == item:
+        return arguments[0]
+    raise Refused(reader.place(node), "emplace_back with the arguments of a constructor", "write push_back(Item(..))")
+
+
+def _at_iterator(
+    reader: "ExpressionReader", receiver: t.Expr, of: Vector, name: str, given: list[Node], node: Node
+) -> t.Expr:
+    """`v.erase(at)` and `v.insert(at, x)`."""
+    if len(given) != {"erase": 1, "insert": 2}[name]:
+        raise Refused(
+            reader.place(node),
+            f"vector's {name} of this form",
+            f"write v.{name}(v.begin() + i{', x' if name == 'insert' else ''})",
+        )
+    arguments = [reader.read(one) for one in given]
+    return t.VectorCall(Pointer(of.of), reader.place(node), name, receiver, arguments)
+
+
+def vector(reader: "ExpressionReader", made: Vector, given: list[Node], node: Node) -> t.Expr:
+    """A vector that is made: empty, a copy, of a length, from a list."""
+    place = reader.place(node)
+    if not given:
+        return t.Aggregate(made, place, [])
+    values = [reader.read(one) for one in given]
+    first = values[0]
+    if isinstance(first, t.Aggregate) and len(values) == 1:
+        return t.Aggregate(made, place, first.parts)
+    if isinstance(bare(first.type), Vector) and len(values) == 1:
+        return t.Copy(made, place, first)
+    if not isinstance(first.type, Int) or len(values) > 2:
+        raise Refused(place, "a vector from a range", "fill it by a loop")
+    return t.Filled(made, place, first, values[1] if len(values) > 1 else None)

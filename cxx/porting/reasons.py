@@ -1,0 +1,212 @@
+"""Not proved (README.md). What stands in the way of a loop or recursion, in the user's lines and names, and what
+usually mends it."""
+
+import os
+import re
+from dataclasses import dataclass
+from typing import Callable
+
+from . import form
+from .clang import INCLUDE
+from .places import Place
+from .port import Ported
+
+PAIR = re.compile(r"^(\S+) (\S+) (commutes|unproved (.*))$")
+# What forbids that an operation first works on its object and then calls: what is said of it, and what mends it.
+CAUSES = {
+    "AccessAfterCall": (
+        "{op} uses {own} members behind a call that may change them",
+        "do all that concerns the object itself before the calls",
+    ),
+    "ForeignRead": (
+        "{op} reads a member of another object, which the same calls change",
+        "keep what is read in a member that these calls don't change",
+    ),
+    "FunctionRead": (
+        "{op} asks a function for what the same calls change",
+        "compute it from what these calls don't change",
+    ),
+    "Creates": ("{op} makes objects", "make them before; where they are values, pass their numbers"),
+    "Prints": ("{op} prints", "print behind the loop"),
+    "DividesByVariable": (
+        "{op} divides by a value that may be zero",
+        "divide in a const function, and call that",
+    ),
+}
+
+
+@dataclass
+class Reason:
+    """A sentence, and what usually mends it."""
+
+    said: str
+    mended: str
+
+    def __str__(self) -> str:
+        return f"{self.said}; {self.mended}" if self.mended else self.said
+
+
+class Namer:
+    """The user's names and lines of what the program answers."""
+
+    def __init__(self, ported: Ported) -> None:
+        self.ported = ported
+        self.methods = {repr(method): method for method in ported.program.methods()}
+
+    def operation(self, name: str) -> str:
+        method = self.methods.get(name)
+        return (method.origin or method.name) if method is not None else name
+
+    def is_users(self, name: str) -> bool:
+        """Whether it is a function of the user's."""
+        method = self.methods.get(name)
+        return method is not None and method.user
+
+    def place(self, line: int) -> Place:
+        return self.ported.text.places[line - 1]
+
+    def field(self, method: str, name: str) -> str:
+        """A member, and where it is declared."""
+        cls = self.methods[method].cls if method in self.methods else None
+        slot = next((one for one in cls.slots if one.name == name), None) if cls is not None else None
+        if slot is None:
+            return name
+        where = f" ({short(slot.place)})" if slot.place.line else ""
+        return f"{slot.origin or slot.name}{where}"
+
+    def weight(self, line: str) -> int:
+        """How much a reason says, the least first: what no order can mend, what is the user's own, the rest."""
+        words = line.split()
+        if words[3:4] == ["NotSeparable"] and words[-1] in ("Creates", "Prints"):
+            return 0
+        first = self.methods.get(words[0])
+        return (
+            1 if first is not None and not first.origin.startswith("a ") and "first values" not in first.origin else 2
+        )
+
+    def reason(self, line: str) -> Reason | None:
+        """The reason of a line of `pairs`; none where the pair commutes."""
+        found = PAIR.match(line)
+        if found is None or found.group(3) == "commutes":
+            return None
+        first, second, words = found.group(1), found.group(2), found.group(4).split()
+        one, other = self.operation(first), self.operation(second)
+        both = f"two calls of {one}" if one == other else f"a call of {one} and one of {other}"
+        match words:
+            case ["NotSeparable", op, at, why]:
+                said, mended = CAUSES[why]
+                return Reason(
+                    f"{said.format(op=self.operation(op), own='its own')} ({short(self.place(int(at)))})", mended
+                )
+            case ["LoopForm", at]:
+                loop = self.ported.text.statements[int(at) - 1]
+                if isinstance(loop, (form.Loop, form.Count)):
+                    inner = unlisted(loop)
+                    return Reason(f"of the loop at {short(self.place(int(at)))}: {inner.said}", inner.mended)
+                return Reason(
+                    f"the loop at {short(self.place(int(at)))} does more than call functions of objects", BODY
+                )
+            case ["Large"]:
+                return Reason(
+                    f"what {one} computes is too large to be compared", "compute parts of it in const functions"
+                )
+            case ["FieldDiffers", name]:
+                said = f"{both} write {self.field(first, name)}, and the order decides what it has at last"
+                if one.startswith("a write of "):
+                    said = f"{self.field(first, name)} is written from outside its object, and the order decides what it has at last"
+                return Reason(said, "add to it, or keep the greatest or least, in place of the last")
+            case ["DemandsDiffer"]:
+                return Reason(
+                    f"{both} call or check other things in another order", "pass values that these calls don't change"
+                )
+        return Reason(line, "")
+
+
+def short(place: Place) -> str:
+    """A place without its column; of the stub headers the header."""
+    if place.file.startswith(INCLUDE):
+        return f"<{os.path.basename(place.file)}>"
+    return f"{place.file}:{place.line}" if place.line else "the port"
+
+
+BODY = "make the body a member function of the object that it works on"
+
+
+def unlisted(loop: form.Loop | form.Count) -> Reason:
+    """Why a loop isn't one whose turns are calls."""
+    walked = isinstance(loop, form.Count) and isinstance(loop.counter.type, form.Pointer)
+    if isinstance(loop, form.Loop) or walked:
+        said = "it follows links" if walked else "its iterations aren't counted"
+        return Reason(
+            f"{said}, so that one has to end before it is known whether there is another",
+            "keep the objects in a vector and write for (.. : vector), or write a recursion",
+        )
+    assert isinstance(loop, form.Count)
+    inside = list(form.statements(loop.body))
+    declared = {one.local for one in inside if isinstance(one, (form.Let, form.Make))} | {loop.counter}
+    declared |= {one.counter for one in inside if isinstance(one, form.Count)}
+    return (
+        _first(inside, lambda one: isinstance(one, form.Tell), "its iterations print", "print behind the loop")
+        or _first(
+            inside,
+            lambda one: isinstance(one, form.Make),
+            "its iterations make objects",
+            "make them in a loop of its own before",
+        )
+        or _left(loop)
+        or _shared(inside, declared)
+        or _summed(loop)
+        or _first(
+            loop.body,
+            lambda one: not isinstance(one, form.Do),
+            "its body does more than call functions of objects",
+            BODY,
+        )
+        or Reason("it doesn't count up by one to a bound", "write for (int i = ..; i < n; i++)")
+    )
+
+
+def _first(
+    body: list[form.Statement], wanted: Callable[[form.Statement], bool], said: str, mended: str
+) -> Reason | None:
+    found = next((one for one in body if wanted(one)), None)
+    return Reason(f"{said} ({short(found.place)})", mended) if found is not None else None
+
+
+def _summed(loop: form.Count) -> Reason | None:
+    """A loop that calls nothing and only changes members of the object itself."""
+    puts = [one for one in form.statements(loop.body) if isinstance(one, form.Put) and one is not loop.step]
+    own = all(isinstance(one.target, form.Field) and isinstance(one.target.object, form.This) for one in puts)
+    if not puts or not own or any(isinstance(one, form.Do) for one in form.statements(loop.body)):
+        return None
+    names = ", ".join(dict.fromkeys(one.target.name for one in puts))
+    return Reason(
+        f"it computes {names} itself ({short(puts[0].place)})",
+        "compute it in a const member function with a local, and add what that gives",
+    )
+
+
+def _left(loop: form.Count) -> Reason | None:
+    """A loop that a turn may end."""
+    flags = {
+        one.operand
+        for one in form.within(loop.condition)
+        if isinstance(one, form.Not) and isinstance(one.operand, form.Local)
+    }
+    for one in form.statements(loop.body):
+        if isinstance(one, form.Put) and one.target in flags:
+            said = f"an iteration may end it ({short(one.place)}), so that those behind it don't come"
+            return Reason(said, "let all of them run, and keep what they find in a member")
+    return None
+
+
+def _shared(inside: list[form.Statement], declared: set[form.Local]) -> Reason | None:
+    """A local that the turns hand on from one to the next."""
+    for one in inside:
+        if isinstance(one, form.Put) and isinstance(one.target, form.Local) and one.target not in declared:
+            name = one.target.name.rstrip("_")
+            return Reason(
+                f"its iterations pass {name} on from one to the next ({short(one.place)})",
+                "let each add to a member of an object",
+            )
+    return None
