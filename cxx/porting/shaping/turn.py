@@ -152,7 +152,7 @@ def turn(
     kept_parameters = [one for one in parameters if one in facts.free(made.body)]
     given = [one for local, one in zip(parameters, given) if local in kept_parameters]
     parameters = kept_parameters
-    if lifts:
+    if lifts and not facts.recursive(method):
         parameters, given = _lifted(shape, method, block, loop, made, parameters, given)
     made.parameters = fitted(made.body, parameters, cls.names())
     normal(loop)

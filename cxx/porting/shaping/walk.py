@@ -47,6 +47,8 @@ def _link(loop: form.Statement) -> form.Expr | None:
 def _along(
     shape: Shape, method: form.Method, block: list[form.Statement], loop: form.Count, link: form.Expr, lifts: bool
 ) -> form.Method | None:
+    # (a field is one for the program: another entry of the function would put its own argument there)
+    lifts = lifts and not facts.recursive(method)
     body = copied(loop.body)
     own = facts.declared(body)
     if any(one not in own for one in facts.assigned(body)):
